@@ -1,0 +1,162 @@
+//! The names that stand in refusals, as plain lists.
+
+/// The keywords of C99 (6.4.1).
+#[derive(Clone, Copy, Debug, PartialEq, Eq)]
+pub enum Keyword {
+    Auto,
+    Break,
+    Case,
+    Char,
+    Const,
+    Continue,
+    Default,
+    Do,
+    Double,
+    Else,
+    Enum,
+    Extern,
+    Float,
+    For,
+    Goto,
+    If,
+    Inline,
+    Int,
+    Long,
+    Register,
+    Restrict,
+    Return,
+    Short,
+    Signed,
+    Sizeof,
+    Static,
+    Struct,
+    Switch,
+    Typedef,
+    Union,
+    Unsigned,
+    Void,
+    Volatile,
+    While,
+    UnderscoreBool,
+    UnderscoreComplex,
+    UnderscoreImaginary,
+}
+
+/// Why a step of a source run is undefined.
+#[derive(Clone, Copy, Debug, PartialEq, Eq)]
+pub enum UndefinedKind {
+    Division,
+    Shift,
+    Null,
+    Dead,
+    Outside,
+    Align,
+    ReadOnly,
+    Empty,
+    Pointer,
+    Subscript,
+    Range,
+    TwoBlocks,
+    Edge,
+    Call,
+    NoValue,
+    Free,
+    Overlap,
+    Huge,
+}
+
+/// A typing rule that a program broke.
+#[derive(Clone, Copy, Debug, PartialEq, Eq)]
+pub enum Rule {
+    Specifiers,
+    Constant,
+    Length,
+    Incomplete,
+    ByValue,
+    Operands,
+    Lvalue,
+    Assign,
+    Arguments,
+    Callee,
+    Return,
+    Condition,
+    Member,
+    Cast,
+    Label,
+    Jump,
+    Init,
+    Library,
+    Main,
+    Scope,
+}
+
+/// What the interpreter ran out of: bytes of live blocks, or depth of calls.
+#[derive(Clone, Copy, Debug, PartialEq, Eq)]
+pub enum RoomKind {
+    Live,
+    Depth,
+}
+
+/// A limit on what is compiled or printed.
+#[derive(Clone, Copy, Debug, PartialEq, Eq)]
+pub enum LimitKind {
+    Files,
+    Nodes,
+    Fields,
+    Frame,
+    Globals,
+    PrintNodes,
+    PrintDepth,
+    PrintText,
+}
+
+/// In what a profile differs from the program.
+#[derive(Clone, Copy, Debug, PartialEq, Eq)]
+pub enum StaleKind {
+    Functions,
+    Order,
+    Loops,
+    Arms,
+}
+
+/// The first difference of a profile from the program: its kind, the number of the function at
+/// which it stands, the program's number and the profile's.
+#[derive(Clone, Copy, Debug, PartialEq, Eq)]
+pub struct Stale {
+    pub kind: StaleKind,
+    pub function: u32,
+    pub expected: u64,
+    pub found: u64,
+}
+
+/// Why the machine stopped at an instruction.
+#[derive(Clone, Copy, Debug, PartialEq, Eq)]
+pub enum TrapKind {
+    Unmapped,
+    Illegal,
+    Jump,
+    Misaligned,
+    Call,
+}
+
+/// What the reader of ELF files tests, in its order.
+#[derive(Clone, Copy, Debug, PartialEq, Eq)]
+pub enum ElfField {
+    Length,
+    Magic,
+    Class,
+    Data,
+    Ident,
+    Kind,
+    Machine,
+    Version,
+    HeaderSize,
+    Headers,
+    Loads,
+    FileRange,
+    Sizes,
+    Address,
+    Overlap,
+    Total,
+    Entry,
+}

@@ -1,0 +1,22 @@
+//! What every layer stands on: containers that contracts see as plain data, places in files,
+//! the objects through which a program meets the outside, and the names in its refusals.
+//!
+//! It stands on std alone. It promises that no address and no capacity is part of a value,
+//! and that an object of the outside fails only where its count of faults says so.
+#![tactic(auto)]
+
+mod boxed;
+mod bytes;
+mod faults;
+mod list;
+mod no_memory;
+mod place;
+
+pub use boxed::Boxed;
+pub use bytes::{Bytes, Name};
+pub use faults::{
+    ElfField, Keyword, LimitKind, RoomKind, Rule, Stale, StaleKind, TrapKind, UndefinedKind,
+};
+pub use list::List;
+pub use no_memory::NoMemory;
+pub use place::{File, Files, Place};
