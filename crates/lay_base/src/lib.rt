@@ -9,8 +9,12 @@ mod boxed;
 mod bytes;
 mod faults;
 mod list;
+mod memory_objects;
 mod no_memory;
+mod outside;
 mod place;
+#[cfg(test)]
+mod trees;
 
 pub use boxed::Boxed;
 pub use bytes::{Bytes, Name};
@@ -18,5 +22,7 @@ pub use faults::{
     ElfField, Keyword, LimitKind, RoomKind, Rule, Stale, StaleKind, TrapKind, UndefinedKind,
 };
 pub use list::List;
+pub use memory_objects::{MemHost, MemSink, MemSource};
 pub use no_memory::NoMemory;
+pub use outside::{Host, HostRead, HostWrite, Sink, SinkFault, Source, SourceFault};
 pub use place::{File, Files, Place};

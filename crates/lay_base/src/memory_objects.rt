@@ -1,0 +1,12 @@
+//! Objects in memory that tell all they hold and fail at the calls that they are given.
+
+mod host;
+mod plan;
+mod sink;
+mod source;
+#[cfg(test)]
+mod tests;
+
+pub use host::MemHost;
+pub use sink::MemSink;
+pub use source::MemSource;
