@@ -1,0 +1,3 @@
+pub mod Words
+pub mod Immediates
+pub mod Laws

@@ -1,0 +1,15 @@
+//! The instruction set RV32IM: instructions, their words, and what the machine does with them.
+//!
+//! It stands on `lay_base`. It promises that `encode` gives an instruction's word by the table of
+//! the RISC-V unprivileged specification, and that the step's decoder reads that word as the
+//! instruction again.
+#![tactic(auto)]
+
+mod encoding;
+mod fields;
+mod image;
+mod instruction;
+
+pub use encoding::{encode, words_are_read_back};
+pub use image::{Image, Segment};
+pub use instruction::Inst;
