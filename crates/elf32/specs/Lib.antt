@@ -1,0 +1,4 @@
+pub mod Header
+pub mod Loaded
+pub mod Written
+pub mod Examples

@@ -1,0 +1,252 @@
+//! Writing an ELF32 file.
+
+ghost use Rattle.std.specs.Prelude.{◌≡◌, ◌<◌, ◌≤◌, ◌-◌, ◌^◌, ◌++◌, ◌∷◌, [], IfOk, Ok, OnOk, length};
+ghost use Rattle.elf32.specs.Loaded.{loaded};
+ghost use Rattle.elf32.specs.Written.{AreInPlace, IsWritable, elf_file, file_header as header_bytes, file_of, half as half_bytes, page_up as next_page, program_header as program_header_bytes, word as word_bytes, zeros};
+
+use byteorder::{LittleEndian, WriteBytesExt};
+use lay_base::NoMemory;
+use rv_isa::{Image, Segment};
+use std::alloc::Global;
+
+/// The magic number, 32 bits, little-endian and version 1 (System V ABI, ELF Identification).
+const IDENT: [u8; 16] = [0x7F, b'E', b'L', b'F', 1, 1, 1, 0, 0, 0, 0, 0, 0, 0, 0, 0];
+
+/// The kind of an executable file, `ET_EXEC`.
+const EXECUTABLE: u16 = 2;
+
+/// The number of the machine, `EM_RISCV`.
+const RISC_V: u16 = 243;
+
+/// The version of the format, `EV_CURRENT`.
+const CURRENT: u32 = 1;
+
+/// The size of the file header, behind which the program headers stand.
+const FILE_HEADER: u16 = 52;
+
+/// The size of each program header.
+const PROGRAM_HEADER: u16 = 32;
+
+/// The kind of a segment that is loaded, `PT_LOAD`.
+const LOAD: u32 = 1;
+
+/// The alignment of segments in memory and in the file. Text stands at this offset.
+const PAGE: u32 = 0x1000;
+
+fn bytes(out: &mut Vec<u8>, piece: &[u8]) -> Result<(), NoMemory>
+    ensures { OnOk result (out.new.items ≡ out.old.items ++ piece.now) }
+{
+    out.extend_from_slice(piece).map_err(|_| NoMemory)
+}
+
+fn half(out: &mut Vec<u8>, n: u16) -> Result<(), NoMemory>
+    ensures { OnOk result (out.new.items ≡ out.old.items ++ half_bytes n) }
+{
+    out.write_u16::<LittleEndian>(n).map_err(|_| NoMemory)
+}
+
+fn word(out: &mut Vec<u8>, n: u32) -> Result<(), NoMemory>
+    ensures { OnOk result (out.new.items ≡ out.old.items ++ word_bytes n) }
+{
+    out.write_u32::<LittleEndian>(n).map_err(|_| NoMemory)
+}
+
+/// Zeros up to an offset in the file.
+fn pad_to(out: &mut Vec<u8>, offset: u32) -> Result<(), NoMemory>
+    requires { length out.old.items ≤ offset }
+    ensures padded { OnOk result (out.new.items ≡ out.old.items ++ zeros (offset - length out.old.items)) }
+    ensures reached { OnOk result (length out.new.items ≡ offset) }
+{
+    out.resize(offset as usize, 0).map_err(|_| NoMemory)
+}
+
+/// The file header of an executable for RISC-V. Its program headers stand behind it; it has no
+/// section headers and no flags.
+fn file_header(out: &mut Vec<u8>, entry: u32, headers: u16) -> Result<(), NoMemory>
+    ensures { OnOk result (out.new.items ≡ out.old.items ++ header_bytes entry headers) }
+{
+    bytes(out, &IDENT)?;
+    half(out, EXECUTABLE)?;
+    half(out, RISC_V)?;
+    word(out, CURRENT)?;
+    word(out, entry)?;
+    word(out, FILE_HEADER as u32)?;
+    word(out, 0)?;
+    word(out, 0)?;
+    half(out, FILE_HEADER)?;
+    half(out, PROGRAM_HEADER)?;
+    half(out, headers)?;
+    half(out, 0)?;
+    half(out, 0)?;
+    half(out, 0)
+}
+
+/// The program header of a segment whose bytes stand at this offset in the file. Its physical
+/// address is its address.
+fn program_header(out: &mut Vec<u8>, offset: u32, segment: &Segment) -> Result<(), NoMemory>
+    requires { length segment.now.bytes < 2 ^ 32 }
+    ensures { OnOk result (out.new.items ≡ out.old.items ++ program_header_bytes offset (length segment.now.bytes) segment.now) }
+{
+    word(out, LOAD)?;
+    word(out, offset)?;
+    word(out, segment.at)?;
+    word(out, segment.at)?;
+    word(out, segment.bytes.len() as u32)?;
+    word(out, segment.size)?;
+    word(out, segment.flags as u32)?;
+    word(out, PAGE)
+}
+
+/// The next multiple of the alignment.
+fn page_up(n: u32) -> u32
+    requires { n < 2 ^ 31 }
+    ensures { result ≡ next_page n }
+{
+    (n + PAGE - 1) / PAGE * PAGE
+}
+
+/// The file of four segments, of which the first two have bytes.
+fn file(
+    alloc: Global,
+    entry: u32,
+    text: &Segment,
+    globals: &Segment,
+    stack: &Segment,
+    heap: &Segment,
+) -> Result<Vec<u8>, NoMemory>
+    requires { AreInPlace text.now globals.now stack.now heap.now }
+    ensures { IfOk result (λ file. file.items ≡ file_of entry (text.now ∷ globals.now ∷ stack.now ∷ heap.now ∷ [])) }
+{
+    let data_offset = PAGE + page_up(text.bytes.len() as u32);
+    let size = data_offset as usize + globals.bytes.len();
+    let mut out = Vec::with_capacity(alloc, size).map_err(|_| NoMemory)?;
+    file_header(&mut out, entry, 4)?;
+    program_header(&mut out, PAGE, text)?;
+    program_header(&mut out, data_offset, globals)?;
+    program_header(&mut out, 0, stack)?;
+    program_header(&mut out, 0, heap)?;
+    pad_to(&mut out, PAGE)?;
+    bytes(&mut out, text.bytes.as_slice())?;
+    pad_to(&mut out, data_offset)?;
+    bytes(&mut out, globals.bytes.as_slice())?;
+    Ok(out)
+}
+
+/// The ELF32 file of an image with text, data, stack and heap at their places. It holds the file
+/// header, one program header for each segment, and, each at a multiple of 0x1000, the bytes of
+/// text and of data (System V ABI, chapters 4 and 5).
+pub fn write(alloc: Global, image: &Image) -> Result<Vec<u8>, NoMemory>
+    requires { IsWritable image.now }
+    ensures bytes { IfOk result (λ file. file.items ≡ elf_file image.now) }
+    ensures loads { IfOk result (λ file. loaded file.items ≡ Ok image.now) }
+{
+    match image.segments.as_slice() {
+        [text, globals, stack, heap] => file(alloc, image.entry, text, globals, stack, heap),
+        _ => unreachable!(),
+    }
+}
+
+#[cfg(test)]
+mod tests {
+    use super::*;
+    use lay_base::{Bytes, List};
+    use std::alloc::AllocError;
+    use std::test::*;
+
+    /// Text of 0x1004 bytes, data of 256 bytes, 1 MiB of stack and 2 MiB of heap.
+    fn small_image(alloc: Global) -> Result<Image, AllocError>
+        ensures { IfOk result (λ image. IsWritable image) }
+    {
+        let text = Segment {
+            at: 0x00010000,
+            size: 0x1004,
+            flags: 5,
+            bytes: Bytes::of(vec![in alloc; 0x13; 0x1004]?),
+        };
+        let globals = Segment {
+            at: 0x08000000,
+            size: 256,
+            flags: 6,
+            bytes: Bytes::of(vec![in alloc; 0x2A; 256]?),
+        };
+        let stack = Segment {
+            at: 0x10000000,
+            size: 0x00100000,
+            flags: 6,
+            bytes: Bytes::of(Vec::new(alloc)),
+        };
+        let heap = Segment {
+            at: 0x20000000,
+            size: 0x00200000,
+            flags: 6,
+            bytes: Bytes::of(Vec::new(alloc)),
+        };
+        Ok(Image {
+            entry: 0x00010000,
+            segments: List::of(vec![in alloc; text, globals, stack, heap]?),
+        })
+    }
+
+    const FILE_HEADER_BYTES: [u8; 52] = [
+        0x7F, 0x45, 0x4C, 0x46, 1, 1, 1, 0, 0, 0, 0, 0, 0, 0, 0, 0, //
+        0x02, 0x00, 0xF3, 0x00, 0x01, 0x00, 0x00, 0x00, // type, machine, version
+        0x00, 0x00, 0x01, 0x00, 0x34, 0x00, 0x00, 0x00, // entry, program headers
+        0x00, 0x00, 0x00, 0x00, 0x00, 0x00, 0x00, 0x00, // section headers, flags
+        0x34, 0x00, 0x20, 0x00, 0x04, 0x00, // sizes of headers, number of program headers
+        0x00, 0x00, 0x00, 0x00, 0x00, 0x00,
+    ];
+
+    const PROGRAM_HEADER_BYTES: [[u8; 32]; 4] = [
+        [
+            0x01, 0x00, 0x00, 0x00, 0x00, 0x10, 0x00, 0x00, //
+            0x00, 0x00, 0x01, 0x00, 0x00, 0x00, 0x01, 0x00, //
+            0x04, 0x10, 0x00, 0x00, 0x04, 0x10, 0x00, 0x00, //
+            0x05, 0x00, 0x00, 0x00, 0x00, 0x10, 0x00, 0x00, //
+        ],
+        [
+            0x01, 0x00, 0x00, 0x00, 0x00, 0x30, 0x00, 0x00, //
+            0x00, 0x00, 0x00, 0x08, 0x00, 0x00, 0x00, 0x08, //
+            0x00, 0x01, 0x00, 0x00, 0x00, 0x01, 0x00, 0x00, //
+            0x06, 0x00, 0x00, 0x00, 0x00, 0x10, 0x00, 0x00, //
+        ],
+        [
+            0x01, 0x00, 0x00, 0x00, 0x00, 0x00, 0x00, 0x00, //
+            0x00, 0x00, 0x00, 0x10, 0x00, 0x00, 0x00, 0x10, //
+            0x00, 0x00, 0x00, 0x00, 0x00, 0x00, 0x10, 0x00, //
+            0x06, 0x00, 0x00, 0x00, 0x00, 0x10, 0x00, 0x00, //
+        ],
+        [
+            0x01, 0x00, 0x00, 0x00, 0x00, 0x00, 0x00, 0x00, //
+            0x00, 0x00, 0x00, 0x20, 0x00, 0x00, 0x00, 0x20, //
+            0x00, 0x00, 0x00, 0x00, 0x00, 0x00, 0x20, 0x00, //
+            0x06, 0x00, 0x00, 0x00, 0x00, 0x10, 0x00, 0x00, //
+        ],
+    ];
+
+    #[test]
+    fn headers_and_places_are_those_of_the_abi(rt: HostRuntime) -> Result<(), Fail> {
+        let image = small_image(rt.alloc())?;
+        let file = write(rt.alloc(), &image).ok().ok_or("memory is ample")?;
+        assert_eq!(rt; file.len(), 0x3100);
+        let header = file.get(..52).ok_or("a file header")?;
+        assert_eq!(rt; header, FILE_HEADER_BYTES.as_slice());
+        for (i, expected) in PROGRAM_HEADER_BYTES.iter().enumerate() {
+            let header = file
+                .get(52 + 32 * i..84 + 32 * i)
+                .ok_or("a program header")?;
+            assert_eq!(rt; header, expected.as_slice(), "program header {i}");
+        }
+        for (at, byte) in [
+            (0xFFF, 0),
+            (0x1000, 0x13),
+            (0x2003, 0x13),
+            (0x2004, 0),
+            (0x2FFF, 0),
+            (0x3000, 0x2A),
+            (0x30FF, 0x2A),
+        ] {
+            assert_eq!(rt; file.get(at).copied(), Some(byte), "at {at}");
+        }
+        Ok(())
+    }
+}
