@@ -1,0 +1,4 @@
+pub mod ThinTree
+pub mod ThinText
+pub mod ThinScan
+pub mod ThinReading
