@@ -1,0 +1,12 @@
+pub mod Memory
+pub mod Steps
+pub mod Blocks
+pub mod Stretches
+pub mod SumsWork
+pub mod Writes
+pub mod Programs
+pub mod Ranges
+pub mod Loading
+pub mod Runs
+pub mod Agreeing
+pub mod Lists
