@@ -1,0 +1,18 @@
+//! Refusals: every reason for which a command ends without its result, with its code, its exit
+//! status and its text.
+//!
+//! It stands on `lay_base`. It promises that what is written for a refusal is the text of the
+//! table, or a first part of it where the sink failed.
+#![tactic(auto)]
+
+mod lines;
+mod names;
+mod put;
+mod refusal;
+mod table;
+#[cfg(test)]
+mod tests;
+
+pub use put::put_refusal;
+pub use refusal::Refusal;
+pub use table::{code_of, status_of_refusal};
