@@ -1,0 +1,3 @@
+pub mod FourWords
+pub mod Files
+pub mod Refused

@@ -1,0 +1,37 @@
+-- What `compile` leaves where the ELF file was not written.
+use Rattle.std.proofs.Common.{◌≡◌, ℕ, List, Option, Some, None, refl, sym, ap, ◌∙◌, subst, inl, inr}
+use Rattle.std.specs.Prelude.{take, ◌⊎◌, Err}
+use Rattle.lay_base.specs.Told.{Contents, Rose, Tells, FilesKeep, FilesKeepBut}
+use Rattle.refusals.specs.declared.refusal.Refusal.{Refusal}
+use Rattle.refusals.specs.declared.refusal.Refusal.TheVariants as R
+use Rattle.c_parser.specs.ThinTree.{Program}
+use Rattle.c_parser.specs.ThinText.{IsThinText}
+use Rattle.layc.specs.Outside.{outside}
+use Rattle.layc.specs.Compiling.{AgreesWith, WasTextOf, IsPartlyCompiled}
+use Rattle.layc.specs.Stages.{ElfGives, CompileGives}
+use Rattle.layc.proofs.Files.{keep_then_but, keep_then_same}
+
+-- what the host left under OUT
+partly : (out file text elf : List ℕ) (p : Program) (f0 f1 f2 : Option Contents) → FilesKeep f0 f1 → Tells f0 file (λ was. was ≡ Some text) → IsThinText text p → AgreesWith p elf
+    → Tells f1 out (λ was. Tells f2 out (λ now. (now ≡ was) ⊎ ((k : ℕ) × (now ≡ Some (take k elf)))))
+    → WasTextOf f0 file (λ p. Tells f0 out (λ was. Tells f2 out (IsPartlyCompiled p was)))
+partly out file text elf p None f1 f2 k was thin agrees left = tt
+partly out file text elf p (Some f0) None f2 k was thin agrees left = absurd k
+partly out file text elf p (Some f0) (Some f1) None k was thin agrees left = (text, was, (p, thin, tt))
+partly out file text elf p (Some f0) (Some f1) (Some f2) k was thin agrees left =
+    (text, was, (p, thin, elim left [ inl same ↦ inl (same ∙ k out) | inr some ↦ inr (elf, agrees, some) ]))
+
+pub write_elf_refused : (out file text elf : List ℕ) (p : Program) (f0 f1 f2 : Option Contents) (reads0 reads2 writes0 writes1 writes2 : List ℕ → ℕ) (written : Option (List ℕ)) (faults : ℕ) (refusal : Refusal)
+    → FilesKeep f0 f1 → Tells f0 file (λ was. was ≡ Some text) → IsThinText text p → AgreesWith p elf → writes1 out ≡ writes0 out → FilesKeepBut out f1 f2
+    → ElfGives (writes1 out) (writes2 out) f1 f2 out elf (Err refusal)
+    → CompileGives out file (outside f0 reads0 writes0 written faults) (outside f2 reads2 writes2 written faults) (Err refusal)
+write_elf_refused out file text elf p f0 f1 f2 reads0 reads2 writes0 writes1 writes2 written faults R.WriteFault k was thin agrees same but gives =
+    inl (record {
+      cause = rw (← same) gives.0;
+      partly = partly out file text elf p f0 f1 f2 k was thin agrees gives.1;
+      others = keep_then_but out f0 f1 f2 k but;
+      unreported = refl;
+    })
+write_elf_refused out file text elf p f0 f1 f2 reads0 reads2 writes0 writes1 writes2 written faults R.Memory k was thin agrees same but gives =
+    record { files = keep_then_same out f0 f1 f2 k but gives; out = refl }
+write_elf_refused out file text elf p f0 f1 f2 reads0 reads2 writes0 writes1 writes2 written faults _ k was thin agrees same but gives = absurd gives

@@ -1,0 +1,6 @@
+pub mod Words
+pub mod Outside
+pub mod Compiling
+pub mod Stages
+pub mod Answers
+pub mod Status

@@ -1,0 +1,134 @@
+//! The outside as it is: files, standard input, standard output and standard error.
+//!
+//! No contract can say what a file or a stream holds, so these objects tell nothing. They count
+//! their faults, and fail only where the system did.
+
+ghost use Rattle.std.specs.Prelude.{◌≡◌, ◌≤◌, ℕ, List, None};
+
+use lay_base::{Host, HostRead, HostWrite, Sink, SinkFault, Source, SourceFault};
+use std::fs::Files;
+use std::io::{ErrorKind, Read, Write};
+use std::{fs, io};
+
+/// The files of the system. Its one count stands for each of a host's counts, and rises at every
+/// failed call.
+#[derive(Drop)]
+pub struct FileHost<'a, R: Files + AllocGlobal> {
+    rt: &'a R,
+    faults: u64,
+}
+
+impl<'a, R: Files + AllocGlobal> FileHost<'a, R> {
+    /// The host of the files that the runtime reaches.
+    pub fn new(rt: &'a R) -> FileHost<'a, R> {
+        FileHost { rt, faults: 0 }
+    }
+
+    /// The bytes of a file, or one more than the limit where there are more.
+    fn some_bytes(&self, name: &str, limit: u64) -> io::Result<Vec<u8>> {
+        let mut bytes = Vec::new(self.rt.alloc());
+        let file = fs::open(self.rt, name)?;
+        file.take(limit.saturating_add(1)).read_to_end(&mut bytes)?;
+        Ok(bytes)
+    }
+}
+
+impl<R: Files + AllocGlobal> Host for FileHost<'_, R> {
+    ghost failed_reads = { λ host _. host.faults };
+
+    ghost failed_writes = { λ host _. host.faults };
+
+    ghost files = { λ _. None };
+
+    fn read_file(&mut self, name: &str, limit: u64) -> Result<Vec<u8>, HostRead> {
+        let fault = match self.some_bytes(name, limit) {
+            Ok(bytes) => {
+                if bytes.len() as u64 <= limit {
+                    return Ok(bytes);
+                }
+                HostRead::TooLong
+            }
+            Err(e) => {
+                if e.kind() == ErrorKind::OutOfMemory {
+                    HostRead::Memory
+                } else {
+                    HostRead::Failed
+                }
+            }
+        };
+        self.faults = self.faults.saturating_add(1);
+        Err(fault)
+    }
+
+    fn write_file(&mut self, name: &str, bytes: &[u8]) -> Result<(), HostWrite> {
+        match fs::write(self.rt, name, bytes) {
+            Ok(()) => Ok(()),
+            Err(_) => {
+                self.faults = self.faults.saturating_add(1);
+                Err(HostWrite::Failed)
+            }
+        }
+    }
+}
+
+/// A source over a reader of the system. A read that gives no byte is the end.
+#[derive(Drop)]
+pub struct StdSource<R: Read + Drop> {
+    reader: R,
+    faults: u64,
+}
+
+impl<R: Read + Drop> StdSource<R> {
+    /// The source of a reader's bytes.
+    pub fn new(reader: R) -> StdSource<R> {
+        StdSource { reader, faults: 0 }
+    }
+}
+
+impl<R: Read + Drop> Source for StdSource<R> {
+    ghost faults = { λ source. source.faults };
+
+    ghost left = { λ _. None };
+
+    fn next(&mut self) -> Result<Option<u8>, SourceFault> {
+        let mut cell = [0u8];
+        match self.reader.read(&mut cell) {
+            Ok(0) => Ok(None),
+            Ok(_) => Ok(Some(cell[0])),
+            Err(_) => {
+                self.faults = self.faults.saturating_add(1);
+                Err(SourceFault)
+            }
+        }
+    }
+}
+
+/// A sink over a writer of the system. A write that takes nothing of a piece is a fault.
+#[derive(Drop)]
+pub struct StdSink<W: Write + Drop> {
+    writer: W,
+    faults: u64,
+}
+
+impl<W: Write + Drop> StdSink<W> {
+    /// The sink of a writer.
+    pub fn new(writer: W) -> StdSink<W> {
+        StdSink { writer, faults: 0 }
+    }
+}
+
+impl<W: Write + Drop> Sink for StdSink<W> {
+    ghost faults = { λ sink. sink.faults };
+
+    ghost written = { λ _. None };
+
+    fn put(&mut self, piece: &[u8]) -> Result<(), SinkFault> {
+        match self.writer.write_all(piece) {
+            Ok(()) => Ok(()),
+            Err(_) => {
+                self.faults = self.faults.saturating_add(1);
+                Err(SinkFault)
+            }
+        }
+    }
+}
