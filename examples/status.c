@@ -1,0 +1,3 @@
+int main(void) {
+	return 2 * (3 + 4) - 1;
+}

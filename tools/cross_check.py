@@ -1,0 +1,347 @@
+#!/usr/bin/env python3
+"""Compares the built compiler with tools that this project did not write.
+
+Random thin programs are compiled; the files run under QEMU's user-mode RV32 emulator and must give
+the output and status that the evaluator below computes; `readelf` must show the four segments of
+the memory map, and `objdump` must decode each word of the code as the instruction that is meant.
+Then come the edges of what is refused, and what the outside does to the program. A tool that is
+missing is named and skipped.
+"""
+
+import os
+import random
+import re
+import shutil
+import subprocess
+import sys
+import tempfile
+
+HERE = os.path.dirname(os.path.dirname(os.path.abspath(__file__)))
+LAYC = os.path.join(HERE, "layc")
+EMULATOR = "qemu-riscv32"
+OBJDUMP = "riscv64-linux-gnu-objdump"
+READELF = "readelf"
+PACKAGES = {EMULATOR: "qemu-user", OBJDUMP: "binutils-riscv64-linux-gnu", READELF: "binutils"}
+REPORT = b"layc report 1\n"
+SEED = 20261126
+USAGE_STATUS, OUTSIDE_STATUS, PROGRAM_STATUS = 120, 121, 122
+
+failures = []
+checks = 0
+
+
+def check(condition, what):
+    global checks
+    checks += 1
+    if not condition:
+        failures.append(what)
+        print("FAILED:", what)
+
+
+def have(tool):
+    """Whether the tool is there; a missing one is installed where that is allowed."""
+    if shutil.which(tool):
+        return True
+    if shutil.which("apt-get") and os.geteuid() == 0:
+        quiet = dict(stdout=subprocess.DEVNULL, stderr=subprocess.DEVNULL)
+        subprocess.run(["apt-get", "update"], **quiet)
+        subprocess.run(["apt-get", "install", "-y", PACKAGES[tool]], **quiet)
+    if shutil.which(tool):
+        return True
+    print(f"skipped: what needs {tool}, which is not installed")
+    return False
+
+
+# ---- programs, and what they do by the C standard narrowed to constants
+
+LOOSE, TIGHT, ATOM = 1, 2, 3
+
+
+class Sum:
+    """A sum as its text, its value modulo 2^32, its instructions, and how tightly it binds."""
+
+    def __init__(self, text, value, code, level, marks):
+        self.text, self.value, self.code = text, value % 2**32, code
+        self.level, self.marks = level, marks
+
+
+def number(n):
+    low = n % 4096
+    low = low - 4096 if low >= 2048 else low
+    high = ((n - low) >> 12) % 2**20
+    return Sum(str(n), n, [f"lui x10,0x{high:x}", f"addi x10,x10,{low}"], ATOM, 0)
+
+
+def paren(a):
+    return Sum("(" + a.text + ")", a.value, a.code, ATOM, a.marks + 1)
+
+
+OPERATORS = {
+    "+": ("add", lambda a, b: a + b, LOOSE),
+    "-": ("sub", lambda a, b: a - b, LOOSE),
+    "*": ("mul", lambda a, b: a * b, TIGHT),
+}
+
+
+def joined(sign, a, b):
+    name, function, level = OPERATORS[sign]
+    a = a if a.level >= level else paren(a)
+    b = b if b.level > level else paren(b)
+    code = a.code + ["addi x2,x2,-4", "sw x10,0(x2)"] + b.code
+    code += ["addi x11,x10,0", "lw x10,0(x2)", "addi x2,x2,4", f"{name} x10,x10,x11"]
+    return Sum(a.text + space() + sign + space() + b.text, function(a.value, b.value), code, level, a.marks + b.marks + 1)
+
+
+def space():
+    return random.choice(["", "", " ", "\t", "\n", "  "])
+
+
+EDGES = [0, 1, 2, 2047, 2048, 4095, 4096, 65535, 65536, 0x7FFFF7FF, 0x7FFFF800, 0x7FFFFFFF]
+
+
+def random_sum(size):
+    if size == 0:
+        return number(random.choice(EDGES + [random.randrange(2**31), random.randrange(256)]))
+    if random.random() < 0.2:
+        return paren(random_sum(size - 1))
+    left = random.randrange(size)
+    return joined(random.choice("+-*"), random_sum(left), random_sum(size - 1 - left))
+
+
+class Program:
+    """A program as its text, output, status and instructions."""
+
+    def __init__(self, declared, puts, last):
+        words = []
+        if declared:
+            words += ["int putchar(int);"]
+        words += ["int main(void)", "{"]
+        words += ["putchar" + space() + "(" + space() + p.text + space() + ")" + space() + ";" for p in puts]
+        if last is not None:
+            words += ["return " + last.text + space() + ";"]
+        words += ["}"]
+        self.text = space().join(words).encode() + b"\n"
+        self.output = bytes(p.value % 256 for p in puts)
+        self.status = last.value % 256 if last is not None else 0
+        self.code = ["lui x2,0x14000"]
+        for p in puts:
+            self.code += p.code + ["lui x11,0x8000", "sb x10,0(x11)", "addi x10,x0,1", "addi x12,x0,1", "addi x17,x0,64", "ecall"]
+        self.code += last.code if last is not None else ["addi x10,x0,0"]
+        self.code += ["addi x17,x0,93", "ecall"]
+
+
+def random_program():
+    puts = [random_sum(random.randrange(12)) for _ in range(random.choice([0, 1, 3, 20]))]
+    last = random_sum(random.randrange(12)) if random.random() < 0.8 else None
+    return Program(bool(puts) or random.random() < 0.3, puts, last)
+
+
+# ---- the compiler and the tools
+
+
+def run(words, **more):
+    return subprocess.run(words, capture_output=True, timeout=600, **more)
+
+
+def compile_text(folder, text, name="t.c"):
+    with open(os.path.join(folder, name), "wb") as f:
+        f.write(text)
+    return run([LAYC, "compile", "-o", "o.elf", name], cwd=folder)
+
+
+def check_emulated(path, output, status, what):
+    os.chmod(path, 0o755)
+    got = run([EMULATOR, path])
+    check((got.stdout, got.returncode) == (output, status), f"{what}: {EMULATOR} gives {got.stdout!r} {got.returncode}, wanted {output!r} {status}")
+
+
+def check_segments(path, code_words, what):
+    text = 0x1000 + 4 * code_words
+    wanted = [
+        (0x1000, 0x00010000, text, text, "R E"),
+        (0x1000 + (text + 0xFFF) // 0x1000 * 0x1000, 0x08000000, 256, 256, "RW"),
+        (0, 0x10000000, 0, 64 << 20, "RW"),
+        (0, 0x20000000, 0, 256 << 20, "RW"),
+    ]
+    shown = run([READELF, "-lW", path]).stdout.decode()
+    row = re.compile(r"^\s*LOAD\s+(\S+)\s+(\S+)\s+(\S+)\s+(\S+)\s+(\S+)\s+([RWE ]{3})\s+0x1000$", re.M)
+    found = [(int(o, 16), int(v, 16), int(f, 16), int(m, 16), flags.strip()) for o, v, p, f, m, flags in row.findall(shown) if v == p]
+    check(found == wanted, f"{what}: {READELF} shows {found}")
+    check("Entry point 0x10000" in shown, f"{what}: entry")
+    check(os.path.getsize(path) == wanted[1][0] + 256, f"{what}: the file ends with the data")
+
+
+def decoded(words):
+    with tempfile.NamedTemporaryFile() as f:
+        f.write(words)
+        f.flush()
+        shown = run([OBJDUMP, "-D", "-b", "binary", "-m", "riscv:rv32", "-M", "no-aliases,numeric", f.name]).stdout.decode()
+    lines = re.findall(r"^\s*[0-9a-f]+:\t[0-9a-f]+\s+\t(.*)$", shown, re.M)
+    return [re.sub(r"\s*[<#].*$", "", line.replace("\t", " ").strip()) for line in lines]
+
+
+def check_code(path, code, what):
+    with open(path, "rb") as f:
+        data = f.read()
+    check(data[0x1000:0x1004] == bytes.fromhex("6f100000"), f"{what}: the entry jumps by 0x1000")
+    check(data[0x1004:0x2000] == bytes(0xFFC), f"{what}: zeros behind the jump")
+    words = data[0x2000 : 0x2000 + 4 * len(code)]
+    got = decoded(words)
+    same = got == code
+    first = next((i for i, (a, b) in enumerate(zip(got, code)) if a != b), min(len(got), len(code)))
+    check(same, f"{what}: {OBJDUMP} decodes word {first} as {got[first:first + 1]}, meant {code[first:first + 1]}")
+
+
+def check_program(folder, program, tools, what):
+    done = compile_text(folder, program.text)
+    check((done.returncode, done.stdout, done.stderr) == (0, REPORT, b""), f"{what}: compile answers {done.returncode} {done.stderr!r} on {program.text!r}")
+    path = os.path.join(folder, "o.elf")
+    if done.returncode != 0:
+        return
+    if EMULATOR in tools:
+        check_emulated(path, program.output, program.status, what)
+    if READELF in tools:
+        check_segments(path, len(program.code), what)
+    if OBJDUMP in tools:
+        check_code(path, program.code, what)
+
+
+# ---- what is refused
+
+
+def check_refused(folder, text, what):
+    path = os.path.join(folder, "o.elf")
+    with open(path, "wb") as f:
+        f.write(b"before")
+    done = compile_text(folder, text)
+    check((done.returncode, done.stdout, done.stderr) == (PROGRAM_STATUS, b"", b"layc: t.c: form not built yet\n"), f"{what}: answers {done.returncode} {done.stderr!r}")
+    with open(path, "rb") as f:
+        check(f.read() == b"before", f"{what}: the file under OUT stays")
+
+
+def main_of(text):
+    return b"int main(void){return " + text + b";}"
+
+
+def check_edges(folder, tools):
+    refused = {
+        "an empty text": b"",
+        "a declaration in main": b"int main(void){int x;}",
+        "putchar undeclared": b"int main(void){putchar(65);return 0;}",
+        "putchar declared twice": b"int putchar(int);int putchar(int);int main(void){return 0;}",
+        "a leading zero": main_of(b"07"),
+        "two zeros": main_of(b"00"),
+        "2147483648": main_of(b"2147483648"),
+        "a number past 2^64": main_of(b"99999999999999999999999"),
+        "words that touch": b"intmain(void){return 0;}",
+        "a number that touches a word": b"int main(void){return0;}",
+        "a comment": b"int main(void){/**/return 0;}",
+        "a carriage return": b"int main(void){\r\nreturn 0;}",
+        "a form feed": b"int main(void){\freturn 0;}",
+        "a zero byte": b"int main(void){return 0;}\0",
+        "a byte above 127": b"int main(void){return 0;}\xff",
+        "unary minus": main_of(b"-1"),
+        "division": main_of(b"4/2"),
+        "a return without a value": b"int main(void){return;}",
+        "two returns": b"int main(void){return 1;return 2;}",
+        "a call behind the return": b"int putchar(int);int main(void){return 1;putchar(65);}",
+        "a sum that does not end": main_of(b"1 +"),
+        "an open parenthesis": main_of(b"(1"),
+        "a closed parenthesis": main_of(b"1)"),
+        "text behind the end": b"int main(void){return 0;}}",
+        "301 parentheses": main_of(b"(" * 301 + b"1" + b")" * 301),
+        "301 operators": main_of(b"1" + b"+1" * 301),
+        "50000 parentheses": main_of(b"(" * 30000 + b"1" + b")" * 30000),
+        "65537 bytes": main_of(b"0").ljust(65537),
+        # 6 tokens of declaration, 7 of main's head and end, 7 or 5 for each call
+        "10001 tokens": b"int putchar(int);int main(void){" + b"putchar(1+1);" * 1424 + b"putchar(1);" * 4 + b"}",
+        "a large file": b" " * (1 << 20),
+    }
+    for what, text in refused.items():
+        check_refused(folder, text, what)
+    one = number(1)
+    deep, wide = one, one
+    for _ in range(300):
+        deep = paren(deep)
+        wide = Sum(wide.text + "+1", wide.value + 1, wide.code + ["addi x2,x2,-4", "sw x10,0(x2)"] + one.code + ["addi x11,x10,0", "lw x10,0(x2)", "addi x2,x2,4", "add x10,x10,x11"], LOOSE, wide.marks + 1)
+    check_program(folder, Program(False, [], deep), tools, "300 parentheses")
+    check_program(folder, Program(False, [], wide), tools, "300 operators")
+    check_program(folder, Program(False, [], number(2147483647)), tools, "2147483647")
+    full = Program(False, [], number(0))
+    full.text = full.text.ljust(65536)
+    check_program(folder, full, tools, "65536 bytes")
+    # 5 tokens for each call, and 7 for the return
+    many = Program(True, [number(65 + i % 26) for i in range(1996)], paren(joined("+", number(1), number(2))))
+    tokens = len(re.findall(rb"[a-z]+|[0-9]+|[^\sa-z0-9]", many.text))
+    check(tokens == 10000, f"the program of 10000 tokens has {tokens}")
+    check_program(folder, many, tools, "10000 tokens")
+
+
+# ---- the outside
+
+
+def check_outside(folder):
+    usage = b"usage: layc compile -o OUT [--profile P] [--plain] [--heap MIB] [--stack MIB] FILE...\n"
+    for words in [[], ["compile"], ["compile", "t.c"], ["compile", "-o", "o"], ["compile", "-o", "", "t.c"], ["compile", "-o", "o", "-"], ["compile", "-o", "o", "t.c", "u.c"], ["--help"], ["compile", "-o", "o", b"\xff\xfe"], [b"\xff"]]:
+        done = run([LAYC] + words, cwd=folder)
+        check(done.returncode == USAGE_STATUS and done.stdout == b"" and done.stderr.startswith(usage), f"the words {words}: {done.returncode} {done.stderr!r}")
+    text = main_of(b"7")
+    compile_text(folder, text)
+    with open(os.path.join(folder, "o.elf"), "rb") as f:
+        elf = f.read()
+
+    def answers(words, status, err, what, **more):
+        done = run([LAYC] + words, cwd=folder, **more)
+        check((done.returncode, done.stderr) == (status, err), f"{what}: {done.returncode} {done.stderr!r}")
+
+    answers(["compile", "-o", "o", "missing.c"], OUTSIDE_STATUS, b"layc: cannot read missing.c\n", "a missing file")
+    answers(["compile", "-o", "o", "."], OUTSIDE_STATUS, b"layc: cannot read .\n", "a directory as FILE")
+    check(not os.path.exists(os.path.join(folder, "o")), "no file is made where FILE cannot be read")
+    answers(["compile", "-o", ".", "t.c"], OUTSIDE_STATUS, b"layc: write failed\n", "a directory as OUT")
+    answers(["compile", "-o", "no/o", "t.c"], OUTSIDE_STATUS, b"layc: write failed\n", "OUT in a folder that is not there")
+    if os.path.exists("/dev/full"):
+        answers(["compile", "-o", "/dev/full", "t.c"], OUTSIDE_STATUS, b"layc: write failed\n", "a full disk")
+    closed = subprocess.run(["bash", "-c", 'exec "$0" compile -o closed.elf t.c >&-', LAYC], cwd=folder, stderr=subprocess.PIPE)
+    check((closed.returncode, closed.stderr) == (OUTSIDE_STATUS, b"layc: write failed\n"), f"a closed standard output: {closed.returncode} {closed.stderr!r}")
+    with open(os.path.join(folder, "closed.elf"), "rb") as f:
+        check(f.read() == elf, "the file is whole where standard output is closed")
+    shutil.copy(os.path.join(folder, "t.c"), os.path.join(folder, "self.c"))
+    answers(["compile", "-o", "self.c", "self.c"], 0, b"", "OUT is FILE")
+    with open(os.path.join(folder, "self.c"), "rb") as f:
+        check(f.read() == elf, "OUT is FILE: the file is written over its source")
+
+
+def check_examples(folder, tools):
+    examples = os.path.join(HERE, "examples")
+    for name in sorted(n for n in os.listdir(examples) if n.endswith(".c")):
+        with open(os.path.join(examples, name), "rb") as f:
+            done = compile_text(folder, f.read(), name)
+        check((done.returncode, done.stdout) == (0, REPORT), f"{name}: {done.stderr!r}")
+        if EMULATOR in tools:
+            with open(os.path.join(examples, name[:-2] + ".expected"), "rb") as f:
+                wanted = f.read()
+            os.chmod(os.path.join(folder, "o.elf"), 0o755)
+            got = run([EMULATOR, os.path.join(folder, "o.elf")])
+            check(got.stdout == wanted, f"{name} prints {got.stdout!r}")
+
+
+def main():
+    random.seed(SEED)
+    count = int(sys.argv[1]) if len(sys.argv) > 1 else 150
+    if not shutil.which("rt") and not os.path.exists(os.path.join(HERE, "crates", "layc", "out", "layc")):
+        print("skipped: the compiler is not built, and there is no rt to build it")
+        return 0
+    subprocess.run([LAYC], stdout=subprocess.DEVNULL, stderr=subprocess.DEVNULL)
+    tools = [tool for tool in PACKAGES if have(tool)]
+    with tempfile.TemporaryDirectory() as folder:
+        check_examples(folder, tools)
+        for i in range(count):
+            check_program(folder, random_program(), tools, f"random program {i}")
+        check_edges(folder, tools)
+        check_outside(folder)
+    print(f"cross-check: {checks - len(failures)} passed, {len(failures)} failed")
+    return 1 if failures else 0
+
+
+if __name__ == "__main__":
+    sys.exit(main())
