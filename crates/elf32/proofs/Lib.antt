@@ -1,2 +1,4 @@
 pub mod Parts
 pub mod ReadBack
+pub mod Headers
+pub mod Tests

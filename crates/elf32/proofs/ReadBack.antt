@@ -1,13 +1,17 @@
 -- The file of an image loads as that image.
-use Rattle.std.proofs.Common.{◌≡◌, ℕ, ◌+◌, ◌*◌, ◌-◌, ◌%◌, ◌^◌, ◌<◌, ◌≤◌, Bool, false, eqb, List, [], ◌∷◌, ◌++◌, length, take, drop, slice_index, Option, None, Ok, refl, sym, ap, subst, map, ◌∙◌, eq-eqb, arith}
+use Rattle.std.proofs.Common.{◌≡◌, ℕ, ◌+◌, ◌*◌, ◌-◌, ◌%◌, ◌^◌, ◌<◌, ◌≤◌, Bool, false, eqb, List, [], ◌∷◌, ◌++◌, length, take, drop, slice_index, Option, None, Result, Ok, Err, ◌⊎◌, inl, inr, refl, sym, ap, subst, map, ◌∙◌, eq-eqb, arith}
 use Rattle.std.specs.Prelude.{not}
 use Rattle.std.specs.List.{list_any}
 use Rattle.std.proofs.lemmas.Bool.{le-ltb}
 use Rattle.std.proofs.lemmas.List.{length-append}
 use Rattle.rv_isa.specs.declared.image.Image.{Image}
 use Rattle.rv_isa.specs.declared.image.Segment.{Segment}
-use Rattle.elf32.specs.Header.{half_at, word_at, magic, entry, headers_offset, header_size, header_count, ProgramHeader, header_at, loadable}
+use Rattle.elf32.specs.declared.header.ProgramHeader.{ProgramHeader}
+use Rattle.elf32.specs.Header.{half_at, word_at, magic, entry, headers_offset, header_size, header_count, header_at, loadable}
 use Rattle.elf32.specs.Loaded.{Test, file_tests, meets, segment_tests, segments_tests, last_tests, tests, first_refusal, greatest_total, segment_of, image_of, unless_refused, loaded}
+use Rattle.elf32.specs.declared.fault.ElfFault.{ElfFault}
+use Rattle.elf32.specs.declared.fault.ElfFault.TheVariants.{BadElf, Memory}
+use Rattle.elf32.specs.Read.{ReadGives}
 use Rattle.elf32.specs.Written.{text_address, IsFull, IsRoom, AreInPlace, AreFourSegments, IsWritable, word, page_up, zeros, file_header, program_header, data_offset, four_headers, file_of, elf_file}
 use Rattle.elf32.proofs.Parts.{length-zeros, length-file_header, length-four_headers, length-parts, text_part, data_part}
 
@@ -303,3 +307,9 @@ again e segments is placed = absurd placed
 -- a file that is written loads as the image that it was written for
 pub read_back : (image : Image) → IsWritable image → loaded (elf_file image) ≡ Ok image
 read_back image writable = again image.entry image.segments writable.entry writable.segments
+
+-- so what the reader may answer for it is the image, or want of memory
+pub read_again : (image : Image) (answer : Result Image ElfFault) → IsWritable image → ReadGives answer (loaded (elf_file image)) → (answer ≡ Ok image) ⊎ (answer ≡ Err Memory)
+read_again image (Ok found) writable gives = inl (let is = read_back image writable in cc)
+read_again image (Err Memory) writable gives = inr refl
+read_again image (Err (BadElf field found)) writable gives = let is = read_back image writable in cc

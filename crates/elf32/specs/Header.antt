@@ -1,6 +1,7 @@
 -- The header of an ELF32 file and its program headers, where they stand in the bytes
 -- (System V ABI, ELF Header and Program Header; all numbers little-endian).
 use Rattle.std.specs.Prelude.{ℕ, zero, suc, ◌+◌, ◌*◌, ◌^◌, ◌==◌, List, [], ◌∷◌, slice_index, filter}
+use Rattle.elf32.specs.declared.header.ProgramHeader.{ProgramHeader}
 
 -- numbers of two and of four bytes
 abbrev pub half_at : List ℕ → ℕ → ℕ
@@ -30,14 +31,7 @@ header_count bytes = half_at bytes 44
 
 -- ---- program headers
 
-pub record ProgramHeader : Type 0 where
-  pub kind : ℕ
-  pub offset : ℕ
-  pub address : ℕ
-  pub file_size : ℕ
-  pub memory_size : ℕ
-  pub flags : ℕ
-
+-- the fields that a loader reads, of the 32 bytes from a place on
 abbrev pub header_at : List ℕ → ℕ → ProgramHeader
 header_at bytes i = record {
   kind = word_at bytes i;

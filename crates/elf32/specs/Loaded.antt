@@ -5,7 +5,8 @@ use Rattle.lay_base.specs.declared.faults.ElfField.{ElfField}
 use Rattle.lay_base.specs.declared.faults.ElfField.TheVariants.{Length, Magic, Class, Data, Ident, Kind, Machine, Version, HeaderSize, Headers, Loads, FileRange, Sizes, Address, Overlap, Total, Entry}
 use Rattle.rv_isa.specs.declared.image.Image.{Image}
 use Rattle.rv_isa.specs.declared.image.Segment.{Segment}
-use Rattle.elf32.specs.Header.{half_at, word_at, magic, entry, headers_offset, header_size, header_count, ProgramHeader, loadable}
+use Rattle.elf32.specs.declared.header.ProgramHeader.{ProgramHeader}
+use Rattle.elf32.specs.Header.{half_at, word_at, magic, entry, headers_offset, header_size, header_count, loadable}
 
 -- ---- tests, in their order
 

@@ -1,0 +1,354 @@
+//! Reading an ELF32 file: the tests in their order, then the segments.
+
+ghost use Rattle.std.specs.Prelude.{◌≡◌, ◌+◌, ◌*◌, ◌^◌, ◌<◌, ◌≤◌, ◌⊎◌, List as Sequence, [], ◌∷◌, ◌++◌, Result, Ok, Err, IfOk, OnOk, drop, length, map, sum_by, take};
+ghost use Rattle.std.specs.List.{All, list_any};
+ghost use Rattle.elf32.specs.Header.{headers_offset, header_count, loadable};
+ghost use Rattle.elf32.specs.Loaded.{file_tests, last_tests, loaded, meets, segment_of, segment_tests, segments_tests, test, wants};
+ghost use Rattle.elf32.specs.Written.{IsWritable, elf_file};
+ghost use Rattle.elf32.specs.Read.{HasFirst, ReadGives, tested};
+
+use crate::fault::ElfFault;
+use crate::header::{ProgramHeader, half_at, header_at, word_at};
+use lay_base::{Bytes, ElfField, List, NoMemory};
+use rv_isa::{Image, Segment};
+use std::alloc::Global;
+
+/// The magic number, 7F 45 4C 46.
+const MAGIC: u64 = 0x464C457F;
+
+/// The size of the file header.
+const FILE_HEADER: u64 = 52;
+
+/// The size of each program header.
+const PROGRAM_HEADER: u64 = 32;
+
+/// The kind of a segment that is loaded, `PT_LOAD`.
+const LOAD: u32 = 1;
+
+/// The most segments that are loaded.
+const MOST_SEGMENTS: u64 = 16;
+
+/// The greatest sum of the segments' sizes in memory, 1280 MiB.
+const GREATEST_TOTAL: u64 = 1_342_177_280;
+
+/// A test of a field, by whether it refuses the number that was found.
+fn test(field: ElfField, refuses: bool, found: u64) -> Result<(), ElfFault>
+    ensures { result ≡ tested (test field refuses found ∷ []) }
+{
+    if refuses {
+        return Err(ElfFault::BadElf(field, found));
+    }
+    Ok(())
+}
+
+/// The test of a field that is to have one number.
+fn wants(field: ElfField, wanted: u64, found: u64) -> Result<(), ElfFault>
+    ensures { result ≡ tested (wants field wanted found ∷ []) }
+{
+    test(field, found != wanted, found)
+}
+
+/// The tests of the file header. The tenth is that the program headers stand in the file.
+fn file_header_tests(bytes: &[u8]) -> Result<(), ElfFault>
+    ensures tests { result ≡ tested (take 10 (file_tests bytes.now)) }
+    ensures header { OnOk result (52 ≤ length bytes.now) }
+    ensures table { OnOk result (headers_offset bytes.now + 32 * header_count bytes.now ≤ length bytes.now) }
+{
+    let length = bytes.len() as u64;
+    test(ElfField::Length, length < FILE_HEADER, length)?;
+    wants(ElfField::Magic, MAGIC, u64::from(word_at(bytes, 0)))?;
+    wants(ElfField::Class, 1, u64::from(bytes[4]))?;
+    wants(ElfField::Data, 1, u64::from(bytes[5]))?;
+    wants(ElfField::Ident, 1, u64::from(bytes[6]))?;
+    wants(ElfField::Kind, 2, u64::from(half_at(bytes, 16)))?;
+    wants(ElfField::Machine, 243, u64::from(half_at(bytes, 18)))?;
+    wants(ElfField::Version, 1, u64::from(word_at(bytes, 20)))?;
+    let size = u64::from(half_at(bytes, 42));
+    let count = u64::from(half_at(bytes, 44));
+    test(
+        ElfField::HeaderSize,
+        count != 0 && size != PROGRAM_HEADER,
+        size,
+    )?;
+    let offset = u64::from(word_at(bytes, 28));
+    test(
+        ElfField::Headers,
+        length < offset + PROGRAM_HEADER * count,
+        offset,
+    )
+}
+
+/// Program headers in their order: how many they are, and the first 16.
+#[derive(Drop)]
+struct FirstHeaders {
+    count: u64,
+    first: Vec<ProgramHeader>,
+}
+
+impl FirstHeaders {
+    /// Counts one more header behind the others, and keeps it where it is one of the first 16.
+    fn add(&mut self, header: ProgramHeader) -> Result<(), NoMemory>
+        requires { self.old.count + 1 < 2 ^ 64 }
+        ensures count { OnOk result (self.new.count ≡ self.old.count + 1) }
+        ensures first { OnOk result ((hs : Sequence ProgramHeader) → HasFirst self.old hs → HasFirst self.new (hs ++ header ∷ [])) }
+    {
+        if self.count < MOST_SEGMENTS {
+            self.first.push(header).map_err(|_| NoMemory)?;
+        }
+        self.count += 1;
+        Ok(())
+    }
+}
+
+/// The program headers of the segments that are to be loaded.
+fn loadable(alloc: Global, bytes: &[u8]) -> Result<FirstHeaders, NoMemory>
+    requires header { 52 ≤ length bytes.now }
+    requires table { headers_offset bytes.now + 32 * header_count bytes.now ≤ length bytes.now }
+    ensures { IfOk result (λ found. HasFirst found (loadable bytes.now)) }
+{
+    let offset = word_at(bytes, 28) as usize;
+    let mut found = FirstHeaders {
+        count: 0,
+        first: Vec::new(alloc),
+    };
+    for i in 0..half_at(bytes, 44) as usize {
+        let header = header_at(bytes, offset + 32 * i);
+        if header.kind == LOAD {
+            found.add(header)?;
+        }
+    }
+    Ok(found)
+}
+
+/// The test of how many segments are to be loaded.
+fn loads_test(bytes: &[u8], found: &FirstHeaders) -> Result<(), ElfFault>
+    requires { HasFirst found.now (loadable bytes.now) }
+    ensures tests { result ≡ tested (drop 10 (file_tests bytes.now)) }
+    ensures few { OnOk result (length (loadable bytes.now) ≤ 16) }
+    ensures all { OnOk result (found.now.first.items ≡ loadable bytes.now) }
+{
+    let count = found.count;
+    test(ElfField::Loads, count == 0 || count > MOST_SEGMENTS, count)
+}
+
+/// Whether two segments have an address in common.
+fn meets(a: &ProgramHeader, b: &ProgramHeader) -> bool
+    ensures { result ≡ meets a.now b.now }
+{
+    let end_a = u64::from(a.address) + u64::from(a.memory_size);
+    let end_b = u64::from(b.address) + u64::from(b.memory_size);
+    u64::from(a.address.max(b.address)) < end_a.min(end_b)
+}
+
+/// Whether a segment has an address in common with one of some others.
+fn overlaps(header: &ProgramHeader, others: &[ProgramHeader]) -> bool
+    ensures { result ≡ list_any (meets header.now) others.now }
+{
+    others.iter().any(|other| meets(header, other))
+}
+
+/// The tests of a segment with those that stand before it.
+fn segment_tests(
+    file_length: u64,
+    earlier: &[ProgramHeader],
+    header: &ProgramHeader,
+) -> Result<(), ElfFault>
+    ensures tests { result ≡ tested (segment_tests file_length earlier.now header.now) }
+    ensures range { OnOk result (header.now.offset + header.now.file_size ≤ file_length) }
+{
+    let offset = u64::from(header.offset);
+    let file_size = u64::from(header.file_size);
+    let address = u64::from(header.address);
+    let memory_size = u64::from(header.memory_size);
+    test(
+        ElfField::FileRange,
+        file_length < offset + file_size,
+        offset,
+    )?;
+    test(ElfField::Sizes, memory_size < file_size, memory_size)?;
+    test(
+        ElfField::Address,
+        address + memory_size > 0x1_0000_0000,
+        address,
+    )?;
+    test(ElfField::Overlap, overlaps(header, earlier), address)
+}
+
+/// The tests of all segments, one after the other.
+fn segments_tests(file_length: u64, headers: &[ProgramHeader]) -> Result<(), ElfFault>
+    ensures tests { result ≡ tested (segments_tests file_length [] headers.now) }
+    ensures ranges { OnOk result (All (λ h. h.offset + h.file_size ≤ file_length) headers.now) }
+{
+    for (i, header) in headers.iter().enumerate() {
+        segment_tests(file_length, &headers[..i], header)?;
+    }
+    Ok(())
+}
+
+/// The sum of the segments' sizes in memory.
+fn total(headers: &[ProgramHeader]) -> u64
+    requires { length headers.now ≤ 16 }
+    ensures { result ≡ sum_by (λ h. h.memory_size) headers.now }
+{
+    let mut total = 0;
+    for header in headers {
+        total += u64::from(header.memory_size);
+    }
+    total
+}
+
+/// The tests of all segments together and of the entry.
+fn last_tests(bytes: &[u8], headers: &[ProgramHeader]) -> Result<(), ElfFault>
+    requires header { 52 ≤ length bytes.now }
+    requires few { length headers.now ≤ 16 }
+    requires all { headers.now ≡ loadable bytes.now }
+    ensures { result ≡ tested (last_tests bytes.now) }
+{
+    let total = total(headers);
+    test(ElfField::Total, total > GREATEST_TOTAL, total)?;
+    let entry = word_at(bytes, 24);
+    test(ElfField::Entry, entry % 4 != 0, u64::from(entry))
+}
+
+/// A segment with a copy of its bytes of the file.
+fn segment_of(alloc: Global, bytes: &[u8], header: &ProgramHeader) -> Result<Segment, NoMemory>
+    requires { header.now.offset + header.now.file_size ≤ length bytes.now }
+    ensures { IfOk result (λ segment. segment ≡ segment_of bytes.now header.now) }
+{
+    let from = header.offset as usize;
+    let piece = &bytes[from..from + header.file_size as usize];
+    Ok(Segment {
+        at: header.address,
+        size: header.memory_size,
+        flags: (header.flags % 256) as u8,
+        bytes: Bytes::of(piece.to_vec(alloc).map_err(|_| NoMemory)?),
+    })
+}
+
+fn segments(
+    alloc: Global,
+    bytes: &[u8],
+    headers: &[ProgramHeader],
+) -> Result<List<Segment>, NoMemory>
+    requires { All (λ h. h.offset + h.file_size ≤ length bytes.now) headers.now }
+    ensures { IfOk result (λ segments. segments ≡ map (segment_of bytes.now) headers.now) }
+{
+    let mut segments = List::new(alloc);
+    for header in headers {
+        let segment = segment_of(alloc, bytes, header)?;
+        segments.push(segment).map_err(|_| NoMemory)?;
+    }
+    Ok(segments)
+}
+
+/// Reads an ELF32 file for RISC-V as the image that it loads as (System V ABI, chapters 4 and 5). The
+/// segments are those of the loadable program headers, in their order, each with its bytes of the
+/// file. `BadElf` is the first field that the loader refuses, with the number that was found there;
+/// `Memory` may come at any time.
+pub fn read(alloc: Global, bytes: &[u8]) -> Result<Image, ElfFault>
+    ensures { ReadGives result (loaded bytes.now) }
+{
+    file_header_tests(bytes)?;
+    let found = loadable(alloc, bytes).map_err(|_| ElfFault::Memory)?;
+    loads_test(bytes, &found)?;
+    let headers = found.first.as_slice();
+    segments_tests(bytes.len() as u64, headers)?;
+    last_tests(bytes, headers)?;
+    let segments = segments(alloc, bytes, headers).map_err(|_| ElfFault::Memory)?;
+    Ok(Image {
+        entry: word_at(bytes, 24),
+        segments,
+    })
+}
+
+/// The file of an image is read as that image: on the bytes that `write` gives, `read` may answer the
+/// image or want of memory, and nothing else.
+pub fn files_are_read_back()
+    ensures { (image : Image) (answer : Result Image ElfFault) → IsWritable image → ReadGives answer (loaded (elf_file image)) → (answer ≡ Ok image) ⊎ (answer ≡ Err ElfFault.Memory) }
+{}
+
+#[cfg(test)]
+mod tests {
+    use super::*;
+    use byteorder::{ByteOrder, LittleEndian};
+    use std::alloc::AllocError;
+    use std::test::Fail;
+
+    /// One segment at 0x00010000, with its 24 bytes at offset 84 of the file.
+    const EXAMPLE: [u8; 108] = [
+        0x7F, 0x45, 0x4C, 0x46, 1, 1, 1, 0, 0, 0, 0, 0, 0, 0, 0, 0, //
+        0x02, 0x00, 0xF3, 0x00, 0x01, 0x00, 0x00, 0x00, // type, machine, version
+        0x00, 0x00, 0x01, 0x00, 0x34, 0x00, 0x00, 0x00, // entry, program headers
+        0x00, 0x00, 0x00, 0x00, 0x00, 0x00, 0x00, 0x00, // section headers, flags
+        0x34, 0x00, 0x20, 0x00, 0x01, 0x00, // sizes of headers, number of program headers
+        0x00, 0x00, 0x00, 0x00, 0x00, 0x00, //
+        0x01, 0x00, 0x00, 0x00, 0x54, 0x00, 0x00, 0x00, // kind, offset
+        0x00, 0x00, 0x01, 0x00, 0x00, 0x00, 0x01, 0x00, // addresses
+        0x18, 0x00, 0x00, 0x00, 0x18, 0x00, 0x00, 0x00, // sizes in the file and in memory
+        0x05, 0x00, 0x00, 0x00, 0x04, 0x00, 0x00, 0x00, // flags, alignment
+        0x93, 0x02, 0x70, 0x00, 0x33, 0xC3, 0x02, 0x02, //
+        0xB7, 0x03, 0x00, 0x80, 0x33, 0xEE, 0x63, 0x02, //
+        0xB7, 0x05, 0x01, 0x00, 0x03, 0xA5, 0x25, 0x00, //
+    ];
+
+    #[test]
+    fn the_example_is_read_as_its_segment(rt: HostRuntime) -> Result<(), Fail> {
+        let image = read(rt.alloc(), &EXAMPLE)?;
+        assert_eq!(rt; image.entry, 0x00010000);
+        assert_eq!(rt; image.segments.len(), 1);
+        let segment = image.segments.get(0).ok_or("a segment")?;
+        assert_eq!(rt; segment.at, 0x00010000);
+        assert_eq!(rt; segment.size, 24);
+        assert_eq!(rt; segment.flags, 5);
+        assert_eq!(rt; segment.bytes.as_slice(), &EXAMPLE[84..]);
+        Ok(())
+    }
+
+    /// The field that is refused in a file, with the number found there.
+    fn refusal(alloc: Global, file: &[u8]) -> Result<Option<(ElfField, u64)>, AllocError> {
+        match read(alloc, file) {
+            Ok(_) => Ok(None),
+            Err(ElfFault::BadElf(field, found)) => Ok(Some((field, found))),
+            Err(ElfFault::Memory) => Err(AllocError),
+        }
+    }
+
+    #[test]
+    fn a_changed_field_of_the_example_is_refused(rt: HostRuntime) -> Result<(), Fail> {
+        for (at, word, field, found) in [
+            (4, 0x00010102, ElfField::Class, 2),
+            (16, 0x003E0002, ElfField::Machine, 62),
+            (40, 0x001F0034, ElfField::HeaderSize, 31),
+            (28, 77, ElfField::Headers, 77),
+            (52, 2, ElfField::Loads, 0),
+            (56, 85, ElfField::FileRange, 85),
+            (72, 23, ElfField::Sizes, 23),
+            (60, 0xFFFFFFF0, ElfField::Address, 4294967280),
+            (72, 1342177281, ElfField::Total, 1342177281),
+            (24, 0x00010002, ElfField::Entry, 65538),
+        ] {
+            let mut file = EXAMPLE;
+            if at <= 104 {
+                LittleEndian::write_u32(&mut file[at..], word);
+            }
+            let expected = Some((field, found));
+            assert_eq!(rt; refusal(rt.alloc(), &file)?, expected, "{word} at {at}");
+        }
+        Ok(())
+    }
+
+    #[test]
+    fn short_files_and_segments_that_meet_are_refused(rt: HostRuntime) -> Result<(), Fail> {
+        let expected = Some((ElfField::Length, 51));
+        assert_eq!(rt; refusal(rt.alloc(), &EXAMPLE[..51])?, expected);
+
+        // the second program header is the first one again
+        let mut file = EXAMPLE[..84].to_vec(rt.alloc())?;
+        file.extend_from_slice(&EXAMPLE[52..])?;
+        assert_eq!(rt; file.len(), 140);
+        file[44] = 2;
+        let expected = Some((ElfField::Overlap, 0x00010000));
+        assert_eq!(rt; refusal(rt.alloc(), &file)?, expected);
+        Ok(())
+    }
+}
