@@ -7,8 +7,9 @@ use thiserror::Error;
 #[derive(Debug, Drop, Error)]
 pub enum ElfFault {
     /// The first field that the reader refuses, with the number that was found there.
-    #[error("the ELF field {0:?} is refused at {1}")]
+    #[error("{0:?} of the ELF file is refused: {1}")]
     BadElf(ElfField, u64),
+    /// No memory was left.
     #[error("out of memory")]
     Memory,
 }

@@ -8,22 +8,22 @@ ghost use Rattle.elf32.specs.Written.{IsWritable, elf_file};
 ghost use Rattle.elf32.specs.Read.{HasFirst, ReadGives, tested};
 
 use crate::fault::ElfFault;
-use crate::header::{ProgramHeader, half_at, header_at, word_at};
+use crate::header::{
+    CURRENT, EXECUTABLE, FILE_HEADER, LOAD, PROGRAM_HEADER, ProgramHeader, RISC_V, entry, half_at,
+    header_at, header_count, header_size, headers_offset, word_at,
+};
 use lay_base::{Bytes, ElfField, List, NoMemory};
 use rv_isa::{Image, Segment};
 use std::alloc::Global;
 
 /// The magic number, 7F 45 4C 46.
-const MAGIC: u64 = 0x464C457F;
+const MAGIC: u32 = 0x464C457F;
 
-/// The size of the file header.
-const FILE_HEADER: u64 = 52;
+/// Addresses of 32 bits, `ELFCLASS32`.
+const CLASS_32: u32 = 1;
 
-/// The size of each program header.
-const PROGRAM_HEADER: u64 = 32;
-
-/// The kind of a segment that is loaded, `PT_LOAD`.
-const LOAD: u32 = 1;
+/// Little-endian numbers, `ELFDATA2LSB`.
+const LITTLE_ENDIAN: u32 = 1;
 
 /// The most segments that are loaded.
 const MOST_SEGMENTS: u64 = 16;
@@ -42,10 +42,10 @@ fn test(field: ElfField, refuses: bool, found: u64) -> Result<(), ElfFault>
 }
 
 /// The test of a field that is to have one number.
-fn wants(field: ElfField, wanted: u64, found: u64) -> Result<(), ElfFault>
+fn wants(field: ElfField, wanted: u32, found: u32) -> Result<(), ElfFault>
     ensures { result ≡ tested (wants field wanted found ∷ []) }
 {
-    test(field, found != wanted, found)
+    test(field, found != wanted, u64::from(found))
 }
 
 /// The tests of the file header. The tenth is that the program headers stand in the file.
@@ -55,27 +55,29 @@ fn file_header_tests(bytes: &[u8]) -> Result<(), ElfFault>
     ensures table { OnOk result (headers_offset bytes.now + 32 * header_count bytes.now ≤ length bytes.now) }
 {
     let length = bytes.len() as u64;
-    test(ElfField::Length, length < FILE_HEADER, length)?;
-    wants(ElfField::Magic, MAGIC, u64::from(word_at(bytes, 0)))?;
-    wants(ElfField::Class, 1, u64::from(bytes[4]))?;
-    wants(ElfField::Data, 1, u64::from(bytes[5]))?;
-    wants(ElfField::Ident, 1, u64::from(bytes[6]))?;
-    wants(ElfField::Kind, 2, u64::from(half_at(bytes, 16)))?;
-    wants(ElfField::Machine, 243, u64::from(half_at(bytes, 18)))?;
-    wants(ElfField::Version, 1, u64::from(word_at(bytes, 20)))?;
-    let size = u64::from(half_at(bytes, 42));
-    let count = u64::from(half_at(bytes, 44));
-    test(
-        ElfField::HeaderSize,
-        count != 0 && size != PROGRAM_HEADER,
-        size,
+    test(ElfField::Length, length < u64::from(FILE_HEADER), length)?;
+    wants(ElfField::Magic, MAGIC, word_at(bytes, 0))?;
+    wants(ElfField::Class, CLASS_32, u32::from(bytes[4]))?;
+    wants(ElfField::Data, LITTLE_ENDIAN, u32::from(bytes[5]))?;
+    wants(ElfField::Ident, CURRENT, u32::from(bytes[6]))?;
+    wants(
+        ElfField::Kind,
+        u32::from(EXECUTABLE),
+        u32::from(half_at(bytes, 16)),
     )?;
-    let offset = u64::from(word_at(bytes, 28));
-    test(
-        ElfField::Headers,
-        length < offset + PROGRAM_HEADER * count,
-        offset,
-    )
+    wants(
+        ElfField::Machine,
+        u32::from(RISC_V),
+        u32::from(half_at(bytes, 18)),
+    )?;
+    wants(ElfField::Version, CURRENT, word_at(bytes, 20))?;
+    let size = header_size(bytes);
+    let count = header_count(bytes);
+    let other_size = count != 0 && size != PROGRAM_HEADER;
+    test(ElfField::HeaderSize, other_size, u64::from(size))?;
+    let offset = u64::from(headers_offset(bytes));
+    let end = offset + u64::from(PROGRAM_HEADER) * u64::from(count);
+    test(ElfField::Headers, length < end, offset)
 }
 
 /// Program headers in their order: how many they are, and the first 16.
@@ -106,12 +108,12 @@ fn loadable(alloc: Global, bytes: &[u8]) -> Result<FirstHeaders, NoMemory>
     requires table { headers_offset bytes.now + 32 * header_count bytes.now ≤ length bytes.now }
     ensures { IfOk result (λ found. HasFirst found (loadable bytes.now)) }
 {
-    let offset = word_at(bytes, 28) as usize;
+    let offset = headers_offset(bytes) as usize;
     let mut found = FirstHeaders {
         count: 0,
         first: Vec::new(alloc),
     };
-    for i in 0..half_at(bytes, 44) as usize {
+    for i in 0..header_count(bytes) as usize {
         let header = header_at(bytes, offset + 32 * i);
         if header.kind == LOAD {
             found.add(header)?;
@@ -160,17 +162,11 @@ fn segment_tests(
     let file_size = u64::from(header.file_size);
     let address = u64::from(header.address);
     let memory_size = u64::from(header.memory_size);
-    test(
-        ElfField::FileRange,
-        file_length < offset + file_size,
-        offset,
-    )?;
+    let file_end = offset + file_size;
+    let end = address + memory_size;
+    test(ElfField::FileRange, file_length < file_end, offset)?;
     test(ElfField::Sizes, memory_size < file_size, memory_size)?;
-    test(
-        ElfField::Address,
-        address + memory_size > 0x1_0000_0000,
-        address,
-    )?;
+    test(ElfField::Address, end > 0x1_0000_0000, address)?;
     test(ElfField::Overlap, overlaps(header, earlier), address)
 }
 
@@ -205,8 +201,8 @@ fn last_tests(bytes: &[u8], headers: &[ProgramHeader]) -> Result<(), ElfFault>
     ensures { result ≡ tested (last_tests bytes.now) }
 {
     let total = total(headers);
+    let entry = entry(bytes);
     test(ElfField::Total, total > GREATEST_TOTAL, total)?;
-    let entry = word_at(bytes, 24);
     test(ElfField::Entry, entry % 4 != 0, u64::from(entry))
 }
 
@@ -256,7 +252,7 @@ pub fn read(alloc: Global, bytes: &[u8]) -> Result<Image, ElfFault>
     last_tests(bytes, headers)?;
     let segments = segments(alloc, bytes, headers).map_err(|_| ElfFault::Memory)?;
     Ok(Image {
-        entry: word_at(bytes, 24),
+        entry: entry(bytes),
         segments,
     })
 }

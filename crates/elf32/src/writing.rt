@@ -4,6 +4,7 @@ ghost use Rattle.std.specs.Prelude.{◌≡◌, ◌<◌, ◌≤◌, ◌-◌, ◌^
 ghost use Rattle.elf32.specs.Loaded.{loaded};
 ghost use Rattle.elf32.specs.Written.{AreInPlace, IsWritable, elf_file, file_header as header_bytes, file_of, half as half_bytes, page_up as next_page, program_header as program_header_bytes, word as word_bytes, zeros};
 
+use crate::header::{CURRENT, EXECUTABLE, FILE_HEADER, LOAD, PROGRAM_HEADER, RISC_V};
 use byteorder::{LittleEndian, WriteBytesExt};
 use lay_base::NoMemory;
 use rv_isa::{Image, Segment};
@@ -11,24 +12,6 @@ use std::alloc::Global;
 
 /// The magic number, 32 bits, little-endian and version 1 (System V ABI, ELF Identification).
 const IDENT: [u8; 16] = [0x7F, b'E', b'L', b'F', 1, 1, 1, 0, 0, 0, 0, 0, 0, 0, 0, 0];
-
-/// The kind of an executable file, `ET_EXEC`.
-const EXECUTABLE: u16 = 2;
-
-/// The number of the machine, `EM_RISCV`.
-const RISC_V: u16 = 243;
-
-/// The version of the format, `EV_CURRENT`.
-const CURRENT: u32 = 1;
-
-/// The size of the file header, behind which the program headers stand.
-const FILE_HEADER: u16 = 52;
-
-/// The size of each program header.
-const PROGRAM_HEADER: u16 = 32;
-
-/// The kind of a segment that is loaded, `PT_LOAD`.
-const LOAD: u32 = 1;
 
 /// The alignment of segments in memory and in the file. Text stands at this offset.
 const PAGE: u32 = 0x1000;

@@ -1,4 +1,4 @@
-use Rattle.std.proofs.Common.{◌==◌, filter, rules, arith, subst}
+use Rattle.std.proofs.Common.{◌==◌, filter, rules, arith}
 use Rattle.std.proofs.lemmas.Grind.{common_steps}
 use Rattle.elf32.specs.Header.{headers_from, headers_offset}
 use Rattle.elf32.proofs.Headers.{loadable_taken, loadable_passed}

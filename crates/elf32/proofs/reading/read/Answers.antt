@@ -37,4 +37,4 @@ returns c =
     let headers : c.as_slice-headers.result.now ≡ loadable c.args.bytes.now = search rules in
     let file : FilePasses c.args.bytes.now = record { header = search rules; loads = search rules } in
     let segments : c.in_ok-segments.segments ≡ map (segment_of c.args.bytes.now) c.as_slice-headers.result.now = search rules in
-    all_passed c.args.bytes.now file (rw (← headers) (search rules)) (search rules) ∙ rw (segments, headers, c.word_at.ensures) refl
+    all_passed c.args.bytes.now file (rw (← headers) (search rules)) (search rules) ∙ rw (segments, headers, c.entry.ensures) refl
