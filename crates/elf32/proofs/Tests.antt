@@ -5,7 +5,7 @@ use Rattle.elf32.specs.declared.fault.ElfFault.{ElfFault}
 use Rattle.elf32.specs.declared.fault.ElfFault.TheVariants.{BadElf, Memory}
 use Rattle.elf32.specs.Header.{loadable}
 use Rattle.elf32.specs.Loaded.{Test, file_tests, segments_tests, last_tests, tests, first_refusal, image_of, unless_refused, loaded}
-use Rattle.elf32.specs.Read.{ReadGives, unless_fault, tested}
+use Rattle.elf32.specs.Read.{LoadableGives, ReadGives, unless_fault, tested}
 
 -- the first test passes, and so do the others
 passes_first : (t : Test) (ts : List Test) → tested (t ∷ ts) ≡ Ok tt → (t.refuses ≡ false) × (tested ts ≡ Ok tt)
@@ -63,10 +63,14 @@ header_refused bytes fault refused =
     fault_read bytes fault (tested_fault (take 10 (file_tests bytes)) (drop 10 (file_tests bytes) ++ (segments_tests (length bytes) [] (loadable bytes) ++ last_tests bytes)) fault refused)
 
 -- they pass, and that of the number of segments refuses
-pub loads_refused : (bytes : List ℕ) (fault : ElfFault) → tested (take 10 (file_tests bytes)) ≡ Ok tt → tested (drop 10 (file_tests bytes)) ≡ Err fault → ReadGives (Err fault) (loaded bytes)
-loads_refused bytes fault header refused =
+number_refused : (bytes : List ℕ) (fault : ElfFault) → tested (take 10 (file_tests bytes)) ≡ Ok tt → tested (drop 10 (file_tests bytes)) ≡ Err fault → ReadGives (Err fault) (loaded bytes)
+number_refused bytes fault header refused =
     let later = segments_tests (length bytes) [] (loadable bytes) ++ last_tests bytes in
     fault_read bytes fault (tested_then (take 10 (file_tests bytes)) (drop 10 (file_tests bytes) ++ later) header ∙ tested_fault (drop 10 (file_tests bytes)) later fault refused)
+
+pub loads_refused : (bytes : List ℕ) (fault : ElfFault) → tested (take 10 (file_tests bytes)) ≡ Ok tt → LoadableGives (Err fault) bytes → ReadGives (Err fault) (loaded bytes)
+loads_refused bytes (BadElf field found) header gives = number_refused bytes (BadElf field found) header gives
+loads_refused bytes Memory header gives = tt
 
 -- the tests of the file pass
 pub record FilePasses (bytes : List ℕ) : Type 0 where

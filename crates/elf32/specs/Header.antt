@@ -31,7 +31,7 @@ header_count bytes = half_at bytes 44
 
 -- ---- program headers
 
--- the fields that a loader reads, of the 32 bytes from a place on
+-- of the 32 bytes from a place on, the fields that a loader reads: `ProgramHeader` of src/header.rt
 abbrev pub header_at : List ℕ → ℕ → ProgramHeader
 header_at bytes i = record {
   kind = word_at bytes i;

@@ -1,12 +1,14 @@
 -- What the reader answers.
-use Rattle.std.specs.Prelude.{◌≡◌, ℕ, List, length, take, Option, Some, None, Result, Ok, Err}
+use Rattle.std.specs.Prelude.{◌≡◌, ℕ, ◌≤◌, List, length, take, drop, Option, Some, None, Result, Ok, Err}
+use Rattle.std.specs.Global.{Vec}
 use Rattle.lay_base.specs.declared.faults.ElfField.{ElfField}
 use Rattle.rv_isa.specs.declared.image.Image.{Image}
 use Rattle.elf32.specs.declared.fault.ElfFault.{ElfFault}
 use Rattle.elf32.specs.declared.fault.ElfFault.TheVariants.{BadElf, Memory}
 use Rattle.elf32.specs.declared.header.ProgramHeader.{ProgramHeader}
 use Rattle.elf32.specs.declared.reading.FirstHeaders.{FirstHeaders}
-use Rattle.elf32.specs.Loaded.{Test, first_refusal}
+use Rattle.elf32.specs.Header.{loadable}
+use Rattle.elf32.specs.Loaded.{Test, file_tests, first_refusal}
 
 -- the answer for bytes that load so: the image, or the refused field and the number found there.
 -- Want of memory may come at any time.
@@ -17,11 +19,6 @@ ReadGives (Err Memory) loads = Unit {0}
 
 -- ---- parts of the reader
 
--- how many headers there are, and the first 16 of them
-pub record HasFirst (found : FirstHeaders) (hs : List ProgramHeader) : Type 0 where
-  pub count : found.count ≡ length hs
-  pub first : found.first.items ≡ take 16 hs
-
 -- the fault of a test that refuses
 abbrev pub unless_fault : Option Test → Result (Unit {0}) ElfFault
 unless_fault None = Ok tt
@@ -30,3 +27,19 @@ unless_fault (Some t) = Err (BadElf t.field t.found)
 -- the answer where only these tests are made
 abbrev pub tested : List Test → Result (Unit {0}) ElfFault
 tested ts = unless_fault (first_refusal ts)
+
+-- how many headers there are, and the first 16 of them
+pub record HasFirst (found : FirstHeaders) (hs : List ProgramHeader) : Type 0 where
+  pub count : found.count ≡ length hs
+  pub first : found.first.items ≡ take 16 hs
+
+-- the number of loadable headers passes the last of the file's tests, and these are the headers
+pub record AreLoadable (hs : List ProgramHeader) (bytes : List ℕ) : Type 0 where
+  pub passes : tested (drop 10 (file_tests bytes)) ≡ Ok tt
+  pub few : length hs ≤ 16
+  pub all : hs ≡ loadable bytes
+
+abbrev pub LoadableGives : Result (Vec ProgramHeader) ElfFault → List ℕ → Type 0
+LoadableGives (Ok headers) bytes = AreLoadable headers.items bytes
+LoadableGives (Err (BadElf field found)) bytes = tested (drop 10 (file_tests bytes)) ≡ Err (BadElf field found)
+LoadableGives (Err Memory) bytes = Unit {0}

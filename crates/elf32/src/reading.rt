@@ -1,11 +1,11 @@
 //! Reading an ELF32 file: the tests in their order, then the segments.
 
-ghost use Rattle.std.specs.Prelude.{◌≡◌, ◌+◌, ◌*◌, ◌^◌, ◌<◌, ◌≤◌, ◌⊎◌, List as Sequence, [], ◌∷◌, ◌++◌, Result, Ok, Err, IfOk, OnOk, drop, length, map, sum_by, take};
+ghost use Rattle.std.specs.Prelude.{◌≡◌, ◌+◌, ◌*◌, ◌^◌, ◌<◌, ◌≤◌, ◌⊎◌, List as Sequence, [], ◌∷◌, ◌++◌, Result, Ok, Err, IfOk, OnOk, length, map, sum_by, take};
 ghost use Rattle.std.specs.List.{All, list_any};
 ghost use Rattle.elf32.specs.Header.{headers_offset, header_count, loadable};
 ghost use Rattle.elf32.specs.Loaded.{file_tests, last_tests, loaded, meets, segment_of, segment_tests, segments_tests, test, wants};
 ghost use Rattle.elf32.specs.Written.{IsWritable, elf_file};
-ghost use Rattle.elf32.specs.Read.{HasFirst, ReadGives, tested};
+ghost use Rattle.elf32.specs.Read.{HasFirst, LoadableGives, ReadGives, tested};
 
 use crate::fault::ElfFault;
 use crate::header::{
@@ -102,8 +102,8 @@ impl FirstHeaders {
     }
 }
 
-/// The program headers of the segments that are to be loaded.
-fn loadable(alloc: Global, bytes: &[u8]) -> Result<FirstHeaders, NoMemory>
+/// The program headers of the segments that are to be loaded, counted.
+fn first_loadable(alloc: Global, bytes: &[u8]) -> Result<FirstHeaders, NoMemory>
     requires header { 52 ≤ length bytes.now }
     requires table { headers_offset bytes.now + 32 * header_count bytes.now ≤ length bytes.now }
     ensures { IfOk result (λ found. HasFirst found (loadable bytes.now)) }
@@ -122,15 +122,15 @@ fn loadable(alloc: Global, bytes: &[u8]) -> Result<FirstHeaders, NoMemory>
     Ok(found)
 }
 
-/// The test of how many segments are to be loaded.
-fn loads_test(bytes: &[u8], found: &FirstHeaders) -> Result<(), ElfFault>
-    requires { HasFirst found.now (loadable bytes.now) }
-    ensures tests { result ≡ tested (drop 10 (file_tests bytes.now)) }
-    ensures few { OnOk result (length (loadable bytes.now) ≤ 16) }
-    ensures all { OnOk result (found.now.first.items ≡ loadable bytes.now) }
+/// The program headers of the segments that are to be loaded, or the test of how many they are.
+fn loadable(alloc: Global, bytes: &[u8]) -> Result<Vec<ProgramHeader>, ElfFault>
+    requires header { 52 ≤ length bytes.now }
+    requires table { headers_offset bytes.now + 32 * header_count bytes.now ≤ length bytes.now }
+    ensures { LoadableGives result bytes.now }
 {
-    let count = found.count;
-    test(ElfField::Loads, count == 0 || count > MOST_SEGMENTS, count)
+    let FirstHeaders { count, first } = first_loadable(alloc, bytes).map_err(|_| ElfFault::Memory)?;
+    test(ElfField::Loads, count == 0 || count > MOST_SEGMENTS, count)?;
+    Ok(first)
 }
 
 /// Whether two segments have an address in common.
@@ -245,12 +245,10 @@ pub fn read(alloc: Global, bytes: &[u8]) -> Result<Image, ElfFault>
     ensures { ReadGives result (loaded bytes.now) }
 {
     file_header_tests(bytes)?;
-    let found = loadable(alloc, bytes).map_err(|_| ElfFault::Memory)?;
-    loads_test(bytes, &found)?;
-    let headers = found.first.as_slice();
-    segments_tests(bytes.len() as u64, headers)?;
-    last_tests(bytes, headers)?;
-    let segments = segments(alloc, bytes, headers).map_err(|_| ElfFault::Memory)?;
+    let headers = loadable(alloc, bytes)?;
+    segments_tests(bytes.len() as u64, &headers)?;
+    last_tests(bytes, &headers)?;
+    let segments = segments(alloc, bytes, &headers).map_err(|_| ElfFault::Memory)?;
     Ok(Image {
         entry: entry(bytes),
         segments,

@@ -1,24 +1,13 @@
-use Rattle.std.proofs.Common.{◌==◌, filter, rules, arith}
+use Rattle.std.proofs.Common.{◌≡◌, ◌≤◌, length, rules, ◌∙◌, arith}
 use Rattle.std.proofs.lemmas.Grind.{common_steps}
-use Rattle.elf32.specs.Header.{headers_from, headers_offset}
-use Rattle.elf32.proofs.Headers.{loadable_taken, loadable_passed}
+use Rattle.std.proofs.lemmas.List.{take_all}
+use Rattle.elf32.specs.Header.{loadable}
+use Rattle.elf32.specs.Read.{HasFirst}
 use Rattle.elf32.proofs.reading.loadable.Goals as goal
-use Rattle.elf32.proofs.reading.loadable.Goals.{then-header-eq-LOAD+in_ok-add, else-header-eq-LOAD}
 
-pub loop-i-preserved : goal.loop-i-preserved
-loop-i-preserved c =
-    elim c.if-header-eq-LOAD.branch [
-      | then-header-eq-LOAD+in_ok-add w ↦
-          let taken = loadable_taken c.args.bytes.now (headers_offset c.args.bytes.now) c.loop-i.i c.header_at-header.result (search rules) w.if-header-eq-LOAD.true in
-          let added = w.in_ok-add.ensures.first (filter (λ h. h.kind == 1) (headers_from c.args.bytes.now (headers_offset c.args.bytes.now) c.loop-i.i)) c.loop-i.invariant.found in
-          record {
-            found = rw (w.found-is, taken) added;
-            fits = grind (arith, common_steps);
-          }
-      | else-header-eq-LOAD w ↦
-          let passed = loadable_passed c.args.bytes.now (headers_offset c.args.bytes.now) c.loop-i.i c.header_at-header.result (search rules) w.if-header-eq-LOAD.false in
-          record {
-            found = rw (w.found-is, passed) c.loop-i.invariant.found;
-            fits = grind (arith, common_steps);
-          }
-    ]
+pub returns : goal.returns
+returns c =
+    let found : HasFirst c.in_ok-count.field-0 (loadable c.args.bytes.now) = search rules in
+    let few : length (loadable c.args.bytes.now) ≤ 16 = grind (arith, common_steps) in
+    let kept : c.in_ok-count.field-0.first.items ≡ loadable c.args.bytes.now = found.first ∙ take_all 16 _ few in
+    record { passes = grind (arith, common_steps); few = rw kept few; all = kept }

@@ -1,7 +1,7 @@
 use Rattle.std.proofs.Common.{◌==◌, ◌≤◌, filter}
 use Rattle.elf32.specs.Header.{headers_from, headers_offset}
 use Rattle.elf32.specs.Read.{HasFirst}
-use Rattle.elf32.proofs.reading.loadable.Given as goal
+use Rattle.elf32.proofs.reading.first_loadable.Given as goal
 
 abbrev pub invariant-loop-i : goal.invariant-loop-i
 invariant-loop-i l = record {
