@@ -33,12 +33,13 @@ pub record HasFirst (found : FirstHeaders) (hs : List ProgramHeader) : Type 0 wh
   pub count : found.count ≡ length hs
   pub first : found.first.items ≡ take 16 hs
 
--- the number of loadable headers passes the last of the file's tests, and these are the headers
+-- these are the loadable headers, and how many they are passes the last of the file's tests
 pub record AreLoadable (hs : List ProgramHeader) (bytes : List ℕ) : Type 0 where
   pub passes : tested (drop 10 (file_tests bytes)) ≡ Ok tt
   pub few : length hs ≤ 16
   pub all : hs ≡ loadable bytes
 
+-- they, or that test's refusal
 abbrev pub LoadableGives : Result (Vec ProgramHeader) ElfFault → List ℕ → Type 0
 LoadableGives (Ok headers) bytes = AreLoadable headers.items bytes
 LoadableGives (Err (BadElf field found)) bytes = tested (drop 10 (file_tests bytes)) ≡ Err (BadElf field found)
