@@ -1,7 +1,11 @@
 pub mod Fields
+pub mod TwosComplement
 pub mod Encoding
 pub mod Decoding
+pub mod Arithmetic
 pub mod Memory
 pub mod Step
 pub mod Run
+pub mod Placed
+pub mod Events
 pub mod Examples

@@ -5,11 +5,13 @@
 //! instruction again.
 #![tactic(auto)]
 
+mod decoding;
 mod encoding;
 mod fields;
 mod image;
 mod instruction;
 
+pub use decoding::decode;
 pub use encoding::{encode, words_are_read_back};
 pub use image::{Image, Segment};
 pub use instruction::Inst;
