@@ -2,7 +2,8 @@
 use Rattle.std.proofs.Common.{◌≡◌, ℕ, ◌+◌, ◌/◌, ◌%◌, ◌^◌, ◌<◌, true, List, [], ◌∷◌, ◌++◌, length, pos, slice_set, refl, ap, ◌∙◌, arith, get_or-set_other, length-set}
 use Rattle.rv_isa.specs.declared.instruction.Inst.TheVariants.{Lui, Sb, Addi, Ecall}
 use Rattle.rv_isa.specs.Memory.{Memory, readable, writable, are_mapped, with_byte, bytes_at}
-use Rattle.rv_isa.specs.Step.{State, Stepped, Goes, Ends, Exits, register, plus, stores, calls, write_call, exit_call, step}
+use Rattle.rv_isa.specs.Arithmetic.{plus}
+use Rattle.rv_isa.specs.Step.{State, Stepped, Goes, Ends, Exits, register, stores, calls, write_call, exit_call, step}
 use Rattle.rv_isa.specs.Run.{shown, after, run}
 use Rattle.elf32.specs.Written.{data_address}
 use Rattle.thin_code.specs.Meaning.{low_byte}
