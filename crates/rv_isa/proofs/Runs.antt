@@ -4,7 +4,7 @@ use Rattle.std.proofs.lemmas.List.{append_assoc}
 use Rattle.rv_isa.specs.declared.image.Segment.{Segment}
 use Rattle.rv_isa.specs.Step.{State, Standing, Running, Stepped, Goes, Ends, step}
 use Rattle.rv_isa.specs.Run.{Shown, shown, after, run, state_then, state_after}
-use Rattle.rv_isa.specs.Events.{MachineEvent, step_events, events_then, events}
+use Rattle.rv_isa.specs.Events.{step_events, events_then, events}
 
 none_before : (k : ℕ) → zero + k ≡ k
 none_before k = omega arith

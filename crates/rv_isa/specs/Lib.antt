@@ -11,3 +11,4 @@ pub mod Events
 pub mod WordExamples
 pub mod ArithmeticExamples
 pub mod StepExamples
+pub mod EventExamples
