@@ -126,7 +126,7 @@ module _ (segments : List Segment) where
   -- ---- a run that ended
 
   -- after m steps the machine runs, or it stays so
-  abbrev Settled : ℕ → State → Type 0
+  abbrev pub Settled : ℕ → State → Type 0
   Settled m s = ((run segments m s).standing ≡ Running) ⊎ ((k : ℕ) → run segments (m + k) s ≡ run segments m s)
 
   settled_by : (m : ℕ) (s : State) (d : Stepped) → step segments s ≡ d → ((t : State) → Settled m t) → Settled (suc m) s

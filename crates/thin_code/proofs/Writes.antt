@@ -9,7 +9,8 @@ use Rattle.elf32.specs.Written.{data_address}
 use Rattle.thin_code.specs.Meaning.{low_byte}
 use Rattle.thin_code.specs.Code.{write_code, exit_code}
 use Rattle.thin_code.proofs.Memory.{SameBut, with_byte_same, with_byte_frame}
-use Rattle.thin_code.proofs.Steps.{Stands, Code, Comes, comes_then, comes_one, step_is, run_suc, code_stays}
+use Rattle.rv_isa.proofs.Runs.{run_suc}
+use Rattle.thin_code.proofs.Steps.{Stands, Code, Comes, comes_then, comes_one, step_is, code_stays}
 use Rattle.thin_code.proofs.Blocks.{Layout, put, put_same, put_other, put_length, comes_put, accesses_done}
 
 -- the byte is stored
