@@ -1,9 +1,9 @@
 -- An immediate and its low bits determine each other.
-use Rattle.std.proofs.Common.{◌≡◌, ℕ, suc, ◌-◌, ◌%◌, ◌^◌, ◌<◌, ◌≤◌, ltb, ℤ, pos, negsuc, arith}
+use Rattle.std.proofs.Common.{◌≡◌, ℕ, suc, ◌-◌, ◌%◌, ◌^◌, ◌<◌, ◌≤◌, ltb, ℤ, pos, negsuc, ap, arith}
 use Rattle.std.proofs.lemmas.Bool.{cond_both, ltb-true, ltb-false}
 use Rattle.std.proofs.lemmas.Int.{ints}
-use Rattle.rv_isa.specs.Encoding.{low_bits, IsShort, IsDistance}
-use Rattle.rv_isa.specs.Decoding.{signed}
+use Rattle.rv_isa.specs.Encoding.{IsShort, IsAmount, IsBranchDistance, IsDistance}
+use Rattle.rv_isa.specs.TwosComplement.{signed, low_bits}
 
 -- by the sign bit
 by_sign : (P : ℤ → Type 0) (bits n : ℕ) → (n < 2 ^ (bits - 1) → P (pos n)) → (2 ^ (bits - 1) ≤ n → P (negsuc (2 ^ bits - suc n))) → P (signed bits n)
@@ -23,6 +23,30 @@ short_bits n lt = by_sign (λ z. low_bits 12 z ≡ n) 12 n (λ l. omega arith) (
 -- each 12 bits are a number in range
 pub short_fits : (n : ℕ) → n < 2 ^ 12 → IsShort (signed 12 n)
 short_fits n lt = by_sign IsShort 12 n (λ l. (omega (arith, ints), omega (arith, ints))) (λ h. (omega (arith, ints), omega (arith, ints)))
+
+-- ---- the amount of a shift
+
+pub amount_again : (imm : ℤ) → IsAmount imm → pos (low_bits 5 imm) ≡ imm
+amount_again (pos n) a = ap pos (omega (arith, ints))
+amount_again (negsuc n) a = absurd (omega (arith, ints))
+
+pub amount_fits : (n : ℕ) → n < 2 ^ 5 → IsAmount (pos n)
+amount_fits n lt = (omega (arith, ints), omega (arith, ints))
+
+-- ---- 13 bits
+
+-- the distance is read from its bits again
+pub branch_again : (imm : ℤ) → IsBranchDistance imm → signed 13 (low_bits 13 imm) ≡ imm
+branch_again (pos n) d = by_sign (λ z. z ≡ pos n) 13 (low_bits 13 (pos n)) (λ l. omega (arith, ints)) (λ h. absurd (omega (arith, ints)))
+branch_again (negsuc n) d = by_sign (λ z. z ≡ negsuc n) 13 (low_bits 13 (negsuc n)) (λ l. absurd (omega (arith, ints))) (λ h. omega (arith, ints))
+
+-- the bits of the distance that they are read as
+pub branch_bits : (n : ℕ) → n < 2 ^ 13 → low_bits 13 (signed 13 n) ≡ n
+branch_bits n lt = by_sign (λ z. low_bits 13 z ≡ n) 13 n (λ l. omega arith) (λ h. omega arith)
+
+-- each 13 bits, the lowest of them 0, are a distance in range
+pub branch_fits : (n : ℕ) → n < 2 ^ 13 → n % 2 ≡ 0 → IsBranchDistance (signed 13 n)
+branch_fits n lt even = by_sign IsBranchDistance 13 n (λ l. (omega (arith, ints), omega (arith, ints), omega arith)) (λ h. (omega (arith, ints), omega (arith, ints), omega arith))
 
 -- ---- 21 bits
 

@@ -1,7 +1,14 @@
 pub mod Fields
+pub mod TwosComplement
 pub mod Encoding
 pub mod Decoding
+pub mod Arithmetic
 pub mod Memory
 pub mod Step
 pub mod Run
-pub mod Examples
+pub mod Placed
+pub mod Events
+pub mod WordExamples
+pub mod ArithmeticExamples
+pub mod StepExamples
+pub mod EventExamples

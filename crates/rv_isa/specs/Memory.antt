@@ -42,9 +42,16 @@ initial_memory (segment ∷ segments) address = if is_in segment address then sl
 abbrev pub word_at : Memory → ℕ → ℕ
 word_at memory a = memory a + 2 ^ 8 * memory (a + 1) + 2 ^ 16 * memory (a + 2) + 2 ^ 24 * memory (a + 3)
 
+-- two bytes, the lowest first
+abbrev pub half_at : Memory → ℕ → ℕ
+half_at memory a = memory a + 2 ^ 8 * memory (a + 1)
+
 -- the low byte of a value at an address
 abbrev pub with_byte : Memory → (address value : ℕ) → Memory
 with_byte memory a v b = if b == a then v % 2 ^ 8 else memory b
+
+abbrev pub with_half : Memory → (address value : ℕ) → Memory
+with_half memory a v = with_byte (with_byte memory a v) (a + 1) (v / 2 ^ 8)
 
 abbrev pub with_word : Memory → (address value : ℕ) → Memory
 with_word memory a v = with_byte (with_byte (with_byte (with_byte memory a v) (a + 1) (v / 2 ^ 8)) (a + 2) (v / 2 ^ 16)) (a + 3) (v / 2 ^ 24)

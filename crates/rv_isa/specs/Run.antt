@@ -24,6 +24,16 @@ unfoldable pub run : List Segment → ℕ → State → Shown
 run segments zero s = shown Running s
 run segments (suc m) s = after (run segments m) s (step segments s)
 
+-- the state that follows a step; one that ended stays
+abbrev pub state_then : (State → State) → State → Stepped → State
+state_then next s (Goes t) = next t
+state_then next s (Ends standing) = s
+
+-- the state after m steps
+unfoldable pub state_after : List Segment → ℕ → State → State
+state_after segments zero s = s
+state_after segments (suc m) s = state_then (state_after segments m) s (step segments s)
+
 -- the image before the first step: registers are 0, and the program counter is at the entry
 abbrev pub start : Image → List ℕ → State
 start image input = record {

@@ -1,13 +1,14 @@
--- One step of the machine (RISC-V unprivileged specification, chapters 2 and 13).
-use Rattle.std.specs.Prelude.{ℕ, ◌+◌, ◌-◌, ◌*◌, ◌%◌, ◌^◌, min, ◌==◌, ◌&&◌, if◌then◌else◌, List, ◌++◌, take, drop, length, slice_index, slice_set, Option, Some, None, ℤ}
-use Rattle.std.specs.Int.{w32, cast_unsigned}
+-- One step of the machine (RISC-V unprivileged specification, chapters on RV32I and M).
+use Rattle.std.specs.Prelude.{ℕ, ◌+◌, ◌*◌, ◌/◌, ◌%◌, ◌^◌, min, nat_lt, ◌==◌, ◌&&◌, Bool, not, if◌then◌else◌, List, ◌++◌, take, drop, length, slice_index, slice_set, Option, Some, None, ℤ, bit_and, bit_or, bit_xor}
+use Rattle.std.specs.Int.{w8, w16, cast_signed}
 use Rattle.lay_base.specs.declared.faults.TrapKind.{TrapKind}
 use Rattle.lay_base.specs.declared.faults.TrapKind.TheVariants.{Unmapped, Illegal, Jump, Misaligned, Call}
 use Rattle.rv_isa.specs.declared.image.Segment.{Segment}
 use Rattle.rv_isa.specs.declared.instruction.Inst.{Inst}
-use Rattle.rv_isa.specs.declared.instruction.Inst.TheVariants.{Lui, Jal, Lw, Sb, Sw, Addi, Add, Sub, Mul, Ecall}
-use Rattle.rv_isa.specs.Memory.{Memory, executable, writable, readable, are_mapped, word_at, with_byte, with_word, bytes_at, with_bytes}
+use Rattle.rv_isa.specs.declared.instruction.Inst.TheVariants.{Lui, Auipc, Jal, Jalr, Beq, Bne, Blt, Bge, Bltu, Bgeu, Lb, Lh, Lw, Lbu, Lhu, Sb, Sh, Sw, Addi, Slti, Sltiu, Xori, Ori, Andi, Slli, Srli, Srai, Add, Sub, Sll, Slt, Sltu, Xor, Srl, Sra, Or, And, Mul, Mulh, Mulhsu, Mulhu, Div, Divu, Rem, Remu, Fence, Ecall, Ebreak}
+use Rattle.rv_isa.specs.Memory.{Memory, executable, writable, readable, are_mapped, half_at, word_at, with_byte, with_half, with_word, bytes_at, with_bytes}
 use Rattle.rv_isa.specs.Decoding.{decoded}
+use Rattle.rv_isa.specs.Arithmetic.{one_if, plus, extended, is_less, sum, difference, product, high_signed, high_mixed, high_unsigned, shifted_left, shifted_right, shifted_right_signed, quotient, quotient_unsigned, remainder, remainder_unsigned}
 
 -- the registers x0 to x31, the program counter, memory, the input left and the output
 pub record State : Type 0 where
@@ -40,10 +41,6 @@ with_register registers r v = if r == 0 then registers else slice_set registers 
 
 -- ---- the parts of instructions
 
--- the sum of a register and an immediate
-abbrev pub plus : ℕ → ℤ → ℕ
-plus a imm = (a + cast_unsigned w32 imm) % 2 ^ 32
-
 abbrev pub next_pc : State → ℕ
 next_pc s = (s.pc + 4) % 2 ^ 32
 
@@ -57,6 +54,10 @@ writes s rd v = Goes (record s { registers = with_register s.registers rd v; pc 
 -- a jump, whose target is to be a multiple of 4; the register gets the place behind it
 abbrev pub jumps : State → (rd target : ℕ) → Stepped
 jumps s rd target = if target % 4 == 0 then Goes (record s { registers = with_register s.registers rd (next_pc s); pc = target }) else traps s Jump
+
+-- a branch: a jump to a distance where the test holds, else the next instruction follows
+abbrev pub branches : State → Bool → (distance : ℤ) → Stepped
+branches s test distance = if test then jumps s 0 (plus s.pc distance) else Goes (record s { pc = next_pc s })
 
 -- an access to n bytes, at a multiple of n, of mapped memory
 abbrev pub accesses : List Segment → State → (flag address n : ℕ) → Stepped → Stepped
@@ -97,15 +98,53 @@ calls segments s =
 
 abbrev pub executed : List Segment → State → Inst → Stepped
 executed segments s (Lui rd imm) = writes s rd (imm * 2 ^ 12)
+executed segments s (Auipc rd imm) = writes s rd ((s.pc + imm * 2 ^ 12) % 2 ^ 32)
 executed segments s (Jal rd imm) = jumps s rd (plus s.pc imm)
+executed segments s (Jalr rd rs1 imm) = jumps s rd (plus (register s rs1) imm / 2 * 2)
+executed segments s (Beq rs1 rs2 imm) = branches s (register s rs1 == register s rs2) imm
+executed segments s (Bne rs1 rs2 imm) = branches s (not (register s rs1 == register s rs2)) imm
+executed segments s (Blt rs1 rs2 imm) = branches s (is_less (register s rs1) (register s rs2)) imm
+executed segments s (Bge rs1 rs2 imm) = branches s (not (is_less (register s rs1) (register s rs2))) imm
+executed segments s (Bltu rs1 rs2 imm) = branches s (nat_lt (register s rs1) (register s rs2)) imm
+executed segments s (Bgeu rs1 rs2 imm) = branches s (not (nat_lt (register s rs1) (register s rs2))) imm
+executed segments s (Lb rd rs1 imm) = let a = plus (register s rs1) imm in accesses segments s readable a 1 (writes s rd (extended (cast_signed w8 (s.memory a))))
+executed segments s (Lh rd rs1 imm) = let a = plus (register s rs1) imm in accesses segments s readable a 2 (writes s rd (extended (cast_signed w16 (half_at s.memory a))))
 executed segments s (Lw rd rs1 imm) = let a = plus (register s rs1) imm in accesses segments s readable a 4 (writes s rd (word_at s.memory a))
+executed segments s (Lbu rd rs1 imm) = let a = plus (register s rs1) imm in accesses segments s readable a 1 (writes s rd (s.memory a))
+executed segments s (Lhu rd rs1 imm) = let a = plus (register s rs1) imm in accesses segments s readable a 2 (writes s rd (half_at s.memory a))
 executed segments s (Sb rs1 rs2 imm) = let a = plus (register s rs1) imm in accesses segments s writable a 1 (stores s (with_byte s.memory a (register s rs2)))
+executed segments s (Sh rs1 rs2 imm) = let a = plus (register s rs1) imm in accesses segments s writable a 2 (stores s (with_half s.memory a (register s rs2)))
 executed segments s (Sw rs1 rs2 imm) = let a = plus (register s rs1) imm in accesses segments s writable a 4 (stores s (with_word s.memory a (register s rs2)))
 executed segments s (Addi rd rs1 imm) = writes s rd (plus (register s rs1) imm)
-executed segments s (Add rd rs1 rs2) = writes s rd ((register s rs1 + register s rs2) % 2 ^ 32)
-executed segments s (Sub rd rs1 rs2) = writes s rd ((register s rs1 + (2 ^ 32 - register s rs2)) % 2 ^ 32)
-executed segments s (Mul rd rs1 rs2) = writes s rd (register s rs1 * register s rs2 % 2 ^ 32)
+executed segments s (Slti rd rs1 imm) = writes s rd (one_if (is_less (register s rs1) (extended imm)))
+executed segments s (Sltiu rd rs1 imm) = writes s rd (one_if (nat_lt (register s rs1) (extended imm)))
+executed segments s (Xori rd rs1 imm) = writes s rd (bit_xor (register s rs1) (extended imm))
+executed segments s (Ori rd rs1 imm) = writes s rd (bit_or (register s rs1) (extended imm))
+executed segments s (Andi rd rs1 imm) = writes s rd (bit_and (register s rs1) (extended imm))
+executed segments s (Slli rd rs1 imm) = writes s rd (shifted_left (register s rs1) (extended imm))
+executed segments s (Srli rd rs1 imm) = writes s rd (shifted_right (register s rs1) (extended imm))
+executed segments s (Srai rd rs1 imm) = writes s rd (shifted_right_signed (register s rs1) (extended imm))
+executed segments s (Add rd rs1 rs2) = writes s rd (sum (register s rs1) (register s rs2))
+executed segments s (Sub rd rs1 rs2) = writes s rd (difference (register s rs1) (register s rs2))
+executed segments s (Sll rd rs1 rs2) = writes s rd (shifted_left (register s rs1) (register s rs2))
+executed segments s (Slt rd rs1 rs2) = writes s rd (one_if (is_less (register s rs1) (register s rs2)))
+executed segments s (Sltu rd rs1 rs2) = writes s rd (one_if (nat_lt (register s rs1) (register s rs2)))
+executed segments s (Xor rd rs1 rs2) = writes s rd (bit_xor (register s rs1) (register s rs2))
+executed segments s (Srl rd rs1 rs2) = writes s rd (shifted_right (register s rs1) (register s rs2))
+executed segments s (Sra rd rs1 rs2) = writes s rd (shifted_right_signed (register s rs1) (register s rs2))
+executed segments s (Or rd rs1 rs2) = writes s rd (bit_or (register s rs1) (register s rs2))
+executed segments s (And rd rs1 rs2) = writes s rd (bit_and (register s rs1) (register s rs2))
+executed segments s (Mul rd rs1 rs2) = writes s rd (product (register s rs1) (register s rs2))
+executed segments s (Mulh rd rs1 rs2) = writes s rd (high_signed (register s rs1) (register s rs2))
+executed segments s (Mulhsu rd rs1 rs2) = writes s rd (high_mixed (register s rs1) (register s rs2))
+executed segments s (Mulhu rd rs1 rs2) = writes s rd (high_unsigned (register s rs1) (register s rs2))
+executed segments s (Div rd rs1 rs2) = writes s rd (quotient (register s rs1) (register s rs2))
+executed segments s (Divu rd rs1 rs2) = writes s rd (quotient_unsigned (register s rs1) (register s rs2))
+executed segments s (Rem rd rs1 rs2) = writes s rd (remainder (register s rs1) (register s rs2))
+executed segments s (Remu rd rs1 rs2) = writes s rd (remainder_unsigned (register s rs1) (register s rs2))
+executed segments s (Fence rd rs1 imm) = Goes (record s { pc = next_pc s })
 executed segments s Ecall = calls segments s
+executed segments s Ebreak = Ends (Break s.pc)
 
 -- no row has the word
 abbrev pub performed : List Segment → State → Option Inst → Stepped

@@ -1,0 +1,86 @@
+//! The answer to each line.
+
+ghost use Rattle.std.specs.Prelude.{◌≡◌, MatchOption, Some, None};
+ghost use Rattle.rv_isa.specs.Decoding.{decoded};
+
+use crate::digits::word_in;
+use rv_isa::{Inst, decode, encode};
+use std::alloc::Global;
+use std::fmt;
+use std::io::{self, BufRead, Write};
+
+/// Why the answers end before the input does.
+#[derive(Debug, Drop)]
+pub enum Stopped {
+    /// The line with this number, from 1 on, is no word.
+    NoWord(u64),
+    /// Reading or writing failed, or memory is out.
+    Io(io::Error),
+}
+
+impl fmt::Display for Stopped {
+    fn fmt<W: fmt::Write>(&self, f: &mut fmt::Formatter<W>) -> fmt::Result {
+        match self {
+            Stopped::NoWord(line) => {
+                let line = *line;
+                write!(f, "line {line} is no word of at most 8 hexadecimal digits")
+            }
+            Stopped::Io(error) => write!(f, "{error}"),
+        }
+    }
+}
+
+impl From<io::Error> for Stopped {
+    fn from(error: io::Error) -> Stopped {
+        Stopped::Io(error)
+    }
+}
+
+/// The instruction of a word, behind its word by the table.
+fn instruction_at(word: u32) -> Option<(u32, Inst)>
+    ensures { MatchOption result (decoded word ≡ None) (λ found. (decoded word ≡ Some found.1) × (found.0 ≡ word)) }
+{
+    let instruction = decode(word)?;
+    Some((encode(instruction), instruction))
+}
+
+fn answer<W: Write>(word: u32, output: &mut W) -> io::Result<()> {
+    match instruction_at(word) {
+        Some((again, instruction)) => writeln!(output, "{again:08x} {instruction:?}"),
+        None => writeln!(output, "none"),
+    }
+}
+
+/// Answers each line of the input, up to the first that is no word.
+pub fn answer_lines<R: BufRead + Drop, W: Write>(
+    alloc: Global,
+    input: R,
+    output: &mut W,
+) -> Result<(), Stopped> {
+    let mut count = 0u64;
+    for line in input.lines(alloc) {
+        count = count.saturating_add(1);
+        let Some(word) = word_in(line?.as_str()) else {
+            return Err(Stopped::NoWord(count));
+        };
+        answer(word, output)?;
+    }
+    Ok(())
+}
+
+#[cfg(test)]
+mod tests {
+    use super::*;
+    use std::test::Fail;
+
+    #[test]
+    fn answers_stand_above_a_line_that_is_no_word(rt: HostRuntime) -> Result<(), Fail> {
+        let mut output = Vec::new(rt.alloc());
+        let input = "00700293\n100007\n0x13\n13\n".as_bytes();
+        let answered = answer_lines(rt.alloc(), input, &mut output);
+        assert!(rt; matches!(answered, Err(Stopped::NoWord(3))));
+        let expected = "00700293 Addi { rd: 5, rs1: 0, imm: 7 }\nnone\n";
+        assert!(rt; output.as_slice() == expected.as_bytes());
+        Ok(())
+    }
+}
