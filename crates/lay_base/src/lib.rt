@@ -11,6 +11,7 @@ mod faults;
 mod list;
 mod memory_objects;
 mod no_memory;
+mod operators;
 mod outside;
 mod place;
 #[cfg(test)]
@@ -24,5 +25,6 @@ pub use faults::{
 pub use list::List;
 pub use memory_objects::{MemHost, MemSink, MemSource};
 pub use no_memory::NoMemory;
+pub use operators::{divide, remain, shift_left, shift_right};
 pub use outside::{Host, HostRead, HostWrite, Sink, SinkFault, Source, SourceFault};
 pub use place::{File, Files, Place};
