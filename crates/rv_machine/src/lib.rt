@@ -1,0 +1,6 @@
+//! A machine that runs RV32IM.
+#![tactic(auto)]
+
+mod rows;
+
+pub use rows::Row;
