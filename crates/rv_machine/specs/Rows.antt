@@ -1,8 +1,8 @@
 -- How the machine keeps its memory: all segments' bytes in one list, and a row for each segment that
 -- says where among the bytes it stands.
-use Rattle.std.specs.Prelude.{◌≡◌, ℕ, ◌+◌, ◌-◌, ◌*◌, ◌^◌, ◌<◌, ◌≤◌, ◌==◌, true, Bool, if◌then◌else◌, List, [], ◌∷◌, map, length, slice_index, All, Option, Some, None, bit_and}
+use Rattle.std.specs.Prelude.{◌≡◌, ℕ, ◌+◌, ◌-◌, ◌*◌, ◌/◌, ◌%◌, ◌^◌, ◌<◌, ◌≤◌, ◌==◌, true, Bool, if◌then◌else◌, List, [], ◌∷◌, map, length, slice_index, slice_set, All, Option, Some, None, bit_and}
 use Rattle.rv_isa.specs.declared.image.Segment.{Segment}
-use Rattle.rv_isa.specs.Memory.{Memory, is_in}
+use Rattle.rv_isa.specs.Memory.{Memory, is_in, are_mapped}
 use Rattle.rv_machine.specs.declared.rows.Row.{Row}
 
 -- ---- what rows stand for
@@ -49,3 +49,26 @@ pub record Serves (rows : List Row) (size : ℕ) (row : Row) : Type 0 where
 pub record AreSound (rows : List Row) (size : ℕ) : Type 0 where
   pub serve : All (Serves rows size) rows
   pub apart : (a b : ℕ) (r s : Row) → row_at rows a ≡ Some r → row_at rows b ≡ Some s → place_in r a ≡ place_in s b → a ≡ b
+
+-- ---- a place that was found
+
+-- the row has all bytes from an address on, allows the use, and the first stands at this place
+pub record Covers (row : Row) (flag address width place : ℕ) : Type 0 where
+  pub allowed : allows row flag ≡ true
+  pub low : row.at ≤ address
+  pub high : address + width ≤ row.at + row.size
+  pub is_place : place ≡ place_in row address
+
+-- bytes from an address on stand from this place on, one behind the other, and may be used so
+pub record IsFound (rows : List Row) (size flag address width place : ℕ) : Type 0 where
+  pub within : place + width ≤ size
+  pub mapped : are_mapped (segments_of rows) flag address width ≡ true
+  pub at : (k : ℕ) → k < width → (r : Row) × (row_at rows (address + k) ≡ Some r) × (place_in r (address + k) ≡ place + k)
+
+-- ---- bytes that are put at a place, the lowest first
+
+abbrev pub half_put : List ℕ → (place value : ℕ) → List ℕ
+half_put bytes place value = slice_set (slice_set bytes place (value % 2 ^ 8)) (place + 1) (value / 2 ^ 8 % 2 ^ 8)
+
+abbrev pub word_put : List ℕ → (place value : ℕ) → List ℕ
+word_put bytes place value = slice_set (slice_set (half_put bytes place value) (place + 2) (value / 2 ^ 16 % 2 ^ 8)) (place + 3) (value / 2 ^ 24)

@@ -1,6 +1,8 @@
 //! A machine that runs RV32IM.
 #![tactic(auto)]
 
+mod memory;
 mod rows;
 
+pub use memory::Memory;
 pub use rows::Row;
