@@ -266,3 +266,29 @@ pub word_joined : (content : ℕ → ℕ) (a low high : ℕ) → low ≡ half_at
 word_joined content a low high e f =
     let g : content (a + 2 + 1) ≡ content (a + 3) = let h : a + 2 + 1 ≡ a + 3 = omega arith in ap content h in
     omega arith
+
+-- ---- ranges piece by piece
+
+-- a part of a range that stands in one row
+pub stretch_found : (rows : List Row) (size flag a n place : ℕ) (r : Row) → AreSound rows size → row_at rows a ≡ Some r → allows r flag ≡ true → place ≡ place_in r a → a + n ≤ r.at + r.size → IsFound rows size flag a n place
+stretch_found rows size flag a n place r sound e allowed p high =
+    let serves = row_at_serves rows size a r sound e in
+    let ends = held_between r a (row_at_holds rows a r e) in
+    subst (λ (x : ℕ). IsFound rows size flag a n x) (sym p) (found_in rows size flag a n r serves allowed ends.0 high)
+
+-- a range whose first part is mapped is mapped as the rest is
+pub mapped_rest : (segments : List Segment) (flag a n m : ℕ) → are_mapped segments flag a n ≡ true → n ≤ m → are_mapped segments flag a m ≡ are_mapped segments flag (a + n) (m - n)
+mapped_rest segments flag a n m first le =
+    let e : n + (m - n) ≡ m = omega arith in
+    ap (are_mapped segments flag a) (sym e) ∙ mapped_split segments flag a n (m - n) ∙ rw first refl
+
+-- a range whose first byte is not mapped is not
+pub mapped_first_not : (segments : List Segment) (flag a n : ℕ) → 0 < n → is_mapped segments flag a ≡ false → are_mapped segments flag a n ≡ false
+unfolding are_mapped
+mapped_first_not segments flag a zero lt h = absurd (omega arith)
+mapped_first_not segments flag a (suc n) lt h = rw h refl
+
+-- nothing is always mapped
+pub mapped_nothing : (segments : List Segment) (flag a n : ℕ) → n ≡ 0 → are_mapped segments flag a n ≡ true
+unfolding are_mapped
+mapped_nothing segments flag a n e = rw e refl

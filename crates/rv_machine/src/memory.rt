@@ -3,7 +3,7 @@
 ghost use Rattle.std.specs.Prelude.{◌≡◌, ◌+◌, ◌*◌, ◌≤◌, ◌^◌, length, slice_index};
 ghost use Rattle.rv_machine.specs.Rows.{AreSound, Serves, half_put, word_put};
 
-use crate::rows::{Row, row_with};
+use crate::rows::{Row, Stretch, row_with};
 
 /// The flags of ELF's program header.
 pub(crate) const EXECUTE: u8 = 1;
@@ -65,7 +65,7 @@ pub struct Memory {
 
 impl Memory {
     ghost use Rattle.std.specs.Prelude.{◌≡◌, ◌+◌, ◌<◌, ◌≤◌, ◌^◌, false, true, length, IfSome, MatchOption, None, Some, if◌then◌else◌};
-    ghost use Rattle.rv_isa.specs.Memory.{half_at, is_mapped, readable, word_at};
+    ghost use Rattle.rv_isa.specs.Memory.{are_mapped, half_at, is_mapped, readable, with_byte, word_at, writable};
     ghost use Rattle.rv_machine.specs.Rows.{IsFound, Serves};
     ghost use Rattle.rv_machine.specs.View.{content_of, if_mapped, segments_in, IsKept};
 
@@ -187,6 +187,56 @@ impl Memory {
         match self.find(READ, address, 4) {
             Some(place) => Some(word_from(&self.bytes, place)),
             None => self.word_apart(READ, address as u64),
+        }
+    }
+
+    /// The bytes from an address on that stand in one row and may be used so, at most so many.
+    pub fn stretch(&self, flag: u8, address: u64, count: u64) -> Option<Stretch>
+        requires { 0 < count }
+        ensures { MatchOption result
+            (is_mapped (segments_in self.now) flag address ≡ false)
+            (λ s. IsFound self.now.rows.items (length self.now.bytes.items) flag address s.count s.place × (0 < s.count) × (s.count ≤ count)) }
+    {
+        let row = row_with(&self.rows, address)?;
+        let place = row.place_at(flag, address)?;
+        let left = row.at as u64 + row.size as u64 - address;
+        Some(Stretch {
+            place,
+            count: left.min(count),
+        })
+    }
+
+    /// Whether all bytes from an address on may be used so.
+    pub fn may_use(&self, flag: u8, address: u32, count: u32) -> bool
+        ensures { result ≡ are_mapped (segments_in self.now) flag address count }
+    {
+        let mut next = address as u64;
+        let mut left = count as u64;
+        while left > 0 {
+            match self.stretch(flag, next, left) {
+                Some(stretch) => {
+                    next += stretch.count;
+                    left -= stretch.count;
+                }
+                None => return false,
+            }
+        }
+        true
+    }
+
+    /// Stores the low byte of a value at an address, in whatever row it stands; `false`, and nothing is
+    /// stored, exactly where it may not be.
+    pub fn put(&mut self, address: u64, value: u32) -> bool
+        ensures rows { self.new.rows ≡ self.old.rows }
+        ensures mapped { result ≡ is_mapped (segments_in self.old) writable address }
+        ensures content { content_of self.new ≡ (if result then with_byte (content_of self.old) address value else content_of self.old) }
+    {
+        match self.place_of(WRITE, address) {
+            Some(place) => {
+                self.bytes[place] = (value % 256) as u8;
+                true
+            }
+            None => false,
         }
     }
 }

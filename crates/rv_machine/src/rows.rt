@@ -68,6 +68,13 @@ impl Row {
     }
 }
 
+/// Bytes that stand one behind the other: the place of the first, and how many they are.
+#[derive(Clone, Copy, Debug)]
+pub struct Stretch {
+    pub place: usize,
+    pub count: u64,
+}
+
 /// The first row that has the address.
 pub(crate) fn row_with(rows: &[Row], address: u64) -> Option<Row>
     ensures { result ≡ row_at rows.now address }
