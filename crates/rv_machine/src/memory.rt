@@ -65,7 +65,7 @@ pub struct Memory {
 
 impl Memory {
     ghost use Rattle.std.specs.Prelude.{◌≡◌, ◌+◌, ◌<◌, ◌≤◌, ◌^◌, false, true, length, IfSome, MatchOption, None, Some, if◌then◌else◌};
-    ghost use Rattle.rv_isa.specs.Memory.{are_mapped, half_at, is_mapped, readable, with_byte, word_at, writable};
+    ghost use Rattle.rv_isa.specs.Memory.{are_mapped, executable, half_at, is_mapped, readable, with_byte, with_half, with_word, word_at, writable};
     ghost use Rattle.rv_machine.specs.Rows.{IsFound, Serves};
     ghost use Rattle.rv_machine.specs.View.{content_of, if_mapped, segments_in, IsKept};
 
@@ -238,5 +238,111 @@ impl Memory {
             }
             None => false,
         }
+    }
+
+    /// Stores the low half word of a value, each byte in whatever row it stands.
+    #[cold]
+    fn store_half_apart(&mut self, address: u32, value: u32) -> bool
+        ensures rows { self.new.rows ≡ self.old.rows }
+        ensures mapped { result ≡ are_mapped (segments_in self.old) writable address 2 }
+        ensures content { content_of self.new ≡ (if result then with_half (content_of self.old) address value else content_of self.old) }
+    {
+        if !self.may_use(WRITE, address, 2) {
+            return false;
+        }
+        let _ = self.put(address as u64, value);
+        let _ = self.put(address as u64 + 1, value / 256);
+        true
+    }
+
+    /// Stores a word, each byte in whatever row it stands.
+    #[cold]
+    fn store_word_apart(&mut self, address: u32, value: u32) -> bool
+        ensures rows { self.new.rows ≡ self.old.rows }
+        ensures mapped { result ≡ are_mapped (segments_in self.old) writable address 4 }
+        ensures content { content_of self.new ≡ (if result then with_word (content_of self.old) address value else content_of self.old) }
+    {
+        if !self.may_use(WRITE, address, 4) {
+            return false;
+        }
+        let _ = self.put(address as u64, value);
+        let _ = self.put(address as u64 + 1, value / 256);
+        let _ = self.put(address as u64 + 2, value / 65536);
+        let _ = self.put(address as u64 + 3, value / 16777216);
+        true
+    }
+
+    /// Stores the low byte of a value; `false`, and nothing is stored, exactly where it may not be.
+    #[inline(always)]
+    pub fn store_byte(&mut self, address: u32, value: u32) -> bool
+        ensures rows { self.new.rows ≡ self.old.rows }
+        ensures mapped { result ≡ are_mapped (segments_in self.old) writable address 1 }
+        ensures content { content_of self.new ≡ (if result then with_byte (content_of self.old) address value else content_of self.old) }
+    {
+        match self.find(WRITE, address, 1) {
+            Some(place) => {
+                self.bytes[place] = (value % 256) as u8;
+                true
+            }
+            None => self.put(address as u64, value),
+        }
+    }
+
+    /// Stores the low half word of a value; `false`, and nothing is stored, exactly where one of its
+    /// bytes may not be.
+    #[inline(always)]
+    pub fn store_half(&mut self, address: u32, value: u32) -> bool
+        ensures rows { self.new.rows ≡ self.old.rows }
+        ensures mapped { result ≡ are_mapped (segments_in self.old) writable address 2 }
+        ensures content { content_of self.new ≡ (if result then with_half (content_of self.old) address value else content_of self.old) }
+    {
+        match self.find(WRITE, address, 2) {
+            Some(place) => {
+                put_half(&mut self.bytes, place, value);
+                true
+            }
+            None => self.store_half_apart(address, value),
+        }
+    }
+
+    /// Stores a word; `false`, and nothing is stored, exactly where one of its bytes may not be.
+    #[inline(always)]
+    pub fn store_word(&mut self, address: u32, value: u32) -> bool
+        ensures rows { self.new.rows ≡ self.old.rows }
+        ensures mapped { result ≡ are_mapped (segments_in self.old) writable address 4 }
+        ensures content { content_of self.new ≡ (if result then with_word (content_of self.old) address value else content_of self.old) }
+    {
+        match self.find(WRITE, address, 4) {
+            Some(place) => {
+                put_word(&mut self.bytes, place, value);
+                true
+            }
+            None => self.store_word_apart(address, value),
+        }
+    }
+
+    /// The word of the instruction at an address; `None` exactly where one of its bytes may not be
+    /// executed.
+    #[inline(always)]
+    pub fn fetch(&mut self, pc: u32) -> Option<u32>
+        ensures kept { IsKept self.old self.new }
+        ensures value { result ≡ if_mapped self.old executable pc 4 (word_at (content_of self.old) pc) }
+    {
+        match self.code.place(EXECUTE, pc, 4) {
+            Some(place) => Some(word_from(&self.bytes, place)),
+            None => self.fetch_apart(pc),
+        }
+    }
+
+    /// The same where the last instruction stood in another row.
+    #[cold]
+    fn fetch_apart(&mut self, pc: u32) -> Option<u32>
+        ensures kept { IsKept self.old self.new }
+        ensures value { result ≡ if_mapped self.old executable pc 4 (word_at (content_of self.old) pc) }
+    {
+        if let Some(row) = self.covering(EXECUTE, pc, 4) {
+            self.code = row;
+        }
+        self.word_apart(EXECUTE, pc as u64)
     }
 }
