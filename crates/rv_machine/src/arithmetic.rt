@@ -21,7 +21,7 @@ pub(crate) fn plus(a: u32, imm: i32) -> u32
     a.wrapping_add(imm.cast_unsigned())
 }
 
-/// The immediate as a word.
+/// The immediate as a word, with its sign extended.
 #[inline(always)]
 pub(crate) fn extended(imm: i32) -> u32
     ensures { result ≡ extended imm }
