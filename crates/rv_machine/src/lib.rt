@@ -1,6 +1,7 @@
 //! A machine that runs RV32IM.
 #![tactic(auto)]
 
+mod arithmetic;
 mod memory;
 mod rows;
 
