@@ -8,7 +8,7 @@ use Rattle.rv_isa.specs.declared.instruction.Inst.{Inst}
 use Rattle.rv_isa.specs.declared.instruction.Inst.TheVariants.{Lui, Auipc, Jal, Jalr, Beq, Bne, Blt, Bge, Bltu, Bgeu, Lb, Lh, Lw, Lbu, Lhu, Sb, Sh, Sw, Addi, Slti, Sltiu, Xori, Ori, Andi, Slli, Srli, Srai, Add, Sub, Sll, Slt, Sltu, Xor, Srl, Sra, Or, And, Mul, Mulh, Mulhsu, Mulhu, Div, Divu, Rem, Remu, Fence, Ecall, Ebreak}
 use Rattle.rv_isa.specs.Fields.{word, fields_of, InRange}
 use Rattle.rv_isa.specs.TwosComplement.{signed, low_bits}
-use Rattle.rv_isa.specs.Encoding.{format_r, format_i, format_s, format_b, format_u, format_j, row, encoding, IsRegister, IsShort, IsAmount, IsBranchDistance, IsDistance, IsInRange}
+use Rattle.rv_isa.specs.Encoding.{format_r, format_i, format_s, format_b, format_u, format_j, row, encoding, IsRegister, IsShort, IsBranchDistance, IsDistance, IsInRange}
 use Rattle.rv_isa.specs.Decoding.{imm_i, imm_s, imm_b, imm_u, imm_j, by_opcode, decoded, indirect_jump_of, branch_of, load_of, store_of, right_shift_of, immediate_of, basic_of, other_of, product_of, register_of, fence_of, system_of}
 use Rattle.rv_isa.proofs.Words.{same_fields, fields_of_word, word_of_fields, fields_fit, word_fits}
 use Rattle.rv_isa.proofs.Immediates.{short_again, short_bits, short_fits, amount_again, amount_fits, branch_again, branch_bits, branch_fits, distance_again, distance_bits, distance_fits}

@@ -1,3 +1,4 @@
 pub mod Words
 pub mod Immediates
 pub mod Laws
+pub mod Runs

@@ -8,4 +8,7 @@ pub mod Step
 pub mod Run
 pub mod Placed
 pub mod Events
-pub mod Examples
+pub mod WordExamples
+pub mod ArithmeticExamples
+pub mod StepExamples
+pub mod EventExamples

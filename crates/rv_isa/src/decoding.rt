@@ -276,3 +276,49 @@ pub fn decode(word: u32) -> Option<Inst>
 {
     instruction_in(word)
 }
+
+// The words are those that assemblers write.
+#[cfg(test)]
+mod tests {
+    use super::*;
+    use crate::encoding::encode;
+
+    fn word_again(word: u32) -> Option<u32> {
+        match decode(word) {
+            Some(instruction) => Some(encode(instruction)),
+            None => None,
+        }
+    }
+
+    #[test]
+    fn words_of_each_format_are_read(rt: HostRuntime) {
+        let words = [
+            0x1234_5F97, // auipc x31, 0x12345
+            0x4DFA_B06F, // jal x0, 703710
+            0xFFC3_00E7, // jalr x1, -4(x6)
+            0x8094_4063, // blt x8, x9, -4096
+            0xFFF3_4283, // lbu x5, -1(x6)
+            0x80C5_9023, // sh x12, -2048(x11)
+            0x4108_D813, // srai x16, x17, 16
+            0x02D6_25B3, // mulhsu x11, x12, x13
+            0x0FF0_000F, // fence iorw, iorw
+            0x0010_0073, // ebreak
+        ];
+        for word in words {
+            assert_eq!(rt; word_again(word), Some(word), "at {word:#x}");
+        }
+    }
+
+    #[test]
+    fn words_of_other_sets_are_not_read(rt: HostRuntime) {
+        let words = [
+            0x0000_0001, // c.nop
+            0x0000_3003, // ld x0, 0(x0)
+            0x0200_9093, // slli x1, x1, 32
+            0x3401_1073, // csrrw x0, mscratch, x2
+        ];
+        for word in words {
+            assert_eq!(rt; word_again(word), None, "at {word:#x}");
+        }
+    }
+}

@@ -10,8 +10,10 @@ mod encoding;
 mod fields;
 mod image;
 mod instruction;
+mod running;
 
 pub use decoding::decode;
 pub use encoding::{encode, words_are_read_back};
 pub use image::{Image, Segment};
 pub use instruction::Inst;
+pub use running::runs_compose;

@@ -5,9 +5,10 @@ use Rattle.std.proofs.lemmas.Int.{ints}
 use Rattle.rv_isa.specs.declared.image.Segment.{Segment}
 use Rattle.rv_isa.specs.declared.instruction.Inst.{Inst}
 use Rattle.rv_isa.specs.declared.instruction.Inst.TheVariants.{Lw, Sw}
-use Rattle.rv_isa.specs.Decoding.{signed}
+use Rattle.rv_isa.specs.TwosComplement.{signed}
 use Rattle.rv_isa.specs.Memory.{writable, readable, are_mapped, word_at, with_word}
-use Rattle.rv_isa.specs.Step.{State, Stepped, Goes, register, plus, writes, stores, accesses, executed}
+use Rattle.rv_isa.specs.Arithmetic.{plus}
+use Rattle.rv_isa.specs.Step.{State, Stepped, Goes, register, writes, stores, accesses, executed}
 use Rattle.thin_code.proofs.Steps.{Stands, Comes, comes_one}
 use Rattle.elf32.specs.Written.{data_address}
 

@@ -6,7 +6,8 @@ use Rattle.c_parser.specs.ThinTree.{Term, Program}
 use Rattle.c_parser.specs.ThinText.{marks}
 use Rattle.rv_isa.specs.declared.instruction.Inst.{Inst}
 use Rattle.rv_isa.specs.declared.instruction.Inst.TheVariants.{Lui, Addi}
-use Rattle.rv_isa.specs.Step.{State, Exits, register, plus}
+use Rattle.rv_isa.specs.Arithmetic.{plus}
+use Rattle.rv_isa.specs.Step.{State, Exits, register}
 use Rattle.rv_isa.specs.Run.{shown, run}
 use Rattle.agreement.specs.Agreement.{shows}
 use Rattle.elf32.specs.Written.{stack_address}

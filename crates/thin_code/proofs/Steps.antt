@@ -8,6 +8,7 @@ use Rattle.rv_isa.specs.Memory.{Memory, executable, are_mapped, word_at}
 use Rattle.rv_isa.specs.Step.{State, Goes, executed, performed, traps, step}
 use Rattle.rv_isa.specs.Run.{after, run}
 use Rattle.rv_isa.proofs.Laws.{decoded_again}
+use Rattle.rv_isa.proofs.Runs.{run_suc}
 use Rattle.lay_base.specs.declared.faults.TrapKind.TheVariants.{Unmapped}
 use Rattle.thin_code.proofs.Memory.{SameBut, word_below}
 
@@ -42,11 +43,6 @@ step_is segments limit s i h =
     ap (λ (b : Bool). cond b (performed segments s (decoded (word_at s.memory s.pc))) (traps s Unmapped)) h.mapped
     ∙ ap (λ (w : ℕ). performed segments s (decoded w)) h.word
     ∙ ap (performed segments s) (decoded_again i h.in_range)
-
--- a run is a step and a run
-pub run_suc : (segments : List Segment) (k : ℕ) (s : State) → run segments (suc k) s ≡ after (run segments k) s (step segments s)
-unfolding run
-run_suc segments k s = refl
 
 -- one instruction
 pub comes_one : (segments : List Segment) (limit : ℕ) (s t : State) (i : Inst) → Stands segments limit s.memory s.pc i → executed segments s i ≡ Goes t → Comes segments s t

@@ -3,9 +3,10 @@ use Rattle.std.proofs.Common.{◌≡◌, ℕ, suc, ◌+◌, ◌-◌, ◌*◌, �
 use Rattle.rv_isa.specs.declared.image.Segment.{Segment}
 use Rattle.rv_isa.specs.declared.instruction.Inst.{Inst}
 use Rattle.rv_isa.specs.declared.instruction.Inst.TheVariants.{Lui, Addi, Add, Sub, Mul}
-use Rattle.rv_isa.specs.Decoding.{signed}
+use Rattle.rv_isa.specs.TwosComplement.{signed}
 use Rattle.rv_isa.specs.Memory.{word_at}
-use Rattle.rv_isa.specs.Step.{State, register, plus, writes, executed}
+use Rattle.rv_isa.specs.Arithmetic.{plus}
+use Rattle.rv_isa.specs.Step.{State, register, writes, executed}
 use Rattle.thin_code.specs.Code.{number_code, push_code, join_code}
 use Rattle.thin_code.proofs.Memory.{SameBut, same_all, word_again, with_word_frame}
 use Rattle.thin_code.proofs.Steps.{Code, Comes, comes_then}

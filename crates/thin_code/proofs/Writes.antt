@@ -2,13 +2,15 @@
 use Rattle.std.proofs.Common.{◌≡◌, ℕ, ◌+◌, ◌/◌, ◌%◌, ◌^◌, ◌<◌, true, List, [], ◌∷◌, ◌++◌, length, pos, slice_set, refl, ap, ◌∙◌, arith, get_or-set_other, length-set}
 use Rattle.rv_isa.specs.declared.instruction.Inst.TheVariants.{Lui, Sb, Addi, Ecall}
 use Rattle.rv_isa.specs.Memory.{Memory, readable, writable, are_mapped, with_byte, bytes_at}
-use Rattle.rv_isa.specs.Step.{State, Stepped, Goes, Ends, Exits, register, plus, stores, calls, write_call, exit_call, step}
+use Rattle.rv_isa.specs.Arithmetic.{plus}
+use Rattle.rv_isa.specs.Step.{State, Stepped, Goes, Ends, Exits, register, stores, calls, write_call, exit_call, step}
 use Rattle.rv_isa.specs.Run.{shown, after, run}
 use Rattle.elf32.specs.Written.{data_address}
 use Rattle.thin_code.specs.Meaning.{low_byte}
 use Rattle.thin_code.specs.Code.{write_code, exit_code}
 use Rattle.thin_code.proofs.Memory.{SameBut, with_byte_same, with_byte_frame}
-use Rattle.thin_code.proofs.Steps.{Stands, Code, Comes, comes_then, comes_one, step_is, run_suc, code_stays}
+use Rattle.rv_isa.proofs.Runs.{run_suc}
+use Rattle.thin_code.proofs.Steps.{Stands, Code, Comes, comes_then, comes_one, step_is, code_stays}
 use Rattle.thin_code.proofs.Blocks.{Layout, put, put_same, put_other, put_length, comes_put, accesses_done}
 
 -- the byte is stored

@@ -7,7 +7,7 @@ use Rattle.rv_isa.specs.declared.image.Segment.{Segment}
 use Rattle.rv_isa.specs.declared.instruction.Inst.{Inst}
 use Rattle.rv_isa.specs.declared.instruction.Inst.TheVariants.{Lui, Jal, Lw, Sb, Sw, Addi, Add, Sub, Mul, Ecall}
 use Rattle.rv_isa.specs.Encoding.{encoding}
-use Rattle.rv_isa.specs.Decoding.{signed}
+use Rattle.rv_isa.specs.TwosComplement.{signed}
 use Rattle.elf32.specs.Written.{text_address, data_address, stack_address, heap_address, zeros}
 
 -- ---- registers by their names in the calling convention

@@ -1,7 +1,7 @@
 //! The instructions of a sum.
 
 ghost use Rattle.std.specs.Prelude.{◌≡◌, ◌++◌, ◌∷◌, [], ◌%◌, ◌^◌, OnOk};
-ghost use Rattle.rv_isa.specs.Decoding.{signed};
+ghost use Rattle.rv_isa.specs.TwosComplement.{signed};
 ghost use Rattle.c_parser.specs.ThinTree.{term_of};
 ghost use Rattle.thin_code.specs.Code.{number_code, push_code, join_code, sum_code};
 
