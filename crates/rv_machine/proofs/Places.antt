@@ -63,10 +63,10 @@ mapped_among rows (q ∷ some) size flag a all e =
 pub mapped_not : (rows : List Row) (size flag a : ℕ) (r : Row) → AreSound rows size → row_at rows a ≡ Some r → allows r flag ≡ false → is_mapped (segments_of rows) flag a ≡ false
 mapped_not rows size flag a r sound e not_allowed =
     false_from_ne_true _ (λ m.
-        let q = mapped_among rows rows size flag a sound.serve m in
-        let same : q.0 ≡ r = some_is _ _ (sym q.1 ∙ e) in
-        let t : allows r flag ≡ true = ap (λ (s : Row). allows s flag) (sym same) ∙ q.2 in
-        cc)
+    let q = mapped_among rows rows size flag a sound.serve m in
+    let same : q.0 ≡ r = some_is _ _ (sym q.1 ∙ e) in
+    let t : allows r flag ≡ true = ap (λ (s : Row). allows s flag) (sym same) ∙ q.2 in
+    cc)
 
 -- an address of no row is not mapped
 pub mapped_none : (rows : List Row) (size flag a : ℕ) → AreSound rows size → row_at rows a ≡ None → is_mapped (segments_of rows) flag a ≡ false
@@ -132,10 +132,10 @@ byte_stored_at rows bytes size a place b x r sound e p lt None ex =
 byte_stored_at rows bytes size a place b x r sound e p lt (Some s) ex =
     cond_both (eqb x a) b (slice_index bytes (place_in s x)) (λ y. slice_index (slice_set bytes place b) (place_in s x) ≡ y)
     (λ t.
-        let same : x ≡ a = eqb-true x a t in
-        let row : s ≡ r = some_is s r (sym ex ∙ ap (row_at rows) same ∙ e) in
-        let there : place_in s x ≡ place = ap (λ (q : Row). place_in q x) row ∙ ap (place_in r) same ∙ p in
-        ap (slice_index (slice_set bytes place b)) there ∙ get_or-set_same bytes place b 0 lt)
+    let same : x ≡ a = eqb-true x a t in
+    let row : s ≡ r = some_is s r (sym ex ∙ ap (row_at rows) same ∙ e) in
+    let there : place_in s x ≡ place = ap (λ (q : Row). place_in q x) row ∙ ap (place_in r) same ∙ p in
+    ap (slice_index (slice_set bytes place b)) there ∙ get_or-set_same bytes place b 0 lt)
     (λ t. get_or-set_other bytes place (place_in s x) b 0 (λ there. eqb_false x a t (sound.apart x a s r ex e (there ∙ sym p))))
   where
     eqb_false : (m n : ℕ) → eqb m n ≡ false → m ≡ n → ⊥

@@ -2,6 +2,8 @@
 #![tactic(auto)]
 
 mod arithmetic;
+mod execution;
+mod hart;
 mod memory;
 mod rows;
 

@@ -7,7 +7,9 @@ use crate::rows::{Row, Stretch, row_with};
 
 /// The flags of ELF's program header.
 pub(crate) const EXECUTE: u8 = 1;
+
 pub(crate) const WRITE: u8 = 2;
+
 pub(crate) const READ: u8 = 4;
 
 /// The half word at a place among bytes, the lowest byte first.

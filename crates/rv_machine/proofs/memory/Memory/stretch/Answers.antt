@@ -37,8 +37,7 @@ overflow_sub-left c =
 pub returns : goal.returns
 returns c =
     let e : row_at c.args.self.now.rows.items c.args.address ≡ Some c.in_ok-row.row = ap (λ rows. row_at rows c.args.address) (sym c.deref.ensures.value) ∙ sym c.in_ok-row.ensures in
-    let ends = held_between c.in_ok-row.row c.args.address (row_at_holds _ _ _ e) in
-    (
+    let ends = held_between c.in_ok-row.row c.args.address (row_at_holds _ _ _ e) in (
       stretch_found _ _ c.args.flag c.args.address c.min.result c.in_ok-place.place c.in_ok-row.row c.args.self.now.sound e c.in_ok-place.ensures.0 c.in_ok-place.ensures.1 (omega (arith, ends.1)),
       omega (arith, ends.1),
       omega arith,
