@@ -1,12 +1,8 @@
 -- What a store that was done is to the step.
 use Rattle.std.proofs.Common.{◌≡◌, ℕ, ◌%◌, Bool, true, List, eqb, eq-eqb, refl, sym, ap, ◌∙◌}
 use Rattle.rv_isa.specs.declared.image.Segment.{Segment}
-use Rattle.rv_isa.specs.declared.instruction.Inst.{Inst}
 use Rattle.rv_isa.specs.Memory.{Memory as Content, writable, are_mapped}
-use Rattle.rv_machine.specs.declared.hart.Moved.{Moved}
-use Rattle.rv_machine.specs.declared.hart.Moved.TheVariants as M
-use Rattle.rv_machine.specs.Harts.{Executes, Performs}
-use Rattle.rv_isa.specs.Step.{State, Goes, accesses, executed, stores, next_pc}
+use Rattle.rv_isa.specs.Step.{State, Goes, accesses, stores, next_pc}
 
 -- a store of n bytes at an address that is a multiple of n and may be written
 pub store_moves : (segments : List Segment) (s : State) (put : Content → ℕ → ℕ → Content) (a x n : ℕ) (memory : Content) → a % n ≡ 0 → true ≡ are_mapped segments writable a n → memory ≡ put s.memory a x
@@ -14,11 +10,3 @@ pub store_moves : (segments : List Segment) (s : State) (put : Content → ℕ �
 store_moves segments s put a x n memory whole mapped same =
     let e : eqb (a % n) 0 ≡ true = eq-eqb (a % n) 0 whole in
     rw (e, ← mapped) (ap (λ (m : Content). Goes (record s { memory = m; pc = next_pc s })) (sym same))
-
--- an instruction that does not call the environment
-pub performed : (segments : List Segment) (old new : State) (i : Inst) (moved : Moved) → Executes old new (executed segments old i) moved → Performs segments old new i moved
-performed segments old new i M.Goes h = h
-performed segments old new i (M.Exits status) h = h
-performed segments old new i (M.Traps kind) h = h
-performed segments old new i M.Breaks h = h
-performed segments old new i M.Calls h = absurd h

@@ -2,6 +2,7 @@
 #![tactic(auto)]
 
 mod arithmetic;
+mod decoder;
 mod execution;
 mod hart;
 mod memory;
