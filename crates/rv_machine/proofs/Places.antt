@@ -170,14 +170,14 @@ mapped_split segments flag a (suc m) n =
     let f : a + suc m ≡ a + 1 + m = omega arith in
     rw (e, f) (ap (λ (b : Bool). is_mapped segments flag a && b) (mapped_split segments flag (a + 1) m n) ∙ sym (and_assoc (is_mapped segments flag a) (are_mapped segments flag (a + 1) m) (are_mapped segments flag (a + 1 + m) n)))
 
-some_if : (b : Bool) (x v : ℕ) → Some x ≡ cond b (Some v) None → (b ≡ true) × (x ≡ v)
+pub some_if : (b : Bool) (x v : ℕ) → Some x ≡ cond b (Some v) None → (b ≡ true) × (x ≡ v)
 some_if true x v e = (refl, some_number x v e)
   where
     some_number : (x v : ℕ) → ◌≡◌ {A = Option ℕ} (Some x) (Some v) → x ≡ v
     some_number x v e = cc
 some_if false x v e = absurd cc
 
-none_if : (b : Bool) (v : ℕ) → ◌≡◌ {A = Option ℕ} None (cond b (Some v) None) → b ≡ false
+pub none_if : (b : Bool) (v : ℕ) → ◌≡◌ {A = Option ℕ} None (cond b (Some v) None) → b ≡ false
 none_if true v e = absurd cc
 none_if false v e = refl
 

@@ -44,7 +44,7 @@ module _ (rows : List Row) (bytes : List ℕ) (flag a n place : ℕ) (sound : Ar
       (next_stored two 2 (v / 2 ^ 16 % 2 ^ 8) (v / 2 ^ 16) (omega arith) (omega arith) refl ∙ ap (λ (m : Content). with_byte m (a + 2) (v / 2 ^ 16)) (half_stored_here v (omega arith)))
 
 -- the same where the place was found in memory as it was before
-kept_content : (old new : Memory) → IsKept old new → content_of new ≡ content_of old
+pub kept_content : (old new : Memory) → IsKept old new → content_of new ≡ content_of old
 kept_content old new k = ap (λ (v : Vec Row). memory_of v.items new.bytes.items) k.rows ∙ ap (λ (v : Vec ℕ). memory_of old.rows.items v.items) k.bytes
 
 pub half_stored : (old new : Memory) (flag a place v : ℕ) (before after : List ℕ) → IsKept old new → IsFound new.rows.items (length new.bytes.items) flag a 2 place → before ≡ new.bytes.items → after ≡ half_put before place v

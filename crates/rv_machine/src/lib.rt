@@ -5,6 +5,7 @@ mod arithmetic;
 mod decoder;
 mod execution;
 mod hart;
+mod machine;
 mod memory;
 mod rows;
 
