@@ -1,2 +1,3 @@
+pub mod Bare
 pub mod Places
 pub mod Stores
