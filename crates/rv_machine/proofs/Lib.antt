@@ -1,3 +1,4 @@
 pub mod Bare
 pub mod Places
+pub mod Segments
 pub mod Stores

@@ -2,6 +2,7 @@
 #![tactic(auto)]
 
 mod arithmetic;
+mod making;
 mod memory;
 mod rows;
 
