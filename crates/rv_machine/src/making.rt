@@ -86,3 +86,51 @@ impl Memory {
         })
     }
 }
+
+#[cfg(test)]
+mod tests {
+    use super::*;
+    use lay_base::Bytes;
+    use std::alloc::AllocError;
+    use std::test::*;
+
+    /// Data of 4 bytes, of which 3 are given, and code of 2 bytes, which may not be read.
+    fn data_and_code(alloc: Global) -> Result<[Segment; 2], AllocError>
+        ensures { IfOk result (λ segments. AllPlaced segments) }
+    {
+        let data = Bytes::of(vec![in alloc; 7, 8, 9]?);
+        let code = Bytes::of(vec![in alloc; 0x13, 0x01]?);
+        Ok([
+            Segment {
+                at: 0x0800_0000,
+                size: 4,
+                flags: 6,
+                bytes: data,
+            },
+            Segment {
+                at: 0x0001_0000,
+                size: 2,
+                flags: 1,
+                bytes: code,
+            },
+        ])
+    }
+
+    #[test]
+    fn bytes_and_zeros_stand_at_their_addresses(rt: HostRuntime) -> Result<(), Fail> {
+        let segments = data_and_code(rt.alloc())?;
+        let made = Memory::of(rt.alloc(), &segments).ok();
+        let mut memory = made.ok_or("memory is ample")?;
+        for (address, byte) in [
+            (0x07FF_FFFF, None),
+            (0x0800_0000, Some(7)),
+            (0x0800_0002, Some(9)),
+            (0x0800_0003, Some(0)),
+            (0x0800_0004, None),
+            (0x0001_0000, None),
+        ] {
+            assert_eq!(rt; memory.load_byte(address), byte, "at {address:#x}");
+        }
+        Ok(())
+    }
+}
