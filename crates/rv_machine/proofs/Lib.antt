@@ -1,4 +1,6 @@
+pub mod Bare
 pub mod Places
+pub mod Segments
 pub mod Stores
 pub mod Accesses
 pub mod Lifting

@@ -6,6 +6,7 @@ mod decoder;
 mod execution;
 mod hart;
 mod machine;
+mod making;
 mod memory;
 mod rows;
 

@@ -54,12 +54,12 @@ fn put_word(bytes: &mut [u8], place: usize, value: u32)
 /// The bytes of all segments, with a row for each.
 #[derive(Drop)]
 pub struct Memory {
-    rows: Vec<Row>,
-    bytes: Vec<u8>,
+    pub(crate) rows: Vec<Row>,
+    pub(crate) bytes: Vec<u8>,
     // The rows in which the last instruction and the last other access were found, or such that have no
     // address.
-    code: Row,
-    recent: Row,
+    pub(crate) code: Row,
+    pub(crate) recent: Row,
     ghost sound: { AreSound rows.items (length bytes.items) },
     ghost code_serves: { Serves rows.items (length bytes.items) code },
     ghost recent_serves: { Serves rows.items (length bytes.items) recent },
