@@ -4,3 +4,4 @@ pub mod Segments
 pub mod Stores
 pub mod Accesses
 pub mod Lifting
+pub mod Reaching

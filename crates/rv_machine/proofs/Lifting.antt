@@ -93,7 +93,7 @@ module _ (places : List Segment) (old new : State) (w : ℕ) (i : Inst) (moved :
 
   by_kind : Kind places old new i moved → StepGives places old new moved
   by_kind (Calling call moves same) =
-      subst (StepGives places old new) (sym moves) ((λ input output. step_is input output ∙ ap (executed places (with_streams input output old)) call), same)
+      subst (StepGives places old new) (sym moves) (ap decoded (sym word) ∙ read ∙ ap Some call, (λ input output. step_is input output ∙ ap (executed places (with_streams input output old)) call), same)
   by_kind (Plain other e) = plain_gives places old new moved (executed places old i) (λ input output. step_is input output ∙ executed_lift input output places old i other) e
 
   pub performed_gives : Performs places old new i moved → StepGives places old new moved

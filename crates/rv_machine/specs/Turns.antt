@@ -5,9 +5,7 @@ use Rattle.rv_isa.specs.declared.image.Segment.{Segment}
 use Rattle.rv_isa.specs.declared.instruction.Inst.TheVariants.{Ecall}
 use Rattle.rv_isa.specs.Decoding.{decoded}
 use Rattle.rv_isa.specs.Memory.{word_at, bytes_at}
-use Rattle.rv_isa.specs.Step.{State, Standing, Running, Exits, Trap, Break, Goes, Ends, register, step}
-use Rattle.rv_machine.specs.declared.machine.MachineEnd.{MachineEnd}
-use Rattle.rv_machine.specs.declared.machine.MachineEnd.TheVariants as E
+use Rattle.rv_isa.specs.Step.{State, Standing, Exits, Trap, Break, Goes, Ends, register, step}
 use Rattle.rv_machine.specs.declared.machine.Turn.{Turn}
 use Rattle.rv_machine.specs.declared.machine.Turn.TheVariants as T
 use Rattle.rv_machine.specs.Stepping.{with_streams}
@@ -27,17 +25,15 @@ pub record AreSteady (before now : Streams) : Type 0 where
   pub read_faults : now.read_faults ≡ before.read_faults
   pub write_faults : now.write_faults ≡ before.write_faults
 
--- how a machine stands at an end that its program came to
-abbrev pub standing_of : MachineEnd → Standing
-standing_of (E.Exits status) = Exits status
-standing_of (E.Trap kind pc) = Trap kind pc
-standing_of (E.Break pc) = Break pc
-standing_of _ = Running
-
 -- the state is before a call of the environment with this number
 pub record IsAtCall (number : ℕ) (s : State) : Type 0 where
   pub instruction : decoded (word_at s.memory s.pc) ≡ Some Ecall
-  pub number : register s 17 ≡ number
+  pub in_a7 : register s 17 ≡ number
+
+-- registers and program counter stay
+pub record SameButMemory (old new : State) : Type 0 where
+  pub registers : new.registers ≡ old.registers
+  pub pc : new.pc ≡ old.pc
 
 -- a first part of what was asked for has been read
 abbrev pub ReadsPart : State → (before now : Streams) → Type 0
@@ -53,8 +49,14 @@ Moves places old new before now input =
     (rest : List ℕ) × (piece : List ℕ) × (now.left ≡ Some rest) × Appends before.written now.written piece
     × ((output : List ℕ) → step places (with_streams input output old) ≡ Goes (with_streams rest (output ++ piece) new))
 
+-- the program comes to an end, and the state stays
+abbrev pub Stops : List Segment → (old new : State) → (before now : Streams) → Standing → Type 0
+Stops places old new before now standing = (now ≡ before) × (new ≡ old) × ((input output : List ℕ) → step places (with_streams input output old) ≡ Ends standing)
+
 abbrev pub TurnGives : List Segment → (old new : State) → (before now : Streams) → Turn → Type 0
 TurnGives places old new before now T.Goes = AreSteady before now × ((input : List ℕ) → before.left ≡ Some input → Moves places old new before now input)
-TurnGives places old new before now (T.Ends end) = (now ≡ before) × (new ≡ old) × ((input output : List ℕ) → step places (with_streams input output old) ≡ Ends (standing_of end))
-TurnGives places old new before now T.ReadFails = Rose before.read_faults now.read_faults × (new ≡ old) × IsAtCall 63 old × ReadsPart old before now
-TurnGives places old new before now T.WriteFails = Rose before.write_faults now.write_faults × (new ≡ old) × IsAtCall 64 old × WritesPart old before now
+TurnGives places old new before now (T.Exits status) = Stops places old new before now (Exits status)
+TurnGives places old new before now (T.Traps kind) = Stops places old new before now (Trap kind old.pc)
+TurnGives places old new before now T.Breaks = Stops places old new before now (Break old.pc)
+TurnGives places old new before now T.ReadFails = Rose before.read_faults now.read_faults × SameButMemory old new × IsAtCall 63 old × ReadsPart old before now
+TurnGives places old new before now T.WriteFails = Rose before.write_faults now.write_faults × SameButMemory old new × IsAtCall 64 old × WritesPart old before now

@@ -21,6 +21,23 @@ pub enum MachineEnd {
     WriteFault,
 }
 
+/// What a step of the code came to, with what a call of the environment did.
+#[derive(Clone, Copy, Debug)]
+pub enum Turn {
+    /// The program goes on.
+    Goes,
+    /// The program exited with a status.
+    Exits(u8),
+    /// The instruction was not done, for a reason.
+    Traps(TrapKind),
+    /// The program stopped at an EBREAK.
+    Breaks,
+    /// The input failed in the middle of a call.
+    ReadFails,
+    /// The output failed in the middle of a call.
+    WriteFails,
+}
+
 /// A machine that runs a program once.
 #[derive(Drop)]
 pub struct Machine {
