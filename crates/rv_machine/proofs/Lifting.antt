@@ -1,0 +1,142 @@
+-- A step that touches no stream is the same whatever the input and the output are.
+use Rattle.std.proofs.Common.{◌≡◌, ℕ, ◌%◌, ◌*◌, ◌/◌, Bool, true, false, cond, eqb, ltb, not, List, [], Option, Some, None, ℤ, refl, sym, ap, ◌∙◌, subst}
+use Rattle.lay_base.specs.declared.faults.TrapKind.{TrapKind}
+use Rattle.lay_base.specs.declared.faults.TrapKind.TheVariants.{Unmapped, Illegal, Misaligned}
+use Rattle.rv_isa.specs.declared.image.Segment.{Segment}
+use Rattle.rv_isa.specs.declared.instruction.Inst.{Inst}
+use Rattle.rv_isa.specs.declared.instruction.Inst.TheVariants.{Jal, Jalr, Beq, Bne, Blt, Bge, Bltu, Bgeu, Lb, Lh, Lw, Lbu, Lhu, Sb, Sh, Sw, Ecall}
+use Rattle.rv_isa.specs.Arithmetic.{is_less}
+use Rattle.rv_isa.specs.Memory.{executable, are_mapped, word_at}
+use Rattle.rv_isa.specs.Decoding.{decoded}
+use Rattle.rv_isa.specs.Step.{State, Stepped, Goes, Ends, Standing, Exits, Trap, Break, register, jumps, branches, accesses, executed, performed, calls, step}
+use Rattle.rv_machine.specs.declared.hart.Moved.{Moved}
+use Rattle.rv_machine.specs.declared.hart.Moved.TheVariants as M
+use Rattle.std.specs.Global.{Vec}
+use Rattle.rv_isa.specs.Memory.{Memory as Content}
+use Rattle.rv_machine.specs.declared.hart.Hart.{Hart}
+use Rattle.rv_machine.specs.declared.memory.Memory.{Memory}
+use Rattle.rv_machine.specs.declared.rows.Row.{Row}
+use Rattle.rv_machine.specs.Rows.{segments_of}
+use Rattle.rv_machine.specs.View.{content_of, if_mapped, IsKept}
+use Rattle.rv_machine.specs.Harts.{Executes, Performs, places_of, state_of}
+use Rattle.rv_machine.proofs.Places.{some_if, none_if}
+use Rattle.rv_machine.proofs.Stores.{kept_content}
+use Rattle.rv_machine.specs.Stepping.{with_streams, StepGives}
+
+-- what a step leads to, with other streams
+abbrev lifted : (input output : List ℕ) → Stepped → Stepped
+lifted input output (Goes t) = Goes (with_streams input output t)
+lifted input output (Ends standing) = Ends standing
+
+module _ (input output : List ℕ) where
+  lifted_cond : (b : Bool) (x y : Stepped) → lifted input output (cond b x y) ≡ cond b (lifted input output x) (lifted input output y)
+  lifted_cond true x y = refl
+  lifted_cond false x y = refl
+
+  module _ (places : List Segment) (s : State) where
+    jumps_lift : (rd target : ℕ) → jumps (with_streams input output s) rd target ≡ lifted input output (jumps s rd target)
+    jumps_lift rd target = sym (lifted_cond (eqb (target % 4) 0) _ _)
+
+    branches_lift : (test : Bool) (distance : ℤ) → branches (with_streams input output s) test distance ≡ lifted input output (branches s test distance)
+    branches_lift true distance = jumps_lift 0 _
+    branches_lift false distance = refl
+
+    accesses_lift : (flag a n : ℕ) (done : Stepped) → accesses places (with_streams input output s) flag a n (lifted input output done) ≡ lifted input output (accesses places s flag a n done)
+    accesses_lift flag a n done =
+        sym (lifted_cond (eqb (a % n) 0) _ _ ∙ ap (λ (x : Stepped). cond (eqb (a % n) 0) x (Ends (Trap Misaligned s.pc))) (lifted_cond (are_mapped places flag a n) _ _))
+
+    -- every instruction but a call of the environment
+    executed_lift : (i : Inst) → (i ≡ Ecall → ⊥) → executed places (with_streams input output s) i ≡ lifted input output (executed places s i)
+    executed_lift Ecall other = absurd (other refl)
+    executed_lift (Jal rd imm) other = jumps_lift rd _
+    executed_lift (Jalr rd rs1 imm) other = jumps_lift rd _
+    executed_lift (Beq rs1 rs2 imm) other = branches_lift _ imm
+    executed_lift (Bne rs1 rs2 imm) other = branches_lift _ imm
+    executed_lift (Blt rs1 rs2 imm) other = branches_lift _ imm
+    executed_lift (Bge rs1 rs2 imm) other = branches_lift _ imm
+    executed_lift (Bltu rs1 rs2 imm) other = branches_lift _ imm
+    executed_lift (Bgeu rs1 rs2 imm) other = branches_lift _ imm
+    executed_lift (Lb rd rs1 imm) other = accesses_lift _ _ 1 _
+    executed_lift (Lh rd rs1 imm) other = accesses_lift _ _ 2 _
+    executed_lift (Lw rd rs1 imm) other = accesses_lift _ _ 4 _
+    executed_lift (Lbu rd rs1 imm) other = accesses_lift _ _ 1 _
+    executed_lift (Lhu rd rs1 imm) other = accesses_lift _ _ 2 _
+    executed_lift (Sb rs1 rs2 imm) other = accesses_lift _ _ 1 _
+    executed_lift (Sh rs1 rs2 imm) other = accesses_lift _ _ 2 _
+    executed_lift (Sw rs1 rs2 imm) other = accesses_lift _ _ 4 _
+    executed_lift _ other = refl
+
+-- an instruction is a call of the environment, or it is executed
+data Kind (places : List Segment) (old new : State) (i : Inst) (moved : Moved) : Type 0 where
+  Calling : i ≡ Ecall → moved ≡ M.Calls → new ≡ old → Kind places old new i moved
+  Plain : (i ≡ Ecall → ⊥) → Executes old new (executed places old i) moved → Kind places old new i moved
+
+kind_of : (places : List Segment) (old new : State) (i : Inst) (moved : Moved) → Performs places old new i moved → Kind places old new i moved
+kind_of places old new Ecall moved h = Calling refl h.0 h.1
+kind_of places old new _ moved h = Plain (λ e. cc) h
+
+-- the step of an instruction that is executed
+plain_gives : (places : List Segment) (old new : State) (moved : Moved) (stepped : Stepped) → ((input output : List ℕ) → step places (with_streams input output old) ≡ lifted input output stepped) → Executes old new stepped moved → StepGives places old new moved
+plain_gives places old new M.Goes stepped h e = λ input output. h input output ∙ ap (lifted input output) e
+plain_gives places old new (M.Exits status) stepped h e = ((λ input output. h input output ∙ ap (lifted input output) e.0), e.1)
+plain_gives places old new (M.Traps kind) stepped h e = ((λ input output. h input output ∙ ap (lifted input output) e.0), e.1)
+plain_gives places old new M.Breaks stepped h e = ((λ input output. h input output ∙ ap (lifted input output) e.0), e.1)
+plain_gives places old new M.Calls stepped h e = absurd e
+
+module _ (places : List Segment) (old new : State) (w : ℕ) (i : Inst) (moved : Moved) (mapped : are_mapped places executable old.pc 4 ≡ true) (word : w ≡ word_at old.memory old.pc) (read : decoded w ≡ Some i) where
+  -- the step is the instruction
+  step_is : (input output : List ℕ) → step places (with_streams input output old) ≡ executed places (with_streams input output old) i
+  unfolding step
+  step_is input output =
+      ap (λ (b : Bool). cond b (performed places (with_streams input output old) (decoded (word_at old.memory old.pc))) (Ends (Trap Unmapped old.pc))) mapped
+      ∙ ap (performed places (with_streams input output old)) (ap decoded (sym word) ∙ read)
+
+  by_kind : Kind places old new i moved → StepGives places old new moved
+  by_kind (Calling call moves same) =
+      subst (StepGives places old new) (sym moves) (ap decoded (sym word) ∙ read ∙ ap Some call, (λ input output. step_is input output ∙ ap (executed places (with_streams input output old)) call), same)
+  by_kind (Plain other e) = plain_gives places old new moved (executed places old i) (λ input output. step_is input output ∙ executed_lift input output places old i other) e
+
+  pub performed_gives : Performs places old new i moved → StepGives places old new moved
+  performed_gives h = by_kind (kind_of places old new i moved h)
+
+-- the step where there is no instruction
+pub unmapped_gives : (places : List Segment) (old new : State) → are_mapped places executable old.pc 4 ≡ false → new ≡ old → StepGives places old new (M.Traps Unmapped)
+unfolding step
+unmapped_gives places old new mapped same =
+    ((λ input output. ap (λ (b : Bool). cond b (performed places (with_streams input output old) (decoded (word_at old.memory old.pc))) (Ends (Trap Unmapped old.pc))) mapped), same)
+
+pub illegal_gives : (places : List Segment) (old new : State) (w : ℕ) → are_mapped places executable old.pc 4 ≡ true → w ≡ word_at old.memory old.pc → None ≡ decoded w → new ≡ old → StepGives places old new (M.Traps Illegal)
+unfolding step
+illegal_gives places old new w mapped word read same =
+    (
+      (λ input output.
+          ap (λ (b : Bool). cond b (performed places (with_streams input output old) (decoded (word_at old.memory old.pc))) (Ends (Trap Unmapped old.pc))) mapped
+          ∙ ap (performed places (with_streams input output old)) (ap decoded (sym word) ∙ sym read)),
+      same,
+    )
+
+-- ---- the code's step
+
+-- a hart whose memory has found the instruction is in the same state
+pub state_kept : (hart : Hart) (memory : Memory) → IsKept hart.memory memory → state_of (record hart { memory = memory }) ≡ state_of hart
+state_kept hart memory kept = ap (λ (m : Content). record { registers = hart.registers; pc = hart.pc; memory = m; input = []; output = [] }) (kept_content hart.memory memory kept)
+
+pub places_kept : (hart : Hart) (memory : Memory) → IsKept hart.memory memory → places_of (record hart { memory = memory }) ≡ places_of hart
+places_kept hart memory kept = ap (λ (v : Vec Row). segments_of v.items) kept.rows
+
+module _ (hart : Hart) (memory : Memory) (kept : IsKept hart.memory memory) where
+  pub code_gives : (new : State) (w : ℕ) (i : Inst) (moved : Moved) → Some w ≡ if_mapped hart.memory 1 hart.pc 4 (word_at (content_of hart.memory) hart.pc) → Some i ≡ decoded w
+      → Performs (places_of (record hart { memory = memory })) (state_of (record hart { memory = memory })) new i moved → StepGives (places_of hart) (state_of hart) new moved
+  code_gives new w i moved fetched read h =
+      let f = some_if _ w (word_at (content_of hart.memory) hart.pc) fetched in
+      performed_gives (places_of hart) (state_of hart) new w i moved f.0 f.1 (sym read)
+      (subst (λ (p : List Segment). Performs p (state_of hart) new i moved) (places_kept hart memory kept)
+      (subst (λ (s : State). Performs (places_of (record hart { memory = memory })) s new i moved) (state_kept hart memory kept) h))
+
+  pub code_illegal : (w : ℕ) → Some w ≡ if_mapped hart.memory 1 hart.pc 4 (word_at (content_of hart.memory) hart.pc) → None ≡ decoded w → StepGives (places_of hart) (state_of hart) (state_of (record hart { memory = memory })) (M.Traps Illegal)
+  code_illegal w fetched read =
+      let f = some_if _ w (word_at (content_of hart.memory) hart.pc) fetched in
+      illegal_gives (places_of hart) (state_of hart) _ w f.0 f.1 read (state_kept hart memory kept)
+
+  pub code_unmapped : None ≡ if_mapped hart.memory 1 hart.pc 4 (word_at (content_of hart.memory) hart.pc) → StepGives (places_of hart) (state_of hart) (state_of (record hart { memory = memory })) (M.Traps Unmapped)
+  code_unmapped fetched = unmapped_gives (places_of hart) (state_of hart) _ (none_if _ (word_at (content_of hart.memory) hart.pc) fetched) (state_kept hart memory kept)

@@ -1,0 +1,24 @@
+use Rattle.std.proofs.Common.{◌≡◌, ◌∙◌, ap, length}
+use Rattle.rv_machine.specs.Making.{size_of}
+use Rattle.rv_machine.specs.Rows.{segments_of}
+use Rattle.rv_machine.proofs.Segments.{fits_each, bytes_length, rows_are_sound, serves_nothing, segments_are, content_is}
+use Rattle.rv_machine.proofs.memory.Memory.of.Goals as goal
+
+pub bytes_for-requires : goal.bytes_for-requires
+bytes_for-requires c = fits_each c.args.segments.now c.requires
+
+pub invariant_of-result : goal.invariant_of-result
+invariant_of-result c =
+    let segments = c.args.segments.now in
+    let number : length c.in_ok-bytes.bytes.items ≡ size_of segments = ap length c.in_ok-bytes.ensures ∙ bytes_length segments c.requires in
+    record {
+      sound = rw c.in_ok-rows.ensures (rows_are_sound segments (length c.in_ok-bytes.bytes.items) c.requires number);
+      code_serves = serves_nothing _ _;
+      recent_serves = serves_nothing _ _;
+    }
+
+pub returns-clause-segments : goal.returns-clause-segments
+returns-clause-segments c = ap segments_of c.in_ok-rows.ensures ∙ segments_are 0 c.args.segments.now
+
+pub returns-clause-content : goal.returns-clause-content
+returns-clause-content c = rw (c.in_ok-rows.ensures, c.in_ok-bytes.ensures) (content_is c.args.segments.now c.requires)

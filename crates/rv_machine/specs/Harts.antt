@@ -1,0 +1,35 @@
+-- A hart as contracts see it, and what an instruction does to it.
+use Rattle.std.specs.Prelude.{◌≡◌, List, []}
+use Rattle.rv_isa.specs.declared.image.Segment.{Segment}
+use Rattle.rv_isa.specs.declared.instruction.Inst.{Inst}
+use Rattle.rv_isa.specs.declared.instruction.Inst.TheVariants.{Ecall}
+use Rattle.rv_isa.specs.Step.{State, Stepped, Goes, Ends, Exits, Trap, Break, executed, next_pc}
+use Rattle.rv_machine.specs.declared.hart.Hart.{Hart}
+use Rattle.rv_machine.specs.declared.hart.Moved.{Moved}
+use Rattle.rv_machine.specs.declared.hart.Moved.TheVariants as M
+use Rattle.rv_machine.specs.View.{segments_in, content_of}
+
+-- which addresses may be used for what
+abbrev pub places_of : Hart → List Segment
+places_of hart = segments_in hart.memory
+
+-- the state of the machine, with no input and no output
+abbrev pub state_of : Hart → State
+state_of hart = record { registers = hart.registers; pc = hart.pc; memory = content_of hart.memory; input = []; output = [] }
+
+-- nothing is done, and the next instruction follows
+abbrev pub passes : State → Stepped
+passes s = Goes (record s { pc = next_pc s })
+
+-- an instruction leads from a state to the next one, or ends and the state stays
+abbrev pub Executes : (old new : State) → Stepped → Moved → Type 0
+Executes old new stepped M.Goes = stepped ≡ Goes new
+Executes old new stepped (M.Exits status) = (stepped ≡ Ends (Exits status)) × (new ≡ old)
+Executes old new stepped (M.Traps kind) = (stepped ≡ Ends (Trap kind old.pc)) × (new ≡ old)
+Executes old new stepped M.Breaks = (stepped ≡ Ends (Break old.pc)) × (new ≡ old)
+Executes old new stepped M.Calls = ⊥
+
+-- the same of each instruction; a call of the environment is left to the caller
+abbrev pub Performs : List Segment → (old new : State) → Inst → Moved → Type 0
+Performs segments old new Ecall moved = (moved ≡ M.Calls) × (new ≡ old)
+Performs segments old new i moved = Executes old new (executed segments old i) moved
