@@ -2,11 +2,11 @@
 
 ghost use Rattle.std.specs.Prelude.{◌≡◌, MatchOption, Some, None};
 ghost use Rattle.rv_isa.specs.Decoding.{decoded};
+ghost use Rattle.rv_words.specs.declared.answering.Stopped.TheVariants.{Io};
 
 use crate::digits::word_in;
 use rv_isa::{Inst, decode, encode};
 use std::alloc::Global;
-use std::fmt;
 use std::io::{self, BufRead, Write};
 
 /// Why the answers end before the input does.
@@ -18,19 +18,9 @@ pub enum Stopped {
     Io(io::Error),
 }
 
-impl fmt::Display for Stopped {
-    fn fmt<W: fmt::Write>(&self, f: &mut fmt::Formatter<W>) -> fmt::Result {
-        match self {
-            Stopped::NoWord(line) => {
-                let line = *line;
-                write!(f, "line {line} is no word of at most 8 hexadecimal digits")
-            }
-            Stopped::Io(error) => write!(f, "{error}"),
-        }
-    }
-}
-
 impl From<io::Error> for Stopped {
+    ghost from_gives = { λ error stopped. stopped ≡ Io error };
+
     fn from(error: io::Error) -> Stopped {
         Stopped::Io(error)
     }

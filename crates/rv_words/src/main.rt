@@ -24,9 +24,14 @@ fn answer_input(rt: &HostRuntime) -> Result<(), Stopped> {
 }
 
 fn main(rt: HostRuntime) -> ExitCode {
-    let Err(stopped) = answer_input(&rt) else {
-        return ExitCode::SUCCESS;
+    let told = match answer_input(&rt) {
+        Ok(()) => return ExitCode::SUCCESS,
+        Err(Stopped::NoWord(line)) => {
+            eprintln!(rt; "rv_words: line {line} is no word of at most 8 hexadecimal digits")
+        }
+        Err(Stopped::Io(error)) => eprintln!(rt; "rv_words: {error}"),
     };
-    let _told = eprintln!(rt; "rv_words: {stopped}");
+    // Where the message cannot be written either, the status still tells.
+    drop(told);
     ExitCode::FAILURE
 }
