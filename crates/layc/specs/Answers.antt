@@ -6,7 +6,7 @@ use Rattle.refusals.specs.declared.refusal.Refusal.{Refusal}
 use Rattle.refusals.specs.declared.refusal.Refusal.TheVariants as R
 use Rattle.layc.specs.declared.outcome.Outcome.{Outcome}
 use Rattle.layc.specs.declared.outcome.Outcome.TheVariants.{Program, Done, Refused}
-use Rattle.layc.specs.Words.{Command, Compile, AsksFor, AsksForNothing}
+use Rattle.layc.specs.Words.{Compile, AsksFor, AsksForNothing}
 use Rattle.layc.specs.Outside.{Outside, IsUntouched, ErrSeen}
 use Rattle.layc.specs.Stages.{CompileGives}
 

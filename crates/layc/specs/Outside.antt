@@ -1,5 +1,5 @@
 -- What is seen of the objects that a command is given: what they tell, and how often they failed.
-use Rattle.std.specs.Prelude.{◌≡◌, ℕ, List, Option}
+use Rattle.std.specs.Prelude.{ℕ, List, Option}
 use Rattle.lay_base.specs.Told.{Contents, Keeps, FilesKeep}
 
 pub record Outside : Type 0 where

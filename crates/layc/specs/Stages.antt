@@ -1,7 +1,7 @@
 -- What each stage of `compile` gives, by its answer. Want of memory says nothing.
 use Rattle.std.specs.Prelude.{◌≡◌, ℕ, List, take, Option, Some, Result, Ok, Err, ◌⊎◌}
 use Rattle.std.specs.Global.{Vec}
-use Rattle.lay_base.specs.Told.{Contents, Rose, Tells, Appends, Keeps}
+use Rattle.lay_base.specs.Told.{Contents, Rose, Tells, Appends}
 use Rattle.refusals.specs.declared.refusal.Refusal.{Refusal}
 use Rattle.refusals.specs.declared.refusal.Refusal.TheVariants as R
 use Rattle.c_parser.specs.declared.thin_tree.Thin.{Thin}

@@ -3,7 +3,9 @@
 //! No contract can say what a file or a stream holds, so these objects tell nothing. They count
 //! their faults, and fail only where the system did.
 
-ghost use Rattle.std.specs.Prelude.{◌≡◌, ◌≤◌, ℕ, List, None};
+ghost use Rattle.std.specs.Prelude.{◌≡◌, ◌≤◌, ℕ, List, None, is_ok, if◌then◌else◌};
+ghost use Rattle.lay_base.specs.Calls.{ReadGives, WriteGives};
+ghost use Rattle.lay_base.specs.Told.{Raises, raised};
 
 use lay_base::{Host, HostRead, HostWrite, Sink, SinkFault, Source, SourceFault};
 use std::fs::Files;
@@ -20,7 +22,9 @@ pub struct FileHost<'a, R: Files + AllocGlobal> {
 
 impl<'a, R: Files + AllocGlobal> FileHost<'a, R> {
     /// The host of the files that the runtime reaches.
-    pub fn new(rt: &'a R) -> FileHost<'a, R> {
+    pub fn new(rt: &'a R) -> FileHost<'a, R>
+        ensures { result.faults ≡ 0 }
+    {
         FileHost { rt, faults: 0 }
     }
 
@@ -40,7 +44,13 @@ impl<R: Files + AllocGlobal> Host for FileHost<'_, R> {
 
     ghost files = { λ _. None };
 
-    fn read_file(&mut self, name: &str, limit: u64) -> Result<Vec<u8>, HostRead> {
+    // The trait's clauses are repeated, since a clause of a method's own puts them aside.
+    fn read_file(&mut self, name: &str, limit: u64) -> Result<Vec<u8>, HostRead>
+        ensures counted { self.new.faults ≡ (if is_ok result then self.old.faults else raised self.old.faults) }
+        ensures reads { Raises (λ _. self.old.faults) (λ _. self.new.faults) result }
+        ensures writes { Raises (λ _. self.old.faults) (λ _. self.new.faults) result }
+        ensures gives { ReadGives self.old.faults self.new.faults None name.now limit result }
+    {
         let fault = match self.some_bytes(name, limit) {
             Ok(bytes) => {
                 if bytes.len() as u64 <= limit {
@@ -60,7 +70,12 @@ impl<R: Files + AllocGlobal> Host for FileHost<'_, R> {
         Err(fault)
     }
 
-    fn write_file(&mut self, name: &str, bytes: &[u8]) -> Result<(), HostWrite> {
+    fn write_file(&mut self, name: &str, bytes: &[u8]) -> Result<(), HostWrite>
+        ensures counted { self.new.faults ≡ (if is_ok result then self.old.faults else raised self.old.faults) }
+        ensures reads { Raises (λ _. self.old.faults) (λ _. self.new.faults) result }
+        ensures writes { Raises (λ _. self.old.faults) (λ _. self.new.faults) result }
+        ensures gives { WriteGives self.old.faults self.new.faults None None name.now bytes.now result }
+    {
         match fs::write(self.rt, name, bytes) {
             Ok(()) => Ok(()),
             Err(_) => {
@@ -80,7 +95,9 @@ pub struct StdSource<R: Read + Drop> {
 
 impl<R: Read + Drop> StdSource<R> {
     /// The source of a reader's bytes.
-    pub fn new(reader: R) -> StdSource<R> {
+    pub fn new(reader: R) -> StdSource<R>
+        ensures { result.faults ≡ 0 }
+    {
         StdSource { reader, faults: 0 }
     }
 }
@@ -112,7 +129,9 @@ pub struct StdSink<W: Write + Drop> {
 
 impl<W: Write + Drop> StdSink<W> {
     /// The sink of a writer.
-    pub fn new(writer: W) -> StdSink<W> {
+    pub fn new(writer: W) -> StdSink<W>
+        ensures { result.faults ≡ 0 }
+    {
         StdSink { writer, faults: 0 }
     }
 }
