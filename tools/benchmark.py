@@ -21,6 +21,7 @@ import time
 
 from checking import EMULATOR, TIME, VALGRIND, built, compiler, have, run
 from check_ends import leave
+from check_programs import TARGET
 from elf_files import READ, WRITE, Segment, code_file
 
 MILLION = 1_000_000
@@ -101,7 +102,7 @@ def loop_program(gcc, folder, millions):
     source, program = [os.path.join(folder, f"loop{millions}.{end}") for end in ["s", "elf"]]
     with open(source, "w") as f:
         f.write(LOOP.format(turns=turns))
-    subprocess.run([gcc, "-march=rv32im", "-mabi=ilp32", "-nostdlib", "-static", "-o", program, source], check=True)
+    subprocess.run([gcc, *TARGET, "-o", program, source], check=True)
     return program, guest_instructions(turns)
 
 
