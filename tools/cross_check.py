@@ -1,11 +1,11 @@
 #!/usr/bin/env python3
 """Compares the built compiler with tools that this project did not write.
 
-Random thin programs are compiled; the files run under QEMU's user-mode RV32 emulator and must give
-the output and status that the evaluator below computes; `readelf` must show the four segments of
-the memory map, and `objdump` must decode each word of the code as the instruction that is meant.
-Then come the edges of what is refused, and what the outside does to the program. A tool that is
-missing is named and skipped.
+Random thin programs are compiled; the files run under QEMU's user-mode RV32 emulator, and some of
+them under `layc run`, and must give the output and status that the evaluator below computes;
+`readelf` must show the four segments of the memory map, and `objdump` must decode each word of the
+code as the instruction that is meant. Then come the edges of what is refused, and what the outside
+does to the program. A tool that is missing is named and skipped.
 """
 
 import os
@@ -16,40 +16,24 @@ import subprocess
 import sys
 import tempfile
 
-HERE = os.path.dirname(os.path.dirname(os.path.abspath(__file__)))
-LAYC = os.path.join(HERE, "layc")
-EMULATOR = "qemu-riscv32"
-OBJDUMP = "riscv64-linux-gnu-objdump"
-READELF = "readelf"
-PACKAGES = {EMULATOR: "qemu-user", OBJDUMP: "binutils-riscv64-linux-gnu", READELF: "binutils"}
+import checking
+from checking import (
+    EMULATOR,
+    HERE,
+    LAYC,
+    OBJDUMP,
+    OUTSIDE_STATUS,
+    PROGRAM_STATUS,
+    READELF,
+    USAGE,
+    USAGE_STATUS,
+    check,
+    have,
+    run,
+)
+
 REPORT = b"layc report 1\n"
 SEED = 20261126
-USAGE_STATUS, OUTSIDE_STATUS, PROGRAM_STATUS = 120, 121, 122
-
-failures = []
-checks = 0
-
-
-def check(condition, what):
-    global checks
-    checks += 1
-    if not condition:
-        failures.append(what)
-        print("FAILED:", what)
-
-
-def have(tool):
-    """Whether the tool is there; a missing one is installed where that is allowed."""
-    if shutil.which(tool):
-        return True
-    if shutil.which("apt-get") and os.geteuid() == 0:
-        quiet = dict(stdout=subprocess.DEVNULL, stderr=subprocess.DEVNULL)
-        subprocess.run(["apt-get", "update"], **quiet)
-        subprocess.run(["apt-get", "install", "-y", PACKAGES[tool]], **quiet)
-    if shutil.which(tool):
-        return True
-    print(f"skipped: what needs {tool}, which is not installed")
-    return False
 
 
 # ---- programs, and what they do by the C standard narrowed to constants
@@ -137,10 +121,6 @@ def random_program():
 
 
 # ---- the compiler and the tools
-
-
-def run(words, **more):
-    return subprocess.run(words, capture_output=True, timeout=600, **more)
 
 
 def compile_text(folder, text, name="t.c"):
@@ -281,10 +261,9 @@ def check_edges(folder, tools):
 
 
 def check_outside(folder):
-    usage = b"usage: layc compile -o OUT [--profile P] [--plain] [--heap MIB] [--stack MIB] FILE...\n"
     for words in [[], ["compile"], ["compile", "t.c"], ["compile", "-o", "o"], ["compile", "-o", "", "t.c"], ["compile", "-o", "o", "-"], ["compile", "-o", "o", "t.c", "u.c"], ["--help"], ["compile", "-o", "o", b"\xff\xfe"], [b"\xff"]]:
         done = run([LAYC] + words, cwd=folder)
-        check(done.returncode == USAGE_STATUS and done.stdout == b"" and done.stderr.startswith(usage), f"the words {words}: {done.returncode} {done.stderr!r}")
+        check(done.returncode == USAGE_STATUS and done.stdout == b"" and done.stderr == USAGE, f"the words {words}: {done.returncode} {done.stderr!r}")
     text = main_of(b"7")
     compile_text(folder, text)
     with open(os.path.join(folder, "o.elf"), "rb") as f:
@@ -317,12 +296,26 @@ def check_examples(folder, tools):
         with open(os.path.join(examples, name), "rb") as f:
             done = compile_text(folder, f.read(), name)
         check((done.returncode, done.stdout) == (0, REPORT), f"{name}: {done.stderr!r}")
-        if EMULATOR in tools:
-            with open(os.path.join(examples, name[:-2] + ".expected"), "rb") as f:
-                wanted = f.read()
-            os.chmod(os.path.join(folder, "o.elf"), 0o755)
-            got = run([EMULATOR, os.path.join(folder, "o.elf")])
-            check(got.stdout == wanted, f"{name} prints {got.stdout!r}")
+        if done.returncode != 0:
+            continue
+        with open(os.path.join(examples, name[:-2] + ".expected"), "rb") as f:
+            wanted = f.read()
+        path = os.path.join(folder, "o.elf")
+        os.chmod(path, 0o755)
+        for words in [[LAYC, "run"]] + [[EMULATOR]] * (EMULATOR in tools):
+            got = run(words + [path])
+            check(got.stdout == wanted, f"{name} under {os.path.basename(words[0])} prints {got.stdout!r}")
+
+
+def check_random_programs(folder, count, tools):
+    """Each under the emulator, and some on the machine too, which takes all the room of such a file."""
+    for i in range(count):
+        program = random_program()
+        check_program(folder, program, tools, f"random program {i}")
+        if i % 10 == 0:
+            got = run([LAYC, "run", os.path.join(folder, "o.elf")])
+            right = (got.stdout, got.returncode) == (program.output, program.status)
+            check(right, f"random program {i}: layc run gives {got.stdout!r} {got.returncode} {got.stderr!r}")
 
 
 def main():
@@ -332,15 +325,14 @@ def main():
         print("skipped: the compiler is not built, and there is no rt to build it")
         return 0
     subprocess.run([LAYC], stdout=subprocess.DEVNULL, stderr=subprocess.DEVNULL)
-    tools = [tool for tool in PACKAGES if have(tool)]
+    tools = [tool for tool in [EMULATOR, OBJDUMP, READELF] if have(tool)]
     with tempfile.TemporaryDirectory() as folder:
         check_examples(folder, tools)
-        for i in range(count):
-            check_program(folder, random_program(), tools, f"random program {i}")
+        check_random_programs(folder, count, tools)
         check_edges(folder, tools)
         check_outside(folder)
-    print(f"cross-check: {checks - len(failures)} passed, {len(failures)} failed")
-    return 1 if failures else 0
+    print(f"cross-check: {checking.made - checking.failed} passed, {checking.failed} failed")
+    return 1 if checking.failed else 0
 
 
 if __name__ == "__main__":
