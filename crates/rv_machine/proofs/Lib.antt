@@ -1,3 +1,4 @@
 pub mod Places
 pub mod Stores
 pub mod Accesses
+pub mod Pieces

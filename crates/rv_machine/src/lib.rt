@@ -7,6 +7,7 @@ mod execution;
 mod hart;
 mod memory;
 mod rows;
+mod streams;
 
 pub use memory::Memory;
 pub use rows::Row;

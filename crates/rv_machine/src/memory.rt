@@ -55,7 +55,7 @@ fn put_word(bytes: &mut [u8], place: usize, value: u32)
 #[derive(Drop)]
 pub struct Memory {
     rows: Vec<Row>,
-    bytes: Vec<u8>,
+    pub(crate) bytes: Vec<u8>,
     // The rows in which the last instruction and the last other access were found, or such that have no
     // address.
     code: Row,
