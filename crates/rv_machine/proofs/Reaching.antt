@@ -51,7 +51,7 @@ reached_none places first before input told = record {
 }
 
 -- one turn more
-pub reached_more : (places : List Segment) (first : State) (before now next : Streams) (input : List ℕ) (i : ℕ) (s t : State) → Reached places first before now input i s → ((rest : List ℕ) → now.left ≡ Some rest → Moves places s t now next rest)
+pub reached_more : (places : List Segment) (first : State) (before now next : Streams) (input : List ℕ) (i : ℕ) (s t : State) → Reached places first before now input i s → ((rest : List ℕ) → now.left ≡ Some rest → Moves (step places) s t now next rest)
     → Reached places first before next input (i + 1) t
 reached_more places first before now next input i s t r moves =
     let m = moves r.rest r.left in

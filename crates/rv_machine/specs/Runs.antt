@@ -3,11 +3,13 @@ use Rattle.std.specs.Prelude.{◌≡◌, ℕ, ◌<◌, ◌≤◌, List, [], map,
 use Rattle.lay_base.specs.Told.{Rose, Appends}
 use Rattle.rv_isa.specs.declared.image.Image.{Image}
 use Rattle.rv_isa.specs.Step.{State, Standing, Running, Exits, Trap, Break}
-use Rattle.rv_isa.specs.Run.{Shown, start, state_after, machine_run}
+use Rattle.rv_isa.specs.Run.{Shown, start, run, state_after, machine_run}
 use Rattle.rv_machine.specs.declared.machine.Machine.{Machine}
 use Rattle.rv_machine.specs.declared.machine.MachineEnd.{MachineEnd}
 use Rattle.rv_machine.specs.declared.machine.MachineEnd.TheVariants as E
+use Rattle.rv_machine.specs.declared.hart.Hart.{Hart}
 use Rattle.rv_machine.specs.View.{bare}
+use Rattle.rv_machine.specs.Stepping.{with_streams}
 use Rattle.rv_machine.specs.Harts.{places_of, state_of}
 use Rattle.rv_machine.specs.Turns.{Streams, AreSteady, IsAtCall, ReadsPart, WritesPart}
 
@@ -20,6 +22,13 @@ pub record ProgramRun : Type 0 where
 
 abbrev pub run_of : Image → ProgramRun
 run_of image = record { shows = machine_run image; states = λ input m. state_after image.segments m (start image input) }
+
+-- the same from where a hart is
+abbrev pub own_run : Hart → ProgramRun
+own_run hart = record {
+  shows = λ input m. run (places_of hart) m (with_streams input [] (state_of hart));
+  states = λ input m. state_after (places_of hart) m (with_streams input [] (state_of hart));
+}
 
 abbrev pub shows : Standing → (output rest : List ℕ) → Shown
 shows standing output rest = record { standing = standing; output = output; rest = rest }

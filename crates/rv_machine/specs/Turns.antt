@@ -1,11 +1,10 @@
 -- What a step of the machine's code does to the machine and to the two streams.
 use Rattle.std.specs.Prelude.{◌≡◌, ℕ, ◌<◌, List, ◌++◌, length, take, slice_index, Option, Some}
 use Rattle.lay_base.specs.Told.{Rose, Keeps, Appends, Consumes}
-use Rattle.rv_isa.specs.declared.image.Segment.{Segment}
 use Rattle.rv_isa.specs.declared.instruction.Inst.TheVariants.{Ecall}
 use Rattle.rv_isa.specs.Decoding.{decoded}
 use Rattle.rv_isa.specs.Memory.{word_at, bytes_at}
-use Rattle.rv_isa.specs.Step.{State, Standing, Exits, Trap, Break, Goes, Ends, register, step}
+use Rattle.rv_isa.specs.Step.{State, Stepped, Standing, Exits, Trap, Break, Goes, Ends, register}
 use Rattle.rv_machine.specs.declared.machine.Turn.{Turn}
 use Rattle.rv_machine.specs.declared.machine.Turn.TheVariants as T
 use Rattle.rv_machine.specs.Stepping.{with_streams}
@@ -43,20 +42,21 @@ ReadsPart s before now = (piece : List ℕ) × (length piece < register s 12) ×
 abbrev pub WritesPart : State → (before now : Streams) → Type 0
 WritesPart s before now = (k : ℕ) × Appends before.written now.written (take k (bytes_at s.memory (register s 11) (register s 12))) × Keeps before.left now.left
 
--- the step from one state to the next, for told input: what it takes of it, and what it writes
-abbrev pub Moves : List Segment → (old new : State) → (before now : Streams) → (input : List ℕ) → Type 0
-Moves places old new before now input =
+-- what is done leads from one state to the next, for told input: what it takes of the input, and what it writes
+abbrev pub Moves : (does : State → Stepped) → (old new : State) → (before now : Streams) → (input : List ℕ) → Type 0
+Moves does old new before now input =
     (rest : List ℕ) × (piece : List ℕ) × (now.left ≡ Some rest) × Appends before.written now.written piece
-    × ((output : List ℕ) → step places (with_streams input output old) ≡ Goes (with_streams rest (output ++ piece) new))
+    × ((output : List ℕ) → does (with_streams input output old) ≡ Goes (with_streams rest (output ++ piece) new))
 
 -- the program comes to an end, and the state stays
-abbrev pub Stops : List Segment → (old new : State) → (before now : Streams) → Standing → Type 0
-Stops places old new before now standing = (now ≡ before) × (new ≡ old) × ((input output : List ℕ) → step places (with_streams input output old) ≡ Ends standing)
+abbrev pub Stops : (does : State → Stepped) → (old new : State) → (before now : Streams) → Standing → Type 0
+Stops does old new before now standing = (now ≡ before) × (new ≡ old) × ((input output : List ℕ) → does (with_streams input output old) ≡ Ends standing)
 
-abbrev pub TurnGives : List Segment → (old new : State) → (before now : Streams) → Turn → Type 0
-TurnGives places old new before now T.Goes = AreSteady before now × ((input : List ℕ) → before.left ≡ Some input → Moves places old new before now input)
-TurnGives places old new before now (T.Exits status) = Stops places old new before now (Exits status)
-TurnGives places old new before now (T.Traps kind) = Stops places old new before now (Trap kind old.pc)
-TurnGives places old new before now T.Breaks = Stops places old new before now (Break old.pc)
-TurnGives places old new before now T.ReadFails = Rose before.read_faults now.read_faults × SameButMemory old new × IsAtCall 63 old × ReadsPart old before now
-TurnGives places old new before now T.WriteFails = Rose before.write_faults now.write_faults × SameButMemory old new × IsAtCall 64 old × WritesPart old before now
+-- what is done, by the answer of the code
+abbrev pub TurnGives : (does : State → Stepped) → (old new : State) → (before now : Streams) → Turn → Type 0
+TurnGives does old new before now T.Goes = AreSteady before now × ((input : List ℕ) → before.left ≡ Some input → Moves does old new before now input)
+TurnGives does old new before now (T.Exits status) = Stops does old new before now (Exits status)
+TurnGives does old new before now (T.Traps kind) = Stops does old new before now (Trap kind old.pc)
+TurnGives does old new before now T.Breaks = Stops does old new before now (Break old.pc)
+TurnGives does old new before now T.ReadFails = Rose before.read_faults now.read_faults × SameButMemory old new × IsAtCall 63 old × ReadsPart old before now
+TurnGives does old new before now T.WriteFails = Rose before.write_faults now.write_faults × SameButMemory old new × IsAtCall 64 old × WritesPart old before now

@@ -2,6 +2,7 @@
 #![tactic(auto)]
 
 mod arithmetic;
+mod calls;
 mod decoder;
 mod execution;
 mod hart;
@@ -9,6 +10,6 @@ mod machine;
 mod making;
 mod memory;
 mod rows;
+mod streams;
 
-pub use memory::Memory;
-pub use rows::Row;
+pub use machine::{Machine, MachineEnd};

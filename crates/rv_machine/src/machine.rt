@@ -2,7 +2,10 @@
 
 use crate::decoder::Decoder;
 use crate::hart::{Hart, Moved};
-use lay_base::TrapKind;
+use crate::memory::Memory;
+use lay_base::{NoMemory, Sink, Source, TrapKind};
+use rv_isa::Image;
+use std::alloc::Global;
 
 /// How a run ends.
 #[derive(Clone, Copy, Debug)]
@@ -48,9 +51,14 @@ pub struct Machine {
 }
 
 impl Machine {
-    ghost use Rattle.std.specs.Prelude.{◌≡◌};
+    ghost use Rattle.std.specs.Prelude.{◌≡◌, ◌<◌, IfOk, IsSome, Some, slice_index};
+    ghost use Rattle.rv_isa.specs.declared.image.Image.{Image};
+    ghost use Rattle.rv_isa.specs.Placed.{IsPlaced};
+    ghost use Rattle.rv_isa.specs.Step.{step};
     ghost use Rattle.rv_machine.specs.Harts.{places_of, state_of};
     ghost use Rattle.rv_machine.specs.Stepping.{StepGives};
+    ghost use Rattle.rv_machine.specs.Turns.{TurnGives, streams};
+    ghost use Rattle.rv_machine.specs.Runs.{IsFresh, RunGives, own_run, run_of};
 
     /// One step, but for what a call of the environment does.
     #[inline(always)]
@@ -66,5 +74,117 @@ impl Machine {
             },
             None => Moved::Traps(TrapKind::Unmapped),
         }
+    }
+
+    /// One step, with what a call of the environment does.
+    #[inline(always)]
+    fn turn<I: Source, O: Sink>(&mut self, input: &mut I, out: &mut O) -> Turn
+        ensures places { places_of self.new.hart ≡ places_of self.old.hart }
+        ensures gives { TurnGives (step (places_of self.old.hart)) (state_of self.old.hart) (state_of self.new.hart)
+            (streams (I.left input.old) (I.faults input.old) (O.written out.old) (O.faults out.old))
+            (streams (I.left input.new) (I.faults input.new) (O.written out.new) (O.faults out.new)) result }
+    {
+        match self.step() {
+            Moved::Goes => Turn::Goes,
+            Moved::Exits(status) => Turn::Exits(status),
+            Moved::Traps(kind) => Turn::Traps(kind),
+            Moved::Breaks => Turn::Breaks,
+            Moved::Calls => self.hart.call(input, out),
+        }
+    }
+
+    /// The end that the machine came to after so many steps.
+    fn stop(&mut self, steps: u64, end: MachineEnd) -> MachineEnd
+        ensures end { result ≡ end }
+        ensures steps { self.new.steps ≡ steps }
+        ensures hart { self.new.hart ≡ self.old.hart }
+    {
+        self.steps = steps;
+        end
+    }
+
+    /// At most so many steps.
+    fn go<I: Source, O: Sink>(&mut self, input: &mut I, out: &mut O, limit: u64) -> MachineEnd
+        ensures { RunGives (own_run self.old.hart) limit
+            (streams (I.left input.old) (I.faults input.old) (O.written out.old) (O.faults out.old))
+            (streams (I.left input.new) (I.faults input.new) (O.written out.new) (O.faults out.new)) self.new result }
+    {
+        for done in 0..limit {
+            let pc = self.hart.pc;
+            match self.turn(input, out) {
+                Turn::Goes => {}
+                Turn::Exits(status) => return self.stop(done + 1, MachineEnd::Exits(status)),
+                Turn::Traps(kind) => return self.stop(done + 1, MachineEnd::Trap(kind, pc)),
+                Turn::Breaks => return self.stop(done + 1, MachineEnd::Break(pc)),
+                Turn::ReadFails => return self.stop(done, MachineEnd::ReadFault),
+                Turn::WriteFails => return self.stop(done, MachineEnd::WriteFault),
+            }
+        }
+        self.stop(limit, MachineEnd::StepLimit(limit))
+    }
+
+    /// A machine that holds the image, with all the memory that it needs. Its registers are 0, and it is
+    /// at the image's entry.
+    pub fn new(alloc: Global, image: &Image) -> Result<Machine, NoMemory>
+        requires { IsPlaced image.now }
+        ensures { IfOk result (λ machine. IsFresh image.now machine) }
+    {
+        let memory = Memory::of(alloc, image.segments.as_slice())?;
+        let decoder = Decoder::new(alloc)?;
+        Ok(Machine {
+            hart: Hart {
+                registers: [0; 32],
+                pc: image.entry,
+                memory,
+            },
+            decoder,
+            steps: 0,
+            ended: None,
+        })
+    }
+
+    /// Runs the program until it ends, or for so many steps; its input comes from `input`, and its output
+    /// goes to `out`. A machine that has run answers the same end again and touches neither. It takes no
+    /// memory.
+    pub fn run<I: Source, O: Sink>(
+        &mut self,
+        input: &mut I,
+        out: &mut O,
+        steps: u64,
+    ) -> MachineEnd
+        ensures ended { self.new.ended ≡ Some result }
+        ensures again { IsSome self.old.ended → (self.new ≡ self.old) × (input.new ≡ input.old) × (out.new ≡ out.old) }
+        ensures gives { (image : Image) → IsFresh image self.old → RunGives (run_of image) steps
+            (streams (I.left input.old) (I.faults input.old) (O.written out.old) (O.faults out.old))
+            (streams (I.left input.new) (I.faults input.new) (O.written out.new) (O.faults out.new)) self.new result }
+    {
+        if let Some(end) = self.ended {
+            return end;
+        }
+        let end = self.go(input, out, steps);
+        self.ended = Some(end);
+        end
+    }
+
+    /// The value of a register.
+    pub fn reg(&self, i: u8) -> u32
+        requires { i < 32 }
+        ensures { result ≡ slice_index self.now.hart.registers i }
+    {
+        self.hart.registers[i as usize]
+    }
+
+    /// The program counter.
+    pub fn pc(&self) -> u32
+        ensures { result ≡ self.now.hart.pc }
+    {
+        self.hart.pc
+    }
+
+    /// The steps made: those that led to the program's end, or those before the call that failed.
+    pub fn steps(&self) -> u64
+        ensures { result ≡ self.now.steps }
+    {
+        self.steps
     }
 }
