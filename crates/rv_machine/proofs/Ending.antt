@@ -49,7 +49,7 @@ module _ (hart : Hart) (before now next : Streams) (input : List ℕ) (i : ℕ) 
   left_at_end standing stops steps =
       let e = stops.2 r.rest r.output in
       let state : state_after (places_of hart) machine.steps (with_streams input [] (state_of hart)) ≡ with_streams r.rest r.output (state_of here)
-          = ap (λ (n : ℕ). state_after (places_of hart) n (with_streams input [] (state_of hart))) steps ∙ reached_end_state (places_of hart) (state_of hart) before now input i (state_of here) r standing e in
+      = ap (λ (n : ℕ). state_after (places_of hart) n (with_streams input [] (state_of hart))) steps ∙ reached_end_state (places_of hart) (state_of hart) before now input i (state_of here) r standing e in
       record {
         output = r.output;
         rest = r.rest;
@@ -67,7 +67,7 @@ module _ (hart : Hart) (before now next : Streams) (input : List ℕ) (i : ℕ) 
   pub left_running : machine.hart ≡ here → next ≡ now → machine.steps ≡ i → Left (own_run hart) before next input Running (seen machine)
   left_running same streams steps =
       let state : state_after (places_of hart) machine.steps (with_streams input [] (state_of hart)) ≡ with_streams r.rest r.output (state_of here)
-          = ap (λ (n : ℕ). state_after (places_of hart) n (with_streams input [] (state_of hart))) steps ∙ reached_state (places_of hart) (state_of hart) before now input i (state_of here) r in
+      = ap (λ (n : ℕ). state_after (places_of hart) n (with_streams input [] (state_of hart))) steps ∙ reached_state (places_of hart) (state_of hart) before now input i (state_of here) r in
       record {
         output = r.output;
         rest = r.rest;
@@ -86,7 +86,7 @@ module _ (hart : Hart) (before now next : Streams) (input : List ℕ) (i : ℕ) 
       → IsAtCall number (state_of here) → SameButMemory (state_of here) (state_of machine.hart) → Part (state_of here) now next → machine.steps ≡ i → Stopped (own_run hart) before next input number Part (seen machine)
   stopped number Part with call same part steps =
       let state : state_after (places_of hart) machine.steps (with_streams input [] (state_of hart)) ≡ with_streams r.rest r.output (state_of here)
-          = ap (λ (n : ℕ). state_after (places_of hart) n (with_streams input [] (state_of hart))) steps ∙ reached_state (places_of hart) (state_of hart) before now input i (state_of here) r in
+      = ap (λ (n : ℕ). state_after (places_of hart) n (with_streams input [] (state_of hart))) steps ∙ reached_state (places_of hart) (state_of hart) before now input i (state_of here) r in
       record {
         output = r.output;
         rest = r.rest;

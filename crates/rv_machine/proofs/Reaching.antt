@@ -57,7 +57,7 @@ reached_more places first before now next input i s t r moves =
     let m = moves r.rest r.left in
     let goes : step places (with_streams r.rest r.output s) ≡ Goes (with_streams m.0 (r.output ++ m.1) t) = m.4 r.output in
     let later : (k : ℕ) → run places (i + 1 + k) (with_streams input [] first) ≡ run places k (with_streams m.0 (r.output ++ m.1) t)
-        = (λ (k : ℕ). ap (λ (n : ℕ). run places n (with_streams input [] first)) (let e : i + 1 + k ≡ i + suc k = omega arith in e) ∙ r.runs (suc k) ∙ run_goes places k (with_streams r.rest r.output s) (with_streams m.0 (r.output ++ m.1) t) goes) in
+    = (λ (k : ℕ). ap (λ (n : ℕ). run places n (with_streams input [] first)) (let e : i + 1 + k ≡ i + suc k = omega arith in e) ∙ r.runs (suc k) ∙ run_goes places k (with_streams r.rest r.output s) (with_streams m.0 (r.output ++ m.1) t) goes) in
     record {
       output = r.output ++ m.1;
       rest = m.0;

@@ -146,12 +146,7 @@ impl Machine {
     /// Runs the program until it ends, or for so many steps; its input comes from `input`, and its output
     /// goes to `out`. A machine that has run answers the same end again and touches neither. It takes no
     /// memory.
-    pub fn run<I: Source, O: Sink>(
-        &mut self,
-        input: &mut I,
-        out: &mut O,
-        steps: u64,
-    ) -> MachineEnd
+    pub fn run<I: Source, O: Sink>(&mut self, input: &mut I, out: &mut O, steps: u64) -> MachineEnd
         ensures ended { self.new.ended ≡ Some result }
         ensures again { IsSome self.old.ended → (self.new ≡ self.old) × (input.new ≡ input.old) × (out.new ≡ out.old) }
         ensures gives { (image : Image) → IsFresh image self.old → RunGives (run_of image) steps

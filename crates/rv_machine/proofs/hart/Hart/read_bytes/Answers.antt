@@ -10,8 +10,7 @@ pub returns-in-Ok-clause-gives : goal.returns-in-Ok-clause-gives
 returns-in-Ok-clause-gives g c = (
   record { read_faults = c.in-Ok.ensures.kept refl; write_faults = refl },
   λ input told.
-      let reads = reads_told (g.I.Source.faults c.args.input.now) (g.I.Source.faults c.read_in.new.input) _ _ input _ _ _ _ c.in-Ok.n told c.in-Ok.ensures.gives in
-      (
+      let reads = reads_told (g.I.Source.faults c.args.input.now) (g.I.Source.faults c.read_in.new.input) _ _ input _ _ _ _ c.in-Ok.n told c.in-Ok.ensures.gives in (
         drop c.in-Ok.n input,
         [],
         reads.rest,
