@@ -13,10 +13,10 @@ use Rattle.rv_machine.specs.declared.machine.MachineEnd.TheVariants as E
 use Rattle.rv_machine.specs.View.{bare}
 use Rattle.rv_machine.specs.Harts.{places_of, state_of}
 use Rattle.rv_machine.specs.Stepping.{with_streams}
-use Rattle.rv_machine.specs.Turns.{Streams, AreSteady, IsAtCall, SameButMemory, ReadsPart, WritesPart, Moves, Stops}
+use Rattle.rv_machine.specs.Turns.{Streams, AreSteady, IsAtCall, GoesOn, SameButMemory, ReadsPart, WritesPart, Moves, Stops}
 use Rattle.rv_machine.specs.Runs.{ProgramRun, own_run, run_of, shows, IsFresh, MachineSeen, Left, Stopped, Comes, RunGives, seen}
 use Rattle.rv_machine.proofs.Bare.{run_bare, state_after_bare}
-use Rattle.rv_machine.proofs.Reaching.{Reached, reached_more, reached_shows, reached_state, reached_end, reached_end_state, reached_before}
+use Rattle.rv_machine.proofs.Reaching.{Reached, reached_more, reached_shows, reached_state, reached_end, reached_end_state, reached_before, reached_goes}
 
 -- ---- a fresh machine
 
@@ -83,8 +83,8 @@ module _ (hart : Hart) (before now next : Streams) (input : List ℕ) (i : ℕ) 
 
   -- a call of the environment failed
   pub stopped : (number : ℕ) (Part : State → (before now : Streams) → Type 0) → ((input output : List ℕ) (a b : Streams) → Part (state_of here) a b → Part (with_streams input output (state_of here)) a b)
-      → IsAtCall number (state_of here) → SameButMemory (state_of here) (state_of machine.hart) → Part (state_of here) now next → machine.steps ≡ i → Stopped (own_run hart) before next input number Part (seen machine)
-  stopped number Part with call same part steps =
+      → IsAtCall number (state_of here) → GoesOn (step (places_of hart)) (state_of here) → SameButMemory (state_of here) (state_of machine.hart) → Part (state_of here) now next → machine.steps ≡ i → Stopped (own_run hart) before next input number Part (seen machine)
+  stopped number Part with call goes same part steps =
       let state : state_after (places_of hart) machine.steps (with_streams input [] (state_of hart)) ≡ with_streams r.rest r.output (state_of here)
       = ap (λ (n : ℕ). state_after (places_of hart) n (with_streams input [] (state_of hart))) steps ∙ reached_state (places_of hart) (state_of hart) before now input i (state_of here) r in
       record {
@@ -97,6 +97,7 @@ module _ (hart : Hart) (before now next : Streams) (input : List ℕ) (i : ℕ) 
           pc = same.pc ∙ ap (λ (s : State). s.pc) (sym state);
         };
         call = subst (IsAtCall number) (sym state) (record { instruction = call.instruction; in_a7 = call.in_a7 });
+        goes = ap (λ (n : ℕ). (run (places_of hart) (n + 1) (with_streams input [] (state_of hart))).standing) steps ∙ reached_goes (places_of hart) (state_of hart) before now input i (state_of here) r (goes r.rest r.output);
         middle = now;
         written = r.written;
         left = r.left;
@@ -140,20 +141,20 @@ module _ (hart here turned : Hart) (before now next : Streams) (limit i : ℕ) (
   same_but_memory : SameButMemory (state_of here) (state_of turned) → SameButMemory (state_of here) (state_of machine.hart)
   same_but_memory s = record { registers = ap (λ (h : Hart). h.registers) kept ∙ s.registers; pc = ap (λ (h : Hart). h.pc) kept ∙ s.pc }
 
-  pub fails_reading : Rose now.read_faults next.read_faults → SameButMemory (state_of here) (state_of turned) → IsAtCall 63 (state_of here) → ReadsPart (state_of here) now next → machine.steps ≡ i → i < limit
+  pub fails_reading : Rose now.read_faults next.read_faults → SameButMemory (state_of here) (state_of turned) → IsAtCall 63 (state_of here) → GoesOn (step (places_of here)) (state_of here) → ReadsPart (state_of here) now next → machine.steps ≡ i → i < limit
       → RunGives (own_run hart) limit before next (seen machine) E.ReadFault
-  fails_reading rose same call part steps lt = (
+  fails_reading rose same call goes part steps lt = (
     rose_later before.read_faults now.read_faults next.read_faults steady.read_faults rose,
     omega (arith, steps),
-    λ input told. stopped hart before now next input i here (reached input told) machine 63 ReadsPart (reads_part_with (state_of here)) call (same_but_memory same) part steps,
+    λ input told. stopped hart before now next input i here (reached input told) machine 63 ReadsPart (reads_part_with (state_of here)) call (subst (λ (p : List Segment). GoesOn (step p) (state_of here)) placed goes) (same_but_memory same) part steps,
   )
 
-  pub fails_writing : Rose now.write_faults next.write_faults → SameButMemory (state_of here) (state_of turned) → IsAtCall 64 (state_of here) → WritesPart (state_of here) now next → machine.steps ≡ i → i < limit
+  pub fails_writing : Rose now.write_faults next.write_faults → SameButMemory (state_of here) (state_of turned) → IsAtCall 64 (state_of here) → GoesOn (step (places_of here)) (state_of here) → WritesPart (state_of here) now next → machine.steps ≡ i → i < limit
       → RunGives (own_run hart) limit before next (seen machine) E.WriteFault
-  fails_writing rose same call part steps lt = (
+  fails_writing rose same call goes part steps lt = (
     rose_later before.write_faults now.write_faults next.write_faults steady.write_faults rose,
     omega (arith, steps),
-    λ input told. stopped hart before now next input i here (reached input told) machine 64 WritesPart (writes_part_with (state_of here)) call (same_but_memory same) part steps,
+    λ input told. stopped hart before now next input i here (reached input told) machine 64 WritesPart (writes_part_with (state_of here)) call (subst (λ (p : List Segment). GoesOn (step p) (state_of here)) placed goes) (same_but_memory same) part steps,
   )
 
 -- or that it ended with none

@@ -1,5 +1,5 @@
 -- What a run of the machine gives.
-use Rattle.std.specs.Prelude.{◌≡◌, ℕ, ◌<◌, ◌≤◌, List, [], map, Option, Some, None}
+use Rattle.std.specs.Prelude.{◌≡◌, ℕ, ◌+◌, ◌<◌, ◌≤◌, List, [], map, Option, Some, None}
 use Rattle.lay_base.specs.Told.{Rose, Appends}
 use Rattle.rv_isa.specs.declared.image.Image.{Image}
 use Rattle.rv_isa.specs.Step.{State, Standing, Running, Exits, Trap, Break}
@@ -67,12 +67,13 @@ pub record Left (run : ProgramRun) (before now : Streams) (input : List ℕ) (st
   pub written : Appends before.written now.written output
   pub left : now.left ≡ Some rest
 
--- the program was at a call with this number, of which a part was done
+-- the program was at a call with this number, with which it would have gone on, and of which a part was done
 pub record Stopped (run : ProgramRun) (before now : Streams) (input : List ℕ) (number : ℕ) (Part : State → (before now : Streams) → Type 0) (machine : MachineSeen) : Type 0 where
   pub output : List ℕ
   pub rest : List ℕ
   pub came : Came run input Running output rest machine
   pub call : IsAtCall number (run.states input machine.steps)
+  pub goes : (run.shows input (machine.steps + 1)).standing ≡ Running
   pub middle : Streams
   pub written : Appends before.written middle.written output
   pub left : middle.left ≡ Some rest

@@ -80,6 +80,7 @@ impl Machine {
     #[inline(always)]
     fn turn<I: Source, O: Sink>(&mut self, input: &mut I, out: &mut O) -> Turn
         ensures places { places_of self.new.hart ≡ places_of self.old.hart }
+        ensures steps { self.new.steps ≡ self.old.steps }
         ensures gives { TurnGives (step (places_of self.old.hart)) (state_of self.old.hart) (state_of self.new.hart)
             (streams (I.left input.old) (I.faults input.old) (O.written out.old) (O.faults out.old))
             (streams (I.left input.new) (I.faults input.new) (O.written out.new) (O.faults out.new)) result }
@@ -144,8 +145,8 @@ impl Machine {
     }
 
     /// Runs the program until it ends, or for so many steps; its input comes from `input`, and its output
-    /// goes to `out`. A machine that has run answers the same end again and touches neither. It takes no
-    /// memory.
+    /// goes to `out`. A machine that has run answers the same end again and touches neither. Each other
+    /// machine is as `new` made it, since a run always keeps an end. It takes no memory.
     pub fn run<I: Source, O: Sink>(&mut self, input: &mut I, out: &mut O, steps: u64) -> MachineEnd
         ensures ended { self.new.ended ≡ Some result }
         ensures again { IsSome self.old.ended → (self.new ≡ self.old) × (input.new ≡ input.old) × (out.new ≡ out.old) }
@@ -176,7 +177,8 @@ impl Machine {
         self.hart.pc
     }
 
-    /// The steps made: those that led to the program's end, or those before the call that failed.
+    /// The steps made: those that led to the program's end, all that the run was to make, or those
+    /// before the call that failed.
     pub fn steps(&self) -> u64
         ensures { result ≡ self.now.steps }
     {

@@ -45,14 +45,14 @@ returns-in-ReadFails g c =
     let far = c.loop-done.invariant in
     let gives = c.in-ReadFails.ensures.gives in
     rw c.stop-in-ReadFails.ensures.end
-    (fails_reading c.args.self.now.hart c.loop-done.self.hart c.turn.new.self.hart _ _ _ c.args.limit c.loop-done.done c.stop-in-ReadFails.new.self far.placed far.steady far.reached c.stop-in-ReadFails.ensures.hart gives.0 gives.1 gives.2 gives.3 c.stop-in-ReadFails.ensures.steps c.loop-done-test.true)
+    (fails_reading c.args.self.now.hart c.loop-done.self.hart c.turn.new.self.hart _ _ _ c.args.limit c.loop-done.done c.stop-in-ReadFails.new.self far.placed far.steady far.reached c.stop-in-ReadFails.ensures.hart gives.0 gives.1 gives.2 gives.3 gives.4 c.stop-in-ReadFails.ensures.steps c.loop-done-test.true)
 
 pub returns-in-WriteFails : goal.returns-in-WriteFails
 returns-in-WriteFails g c =
     let far = c.loop-done.invariant in
     let gives = c.in-WriteFails.ensures.gives in
     rw c.stop-in-WriteFails.ensures.end
-    (fails_writing c.args.self.now.hart c.loop-done.self.hart c.turn.new.self.hart _ _ _ c.args.limit c.loop-done.done c.stop-in-WriteFails.new.self far.placed far.steady far.reached c.stop-in-WriteFails.ensures.hart gives.0 gives.1 gives.2 gives.3 c.stop-in-WriteFails.ensures.steps c.loop-done-test.true)
+    (fails_writing c.args.self.now.hart c.loop-done.self.hart c.turn.new.self.hart _ _ _ c.args.limit c.loop-done.done c.stop-in-WriteFails.new.self far.placed far.steady far.reached c.stop-in-WriteFails.ensures.hart gives.0 gives.1 gives.2 gives.3 gives.4 c.stop-in-WriteFails.ensures.steps c.loop-done-test.true)
 
 pub returns : goal.returns
 returns g c =
