@@ -41,7 +41,7 @@ pub enum Turn {
     WriteFails,
 }
 
-/// A machine that runs a program once.
+/// A machine that runs a program once. It is as `new` made it, or it has run and keeps its end.
 #[derive(Drop)]
 pub struct Machine {
     pub(crate) hart: Hart,
@@ -145,8 +145,8 @@ impl Machine {
     }
 
     /// Runs the program until it ends, or for so many steps; its input comes from `input`, and its output
-    /// goes to `out`. A machine that has run answers the same end again and touches neither. Each other
-    /// machine is as `new` made it, since a run always keeps an end. It takes no memory.
+    /// goes to `out`. A machine that has run answers the same end again and touches neither. It takes no
+    /// memory.
     pub fn run<I: Source, O: Sink>(&mut self, input: &mut I, out: &mut O, steps: u64) -> MachineEnd
         ensures ended { self.new.ended ≡ Some result }
         ensures again { IsSome self.old.ended → (self.new ≡ self.old) × (input.new ≡ input.old) × (out.new ≡ out.old) }
