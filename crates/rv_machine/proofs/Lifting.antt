@@ -107,13 +107,12 @@ unmapped_gives places old new mapped same =
 
 pub illegal_gives : (places : List Segment) (old new : State) (w : ℕ) → are_mapped places executable old.pc 4 ≡ true → w ≡ word_at old.memory old.pc → None ≡ decoded w → new ≡ old → StepGives places old new (M.Traps Illegal)
 unfolding step
-illegal_gives places old new w mapped word read same =
-    (
-      (λ input output.
-          ap (λ (b : Bool). cond b (performed places (with_streams input output old) (decoded (word_at old.memory old.pc))) (Ends (Trap Unmapped old.pc))) mapped
-          ∙ ap (performed places (with_streams input output old)) (ap decoded (sym word) ∙ sym read)),
-      same,
-    )
+illegal_gives places old new w mapped word read same = (
+  (λ input output.
+      ap (λ (b : Bool). cond b (performed places (with_streams input output old) (decoded (word_at old.memory old.pc))) (Ends (Trap Unmapped old.pc))) mapped
+      ∙ ap (performed places (with_streams input output old)) (ap decoded (sym word) ∙ sym read)),
+  same,
+)
 
 -- ---- the code's step
 

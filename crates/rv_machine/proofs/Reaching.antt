@@ -1,5 +1,5 @@
 -- How far a run of the machine has come, turn by turn.
-use Rattle.std.proofs.Common.{◌≡◌, ℕ, zero, suc, ◌+◌, ◌-◌, ◌<◌, ◌≤◌, List, [], ◌++◌, Option, Some, None, refl, sym, ap, ◌∙◌, subst, arith, append_assoc, append-nil}
+use Rattle.std.proofs.Common.{◌≡◌, ℕ, zero, suc, ◌+◌, ◌-◌, ◌<◌, ◌≤◌, true, List, [], ◌++◌, Option, Some, None, refl, sym, ap, ◌∙◌, subst, arith, append_assoc, append-nil}
 use Rattle.std.specs.Prelude.{option_map, ◌⊎◌}
 use Rattle.std.proofs.Common.{inl, inr}
 use Rattle.std.proofs.lemmas.Bool.{cases_lt}
@@ -9,7 +9,7 @@ use Rattle.rv_isa.specs.Step.{State, Standing, Running, Stepped, Goes, Ends, ste
 use Rattle.rv_isa.specs.Run.{Shown, shown, run, state_after}
 use Rattle.rv_isa.proofs.Runs.{run_goes, run_ends, state_after_goes, state_after_ends}
 use Rattle.rv_machine.specs.Stepping.{with_streams}
-use Rattle.rv_machine.specs.Turns.{Streams, Moves}
+use Rattle.rv_machine.specs.Turns.{Streams, Moves, goes}
 use Rattle.rv_machine.specs.Runs.{shows}
 
 -- after i turns the machine is in this state, for told input
@@ -30,7 +30,7 @@ state_zero : (places : List Segment) (s : State) → state_after places 0 s ≡ 
 unfolding state_after
 state_zero places s = refl
 
-appends_nothing : (old : Option (List ℕ)) → Appends old old []
+pub appends_nothing : (old : Option (List ℕ)) → Appends old old []
 appends_nothing None = refl
 appends_nothing (Some xs) = ap Some (sym (append-nil xs))
 
@@ -57,7 +57,7 @@ reached_more places first before now next input i s t r moves =
     let m = moves r.rest r.left in
     let goes : step places (with_streams r.rest r.output s) ≡ Goes (with_streams m.0 (r.output ++ m.1) t) = m.4 r.output in
     let later : (k : ℕ) → run places (i + 1 + k) (with_streams input [] first) ≡ run places k (with_streams m.0 (r.output ++ m.1) t)
-        = (λ (k : ℕ). ap (λ (n : ℕ). run places n (with_streams input [] first)) (let e : i + 1 + k ≡ i + suc k = omega arith in e) ∙ r.runs (suc k) ∙ run_goes places k (with_streams r.rest r.output s) (with_streams m.0 (r.output ++ m.1) t) goes) in
+    = (λ (k : ℕ). ap (λ (n : ℕ). run places n (with_streams input [] first)) (let e : i + 1 + k ≡ i + suc k = omega arith in e) ∙ r.runs (suc k) ∙ run_goes places k (with_streams r.rest r.output s) (with_streams m.0 (r.output ++ m.1) t) goes) in
     record {
       output = r.output ++ m.1;
       rest = m.0;
@@ -93,3 +93,11 @@ module _ (places : List Segment) (first : State) (before now : Streams) (input :
 
   pub reached_before : (k : ℕ) → k < i + 1 → (run places k (with_streams input [] first)).standing ≡ Running
   reached_before k lt = r.running k (omega arith)
+
+  -- a step that goes on
+  pub reached_goes : goes (step places (with_streams r.rest r.output s)) ≡ true → (run places (i + 1) (with_streams input [] first)).standing ≡ Running
+  reached_goes e = ap (λ (x : Shown). x.standing) (r.runs 1) ∙ by_step (step places (with_streams r.rest r.output s)) refl e
+    where
+      by_step : (x : Stepped) → step places (with_streams r.rest r.output s) ≡ x → goes x ≡ true → (run places 1 (with_streams r.rest r.output s)).standing ≡ Running
+      by_step (Goes t) e going = ap (λ (x : Shown). x.standing) (run_goes places 0 (with_streams r.rest r.output s) t e ∙ run_zero places t)
+      by_step (Ends standing) e going = cc

@@ -1,5 +1,5 @@
 -- What a step of the machine's code does to the machine and to the two streams.
-use Rattle.std.specs.Prelude.{◌≡◌, ℕ, ◌<◌, List, ◌++◌, length, take, slice_index, Option, Some}
+use Rattle.std.specs.Prelude.{◌≡◌, ℕ, ◌<◌, List, ◌++◌, length, take, slice_index, Bool, true, false, Option, Some}
 use Rattle.lay_base.specs.Told.{Rose, Keeps, Appends, Consumes}
 use Rattle.rv_isa.specs.declared.instruction.Inst.TheVariants.{Ecall}
 use Rattle.rv_isa.specs.Decoding.{decoded}
@@ -34,6 +34,14 @@ pub record SameButMemory (old new : State) : Type 0 where
   pub registers : new.registers ≡ old.registers
   pub pc : new.pc ≡ old.pc
 
+-- what is done goes on: it neither ends the program nor traps
+abbrev pub goes : Stepped → Bool
+goes (Goes t) = true
+goes (Ends standing) = false
+
+abbrev pub GoesOn : (does : State → Stepped) → State → Type 0
+GoesOn does s = (input output : List ℕ) → goes (does (with_streams input output s)) ≡ true
+
 -- a first part of what was asked for has been read
 abbrev pub ReadsPart : State → (before now : Streams) → Type 0
 ReadsPart s before now = (piece : List ℕ) × (length piece < register s 12) × Consumes before.left now.left piece × Keeps before.written now.written
@@ -58,5 +66,5 @@ TurnGives does old new before now T.Goes = AreSteady before now × ((input : Lis
 TurnGives does old new before now (T.Exits status) = Stops does old new before now (Exits status)
 TurnGives does old new before now (T.Traps kind) = Stops does old new before now (Trap kind old.pc)
 TurnGives does old new before now T.Breaks = Stops does old new before now (Break old.pc)
-TurnGives does old new before now T.ReadFails = Rose before.read_faults now.read_faults × SameButMemory old new × IsAtCall 63 old × ReadsPart old before now
-TurnGives does old new before now T.WriteFails = Rose before.write_faults now.write_faults × SameButMemory old new × IsAtCall 64 old × WritesPart old before now
+TurnGives does old new before now T.ReadFails = Rose before.read_faults now.read_faults × SameButMemory old new × IsAtCall 63 old × GoesOn does old × ReadsPart old before now
+TurnGives does old new before now T.WriteFails = Rose before.write_faults now.write_faults × SameButMemory old new × IsAtCall 64 old × GoesOn does old × WritesPart old before now

@@ -7,8 +7,11 @@ use lay_base::{Sink, Source, TrapKind};
 
 /// The registers of a call: its arguments, of which the first takes the answer, and its number.
 const A0: usize = 10;
+
 const A1: usize = 11;
+
 const A2: usize = 12;
+
 const A7: usize = 17;
 
 impl Hart {

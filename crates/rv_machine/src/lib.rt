@@ -1,4 +1,9 @@
-//! A machine that runs RV32IM.
+//! A machine that runs RV32IM programs, with the environment's calls read, write and exit.
+//!
+//! It stands on `lay_base` and `rv_isa`. It promises that a run is the run of the image by `rv_isa`'s
+//! step, for told input: it ends at the least number of steps at which that run ends, and has then
+//! read and written what that run has. A run takes no memory, and comes to a fault only where its
+//! input or its output failed.
 #![tactic(auto)]
 
 mod arithmetic;
@@ -11,6 +16,7 @@ mod making;
 mod memory;
 mod rows;
 mod streams;
+#[cfg(test)]
+mod tests;
 
 pub use machine::{Machine, MachineEnd};
-

@@ -41,7 +41,7 @@ pub enum Turn {
     WriteFails,
 }
 
-/// A machine that runs a program once.
+/// A machine that runs a program once. It is as `new` made it, or it has run and keeps its end.
 #[derive(Drop)]
 pub struct Machine {
     pub(crate) hart: Hart,
@@ -58,7 +58,7 @@ impl Machine {
     ghost use Rattle.rv_machine.specs.Harts.{places_of, state_of};
     ghost use Rattle.rv_machine.specs.Stepping.{StepGives};
     ghost use Rattle.rv_machine.specs.Turns.{TurnGives, streams};
-    ghost use Rattle.rv_machine.specs.Runs.{IsFresh, RunGives, own_run, run_of};
+    ghost use Rattle.rv_machine.specs.Runs.{IsFresh, RunGives, own_run, run_of, seen};
 
     /// One step, but for what a call of the environment does.
     #[inline(always)]
@@ -80,6 +80,7 @@ impl Machine {
     #[inline(always)]
     fn turn<I: Source, O: Sink>(&mut self, input: &mut I, out: &mut O) -> Turn
         ensures places { places_of self.new.hart ≡ places_of self.old.hart }
+        ensures steps { self.new.steps ≡ self.old.steps }
         ensures gives { TurnGives (step (places_of self.old.hart)) (state_of self.old.hart) (state_of self.new.hart)
             (streams (I.left input.old) (I.faults input.old) (O.written out.old) (O.faults out.old))
             (streams (I.left input.new) (I.faults input.new) (O.written out.new) (O.faults out.new)) result }
@@ -107,7 +108,7 @@ impl Machine {
     fn go<I: Source, O: Sink>(&mut self, input: &mut I, out: &mut O, limit: u64) -> MachineEnd
         ensures { RunGives (own_run self.old.hart) limit
             (streams (I.left input.old) (I.faults input.old) (O.written out.old) (O.faults out.old))
-            (streams (I.left input.new) (I.faults input.new) (O.written out.new) (O.faults out.new)) self.new result }
+            (streams (I.left input.new) (I.faults input.new) (O.written out.new) (O.faults out.new)) (seen self.new) result }
     {
         for done in 0..limit {
             let pc = self.hart.pc;
@@ -146,17 +147,12 @@ impl Machine {
     /// Runs the program until it ends, or for so many steps; its input comes from `input`, and its output
     /// goes to `out`. A machine that has run answers the same end again and touches neither. It takes no
     /// memory.
-    pub fn run<I: Source, O: Sink>(
-        &mut self,
-        input: &mut I,
-        out: &mut O,
-        steps: u64,
-    ) -> MachineEnd
+    pub fn run<I: Source, O: Sink>(&mut self, input: &mut I, out: &mut O, steps: u64) -> MachineEnd
         ensures ended { self.new.ended ≡ Some result }
         ensures again { IsSome self.old.ended → (self.new ≡ self.old) × (input.new ≡ input.old) × (out.new ≡ out.old) }
         ensures gives { (image : Image) → IsFresh image self.old → RunGives (run_of image) steps
             (streams (I.left input.old) (I.faults input.old) (O.written out.old) (O.faults out.old))
-            (streams (I.left input.new) (I.faults input.new) (O.written out.new) (O.faults out.new)) self.new result }
+            (streams (I.left input.new) (I.faults input.new) (O.written out.new) (O.faults out.new)) (seen self.new) result }
     {
         if let Some(end) = self.ended {
             return end;
@@ -181,7 +177,8 @@ impl Machine {
         self.hart.pc
     }
 
-    /// The steps made: those that led to the program's end, or those before the call that failed.
+    /// The steps made: those that led to the program's end, all that the run was to make, or those
+    /// before the call that failed.
     pub fn steps(&self) -> u64
         ensures { result ≡ self.now.steps }
     {
