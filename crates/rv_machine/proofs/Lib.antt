@@ -2,6 +2,7 @@ pub mod Bare
 pub mod Places
 pub mod Segments
 pub mod Stores
+pub mod Pieces
 pub mod Accesses
 pub mod Lifting
 pub mod Reaching

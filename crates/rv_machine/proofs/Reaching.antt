@@ -30,7 +30,7 @@ state_zero : (places : List Segment) (s : State) → state_after places 0 s ≡ 
 unfolding state_after
 state_zero places s = refl
 
-appends_nothing : (old : Option (List ℕ)) → Appends old old []
+pub appends_nothing : (old : Option (List ℕ)) → Appends old old []
 appends_nothing None = refl
 appends_nothing (Some xs) = ap Some (sym (append-nil xs))
 

@@ -64,7 +64,7 @@ word_stored old new flag a place v before after fits kept found same put =
 -- ---- byte by byte
 
 -- each byte of a range that is mapped
-mapped_at : (segments : List Segment) (flag a n : ℕ) → are_mapped segments flag a n ≡ true → (k : ℕ) → k < n → is_mapped segments flag (a + k) ≡ true
+pub mapped_at : (segments : List Segment) (flag a n : ℕ) → are_mapped segments flag a n ≡ true → (k : ℕ) → k < n → is_mapped segments flag (a + k) ≡ true
 unfolding are_mapped
 mapped_at segments flag a zero all k lt = absurd (omega arith)
 mapped_at segments flag a (suc n) all zero lt =

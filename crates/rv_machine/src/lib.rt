@@ -13,4 +13,3 @@ mod rows;
 mod streams;
 
 pub use machine::{Machine, MachineEnd};
-

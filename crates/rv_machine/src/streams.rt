@@ -10,7 +10,8 @@ impl Memory {
     ghost use Rattle.rv_machine.specs.Streams.{ReadsIn};
     ghost use Rattle.rv_machine.specs.View.{content_of, segments_in};
 
-    /// The bytes from an address on that stand one behind the other, at most so many.
+    /// The bytes from an address on that stand one behind the other, at most so many; all that were
+    /// asked for may be read.
     fn piece_at(&self, address: u64, count: u64) -> &[u8]
         requires some { 0 < count }
         requires mapped { are_mapped (segments_in self.now) readable address count ≡ true }
@@ -25,6 +26,7 @@ impl Memory {
     }
 
     /// Writes bytes of memory, from an address on, to a sink, piece by piece as they stand together.
+    /// Where the sink fails, a first part of them may have been written.
     pub(crate) fn write_out<O: Sink>(
         &self,
         out: &mut O,
@@ -46,7 +48,9 @@ impl Memory {
         Ok(())
     }
 
-    /// Reads at most so many bytes of a source into memory, from an address on; how many there were.
+    /// Reads at most so many bytes of a source into memory, from an address on; how many there were,
+    /// fewer than were asked for only at the source's end. Where the source fails, memory has the bytes
+    /// that came before.
     pub(crate) fn read_in<I: Source>(
         &mut self,
         input: &mut I,

@@ -1,0 +1,22 @@
+use Rattle.std.proofs.Common.{◌≡◌, Some, [], drop, sym, refl, ◌∙◌, List, ℕ}
+use Rattle.rv_machine.specs.View.{content_of}
+use Rattle.rv_machine.specs.Harts.{places_of}
+use Rattle.rv_machine.proofs.Pieces.{reads_told}
+use Rattle.rv_machine.proofs.Accesses.{read_goes}
+use Rattle.rv_machine.proofs.Reaching.{appends_nothing}
+use Rattle.rv_machine.proofs.hart.Hart.read_bytes.Goals as goal
+
+pub returns-in-Ok-clause-gives : goal.returns-in-Ok-clause-gives
+returns-in-Ok-clause-gives g c = (
+  record { read_faults = c.in-Ok.ensures.kept refl; write_faults = refl },
+  λ input told.
+      let reads = reads_told (g.I.Source.faults c.args.input.now) (g.I.Source.faults c.read_in.new.input) _ _ input _ _ _ _ c.in-Ok.n told c.in-Ok.ensures.gives in
+      (
+        drop c.in-Ok.n input,
+        [],
+        reads.rest,
+        appends_nothing (g.O.Sink.written c.args.out.now),
+        λ output. read_goes (places_of c.args.self.now) c.args.self.now.registers c.args.self.now.pc (content_of c.args.self.now.memory) (content_of c.read_in.new.self) input c.in-Ok.n (sym c.if-not-may_use.ensures)
+            (record { number = reads.number; rest = refl; stored = reads.stored }) output,
+      ),
+)
