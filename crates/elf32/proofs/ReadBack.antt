@@ -8,11 +8,12 @@ use Rattle.rv_isa.specs.declared.image.Image.{Image}
 use Rattle.rv_isa.specs.declared.image.Segment.{Segment}
 use Rattle.elf32.specs.declared.header.ProgramHeader.{ProgramHeader}
 use Rattle.elf32.specs.Header.{half_at, word_at, magic, entry, headers_offset, header_size, header_count, header_at, loadable}
-use Rattle.elf32.specs.Loaded.{Test, file_tests, meets, segment_tests, segments_tests, last_tests, tests, first_refusal, greatest_total, segment_of, image_of, unless_refused, loaded}
+use Rattle.elf32.specs.Loaded.{Test, file_tests, meets, segment_tests, segments_tests, last_tests, tests, greatest_total, segment_of, image_of, unless_refused, loaded}
 use Rattle.elf32.specs.declared.fault.ElfFault.{ElfFault}
 use Rattle.elf32.specs.declared.fault.ElfFault.TheVariants.{BadElf, Memory}
 use Rattle.elf32.specs.Read.{ReadGives}
 use Rattle.elf32.specs.Written.{text_address, IsFull, IsRoom, AreInPlace, AreFourSegments, IsWritable, word, page_up, zeros, file_header, program_header, data_offset, four_headers, file_of, elf_file}
+use Rattle.elf32.proofs.Tests.{AllPass, AllPass-append, none_refuses}
 use Rattle.elf32.proofs.Parts.{length-zeros, length-file_header, length-four_headers, length-parts, text_part, data_part}
 
 -- ---- program headers
@@ -114,21 +115,6 @@ reads e text globals stack heap rest lt placed =
     }
 
 -- ---- tests
-
--- no test refuses
-abbrev AllPass : List Test → Type 0
-AllPass [] = Unit {0}
-AllPass (t ∷ ts) = (t.refuses ≡ false) × AllPass ts
-
--- then there is no first refusal
-none_refuses : (ts : List Test) → AllPass ts → first_refusal ts ≡ None
-none_refuses [] pass = refl
-none_refuses (t ∷ ts) pass = rw pass.0 (none_refuses ts pass.1)
-
--- tests before others
-AllPass-append : (ts us : List Test) → AllPass ts → AllPass us → AllPass (ts ++ us)
-AllPass-append [] us pass more = more
-AllPass-append (t ∷ ts) us pass more = (pass.0, AllPass-append ts us pass.1 more)
 
 -- a field with the number that it is to have
 is_wanted : (found wanted : ℕ) → found ≡ wanted → not (eqb found wanted) ≡ false

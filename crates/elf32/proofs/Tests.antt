@@ -34,6 +34,38 @@ pub tested_fault : (ts us : List Test) (fault : ElfFault) → tested ts ≡ Err 
 tested_fault [] us fault refused = cc
 tested_fault (t ∷ ts) us fault refused = elim (refuses_first t ts fault refused) [ inl here ↦ rw here.0 (ap Err here.1) | inr later ↦ rw later.0 (tested_fault ts us fault later.1) ]
 
+-- ---- no test refuses
+
+abbrev pub AllPass : List Test → Type 0
+AllPass [] = Unit {0}
+AllPass (t ∷ ts) = (t.refuses ≡ false) × AllPass ts
+
+-- then there is no first refusal
+pub none_refuses : (ts : List Test) → AllPass ts → first_refusal ts ≡ None
+none_refuses [] pass = refl
+none_refuses (t ∷ ts) pass = rw pass.0 (none_refuses ts pass.1)
+
+-- and only then
+first_passes : (t : Test) (ts : List Test) → first_refusal (t ∷ ts) ≡ None → (t.refuses ≡ false) × (first_refusal ts ≡ None)
+first_passes t ts none = by_first t.refuses refl
+  where
+    by_first : (b : Bool) → t.refuses ≡ b → (t.refuses ≡ false) × (first_refusal ts ≡ None)
+    by_first true is = let refused = rw is at none in cc
+    by_first false is = (is, rw is at none)
+
+pub all_pass : (ts : List Test) → first_refusal ts ≡ None → AllPass ts
+all_pass [] none = tt
+all_pass (t ∷ ts) none = let first = first_passes t ts none in (first.0, all_pass ts first.1)
+
+-- tests before others
+pub AllPass-append : (ts us : List Test) → AllPass ts → AllPass us → AllPass (ts ++ us)
+AllPass-append [] us pass more = more
+AllPass-append (t ∷ ts) us pass more = (pass.0, AllPass-append ts us pass.1 more)
+
+pub AllPass-parts : (ts us : List Test) → AllPass (ts ++ us) → AllPass ts × AllPass us
+AllPass-parts [] us pass = (tt, pass)
+AllPass-parts (t ∷ ts) us pass = let rest = AllPass-parts ts us pass.1 in ((pass.0, rest.0), rest.1)
+
 -- ---- what is read
 
 -- no test refuses

@@ -2,6 +2,7 @@
 
 ghost use Rattle.std.specs.Prelude.{◌≡◌, ◌+◌, ◌*◌, ◌^◌, ◌<◌, ◌≤◌, ◌⊎◌, List as Sequence, [], ◌∷◌, ◌++◌, Result, Ok, Err, IfOk, OnOk, length, map, sum_by, take};
 ghost use Rattle.std.specs.List.{All, list_any};
+ghost use Rattle.rv_isa.specs.Placed.{IsPlaced};
 ghost use Rattle.elf32.specs.Header.{headers_offset, header_count, loadable};
 ghost use Rattle.elf32.specs.Loaded.{file_tests, last_tests, loaded, meets, segment_of, segment_tests, segments_tests, test, wants};
 ghost use Rattle.elf32.specs.Written.{IsWritable, elf_file};
@@ -239,10 +240,12 @@ fn segments(
 
 /// Reads an ELF32 file for RISC-V as the image that it loads as (System V ABI, chapters 4 and 5). The
 /// segments are those of the loadable program headers, in their order, each with its bytes of the
-/// file. `BadElf` is the first field that the loader refuses, with the number that was found there;
-/// `Memory` may come at any time.
+/// file. A machine can hold the image: no two segments have an address in common, and none passes the
+/// end of memory or has more bytes than its size. `BadElf` is the first field that the loader refuses,
+/// with the number that was found there; `Memory` may come at any time.
 pub fn read(alloc: Global, bytes: &[u8]) -> Result<Image, ElfFault>
-    ensures { ReadGives result (loaded bytes.now) }
+    ensures loads { ReadGives result (loaded bytes.now) }
+    ensures placed { IfOk result (λ image. IsPlaced image) }
 {
     file_header_tests(bytes)?;
     let headers = loadable(alloc, bytes)?;
