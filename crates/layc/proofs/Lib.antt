@@ -1,3 +1,4 @@
-pub mod FourWords
+pub mod Requests
 pub mod Files
 pub mod Refused
+pub mod Ran

@@ -1,4 +1,4 @@
--- What `compile` leaves where the ELF file was not written.
+-- What a refusal leaves: of `compile` where the ELF file was not written, and of either command.
 use Rattle.std.proofs.Common.{◌≡◌, ℕ, List, Option, Some, None, refl, ◌∙◌, inl, inr}
 use Rattle.std.specs.Prelude.{take, ◌⊎◌, Err}
 use Rattle.lay_base.specs.Told.{Contents, Tells, FilesKeep, FilesKeepBut}
@@ -6,9 +6,12 @@ use Rattle.refusals.specs.declared.refusal.Refusal.{Refusal}
 use Rattle.refusals.specs.declared.refusal.Refusal.TheVariants as R
 use Rattle.c_parser.specs.ThinTree.{Program}
 use Rattle.c_parser.specs.ThinText.{IsThinText}
-use Rattle.layc.specs.Outside.{outside}
+use Rattle.layc.specs.declared.outcome.Outcome.TheVariants.{Refused}
+use Rattle.layc.specs.Words.{Compile, Run, AsksFor}
+use Rattle.layc.specs.Outside.{Stream, Outside, outside}
 use Rattle.layc.specs.Compiling.{AgreesWith, WasTextOf, IsPartlyCompiled}
-use Rattle.layc.specs.Stages.{ElfGives, CompileGives}
+use Rattle.layc.specs.Stages.{ElfGives, CompileGives, RunGives}
+use Rattle.layc.specs.Answers.{OutcomeGives}
 use Rattle.layc.proofs.Files.{keep_then_but, keep_then_same}
 
 -- what the host left under OUT
@@ -21,17 +24,28 @@ partly out file text elf p (Some f0) (Some f1) None k was thin agrees left = (te
 partly out file text elf p (Some f0) (Some f1) (Some f2) k was thin agrees left =
     (text, was, (p, thin, elim left [ inl same ↦ inl (same ∙ k out) | inr some ↦ inr (elf, agrees, some) ]))
 
-pub write_elf_refused : (out file text elf : List ℕ) (p : Program) (f0 f1 f2 : Option Contents) (reads0 reads2 writes0 writes1 writes2 : List ℕ → ℕ) (written : Option (List ℕ)) (faults : ℕ) (refusal : Refusal)
+pub write_elf_refused : (out file text elf : List ℕ) (p : Program) (f0 f1 f2 : Option Contents) (reads0 reads2 writes0 writes1 writes2 : List ℕ → ℕ) (input out_seen : Stream) (refusal : Refusal)
     → FilesKeep f0 f1 → Tells f0 file (λ was. was ≡ Some text) → IsThinText text p → AgreesWith p elf → writes1 out ≡ writes0 out → FilesKeepBut out f1 f2
     → ElfGives (writes1 out) (writes2 out) f1 f2 out elf (Err refusal)
-    → CompileGives out file (outside f0 reads0 writes0 written faults) (outside f2 reads2 writes2 written faults) (Err refusal)
-write_elf_refused out file text elf p f0 f1 f2 reads0 reads2 writes0 writes1 writes2 written faults R.WriteFault k was thin agrees same but gives =
+    → CompileGives out file (outside f0 reads0 writes0 input out_seen) (outside f2 reads2 writes2 input out_seen) (Err refusal)
+write_elf_refused out file text elf p f0 f1 f2 reads0 reads2 writes0 writes1 writes2 input out_seen R.WriteFault k was thin agrees same but gives =
     inl (record {
       cause = rw (← same) gives.0;
       partly = partly out file text elf p f0 f1 f2 k was thin agrees gives.1;
       others = keep_then_but out f0 f1 f2 k but;
       unreported = refl;
+      unread = refl;
     })
-write_elf_refused out file text elf p f0 f1 f2 reads0 reads2 writes0 writes1 writes2 written faults R.Memory k was thin agrees same but gives =
-    record { files = keep_then_same out f0 f1 f2 k but gives; out = refl }
-write_elf_refused out file text elf p f0 f1 f2 reads0 reads2 writes0 writes1 writes2 written faults _ k was thin agrees same but gives = absurd gives
+write_elf_refused out file text elf p f0 f1 f2 reads0 reads2 writes0 writes1 writes2 input out_seen R.Memory k was thin agrees same but gives =
+    record { files = keep_then_same out f0 f1 f2 k but gives; input = refl; out = refl }
+write_elf_refused out file text elf p f0 f1 f2 reads0 reads2 writes0 writes1 writes2 input out_seen _ k was thin agrees same but gives = absurd gives
+
+-- ---- either command
+
+pub compile_refused : (words : List (List ℕ)) (before now : Outside) (out file : List ℕ) (refusal : Refusal) → AsksFor words (Compile out file) → CompileGives out file before now (Err refusal) → OutcomeGives words before now (Refused refusal)
+compile_refused words before now out file R.Usage asks gives = absurd gives
+compile_refused words before now out file _ asks gives = inl (out, file, asks, gives)
+
+pub run_refused : (words : List (List ℕ)) (before now : Outside) (steps : ℕ) (elf : List ℕ) (refusal : Refusal) → AsksFor words (Run steps elf) → RunGives steps elf before now (Err refusal) → OutcomeGives words before now (Refused refusal)
+run_refused words before now steps elf R.Usage asks gives = absurd gives
+run_refused words before now steps elf _ asks gives = inr (steps, elf, asks, gives)

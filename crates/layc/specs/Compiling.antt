@@ -1,6 +1,6 @@
 -- What `compile` leaves behind.
 use Rattle.std.specs.Prelude.{◌≡◌, ℕ, List, [], ◌∷◌, ◌++◌, take, codes, Option, Some, ◌⊎◌}
-use Rattle.lay_base.specs.Told.{Contents, Rose, Tells, Appends, Keeps, FilesKeepBut}
+use Rattle.lay_base.specs.Told.{Contents, Rose, Tells, Appends, FilesKeepBut}
 use Rattle.c_parser.specs.ThinTree.{Program}
 use Rattle.c_parser.specs.ThinText.{IsThinText}
 use Rattle.thin_code.specs.Meaning.{thin_run, IsLight}
@@ -38,26 +38,28 @@ IsCompiled p file = (elf : List ℕ) × (file ≡ Some elf) × AgreesWith p elf
 abbrev pub IsPartlyCompiled : Program → (was file : Option (List ℕ)) → Type 0
 IsPartlyCompiled p was file = (file ≡ was) ⊎ ((elf : List ℕ) × AgreesWith p elf × ((k : ℕ) × (file ≡ Some (take k elf))))
 
--- The program of FILE, as it was at entry, is compiled to OUT, and no other file changed.
+-- The program of FILE, as it was at entry, is compiled to OUT. No other file changed, and the input was not read.
 pub record IsCompiledTo (out file : List ℕ) (before now : Outside) : Type 0 where
   pub program : WasTextOf before.files file (λ p. Tells now.files out (IsCompiled p))
   pub others : FilesKeepBut out before.files now.files
+  pub unread : now.input ≡ before.input
 
 -- and the report was written
 pub record IsDone (out file : List ℕ) (before now : Outside) : Type 0 where
   pub compiled : IsCompiledTo out file before now
-  pub reported : Appends before.out now.out report
+  pub reported : Appends before.out.bytes now.out.bytes report
 
 -- The host failed to write OUT: nothing is reported.
 pub record HostFailed (out file : List ℕ) (before now : Outside) : Type 0 where
   pub cause : Rose (before.failed_writes out) (now.failed_writes out)
   pub partly : WasTextOf before.files file (λ p. Tells before.files out (λ was. Tells now.files out (IsPartlyCompiled p was)))
   pub others : FilesKeepBut out before.files now.files
-  pub unreported : Keeps before.out now.out
+  pub unreported : now.out ≡ before.out
+  pub unread : now.input ≡ before.input
 
 -- The report could not be written, or only a first part: the file is whole, and no write of the host failed.
 pub record OutFailed (out file : List ℕ) (before now : Outside) : Type 0 where
-  pub cause : Rose before.out_faults now.out_faults
+  pub cause : Rose before.out.faults now.out.faults
   pub compiled : IsCompiledTo out file before now
   pub written : (name : List ℕ) → now.failed_writes name ≡ before.failed_writes name
-  pub partly : (k : ℕ) × Appends before.out now.out (take k report)
+  pub partly : (k : ℕ) × Appends before.out.bytes now.out.bytes (take k report)

@@ -4,7 +4,7 @@ ghost use Rattle.std.specs.Prelude.{◌≡◌, ◌≤◌, ℕ, List, IfOk, OnOk,
 ghost use Rattle.lay_base.specs.Told.{FilesKeep, FilesKeepBut};
 ghost use Rattle.c_parser.specs.ThinTree.{program_of};
 ghost use Rattle.c_parser.specs.ThinText.{marks, whole_sums, spelled_program};
-ghost use Rattle.layc.specs.Outside.{outside};
+ghost use Rattle.layc.specs.Outside.{Stream, outside, stream};
 ghost use Rattle.layc.specs.Compiling.{AgreesWith};
 ghost use Rattle.layc.specs.Stages.{TextGives, ProgramGives, ElfGives, ReportGives, CompileGives};
 
@@ -88,9 +88,10 @@ pub fn compile<H: Host, O: Sink>(
     host: &mut H,
     out: &mut O,
 ) -> Result<(), Refusal>
-    ensures { CompileGives request.entry.out.now request.entry.file.now
-        (outside (H.files host.old) (H.failed_reads host.old) (H.failed_writes host.old) (O.written out.old) (O.faults out.old))
-        (outside (H.files host.new) (H.failed_reads host.new) (H.failed_writes host.new) (O.written out.new) (O.faults out.new)) result }
+    // Whatever the input is, it stays.
+    ensures { (input : Stream) → CompileGives request.entry.out.now request.entry.file.now
+        (outside (H.files host.old) (H.failed_reads host.old) (H.failed_writes host.old) input (stream (O.written out.old) (O.faults out.old)))
+        (outside (H.files host.new) (H.failed_reads host.new) (H.failed_writes host.new) input (stream (O.written out.new) (O.faults out.new))) result }
 {
     let text = text_of(alloc, host, request.file)?;
     let program = program_in(alloc, request.file, &text)?;

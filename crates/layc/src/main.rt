@@ -8,6 +8,7 @@
 mod adapters;
 mod compiling;
 mod outcome;
+mod running;
 #[cfg(test)]
 mod tests;
 mod top;

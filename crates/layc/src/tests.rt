@@ -1,5 +1,7 @@
 //! Worked examples of the top call, over objects in memory and on real files.
 
+mod running;
+
 use crate::adapters::{FileHost, StdSink, StdSource};
 use crate::outcome::status_of;
 use crate::top::layc;
@@ -180,13 +182,21 @@ fn a_thin_program_is_compiled_and_reported(rt: HostRuntime) -> Result<(), Fail> 
     check_compiled(&rt, b"int main(void){}", 1 + 1 + 2)
 }
 
-const ASK_FOR_NOTHING: [&[&str]; 6] = [
+const ASK_FOR_NOTHING: [&[&str]; 14] = [
     &[],
     &["compile", "t.c"],
     &["compile", "-o", "", "t.c"],
     &["compile", "-o", "o", "-t.c"],
     &["compile", "-o", "o", "t.c", "t.c"],
-    &["run", "o"],
+    &["run"],
+    &["run", "-o"],
+    &["run", "o", "o"],
+    &["run", "--steps", "o"],
+    &["run", "--steps", "0", "o"],
+    &["run", "--steps", "1000000000000000001", "o"],
+    &["run", "--steps", "000000000000000000001", "o"],
+    &["run", "--steps", "x", "o"],
+    &["run", "--steps", "+1", "o"],
 ];
 
 #[test]

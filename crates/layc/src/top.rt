@@ -1,31 +1,42 @@
 //! The top call: words, a host and three streams in, an outcome out.
 
-ghost use Rattle.std.specs.Prelude.{◌≡◌, map};
+ghost use Rattle.std.specs.Prelude.{◌≡◌, ◌⊎◌, map};
 ghost use Rattle.std.specs.String.{string_bytes};
-ghost use Rattle.layc.specs.Outside.{outside, err_seen};
-ghost use Rattle.layc.specs.Answers.{OutcomeGives, AnswerGives};
+ghost use Rattle.layc.specs.Outside.{outside, stream};
+ghost use Rattle.layc.specs.Answers.{ErrGives, MayRead, OutcomeGives};
 
 use crate::compiling::compile;
 use crate::outcome::Outcome;
-use crate::words::command_of;
+use crate::running::run;
+use crate::words::{Request, request_in};
 use lay_base::{Host, Sink, Source};
 use refusals::{Refusal, put_refusal};
 use std::alloc::Global;
 
 /// Does what the words ask for.
-fn answer<H: Host, O: Sink>(
+#[tactic(auto, using(crate::proofs::Refused::compile_refused, crate::proofs::Refused::run_refused))]
+fn outcome_of<H: Host, I: Source, O: Sink>(
     alloc: Global,
     words: &[String],
     host: &mut H,
+    input: &mut I,
     out: &mut O,
-) -> Result<(), Refusal>
-    ensures { AnswerGives (map string_bytes words.now)
-        (outside (H.files host.old) (H.failed_reads host.old) (H.failed_writes host.old) (O.written out.old) (O.faults out.old))
-        (outside (H.files host.new) (H.failed_reads host.new) (H.failed_writes host.new) (O.written out.new) (O.faults out.new)) result }
+) -> Outcome
+    ensures input { (input.new ≡ input.old) ⊎ MayRead (map string_bytes words.now) result }
+    ensures gives { OutcomeGives (map string_bytes words.now)
+        (outside (H.files host.old) (H.failed_reads host.old) (H.failed_writes host.old) (stream (I.left input.old) (I.faults input.old)) (stream (O.written out.old) (O.faults out.old)))
+        (outside (H.files host.new) (H.failed_reads host.new) (H.failed_writes host.new) (stream (I.left input.new) (I.faults input.new)) (stream (O.written out.new) (O.faults out.new))) result }
 {
-    match command_of(words) {
-        Some(request) => compile(alloc, request, host, out),
-        None => Err(Refusal::Usage),
+    match request_in(words) {
+        Some(Request::Compile(request)) => match compile(alloc, request, host, out) {
+            Ok(()) => Outcome::Done,
+            Err(refusal) => Outcome::Refused(refusal),
+        },
+        Some(Request::Run(request)) => match run(alloc, request, host, input, out) {
+            Ok(status) => Outcome::Program(status),
+            Err(refusal) => Outcome::Refused(refusal),
+        },
+        None => Outcome::Refused(Refusal::Usage),
     }
 }
 
@@ -39,19 +50,15 @@ pub fn layc<H: Host, I: Source, O: Sink, E: Sink>(
     out: &mut O,
     err: &mut E,
 ) -> Outcome
-    // No command runs a program yet, so none reads its input.
-    ensures input { input.new ≡ input.old }
+    ensures input { (input.new ≡ input.old) ⊎ MayRead (map string_bytes words.now) result }
     ensures gives { OutcomeGives (map string_bytes words.now)
-        (outside (H.files host.old) (H.failed_reads host.old) (H.failed_writes host.old) (O.written out.old) (O.faults out.old))
-        (outside (H.files host.new) (H.failed_reads host.new) (H.failed_writes host.new) (O.written out.new) (O.faults out.new))
-        (err_seen (E.written err.old) (E.faults err.old)) (err_seen (E.written err.new) (E.faults err.new)) result }
+        (outside (H.files host.old) (H.failed_reads host.old) (H.failed_writes host.old) (stream (I.left input.old) (I.faults input.old)) (stream (O.written out.old) (O.faults out.old)))
+        (outside (H.files host.new) (H.failed_reads host.new) (H.failed_writes host.new) (stream (I.left input.new) (I.faults input.new)) (stream (O.written out.new) (O.faults out.new))) result }
+    ensures err { ErrGives (stream (E.written err.old) (E.faults err.old)) (stream (E.written err.new) (E.faults err.new)) result }
 {
-    let _ = input;
-    match answer(alloc, words, host, out) {
-        Ok(()) => Outcome::Done,
-        Err(refusal) => {
-            let _ = put_refusal(err, &refusal, b"", b"");
-            Outcome::Refused(refusal)
-        }
+    let outcome = outcome_of(alloc, words, host, input, out);
+    if let Outcome::Refused(refusal) = &outcome {
+        let _ = put_refusal(err, refusal, b"", b"");
     }
+    outcome
 }
