@@ -1,7 +1,7 @@
 -- What a refusal leaves: of `compile` where the ELF file was not written, and of either command.
-use Rattle.std.proofs.Common.{◌≡◌, ℕ, List, Option, Some, None, refl, sym, ap, ◌∙◌, subst, inl, inr}
+use Rattle.std.proofs.Common.{◌≡◌, ℕ, List, Option, Some, None, refl, ◌∙◌, inl, inr}
 use Rattle.std.specs.Prelude.{take, ◌⊎◌, Err}
-use Rattle.lay_base.specs.Told.{Contents, Rose, Tells, FilesKeep, FilesKeepBut}
+use Rattle.lay_base.specs.Told.{Contents, Tells, FilesKeep, FilesKeepBut}
 use Rattle.refusals.specs.declared.refusal.Refusal.{Refusal}
 use Rattle.refusals.specs.declared.refusal.Refusal.TheVariants as R
 use Rattle.c_parser.specs.ThinTree.{Program}

@@ -1,5 +1,5 @@
 -- What `compile` leaves behind.
-use Rattle.std.specs.Prelude.{◌≡◌, ℕ, List, [], ◌∷◌, ◌++◌, take, codes, Option, Some, None, ◌⊎◌}
+use Rattle.std.specs.Prelude.{◌≡◌, ℕ, List, [], ◌∷◌, ◌++◌, take, codes, Option, Some, ◌⊎◌}
 use Rattle.lay_base.specs.Told.{Contents, Rose, Tells, Appends, FilesKeepBut}
 use Rattle.c_parser.specs.ThinTree.{Program}
 use Rattle.c_parser.specs.ThinText.{IsThinText}

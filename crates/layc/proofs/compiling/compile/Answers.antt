@@ -1,11 +1,9 @@
-use Rattle.std.proofs.Common.{◌≡◌, ◌∙◌, sym, refl, ◌++◌, subst, ap, List, ℕ}
+use Rattle.std.proofs.Common.{subst, List, ℕ}
 use Rattle.c_parser.specs.ThinTree.{program_of}
 use Rattle.c_parser.specs.ThinText.{IsThinText}
 use Rattle.layc.specs.Outside.{stream}
 use Rattle.layc.specs.Stages.{ElfGives}
-use Rattle.layc.specs.Compiling.{AgreesWith}
 use Rattle.std.proofs.Common.{Err}
-use Rattle.std.specs.Prelude.{Result}
 use Rattle.std.proofs.lemmas.Result.{err_from_is_err_and}
 use Rattle.layc.proofs.Refused.{write_elf_refused}
 use Rattle.layc.proofs.compiling.compile.Goals as goal
