@@ -1,12 +1,12 @@
 -- What a run of the machine leaves of the outside.
-use Rattle.std.proofs.Common.{◌≡◌, ℕ, ◌<◌, ◌≤◌, List, [], ◌++◌, length, take, drop, Option, Some, None, refl, sym, ap, ◌∙◌, subst}
+use Rattle.std.proofs.Common.{◌≡◌, ℕ, ◌≤◌, List, ◌++◌, length, take, drop, Option, Some, None, sym, ap, ◌∙◌, subst}
 use Rattle.std.specs.Prelude.{Ok, option_map}
 use Rattle.std.proofs.lemmas.List.{append_assoc}
 use Rattle.std.proofs.Math.Seq.{drop-append_seam}
-use Rattle.lay_base.specs.Told.{Contents, Tells, Appends, Consumes, FilesKeep}
+use Rattle.lay_base.specs.Told.{Contents, Tells, Appends, FilesKeep}
 use Rattle.rv_isa.specs.declared.image.Image.{Image}
 use Rattle.rv_isa.specs.Step.{Standing, Running, Exits, Trap, Break}
-use Rattle.rv_isa.specs.Run.{Shown, machine_run}
+use Rattle.rv_isa.specs.Run.{Shown}
 use Rattle.elf32.specs.Loaded.{loaded}
 use Rattle.rv_machine.specs.declared.machine.MachineEnd.{MachineEnd}
 use Rattle.rv_machine.specs.declared.machine.MachineEnd.TheVariants as E

@@ -1,5 +1,6 @@
-//! `layc`, a whole-program C compiler for RV32IM: the top call, the real objects that it is given,
-//! and the program.
+//! `layc`, a whole-program C compiler for RV32IM, and a machine for what it compiles: the top call,
+//! the real objects that it is given, and the program. The program that `run` runs reads standard
+//! input and writes to standard output.
 //!
 //! It stands on every crate of the repository. The contract of `top::layc` says of every outcome
 //! when it comes and what it leaves; the definitions that it cites are in `specs/`.

@@ -52,7 +52,6 @@ fn are_digits(word: &[u8]) -> bool
 }
 
 /// The number of steps that a word spells, where it spells one.
-#[tactic(auto, using(crate::proofs::Requests::spells_no_steps))]
 fn steps_in(word: &str) -> Option<u64>
     ensures { MatchOption result ((steps : ℕ) → SpellsSteps word.now steps → ⊥) (SpellsSteps word.now) }
 {

@@ -1,4 +1,3 @@
-use Rattle.std.proofs.Common.{◌≡◌}
 use Rattle.rv_machine.specs.Runs.{seen}
 use Rattle.layc.specs.Outside.{stream}
 use Rattle.layc.proofs.Ran.{run_gives}
