@@ -1,5 +1,5 @@
 -- What a store or a read that was done is to the step.
-use Rattle.std.proofs.Common.{◌≡◌, ℕ, ◌+◌, ◌%◌, ◌^◌, Bool, true, List, [], ◌++◌, drop, Some, eqb, eq-eqb, refl, sym, ap, ◌∙◌, slice_set, append-nil}
+use Rattle.std.proofs.Common.{◌≡◌, ℕ, ◌+◌, ◌%◌, ◌^◌, true, List, [], ◌++◌, drop, Some, eqb, eq-eqb, sym, ap, slice_set, append-nil}
 use Rattle.std.specs.Prelude.{slice_index}
 use Rattle.rv_isa.specs.declared.image.Segment.{Segment}
 use Rattle.rv_isa.specs.Memory.{Memory as Content, writable, are_mapped}

@@ -1,5 +1,5 @@
 -- What the turns of a run come to.
-use Rattle.std.proofs.Common.{◌≡◌, ℕ, suc, ◌+◌, ◌<◌, ◌≤◌, List, [], ◌++◌, length, map, Option, Some, None, refl, sym, ap, ◌∙◌, subst, arith}
+use Rattle.std.proofs.Common.{◌≡◌, ℕ, ◌+◌, ◌<◌, List, [], map, Some, refl, sym, ap, ◌∙◌, subst, arith}
 use Rattle.std.proofs.Math.Path.{fun_ext}
 use Rattle.lay_base.specs.Told.{Rose, Appends}
 use Rattle.rv_isa.specs.declared.image.Image.{Image}
@@ -14,7 +14,7 @@ use Rattle.rv_machine.specs.View.{bare}
 use Rattle.rv_machine.specs.Harts.{places_of, state_of}
 use Rattle.rv_machine.specs.Stepping.{with_streams}
 use Rattle.rv_machine.specs.Turns.{Streams, AreSteady, IsAtCall, GoesOn, SameButMemory, ReadsPart, WritesPart, Moves, Stops}
-use Rattle.rv_machine.specs.Runs.{ProgramRun, own_run, run_of, shows, IsFresh, MachineSeen, Left, Stopped, Comes, RunGives, seen}
+use Rattle.rv_machine.specs.Runs.{ProgramRun, own_run, run_of, IsFresh, MachineSeen, Left, Stopped, Comes, RunGives, seen}
 use Rattle.rv_machine.proofs.Bare.{run_bare, state_after_bare}
 use Rattle.rv_machine.proofs.Reaching.{Reached, reached_more, reached_shows, reached_state, reached_end, reached_end_state, reached_before, reached_goes}
 

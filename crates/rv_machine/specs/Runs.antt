@@ -1,5 +1,5 @@
 -- What a run of the machine gives.
-use Rattle.std.specs.Prelude.{◌≡◌, ℕ, ◌+◌, ◌<◌, ◌≤◌, List, [], map, Option, Some, None}
+use Rattle.std.specs.Prelude.{◌≡◌, ℕ, ◌+◌, ◌<◌, ◌≤◌, List, [], map, Some, None}
 use Rattle.lay_base.specs.Told.{Rose, Appends}
 use Rattle.rv_isa.specs.declared.image.Image.{Image}
 use Rattle.rv_isa.specs.Step.{State, Standing, Running, Exits, Trap, Break}

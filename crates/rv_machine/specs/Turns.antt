@@ -1,5 +1,5 @@
 -- What a step of the machine's code does to the machine and to the two streams.
-use Rattle.std.specs.Prelude.{◌≡◌, ℕ, ◌<◌, List, ◌++◌, length, take, slice_index, Bool, true, false, Option, Some}
+use Rattle.std.specs.Prelude.{◌≡◌, ℕ, ◌<◌, List, ◌++◌, length, take, Bool, true, false, Option, Some}
 use Rattle.lay_base.specs.Told.{Rose, Keeps, Appends, Consumes}
 use Rattle.rv_isa.specs.declared.instruction.Inst.TheVariants.{Ecall}
 use Rattle.rv_isa.specs.Decoding.{decoded}

@@ -225,16 +225,20 @@ const ECHO: [u32; 11] = [
 ];
 
 #[test]
-fn bytes_are_read_up_to_the_end_of_the_input_and_written(rt: HostRuntime) -> Result<(), Fail> {
+fn bytes_are_read_as_many_as_asked_for_or_left_and_written(rt: HostRuntime) -> Result<(), Fail> {
     let image = code_and_data(rt.alloc(), &ECHO)?;
-    for (input, count, unread) in [(b"machine".as_slice(), 7, 0), (b"".as_slice(), 0, 0)] {
+    for (input, written, unread) in [
+        (b"machine".as_slice(), b"machine".as_slice(), 0),
+        (b"".as_slice(), b"".as_slice(), 0),
+        (b"machine of ten".as_slice(), b"machine o".as_slice(), 5),
+    ] {
         let world = World { input, ..NOTHING };
         let left = Left {
-            end: ("exit", count),
+            end: ("exit", written.len() as u64),
             steps: 11,
             pc: 0x0001_0028,
             registers: &[(11, 0x0800_0000), (17, 93)],
-            written: input,
+            written,
             unread,
         };
         check(rt.alloc(), &image, &world, &left)?;

@@ -1,4 +1,4 @@
-use Rattle.std.proofs.Common.{◌≡◌, Some, [], drop, sym, refl, ◌∙◌, List, ℕ}
+use Rattle.std.proofs.Common.{[], drop, sym, refl}
 use Rattle.rv_machine.specs.View.{content_of}
 use Rattle.rv_machine.specs.Harts.{places_of}
 use Rattle.rv_machine.proofs.Pieces.{reads_told}

@@ -1,8 +1,7 @@
-use Rattle.std.proofs.Common.{◌≡◌, rules, arith, subst, ℕ}
+use Rattle.std.proofs.Common.{◌≡◌, rules}
 use Rattle.std.specs.Prelude.{slice_index}
 use Rattle.rv_isa.specs.Arithmetic.{plus}
-use Rattle.rv_isa.specs.Memory.{with_half, writable}
-use Rattle.rv_isa.specs.Step.{Goes, accesses, stores}
+use Rattle.rv_isa.specs.Memory.{with_half}
 use Rattle.rv_machine.specs.Harts.{places_of, state_of}
 use Rattle.rv_machine.proofs.Accesses.{store_moves}
 use Rattle.rv_machine.proofs.hart.Hart.store_half.Goals as goal

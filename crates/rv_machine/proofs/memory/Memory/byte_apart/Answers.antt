@@ -1,4 +1,3 @@
-use Rattle.rv_isa.specs.Memory.{is_mapped}
 use Rattle.rv_machine.specs.View.{content_of}
 use Rattle.rv_machine.proofs.Places.{one_not}
 use Rattle.rv_machine.proofs.memory.Memory.byte_apart.Goals as goal

@@ -1,4 +1,3 @@
-use Rattle.std.proofs.Common.{refl}
 use Rattle.rv_machine.proofs.Places.{word_loaded}
 use Rattle.rv_machine.proofs.memory.Memory.load_word.Goals as goal
 

@@ -1,4 +1,4 @@
-use Rattle.std.proofs.Common.{◌≡◌, sym, ◌∙◌, arith}
+use Rattle.std.proofs.Common.{sym, ◌∙◌, arith}
 use Rattle.rv_machine.proofs.Places.{mapped_rest, mapped_first_not, mapped_nothing}
 use Rattle.rv_machine.proofs.memory.Memory.may_use.Goals as goal
 

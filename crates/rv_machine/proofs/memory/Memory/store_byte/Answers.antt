@@ -1,4 +1,4 @@
-use Rattle.std.proofs.Common.{◌≡◌, ◌∙◌, sym, ap}
+use Rattle.std.proofs.Common.{◌∙◌, sym, ap}
 use Rattle.rv_isa.specs.Memory.{is_mapped, writable}
 use Rattle.rv_machine.specs.Rows.{segments_of}
 use Rattle.rv_machine.proofs.Places.{one_mapped}

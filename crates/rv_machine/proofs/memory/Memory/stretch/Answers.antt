@@ -1,9 +1,5 @@
-use Rattle.std.proofs.Common.{◌≡◌, Some, None, ap, ◌∙◌, sym, subst, arith, ℕ, Option}
-use Rattle.std.specs.Prelude.{MatchOption, false, ◌<◌, ◌≤◌, length}
-use Rattle.rv_isa.specs.Memory.{is_mapped}
-use Rattle.rv_machine.specs.declared.rows.Stretch.{Stretch}
-use Rattle.rv_machine.specs.View.{segments_in}
-use Rattle.rv_machine.specs.Rows.{row_at, IsFound}
+use Rattle.std.proofs.Common.{◌≡◌, Some, None, ap, ◌∙◌, sym, arith}
+use Rattle.rv_machine.specs.Rows.{row_at}
 use Rattle.rv_machine.proofs.Places.{row_at_holds, row_at_serves, held_between, stretch_found, mapped_none, mapped_not}
 use Rattle.rv_machine.proofs.memory.Memory.stretch.Goals as goal
 
