@@ -323,22 +323,20 @@ impl Memory {
         }
     }
 
-    /// The word of the instruction at an address; `None` exactly where one of its bytes may not be
-    /// executed.
+    /// The word of the instruction at an address, where the row of the last instruction has it.
     #[inline(always)]
-    pub fn fetch(&mut self, pc: u32) -> Option<u32>
-        ensures kept { IsKept self.old self.new }
-        ensures value { result ≡ if_mapped self.old executable pc 4 (word_at (content_of self.old) pc) }
+    pub fn code_word(&self, pc: u32) -> Option<u32>
+        ensures { IfSome result (λ word. Some word ≡ if_mapped self.now executable pc 4 (word_at (content_of self.now) pc)) }
     {
         match self.code.place(EXECUTE, pc, 4) {
             Some(place) => Some(word_from(&self.bytes, place)),
-            None => self.fetch_apart(pc),
+            None => None,
         }
     }
 
-    /// The same where the last instruction stood in another row.
-    #[cold]
-    fn fetch_apart(&mut self, pc: u32) -> Option<u32>
+    /// The word of the instruction at an address, in whatever rows it stands; `None` exactly where one of
+    /// its bytes may not be executed.
+    pub fn fetch(&mut self, pc: u32) -> Option<u32>
         ensures kept { IsKept self.old self.new }
         ensures value { result ≡ if_mapped self.old executable pc 4 (word_at (content_of self.old) pc) }
     {
