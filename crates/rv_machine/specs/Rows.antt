@@ -45,6 +45,14 @@ pub record Serves (rows : List Row) (size : ℕ) (row : Row) : Type 0 where
   pub place : row.start + row.size ≤ size
   pub found : (address : ℕ) → holds row address ≡ true → row_at rows address ≡ Some row
 
+-- words that may be used so begin at the addresses of the row: where it has any, the row with three
+-- addresses more serves
+pub record Begins (rows : List Row) (size flag : ℕ) (row : Row) : Type 0 where
+  pub end : row.at + row.size ≤ 2 ^ 32
+  pub place : row.start + row.size ≤ size
+  pub serves : 0 < row.size → Serves rows size (record row { size = row.size + 3 })
+  pub allowed : 0 < row.size → allows row flag ≡ true
+
 -- each row serves, and no two addresses have one place
 pub record AreSound (rows : List Row) (size : ℕ) : Type 0 where
   pub serve : All (Serves rows size) rows

@@ -1,7 +1,8 @@
 //! The memory of the machine: all its segments' bytes, and the rows that say where they stand.
 
 ghost use Rattle.std.specs.Prelude.{◌≡◌, ◌+◌, ◌*◌, ◌≤◌, ◌^◌, length, slice_index};
-ghost use Rattle.rv_machine.specs.Rows.{AreSound, Serves, half_put, word_put};
+ghost use Rattle.rv_isa.specs.Memory.{executable};
+ghost use Rattle.rv_machine.specs.Rows.{AreSound, Begins, Serves, half_put, word_put};
 
 use crate::rows::{Row, Stretch, row_with};
 
@@ -56,19 +57,19 @@ fn put_word(bytes: &mut [u8], place: usize, value: u32)
 pub struct Memory {
     pub(crate) rows: Vec<Row>,
     pub(crate) bytes: Vec<u8>,
-    // The rows in which the last instruction and the last other access were found, or such that have no
-    // address.
+    // Where an instruction may begin, in the row where the last one was found, and the row in which the
+    // last other access was found; or rows that have no address.
     pub(crate) code: Row,
     pub(crate) recent: Row,
     ghost sound: { AreSound rows.items (length bytes.items) },
-    ghost code_serves: { Serves rows.items (length bytes.items) code },
+    ghost code_begins: { Begins rows.items (length bytes.items) executable code },
     ghost recent_serves: { Serves rows.items (length bytes.items) recent },
 }
 
 impl Memory {
     ghost use Rattle.std.specs.Prelude.{◌≡◌, ◌+◌, ◌<◌, ◌≤◌, ◌^◌, false, true, length, IfSome, MatchOption, None, Some, if◌then◌else◌};
     ghost use Rattle.rv_isa.specs.Memory.{are_mapped, executable, half_at, is_mapped, readable, with_byte, with_half, with_word, word_at, writable};
-    ghost use Rattle.rv_machine.specs.Rows.{IsFound, Serves};
+    ghost use Rattle.rv_machine.specs.Rows.{IsFound, Serves, allows};
     ghost use Rattle.rv_machine.specs.View.{content_of, if_mapped, segments_in, IsKept};
 
     /// The place of a byte that may be used so, in whatever row it stands.
@@ -100,7 +101,7 @@ impl Memory {
     /// The row that has all bytes from an address on, where there is one.
     fn covering(&self, flag: u8, address: u32, width: u32) -> Option<Row>
         requires { 0 < width }
-        ensures { IfSome result (λ row. Serves self.now.rows.items (length self.now.bytes.items) row) }
+        ensures { IfSome result (λ row. Serves self.now.rows.items (length self.now.bytes.items) row × (allows row flag ≡ true)) }
     {
         for row in &self.rows {
             if row.place(flag, address, width).is_some() {
@@ -328,7 +329,7 @@ impl Memory {
     pub fn code_word(&self, pc: u32) -> Option<u32>
         ensures { IfSome result (λ word. Some word ≡ if_mapped self.now executable pc 4 (word_at (content_of self.now) pc)) }
     {
-        match self.code.place(EXECUTE, pc, 4) {
+        match self.code.place_within(pc) {
             Some(place) => Some(word_from(&self.bytes, place)),
             None => None,
         }
@@ -341,7 +342,7 @@ impl Memory {
         ensures value { result ≡ if_mapped self.old executable pc 4 (word_at (content_of self.old) pc) }
     {
         if let Some(row) = self.covering(EXECUTE, pc, 4) {
-            self.code = row;
+            self.code = row.beginnings();
         }
         self.word_apart(EXECUTE, pc as u64)
     }
