@@ -157,6 +157,9 @@ impl Memory {
         Some(low as u32 + 65536 * high as u32)
     }
 
+    // Loads take the answer of the slow way apart, so that the compiler keeps a value that is found the
+    // quick way in a register.
+
     /// The byte at an address; `None` exactly where it may not be read.
     #[inline(always)]
     pub fn load_byte(&mut self, address: u32) -> Option<u8>
@@ -165,7 +168,10 @@ impl Memory {
     {
         match self.find(READ, address, 1) {
             Some(place) => Some(self.bytes[place]),
-            None => self.byte_apart(READ, address as u64),
+            None => match self.byte_apart(READ, address as u64) {
+                Some(byte) => Some(byte),
+                None => None,
+            },
         }
     }
 
@@ -177,7 +183,10 @@ impl Memory {
     {
         match self.find(READ, address, 2) {
             Some(place) => Some(half_from(&self.bytes, place)),
-            None => self.half_apart(READ, address as u64),
+            None => match self.half_apart(READ, address as u64) {
+                Some(half) => Some(half),
+                None => None,
+            },
         }
     }
 
@@ -189,7 +198,10 @@ impl Memory {
     {
         match self.find(READ, address, 4) {
             Some(place) => Some(word_from(&self.bytes, place)),
-            None => self.word_apart(READ, address as u64),
+            None => match self.word_apart(READ, address as u64) {
+                Some(word) => Some(word),
+                None => None,
+            },
         }
     }
 
