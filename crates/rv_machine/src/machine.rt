@@ -159,12 +159,11 @@ impl Machine {
             (streams (I.left input.new) (I.faults input.new) (O.written out.new) (O.faults out.new)) (seen self.new) result }
     {
         for done in 0..limit {
-            let pc = self.hart.pc;
             match self.turn(input, out) {
                 Turn::Goes => {}
                 Turn::Exits(status) => return self.stop(done + 1, MachineEnd::Exits(status)),
-                Turn::Traps(kind) => return self.stop(done + 1, MachineEnd::Trap(kind, pc)),
-                Turn::Breaks => return self.stop(done + 1, MachineEnd::Break(pc)),
+                Turn::Traps(kind) => return self.stop(done + 1, MachineEnd::Trap(kind, self.hart.pc)),
+                Turn::Breaks => return self.stop(done + 1, MachineEnd::Break(self.hart.pc)),
                 Turn::ReadFails => return self.stop(done, MachineEnd::ReadFault),
                 Turn::WriteFails => return self.stop(done, MachineEnd::WriteFault),
             }
