@@ -1,19 +1,18 @@
 -- What rows that are sound say of the segments that they stand for, and of their bytes.
-use Rattle.std.proofs.Common.{◌≡◌, ◌≢◌, ℕ, zero, suc, ◌+◌, ◌-◌, ◌*◌, ◌/◌, ◌%◌, ◌^◌, ◌<◌, ◌≤◌, Bool, true, false, cond, eqb, leb, ltb, List, [], ◌∷◌, length, map, Option, Some, None, refl, sym, ap, ◌∙◌, subst, arith, inl, inr, slice_set, length-set, eq-eqb}
-use Rattle.std.specs.Prelude.{◌⊎◌, ◌&&◌, ◌||◌, All, IfSome, MatchOption, bit_and, slice_index}
-use Rattle.std.specs.List.{list_any}
+use Rattle.std.proofs.Common.{◌≡◌, ℕ, zero, suc, ◌+◌, ◌-◌, ◌*◌, ◌%◌, ◌^◌, ◌<◌, ◌≤◌, Bool, true, false, cond, eqb, leb, ltb, List, [], ◌∷◌, length, Option, Some, None, refl, sym, ap, ◌∙◌, subst, arith, inl, inr, slice_set, eq-eqb}
+use Rattle.std.specs.Prelude.{◌&&◌, ◌||◌, All, IfSome, MatchOption, slice_index}
 use Rattle.std.proofs.Math.Path.{fun_ext}
 use Rattle.std.proofs.Math.Bool.{or-true, and-true, and_assoc, and-false}
-use Rattle.std.proofs.lemmas.Bool.{and_parts, and_from, or_cases, cases_Bool, false_from_ne_true, cond_both, eqb-true, leb-true, ltb-true, le-leb}
+use Rattle.std.proofs.lemmas.Bool.{and_parts, and_from, or_cases, false_from_ne_true, cond_both, eqb-true, leb-true, ltb-true}
 use Rattle.std.proofs.lemmas.List.{get_or-set_same, get_or-set_other}
 use Rattle.std.proofs.lemmas.List.Elements.{All-head, All-tail}
 use Rattle.rv_isa.specs.declared.image.Segment.{Segment}
-use Rattle.rv_isa.specs.Memory.{is_in, is_mapped, are_mapped, with_byte, with_half, with_word, half_at, word_at}
+use Rattle.rv_isa.specs.Memory.{is_mapped, are_mapped, with_byte, half_at, word_at}
 use Rattle.rv_machine.specs.declared.rows.Row.{Row}
 use Rattle.rv_machine.specs.declared.memory.Memory.{Memory}
 use Rattle.std.specs.Global.{Vec}
 use Rattle.rv_machine.specs.View.{segments_in, content_of, if_mapped, IsKept}
-use Rattle.rv_machine.specs.Rows.{segment_of, segments_of, holds, allows, row_at, place_in, byte_in, memory_of, Serves, Begins, AreSound, Covers, IsFound}
+use Rattle.rv_machine.specs.Rows.{segments_of, holds, allows, row_at, place_in, byte_in, memory_of, Serves, Begins, AreSound, Covers, IsFound}
 
 -- ---- one address
 

@@ -1,6 +1,6 @@
 -- How the machine keeps its memory: all segments' bytes in one list, and a row for each segment that
 -- says where among the bytes it stands.
-use Rattle.std.specs.Prelude.{◌≡◌, ℕ, ◌+◌, ◌-◌, ◌*◌, ◌/◌, ◌%◌, ◌^◌, ◌<◌, ◌≤◌, ◌==◌, true, Bool, if◌then◌else◌, List, [], ◌∷◌, map, length, slice_index, slice_set, All, Option, Some, None, bit_and}
+use Rattle.std.specs.Prelude.{◌≡◌, ℕ, ◌+◌, ◌-◌, ◌/◌, ◌%◌, ◌^◌, ◌<◌, ◌≤◌, ◌==◌, true, Bool, if◌then◌else◌, List, [], ◌∷◌, map, slice_index, slice_set, All, Option, Some, None, bit_and}
 use Rattle.rv_isa.specs.declared.image.Segment.{Segment}
 use Rattle.rv_isa.specs.Memory.{Memory, is_in, are_mapped}
 use Rattle.rv_machine.specs.declared.rows.Row.{Row}
@@ -45,8 +45,8 @@ pub record Serves (rows : List Row) (size : ℕ) (row : Row) : Type 0 where
   pub place : row.start + row.size ≤ size
   pub found : (address : ℕ) → holds row address ≡ true → row_at rows address ≡ Some row
 
--- words that may be used so begin at the addresses of the row: where it has any, the row with three
--- addresses more serves
+-- at each address of the row begins a word whose bytes may all be used so: where the row has any address,
+-- it serves with three addresses more
 pub record Begins (rows : List Row) (size flag : ℕ) (row : Row) : Type 0 where
   pub end : row.at + row.size ≤ 2 ^ 32
   pub place : row.start + row.size ≤ size

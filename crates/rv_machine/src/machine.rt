@@ -93,7 +93,7 @@ impl Machine {
         }
     }
 
-    /// The same with no search where the instruction is ready.
+    /// The same, with nothing to be done where the instruction is ready.
     #[inline(always)]
     fn prepare(&mut self) -> Option<TrapKind>
         ensures places { places_of self.new.hart ≡ places_of self.old.hart }
@@ -118,6 +118,8 @@ impl Machine {
     {
         match self.prepare() {
             None => {
+                // Read where it is kept, whichever way it came there: `execute` has one caller, and so
+                // becomes a part of the loop over the steps.
                 let inst = self.decoder.instruction(self.hart.pc);
                 self.hart.execute(inst)
             }
@@ -162,7 +164,10 @@ impl Machine {
             match self.turn(input, out) {
                 Turn::Goes => {}
                 Turn::Exits(status) => return self.stop(done + 1, MachineEnd::Exits(status)),
-                Turn::Traps(kind) => return self.stop(done + 1, MachineEnd::Trap(kind, self.hart.pc)),
+                Turn::Traps(kind) => return self.stop(
+                    done + 1,
+                    MachineEnd::Trap(kind, self.hart.pc),
+                ),
                 Turn::Breaks => return self.stop(done + 1, MachineEnd::Break(self.hart.pc)),
                 Turn::ReadFails => return self.stop(done, MachineEnd::ReadFault),
                 Turn::WriteFails => return self.stop(done, MachineEnd::WriteFault),

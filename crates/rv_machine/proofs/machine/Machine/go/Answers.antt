@@ -1,8 +1,6 @@
 use Rattle.std.proofs.Common.{◌≡◌, refl, ap, arith, ◌∙◌}
 use Rattle.rv_isa.specs.Step.{State}
 use Rattle.rv_machine.specs.Harts.{places_of, state_of}
-use Rattle.rv_machine.specs.Turns.{streams}
-use Rattle.rv_machine.specs.declared.hart.Hart.{Hart}
 use Rattle.rv_machine.proofs.Reaching.{reached_none}
 use Rattle.rv_machine.proofs.Ending.{comes_to, fails_reading, fails_writing, runs_still, reached_next, steady_none, steady_then}
 use Rattle.rv_machine.proofs.machine.Machine.go.Goals as goal

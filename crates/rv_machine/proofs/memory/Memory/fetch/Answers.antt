@@ -1,4 +1,4 @@
-use Rattle.std.proofs.Common.{◌≡◌, sym, subst, length}
+use Rattle.std.proofs.Common.{sym, subst, length}
 use Rattle.rv_isa.specs.Memory.{executable}
 use Rattle.rv_machine.specs.declared.rows.Row.{Row}
 use Rattle.rv_machine.specs.Rows.{Begins}
