@@ -1,26 +1,20 @@
 -- A step that touches no stream is the same whatever the input and the output are.
-use Rattle.std.proofs.Common.{◌≡◌, ℕ, ◌%◌, ◌*◌, ◌/◌, Bool, true, false, cond, eqb, ltb, not, List, [], Option, Some, None, ℤ, refl, sym, ap, ◌∙◌, subst}
-use Rattle.lay_base.specs.declared.faults.TrapKind.{TrapKind}
+use Rattle.std.proofs.Common.{◌≡◌, ℕ, ◌%◌, Bool, true, false, cond, eqb, List, Some, None, ℤ, refl, sym, ap, ◌∙◌, subst}
 use Rattle.lay_base.specs.declared.faults.TrapKind.TheVariants.{Unmapped, Illegal, Misaligned}
 use Rattle.rv_isa.specs.declared.image.Segment.{Segment}
 use Rattle.rv_isa.specs.declared.instruction.Inst.{Inst}
 use Rattle.rv_isa.specs.declared.instruction.Inst.TheVariants.{Jal, Jalr, Beq, Bne, Blt, Bge, Bltu, Bgeu, Lb, Lh, Lw, Lbu, Lhu, Sb, Sh, Sw, Ecall}
-use Rattle.rv_isa.specs.Arithmetic.{is_less}
 use Rattle.rv_isa.specs.Memory.{executable, are_mapped, word_at}
 use Rattle.rv_isa.specs.Decoding.{decoded}
-use Rattle.rv_isa.specs.Step.{State, Stepped, Goes, Ends, Standing, Exits, Trap, Break, register, jumps, branches, accesses, executed, performed, calls, step}
+use Rattle.rv_isa.specs.Step.{State, Stepped, Goes, Ends, Trap, jumps, branches, accesses, executed, performed, step}
 use Rattle.rv_machine.specs.declared.hart.Moved.{Moved}
 use Rattle.rv_machine.specs.declared.hart.Moved.TheVariants as M
-use Rattle.std.specs.Global.{Vec}
-use Rattle.rv_isa.specs.Memory.{Memory as Content}
 use Rattle.rv_machine.specs.declared.hart.Hart.{Hart}
-use Rattle.rv_machine.specs.declared.memory.Memory.{Memory}
-use Rattle.rv_machine.specs.declared.rows.Row.{Row}
-use Rattle.rv_machine.specs.Rows.{segments_of}
-use Rattle.rv_machine.specs.View.{content_of, if_mapped, IsKept}
+use Rattle.rv_machine.specs.declared.decoder.Decoder.{Decoder}
+use Rattle.rv_machine.specs.View.{content_of, if_mapped}
 use Rattle.rv_machine.specs.Harts.{Executes, Performs, places_of, state_of}
 use Rattle.rv_machine.proofs.Places.{some_if, none_if}
-use Rattle.rv_machine.proofs.Stores.{kept_content}
+use Rattle.rv_machine.specs.Keeping.{IsReady, Keeps}
 use Rattle.rv_machine.specs.Stepping.{with_streams, StepGives}
 
 -- what a step leads to, with other streams
@@ -116,26 +110,19 @@ illegal_gives places old new w mapped word read same = (
 
 -- ---- the code's step
 
--- a hart whose memory has found the instruction is in the same state
-pub state_kept : (hart : Hart) (memory : Memory) → IsKept hart.memory memory → state_of (record hart { memory = memory }) ≡ state_of hart
-state_kept hart memory kept = ap (λ (m : Content). record { registers = hart.registers; pc = hart.pc; memory = m; input = []; output = [] }) (kept_content hart.memory memory kept)
+module _ (hart : Hart) where
+  pub code_unmapped : None ≡ if_mapped hart.memory 1 hart.pc 4 (word_at (content_of hart.memory) hart.pc) → StepGives (places_of hart) (state_of hart) (state_of hart) (M.Traps Unmapped)
+  code_unmapped fetched = unmapped_gives (places_of hart) (state_of hart) (state_of hart) (none_if _ (word_at (content_of hart.memory) hart.pc) fetched) refl
 
-pub places_kept : (hart : Hart) (memory : Memory) → IsKept hart.memory memory → places_of (record hart { memory = memory }) ≡ places_of hart
-places_kept hart memory kept = ap (λ (v : Vec Row). segments_of v.items) kept.rows
-
-module _ (hart : Hart) (memory : Memory) (kept : IsKept hart.memory memory) where
-  pub code_gives : (new : State) (w : ℕ) (i : Inst) (moved : Moved) → Some w ≡ if_mapped hart.memory 1 hart.pc 4 (word_at (content_of hart.memory) hart.pc) → Some i ≡ decoded w
-      → Performs (places_of (record hart { memory = memory })) (state_of (record hart { memory = memory })) new i moved → StepGives (places_of hart) (state_of hart) new moved
-  code_gives new w i moved fetched read h =
-      let f = some_if _ w (word_at (content_of hart.memory) hart.pc) fetched in
-      performed_gives (places_of hart) (state_of hart) new w i moved f.0 f.1 (sym read)
-      (subst (λ (p : List Segment). Performs p (state_of hart) new i moved) (places_kept hart memory kept)
-      (subst (λ (s : State). Performs (places_of (record hart { memory = memory })) s new i moved) (state_kept hart memory kept) h))
-
-  pub code_illegal : (w : ℕ) → Some w ≡ if_mapped hart.memory 1 hart.pc 4 (word_at (content_of hart.memory) hart.pc) → None ≡ decoded w → StepGives (places_of hart) (state_of hart) (state_of (record hart { memory = memory })) (M.Traps Illegal)
+  pub code_illegal : (w : ℕ) → Some w ≡ if_mapped hart.memory 1 hart.pc 4 (word_at (content_of hart.memory) hart.pc) → decoded w ≡ None → StepGives (places_of hart) (state_of hart) (state_of hart) (M.Traps Illegal)
   code_illegal w fetched read =
       let f = some_if _ w (word_at (content_of hart.memory) hart.pc) fetched in
-      illegal_gives (places_of hart) (state_of hart) _ w f.0 f.1 read (state_kept hart memory kept)
+      illegal_gives (places_of hart) (state_of hart) (state_of hart) w f.0 f.1 (sym read) refl
 
-  pub code_unmapped : None ≡ if_mapped hart.memory 1 hart.pc 4 (word_at (content_of hart.memory) hart.pc) → StepGives (places_of hart) (state_of hart) (state_of (record hart { memory = memory })) (M.Traps Unmapped)
-  code_unmapped fetched = unmapped_gives (places_of hart) (state_of hart) _ (none_if _ (word_at (content_of hart.memory) hart.pc) fetched) (state_kept hart memory kept)
+-- an instruction that is executed where it is ready, in a hart that is as it was before
+pub code_gives : (old here : Hart) (decoder : Decoder) (new : State) (i : Inst) (moved : Moved) → places_of here ≡ places_of old → state_of here ≡ state_of old → IsReady here decoder → ((w : ℕ) → Keeps decoder here.pc w → decoded w ≡ Some i)
+    → Performs (places_of here) (state_of here) new i moved → StepGives (places_of old) (state_of old) new moved
+code_gives old here decoder new i moved places state ready read h =
+    subst (λ (p : List Segment). StepGives p (state_of old) new moved) places
+    (subst (λ (s : State). StepGives (places_of here) s new moved) state
+    (performed_gives (places_of here) (state_of here) new (word_at (content_of here.memory) here.pc) i moved ready.mapped refl (read _ ready.kept) h))

@@ -1,19 +1,18 @@
 -- What rows that are sound say of the segments that they stand for, and of their bytes.
-use Rattle.std.proofs.Common.{◌≡◌, ◌≢◌, ℕ, zero, suc, ◌+◌, ◌-◌, ◌*◌, ◌/◌, ◌%◌, ◌^◌, ◌<◌, ◌≤◌, Bool, true, false, cond, eqb, leb, ltb, List, [], ◌∷◌, length, map, Option, Some, None, refl, sym, ap, ◌∙◌, subst, arith, inl, inr, slice_set, length-set, eq-eqb}
-use Rattle.std.specs.Prelude.{◌⊎◌, ◌&&◌, ◌||◌, All, IfSome, MatchOption, bit_and, slice_index}
-use Rattle.std.specs.List.{list_any}
+use Rattle.std.proofs.Common.{◌≡◌, ℕ, zero, suc, ◌+◌, ◌-◌, ◌*◌, ◌%◌, ◌^◌, ◌<◌, ◌≤◌, Bool, true, false, cond, eqb, leb, ltb, List, [], ◌∷◌, length, Option, Some, None, refl, sym, ap, ◌∙◌, subst, arith, inl, inr, slice_set, eq-eqb}
+use Rattle.std.specs.Prelude.{◌&&◌, ◌||◌, All, IfSome, MatchOption, slice_index}
 use Rattle.std.proofs.Math.Path.{fun_ext}
 use Rattle.std.proofs.Math.Bool.{or-true, and-true, and_assoc, and-false}
-use Rattle.std.proofs.lemmas.Bool.{and_parts, and_from, or_cases, cases_Bool, false_from_ne_true, cond_both, eqb-true, leb-true, ltb-true, le-leb}
+use Rattle.std.proofs.lemmas.Bool.{and_parts, and_from, or_cases, false_from_ne_true, cond_both, eqb-true, leb-true, ltb-true}
 use Rattle.std.proofs.lemmas.List.{get_or-set_same, get_or-set_other}
 use Rattle.std.proofs.lemmas.List.Elements.{All-head, All-tail}
 use Rattle.rv_isa.specs.declared.image.Segment.{Segment}
-use Rattle.rv_isa.specs.Memory.{is_in, is_mapped, are_mapped, with_byte, with_half, with_word, half_at, word_at}
+use Rattle.rv_isa.specs.Memory.{is_mapped, are_mapped, with_byte, half_at, word_at}
 use Rattle.rv_machine.specs.declared.rows.Row.{Row}
 use Rattle.rv_machine.specs.declared.memory.Memory.{Memory}
 use Rattle.std.specs.Global.{Vec}
 use Rattle.rv_machine.specs.View.{segments_in, content_of, if_mapped, IsKept}
-use Rattle.rv_machine.specs.Rows.{segment_of, segments_of, holds, allows, row_at, place_in, byte_in, memory_of, Serves, AreSound, Covers, IsFound}
+use Rattle.rv_machine.specs.Rows.{segments_of, holds, allows, row_at, place_in, byte_in, memory_of, Serves, Begins, AreSound, Covers, IsFound}
 
 -- ---- one address
 
@@ -115,6 +114,22 @@ pub covered : (rows : List Row) (size flag a n : ℕ) (row : Row) → Serves row
 covered rows size flag a n row serves None h = tt
 covered rows size flag a n row serves (Some place) h =
     subst (λ (x : ℕ). IsFound rows size flag a n x) (sym h.is_place) (found_in rows size flag a n row serves h.allowed h.low h.high)
+
+-- the places of a row at which a word may begin
+pub words_begin : (rows : List Row) (size flag : ℕ) (row : Row) → Serves rows size row → allows row flag ≡ true → Begins rows size flag (record row { size = row.size - 3 })
+words_begin rows size flag row serves allowed = record {
+  end = let p = serves.end in omega arith;
+  place = let p = serves.place in omega arith;
+  serves = λ some. let e : row.size - 3 + 3 ≡ row.size = omega arith in subst (λ (n : ℕ). Serves rows size (record row { size = n })) (sym e) serves;
+  allowed = λ some. allowed;
+}
+
+-- a word that begins there is found
+pub word_within : (rows : List Row) (size flag a place : ℕ) (row : Row) → Begins rows size flag row → holds row a ≡ true → place ≡ place_in row a → IsFound rows size flag a 4 place
+word_within rows size flag a place row begins held p =
+    let ends = held_between row a held in
+    let some : 0 < row.size = omega (arith, ends.0, ends.1) in
+    subst (λ (x : ℕ). IsFound rows size flag a 4 x) (sym p) (found_in rows size flag a 4 (record row { size = row.size + 3 }) (begins.serves some) (begins.allowed some) ends.0 (omega (arith, ends.1)))
 
 -- ---- bytes
 

@@ -14,7 +14,7 @@ use Rattle.rv_isa.specs.Memory.{initial_memory}
 use Rattle.rv_isa.specs.Placed.{Fits, AreApart, AllPlaced}
 use Rattle.rv_machine.specs.declared.rows.Row.{Row}
 use Rattle.rv_machine.specs.Making.{size_of, whole, bytes_of, rows_from}
-use Rattle.rv_machine.specs.Rows.{segments_of, holds, row_at, place_in, byte_in, memory_of, Serves, AreSound}
+use Rattle.rv_machine.specs.Rows.{segments_of, holds, row_at, place_in, byte_in, memory_of, Begins, Serves, AreSound}
 use Rattle.rv_machine.specs.View.{bare}
 use Rattle.rv_machine.proofs.Places.{held_between}
 
@@ -74,6 +74,14 @@ serves_nothing rows size = record {
   end = omega arith;
   place = omega arith;
   found = λ a h. let ends = held_between (record { at = 0; size = 0; start = 0; flags = 0 }) a h in absurd (omega (arith, ends.1));
+}
+
+pub begins_nothing : (rows : List Row) (size flag : ℕ) → Begins rows size flag (record { at = 0; size = 0; start = 0; flags = 0 })
+begins_nothing rows size flag = record {
+  end = omega arith;
+  place = omega arith;
+  serves = λ some. absurd (omega arith);
+  allowed = λ some. absurd (omega arith);
 }
 
 -- ---- no two addresses have one place

@@ -1,6 +1,6 @@
 -- How the machine keeps its memory: all segments' bytes in one list, and a row for each segment that
 -- says where among the bytes it stands.
-use Rattle.std.specs.Prelude.{◌≡◌, ℕ, ◌+◌, ◌-◌, ◌*◌, ◌/◌, ◌%◌, ◌^◌, ◌<◌, ◌≤◌, ◌==◌, true, Bool, if◌then◌else◌, List, [], ◌∷◌, map, length, slice_index, slice_set, All, Option, Some, None, bit_and}
+use Rattle.std.specs.Prelude.{◌≡◌, ℕ, ◌+◌, ◌-◌, ◌/◌, ◌%◌, ◌^◌, ◌<◌, ◌≤◌, ◌==◌, true, Bool, if◌then◌else◌, List, [], ◌∷◌, map, slice_index, slice_set, All, Option, Some, None, bit_and}
 use Rattle.rv_isa.specs.declared.image.Segment.{Segment}
 use Rattle.rv_isa.specs.Memory.{Memory, is_in, are_mapped}
 use Rattle.rv_machine.specs.declared.rows.Row.{Row}
@@ -44,6 +44,14 @@ pub record Serves (rows : List Row) (size : ℕ) (row : Row) : Type 0 where
   pub end : row.at + row.size ≤ 2 ^ 32
   pub place : row.start + row.size ≤ size
   pub found : (address : ℕ) → holds row address ≡ true → row_at rows address ≡ Some row
+
+-- at each address of the row begins a word whose bytes may all be used so: where the row has any address,
+-- it serves with three addresses more
+pub record Begins (rows : List Row) (size flag : ℕ) (row : Row) : Type 0 where
+  pub end : row.at + row.size ≤ 2 ^ 32
+  pub place : row.start + row.size ≤ size
+  pub serves : 0 < row.size → Serves rows size (record row { size = row.size + 3 })
+  pub allowed : 0 < row.size → allows row flag ≡ true
 
 -- each row serves, and no two addresses have one place
 pub record AreSound (rows : List Row) (size : ℕ) : Type 0 where

@@ -51,14 +51,63 @@ pub struct Machine {
 }
 
 impl Machine {
-    ghost use Rattle.std.specs.Prelude.{◌≡◌, ◌<◌, IfOk, IsSome, Some, slice_index};
+    ghost use Rattle.std.specs.Prelude.{◌≡◌, ◌<◌, IfOk, IsSome, MatchOption, Some, slice_index, true};
     ghost use Rattle.rv_isa.specs.declared.image.Image.{Image};
     ghost use Rattle.rv_isa.specs.Placed.{IsPlaced};
     ghost use Rattle.rv_isa.specs.Step.{step};
     ghost use Rattle.rv_machine.specs.Harts.{places_of, state_of};
+    ghost use Rattle.rv_machine.specs.declared.hart.Moved.TheVariants.{Traps};
+    ghost use Rattle.rv_machine.specs.Keeping.{IsReady};
     ghost use Rattle.rv_machine.specs.Stepping.{StepGives};
     ghost use Rattle.rv_machine.specs.Turns.{TurnGives, streams};
     ghost use Rattle.rv_machine.specs.Runs.{IsFresh, RunGives, own_run, run_of, seen};
+
+    /// Whether the next instruction stands in the row of the last one and is kept.
+    #[inline(always)]
+    fn is_ready(&self) -> bool
+        ensures { result ≡ true → IsReady self.now.hart self.now.decoder }
+    {
+        match self.hart.memory.code_word(self.hart.pc) {
+            Some(word) => self.decoder.keeps(self.hart.pc, word),
+            None => false,
+        }
+    }
+
+    /// Finds the next instruction, whatever row it stands in, and keeps it; or answers why there is none.
+    #[cold]
+    fn make_ready(&mut self) -> Option<TrapKind>
+        ensures places { places_of self.new.hart ≡ places_of self.old.hart }
+        ensures state { state_of self.new.hart ≡ state_of self.old.hart }
+        ensures steps { self.new.steps ≡ self.old.steps }
+        ensures ready { MatchOption result
+            (IsReady self.new.hart self.new.decoder)
+            (λ kind. StepGives (places_of self.old.hart) (state_of self.old.hart) (state_of self.old.hart) (Traps kind)) }
+    {
+        match self.hart.memory.fetch(self.hart.pc) {
+            Some(word) => if self.decoder.keep(self.hart.pc, word) {
+                None
+            } else {
+                Some(TrapKind::Illegal)
+            },
+            None => Some(TrapKind::Unmapped),
+        }
+    }
+
+    /// The same, with nothing to be done where the instruction is ready.
+    #[inline(always)]
+    fn prepare(&mut self) -> Option<TrapKind>
+        ensures places { places_of self.new.hart ≡ places_of self.old.hart }
+        ensures state { state_of self.new.hart ≡ state_of self.old.hart }
+        ensures steps { self.new.steps ≡ self.old.steps }
+        ensures ready { MatchOption result
+            (IsReady self.new.hart self.new.decoder)
+            (λ kind. StepGives (places_of self.old.hart) (state_of self.old.hart) (state_of self.old.hart) (Traps kind)) }
+    {
+        if self.is_ready() {
+            return None;
+        }
+        self.make_ready()
+    }
 
     /// One step, but for what a call of the environment does.
     #[inline(always)]
@@ -67,12 +116,14 @@ impl Machine {
         ensures steps { self.new.steps ≡ self.old.steps }
         ensures moved { StepGives (places_of self.old.hart) (state_of self.old.hart) (state_of self.new.hart) result }
     {
-        match self.hart.memory.fetch(self.hart.pc) {
-            Some(word) => match self.decoder.instruction(self.hart.pc, word) {
-                Some(inst) => self.hart.execute(inst),
-                None => Moved::Traps(TrapKind::Illegal),
-            },
-            None => Moved::Traps(TrapKind::Unmapped),
+        match self.prepare() {
+            None => {
+                // Read where it is kept, whichever way it came there: `execute` has one caller, and so
+                // becomes a part of the loop over the steps.
+                let inst = self.decoder.instruction(self.hart.pc);
+                self.hart.execute(inst)
+            }
+            Some(kind) => Moved::Traps(kind),
         }
     }
 
@@ -111,12 +162,14 @@ impl Machine {
             (streams (I.left input.new) (I.faults input.new) (O.written out.new) (O.faults out.new)) (seen self.new) result }
     {
         for done in 0..limit {
-            let pc = self.hart.pc;
             match self.turn(input, out) {
                 Turn::Goes => {}
                 Turn::Exits(status) => return self.stop(done + 1, MachineEnd::Exits(status)),
-                Turn::Traps(kind) => return self.stop(done + 1, MachineEnd::Trap(kind, pc)),
-                Turn::Breaks => return self.stop(done + 1, MachineEnd::Break(pc)),
+                Turn::Traps(kind) => return self.stop(
+                    done + 1,
+                    MachineEnd::Trap(kind, self.hart.pc),
+                ),
+                Turn::Breaks => return self.stop(done + 1, MachineEnd::Break(self.hart.pc)),
                 Turn::ReadFails => return self.stop(done, MachineEnd::ReadFault),
                 Turn::WriteFails => return self.stop(done, MachineEnd::WriteFault),
             }

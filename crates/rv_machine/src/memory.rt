@@ -1,7 +1,8 @@
 //! The memory of the machine: all its segments' bytes, and the rows that say where they stand.
 
 ghost use Rattle.std.specs.Prelude.{◌≡◌, ◌+◌, ◌*◌, ◌≤◌, ◌^◌, length, slice_index};
-ghost use Rattle.rv_machine.specs.Rows.{AreSound, Serves, half_put, word_put};
+ghost use Rattle.rv_isa.specs.Memory.{executable};
+ghost use Rattle.rv_machine.specs.Rows.{AreSound, Begins, Serves, half_put, word_put};
 
 use crate::rows::{Row, Stretch, row_with};
 
@@ -56,19 +57,19 @@ fn put_word(bytes: &mut [u8], place: usize, value: u32)
 pub struct Memory {
     pub(crate) rows: Vec<Row>,
     pub(crate) bytes: Vec<u8>,
-    // The rows in which the last instruction and the last other access were found, or such that have no
-    // address.
+    // Where an instruction may begin, in the row where the last one was found, and the row in which the
+    // last other access was found; or rows that have no address.
     pub(crate) code: Row,
     pub(crate) recent: Row,
     ghost sound: { AreSound rows.items (length bytes.items) },
-    ghost code_serves: { Serves rows.items (length bytes.items) code },
+    ghost code_begins: { Begins rows.items (length bytes.items) executable code },
     ghost recent_serves: { Serves rows.items (length bytes.items) recent },
 }
 
 impl Memory {
     ghost use Rattle.std.specs.Prelude.{◌≡◌, ◌+◌, ◌<◌, ◌≤◌, ◌^◌, false, true, length, IfSome, MatchOption, None, Some, if◌then◌else◌};
     ghost use Rattle.rv_isa.specs.Memory.{are_mapped, executable, half_at, is_mapped, readable, with_byte, with_half, with_word, word_at, writable};
-    ghost use Rattle.rv_machine.specs.Rows.{IsFound, Serves};
+    ghost use Rattle.rv_machine.specs.Rows.{IsFound, Serves, allows};
     ghost use Rattle.rv_machine.specs.View.{content_of, if_mapped, segments_in, IsKept};
 
     /// The place of a byte that may be used so, in whatever row it stands.
@@ -100,7 +101,7 @@ impl Memory {
     /// The row that has all bytes from an address on, where there is one.
     fn covering(&self, flag: u8, address: u32, width: u32) -> Option<Row>
         requires { 0 < width }
-        ensures { IfSome result (λ row. Serves self.now.rows.items (length self.now.bytes.items) row) }
+        ensures { IfSome result (λ row. Serves self.now.rows.items (length self.now.bytes.items) row × (allows row flag ≡ true)) }
     {
         for row in &self.rows {
             if row.place(flag, address, width).is_some() {
@@ -156,6 +157,9 @@ impl Memory {
         Some(low as u32 + 65536 * high as u32)
     }
 
+    // Loads take the answer of the slow way apart, so that the compiler keeps a value that is found the
+    // quick way in a register.
+
     /// The byte at an address; `None` exactly where it may not be read.
     #[inline(always)]
     pub fn load_byte(&mut self, address: u32) -> Option<u8>
@@ -164,7 +168,10 @@ impl Memory {
     {
         match self.find(READ, address, 1) {
             Some(place) => Some(self.bytes[place]),
-            None => self.byte_apart(READ, address as u64),
+            None => match self.byte_apart(READ, address as u64) {
+                Some(byte) => Some(byte),
+                None => None,
+            },
         }
     }
 
@@ -176,7 +183,10 @@ impl Memory {
     {
         match self.find(READ, address, 2) {
             Some(place) => Some(half_from(&self.bytes, place)),
-            None => self.half_apart(READ, address as u64),
+            None => match self.half_apart(READ, address as u64) {
+                Some(half) => Some(half),
+                None => None,
+            },
         }
     }
 
@@ -188,7 +198,10 @@ impl Memory {
     {
         match self.find(READ, address, 4) {
             Some(place) => Some(word_from(&self.bytes, place)),
-            None => self.word_apart(READ, address as u64),
+            None => match self.word_apart(READ, address as u64) {
+                Some(word) => Some(word),
+                None => None,
+            },
         }
     }
 
@@ -323,27 +336,25 @@ impl Memory {
         }
     }
 
-    /// The word of the instruction at an address; `None` exactly where one of its bytes may not be
-    /// executed.
+    /// The word of the instruction at an address, where the row of the last instruction has it.
     #[inline(always)]
+    pub fn code_word(&self, pc: u32) -> Option<u32>
+        ensures { IfSome result (λ word. Some word ≡ if_mapped self.now executable pc 4 (word_at (content_of self.now) pc)) }
+    {
+        match self.code.place_within(pc) {
+            Some(place) => Some(word_from(&self.bytes, place)),
+            None => None,
+        }
+    }
+
+    /// The word of the instruction at an address, in whatever rows it stands; `None` exactly where one of
+    /// its bytes may not be executed.
     pub fn fetch(&mut self, pc: u32) -> Option<u32>
         ensures kept { IsKept self.old self.new }
         ensures value { result ≡ if_mapped self.old executable pc 4 (word_at (content_of self.old) pc) }
     {
-        match self.code.place(EXECUTE, pc, 4) {
-            Some(place) => Some(word_from(&self.bytes, place)),
-            None => self.fetch_apart(pc),
-        }
-    }
-
-    /// The same where the last instruction stood in another row.
-    #[cold]
-    fn fetch_apart(&mut self, pc: u32) -> Option<u32>
-        ensures kept { IsKept self.old self.new }
-        ensures value { result ≡ if_mapped self.old executable pc 4 (word_at (content_of self.old) pc) }
-    {
         if let Some(row) = self.covering(EXECUTE, pc, 4) {
-            self.code = row;
+            self.code = row.beginnings();
         }
         self.word_apart(EXECUTE, pc as u64)
     }

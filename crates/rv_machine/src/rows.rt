@@ -1,6 +1,6 @@
 //! Where the segments stand among the bytes of the machine's memory.
 
-ghost use Rattle.std.specs.Prelude.{◌≡◌, ◌+◌, ◌<◌, ◌≤◌, ◌^◌, IfSome, MatchOption, false, true};
+ghost use Rattle.std.specs.Prelude.{◌≡◌, ◌+◌, ◌-◌, ◌<◌, ◌≤◌, ◌^◌, IfSome, MatchOption, false, true};
 ghost use Rattle.rv_machine.specs.Rows.{Covers, allows, holds, place_in, row_at};
 
 /// The addresses from `at` on, `size` of them, whose bytes stand from `start` on. `flags` has 1 for
@@ -49,6 +49,33 @@ impl Row {
         ensures { result ≡ allows self.now flag }
     {
         self.flags & flag == flag
+    }
+
+    /// The places of the row at which a word may begin.
+    pub fn beginnings(&self) -> Row
+        ensures { result ≡ record self.now { size = self.now.size - 3 } }
+    {
+        Row {
+            at: self.at,
+            size: self.size.saturating_sub(3),
+            start: self.start,
+            flags: self.flags,
+        }
+    }
+
+    /// The place of an address, where the row has it.
+    #[inline(always)]
+    pub fn place_within(&self, address: u32) -> Option<usize>
+        requires end { self.now.at + self.now.size ≤ 2 ^ 32 }
+        requires room { self.now.start + self.now.size < 2 ^ 64 }
+        ensures { IfSome result (λ place. (holds self.now address ≡ true) × (place ≡ place_in self.now address)) }
+    {
+        let offset = address.wrapping_sub(self.at);
+        if offset < self.size {
+            Some(self.start + offset as usize)
+        } else {
+            None
+        }
     }
 
     /// The place of bytes from an address on, where the row has them all and they may be used so.

@@ -1,7 +1,6 @@
-use Rattle.std.proofs.Common.{refl, arith, ◌∙◌}
+use Rattle.std.proofs.Common.{◌≡◌, refl, ap, arith, ◌∙◌}
+use Rattle.rv_isa.specs.Step.{State}
 use Rattle.rv_machine.specs.Harts.{places_of, state_of}
-use Rattle.rv_machine.specs.Turns.{streams}
-use Rattle.rv_machine.specs.declared.hart.Hart.{Hart}
 use Rattle.rv_machine.proofs.Reaching.{reached_none}
 use Rattle.rv_machine.proofs.Ending.{comes_to, fails_reading, fails_writing, runs_still, reached_next, steady_none, steady_then}
 use Rattle.rv_machine.proofs.machine.Machine.go.Goals as goal
@@ -31,13 +30,15 @@ returns-in-Exits g c =
 pub returns-in-Traps : goal.returns-in-Traps
 returns-in-Traps g c =
     let far = c.loop-done.invariant in
-    rw c.stop-in-Traps.ensures.end
+    let there : c.turn.new.self.hart.pc ≡ c.loop-done.self.hart.pc = ap (λ (s : State). s.pc) c.in-Traps.ensures.gives.1 in
+    rw (c.stop-in-Traps.ensures.end, there)
     (comes_to c.args.self.now.hart c.loop-done.self.hart c.turn.new.self.hart _ _ _ c.args.limit c.loop-done.done c.stop-in-Traps.new.self far.placed far.steady far.reached c.stop-in-Traps.ensures.hart _ c.in-Traps.ensures.gives c.stop-in-Traps.ensures.steps c.loop-done-test.true)
 
 pub returns-in-Breaks : goal.returns-in-Breaks
 returns-in-Breaks g c =
     let far = c.loop-done.invariant in
-    rw c.stop-in-Breaks.ensures.end
+    let there : c.turn.new.self.hart.pc ≡ c.loop-done.self.hart.pc = ap (λ (s : State). s.pc) c.in-Breaks.ensures.gives.1 in
+    rw (c.stop-in-Breaks.ensures.end, there)
     (comes_to c.args.self.now.hart c.loop-done.self.hart c.turn.new.self.hart _ _ _ c.args.limit c.loop-done.done c.stop-in-Breaks.new.self far.placed far.steady far.reached c.stop-in-Breaks.ensures.hart _ c.in-Breaks.ensures.gives c.stop-in-Breaks.ensures.steps c.loop-done-test.true)
 
 pub returns-in-ReadFails : goal.returns-in-ReadFails

@@ -1,8 +1,12 @@
-use Rattle.std.proofs.Common.{refl, Some}
-use Rattle.rv_machine.proofs.Places.{covered, word_loaded}
+use Rattle.std.proofs.Common.{sym, subst, length}
+use Rattle.rv_isa.specs.Memory.{executable}
+use Rattle.rv_machine.specs.declared.rows.Row.{Row}
+use Rattle.rv_machine.specs.Rows.{Begins}
+use Rattle.rv_machine.proofs.Places.{words_begin}
 use Rattle.rv_machine.proofs.memory.Memory.fetch.Goals as goal
 
-pub returns-in-Some-clause-value : goal.returns-in-Some-clause-value
-returns-in-Some-clause-value c =
-    let found = covered _ _ _ c.args.pc 4 _ c.args.self.now.code_serves (Some c.in-Some.place) c.in-Some.ensures in
-    word_loaded c.args.self.now c.args.self.now _ c.args.pc c.in-Some.place c.deref.result.now (record { rows = refl; bytes = refl }) c.deref.ensures.value _ found c.word_from.ensures
+pub invariant_of-self-clause-code_begins : goal.invariant_of-self-clause-code_begins
+invariant_of-self-clause-code_begins c =
+    let memory = c.args.self.now in
+    subst (λ (r : Row). Begins memory.rows.items (length memory.bytes.items) executable r) (sym c.beginnings-self.ensures)
+    (words_begin _ _ executable c.in-Some.row c.in-Some.ensures.0 c.in-Some.ensures.1)

@@ -1,7 +1,7 @@
 use Rattle.std.proofs.Common.{◌≡◌, ◌∙◌, ap, length}
 use Rattle.rv_machine.specs.Making.{size_of}
 use Rattle.rv_machine.specs.Rows.{segments_of}
-use Rattle.rv_machine.proofs.Segments.{fits_each, bytes_length, rows_are_sound, serves_nothing, segments_are, content_is}
+use Rattle.rv_machine.proofs.Segments.{fits_each, bytes_length, rows_are_sound, serves_nothing, begins_nothing, segments_are, content_is}
 use Rattle.rv_machine.proofs.memory.Memory.of.Goals as goal
 
 pub bytes_for-requires : goal.bytes_for-requires
@@ -13,7 +13,7 @@ invariant_of-result c =
     let number : length c.in_ok-bytes.bytes.items ≡ size_of segments = ap length c.in_ok-bytes.ensures ∙ bytes_length segments c.requires in
     record {
       sound = rw c.in_ok-rows.ensures (rows_are_sound segments (length c.in_ok-bytes.bytes.items) c.requires number);
-      code_serves = serves_nothing _ _;
+      code_begins = begins_nothing _ _ _;
       recent_serves = serves_nothing _ _;
     }
 
