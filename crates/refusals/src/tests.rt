@@ -13,11 +13,163 @@ const HERE: Place = Place { file: 0, at: 40 };
 
 const THERE: Place = Place { file: 1, at: 7 };
 
-fn name(alloc: Global, text: &str) -> Result<Name, Fail> {
-    Ok(Name::copy_of(alloc, text)?)
+/// The code, the exit status and the text of each refusal that keeps no name.
+static NAMELESS: [(u8, u8, &str); 22] = [
+    (1, 122, "layc: a.c:3: unexpected byte\n"),
+    (2, 122, "layc: a.c:3: bad literal\n"),
+    (3, 122, "layc: a.c:3: not closed\n"),
+    (4, 122, "layc: a.c:3: literal or name too wide\n"),
+    (5, 122, "layc: a.c:3: syntax error\n"),
+    (6, 122, "layc: a.c:3: keyword _Complex is not supported\n"),
+    (7, 122, "layc: a.c:3: type too big\n"),
+    (8, 122, "layc: a.c:3: type rule Lvalue broken\n"),
+    (14, 122, "layc: no function main\n"),
+    (15, 122, "layc: limit PrintDepth passed: 1001\n"),
+    (17, 125, "layc: a.c:3: undefined: TwoBlocks\n"),
+    (18, 126, "layc: turn limit 18446744073709551615 reached\n"),
+    (19, 126, "layc: room Depth passed: 0\n"),
+    (20, 121, "layc: read failed\n"),
+    (21, 121, "layc: write failed\n"),
+    (22, 123, "layc: bad profile at line 9\n"),
+    (24, 124, "layc: bad ELF: HeaderSize 53\n"),
+    (25, 125, "layc: trap Misaligned at 0x00a019ff\n"),
+    (26, 125, "layc: out of room at 0x80000004\n"),
+    (27, 126, "layc: step limit 10 reached\n"),
+    (
+        28,
+        120,
+        "usage: layc compile -o OUT [--profile P] [--plain] [--heap MIB] [--stack MIB] FILE...\n       layc profile -o P [--turns N] FILE...\n       layc interp [--turns N] FILE...\n       layc run [--steps N] ELF\n       layc bench N\n",
+    ),
+    (31, 127, "layc: out of memory\n"),
+];
+
+/// The refusal of a code, where it keeps no name.
+fn nameless(code: u8) -> Option<Refusal> {
+    match code {
+        1 => Some(Refusal::BadByte(HERE)),
+        2 => Some(Refusal::BadLiteral(HERE)),
+        3 => Some(Refusal::Unclosed(HERE)),
+        4 => Some(Refusal::TooWide(HERE)),
+        5 => Some(Refusal::NoParse(HERE)),
+        6 => Some(Refusal::Unsupported(Keyword::UnderscoreComplex, HERE)),
+        7 => Some(Refusal::TooBig(HERE)),
+        8 => Some(Refusal::IllTyped(Rule::Lvalue, HERE)),
+        14 => Some(Refusal::NoMain),
+        15 => Some(Refusal::Limit(LimitKind::PrintDepth, 1001)),
+        17 => Some(Refusal::Undefined(UndefinedKind::TwoBlocks, HERE)),
+        18 => Some(Refusal::TurnLimit(18446744073709551615)),
+        19 => Some(Refusal::Room(RoomKind::Depth, 0)),
+        20 => Some(Refusal::ReadFault),
+        21 => Some(Refusal::WriteFault),
+        22 => Some(Refusal::BadProfile(9)),
+        24 => Some(Refusal::BadElf(ElfField::HeaderSize, 53)),
+        25 => Some(Refusal::Trap(TrapKind::Misaligned, 0x00a0_19ff)),
+        26 => Some(Refusal::Break(0x8000_0004)),
+        27 => Some(Refusal::StepLimit(10)),
+        28 => Some(Refusal::Usage),
+        31 => Some(Refusal::Memory),
+        _ => None,
+    }
 }
 
-/// Checks a refusal whose first place is at `a.c:3` and whose second is at `b.c:12`.
+/// The name that a refusal keeps, its code, its exit status and its text.
+static NAMED: [(&str, u8, u8, &str); 9] = [
+    ("x", 9, 122, "layc: a.c:3: undeclared name x\n"),
+    (
+        "x",
+        10,
+        122,
+        "layc: a.c:3: x declared again, first at b.c:12\n",
+    ),
+    ("f", 11, 122, "layc: no definition of f\n"),
+    (
+        "f",
+        12,
+        122,
+        "layc: a.c:3: f defined again, first at b.c:12\n",
+    ),
+    (
+        "node",
+        13,
+        122,
+        "layc: a.c:3: record node differs from b.c:12\n",
+    ),
+    ("a.c", 29, 121, "layc: cannot read a.c\n"),
+    ("a.c", 30, 121, "layc: a.c is too long\n"),
+    ("g", 32, 122, "layc: a.c:3: type of g differs from b.c:12\n"),
+    ("a.c", 33, 122, "layc: a.c: form not built yet\n"),
+];
+
+/// The refusal of a code, where it keeps a name and is no stale profile.
+fn named(code: u8, name: Name) -> Option<Refusal> {
+    match code {
+        9 => Some(Refusal::Undeclared(name, HERE)),
+        10 => Some(Refusal::Redeclared(name, HERE, THERE)),
+        11 => Some(Refusal::Missing(name)),
+        12 => Some(Refusal::Twice(name, HERE, THERE)),
+        13 => Some(Refusal::TagClash(name, HERE, THERE)),
+        29 => Some(Refusal::FileFault(name)),
+        30 => Some(Refusal::TooLong(name)),
+        32 => Some(Refusal::NameClash(name, HERE, THERE)),
+        33 => Some(Refusal::NotBuilt(name)),
+        _ => None,
+    }
+}
+
+/// The text of each kind of stale profile.
+static STALE: [(StaleKind, &str); 4] = [
+    (
+        StaleKind::Functions,
+        "layc: stale profile: functions: 4 in the program, 17 in the profile\n",
+    ),
+    (
+        StaleKind::Order,
+        "layc: stale profile: place of sum: 4 in the program, 17 in the profile\n",
+    ),
+    (
+        StaleKind::Loops,
+        "layc: stale profile: loops of sum: 4 in the program, 17 in the profile\n",
+    ),
+    (
+        StaleKind::Arms,
+        "layc: stale profile: arms of sum: 4 in the program, 17 in the profile\n",
+    ),
+];
+
+/// A profile that is stale at the function `sum`.
+fn stale(kind: StaleKind, sum: Name) -> Refusal {
+    let stale = Stale {
+        kind,
+        function: 2,
+        expected: 4,
+        found: 17,
+    };
+    Refusal::Stale(sum, stale)
+}
+
+/// Checks what a sink of so much room, whose calls of these numbers fail, answers and keeps of a
+/// refusal whose first place is at `a.c:3` and whose second is at `b.c:12`.
+fn check_text(
+    rt: &impl Abort,
+    alloc: Global,
+    refusal: &Refusal,
+    room: u64,
+    failing: &[u64],
+    answer: Result<(), SinkFault>,
+    text: &str,
+) -> Result<(), Fail> {
+    let failing = List::of(failing.to_vec(alloc)?);
+    let mut sink = MemSink::with_room(alloc, room, failing)?;
+    let answered = put_refusal(&mut sink, refusal, b"a.c:3", b"b.c:12");
+    assert_eq!(rt;
+        (answered, sink.bytes()),
+        (answer, text.as_bytes()),
+        "for {text}"
+    );
+    Ok(())
+}
+
+/// Checks the code, the exit status and the whole text of a refusal.
 fn check(
     rt: &impl Abort,
     alloc: Global,
@@ -26,355 +178,63 @@ fn check(
     status: u8,
     text: &str,
 ) -> Result<(), Fail> {
-    let mut sink = MemSink::with_room(alloc, 400, List::new(alloc))?;
-    put_refusal(&mut sink, &refusal, b"a.c:3", b"b.c:12")?;
-    assert_eq!(rt; sink.bytes(), text.as_bytes(), "for {text}");
-    assert_eq!(rt; code_of(&refusal), code, "for {text}");
-    assert_eq!(rt; status_of_refusal(&refusal), status, "for {text}");
+    let numbers = (code_of(&refusal), status_of_refusal(&refusal));
+    assert_eq!(rt; numbers, (code, status), "for {text}");
+    check_text(rt, alloc, &refusal, 400, &[], Ok(()), text)
+}
+
+#[test]
+fn refusals_without_a_name(rt: HostRuntime) -> Result<(), Fail> {
+    for (code, status, text) in &NAMELESS {
+        let refusal = nameless(*code).ok_or("a name is kept")?;
+        check(&rt, rt.alloc(), refusal, *code, *status, text)?;
+    }
     Ok(())
 }
 
-fn check_stale(rt: &impl Abort, alloc: Global, kind: StaleKind, text: &str) -> Result<(), Fail> {
-    let stale = Stale {
-        kind,
-        function: 2,
-        expected: 4,
-        found: 17,
-    };
-    check(
-        rt,
-        alloc,
-        Refusal::Stale(name(alloc, "sum")?, stale),
-        23,
-        123,
-        text,
-    )
+#[test]
+fn refusals_with_a_name(rt: HostRuntime) -> Result<(), Fail> {
+    for (name, code, status, text) in &NAMED {
+        let name = Name::copy_of(rt.alloc(), name)?;
+        let refusal = named(*code, name).ok_or("no name is kept")?;
+        check(&rt, rt.alloc(), refusal, *code, *status, text)?;
+    }
+    Ok(())
 }
 
 #[test]
-fn faults_of_tokens_and_grammar(rt: HostRuntime) -> Result<(), Fail> {
-    let alloc = rt.alloc();
-    check(
-        &rt,
-        alloc,
-        Refusal::BadByte(HERE),
-        1,
-        122,
-        "layc: a.c:3: unexpected byte\n",
-    )?;
-    check(
-        &rt,
-        alloc,
-        Refusal::BadLiteral(HERE),
-        2,
-        122,
-        "layc: a.c:3: bad literal\n",
-    )?;
-    check(
-        &rt,
-        alloc,
-        Refusal::Unclosed(HERE),
-        3,
-        122,
-        "layc: a.c:3: not closed\n",
-    )?;
-    check(
-        &rt,
-        alloc,
-        Refusal::TooWide(HERE),
-        4,
-        122,
-        "layc: a.c:3: literal or name too wide\n",
-    )?;
-    check(
-        &rt,
-        alloc,
-        Refusal::NoParse(HERE),
-        5,
-        122,
-        "layc: a.c:3: syntax error\n",
-    )?;
-    check(
-        &rt,
-        alloc,
-        Refusal::Unsupported(Keyword::UnderscoreComplex, HERE),
-        6,
-        122,
-        "layc: a.c:3: keyword _Complex is not supported\n",
-    )
-}
-
-#[test]
-fn faults_of_types_and_steps(rt: HostRuntime) -> Result<(), Fail> {
-    let alloc = rt.alloc();
-    check(
-        &rt,
-        alloc,
-        Refusal::TooBig(HERE),
-        7,
-        122,
-        "layc: a.c:3: type too big\n",
-    )?;
-    check(
-        &rt,
-        alloc,
-        Refusal::IllTyped(Rule::Lvalue, HERE),
-        8,
-        122,
-        "layc: a.c:3: type rule Lvalue broken\n",
-    )?;
-    check(
-        &rt,
-        alloc,
-        Refusal::Undefined(UndefinedKind::TwoBlocks, HERE),
-        17,
-        125,
-        "layc: a.c:3: undefined: TwoBlocks\n",
-    )
-}
-
-#[test]
-fn faults_of_names(rt: HostRuntime) -> Result<(), Fail> {
-    let alloc = rt.alloc();
-    check(
-        &rt,
-        alloc,
-        Refusal::Undeclared(name(alloc, "x")?, HERE),
-        9,
-        122,
-        "layc: a.c:3: undeclared name x\n",
-    )?;
-    check(
-        &rt,
-        alloc,
-        Refusal::Redeclared(name(alloc, "x")?, HERE, THERE),
-        10,
-        122,
-        "layc: a.c:3: x declared again, first at b.c:12\n",
-    )?;
-    check(
-        &rt,
-        alloc,
-        Refusal::Missing(name(alloc, "f")?),
-        11,
-        122,
-        "layc: no definition of f\n",
-    )?;
-    check(
-        &rt,
-        alloc,
-        Refusal::Twice(name(alloc, "f")?, HERE, THERE),
-        12,
-        122,
-        "layc: a.c:3: f defined again, first at b.c:12\n",
-    )?;
-    check(
-        &rt,
-        alloc,
-        Refusal::TagClash(name(alloc, "node")?, HERE, THERE),
-        13,
-        122,
-        "layc: a.c:3: record node differs from b.c:12\n",
-    )?;
-    check(
-        &rt,
-        alloc,
-        Refusal::NoMain,
-        14,
-        122,
-        "layc: no function main\n",
-    )?;
-    check(
-        &rt,
-        alloc,
-        Refusal::NameClash(name(alloc, "g")?, HERE, THERE),
-        32,
-        122,
-        "layc: a.c:3: type of g differs from b.c:12\n",
-    )
-}
-
-#[test]
-fn limits_and_rooms(rt: HostRuntime) -> Result<(), Fail> {
-    let alloc = rt.alloc();
-    check(
-        &rt,
-        alloc,
-        Refusal::Limit(LimitKind::PrintDepth, 1001),
-        15,
-        122,
-        "layc: limit PrintDepth passed: 1001\n",
-    )?;
-    check(
-        &rt,
-        alloc,
-        Refusal::TurnLimit(18446744073709551615),
-        18,
-        126,
-        "layc: turn limit 18446744073709551615 reached\n",
-    )?;
-    check(
-        &rt,
-        alloc,
-        Refusal::Room(RoomKind::Depth, 0),
-        19,
-        126,
-        "layc: room Depth passed: 0\n",
-    )?;
-    check(
-        &rt,
-        alloc,
-        Refusal::StepLimit(10),
-        27,
-        126,
-        "layc: step limit 10 reached\n",
-    )?;
-    check(
-        &rt,
-        alloc,
-        Refusal::Memory,
-        31,
-        127,
-        "layc: out of memory\n",
-    )
-}
-
-#[test]
-fn faults_of_profiles(rt: HostRuntime) -> Result<(), Fail> {
-    let alloc = rt.alloc();
-    check(
-        &rt,
-        alloc,
-        Refusal::BadProfile(9),
-        22,
-        123,
-        "layc: bad profile at line 9\n",
-    )?;
-    check_stale(
-        &rt,
-        alloc,
-        StaleKind::Functions,
-        "layc: stale profile: functions: 4 in the program, 17 in the profile\n",
-    )?;
-    check_stale(
-        &rt,
-        alloc,
-        StaleKind::Order,
-        "layc: stale profile: place of sum: 4 in the program, 17 in the profile\n",
-    )?;
-    check_stale(
-        &rt,
-        alloc,
-        StaleKind::Loops,
-        "layc: stale profile: loops of sum: 4 in the program, 17 in the profile\n",
-    )?;
-    check_stale(
-        &rt,
-        alloc,
-        StaleKind::Arms,
-        "layc: stale profile: arms of sum: 4 in the program, 17 in the profile\n",
-    )
-}
-
-#[test]
-fn faults_of_the_machine(rt: HostRuntime) -> Result<(), Fail> {
-    let alloc = rt.alloc();
-    check(
-        &rt,
-        alloc,
-        Refusal::BadElf(ElfField::HeaderSize, 53),
-        24,
-        124,
-        "layc: bad ELF: HeaderSize 53\n",
-    )?;
-    check(
-        &rt,
-        alloc,
-        Refusal::Trap(TrapKind::Misaligned, 0x00a0_19ff),
-        25,
-        125,
-        "layc: trap Misaligned at 0x00a019ff\n",
-    )?;
-    check(
-        &rt,
-        alloc,
-        Refusal::Break(0x8000_0004),
-        26,
-        125,
-        "layc: out of room at 0x80000004\n",
-    )
-}
-
-#[test]
-fn faults_of_files_and_words(rt: HostRuntime) -> Result<(), Fail> {
-    let alloc = rt.alloc();
-    check(
-        &rt,
-        alloc,
-        Refusal::ReadFault,
-        20,
-        121,
-        "layc: read failed\n",
-    )?;
-    check(
-        &rt,
-        alloc,
-        Refusal::WriteFault,
-        21,
-        121,
-        "layc: write failed\n",
-    )?;
-    check(
-        &rt,
-        alloc,
-        Refusal::FileFault(name(alloc, "a.c")?),
-        29,
-        121,
-        "layc: cannot read a.c\n",
-    )?;
-    check(
-        &rt,
-        alloc,
-        Refusal::TooLong(name(alloc, "a.c")?),
-        30,
-        121,
-        "layc: a.c is too long\n",
-    )?;
-    check(
-        &rt,
-        alloc,
-        Refusal::NotBuilt(name(alloc, "a.c")?),
-        33,
-        122,
-        "layc: a.c: form not built yet\n",
-    )?;
-    check(
-        &rt,
-        alloc,
-        Refusal::Usage,
-        28,
-        120,
-        "usage: layc compile -o OUT [--profile P] [--plain] [--heap MIB] [--stack MIB] FILE...\n       layc profile -o P [--turns N] FILE...\n       layc interp [--turns N] FILE...\n       layc run [--steps N] ELF\n       layc bench N\n",
-    )
+fn stale_profiles(rt: HostRuntime) -> Result<(), Fail> {
+    for (kind, text) in &STALE {
+        let refusal = stale(*kind, Name::copy_of(rt.alloc(), "sum")?);
+        check(&rt, rt.alloc(), refusal, 23, 123, text)?;
+    }
+    Ok(())
 }
 
 #[test]
 fn a_sink_that_fails_in_mid_text_keeps_a_first_part(rt: HostRuntime) -> Result<(), Fail> {
-    let alloc = rt.alloc();
-    let fourth = List::of(Vec::from_slice(alloc, &[4])?);
-    let mut sink = MemSink::with_room(alloc, 400, fourth)?;
-    let answer = put_refusal(&mut sink, &Refusal::NoParse(HERE), b"a.c:3", b"");
-    assert_eq!(rt; answer, Err(SinkFault));
-    assert_eq!(rt; sink.bytes(), b"layc: a.c:3: syntax".as_slice());
-    Ok(())
+    let kept = "layc: a.c:3: syntax";
+    check_text(
+        &rt,
+        rt.alloc(),
+        &Refusal::NoParse(HERE),
+        400,
+        &[4],
+        Err(SinkFault),
+        kept,
+    )
 }
 
 #[test]
 fn a_sink_that_is_full_keeps_what_fits(rt: HostRuntime) -> Result<(), Fail> {
-    let alloc = rt.alloc();
-    let mut sink = MemSink::with_room(alloc, 8, List::new(alloc))?;
-    let answer = put_refusal(&mut sink, &Refusal::Memory, b"", b"");
-    assert_eq!(rt; answer, Err(SinkFault));
-    assert_eq!(rt; sink.bytes(), b"layc: ou".as_slice());
-    Ok(())
+    let kept = "layc: ou";
+    check_text(
+        &rt,
+        rt.alloc(),
+        &Refusal::Memory,
+        8,
+        &[],
+        Err(SinkFault),
+        kept,
+    )
 }
