@@ -54,6 +54,7 @@ module _ (limit : ℕ) (elf : List ℕ) (f0 f1 : Option Contents) (reads0 reads1
   read_partly input s = record {
     stands = ap (λ (x : Shown). x.standing) s.came.shows;
     call = s.call;
+    goes = s.goes;
     written = subst (λ (o : List ℕ). Appends out0.bytes out1.bytes o) (sym (ap (λ (x : Shown). x.output) s.came.shows)) (s.part.3 ∙ s.written);
     taken = (length s.part.0, s.part.1, left_behind in1.bytes s.part.0 s.rest (sym s.left ∙ s.part.2) ∙ sym (ap (λ (x : Shown). Some (drop (length s.part.0) x.rest)) s.came.shows));
   }
@@ -62,6 +63,7 @@ module _ (limit : ℕ) (elf : List ℕ) (f0 f1 : Option Contents) (reads0 reads1
   wrote_partly input s = record {
     stands = ap (λ (x : Shown). x.standing) s.came.shows;
     call = s.call;
+    goes = s.goes;
     written = (s.part.0, subst (λ (o : List ℕ). Appends out0.bytes out1.bytes (o ++ take s.part.0 (asked_bytes (state_at image input machine.steps)))) (sym (ap (λ (x : Shown). x.output) s.came.shows)) (append_twice out0.bytes s.middle.written out1.bytes s.output _ s.written s.part.1));
     left = s.part.2 ∙ s.left ∙ sym (ap (λ (x : Shown). Some x.rest) s.came.shows);
   }

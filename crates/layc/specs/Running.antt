@@ -1,5 +1,5 @@
 -- What `run` leaves behind.
-use Rattle.std.specs.Prelude.{◌≡◌, ℕ, ◌<◌, ◌≤◌, List, ◌++◌, length, take, drop, Option, Some, Ok}
+use Rattle.std.specs.Prelude.{◌≡◌, ℕ, ◌+◌, ◌<◌, ◌≤◌, List, ◌++◌, length, take, drop, Option, Some, Ok}
 use Rattle.lay_base.specs.Told.{Contents, Tells, Appends, FilesKeep}
 use Rattle.rv_isa.specs.declared.image.Image.{Image}
 use Rattle.rv_isa.specs.Memory.{bytes_at}
@@ -45,11 +45,12 @@ WouldGoOn limit elf before now = Ran elf before now (λ image input. CameTo Runn
 abbrev pub state_at : Image → (input : List ℕ) (m : ℕ) → State
 state_at image input m = state_after image.segments m (start image input)
 
--- After m steps the program is at the call read. Out has gained its output, and fewer bytes than it asks for were
--- taken from the input.
+-- After m steps the program is at the call read, with which it would go on. Out has gained its output, and fewer
+-- bytes than it asks for were taken from the input.
 pub record StoppedInRead (before now : Outside) (image : Image) (input : List ℕ) (m : ℕ) : Type 0 where
   pub stands : (machine_run image input m).standing ≡ Running
   pub call : IsAtCall 63 (state_at image input m)
+  pub goes : (machine_run image input (m + 1)).standing ≡ Running
   pub written : Appends before.out.bytes now.out.bytes (machine_run image input m).output
   pub taken : (j : ℕ) × (j < register (state_at image input m) 12) × (now.input.bytes ≡ Some (drop j (machine_run image input m).rest))
 
@@ -57,11 +58,12 @@ pub record StoppedInRead (before now : Outside) (image : Image) (input : List �
 abbrev pub asked_bytes : State → List ℕ
 asked_bytes s = bytes_at s.memory (register s 11) (register s 12)
 
--- After m steps the program is at the call write. Out has gained its output and a first part of this call's
--- bytes, and the rest of its input is left.
+-- After m steps the program is at the call write, with which it would go on. Out has gained its output and a
+-- first part of this call's bytes, and the rest of its input is left.
 pub record StoppedInWrite (before now : Outside) (image : Image) (input : List ℕ) (m : ℕ) : Type 0 where
   pub stands : (machine_run image input m).standing ≡ Running
   pub call : IsAtCall 64 (state_at image input m)
+  pub goes : (machine_run image input (m + 1)).standing ≡ Running
   pub written : (k : ℕ) × Appends before.out.bytes now.out.bytes ((machine_run image input m).output ++ take k (asked_bytes (state_at image input m)))
   pub left : now.input.bytes ≡ Some (machine_run image input m).rest
 
