@@ -368,30 +368,33 @@ mod tests {
     use std::alloc::AllocError;
     use std::test::Fail;
 
-    // The sum as text, with brackets around each operator and its operands.
-    fn grouped(alloc: Global, sum: Sum) -> Result<String, AllocError> {
-        match sum {
-            Sum::Number(n) => format!(in alloc; "{n}"),
+    // Adds the sum to the text, with brackets around each operator and its operands.
+    fn group(alloc: Global, text: &mut String, sum: &Sum) -> Result<(), AllocError> {
+        let (left, operator, right) = match sum {
+            Sum::Number(n) => return text.push_str(&n.to_string(alloc)?),
             Sum::Paren(a) => {
-                let a = grouped(alloc, a.into_inner())?;
-                format!(in alloc; "({a})")
+                text.push('(')?;
+                group(alloc, text, a.get())?;
+                return text.push(')');
             }
-            Sum::Add(a, b) => {
-                let a = grouped(alloc, a.into_inner())?;
-                let b = grouped(alloc, b.into_inner())?;
-                format!(in alloc; "[{a} + {b}]")
-            }
-            Sum::Sub(a, b) => {
-                let a = grouped(alloc, a.into_inner())?;
-                let b = grouped(alloc, b.into_inner())?;
-                format!(in alloc; "[{a} - {b}]")
-            }
-            Sum::Mul(a, b) => {
-                let a = grouped(alloc, a.into_inner())?;
-                let b = grouped(alloc, b.into_inner())?;
-                format!(in alloc; "[{a} * {b}]")
-            }
-        }
+            Sum::Add(a, b) => (a, " + ", b),
+            Sum::Sub(a, b) => (a, " - ", b),
+            Sum::Mul(a, b) => (a, " * ", b),
+        };
+        text.push('[')?;
+        group(alloc, text, left.get())?;
+        text.push_str(operator)?;
+        group(alloc, text, right.get())?;
+        text.push(']')
+    }
+
+    // The sum that the program returns, with brackets around each operator and its operands.
+    fn text_of(alloc: Global, thin: &Option<Thin>) -> Result<String, Fail> {
+        let thin = thin.as_ref().ok_or("no program")?;
+        let sum = thin.last.as_ref().ok_or("no sum")?;
+        let mut text = String::new(alloc);
+        group(alloc, &mut text, sum)?;
+        Ok(text)
     }
 
     // What `int main(void) { return SUM; }` is read as.
@@ -403,73 +406,108 @@ mod tests {
         Ok(program_in(alloc, &tokens)?)
     }
 
+    fn grouped(alloc: Global, sum: &[ThinToken]) -> Result<String, Fail> {
+        let thin = returning(alloc, sum)?;
+        text_of(alloc, &thin)
+    }
+
+    fn is_read(alloc: Global, sum: &[ThinToken]) -> Result<bool, Fail> {
+        Ok(returning(alloc, sum)?.is_some())
+    }
+
+    // What these tokens are read as: whether putchar is declared, how often it is called, and
+    // whether a sum is returned.
+    fn parts(alloc: Global, tokens: &[ThinToken]) -> Result<Option<(bool, usize, bool)>, NoMemory> {
+        match program_in(alloc, tokens)? {
+            Some(thin) => Ok(Some((thin.declared, thin.puts.len(), thin.last.is_some()))),
+            None => Ok(None),
+        }
+    }
+
+    // A number within so many parentheses.
+    fn nested(alloc: Global, marks: usize) -> Result<Vec<ThinToken>, AllocError> {
+        let mut sum = vec![in alloc; Open; marks]?;
+        sum.push(Number(1))?;
+        for _ in 0..marks {
+            sum.push(Close)?;
+        }
+        Ok(sum)
+    }
+
+    // A sum with so many plus signs.
+    fn added(alloc: Global, marks: usize) -> Result<Vec<ThinToken>, AllocError> {
+        let mut sum = vec![in alloc; Number(1)]?;
+        for _ in 0..marks {
+            sum.extend_from_slice(&[Plus, Number(1)])?;
+        }
+        Ok(sum)
+    }
+
+    // Sums, with the brackets that C gives them.
+    static GROUPED: [(&[ThinToken], &str); 3] = [
+        (
+            &[Number(72), Minus, Number(3), Minus, Number(4)],
+            "[[72 - 3] - 4]",
+        ),
+        (
+            &[
+                Number(2),
+                Star,
+                Open,
+                Number(3),
+                Plus,
+                Number(4),
+                Close,
+                Minus,
+                Number(1),
+            ],
+            "[[2 * ([3 + 4])] - 1]",
+        ),
+        (
+            &[Number(2), Plus, Number(3), Star, Number(4), Star, Number(5)],
+            "[2 + [[3 * 4] * 5]]",
+        ),
+    ];
+
     #[test]
     fn operators_group_as_in_c(rt: HostRuntime) -> Result<(), Fail> {
-        let alloc = rt.alloc();
-        for (sum, expected) in [
-            (
-                [Number(72), Minus, Number(3), Minus, Number(4)].as_slice(),
-                "[[72 - 3] - 4]",
-            ),
-            (
-                [
-                    Number(2),
-                    Star,
-                    Open,
-                    Number(3),
-                    Plus,
-                    Number(4),
-                    Close,
-                    Minus,
-                    Number(1),
-                ]
-                .as_slice(),
-                "[[2 * ([3 + 4])] - 1]",
-            ),
-            (
-                [Number(2), Plus, Number(3), Star, Number(4), Star, Number(5)].as_slice(),
-                "[2 + [[3 * 4] * 5]]",
-            ),
-        ] {
-            let thin = returning(alloc, sum)?.ok_or("no program")?;
-            let last = thin.last.ok_or("no sum")?;
-            assert_eq!(rt; grouped(alloc, last)?.as_str(), expected);
+        for (sum, expected) in &GROUPED {
+            assert_eq!(rt; grouped(rt.alloc(), sum)?.as_str(), *expected);
         }
         Ok(())
     }
 
+    // Two calls of putchar behind its declaration, which has six tokens.
+    static CALLS: [ThinToken; 23] = [
+        Int,
+        Putchar,
+        Open,
+        Int,
+        Close,
+        Semicolon,
+        Int,
+        Main,
+        Open,
+        Void,
+        Close,
+        OpenBrace,
+        Putchar,
+        Open,
+        Number(72),
+        Close,
+        Semicolon,
+        Putchar,
+        Open,
+        Number(10),
+        Close,
+        Semicolon,
+        CloseBrace,
+    ];
+
     #[test]
     fn putchar_is_called_only_where_it_is_declared(rt: HostRuntime) -> Result<(), Fail> {
-        let tokens = [
-            Int,
-            Putchar,
-            Open,
-            Int,
-            Close,
-            Semicolon,
-            Int,
-            Main,
-            Open,
-            Void,
-            Close,
-            OpenBrace,
-            Putchar,
-            Open,
-            Number(72),
-            Close,
-            Semicolon,
-            Putchar,
-            Open,
-            Number(10),
-            Close,
-            Semicolon,
-            CloseBrace,
-        ];
-        let thin = program_in(rt.alloc(), &tokens)?.ok_or("no program")?;
-        assert!(rt; thin.declared);
-        assert_eq!(rt; thin.puts.len(), 2);
-        assert!(rt; thin.last.is_none());
-        assert!(rt; program_in(rt.alloc(), &tokens[6..])?.is_none());
+        assert_eq!(rt; parts(rt.alloc(), &CALLS)?, Some((true, 2, false)));
+        assert_eq!(rt; parts(rt.alloc(), &CALLS[6..])?, None);
         Ok(())
     }
 
@@ -477,19 +515,8 @@ mod tests {
     fn a_sum_has_at_most_300_marks(rt: HostRuntime) -> Result<(), Fail> {
         let alloc = rt.alloc();
         for (marks, read) in [(300, true), (301, false)] {
-            let mut nested = Vec::new(alloc);
-            let mut added = Vec::new(alloc);
-            for _ in 0..marks {
-                nested.push(Open)?;
-                added.extend_from_slice(&[Number(1), Plus])?;
-            }
-            nested.push(Number(1))?;
-            added.push(Number(1))?;
-            for _ in 0..marks {
-                nested.push(Close)?;
-            }
-            assert_eq!(rt; returning(alloc, &nested)?.is_some(), read);
-            assert_eq!(rt; returning(alloc, &added)?.is_some(), read);
+            assert_eq!(rt; is_read(alloc, &nested(alloc, marks)?)?, read);
+            assert_eq!(rt; is_read(alloc, &added(alloc, marks)?)?, read);
         }
         Ok(())
     }
@@ -497,28 +524,27 @@ mod tests {
     #[test]
     fn main_may_end_with_no_return(rt: HostRuntime) -> Result<(), Fail> {
         let tokens = [Int, Main, Open, Void, Close, OpenBrace, CloseBrace];
-        let thin = program_in(rt.alloc(), &tokens)?.ok_or("no program")?;
-        assert!(rt; !thin.declared);
-        assert!(rt; thin.puts.is_empty());
-        assert!(rt; thin.last.is_none());
+        assert_eq!(rt; parts(rt.alloc(), &tokens)?, Some((false, 0, false)));
         Ok(())
     }
 
+    static NO_SUMS: [&[ThinToken]; 8] = [
+        &[],
+        &[Number(1), Plus],
+        &[Minus, Number(1)],
+        &[Number(1), Number(2)],
+        &[Open, Close],
+        &[Open, Number(1)],
+        &[Number(1), Close],
+        &[Number(1), Semicolon, CloseBrace],
+    ];
+
     #[test]
     fn other_tokens_are_no_program(rt: HostRuntime) -> Result<(), Fail> {
-        for sum in [
-            [].as_slice(),
-            [Number(1), Plus].as_slice(),
-            [Minus, Number(1)].as_slice(),
-            [Number(1), Number(2)].as_slice(),
-            [Open, Close].as_slice(),
-            [Open, Number(1)].as_slice(),
-            [Number(1), Close].as_slice(),
-            [Number(1), Semicolon, CloseBrace].as_slice(),
-        ] {
-            assert!(rt; returning(rt.alloc(), sum)?.is_none());
+        for sum in NO_SUMS.iter() {
+            assert!(rt; !is_read(rt.alloc(), sum)?);
         }
-        assert!(rt; program_in(rt.alloc(), &[])?.is_none());
+        assert_eq!(rt; parts(rt.alloc(), &[])?, None);
         Ok(())
     }
 }

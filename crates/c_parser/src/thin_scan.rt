@@ -149,7 +149,19 @@ pub(crate) fn tokens_of(alloc: Global, bytes: &[u8]) -> Result<Option<Vec<ThinTo
 #[cfg(test)]
 mod tests {
     use super::*;
+    use std::process::Abort;
     use std::test::Fail;
+
+    fn check(
+        rt: &impl Abort,
+        alloc: Global,
+        text: &[u8],
+        expected: &[ThinToken],
+    ) -> Result<(), Fail> {
+        let tokens = tokens_of(alloc, text)?.ok_or("no tokens")?;
+        assert_eq!(rt; tokens.as_slice(), expected);
+        Ok(())
+    }
 
     #[test]
     fn a_program_has_its_words_numbers_and_marks(rt: HostRuntime) -> Result<(), Fail> {
@@ -180,47 +192,40 @@ mod tests {
             ThinToken::Semicolon,
             ThinToken::CloseBrace,
         ];
-        let tokens = tokens_of(rt.alloc(), text.as_slice())?.ok_or("no tokens")?;
-        assert_eq!(rt; tokens.as_slice(), expected.as_slice());
-        Ok(())
+        check(&rt, rt.alloc(), text, &expected)
     }
 
     #[test]
     fn white_space_parts_words_and_is_no_token(rt: HostRuntime) -> Result<(), Fail> {
-        let tokens = tokens_of(rt.alloc(), b" \n".as_slice())?.ok_or("no tokens")?;
-        assert!(rt; tokens.is_empty());
-        let tokens = tokens_of(rt.alloc(), b"\tint\nmain ".as_slice())?.ok_or("no tokens")?;
-        assert_eq!(rt;
-            tokens.as_slice(),
-            [ThinToken::Int, ThinToken::Main].as_slice()
-        );
-        Ok(())
+        check(&rt, rt.alloc(), b" \n", &[])?;
+        let expected = [ThinToken::Int, ThinToken::Main];
+        check(&rt, rt.alloc(), b"\tint\nmain ", &expected)
     }
 
     #[test]
     fn numbers_go_from_0_to_2147483647(rt: HostRuntime) -> Result<(), Fail> {
-        let tokens = tokens_of(rt.alloc(), b"0+2147483647".as_slice())?.ok_or("no tokens")?;
         let expected = [
             ThinToken::Number(0),
             ThinToken::Plus,
             ThinToken::Number(2_147_483_647),
         ];
-        assert_eq!(rt; tokens.as_slice(), expected.as_slice());
-        Ok(())
+        check(&rt, rt.alloc(), b"0+2147483647", &expected)
     }
+
+    static NO_TOKENS: [&[u8]; 8] = [
+        b"08",
+        b"2147483648",
+        b"99999999999999999999",
+        b"intmain",
+        b"3int",
+        b"Int",
+        b"int\rmain",
+        b"2/1",
+    ];
 
     #[test]
     fn other_texts_have_no_tokens(rt: HostRuntime) -> Result<(), Fail> {
-        for text in [
-            b"08".as_slice(),
-            b"2147483648".as_slice(),
-            b"99999999999999999999".as_slice(),
-            b"intmain".as_slice(),
-            b"3int".as_slice(),
-            b"Int".as_slice(),
-            b"int\rmain".as_slice(),
-            b"2/1".as_slice(),
-        ] {
+        for text in NO_TOKENS.iter() {
             assert!(rt; tokens_of(rt.alloc(), text)?.is_none());
         }
         Ok(())
