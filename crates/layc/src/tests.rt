@@ -82,8 +82,29 @@ fn host(rt: &HostRuntime, row: &Row) -> Result<MemHost, Fail> {
     Ok(MemHost::new(rt.alloc(), List::of(files), calls(rt, row.fails.host)?))
 }
 
+fn source(rt: &HostRuntime, bytes: &[u8], fails: &[u64]) -> Result<MemSource, Fail> {
+    Ok(MemSource::new(Bytes::of(bytes.to_vec(rt.alloc())?), calls(rt, fails)?))
+}
+
 fn sink(rt: &HostRuntime, fails: &[u64]) -> Result<MemSink, Fail> {
     Ok(MemSink::with_room(rt.alloc(), 4096, calls(rt, fails)?)?)
+}
+
+/// The streams of a call.
+#[derive(Drop)]
+struct Streams {
+    input: MemSource,
+    out: MemSink,
+    err: MemSink,
+}
+
+/// Streams with this input, of each of which these calls fail.
+fn streams_with(rt: &HostRuntime, input: &[u8], fails: [&[u64]; 3]) -> Result<Streams, Fail> {
+    Ok(Streams {
+        input: source(rt, input, fails[0])?,
+        out: sink(rt, fails[1])?,
+        err: sink(rt, fails[2])?,
+    })
 }
 
 fn strings(rt: &HostRuntime, words: &[&str]) -> Result<Vec<String>, Fail> {
@@ -94,38 +115,57 @@ fn strings(rt: &HostRuntime, words: &[&str]) -> Result<Vec<String>, Fail> {
     Ok(strings)
 }
 
-/// The status of a call of the top call with these objects.
+/// The status of the top call with these words and objects.
 fn status(
     rt: &HostRuntime,
-    words: &[String],
+    words: &[&str],
     host: &mut MemHost,
-    out: &mut MemSink,
-    err: &mut MemSink,
+    streams: &mut Streams,
 ) -> Result<u8, Fail> {
-    let mut input = MemSource::new(Bytes::of(Vec::new(rt.alloc())), calls(rt, &[])?);
-    Ok(status_of(&layc(rt.alloc(), words, host, &mut input, out, err)))
+    let words = strings(rt, words)?;
+    Ok(status_of(&layc(
+        rt.alloc(),
+        &words,
+        host,
+        &mut streams.input,
+        &mut streams.out,
+        &mut streams.err,
+    )))
 }
 
-fn wants(what: &'static str, holds: bool) -> Result<(), Fail> {
-    Ok(holds.then_some(()).ok_or(what)?)
+/// What differs first from what the row says.
+fn difference(row: &Row, status: u8, host: &MemHost, streams: &Streams) -> Option<&'static str> {
+    if status != row.status {
+        return Some("the status");
+    }
+    if streams.out.bytes() != row.out {
+        return Some("what was written to out");
+    }
+    if streams.err.bytes() != row.err {
+        return Some("what was written to err");
+    }
+    if host.bytes_of("t.c") != Some(row.text) {
+        return Some("the source as it was");
+    }
+    match host.bytes_of("o") {
+        Some(left) if left.len() == row.length && left.starts_with(row.file) => None,
+        _ => Some("the file"),
+    }
+}
+
+/// A failure where something differs.
+fn fail_on(difference: Option<&'static str>) -> Result<(), Fail> {
+    match difference {
+        Some(what) => Err(what.into()),
+        None => Ok(()),
+    }
 }
 
 fn check(rt: &HostRuntime, row: &Row) -> Result<(), Fail> {
-    let words = strings(rt, row.words)?;
     let mut host = host(rt, row)?;
-    let mut out = sink(rt, row.fails.out)?;
-    let mut err = sink(rt, row.fails.err)?;
-    let status = status(rt, &words, &mut host, &mut out, &mut err)?;
-    wants("the status", status == row.status)?;
-    wants("what was written to out", out.bytes() == row.out)?;
-    wants("what was written to err", err.bytes() == row.err)?;
-    let left = host.bytes_of("o").ok_or("no file")?;
-    wants("the length of the file", left.len() == row.length)?;
-    wants("the bytes of the file", left.starts_with(row.file))?;
-    wants(
-        "the source as it was",
-        host.bytes_of("t.c") == Some(row.text),
-    )
+    let mut streams = streams_with(rt, b"", [&[], row.fails.out, row.fails.err])?;
+    let status = status(rt, row.words, &mut host, &mut streams)?;
+    fail_on(difference(row, status, &host, &streams))
 }
 
 /// The headers of the file that is written for so many bytes of code, byte by byte by the tables of

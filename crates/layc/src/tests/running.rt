@@ -1,9 +1,7 @@
 //! Worked examples of `run`.
 
-use super::{calls, file, sink, strings, wants};
-use crate::outcome::status_of;
-use crate::top::layc;
-use lay_base::{Bytes, List, MemHost, MemSink, MemSource, Source};
+use super::{Streams, calls, fail_on, file, status, streams_with};
+use lay_base::{List, MemHost, MemSource, Source};
 use std::test::Fail;
 
 /// One segment at 0x00010000, with its 24 bytes at offset 84 of the file.
@@ -62,13 +60,9 @@ fn refused<'a>(words: &'a [&'a str], status: u8, err: &'a [u8]) -> Row<'a> {
 
 const WORDS: [&str; 2] = ["run", "e"];
 
-fn host(rt: &HostRuntime, elf: &[u8], fails: &[u64]) -> Result<MemHost, Fail> {
-    let files = vec![in rt.alloc(); file(rt, "e", elf)?]?;
+fn host(rt: &HostRuntime, name: &str, bytes: &[u8], fails: &[u64]) -> Result<MemHost, Fail> {
+    let files = vec![in rt.alloc(); file(rt, name, bytes)?]?;
     Ok(MemHost::new(rt.alloc(), List::of(files), calls(rt, fails)?))
-}
-
-fn source(rt: &HostRuntime, bytes: &[u8], fails: &[u64]) -> Result<MemSource, Fail> {
-    Ok(MemSource::new(Bytes::of(bytes.to_vec(rt.alloc())?), calls(rt, fails)?))
 }
 
 /// Whether just these bytes are left.
@@ -81,47 +75,38 @@ fn has_left(input: &mut MemSource, bytes: &[u8]) -> bool {
     input.next() == Ok(None)
 }
 
-/// What differs first from what the row says.
+/// What differs first from what the row says, where the host holds this file.
 fn difference(
+    elf: &[u8],
     row: &Row,
     status: u8,
-    input: &mut MemSource,
-    out: &MemSink,
-    err: &MemSink,
+    host: &MemHost,
+    streams: &mut Streams,
 ) -> Option<&'static str> {
     if status != row.status {
         return Some("the status");
     }
-    if out.bytes() != row.out {
+    if streams.out.bytes() != row.out {
         return Some("what was written to out");
     }
-    if err.bytes() != row.err {
+    if streams.err.bytes() != row.err {
         return Some("what was written to err");
     }
-    if !has_left(input, row.left) {
-        return Some("what is left of the input");
+    if host.bytes_of("e") != Some(elf) {
+        return Some("the ELF file as it was");
     }
-    None
+    if has_left(&mut streams.input, row.left) {
+        None
+    } else {
+        Some("what is left of the input")
+    }
 }
 
 fn check(rt: &HostRuntime, elf: &[u8], row: &Row) -> Result<(), Fail> {
-    let words = strings(rt, row.words)?;
-    let mut host = host(rt, elf, row.fails[0])?;
-    let mut input = source(rt, row.input, row.fails[1])?;
-    let mut out = sink(rt, row.fails[2])?;
-    let mut err = sink(rt, &[])?;
-    let outcome = layc(
-        rt.alloc(),
-        &words,
-        &mut host,
-        &mut input,
-        &mut out,
-        &mut err,
-    );
-    match difference(row, status_of(&outcome), &mut input, &out, &err) {
-        Some(what) => wants(what, false),
-        None => wants("the ELF file as it was", host.bytes_of("e") == Some(elf)),
-    }
+    let mut host = host(rt, "e", elf, row.fails[0])?;
+    let mut streams = streams_with(rt, row.input, [row.fails[1], row.fails[2], &[]])?;
+    let status = status(rt, row.words, &mut host, &mut streams)?;
+    fail_on(difference(elf, row, status, &host, &mut streams))
 }
 
 /// The example with another word of its headers.
@@ -300,25 +285,16 @@ fn a_stream_that_fails_in_a_call_ends_the_run(rt: HostRuntime) -> Result<(), Fai
 
 /// The status of a text that is compiled and then run, where `out` has gained the report and this.
 fn ran(rt: &HostRuntime, text: &[u8], prints: &[u8]) -> Result<Option<u8>, Fail> {
-    let compiles = strings(rt, &["compile", "-o", "e", "t.c"])?;
-    let runs = strings(rt, &WORDS)?;
-    let files = vec![in rt.alloc(); file(rt, "t.c", text)?]?;
-    let mut host = MemHost::new(rt.alloc(), List::of(files), calls(rt, &[])?);
-    let mut input = source(rt, b"", &[])?;
-    let mut out = sink(rt, &[])?;
-    let mut err = sink(rt, &[])?;
-    let first = layc(
-        rt.alloc(),
-        &compiles,
-        &mut host,
-        &mut input,
-        &mut out,
-        &mut err,
-    );
-    let second = layc(rt.alloc(), &runs, &mut host, &mut input, &mut out, &mut err);
-    let written = out.bytes().strip_prefix(b"layc report 1\n".as_slice());
-    let holds = status_of(&first) == 0 && written == Some(prints) && err.bytes().is_empty();
-    Ok(holds.then_some(status_of(&second)))
+    let mut host = host(rt, "t.c", text, &[])?;
+    let mut streams = streams_with(rt, b"", [&[], &[], &[]])?;
+    let first = status(rt, &["compile", "-o", "e", "t.c"], &mut host, &mut streams)?;
+    let second = status(rt, &WORDS, &mut host, &mut streams)?;
+    let written = streams
+        .out
+        .bytes()
+        .strip_prefix(b"layc report 1\n".as_slice());
+    let holds = first == 0 && written == Some(prints) && streams.err.bytes().is_empty();
+    Ok(holds.then_some(second))
 }
 
 #[test]
