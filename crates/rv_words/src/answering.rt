@@ -57,20 +57,3 @@ pub fn answer_lines<R: BufRead + Drop, W: Write>(
     }
     Ok(())
 }
-
-#[cfg(test)]
-mod tests {
-    use super::*;
-    use std::test::Fail;
-
-    #[test]
-    fn answers_stand_above_a_line_that_is_no_word(rt: HostRuntime) -> Result<(), Fail> {
-        let mut output = Vec::new(rt.alloc());
-        let input = "00700293\n100007\n0x13\n13\n".as_bytes();
-        let answered = answer_lines(rt.alloc(), input, &mut output);
-        assert!(rt; matches!(answered, Err(Stopped::NoWord(3))));
-        let expected = "00700293 Addi { rd: 5, rs1: 0, imm: 7 }\nnone\n";
-        assert!(rt; output.as_slice() == expected.as_bytes());
-        Ok(())
-    }
-}
