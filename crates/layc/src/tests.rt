@@ -98,6 +98,13 @@ struct Streams {
     err: MemSink,
 }
 
+/// What a call is given.
+#[derive(Drop)]
+struct World {
+    host: MemHost,
+    streams: Streams,
+}
+
 /// Streams with this input, of each of which these calls fail.
 fn streams_with(rt: &HostRuntime, input: &[u8], fails: [&[u64]; 3]) -> Result<Streams, Fail> {
     Ok(Streams {
@@ -116,41 +123,51 @@ fn strings(rt: &HostRuntime, words: &[&str]) -> Result<Vec<String>, Fail> {
 }
 
 /// The status of the top call with these words and objects.
-fn status(
-    rt: &HostRuntime,
-    words: &[&str],
-    host: &mut MemHost,
-    streams: &mut Streams,
-) -> Result<u8, Fail> {
+fn status(rt: &HostRuntime, words: &[&str], world: &mut World) -> Result<u8, Fail> {
     let words = strings(rt, words)?;
     Ok(status_of(&layc(
         rt.alloc(),
         &words,
-        host,
-        &mut streams.input,
-        &mut streams.out,
-        &mut streams.err,
+        &mut world.host,
+        &mut world.streams.input,
+        &mut world.streams.out,
+        &mut world.streams.err,
     )))
 }
 
+/// Whether the source is as it was, and `o` as the row says.
+fn has_files(host: &MemHost, row: &Row) -> bool {
+    match (host.bytes_of("t.c"), host.bytes_of("o")) {
+        (Some(text), Some(left)) => text == row.text
+            && left.len() == row.length
+            && left.starts_with(row.file),
+        _ => false,
+    }
+}
+
 /// What differs first from what the row says.
-fn difference(row: &Row, status: u8, host: &MemHost, streams: &Streams) -> Option<&'static str> {
+fn difference(row: &Row, status: u8, world: &World) -> Option<&'static str> {
     if status != row.status {
-        return Some("the status");
+        Some("the status")
+    } else if world.streams.out.bytes() != row.out {
+        Some("what was written to out")
+    } else if world.streams.err.bytes() != row.err {
+        Some("what was written to err")
+    } else if has_files(&world.host, row) {
+        None
+    } else {
+        Some("the files")
     }
-    if streams.out.bytes() != row.out {
-        return Some("what was written to out");
+}
+
+/// Whether just these bytes are left.
+fn has_left<S: Source>(input: &mut S, bytes: &[u8]) -> bool {
+    for byte in bytes {
+        if input.next() != Ok(Some(*byte)) {
+            return false;
+        }
     }
-    if streams.err.bytes() != row.err {
-        return Some("what was written to err");
-    }
-    if host.bytes_of("t.c") != Some(row.text) {
-        return Some("the source as it was");
-    }
-    match host.bytes_of("o") {
-        Some(left) if left.len() == row.length && left.starts_with(row.file) => None,
-        _ => Some("the file"),
-    }
+    input.next() == Ok(None)
 }
 
 /// A failure where something differs.
@@ -161,11 +178,20 @@ fn fail_on(difference: Option<&'static str>) -> Result<(), Fail> {
     }
 }
 
+fn world_of(rt: &HostRuntime, row: &Row) -> Result<World, Fail> {
+    Ok(World {
+        host: host(rt, row)?,
+        streams: streams_with(rt, b"", [&[], row.fails.out, row.fails.err])?,
+    })
+}
+
+fn check_in(rt: &HostRuntime, row: &Row, world: &mut World) -> Result<(), Fail> {
+    let status = status(rt, row.words, world)?;
+    fail_on(difference(row, status, world))
+}
+
 fn check(rt: &HostRuntime, row: &Row) -> Result<(), Fail> {
-    let mut host = host(rt, row)?;
-    let mut streams = streams_with(rt, b"", [&[], row.fails.out, row.fails.err])?;
-    let status = status(rt, row.words, &mut host, &mut streams)?;
-    fail_on(difference(row, status, &host, &streams))
+    check_in(rt, row, &mut world_of(rt, row)?)
 }
 
 /// The headers of the file that is written for so many bytes of code, byte by byte by the tables of
@@ -301,40 +327,81 @@ fn a_fault_of_err_changes_no_outcome(rt: HostRuntime) -> Result<(), Fail> {
     check(&rt, &refused(&WORDS, b"int x;", fails, 122, b"lay"))
 }
 
+/// A call of a host, with what it answers.
+enum HostCall {
+    Read(&'static str, u64, Result<&'static [u8], HostRead>),
+    Write(&'static str, &'static [u8], Result<(), HostWrite>),
+}
+
+static ON_A_FILE: [HostCall; 5] = [
+    HostCall::Write("layc_test_file", b"seven b", Ok(())),
+    HostCall::Read("layc_test_file", 7, Ok(b"seven b")),
+    HostCall::Read("layc_test_file", 6, Err(HostRead::TooLong)),
+    HostCall::Write("layc_test_file", b"", Ok(())),
+    HostCall::Read("layc_test_file", 0, Ok(b"")),
+];
+
+static ON_NO_FILE: [HostCall; 3] = [
+    HostCall::Read("layc_test_file", 7, Err(HostRead::Failed)),
+    HostCall::Read(".", 7, Err(HostRead::Failed)),
+    HostCall::Write(".", b"x", Err(HostWrite::Failed)),
+];
+
+fn call_holds<H: Host>(host: &mut H, call: &HostCall) -> bool {
+    match call {
+        HostCall::Read(name, limit, answer) => match (host.read_file(name, *limit), answer) {
+            (Ok(bytes), Ok(wanted)) => bytes.as_slice() == *wanted,
+            (Err(fault), Err(wanted)) => fault == *wanted,
+            _ => false,
+        },
+        HostCall::Write(name, bytes, answer) => host.write_file(name, bytes) == *answer,
+    }
+}
+
+/// The number, from 0 on, of the first call that the files of the system answer otherwise.
+fn first_otherwise(rt: &HostRuntime, calls: &[HostCall]) -> Option<usize> {
+    let mut host = FileHost::new(rt);
+    calls.iter().position(|call| !call_holds(&mut host, call))
+}
+
 #[test]
 fn files_are_read_and_written_as_they_are(rt: HostRuntime) -> Result<(), Fail> {
-    let name = "layc_test_file";
-    let mut host = FileHost::new(&rt);
-    assert!(rt; host.write_file(name, b"seven b").is_ok());
-    assert_eq!(rt;
-        host.read_file(name, 7).ok().ok_or("not read")?.as_slice(),
-        b"seven b".as_slice()
-    );
-    assert_eq!(rt; host.read_file(name, 6), Err(HostRead::TooLong));
-    assert!(rt; host.write_file(name, b"").is_ok());
-    assert_eq!(rt; host.read_file(name, 0).ok().ok_or("not read")?.len(), 0);
-    fs::remove_file(&rt, name)?;
-    assert_eq!(rt; host.read_file(name, 7), Err(HostRead::Failed));
-    assert_eq!(rt; host.read_file(".", 7), Err(HostRead::Failed));
-    assert_eq!(rt; host.write_file(".", b"x"), Err(HostWrite::Failed));
+    assert_eq!(rt; first_otherwise(&rt, &ON_A_FILE), None);
+    fs::remove_file(&rt, "layc_test_file")?;
+    assert_eq!(rt; first_otherwise(&rt, &ON_NO_FILE), None);
     Ok(())
+}
+
+const STREAM: &str = "layc_test_stream";
+
+fn is_written(rt: &HostRuntime) -> Result<bool, Fail> {
+    let mut sink = StdSink::new(fs::create(rt, STREAM)?);
+    Ok(sink.put(b"ab").is_ok() && sink.put(b"").is_ok())
+}
+
+fn is_read_back(rt: &HostRuntime) -> Result<bool, Fail> {
+    let mut source = StdSource::new(fs::open(rt, STREAM)?);
+    Ok(has_left(&mut source, b"ab"))
+}
+
+/// Whether a file that is open for writing alone fails to be read.
+fn is_unread(rt: &HostRuntime) -> Result<bool, Fail> {
+    let mut source = StdSource::new(fs::create(rt, STREAM)?);
+    Ok(source.next().is_err())
+}
+
+/// Whether a file that is open for reading alone fails to be written.
+fn is_unwritten(rt: &HostRuntime) -> Result<bool, Fail> {
+    let mut sink = StdSink::new(fs::open(rt, STREAM)?);
+    Ok(sink.put(b"x").is_err())
 }
 
 #[test]
 fn streams_give_their_bytes_and_their_end_and_count_faults(rt: HostRuntime) -> Result<(), Fail> {
-    let name = "layc_test_stream";
-    let mut sink = StdSink::new(fs::create(&rt, name)?);
-    assert!(rt; sink.put(b"ab").is_ok());
-    assert!(rt; sink.put(b"").is_ok());
-    let mut source = StdSource::new(fs::open(&rt, name)?);
-    assert_eq!(rt; source.next(), Ok(Some(b'a')));
-    assert_eq!(rt; source.next(), Ok(Some(b'b')));
-    assert_eq!(rt; source.next(), Ok(None));
-    // A file that is open for one thing alone fails at the other.
-    let mut unread = StdSource::new(fs::create(&rt, name)?);
-    assert!(rt; unread.next().is_err());
-    let mut unwritten = StdSink::new(fs::open(&rt, name)?);
-    assert!(rt; unwritten.put(b"x").is_err());
-    fs::remove_file(&rt, name)?;
+    assert!(rt; is_written(&rt)?);
+    assert!(rt; is_read_back(&rt)?);
+    assert!(rt; is_unread(&rt)?);
+    assert!(rt; is_unwritten(&rt)?);
+    fs::remove_file(&rt, STREAM)?;
     Ok(())
 }

@@ -1,7 +1,7 @@
 //! Worked examples of `run`.
 
-use super::{Streams, calls, fail_on, file, status, streams_with};
-use lay_base::{List, MemHost, MemSource, Source};
+use super::{World, calls, fail_on, file, has_left, status, streams_with};
+use lay_base::{List, MemHost};
 use std::test::Fail;
 
 /// One segment at 0x00010000, with its 24 bytes at offset 84 of the file.
@@ -60,53 +60,50 @@ fn refused<'a>(words: &'a [&'a str], status: u8, err: &'a [u8]) -> Row<'a> {
 
 const WORDS: [&str; 2] = ["run", "e"];
 
-fn host(rt: &HostRuntime, name: &str, bytes: &[u8], fails: &[u64]) -> Result<MemHost, Fail> {
+/// A host of this file, and streams with this input, of each of which these calls fail.
+fn world_of(
+    rt: &HostRuntime,
+    name: &str,
+    bytes: &[u8],
+    input: &[u8],
+    fails: [&[u64]; 3],
+) -> Result<World, Fail> {
     let files = vec![in rt.alloc(); file(rt, name, bytes)?]?;
-    Ok(MemHost::new(rt.alloc(), List::of(files), calls(rt, fails)?))
-}
-
-/// Whether just these bytes are left.
-fn has_left(input: &mut MemSource, bytes: &[u8]) -> bool {
-    for byte in bytes {
-        if input.next() != Ok(Some(*byte)) {
-            return false;
-        }
-    }
-    input.next() == Ok(None)
+    Ok(World {
+        host: MemHost::new(rt.alloc(), List::of(files), calls(rt, fails[0])?),
+        streams: streams_with(rt, input, [fails[1], fails[2], &[]])?,
+    })
 }
 
 /// What differs first from what the row says, where the host holds this file.
-fn difference(
-    elf: &[u8],
-    row: &Row,
-    status: u8,
-    host: &MemHost,
-    streams: &mut Streams,
-) -> Option<&'static str> {
+fn difference(elf: &[u8], row: &Row, status: u8, world: &mut World) -> Option<&'static str> {
     if status != row.status {
-        return Some("the status");
-    }
-    if streams.out.bytes() != row.out {
-        return Some("what was written to out");
-    }
-    if streams.err.bytes() != row.err {
-        return Some("what was written to err");
-    }
-    if host.bytes_of("e") != Some(elf) {
-        return Some("the ELF file as it was");
-    }
-    if has_left(&mut streams.input, row.left) {
+        Some("the status")
+    } else if world.streams.out.bytes() != row.out {
+        Some("what was written to out")
+    } else if world.streams.err.bytes() != row.err {
+        Some("what was written to err")
+    } else if world.host.bytes_of("e") != Some(elf) {
+        Some("the ELF file as it was")
+    } else if has_left(&mut world.streams.input, row.left) {
         None
     } else {
         Some("what is left of the input")
     }
 }
 
+fn check_in(rt: &HostRuntime, elf: &[u8], row: &Row, world: &mut World) -> Result<(), Fail> {
+    let status = status(rt, row.words, world)?;
+    fail_on(difference(elf, row, status, world))
+}
+
 fn check(rt: &HostRuntime, elf: &[u8], row: &Row) -> Result<(), Fail> {
-    let mut host = host(rt, "e", elf, row.fails[0])?;
-    let mut streams = streams_with(rt, row.input, [row.fails[1], row.fails[2], &[]])?;
-    let status = status(rt, row.words, &mut host, &mut streams)?;
-    fail_on(difference(elf, row, status, &host, &mut streams))
+    check_in(
+        rt,
+        elf,
+        row,
+        &mut world_of(rt, "e", elf, row.input, row.fails)?,
+    )
 }
 
 /// The example with another word of its headers.
@@ -284,17 +281,24 @@ fn a_stream_that_fails_in_a_call_ends_the_run(rt: HostRuntime) -> Result<(), Fai
 }
 
 /// The status of a text that is compiled and then run, where `out` has gained the report and this.
-fn ran(rt: &HostRuntime, text: &[u8], prints: &[u8]) -> Result<Option<u8>, Fail> {
-    let mut host = host(rt, "t.c", text, &[])?;
-    let mut streams = streams_with(rt, b"", [&[], &[], &[]])?;
-    let first = status(rt, &["compile", "-o", "e", "t.c"], &mut host, &mut streams)?;
-    let second = status(rt, &WORDS, &mut host, &mut streams)?;
-    let written = streams
+fn ran_in(rt: &HostRuntime, prints: &[u8], world: &mut World) -> Result<Option<u8>, Fail> {
+    let first = status(rt, &["compile", "-o", "e", "t.c"], world)?;
+    let second = status(rt, &WORDS, world)?;
+    let written = world
+        .streams
         .out
         .bytes()
         .strip_prefix(b"layc report 1\n".as_slice());
-    let holds = first == 0 && written == Some(prints) && streams.err.bytes().is_empty();
+    let holds = first == 0 && written == Some(prints) && world.streams.err.bytes().is_empty();
     Ok(holds.then_some(second))
+}
+
+fn ran(rt: &HostRuntime, text: &[u8], prints: &[u8]) -> Result<Option<u8>, Fail> {
+    ran_in(
+        rt,
+        prints,
+        &mut world_of(rt, "t.c", text, b"", [&[], &[], &[]])?,
+    )
 }
 
 #[test]
