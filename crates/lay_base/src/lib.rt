@@ -14,8 +14,6 @@ mod no_memory;
 mod operators;
 mod outside;
 mod place;
-#[cfg(test)]
-mod trees;
 
 pub use boxed::Boxed;
 pub use bytes::{Bytes, Name};

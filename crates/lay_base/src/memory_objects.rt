@@ -4,8 +4,6 @@ mod host;
 mod plan;
 mod sink;
 mod source;
-#[cfg(test)]
-mod tests;
 
 pub use host::MemHost;
 pub use sink::MemSink;

@@ -10,8 +10,6 @@ mod names;
 mod put;
 mod refusal;
 mod table;
-#[cfg(test)]
-mod tests;
 
 pub use put::put_refusal;
 pub use refusal::Refusal;

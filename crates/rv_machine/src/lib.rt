@@ -16,7 +16,5 @@ mod making;
 mod memory;
 mod rows;
 mod streams;
-#[cfg(test)]
-mod tests;
 
 pub use machine::{Machine, MachineEnd};

@@ -1,12 +1,11 @@
 //! The code, the exit status and the text of each refusal, and sinks that fail in mid-text.
 
-use crate::{Refusal, code_of, put_refusal, status_of_refusal};
 use lay_base::{
     ElfField, Keyword, LimitKind, List, MemSink, Name, Place, RoomKind, Rule, SinkFault, Stale,
     StaleKind, TrapKind, UndefinedKind,
 };
+use refusals::{Refusal, code_of, put_refusal, status_of_refusal};
 use std::alloc::Global;
-use std::process::Abort;
 use std::test::Fail;
 
 const HERE: Place = Place { file: 0, at: 40 };
@@ -147,94 +146,71 @@ fn stale(kind: StaleKind, sum: Name) -> Refusal {
     Refusal::Stale(sum, stale)
 }
 
-/// Checks what a sink of so much room, whose calls of these numbers fail, answers and keeps of a
-/// refusal whose first place is at `a.c:3` and whose second is at `b.c:12`.
-fn check_text(
-    rt: &impl Abort,
+/// Whether a sink of so much room, whose calls of these numbers fail, answers so and keeps that text of
+/// a refusal whose first place is at `a.c:3` and whose second is at `b.c:12`.
+fn has_text(
     alloc: Global,
     refusal: &Refusal,
     room: u64,
     failing: &[u64],
     answer: Result<(), SinkFault>,
     text: &str,
-) -> Result<(), Fail> {
+) -> Result<bool, Fail> {
     let failing = List::of(failing.to_vec(alloc)?);
     let mut sink = MemSink::with_room(alloc, room, failing)?;
     let answered = put_refusal(&mut sink, refusal, b"a.c:3", b"b.c:12");
-    assert_eq!(rt;
-        (answered, sink.bytes()),
-        (answer, text.as_bytes()),
-        "for {text}"
-    );
-    Ok(())
+    Ok(answered == answer && sink.bytes() == text.as_bytes())
 }
 
-/// Checks the code, the exit status and the whole text of a refusal.
-fn check(
-    rt: &impl Abort,
-    alloc: Global,
-    refusal: Refusal,
-    code: u8,
-    status: u8,
-    text: &str,
-) -> Result<(), Fail> {
-    let numbers = (code_of(&refusal), status_of_refusal(&refusal));
-    assert_eq!(rt; numbers, (code, status), "for {text}");
-    check_text(rt, alloc, &refusal, 400, &[], Ok(()), text)
+/// Whether a refusal has this code, this exit status and this whole text.
+fn is_so(alloc: Global, refusal: &Refusal, code: u8, status: u8, text: &str) -> Result<bool, Fail> {
+    if code_of(refusal) != code || status_of_refusal(refusal) != status {
+        return Ok(false);
+    }
+    has_text(alloc, refusal, 400, &[], Ok(()), text)
+}
+
+fn nameless_is_so(alloc: Global, code: u8, status: u8, text: &str) -> Result<bool, Fail> {
+    match nameless(code) {
+        Some(refusal) => is_so(alloc, &refusal, code, status, text),
+        None => Ok(false),
+    }
+}
+
+fn named_is_so(alloc: Global, name: &str, code: u8, status: u8, text: &str) -> Result<bool, Fail> {
+    match named(code, Name::copy_of(alloc, name)?) {
+        Some(refusal) => is_so(alloc, &refusal, code, status, text),
+        None => Ok(false),
+    }
+}
+
+fn stale_is_so(alloc: Global, kind: StaleKind, text: &str) -> Result<bool, Fail> {
+    let refusal = stale(kind, Name::copy_of(alloc, "sum")?);
+    is_so(alloc, &refusal, 23, 123, text)
 }
 
 #[test]
-fn refusals_without_a_name(rt: HostRuntime) -> Result<(), Fail> {
+fn each_refusal_has_its_numbers_and_its_text(rt: HostRuntime) -> Result<(), Fail> {
+    let alloc = rt.alloc();
     for (code, status, text) in &NAMELESS {
-        let refusal = nameless(*code).ok_or("a name is kept")?;
-        check(&rt, rt.alloc(), refusal, *code, *status, text)?;
+        assert!(rt; nameless_is_so(alloc, *code, *status, text)?, "{text}");
     }
-    Ok(())
-}
-
-#[test]
-fn refusals_with_a_name(rt: HostRuntime) -> Result<(), Fail> {
     for (name, code, status, text) in &NAMED {
-        let name = Name::copy_of(rt.alloc(), name)?;
-        let refusal = named(*code, name).ok_or("no name is kept")?;
-        check(&rt, rt.alloc(), refusal, *code, *status, text)?;
+        assert!(rt; named_is_so(alloc, name, *code, *status, text)?, "{text}");
     }
-    Ok(())
-}
-
-#[test]
-fn stale_profiles(rt: HostRuntime) -> Result<(), Fail> {
     for (kind, text) in &STALE {
-        let refusal = stale(*kind, Name::copy_of(rt.alloc(), "sum")?);
-        check(&rt, rt.alloc(), refusal, 23, 123, text)?;
+        assert!(rt; stale_is_so(alloc, *kind, text)?, "{text}");
     }
     Ok(())
 }
 
 #[test]
-fn a_sink_that_fails_in_mid_text_keeps_a_first_part(rt: HostRuntime) -> Result<(), Fail> {
-    let kept = "layc: a.c:3: syntax";
-    check_text(
-        &rt,
-        rt.alloc(),
-        &Refusal::NoParse(HERE),
-        400,
-        &[4],
-        Err(SinkFault),
-        kept,
-    )
-}
-
-#[test]
-fn a_sink_that_is_full_keeps_what_fits(rt: HostRuntime) -> Result<(), Fail> {
-    let kept = "layc: ou";
-    check_text(
-        &rt,
-        rt.alloc(),
-        &Refusal::Memory,
-        8,
-        &[],
-        Err(SinkFault),
-        kept,
-    )
+fn a_sink_that_fails_keeps_a_first_part(rt: HostRuntime) -> Result<(), Fail> {
+    let alloc = rt.alloc();
+    // The fourth piece is `syntax error`, and half of it is kept.
+    let refusal = Refusal::NoParse(HERE);
+    let fails = Err(SinkFault);
+    assert!(rt; has_text(alloc, &refusal, 400, &[4], fails, "layc: a.c:3: syntax")?);
+    assert!(rt; has_text(alloc, &Refusal::Memory, 8, &[], fails, "layc: ou")?);
+    Ok(())
 }

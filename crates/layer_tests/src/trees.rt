@@ -2,9 +2,7 @@
 
 ghost use Rattle.std.specs.Prelude.{◌≡◌, [], ◌∷◌, ◌++◌, IfOk, OnOk};
 
-use crate::boxed::Boxed;
-use crate::list::List;
-use crate::no_memory::NoMemory;
+use lay_base::{Boxed, List, NoMemory};
 use std::alloc::Global;
 use std::test::Fail;
 
@@ -87,21 +85,36 @@ fn add<T: Drop>(list: &mut List<T>, item: T) -> Result<(), NoMemory>
     }
 }
 
+fn sample(alloc: Global) -> Result<Expression, NoMemory> {
+    let mut terms = List::new(alloc);
+    add(&mut terms, Expression::Constant(2))?;
+    let three = boxed(alloc, Expression::Constant(3))?;
+    add(&mut terms, Expression::Negation(three))?;
+    add(&mut terms, Expression::Sum(List::new(alloc)))?;
+    Ok(Expression::Negation(boxed(alloc, Expression::Sum(terms))?))
+}
+
+fn has_text(alloc: Global, tree: &Expression, text: &str) -> Result<bool, Fail> {
+    Ok(format!(in alloc; "{tree:?}")?.as_str() == text)
+}
+
+fn copy_has_text(alloc: Global, tree: &Expression, text: &str) -> Result<bool, Fail> {
+    has_text(alloc, &copied(alloc, tree)?, text)
+}
+
+fn rebuilt_has_text(alloc: Global, text: &str) -> Result<bool, Fail> {
+    has_text(alloc, &rebuilt(alloc, sample(alloc)?)?, text)
+}
+
+/// Whether a tree, its copy and the tree that is rebuilt of it are shown alike.
+fn are_shown_alike(alloc: Global, tree: &Expression) -> Result<bool, Fail> {
+    let text = format!(in alloc; "{tree:?}")?;
+    Ok(copy_has_text(alloc, tree, text.as_str())? && rebuilt_has_text(alloc, text.as_str())?)
+}
+
 #[test]
 fn a_tree_is_copied_and_rebuilt_whole(rt: HostRuntime) -> Result<(), Fail> {
     let alloc = rt.alloc();
-    let mut terms = List::new(alloc);
-    add(&mut terms, Expression::Constant(2))?;
-    add(
-        &mut terms,
-        Expression::Negation(boxed(alloc, Expression::Constant(3))?),
-    )?;
-    add(&mut terms, Expression::Sum(List::new(alloc)))?;
-    let tree = Expression::Negation(boxed(alloc, Expression::Sum(terms))?);
-    let shown = format!(in alloc; "{tree:?}")?;
-    let copy = copied(alloc, &tree)?;
-    let tree = rebuilt(alloc, tree)?;
-    assert_eq!(rt; format!(in alloc; "{copy:?}")?, shown);
-    assert_eq!(rt; format!(in alloc; "{tree:?}")?, shown);
+    assert!(rt; are_shown_alike(alloc, &sample(alloc)?)?);
     Ok(())
 }

@@ -1,7 +1,7 @@
 use Rattle.std.proofs.Common.{◌≡◌, ℕ, List, [], ◌∷◌, length, refl, sym, ◌∙◌, arith, rules}
 use Rattle.rv_isa.specs.declared.image.Segment.{Segment}
 use Rattle.elf32.specs.Written.{IsWritable}
-use Rattle.elf32.proofs.writing.tests.small_image.Goals as goal
+use Rattle.layer_tests.proofs.elf_files.small_image.Goals as goal
 
 -- four segments of these sizes can be written
 sizes_fit : (segments : List Segment) (text globals stack heap : List ℕ) → length text ≡ 0x1004 → length globals ≡ 256 → stack ≡ [] → heap ≡ []
