@@ -358,17 +358,21 @@ fn call_holds<H: Host>(host: &mut H, call: &HostCall) -> bool {
     }
 }
 
-/// The number, from 0 on, of the first call that the files of the system answer otherwise.
-fn first_otherwise(rt: &HostRuntime, calls: &[HostCall]) -> Option<usize> {
-    let mut host = FileHost::new(rt);
-    calls.iter().position(|call| !call_holds(&mut host, call))
+/// The number, from 0 on, of the first call that a host answers otherwise.
+fn first_otherwise<H: Host>(host: &mut H, calls: &[HostCall]) -> Option<usize> {
+    for (i, call) in calls.iter().enumerate() {
+        if !call_holds(host, call) {
+            return Some(i);
+        }
+    }
+    None
 }
 
 #[test]
 fn files_are_read_and_written_as_they_are(rt: HostRuntime) -> Result<(), Fail> {
-    assert_eq!(rt; first_otherwise(&rt, &ON_A_FILE), None);
+    assert_eq!(rt; first_otherwise(&mut FileHost::new(&rt), &ON_A_FILE), None);
     fs::remove_file(&rt, "layc_test_file")?;
-    assert_eq!(rt; first_otherwise(&rt, &ON_NO_FILE), None);
+    assert_eq!(rt; first_otherwise(&mut FileHost::new(&rt), &ON_NO_FILE), None);
     Ok(())
 }
 
