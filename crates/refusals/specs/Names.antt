@@ -1,7 +1,5 @@
--- The names that stand in the texts of refusals.
+-- The names that stand in the texts of refusals, but for those of keywords.
 use Rattle.std.specs.Prelude.{ℕ, List, codes}
-use Rattle.lay_base.specs.declared.faults.Keyword.{Keyword}
-use Rattle.lay_base.specs.declared.faults.Keyword.TheVariants as K
 use Rattle.lay_base.specs.declared.faults.Rule.{Rule}
 use Rattle.lay_base.specs.declared.faults.Rule.TheVariants as R
 use Rattle.lay_base.specs.declared.faults.LimitKind.{LimitKind}
@@ -14,46 +12,6 @@ use Rattle.lay_base.specs.declared.faults.TrapKind.{TrapKind}
 use Rattle.lay_base.specs.declared.faults.TrapKind.TheVariants as T
 use Rattle.lay_base.specs.declared.faults.ElfField.{ElfField}
 use Rattle.lay_base.specs.declared.faults.ElfField.TheVariants as E
-
--- the spelling of a keyword (C99 6.4.1)
-abbrev pub keyword_text : Keyword → List ℕ
-keyword_text K.Auto = codes "auto"
-keyword_text K.Break = codes "break"
-keyword_text K.Case = codes "case"
-keyword_text K.Char = codes "char"
-keyword_text K.Const = codes "const"
-keyword_text K.Continue = codes "continue"
-keyword_text K.Default = codes "default"
-keyword_text K.Do = codes "do"
-keyword_text K.Double = codes "double"
-keyword_text K.Else = codes "else"
-keyword_text K.Enum = codes "enum"
-keyword_text K.Extern = codes "extern"
-keyword_text K.Float = codes "float"
-keyword_text K.For = codes "for"
-keyword_text K.Goto = codes "goto"
-keyword_text K.If = codes "if"
-keyword_text K.Inline = codes "inline"
-keyword_text K.Int = codes "int"
-keyword_text K.Long = codes "long"
-keyword_text K.Register = codes "register"
-keyword_text K.Restrict = codes "restrict"
-keyword_text K.Return = codes "return"
-keyword_text K.Short = codes "short"
-keyword_text K.Signed = codes "signed"
-keyword_text K.Sizeof = codes "sizeof"
-keyword_text K.Static = codes "static"
-keyword_text K.Struct = codes "struct"
-keyword_text K.Switch = codes "switch"
-keyword_text K.Typedef = codes "typedef"
-keyword_text K.Union = codes "union"
-keyword_text K.Unsigned = codes "unsigned"
-keyword_text K.Void = codes "void"
-keyword_text K.Volatile = codes "volatile"
-keyword_text K.While = codes "while"
-keyword_text K.UnderscoreBool = codes "_Bool"
-keyword_text K.UnderscoreComplex = codes "_Complex"
-keyword_text K.UnderscoreImaginary = codes "_Imaginary"
 
 -- the name of a typing rule
 abbrev pub rule_name : Rule → List ℕ

@@ -6,7 +6,8 @@ use Rattle.lay_base.specs.declared.faults.StaleKind.{StaleKind}
 use Rattle.lay_base.specs.declared.faults.StaleKind.TheVariants.{Functions, Order, Loops, Arms}
 use Rattle.refusals.specs.declared.refusal.Refusal.{Refusal}
 use Rattle.refusals.specs.declared.refusal.Refusal.TheVariants.{BadByte, BadLiteral, Unclosed, TooWide, NoParse, Unsupported, TooBig, IllTyped, Undeclared, Redeclared, Missing, Twice, TagClash, NoMain, Limit, Undefined, TurnLimit, Room, ReadFault, WriteFault, BadProfile, Stale, BadElf, Trap, Break, StepLimit, Usage, FileFault, TooLong, Memory, NameClash, NotBuilt}
-use Rattle.refusals.specs.Names.{keyword_text, rule_name, limit_name, room_name, undefined_name, trap_name, field_name}
+use Rattle.c_lexer.specs.Keywords.{keyword_text}
+use Rattle.refusals.specs.Names.{rule_name, limit_name, room_name, undefined_name, trap_name, field_name}
 
 -- ---- codes and exit statuses
 

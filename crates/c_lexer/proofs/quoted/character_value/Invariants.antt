@@ -1,0 +1,12 @@
+use Rattle.std.proofs.Common.{◌≡◌, ◌+◌, ◌*◌, ◌≤◌, min, drop, fold, true}
+use Rattle.std.specs.List.{list_all}
+use Rattle.c_lexer.specs.Characters.{is_hexadecimal, digit_value}
+use Rattle.c_lexer.specs.QuotedScan.{capped_character}
+use Rattle.c_lexer.proofs.quoted.character_value.Given as goal
+
+abbrev pub invariant-loop-b : goal.invariant-loop-b
+invariant-loop-b l = record {
+  is : fold (λ n d. min (l.base * n + digit_value d) 256) l.value (drop l.b-index l.digits) ≡ capped_character l.base l.digits;
+  small : l.value ≤ 256;
+  each : list_all is_hexadecimal (drop l.b-index l.digits) ≡ true;
+}

@@ -1,0 +1,17 @@
+pub mod Characters
+pub mod Keywords
+pub mod Marks
+pub mod Numbers
+pub mod Quoted
+pub mod Words
+pub mod Directives
+pub mod Parts
+pub mod Lexes
+pub mod Presuming
+pub mod NumberScan
+pub mod QuotedScan
+pub mod DirectiveScan
+pub mod Scanning
+pub mod Answers
+pub mod Readings
+pub mod TokenTexts

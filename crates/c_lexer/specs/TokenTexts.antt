@@ -1,0 +1,25 @@
+-- Each token has its text.
+use Rattle.std.specs.Prelude.{◌≡◌, ℕ, ◌+◌, ◌-◌, List, [], ◌∷◌, take, drop, length}
+use Rattle.c_lexer.specs.declared.token.Token.{Token}
+use Rattle.c_lexer.specs.declared.token.TokenKind.{TokenKind}
+use Rattle.c_lexer.specs.declared.token.TokenKind.TheVariants as K
+use Rattle.c_lexer.specs.Keywords.{keyword_text}
+use Rattle.c_lexer.specs.Marks.{mark_text}
+use Rattle.c_lexer.specs.Lexes.{Lexes}
+
+-- the bytes of a file that a token is
+abbrev pub token_text : List ℕ → Token → List ℕ
+token_text bytes token = take (token.to - token.from) (drop token.from bytes)
+
+abbrev pub IsTextOf : TokenKind → List ℕ → Type 0
+IsTextOf (K.Keyword keyword) text = text ≡ keyword_text keyword
+IsTextOf (K.Mark mark) text = text ≡ mark_text mark
+IsTextOf _ text = Unit {0}
+
+abbrev pub HaveTexts : List ℕ → List Token → Type 0
+HaveTexts bytes [] = Unit {0}
+HaveTexts bytes (token ∷ tokens) = (token.to ≡ token.from + length (token_text bytes token)) × IsTextOf token.kind (token_text bytes token) × HaveTexts bytes tokens
+
+-- the bytes of a keyword or a mark are its spelling
+abbrev pub TokensHaveTexts : Type 0
+TokensHaveTexts = (bytes : List ℕ) (tokens : List Token) → Lexes bytes tokens → HaveTexts bytes tokens

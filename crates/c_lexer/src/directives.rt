@@ -1,0 +1,138 @@
+//! Lines that begin with `#`.
+
+ghost use Rattle.std.specs.Prelude.{◌≡◌, ◌≤◌, ◌+◌, ◌<◌, ◌^◌, length, IfSome, true, false};
+ghost use Rattle.std.specs.List.{list_all};
+ghost use Rattle.c_lexer.specs.Characters.{is_blank};
+ghost use Rattle.c_lexer.specs.DirectiveScan.{are_flags, is_marker_end, named, marker_behind, marker_at, line_at, directive_behind, directive_in};
+ghost use Rattle.c_lexer.specs.QuotedScan.{quoted_length};
+
+use crate::characters::{blank, decimal};
+use crate::directive::{Directive, NameRange};
+use crate::numbers::value_of;
+use crate::quoted::quoted_run;
+use crate::runs::{blank_run, decimal_run, name_run};
+
+/// The first number that no line may have.
+const NUMBER_LIMIT: u64 = 2_147_483_648;
+
+fn is_blank_alone(rest: &[u8]) -> bool
+    ensures { result ≡ list_all is_blank rest.now }
+{
+    rest.iter().all(|b| blank(*b))
+}
+
+/// Whether only flags stand there, each behind a blank.
+fn are_flags(rest: &[u8]) -> bool
+    ensures { result ≡ are_flags false rest.now }
+{
+    let mut digit_may_come = false;
+    for b in rest {
+        if blank(*b) {
+            digit_may_come = true;
+        } else if !digit_may_come || !decimal(*b) {
+            return false;
+        }
+    }
+    true
+}
+
+fn is_marker_end(worded: bool, rest: &[u8]) -> bool
+    ensures { result ≡ is_marker_end worded rest.now }
+{
+    if worded {
+        is_blank_alone(rest)
+    } else {
+        are_flags(rest)
+    }
+}
+
+/// A marker whose name begins at byte `at` behind the `#`, from that name on.
+fn named(worded: bool, number: u32, at: u32, text: &[u8]) -> Option<Directive>
+    requires { at + length text.now ≤ 4194304 }
+    ensures { result ≡ named worded number at text.now (quoted_length 34 false text.now) }
+{
+    let size = quoted_run(b'"', text)?;
+    if !is_marker_end(worded, &text[size..]) {
+        return None;
+    }
+    let name = NameRange {
+        from: at,
+        to: at + size as u32 - 1,
+    };
+    Some(Directive::Renumbers(number, Some(name)))
+}
+
+/// A marker from behind its number on.
+fn marker_behind(worded: bool, number: u32, at: u32, text: &[u8]) -> Option<Directive>
+    requires { at + length text.now ≤ 4194304 }
+    ensures { result ≡ marker_behind worded number at text.now }
+{
+    let blanks = blank_run(text);
+    match &text[blanks..] {
+        [b'"', rest @ ..] => named(worded, number, at + blanks as u32 + 1, rest),
+        _ if is_marker_end(worded, text) => Some(Directive::Renumbers(number, None)),
+        _ => None,
+    }
+}
+
+/// A marker from its number on.
+#[tactic(auto, using(crate::proofs::Digits::decimal_run_passes))]
+fn marker_at(worded: bool, at: u32, text: &[u8]) -> Option<Directive>
+    requires { at + length text.now ≤ 4194304 }
+    ensures { result ≡ marker_at worded at text.now }
+{
+    let count = decimal_run(text);
+    if count == 0 {
+        return None;
+    }
+    let (digits, rest) = text.split_at(count);
+    let number = value_of(10, digits);
+    if number >= NUMBER_LIMIT {
+        return None;
+    }
+    marker_behind(worded, number as u32, at + count as u32, rest)
+}
+
+/// From behind the word `line` on.
+fn line_at(at: u32, text: &[u8]) -> Option<Directive>
+    requires { at + length text.now ≤ 4194304 }
+    ensures { result ≡ line_at at text.now }
+{
+    let blanks = blank_run(text);
+    if blanks == 0 {
+        return None;
+    }
+    marker_at(true, at + blanks as u32, &text[blanks..])
+}
+
+/// From behind the blanks that follow the `#`.
+fn directive_behind(at: u32, text: &[u8]) -> Option<Directive>
+    requires { at + length text.now ≤ 4194304 }
+    ensures { result ≡ directive_behind at text.now }
+{
+    if let [] = text {
+        return Some(Directive::Silent);
+    }
+    if let [b'0'..=b'9', ..] = text {
+        return marker_at(false, at, text);
+    }
+    let count = name_run(text);
+    let (word, rest) = text.split_at(count);
+    if word == b"pragma".as_slice() {
+        Some(Directive::Silent)
+    } else if word == b"line".as_slice() {
+        line_at(at + count as u32, rest)
+    } else {
+        None
+    }
+}
+
+/// The directive that the bytes behind a `#` are, up to the end of the line.
+#[tactic(auto, unfolding(crate::specs::DirectiveScan::directive_in))]
+pub fn directive_in(content: &[u8]) -> Option<Directive>
+    requires { length content.now ≤ 4194304 }
+    ensures { result ≡ directive_in content.now }
+{
+    let blanks = blank_run(content);
+    directive_behind(blanks as u32, &content[blanks..])
+}

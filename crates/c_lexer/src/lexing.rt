@@ -1,0 +1,127 @@
+//! All tokens of a text.
+
+ghost use Rattle.std.specs.Prelude.{◌≡◌, ◌≤◌, ◌<◌, ◌+◌, ◌++◌, length, true, IfOk, IfErr, OnOk, option_to_list};
+ghost use Rattle.c_lexer.specs.declared.fault.LexFault.TheVariants as L;
+ghost use Rattle.c_lexer.specs.Scanning.{scan, token_in, turn_at};
+ghost use Rattle.c_lexer.specs.Answers.{LexGives, ScanGives, fault_at};
+ghost use Rattle.c_lexer.specs.Readings.{HaveOneReading};
+ghost use Rattle.c_lexer.specs.TokenTexts.{TokensHaveTexts};
+
+use crate::fault::{FaultKind, LexFault};
+use crate::part::PartKind;
+use crate::parts::{begins_line_behind, part_at};
+use crate::token::{Token, Tokens};
+use crate::words::token_of;
+use lay_base::{Bytes, List};
+use std::alloc::Global;
+
+/// The token that a part is, where it is one.
+fn token_in(at: u32, kind: PartKind, text: &[u8]) -> Result<Option<Token>, FaultKind>
+    requires { at + length text.now ≤ 4194304 }
+    ensures { result ≡ token_in at kind text.now }
+{
+    let PartKind::Word(shape) = kind else {
+        return Ok(None);
+    };
+    let token = Token {
+        kind: token_of(shape, text)?,
+        from: at,
+        to: at + text.len() as u32,
+    };
+    Ok(Some(token))
+}
+
+/// What the part at the front gives: the token that it is, where it is one, how many bytes it has,
+/// and whether only white space stands behind it on its line.
+#[derive(Clone, Copy)]
+pub struct Turn {
+    pub found: Option<Token>,
+    pub size: usize,
+    pub begins_line: bool,
+}
+
+#[tactic(auto, unfolding(crate::specs::Scanning::turn_at))]
+fn turn_at(at: u32, begins_line: bool, text: &[u8]) -> Result<Turn, FaultKind>
+    requires { at + length text.now ≤ 4194304 }
+    ensures is { result ≡ turn_at at begins_line text.now }
+    ensures within { IfOk result (λ turn. (0 < turn.size) × (turn.size ≤ length text.now)) }
+{
+    let (kind, size) = part_at(begins_line, text)?;
+    let (part, _) = text.split_at(size);
+    Ok(Turn {
+        found: token_in(at, kind, part)?,
+        size,
+        begins_line: begins_line_behind(begins_line, kind, part),
+    })
+}
+
+fn add(tokens: &mut Vec<Token>, found: Option<Token>) -> Result<(), LexFault>
+    ensures added { OnOk result (tokens.new.items ≡ tokens.old.items ++ option_to_list found) }
+    ensures refused { IfErr result (λ fault. fault ≡ L.Memory) }
+{
+    if let Some(token) = found {
+        if tokens.push(token).is_err() {
+            return Err(LexFault::Memory);
+        }
+    }
+    Ok(())
+}
+
+fn fault_at(kind: FaultKind, at: u32) -> LexFault
+    ensures { result ≡ fault_at kind at }
+{
+    match kind {
+        FaultKind::BadByte => LexFault::BadByte(at),
+        FaultKind::BadLiteral => LexFault::BadLiteral(at),
+        FaultKind::Unclosed => LexFault::Unclosed(at),
+        FaultKind::TooWide => LexFault::TooWide(at),
+    }
+}
+
+#[tactic(auto, using(crate::proofs::Scans::begins))]
+fn tokens_of(alloc: Global, bytes: &[u8]) -> Result<Vec<Token>, LexFault>
+    requires { length bytes.now ≤ 4194304 }
+    ensures { ScanGives (λ tokens. tokens.items) (scan (length bytes.now) 0 true bytes.now) result }
+{
+    let mut tokens = Vec::new(alloc);
+    let mut rest = bytes;
+    let mut at = 0;
+    let mut begins_line = true;
+    while !rest.is_empty() {
+        let turn = match turn_at(at, begins_line, rest) {
+            Ok(turn) => turn,
+            Err(kind) => return Err(fault_at(kind, at)),
+        };
+        add(&mut tokens, turn.found)?;
+        (_, rest) = rest.split_at(turn.size);
+        at += turn.size as u32;
+        begins_line = turn.begins_line;
+    }
+    Ok(tokens)
+}
+
+/// The tokens of a file's text, or its first lexical fault (C99 6.4).
+pub fn lex(alloc: Global, bytes: &[u8], file: u16) -> Result<Tokens, LexFault>
+    requires { length bytes.now ≤ 4194304 }
+    ensures { LexGives bytes.now file result }
+{
+    let list = tokens_of(alloc, bytes)?;
+    match Vec::from_slice(alloc, bytes) {
+        Ok(copy) => Ok(Tokens {
+            file,
+            bytes: Bytes::of(copy),
+            list: List::of(list),
+        }),
+        Err(_) => Err(LexFault::Memory),
+    }
+}
+
+/// A text has one list of tokens, or one first fault, and not both.
+pub fn texts_have_one_reading()
+    ensures { HaveOneReading }
+{}
+
+/// The bytes of a keyword or of a mark are its spelling.
+pub fn tokens_have_texts()
+    ensures { TokensHaveTexts }
+{}

@@ -1,0 +1,31 @@
+//! The lexer: the tokens of a preprocessed source file, and what its line markers make of a place.
+//!
+//! It stands on `lay_base` and `c_types`. It promises that the tokens are those of the text as C99
+//! has it, or that a fault is the first one and stands where it says; a text has no second reading.
+#![tactic(auto)]
+
+mod characters;
+mod directive;
+mod directives;
+mod fault;
+mod lexing;
+mod mark;
+mod numbers;
+mod part;
+mod parts;
+mod presumed;
+mod presuming;
+mod quoted;
+mod radix;
+mod runs;
+#[cfg(test)]
+mod tests;
+mod token;
+mod words;
+
+pub use fault::LexFault;
+pub use lexing::{lex, texts_have_one_reading, tokens_have_texts};
+pub use mark::Mark;
+pub use presumed::Presumed;
+pub use presuming::presumed_at;
+pub use token::{Token, TokenKind, Tokens};

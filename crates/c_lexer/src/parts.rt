@@ -1,0 +1,111 @@
+//! The parts of a text: white space, comments, directives and words.
+
+ghost use Rattle.std.specs.Prelude.{◌≡◌, ◌≤◌, ◌<◌, ◌+◌, length, IfOk, IfSome, false};
+ghost use Rattle.c_lexer.specs.declared.part.PartKind.TheVariants as P;
+ghost use Rattle.c_lexer.specs.QuotedScan.{quoted_length};
+ghost use Rattle.c_lexer.specs.Scanning.{closed, comment_length, word_part, directive_part, slash_part, part_at, begins_line_behind_part, word_at};
+
+use crate::characters::white;
+use crate::directives::directive_in;
+use crate::fault::FaultKind;
+use crate::part::{PartKind, Shape};
+use crate::quoted::quoted_run;
+use crate::runs::line_run;
+use crate::words::word_at;
+
+/// How many bytes go up to `*/`, and with it.
+fn comment_run(bytes: &[u8]) -> Option<usize>
+    ensures is { result ≡ comment_length false bytes.now }
+    ensures within { IfSome result (λ n. n ≤ length bytes.now) }
+{
+    let mut starred = false;
+    for (i, b) in bytes.iter().enumerate() {
+        if starred && *b == b'/' {
+            return Some(i + 1);
+        }
+        starred = *b == b'*';
+    }
+    None
+}
+
+fn word_part(bytes: &[u8]) -> Result<(PartKind, usize), FaultKind>
+    ensures is { result ≡ word_part (word_at bytes.now) }
+    ensures within { IfOk result (λ part. (0 < part.1) × (part.1 ≤ length bytes.now)) }
+{
+    match word_at(bytes) {
+        Some((shape, size)) => Ok((PartKind::Word(shape), size)),
+        None => Err(FaultKind::BadByte),
+    }
+}
+
+fn directive_part(begins_line: bool, bytes: &[u8]) -> Result<(PartKind, usize), FaultKind>
+    requires { length bytes.now ≤ 4194304 }
+    ensures is { result ≡ directive_part begins_line bytes.now }
+    ensures within { IfOk result (λ part. (0 < part.1) × (part.1 ≤ length bytes.now + 1)) }
+{
+    if !begins_line {
+        return Err(FaultKind::BadByte);
+    }
+    let size = line_run(bytes);
+    match directive_in(&bytes[..size]) {
+        Some(_) => Ok((PartKind::Directive, size + 1)),
+        None => Err(FaultKind::BadByte),
+    }
+}
+
+fn slash_part(bytes: &[u8]) -> Result<(PartKind, usize), FaultKind>
+    requires { 0 < length bytes.now }
+    ensures is { result ≡ slash_part bytes.now }
+    ensures within { IfOk result (λ part. (0 < part.1) × (part.1 ≤ length bytes.now)) }
+{
+    match bytes {
+        [_, b'*', rest @ ..] => match comment_run(rest) {
+            Some(size) => Ok((PartKind::Comment, size + 2)),
+            None => Err(FaultKind::Unclosed),
+        },
+        [_, b'/', rest @ ..] => Ok((PartKind::LineComment, line_run(rest) + 2)),
+        _ => word_part(bytes),
+    }
+}
+
+fn quoted_part(shape: Shape, quote: u8, rest: &[u8]) -> Result<(PartKind, usize), FaultKind>
+    ensures is { result ≡ closed (P.Word shape) 1 (quoted_length quote false rest.now) }
+    ensures within { IfOk result (λ part. (0 < part.1) × (part.1 ≤ length rest.now + 1)) }
+{
+    match quoted_run(quote, rest) {
+        Some(size) => Ok((PartKind::Word(shape), size + 1)),
+        None => Err(FaultKind::Unclosed),
+    }
+}
+
+/// The kind and the length of the part at the front.
+#[tactic(auto, unfolding(crate::specs::Scanning::part_at))]
+pub fn part_at(begins_line: bool, bytes: &[u8]) -> Result<(PartKind, usize), FaultKind>
+    requires { length bytes.now ≤ 4194304 }
+    ensures is { result ≡ part_at begins_line bytes.now }
+    ensures within { IfOk result (λ part. (0 < part.1) × (part.1 ≤ length bytes.now)) }
+{
+    let [first, rest @ ..] = bytes else {
+        return Err(FaultKind::BadByte);
+    };
+    if white(*first) {
+        return Ok((PartKind::White, 1));
+    }
+    match *first {
+        b'/' => slash_part(bytes),
+        b'#' => directive_part(begins_line, rest),
+        b'\'' => quoted_part(Shape::Character, b'\'', rest),
+        b'"' => quoted_part(Shape::Text, b'"', rest),
+        _ => word_part(bytes),
+    }
+}
+
+/// Whether only white space stands behind the part on its line.
+pub fn begins_line_behind(begins_line: bool, kind: PartKind, text: &[u8]) -> bool
+    ensures { result ≡ begins_line_behind_part begins_line kind text.now }
+{
+    match kind {
+        PartKind::White => begins_line || matches!(text, [b'\n', ..]),
+        _ => false,
+    }
+}

@@ -1,0 +1,40 @@
+//! Integer types, and types.
+
+use lay_base::{Boxed, List};
+
+/// An integer type (C99 6.2.5). An enumeration is `int`.
+#[derive(Clone, Copy, Debug, PartialEq, Eq)]
+pub enum IntKind {
+    /// `char`, whose values are those of `unsigned char`.
+    Char,
+    /// `signed char`.
+    SChar,
+    /// `unsigned char`.
+    UChar,
+    /// `short`.
+    Short,
+    /// `unsigned short`.
+    UShort,
+    /// `int`.
+    Int,
+    /// `unsigned`.
+    UInt,
+    /// `long`.
+    Long,
+    /// `unsigned long`.
+    ULong,
+}
+
+/// A type (C99 6.2.5).
+#[derive(Debug, Drop)]
+pub enum Ty {
+    Void,
+    Int(IntKind),
+    Pointer(Boxed<Ty>),
+    /// The element's type, and how many elements there are.
+    Array(Boxed<Ty>, u32),
+    /// The result's type, and the parameters' types in order.
+    Function(Boxed<Ty>, List<Ty>),
+    /// A record's number in the list of records of its program.
+    Record(u32),
+}
