@@ -1,0 +1,6 @@
+pub mod Trees
+pub mod Spelling
+pub mod Levels
+pub mod Sizes
+pub mod Nodes
+pub mod Views

@@ -1,0 +1,73 @@
+-- The lists of a tree as lists, and the commas between their items.
+use Rattle.std.proofs.Common.{◌≡◌, ℕ, List, [], ◌∷◌, ◌++◌, Option, Some, None, Bool, true, false, refl, ap}
+use Rattle.c_ast.specs.declared.words.Word.{Word}
+use Rattle.c_ast.specs.Trees
+use Rattle.c_ast.specs.Spelling.{Lexeme, spelled_comma}
+use Rattle.c_ast.specs.Levels.{IsComma}
+use Rattle.c_ast.specs.Views.{arguments_of, specifiers_of, lines_of, fields_of, enumerators_of, parameters_of}
+use Rattle.c_expressions.specs.Reading.{comma_before}
+
+abbrev pub arguments_list : Trees.Arguments → List (Option ℕ × Trees.Term)
+arguments_list Trees.no_arguments = []
+arguments_list (Trees.and_argument comma a more) = (comma, a) ∷ arguments_list more
+
+abbrev pub specifiers_list : Trees.Specifiers → List Trees.Specification
+specifiers_list Trees.no_specifiers = []
+specifiers_list (Trees.and_specifier s more) = s ∷ specifiers_list more
+
+abbrev pub lines_list : Trees.Lines → List (Trees.Specifiers × Trees.Fields × ℕ)
+lines_list Trees.no_lines = []
+lines_list (Trees.and_line specs fields semicolon more) = (specs, fields, semicolon) ∷ lines_list more
+
+abbrev pub fields_list : Trees.Fields → List (Option ℕ × Trees.Shape)
+fields_list Trees.no_fields = []
+fields_list (Trees.and_field comma d more) = (comma, d) ∷ fields_list more
+
+abbrev pub enumerators_list : Trees.Enumerators → List (Option ℕ × Word × Trees.EnumeratorConstant)
+enumerators_list Trees.no_enumerators = []
+enumerators_list (Trees.and_enumerator comma x value more) = (comma, x, value) ∷ enumerators_list more
+
+abbrev pub parameters_list : Trees.Parameters → List (Option ℕ × Trees.Specifiers × Trees.Shape)
+parameters_list Trees.no_parameters = []
+parameters_list (Trees.and_parameter comma specs d more) = (comma, specs, d) ∷ parameters_list more
+
+pub arguments_again : (all : Trees.Arguments) → arguments_of (arguments_list all) ≡ all
+arguments_again Trees.no_arguments = refl
+arguments_again (Trees.and_argument comma a more) = ap (λ r. Trees.and_argument comma a r) (arguments_again more)
+
+pub specifiers_again : (specs : Trees.Specifiers) → specifiers_of (specifiers_list specs) ≡ specs
+specifiers_again Trees.no_specifiers = refl
+specifiers_again (Trees.and_specifier s more) = ap (λ r. Trees.and_specifier s r) (specifiers_again more)
+
+pub lines_again : (lines : Trees.Lines) → lines_of (lines_list lines) ≡ lines
+lines_again Trees.no_lines = refl
+lines_again (Trees.and_line specs fields semicolon more) = ap (λ r. Trees.and_line specs fields semicolon r) (lines_again more)
+
+pub fields_again : (fields : Trees.Fields) → fields_of (fields_list fields) ≡ fields
+fields_again Trees.no_fields = refl
+fields_again (Trees.and_field comma d more) = ap (λ r. Trees.and_field comma d r) (fields_again more)
+
+pub enumerators_again : (all : Trees.Enumerators) → enumerators_of (enumerators_list all) ≡ all
+enumerators_again Trees.no_enumerators = refl
+enumerators_again (Trees.and_enumerator comma x value more) = ap (λ r. Trees.and_enumerator comma x value r) (enumerators_again more)
+
+pub parameters_again : (all : Trees.Parameters) → parameters_of (parameters_list all) ≡ all
+parameters_again Trees.no_parameters = refl
+parameters_again (Trees.and_parameter comma specs d more) = ap (λ r. Trees.and_parameter comma specs d r) (parameters_again more)
+
+-- ---- commas
+
+abbrev pub is_new : {A : Type 0} → List A → Bool
+is_new [] = true
+is_new (a ∷ done) = false
+
+pub not_new : {A : Type 0} (done : List A) (a : A) → false ≡ is_new (done ++ a ∷ [])
+not_new [] a = refl
+not_new (b ∷ done) a = refl
+
+-- none before the first, and one before each other
+pub comma_read : {A : Type 0} (done : List A) (first : Bool) (c : Option ℕ) (rest : List Lexeme) → first ≡ is_new done → IsComma first c → comma_before done (spelled_comma c rest) ≡ Some (c, rest)
+comma_read [] first None rest e w = refl
+comma_read [] first (Some i) rest e w = let h : first ≡ false = w in cc
+comma_read (a ∷ done) first None rest e w = let h : first ≡ true = w in cc
+comma_read (a ∷ done) first (Some i) rest e w = refl

@@ -1,0 +1,288 @@
+-- Type names, primary and postfix expressions: what is read is spelled so.
+use Rattle.std.proofs.Common.{◌≡◌, ℕ, suc, ◌+◌, ◌≤◌, max, List, [], ◌∷◌, length, Option, Some, Bool, true, false, refl, ap, ◌∙◌, arith}
+use Rattle.c_lexer.specs.declared.mark.Mark.{Mark as Punctuator}
+use Rattle.c_lexer.specs.declared.mark.Mark.TheVariants as M
+use Rattle.c_lexer.specs.declared.token.TokenKind.{TokenKind}
+use Rattle.c_lexer.specs.declared.token.TokenKind.TheVariants as K
+use Rattle.c_ast.specs.declared.words.Word.{Word}
+use Rattle.c_ast.specs.declared.operators.StepOp.{StepOp}
+use Rattle.c_ast.specs.declared.operators.StepOp.TheVariants as P
+use Rattle.c_ast.specs.Trees
+use Rattle.c_ast.specs.Spelling.{Lexeme, mark, word, step_mark, spelled, spelled_comma, spelled_texts, spelled_form, spelled_specifiers, spelled_arguments}
+use Rattle.c_ast.specs.Levels.{level, has_name, is_typename, IsComma, IsLevelled, IsForm, AreArguments}
+use Rattle.c_ast.specs.Sizes.{depth, depth_form, depth_arguments}
+use Rattle.c_ast.specs.Views.{arguments_of}
+use Rattle.c_expressions.specs.Lexemes.{AreWhole}
+use Rattle.c_expressions.specs.Reading.{Inner, fronted, is_right, word_of, form_in, enclosed_form_in, text_in, texts_in, paren_in, primary_in, argument_in, arguments_in, index_in, call_in, member_in, stepped_in, going_on, postfix_step, postfix_in}
+use Rattle.c_expressions.proofs.Fronts.{bind_taken, given, chosen, deeper_taken, lexeme, front_whole, rest_whole, left_taken, right_taken, right_square_taken, any_name_taken, comma_before_taken}
+use Rattle.c_expressions.proofs.Chains.{Goes, chain_taken, Listing, added, ended, Grows, list_taken, AnyEnd}
+use Rattle.c_expressions.proofs.Taken.{Took, Reads, took_before, TookTerm, ReadsTerm, looser, IsSound}
+
+-- ---- string literals
+
+abbrev texts_listing : Listing Word
+texts_listing = record {
+  spelled_all = spelled_texts;
+  spelled_one = λ x rest. word K.Text x ∷ rest;
+  depth_all = λ all. 0;
+  depth_one = λ x. 0;
+  AreAll = λ first all. Unit {0};
+  IsOne = λ first x. Unit {0};
+  spelled_none = λ rest. refl;
+  spelled_more = λ x more rest. refl;
+  depth_none = refl;
+  depth_more = λ x more. refl;
+  are_none = λ first. tt;
+  are_more = λ first x more i w. tt;
+}
+
+abbrev is_text : TokenKind → Bool
+is_text K.Text = true
+is_text _ = false
+
+abbrev NoText : List Word → List Lexeme → Type 0
+NoText all rest = fronted is_text rest ≡ false
+
+text_of_kind : (n : ℕ) (done : List Word) (d : ℕ) (kind : TokenKind) (from to : ℕ) (text : List ℕ) (rest : List Lexeme) (r : List Word × ℕ × List Lexeme × Bool) → AreWhole (lexeme kind from to text ∷ rest)
+    → text_in done d (lexeme kind from to text ∷ rest) ≡ Some r → Grows texts_listing n NoText done d (lexeme kind from to text ∷ rest) r
+unfolding text_in
+text_of_kind n done d K.Text from to text rest r w h =
+    given (Grows texts_listing n NoText done d (lexeme K.Text from to text ∷ rest)) _ r h
+    (added (word_of (lexeme K.Text from to text)) refl (omega arith) refl tt (omega arith) (rest_whole (lexeme K.Text from to text) rest w), λ e. cc)
+text_of_kind n done d kind from to text rest r w h =
+    given (Grows texts_listing n NoText done d (lexeme kind from to text ∷ rest)) _ r h (ended refl refl refl, λ e. refl)
+
+text_step : (n : ℕ) (done : List Word) (d : ℕ) (tokens : List Lexeme) (r : List Word × ℕ × List Lexeme × Bool) → AreWhole tokens → text_in done d tokens ≡ Some r → Grows texts_listing n NoText done d tokens r
+unfolding text_in
+text_step n done d [] r w h = given (Grows texts_listing n NoText done d []) _ r h (ended refl refl refl, λ e. refl)
+text_step n done d (t ∷ rest) r w h = text_of_kind n done d t.kind t.from t.to t.text rest r w h
+
+-- ---- arguments
+
+abbrev arguments_listing : List (List ℕ) → Listing (Option ℕ × Trees.Term)
+arguments_listing types = record {
+  spelled_all = λ all rest. spelled_arguments (arguments_of all) rest;
+  spelled_one = λ a rest. spelled_comma a.0 (spelled a.1 rest);
+  depth_all = λ all. depth_arguments (arguments_of all);
+  depth_one = λ a. depth a.1;
+  AreAll = λ first all. AreArguments types first (arguments_of all);
+  IsOne = λ first a. IsComma first a.0 × (1 ≤ level a.1) × IsLevelled types a.1;
+  spelled_none = λ rest. refl;
+  spelled_more = λ a more rest. refl;
+  depth_none = refl;
+  depth_more = λ a more. refl;
+  are_none = λ first. tt;
+  are_more = λ first a more i w. (i.0, i.1, i.2, w);
+}
+
+-- arguments with the place of the ")" behind them
+abbrev spelled_call : Trees.Arguments × ℕ → List Lexeme → List Lexeme
+spelled_call all rest = spelled_arguments all.0 (mark M.Close all.1 ∷ rest)
+
+-- a type name in parentheses
+abbrev spelled_enclosed : ℕ × Trees.Form × ℕ → List Lexeme → List Lexeme
+spelled_enclosed t rest = mark M.Open t.0 ∷ spelled_form t.1 (mark M.Close t.2 ∷ rest)
+
+module _ (types : List (List ℕ)) (k : ℕ) (inner : Inner) (sound : IsSound types k inner) where
+  -- ---- type names
+
+  form_reads : Reads spelled_form (IsForm types) depth_form k (form_in inner)
+  unfolding form_in
+  form_reads tokens w y h =
+      let specs = bind_taken _ (sound.specifiers tokens w) h in
+      let d = bind_taken _ (sound.shape specs.0.2 specs.1.whole) specs.2 in
+      chosen (has_name d.0.0) _ _ y (Took spelled_form (IsForm types) depth_form k tokens y) d.2
+      (λ c h. cc)
+      (λ c h. given (Took spelled_form (IsForm types) depth_form k tokens) _ y h (record {
+        spelled_so = specs.1.spelled_so ∙ ap (λ z. spelled_specifiers specs.0.0 z) d.1.spelled_so;
+        levelled = (specs.1.levelled, d.1.levelled, c);
+        deep = omega (arith, specs.1.deep, d.1.deep);
+        within = omega (arith, specs.1.within, d.1.within);
+        whole = d.1.whole;
+      }))
+
+  pub enclosed_form_reads : Reads spelled_enclosed (λ t. IsForm types t.1) (λ t. depth_form t.1) k (enclosed_form_in inner)
+  unfolding enclosed_form_in
+  enclosed_form_reads tokens w y h =
+      let left = bind_taken _ (left_taken tokens w) h in
+      let t = bind_taken _ (form_reads left.0.1 left.1.1) left.2 in
+      let right = bind_taken _ (right_taken t.0.2 t.1.whole) t.2 in
+      given (Took spelled_enclosed (λ t. IsForm types t.1) (λ t. depth_form t.1) k tokens) _ y right.2 (record {
+        spelled_so = left.1.0 ∙ ap (λ z. mark M.Open left.0.0 ∷ z) (t.1.spelled_so ∙ ap (λ z. spelled_form t.0.0 z) right.1.0);
+        levelled = t.1.levelled;
+        deep = t.1.deep;
+        within = t.1.within;
+        whole = right.1.1;
+      })
+
+  -- ---- primary expressions
+
+  texts_reads : (from to : ℕ) (text : List ℕ) (rest : List Lexeme) → AreWhole (lexeme K.Text from to text ∷ rest) → (y : Trees.Term × ℕ × List Lexeme) → texts_in (lexeme K.Text from to text ∷ rest) ≡ Some y → TookTerm types 16 (suc k) (lexeme K.Text from to text ∷ rest) y
+  unfolding texts_in
+  texts_reads from to text rest w y h =
+      let all = bind_taken _ (list_taken texts_listing (suc k) NoText text_in (text_step (suc k)) (length (lexeme K.Text from to text ∷ rest) + 1) 1 (omega arith) (lexeme K.Text from to text ∷ rest) w) h in
+      given (TookTerm types 16 (suc k) (lexeme K.Text from to text ∷ rest)) _ y all.2 (record {
+        spelled_so = all.1.spelled_so;
+        levelled = (omega arith, λ e. let f : true ≡ false = ap (λ z. fronted is_text z) (all.1.spelled_so ∙ ap (λ z. spelled_texts z all.0.2) e) ∙ all.1.ends in cc);
+        deep = omega (arith, all.1.deep);
+        within = all.1.within;
+        whole = all.1.whole;
+      })
+
+  paren_reads : ReadsTerm types 16 (suc k) (paren_in k inner)
+  unfolding paren_in
+  paren_reads tokens w y h =
+      let left = bind_taken _ (left_taken tokens w) h in
+      let a = bind_taken _ (sound.expression left.0.1 left.1.1) left.2 in
+      let right = bind_taken _ (right_taken a.0.2 a.1.whole) a.2 in
+      let d = bind_taken _ (deeper_taken k a.0.1) right.2 in
+      given (TookTerm types 16 (suc k) tokens) _ y d.2 (record {
+        spelled_so = left.1.0 ∙ ap (λ z. mark M.Open left.0.0 ∷ z) (a.1.spelled_so ∙ ap (λ z. spelled a.0.0 z) right.1.0);
+        levelled = (omega arith, a.1.levelled.1);
+        deep = omega (arith, d.1.1, a.1.deep);
+        within = omega (arith, d.1.0, d.1.1);
+        whole = right.1.1;
+      })
+
+  primary_of_kind : (kind : TokenKind) (from to : ℕ) (text : List ℕ) (rest : List Lexeme) → AreWhole (lexeme kind from to text ∷ rest) → (y : Trees.Term × ℕ × List Lexeme) → primary_in types k inner (lexeme kind from to text ∷ rest) ≡ Some y → TookTerm types 16 (suc k) (lexeme kind from to text ∷ rest) y
+  unfolding primary_in
+  primary_of_kind K.Name from to text rest w y h =
+      chosen (is_typename types text) _ _ y (TookTerm types 16 (suc k) (lexeme K.Name from to text ∷ rest) y) h
+      (λ c h. cc)
+      (λ c h. given (TookTerm types 16 (suc k) (lexeme K.Name from to text ∷ rest)) _ y h (record { spelled_so = refl; levelled = (omega arith, c); deep = refl; within = omega arith; whole = rest_whole (lexeme K.Name from to text) rest w }))
+  primary_of_kind K.Text from to text rest w y h = texts_reads from to text rest w y h
+  primary_of_kind (K.Mark M.Open) from to text rest w y h = paren_reads (lexeme (K.Mark M.Open) from to text ∷ rest) w y h
+  primary_of_kind (K.Number n kind) from to text rest w y h =
+      given (TookTerm types 16 (suc k) (lexeme (K.Number n kind) from to text ∷ rest)) _ y h (record { spelled_so = refl; levelled = (omega arith, tt); deep = refl; within = omega arith; whole = rest_whole (lexeme (K.Number n kind) from to text) rest w })
+  primary_of_kind (K.Character n) from to text rest w y h =
+      given (TookTerm types 16 (suc k) (lexeme (K.Character n) from to text ∷ rest)) _ y h (record { spelled_so = refl; levelled = (omega arith, tt); deep = refl; within = omega arith; whole = rest_whole (lexeme (K.Character n) from to text) rest w })
+  primary_of_kind kind from to text rest w y h = cc
+
+  primary_reads : ReadsTerm types 16 (suc k) (primary_in types k inner)
+  unfolding primary_in
+  primary_reads [] w y h = cc
+  primary_reads (t ∷ rest) w y h = primary_of_kind t.kind t.from t.to t.text rest w y h
+
+  -- ---- postfix expressions
+
+  argument_step : (done : List (Option ℕ × Trees.Term)) (d : ℕ) (tokens : List Lexeme) (r : List (Option ℕ × Trees.Term) × ℕ × List Lexeme × Bool) → AreWhole tokens → argument_in inner done d tokens ≡ Some r → Grows (arguments_listing types) k AnyEnd done d tokens r
+  unfolding argument_in
+  argument_step done d tokens r w h =
+      chosen (fronted is_right tokens) _ _ r (Grows (arguments_listing types) k AnyEnd done d tokens r) h
+      (λ _ h. given (Grows (arguments_listing types) k AnyEnd done d tokens) _ r h (ended refl refl refl, λ _. tt))
+      (λ _ h.
+      let c = bind_taken _ (comma_before_taken done tokens w) h in
+      let a = bind_taken _ (sound.assignment c.0.1 c.1.2) c.2 in
+      given (Grows (arguments_listing types) k AnyEnd done d tokens) _ r a.2
+      (added (c.0.0, a.0.0) refl (ap (λ z. max d z) a.1.deep) (c.1.0 ∙ ap (λ z. spelled_comma c.0.0 z) a.1.spelled_so) (c.1.1, a.1.levelled.0, a.1.levelled.1) (omega (arith, a.1.deep, a.1.within)) a.1.whole, λ _. tt))
+
+  arguments_reads : Reads spelled_call (λ all. AreArguments types true all.0) (λ all. depth_arguments all.0) k (arguments_in inner)
+  unfolding arguments_in
+  arguments_reads tokens w y h =
+      let all = bind_taken _ (list_taken (arguments_listing types) k AnyEnd (argument_in inner) argument_step (length tokens + 1) 0 (omega arith) tokens w) h in
+      let right = bind_taken _ (right_taken all.0.2 all.1.whole) all.2 in
+      given (Took spelled_call (λ all. AreArguments types true all.0) (λ all. depth_arguments all.0) k tokens) _ y right.2 (record {
+        spelled_so = all.1.spelled_so ∙ ap (λ z. spelled_arguments (arguments_of all.0.0) z) right.1.0;
+        levelled = all.1.levelled;
+        deep = omega (arith, all.1.deep);
+        within = all.1.within;
+        whole = right.1.1;
+      })
+
+  -- the mark at the front has its own text
+  marked : (all : List Lexeme) (x : Trees.Term) (d : ℕ) (m : Punctuator) (from to : ℕ) (text : List ℕ) (rest : List Lexeme) → TookTerm types 15 (suc k) all (x, d, lexeme (K.Mark m) from to text ∷ rest) → TookTerm types 15 (suc k) all (x, d, mark m from ∷ rest)
+  marked all x d m from to text rest t = took_before x d (lexeme (K.Mark m) from to text ∷ rest) (mark m from ∷ rest) (ap (λ z. z ∷ rest) (front_whole (lexeme (K.Mark m) from to text) rest t.whole)) t
+
+  -- x stands before "[", and what follows is an expression and "]"
+  index_takes : (all : List Lexeme) (x : Trees.Term) (d left : ℕ) (tokens : List Lexeme) → TookTerm types 15 (suc k) all (x, d, mark M.OpenSquare left ∷ tokens) → (y : Trees.Term × ℕ × List Lexeme) → index_in k inner x d left tokens ≡ Some y → TookTerm types 15 (suc k) all y
+  unfolding index_in
+  index_takes all x d left tokens t y h =
+      let b = bind_taken _ (sound.expression tokens (rest_whole (mark M.OpenSquare left) tokens t.whole)) h in
+      let right = bind_taken _ (right_square_taken b.0.2 b.1.whole) b.2 in
+      let n = bind_taken _ (deeper_taken k (max d b.0.1)) right.2 in
+      given (TookTerm types 15 (suc k) all) _ y n.2 (record {
+        spelled_so = t.spelled_so ∙ ap (λ z. spelled x (mark M.OpenSquare left ∷ z)) (b.1.spelled_so ∙ ap (λ z. spelled b.0.0 z) right.1.0);
+        levelled = (omega arith, (t.levelled.0, t.levelled.1, b.1.levelled.1));
+        deep = omega (arith, n.1.1, t.deep, b.1.deep);
+        within = omega (arith, n.1.0, n.1.1);
+        whole = right.1.1;
+      })
+
+  call_takes : (all : List Lexeme) (x : Trees.Term) (d left : ℕ) (tokens : List Lexeme) → TookTerm types 15 (suc k) all (x, d, mark M.Open left ∷ tokens) → (y : Trees.Term × ℕ × List Lexeme) → call_in k inner x d left tokens ≡ Some y → TookTerm types 15 (suc k) all y
+  unfolding call_in
+  call_takes all x d left tokens t y h =
+      let b = bind_taken _ (arguments_reads tokens (rest_whole (mark M.Open left) tokens t.whole)) h in
+      let n = bind_taken _ (deeper_taken k (max d b.0.1)) b.2 in
+      given (TookTerm types 15 (suc k) all) _ y n.2 (record {
+        spelled_so = t.spelled_so ∙ ap (λ z. spelled x (mark M.Open left ∷ z)) b.1.spelled_so;
+        levelled = (omega arith, (t.levelled.0, t.levelled.1, b.1.levelled));
+        deep = omega (arith, n.1.1, t.deep, b.1.deep);
+        within = omega (arith, n.1.0, n.1.1);
+        whole = b.1.whole;
+      })
+
+  dot_takes : (all : List Lexeme) (x : Trees.Term) (d at : ℕ) (tokens : List Lexeme) → TookTerm types 15 (suc k) all (x, d, mark M.Dot at ∷ tokens) → (y : Trees.Term × ℕ × List Lexeme) → member_in k (Trees.dot x at) d tokens ≡ Some y → TookTerm types 15 (suc k) all y
+  unfolding member_in
+  dot_takes all x d at tokens t y h =
+      let b = bind_taken _ (any_name_taken tokens (rest_whole (mark M.Dot at) tokens t.whole)) h in
+      let n = bind_taken _ (deeper_taken k d) b.2 in
+      given (TookTerm types 15 (suc k) all) _ y n.2 (record {
+        spelled_so = t.spelled_so ∙ ap (λ z. spelled x (mark M.Dot at ∷ z)) b.1.0;
+        levelled = (omega arith, (t.levelled.0, t.levelled.1));
+        deep = omega (arith, n.1.1, t.deep);
+        within = omega (arith, n.1.0, n.1.1);
+        whole = b.1.1;
+      })
+
+  arrow_takes : (all : List Lexeme) (x : Trees.Term) (d at : ℕ) (tokens : List Lexeme) → TookTerm types 15 (suc k) all (x, d, mark M.Arrow at ∷ tokens) → (y : Trees.Term × ℕ × List Lexeme) → member_in k (Trees.arrow x at) d tokens ≡ Some y → TookTerm types 15 (suc k) all y
+  unfolding member_in
+  arrow_takes all x d at tokens t y h =
+      let b = bind_taken _ (any_name_taken tokens (rest_whole (mark M.Arrow at) tokens t.whole)) h in
+      let n = bind_taken _ (deeper_taken k d) b.2 in
+      given (TookTerm types 15 (suc k) all) _ y n.2 (record {
+        spelled_so = t.spelled_so ∙ ap (λ z. spelled x (mark M.Arrow at ∷ z)) b.1.0;
+        levelled = (omega arith, (t.levelled.0, t.levelled.1));
+        deep = omega (arith, n.1.1, t.deep);
+        within = omega (arith, n.1.0, n.1.1);
+        whole = b.1.1;
+      })
+
+  stepped_takes : (all : List Lexeme) (x : Trees.Term) (d : ℕ) (op : StepOp) (at : ℕ) (tokens : List Lexeme) → TookTerm types 15 (suc k) all (x, d, mark (step_mark op) at ∷ tokens) → (y : Trees.Term × ℕ × List Lexeme) → stepped_in k x d op at tokens ≡ Some y → TookTerm types 15 (suc k) all y
+  unfolding stepped_in
+  stepped_takes all x d op at tokens t y h =
+      let n = bind_taken _ (deeper_taken k d) h in
+      given (TookTerm types 15 (suc k) all) _ y n.2 (record {
+        spelled_so = t.spelled_so;
+        levelled = (omega arith, (t.levelled.0, t.levelled.1));
+        deep = omega (arith, n.1.1, t.deep);
+        within = omega (arith, n.1.0, n.1.1);
+        whole = rest_whole (mark (step_mark op) at) tokens t.whole;
+      })
+
+  abbrev SuffixGoes : List Lexeme → Trees.Term × ℕ × List Lexeme × Bool → Type 0
+  SuffixGoes all r = Goes (λ x d rest. TookTerm types 15 (suc k) all (x, d, rest)) (TookTerm types 15 (suc k) all) r r.3
+
+  suffix_goes : (all : List Lexeme) (o : Option (Trees.Term × ℕ × List Lexeme)) (r : Trees.Term × ℕ × List Lexeme × Bool) → ((y : Trees.Term × ℕ × List Lexeme) → o ≡ Some y → TookTerm types 15 (suc k) all y) → going_on o ≡ Some r → SuffixGoes all r
+  suffix_goes all o r f h = let b = bind_taken _ f h in given (SuffixGoes all) _ r b.2 b.1
+
+  suffix_of_kind : (all : List Lexeme) (x : Trees.Term) (d : ℕ) (kind : TokenKind) (from to : ℕ) (text : List ℕ) (rest : List Lexeme) (r : Trees.Term × ℕ × List Lexeme × Bool)
+      → TookTerm types 15 (suc k) all (x, d, lexeme kind from to text ∷ rest) → postfix_step k inner x d (lexeme kind from to text ∷ rest) ≡ Some r → SuffixGoes all r
+  unfolding postfix_step
+  suffix_of_kind all x d (K.Mark M.OpenSquare) from to text rest r t h = suffix_goes all _ r (index_takes all x d from rest (marked all x d M.OpenSquare from to text rest t)) h
+  suffix_of_kind all x d (K.Mark M.Open) from to text rest r t h = suffix_goes all _ r (call_takes all x d from rest (marked all x d M.Open from to text rest t)) h
+  suffix_of_kind all x d (K.Mark M.Dot) from to text rest r t h = suffix_goes all _ r (dot_takes all x d from rest (marked all x d M.Dot from to text rest t)) h
+  suffix_of_kind all x d (K.Mark M.Arrow) from to text rest r t h = suffix_goes all _ r (arrow_takes all x d from rest (marked all x d M.Arrow from to text rest t)) h
+  suffix_of_kind all x d (K.Mark M.PlusPlus) from to text rest r t h = suffix_goes all _ r (stepped_takes all x d P.Increment from rest (marked all x d M.PlusPlus from to text rest t)) h
+  suffix_of_kind all x d (K.Mark M.MinusMinus) from to text rest r t h = suffix_goes all _ r (stepped_takes all x d P.Decrement from rest (marked all x d M.MinusMinus from to text rest t)) h
+  suffix_of_kind all x d kind from to text rest r t h = given (SuffixGoes all) _ r h t
+
+  suffix_step : (all : List Lexeme) (x : Trees.Term) (d : ℕ) (tokens : List Lexeme) (r : Trees.Term × ℕ × List Lexeme × Bool) → TookTerm types 15 (suc k) all (x, d, tokens) → postfix_step k inner x d tokens ≡ Some r → SuffixGoes all r
+  unfolding postfix_step
+  suffix_step all x d [] r t h = given (SuffixGoes all) _ r h t
+  suffix_step all x d (t ∷ rest) r p h = suffix_of_kind all x d t.kind t.from t.to t.text rest r p h
+
+  pub postfix_reads : ReadsTerm types 15 (suc k) (postfix_in types k inner)
+  unfolding postfix_in
+  postfix_reads tokens w y h =
+      let x = bind_taken _ (primary_reads tokens w) h in
+      chain_taken (postfix_step k inner) (λ x d rest. TookTerm types 15 (suc k) tokens (x, d, rest)) (TookTerm types 15 (suc k) tokens) (suffix_step tokens) (suc k) x.0.0 x.0.1 x.0.2 y (looser types (suc k) 16 15 tokens x.0 (omega arith) x.1) x.2

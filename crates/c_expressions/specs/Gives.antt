@@ -1,0 +1,13 @@
+-- What a call of the parser returned, against what is to be read.
+use Rattle.std.specs.Prelude.{◌≡◌, Option, Some, None, Result, Ok, Err}
+use Rattle.c_expressions.specs.declared.failure.Failure.{Failure}
+use Rattle.c_expressions.specs.declared.failure.Failure.TheVariants.{Memory, NoParse}
+
+-- want of memory says nothing of it
+abbrev pub Fails : {Y : Type 0} → Failure → Option Y → Type 0
+Fails Memory read = Unit {0}
+Fails NoParse read = read ≡ None
+
+abbrev pub Gives : {X Y : Type 0} → (X → Y) → Result X Failure → Option Y → Type 0
+Gives view (Ok x) read = read ≡ Some (view x)
+Gives view (Err failure) read = Fails failure read

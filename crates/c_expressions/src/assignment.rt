@@ -1,0 +1,180 @@
+//! Conditional expressions, assignments and the comma (C99 6.5.15 to 6.5.17).
+
+ghost use Rattle.c_ast.specs.Views.{term_of};
+ghost use Rattle.c_expressions.specs.Gives.{Gives};
+ghost use Rattle.c_expressions.specs.Lexemes.{lexemes_of};
+ghost use Rattle.c_expressions.specs.Reading.{chosen_in, conditional_in, assignment_behind, assignment_in, comma_step, expression_in, at};
+
+use crate::binary::operators;
+use crate::building::boxed;
+use crate::failure::Failure;
+use crate::inside::{assignment_inside, conditional_inside, expression_inside};
+use crate::operators::{assigning_of, level_of};
+use crate::source::Source;
+use crate::tokens::{behind_colon, deeper_than, larger};
+use c_ast::{At, Expression, ExpressionNode};
+use c_lexer::{Mark, Token, TokenKind};
+use lay_base::Boxed;
+use std::alloc::Global;
+
+/// What stands behind `?`.
+#[cycle(expression)]
+#[tactic(auto, unfolding(crate::specs::Reading::chosen_in))]
+pub fn chosen<'a>(
+    alloc: Global,
+    source: &Source,
+    inside: u16,
+    a: Boxed<Expression>,
+    d: u32,
+    question: At,
+    tokens: &'a [Token],
+) -> Result<(Boxed<Expression>, u32, &'a [Token]), Failure>
+    ensures { Gives (λ x. (term_of x.0, x.1, lexemes_of source.now.bytes.now x.2.now)) result (chosen_in inside (at source.now.types.now inside) (term_of a) d question (lexemes_of source.now.bytes.now tokens.now)) }
+{
+    let (b, e, rest) = expression_inside(alloc, source, inside, tokens)?;
+    let (colon, rest) = behind_colon(source, rest)?;
+    let (c, f, rest) = conditional_inside(alloc, source, inside, rest)?;
+    let d = deeper_than(inside, larger(larger(d, e), f))?;
+    let whole = Expression {
+        place: a.get().place,
+        node: ExpressionNode::Cond(a, question, b, colon, c),
+    };
+    Ok((boxed(alloc, whole)?, d, rest))
+}
+
+/// A conditional expression (C99 6.5.15).
+#[cycle(expression)]
+#[tactic(auto, unfolding(crate::specs::Reading::conditional_in))]
+pub fn conditional<'a>(
+    alloc: Global,
+    source: &Source,
+    inside: u16,
+    tokens: &'a [Token],
+) -> Result<(Boxed<Expression>, u32, &'a [Token]), Failure>
+    ensures { Gives (λ x. (term_of x.0, x.1, lexemes_of source.now.bytes.now x.2.now)) result (conditional_in source.now.types.now inside (at source.now.types.now inside) (lexemes_of source.now.bytes.now tokens.now)) }
+{
+    let (a, d, rest) = operators(alloc, source, inside, 3, tokens)?;
+    match rest {
+        [
+            Token {
+                kind: TokenKind::Mark(Mark::Question),
+                from,
+                ..
+            },
+            behind @ ..,
+        ] => {
+            let (x, d, rest) = chosen(alloc, source, inside, a, d, *from, behind)?;
+            Ok((x, d, rest))
+        }
+        _ => Ok((a, d, rest)),
+    }
+}
+
+/// An assignment operator with what is assigned, if one stands at the front.
+#[cycle(expression)]
+#[tactic(auto, unfolding(crate::specs::Reading::assignment_behind))]
+pub fn assigned<'a>(
+    alloc: Global,
+    source: &Source,
+    inside: u16,
+    a: Boxed<Expression>,
+    d: u32,
+    tokens: &'a [Token],
+) -> Result<(Boxed<Expression>, u32, &'a [Token]), Failure>
+    ensures { Gives (λ x. (term_of x.0, x.1, lexemes_of source.now.bytes.now x.2.now)) result (assignment_behind inside (at source.now.types.now inside) (term_of a) d (lexemes_of source.now.bytes.now tokens.now)) }
+{
+    match tokens {
+        [token, rest @ ..] => match assigning_of(token.kind) {
+            Some(op) => {
+                if level_of(a.get()) < 14 {
+                    return Err(Failure::NoParse);
+                }
+                let (b, e, rest) = assignment_inside(alloc, source, inside, rest)?;
+                let d = deeper_than(inside, larger(d, e))?;
+                let whole = Expression {
+                    place: a.get().place,
+                    node: ExpressionNode::Assign(a, op, token.from, b),
+                };
+                Ok((boxed(alloc, whole)?, d, rest))
+            }
+            None => Ok((a, d, tokens)),
+        },
+        [] => Ok((a, d, tokens)),
+    }
+}
+
+/// An assignment expression (C99 6.5.16).
+#[cycle(expression)]
+#[tactic(auto, unfolding(crate::specs::Reading::assignment_in))]
+pub fn assignment<'a>(
+    alloc: Global,
+    source: &Source,
+    inside: u16,
+    tokens: &'a [Token],
+) -> Result<(Boxed<Expression>, u32, &'a [Token]), Failure>
+    ensures { Gives (λ x. (term_of x.0, x.1, lexemes_of source.now.bytes.now x.2.now)) result (assignment_in source.now.types.now inside (at source.now.types.now inside) (lexemes_of source.now.bytes.now tokens.now)) }
+{
+    let (a, d, rest) = conditional(alloc, source, inside, tokens)?;
+    let (x, d, rest) = assigned(alloc, source, inside, a, d, rest)?;
+    Ok((x, d, rest))
+}
+
+/// One comma more with its second operand, if one stands at the front.
+#[cycle(expression)]
+#[tactic(auto, unfolding(crate::specs::Reading::comma_step))]
+pub fn comma<'a>(
+    alloc: Global,
+    source: &Source,
+    inside: u16,
+    x: Boxed<Expression>,
+    d: u32,
+    tokens: &'a [Token],
+) -> Result<(Boxed<Expression>, u32, &'a [Token], bool), Failure>
+    ensures { Gives (λ x. (term_of x.0, x.1, lexemes_of source.now.bytes.now x.2.now, x.3)) result (comma_step inside (at source.now.types.now inside) (term_of x) d (lexemes_of source.now.bytes.now tokens.now)) }
+{
+    match tokens {
+        [
+            Token {
+                kind: TokenKind::Mark(Mark::Comma),
+                from,
+                ..
+            },
+            rest @ ..,
+        ] => {
+            let (b, e, rest) = assignment_inside(alloc, source, inside, rest)?;
+            let d = deeper_than(inside, larger(d, e))?;
+            let whole = Expression {
+                place: x.get().place,
+                node: ExpressionNode::Comma(x, *from, b),
+            };
+            Ok((boxed(alloc, whole)?, d, rest, true))
+        }
+        _ => Ok((x, d, tokens, false)),
+    }
+}
+
+/// An expression (C99 6.5.17).
+#[cycle(expression)]
+#[tactic(auto, using(crate::proofs::Turns::turns), unfolding(crate::specs::Reading::expression_in))]
+pub fn expression<'a>(
+    alloc: Global,
+    source: &Source,
+    inside: u16,
+    tokens: &'a [Token],
+) -> Result<(Boxed<Expression>, u32, &'a [Token]), Failure>
+    ensures { Gives (λ x. (term_of x.0, x.1, lexemes_of source.now.bytes.now x.2.now)) result (expression_in source.now.types.now inside (at source.now.types.now inside) (lexemes_of source.now.bytes.now tokens.now)) }
+{
+    let (mut x, mut d, mut rest) = assignment(alloc, source, inside, tokens)?;
+    let mut turns = inside as u64 + 1;
+    'more: while turns > 0 {
+        let (y, e, behind, on) = comma(alloc, source, inside, x, d, rest)?;
+        x = y;
+        d = e;
+        rest = behind;
+        turns -= 1;
+        if !on {
+            return Ok((x, d, rest));
+        }
+    }
+    Err(Failure::NoParse)
+}

@@ -1,0 +1,373 @@
+//! Declarators (C99 6.7.5, 6.7.6).
+
+ghost use Rattle.std.specs.Prelude.{◌+◌, [], length, map};
+ghost use Rattle.std.specs.Option.{option_map};
+ghost use Rattle.c_ast.specs.Views.{optional_of, parameter_list_of, parameter_of, shape_if_any, shape_of, term_of};
+ghost use Rattle.c_expressions.specs.Gives.{Gives};
+ghost use Rattle.c_expressions.specs.Lexemes.{lexemes_of};
+ghost use Rattle.c_expressions.specs.Reading.{chain, const_step, pointer_in, enclosed_in, core_in, length_in, array_in, parameter_step, parameters_in, function_in, suffix_step, direct_in, shape_in, at};
+
+use crate::begins::{begins_enclosed, begins_void};
+use crate::building::{add, boxed};
+use crate::failure::Failure;
+use crate::inside::{conditional_inside, shape_inside, specifiers_inside};
+use crate::items::{parameter_of_parts, stands_for_something, with_parameter};
+use crate::names::{fronted_plain_name, plain_name};
+use crate::places::{place_at, placed};
+use crate::shapes::place_from;
+use crate::source::Source;
+use crate::tokens::{
+    behind_left, behind_right, behind_right_square, behind_void, comma_before, deeper_than,
+    fronted_right, fronted_right_square, larger,
+};
+use c_ast::{At, Declarator, DeclaratorNode, Expression, Parameter, Parameters};
+use c_lexer::{Mark, Token, TokenKind};
+use lay_base::{Boxed, Keyword, List};
+use std::alloc::Global;
+
+/// One `const` more, if one stands at the front.
+#[tactic(auto, unfolding(crate::specs::Reading::const_step))]
+pub fn constant_mark<'a>(
+    source: &Source,
+    all: List<At>,
+    d: u32,
+    tokens: &'a [Token],
+) -> Result<(List<At>, u32, &'a [Token], bool), Failure>
+    ensures { Gives (λ x. (x.0, x.1, lexemes_of source.now.bytes.now x.2.now, x.3)) result (const_step all d (lexemes_of source.now.bytes.now tokens.now)) }
+{
+    match tokens {
+        [
+            Token {
+                kind: TokenKind::Keyword(Keyword::Const),
+                from,
+                ..
+            },
+            rest @ ..,
+        ] => {
+            let mut all = all;
+            add(&mut all, *from)?;
+            Ok((all, d, rest, true))
+        }
+        _ => Ok((all, d, tokens, false)),
+    }
+}
+
+/// Each `const` behind a `*`.
+#[tactic(auto, using(crate::proofs::Turns::turns))]
+pub fn constant_marks<'a>(
+    alloc: Global,
+    source: &Source,
+    tokens: &'a [Token],
+) -> Result<(List<At>, u32, &'a [Token]), Failure>
+    ensures { Gives (λ x. (x.0, x.1, lexemes_of source.now.bytes.now x.2.now)) result (chain const_step (length (lexemes_of source.now.bytes.now tokens.now) + 1) [] 0 (lexemes_of source.now.bytes.now tokens.now)) }
+{
+    let mut all = List::new(alloc);
+    let mut d = 0;
+    let mut rest = tokens;
+    let mut turns = tokens.len() as u64 + 1;
+    'more: while turns > 0 {
+        let (more, e, behind, on) = constant_mark(source, all, d, rest)?;
+        all = more;
+        d = e;
+        rest = behind;
+        turns -= 1;
+        if !on {
+            return Ok((all, d, rest));
+        }
+    }
+    Err(Failure::NoParse)
+}
+
+/// What stands behind `*`.
+#[cycle(expression)]
+#[tactic(auto, unfolding(crate::specs::Reading::pointer_in))]
+pub fn pointer<'a>(
+    alloc: Global,
+    source: &Source,
+    inside: u16,
+    mark: At,
+    tokens: &'a [Token],
+) -> Result<(Boxed<Declarator>, u32, &'a [Token]), Failure>
+    ensures { Gives (λ x. (shape_of x.0, x.1, lexemes_of source.now.bytes.now x.2.now)) result (pointer_in inside (at source.now.types.now inside) mark (lexemes_of source.now.bytes.now tokens.now)) }
+{
+    let (consts, _, rest) = constant_marks(alloc, source, tokens)?;
+    let (declarator, d, rest) = shape_inside(alloc, source, inside, rest)?;
+    let d = deeper_than(inside, d)?;
+    let whole = Declarator {
+        place: placed(source, mark),
+        node: DeclaratorNode::Pointer(mark, consts, declarator),
+    };
+    Ok((boxed(alloc, whole)?, d, rest))
+}
+
+/// A declarator in parentheses.
+#[cycle(expression)]
+#[tactic(auto, unfolding(crate::specs::Reading::enclosed_in))]
+pub fn enclosed<'a>(
+    alloc: Global,
+    source: &Source,
+    inside: u16,
+    tokens: &'a [Token],
+) -> Result<(Boxed<Declarator>, u32, &'a [Token]), Failure>
+    ensures { Gives (λ x. (shape_of x.0, x.1, lexemes_of source.now.bytes.now x.2.now)) result (enclosed_in inside (at source.now.types.now inside) (lexemes_of source.now.bytes.now tokens.now)) }
+{
+    let (left, rest) = behind_left(source, tokens)?;
+    let (declarator, d, rest) = shape_inside(alloc, source, inside, rest)?;
+    let (right, rest) = behind_right(source, rest)?;
+    let d = deeper_than(inside, d)?;
+    match declarator {
+        Some(declarator) => {
+            stands_for_something(declarator.get());
+            let whole = Declarator {
+                place: placed(source, left),
+                node: DeclaratorNode::Enclosed(left, declarator, right),
+            };
+            Ok((boxed(alloc, whole)?, d, rest))
+        }
+        None => Err(Failure::NoParse),
+    }
+}
+
+/// What stands before the brackets and parentheses.
+#[cycle(expression)]
+#[tactic(auto, unfolding(crate::specs::Reading::core_in))]
+pub fn core<'a>(
+    alloc: Global,
+    source: &Source,
+    inside: u16,
+    tokens: &'a [Token],
+) -> Result<(Option<Boxed<Declarator>>, u32, &'a [Token]), Failure>
+    ensures { Gives (λ x. (shape_if_any (option_map shape_of x.0), x.1, lexemes_of source.now.bytes.now x.2.now)) result (core_in source.now.types.now inside (at source.now.types.now inside) (lexemes_of source.now.bytes.now tokens.now)) }
+{
+    if fronted_plain_name(source, tokens) {
+        let (name, rest) = plain_name(alloc, source, tokens)?;
+        let whole = Declarator {
+            place: place_at(source, tokens),
+            node: DeclaratorNode::Identifier(name),
+        };
+        Ok((Some(boxed(alloc, whole)?), 1, rest))
+    } else if begins_enclosed(source, tokens) {
+        let (declarator, d, rest) = enclosed(alloc, source, inside, tokens)?;
+        Ok((Some(declarator), d, rest))
+    } else {
+        Ok((None, 0, tokens))
+    }
+}
+
+/// The length of an array, if it has one.
+#[cycle(expression)]
+pub fn length_of<'a>(
+    alloc: Global,
+    source: &Source,
+    inside: u16,
+    tokens: &'a [Token],
+) -> Result<(Option<Boxed<Expression>>, u32, &'a [Token]), Failure>
+    ensures { Gives (λ x. (optional_of (option_map term_of x.0), x.1, lexemes_of source.now.bytes.now x.2.now)) result (length_in (at source.now.types.now inside) (lexemes_of source.now.bytes.now tokens.now)) }
+{
+    if fronted_right_square(source, tokens) {
+        return Ok((None, 0, tokens));
+    }
+    let (a, d, rest) = conditional_inside(alloc, source, inside, tokens)?;
+    Ok((Some(a), d, rest))
+}
+
+/// What stands behind the `[` of an array.
+#[cycle(expression)]
+#[tactic(auto, unfolding(crate::specs::Reading::array_in))]
+pub fn array<'a>(
+    alloc: Global,
+    source: &Source,
+    inside: u16,
+    x: Option<Boxed<Declarator>>,
+    d: u32,
+    left: At,
+    tokens: &'a [Token],
+) -> Result<(Boxed<Declarator>, u32, &'a [Token]), Failure>
+    ensures { Gives (λ x. (shape_of x.0, x.1, lexemes_of source.now.bytes.now x.2.now)) result (array_in inside (at source.now.types.now inside) (shape_if_any (option_map shape_of x)) d left (lexemes_of source.now.bytes.now tokens.now)) }
+{
+    let (size, e, rest) = length_of(alloc, source, inside, tokens)?;
+    let (right, rest) = behind_right_square(source, rest)?;
+    let d = deeper_than(inside, larger(d, e))?;
+    let whole = Declarator {
+        place: place_from(source, &x, left),
+        node: DeclaratorNode::Array(x, left, size, right),
+    };
+    Ok((boxed(alloc, whole)?, d, rest))
+}
+
+/// One parameter more, if `)` does not stand at the front.
+#[cycle(expression)]
+#[tactic(auto, unfolding(crate::specs::Reading::parameter_step))]
+pub fn parameter<'a>(
+    alloc: Global,
+    source: &Source,
+    inside: u16,
+    all: List<Parameter>,
+    d: u32,
+    tokens: &'a [Token],
+) -> Result<(List<Parameter>, u32, &'a [Token], bool), Failure>
+    ensures { Gives (λ x. (map parameter_of x.0, x.1, lexemes_of source.now.bytes.now x.2.now, x.3)) result (parameter_step (at source.now.types.now inside) (map parameter_of all) d (lexemes_of source.now.bytes.now tokens.now)) }
+{
+    if fronted_right(source, tokens) {
+        return Ok((all, d, tokens, false));
+    }
+    let (comma, rest) = comma_before(source, &all, tokens)?;
+    let (specifiers, e, rest) = specifiers_inside(alloc, source, inside, rest)?;
+    let (declarator, f, rest) = shape_inside(alloc, source, inside, rest)?;
+    let item = parameter_of_parts(comma, specifiers, declarator);
+    let all = with_parameter(all, item)?;
+    Ok((all, larger(d, larger(e, f)), rest, true))
+}
+
+/// The parameters up to `)`.
+#[cycle(expression)]
+#[tactic(auto, using(crate::proofs::Turns::turns))]
+pub fn parameter_list<'a>(
+    alloc: Global,
+    source: &Source,
+    inside: u16,
+    tokens: &'a [Token],
+) -> Result<(List<Parameter>, u32, &'a [Token]), Failure>
+    ensures { Gives (λ x. (map parameter_of x.0, x.1, lexemes_of source.now.bytes.now x.2.now)) result (chain (parameter_step (at source.now.types.now inside)) (length (lexemes_of source.now.bytes.now tokens.now) + 1) [] 0 (lexemes_of source.now.bytes.now tokens.now)) }
+{
+    let mut all = List::new(alloc);
+    let mut d = 0;
+    let mut rest = tokens;
+    let mut turns = tokens.len() as u64 + 1;
+    'more: while turns > 0 {
+        let (more, e, behind, on) = parameter(alloc, source, inside, all, d, rest)?;
+        all = more;
+        d = e;
+        rest = behind;
+        turns -= 1;
+        if !on {
+            return Ok((all, d, rest));
+        }
+    }
+    Err(Failure::NoParse)
+}
+
+/// What stands in the parentheses of a function.
+#[cycle(expression)]
+#[tactic(auto, unfolding(crate::specs::Reading::parameters_in))]
+pub fn parameters<'a>(
+    alloc: Global,
+    source: &Source,
+    inside: u16,
+    tokens: &'a [Token],
+) -> Result<(Parameters, u32, &'a [Token]), Failure>
+    ensures { Gives (λ x. (parameter_list_of x.0, x.1, lexemes_of source.now.bytes.now x.2.now)) result (parameters_in (at source.now.types.now inside) (lexemes_of source.now.bytes.now tokens.now)) }
+{
+    if begins_void(source, tokens) {
+        let (at, rest) = behind_void(source, tokens)?;
+        return Ok((Parameters::Void(at), 0, rest));
+    }
+    let (all, d, rest) = parameter_list(alloc, source, inside, tokens)?;
+    Ok((Parameters::Listed(all), d, rest))
+}
+
+/// What stands behind the `(` of a function.
+#[cycle(expression)]
+#[tactic(auto, unfolding(crate::specs::Reading::function_in))]
+pub fn function<'a>(
+    alloc: Global,
+    source: &Source,
+    inside: u16,
+    x: Option<Boxed<Declarator>>,
+    d: u32,
+    left: At,
+    tokens: &'a [Token],
+) -> Result<(Boxed<Declarator>, u32, &'a [Token]), Failure>
+    ensures { Gives (λ x. (shape_of x.0, x.1, lexemes_of source.now.bytes.now x.2.now)) result (function_in inside (at source.now.types.now inside) (shape_if_any (option_map shape_of x)) d left (lexemes_of source.now.bytes.now tokens.now)) }
+{
+    let (all, e, rest) = parameters(alloc, source, inside, tokens)?;
+    let (right, rest) = behind_right(source, rest)?;
+    let d = deeper_than(inside, larger(d, e))?;
+    let whole = Declarator {
+        place: place_from(source, &x, left),
+        node: DeclaratorNode::Function(x, left, all, right),
+    };
+    Ok((boxed(alloc, whole)?, d, rest))
+}
+
+/// One pair of brackets or parentheses more, if one stands at the front.
+#[cycle(expression)]
+#[tactic(auto, unfolding(crate::specs::Reading::suffix_step))]
+pub fn brackets<'a>(
+    alloc: Global,
+    source: &Source,
+    inside: u16,
+    x: Option<Boxed<Declarator>>,
+    d: u32,
+    tokens: &'a [Token],
+) -> Result<(Option<Boxed<Declarator>>, u32, &'a [Token], bool), Failure>
+    ensures { Gives (λ x. (shape_if_any (option_map shape_of x.0), x.1, lexemes_of source.now.bytes.now x.2.now, x.3)) result (suffix_step inside (at source.now.types.now inside) (shape_if_any (option_map shape_of x)) d (lexemes_of source.now.bytes.now tokens.now)) }
+{
+    match tokens {
+        [token, rest @ ..] => match token.kind {
+            TokenKind::Mark(Mark::OpenSquare) => {
+                let (whole, d, rest) = array(alloc, source, inside, x, d, token.from, rest)?;
+                Ok((Some(whole), d, rest, true))
+            }
+            TokenKind::Mark(Mark::Open) => {
+                let (whole, d, rest) = function(alloc, source, inside, x, d, token.from, rest)?;
+                Ok((Some(whole), d, rest, true))
+            }
+            _ => Ok((x, d, tokens, false)),
+        },
+        [] => Ok((x, d, tokens, false)),
+    }
+}
+
+/// A declarator that is no pointer.
+#[cycle(expression)]
+#[tactic(auto, using(crate::proofs::Turns::turns), unfolding(crate::specs::Reading::direct_in))]
+pub fn direct<'a>(
+    alloc: Global,
+    source: &Source,
+    inside: u16,
+    tokens: &'a [Token],
+) -> Result<(Option<Boxed<Declarator>>, u32, &'a [Token]), Failure>
+    ensures { Gives (λ x. (shape_if_any (option_map shape_of x.0), x.1, lexemes_of source.now.bytes.now x.2.now)) result (direct_in source.now.types.now inside (at source.now.types.now inside) (lexemes_of source.now.bytes.now tokens.now)) }
+{
+    let (mut x, mut d, mut rest) = core(alloc, source, inside, tokens)?;
+    let mut turns = inside as u64 + 2;
+    'more: while turns > 0 {
+        let (y, e, behind, on) = brackets(alloc, source, inside, x, d, rest)?;
+        x = y;
+        d = e;
+        rest = behind;
+        turns -= 1;
+        if !on {
+            return Ok((x, d, rest));
+        }
+    }
+    Err(Failure::NoParse)
+}
+
+/// A declarator, with or without a name, or nothing (C99 6.7.5, 6.7.6).
+#[cycle(expression)]
+#[tactic(auto, unfolding(crate::specs::Reading::shape_in))]
+pub fn shape<'a>(
+    alloc: Global,
+    source: &Source,
+    inside: u16,
+    tokens: &'a [Token],
+) -> Result<(Option<Boxed<Declarator>>, u32, &'a [Token]), Failure>
+    ensures { Gives (λ x. (shape_if_any (option_map shape_of x.0), x.1, lexemes_of source.now.bytes.now x.2.now)) result (shape_in source.now.types.now inside (at source.now.types.now inside) (lexemes_of source.now.bytes.now tokens.now)) }
+{
+    match tokens {
+        [
+            Token {
+                kind: TokenKind::Mark(Mark::Star),
+                from,
+                ..
+            },
+            rest @ ..,
+        ] => {
+            let (whole, d, rest) = pointer(alloc, source, inside, *from, rest)?;
+            Ok((Some(whole), d, rest))
+        }
+        _ => direct(alloc, source, inside, tokens),
+    }
+}

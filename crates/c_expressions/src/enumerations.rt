@@ -1,0 +1,159 @@
+//! Enumerations (C99 6.7.2.2).
+
+ghost use Rattle.std.specs.Prelude.{◌+◌, [], length, map};
+ghost use Rattle.std.specs.Option.{option_map};
+ghost use Rattle.c_ast.specs.Trees;
+ghost use Rattle.c_ast.specs.Views.{constant_of, enumerator_constant_of, enumerator_of, specification_of};
+ghost use Rattle.c_expressions.specs.Gives.{Gives};
+ghost use Rattle.c_expressions.specs.Lexemes.{lexemes_of};
+ghost use Rattle.c_expressions.specs.Reading.{chain, tag_if_any, enumerator_in, enumerator_step, enum_body_in, tagged_in, at};
+
+use crate::begins::another;
+use crate::failure::Failure;
+use crate::inside::{conditional_inside, enumerator_inside};
+use crate::items::{enumerator_of_parts, with_enumerator};
+use crate::names::{plain_name, tag_if_any};
+use crate::places::{place_at, placed};
+use crate::source::Source;
+use crate::tokens::{
+    behind_left_brace, behind_right_brace, comma_before, comma_if_any, deeper_than,
+    fronted_left_brace, larger,
+};
+use c_ast::{At, Enumerator, EnumeratorValue, Specifier, SpecifierNode, Word};
+use c_lexer::{Mark, Token, TokenKind};
+use lay_base::List;
+use std::alloc::Global;
+
+/// An enumerator with its constant, if it has one (C99 6.7.2.2).
+#[cycle(expression)]
+#[tactic(auto, unfolding(crate::specs::Reading::enumerator_in))]
+pub fn enumerator<'a>(
+    alloc: Global,
+    source: &Source,
+    inside: u16,
+    tokens: &'a [Token],
+) -> Result<((Word, Option<EnumeratorValue>), u32, &'a [Token]), Failure>
+    ensures { Gives (λ x. ((x.0.0, constant_of (option_map enumerator_constant_of x.0.1)), x.1, lexemes_of source.now.bytes.now x.2.now)) result (enumerator_in source.now.types.now inside (at source.now.types.now inside) (lexemes_of source.now.bytes.now tokens.now)) }
+{
+    let (name, rest) = plain_name(alloc, source, tokens)?;
+    match rest {
+        [
+            Token {
+                kind: TokenKind::Mark(Mark::Equal),
+                from,
+                ..
+            },
+            behind @ ..,
+        ] => {
+            let (value, d, rest) = conditional_inside(alloc, source, inside, behind)?;
+            let d = deeper_than(inside, d)?;
+            let value = EnumeratorValue {
+                equal: *from,
+                value,
+            };
+            Ok(((name, Some(value)), d, rest))
+        }
+        _ => Ok(((name, None), 1, rest)),
+    }
+}
+
+/// One enumerator more.
+#[cycle(expression)]
+#[tactic(auto, unfolding(crate::specs::Reading::enumerator_step))]
+pub fn next_enumerator<'a>(
+    alloc: Global,
+    source: &Source,
+    inside: u16,
+    all: List<Enumerator>,
+    d: u32,
+    tokens: &'a [Token],
+) -> Result<(List<Enumerator>, u32, &'a [Token], bool), Failure>
+    ensures { Gives (λ x. (map enumerator_of x.0, x.1, lexemes_of source.now.bytes.now x.2.now, x.3)) result (enumerator_step (at source.now.types.now inside) (map enumerator_of all) d (lexemes_of source.now.bytes.now tokens.now)) }
+{
+    let (comma, rest) = comma_before(source, &all, tokens)?;
+    let place = place_at(source, rest);
+    let ((name, value), e, rest) = enumerator_inside(alloc, source, inside, rest)?;
+    let item = enumerator_of_parts(place, comma, name, value);
+    let all = with_enumerator(all, item)?;
+    Ok((all, larger(d, e), rest, another(source, rest)))
+}
+
+/// The enumerators up to `}`, or the comma before it.
+#[cycle(expression)]
+#[tactic(auto, using(crate::proofs::Turns::turns))]
+pub fn enumerators<'a>(
+    alloc: Global,
+    source: &Source,
+    inside: u16,
+    tokens: &'a [Token],
+) -> Result<(List<Enumerator>, u32, &'a [Token]), Failure>
+    ensures { Gives (λ x. (map enumerator_of x.0, x.1, lexemes_of source.now.bytes.now x.2.now)) result (chain (enumerator_step (at source.now.types.now inside)) (length (lexemes_of source.now.bytes.now tokens.now) + 1) [] 0 (lexemes_of source.now.bytes.now tokens.now)) }
+{
+    let mut all = List::new(alloc);
+    let mut d = 0;
+    let mut rest = tokens;
+    let mut turns = tokens.len() as u64 + 1;
+    'more: while turns > 0 {
+        let (more, e, behind, on) = next_enumerator(alloc, source, inside, all, d, rest)?;
+        all = more;
+        d = e;
+        rest = behind;
+        turns -= 1;
+        if !on {
+            return Ok((all, d, rest));
+        }
+    }
+    Err(Failure::NoParse)
+}
+
+/// The body of an enumeration.
+#[cycle(expression)]
+#[tactic(auto, unfolding(crate::specs::Reading::enum_body_in))]
+pub fn enum_body<'a>(
+    alloc: Global,
+    source: &Source,
+    inside: u16,
+    mark: At,
+    name: Option<Word>,
+    tokens: &'a [Token],
+) -> Result<(Specifier, u32, &'a [Token]), Failure>
+    ensures { Gives (λ x. (specification_of x.0, x.1, lexemes_of source.now.bytes.now x.2.now)) result (enum_body_in inside (at source.now.types.now inside) mark name (lexemes_of source.now.bytes.now tokens.now)) }
+{
+    let (left, rest) = behind_left_brace(source, tokens)?;
+    let (all, d, rest) = enumerators(alloc, source, inside, rest)?;
+    let (comma, rest) = comma_if_any(source, rest);
+    let (right, rest) = behind_right_brace(source, rest)?;
+    let d = deeper_than(inside, d)?;
+    let whole = Specifier {
+        place: placed(source, mark),
+        node: SpecifierNode::EnumBody(mark, name, left, all, comma, right),
+    };
+    Ok((whole, d, rest))
+}
+
+/// What stands behind `enum`.
+#[cycle(expression)]
+pub fn enumeration<'a>(
+    alloc: Global,
+    source: &Source,
+    inside: u16,
+    mark: At,
+    tokens: &'a [Token],
+) -> Result<(Specifier, u32, &'a [Token]), Failure>
+    ensures { Gives (λ x. (specification_of x.0, x.1, lexemes_of source.now.bytes.now x.2.now)) result (tagged_in (Trees.enum_named mark) (enum_body_in inside (at source.now.types.now inside) mark) (tag_if_any (lexemes_of source.now.bytes.now tokens.now))) }
+{
+    let (tag, rest) = tag_if_any(alloc, source, tokens)?;
+    match tag {
+        None => enum_body(alloc, source, inside, mark, None, rest),
+        Some(name) => {
+            if fronted_left_brace(source, rest) {
+                return enum_body(alloc, source, inside, mark, Some(name), rest);
+            }
+            let whole = Specifier {
+                place: placed(source, mark),
+                node: SpecifierNode::Enum(mark, name),
+            };
+            Ok((whole, 1, rest))
+        }
+    }
+}

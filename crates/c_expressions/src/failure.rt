@@ -1,0 +1,22 @@
+//! Why nothing was read.
+
+ghost use Rattle.std.specs.Prelude.{◌≡◌};
+ghost use Rattle.c_expressions.specs.declared.failure.Failure.TheVariants.{Memory};
+
+use lay_base::NoMemory;
+
+#[derive(Clone, Copy, Debug, PartialEq, Eq)]
+pub enum Failure {
+    /// Memory is out.
+    Memory,
+    /// What stands here cannot be read so.
+    NoParse,
+}
+
+impl From<NoMemory> for Failure {
+    ghost from_gives = { λ _ failure. failure ≡ Memory };
+
+    fn from(_want: NoMemory) -> Failure {
+        Failure::Memory
+    }
+}

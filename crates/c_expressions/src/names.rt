@@ -1,0 +1,120 @@
+//! Names.
+
+ghost use Rattle.std.specs.Prelude.{◌≡◌, ◌-◌, IfOk, is_some, take, drop};
+ghost use Rattle.c_ast.specs.Levels.{is_typename};
+ghost use Rattle.c_expressions.specs.Gives.{Gives};
+ghost use Rattle.c_expressions.specs.Lexemes.{lexeme_of, lexemes_of};
+ghost use Rattle.c_expressions.specs.Reading.{any_name, plain_name, tag_if_any, word_of};
+
+use crate::failure::Failure;
+use crate::source::Source;
+use c_ast::Word;
+use c_lexer::{Token, TokenKind};
+use lay_base::{Name, NoMemory};
+use std::alloc::Global;
+
+/// The bytes from one place up to another, as far as there are such.
+fn part(bytes: &[u8], from: usize, to: usize) -> &[u8]
+    ensures { result.now ≡ take (to - from) (drop from bytes.now) }
+{
+    let begin = from.min(bytes.len());
+    let behind = &bytes[begin..];
+    let count = to.saturating_sub(from).min(behind.len());
+    &behind[..count]
+}
+
+/// Whether a name is that of a type.
+fn names_type(types: &[Name], name: &[u8]) -> bool
+    ensures { result ≡ is_typename types.now name.now }
+{
+    types.iter().any(|x| x.as_slice() == name)
+}
+
+/// The text of a token.
+fn text_of<'a>(source: &Source<'a>, token: Token) -> &'a [u8]
+    ensures { result.now ≡ (lexeme_of source.now.bytes.now token).text }
+{
+    part(source.bytes, token.from as usize, token.to as usize)
+}
+
+/// Whether the text of a token is the name of a type.
+pub fn is_type(source: &Source, token: Token) -> bool
+    ensures { result ≡ is_typename source.now.types.now (lexeme_of source.now.bytes.now token).text }
+{
+    names_type(source.types, text_of(source, token))
+}
+
+/// A token as trees keep it.
+pub fn word(alloc: Global, source: &Source, token: Token) -> Result<Word, NoMemory>
+    ensures { IfOk result (λ x. x ≡ word_of (lexeme_of source.now.bytes.now token)) }
+{
+    let text = text_of(source, token);
+    match text.to_vec(alloc) {
+        Ok(bytes) => Ok(Word {
+            from: token.from,
+            to: token.to,
+            text: Name::of(bytes),
+        }),
+        Err(_) => Err(NoMemory),
+    }
+}
+
+/// A name at the front, whatever it names.
+pub fn any_name<'a>(
+    alloc: Global,
+    source: &Source,
+    tokens: &'a [Token],
+) -> Result<(Word, &'a [Token]), Failure>
+    ensures { Gives (λ x. (x.0, lexemes_of source.now.bytes.now x.1.now)) result (any_name (lexemes_of source.now.bytes.now tokens.now)) }
+{
+    match tokens {
+        [token, rest @ ..] if token.kind == TokenKind::Name => Ok((
+            word(alloc, source, *token)?,
+            rest,
+        )),
+        _ => Err(Failure::NoParse),
+    }
+}
+
+/// A name at the front that names no type.
+pub fn plain_name<'a>(
+    alloc: Global,
+    source: &Source,
+    tokens: &'a [Token],
+) -> Result<(Word, &'a [Token]), Failure>
+    ensures { Gives (λ x. (x.0, lexemes_of source.now.bytes.now x.1.now)) result (plain_name source.now.types.now (lexemes_of source.now.bytes.now tokens.now)) }
+{
+    match tokens {
+        [token, rest @ ..] if token.kind == TokenKind::Name && !is_type(source, *token) => {
+            Ok((word(alloc, source, *token)?, rest))
+        }
+        _ => Err(Failure::NoParse),
+    }
+}
+
+/// Whether a name that names no type stands at the front.
+pub fn fronted_plain_name(source: &Source, tokens: &[Token]) -> bool
+    ensures { result ≡ is_some (plain_name source.now.types.now (lexemes_of source.now.bytes.now tokens.now)) }
+{
+    match tokens {
+        [token, ..] => token.kind == TokenKind::Name && !is_type(source, *token),
+        [] => false,
+    }
+}
+
+/// A name at the front, if there is one, and what stands behind it.
+pub fn tag_if_any<'a>(
+    alloc: Global,
+    source: &Source,
+    tokens: &'a [Token],
+) -> Result<(Option<Word>, &'a [Token]), NoMemory>
+    ensures { IfOk result (λ x. (x.0, lexemes_of source.now.bytes.now x.1.now) ≡ tag_if_any (lexemes_of source.now.bytes.now tokens.now)) }
+{
+    match tokens {
+        [token, rest @ ..] if token.kind == TokenKind::Name => Ok((
+            Some(word(alloc, source, *token)?),
+            rest,
+        )),
+        _ => Ok((None, tokens)),
+    }
+}

@@ -1,0 +1,223 @@
+//! Postfix expressions (C99 6.5.2).
+
+ghost use Rattle.std.specs.Prelude.{◌+◌, [], length, map};
+ghost use Rattle.c_ast.specs.Views.{arguments_of, item_of, term_of};
+ghost use Rattle.c_expressions.specs.Gives.{Gives};
+ghost use Rattle.c_expressions.specs.Lexemes.{lexemes_of};
+ghost use Rattle.c_expressions.specs.Reading.{chain, argument_in, arguments_in, index_in, call_in, postfix_step, postfix_in, at};
+
+use crate::building::{add, boxed};
+use crate::failure::Failure;
+use crate::inside::{assignment_inside, expression_inside};
+use crate::items::{arrowed, dotted, stepped};
+use crate::names::any_name;
+use crate::primary::primary;
+use crate::source::Source;
+use crate::tokens::{
+    behind_right, behind_right_square, comma_before, deeper_than, fronted_right, larger,
+};
+use c_ast::{At, Expression, ExpressionItem, ExpressionNode, StepOp};
+use c_lexer::{Mark, Token, TokenKind};
+use lay_base::{Boxed, List};
+use std::alloc::Global;
+
+/// One argument more, if `)` does not stand at the front.
+#[cycle(expression)]
+#[tactic(auto, unfolding(crate::specs::Reading::argument_in))]
+pub fn argument<'a>(
+    alloc: Global,
+    source: &Source,
+    inside: u16,
+    all: List<ExpressionItem>,
+    d: u32,
+    tokens: &'a [Token],
+) -> Result<(List<ExpressionItem>, u32, &'a [Token], bool), Failure>
+    ensures { Gives (λ x. (map item_of x.0, x.1, lexemes_of source.now.bytes.now x.2.now, x.3)) result (argument_in (at source.now.types.now inside) (map item_of all) d (lexemes_of source.now.bytes.now tokens.now)) }
+{
+    if fronted_right(source, tokens) {
+        return Ok((all, d, tokens, false));
+    }
+    let (comma, rest) = comma_before(source, &all, tokens)?;
+    let (a, e, rest) = assignment_inside(alloc, source, inside, rest)?;
+    let mut all = all;
+    let item = ExpressionItem {
+        comma,
+        value: a.into_inner(),
+    };
+    add(&mut all, item)?;
+    Ok((all, larger(d, e), rest, true))
+}
+
+/// The arguments up to `)`.
+#[cycle(expression)]
+#[tactic(auto, using(crate::proofs::Turns::turns))]
+pub fn argument_list<'a>(
+    alloc: Global,
+    source: &Source,
+    inside: u16,
+    tokens: &'a [Token],
+) -> Result<(List<ExpressionItem>, u32, &'a [Token]), Failure>
+    ensures { Gives (λ x. (map item_of x.0, x.1, lexemes_of source.now.bytes.now x.2.now)) result (chain (argument_in (at source.now.types.now inside)) (length (lexemes_of source.now.bytes.now tokens.now) + 1) [] 0 (lexemes_of source.now.bytes.now tokens.now)) }
+{
+    let mut all = List::new(alloc);
+    let mut d = 0;
+    let mut rest = tokens;
+    let mut turns = tokens.len() as u64 + 1;
+    'more: while turns > 0 {
+        let (more, e, behind, on) = argument(alloc, source, inside, all, d, rest)?;
+        all = more;
+        d = e;
+        rest = behind;
+        turns -= 1;
+        if !on {
+            return Ok((all, d, rest));
+        }
+    }
+    Err(Failure::NoParse)
+}
+
+/// The arguments behind `(`, with the place of `)`.
+#[cycle(expression)]
+#[tactic(auto, unfolding(crate::specs::Reading::arguments_in))]
+pub fn arguments<'a>(
+    alloc: Global,
+    source: &Source,
+    inside: u16,
+    tokens: &'a [Token],
+) -> Result<((List<ExpressionItem>, At), u32, &'a [Token]), Failure>
+    ensures { Gives (λ x. ((arguments_of (map item_of x.0.0), x.0.1), x.1, lexemes_of source.now.bytes.now x.2.now)) result (arguments_in (at source.now.types.now inside) (lexemes_of source.now.bytes.now tokens.now)) }
+{
+    let (all, d, rest) = argument_list(alloc, source, inside, tokens)?;
+    let (right, rest) = behind_right(source, rest)?;
+    Ok(((all, right), d, rest))
+}
+
+/// What stands behind `[`.
+#[cycle(expression)]
+#[tactic(auto, unfolding(crate::specs::Reading::index_in))]
+pub fn index<'a>(
+    alloc: Global,
+    source: &Source,
+    inside: u16,
+    x: Boxed<Expression>,
+    d: u32,
+    left: At,
+    tokens: &'a [Token],
+) -> Result<(Boxed<Expression>, u32, &'a [Token]), Failure>
+    ensures { Gives (λ x. (term_of x.0, x.1, lexemes_of source.now.bytes.now x.2.now)) result (index_in inside (at source.now.types.now inside) (term_of x) d left (lexemes_of source.now.bytes.now tokens.now)) }
+{
+    let (b, e, rest) = expression_inside(alloc, source, inside, tokens)?;
+    let (right, rest) = behind_right_square(source, rest)?;
+    let d = deeper_than(inside, larger(d, e))?;
+    let whole = Expression {
+        place: x.get().place,
+        node: ExpressionNode::Index(x, left, b, right),
+    };
+    Ok((boxed(alloc, whole)?, d, rest))
+}
+
+/// What stands behind the `(` of a call.
+#[cycle(expression)]
+#[tactic(auto, unfolding(crate::specs::Reading::call_in))]
+pub fn call<'a>(
+    alloc: Global,
+    source: &Source,
+    inside: u16,
+    x: Boxed<Expression>,
+    d: u32,
+    left: At,
+    tokens: &'a [Token],
+) -> Result<(Boxed<Expression>, u32, &'a [Token]), Failure>
+    ensures { Gives (λ x. (term_of x.0, x.1, lexemes_of source.now.bytes.now x.2.now)) result (call_in inside (at source.now.types.now inside) (term_of x) d left (lexemes_of source.now.bytes.now tokens.now)) }
+{
+    let ((all, right), e, rest) = arguments(alloc, source, inside, tokens)?;
+    let d = deeper_than(inside, larger(d, e))?;
+    let whole = Expression {
+        place: x.get().place,
+        node: ExpressionNode::Call(x, left, all, right),
+    };
+    Ok((boxed(alloc, whole)?, d, rest))
+}
+
+/// One suffix more, if one stands at the front.
+#[cycle(expression)]
+#[tactic(auto, unfolding(crate::specs::Reading::postfix_step, crate::specs::Reading::member_in, crate::specs::Reading::stepped_in))]
+pub fn suffix<'a>(
+    alloc: Global,
+    source: &Source,
+    inside: u16,
+    x: Boxed<Expression>,
+    d: u32,
+    tokens: &'a [Token],
+) -> Result<(Boxed<Expression>, u32, &'a [Token], bool), Failure>
+    ensures { Gives (λ x. (term_of x.0, x.1, lexemes_of source.now.bytes.now x.2.now, x.3)) result (postfix_step inside (at source.now.types.now inside) (term_of x) d (lexemes_of source.now.bytes.now tokens.now)) }
+{
+    match tokens {
+        [token, rest @ ..] => match token.kind {
+            TokenKind::Mark(Mark::OpenSquare) => {
+                let (x, d, rest) = index(alloc, source, inside, x, d, token.from, rest)?;
+                Ok((x, d, rest, true))
+            }
+            TokenKind::Mark(Mark::Open) => {
+                let (x, d, rest) = call(alloc, source, inside, x, d, token.from, rest)?;
+                Ok((x, d, rest, true))
+            }
+            TokenKind::Mark(Mark::Dot) => {
+                let (name, rest) = any_name(alloc, source, rest)?;
+                let d = deeper_than(inside, d)?;
+                Ok((dotted(alloc, x, token.from, name)?, d, rest, true))
+            }
+            TokenKind::Mark(Mark::Arrow) => {
+                let (name, rest) = any_name(alloc, source, rest)?;
+                let d = deeper_than(inside, d)?;
+                Ok((arrowed(alloc, x, token.from, name)?, d, rest, true))
+            }
+            TokenKind::Mark(Mark::PlusPlus) => {
+                let d = deeper_than(inside, d)?;
+                Ok((
+                    stepped(alloc, x, StepOp::Increment, token.from)?,
+                    d,
+                    rest,
+                    true,
+                ))
+            }
+            TokenKind::Mark(Mark::MinusMinus) => {
+                let d = deeper_than(inside, d)?;
+                Ok((
+                    stepped(alloc, x, StepOp::Decrement, token.from)?,
+                    d,
+                    rest,
+                    true,
+                ))
+            }
+            _ => Ok((x, d, tokens, false)),
+        },
+        [] => Ok((x, d, tokens, false)),
+    }
+}
+
+/// A postfix expression (C99 6.5.2).
+#[cycle(expression)]
+#[tactic(auto, using(crate::proofs::Turns::turns), unfolding(crate::specs::Reading::postfix_in))]
+pub fn postfix<'a>(
+    alloc: Global,
+    source: &Source,
+    inside: u16,
+    tokens: &'a [Token],
+) -> Result<(Boxed<Expression>, u32, &'a [Token]), Failure>
+    ensures { Gives (λ x. (term_of x.0, x.1, lexemes_of source.now.bytes.now x.2.now)) result (postfix_in source.now.types.now inside (at source.now.types.now inside) (lexemes_of source.now.bytes.now tokens.now)) }
+{
+    let (mut x, mut d, mut rest) = primary(alloc, source, inside, tokens)?;
+    let mut turns = inside as u64 + 1;
+    'more: while turns > 0 {
+        let (y, e, behind, on) = suffix(alloc, source, inside, x, d, rest)?;
+        x = y;
+        d = e;
+        rest = behind;
+        turns -= 1;
+        if !on {
+            return Ok((x, d, rest));
+        }
+    }
+    Err(Failure::NoParse)
+}

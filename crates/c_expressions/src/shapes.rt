@@ -1,0 +1,43 @@
+//! Declarators with and without a name.
+
+ghost use Rattle.std.specs.Prelude.{◌≡◌};
+ghost use Rattle.std.specs.Option.{option_map};
+ghost use Rattle.c_ast.specs.Levels.{has_name};
+ghost use Rattle.c_ast.specs.Views.{shape_if_any, shape_of};
+
+use crate::places::placed;
+use crate::source::Source;
+use c_ast::{At, Declarator, DeclaratorNode};
+use lay_base::{Boxed, Place};
+
+/// Whether a declarator has a name.
+pub fn has_name(declarator: &Declarator) -> bool
+    ensures { result ≡ has_name (shape_of declarator.now) }
+{
+    match &declarator.node {
+        DeclaratorNode::Identifier(_) => true,
+        DeclaratorNode::Enclosed(_, d, _) => has_name(d.get()),
+        DeclaratorNode::Pointer(_, _, Some(d)) => has_name(d.get()),
+        DeclaratorNode::Array(Some(d), _, _, _) => has_name(d.get()),
+        DeclaratorNode::Function(Some(d), _, _, _) => has_name(d.get()),
+        _ => false,
+    }
+}
+
+/// Whether there is a declarator that has a name.
+pub fn is_named(declarator: &Option<Boxed<Declarator>>) -> bool
+    ensures { result ≡ has_name (shape_if_any (option_map shape_of declarator.now)) }
+{
+    match declarator {
+        Some(declarator) => has_name(declarator.get()),
+        None => false,
+    }
+}
+
+/// The place of a declarator, or of the mark behind it where there is none.
+pub fn place_from(source: &Source, declarator: &Option<Boxed<Declarator>>, mark: At) -> Place {
+    match declarator {
+        Some(declarator) => declarator.get().place,
+        None => placed(source, mark),
+    }
+}

@@ -1,0 +1,164 @@
+//! Unary expressions and casts (C99 6.5.3, 6.5.4).
+
+ghost use Rattle.c_ast.specs.Views.{term_of};
+ghost use Rattle.c_expressions.specs.Gives.{Gives};
+ghost use Rattle.c_expressions.specs.Lexemes.{lexemes_of};
+ghost use Rattle.c_expressions.specs.Reading.{pre_in, unary_in, sizeof_in, cast_in, unary_expression_in, operand_in, at};
+
+use crate::begins::begins_form;
+use crate::building::boxed;
+use crate::failure::Failure;
+use crate::forms::enclosed_form;
+use crate::inside::{operand_inside, unary_inside};
+use crate::operators::{step_of, unary_of};
+use crate::places::placed;
+use crate::postfix::postfix;
+use crate::source::Source;
+use crate::tokens::{deeper_than, larger};
+use c_ast::{At, Expression, ExpressionNode, StepOp, UnaryOp};
+use c_lexer::{Token, TokenKind};
+use lay_base::{Boxed, Keyword};
+use std::alloc::Global;
+
+/// What stands behind a `++` or `--` before its operand.
+#[cycle(expression)]
+#[tactic(auto, unfolding(crate::specs::Reading::pre_in))]
+pub fn pre<'a>(
+    alloc: Global,
+    source: &Source,
+    inside: u16,
+    op: StepOp,
+    mark: At,
+    tokens: &'a [Token],
+) -> Result<(Boxed<Expression>, u32, &'a [Token]), Failure>
+    ensures { Gives (λ x. (term_of x.0, x.1, lexemes_of source.now.bytes.now x.2.now)) result (pre_in inside (at source.now.types.now inside) op mark (lexemes_of source.now.bytes.now tokens.now)) }
+{
+    let (a, d, rest) = unary_inside(alloc, source, inside, tokens)?;
+    let d = deeper_than(inside, d)?;
+    let whole = Expression {
+        place: placed(source, mark),
+        node: ExpressionNode::Pre(op, mark, a),
+    };
+    Ok((boxed(alloc, whole)?, d, rest))
+}
+
+/// What stands behind a unary operator.
+#[cycle(expression)]
+#[tactic(auto, unfolding(crate::specs::Reading::unary_in))]
+pub fn unary<'a>(
+    alloc: Global,
+    source: &Source,
+    inside: u16,
+    op: UnaryOp,
+    mark: At,
+    tokens: &'a [Token],
+) -> Result<(Boxed<Expression>, u32, &'a [Token]), Failure>
+    ensures { Gives (λ x. (term_of x.0, x.1, lexemes_of source.now.bytes.now x.2.now)) result (unary_in inside (at source.now.types.now inside) op mark (lexemes_of source.now.bytes.now tokens.now)) }
+{
+    let (a, d, rest) = operand_inside(alloc, source, inside, tokens)?;
+    let d = deeper_than(inside, d)?;
+    let whole = Expression {
+        place: placed(source, mark),
+        node: ExpressionNode::Unary(op, mark, a),
+    };
+    Ok((boxed(alloc, whole)?, d, rest))
+}
+
+/// What stands behind `sizeof`.
+#[cycle(expression)]
+#[tactic(auto, unfolding(crate::specs::Reading::sizeof_in))]
+pub fn sizeof<'a>(
+    alloc: Global,
+    source: &Source,
+    inside: u16,
+    mark: At,
+    tokens: &'a [Token],
+) -> Result<(Boxed<Expression>, u32, &'a [Token]), Failure>
+    ensures { Gives (λ x. (term_of x.0, x.1, lexemes_of source.now.bytes.now x.2.now)) result (sizeof_in source.now.types.now inside (at source.now.types.now inside) mark (lexemes_of source.now.bytes.now tokens.now)) }
+{
+    if begins_form(source, tokens) {
+        let ((left, form, right), d, rest) = enclosed_form(alloc, source, inside, tokens)?;
+        let d = deeper_than(inside, d)?;
+        let whole = Expression {
+            place: placed(source, mark),
+            node: ExpressionNode::SizeofForm(mark, left, form, right),
+        };
+        Ok((boxed(alloc, whole)?, d, rest))
+    } else {
+        let (a, d, rest) = unary_inside(alloc, source, inside, tokens)?;
+        let d = deeper_than(inside, d)?;
+        let whole = Expression {
+            place: placed(source, mark),
+            node: ExpressionNode::SizeofExpr(mark, a),
+        };
+        Ok((boxed(alloc, whole)?, d, rest))
+    }
+}
+
+/// A cast (C99 6.5.4).
+#[cycle(expression)]
+#[tactic(auto, unfolding(crate::specs::Reading::cast_in))]
+pub fn cast<'a>(
+    alloc: Global,
+    source: &Source,
+    inside: u16,
+    tokens: &'a [Token],
+) -> Result<(Boxed<Expression>, u32, &'a [Token]), Failure>
+    ensures { Gives (λ x. (term_of x.0, x.1, lexemes_of source.now.bytes.now x.2.now)) result (cast_in inside (at source.now.types.now inside) (lexemes_of source.now.bytes.now tokens.now)) }
+{
+    let ((left, form, right), d, rest) = enclosed_form(alloc, source, inside, tokens)?;
+    let (a, e, rest) = operand_inside(alloc, source, inside, rest)?;
+    let d = deeper_than(inside, larger(d, e))?;
+    let whole = Expression {
+        place: placed(source, left),
+        node: ExpressionNode::Cast(left, form, right, a),
+    };
+    Ok((boxed(alloc, whole)?, d, rest))
+}
+
+/// A unary expression (C99 6.5.3).
+#[cycle(expression)]
+#[tactic(auto, unfolding(crate::specs::Reading::unary_expression_in))]
+pub fn unary_expression<'a>(
+    alloc: Global,
+    source: &Source,
+    inside: u16,
+    tokens: &'a [Token],
+) -> Result<(Boxed<Expression>, u32, &'a [Token]), Failure>
+    ensures { Gives (λ x. (term_of x.0, x.1, lexemes_of source.now.bytes.now x.2.now)) result (unary_expression_in source.now.types.now inside (at source.now.types.now inside) (lexemes_of source.now.bytes.now tokens.now)) }
+{
+    match tokens {
+        [token, rest @ ..] => match step_of(token.kind) {
+            Some(op) => pre(alloc, source, inside, op, token.from, rest),
+            None => match unary_of(token.kind) {
+                Some(op) => unary(alloc, source, inside, op, token.from, rest),
+                None => {
+                    if token.kind == TokenKind::Keyword(Keyword::Sizeof) {
+                        sizeof(alloc, source, inside, token.from, rest)
+                    } else {
+                        postfix(alloc, source, inside, tokens)
+                    }
+                }
+            },
+        },
+        [] => Err(Failure::NoParse),
+    }
+}
+
+/// An operand of a binary operator: a cast, or a unary expression.
+#[cycle(expression)]
+#[tactic(auto, unfolding(crate::specs::Reading::operand_in))]
+pub fn operand<'a>(
+    alloc: Global,
+    source: &Source,
+    inside: u16,
+    tokens: &'a [Token],
+) -> Result<(Boxed<Expression>, u32, &'a [Token]), Failure>
+    ensures { Gives (λ x. (term_of x.0, x.1, lexemes_of source.now.bytes.now x.2.now)) result (operand_in source.now.types.now inside (at source.now.types.now inside) (lexemes_of source.now.bytes.now tokens.now)) }
+{
+    if begins_form(source, tokens) {
+        cast(alloc, source, inside, tokens)
+    } else {
+        unary_expression(alloc, source, inside, tokens)
+    }
+}
