@@ -1,0 +1,3 @@
+pub mod StatementReading
+pub mod TreesOfTokens
+pub mod Openings

@@ -1,0 +1,133 @@
+//! Loops (C99 6.8.5).
+
+ghost use Rattle.std.specs.Prelude.{max};
+ghost use Rattle.c_ast.specs.Views.{act_of, start_of};
+ghost use Rattle.c_expressions.specs.Gives.{Gives};
+ghost use Rattle.c_expressions.specs.Lexemes.{lexemes_of};
+ghost use Rattle.c_expressions.specs.Reading.{behind};
+ghost use Rattle.c_statements.specs.StatementReading.{act_at, below_at, do_in, for_in, is_while, start_in, while_in};
+
+use crate::conditions::{before_right, before_semicolon, condition};
+use crate::declarations::declaration_inside;
+use crate::statements::statement_inside;
+use c_ast::{At, ForStart, Statement, StatementNode};
+use c_expressions::{
+    Failure, Source, begins_specifier, behind_left, behind_right, behind_semicolon, boxed,
+    deeper_than, larger, placed,
+};
+use c_lexer::{Token, TokenKind};
+use lay_base::Keyword;
+use std::alloc::Global;
+
+/// The place of a `while` at the front, and what stands behind it.
+fn behind_while<'a>(source: &Source, tokens: &'a [Token]) -> Result<(At, &'a [Token]), Failure>
+    ensures { Gives (λ x. (x.0, lexemes_of source.now.bytes.now x.1.now)) result (behind is_while (lexemes_of source.now.bytes.now tokens.now)) }
+{
+    match tokens {
+        [
+            Token {
+                kind: TokenKind::Keyword(Keyword::While),
+                from,
+                ..
+            },
+            rest @ ..,
+        ] => Ok((*from, rest)),
+        _ => Err(Failure::NoParse),
+    }
+}
+
+/// What stands behind `while`.
+#[cycle(statement)]
+#[tactic(auto, unfolding(crate::specs::StatementReading::while_in))]
+pub fn while_loop<'a>(
+    alloc: Global,
+    source: &Source,
+    inside: u16,
+    mark: At,
+    tokens: &'a [Token],
+) -> Result<(Statement, u32, &'a [Token]), Failure>
+    ensures { Gives (λ x. (act_of x.0, x.1, lexemes_of source.now.bytes.now x.2.now)) result (while_in inside (below_at source.now.types.now inside (act_at source.now.types.now inside)) mark (lexemes_of source.now.bytes.now tokens.now)) }
+{
+    let ((left, value, right), d, rest) = condition(alloc, source, inside, tokens)?;
+    let (body, e, rest) = statement_inside(alloc, source, inside, rest)?;
+    let body = boxed(alloc, body)?;
+    let d = deeper_than(inside, larger(d, e))?;
+    let whole = Statement {
+        place: placed(source, mark),
+        node: StatementNode::While(mark, left, value, right, body),
+    };
+    Ok((whole, d, rest))
+}
+
+/// What stands behind `do`.
+#[cycle(statement)]
+#[tactic(auto, unfolding(crate::specs::StatementReading::do_in))]
+pub fn do_loop<'a>(
+    alloc: Global,
+    source: &Source,
+    inside: u16,
+    mark: At,
+    tokens: &'a [Token],
+) -> Result<(Statement, u32, &'a [Token]), Failure>
+    ensures { Gives (λ x. (act_of x.0, x.1, lexemes_of source.now.bytes.now x.2.now)) result (do_in inside (below_at source.now.types.now inside (act_at source.now.types.now inside)) mark (lexemes_of source.now.bytes.now tokens.now)) }
+{
+    let (body, d, rest) = statement_inside(alloc, source, inside, tokens)?;
+    let body = boxed(alloc, body)?;
+    let (while_mark, rest) = behind_while(source, rest)?;
+    let ((left, value, right), e, rest) = condition(alloc, source, inside, rest)?;
+    let (semicolon, rest) = behind_semicolon(source, rest)?;
+    let d = deeper_than(inside, larger(d, e))?;
+    let whole = Statement {
+        place: placed(source, mark),
+        node: StatementNode::DoWhile(mark, body, while_mark, left, value, right, semicolon),
+    };
+    Ok((whole, d, rest))
+}
+
+/// What stands first in the parentheses of a `for`.
+#[tactic(auto, unfolding(crate::specs::StatementReading::start_in))]
+fn start<'a>(
+    alloc: Global,
+    source: &Source,
+    inside: u16,
+    tokens: &'a [Token],
+) -> Result<(ForStart, u32, &'a [Token]), Failure>
+    ensures { Gives (λ x. (start_of x.0, x.1, lexemes_of source.now.bytes.now x.2.now)) result (start_in (below_at source.now.types.now inside (act_at source.now.types.now inside)) (lexemes_of source.now.bytes.now tokens.now)) }
+{
+    if begins_specifier(source, tokens) {
+        let (declaration, d, rest) = declaration_inside(alloc, source, true, inside, tokens)?;
+        Ok((ForStart::Declaration(declaration), d, rest))
+    } else {
+        let (value, d, rest) = before_semicolon(alloc, source, inside, tokens)?;
+        let (semicolon, rest) = behind_semicolon(source, rest)?;
+        Ok((ForStart::Expression(value, semicolon), d, rest))
+    }
+}
+
+/// What stands behind `for`.
+#[cycle(statement)]
+#[tactic(auto, unfolding(crate::specs::StatementReading::for_in))]
+pub fn for_loop<'a>(
+    alloc: Global,
+    source: &Source,
+    inside: u16,
+    mark: At,
+    tokens: &'a [Token],
+) -> Result<(Statement, u32, &'a [Token]), Failure>
+    ensures { Gives (λ x. (act_of x.0, x.1, lexemes_of source.now.bytes.now x.2.now)) result (for_in inside (below_at source.now.types.now inside (act_at source.now.types.now inside)) mark (lexemes_of source.now.bytes.now tokens.now)) }
+{
+    let (left, rest) = behind_left(source, tokens)?;
+    let (start, d, rest) = start(alloc, source, inside, rest)?;
+    let (test, e, rest) = before_semicolon(alloc, source, inside, rest)?;
+    let (semicolon, rest) = behind_semicolon(source, rest)?;
+    let (step, f, rest) = before_right(alloc, source, inside, rest)?;
+    let (right, rest) = behind_right(source, rest)?;
+    let (body, g, rest) = statement_inside(alloc, source, inside, rest)?;
+    let body = boxed(alloc, body)?;
+    let d = deeper_than(inside, larger(larger(larger(d, e), f), g))?;
+    let whole = Statement {
+        place: placed(source, mark),
+        node: StatementNode::For(mark, left, start, test, semicolon, step, right, body),
+    };
+    Ok((whole, d, rest))
+}

@@ -1,0 +1,131 @@
+//! `switch` (C99 6.8.4.2).
+
+ghost use Rattle.std.specs.Prelude.{◌+◌, [], length, map};
+ghost use Rattle.c_ast.specs.Views.{act_of, arm_of};
+ghost use Rattle.c_expressions.specs.Gives.{Gives};
+ghost use Rattle.c_expressions.specs.Lexemes.{lexemes_of};
+ghost use Rattle.c_expressions.specs.Reading.{chain};
+ghost use Rattle.c_statements.specs.StatementReading.{act_at, arm_in, arm_step, below_at, labelled_in, switch_in};
+
+use crate::conditions::condition;
+use crate::declarations::declaration_inside;
+use crate::statements::statement_inside;
+use crate::switch_labels::labels;
+use c_ast::{Arm, At, Statement, StatementNode};
+use c_expressions::{
+    Failure, Source, add, begins_specifier, behind_left_brace, behind_right_brace, deeper_than,
+    fronted_right_brace, larger, placed,
+};
+use c_lexer::Token;
+use lay_base::List;
+use std::alloc::Global;
+
+/// A statement with the labels before it.
+#[cycle(statement)]
+#[tactic(auto, unfolding(crate::specs::StatementReading::labelled_in))]
+fn labelled<'a>(
+    alloc: Global,
+    source: &Source,
+    inside: u16,
+    tokens: &'a [Token],
+) -> Result<(Arm, u32, &'a [Token]), Failure>
+    ensures { Gives (λ x. (arm_of x.0, x.1, lexemes_of source.now.bytes.now x.2.now)) result (labelled_in (below_at source.now.types.now inside (act_at source.now.types.now inside)) (lexemes_of source.now.bytes.now tokens.now)) }
+{
+    let (labels, d, rest) = labels(alloc, source, inside, tokens)?;
+    let (statement, e, rest) = statement_inside(alloc, source, inside, rest)?;
+    Ok((Arm::Labelled(labels, statement), larger(d, e), rest))
+}
+
+/// An item of a switch's body.
+#[cycle(statement)]
+#[tactic(auto, unfolding(crate::specs::StatementReading::arm_in))]
+fn arm<'a>(
+    alloc: Global,
+    source: &Source,
+    inside: u16,
+    tokens: &'a [Token],
+) -> Result<(Arm, u32, &'a [Token]), Failure>
+    ensures { Gives (λ x. (arm_of x.0, x.1, lexemes_of source.now.bytes.now x.2.now)) result (arm_in (below_at source.now.types.now inside (act_at source.now.types.now inside)) (lexemes_of source.now.bytes.now tokens.now)) }
+{
+    if begins_specifier(source, tokens) {
+        let (declaration, d, rest) = declaration_inside(alloc, source, true, inside, tokens)?;
+        Ok((Arm::Local(declaration), d, rest))
+    } else {
+        let (arm, d, rest) = labelled(alloc, source, inside, tokens)?;
+        Ok((arm, d, rest))
+    }
+}
+
+/// One item of a switch's body more, or the `}` behind the last.
+#[cycle(statement)]
+#[tactic(auto, unfolding(crate::specs::StatementReading::arm_step))]
+fn next_arm<'a>(
+    alloc: Global,
+    source: &Source,
+    inside: u16,
+    all: List<Arm>,
+    d: u32,
+    tokens: &'a [Token],
+) -> Result<(List<Arm>, u32, &'a [Token], bool), Failure>
+    ensures { Gives (λ x. (map arm_of x.0, x.1, lexemes_of source.now.bytes.now x.2.now, x.3)) result (arm_step (below_at source.now.types.now inside (act_at source.now.types.now inside)) (map arm_of all) d (lexemes_of source.now.bytes.now tokens.now)) }
+{
+    if fronted_right_brace(source, tokens) {
+        return Ok((all, d, tokens, false));
+    }
+    let (item, e, rest) = arm(alloc, source, inside, tokens)?;
+    let mut all = all;
+    add(&mut all, item)?;
+    Ok((all, larger(d, e), rest, true))
+}
+
+/// The items of a switch's body up to `}`.
+#[cycle(statement)]
+#[tactic(auto, using(c_expressions::proofs::Turns::turns))]
+fn arms<'a>(
+    alloc: Global,
+    source: &Source,
+    inside: u16,
+    tokens: &'a [Token],
+) -> Result<(List<Arm>, u32, &'a [Token]), Failure>
+    ensures { Gives (λ x. (map arm_of x.0, x.1, lexemes_of source.now.bytes.now x.2.now)) result (chain (arm_step (below_at source.now.types.now inside (act_at source.now.types.now inside))) (length (lexemes_of source.now.bytes.now tokens.now) + 1) [] 0 (lexemes_of source.now.bytes.now tokens.now)) }
+{
+    let mut all = List::new(alloc);
+    let mut d = 0;
+    let mut rest = tokens;
+    let mut turns = tokens.len() as u64 + 1;
+    'more: while turns > 0 {
+        let (more, e, behind, on) = next_arm(alloc, source, inside, all, d, rest)?;
+        all = more;
+        d = e;
+        rest = behind;
+        turns -= 1;
+        if !on {
+            return Ok((all, d, rest));
+        }
+    }
+    Err(Failure::NoParse)
+}
+
+/// What stands behind `switch`.
+#[cycle(statement)]
+#[tactic(auto, unfolding(crate::specs::StatementReading::switch_in))]
+pub fn switch<'a>(
+    alloc: Global,
+    source: &Source,
+    inside: u16,
+    mark: At,
+    tokens: &'a [Token],
+) -> Result<(Statement, u32, &'a [Token]), Failure>
+    ensures { Gives (λ x. (act_of x.0, x.1, lexemes_of source.now.bytes.now x.2.now)) result (switch_in inside (below_at source.now.types.now inside (act_at source.now.types.now inside)) mark (lexemes_of source.now.bytes.now tokens.now)) }
+{
+    let ((left, value, right), d, rest) = condition(alloc, source, inside, tokens)?;
+    let (begin, rest) = behind_left_brace(source, rest)?;
+    let (all, e, rest) = arms(alloc, source, inside, rest)?;
+    let (end, rest) = behind_right_brace(source, rest)?;
+    let d = deeper_than(inside, larger(d, e))?;
+    let whole = Statement {
+        place: placed(source, mark),
+        node: StatementNode::Switch(mark, left, value, right, begin, all, end),
+    };
+    Ok((whole, d, rest))
+}

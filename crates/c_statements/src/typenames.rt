@@ -1,0 +1,79 @@
+//! The names that the typedefs of a file declare (C99 6.7.7).
+
+ghost use Rattle.std.specs.Prelude.{◌≡◌, ◌++◌, map, IfOk, OnOk, option_to_list, option_map};
+ghost use Rattle.c_ast.specs.Levels.{declared_name, declared_names, has_typedef, types_behind};
+ghost use Rattle.c_ast.specs.Views.{declared_of, declares_of, part_of, shape_of, specification_of, specifiers_of};
+
+use c_ast::{
+    Declarator, DeclaratorNode, InitDeclarator, Item, Specifier, SpecifierNode, SpecifierWord,
+};
+use c_expressions::Failure;
+use lay_base::Name;
+use std::alloc::Global;
+
+/// The name of a declarator, if it has one.
+fn name_in(declarator: &Declarator) -> Option<&[u8]>
+    ensures { option_to_list (option_map (λ name. name.now) result) ≡ declared_name (shape_of declarator.now) }
+{
+    match &declarator.node {
+        DeclaratorNode::Identifier(word) => Some(word.text.as_slice()),
+        DeclaratorNode::Enclosed(_, d, _) => name_in(d.get()),
+        DeclaratorNode::Pointer(_, _, Some(d)) => name_in(d.get()),
+        DeclaratorNode::Array(Some(d), _, _, _) => name_in(d.get()),
+        DeclaratorNode::Function(Some(d), _, _, _) => name_in(d.get()),
+        _ => None,
+    }
+}
+
+/// Whether `typedef` stands among the specifiers.
+fn has_typedef(specifiers: &[Specifier]) -> bool
+    ensures { result ≡ has_typedef (specifiers_of (map specification_of specifiers.now)) }
+{
+    for specifier in specifiers {
+        if let SpecifierNode::Word(SpecifierWord::Typedef, _) = &specifier.node {
+            return true;
+        }
+    }
+    false
+}
+
+/// Adds the name of a declarator.
+fn add_name(alloc: Global, types: &mut Vec<Name>, declarator: &Declarator) -> Result<(), Failure>
+    ensures { OnOk result (types.new.items ≡ types.old.items ++ declared_name (shape_of declarator.now)) }
+{
+    if let Some(name) = name_in(declarator) {
+        let copy = Vec::from_slice(alloc, name).map_err(|_| Failure::Memory)?;
+        if types.push(Name::of(copy)).is_err() {
+            return Err(Failure::Memory);
+        }
+    }
+    Ok(())
+}
+
+/// Adds the names of all declarators.
+fn add_names(
+    alloc: Global,
+    types: &mut Vec<Name>,
+    declarators: &[InitDeclarator],
+) -> Result<(), Failure>
+    ensures { OnOk result (types.new.items ≡ types.old.items ++ declared_names (map declared_of declarators.now)) }
+{
+    for one in declarators {
+        add_name(alloc, types, &one.declarator)?;
+    }
+    Ok(())
+}
+
+/// Adds the names that an item declares as types.
+pub fn add_types(alloc: Global, types: &mut Vec<Name>, item: &Item) -> Result<(), Failure>
+    ensures { OnOk result (types.new.items ≡ types_behind types.old.items (part_of item.now)) }
+{
+    match item {
+        Item::Declaration(d) if has_typedef(d.specifiers.as_slice()) => add_names(
+            alloc,
+            types,
+            d.declarators.as_slice(),
+        ),
+        _ => Ok(()),
+    }
+}
