@@ -16,3 +16,6 @@ pub mod SoundParts
 pub mod WholeTokens
 pub mod OneDeclarator
 pub mod OpeningActs
+pub mod BodyTurns
+pub mod ItemTurns
+pub mod PlacesOfTokens

@@ -1,3 +1,4 @@
 pub mod StatementReading
 pub mod TreesOfTokens
 pub mod Openings
+pub mod Parsing

@@ -1,27 +1,28 @@
-//! The readers of initializers, declarations and statements (C99 6.7 to 6.8); and that tokens have one
-//! tree.
+//! The tree of a file's tokens: initializers, declarations, statements and the items of a file (C99 6.7
+//! to 6.9).
 //!
-//! It stands on `c_expressions`. It promises that each reader answers what the reader on lists of its
+//! It stands on `c_expressions`. It promises that the tree of a file's tokens is found exactly where
+//! there is one, and that they have at most one. Each reader answers what the reader on lists of its
 //! name gives (`specs/StatementReading.antt`), of which two theorems say that what is read is spelled
-//! so, well levelled and so deep, and that whatever is so is read; and so that tokens have at most
-//! one well levelled tree.
+//! so, well levelled and so deep, and that whatever is so is read.
 #![tactic(auto)]
 
 mod conditions;
 mod declarations;
 mod declarators;
+mod faults;
 mod initializers;
+mod items;
 mod iteration;
 mod laws;
 mod openings;
+mod parsing;
 mod selection;
 mod statements;
 mod switch_labels;
 mod switches;
 mod typenames;
 
-pub use declarations::{declaration_inside, declarators_behind};
-pub use declarators::named;
+pub use faults::ParseFault;
 pub use laws::tokens_have_one_tree;
-pub use statements::{block, statement_inside};
-pub use typenames::add_types;
+pub use parsing::parse;

@@ -6,6 +6,8 @@
 #![tactic(auto)]
 
 #[cfg(test)]
+mod c_trees;
+#[cfg(test)]
 mod elf_files;
 #[cfg(test)]
 mod instructions;

@@ -1,0 +1,14 @@
+//! Why a file has no tree.
+
+use lay_base::{Keyword, Place};
+
+/// Why a file has no tree.
+#[derive(Clone, Copy, Debug, PartialEq, Eq)]
+pub enum ParseFault {
+    /// The tokens are no file's. The place is that of the first token of the item that is none.
+    NoParse(Place),
+    /// A keyword that is not supported, at its place.
+    Unsupported(Keyword, Place),
+    /// Memory is out.
+    Memory,
+}

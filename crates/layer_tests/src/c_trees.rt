@@ -1,0 +1,257 @@
+//! Trees of C texts, by `parse` behind `lex`.
+
+use c_ast::{
+    BinaryOp, Block, BlockItem, Expression, ExpressionNode, Item, Statement, StatementNode, Tree,
+};
+use c_lexer::lex;
+use c_statements::{ParseFault, parse};
+use lay_base::{Keyword, Place};
+use std::alloc::Global;
+use std::process::Abort;
+use std::test::Fail;
+
+/// What a text comes to.
+#[derive(Clone, Copy, Debug, PartialEq, Eq)]
+enum Answer {
+    Tree,
+    NoParse,
+    Unsupported(Keyword, u32),
+    Other,
+}
+
+/// The tree of a text, or what it comes to.
+fn tree_of(alloc: Global, text: &[u8]) -> Result<Tree, Answer> {
+    if text.len() > 4_194_304 {
+        return Err(Answer::Other);
+    }
+    let Ok(tokens) = lex(alloc, text, 0) else {
+        return Err(Answer::Other);
+    };
+    match parse(alloc, &tokens) {
+        Ok(tree) => Ok(tree),
+        Err(ParseFault::NoParse(_)) => Err(Answer::NoParse),
+        Err(ParseFault::Unsupported(keyword, place)) => Err(Answer::Unsupported(keyword, place.at)),
+        Err(ParseFault::Memory) => Err(Answer::Other),
+    }
+}
+
+fn what_becomes_of(alloc: Global, text: &[u8]) -> Answer {
+    match tree_of(alloc, text) {
+        Ok(_) => Answer::Tree,
+        Err(answer) => answer,
+    }
+}
+
+/// The number of the first text, from 0 on, that is not answered so.
+fn first_otherwise(alloc: Global, texts: &[&[u8]], wanted: Answer) -> Option<usize> {
+    for (i, text) in texts.iter().enumerate() {
+        if what_becomes_of(alloc, text) != wanted {
+            return Some(i);
+        }
+    }
+    None
+}
+
+/// The first statement of the first item, which is a function.
+fn first_statement(tree: &Tree) -> Option<&Statement> {
+    match tree.items.get(0)? {
+        Item::Function(function) => match function.body.items.get(0)? {
+            BlockItem::Statement(statement) => Some(statement),
+            BlockItem::Declaration(_) => None,
+        },
+        Item::Declaration(_) => None,
+    }
+}
+
+/// Whether it is an `if` without `else` whose body is an `if` with one.
+fn is_inner_else(statement: &Statement) -> bool {
+    match &statement.node {
+        StatementNode::If(_, _, _, _, body) => matches!(body.get().node, StatementNode::IfElse(..)),
+        _ => false,
+    }
+}
+
+/// The value of a constant.
+fn constant(expression: &Expression) -> Option<u32> {
+    match &expression.node {
+        ExpressionNode::Number(_, value, _) => Some(*value),
+        _ => None,
+    }
+}
+
+/// The operands of a difference.
+fn difference(expression: &Expression) -> Option<(&Expression, &Expression)> {
+    match &expression.node {
+        ExpressionNode::Binary(a, BinaryOp::Subtract, _, b) => Some((a.get(), b.get())),
+        _ => None,
+    }
+}
+
+/// The numbers of `(a - b) - c`, where a statement returns it.
+fn differences(statement: &Statement) -> Option<(u32, u32, u32)> {
+    match &statement.node {
+        StatementNode::Return(_, Some(value), _) => {
+            let (front, c) = difference(value.get())?;
+            let (a, b) = difference(front)?;
+            Some((constant(a)?, constant(b)?, constant(c)?))
+        }
+        _ => None,
+    }
+}
+
+#[test]
+fn an_else_stands_with_the_nearest_if(rt: HostRuntime) -> Result<(), Fail> {
+    let tree = tree_of(rt.alloc(), b"int f(void){if(1)if(2);else;}").map_err(|_| "no tree")?;
+    assert!(rt; is_inner_else(first_statement(&tree).ok_or("no statement")?));
+    Ok(())
+}
+
+#[test]
+fn differences_group_from_the_left(rt: HostRuntime) -> Result<(), Fail> {
+    let tree = tree_of(rt.alloc(), b"int f(void){return 1-2-3;}").map_err(|_| "no tree")?;
+    let statement = first_statement(&tree).ok_or("no statement")?;
+    assert_eq!(rt; differences(statement), Some((1, 2, 3)));
+    Ok(())
+}
+
+#[test]
+fn keywords_that_are_left_out_are_named(rt: HostRuntime) -> Result<(), Fail> {
+    let alloc = rt.alloc();
+    assert_eq!(rt;
+        what_becomes_of(alloc, b"int f(void){goto x;}"),
+        Answer::Unsupported(Keyword::Goto, 12)
+    );
+    assert_eq!(rt;
+        what_becomes_of(alloc, b"int f(;double union"),
+        Answer::Unsupported(Keyword::Double, 7)
+    );
+    Ok(())
+}
+
+static ACCEPTED: &[&[u8]] = &[
+    b"",
+    b"int;",
+    b"int x, *y, z[3], w[];",
+    b"struct S { int x; char *y, z[2]; } s, *t;",
+    b"struct S; struct { int x; } u;",
+    b"enum E { A, B = 2, C, } e; enum F { D };",
+    b"int *(*f(int, char *))(void);",
+    b"int (*(*a[3])(int x))[5];",
+    b"void (*signal(int s, void (*h)(int)))(int);",
+    b"int f(void), g(), h(int, char), i(int (*)(void)), j(int[]), k(int (int));",
+    b"const char *const p; int *const *q;",
+    b"typedef int T; T x; T *f(T), g(T a);",
+    b"typedef int T; int f(int (T)), g(int (x));",
+    b"typedef struct S { int x; } S; S s; struct S t; int f(S *p) { return p->x; }",
+    b"typedef int T; int f(void) { return sizeof(T) + sizeof (int *) + sizeof(x) + sizeof x; }",
+    b"typedef int T; int f(void) { return (T)1 + (T)(x) + (f)(x) + (T)-1; }",
+    b"typedef int T; int f(void) { return s.T + p->T; }",
+    b"typedef int T; struct T { int x; }; enum T2 { A };",
+    b"int a[] = { 1, { 2, 3 }, { 4, }, }, b = 1, *c = &b;",
+    b"int f(void) { return a ? b : c ? d : e; }",
+    b"int f(void) { return a = b += c -= d; }",
+    b"int f(void) { a, b, c; return x, y; }",
+    b"int f(void) { return a || b && c | d ^ e & f == g < h << i + j * k; }",
+    b"int f(void) { return -a + +b - ~c * !d / *e % &f; }",
+    b"int f(void) { return ++a + --b + c++ - d--; }",
+    b"int f(void) { return a[1][2].b->c(1, 2)(3)++; }",
+    b"int f(void) { *p++ = (int)q; }",
+    b"int f(void) { return \"a\" \"b\" + 'c' + 0x10u; }",
+    b"int f(void) { ; {} { int x; x; } int y = 1, z; y = z; }",
+    b"int f(void) { if (a) b; else if (c) d; else e; }",
+    b"int f(void) { if (a) while (b) if (c) d; else e; }",
+    b"int f(void) { if (a) { if (b) c; } else d; }",
+    b"int f(void) { do x; while (y); while (a) b; }",
+    b"int f(void) { for (;;) break; for (i = 0; i < n; i++) continue; }",
+    b"int f(void) { for (int i = 0, j; i < n;) ; }",
+    b"int f(void) { switch (x) { case 1: case 2: a; default: b; int y = 1; c; } }",
+    b"int f(void) { switch (x) { } switch (y) { a; { case_x; } } }",
+    b"int f(void) { return; return 1; }",
+    b"static int x; extern int y; auto register int z;",
+    b"int f(void) { static const unsigned long x = 1; }",
+    b"int f(int x[3], int *y, int z(void)) { return x[0]; }",
+    b"int f(void) { struct S { int x; } s; enum { A } e; }",
+    b"int f(void) { return sizeof(struct S { int x; }); }",
+    b"unsigned char f(void) { return 1; } char c; signed s; unsigned u; long l; short h;",
+];
+
+static REFUSED: &[&[u8]] = &[
+    b"x;",
+    b"int",
+    b"int x",
+    b"int x y;",
+    b"int x,;",
+    b"int f(void){return 1 +;}",
+    b"int f(void){return 1 2;}",
+    b"int f(void){return (1;}",
+    b"int f(void){return 1);}",
+    b"int f(void){return a b;}",
+    b"int f(void){a + b = c;}",
+    b"int f(void){(int)a = c;}",
+    b"int f(void){a ? b : c = d;}",
+    b"int f(void){++(int)a;}",
+    b"int f(void){sizeof (int)x;}",
+    b"int f(void){if (1) else;}",
+    b"int f(void){if 1;}",
+    b"int f(void){else;}",
+    b"int f(void){do x; while (1)}",
+    b"int f(void){for (;) ;}",
+    b"int f(void){case 1: x;}",
+    b"int f(void){switch (x) case 1: y;}",
+    b"int f(void){switch (x) { case 1: int y = 1; }}",
+    b"int f(void){switch (x) { case 1: }}",
+    b"int f(void){switch (x) { int; }}",
+    b"int f(void){for (int;;) ;}",
+    b"int f(void){f(1,);}",
+    b"int f(void){f(,1);}",
+    b"int f(void) int x; {}",
+    b"int f(int x,) {}",
+    b"int f(int x y);",
+    b"int (x;",
+    b"int *;",
+    b"int [3];",
+    b"struct S { };",
+    b"struct S { int; };",
+    b"enum E { };",
+    b"enum E { A,, };",
+    b"int a = { };",
+    b"typedef int T; int f(void) { return T; }",
+];
+
+#[test]
+fn texts_of_the_grammar_have_a_tree(rt: HostRuntime) -> Result<(), Fail> {
+    assert_eq!(rt; first_otherwise(rt.alloc(), ACCEPTED, Answer::Tree), None);
+    Ok(())
+}
+
+#[test]
+fn other_texts_have_none(rt: HostRuntime) -> Result<(), Fail> {
+    assert_eq!(rt; first_otherwise(rt.alloc(), REFUSED, Answer::NoParse), None);
+    Ok(())
+}
+
+/// `int x = 1;` with so many parentheses round the number.
+fn nested(alloc: Global, count: usize) -> Result<Vec<u8>, Fail> {
+    let mut text = Vec::from_slice(alloc, b"int x = ")?;
+    for _ in 0..count {
+        text.push(b'(')?;
+    }
+    text.push(b'1')?;
+    for _ in 0..count {
+        text.push(b')')?;
+    }
+    text.push(b';')?;
+    Ok(text)
+}
+
+/// A declaration, an initializer and a number are three nodes of depth beside the parentheses.
+#[test]
+fn a_tree_is_400_deep_at_most(rt: HostRuntime) -> Result<(), Fail> {
+    let alloc = rt.alloc();
+    assert_eq!(rt; what_becomes_of(alloc, &nested(alloc, 397)?), Answer::Tree);
+    assert_eq!(rt;
+        what_becomes_of(alloc, &nested(alloc, 398)?),
+        Answer::NoParse
+    );
+    Ok(())
+}
