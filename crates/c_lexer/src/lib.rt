@@ -18,8 +18,6 @@ mod presuming;
 mod quoted;
 mod radix;
 mod runs;
-#[cfg(test)]
-mod tests;
 mod token;
 mod words;
 

@@ -6,8 +6,6 @@
 #![tactic(auto)]
 
 #[cfg(test)]
-mod c_trees;
-#[cfg(test)]
 mod elf_files;
 #[cfg(test)]
 mod instructions;

@@ -1,39 +1,13 @@
 //! Trees of C texts, by `parse` behind `lex`.
 
+use crate::answer::{Answer, tree_of};
 use c_ast::{
-    BinaryOp, Block, BlockItem, Expression, ExpressionNode, Item, Statement, StatementNode, Tree,
+    BinaryOp, BlockItem, Expression, ExpressionNode, Item, Statement, StatementNode, Tree,
 };
-use c_lexer::lex;
-use c_statements::{ParseFault, parse};
-use lay_base::{Keyword, Place};
+use lay_base::Keyword;
 use std::alloc::Global;
 use std::process::Abort;
 use std::test::Fail;
-
-/// What a text comes to.
-#[derive(Clone, Copy, Debug, PartialEq, Eq)]
-enum Answer {
-    Tree,
-    NoParse,
-    Unsupported(Keyword, u32),
-    Other,
-}
-
-/// The tree of a text, or what it comes to.
-fn tree_of(alloc: Global, text: &[u8]) -> Result<Tree, Answer> {
-    if text.len() > 4_194_304 {
-        return Err(Answer::Other);
-    }
-    let Ok(tokens) = lex(alloc, text, 0) else {
-        return Err(Answer::Other);
-    };
-    match parse(alloc, &tokens) {
-        Ok(tree) => Ok(tree),
-        Err(ParseFault::NoParse(_)) => Err(Answer::NoParse),
-        Err(ParseFault::Unsupported(keyword, place)) => Err(Answer::Unsupported(keyword, place.at)),
-        Err(ParseFault::Memory) => Err(Answer::Other),
-    }
-}
 
 fn what_becomes_of(alloc: Global, text: &[u8]) -> Answer {
     match tree_of(alloc, text) {
@@ -146,7 +120,7 @@ static ACCEPTED: &[&[u8]] = &[
     b"typedef int T; int f(void) { return sizeof(T) + sizeof (int *) + sizeof(x) + sizeof x; }",
     b"typedef int T; int f(void) { return (T)1 + (T)(x) + (f)(x) + (T)-1; }",
     b"typedef int T; int f(void) { return s.T + p->T; }",
-    b"typedef int T; struct T { int x; }; enum T2 { A };",
+    b"typedef int T; struct T { int x; }; enum Other { A };",
     b"int a[] = { 1, { 2, 3 }, { 4, }, }, b = 1, *c = &b;",
     b"int f(void) { return a ? b : c ? d : e; }",
     b"int f(void) { return a = b += c -= d; }",

@@ -1,0 +1,12 @@
+//! Tests of the tokens, places and trees of C texts, by the public calls of the layers that make them.
+//!
+//! It stands on the crates that it tests, and has no call of its own. What is wanted was written by
+//! hand from C99.
+#![tactic(auto)]
+
+#[cfg(test)]
+mod acceptance;
+#[cfg(test)]
+mod answer;
+#[cfg(test)]
+mod tokens;
