@@ -9,4 +9,24 @@ mod acceptance;
 #[cfg(test)]
 mod answer;
 #[cfg(test)]
+mod declarators;
+#[cfg(test)]
+mod expression_text;
+#[cfg(test)]
+mod expressions;
+#[cfg(test)]
+mod operator_text;
+#[cfg(test)]
+mod places;
+#[cfg(test)]
+mod rows;
+#[cfg(test)]
+mod statements;
+#[cfg(test)]
 mod tokens;
+#[cfg(test)]
+mod told;
+#[cfg(test)]
+mod tree_text;
+#[cfg(test)]
+mod writer;
