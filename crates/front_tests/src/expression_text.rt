@@ -85,11 +85,20 @@ fn head_of(node: &ExpressionNode) -> Option<&'static str> {
 #[cycle(expression_text)]
 pub fn put_expression(out: &mut Writer, expression: &Expression) -> Result<(), AllocError> {
     out.place(expression.place)?;
-    let Some(head) = head_of(&expression.node) else {
-        return put_leaf(out, &expression.node);
-    };
-    out.open(head)?;
-    match &expression.node {
+    match head_of(&expression.node) {
+        None => put_leaf(out, &expression.node),
+        Some(head) => {
+            out.open(head)?;
+            put_parts(out, &expression.node)?;
+            out.close()
+        }
+    }
+}
+
+/// The parts of an expression that has parts.
+#[cycle(expression_text)]
+fn put_parts(out: &mut Writer, node: &ExpressionNode) -> Result<(), AllocError> {
+    match node {
         ExpressionNode::Name(_)
         | ExpressionNode::Number(_, _, _)
         | ExpressionNode::Character(_, _)
@@ -129,7 +138,7 @@ pub fn put_expression(out: &mut Writer, expression: &Expression) -> Result<(), A
             put_last_comma(out, *last)?;
         }
     }
-    out.close()
+    Ok(())
 }
 
 /// A comma, where one stands behind the last of a list.
