@@ -13,6 +13,7 @@ pub mod ShapeSound
 pub mod Sound
 pub mod SpecifierReads
 pub mod SpecifierSound
+pub mod Tables
 pub mod Taken
 pub mod TermReads
 pub mod TermSound

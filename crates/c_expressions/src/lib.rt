@@ -26,6 +26,7 @@ mod source;
 mod specifiers;
 mod structures;
 mod tokens;
+mod typenames;
 mod unary;
 
 pub use begins::{another, begins_specifier};
@@ -45,3 +46,4 @@ pub use tokens::{
     deeper_than, fronted_comma, fronted_left_brace, fronted_right, fronted_right_brace,
     fronted_semicolon, larger,
 };
+pub use typenames::Typenames;

@@ -23,13 +23,6 @@ fn part(bytes: &[u8], from: usize, to: usize) -> &[u8]
     &behind[..count]
 }
 
-/// Whether a name is that of a type.
-fn names_type(types: &[Name], name: &[u8]) -> bool
-    ensures { result ≡ is_typename types.now name.now }
-{
-    types.iter().any(|x| x.as_slice() == name)
-}
-
 /// The text of a token.
 fn text_of<'a>(source: &Source<'a>, token: Token) -> &'a [u8]
     ensures { result.now ≡ (lexeme_of source.now.bytes.now token).text }
@@ -41,7 +34,7 @@ fn text_of<'a>(source: &Source<'a>, token: Token) -> &'a [u8]
 pub fn is_type(source: &Source, token: Token) -> bool
     ensures { result ≡ is_typename source.now.types.now (lexeme_of source.now.bytes.now token).text }
 {
-    names_type(source.types, text_of(source, token))
+    source.types.contains(text_of(source, token))
 }
 
 /// A token as trees keep it.

@@ -13,9 +13,9 @@ use crate::faults::ParseFault;
 use crate::items::item;
 use crate::typenames::add_types;
 use c_ast::{Item, Tree};
-use c_expressions::{Failure, Source, add};
+use c_expressions::{Failure, Source, Typenames, add};
 use c_lexer::{Token, TokenKind, Tokens};
-use lay_base::{Keyword, List, Name, Place};
+use lay_base::{Keyword, List, Place};
 use std::alloc::Global;
 
 /// The deepest tree that is read.
@@ -59,16 +59,12 @@ fn next_item<'a>(
     alloc: Global,
     file: u16,
     bytes: &[u8],
-    types: &Vec<Name>,
+    types: &Typenames,
     tokens: &'a [Token],
 ) -> Result<(Item, u32, &'a [Token]), Failure>
-    ensures { Gives (λ x. (part_of x.0, x.1, lexemes_of bytes.now x.2.now)) result (part_in types.now.items 399 (lexemes_of bytes.now tokens.now)) }
+    ensures { Gives (λ x. (part_of x.0, x.1, lexemes_of bytes.now x.2.now)) result (part_in types.now 399 (lexemes_of bytes.now tokens.now)) }
 {
-    let source = Source {
-        file,
-        bytes,
-        types: types.as_slice(),
-    };
+    let source = Source { file, bytes, types };
     let (one, d, rest) = item(alloc, &source, DEPTH - 1, tokens)?;
     Ok((one, d, rest))
 }
@@ -76,12 +72,12 @@ fn next_item<'a>(
 /// The items with one more, and the types that it declares.
 fn kept(
     alloc: Global,
-    types: &mut Vec<Name>,
+    types: &mut Typenames,
     all: List<Item>,
     one: Item,
 ) -> Result<List<Item>, Failure>
     ensures items { IfOk result (λ more. map part_of more ≡ map part_of all ++ part_of one ∷ []) }
-    ensures types { OnOk result (types.new.items ≡ types_behind types.old.items (part_of one)) }
+    ensures types { OnOk result (types.new ≡ types_behind types.old (part_of one)) }
 {
     add_types(alloc, types, &one)?;
     let mut all = all;
@@ -99,7 +95,7 @@ fn items_of(
 ) -> Result<List<Item>, (Failure, usize)>
     ensures { ItemsGive (λ items. map part_of items) (parts_in 399 (length tokens.now) [] (lexemes_of bytes.now tokens.now)) result }
 {
-    let mut types: Vec<Name> = Vec::new(alloc);
+    let mut types = Typenames::new(alloc);
     let mut all = List::new(alloc);
     let mut rest = tokens;
     let mut turns = tokens.len();

@@ -7,8 +7,8 @@ ghost use Rattle.c_ast.specs.Views.{declared_of, declares_of, part_of, shape_of,
 use c_ast::{
     Declarator, DeclaratorNode, InitDeclarator, Item, Specifier, SpecifierNode, SpecifierWord,
 };
-use c_expressions::Failure;
-use lay_base::Name;
+use c_expressions::Typenames;
+use lay_base::NoMemory;
 use std::alloc::Global;
 
 /// The name of a declarator, if it has one.
@@ -38,25 +38,22 @@ fn has_typedef(specifiers: &[Specifier]) -> bool
 }
 
 /// Adds the name of a declarator.
-fn add_name(alloc: Global, types: &mut Vec<Name>, declarator: &Declarator) -> Result<(), Failure>
-    ensures { OnOk result (types.new.items ≡ types.old.items ++ declared_name (shape_of declarator.now)) }
+fn add_name(alloc: Global, types: &mut Typenames, declarator: &Declarator) -> Result<(), NoMemory>
+    ensures { OnOk result (types.new ≡ types.old ++ declared_name (shape_of declarator.now)) }
 {
-    if let Some(name) = name_in(declarator) {
-        let copy = Vec::from_slice(alloc, name).map_err(|_| Failure::Memory)?;
-        if types.push(Name::of(copy)).is_err() {
-            return Err(Failure::Memory);
-        }
+    match name_in(declarator) {
+        Some(name) => types.add(alloc, name),
+        None => Ok(()),
     }
-    Ok(())
 }
 
 /// Adds the names of all declarators.
 fn add_names(
     alloc: Global,
-    types: &mut Vec<Name>,
+    types: &mut Typenames,
     declarators: &[InitDeclarator],
-) -> Result<(), Failure>
-    ensures { OnOk result (types.new.items ≡ types.old.items ++ declared_names (map declared_of declarators.now)) }
+) -> Result<(), NoMemory>
+    ensures { OnOk result (types.new ≡ types.old ++ declared_names (map declared_of declarators.now)) }
 {
     for one in declarators {
         add_name(alloc, types, &one.declarator)?;
@@ -65,8 +62,8 @@ fn add_names(
 }
 
 /// Adds the names that an item declares as types.
-pub fn add_types(alloc: Global, types: &mut Vec<Name>, item: &Item) -> Result<(), Failure>
-    ensures { OnOk result (types.new.items ≡ types_behind types.old.items (part_of item.now)) }
+pub fn add_types(alloc: Global, types: &mut Typenames, item: &Item) -> Result<(), NoMemory>
+    ensures { OnOk result (types.new ≡ types_behind types.old (part_of item.now)) }
 {
     match item {
         Item::Declaration(d) if has_typedef(d.specifiers.as_slice()) => add_names(

@@ -6,7 +6,7 @@ use Rattle.c_statements.proofs.ItemTurns.{with_front}
 use Rattle.c_statements.proofs.parsing.items_of.Given as goal
 
 abbrev pub invariant-loop-rest : goal.invariant-loop-rest
-invariant-loop-rest l = with_front (map part_of l.all) (parts_in 399 l.turns l.types.items (lexemes_of l.bytes l.rest)) ≡ parts_in 399 (length l.tokens) [] (lexemes_of l.bytes l.tokens)
+invariant-loop-rest l = with_front (map part_of l.all) (parts_in 399 l.turns l.types (lexemes_of l.bytes l.rest)) ≡ parts_in 399 (length l.tokens) [] (lexemes_of l.bytes l.tokens)
 
 abbrev pub decreases-loop-rest : goal.decreases-loop-rest
 decreases-loop-rest l = l.turns

@@ -4,4 +4,4 @@ use Rattle.c_ast.specs.Views.{declared_of}
 use Rattle.c_statements.proofs.typenames.add_names.Given as goal
 
 abbrev pub invariant-loop-one : goal.invariant-loop-one
-invariant-loop-one l = l.types.items ++ declared_names (map declared_of (drop l.one-index l.declarators)) ≡ l.fn.types.items ++ declared_names (map declared_of l.declarators)
+invariant-loop-one l = l.types ++ declared_names (map declared_of (drop l.one-index l.declarators)) ≡ l.fn.types ++ declared_names (map declared_of l.declarators)
