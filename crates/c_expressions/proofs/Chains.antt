@@ -1,7 +1,7 @@
 -- What a chain of steps took: a fact that each step keeps, and lists that grow at their end.
 use Rattle.std.proofs.Common.{◌≡◌, ◌≢◌, ℕ, zero, suc, ◌≤◌, List, [], ◌∷◌, ◌++◌, Option, Some, Bool, true, false, max, refl, ap, sym, ◌∙◌, subst, arith, cond, append_assoc, append-nil}
 use Rattle.c_ast.specs.Spelling.{Lexeme}
-use Rattle.c_expressions.specs.Lexemes.{AreWhole}
+use Rattle.c_expressions.proofs.Wholeness.{AreWhole}
 use Rattle.c_expressions.specs.Reading.{Step, chain}
 use Rattle.c_expressions.proofs.Fronts.{bind_some, given, is_first}
 

@@ -12,7 +12,7 @@ use Rattle.c_ast.specs.declared.words.Word.{Word}
 use Rattle.c_ast.specs.declared.operators.SpecifierWord.{SpecifierWord}
 use Rattle.c_ast.specs.Spelling.{Lexeme, mark, keyword, word, step_mark, unary_mark, binary_mark, assign_mark, specifier_keyword, spelled_comma, spelled_tag}
 use Rattle.c_ast.specs.Levels.{is_typename, IsComma}
-use Rattle.c_expressions.specs.Lexemes.{IsWhole, AreWhole}
+use Rattle.c_expressions.proofs.Wholeness.{IsWhole, AreWhole}
 use Rattle.c_expressions.specs.Reading.{◌>>=◌, behind, deeper, word_of, any_name, plain_name, comma_before, comma_if_any, tag_if_any, is_left, is_right, is_left_square, is_right_square, is_left_brace, is_right_brace, is_comma, is_semicolon, is_colon, is_question, is_equal, is_star, is_const, is_void, is_name, is_sizeof, is_struct, is_enum, step_op, unary_op, binary_op, assign_op, specifier_word}
 
 -- ---- options and tests

@@ -18,3 +18,4 @@ pub mod Taken
 pub mod TermReads
 pub mod TermSound
 pub mod Turns
+pub mod Wholeness

@@ -12,7 +12,7 @@ use Rattle.c_ast.specs.Spelling.{Lexeme, mark, word, step_mark, spelled, spelled
 use Rattle.c_ast.specs.Levels.{level, has_name, is_typename, IsComma, IsLevelled, IsForm, AreArguments}
 use Rattle.c_ast.specs.Sizes.{depth, depth_form, depth_arguments}
 use Rattle.c_ast.specs.Views.{arguments_of}
-use Rattle.c_expressions.specs.Lexemes.{AreWhole}
+use Rattle.c_expressions.proofs.Wholeness.{AreWhole}
 use Rattle.c_expressions.specs.Reading.{Inner, fronted, is_right, word_of, form_in, enclosed_form_in, text_in, texts_in, paren_in, primary_in, argument_in, arguments_in, index_in, call_in, member_in, stepped_in, going_on, postfix_step, postfix_in}
 use Rattle.c_expressions.proofs.Fronts.{bind_taken, given, chosen, deeper_taken, lexeme, front_whole, rest_whole, left_taken, right_taken, right_square_taken, any_name_taken, comma_before_taken}
 use Rattle.c_expressions.proofs.Chains.{Goes, chain_taken, Listing, added, ended, Grows, list_taken, AnyEnd}

@@ -9,7 +9,7 @@ use Rattle.c_ast.specs.Spelling.{Lexeme, mark, keyword, spelled_comma, spelled_c
 use Rattle.c_ast.specs.Levels.{is_direct, is_lone_void, IsComma, IsOptional, IsShape, AreSpecifiers, IsParameterList, AreParameters}
 use Rattle.c_ast.specs.Sizes.{depth_optional, depth_shape, depth_specifiers, depth_parameter_list, depth_parameters}
 use Rattle.c_ast.specs.Views.{parameters_of}
-use Rattle.c_expressions.specs.Lexemes.{AreWhole}
+use Rattle.c_expressions.proofs.Wholeness.{AreWhole}
 use Rattle.c_expressions.specs.Reading.{Inner, behind, fronted, plain_name, is_left, is_left_square, is_right, is_right_square, is_const, is_star, const_step, pointer_in, is_nothing, enclosed_in, begins_enclosed, core_behind, core_in, length_in, array_in, parameter_step, begins_void, parameters_in, function_in, shaping, suffix_step, direct_in, shape_behind, shape_in}
 use Rattle.c_expressions.proofs.Fronts.{bind_taken, given, chosen, deeper_taken, const_kind, left_kind, left_square_kind, keyword_whole, mark_whole, front_whole, rest_whole, left_taken, right_taken, right_square_taken, star_taken, void_taken, plain_name_taken, comma_before_taken}
 use Rattle.c_expressions.proofs.Chains.{Goes, chain_taken, Listing, added, ended, Grows, list_taken, AnyEnd}

@@ -11,7 +11,7 @@ use Rattle.c_ast.specs.Spelling.{Lexeme, mark, keyword, word, specifier_keyword,
 use Rattle.c_ast.specs.Levels.{has_name, is_typename, IsComma, IsShape, IsSpecification, AreSpecifiers, AreMoreSpecifiers, AreLines, AreFields, AreEnumerators, IsConstant}
 use Rattle.c_ast.specs.Sizes.{depth_shape, depth_specifiers, depth_specification, depth_lines, depth_fields, depth_enumerators, depth_constant}
 use Rattle.c_ast.specs.Views.{specifiers_of, lines_of, fields_of, enumerators_of}
-use Rattle.c_expressions.specs.Lexemes.{AreWhole}
+use Rattle.c_expressions.proofs.Wholeness.{AreWhole}
 use Rattle.c_expressions.specs.Reading.{Reader, Inner, behind, fronted, is_equal, is_left_brace, is_struct, is_enum, is_name, specifier_word, comma_if_any, tag_if_any, field_step, line_in, line_step, struct_body_in, constant_behind, enumerator_in, enumerator_step, enum_body_in, tagged_in, specified_in, specification_in, specifier_step, specifiers_in}
 use Rattle.c_expressions.proofs.Fronts.{bind_taken, given, chosen, both, deeper_taken, specifier_kind, says_some, struct_kind, enum_kind, keyword_whole, name_word, front_whole, rest_whole, left_brace_taken, right_brace_taken, semicolon_taken, equal_taken, plain_name_taken, comma_before_taken, comma_if_any_taken, tag_if_any_taken}
 use Rattle.c_expressions.proofs.Chains.{Listing, added, Grows, list_taken, some_more, IsSome}

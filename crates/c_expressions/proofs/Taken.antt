@@ -8,7 +8,7 @@ use Rattle.c_ast.specs.Trees
 use Rattle.c_ast.specs.Spelling.{Lexeme, mark, word, spelled, spelled_specifiers, spelled_fields, spelled_constant, spelled_shape}
 use Rattle.c_ast.specs.Levels.{strength, level, is_typename, IsLevelled, AreSpecifiers, AreFields, IsConstant, IsShape}
 use Rattle.c_ast.specs.Sizes.{depth, depth_specifiers, depth_fields, depth_constant, depth_shape}
-use Rattle.c_expressions.specs.Lexemes.{AreWhole}
+use Rattle.c_expressions.proofs.Wholeness.{AreWhole}
 use Rattle.c_expressions.specs.Reading.{Reader, Inner, binary_op}
 
 -- y is such a value, of that depth and at most n deep, which spells the tokens up to a rest

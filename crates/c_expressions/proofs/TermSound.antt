@@ -10,7 +10,7 @@ use Rattle.c_ast.specs.declared.operators.AssignOp.{AssignOp}
 use Rattle.c_ast.specs.Trees
 use Rattle.c_ast.specs.Spelling.{Lexeme, mark, keyword, step_mark, unary_mark, binary_mark, assign_mark, spelled, spelled_form}
 use Rattle.c_ast.specs.Levels.{strength, level}
-use Rattle.c_expressions.specs.Lexemes.{AreWhole}
+use Rattle.c_expressions.proofs.Wholeness.{AreWhole}
 use Rattle.c_expressions.specs.Reading.{Inner, behind, begins_form, is_question, is_comma, is_sizeof, step_op, unary_op, binary_op, assign_op, pre_in, unary_in, sizeof_in, cast_in, prefixed_in, unary_expression_in, operand_in, operated_in, operator_step, operators_in, chosen_in, conditional_behind, conditional_in, assigned_in, assignment_behind, assignment_in, comma_behind, comma_step, expression_in}
 use Rattle.c_expressions.proofs.Fronts.{bind_taken, given, chosen, from_leb, below, deeper_taken, marks_some, step_kind, unary_kind, binary_kind, assign_kind, sizeof_kind, mark_whole, keyword_whole, front_whole, rest_whole, colon_taken, question_taken, comma_taken}
 use Rattle.c_expressions.proofs.Chains.{Goes, chain_taken}

@@ -6,7 +6,7 @@ use Rattle.c_expressions.specs.declared.failure.Failure.TheVariants.{Memory, NoP
 -- want of memory says nothing of it
 abbrev pub Fails : {Y : Type 0} → Failure → Option Y → Type 0
 Fails Memory read = Unit {0}
-Fails NoParse read = read ≡ None
+Fails (NoParse left) read = read ≡ None
 
 abbrev pub Gives : {X Y : Type 0} → (X → Y) → Result X Failure → Option Y → Type 0
 Gives view (Ok x) read = read ≡ Some (view x)

@@ -1,15 +1,18 @@
 //! Conditional expressions, assignments and the comma (C99 6.5.15 to 6.5.17).
 
+ghost use Rattle.c_ast.specs.Places.{term_stands};
 ghost use Rattle.c_ast.specs.Views.{term_of};
 ghost use Rattle.c_expressions.specs.Gives.{Gives};
 ghost use Rattle.c_expressions.specs.Lexemes.{lexemes_of};
 ghost use Rattle.c_expressions.specs.Reading.{chosen_in, conditional_in, assignment_behind, assignment_in, comma_step, expression_in, at};
+ghost use Rattle.std.specs.Prelude.{IfOk, true, ◌≡◌};
 
 use crate::binary::operators;
 use crate::building::boxed;
 use crate::failure::Failure;
 use crate::inside::{assignment_inside, conditional_inside, expression_inside};
 use crate::operators::{assigning_of, level_of};
+use crate::places::place_of;
 use crate::source::Source;
 use crate::tokens::{behind_colon, deeper_than, larger};
 use c_ast::{At, Expression, ExpressionNode};
@@ -29,14 +32,16 @@ pub fn chosen<'a>(
     question: At,
     tokens: &'a [Token],
 ) -> Result<(Boxed<Expression>, u32, &'a [Token]), Failure>
-    ensures { Gives (λ x. (term_of x.0, x.1, lexemes_of source.now.bytes.now x.2.now)) result (chosen_in inside (at source.now.types.now inside) (term_of a) d question (lexemes_of source.now.bytes.now tokens.now)) }
+    requires places { (term_stands source.now.file a).right ≡ true }
+    ensures tree { Gives (λ x. (term_of x.0, x.1, lexemes_of source.now.bytes.now x.2.now)) result (chosen_in inside (at source.now.types.now inside) (term_of a) d question (lexemes_of source.now.bytes.now tokens.now)) }
+    ensures places { IfOk result (λ x. (term_stands source.now.file x.0).right ≡ true) }
 {
     let (b, e, rest) = expression_inside(alloc, source, inside, tokens)?;
     let (colon, rest) = behind_colon(source, rest)?;
     let (c, f, rest) = conditional_inside(alloc, source, inside, rest)?;
-    let d = deeper_than(inside, larger(larger(d, e), f))?;
+    let d = deeper_than(inside, larger(larger(d, e), f), rest)?;
     let whole = Expression {
-        place: a.get().place,
+        place: place_of(source, a.get()),
         node: ExpressionNode::Cond(a, question, b, colon, c),
     };
     Ok((boxed(alloc, whole)?, d, rest))
@@ -51,7 +56,8 @@ pub fn conditional<'a>(
     inside: u16,
     tokens: &'a [Token],
 ) -> Result<(Boxed<Expression>, u32, &'a [Token]), Failure>
-    ensures { Gives (λ x. (term_of x.0, x.1, lexemes_of source.now.bytes.now x.2.now)) result (conditional_in source.now.types.now inside (at source.now.types.now inside) (lexemes_of source.now.bytes.now tokens.now)) }
+    ensures tree { Gives (λ x. (term_of x.0, x.1, lexemes_of source.now.bytes.now x.2.now)) result (conditional_in source.now.types.now inside (at source.now.types.now inside) (lexemes_of source.now.bytes.now tokens.now)) }
+    ensures places { IfOk result (λ x. (term_stands source.now.file x.0).right ≡ true) }
 {
     let (a, d, rest) = operators(alloc, source, inside, 3, tokens)?;
     match rest {
@@ -81,18 +87,20 @@ pub fn assigned<'a>(
     d: u32,
     tokens: &'a [Token],
 ) -> Result<(Boxed<Expression>, u32, &'a [Token]), Failure>
-    ensures { Gives (λ x. (term_of x.0, x.1, lexemes_of source.now.bytes.now x.2.now)) result (assignment_behind inside (at source.now.types.now inside) (term_of a) d (lexemes_of source.now.bytes.now tokens.now)) }
+    requires places { (term_stands source.now.file a).right ≡ true }
+    ensures tree { Gives (λ x. (term_of x.0, x.1, lexemes_of source.now.bytes.now x.2.now)) result (assignment_behind inside (at source.now.types.now inside) (term_of a) d (lexemes_of source.now.bytes.now tokens.now)) }
+    ensures places { IfOk result (λ x. (term_stands source.now.file x.0).right ≡ true) }
 {
     match tokens {
         [token, rest @ ..] => match assigning_of(token.kind) {
             Some(op) => {
                 if level_of(a.get()) < 14 {
-                    return Err(Failure::NoParse);
+                    return Err(Failure::NoParse(tokens.len()));
                 }
                 let (b, e, rest) = assignment_inside(alloc, source, inside, rest)?;
-                let d = deeper_than(inside, larger(d, e))?;
+                let d = deeper_than(inside, larger(d, e), rest)?;
                 let whole = Expression {
-                    place: a.get().place,
+                    place: place_of(source, a.get()),
                     node: ExpressionNode::Assign(a, op, token.from, b),
                 };
                 Ok((boxed(alloc, whole)?, d, rest))
@@ -112,7 +120,8 @@ pub fn assignment<'a>(
     inside: u16,
     tokens: &'a [Token],
 ) -> Result<(Boxed<Expression>, u32, &'a [Token]), Failure>
-    ensures { Gives (λ x. (term_of x.0, x.1, lexemes_of source.now.bytes.now x.2.now)) result (assignment_in source.now.types.now inside (at source.now.types.now inside) (lexemes_of source.now.bytes.now tokens.now)) }
+    ensures tree { Gives (λ x. (term_of x.0, x.1, lexemes_of source.now.bytes.now x.2.now)) result (assignment_in source.now.types.now inside (at source.now.types.now inside) (lexemes_of source.now.bytes.now tokens.now)) }
+    ensures places { IfOk result (λ x. (term_stands source.now.file x.0).right ≡ true) }
 {
     let (a, d, rest) = conditional(alloc, source, inside, tokens)?;
     let (x, d, rest) = assigned(alloc, source, inside, a, d, rest)?;
@@ -130,7 +139,9 @@ pub fn comma<'a>(
     d: u32,
     tokens: &'a [Token],
 ) -> Result<(Boxed<Expression>, u32, &'a [Token], bool), Failure>
-    ensures { Gives (λ x. (term_of x.0, x.1, lexemes_of source.now.bytes.now x.2.now, x.3)) result (comma_step inside (at source.now.types.now inside) (term_of x) d (lexemes_of source.now.bytes.now tokens.now)) }
+    requires places { (term_stands source.now.file x).right ≡ true }
+    ensures tree { Gives (λ x. (term_of x.0, x.1, lexemes_of source.now.bytes.now x.2.now, x.3)) result (comma_step inside (at source.now.types.now inside) (term_of x) d (lexemes_of source.now.bytes.now tokens.now)) }
+    ensures places { IfOk result (λ x. (term_stands source.now.file x.0).right ≡ true) }
 {
     match tokens {
         [
@@ -142,9 +153,9 @@ pub fn comma<'a>(
             rest @ ..,
         ] => {
             let (b, e, rest) = assignment_inside(alloc, source, inside, rest)?;
-            let d = deeper_than(inside, larger(d, e))?;
+            let d = deeper_than(inside, larger(d, e), rest)?;
             let whole = Expression {
-                place: x.get().place,
+                place: place_of(source, x.get()),
                 node: ExpressionNode::Comma(x, *from, b),
             };
             Ok((boxed(alloc, whole)?, d, rest, true))
@@ -162,7 +173,8 @@ pub fn expression<'a>(
     inside: u16,
     tokens: &'a [Token],
 ) -> Result<(Boxed<Expression>, u32, &'a [Token]), Failure>
-    ensures { Gives (λ x. (term_of x.0, x.1, lexemes_of source.now.bytes.now x.2.now)) result (expression_in source.now.types.now inside (at source.now.types.now inside) (lexemes_of source.now.bytes.now tokens.now)) }
+    ensures tree { Gives (λ x. (term_of x.0, x.1, lexemes_of source.now.bytes.now x.2.now)) result (expression_in source.now.types.now inside (at source.now.types.now inside) (lexemes_of source.now.bytes.now tokens.now)) }
+    ensures places { IfOk result (λ x. (term_stands source.now.file x.0).right ≡ true) }
 {
     let (mut x, mut d, mut rest) = assignment(alloc, source, inside, tokens)?;
     let mut turns = inside as u64 + 1;
@@ -176,5 +188,5 @@ pub fn expression<'a>(
             return Ok((x, d, rest));
         }
     }
-    Err(Failure::NoParse)
+    Err(Failure::NoParse(rest.len()))
 }

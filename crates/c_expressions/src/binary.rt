@@ -1,14 +1,17 @@
 //! Binary operators (C99 6.5.5 to 6.5.14), by precedence climbing.
 
+ghost use Rattle.c_ast.specs.Places.{term_stands};
 ghost use Rattle.c_ast.specs.Views.{term_of};
 ghost use Rattle.c_expressions.specs.Gives.{Gives};
 ghost use Rattle.c_expressions.specs.Lexemes.{lexemes_of};
 ghost use Rattle.c_expressions.specs.Reading.{operator_step, operators_in, at};
+ghost use Rattle.std.specs.Prelude.{IfOk, true, ◌≡◌};
 
 use crate::building::boxed;
 use crate::failure::Failure;
 use crate::inside::operators_inside;
 use crate::operators::{binary_of, strength_of};
+use crate::places::place_of;
 use crate::source::Source;
 use crate::tokens::{deeper_than, larger};
 use crate::unary::operand;
@@ -29,7 +32,9 @@ pub fn operator<'a>(
     d: u32,
     tokens: &'a [Token],
 ) -> Result<(Boxed<Expression>, u32, &'a [Token], bool), Failure>
-    ensures { Gives (λ x. (term_of x.0, x.1, lexemes_of source.now.bytes.now x.2.now, x.3)) result (operator_step inside (at source.now.types.now inside) least (term_of x) d (lexemes_of source.now.bytes.now tokens.now)) }
+    requires places { (term_stands source.now.file x).right ≡ true }
+    ensures tree { Gives (λ x. (term_of x.0, x.1, lexemes_of source.now.bytes.now x.2.now, x.3)) result (operator_step inside (at source.now.types.now inside) least (term_of x) d (lexemes_of source.now.bytes.now tokens.now)) }
+    ensures places { IfOk result (λ x. (term_stands source.now.file x.0).right ≡ true) }
 {
     match tokens {
         [token, rest @ ..] => match binary_of(token.kind) {
@@ -39,9 +44,9 @@ pub fn operator<'a>(
                     return Ok((x, d, tokens, false));
                 }
                 let (b, e, rest) = operators_inside(alloc, source, inside, strength + 1, rest)?;
-                let d = deeper_than(inside, larger(d, e))?;
+                let d = deeper_than(inside, larger(d, e), rest)?;
                 let whole = Expression {
-                    place: x.get().place,
+                    place: place_of(source, x.get()),
                     node: ExpressionNode::Binary(x, op, token.from, b),
                 };
                 Ok((boxed(alloc, whole)?, d, rest, true))
@@ -62,7 +67,8 @@ pub fn operators<'a>(
     least: u32,
     tokens: &'a [Token],
 ) -> Result<(Boxed<Expression>, u32, &'a [Token]), Failure>
-    ensures { Gives (λ x. (term_of x.0, x.1, lexemes_of source.now.bytes.now x.2.now)) result (operators_in source.now.types.now inside (at source.now.types.now inside) least (lexemes_of source.now.bytes.now tokens.now)) }
+    ensures tree { Gives (λ x. (term_of x.0, x.1, lexemes_of source.now.bytes.now x.2.now)) result (operators_in source.now.types.now inside (at source.now.types.now inside) least (lexemes_of source.now.bytes.now tokens.now)) }
+    ensures places { IfOk result (λ x. (term_stands source.now.file x.0).right ≡ true) }
 {
     let (mut x, mut d, mut rest) = operand(alloc, source, inside, tokens)?;
     let mut turns = inside as u64 + 1;
@@ -76,5 +82,5 @@ pub fn operators<'a>(
             return Ok((x, d, rest));
         }
     }
-    Err(Failure::NoParse)
+    Err(Failure::NoParse(rest.len()))
 }

@@ -1,7 +1,8 @@
 //! Declarators (C99 6.7.5, 6.7.6).
 
-ghost use Rattle.std.specs.Prelude.{◌+◌, [], length, map};
+ghost use Rattle.std.specs.Prelude.{◌+◌, [], length, map, IfOk, true, ◌≡◌};
 ghost use Rattle.std.specs.Option.{option_map};
+ghost use Rattle.c_ast.specs.Places.{all_right, parameter_right, parameters_right, shape_stands, stands_if_any, term_stands};
 ghost use Rattle.c_ast.specs.Views.{optional_of, parameter_list_of, parameter_of, shape_if_any, shape_of, term_of};
 ghost use Rattle.c_expressions.specs.Gives.{Gives};
 ghost use Rattle.c_expressions.specs.Lexemes.{lexemes_of};
@@ -13,8 +14,7 @@ use crate::failure::Failure;
 use crate::inside::{conditional_inside, shape_inside, specifiers_inside};
 use crate::items::{parameter_of_parts, stands_for_something, with_parameter};
 use crate::names::{fronted_plain_name, plain_name};
-use crate::places::{place_at, placed};
-use crate::shapes::place_from;
+use crate::places::{place_from, placed};
 use crate::source::Source;
 use crate::tokens::{
     behind_left, behind_right, behind_right_square, behind_void, comma_before, deeper_than,
@@ -75,7 +75,7 @@ pub fn constant_marks<'a>(
             return Ok((all, d, rest));
         }
     }
-    Err(Failure::NoParse)
+    Err(Failure::NoParse(rest.len()))
 }
 
 /// What stands behind `*`.
@@ -88,11 +88,12 @@ pub fn pointer<'a>(
     mark: At,
     tokens: &'a [Token],
 ) -> Result<(Boxed<Declarator>, u32, &'a [Token]), Failure>
-    ensures { Gives (λ x. (shape_of x.0, x.1, lexemes_of source.now.bytes.now x.2.now)) result (pointer_in inside (at source.now.types.now inside) mark (lexemes_of source.now.bytes.now tokens.now)) }
+    ensures tree { Gives (λ x. (shape_of x.0, x.1, lexemes_of source.now.bytes.now x.2.now)) result (pointer_in inside (at source.now.types.now inside) mark (lexemes_of source.now.bytes.now tokens.now)) }
+    ensures places { IfOk result (λ x. (shape_stands source.now.file x.0).right ≡ true) }
 {
     let (consts, _, rest) = constant_marks(alloc, source, tokens)?;
     let (declarator, d, rest) = shape_inside(alloc, source, inside, rest)?;
-    let d = deeper_than(inside, d)?;
+    let d = deeper_than(inside, d, rest)?;
     let whole = Declarator {
         place: placed(source, mark),
         node: DeclaratorNode::Pointer(mark, consts, declarator),
@@ -109,12 +110,13 @@ pub fn enclosed<'a>(
     inside: u16,
     tokens: &'a [Token],
 ) -> Result<(Boxed<Declarator>, u32, &'a [Token]), Failure>
-    ensures { Gives (λ x. (shape_of x.0, x.1, lexemes_of source.now.bytes.now x.2.now)) result (enclosed_in inside (at source.now.types.now inside) (lexemes_of source.now.bytes.now tokens.now)) }
+    ensures tree { Gives (λ x. (shape_of x.0, x.1, lexemes_of source.now.bytes.now x.2.now)) result (enclosed_in inside (at source.now.types.now inside) (lexemes_of source.now.bytes.now tokens.now)) }
+    ensures places { IfOk result (λ x. (shape_stands source.now.file x.0).right ≡ true) }
 {
     let (left, rest) = behind_left(source, tokens)?;
     let (declarator, d, rest) = shape_inside(alloc, source, inside, rest)?;
     let (right, rest) = behind_right(source, rest)?;
-    let d = deeper_than(inside, d)?;
+    let d = deeper_than(inside, d, rest)?;
     match declarator {
         Some(declarator) => {
             stands_for_something(declarator.get());
@@ -124,7 +126,7 @@ pub fn enclosed<'a>(
             };
             Ok((boxed(alloc, whole)?, d, rest))
         }
-        None => Err(Failure::NoParse),
+        None => Err(Failure::NoParse(rest.len())),
     }
 }
 
@@ -137,12 +139,13 @@ pub fn core<'a>(
     inside: u16,
     tokens: &'a [Token],
 ) -> Result<(Option<Boxed<Declarator>>, u32, &'a [Token]), Failure>
-    ensures { Gives (λ x. (shape_if_any (option_map shape_of x.0), x.1, lexemes_of source.now.bytes.now x.2.now)) result (core_in source.now.types.now inside (at source.now.types.now inside) (lexemes_of source.now.bytes.now tokens.now)) }
+    ensures tree { Gives (λ x. (shape_if_any (option_map shape_of x.0), x.1, lexemes_of source.now.bytes.now x.2.now)) result (core_in source.now.types.now inside (at source.now.types.now inside) (lexemes_of source.now.bytes.now tokens.now)) }
+    ensures places { IfOk result (λ x. stands_if_any (option_map (shape_stands source.now.file) x.0) ≡ true) }
 {
     if fronted_plain_name(source, tokens) {
         let (name, rest) = plain_name(alloc, source, tokens)?;
         let whole = Declarator {
-            place: place_at(source, tokens),
+            place: placed(source, name.from),
             node: DeclaratorNode::Identifier(name),
         };
         Ok((Some(boxed(alloc, whole)?), 1, rest))
@@ -162,7 +165,8 @@ pub fn length_of<'a>(
     inside: u16,
     tokens: &'a [Token],
 ) -> Result<(Option<Boxed<Expression>>, u32, &'a [Token]), Failure>
-    ensures { Gives (λ x. (optional_of (option_map term_of x.0), x.1, lexemes_of source.now.bytes.now x.2.now)) result (length_in (at source.now.types.now inside) (lexemes_of source.now.bytes.now tokens.now)) }
+    ensures tree { Gives (λ x. (optional_of (option_map term_of x.0), x.1, lexemes_of source.now.bytes.now x.2.now)) result (length_in (at source.now.types.now inside) (lexemes_of source.now.bytes.now tokens.now)) }
+    ensures places { IfOk result (λ x. stands_if_any (option_map (term_stands source.now.file) x.0) ≡ true) }
 {
     if fronted_right_square(source, tokens) {
         return Ok((None, 0, tokens));
@@ -183,11 +187,13 @@ pub fn array<'a>(
     left: At,
     tokens: &'a [Token],
 ) -> Result<(Boxed<Declarator>, u32, &'a [Token]), Failure>
-    ensures { Gives (λ x. (shape_of x.0, x.1, lexemes_of source.now.bytes.now x.2.now)) result (array_in inside (at source.now.types.now inside) (shape_if_any (option_map shape_of x)) d left (lexemes_of source.now.bytes.now tokens.now)) }
+    requires places { stands_if_any (option_map (shape_stands source.now.file) x) ≡ true }
+    ensures tree { Gives (λ x. (shape_of x.0, x.1, lexemes_of source.now.bytes.now x.2.now)) result (array_in inside (at source.now.types.now inside) (shape_if_any (option_map shape_of x)) d left (lexemes_of source.now.bytes.now tokens.now)) }
+    ensures places { IfOk result (λ x. (shape_stands source.now.file x.0).right ≡ true) }
 {
     let (size, e, rest) = length_of(alloc, source, inside, tokens)?;
     let (right, rest) = behind_right_square(source, rest)?;
-    let d = deeper_than(inside, larger(d, e))?;
+    let d = deeper_than(inside, larger(d, e), rest)?;
     let whole = Declarator {
         place: place_from(source, &x, left),
         node: DeclaratorNode::Array(x, left, size, right),
@@ -206,7 +212,9 @@ pub fn parameter<'a>(
     d: u32,
     tokens: &'a [Token],
 ) -> Result<(List<Parameter>, u32, &'a [Token], bool), Failure>
-    ensures { Gives (λ x. (map parameter_of x.0, x.1, lexemes_of source.now.bytes.now x.2.now, x.3)) result (parameter_step (at source.now.types.now inside) (map parameter_of all) d (lexemes_of source.now.bytes.now tokens.now)) }
+    requires places { all_right (map (parameter_right source.now.file) all) ≡ true }
+    ensures tree { Gives (λ x. (map parameter_of x.0, x.1, lexemes_of source.now.bytes.now x.2.now, x.3)) result (parameter_step (at source.now.types.now inside) (map parameter_of all) d (lexemes_of source.now.bytes.now tokens.now)) }
+    ensures places { IfOk result (λ x. all_right (map (parameter_right source.now.file) x.0) ≡ true) }
 {
     if fronted_right(source, tokens) {
         return Ok((all, d, tokens, false));
@@ -214,8 +222,8 @@ pub fn parameter<'a>(
     let (comma, rest) = comma_before(source, &all, tokens)?;
     let (specifiers, e, rest) = specifiers_inside(alloc, source, inside, rest)?;
     let (declarator, f, rest) = shape_inside(alloc, source, inside, rest)?;
-    let item = parameter_of_parts(comma, specifiers, declarator);
-    let all = with_parameter(all, item)?;
+    let item = parameter_of_parts(source, comma, specifiers, declarator);
+    let all = with_parameter(source, all, item)?;
     Ok((all, larger(d, larger(e, f)), rest, true))
 }
 
@@ -228,7 +236,8 @@ pub fn parameter_list<'a>(
     inside: u16,
     tokens: &'a [Token],
 ) -> Result<(List<Parameter>, u32, &'a [Token]), Failure>
-    ensures { Gives (λ x. (map parameter_of x.0, x.1, lexemes_of source.now.bytes.now x.2.now)) result (chain (parameter_step (at source.now.types.now inside)) (length (lexemes_of source.now.bytes.now tokens.now) + 1) [] 0 (lexemes_of source.now.bytes.now tokens.now)) }
+    ensures tree { Gives (λ x. (map parameter_of x.0, x.1, lexemes_of source.now.bytes.now x.2.now)) result (chain (parameter_step (at source.now.types.now inside)) (length (lexemes_of source.now.bytes.now tokens.now) + 1) [] 0 (lexemes_of source.now.bytes.now tokens.now)) }
+    ensures places { IfOk result (λ x. all_right (map (parameter_right source.now.file) x.0) ≡ true) }
 {
     let mut all = List::new(alloc);
     let mut d = 0;
@@ -244,7 +253,7 @@ pub fn parameter_list<'a>(
             return Ok((all, d, rest));
         }
     }
-    Err(Failure::NoParse)
+    Err(Failure::NoParse(rest.len()))
 }
 
 /// What stands in the parentheses of a function.
@@ -256,7 +265,8 @@ pub fn parameters<'a>(
     inside: u16,
     tokens: &'a [Token],
 ) -> Result<(Parameters, u32, &'a [Token]), Failure>
-    ensures { Gives (λ x. (parameter_list_of x.0, x.1, lexemes_of source.now.bytes.now x.2.now)) result (parameters_in (at source.now.types.now inside) (lexemes_of source.now.bytes.now tokens.now)) }
+    ensures tree { Gives (λ x. (parameter_list_of x.0, x.1, lexemes_of source.now.bytes.now x.2.now)) result (parameters_in (at source.now.types.now inside) (lexemes_of source.now.bytes.now tokens.now)) }
+    ensures places { IfOk result (λ x. parameters_right source.now.file x.0 ≡ true) }
 {
     if begins_void(source, tokens) {
         let (at, rest) = behind_void(source, tokens)?;
@@ -278,11 +288,13 @@ pub fn function<'a>(
     left: At,
     tokens: &'a [Token],
 ) -> Result<(Boxed<Declarator>, u32, &'a [Token]), Failure>
-    ensures { Gives (λ x. (shape_of x.0, x.1, lexemes_of source.now.bytes.now x.2.now)) result (function_in inside (at source.now.types.now inside) (shape_if_any (option_map shape_of x)) d left (lexemes_of source.now.bytes.now tokens.now)) }
+    requires places { stands_if_any (option_map (shape_stands source.now.file) x) ≡ true }
+    ensures tree { Gives (λ x. (shape_of x.0, x.1, lexemes_of source.now.bytes.now x.2.now)) result (function_in inside (at source.now.types.now inside) (shape_if_any (option_map shape_of x)) d left (lexemes_of source.now.bytes.now tokens.now)) }
+    ensures places { IfOk result (λ x. (shape_stands source.now.file x.0).right ≡ true) }
 {
     let (all, e, rest) = parameters(alloc, source, inside, tokens)?;
     let (right, rest) = behind_right(source, rest)?;
-    let d = deeper_than(inside, larger(d, e))?;
+    let d = deeper_than(inside, larger(d, e), rest)?;
     let whole = Declarator {
         place: place_from(source, &x, left),
         node: DeclaratorNode::Function(x, left, all, right),
@@ -301,7 +313,9 @@ pub fn brackets<'a>(
     d: u32,
     tokens: &'a [Token],
 ) -> Result<(Option<Boxed<Declarator>>, u32, &'a [Token], bool), Failure>
-    ensures { Gives (λ x. (shape_if_any (option_map shape_of x.0), x.1, lexemes_of source.now.bytes.now x.2.now, x.3)) result (suffix_step inside (at source.now.types.now inside) (shape_if_any (option_map shape_of x)) d (lexemes_of source.now.bytes.now tokens.now)) }
+    requires places { stands_if_any (option_map (shape_stands source.now.file) x) ≡ true }
+    ensures tree { Gives (λ x. (shape_if_any (option_map shape_of x.0), x.1, lexemes_of source.now.bytes.now x.2.now, x.3)) result (suffix_step inside (at source.now.types.now inside) (shape_if_any (option_map shape_of x)) d (lexemes_of source.now.bytes.now tokens.now)) }
+    ensures places { IfOk result (λ x. stands_if_any (option_map (shape_stands source.now.file) x.0) ≡ true) }
 {
     match tokens {
         [token, rest @ ..] => match token.kind {
@@ -328,7 +342,8 @@ pub fn direct<'a>(
     inside: u16,
     tokens: &'a [Token],
 ) -> Result<(Option<Boxed<Declarator>>, u32, &'a [Token]), Failure>
-    ensures { Gives (λ x. (shape_if_any (option_map shape_of x.0), x.1, lexemes_of source.now.bytes.now x.2.now)) result (direct_in source.now.types.now inside (at source.now.types.now inside) (lexemes_of source.now.bytes.now tokens.now)) }
+    ensures tree { Gives (λ x. (shape_if_any (option_map shape_of x.0), x.1, lexemes_of source.now.bytes.now x.2.now)) result (direct_in source.now.types.now inside (at source.now.types.now inside) (lexemes_of source.now.bytes.now tokens.now)) }
+    ensures places { IfOk result (λ x. stands_if_any (option_map (shape_stands source.now.file) x.0) ≡ true) }
 {
     let (mut x, mut d, mut rest) = core(alloc, source, inside, tokens)?;
     let mut turns = inside as u64 + 2;
@@ -342,7 +357,7 @@ pub fn direct<'a>(
             return Ok((x, d, rest));
         }
     }
-    Err(Failure::NoParse)
+    Err(Failure::NoParse(rest.len()))
 }
 
 /// A declarator, with or without a name, or nothing (C99 6.7.5, 6.7.6).
@@ -354,7 +369,8 @@ pub fn shape<'a>(
     inside: u16,
     tokens: &'a [Token],
 ) -> Result<(Option<Boxed<Declarator>>, u32, &'a [Token]), Failure>
-    ensures { Gives (λ x. (shape_if_any (option_map shape_of x.0), x.1, lexemes_of source.now.bytes.now x.2.now)) result (shape_in source.now.types.now inside (at source.now.types.now inside) (lexemes_of source.now.bytes.now tokens.now)) }
+    ensures tree { Gives (λ x. (shape_if_any (option_map shape_of x.0), x.1, lexemes_of source.now.bytes.now x.2.now)) result (shape_in source.now.types.now inside (at source.now.types.now inside) (lexemes_of source.now.bytes.now tokens.now)) }
+    ensures places { IfOk result (λ x. stands_if_any (option_map (shape_stands source.now.file) x.0) ≡ true) }
 {
     match tokens {
         [

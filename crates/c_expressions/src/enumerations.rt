@@ -1,7 +1,8 @@
 //! Enumerations (C99 6.7.2.2).
 
-ghost use Rattle.std.specs.Prelude.{◌+◌, [], length, map};
+ghost use Rattle.std.specs.Prelude.{◌+◌, [], length, map, IfOk, true, ◌≡◌};
 ghost use Rattle.std.specs.Option.{option_map};
+ghost use Rattle.c_ast.specs.Places.{all_right, constant_right, enumerator_right, is_right_if_any, specifier_stands};
 ghost use Rattle.c_ast.specs.Trees;
 ghost use Rattle.c_ast.specs.Views.{constant_of, enumerator_constant_of, enumerator_of, specification_of};
 ghost use Rattle.c_expressions.specs.Gives.{Gives};
@@ -13,7 +14,7 @@ use crate::failure::Failure;
 use crate::inside::{conditional_inside, enumerator_inside};
 use crate::items::{enumerator_of_parts, with_enumerator};
 use crate::names::{plain_name, tag_if_any};
-use crate::places::{place_at, placed};
+use crate::places::placed;
 use crate::source::Source;
 use crate::tokens::{
     behind_left_brace, behind_right_brace, comma_before, comma_if_any, deeper_than,
@@ -33,7 +34,8 @@ pub fn enumerator<'a>(
     inside: u16,
     tokens: &'a [Token],
 ) -> Result<((Word, Option<EnumeratorValue>), u32, &'a [Token]), Failure>
-    ensures { Gives (λ x. ((x.0.0, constant_of (option_map enumerator_constant_of x.0.1)), x.1, lexemes_of source.now.bytes.now x.2.now)) result (enumerator_in source.now.types.now inside (at source.now.types.now inside) (lexemes_of source.now.bytes.now tokens.now)) }
+    ensures tree { Gives (λ x. ((x.0.0, constant_of (option_map enumerator_constant_of x.0.1)), x.1, lexemes_of source.now.bytes.now x.2.now)) result (enumerator_in source.now.types.now inside (at source.now.types.now inside) (lexemes_of source.now.bytes.now tokens.now)) }
+    ensures places { IfOk result (λ x. is_right_if_any (option_map (constant_right source.now.file) x.0.1) ≡ true) }
 {
     let (name, rest) = plain_name(alloc, source, tokens)?;
     match rest {
@@ -46,7 +48,7 @@ pub fn enumerator<'a>(
             behind @ ..,
         ] => {
             let (value, d, rest) = conditional_inside(alloc, source, inside, behind)?;
-            let d = deeper_than(inside, d)?;
+            let d = deeper_than(inside, d, rest)?;
             let value = EnumeratorValue {
                 equal: *from,
                 value,
@@ -68,13 +70,14 @@ pub fn next_enumerator<'a>(
     d: u32,
     tokens: &'a [Token],
 ) -> Result<(List<Enumerator>, u32, &'a [Token], bool), Failure>
-    ensures { Gives (λ x. (map enumerator_of x.0, x.1, lexemes_of source.now.bytes.now x.2.now, x.3)) result (enumerator_step (at source.now.types.now inside) (map enumerator_of all) d (lexemes_of source.now.bytes.now tokens.now)) }
+    requires places { all_right (map (enumerator_right source.now.file) all) ≡ true }
+    ensures tree { Gives (λ x. (map enumerator_of x.0, x.1, lexemes_of source.now.bytes.now x.2.now, x.3)) result (enumerator_step (at source.now.types.now inside) (map enumerator_of all) d (lexemes_of source.now.bytes.now tokens.now)) }
+    ensures places { IfOk result (λ x. all_right (map (enumerator_right source.now.file) x.0) ≡ true) }
 {
     let (comma, rest) = comma_before(source, &all, tokens)?;
-    let place = place_at(source, rest);
     let ((name, value), e, rest) = enumerator_inside(alloc, source, inside, rest)?;
-    let item = enumerator_of_parts(place, comma, name, value);
-    let all = with_enumerator(all, item)?;
+    let item = enumerator_of_parts(source, comma, name, value);
+    let all = with_enumerator(source, all, item)?;
     Ok((all, larger(d, e), rest, another(source, rest)))
 }
 
@@ -87,7 +90,8 @@ pub fn enumerators<'a>(
     inside: u16,
     tokens: &'a [Token],
 ) -> Result<(List<Enumerator>, u32, &'a [Token]), Failure>
-    ensures { Gives (λ x. (map enumerator_of x.0, x.1, lexemes_of source.now.bytes.now x.2.now)) result (chain (enumerator_step (at source.now.types.now inside)) (length (lexemes_of source.now.bytes.now tokens.now) + 1) [] 0 (lexemes_of source.now.bytes.now tokens.now)) }
+    ensures tree { Gives (λ x. (map enumerator_of x.0, x.1, lexemes_of source.now.bytes.now x.2.now)) result (chain (enumerator_step (at source.now.types.now inside)) (length (lexemes_of source.now.bytes.now tokens.now) + 1) [] 0 (lexemes_of source.now.bytes.now tokens.now)) }
+    ensures places { IfOk result (λ x. all_right (map (enumerator_right source.now.file) x.0) ≡ true) }
 {
     let mut all = List::new(alloc);
     let mut d = 0;
@@ -103,7 +107,7 @@ pub fn enumerators<'a>(
             return Ok((all, d, rest));
         }
     }
-    Err(Failure::NoParse)
+    Err(Failure::NoParse(rest.len()))
 }
 
 /// The body of an enumeration.
@@ -117,13 +121,14 @@ pub fn enum_body<'a>(
     name: Option<Word>,
     tokens: &'a [Token],
 ) -> Result<(Specifier, u32, &'a [Token]), Failure>
-    ensures { Gives (λ x. (specification_of x.0, x.1, lexemes_of source.now.bytes.now x.2.now)) result (enum_body_in inside (at source.now.types.now inside) mark name (lexemes_of source.now.bytes.now tokens.now)) }
+    ensures tree { Gives (λ x. (specification_of x.0, x.1, lexemes_of source.now.bytes.now x.2.now)) result (enum_body_in inside (at source.now.types.now inside) mark name (lexemes_of source.now.bytes.now tokens.now)) }
+    ensures places { IfOk result (λ x. (specifier_stands source.now.file x.0).right ≡ true) }
 {
     let (left, rest) = behind_left_brace(source, tokens)?;
     let (all, d, rest) = enumerators(alloc, source, inside, rest)?;
     let (comma, rest) = comma_if_any(source, rest);
     let (right, rest) = behind_right_brace(source, rest)?;
-    let d = deeper_than(inside, d)?;
+    let d = deeper_than(inside, d, rest)?;
     let whole = Specifier {
         place: placed(source, mark),
         node: SpecifierNode::EnumBody(mark, name, left, all, comma, right),
@@ -140,7 +145,8 @@ pub fn enumeration<'a>(
     mark: At,
     tokens: &'a [Token],
 ) -> Result<(Specifier, u32, &'a [Token]), Failure>
-    ensures { Gives (λ x. (specification_of x.0, x.1, lexemes_of source.now.bytes.now x.2.now)) result (tagged_in (Trees.enum_named mark) (enum_body_in inside (at source.now.types.now inside) mark) (tag_if_any (lexemes_of source.now.bytes.now tokens.now))) }
+    ensures tree { Gives (λ x. (specification_of x.0, x.1, lexemes_of source.now.bytes.now x.2.now)) result (tagged_in (Trees.enum_named mark) (enum_body_in inside (at source.now.types.now inside) mark) (tag_if_any (lexemes_of source.now.bytes.now tokens.now))) }
+    ensures places { IfOk result (λ x. (specifier_stands source.now.file x.0).right ≡ true) }
 {
     let (tag, rest) = tag_if_any(alloc, source, tokens)?;
     match tag {

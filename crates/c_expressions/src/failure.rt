@@ -9,8 +9,9 @@ use lay_base::NoMemory;
 pub enum Failure {
     /// Memory is out.
     Memory,
-    /// What stands here cannot be read so.
-    NoParse,
+    /// What stands here cannot be read so. It is known by how many tokens are left where reading
+    /// stopped.
+    NoParse(usize),
 }
 
 impl From<NoMemory> for Failure {

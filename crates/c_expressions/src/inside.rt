@@ -1,7 +1,8 @@
 //! The readers of parts, of a depth of at most `inside`.
 
-ghost use Rattle.std.specs.Prelude.{map};
+ghost use Rattle.std.specs.Prelude.{map, IfOk, true, ◌≡◌};
 ghost use Rattle.std.specs.Option.{option_map};
+ghost use Rattle.c_ast.specs.Places.{all_stand, constant_right, is_right_if_any, line_right, shape_stands, specifier_stands, stands_if_any, term_stands};
 ghost use Rattle.c_ast.specs.Views.{constant_of, enumerator_constant_of, line_of, shape_if_any, shape_of, specification_of, specifiers_of, term_of};
 ghost use Rattle.c_expressions.specs.Gives.{Gives};
 ghost use Rattle.c_expressions.specs.Lexemes.{lexemes_of};
@@ -29,10 +30,11 @@ pub fn expression_inside<'a>(
     inside: u16,
     tokens: &'a [Token],
 ) -> Result<(Boxed<Expression>, u32, &'a [Token]), Failure>
-    ensures { Gives (λ x. (term_of x.0, x.1, lexemes_of source.now.bytes.now x.2.now)) result ((at source.now.types.now inside).expression (lexemes_of source.now.bytes.now tokens.now)) }
+    ensures tree { Gives (λ x. (term_of x.0, x.1, lexemes_of source.now.bytes.now x.2.now)) result ((at source.now.types.now inside).expression (lexemes_of source.now.bytes.now tokens.now)) }
+    ensures places { IfOk result (λ x. (term_stands source.now.file x.0).right ≡ true) }
 {
     if inside == 0 {
-        return Err(Failure::NoParse);
+        return Err(Failure::NoParse(tokens.len()));
     }
     expression(alloc, source, inside - 1, tokens)
 }
@@ -45,10 +47,11 @@ pub fn assignment_inside<'a>(
     inside: u16,
     tokens: &'a [Token],
 ) -> Result<(Boxed<Expression>, u32, &'a [Token]), Failure>
-    ensures { Gives (λ x. (term_of x.0, x.1, lexemes_of source.now.bytes.now x.2.now)) result ((at source.now.types.now inside).assignment (lexemes_of source.now.bytes.now tokens.now)) }
+    ensures tree { Gives (λ x. (term_of x.0, x.1, lexemes_of source.now.bytes.now x.2.now)) result ((at source.now.types.now inside).assignment (lexemes_of source.now.bytes.now tokens.now)) }
+    ensures places { IfOk result (λ x. (term_stands source.now.file x.0).right ≡ true) }
 {
     if inside == 0 {
-        return Err(Failure::NoParse);
+        return Err(Failure::NoParse(tokens.len()));
     }
     assignment(alloc, source, inside - 1, tokens)
 }
@@ -61,10 +64,11 @@ pub fn conditional_inside<'a>(
     inside: u16,
     tokens: &'a [Token],
 ) -> Result<(Boxed<Expression>, u32, &'a [Token]), Failure>
-    ensures { Gives (λ x. (term_of x.0, x.1, lexemes_of source.now.bytes.now x.2.now)) result ((at source.now.types.now inside).conditional (lexemes_of source.now.bytes.now tokens.now)) }
+    ensures tree { Gives (λ x. (term_of x.0, x.1, lexemes_of source.now.bytes.now x.2.now)) result ((at source.now.types.now inside).conditional (lexemes_of source.now.bytes.now tokens.now)) }
+    ensures places { IfOk result (λ x. (term_stands source.now.file x.0).right ≡ true) }
 {
     if inside == 0 {
-        return Err(Failure::NoParse);
+        return Err(Failure::NoParse(tokens.len()));
     }
     conditional(alloc, source, inside - 1, tokens)
 }
@@ -78,10 +82,11 @@ pub fn operators_inside<'a>(
     least: u32,
     tokens: &'a [Token],
 ) -> Result<(Boxed<Expression>, u32, &'a [Token]), Failure>
-    ensures { Gives (λ x. (term_of x.0, x.1, lexemes_of source.now.bytes.now x.2.now)) result ((at source.now.types.now inside).operators least (lexemes_of source.now.bytes.now tokens.now)) }
+    ensures tree { Gives (λ x. (term_of x.0, x.1, lexemes_of source.now.bytes.now x.2.now)) result ((at source.now.types.now inside).operators least (lexemes_of source.now.bytes.now tokens.now)) }
+    ensures places { IfOk result (λ x. (term_stands source.now.file x.0).right ≡ true) }
 {
     if inside == 0 {
-        return Err(Failure::NoParse);
+        return Err(Failure::NoParse(tokens.len()));
     }
     operators(alloc, source, inside - 1, least, tokens)
 }
@@ -94,10 +99,11 @@ pub fn operand_inside<'a>(
     inside: u16,
     tokens: &'a [Token],
 ) -> Result<(Boxed<Expression>, u32, &'a [Token]), Failure>
-    ensures { Gives (λ x. (term_of x.0, x.1, lexemes_of source.now.bytes.now x.2.now)) result ((at source.now.types.now inside).operand (lexemes_of source.now.bytes.now tokens.now)) }
+    ensures tree { Gives (λ x. (term_of x.0, x.1, lexemes_of source.now.bytes.now x.2.now)) result ((at source.now.types.now inside).operand (lexemes_of source.now.bytes.now tokens.now)) }
+    ensures places { IfOk result (λ x. (term_stands source.now.file x.0).right ≡ true) }
 {
     if inside == 0 {
-        return Err(Failure::NoParse);
+        return Err(Failure::NoParse(tokens.len()));
     }
     operand(alloc, source, inside - 1, tokens)
 }
@@ -110,10 +116,11 @@ pub fn unary_inside<'a>(
     inside: u16,
     tokens: &'a [Token],
 ) -> Result<(Boxed<Expression>, u32, &'a [Token]), Failure>
-    ensures { Gives (λ x. (term_of x.0, x.1, lexemes_of source.now.bytes.now x.2.now)) result ((at source.now.types.now inside).unary (lexemes_of source.now.bytes.now tokens.now)) }
+    ensures tree { Gives (λ x. (term_of x.0, x.1, lexemes_of source.now.bytes.now x.2.now)) result ((at source.now.types.now inside).unary (lexemes_of source.now.bytes.now tokens.now)) }
+    ensures places { IfOk result (λ x. (term_stands source.now.file x.0).right ≡ true) }
 {
     if inside == 0 {
-        return Err(Failure::NoParse);
+        return Err(Failure::NoParse(tokens.len()));
     }
     unary_expression(alloc, source, inside - 1, tokens)
 }
@@ -126,10 +133,11 @@ pub fn specifiers_inside<'a>(
     inside: u16,
     tokens: &'a [Token],
 ) -> Result<(List<Specifier>, u32, &'a [Token]), Failure>
-    ensures { Gives (λ x. (specifiers_of (map specification_of x.0), x.1, lexemes_of source.now.bytes.now x.2.now)) result ((at source.now.types.now inside).specifiers (lexemes_of source.now.bytes.now tokens.now)) }
+    ensures tree { Gives (λ x. (specifiers_of (map specification_of x.0), x.1, lexemes_of source.now.bytes.now x.2.now)) result ((at source.now.types.now inside).specifiers (lexemes_of source.now.bytes.now tokens.now)) }
+    ensures places { IfOk result (λ x. all_stand (map (specifier_stands source.now.file) x.0) ≡ true) }
 {
     if inside == 0 {
-        return Err(Failure::NoParse);
+        return Err(Failure::NoParse(tokens.len()));
     }
     specifiers(alloc, source, inside - 1, tokens)
 }
@@ -142,10 +150,11 @@ pub fn line_inside<'a>(
     inside: u16,
     tokens: &'a [Token],
 ) -> Result<(FieldLine, u32, &'a [Token]), Failure>
-    ensures { Gives (λ x. (line_of x.0, x.1, lexemes_of source.now.bytes.now x.2.now)) result ((at source.now.types.now inside).line (lexemes_of source.now.bytes.now tokens.now)) }
+    ensures tree { Gives (λ x. (line_of x.0, x.1, lexemes_of source.now.bytes.now x.2.now)) result ((at source.now.types.now inside).line (lexemes_of source.now.bytes.now tokens.now)) }
+    ensures places { IfOk result (λ x. line_right source.now.file x.0 ≡ true) }
 {
     if inside == 0 {
-        return Err(Failure::NoParse);
+        return Err(Failure::NoParse(tokens.len()));
     }
     line(alloc, source, inside - 1, tokens)
 }
@@ -158,10 +167,11 @@ pub fn enumerator_inside<'a>(
     inside: u16,
     tokens: &'a [Token],
 ) -> Result<((Word, Option<EnumeratorValue>), u32, &'a [Token]), Failure>
-    ensures { Gives (λ x. ((x.0.0, constant_of (option_map enumerator_constant_of x.0.1)), x.1, lexemes_of source.now.bytes.now x.2.now)) result ((at source.now.types.now inside).enumerator (lexemes_of source.now.bytes.now tokens.now)) }
+    ensures tree { Gives (λ x. ((x.0.0, constant_of (option_map enumerator_constant_of x.0.1)), x.1, lexemes_of source.now.bytes.now x.2.now)) result ((at source.now.types.now inside).enumerator (lexemes_of source.now.bytes.now tokens.now)) }
+    ensures places { IfOk result (λ x. is_right_if_any (option_map (constant_right source.now.file) x.0.1) ≡ true) }
 {
     if inside == 0 {
-        return Err(Failure::NoParse);
+        return Err(Failure::NoParse(tokens.len()));
     }
     enumerator(alloc, source, inside - 1, tokens)
 }
@@ -174,7 +184,8 @@ pub fn shape_inside<'a>(
     inside: u16,
     tokens: &'a [Token],
 ) -> Result<(Option<Boxed<Declarator>>, u32, &'a [Token]), Failure>
-    ensures { Gives (λ x. (shape_if_any (option_map shape_of x.0), x.1, lexemes_of source.now.bytes.now x.2.now)) result ((at source.now.types.now inside).shape (lexemes_of source.now.bytes.now tokens.now)) }
+    ensures tree { Gives (λ x. (shape_if_any (option_map shape_of x.0), x.1, lexemes_of source.now.bytes.now x.2.now)) result ((at source.now.types.now inside).shape (lexemes_of source.now.bytes.now tokens.now)) }
+    ensures places { IfOk result (λ x. stands_if_any (option_map (shape_stands source.now.file) x.0) ≡ true) }
 {
     if inside == 0 {
         return Ok((None, 0, tokens));

@@ -1,26 +1,32 @@
 //! Items of lists as they are added, and what each stands for.
 
-ghost use Rattle.std.specs.Prelude.{◌≡◌, ◌++◌, ◌∷◌, [], IfOk, false, map};
+ghost use Rattle.std.specs.Prelude.{◌≡◌, ◌++◌, ◌∷◌, [], IfOk, false, map, true};
 ghost use Rattle.std.specs.Option.{option_map};
+ghost use Rattle.c_ast.specs.Places.{all_right, all_stand, constant_right, enumerator_right, is_right_if_any, parameter_right, shape_stands, specifier_stands, stands_if_any, term_stands};
 ghost use Rattle.c_ast.specs.Trees;
 ghost use Rattle.c_ast.specs.Views.{constant_of, enumerator_constant_of, enumerator_of, parameter_of, shape_if_any, shape_of, specification_of, specifiers_of, term_of};
 ghost use Rattle.c_expressions.specs.Reading.{is_nothing};
 
 use crate::building::{add, boxed};
+use crate::places::{place_of, placed};
+use crate::source::Source;
 use c_ast::{
     At, Declarator, DeclaratorNode, Enumerator, EnumeratorValue, Expression, ExpressionNode,
-    Parameter, Specifier, StepOp, Word,
+    Parameter, Specifier, Word,
 };
-use lay_base::{Boxed, List, NoMemory, Place};
+use lay_base::{Boxed, List, NoMemory};
 use std::alloc::Global;
 
 /// A parameter of its parts.
 pub fn parameter_of_parts(
+    source: &Source,
     comma: Option<At>,
     specifiers: List<Specifier>,
     declarator: Option<Boxed<Declarator>>,
 ) -> Parameter
-    ensures { parameter_of result ≡ (comma, specifiers_of (map specification_of specifiers), shape_if_any (option_map shape_of declarator)) }
+    requires places { (all_stand (map (specifier_stands source.now.file) specifiers) ≡ true) × (stands_if_any (option_map (shape_stands source.now.file) declarator) ≡ true) }
+    ensures tree { parameter_of result ≡ (comma, specifiers_of (map specification_of specifiers), shape_if_any (option_map shape_of declarator)) }
+    ensures places { parameter_right source.now.file result ≡ true }
 {
     Parameter {
         comma,
@@ -30,8 +36,14 @@ pub fn parameter_of_parts(
 }
 
 /// The parameters with one more.
-pub fn with_parameter(all: List<Parameter>, item: Parameter) -> Result<List<Parameter>, NoMemory>
-    ensures { IfOk result (λ more. map parameter_of more ≡ map parameter_of all ++ parameter_of item ∷ []) }
+pub fn with_parameter(
+    source: &Source,
+    all: List<Parameter>,
+    item: Parameter,
+) -> Result<List<Parameter>, NoMemory>
+    requires places { (all_right (map (parameter_right source.now.file) all) ≡ true) × (parameter_right source.now.file item ≡ true) }
+    ensures tree { IfOk result (λ more. map parameter_of more ≡ map parameter_of all ++ parameter_of item ∷ []) }
+    ensures places { IfOk result (λ more. all_right (map (parameter_right source.now.file) more) ≡ true) }
 {
     let mut all = all;
     add(&mut all, item)?;
@@ -40,15 +52,17 @@ pub fn with_parameter(all: List<Parameter>, item: Parameter) -> Result<List<Para
 
 /// An enumerator of its parts.
 pub fn enumerator_of_parts(
-    place: Place,
+    source: &Source,
     comma: Option<At>,
     name: Word,
     value: Option<EnumeratorValue>,
 ) -> Enumerator
-    ensures { enumerator_of result ≡ (comma, name, constant_of (option_map enumerator_constant_of value)) }
+    requires places { is_right_if_any (option_map (constant_right source.now.file) value) ≡ true }
+    ensures tree { enumerator_of result ≡ (comma, name, constant_of (option_map enumerator_constant_of value)) }
+    ensures places { enumerator_right source.now.file result ≡ true }
 {
     Enumerator {
-        place,
+        place: placed(source, name.from),
         comma,
         name,
         value,
@@ -57,10 +71,13 @@ pub fn enumerator_of_parts(
 
 /// The enumerators with one more.
 pub fn with_enumerator(
+    source: &Source,
     all: List<Enumerator>,
     item: Enumerator,
 ) -> Result<List<Enumerator>, NoMemory>
-    ensures { IfOk result (λ more. map enumerator_of more ≡ map enumerator_of all ++ enumerator_of item ∷ []) }
+    requires places { (all_right (map (enumerator_right source.now.file) all) ≡ true) × (enumerator_right source.now.file item ≡ true) }
+    ensures tree { IfOk result (λ more. map enumerator_of more ≡ map enumerator_of all ++ enumerator_of item ∷ []) }
+    ensures places { IfOk result (λ more. all_right (map (enumerator_right source.now.file) more) ≡ true) }
 {
     let mut all = all;
     add(&mut all, item)?;
@@ -70,14 +87,17 @@ pub fn with_enumerator(
 /// An expression with `.` and a name behind it.
 pub fn dotted(
     alloc: Global,
+    source: &Source,
     x: Boxed<Expression>,
     mark: At,
     name: Word,
 ) -> Result<Boxed<Expression>, NoMemory>
-    ensures { IfOk result (λ whole. term_of whole ≡ Trees.dot (term_of x) mark name) }
+    requires places { (term_stands source.now.file x).right ≡ true }
+    ensures tree { IfOk result (λ whole. term_of whole ≡ Trees.dot (term_of x) mark name) }
+    ensures places { IfOk result (λ whole. (term_stands source.now.file whole).right ≡ true) }
 {
     let whole = Expression {
-        place: x.get().place,
+        place: place_of(source, x.get()),
         node: ExpressionNode::Dot(x, mark, name),
     };
     boxed(alloc, whole)
@@ -86,31 +106,18 @@ pub fn dotted(
 /// An expression with `->` and a name behind it.
 pub fn arrowed(
     alloc: Global,
+    source: &Source,
     x: Boxed<Expression>,
     mark: At,
     name: Word,
 ) -> Result<Boxed<Expression>, NoMemory>
-    ensures { IfOk result (λ whole. term_of whole ≡ Trees.arrow (term_of x) mark name) }
+    requires places { (term_stands source.now.file x).right ≡ true }
+    ensures tree { IfOk result (λ whole. term_of whole ≡ Trees.arrow (term_of x) mark name) }
+    ensures places { IfOk result (λ whole. (term_stands source.now.file whole).right ≡ true) }
 {
     let whole = Expression {
-        place: x.get().place,
+        place: place_of(source, x.get()),
         node: ExpressionNode::Arrow(x, mark, name),
-    };
-    boxed(alloc, whole)
-}
-
-/// An expression with `++` or `--` behind it.
-pub fn stepped(
-    alloc: Global,
-    x: Boxed<Expression>,
-    op: StepOp,
-    mark: At,
-) -> Result<Boxed<Expression>, NoMemory>
-    ensures { IfOk result (λ whole. term_of whole ≡ Trees.post (term_of x) op mark) }
-{
-    let whole = Expression {
-        place: x.get().place,
-        node: ExpressionNode::Post(x, op, mark),
     };
     boxed(alloc, whole)
 }

@@ -37,7 +37,7 @@ pub use inside::{
 };
 pub use items::stands_for_something;
 pub use names::{any_name, plain_name, word};
-pub use places::{place_at, placed};
+pub use places::{place_before, place_of_first, placed};
 pub use shapes::{has_name, is_named};
 pub use source::Source;
 pub use tokens::{

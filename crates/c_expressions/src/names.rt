@@ -65,7 +65,7 @@ pub fn any_name<'a>(
             word(alloc, source, *token)?,
             rest,
         )),
-        _ => Err(Failure::NoParse),
+        _ => Err(Failure::NoParse(tokens.len())),
     }
 }
 
@@ -81,7 +81,7 @@ pub fn plain_name<'a>(
         [token, rest @ ..] if token.kind == TokenKind::Name && !is_type(source, *token) => {
             Ok((word(alloc, source, *token)?, rest))
         }
-        _ => Err(Failure::NoParse),
+        _ => Err(Failure::NoParse(tokens.len())),
     }
 }
 

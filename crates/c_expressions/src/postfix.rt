@@ -1,16 +1,18 @@
 //! Postfix expressions (C99 6.5.2).
 
-ghost use Rattle.std.specs.Prelude.{◌+◌, [], length, map};
+ghost use Rattle.std.specs.Prelude.{◌+◌, [], length, map, IfOk, true, ◌≡◌};
+ghost use Rattle.c_ast.specs.Places.{all_right, item_right, term_stands};
 ghost use Rattle.c_ast.specs.Views.{arguments_of, item_of, term_of};
 ghost use Rattle.c_expressions.specs.Gives.{Gives};
 ghost use Rattle.c_expressions.specs.Lexemes.{lexemes_of};
-ghost use Rattle.c_expressions.specs.Reading.{chain, argument_in, arguments_in, index_in, call_in, postfix_step, postfix_in, at};
+ghost use Rattle.c_expressions.specs.Reading.{chain, argument_in, arguments_in, index_in, call_in, stepped_in, postfix_step, postfix_in, at};
 
 use crate::building::{add, boxed};
 use crate::failure::Failure;
 use crate::inside::{assignment_inside, expression_inside};
-use crate::items::{arrowed, dotted, stepped};
+use crate::items::{arrowed, dotted};
 use crate::names::any_name;
+use crate::places::place_of;
 use crate::primary::primary;
 use crate::source::Source;
 use crate::tokens::{
@@ -32,7 +34,9 @@ pub fn argument<'a>(
     d: u32,
     tokens: &'a [Token],
 ) -> Result<(List<ExpressionItem>, u32, &'a [Token], bool), Failure>
-    ensures { Gives (λ x. (map item_of x.0, x.1, lexemes_of source.now.bytes.now x.2.now, x.3)) result (argument_in (at source.now.types.now inside) (map item_of all) d (lexemes_of source.now.bytes.now tokens.now)) }
+    requires places { all_right (map (item_right source.now.file) all) ≡ true }
+    ensures tree { Gives (λ x. (map item_of x.0, x.1, lexemes_of source.now.bytes.now x.2.now, x.3)) result (argument_in (at source.now.types.now inside) (map item_of all) d (lexemes_of source.now.bytes.now tokens.now)) }
+    ensures places { IfOk result (λ x. all_right (map (item_right source.now.file) x.0) ≡ true) }
 {
     if fronted_right(source, tokens) {
         return Ok((all, d, tokens, false));
@@ -57,7 +61,8 @@ pub fn argument_list<'a>(
     inside: u16,
     tokens: &'a [Token],
 ) -> Result<(List<ExpressionItem>, u32, &'a [Token]), Failure>
-    ensures { Gives (λ x. (map item_of x.0, x.1, lexemes_of source.now.bytes.now x.2.now)) result (chain (argument_in (at source.now.types.now inside)) (length (lexemes_of source.now.bytes.now tokens.now) + 1) [] 0 (lexemes_of source.now.bytes.now tokens.now)) }
+    ensures tree { Gives (λ x. (map item_of x.0, x.1, lexemes_of source.now.bytes.now x.2.now)) result (chain (argument_in (at source.now.types.now inside)) (length (lexemes_of source.now.bytes.now tokens.now) + 1) [] 0 (lexemes_of source.now.bytes.now tokens.now)) }
+    ensures places { IfOk result (λ x. all_right (map (item_right source.now.file) x.0) ≡ true) }
 {
     let mut all = List::new(alloc);
     let mut d = 0;
@@ -73,7 +78,7 @@ pub fn argument_list<'a>(
             return Ok((all, d, rest));
         }
     }
-    Err(Failure::NoParse)
+    Err(Failure::NoParse(rest.len()))
 }
 
 /// The arguments behind `(`, with the place of `)`.
@@ -85,7 +90,8 @@ pub fn arguments<'a>(
     inside: u16,
     tokens: &'a [Token],
 ) -> Result<((List<ExpressionItem>, At), u32, &'a [Token]), Failure>
-    ensures { Gives (λ x. ((arguments_of (map item_of x.0.0), x.0.1), x.1, lexemes_of source.now.bytes.now x.2.now)) result (arguments_in (at source.now.types.now inside) (lexemes_of source.now.bytes.now tokens.now)) }
+    ensures tree { Gives (λ x. ((arguments_of (map item_of x.0.0), x.0.1), x.1, lexemes_of source.now.bytes.now x.2.now)) result (arguments_in (at source.now.types.now inside) (lexemes_of source.now.bytes.now tokens.now)) }
+    ensures places { IfOk result (λ x. all_right (map (item_right source.now.file) x.0.0) ≡ true) }
 {
     let (all, d, rest) = argument_list(alloc, source, inside, tokens)?;
     let (right, rest) = behind_right(source, rest)?;
@@ -104,13 +110,15 @@ pub fn index<'a>(
     left: At,
     tokens: &'a [Token],
 ) -> Result<(Boxed<Expression>, u32, &'a [Token]), Failure>
-    ensures { Gives (λ x. (term_of x.0, x.1, lexemes_of source.now.bytes.now x.2.now)) result (index_in inside (at source.now.types.now inside) (term_of x) d left (lexemes_of source.now.bytes.now tokens.now)) }
+    requires places { (term_stands source.now.file x).right ≡ true }
+    ensures tree { Gives (λ x. (term_of x.0, x.1, lexemes_of source.now.bytes.now x.2.now)) result (index_in inside (at source.now.types.now inside) (term_of x) d left (lexemes_of source.now.bytes.now tokens.now)) }
+    ensures places { IfOk result (λ x. (term_stands source.now.file x.0).right ≡ true) }
 {
     let (b, e, rest) = expression_inside(alloc, source, inside, tokens)?;
     let (right, rest) = behind_right_square(source, rest)?;
-    let d = deeper_than(inside, larger(d, e))?;
+    let d = deeper_than(inside, larger(d, e), rest)?;
     let whole = Expression {
-        place: x.get().place,
+        place: place_of(source, x.get()),
         node: ExpressionNode::Index(x, left, b, right),
     };
     Ok((boxed(alloc, whole)?, d, rest))
@@ -128,20 +136,46 @@ pub fn call<'a>(
     left: At,
     tokens: &'a [Token],
 ) -> Result<(Boxed<Expression>, u32, &'a [Token]), Failure>
-    ensures { Gives (λ x. (term_of x.0, x.1, lexemes_of source.now.bytes.now x.2.now)) result (call_in inside (at source.now.types.now inside) (term_of x) d left (lexemes_of source.now.bytes.now tokens.now)) }
+    requires places { (term_stands source.now.file x).right ≡ true }
+    ensures tree { Gives (λ x. (term_of x.0, x.1, lexemes_of source.now.bytes.now x.2.now)) result (call_in inside (at source.now.types.now inside) (term_of x) d left (lexemes_of source.now.bytes.now tokens.now)) }
+    ensures places { IfOk result (λ x. (term_stands source.now.file x.0).right ≡ true) }
 {
     let ((all, right), e, rest) = arguments(alloc, source, inside, tokens)?;
-    let d = deeper_than(inside, larger(d, e))?;
+    let d = deeper_than(inside, larger(d, e), rest)?;
     let whole = Expression {
-        place: x.get().place,
+        place: place_of(source, x.get()),
         node: ExpressionNode::Call(x, left, all, right),
     };
     Ok((boxed(alloc, whole)?, d, rest))
 }
 
+/// An expression with `++` or `--` behind it, and the tokens behind that.
+#[tactic(auto, unfolding(crate::specs::Reading::stepped_in))]
+fn stepped<'a>(
+    alloc: Global,
+    source: &Source,
+    inside: u16,
+    x: Boxed<Expression>,
+    d: u32,
+    op: StepOp,
+    mark: At,
+    tokens: &'a [Token],
+) -> Result<(Boxed<Expression>, u32, &'a [Token]), Failure>
+    requires places { (term_stands source.now.file x).right ≡ true }
+    ensures tree { Gives (λ x. (term_of x.0, x.1, lexemes_of source.now.bytes.now x.2.now)) result (stepped_in inside (term_of x) d op mark (lexemes_of source.now.bytes.now tokens.now)) }
+    ensures places { IfOk result (λ x. (term_stands source.now.file x.0).right ≡ true) }
+{
+    let d = deeper_than(inside, d, tokens)?;
+    let whole = Expression {
+        place: place_of(source, x.get()),
+        node: ExpressionNode::Post(x, op, mark),
+    };
+    Ok((boxed(alloc, whole)?, d, tokens))
+}
+
 /// One suffix more, if one stands at the front.
 #[cycle(expression)]
-#[tactic(auto, unfolding(crate::specs::Reading::postfix_step, crate::specs::Reading::member_in, crate::specs::Reading::stepped_in))]
+#[tactic(auto, unfolding(crate::specs::Reading::postfix_step, crate::specs::Reading::member_in))]
 pub fn suffix<'a>(
     alloc: Global,
     source: &Source,
@@ -150,7 +184,9 @@ pub fn suffix<'a>(
     d: u32,
     tokens: &'a [Token],
 ) -> Result<(Boxed<Expression>, u32, &'a [Token], bool), Failure>
-    ensures { Gives (λ x. (term_of x.0, x.1, lexemes_of source.now.bytes.now x.2.now, x.3)) result (postfix_step inside (at source.now.types.now inside) (term_of x) d (lexemes_of source.now.bytes.now tokens.now)) }
+    requires places { (term_stands source.now.file x).right ≡ true }
+    ensures tree { Gives (λ x. (term_of x.0, x.1, lexemes_of source.now.bytes.now x.2.now, x.3)) result (postfix_step inside (at source.now.types.now inside) (term_of x) d (lexemes_of source.now.bytes.now tokens.now)) }
+    ensures places { IfOk result (λ x. (term_stands source.now.file x.0).right ≡ true) }
 {
     match tokens {
         [token, rest @ ..] => match token.kind {
@@ -164,31 +200,23 @@ pub fn suffix<'a>(
             }
             TokenKind::Mark(Mark::Dot) => {
                 let (name, rest) = any_name(alloc, source, rest)?;
-                let d = deeper_than(inside, d)?;
-                Ok((dotted(alloc, x, token.from, name)?, d, rest, true))
+                let d = deeper_than(inside, d, rest)?;
+                Ok((dotted(alloc, source, x, token.from, name)?, d, rest, true))
             }
             TokenKind::Mark(Mark::Arrow) => {
                 let (name, rest) = any_name(alloc, source, rest)?;
-                let d = deeper_than(inside, d)?;
-                Ok((arrowed(alloc, x, token.from, name)?, d, rest, true))
+                let d = deeper_than(inside, d, rest)?;
+                Ok((arrowed(alloc, source, x, token.from, name)?, d, rest, true))
             }
             TokenKind::Mark(Mark::PlusPlus) => {
-                let d = deeper_than(inside, d)?;
-                Ok((
-                    stepped(alloc, x, StepOp::Increment, token.from)?,
-                    d,
-                    rest,
-                    true,
-                ))
+                let op = StepOp::Increment;
+                let (x, d, rest) = stepped(alloc, source, inside, x, d, op, token.from, rest)?;
+                Ok((x, d, rest, true))
             }
             TokenKind::Mark(Mark::MinusMinus) => {
-                let d = deeper_than(inside, d)?;
-                Ok((
-                    stepped(alloc, x, StepOp::Decrement, token.from)?,
-                    d,
-                    rest,
-                    true,
-                ))
+                let op = StepOp::Decrement;
+                let (x, d, rest) = stepped(alloc, source, inside, x, d, op, token.from, rest)?;
+                Ok((x, d, rest, true))
             }
             _ => Ok((x, d, tokens, false)),
         },
@@ -205,7 +233,8 @@ pub fn postfix<'a>(
     inside: u16,
     tokens: &'a [Token],
 ) -> Result<(Boxed<Expression>, u32, &'a [Token]), Failure>
-    ensures { Gives (λ x. (term_of x.0, x.1, lexemes_of source.now.bytes.now x.2.now)) result (postfix_in source.now.types.now inside (at source.now.types.now inside) (lexemes_of source.now.bytes.now tokens.now)) }
+    ensures tree { Gives (λ x. (term_of x.0, x.1, lexemes_of source.now.bytes.now x.2.now)) result (postfix_in source.now.types.now inside (at source.now.types.now inside) (lexemes_of source.now.bytes.now tokens.now)) }
+    ensures places { IfOk result (λ x. (term_stands source.now.file x.0).right ≡ true) }
 {
     let (mut x, mut d, mut rest) = primary(alloc, source, inside, tokens)?;
     let mut turns = inside as u64 + 1;
@@ -219,5 +248,5 @@ pub fn postfix<'a>(
             return Ok((x, d, rest));
         }
     }
-    Err(Failure::NoParse)
+    Err(Failure::NoParse(rest.len()))
 }

@@ -1,6 +1,7 @@
 //! Primary expressions (C99 6.5.1).
 
-ghost use Rattle.std.specs.Prelude.{◌+◌, [], length};
+ghost use Rattle.std.specs.Prelude.{◌+◌, [], length, IfOk, true, ◌≡◌};
+ghost use Rattle.c_ast.specs.Places.{term_stands};
 ghost use Rattle.c_ast.specs.Views.{term_of};
 ghost use Rattle.c_expressions.specs.Gives.{Gives};
 ghost use Rattle.c_expressions.specs.Lexemes.{lexemes_of};
@@ -10,7 +11,7 @@ use crate::building::{add, boxed};
 use crate::failure::Failure;
 use crate::inside::expression_inside;
 use crate::names::{is_type, word};
-use crate::places::place_at;
+use crate::places::{first_text, placed};
 use crate::source::Source;
 use crate::tokens::{behind_left, behind_right, deeper_than};
 use c_ast::{Expression, ExpressionNode, Word};
@@ -65,7 +66,7 @@ pub fn text_list<'a>(
             return Ok((all, d, rest));
         }
     }
-    Err(Failure::NoParse)
+    Err(Failure::NoParse(rest.len()))
 }
 
 /// An expression of all string literals at the front.
@@ -75,11 +76,12 @@ pub fn texts<'a>(
     source: &Source,
     tokens: &'a [Token],
 ) -> Result<(Boxed<Expression>, u32, &'a [Token]), Failure>
-    ensures { Gives (λ x. (term_of x.0, x.1, lexemes_of source.now.bytes.now x.2.now)) result (texts_in (lexemes_of source.now.bytes.now tokens.now)) }
+    ensures tree { Gives (λ x. (term_of x.0, x.1, lexemes_of source.now.bytes.now x.2.now)) result (texts_in (lexemes_of source.now.bytes.now tokens.now)) }
+    ensures places { IfOk result (λ x. (term_stands source.now.file x.0).right ≡ true) }
 {
     let (all, d, rest) = text_list(alloc, source, tokens)?;
     let whole = Expression {
-        place: place_at(source, tokens),
+        place: placed(source, first_text(&all)),
         node: ExpressionNode::Texts(all),
     };
     Ok((boxed(alloc, whole)?, d, rest))
@@ -94,14 +96,15 @@ pub fn paren<'a>(
     inside: u16,
     tokens: &'a [Token],
 ) -> Result<(Boxed<Expression>, u32, &'a [Token]), Failure>
-    ensures { Gives (λ x. (term_of x.0, x.1, lexemes_of source.now.bytes.now x.2.now)) result (paren_in inside (at source.now.types.now inside) (lexemes_of source.now.bytes.now tokens.now)) }
+    ensures tree { Gives (λ x. (term_of x.0, x.1, lexemes_of source.now.bytes.now x.2.now)) result (paren_in inside (at source.now.types.now inside) (lexemes_of source.now.bytes.now tokens.now)) }
+    ensures places { IfOk result (λ x. (term_stands source.now.file x.0).right ≡ true) }
 {
     let (left, rest) = behind_left(source, tokens)?;
     let (a, d, rest) = expression_inside(alloc, source, inside, rest)?;
     let (right, rest) = behind_right(source, rest)?;
-    let d = deeper_than(inside, d)?;
+    let d = deeper_than(inside, d, rest)?;
     let whole = Expression {
-        place: place_at(source, tokens),
+        place: placed(source, left),
         node: ExpressionNode::Paren(left, a, right),
     };
     Ok((boxed(alloc, whole)?, d, rest))
@@ -116,17 +119,18 @@ pub fn primary<'a>(
     inside: u16,
     tokens: &'a [Token],
 ) -> Result<(Boxed<Expression>, u32, &'a [Token]), Failure>
-    ensures { Gives (λ x. (term_of x.0, x.1, lexemes_of source.now.bytes.now x.2.now)) result (primary_in source.now.types.now inside (at source.now.types.now inside) (lexemes_of source.now.bytes.now tokens.now)) }
+    ensures tree { Gives (λ x. (term_of x.0, x.1, lexemes_of source.now.bytes.now x.2.now)) result (primary_in source.now.types.now inside (at source.now.types.now inside) (lexemes_of source.now.bytes.now tokens.now)) }
+    ensures places { IfOk result (λ x. (term_stands source.now.file x.0).right ≡ true) }
 {
     match tokens {
         [token, rest @ ..] => match token.kind {
             TokenKind::Name => {
                 if is_type(source, *token) {
-                    return Err(Failure::NoParse);
+                    return Err(Failure::NoParse(tokens.len()));
                 }
                 let x = word(alloc, source, *token)?;
                 let whole = Expression {
-                    place: place_at(source, tokens),
+                    place: placed(source, x.from),
                     node: ExpressionNode::Name(x),
                 };
                 Ok((boxed(alloc, whole)?, 1, rest))
@@ -134,7 +138,7 @@ pub fn primary<'a>(
             TokenKind::Number(n, kind) => {
                 let x = word(alloc, source, *token)?;
                 let whole = Expression {
-                    place: place_at(source, tokens),
+                    place: placed(source, x.from),
                     node: ExpressionNode::Number(x, n, kind),
                 };
                 Ok((boxed(alloc, whole)?, 1, rest))
@@ -142,15 +146,15 @@ pub fn primary<'a>(
             TokenKind::Character(n) => {
                 let x = word(alloc, source, *token)?;
                 let whole = Expression {
-                    place: place_at(source, tokens),
+                    place: placed(source, x.from),
                     node: ExpressionNode::Character(x, n),
                 };
                 Ok((boxed(alloc, whole)?, 1, rest))
             }
             TokenKind::Text => texts(alloc, source, tokens),
             TokenKind::Mark(Mark::Open) => paren(alloc, source, inside, tokens),
-            _ => Err(Failure::NoParse),
+            _ => Err(Failure::NoParse(tokens.len())),
         },
-        [] => Err(Failure::NoParse),
+        [] => Err(Failure::NoParse(tokens.len())),
     }
 }

@@ -5,10 +5,8 @@ ghost use Rattle.std.specs.Option.{option_map};
 ghost use Rattle.c_ast.specs.Levels.{has_name};
 ghost use Rattle.c_ast.specs.Views.{shape_if_any, shape_of};
 
-use crate::places::placed;
-use crate::source::Source;
-use c_ast::{At, Declarator, DeclaratorNode};
-use lay_base::{Boxed, Place};
+use c_ast::{Declarator, DeclaratorNode};
+use lay_base::Boxed;
 
 /// Whether a declarator has a name.
 pub fn has_name(declarator: &Declarator) -> bool
@@ -31,13 +29,5 @@ pub fn is_named(declarator: &Option<Boxed<Declarator>>) -> bool
     match declarator {
         Some(declarator) => has_name(declarator.get()),
         None => false,
-    }
-}
-
-/// The place of a declarator, or of the mark behind it where there is none.
-pub fn place_from(source: &Source, declarator: &Option<Boxed<Declarator>>, mark: At) -> Place {
-    match declarator {
-        Some(declarator) => declarator.get().place,
-        None => placed(source, mark),
     }
 }

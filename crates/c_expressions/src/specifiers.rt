@@ -1,6 +1,7 @@
 //! Specifiers (C99 6.7.1 to 6.7.3).
 
-ghost use Rattle.std.specs.Prelude.{◌+◌, [], length, map};
+ghost use Rattle.std.specs.Prelude.{◌+◌, [], length, map, IfOk, true, ◌≡◌};
+ghost use Rattle.c_ast.specs.Places.{all_stand, specifier_stands};
 ghost use Rattle.c_ast.specs.Views.{specification_of, specifiers_of};
 ghost use Rattle.c_expressions.specs.Gives.{Gives};
 ghost use Rattle.c_expressions.specs.Lexemes.{lexemes_of};
@@ -12,7 +13,7 @@ use crate::enumerations::enumeration;
 use crate::failure::Failure;
 use crate::names::{is_type, word};
 use crate::operators::specifier_of;
-use crate::places::place_at;
+use crate::places::placed;
 use crate::source::Source;
 use crate::structures::structure;
 use crate::tokens::larger;
@@ -30,13 +31,14 @@ pub fn specifier<'a>(
     inside: u16,
     tokens: &'a [Token],
 ) -> Result<(Specifier, u32, &'a [Token]), Failure>
-    ensures { Gives (λ x. (specification_of x.0, x.1, lexemes_of source.now.bytes.now x.2.now)) result (specification_in source.now.types.now inside (at source.now.types.now inside) (lexemes_of source.now.bytes.now tokens.now)) }
+    ensures tree { Gives (λ x. (specification_of x.0, x.1, lexemes_of source.now.bytes.now x.2.now)) result (specification_in source.now.types.now inside (at source.now.types.now inside) (lexemes_of source.now.bytes.now tokens.now)) }
+    ensures places { IfOk result (λ x. (specifier_stands source.now.file x.0).right ≡ true) }
 {
     match tokens {
         [token, rest @ ..] => match specifier_of(token.kind) {
             Some(keyword) => {
                 let whole = Specifier {
-                    place: place_at(source, tokens),
+                    place: placed(source, token.from),
                     node: SpecifierNode::Word(keyword, token.from),
                 };
                 Ok((whole, 1, rest))
@@ -50,19 +52,19 @@ pub fn specifier<'a>(
                 ),
                 TokenKind::Name => {
                     if !is_type(source, *token) {
-                        return Err(Failure::NoParse);
+                        return Err(Failure::NoParse(tokens.len()));
                     }
                     let x = word(alloc, source, *token)?;
                     let whole = Specifier {
-                        place: place_at(source, tokens),
+                        place: placed(source, x.from),
                         node: SpecifierNode::Typename(x),
                     };
                     Ok((whole, 1, rest))
                 }
-                _ => Err(Failure::NoParse),
+                _ => Err(Failure::NoParse(tokens.len())),
             },
         },
-        [] => Err(Failure::NoParse),
+        [] => Err(Failure::NoParse(tokens.len())),
     }
 }
 
@@ -77,7 +79,9 @@ pub fn next_specifier<'a>(
     d: u32,
     tokens: &'a [Token],
 ) -> Result<(List<Specifier>, u32, &'a [Token], bool), Failure>
-    ensures { Gives (λ x. (map specification_of x.0, x.1, lexemes_of source.now.bytes.now x.2.now, x.3)) result (specifier_step source.now.types.now inside (at source.now.types.now inside) (map specification_of all) d (lexemes_of source.now.bytes.now tokens.now)) }
+    requires places { all_stand (map (specifier_stands source.now.file) all) ≡ true }
+    ensures tree { Gives (λ x. (map specification_of x.0, x.1, lexemes_of source.now.bytes.now x.2.now, x.3)) result (specifier_step source.now.types.now inside (at source.now.types.now inside) (map specification_of all) d (lexemes_of source.now.bytes.now tokens.now)) }
+    ensures places { IfOk result (λ x. all_stand (map (specifier_stands source.now.file) x.0) ≡ true) }
 {
     let (one, e, rest) = specifier(alloc, source, inside, tokens)?;
     let mut all = all;
@@ -94,7 +98,8 @@ pub fn specifier_list<'a>(
     inside: u16,
     tokens: &'a [Token],
 ) -> Result<(List<Specifier>, u32, &'a [Token]), Failure>
-    ensures { Gives (λ x. (map specification_of x.0, x.1, lexemes_of source.now.bytes.now x.2.now)) result (chain (specifier_step source.now.types.now inside (at source.now.types.now inside)) (length (lexemes_of source.now.bytes.now tokens.now) + 1) [] 0 (lexemes_of source.now.bytes.now tokens.now)) }
+    ensures tree { Gives (λ x. (map specification_of x.0, x.1, lexemes_of source.now.bytes.now x.2.now)) result (chain (specifier_step source.now.types.now inside (at source.now.types.now inside)) (length (lexemes_of source.now.bytes.now tokens.now) + 1) [] 0 (lexemes_of source.now.bytes.now tokens.now)) }
+    ensures places { IfOk result (λ x. all_stand (map (specifier_stands source.now.file) x.0) ≡ true) }
 {
     let mut all = List::new(alloc);
     let mut d = 0;
@@ -110,7 +115,7 @@ pub fn specifier_list<'a>(
             return Ok((all, d, rest));
         }
     }
-    Err(Failure::NoParse)
+    Err(Failure::NoParse(rest.len()))
 }
 
 /// One specifier or more.
@@ -122,7 +127,8 @@ pub fn specifiers<'a>(
     inside: u16,
     tokens: &'a [Token],
 ) -> Result<(List<Specifier>, u32, &'a [Token]), Failure>
-    ensures { Gives (λ x. (specifiers_of (map specification_of x.0), x.1, lexemes_of source.now.bytes.now x.2.now)) result (specifiers_in source.now.types.now inside (at source.now.types.now inside) (lexemes_of source.now.bytes.now tokens.now)) }
+    ensures tree { Gives (λ x. (specifiers_of (map specification_of x.0), x.1, lexemes_of source.now.bytes.now x.2.now)) result (specifiers_in source.now.types.now inside (at source.now.types.now inside) (lexemes_of source.now.bytes.now tokens.now)) }
+    ensures places { IfOk result (λ x. all_stand (map (specifier_stands source.now.file) x.0) ≡ true) }
 {
     let (all, d, rest) = specifier_list(alloc, source, inside, tokens)?;
     Ok((all, d, rest))

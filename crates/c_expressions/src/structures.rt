@@ -1,6 +1,7 @@
 //! Structures (C99 6.7.2.1).
 
-ghost use Rattle.std.specs.Prelude.{◌+◌, [], length, map};
+ghost use Rattle.std.specs.Prelude.{◌+◌, [], length, map, IfOk, true, ◌≡◌};
+ghost use Rattle.c_ast.specs.Places.{all_right, field_right, line_right, specifier_stands};
 ghost use Rattle.c_ast.specs.Trees;
 ghost use Rattle.c_ast.specs.Views.{field_of, line_of, specification_of};
 ghost use Rattle.c_expressions.specs.Gives.{Gives};
@@ -11,7 +12,7 @@ use crate::building::add;
 use crate::failure::Failure;
 use crate::inside::{line_inside, shape_inside, specifiers_inside};
 use crate::names::tag_if_any;
-use crate::places::{place_at, placed};
+use crate::places::{place_of_first, placed};
 use crate::shapes::has_name;
 use crate::source::Source;
 use crate::tokens::{
@@ -34,14 +35,16 @@ pub fn field<'a>(
     d: u32,
     tokens: &'a [Token],
 ) -> Result<(List<FieldDeclarator>, u32, &'a [Token], bool), Failure>
-    ensures { Gives (λ x. (map field_of x.0, x.1, lexemes_of source.now.bytes.now x.2.now, x.3)) result (field_step (at source.now.types.now inside) (map field_of all) d (lexemes_of source.now.bytes.now tokens.now)) }
+    requires places { all_right (map (field_right source.now.file) all) ≡ true }
+    ensures tree { Gives (λ x. (map field_of x.0, x.1, lexemes_of source.now.bytes.now x.2.now, x.3)) result (field_step (at source.now.types.now inside) (map field_of all) d (lexemes_of source.now.bytes.now tokens.now)) }
+    ensures places { IfOk result (λ x. all_right (map (field_right source.now.file) x.0) ≡ true) }
 {
     let (comma, rest) = comma_before(source, &all, tokens)?;
     let (declarator, e, rest) = shape_inside(alloc, source, inside, rest)?;
     match declarator {
         Some(declarator) => {
             if !has_name(declarator.get()) {
-                return Err(Failure::NoParse);
+                return Err(Failure::NoParse(rest.len()));
             }
             let mut all = all;
             let item = FieldDeclarator {
@@ -51,7 +54,7 @@ pub fn field<'a>(
             add(&mut all, item)?;
             Ok((all, larger(d, e), rest, fronted_comma(source, rest)))
         }
-        None => Err(Failure::NoParse),
+        None => Err(Failure::NoParse(rest.len())),
     }
 }
 
@@ -65,7 +68,8 @@ pub fn fields<'a>(
     d: u32,
     tokens: &'a [Token],
 ) -> Result<(List<FieldDeclarator>, u32, &'a [Token]), Failure>
-    ensures { Gives (λ x. (map field_of x.0, x.1, lexemes_of source.now.bytes.now x.2.now)) result (chain (field_step (at source.now.types.now inside)) (length (lexemes_of source.now.bytes.now tokens.now) + 1) [] d (lexemes_of source.now.bytes.now tokens.now)) }
+    ensures tree { Gives (λ x. (map field_of x.0, x.1, lexemes_of source.now.bytes.now x.2.now)) result (chain (field_step (at source.now.types.now inside)) (length (lexemes_of source.now.bytes.now tokens.now) + 1) [] d (lexemes_of source.now.bytes.now tokens.now)) }
+    ensures places { IfOk result (λ x. all_right (map (field_right source.now.file) x.0) ≡ true) }
 {
     let mut all = List::new(alloc);
     let mut d = d;
@@ -81,7 +85,7 @@ pub fn fields<'a>(
             return Ok((all, d, rest));
         }
     }
-    Err(Failure::NoParse)
+    Err(Failure::NoParse(rest.len()))
 }
 
 /// A line of fields (C99 6.7.2.1).
@@ -93,14 +97,15 @@ pub fn line<'a>(
     inside: u16,
     tokens: &'a [Token],
 ) -> Result<(FieldLine, u32, &'a [Token]), Failure>
-    ensures { Gives (λ x. (line_of x.0, x.1, lexemes_of source.now.bytes.now x.2.now)) result (line_in inside (at source.now.types.now inside) (lexemes_of source.now.bytes.now tokens.now)) }
+    ensures tree { Gives (λ x. (line_of x.0, x.1, lexemes_of source.now.bytes.now x.2.now)) result (line_in inside (at source.now.types.now inside) (lexemes_of source.now.bytes.now tokens.now)) }
+    ensures places { IfOk result (λ x. line_right source.now.file x.0 ≡ true) }
 {
     let (specifiers, d, rest) = specifiers_inside(alloc, source, inside, tokens)?;
     let (declarators, d, rest) = fields(alloc, source, inside, d, rest)?;
     let (semicolon, rest) = behind_semicolon(source, rest)?;
-    let d = deeper_than(inside, d)?;
+    let d = deeper_than(inside, d, rest)?;
     let line = FieldLine {
-        place: place_at(source, tokens),
+        place: place_of_first(source, &specifiers),
         specifiers,
         declarators,
         semicolon,
@@ -119,7 +124,9 @@ pub fn next_line<'a>(
     d: u32,
     tokens: &'a [Token],
 ) -> Result<(List<FieldLine>, u32, &'a [Token], bool), Failure>
-    ensures { Gives (λ x. (map line_of x.0, x.1, lexemes_of source.now.bytes.now x.2.now, x.3)) result (line_step (at source.now.types.now inside) (map line_of all) d (lexemes_of source.now.bytes.now tokens.now)) }
+    requires places { all_right (map (line_right source.now.file) all) ≡ true }
+    ensures tree { Gives (λ x. (map line_of x.0, x.1, lexemes_of source.now.bytes.now x.2.now, x.3)) result (line_step (at source.now.types.now inside) (map line_of all) d (lexemes_of source.now.bytes.now tokens.now)) }
+    ensures places { IfOk result (λ x. all_right (map (line_right source.now.file) x.0) ≡ true) }
 {
     let (line, e, rest) = line_inside(alloc, source, inside, tokens)?;
     let mut all = all;
@@ -136,7 +143,8 @@ pub fn lines<'a>(
     inside: u16,
     tokens: &'a [Token],
 ) -> Result<(List<FieldLine>, u32, &'a [Token]), Failure>
-    ensures { Gives (λ x. (map line_of x.0, x.1, lexemes_of source.now.bytes.now x.2.now)) result (chain (line_step (at source.now.types.now inside)) (length (lexemes_of source.now.bytes.now tokens.now) + 1) [] 0 (lexemes_of source.now.bytes.now tokens.now)) }
+    ensures tree { Gives (λ x. (map line_of x.0, x.1, lexemes_of source.now.bytes.now x.2.now)) result (chain (line_step (at source.now.types.now inside)) (length (lexemes_of source.now.bytes.now tokens.now) + 1) [] 0 (lexemes_of source.now.bytes.now tokens.now)) }
+    ensures places { IfOk result (λ x. all_right (map (line_right source.now.file) x.0) ≡ true) }
 {
     let mut all = List::new(alloc);
     let mut d = 0;
@@ -152,7 +160,7 @@ pub fn lines<'a>(
             return Ok((all, d, rest));
         }
     }
-    Err(Failure::NoParse)
+    Err(Failure::NoParse(rest.len()))
 }
 
 /// The body of a structure.
@@ -166,12 +174,13 @@ pub fn struct_body<'a>(
     name: Option<Word>,
     tokens: &'a [Token],
 ) -> Result<(Specifier, u32, &'a [Token]), Failure>
-    ensures { Gives (λ x. (specification_of x.0, x.1, lexemes_of source.now.bytes.now x.2.now)) result (struct_body_in inside (at source.now.types.now inside) mark name (lexemes_of source.now.bytes.now tokens.now)) }
+    ensures tree { Gives (λ x. (specification_of x.0, x.1, lexemes_of source.now.bytes.now x.2.now)) result (struct_body_in inside (at source.now.types.now inside) mark name (lexemes_of source.now.bytes.now tokens.now)) }
+    ensures places { IfOk result (λ x. (specifier_stands source.now.file x.0).right ≡ true) }
 {
     let (left, rest) = behind_left_brace(source, tokens)?;
     let (all, d, rest) = lines(alloc, source, inside, rest)?;
     let (right, rest) = behind_right_brace(source, rest)?;
-    let d = deeper_than(inside, d)?;
+    let d = deeper_than(inside, d, rest)?;
     let whole = Specifier {
         place: placed(source, mark),
         node: SpecifierNode::StructBody(mark, name, left, all, right),
@@ -188,7 +197,8 @@ pub fn structure<'a>(
     mark: At,
     tokens: &'a [Token],
 ) -> Result<(Specifier, u32, &'a [Token]), Failure>
-    ensures { Gives (λ x. (specification_of x.0, x.1, lexemes_of source.now.bytes.now x.2.now)) result (tagged_in (Trees.struct_named mark) (struct_body_in inside (at source.now.types.now inside) mark) (tag_if_any (lexemes_of source.now.bytes.now tokens.now))) }
+    ensures tree { Gives (λ x. (specification_of x.0, x.1, lexemes_of source.now.bytes.now x.2.now)) result (tagged_in (Trees.struct_named mark) (struct_body_in inside (at source.now.types.now inside) mark) (tag_if_any (lexemes_of source.now.bytes.now tokens.now))) }
+    ensures places { IfOk result (λ x. (specifier_stands source.now.file x.0).right ≡ true) }
 {
     let (tag, rest) = tag_if_any(alloc, source, tokens)?;
     match tag {

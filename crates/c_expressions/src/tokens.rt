@@ -25,7 +25,7 @@ pub fn behind_left<'a>(source: &Source, tokens: &'a [Token]) -> Result<(At, &'a 
             },
             rest @ ..,
         ] => Ok((*from, rest)),
-        _ => Err(Failure::NoParse),
+        _ => Err(Failure::NoParse(tokens.len())),
     }
 }
 
@@ -42,7 +42,7 @@ pub fn behind_right<'a>(source: &Source, tokens: &'a [Token]) -> Result<(At, &'a
             },
             rest @ ..,
         ] => Ok((*from, rest)),
-        _ => Err(Failure::NoParse),
+        _ => Err(Failure::NoParse(tokens.len())),
     }
 }
 
@@ -62,7 +62,7 @@ pub fn behind_right_square<'a>(
             },
             rest @ ..,
         ] => Ok((*from, rest)),
-        _ => Err(Failure::NoParse),
+        _ => Err(Failure::NoParse(tokens.len())),
     }
 }
 
@@ -82,7 +82,7 @@ pub fn behind_left_brace<'a>(
             },
             rest @ ..,
         ] => Ok((*from, rest)),
-        _ => Err(Failure::NoParse),
+        _ => Err(Failure::NoParse(tokens.len())),
     }
 }
 
@@ -102,7 +102,7 @@ pub fn behind_right_brace<'a>(
             },
             rest @ ..,
         ] => Ok((*from, rest)),
-        _ => Err(Failure::NoParse),
+        _ => Err(Failure::NoParse(tokens.len())),
     }
 }
 
@@ -119,7 +119,7 @@ pub fn behind_comma<'a>(source: &Source, tokens: &'a [Token]) -> Result<(At, &'a
             },
             rest @ ..,
         ] => Ok((*from, rest)),
-        _ => Err(Failure::NoParse),
+        _ => Err(Failure::NoParse(tokens.len())),
     }
 }
 
@@ -139,7 +139,7 @@ pub fn behind_semicolon<'a>(
             },
             rest @ ..,
         ] => Ok((*from, rest)),
-        _ => Err(Failure::NoParse),
+        _ => Err(Failure::NoParse(tokens.len())),
     }
 }
 
@@ -156,7 +156,7 @@ pub fn behind_colon<'a>(source: &Source, tokens: &'a [Token]) -> Result<(At, &'a
             },
             rest @ ..,
         ] => Ok((*from, rest)),
-        _ => Err(Failure::NoParse),
+        _ => Err(Failure::NoParse(tokens.len())),
     }
 }
 
@@ -173,7 +173,7 @@ pub fn behind_equal<'a>(source: &Source, tokens: &'a [Token]) -> Result<(At, &'a
             },
             rest @ ..,
         ] => Ok((*from, rest)),
-        _ => Err(Failure::NoParse),
+        _ => Err(Failure::NoParse(tokens.len())),
     }
 }
 
@@ -206,7 +206,7 @@ pub fn behind_void<'a>(source: &Source, tokens: &'a [Token]) -> Result<(At, &'a 
             },
             rest @ ..,
         ] => Ok((*from, rest)),
-        _ => Err(Failure::NoParse),
+        _ => Err(Failure::NoParse(tokens.len())),
     }
 }
 
@@ -329,13 +329,14 @@ pub fn larger(a: u32, b: u32) -> u32
     if a < b { b } else { a }
 }
 
-/// The depth of a node over parts of a depth, which is to be at most one more than `inside`.
-pub fn deeper_than(inside: u16, depth: u32) -> Result<u32, Failure>
+/// The depth of a node over parts of a depth, which is to be at most one more than `inside`. The
+/// tokens are those behind the node.
+pub fn deeper_than(inside: u16, depth: u32, tokens: &[Token]) -> Result<u32, Failure>
     ensures { Gives (λ x. x) result (deeper inside depth) }
 {
     if depth <= inside as u32 {
         Ok(depth + 1)
     } else {
-        Err(Failure::NoParse)
+        Err(Failure::NoParse(tokens.len()))
     }
 }

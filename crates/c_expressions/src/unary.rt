@@ -1,9 +1,11 @@
 //! Unary expressions and casts (C99 6.5.3, 6.5.4).
 
+ghost use Rattle.c_ast.specs.Places.{term_stands};
 ghost use Rattle.c_ast.specs.Views.{term_of};
 ghost use Rattle.c_expressions.specs.Gives.{Gives};
 ghost use Rattle.c_expressions.specs.Lexemes.{lexemes_of};
 ghost use Rattle.c_expressions.specs.Reading.{pre_in, unary_in, sizeof_in, cast_in, unary_expression_in, operand_in, at};
+ghost use Rattle.std.specs.Prelude.{IfOk, true, ◌≡◌};
 
 use crate::begins::begins_form;
 use crate::building::boxed;
@@ -31,10 +33,11 @@ pub fn pre<'a>(
     mark: At,
     tokens: &'a [Token],
 ) -> Result<(Boxed<Expression>, u32, &'a [Token]), Failure>
-    ensures { Gives (λ x. (term_of x.0, x.1, lexemes_of source.now.bytes.now x.2.now)) result (pre_in inside (at source.now.types.now inside) op mark (lexemes_of source.now.bytes.now tokens.now)) }
+    ensures tree { Gives (λ x. (term_of x.0, x.1, lexemes_of source.now.bytes.now x.2.now)) result (pre_in inside (at source.now.types.now inside) op mark (lexemes_of source.now.bytes.now tokens.now)) }
+    ensures places { IfOk result (λ x. (term_stands source.now.file x.0).right ≡ true) }
 {
     let (a, d, rest) = unary_inside(alloc, source, inside, tokens)?;
-    let d = deeper_than(inside, d)?;
+    let d = deeper_than(inside, d, rest)?;
     let whole = Expression {
         place: placed(source, mark),
         node: ExpressionNode::Pre(op, mark, a),
@@ -53,10 +56,11 @@ pub fn unary<'a>(
     mark: At,
     tokens: &'a [Token],
 ) -> Result<(Boxed<Expression>, u32, &'a [Token]), Failure>
-    ensures { Gives (λ x. (term_of x.0, x.1, lexemes_of source.now.bytes.now x.2.now)) result (unary_in inside (at source.now.types.now inside) op mark (lexemes_of source.now.bytes.now tokens.now)) }
+    ensures tree { Gives (λ x. (term_of x.0, x.1, lexemes_of source.now.bytes.now x.2.now)) result (unary_in inside (at source.now.types.now inside) op mark (lexemes_of source.now.bytes.now tokens.now)) }
+    ensures places { IfOk result (λ x. (term_stands source.now.file x.0).right ≡ true) }
 {
     let (a, d, rest) = operand_inside(alloc, source, inside, tokens)?;
-    let d = deeper_than(inside, d)?;
+    let d = deeper_than(inside, d, rest)?;
     let whole = Expression {
         place: placed(source, mark),
         node: ExpressionNode::Unary(op, mark, a),
@@ -74,11 +78,12 @@ pub fn sizeof<'a>(
     mark: At,
     tokens: &'a [Token],
 ) -> Result<(Boxed<Expression>, u32, &'a [Token]), Failure>
-    ensures { Gives (λ x. (term_of x.0, x.1, lexemes_of source.now.bytes.now x.2.now)) result (sizeof_in source.now.types.now inside (at source.now.types.now inside) mark (lexemes_of source.now.bytes.now tokens.now)) }
+    ensures tree { Gives (λ x. (term_of x.0, x.1, lexemes_of source.now.bytes.now x.2.now)) result (sizeof_in source.now.types.now inside (at source.now.types.now inside) mark (lexemes_of source.now.bytes.now tokens.now)) }
+    ensures places { IfOk result (λ x. (term_stands source.now.file x.0).right ≡ true) }
 {
     if begins_form(source, tokens) {
         let ((left, form, right), d, rest) = enclosed_form(alloc, source, inside, tokens)?;
-        let d = deeper_than(inside, d)?;
+        let d = deeper_than(inside, d, rest)?;
         let whole = Expression {
             place: placed(source, mark),
             node: ExpressionNode::SizeofForm(mark, left, form, right),
@@ -86,7 +91,7 @@ pub fn sizeof<'a>(
         Ok((boxed(alloc, whole)?, d, rest))
     } else {
         let (a, d, rest) = unary_inside(alloc, source, inside, tokens)?;
-        let d = deeper_than(inside, d)?;
+        let d = deeper_than(inside, d, rest)?;
         let whole = Expression {
             place: placed(source, mark),
             node: ExpressionNode::SizeofExpr(mark, a),
@@ -104,11 +109,12 @@ pub fn cast<'a>(
     inside: u16,
     tokens: &'a [Token],
 ) -> Result<(Boxed<Expression>, u32, &'a [Token]), Failure>
-    ensures { Gives (λ x. (term_of x.0, x.1, lexemes_of source.now.bytes.now x.2.now)) result (cast_in inside (at source.now.types.now inside) (lexemes_of source.now.bytes.now tokens.now)) }
+    ensures tree { Gives (λ x. (term_of x.0, x.1, lexemes_of source.now.bytes.now x.2.now)) result (cast_in inside (at source.now.types.now inside) (lexemes_of source.now.bytes.now tokens.now)) }
+    ensures places { IfOk result (λ x. (term_stands source.now.file x.0).right ≡ true) }
 {
     let ((left, form, right), d, rest) = enclosed_form(alloc, source, inside, tokens)?;
     let (a, e, rest) = operand_inside(alloc, source, inside, rest)?;
-    let d = deeper_than(inside, larger(d, e))?;
+    let d = deeper_than(inside, larger(d, e), rest)?;
     let whole = Expression {
         place: placed(source, left),
         node: ExpressionNode::Cast(left, form, right, a),
@@ -125,7 +131,8 @@ pub fn unary_expression<'a>(
     inside: u16,
     tokens: &'a [Token],
 ) -> Result<(Boxed<Expression>, u32, &'a [Token]), Failure>
-    ensures { Gives (λ x. (term_of x.0, x.1, lexemes_of source.now.bytes.now x.2.now)) result (unary_expression_in source.now.types.now inside (at source.now.types.now inside) (lexemes_of source.now.bytes.now tokens.now)) }
+    ensures tree { Gives (λ x. (term_of x.0, x.1, lexemes_of source.now.bytes.now x.2.now)) result (unary_expression_in source.now.types.now inside (at source.now.types.now inside) (lexemes_of source.now.bytes.now tokens.now)) }
+    ensures places { IfOk result (λ x. (term_stands source.now.file x.0).right ≡ true) }
 {
     match tokens {
         [token, rest @ ..] => match step_of(token.kind) {
@@ -141,7 +148,7 @@ pub fn unary_expression<'a>(
                 }
             },
         },
-        [] => Err(Failure::NoParse),
+        [] => Err(Failure::NoParse(tokens.len())),
     }
 }
 
@@ -154,7 +161,8 @@ pub fn operand<'a>(
     inside: u16,
     tokens: &'a [Token],
 ) -> Result<(Boxed<Expression>, u32, &'a [Token]), Failure>
-    ensures { Gives (λ x. (term_of x.0, x.1, lexemes_of source.now.bytes.now x.2.now)) result (operand_in source.now.types.now inside (at source.now.types.now inside) (lexemes_of source.now.bytes.now tokens.now)) }
+    ensures tree { Gives (λ x. (term_of x.0, x.1, lexemes_of source.now.bytes.now x.2.now)) result (operand_in source.now.types.now inside (at source.now.types.now inside) (lexemes_of source.now.bytes.now tokens.now)) }
+    ensures places { IfOk result (λ x. (term_stands source.now.file x.0).right ≡ true) }
 {
     if begins_form(source, tokens) {
         cast(alloc, source, inside, tokens)

@@ -61,7 +61,7 @@ no_lexemes bytes (t ∷ tokens) h = absurd (omega (arith, h))
 -- an item that was not read
 pub items_fail : (failure : Failure) (done : List Trees.Part) (n : ℕ) (types : List (List ℕ)) (tokens : List Lexeme) (read : Option (List Trees.Part)) → 0 < length tokens → 0 < n → Fails failure (part_in types 399 tokens) → with_front done (parts_in 399 n types tokens) ≡ read → Fails failure read
 items_fail Memory done n types tokens read h z p e = tt
-items_fail NoParse done n types tokens read h z p e = items_stop done n types tokens read h z p e
+items_fail (NoParse left) done n types tokens read h z p e = items_stop done n types tokens read h z p e
 
 pub lexemes_count : (bytes : List ℕ) (tokens : List Token) → length (lexemes_of bytes tokens) ≤ length tokens
 lexemes_count bytes [] = omega arith

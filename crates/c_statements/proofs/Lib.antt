@@ -7,6 +7,7 @@ pub mod EntryLists
 pub mod InitialComplete
 pub mod Longer
 pub mod OneTree
+pub mod OwnBytes
 pub mod PartComplete
 pub mod SoundActs
 pub mod SoundBlocks

@@ -3,7 +3,7 @@ use Rattle.std.proofs.Common.{◌≡◌, ℕ, ◌≤◌, List, [], length, Some,
 use Rattle.std.proofs.lemmas.Option.{same_Some}
 use Rattle.c_ast.specs.Trees
 use Rattle.c_ast.specs.Spelling.{Lexeme}
-use Rattle.c_expressions.specs.Lexemes.{AreWhole}
+use Rattle.c_expressions.proofs.Wholeness.{AreWhole}
 use Rattle.c_expressions.proofs.Sound.{sound}
 use Rattle.c_expressions.proofs.Complete.{read_expression, read_assignment, read_conditional, read_specifiers, read_shape}
 use Rattle.c_statements.specs.TreesOfTokens.{IsTreeOf, TreesAreOne}

@@ -10,7 +10,7 @@ use Rattle.c_ast.specs.Spelling.{Lexeme, mark, keyword, spelled_if_any, spelled_
 use Rattle.c_ast.specs.Levels.{IsLevelled, IsStart, is_open, IsAct}
 use Rattle.c_ast.specs.Sizes.{depth, depth_start, depth_act}
 use Rattle.c_ast.specs.Views.{arms_of}
-use Rattle.c_expressions.specs.Lexemes.{AreWhole}
+use Rattle.c_expressions.proofs.Wholeness.{AreWhole}
 use Rattle.c_expressions.specs.Reading.{behind, fronted, is_left, is_right, is_left_brace, is_right_brace, is_semicolon, begins_specifier, Reader, deeper, chain, at}
 use Rattle.c_expressions.proofs.Fronts.{bind_some, given, chosen, deeper_taken, lexeme, keyword_whole, front_whole, rest_whole, left_taken, right_taken, left_brace_taken, right_brace_taken, semicolon_taken}
 use Rattle.c_expressions.proofs.Taken.{Took, Reads, IsSound}

@@ -9,7 +9,7 @@ use Rattle.c_ast.specs.Spelling.{Lexeme, mark, keyword, spelled, spelled_declara
 use Rattle.c_ast.specs.Levels.{IsLevelled, IsDeclaration, IsFullDeclaration, IsTermIfAny, AreLabels, is_open, IsAct, IsEntry, AreEntries, IsArm, AreArms}
 use Rattle.c_ast.specs.Sizes.{depth, depth_declaration, depth_if_any, depth_labels, depth_act, depth_entry, depth_entries, depth_arm, depth_arms}
 use Rattle.c_ast.specs.Views.{entries_of, arms_of}
-use Rattle.c_expressions.specs.Lexemes.{AreWhole}
+use Rattle.c_expressions.proofs.Wholeness.{AreWhole}
 use Rattle.c_expressions.specs.Reading.{behind, fronted, is_left, is_right, is_right_brace, is_colon, begins_specifier, Reader, chain}
 use Rattle.c_expressions.proofs.Fronts.{bind_some, given, chosen, lexeme, front_whole, rest_whole, left_taken, right_taken, right_brace_taken, colon_taken}
 use Rattle.c_expressions.proofs.Chains.{Listing, AnyEnd, added, ended, Grows, list_taken}

@@ -5,7 +5,7 @@ use Rattle.c_ast.specs.Trees
 use Rattle.c_ast.specs.Spelling.{Lexeme, mark, spelled_comma, spelled_shape, spelled_specifiers, spelled_value, spelled_declared, spelled_declaration}
 use Rattle.c_ast.specs.Levels.{has_name, IsComma, IsShape, IsValue, AreDeclared, IsDeclaration, IsFullDeclaration}
 use Rattle.c_ast.specs.Sizes.{depth_shape, depth_value, depth_declared, depth_declaration}
-use Rattle.c_expressions.specs.Lexemes.{AreWhole}
+use Rattle.c_expressions.proofs.Wholeness.{AreWhole}
 use Rattle.c_expressions.specs.Reading.{behind, fronted, is_comma, is_semicolon, is_equal, Reader, deeper, comma_before, at}
 use Rattle.c_expressions.proofs.Fronts.{bind_some, given, chosen, both, negated, deeper_taken, semicolon_taken, equal_taken, comma_before_taken, is_first}
 use Rattle.c_expressions.proofs.Chains.{Goes, chain_taken}

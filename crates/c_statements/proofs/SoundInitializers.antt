@@ -6,7 +6,7 @@ use Rattle.c_ast.specs.Spelling.{Lexeme, mark, spelled, spelled_arguments, spell
 use Rattle.c_ast.specs.Levels.{level, IsComma, IsLevelled, IsInitializer, AreInitializers}
 use Rattle.c_ast.specs.Sizes.{depth, depth_initializers, depth_initializer}
 use Rattle.c_ast.specs.Views.{arguments_of}
-use Rattle.c_expressions.specs.Lexemes.{AreWhole}
+use Rattle.c_expressions.proofs.Wholeness.{AreWhole}
 use Rattle.c_expressions.specs.Reading.{◌>>=◌, behind, is_left_brace, is_right_brace, Reader, deeper, chain, comma_before, comma_if_any, at}
 use Rattle.c_expressions.proofs.Fronts.{bind_some, given, deeper_taken, left_brace_taken, right_brace_taken, comma_before_taken, comma_if_any_taken}
 use Rattle.c_expressions.proofs.Chains.{Listing, some_more, IsSome, added, Grows, list_taken}

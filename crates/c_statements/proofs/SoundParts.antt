@@ -5,7 +5,7 @@ use Rattle.c_ast.specs.Trees
 use Rattle.c_ast.specs.Spelling.{Lexeme, mark, spelled_specifiers, spelled_shape, spelled_declared, spelled_part, spelled_parts}
 use Rattle.c_ast.specs.Levels.{AreSpecifiers, types_behind, IsPart, AreParts}
 use Rattle.c_ast.specs.Sizes.{depth_specifiers, depth_shape, depth_part, depth_parts}
-use Rattle.c_expressions.specs.Lexemes.{AreWhole}
+use Rattle.c_expressions.proofs.Wholeness.{AreWhole}
 use Rattle.c_expressions.specs.Reading.{behind, is_left_brace, is_semicolon, deeper, at}
 use Rattle.c_expressions.proofs.Fronts.{bind_some, given, deeper_taken, left_brace_taken, semicolon_taken}
 use Rattle.c_expressions.proofs.Taken.{Took, Reads, IsSound}

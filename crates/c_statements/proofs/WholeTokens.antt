@@ -8,7 +8,8 @@ use Rattle.c_lexer.specs.Keywords.{keyword_text}
 use Rattle.c_lexer.specs.Marks.{mark_text}
 use Rattle.c_lexer.specs.TokenTexts.{token_text, IsTextOf, HaveTexts}
 use Rattle.c_ast.specs.Spelling.{Lexeme}
-use Rattle.c_expressions.specs.Lexemes.{lexeme_of, lexemes_of, IsWhole, AreWhole}
+use Rattle.c_expressions.specs.Lexemes.{lexeme_of, lexemes_of}
+use Rattle.c_expressions.proofs.Wholeness.{IsWhole, AreWhole}
 
 abbrev lexeme : TokenKind → ℕ → ℕ → List ℕ → Lexeme
 lexeme kind from to text = record { kind = kind; from = from; to = to; text = text }

@@ -9,9 +9,8 @@ use Rattle.c_lexer.specs.declared.token.TokenKind.TheVariants as K
 use Rattle.c_lexer.specs.declared.token.Tokens.{Tokens}
 use Rattle.c_ast.specs.declared.tree.Tree.{Tree}
 use Rattle.c_ast.specs.Trees
+use Rattle.c_ast.specs.Places.{is_placed}
 use Rattle.c_ast.specs.Views.{parts_of}
-use Rattle.c_expressions.specs.declared.failure.Failure.{Failure}
-use Rattle.c_expressions.specs.Gives.{Fails}
 use Rattle.c_expressions.specs.Lexemes.{lexemes_of}
 use Rattle.c_statements.specs.TreesOfTokens.{IsTreeOf}
 use Rattle.c_statements.specs.declared.faults.ParseFault.{ParseFault}
@@ -46,12 +45,7 @@ abbrev pub IsPlaceIn : Tokens → Place → Type 0
 IsPlaceIn tokens place = (place.file ≡ tokens.file) × (((before after : List Token) × (token : Token) × (tokens.list ≡ before ++ token ∷ after) × (place.at ≡ token.from)) ⊎ (place.at ≡ length tokens.bytes))
 
 abbrev pub ParseGives : Tokens → Result Tree ParseFault → Type 0
-ParseGives tokens (Ok tree) = (tree.file ≡ tokens.file) × (first_unsupported tokens.list ≡ None) × IsTreeOf (lexemes_of tokens.bytes tokens.list) (parts_of tree)
+ParseGives tokens (Ok tree) = (tree.file ≡ tokens.file) × (first_unsupported tokens.list ≡ None) × IsTreeOf (lexemes_of tokens.bytes tokens.list) (parts_of tree) × (is_placed tree ≡ true)
 ParseGives tokens (Err (F.NoParse place)) = IsPlaceIn tokens place × (first_unsupported tokens.list ≡ None) × ((parts : List Trees.Part) → IsTreeOf (lexemes_of tokens.bytes tokens.list) parts → ⊥)
 ParseGives tokens (Err (F.Unsupported keyword place)) = (place.file ≡ tokens.file) × (first_unsupported tokens.list ≡ Some (keyword, place.at))
 ParseGives tokens (Err F.Memory) = Unit {0}
-
--- what reading item after item came to: all of them, or why one could not be read
-abbrev pub ItemsGive : {X : Type 0} → (X → List Trees.Part) → Option (List Trees.Part) → Result X (Failure × ℕ) → Type 0
-ItemsGive view read (Ok items) = read ≡ Some (view items)
-ItemsGive view read (Err stopped) = Fails stopped.0 read

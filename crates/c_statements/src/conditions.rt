@@ -1,11 +1,13 @@
 //! Expressions in statements.
 
 ghost use Rattle.std.specs.Option.{option_map};
+ghost use Rattle.c_ast.specs.Places.{stands_if_any, term_stands};
 ghost use Rattle.c_ast.specs.Views.{term_of};
 ghost use Rattle.c_expressions.specs.Gives.{Gives};
 ghost use Rattle.c_expressions.specs.Lexemes.{lexemes_of};
 ghost use Rattle.c_expressions.specs.Reading.{at, is_right, is_semicolon};
 ghost use Rattle.c_statements.specs.StatementReading.{condition_in, term_if_any};
+ghost use Rattle.std.specs.Prelude.{IfOk, true, ◌≡◌};
 
 use c_ast::{At, Expression};
 use c_expressions::{
@@ -23,7 +25,8 @@ pub fn before_semicolon<'a>(
     inside: u16,
     tokens: &'a [Token],
 ) -> Result<(Option<Boxed<Expression>>, u32, &'a [Token]), Failure>
-    ensures { Gives (λ x. (option_map term_of x.0, x.1, lexemes_of source.now.bytes.now x.2.now)) result (term_if_any is_semicolon ((at source.now.types.now inside).expression) (lexemes_of source.now.bytes.now tokens.now)) }
+    ensures tree { Gives (λ x. (option_map term_of x.0, x.1, lexemes_of source.now.bytes.now x.2.now)) result (term_if_any is_semicolon ((at source.now.types.now inside).expression) (lexemes_of source.now.bytes.now tokens.now)) }
+    ensures places { IfOk result (λ x. stands_if_any (option_map (term_stands source.now.file) x.0) ≡ true) }
 {
     if fronted_semicolon(source, tokens) {
         return Ok((None, 0, tokens));
@@ -40,7 +43,8 @@ pub fn before_right<'a>(
     inside: u16,
     tokens: &'a [Token],
 ) -> Result<(Option<Boxed<Expression>>, u32, &'a [Token]), Failure>
-    ensures { Gives (λ x. (option_map term_of x.0, x.1, lexemes_of source.now.bytes.now x.2.now)) result (term_if_any is_right ((at source.now.types.now inside).expression) (lexemes_of source.now.bytes.now tokens.now)) }
+    ensures tree { Gives (λ x. (option_map term_of x.0, x.1, lexemes_of source.now.bytes.now x.2.now)) result (term_if_any is_right ((at source.now.types.now inside).expression) (lexemes_of source.now.bytes.now tokens.now)) }
+    ensures places { IfOk result (λ x. stands_if_any (option_map (term_stands source.now.file) x.0) ≡ true) }
 {
     if fronted_right(source, tokens) {
         return Ok((None, 0, tokens));
@@ -57,7 +61,8 @@ pub fn condition<'a>(
     inside: u16,
     tokens: &'a [Token],
 ) -> Result<((At, Boxed<Expression>, At), u32, &'a [Token]), Failure>
-    ensures { Gives (λ x. ((x.0.0, term_of x.0.1, x.0.2), x.1, lexemes_of source.now.bytes.now x.2.now)) result (condition_in ((at source.now.types.now inside).expression) (lexemes_of source.now.bytes.now tokens.now)) }
+    ensures tree { Gives (λ x. ((x.0.0, term_of x.0.1, x.0.2), x.1, lexemes_of source.now.bytes.now x.2.now)) result (condition_in ((at source.now.types.now inside).expression) (lexemes_of source.now.bytes.now tokens.now)) }
+    ensures places { IfOk result (λ x. (term_stands source.now.file x.0.1).right ≡ true) }
 {
     let (left, rest) = behind_left(source, tokens)?;
     let (value, d, rest) = expression_inside(alloc, source, inside, rest)?;

@@ -1,6 +1,7 @@
 //! Declarations (C99 6.7).
 
-ghost use Rattle.std.specs.Prelude.{◌≡◌, ◌+◌, ◌++◌, ◌∷◌, [], length, map, IfOk};
+ghost use Rattle.std.specs.Prelude.{◌≡◌, ◌+◌, ◌++◌, ◌∷◌, [], length, map, IfOk, true};
+ghost use Rattle.c_ast.specs.Places.{all_right, declaration_stands, declared_right, shape_stands};
 ghost use Rattle.c_ast.specs.Views.{declared_of, declares_of, shape_of, shape_if_any, specification_of, specifiers_of};
 ghost use Rattle.c_expressions.specs.Gives.{Gives};
 ghost use Rattle.c_expressions.specs.Lexemes.{lexemes_of};
@@ -11,7 +12,7 @@ use crate::declarators::{named, valued};
 use c_ast::{At, Declaration, Declarator, InitDeclarator};
 use c_expressions::{
     Failure, Source, add, behind_semicolon, comma_before, deeper_than, fronted_comma,
-    fronted_semicolon, larger, place_at, specifiers_inside,
+    fronted_semicolon, larger, place_of_first, specifiers_inside,
 };
 use c_lexer::Token;
 use lay_base::{Boxed, List, NoMemory};
@@ -26,7 +27,8 @@ fn declared<'a>(
     comma: Option<At>,
     tokens: &'a [Token],
 ) -> Result<(InitDeclarator, u32, &'a [Token]), Failure>
-    ensures { Gives (λ x. (declared_of x.0, x.1, lexemes_of source.now.bytes.now x.2.now)) result (one_in ((at source.now.types.now inside).shape) (initial_at source.now.types.now inside) comma (lexemes_of source.now.bytes.now tokens.now)) }
+    ensures tree { Gives (λ x. (declared_of x.0, x.1, lexemes_of source.now.bytes.now x.2.now)) result (one_in ((at source.now.types.now inside).shape) (initial_at source.now.types.now inside) comma (lexemes_of source.now.bytes.now tokens.now)) }
+    ensures places { IfOk result (λ x. declared_right source.now.file x.0 ≡ true) }
 {
     let (declarator, d, rest) = named(alloc, source, inside, tokens)?;
     let (one, d, rest) = valued(alloc, source, inside, comma, declarator, d, rest)?;
@@ -35,10 +37,13 @@ fn declared<'a>(
 
 /// A list with one declarator more.
 fn with_declarator(
+    source: &Source,
     all: List<InitDeclarator>,
     one: InitDeclarator,
 ) -> Result<List<InitDeclarator>, NoMemory>
-    ensures { IfOk result (λ more. map declared_of more ≡ map declared_of all ++ declared_of one ∷ []) }
+    requires places { (all_right (map (declared_right source.now.file) all) ≡ true) × (declared_right source.now.file one ≡ true) }
+    ensures tree { IfOk result (λ more. map declared_of more ≡ map declared_of all ++ declared_of one ∷ []) }
+    ensures places { IfOk result (λ more. all_right (map (declared_right source.now.file) more) ≡ true) }
 {
     let mut all = all;
     add(&mut all, one)?;
@@ -55,11 +60,13 @@ fn next_declarator<'a>(
     d: u32,
     tokens: &'a [Token],
 ) -> Result<(List<InitDeclarator>, u32, &'a [Token], bool), Failure>
-    ensures { Gives (λ x. (map declared_of x.0, x.1, lexemes_of source.now.bytes.now x.2.now, x.3)) result (declared_step ((at source.now.types.now inside).shape) (initial_at source.now.types.now inside) (map declared_of all) d (lexemes_of source.now.bytes.now tokens.now)) }
+    requires places { all_right (map (declared_right source.now.file) all) ≡ true }
+    ensures tree { Gives (λ x. (map declared_of x.0, x.1, lexemes_of source.now.bytes.now x.2.now, x.3)) result (declared_step ((at source.now.types.now inside).shape) (initial_at source.now.types.now inside) (map declared_of all) d (lexemes_of source.now.bytes.now tokens.now)) }
+    ensures places { IfOk result (λ x. all_right (map (declared_right source.now.file) x.0) ≡ true) }
 {
     let (comma, rest) = comma_before(source, &all, tokens)?;
     let (one, e, rest) = declared(alloc, source, inside, comma, rest)?;
-    let all = with_declarator(all, one)?;
+    let all = with_declarator(source, all, one)?;
     Ok((all, larger(d, e), rest, fronted_comma(source, rest)))
 }
 
@@ -73,7 +80,9 @@ fn more_declarators<'a>(
     depth: u32,
     tokens: &'a [Token],
 ) -> Result<(List<InitDeclarator>, u32, &'a [Token]), Failure>
-    ensures { Gives (λ x. (map declared_of x.0, x.1, lexemes_of source.now.bytes.now x.2.now)) result (more_declared ((at source.now.types.now inside).shape) (initial_at source.now.types.now inside) (declared_of first) depth (lexemes_of source.now.bytes.now tokens.now)) }
+    requires places { declared_right source.now.file first ≡ true }
+    ensures tree { Gives (λ x. (map declared_of x.0, x.1, lexemes_of source.now.bytes.now x.2.now)) result (more_declared ((at source.now.types.now inside).shape) (initial_at source.now.types.now inside) (declared_of first) depth (lexemes_of source.now.bytes.now tokens.now)) }
+    ensures places { IfOk result (λ x. all_right (map (declared_right source.now.file) x.0) ≡ true) }
 {
     let mut all = List::new(alloc);
     add(&mut all, first)?;
@@ -93,7 +102,7 @@ fn more_declarators<'a>(
             return Ok((all, d, rest));
         }
     }
-    Err(Failure::NoParse)
+    Err(Failure::NoParse(rest.len()))
 }
 
 /// All declarators, behind the first, which is read.
@@ -106,7 +115,9 @@ pub fn declarators_behind<'a>(
     d: u32,
     tokens: &'a [Token],
 ) -> Result<(List<InitDeclarator>, u32, &'a [Token]), Failure>
-    ensures { Gives (λ x. (map declared_of x.0, x.1, lexemes_of source.now.bytes.now x.2.now)) result (declarators_behind ((at source.now.types.now inside).shape) (initial_at source.now.types.now inside) (shape_of declarator) d (lexemes_of source.now.bytes.now tokens.now)) }
+    requires places { (shape_stands source.now.file declarator).right ≡ true }
+    ensures tree { Gives (λ x. (map declared_of x.0, x.1, lexemes_of source.now.bytes.now x.2.now)) result (declarators_behind ((at source.now.types.now inside).shape) (initial_at source.now.types.now inside) (shape_of declarator) d (lexemes_of source.now.bytes.now tokens.now)) }
+    ensures places { IfOk result (λ x. all_right (map (declared_right source.now.file) x.0) ≡ true) }
 {
     let (first, d, rest) = valued(alloc, source, inside, None, declarator, d, tokens)?;
     let (all, d, rest) = more_declarators(alloc, source, inside, first, d, rest)?;
@@ -122,7 +133,8 @@ fn declarators<'a>(
     inside: u16,
     tokens: &'a [Token],
 ) -> Result<(List<InitDeclarator>, u32, &'a [Token]), Failure>
-    ensures { Gives (λ x. (map declared_of x.0, x.1, lexemes_of source.now.bytes.now x.2.now)) result (declarators_if_any full ((at source.now.types.now inside).shape) (initial_at source.now.types.now inside) (lexemes_of source.now.bytes.now tokens.now)) }
+    ensures tree { Gives (λ x. (map declared_of x.0, x.1, lexemes_of source.now.bytes.now x.2.now)) result (declarators_if_any full ((at source.now.types.now inside).shape) (initial_at source.now.types.now inside) (lexemes_of source.now.bytes.now tokens.now)) }
+    ensures places { IfOk result (λ x. all_right (map (declared_right source.now.file) x.0) ≡ true) }
 {
     if !full && fronted_semicolon(source, tokens) {
         return Ok((List::new(alloc), 0, tokens));
@@ -141,14 +153,15 @@ fn declaration<'a>(
     inside: u16,
     tokens: &'a [Token],
 ) -> Result<(Declaration, u32, &'a [Token]), Failure>
-    ensures { Gives (λ x. (declares_of x.0, x.1, lexemes_of source.now.bytes.now x.2.now)) result (declaration_in full source.now.types.now inside (lexemes_of source.now.bytes.now tokens.now)) }
+    ensures tree { Gives (λ x. (declares_of x.0, x.1, lexemes_of source.now.bytes.now x.2.now)) result (declaration_in full source.now.types.now inside (lexemes_of source.now.bytes.now tokens.now)) }
+    ensures places { IfOk result (λ x. (declaration_stands source.now.file x.0).right ≡ true) }
 {
     let (specifiers, d, rest) = specifiers_inside(alloc, source, inside, tokens)?;
     let (declarators, e, rest) = declarators(alloc, source, full, inside, rest)?;
     let (semicolon, rest) = behind_semicolon(source, rest)?;
-    let d = deeper_than(inside, larger(d, e))?;
+    let d = deeper_than(inside, larger(d, e), rest)?;
     let whole = Declaration {
-        place: place_at(source, tokens),
+        place: place_of_first(source, &specifiers),
         specifiers,
         declarators,
         semicolon,
@@ -164,10 +177,11 @@ pub fn declaration_inside<'a>(
     inside: u16,
     tokens: &'a [Token],
 ) -> Result<(Declaration, u32, &'a [Token]), Failure>
-    ensures { Gives (λ x. (declares_of x.0, x.1, lexemes_of source.now.bytes.now x.2.now)) result (declaration_at full source.now.types.now inside (lexemes_of source.now.bytes.now tokens.now)) }
+    ensures tree { Gives (λ x. (declares_of x.0, x.1, lexemes_of source.now.bytes.now x.2.now)) result (declaration_at full source.now.types.now inside (lexemes_of source.now.bytes.now tokens.now)) }
+    ensures places { IfOk result (λ x. (declaration_stands source.now.file x.0).right ≡ true) }
 {
     if inside == 0 {
-        return Err(Failure::NoParse);
+        return Err(Failure::NoParse(tokens.len()));
     }
     declaration(alloc, source, full, inside - 1, tokens)
 }

@@ -1,10 +1,12 @@
 //! Declarators with their initializers (C99 6.7).
 
+ghost use Rattle.c_ast.specs.Places.{declared_right, shape_stands};
 ghost use Rattle.c_ast.specs.Views.{declared_of, shape_of};
 ghost use Rattle.c_expressions.specs.Gives.{Gives};
 ghost use Rattle.c_expressions.specs.Lexemes.{lexemes_of};
 ghost use Rattle.c_expressions.specs.Reading.{at};
 ghost use Rattle.c_statements.specs.StatementReading.{initial_at, named_in, valued_in};
+ghost use Rattle.std.specs.Prelude.{IfOk, true, ◌≡◌};
 
 use crate::initializers::initializer_inside;
 use c_ast::{At, Declarator, InitDeclarator, InitialValue};
@@ -21,17 +23,18 @@ pub fn named<'a>(
     inside: u16,
     tokens: &'a [Token],
 ) -> Result<(Boxed<Declarator>, u32, &'a [Token]), Failure>
-    ensures { Gives (λ x. (shape_of x.0, x.1, lexemes_of source.now.bytes.now x.2.now)) result (named_in ((at source.now.types.now inside).shape) (lexemes_of source.now.bytes.now tokens.now)) }
+    ensures tree { Gives (λ x. (shape_of x.0, x.1, lexemes_of source.now.bytes.now x.2.now)) result (named_in ((at source.now.types.now inside).shape) (lexemes_of source.now.bytes.now tokens.now)) }
+    ensures places { IfOk result (λ x. (shape_stands source.now.file x.0).right ≡ true) }
 {
     let (declarator, d, rest) = shape_inside(alloc, source, inside, tokens)?;
     match declarator {
         Some(declarator) => {
             if !has_name(declarator.get()) {
-                return Err(Failure::NoParse);
+                return Err(Failure::NoParse(rest.len()));
             }
             Ok((declarator, d, rest))
         }
-        None => Err(Failure::NoParse),
+        None => Err(Failure::NoParse(rest.len())),
     }
 }
 
@@ -46,7 +49,9 @@ pub fn valued<'a>(
     d: u32,
     tokens: &'a [Token],
 ) -> Result<(InitDeclarator, u32, &'a [Token]), Failure>
-    ensures { Gives (λ x. (declared_of x.0, x.1, lexemes_of source.now.bytes.now x.2.now)) result (valued_in (initial_at source.now.types.now inside) comma (shape_of declarator) d (lexemes_of source.now.bytes.now tokens.now)) }
+    requires places { (shape_stands source.now.file declarator).right ≡ true }
+    ensures tree { Gives (λ x. (declared_of x.0, x.1, lexemes_of source.now.bytes.now x.2.now)) result (valued_in (initial_at source.now.types.now inside) comma (shape_of declarator) d (lexemes_of source.now.bytes.now tokens.now)) }
+    ensures places { IfOk result (λ x. declared_right source.now.file x.0 ≡ true) }
 {
     match tokens {
         [

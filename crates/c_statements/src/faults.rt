@@ -5,7 +5,8 @@ use lay_base::{Keyword, Place};
 /// Why a file has no tree.
 #[derive(Clone, Copy, Debug, PartialEq, Eq)]
 pub enum ParseFault {
-    /// The tokens are no file's. The place is that of the first token of the item that is none.
+    /// The tokens are no file's. The place is that of the token at which reading stopped, or the end
+    /// of the file.
     NoParse(Place),
     /// A keyword that is not supported, at its place.
     Unsupported(Keyword, Place),

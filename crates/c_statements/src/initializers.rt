@@ -1,6 +1,7 @@
 //! Initializers (C99 6.7.8).
 
-ghost use Rattle.std.specs.Prelude.{◌+◌, [], length, map};
+ghost use Rattle.std.specs.Prelude.{◌+◌, [], length, map, IfOk, true, ◌≡◌};
+ghost use Rattle.c_ast.specs.Places.{all_right, item_right, term_stands};
 ghost use Rattle.c_ast.specs.Views.{item_of, term_of};
 ghost use Rattle.c_expressions.specs.Gives.{Gives};
 ghost use Rattle.c_expressions.specs.Lexemes.{lexemes_of};
@@ -27,7 +28,9 @@ fn next_initializer<'a>(
     d: u32,
     tokens: &'a [Token],
 ) -> Result<(List<ExpressionItem>, u32, &'a [Token], bool), Failure>
-    ensures { Gives (λ x. (map item_of x.0, x.1, lexemes_of source.now.bytes.now x.2.now, x.3)) result (initial_step (initial_at source.now.types.now inside) (map item_of all) d (lexemes_of source.now.bytes.now tokens.now)) }
+    requires places { all_right (map (item_right source.now.file) all) ≡ true }
+    ensures tree { Gives (λ x. (map item_of x.0, x.1, lexemes_of source.now.bytes.now x.2.now, x.3)) result (initial_step (initial_at source.now.types.now inside) (map item_of all) d (lexemes_of source.now.bytes.now tokens.now)) }
+    ensures places { IfOk result (λ x. all_right (map (item_right source.now.file) x.0) ≡ true) }
 {
     let (comma, rest) = comma_before(source, &all, tokens)?;
     let (value, e, rest) = initializer_inside(alloc, source, inside, rest)?;
@@ -49,7 +52,8 @@ fn initializers<'a>(
     inside: u16,
     tokens: &'a [Token],
 ) -> Result<(List<ExpressionItem>, u32, &'a [Token]), Failure>
-    ensures { Gives (λ x. (map item_of x.0, x.1, lexemes_of source.now.bytes.now x.2.now)) result (chain (initial_step (initial_at source.now.types.now inside)) (length (lexemes_of source.now.bytes.now tokens.now) + 1) [] 0 (lexemes_of source.now.bytes.now tokens.now)) }
+    ensures tree { Gives (λ x. (map item_of x.0, x.1, lexemes_of source.now.bytes.now x.2.now)) result (chain (initial_step (initial_at source.now.types.now inside)) (length (lexemes_of source.now.bytes.now tokens.now) + 1) [] 0 (lexemes_of source.now.bytes.now tokens.now)) }
+    ensures places { IfOk result (λ x. all_right (map (item_right source.now.file) x.0) ≡ true) }
 {
     let mut all = List::new(alloc);
     let mut d = 0;
@@ -65,7 +69,7 @@ fn initializers<'a>(
             return Ok((all, d, rest));
         }
     }
-    Err(Failure::NoParse)
+    Err(Failure::NoParse(rest.len()))
 }
 
 /// Initializers in braces, from behind `{` on.
@@ -78,12 +82,13 @@ fn braces<'a>(
     left: At,
     tokens: &'a [Token],
 ) -> Result<(Boxed<Expression>, u32, &'a [Token]), Failure>
-    ensures { Gives (λ x. (term_of x.0, x.1, lexemes_of source.now.bytes.now x.2.now)) result (braces_in inside (initial_at source.now.types.now inside) left (lexemes_of source.now.bytes.now tokens.now)) }
+    ensures tree { Gives (λ x. (term_of x.0, x.1, lexemes_of source.now.bytes.now x.2.now)) result (braces_in inside (initial_at source.now.types.now inside) left (lexemes_of source.now.bytes.now tokens.now)) }
+    ensures places { IfOk result (λ x. (term_stands source.now.file x.0).right ≡ true) }
 {
     let (all, d, rest) = initializers(alloc, source, inside, tokens)?;
     let (comma, rest) = comma_if_any(source, rest);
     let (right, rest) = behind_right_brace(source, rest)?;
-    let d = deeper_than(inside, d)?;
+    let d = deeper_than(inside, d, rest)?;
     let whole = Expression {
         place: placed(source, left),
         node: ExpressionNode::Braces(left, all, comma, right),
@@ -100,7 +105,8 @@ fn initializer<'a>(
     inside: u16,
     tokens: &'a [Token],
 ) -> Result<(Boxed<Expression>, u32, &'a [Token]), Failure>
-    ensures { Gives (λ x. (term_of x.0, x.1, lexemes_of source.now.bytes.now x.2.now)) result (initial_in inside ((at source.now.types.now inside).assignment) (initial_at source.now.types.now inside) (lexemes_of source.now.bytes.now tokens.now)) }
+    ensures tree { Gives (λ x. (term_of x.0, x.1, lexemes_of source.now.bytes.now x.2.now)) result (initial_in inside ((at source.now.types.now inside).assignment) (initial_at source.now.types.now inside) (lexemes_of source.now.bytes.now tokens.now)) }
+    ensures places { IfOk result (λ x. (term_stands source.now.file x.0).right ≡ true) }
 {
     match tokens {
         [
@@ -116,7 +122,7 @@ fn initializer<'a>(
         }
         _ => {
             let (value, d, rest) = assignment_inside(alloc, source, inside, tokens)?;
-            let d = deeper_than(inside, d)?;
+            let d = deeper_than(inside, d, rest)?;
             Ok((value, d, rest))
         }
     }
@@ -130,10 +136,11 @@ pub fn initializer_inside<'a>(
     inside: u16,
     tokens: &'a [Token],
 ) -> Result<(Boxed<Expression>, u32, &'a [Token]), Failure>
-    ensures { Gives (λ x. (term_of x.0, x.1, lexemes_of source.now.bytes.now x.2.now)) result (initial_at source.now.types.now inside (lexemes_of source.now.bytes.now tokens.now)) }
+    ensures tree { Gives (λ x. (term_of x.0, x.1, lexemes_of source.now.bytes.now x.2.now)) result (initial_at source.now.types.now inside (lexemes_of source.now.bytes.now tokens.now)) }
+    ensures places { IfOk result (λ x. (term_stands source.now.file x.0).right ≡ true) }
 {
     if inside == 0 {
-        return Err(Failure::NoParse);
+        return Err(Failure::NoParse(tokens.len()));
     }
     initializer(alloc, source, inside - 1, tokens)
 }

@@ -1,6 +1,7 @@
 //! The items of a file (C99 6.9).
 
-ghost use Rattle.std.specs.Prelude.{◌≡◌, map, None, Some};
+ghost use Rattle.std.specs.Prelude.{◌≡◌, map, None, Some, IfOk, true};
+ghost use Rattle.c_ast.specs.Places.{all_right, all_stand, entry_right, part_stands, shape_stands, specifier_stands};
 ghost use Rattle.c_ast.specs.Trees;
 ghost use Rattle.c_ast.specs.Views.{entries_of, entry_of, part_of, shape_of, specification_of, specifiers_of};
 ghost use Rattle.c_expressions.specs.Gives.{Gives};
@@ -13,25 +14,27 @@ use crate::declarators::named;
 use crate::statements::block;
 use c_ast::{At, Block, BlockItem, Declaration, Declarator, Function, Item, Specifier};
 use c_expressions::{
-    Failure, Source, behind_semicolon, deeper_than, larger, place_at, specifiers_inside,
+    Failure, Source, behind_semicolon, deeper_than, larger, place_of_first, specifiers_inside,
 };
 use c_lexer::{Mark, Token, TokenKind};
-use lay_base::{Boxed, List, Place};
+use lay_base::{Boxed, List};
 use std::alloc::Global;
 
 /// The definition of a function from its parts.
 fn function_of(
-    place: Place,
+    source: &Source,
     specifiers: List<Specifier>,
     declarator: Boxed<Declarator>,
     left: At,
     items: List<BlockItem>,
     right: At,
 ) -> Item
-    ensures { part_of result ≡ Trees.defines (specifiers_of (map specification_of specifiers)) (shape_of declarator) left (entries_of (map entry_of items)) right }
+    requires places { (all_stand (map (specifier_stands source.now.file) specifiers) ≡ true) × ((shape_stands source.now.file declarator).right ≡ true) × (all_right (map (entry_right source.now.file) items) ≡ true) }
+    ensures tree { part_of result ≡ Trees.defines (specifiers_of (map specification_of specifiers)) (shape_of declarator) left (entries_of (map entry_of items)) right }
+    ensures places { (part_stands source.now.file result).right ≡ true }
 {
     Item::Function(Function {
-        place,
+        place: place_of_first(source, &specifiers),
         specifiers,
         declarator: declarator.into_inner(),
         body: Block {
@@ -48,23 +51,24 @@ fn function<'a>(
     alloc: Global,
     source: &Source,
     inside: u16,
-    place: Place,
     specifiers: List<Specifier>,
     declarator: Boxed<Declarator>,
     d: u32,
     left: At,
     tokens: &'a [Token],
 ) -> Result<(Item, u32, &'a [Token]), Failure>
-    ensures { Gives (λ x. (part_of x.0, x.1, lexemes_of source.now.bytes.now x.2.now)) result (body_behind source.now.types.now inside (specifiers_of (map specification_of specifiers)) (shape_of declarator) d (lexemes_of source.now.bytes.now tokens.now) (Some (left, lexemes_of source.now.bytes.now tokens.now))) }
+    requires places { ((shape_stands source.now.file declarator).right ≡ true) × (all_stand (map (specifier_stands source.now.file) specifiers) ≡ true) }
+    ensures tree { Gives (λ x. (part_of x.0, x.1, lexemes_of source.now.bytes.now x.2.now)) result (body_behind source.now.types.now inside (specifiers_of (map specification_of specifiers)) (shape_of declarator) d (lexemes_of source.now.bytes.now tokens.now) (Some (left, lexemes_of source.now.bytes.now tokens.now))) }
+    ensures places { IfOk result (λ x. (part_stands source.now.file x.0).right ≡ true) }
 {
     if inside == 0 {
-        return Err(Failure::NoParse);
+        return Err(Failure::NoParse(tokens.len()));
     }
     let ((items, right), e, rest) = block(alloc, source, inside - 1, tokens)?;
-    let e = deeper_than(inside - 1, e)?;
-    let d = deeper_than(inside, larger(d, e))?;
+    let e = deeper_than(inside - 1, e, rest)?;
+    let d = deeper_than(inside, larger(d, e), rest)?;
     Ok((
-        function_of(place, specifiers, declarator, left, items, right),
+        function_of(source, specifiers, declarator, left, items, right),
         d,
         rest,
     ))
@@ -75,19 +79,20 @@ fn declaration_behind<'a>(
     alloc: Global,
     source: &Source,
     inside: u16,
-    place: Place,
     specifiers: List<Specifier>,
     declarator: Boxed<Declarator>,
     d: u32,
     tokens: &'a [Token],
 ) -> Result<(Item, u32, &'a [Token]), Failure>
-    ensures { Gives (λ x. (part_of x.0, x.1, lexemes_of source.now.bytes.now x.2.now)) result (body_behind source.now.types.now inside (specifiers_of (map specification_of specifiers)) (shape_of declarator) d (lexemes_of source.now.bytes.now tokens.now) None) }
+    requires places { ((shape_stands source.now.file declarator).right ≡ true) × (all_stand (map (specifier_stands source.now.file) specifiers) ≡ true) }
+    ensures tree { Gives (λ x. (part_of x.0, x.1, lexemes_of source.now.bytes.now x.2.now)) result (body_behind source.now.types.now inside (specifiers_of (map specification_of specifiers)) (shape_of declarator) d (lexemes_of source.now.bytes.now tokens.now) None) }
+    ensures places { IfOk result (λ x. (part_stands source.now.file x.0).right ≡ true) }
 {
     let (declarators, e, rest) = declarators_behind(alloc, source, inside, declarator, 0, tokens)?;
     let (semicolon, rest) = behind_semicolon(source, rest)?;
-    let d = deeper_than(inside, larger(d, e))?;
+    let d = deeper_than(inside, larger(d, e), rest)?;
     let whole = Declaration {
-        place,
+        place: place_of_first(source, &specifiers),
         specifiers,
         declarators,
         semicolon,
@@ -100,12 +105,13 @@ fn declared<'a>(
     alloc: Global,
     source: &Source,
     inside: u16,
-    place: Place,
     specifiers: List<Specifier>,
     d: u32,
     tokens: &'a [Token],
 ) -> Result<(Item, u32, &'a [Token]), Failure>
-    ensures { Gives (λ x. (part_of x.0, x.1, lexemes_of source.now.bytes.now x.2.now)) result (part_behind source.now.types.now inside (specifiers_of (map specification_of specifiers)) d (lexemes_of source.now.bytes.now tokens.now) None) }
+    requires places { all_stand (map (specifier_stands source.now.file) specifiers) ≡ true }
+    ensures tree { Gives (λ x. (part_of x.0, x.1, lexemes_of source.now.bytes.now x.2.now)) result (part_behind source.now.types.now inside (specifiers_of (map specification_of specifiers)) d (lexemes_of source.now.bytes.now tokens.now) None) }
+    ensures places { IfOk result (λ x. (part_stands source.now.file x.0).right ≡ true) }
 {
     let (declarator, e, rest) = named(alloc, source, inside, tokens)?;
     let d = larger(d, e);
@@ -119,13 +125,13 @@ fn declared<'a>(
             behind @ ..,
         ] => {
             let (whole, d, rest) = function(
-                alloc, source, inside, place, specifiers, declarator, d, *from, behind,
+                alloc, source, inside, specifiers, declarator, d, *from, behind,
             )?;
             Ok((whole, d, rest))
         }
         _ => {
             let (whole, d, rest) = declaration_behind(
-                alloc, source, inside, place, specifiers, declarator, d, rest,
+                alloc, source, inside, specifiers, declarator, d, rest,
             )?;
             Ok((whole, d, rest))
         }
@@ -140,10 +146,10 @@ pub fn item<'a>(
     inside: u16,
     tokens: &'a [Token],
 ) -> Result<(Item, u32, &'a [Token]), Failure>
-    ensures { Gives (λ x. (part_of x.0, x.1, lexemes_of source.now.bytes.now x.2.now)) result (part_in source.now.types.now inside (lexemes_of source.now.bytes.now tokens.now)) }
+    ensures tree { Gives (λ x. (part_of x.0, x.1, lexemes_of source.now.bytes.now x.2.now)) result (part_in source.now.types.now inside (lexemes_of source.now.bytes.now tokens.now)) }
+    ensures places { IfOk result (λ x. (part_stands source.now.file x.0).right ≡ true) }
 {
     let (specifiers, d, rest) = specifiers_inside(alloc, source, inside, tokens)?;
-    let place = place_at(source, tokens);
     match rest {
         [
             Token {
@@ -153,9 +159,9 @@ pub fn item<'a>(
             },
             behind @ ..,
         ] => {
-            let d = deeper_than(inside, d)?;
+            let d = deeper_than(inside, d, rest)?;
             let whole = Declaration {
-                place,
+                place: place_of_first(source, &specifiers),
                 specifiers,
                 declarators: List::new(alloc),
                 semicolon: *from,
@@ -163,7 +169,7 @@ pub fn item<'a>(
             Ok((Item::Declaration(whole), d, behind))
         }
         _ => {
-            let (whole, d, rest) = declared(alloc, source, inside, place, specifiers, d, rest)?;
+            let (whole, d, rest) = declared(alloc, source, inside, specifiers, d, rest)?;
             Ok((whole, d, rest))
         }
     }

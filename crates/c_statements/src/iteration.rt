@@ -1,6 +1,7 @@
 //! Loops (C99 6.8.5).
 
-ghost use Rattle.std.specs.Prelude.{max};
+ghost use Rattle.std.specs.Prelude.{max, IfOk, true, ◌≡◌};
+ghost use Rattle.c_ast.specs.Places.{act_stands, start_right};
 ghost use Rattle.c_ast.specs.Views.{act_of, start_of};
 ghost use Rattle.c_expressions.specs.Gives.{Gives};
 ghost use Rattle.c_expressions.specs.Lexemes.{lexemes_of};
@@ -32,7 +33,7 @@ fn behind_while<'a>(source: &Source, tokens: &'a [Token]) -> Result<(At, &'a [To
             },
             rest @ ..,
         ] => Ok((*from, rest)),
-        _ => Err(Failure::NoParse),
+        _ => Err(Failure::NoParse(tokens.len())),
     }
 }
 
@@ -46,12 +47,13 @@ pub fn while_loop<'a>(
     mark: At,
     tokens: &'a [Token],
 ) -> Result<(Statement, u32, &'a [Token]), Failure>
-    ensures { Gives (λ x. (act_of x.0, x.1, lexemes_of source.now.bytes.now x.2.now)) result (while_in inside (below_at source.now.types.now inside (act_at source.now.types.now inside)) mark (lexemes_of source.now.bytes.now tokens.now)) }
+    ensures tree { Gives (λ x. (act_of x.0, x.1, lexemes_of source.now.bytes.now x.2.now)) result (while_in inside (below_at source.now.types.now inside (act_at source.now.types.now inside)) mark (lexemes_of source.now.bytes.now tokens.now)) }
+    ensures places { IfOk result (λ x. (act_stands source.now.file x.0).right ≡ true) }
 {
     let ((left, value, right), d, rest) = condition(alloc, source, inside, tokens)?;
     let (body, e, rest) = statement_inside(alloc, source, inside, rest)?;
     let body = boxed(alloc, body)?;
-    let d = deeper_than(inside, larger(d, e))?;
+    let d = deeper_than(inside, larger(d, e), rest)?;
     let whole = Statement {
         place: placed(source, mark),
         node: StatementNode::While(mark, left, value, right, body),
@@ -69,14 +71,15 @@ pub fn do_loop<'a>(
     mark: At,
     tokens: &'a [Token],
 ) -> Result<(Statement, u32, &'a [Token]), Failure>
-    ensures { Gives (λ x. (act_of x.0, x.1, lexemes_of source.now.bytes.now x.2.now)) result (do_in inside (below_at source.now.types.now inside (act_at source.now.types.now inside)) mark (lexemes_of source.now.bytes.now tokens.now)) }
+    ensures tree { Gives (λ x. (act_of x.0, x.1, lexemes_of source.now.bytes.now x.2.now)) result (do_in inside (below_at source.now.types.now inside (act_at source.now.types.now inside)) mark (lexemes_of source.now.bytes.now tokens.now)) }
+    ensures places { IfOk result (λ x. (act_stands source.now.file x.0).right ≡ true) }
 {
     let (body, d, rest) = statement_inside(alloc, source, inside, tokens)?;
     let body = boxed(alloc, body)?;
     let (while_mark, rest) = behind_while(source, rest)?;
     let ((left, value, right), e, rest) = condition(alloc, source, inside, rest)?;
     let (semicolon, rest) = behind_semicolon(source, rest)?;
-    let d = deeper_than(inside, larger(d, e))?;
+    let d = deeper_than(inside, larger(d, e), rest)?;
     let whole = Statement {
         place: placed(source, mark),
         node: StatementNode::DoWhile(mark, body, while_mark, left, value, right, semicolon),
@@ -92,7 +95,8 @@ fn start<'a>(
     inside: u16,
     tokens: &'a [Token],
 ) -> Result<(ForStart, u32, &'a [Token]), Failure>
-    ensures { Gives (λ x. (start_of x.0, x.1, lexemes_of source.now.bytes.now x.2.now)) result (start_in (below_at source.now.types.now inside (act_at source.now.types.now inside)) (lexemes_of source.now.bytes.now tokens.now)) }
+    ensures tree { Gives (λ x. (start_of x.0, x.1, lexemes_of source.now.bytes.now x.2.now)) result (start_in (below_at source.now.types.now inside (act_at source.now.types.now inside)) (lexemes_of source.now.bytes.now tokens.now)) }
+    ensures places { IfOk result (λ x. start_right source.now.file x.0 ≡ true) }
 {
     if begins_specifier(source, tokens) {
         let (declaration, d, rest) = declaration_inside(alloc, source, true, inside, tokens)?;
@@ -114,7 +118,8 @@ pub fn for_loop<'a>(
     mark: At,
     tokens: &'a [Token],
 ) -> Result<(Statement, u32, &'a [Token]), Failure>
-    ensures { Gives (λ x. (act_of x.0, x.1, lexemes_of source.now.bytes.now x.2.now)) result (for_in inside (below_at source.now.types.now inside (act_at source.now.types.now inside)) mark (lexemes_of source.now.bytes.now tokens.now)) }
+    ensures tree { Gives (λ x. (act_of x.0, x.1, lexemes_of source.now.bytes.now x.2.now)) result (for_in inside (below_at source.now.types.now inside (act_at source.now.types.now inside)) mark (lexemes_of source.now.bytes.now tokens.now)) }
+    ensures places { IfOk result (λ x. (act_stands source.now.file x.0).right ≡ true) }
 {
     let (left, rest) = behind_left(source, tokens)?;
     let (start, d, rest) = start(alloc, source, inside, rest)?;
@@ -124,7 +129,7 @@ pub fn for_loop<'a>(
     let (right, rest) = behind_right(source, rest)?;
     let (body, g, rest) = statement_inside(alloc, source, inside, rest)?;
     let body = boxed(alloc, body)?;
-    let d = deeper_than(inside, larger(larger(larger(d, e), f), g))?;
+    let d = deeper_than(inside, larger(larger(larger(d, e), f), g), rest)?;
     let whole = Statement {
         place: placed(source, mark),
         node: StatementNode::For(mark, left, start, test, semicolon, step, right, body),

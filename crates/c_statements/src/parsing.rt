@@ -1,12 +1,13 @@
 //! The tree of a file's tokens.
 
-ghost use Rattle.std.specs.Prelude.{◌≡◌, ◌≤◌, ◌++◌, ◌∷◌, length, map, [], IfOk, OnOk};
+ghost use Rattle.std.specs.Prelude.{◌≡◌, ◌≤◌, ◌++◌, ◌∷◌, length, map, [], IfOk, OnOk, true};
 ghost use Rattle.c_ast.specs.Levels.{types_behind};
 ghost use Rattle.c_lexer.specs.Lexes.{Lexes};
+ghost use Rattle.c_ast.specs.Places.{all_stand, part_stands};
 ghost use Rattle.c_ast.specs.Views.{part_of};
 ghost use Rattle.c_expressions.specs.Gives.{Gives};
 ghost use Rattle.c_expressions.specs.Lexemes.{lexemes_of};
-ghost use Rattle.c_statements.specs.Parsing.{IsPlaceIn, ItemsGive, ParseGives, first_unsupported, is_unsupported};
+ghost use Rattle.c_statements.specs.Parsing.{IsPlaceIn, ParseGives, first_unsupported, is_unsupported};
 ghost use Rattle.c_statements.specs.StatementReading.{part_in, parts_in};
 
 use crate::faults::ParseFault;
@@ -15,7 +16,7 @@ use crate::typenames::add_types;
 use c_ast::{Item, Tree};
 use c_expressions::{Failure, Source, Typenames, add};
 use c_lexer::{Token, TokenKind, Tokens};
-use lay_base::{Keyword, List, Place};
+use lay_base::{Keyword, List, NoMemory, Place};
 use std::alloc::Global;
 
 /// The deepest tree that is read.
@@ -62,7 +63,8 @@ fn next_item<'a>(
     types: &Typenames,
     tokens: &'a [Token],
 ) -> Result<(Item, u32, &'a [Token]), Failure>
-    ensures { Gives (λ x. (part_of x.0, x.1, lexemes_of bytes.now x.2.now)) result (part_in types.now 399 (lexemes_of bytes.now tokens.now)) }
+    ensures tree { Gives (λ x. (part_of x.0, x.1, lexemes_of bytes.now x.2.now)) result (part_in types.now 399 (lexemes_of bytes.now tokens.now)) }
+    ensures places { IfOk result (λ x. (part_stands file x.0).right ≡ true) }
 {
     let source = Source { file, bytes, types };
     let (one, d, rest) = item(alloc, &source, DEPTH - 1, tokens)?;
@@ -72,11 +74,14 @@ fn next_item<'a>(
 /// The items with one more, and the types that it declares.
 fn kept(
     alloc: Global,
+    file: u16,
     types: &mut Typenames,
     all: List<Item>,
     one: Item,
-) -> Result<List<Item>, Failure>
+) -> Result<List<Item>, NoMemory>
+    requires places { (all_stand (map (part_stands file) all) ≡ true) × ((part_stands file one).right ≡ true) }
     ensures items { IfOk result (λ more. map part_of more ≡ map part_of all ++ part_of one ∷ []) }
+    ensures places { IfOk result (λ more. all_stand (map (part_stands file) more) ≡ true) }
     ensures types { OnOk result (types.new ≡ types_behind types.old (part_of one)) }
 {
     add_types(alloc, types, &one)?;
@@ -85,15 +90,11 @@ fn kept(
     Ok(all)
 }
 
-/// All items, or how many tokens are left where one cannot be read.
+/// All items, or why one cannot be read.
 #[tactic(auto, using(crate::proofs::ItemTurns::front_nothing))]
-fn items_of(
-    alloc: Global,
-    file: u16,
-    bytes: &[u8],
-    tokens: &[Token],
-) -> Result<List<Item>, (Failure, usize)>
-    ensures { ItemsGive (λ items. map part_of items) (parts_in 399 (length tokens.now) [] (lexemes_of bytes.now tokens.now)) result }
+fn items_of(alloc: Global, file: u16, bytes: &[u8], tokens: &[Token]) -> Result<List<Item>, Failure>
+    ensures tree { Gives (λ items. map part_of items) result (parts_in 399 (length tokens.now) [] (lexemes_of bytes.now tokens.now)) }
+    ensures places { IfOk result (λ items. all_stand (map (part_stands file) items) ≡ true) }
 {
     let mut types = Typenames::new(alloc);
     let mut all = List::new(alloc);
@@ -101,17 +102,11 @@ fn items_of(
     let mut turns = tokens.len();
     while !rest.is_empty() {
         if turns == 0 {
-            return Err((Failure::NoParse, rest.len()));
+            return Err(Failure::NoParse(rest.len()));
         }
         turns -= 1;
-        let (one, _, behind) = match next_item(alloc, file, bytes, &types, rest) {
-            Ok(read) => read,
-            Err(failure) => return Err((failure, rest.len())),
-        };
-        all = match kept(alloc, &mut types, all, one) {
-            Ok(more) => more,
-            Err(_) => return Err((Failure::Memory, rest.len())),
-        };
+        let (one, _, behind) = next_item(alloc, file, bytes, &types, rest)?;
+        all = kept(alloc, file, &mut types, all, one)?;
         rest = behind;
     }
     Ok(all)
@@ -147,7 +142,7 @@ pub fn parse(alloc: Global, tokens: &Tokens) -> Result<Tree, ParseFault>
     }
     match items_of(alloc, file, tokens.bytes.as_slice(), list) {
         Ok(items) => Ok(Tree { file, items }),
-        Err((Failure::NoParse, left)) => Err(ParseFault::NoParse(place_of(tokens, left))),
-        Err((Failure::Memory, _)) => Err(ParseFault::Memory),
+        Err(Failure::NoParse(left)) => Err(ParseFault::NoParse(place_of(tokens, left))),
+        Err(Failure::Memory) => Err(ParseFault::Memory),
     }
 }

@@ -1,6 +1,7 @@
 //! `if` (C99 6.8.4.1).
 
-ghost use Rattle.std.specs.Prelude.{max};
+ghost use Rattle.std.specs.Prelude.{max, IfOk, true, ◌≡◌};
+ghost use Rattle.c_ast.specs.Places.{act_stands, term_stands};
 ghost use Rattle.c_ast.specs.Views.{act_of, term_of};
 ghost use Rattle.c_expressions.specs.Gives.{Gives};
 ghost use Rattle.c_expressions.specs.Lexemes.{lexemes_of};
@@ -27,7 +28,9 @@ fn branches<'a>(
     d: u32,
     tokens: &'a [Token],
 ) -> Result<(Statement, u32, &'a [Token]), Failure>
-    ensures { Gives (λ x. (act_of x.0, x.1, lexemes_of source.now.bytes.now x.2.now)) result (else_behind inside (below_at source.now.types.now inside (act_at source.now.types.now inside)) mark (test.0, term_of test.1, test.2) (act_of one) d (lexemes_of source.now.bytes.now tokens.now) (behind is_else (lexemes_of source.now.bytes.now tokens.now))) }
+    requires places { ((act_stands source.now.file one).right ≡ true) × ((term_stands source.now.file test.1).right ≡ true) }
+    ensures tree { Gives (λ x. (act_of x.0, x.1, lexemes_of source.now.bytes.now x.2.now)) result (else_behind inside (below_at source.now.types.now inside (act_at source.now.types.now inside)) mark (test.0, term_of test.1, test.2) (act_of one) d (lexemes_of source.now.bytes.now tokens.now) (behind is_else (lexemes_of source.now.bytes.now tokens.now))) }
+    ensures places { IfOk result (λ x. (act_stands source.now.file x.0).right ≡ true) }
 {
     let (left, value, right) = test;
     match tokens {
@@ -41,7 +44,7 @@ fn branches<'a>(
         ] => {
             let (other, e, rest) = statement_inside(alloc, source, inside, rest)?;
             let other = boxed(alloc, other)?;
-            let d = deeper_than(inside, larger(d, e))?;
+            let d = deeper_than(inside, larger(d, e), rest)?;
             let whole = Statement {
                 place: placed(source, mark),
                 node: StatementNode::IfElse(mark, left, value, right, one, *from, other),
@@ -49,7 +52,7 @@ fn branches<'a>(
             Ok((whole, d, rest))
         }
         _ => {
-            let d = deeper_than(inside, d)?;
+            let d = deeper_than(inside, d, tokens)?;
             let whole = Statement {
                 place: placed(source, mark),
                 node: StatementNode::If(mark, left, value, right, one),
@@ -69,7 +72,8 @@ pub fn selection<'a>(
     mark: At,
     tokens: &'a [Token],
 ) -> Result<(Statement, u32, &'a [Token]), Failure>
-    ensures { Gives (λ x. (act_of x.0, x.1, lexemes_of source.now.bytes.now x.2.now)) result (if_in inside (below_at source.now.types.now inside (act_at source.now.types.now inside)) mark (lexemes_of source.now.bytes.now tokens.now)) }
+    ensures tree { Gives (λ x. (act_of x.0, x.1, lexemes_of source.now.bytes.now x.2.now)) result (if_in inside (below_at source.now.types.now inside (act_at source.now.types.now inside)) mark (lexemes_of source.now.bytes.now tokens.now)) }
+    ensures places { IfOk result (λ x. (act_stands source.now.file x.0).right ≡ true) }
 {
     let (test, d, rest) = condition(alloc, source, inside, tokens)?;
     let (one, e, rest) = statement_inside(alloc, source, inside, rest)?;

@@ -1,6 +1,7 @@
 //! Blocks, and statements by their first token (C99 6.8).
 
-ghost use Rattle.std.specs.Prelude.{◌≡◌, ◌+◌, [], length, map};
+ghost use Rattle.std.specs.Prelude.{◌≡◌, ◌+◌, [], length, map, IfOk, true};
+ghost use Rattle.c_ast.specs.Places.{act_stands, all_right, entry_right};
 ghost use Rattle.c_ast.specs.Trees;
 ghost use Rattle.c_ast.specs.Views.{act_of, entries_of, entry_of};
 ghost use Rattle.c_expressions.specs.Gives.{Gives};
@@ -17,10 +18,10 @@ use crate::switches::switch;
 use c_ast::{At, Block, BlockItem, Statement, StatementNode};
 use c_expressions::{
     Failure, Source, add, begins_specifier, behind_right_brace, behind_semicolon, deeper_than,
-    fronted_right_brace, larger, place_at, placed,
+    fronted_right_brace, larger, place_before, placed,
 };
 use c_lexer::Token;
-use lay_base::{List, Place};
+use lay_base::List;
 use std::alloc::Global;
 
 /// An item of a block.
@@ -32,7 +33,8 @@ fn block_item<'a>(
     inside: u16,
     tokens: &'a [Token],
 ) -> Result<(BlockItem, u32, &'a [Token]), Failure>
-    ensures { Gives (λ x. (entry_of x.0, x.1, lexemes_of source.now.bytes.now x.2.now)) result (entry_in (below_at source.now.types.now inside (act_at source.now.types.now inside)) (lexemes_of source.now.bytes.now tokens.now)) }
+    ensures tree { Gives (λ x. (entry_of x.0, x.1, lexemes_of source.now.bytes.now x.2.now)) result (entry_in (below_at source.now.types.now inside (act_at source.now.types.now inside)) (lexemes_of source.now.bytes.now tokens.now)) }
+    ensures places { IfOk result (λ x. entry_right source.now.file x.0 ≡ true) }
 {
     if begins_specifier(source, tokens) {
         let (declaration, d, rest) = declaration_inside(alloc, source, false, inside, tokens)?;
@@ -54,7 +56,9 @@ fn next_item<'a>(
     d: u32,
     tokens: &'a [Token],
 ) -> Result<(List<BlockItem>, u32, &'a [Token], bool), Failure>
-    ensures { Gives (λ x. (map entry_of x.0, x.1, lexemes_of source.now.bytes.now x.2.now, x.3)) result (entry_step (below_at source.now.types.now inside (act_at source.now.types.now inside)) (map entry_of all) d (lexemes_of source.now.bytes.now tokens.now)) }
+    requires places { all_right (map (entry_right source.now.file) all) ≡ true }
+    ensures tree { Gives (λ x. (map entry_of x.0, x.1, lexemes_of source.now.bytes.now x.2.now, x.3)) result (entry_step (below_at source.now.types.now inside (act_at source.now.types.now inside)) (map entry_of all) d (lexemes_of source.now.bytes.now tokens.now)) }
+    ensures places { IfOk result (λ x. all_right (map (entry_right source.now.file) x.0) ≡ true) }
 {
     if fronted_right_brace(source, tokens) {
         return Ok((all, d, tokens, false));
@@ -74,7 +78,8 @@ fn items<'a>(
     inside: u16,
     tokens: &'a [Token],
 ) -> Result<(List<BlockItem>, u32, &'a [Token]), Failure>
-    ensures { Gives (λ x. (map entry_of x.0, x.1, lexemes_of source.now.bytes.now x.2.now)) result (chain (entry_step (below_at source.now.types.now inside (act_at source.now.types.now inside))) (length (lexemes_of source.now.bytes.now tokens.now) + 1) [] 0 (lexemes_of source.now.bytes.now tokens.now)) }
+    ensures tree { Gives (λ x. (map entry_of x.0, x.1, lexemes_of source.now.bytes.now x.2.now)) result (chain (entry_step (below_at source.now.types.now inside (act_at source.now.types.now inside))) (length (lexemes_of source.now.bytes.now tokens.now) + 1) [] 0 (lexemes_of source.now.bytes.now tokens.now)) }
+    ensures places { IfOk result (λ x. all_right (map (entry_right source.now.file) x.0) ≡ true) }
 {
     let mut all = List::new(alloc);
     let mut d = 0;
@@ -90,7 +95,7 @@ fn items<'a>(
             return Ok((all, d, rest));
         }
     }
-    Err(Failure::NoParse)
+    Err(Failure::NoParse(rest.len()))
 }
 
 /// A block, from behind `{` on, with the place of its `}`.
@@ -102,7 +107,8 @@ pub fn block<'a>(
     inside: u16,
     tokens: &'a [Token],
 ) -> Result<((List<BlockItem>, At), u32, &'a [Token]), Failure>
-    ensures { Gives (λ x. ((entries_of (map entry_of x.0.0), x.0.1), x.1, lexemes_of source.now.bytes.now x.2.now)) result (block_in (below_at source.now.types.now inside (act_at source.now.types.now inside)) (lexemes_of source.now.bytes.now tokens.now)) }
+    ensures tree { Gives (λ x. ((entries_of (map entry_of x.0.0), x.0.1), x.1, lexemes_of source.now.bytes.now x.2.now)) result (block_in (below_at source.now.types.now inside (act_at source.now.types.now inside)) (lexemes_of source.now.bytes.now tokens.now)) }
+    ensures places { IfOk result (λ x. all_right (map (entry_right source.now.file) x.0.0) ≡ true) }
 {
     let (items, d, rest) = items(alloc, source, inside, tokens)?;
     let (right, rest) = behind_right_brace(source, rest)?;
@@ -116,7 +122,8 @@ fn break_statement<'a>(
     mark: At,
     tokens: &'a [Token],
 ) -> Result<(Statement, u32, &'a [Token]), Failure>
-    ensures { Gives (λ x. (act_of x.0, x.1, lexemes_of source.now.bytes.now x.2.now)) result (jump_in (Trees.break mark) (lexemes_of source.now.bytes.now tokens.now)) }
+    ensures tree { Gives (λ x. (act_of x.0, x.1, lexemes_of source.now.bytes.now x.2.now)) result (jump_in (Trees.break mark) (lexemes_of source.now.bytes.now tokens.now)) }
+    ensures places { IfOk result (λ x. (act_stands source.now.file x.0).right ≡ true) }
 {
     let (semicolon, rest) = behind_semicolon(source, tokens)?;
     let whole = Statement {
@@ -133,7 +140,8 @@ fn continue_statement<'a>(
     mark: At,
     tokens: &'a [Token],
 ) -> Result<(Statement, u32, &'a [Token]), Failure>
-    ensures { Gives (λ x. (act_of x.0, x.1, lexemes_of source.now.bytes.now x.2.now)) result (jump_in (Trees.continue mark) (lexemes_of source.now.bytes.now tokens.now)) }
+    ensures tree { Gives (λ x. (act_of x.0, x.1, lexemes_of source.now.bytes.now x.2.now)) result (jump_in (Trees.continue mark) (lexemes_of source.now.bytes.now tokens.now)) }
+    ensures places { IfOk result (λ x. (act_stands source.now.file x.0).right ≡ true) }
 {
     let (semicolon, rest) = behind_semicolon(source, tokens)?;
     let whole = Statement {
@@ -152,11 +160,12 @@ fn return_statement<'a>(
     mark: At,
     tokens: &'a [Token],
 ) -> Result<(Statement, u32, &'a [Token]), Failure>
-    ensures { Gives (λ x. (act_of x.0, x.1, lexemes_of source.now.bytes.now x.2.now)) result (return_in inside (below_at source.now.types.now inside (act_at source.now.types.now inside)) mark (lexemes_of source.now.bytes.now tokens.now)) }
+    ensures tree { Gives (λ x. (act_of x.0, x.1, lexemes_of source.now.bytes.now x.2.now)) result (return_in inside (below_at source.now.types.now inside (act_at source.now.types.now inside)) mark (lexemes_of source.now.bytes.now tokens.now)) }
+    ensures places { IfOk result (λ x. (act_stands source.now.file x.0).right ≡ true) }
 {
     let (value, d, rest) = before_semicolon(alloc, source, inside, tokens)?;
     let (semicolon, rest) = behind_semicolon(source, rest)?;
-    let d = deeper_than(inside, d)?;
+    let d = deeper_than(inside, d, rest)?;
     let whole = Statement {
         place: placed(source, mark),
         node: StatementNode::Return(mark, value, semicolon),
@@ -172,24 +181,27 @@ fn expression_statement<'a>(
     inside: u16,
     tokens: &'a [Token],
 ) -> Result<(Statement, u32, &'a [Token]), Failure>
-    ensures { Gives (λ x. (act_of x.0, x.1, lexemes_of source.now.bytes.now x.2.now)) result (evaluate_in inside (below_at source.now.types.now inside (act_at source.now.types.now inside)) (lexemes_of source.now.bytes.now tokens.now)) }
+    ensures tree { Gives (λ x. (act_of x.0, x.1, lexemes_of source.now.bytes.now x.2.now)) result (evaluate_in inside (below_at source.now.types.now inside (act_at source.now.types.now inside)) (lexemes_of source.now.bytes.now tokens.now)) }
+    ensures places { IfOk result (λ x. (act_stands source.now.file x.0).right ≡ true) }
 {
     let (value, d, rest) = before_semicolon(alloc, source, inside, tokens)?;
     let (semicolon, rest) = behind_semicolon(source, rest)?;
-    let d = deeper_than(inside, d)?;
+    let d = deeper_than(inside, d, rest)?;
     let whole = Statement {
-        place: place_at(source, tokens),
+        place: place_before(source, &value, semicolon),
         node: StatementNode::Expression(value, semicolon),
     };
     Ok((whole, d, rest))
 }
 
 /// A block as a statement.
-fn whole_block(place: Place, left: At, items: List<BlockItem>, right: At) -> Statement
-    ensures { act_of result ≡ Trees.block left (entries_of (map entry_of items)) right }
+fn whole_block(source: &Source, left: At, items: List<BlockItem>, right: At) -> Statement
+    requires places { all_right (map (entry_right source.now.file) items) ≡ true }
+    ensures tree { act_of result ≡ Trees.block left (entries_of (map entry_of items)) right }
+    ensures places { (act_stands source.now.file result).right ≡ true }
 {
     Statement {
-        place,
+        place: placed(source, left),
         node: StatementNode::Block(Block {
             open: left,
             items,
@@ -208,15 +220,12 @@ fn block_statement<'a>(
     left: At,
     tokens: &'a [Token],
 ) -> Result<(Statement, u32, &'a [Token]), Failure>
-    ensures { Gives (λ x. (act_of x.0, x.1, lexemes_of source.now.bytes.now x.2.now)) result (block_act_in inside (below_at source.now.types.now inside (act_at source.now.types.now inside)) left (lexemes_of source.now.bytes.now tokens.now)) }
+    ensures tree { Gives (λ x. (act_of x.0, x.1, lexemes_of source.now.bytes.now x.2.now)) result (block_act_in inside (below_at source.now.types.now inside (act_at source.now.types.now inside)) left (lexemes_of source.now.bytes.now tokens.now)) }
+    ensures places { IfOk result (λ x. (act_stands source.now.file x.0).right ≡ true) }
 {
     let ((items, right), d, rest) = block(alloc, source, inside, tokens)?;
-    let d = deeper_than(inside, d)?;
-    Ok((
-        whole_block(placed(source, left), left, items, right),
-        d,
-        rest,
-    ))
+    let d = deeper_than(inside, d, rest)?;
+    Ok((whole_block(source, left, items, right), d, rest))
 }
 
 /// A statement by its first token (C99 6.8).
@@ -228,10 +237,11 @@ fn statement<'a>(
     inside: u16,
     tokens: &'a [Token],
 ) -> Result<(Statement, u32, &'a [Token]), Failure>
-    ensures { Gives (λ x. (act_of x.0, x.1, lexemes_of source.now.bytes.now x.2.now)) result (act_in inside (below_at source.now.types.now inside (act_at source.now.types.now inside)) (lexemes_of source.now.bytes.now tokens.now)) }
+    ensures tree { Gives (λ x. (act_of x.0, x.1, lexemes_of source.now.bytes.now x.2.now)) result (act_in inside (below_at source.now.types.now inside (act_at source.now.types.now inside)) (lexemes_of source.now.bytes.now tokens.now)) }
+    ensures places { IfOk result (λ x. (act_stands source.now.file x.0).right ≡ true) }
 {
     let [first, rest @ ..] = tokens else {
-        return Err(Failure::NoParse);
+        return Err(Failure::NoParse(tokens.len()));
     };
     match opening_of(first.kind) {
         Opening::If => selection(alloc, source, inside, first.from, rest),
@@ -255,10 +265,11 @@ pub fn statement_inside<'a>(
     inside: u16,
     tokens: &'a [Token],
 ) -> Result<(Statement, u32, &'a [Token]), Failure>
-    ensures { Gives (λ x. (act_of x.0, x.1, lexemes_of source.now.bytes.now x.2.now)) result (act_at source.now.types.now inside (lexemes_of source.now.bytes.now tokens.now)) }
+    ensures tree { Gives (λ x. (act_of x.0, x.1, lexemes_of source.now.bytes.now x.2.now)) result (act_at source.now.types.now inside (lexemes_of source.now.bytes.now tokens.now)) }
+    ensures places { IfOk result (λ x. (act_stands source.now.file x.0).right ≡ true) }
 {
     if inside == 0 {
-        return Err(Failure::NoParse);
+        return Err(Failure::NoParse(tokens.len()));
     }
     statement(alloc, source, inside - 1, tokens)
 }

@@ -1,6 +1,7 @@
 //! Labels in a switch (C99 6.8.1).
 
-ghost use Rattle.std.specs.Prelude.{◌+◌, [], length, map};
+ghost use Rattle.std.specs.Prelude.{◌+◌, [], length, map, IfOk, true, ◌≡◌};
+ghost use Rattle.c_ast.specs.Places.{all_right, label_right};
 ghost use Rattle.c_ast.specs.Views.{label_of};
 ghost use Rattle.c_expressions.specs.Gives.{Gives};
 ghost use Rattle.c_expressions.specs.Lexemes.{lexemes_of};
@@ -23,7 +24,9 @@ fn next_label<'a>(
     d: u32,
     tokens: &'a [Token],
 ) -> Result<(List<Label>, u32, &'a [Token], bool), Failure>
-    ensures { Gives (λ x. (map label_of x.0, x.1, lexemes_of source.now.bytes.now x.2.now, x.3)) result (label_step (below_at source.now.types.now inside (act_at source.now.types.now inside)) (map label_of all) d (lexemes_of source.now.bytes.now tokens.now)) }
+    requires places { all_right (map (label_right source.now.file) all) ≡ true }
+    ensures tree { Gives (λ x. (map label_of x.0, x.1, lexemes_of source.now.bytes.now x.2.now, x.3)) result (label_step (below_at source.now.types.now inside (act_at source.now.types.now inside)) (map label_of all) d (lexemes_of source.now.bytes.now tokens.now)) }
+    ensures places { IfOk result (λ x. all_right (map (label_right source.now.file) x.0) ≡ true) }
 {
     let mut all = all;
     match tokens {
@@ -64,7 +67,8 @@ pub fn labels<'a>(
     inside: u16,
     tokens: &'a [Token],
 ) -> Result<(List<Label>, u32, &'a [Token]), Failure>
-    ensures { Gives (λ x. (map label_of x.0, x.1, lexemes_of source.now.bytes.now x.2.now)) result (chain (label_step (below_at source.now.types.now inside (act_at source.now.types.now inside))) (length (lexemes_of source.now.bytes.now tokens.now) + 1) [] 0 (lexemes_of source.now.bytes.now tokens.now)) }
+    ensures tree { Gives (λ x. (map label_of x.0, x.1, lexemes_of source.now.bytes.now x.2.now)) result (chain (label_step (below_at source.now.types.now inside (act_at source.now.types.now inside))) (length (lexemes_of source.now.bytes.now tokens.now) + 1) [] 0 (lexemes_of source.now.bytes.now tokens.now)) }
+    ensures places { IfOk result (λ x. all_right (map (label_right source.now.file) x.0) ≡ true) }
 {
     let mut all = List::new(alloc);
     let mut d = 0;
@@ -80,5 +84,5 @@ pub fn labels<'a>(
             return Ok((all, d, rest));
         }
     }
-    Err(Failure::NoParse)
+    Err(Failure::NoParse(rest.len()))
 }

@@ -1,6 +1,7 @@
 //! `switch` (C99 6.8.4.2).
 
-ghost use Rattle.std.specs.Prelude.{◌+◌, [], length, map};
+ghost use Rattle.std.specs.Prelude.{◌+◌, [], length, map, IfOk, true, ◌≡◌};
+ghost use Rattle.c_ast.specs.Places.{act_stands, all_right, arm_right};
 ghost use Rattle.c_ast.specs.Views.{act_of, arm_of};
 ghost use Rattle.c_expressions.specs.Gives.{Gives};
 ghost use Rattle.c_expressions.specs.Lexemes.{lexemes_of};
@@ -29,7 +30,8 @@ fn labelled<'a>(
     inside: u16,
     tokens: &'a [Token],
 ) -> Result<(Arm, u32, &'a [Token]), Failure>
-    ensures { Gives (λ x. (arm_of x.0, x.1, lexemes_of source.now.bytes.now x.2.now)) result (labelled_in (below_at source.now.types.now inside (act_at source.now.types.now inside)) (lexemes_of source.now.bytes.now tokens.now)) }
+    ensures tree { Gives (λ x. (arm_of x.0, x.1, lexemes_of source.now.bytes.now x.2.now)) result (labelled_in (below_at source.now.types.now inside (act_at source.now.types.now inside)) (lexemes_of source.now.bytes.now tokens.now)) }
+    ensures places { IfOk result (λ x. arm_right source.now.file x.0 ≡ true) }
 {
     let (labels, d, rest) = labels(alloc, source, inside, tokens)?;
     let (statement, e, rest) = statement_inside(alloc, source, inside, rest)?;
@@ -45,7 +47,8 @@ fn arm<'a>(
     inside: u16,
     tokens: &'a [Token],
 ) -> Result<(Arm, u32, &'a [Token]), Failure>
-    ensures { Gives (λ x. (arm_of x.0, x.1, lexemes_of source.now.bytes.now x.2.now)) result (arm_in (below_at source.now.types.now inside (act_at source.now.types.now inside)) (lexemes_of source.now.bytes.now tokens.now)) }
+    ensures tree { Gives (λ x. (arm_of x.0, x.1, lexemes_of source.now.bytes.now x.2.now)) result (arm_in (below_at source.now.types.now inside (act_at source.now.types.now inside)) (lexemes_of source.now.bytes.now tokens.now)) }
+    ensures places { IfOk result (λ x. arm_right source.now.file x.0 ≡ true) }
 {
     if begins_specifier(source, tokens) {
         let (declaration, d, rest) = declaration_inside(alloc, source, true, inside, tokens)?;
@@ -67,7 +70,9 @@ fn next_arm<'a>(
     d: u32,
     tokens: &'a [Token],
 ) -> Result<(List<Arm>, u32, &'a [Token], bool), Failure>
-    ensures { Gives (λ x. (map arm_of x.0, x.1, lexemes_of source.now.bytes.now x.2.now, x.3)) result (arm_step (below_at source.now.types.now inside (act_at source.now.types.now inside)) (map arm_of all) d (lexemes_of source.now.bytes.now tokens.now)) }
+    requires places { all_right (map (arm_right source.now.file) all) ≡ true }
+    ensures tree { Gives (λ x. (map arm_of x.0, x.1, lexemes_of source.now.bytes.now x.2.now, x.3)) result (arm_step (below_at source.now.types.now inside (act_at source.now.types.now inside)) (map arm_of all) d (lexemes_of source.now.bytes.now tokens.now)) }
+    ensures places { IfOk result (λ x. all_right (map (arm_right source.now.file) x.0) ≡ true) }
 {
     if fronted_right_brace(source, tokens) {
         return Ok((all, d, tokens, false));
@@ -87,7 +92,8 @@ fn arms<'a>(
     inside: u16,
     tokens: &'a [Token],
 ) -> Result<(List<Arm>, u32, &'a [Token]), Failure>
-    ensures { Gives (λ x. (map arm_of x.0, x.1, lexemes_of source.now.bytes.now x.2.now)) result (chain (arm_step (below_at source.now.types.now inside (act_at source.now.types.now inside))) (length (lexemes_of source.now.bytes.now tokens.now) + 1) [] 0 (lexemes_of source.now.bytes.now tokens.now)) }
+    ensures tree { Gives (λ x. (map arm_of x.0, x.1, lexemes_of source.now.bytes.now x.2.now)) result (chain (arm_step (below_at source.now.types.now inside (act_at source.now.types.now inside))) (length (lexemes_of source.now.bytes.now tokens.now) + 1) [] 0 (lexemes_of source.now.bytes.now tokens.now)) }
+    ensures places { IfOk result (λ x. all_right (map (arm_right source.now.file) x.0) ≡ true) }
 {
     let mut all = List::new(alloc);
     let mut d = 0;
@@ -103,7 +109,7 @@ fn arms<'a>(
             return Ok((all, d, rest));
         }
     }
-    Err(Failure::NoParse)
+    Err(Failure::NoParse(rest.len()))
 }
 
 /// What stands behind `switch`.
@@ -116,13 +122,14 @@ pub fn switch<'a>(
     mark: At,
     tokens: &'a [Token],
 ) -> Result<(Statement, u32, &'a [Token]), Failure>
-    ensures { Gives (λ x. (act_of x.0, x.1, lexemes_of source.now.bytes.now x.2.now)) result (switch_in inside (below_at source.now.types.now inside (act_at source.now.types.now inside)) mark (lexemes_of source.now.bytes.now tokens.now)) }
+    ensures tree { Gives (λ x. (act_of x.0, x.1, lexemes_of source.now.bytes.now x.2.now)) result (switch_in inside (below_at source.now.types.now inside (act_at source.now.types.now inside)) mark (lexemes_of source.now.bytes.now tokens.now)) }
+    ensures places { IfOk result (λ x. (act_stands source.now.file x.0).right ≡ true) }
 {
     let ((left, value, right), d, rest) = condition(alloc, source, inside, tokens)?;
     let (begin, rest) = behind_left_brace(source, rest)?;
     let (all, e, rest) = arms(alloc, source, inside, rest)?;
     let (end, rest) = behind_right_brace(source, rest)?;
-    let d = deeper_than(inside, larger(d, e))?;
+    let d = deeper_than(inside, larger(d, e), rest)?;
     let whole = Statement {
         place: placed(source, mark),
         node: StatementNode::Switch(mark, left, value, right, begin, all, end),

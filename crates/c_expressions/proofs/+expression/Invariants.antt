@@ -1,5 +1,6 @@
-use Rattle.std.proofs.Common.{◌≡◌, ◌+◌, ◌*◌, map, length, []}
+use Rattle.std.proofs.Common.{◌≡◌, ◌+◌, ◌*◌, map, length, [], true}
 use Rattle.std.specs.Option.{option_map}
+use Rattle.c_ast.specs.Places.{all_right, all_stand, enumerator_right, field_right, item_right, line_right, parameter_right, shape_stands, specifier_stands, stands_if_any, term_stands}
 use Rattle.c_ast.specs.Views.{enumerator_of, field_of, item_of, line_of, parameter_of, shape_if_any, shape_of, specification_of, term_of}
 use Rattle.c_expressions.specs.Lexemes.{lexemes_of}
 use Rattle.c_expressions.specs.Reading.{chain, argument_in, postfix_step, postfix_in, operator_step, operators_in, comma_step, expression_in, field_step, line_step, enumerator_step, specifier_step, parameter_step, suffix_step, direct_in, at}
@@ -195,61 +196,61 @@ abbrev pub decreases-inside::shape_inside : goal.decreases-inside::shape_inside
 decreases-inside::shape_inside l = 13 * l.inside + 0
 
 abbrev pub invariant-postfix::argument_list-more : goal.invariant-postfix::argument_list-more
-invariant-postfix::argument_list-more l = chain (argument_in (at l.source.types.now l.inside)) l.turns (map item_of l.all) l.d (lexemes_of l.source.bytes.now l.rest) ≡ chain (argument_in (at l.source.types.now l.inside)) (length (lexemes_of l.source.bytes.now l.tokens) + 1) [] 0 (lexemes_of l.source.bytes.now l.tokens)
+invariant-postfix::argument_list-more l = (chain (argument_in (at l.source.types.now l.inside)) l.turns (map item_of l.all) l.d (lexemes_of l.source.bytes.now l.rest) ≡ chain (argument_in (at l.source.types.now l.inside)) (length (lexemes_of l.source.bytes.now l.tokens) + 1) [] 0 (lexemes_of l.source.bytes.now l.tokens)) × (all_right (map (item_right l.source.file) l.all) ≡ true)
 
 abbrev pub decreases-postfix::argument_list-more : goal.decreases-postfix::argument_list-more
 decreases-postfix::argument_list-more l = l.turns
 
 abbrev pub invariant-postfix::postfix-more : goal.invariant-postfix::postfix-more
-invariant-postfix::postfix-more l = chain (postfix_step l.inside (at l.source.types.now l.inside)) l.turns (term_of l.x) l.d (lexemes_of l.source.bytes.now l.rest) ≡ postfix_in l.source.types.now l.inside (at l.source.types.now l.inside) (lexemes_of l.source.bytes.now l.tokens)
+invariant-postfix::postfix-more l = (chain (postfix_step l.inside (at l.source.types.now l.inside)) l.turns (term_of l.x) l.d (lexemes_of l.source.bytes.now l.rest) ≡ postfix_in l.source.types.now l.inside (at l.source.types.now l.inside) (lexemes_of l.source.bytes.now l.tokens)) × ((term_stands l.source.file l.x).right ≡ true)
 
 abbrev pub decreases-postfix::postfix-more : goal.decreases-postfix::postfix-more
 decreases-postfix::postfix-more l = l.turns
 
 abbrev pub invariant-binary::operators-more : goal.invariant-binary::operators-more
-invariant-binary::operators-more l = chain (operator_step l.inside (at l.source.types.now l.inside) l.least) l.turns (term_of l.x) l.d (lexemes_of l.source.bytes.now l.rest) ≡ operators_in l.source.types.now l.inside (at l.source.types.now l.inside) l.least (lexemes_of l.source.bytes.now l.tokens)
+invariant-binary::operators-more l = (chain (operator_step l.inside (at l.source.types.now l.inside) l.least) l.turns (term_of l.x) l.d (lexemes_of l.source.bytes.now l.rest) ≡ operators_in l.source.types.now l.inside (at l.source.types.now l.inside) l.least (lexemes_of l.source.bytes.now l.tokens)) × ((term_stands l.source.file l.x).right ≡ true)
 
 abbrev pub decreases-binary::operators-more : goal.decreases-binary::operators-more
 decreases-binary::operators-more l = l.turns
 
 abbrev pub invariant-assignment::expression-more : goal.invariant-assignment::expression-more
-invariant-assignment::expression-more l = chain (comma_step l.inside (at l.source.types.now l.inside)) l.turns (term_of l.x) l.d (lexemes_of l.source.bytes.now l.rest) ≡ expression_in l.source.types.now l.inside (at l.source.types.now l.inside) (lexemes_of l.source.bytes.now l.tokens)
+invariant-assignment::expression-more l = (chain (comma_step l.inside (at l.source.types.now l.inside)) l.turns (term_of l.x) l.d (lexemes_of l.source.bytes.now l.rest) ≡ expression_in l.source.types.now l.inside (at l.source.types.now l.inside) (lexemes_of l.source.bytes.now l.tokens)) × ((term_stands l.source.file l.x).right ≡ true)
 
 abbrev pub decreases-assignment::expression-more : goal.decreases-assignment::expression-more
 decreases-assignment::expression-more l = l.turns
 
 abbrev pub invariant-structures::fields-more : goal.invariant-structures::fields-more
-invariant-structures::fields-more l = chain (field_step (at l.source.types.now l.inside)) l.turns (map field_of l.all) l.d (lexemes_of l.source.bytes.now l.rest) ≡ chain (field_step (at l.source.types.now l.inside)) (length (lexemes_of l.source.bytes.now l.tokens) + 1) [] l.fn.d (lexemes_of l.source.bytes.now l.tokens)
+invariant-structures::fields-more l = (chain (field_step (at l.source.types.now l.inside)) l.turns (map field_of l.all) l.d (lexemes_of l.source.bytes.now l.rest) ≡ chain (field_step (at l.source.types.now l.inside)) (length (lexemes_of l.source.bytes.now l.tokens) + 1) [] l.fn.d (lexemes_of l.source.bytes.now l.tokens)) × (all_right (map (field_right l.source.file) l.all) ≡ true)
 
 abbrev pub decreases-structures::fields-more : goal.decreases-structures::fields-more
 decreases-structures::fields-more l = l.turns
 
 abbrev pub invariant-structures::lines-more : goal.invariant-structures::lines-more
-invariant-structures::lines-more l = chain (line_step (at l.source.types.now l.inside)) l.turns (map line_of l.all) l.d (lexemes_of l.source.bytes.now l.rest) ≡ chain (line_step (at l.source.types.now l.inside)) (length (lexemes_of l.source.bytes.now l.tokens) + 1) [] 0 (lexemes_of l.source.bytes.now l.tokens)
+invariant-structures::lines-more l = (chain (line_step (at l.source.types.now l.inside)) l.turns (map line_of l.all) l.d (lexemes_of l.source.bytes.now l.rest) ≡ chain (line_step (at l.source.types.now l.inside)) (length (lexemes_of l.source.bytes.now l.tokens) + 1) [] 0 (lexemes_of l.source.bytes.now l.tokens)) × (all_right (map (line_right l.source.file) l.all) ≡ true)
 
 abbrev pub decreases-structures::lines-more : goal.decreases-structures::lines-more
 decreases-structures::lines-more l = l.turns
 
 abbrev pub invariant-enumerations::enumerators-more : goal.invariant-enumerations::enumerators-more
-invariant-enumerations::enumerators-more l = chain (enumerator_step (at l.source.types.now l.inside)) l.turns (map enumerator_of l.all) l.d (lexemes_of l.source.bytes.now l.rest) ≡ chain (enumerator_step (at l.source.types.now l.inside)) (length (lexemes_of l.source.bytes.now l.tokens) + 1) [] 0 (lexemes_of l.source.bytes.now l.tokens)
+invariant-enumerations::enumerators-more l = (chain (enumerator_step (at l.source.types.now l.inside)) l.turns (map enumerator_of l.all) l.d (lexemes_of l.source.bytes.now l.rest) ≡ chain (enumerator_step (at l.source.types.now l.inside)) (length (lexemes_of l.source.bytes.now l.tokens) + 1) [] 0 (lexemes_of l.source.bytes.now l.tokens)) × (all_right (map (enumerator_right l.source.file) l.all) ≡ true)
 
 abbrev pub decreases-enumerations::enumerators-more : goal.decreases-enumerations::enumerators-more
 decreases-enumerations::enumerators-more l = l.turns
 
 abbrev pub invariant-specifiers::specifier_list-more : goal.invariant-specifiers::specifier_list-more
-invariant-specifiers::specifier_list-more l = chain (specifier_step l.source.types.now l.inside (at l.source.types.now l.inside)) l.turns (map specification_of l.all) l.d (lexemes_of l.source.bytes.now l.rest) ≡ chain (specifier_step l.source.types.now l.inside (at l.source.types.now l.inside)) (length (lexemes_of l.source.bytes.now l.tokens) + 1) [] 0 (lexemes_of l.source.bytes.now l.tokens)
+invariant-specifiers::specifier_list-more l = (chain (specifier_step l.source.types.now l.inside (at l.source.types.now l.inside)) l.turns (map specification_of l.all) l.d (lexemes_of l.source.bytes.now l.rest) ≡ chain (specifier_step l.source.types.now l.inside (at l.source.types.now l.inside)) (length (lexemes_of l.source.bytes.now l.tokens) + 1) [] 0 (lexemes_of l.source.bytes.now l.tokens)) × (all_stand (map (specifier_stands l.source.file) l.all) ≡ true)
 
 abbrev pub decreases-specifiers::specifier_list-more : goal.decreases-specifiers::specifier_list-more
 decreases-specifiers::specifier_list-more l = l.turns
 
 abbrev pub invariant-declarators::parameter_list-more : goal.invariant-declarators::parameter_list-more
-invariant-declarators::parameter_list-more l = chain (parameter_step (at l.source.types.now l.inside)) l.turns (map parameter_of l.all) l.d (lexemes_of l.source.bytes.now l.rest) ≡ chain (parameter_step (at l.source.types.now l.inside)) (length (lexemes_of l.source.bytes.now l.tokens) + 1) [] 0 (lexemes_of l.source.bytes.now l.tokens)
+invariant-declarators::parameter_list-more l = (chain (parameter_step (at l.source.types.now l.inside)) l.turns (map parameter_of l.all) l.d (lexemes_of l.source.bytes.now l.rest) ≡ chain (parameter_step (at l.source.types.now l.inside)) (length (lexemes_of l.source.bytes.now l.tokens) + 1) [] 0 (lexemes_of l.source.bytes.now l.tokens)) × (all_right (map (parameter_right l.source.file) l.all) ≡ true)
 
 abbrev pub decreases-declarators::parameter_list-more : goal.decreases-declarators::parameter_list-more
 decreases-declarators::parameter_list-more l = l.turns
 
 abbrev pub invariant-declarators::direct-more : goal.invariant-declarators::direct-more
-invariant-declarators::direct-more l = chain (suffix_step l.inside (at l.source.types.now l.inside)) l.turns (shape_if_any (option_map shape_of l.x)) l.d (lexemes_of l.source.bytes.now l.rest) ≡ direct_in l.source.types.now l.inside (at l.source.types.now l.inside) (lexemes_of l.source.bytes.now l.tokens)
+invariant-declarators::direct-more l = (chain (suffix_step l.inside (at l.source.types.now l.inside)) l.turns (shape_if_any (option_map shape_of l.x)) l.d (lexemes_of l.source.bytes.now l.rest) ≡ direct_in l.source.types.now l.inside (at l.source.types.now l.inside) (lexemes_of l.source.bytes.now l.tokens)) × (stands_if_any (option_map (shape_stands l.source.file) l.x) ≡ true)
 
 abbrev pub decreases-declarators::direct-more : goal.decreases-declarators::direct-more
 decreases-declarators::direct-more l = l.turns

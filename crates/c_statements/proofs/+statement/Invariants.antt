@@ -1,4 +1,5 @@
-use Rattle.std.proofs.Common.{◌≡◌, ◌+◌, ◌*◌, map, length, []}
+use Rattle.std.proofs.Common.{◌≡◌, ◌+◌, ◌*◌, map, length, [], true}
+use Rattle.c_ast.specs.Places.{all_right, arm_right, entry_right}
 use Rattle.c_ast.specs.Views.{arm_of, entry_of}
 use Rattle.c_expressions.specs.Lexemes.{lexemes_of}
 use Rattle.c_expressions.specs.Reading.{chain}
@@ -57,13 +58,13 @@ abbrev pub decreases-statements::statement : goal.decreases-statements::statemen
 decreases-statements::statement l = 9 * l.inside + 6
 
 abbrev pub invariant-statements::items-more : goal.invariant-statements::items-more
-invariant-statements::items-more l = chain (entry_step (below_at l.source.types.now l.inside (act_at l.source.types.now l.inside))) l.turns (map entry_of l.all) l.d (lexemes_of l.source.bytes.now l.rest) ≡ chain (entry_step (below_at l.source.types.now l.inside (act_at l.source.types.now l.inside))) (length (lexemes_of l.source.bytes.now l.tokens) + 1) [] 0 (lexemes_of l.source.bytes.now l.tokens)
+invariant-statements::items-more l = (chain (entry_step (below_at l.source.types.now l.inside (act_at l.source.types.now l.inside))) l.turns (map entry_of l.all) l.d (lexemes_of l.source.bytes.now l.rest) ≡ chain (entry_step (below_at l.source.types.now l.inside (act_at l.source.types.now l.inside))) (length (lexemes_of l.source.bytes.now l.tokens) + 1) [] 0 (lexemes_of l.source.bytes.now l.tokens)) × (all_right (map (entry_right l.source.file) l.all) ≡ true)
 
 abbrev pub decreases-statements::items-more : goal.decreases-statements::items-more
 decreases-statements::items-more l = l.turns
 
 abbrev pub invariant-switches::arms-more : goal.invariant-switches::arms-more
-invariant-switches::arms-more l = chain (arm_step (below_at l.source.types.now l.inside (act_at l.source.types.now l.inside))) l.turns (map arm_of l.all) l.d (lexemes_of l.source.bytes.now l.rest) ≡ chain (arm_step (below_at l.source.types.now l.inside (act_at l.source.types.now l.inside))) (length (lexemes_of l.source.bytes.now l.tokens) + 1) [] 0 (lexemes_of l.source.bytes.now l.tokens)
+invariant-switches::arms-more l = (chain (arm_step (below_at l.source.types.now l.inside (act_at l.source.types.now l.inside))) l.turns (map arm_of l.all) l.d (lexemes_of l.source.bytes.now l.rest) ≡ chain (arm_step (below_at l.source.types.now l.inside (act_at l.source.types.now l.inside))) (length (lexemes_of l.source.bytes.now l.tokens) + 1) [] 0 (lexemes_of l.source.bytes.now l.tokens)) × (all_right (map (arm_right l.source.file) l.all) ≡ true)
 
 abbrev pub decreases-switches::arms-more : goal.decreases-switches::arms-more
 decreases-switches::arms-more l = l.turns

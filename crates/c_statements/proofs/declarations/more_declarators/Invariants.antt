@@ -1,4 +1,5 @@
-use Rattle.std.proofs.Common.{◌≡◌, ◌+◌, map, length, [], ◌∷◌}
+use Rattle.std.proofs.Common.{◌≡◌, ◌+◌, map, length, [], ◌∷◌, true}
+use Rattle.c_ast.specs.Places.{all_right, declared_right}
 use Rattle.c_ast.specs.Views.{declared_of}
 use Rattle.c_expressions.specs.Lexemes.{lexemes_of}
 use Rattle.c_expressions.specs.Reading.{at, chain}
@@ -6,7 +7,7 @@ use Rattle.c_statements.specs.StatementReading.{declared_step, initial_at}
 use Rattle.c_statements.proofs.declarations.more_declarators.Given as goal
 
 abbrev pub invariant-more : goal.invariant-more
-invariant-more l = chain (declared_step ((at l.source.types.now l.inside).shape) (initial_at l.source.types.now l.inside)) l.turns (map declared_of l.all) l.d (lexemes_of l.source.bytes.now l.rest) ≡ chain (declared_step ((at l.source.types.now l.inside).shape) (initial_at l.source.types.now l.inside)) (length (lexemes_of l.source.bytes.now l.tokens) + 1) (declared_of l.fn.first ∷ []) l.depth (lexemes_of l.source.bytes.now l.tokens)
+invariant-more l = (chain (declared_step ((at l.source.types.now l.inside).shape) (initial_at l.source.types.now l.inside)) l.turns (map declared_of l.all) l.d (lexemes_of l.source.bytes.now l.rest) ≡ chain (declared_step ((at l.source.types.now l.inside).shape) (initial_at l.source.types.now l.inside)) (length (lexemes_of l.source.bytes.now l.tokens) + 1) (declared_of l.fn.first ∷ []) l.depth (lexemes_of l.source.bytes.now l.tokens)) × (all_right (map (declared_right l.source.file) l.all) ≡ true)
 
 abbrev pub decreases-more : goal.decreases-more
 decreases-more l = l.turns

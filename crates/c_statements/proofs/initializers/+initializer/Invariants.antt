@@ -1,4 +1,5 @@
-use Rattle.std.proofs.Common.{◌≡◌, ◌+◌, ◌*◌, map, length, []}
+use Rattle.std.proofs.Common.{◌≡◌, ◌+◌, ◌*◌, map, length, [], true}
+use Rattle.c_ast.specs.Places.{all_right, item_right}
 use Rattle.c_ast.specs.Views.{item_of}
 use Rattle.c_expressions.specs.Lexemes.{lexemes_of}
 use Rattle.c_expressions.specs.Reading.{chain}
@@ -21,7 +22,7 @@ abbrev pub decreases-initializer : goal.decreases-initializer
 decreases-initializer l = 5 * l.inside + 4
 
 abbrev pub invariant-initializers-more : goal.invariant-initializers-more
-invariant-initializers-more l = chain (initial_step (initial_at l.source.types.now l.inside)) l.turns (map item_of l.all) l.d (lexemes_of l.source.bytes.now l.rest) ≡ chain (initial_step (initial_at l.source.types.now l.inside)) (length (lexemes_of l.source.bytes.now l.tokens) + 1) [] 0 (lexemes_of l.source.bytes.now l.tokens)
+invariant-initializers-more l = (chain (initial_step (initial_at l.source.types.now l.inside)) l.turns (map item_of l.all) l.d (lexemes_of l.source.bytes.now l.rest) ≡ chain (initial_step (initial_at l.source.types.now l.inside)) (length (lexemes_of l.source.bytes.now l.tokens) + 1) [] 0 (lexemes_of l.source.bytes.now l.tokens)) × (all_right (map (item_right l.source.file) l.all) ≡ true)
 
 abbrev pub decreases-initializers-more : goal.decreases-initializers-more
 decreases-initializers-more l = l.turns

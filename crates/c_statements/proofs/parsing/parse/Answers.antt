@@ -7,7 +7,7 @@ use Rattle.c_statements.proofs.ItemTurns.{lexemes_count}
 use Rattle.c_statements.proofs.parsing.parse.Goals as goal
 
 pub returns-in-Ok : goal.returns-in-Ok
-returns-in-Ok c = (search rules, search rules, tree_read (length c.args.tokens.now.list) _ (map part_of c.in-Ok.items) (tokens_are_whole _ _ (tokens_have_texts _ _ c.requires.tokens)) (search (rules, c.in-Ok.ensures)))
+returns-in-Ok c = (search rules, search rules, tree_read (length c.args.tokens.now.list) _ (map part_of c.in-Ok.items) (tokens_are_whole _ _ (tokens_have_texts _ _ c.requires.tokens)) (search (rules, c.in-Ok.ensures)), search rules)
 
-pub returns-in-Err-NoParse-default : goal.returns-in-Err-NoParse-default
-returns-in-Err-NoParse-default c = (search rules, search rules, no_tree (length c.args.tokens.now.list) _ (lexemes_count _ _) (search (rules, c.in-Err-NoParse-default.ensures)))
+pub returns-in-Err-NoParse : goal.returns-in-Err-NoParse
+returns-in-Err-NoParse c = (search rules, search rules, no_tree (length c.args.tokens.now.list) _ (lexemes_count _ _) (search (rules, c.in-Err-NoParse.ensures)))
