@@ -2,3 +2,5 @@ pub mod ThinTree
 pub mod ThinText
 pub mod ThinScan
 pub mod ThinReading
+pub use Rattle.c_statements.specs.Parsing
+pub use Rattle.c_statements.specs.TreesOfTokens

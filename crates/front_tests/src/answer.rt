@@ -2,7 +2,7 @@
 
 use c_ast::Tree;
 use c_lexer::lex;
-use c_statements::{ParseFault, parse};
+use c_parser::{ParseFault, parse};
 use lay_base::Keyword;
 use std::alloc::Global;
 

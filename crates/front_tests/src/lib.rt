@@ -23,6 +23,8 @@ mod rows;
 #[cfg(test)]
 mod statements;
 #[cfg(test)]
+mod stops;
+#[cfg(test)]
 mod tokens;
 #[cfg(test)]
 mod told;
