@@ -1,7 +1,7 @@
 pub mod Trees
 pub mod Spelling
-pub mod Levels
-pub mod Sizes
+pub mod WellFormed
+pub mod Depths
 pub mod Nodes
 pub mod Places
 pub mod Views

@@ -1,8 +1,8 @@
 -- The tree of a source file as plain data: one alternative for each of the grammar's, with its tokens (C99 6.5 to 6.9).
--- A number named `at`, or after a mark, is the byte at which a keyword or a mark stands.
+-- A number named `at`, or after a punctuator, is the byte at which a keyword or a punctuator stands.
 use Rattle.std.specs.Prelude.{ℕ, List, Option}
 use Rattle.c_types.specs.declared.ty.IntKind.{IntKind}
-use Rattle.c_ast.specs.declared.words.Word.{Word}
+use Rattle.c_ast.specs.declared.words.Spelling.{Spelling}
 use Rattle.c_ast.specs.declared.operators.StepOp.{StepOp}
 use Rattle.c_ast.specs.declared.operators.UnaryOp.{UnaryOp}
 use Rattle.c_ast.specs.declared.operators.BinaryOp.{BinaryOp}
@@ -11,83 +11,83 @@ use Rattle.c_ast.specs.declared.operators.SpecifierWord.{SpecifierWord}
 
 mutual
   -- an expression (6.5)
-  pub data Term : Type 0 where
-    name : (x : Word) → Term
-    number : (x : Word) → (value : ℕ) → (kind : IntKind) → Term
-    character : (x : Word) → (value : ℕ) → Term
-    texts : (all : List Word) → Term
-    paren : (left : ℕ) → (a : Term) → (right : ℕ) → Term
-    index : (a : Term) → (left : ℕ) → (b : Term) → (right : ℕ) → Term
-    call : (f : Term) → (left : ℕ) → (all : Arguments) → (right : ℕ) → Term
-    dot : (a : Term) → (at : ℕ) → (x : Word) → Term
-    arrow : (a : Term) → (at : ℕ) → (x : Word) → Term
-    post : (a : Term) → (op : StepOp) → (at : ℕ) → Term
-    pre : (op : StepOp) → (at : ℕ) → (a : Term) → Term
-    unary : (op : UnaryOp) → (at : ℕ) → (a : Term) → Term
-    sizeof_term : (at : ℕ) → (a : Term) → Term
-    sizeof_form : (at left : ℕ) → (form : Form) → (right : ℕ) → Term
-    cast : (left : ℕ) → (form : Form) → (right : ℕ) → (a : Term) → Term
-    binary : (a : Term) → (op : BinaryOp) → (at : ℕ) → (b : Term) → Term
-    cond : (a : Term) → (question : ℕ) → (b : Term) → (colon : ℕ) → (c : Term) → Term
-    assign : (a : Term) → (op : AssignOp) → (at : ℕ) → (b : Term) → Term
-    comma : (a : Term) → (at : ℕ) → (b : Term) → Term
+  pub data Expression : Type 0 where
+    name : (x : Spelling) → Expression
+    number : (x : Spelling) → (value : ℕ) → (kind : IntKind) → Expression
+    character : (x : Spelling) → (value : ℕ) → Expression
+    texts : (all : List Spelling) → Expression
+    paren : (left : ℕ) → (a : Expression) → (right : ℕ) → Expression
+    index : (a : Expression) → (left : ℕ) → (b : Expression) → (right : ℕ) → Expression
+    call : (f : Expression) → (left : ℕ) → (all : Arguments) → (right : ℕ) → Expression
+    dot : (a : Expression) → (at : ℕ) → (x : Spelling) → Expression
+    arrow : (a : Expression) → (at : ℕ) → (x : Spelling) → Expression
+    post : (a : Expression) → (op : StepOp) → (at : ℕ) → Expression
+    pre : (op : StepOp) → (at : ℕ) → (a : Expression) → Expression
+    unary : (op : UnaryOp) → (at : ℕ) → (a : Expression) → Expression
+    sizeof_expression : (at : ℕ) → (a : Expression) → Expression
+    sizeof_type : (at left : ℕ) → (type_name : TypeName) → (right : ℕ) → Expression
+    cast : (left : ℕ) → (type_name : TypeName) → (right : ℕ) → (a : Expression) → Expression
+    binary : (a : Expression) → (op : BinaryOp) → (at : ℕ) → (b : Expression) → Expression
+    cond : (a : Expression) → (question : ℕ) → (b : Expression) → (colon : ℕ) → (c : Expression) → Expression
+    assign : (a : Expression) → (op : AssignOp) → (at : ℕ) → (b : Expression) → Expression
+    comma : (a : Expression) → (at : ℕ) → (b : Expression) → Expression
     -- an initializer in braces (6.7.8): it stands only where an initializer may
-    braces : (left : ℕ) → (all : Arguments) → (comma : Option ℕ) → (right : ℕ) → Term
+    braces : (left : ℕ) → (all : Arguments) → (comma : Option ℕ) → (right : ℕ) → Expression
 
   -- the arguments of a call, or initializers; each but the first has a comma before it
   pub data Arguments : Type 0 where
     no_arguments : Arguments
-    and_argument : (comma : Option ℕ) → (a : Term) → (more : Arguments) → Arguments
+    and_argument : (comma : Option ℕ) → (a : Expression) → (more : Arguments) → Arguments
 
   -- an expression, or none
-  pub data OptionalTerm : Type 0 where
-    no_term : OptionalTerm
-    some_term : (a : Term) → OptionalTerm
+  pub data OptionalExpression : Type 0 where
+    no_expression : OptionalExpression
+    some_expression : (a : Expression) → OptionalExpression
 
   -- a type name (6.7.6)
-  pub data Form : Type 0 where
-    form : (specs : Specifiers) → (d : Shape) → Form
+  pub data TypeName : Type 0 where
+    type_name : (specs : Specifiers) → (d : Declarator) → TypeName
 
   -- specifiers (6.7.1 to 6.7.3)
   pub data Specifiers : Type 0 where
     no_specifiers : Specifiers
-    and_specifier : (s : Specification) → (more : Specifiers) → Specifiers
+    and_specifier : (s : Specifier) → (more : Specifiers) → Specifiers
 
-  pub data Specification : Type 0 where
-    plain : (word : SpecifierWord) → (at : ℕ) → Specification
-    typename : (x : Word) → Specification
-    struct_named : (at : ℕ) → (x : Word) → Specification
-    struct_body : (at : ℕ) → (x : Option Word) → (left : ℕ) → (lines : Lines) → (right : ℕ) → Specification
-    enum_named : (at : ℕ) → (x : Word) → Specification
-    enum_body : (at : ℕ) → (x : Option Word) → (left : ℕ) → (all : Enumerators) → (comma : Option ℕ) → (right : ℕ) → Specification
+  pub data Specifier : Type 0 where
+    plain : (word : SpecifierWord) → (at : ℕ) → Specifier
+    typename : (x : Spelling) → Specifier
+    struct_named : (at : ℕ) → (x : Spelling) → Specifier
+    struct_body : (at : ℕ) → (x : Option Spelling) → (left : ℕ) → (member_declarations : MemberDeclarations) → (right : ℕ) → Specifier
+    enum_named : (at : ℕ) → (x : Spelling) → Specifier
+    enum_body : (at : ℕ) → (x : Option Spelling) → (left : ℕ) → (all : Enumerators) → (comma : Option ℕ) → (right : ℕ) → Specifier
 
-  -- the lines of fields of a structure (6.7.2.1)
-  pub data Lines : Type 0 where
-    no_lines : Lines
-    and_line : (specs : Specifiers) → (fields : Fields) → (semicolon : ℕ) → (more : Lines) → Lines
+  -- the member declarations of a structure (6.7.2.1)
+  pub data MemberDeclarations : Type 0 where
+    no_member_declarations : MemberDeclarations
+    and_member_declaration : (specs : Specifiers) → (member_declarators : MemberDeclarators) → (semicolon : ℕ) → (more : MemberDeclarations) → MemberDeclarations
 
   -- the declarators of a line; each but the first has a comma before it
-  pub data Fields : Type 0 where
-    no_fields : Fields
-    and_field : (comma : Option ℕ) → (d : Shape) → (more : Fields) → Fields
+  pub data MemberDeclarators : Type 0 where
+    no_member_declarators : MemberDeclarators
+    and_member_declarator : (comma : Option ℕ) → (d : Declarator) → (more : MemberDeclarators) → MemberDeclarators
 
   -- enumerators (6.7.2.2); each but the first has a comma before it
   pub data Enumerators : Type 0 where
     no_enumerators : Enumerators
-    and_enumerator : (comma : Option ℕ) → (x : Word) → (value : EnumeratorConstant) → (more : Enumerators) → Enumerators
+    and_enumerator : (comma : Option ℕ) → (x : Spelling) → (value : EnumeratorValue) → (more : Enumerators) → Enumerators
 
-  pub data EnumeratorConstant : Type 0 where
-    no_constant : EnumeratorConstant
-    constant : (equal : ℕ) → (a : Term) → EnumeratorConstant
+  pub data EnumeratorValue : Type 0 where
+    no_value : EnumeratorValue
+    valued : (equal : ℕ) → (a : Expression) → EnumeratorValue
 
   -- a declarator (6.7.5), or nothing, as in an abstract one (6.7.6)
-  pub data Shape : Type 0 where
-    nothing : Shape
-    named : (x : Word) → Shape
-    pointer : (at : ℕ) → (consts : List ℕ) → (d : Shape) → Shape
-    enclosed : (left : ℕ) → (d : Shape) → (right : ℕ) → Shape
-    array : (d : Shape) → (left : ℕ) → (length : OptionalTerm) → (right : ℕ) → Shape
-    function : (d : Shape) → (left : ℕ) → (all : ParameterList) → (right : ℕ) → Shape
+  pub data Declarator : Type 0 where
+    nothing : Declarator
+    named : (x : Spelling) → Declarator
+    pointer : (at : ℕ) → (consts : List ℕ) → (d : Declarator) → Declarator
+    enclosed : (left : ℕ) → (d : Declarator) → (right : ℕ) → Declarator
+    array : (d : Declarator) → (left : ℕ) → (length : OptionalExpression) → (right : ℕ) → Declarator
+    function : (d : Declarator) → (left : ℕ) → (all : ParameterList) → (right : ℕ) → Declarator
 
   -- what stands in the parentheses of a function's declarator
   pub data ParameterList : Type 0 where
@@ -97,64 +97,64 @@ mutual
   -- each parameter but the first has a comma before it
   pub data Parameters : Type 0 where
     no_parameters : Parameters
-    and_parameter : (comma : Option ℕ) → (specs : Specifiers) → (d : Shape) → (more : Parameters) → Parameters
+    and_parameter : (comma : Option ℕ) → (specs : Specifiers) → (d : Declarator) → (more : Parameters) → Parameters
 
--- a declarator with its initializer (6.7): the byte of "=", and what stands behind it; the comma before it
-pub record Declared : Type 0 where
+-- a declarator with its initializer (6.7): the byte of "=", and what stands after it; the comma before it
+pub record InitDeclarator : Type 0 where
   pub comma : Option ℕ
-  pub shape : Shape
-  pub value : Option (ℕ × Term)
+  pub declarator : Declarator
+  pub value : Option (ℕ × Expression)
 
 -- a declaration (6.7)
-pub record Declares : Type 0 where
+pub record Declaration : Type 0 where
   pub specs : Specifiers
-  pub all : List Declared
+  pub all : List InitDeclarator
   pub semicolon : ℕ
 
 -- a label of a switch (6.8.1)
 pub data Label : Type 0 where
-  case : (at : ℕ) → (a : Term) → (colon : ℕ) → Label
+  case : (at : ℕ) → (a : Expression) → (colon : ℕ) → Label
   default : (at colon : ℕ) → Label
 
 -- what stands first in a for (6.8.5.3)
-pub data Start : Type 0 where
-  starts_with : (a : Option Term) → (semicolon : ℕ) → Start
-  declares : (d : Declares) → Start
+pub data ForStart : Type 0 where
+  starts_with : (a : Option Expression) → (semicolon : ℕ) → ForStart
+  declares : (d : Declaration) → ForStart
 
 mutual
   -- a statement (6.8)
-  pub data Act : Type 0 where
-    block : (left : ℕ) → (items : Entries) → (right : ℕ) → Act
-    evaluate : (a : Option Term) → (semicolon : ℕ) → Act
-    when : (at left : ℕ) → (a : Term) → (right : ℕ) → (one : Act) → Act
-    choose : (at left : ℕ) → (a : Term) → (right : ℕ) → (one : Act) → (else : ℕ) → (other : Act) → Act
-    while : (at left : ℕ) → (a : Term) → (right : ℕ) → (body : Act) → Act
-    do_while : (at : ℕ) → (body : Act) → (while left : ℕ) → (a : Term) → (right semicolon : ℕ) → Act
-    for : (at left : ℕ) → (start : Start) → (test : Option Term) → (semicolon : ℕ) → (step : Option Term) → (right : ℕ) → (body : Act) → Act
-    switch : (at left : ℕ) → (a : Term) → (right begin : ℕ) → (arms : Arms) → (end : ℕ) → Act
-    break : (at semicolon : ℕ) → Act
-    continue : (at semicolon : ℕ) → Act
-    return : (at : ℕ) → (a : Option Term) → (semicolon : ℕ) → Act
+  pub data Statement : Type 0 where
+    block : (left : ℕ) → (items : BlockItems) → (right : ℕ) → Statement
+    evaluate : (a : Option Expression) → (semicolon : ℕ) → Statement
+    when : (at left : ℕ) → (a : Expression) → (right : ℕ) → (one : Statement) → Statement
+    choose : (at left : ℕ) → (a : Expression) → (right : ℕ) → (one : Statement) → (else : ℕ) → (other : Statement) → Statement
+    while : (at left : ℕ) → (a : Expression) → (right : ℕ) → (body : Statement) → Statement
+    do_while : (at : ℕ) → (body : Statement) → (while left : ℕ) → (a : Expression) → (right semicolon : ℕ) → Statement
+    for : (at left : ℕ) → (start : ForStart) → (test : Option Expression) → (semicolon : ℕ) → (step : Option Expression) → (right : ℕ) → (body : Statement) → Statement
+    switch : (at left : ℕ) → (a : Expression) → (right begin : ℕ) → (switch_items : SwitchItems) → (end : ℕ) → Statement
+    break : (at semicolon : ℕ) → Statement
+    continue : (at semicolon : ℕ) → Statement
+    return : (at : ℕ) → (a : Option Expression) → (semicolon : ℕ) → Statement
 
   -- an item of a block (6.8.2)
-  pub data Entry : Type 0 where
-    local : (d : Declares) → Entry
-    act : (a : Act) → Entry
+  pub data BlockItem : Type 0 where
+    local : (d : Declaration) → BlockItem
+    statement : (a : Statement) → BlockItem
 
-  pub data Entries : Type 0 where
-    no_entries : Entries
-    and_entry : (e : Entry) → (more : Entries) → Entries
+  pub data BlockItems : Type 0 where
+    no_block_items : BlockItems
+    and_block_item : (e : BlockItem) → (more : BlockItems) → BlockItems
 
   -- an item of the body of a switch; a declaration there carries no label
-  pub data Arm : Type 0 where
-    local_arm : (d : Declares) → Arm
-    labelled : (labels : List Label) → (a : Act) → Arm
+  pub data SwitchItem : Type 0 where
+    local_switch_item : (d : Declaration) → SwitchItem
+    labelled : (labels : List Label) → (a : Statement) → SwitchItem
 
-  pub data Arms : Type 0 where
-    no_arms : Arms
-    and_arm : (arm : Arm) → (more : Arms) → Arms
+  pub data SwitchItems : Type 0 where
+    no_switch_items : SwitchItems
+    and_switch_item : (switch_item : SwitchItem) → (more : SwitchItems) → SwitchItems
 
 -- an item of a file (6.9)
-pub data Part : Type 0 where
-  defines : (specs : Specifiers) → (d : Shape) → (left : ℕ) → (items : Entries) → (right : ℕ) → Part
-  declaration : (d : Declares) → Part
+pub data Item : Type 0 where
+  defines : (specs : Specifiers) → (d : Declarator) → (left : ℕ) → (items : BlockItems) → (right : ℕ) → Item
+  declaration : (d : Declaration) → Item

@@ -2,23 +2,23 @@
 
 ghost use Rattle.std.specs.Prelude.{◌≡◌, ◌+◌, ◌<◌, ◌^◌, map};
 ghost use Rattle.std.specs.Option.{option_map};
-ghost use Rattle.c_ast.specs.Nodes.{nodes, nodes_arguments, nodes_initializers, nodes_form, nodes_specifiers, nodes_specification, nodes_lines, nodes_fields, nodes_enumerators, nodes_shape, nodes_parameter_list, nodes_parameters, nodes_initializer, nodes_declared, nodes_declaration, nodes_if_any, nodes_labels, nodes_start, nodes_act, nodes_entries, nodes_arms, nodes_part, nodes_parts};
-ghost use Rattle.c_ast.specs.Views.{term_of, item_of, form_of, specification_of, line_of, field_of, enumerator_of, shape_of, parameter_list_of, parameter_of, arguments_of, specifiers_of, lines_of, fields_of, enumerators_of, parameters_of, declared_of, declares_of, label_of, start_of, entries_of, arms_of, act_of, entry_of, arm_of, function_of, part_of};
+ghost use Rattle.c_ast.specs.Nodes.{nodes, nodes_arguments, nodes_initializers, nodes_type_name, nodes_specifiers, nodes_specifier, nodes_member_declarations, nodes_member_declarators, nodes_enumerators, nodes_declarator, nodes_parameter_list, nodes_parameters, nodes_initializer, nodes_init_declarators, nodes_declaration, nodes_if_any, nodes_labels, nodes_for_start, nodes_statement, nodes_block_items, nodes_switch_items, nodes_item, nodes_items};
+ghost use Rattle.c_ast.specs.Views.{expression_of, argument_of, type_name_of, specifier_of, member_declaration_of, member_declarator_of, enumerator_of, declarator_of, parameter_list_of, parameter_of, arguments_of, specifiers_of, member_declarations_of, member_declarators_of, enumerators_of, parameters_of, init_declarator_of, declaration_of, label_of, for_start_of, block_items_of, switch_items_of, statement_of, block_item_of, switch_item_of, function_of, item_of};
 
 use crate::declaration::{Declaration, InitDeclarator};
 use crate::expression::{
-    Declarator, DeclaratorNode, Enumerator, Expression, ExpressionItem, ExpressionNode,
-    FieldDeclarator, FieldLine, Parameter, Parameters, Specifier, SpecifierNode, TypeForm,
+    Declarator, DeclaratorNode, Enumerator, Expression, Argument, ExpressionNode,
+    MemberDeclarator, MemberDeclaration, Parameter, Parameters, Specifier, SpecifierNode, TypeName,
 };
 use crate::sizes::initializer_node;
-use crate::statement::{Arm, BlockItem, ForStart, Label, Statement, StatementNode};
+use crate::statement::{SwitchItem, BlockItem, ForStart, Label, Statement, StatementNode};
 use crate::tree::{Function, Item};
 use lay_base::Boxed;
 
 #[cycle(expression_counts)]
 fn expression_nodes(a: &Expression) -> u64
-    requires { nodes (term_of a.now) < 2 ^ 64 }
-    ensures { result ≡ nodes (term_of a.now) }
+    requires { nodes (expression_of a.now) < 2 ^ 64 }
+    ensures { result ≡ nodes (expression_of a.now) }
 {
     match &a.node {
         ExpressionNode::Name(_)
@@ -31,9 +31,9 @@ fn expression_nodes(a: &Expression) -> u64
         | ExpressionNode::Post(a, _, _)
         | ExpressionNode::Pre(_, _, a)
         | ExpressionNode::Unary(_, _, a)
-        | ExpressionNode::SizeofExpr(_, a) => expression_nodes(a.get()) + 1,
-        ExpressionNode::SizeofForm(_, _, form, _) => form_nodes(form) + 1,
-        ExpressionNode::Cast(_, form, _, a) => { form_nodes(form) + expression_nodes(a.get()) + 1 }
+        | ExpressionNode::SizeofExpression(_, a) => expression_nodes(a.get()) + 1,
+        ExpressionNode::SizeofType(_, _, type_name, _) => type_name_nodes(type_name) + 1,
+        ExpressionNode::Cast(_, type_name, _, a) => { type_name_nodes(type_name) + expression_nodes(a.get()) + 1 }
         ExpressionNode::Index(a, _, b, _)
         | ExpressionNode::Binary(a, _, _, b)
         | ExpressionNode::Assign(a, _, _, b)
@@ -52,9 +52,9 @@ fn expression_nodes(a: &Expression) -> u64
 }
 
 #[cycle(expression_counts)]
-fn arguments_nodes(all: &[ExpressionItem]) -> u64
-    requires { nodes_arguments (arguments_of (map item_of all.now)) < 2 ^ 64 }
-    ensures { result ≡ nodes_arguments (arguments_of (map item_of all.now)) }
+fn arguments_nodes(all: &[Argument]) -> u64
+    requires { nodes_arguments (arguments_of (map argument_of all.now)) < 2 ^ 64 }
+    ensures { result ≡ nodes_arguments (arguments_of (map argument_of all.now)) }
 {
     let mut count = 0;
     for item in all {
@@ -64,9 +64,9 @@ fn arguments_nodes(all: &[ExpressionItem]) -> u64
 }
 
 #[cycle(expression_counts)]
-fn initializers_nodes(all: &[ExpressionItem]) -> u64
-    requires { nodes_initializers (arguments_of (map item_of all.now)) < 2 ^ 64 }
-    ensures { result ≡ nodes_initializers (arguments_of (map item_of all.now)) }
+fn initializers_nodes(all: &[Argument]) -> u64
+    requires { nodes_initializers (arguments_of (map argument_of all.now)) < 2 ^ 64 }
+    ensures { result ≡ nodes_initializers (arguments_of (map argument_of all.now)) }
 {
     let mut count = 0;
     for item in all {
@@ -77,12 +77,12 @@ fn initializers_nodes(all: &[ExpressionItem]) -> u64
 }
 
 #[cycle(expression_counts)]
-fn form_nodes(form: &TypeForm) -> u64
-    requires { nodes_form (form_of form.now) < 2 ^ 64 }
-    ensures { result ≡ nodes_form (form_of form.now) }
+fn type_name_nodes(type_name: &TypeName) -> u64
+    requires { nodes_type_name (type_name_of type_name.now) < 2 ^ 64 }
+    ensures { result ≡ nodes_type_name (type_name_of type_name.now) }
 {
-    let specifiers = specifiers_nodes(form.specifiers.as_slice());
-    match &form.declarator {
+    let specifiers = specifiers_nodes(type_name.specifiers.as_slice());
+    match &type_name.declarator {
         None => specifiers,
         Some(d) => specifiers + declarator_nodes(d.get()),
     }
@@ -90,8 +90,8 @@ fn form_nodes(form: &TypeForm) -> u64
 
 #[cycle(expression_counts)]
 fn specifiers_nodes(all: &[Specifier]) -> u64
-    requires { nodes_specifiers (specifiers_of (map specification_of all.now)) < 2 ^ 64 }
-    ensures { result ≡ nodes_specifiers (specifiers_of (map specification_of all.now)) }
+    requires { nodes_specifiers (specifiers_of (map specifier_of all.now)) < 2 ^ 64 }
+    ensures { result ≡ nodes_specifiers (specifiers_of (map specifier_of all.now)) }
 {
     let mut count = 0;
     for specifier in all {
@@ -102,41 +102,41 @@ fn specifiers_nodes(all: &[Specifier]) -> u64
 
 #[cycle(expression_counts)]
 fn specifier_nodes(specifier: &Specifier) -> u64
-    requires { nodes_specification (specification_of specifier.now) < 2 ^ 64 }
-    ensures { result ≡ nodes_specification (specification_of specifier.now) }
+    requires { nodes_specifier (specifier_of specifier.now) < 2 ^ 64 }
+    ensures { result ≡ nodes_specifier (specifier_of specifier.now) }
 {
     match &specifier.node {
-        SpecifierNode::Word(_, _)
+        SpecifierNode::Spelling(_, _)
         | SpecifierNode::Typename(_)
         | SpecifierNode::Struct(_, _)
         | SpecifierNode::Enum(_, _) => 1,
-        SpecifierNode::StructBody(_, _, _, lines, _) => lines_nodes(lines.as_slice()) + 1,
+        SpecifierNode::StructBody(_, _, _, member_declarations, _) => member_declarations_nodes(member_declarations.as_slice()) + 1,
         SpecifierNode::EnumBody(_, _, _, all, _, _) => enumerators_nodes(all.as_slice()) + 1,
     }
 }
 
 #[cycle(expression_counts)]
-fn lines_nodes(all: &[FieldLine]) -> u64
-    requires { nodes_lines (lines_of (map line_of all.now)) < 2 ^ 64 }
-    ensures { result ≡ nodes_lines (lines_of (map line_of all.now)) }
+fn member_declarations_nodes(all: &[MemberDeclaration]) -> u64
+    requires { nodes_member_declarations (member_declarations_of (map member_declaration_of all.now)) < 2 ^ 64 }
+    ensures { result ≡ nodes_member_declarations (member_declarations_of (map member_declaration_of all.now)) }
 {
     let mut count = 0;
-    for line in all {
-        let specifiers = specifiers_nodes(line.specifiers.as_slice());
-        let fields = fields_nodes(line.declarators.as_slice());
-        count += specifiers + fields + 1;
+    for member_declaration in all {
+        let specifiers = specifiers_nodes(member_declaration.specifiers.as_slice());
+        let member_declarators = member_declarators_nodes(member_declaration.declarators.as_slice());
+        count += specifiers + member_declarators + 1;
     }
     count
 }
 
 #[cycle(expression_counts)]
-fn fields_nodes(all: &[FieldDeclarator]) -> u64
-    requires { nodes_fields (fields_of (map field_of all.now)) < 2 ^ 64 }
-    ensures { result ≡ nodes_fields (fields_of (map field_of all.now)) }
+fn member_declarators_nodes(all: &[MemberDeclarator]) -> u64
+    requires { nodes_member_declarators (member_declarators_of (map member_declarator_of all.now)) < 2 ^ 64 }
+    ensures { result ≡ nodes_member_declarators (member_declarators_of (map member_declarator_of all.now)) }
 {
     let mut count = 0;
-    for field in all {
-        count += declarator_nodes(&field.declarator);
+    for member_declarator in all {
+        count += declarator_nodes(&member_declarator.declarator);
     }
     count
 }
@@ -158,8 +158,8 @@ fn enumerators_nodes(all: &[Enumerator]) -> u64
 
 #[cycle(expression_counts)]
 fn declarator_nodes(d: &Declarator) -> u64
-    requires { nodes_shape (shape_of d.now) < 2 ^ 64 }
-    ensures { result ≡ nodes_shape (shape_of d.now) }
+    requires { nodes_declarator (declarator_of d.now) < 2 ^ 64 }
+    ensures { result ≡ nodes_declarator (declarator_of d.now) }
 {
     match &d.node {
         DeclaratorNode::Identifier(_) => 1,
@@ -221,16 +221,16 @@ fn listed_nodes(all: &[Parameter]) -> u64
 }
 
 fn initializer_nodes(a: &Expression) -> u64
-    requires { nodes_initializer (term_of a.now) < 2 ^ 64 }
-    ensures { result ≡ nodes_initializer (term_of a.now) }
+    requires { nodes_initializer (expression_of a.now) < 2 ^ 64 }
+    ensures { result ≡ nodes_initializer (expression_of a.now) }
 {
     let own = initializer_node(a);
     expression_nodes(a) + u64::from(own)
 }
 
-fn declared_nodes(all: &[InitDeclarator]) -> u64
-    requires { nodes_declared (map declared_of all.now) < 2 ^ 64 }
-    ensures { result ≡ nodes_declared (map declared_of all.now) }
+fn init_declarators_nodes(all: &[InitDeclarator]) -> u64
+    requires { nodes_init_declarators (map init_declarator_of all.now) < 2 ^ 64 }
+    ensures { result ≡ nodes_init_declarators (map init_declarator_of all.now) }
 {
     let mut count = 0;
     for d in all {
@@ -245,16 +245,16 @@ fn declared_nodes(all: &[InitDeclarator]) -> u64
 }
 
 fn declaration_nodes(d: &Declaration) -> u64
-    requires { nodes_declaration (declares_of d.now) < 2 ^ 64 }
-    ensures { result ≡ nodes_declaration (declares_of d.now) }
+    requires { nodes_declaration (declaration_of d.now) < 2 ^ 64 }
+    ensures { result ≡ nodes_declaration (declaration_of d.now) }
 {
     let specifiers = specifiers_nodes(d.specifiers.as_slice());
-    specifiers + declared_nodes(d.declarators.as_slice()) + 1
+    specifiers + init_declarators_nodes(d.declarators.as_slice()) + 1
 }
 
 fn optional_nodes(a: &Option<Boxed<Expression>>) -> u64
-    requires { nodes_if_any (option_map term_of a.now) < 2 ^ 64 }
-    ensures { result ≡ nodes_if_any (option_map term_of a.now) }
+    requires { nodes_if_any (option_map expression_of a.now) < 2 ^ 64 }
+    ensures { result ≡ nodes_if_any (option_map expression_of a.now) }
 {
     match a {
         None => 0,
@@ -277,9 +277,9 @@ fn labels_nodes(all: &[Label]) -> u64
     count
 }
 
-fn start_nodes(start: &ForStart) -> u64
-    requires { nodes_start (start_of start.now) < 2 ^ 64 }
-    ensures { result ≡ nodes_start (start_of start.now) }
+fn for_start_nodes(start: &ForStart) -> u64
+    requires { nodes_for_start (for_start_of start.now) < 2 ^ 64 }
+    ensures { result ≡ nodes_for_start (for_start_of start.now) }
 {
     match start {
         ForStart::Expression(a, _) => optional_nodes(a),
@@ -289,13 +289,13 @@ fn start_nodes(start: &ForStart) -> u64
 
 #[cycle(statement_counts)]
 fn statement_nodes(s: &Statement) -> u64
-    requires { nodes_act (act_of s.now) < 2 ^ 64 }
-    ensures { result ≡ nodes_act (act_of s.now) }
+    requires { nodes_statement (statement_of s.now) < 2 ^ 64 }
+    ensures { result ≡ nodes_statement (statement_of s.now) }
 {
     match &s.node {
         StatementNode::Break(_, _) | StatementNode::Continue(_, _) => 1,
         StatementNode::Expression(a, _) | StatementNode::Return(_, a, _) => optional_nodes(a) + 1,
-        StatementNode::Block(block) => entries_nodes(block.items.as_slice()) + 1,
+        StatementNode::Block(block) => block_items_nodes(block.items.as_slice()) + 1,
         StatementNode::If(_, _, a, _, body)
         | StatementNode::While(_, _, a, _, body)
         | StatementNode::DoWhile(_, body, _, _, a, _, _) => {
@@ -306,24 +306,24 @@ fn statement_nodes(s: &Statement) -> u64
             first + statement_nodes(other.get()) + 1
         }
         StatementNode::For(_, _, start, test, _, step, _, body) => {
-            let head = start_nodes(start) + optional_nodes(test);
+            let head = for_start_nodes(start) + optional_nodes(test);
             let head = head + optional_nodes(step);
             head + statement_nodes(body.get()) + 1
         }
-        StatementNode::Switch(_, _, a, _, _, arms, _) => {
-            expression_nodes(a.get()) + arms_nodes(arms.as_slice()) + 1
+        StatementNode::Switch(_, _, a, _, _, switch_items, _) => {
+            expression_nodes(a.get()) + switch_items_nodes(switch_items.as_slice()) + 1
         }
     }
 }
 
 #[cycle(statement_counts)]
-fn entries_nodes(all: &[BlockItem]) -> u64
-    requires { nodes_entries (entries_of (map entry_of all.now)) < 2 ^ 64 }
-    ensures { result ≡ nodes_entries (entries_of (map entry_of all.now)) }
+fn block_items_nodes(all: &[BlockItem]) -> u64
+    requires { nodes_block_items (block_items_of (map block_item_of all.now)) < 2 ^ 64 }
+    ensures { result ≡ nodes_block_items (block_items_of (map block_item_of all.now)) }
 {
     let mut count = 0;
-    for entry in all {
-        let within = match entry {
+    for block_item in all {
+        let within = match block_item {
             BlockItem::Declaration(d) => declaration_nodes(d),
             BlockItem::Statement(s) => statement_nodes(s),
         };
@@ -333,15 +333,15 @@ fn entries_nodes(all: &[BlockItem]) -> u64
 }
 
 #[cycle(statement_counts)]
-fn arms_nodes(all: &[Arm]) -> u64
-    requires { nodes_arms (arms_of (map arm_of all.now)) < 2 ^ 64 }
-    ensures { result ≡ nodes_arms (arms_of (map arm_of all.now)) }
+fn switch_items_nodes(all: &[SwitchItem]) -> u64
+    requires { nodes_switch_items (switch_items_of (map switch_item_of all.now)) < 2 ^ 64 }
+    ensures { result ≡ nodes_switch_items (switch_items_of (map switch_item_of all.now)) }
 {
     let mut count = 0;
-    for arm in all {
-        let within = match arm {
-            Arm::Local(d) => declaration_nodes(d),
-            Arm::Labelled(labels, s) => labels_nodes(labels.as_slice()) + statement_nodes(s),
+    for switch_item in all {
+        let within = match switch_item {
+            SwitchItem::Local(d) => declaration_nodes(d),
+            SwitchItem::Labelled(labels, s) => labels_nodes(labels.as_slice()) + statement_nodes(s),
         };
         count += within;
     }
@@ -349,17 +349,17 @@ fn arms_nodes(all: &[Arm]) -> u64
 }
 
 fn function_nodes(f: &Function) -> u64
-    requires { nodes_part (function_of f.now) < 2 ^ 64 }
-    ensures { result ≡ nodes_part (function_of f.now) }
+    requires { nodes_item (function_of f.now) < 2 ^ 64 }
+    ensures { result ≡ nodes_item (function_of f.now) }
 {
     let specifiers = specifiers_nodes(f.specifiers.as_slice());
     let head = specifiers + declarator_nodes(&f.declarator);
-    head + entries_nodes(f.body.items.as_slice()) + 2
+    head + block_items_nodes(f.body.items.as_slice()) + 2
 }
 
 pub fn items_nodes(all: &[Item]) -> u64
-    requires { nodes_parts (map part_of all.now) < 2 ^ 64 }
-    ensures { result ≡ nodes_parts (map part_of all.now) }
+    requires { nodes_items (map item_of all.now) < 2 ^ 64 }
+    ensures { result ≡ nodes_items (map item_of all.now) }
 {
     let mut count = 0;
     for item in all {

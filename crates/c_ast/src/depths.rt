@@ -2,23 +2,23 @@
 
 ghost use Rattle.std.specs.Prelude.{◌≡◌, ◌+◌, ◌<◌, ◌^◌, map};
 ghost use Rattle.std.specs.Option.{option_map};
-ghost use Rattle.c_ast.specs.Sizes.{depth, depth_arguments, depth_initializers, depth_form, depth_specifiers, depth_specification, depth_lines, depth_fields, depth_enumerators, depth_shape, depth_parameter_list, depth_parameters, depth_initializer, depth_declared, depth_declaration, depth_if_any, depth_labels, depth_start, depth_act, depth_entries, depth_arms, depth_part, depth_parts};
-ghost use Rattle.c_ast.specs.Views.{term_of, item_of, form_of, specification_of, line_of, field_of, enumerator_of, shape_of, parameter_list_of, parameter_of, arguments_of, specifiers_of, lines_of, fields_of, enumerators_of, parameters_of, declared_of, declares_of, label_of, start_of, entries_of, arms_of, act_of, entry_of, arm_of, function_of, part_of};
+ghost use Rattle.c_ast.specs.Depths.{depth, depth_arguments, depth_initializers, depth_type_name, depth_specifiers, depth_specifier, depth_member_declarations, depth_member_declarators, depth_enumerators, depth_declarator, depth_parameter_list, depth_parameters, depth_initializer, depth_init_declarators, depth_declaration, depth_if_any, depth_labels, depth_for_start, depth_statement, depth_block_items, depth_switch_items, depth_item, depth_items};
+ghost use Rattle.c_ast.specs.Views.{expression_of, argument_of, type_name_of, specifier_of, member_declaration_of, member_declarator_of, enumerator_of, declarator_of, parameter_list_of, parameter_of, arguments_of, specifiers_of, member_declarations_of, member_declarators_of, enumerators_of, parameters_of, init_declarator_of, declaration_of, label_of, for_start_of, block_items_of, switch_items_of, statement_of, block_item_of, switch_item_of, function_of, item_of};
 
 use crate::declaration::{Declaration, InitDeclarator};
 use crate::expression::{
-    Declarator, DeclaratorNode, Enumerator, Expression, ExpressionItem, ExpressionNode,
-    FieldDeclarator, FieldLine, Parameter, Parameters, Specifier, SpecifierNode, TypeForm,
+    Declarator, DeclaratorNode, Enumerator, Expression, Argument, ExpressionNode,
+    MemberDeclarator, MemberDeclaration, Parameter, Parameters, Specifier, SpecifierNode, TypeName,
 };
 use crate::sizes::initializer_node;
-use crate::statement::{Arm, BlockItem, ForStart, Label, Statement, StatementNode};
+use crate::statement::{SwitchItem, BlockItem, ForStart, Label, Statement, StatementNode};
 use crate::tree::{Function, Item};
 use lay_base::Boxed;
 
 #[cycle(expression_depths)]
 fn expression_depth(a: &Expression) -> u32
-    requires { depth (term_of a.now) < 2 ^ 32 }
-    ensures { result ≡ depth (term_of a.now) }
+    requires { depth (expression_of a.now) < 2 ^ 32 }
+    ensures { result ≡ depth (expression_of a.now) }
 {
     match &a.node {
         ExpressionNode::Name(_)
@@ -31,10 +31,10 @@ fn expression_depth(a: &Expression) -> u32
         | ExpressionNode::Post(a, _, _)
         | ExpressionNode::Pre(_, _, a)
         | ExpressionNode::Unary(_, _, a)
-        | ExpressionNode::SizeofExpr(_, a) => expression_depth(a.get()) + 1,
-        ExpressionNode::SizeofForm(_, _, form, _) => form_depth(form) + 1,
-        ExpressionNode::Cast(_, form, _, a) => {
-            form_depth(form).max(expression_depth(a.get())) + 1
+        | ExpressionNode::SizeofExpression(_, a) => expression_depth(a.get()) + 1,
+        ExpressionNode::SizeofType(_, _, type_name, _) => type_name_depth(type_name) + 1,
+        ExpressionNode::Cast(_, type_name, _, a) => {
+            type_name_depth(type_name).max(expression_depth(a.get())) + 1
         }
         ExpressionNode::Index(a, _, b, _)
         | ExpressionNode::Binary(a, _, _, b)
@@ -54,9 +54,9 @@ fn expression_depth(a: &Expression) -> u32
 }
 
 #[cycle(expression_depths)]
-fn arguments_depth(all: &[ExpressionItem]) -> u32
-    requires { depth_arguments (arguments_of (map item_of all.now)) < 2 ^ 32 }
-    ensures { result ≡ depth_arguments (arguments_of (map item_of all.now)) }
+fn arguments_depth(all: &[Argument]) -> u32
+    requires { depth_arguments (arguments_of (map argument_of all.now)) < 2 ^ 32 }
+    ensures { result ≡ depth_arguments (arguments_of (map argument_of all.now)) }
 {
     let mut most = 0;
     for item in all {
@@ -66,9 +66,9 @@ fn arguments_depth(all: &[ExpressionItem]) -> u32
 }
 
 #[cycle(expression_depths)]
-fn initializers_depth(all: &[ExpressionItem]) -> u32
-    requires { depth_initializers (arguments_of (map item_of all.now)) < 2 ^ 32 }
-    ensures { result ≡ depth_initializers (arguments_of (map item_of all.now)) }
+fn initializers_depth(all: &[Argument]) -> u32
+    requires { depth_initializers (arguments_of (map argument_of all.now)) < 2 ^ 32 }
+    ensures { result ≡ depth_initializers (arguments_of (map argument_of all.now)) }
 {
     let mut most = 0;
     for item in all {
@@ -79,12 +79,12 @@ fn initializers_depth(all: &[ExpressionItem]) -> u32
 }
 
 #[cycle(expression_depths)]
-fn form_depth(form: &TypeForm) -> u32
-    requires { depth_form (form_of form.now) < 2 ^ 32 }
-    ensures { result ≡ depth_form (form_of form.now) }
+fn type_name_depth(type_name: &TypeName) -> u32
+    requires { depth_type_name (type_name_of type_name.now) < 2 ^ 32 }
+    ensures { result ≡ depth_type_name (type_name_of type_name.now) }
 {
-    let most = specifiers_depth(form.specifiers.as_slice());
-    match &form.declarator {
+    let most = specifiers_depth(type_name.specifiers.as_slice());
+    match &type_name.declarator {
         None => most,
         Some(d) => most.max(declarator_depth(d.get())),
     }
@@ -92,8 +92,8 @@ fn form_depth(form: &TypeForm) -> u32
 
 #[cycle(expression_depths)]
 fn specifiers_depth(all: &[Specifier]) -> u32
-    requires { depth_specifiers (specifiers_of (map specification_of all.now)) < 2 ^ 32 }
-    ensures { result ≡ depth_specifiers (specifiers_of (map specification_of all.now)) }
+    requires { depth_specifiers (specifiers_of (map specifier_of all.now)) < 2 ^ 32 }
+    ensures { result ≡ depth_specifiers (specifiers_of (map specifier_of all.now)) }
 {
     let mut most = 0;
     for specifier in all {
@@ -104,41 +104,41 @@ fn specifiers_depth(all: &[Specifier]) -> u32
 
 #[cycle(expression_depths)]
 fn specifier_depth(specifier: &Specifier) -> u32
-    requires { depth_specification (specification_of specifier.now) < 2 ^ 32 }
-    ensures { result ≡ depth_specification (specification_of specifier.now) }
+    requires { depth_specifier (specifier_of specifier.now) < 2 ^ 32 }
+    ensures { result ≡ depth_specifier (specifier_of specifier.now) }
 {
     match &specifier.node {
-        SpecifierNode::Word(_, _)
+        SpecifierNode::Spelling(_, _)
         | SpecifierNode::Typename(_)
         | SpecifierNode::Struct(_, _)
         | SpecifierNode::Enum(_, _) => 1,
-        SpecifierNode::StructBody(_, _, _, lines, _) => lines_depth(lines.as_slice()) + 1,
+        SpecifierNode::StructBody(_, _, _, member_declarations, _) => member_declarations_depth(member_declarations.as_slice()) + 1,
         SpecifierNode::EnumBody(_, _, _, all, _, _) => enumerators_depth(all.as_slice()) + 1,
     }
 }
 
 #[cycle(expression_depths)]
-fn lines_depth(all: &[FieldLine]) -> u32
-    requires { depth_lines (lines_of (map line_of all.now)) < 2 ^ 32 }
-    ensures { result ≡ depth_lines (lines_of (map line_of all.now)) }
+fn member_declarations_depth(all: &[MemberDeclaration]) -> u32
+    requires { depth_member_declarations (member_declarations_of (map member_declaration_of all.now)) < 2 ^ 32 }
+    ensures { result ≡ depth_member_declarations (member_declarations_of (map member_declaration_of all.now)) }
 {
     let mut most = 0;
-    for line in all {
-        let specifiers = specifiers_depth(line.specifiers.as_slice());
-        let fields = fields_depth(line.declarators.as_slice());
-        most = most.max(specifiers.max(fields) + 1);
+    for member_declaration in all {
+        let specifiers = specifiers_depth(member_declaration.specifiers.as_slice());
+        let member_declarators = member_declarators_depth(member_declaration.declarators.as_slice());
+        most = most.max(specifiers.max(member_declarators) + 1);
     }
     most
 }
 
 #[cycle(expression_depths)]
-fn fields_depth(all: &[FieldDeclarator]) -> u32
-    requires { depth_fields (fields_of (map field_of all.now)) < 2 ^ 32 }
-    ensures { result ≡ depth_fields (fields_of (map field_of all.now)) }
+fn member_declarators_depth(all: &[MemberDeclarator]) -> u32
+    requires { depth_member_declarators (member_declarators_of (map member_declarator_of all.now)) < 2 ^ 32 }
+    ensures { result ≡ depth_member_declarators (member_declarators_of (map member_declarator_of all.now)) }
 {
     let mut most = 0;
-    for field in all {
-        most = most.max(declarator_depth(&field.declarator));
+    for member_declarator in all {
+        most = most.max(declarator_depth(&member_declarator.declarator));
     }
     most
 }
@@ -160,8 +160,8 @@ fn enumerators_depth(all: &[Enumerator]) -> u32
 
 #[cycle(expression_depths)]
 fn declarator_depth(d: &Declarator) -> u32
-    requires { depth_shape (shape_of d.now) < 2 ^ 32 }
-    ensures { result ≡ depth_shape (shape_of d.now) }
+    requires { depth_declarator (declarator_of d.now) < 2 ^ 32 }
+    ensures { result ≡ depth_declarator (declarator_of d.now) }
 {
     match &d.node {
         DeclaratorNode::Identifier(_) => 1,
@@ -223,16 +223,16 @@ fn listed_depth(all: &[Parameter]) -> u32
 }
 
 fn initializer_depth(a: &Expression) -> u32
-    requires { depth_initializer (term_of a.now) < 2 ^ 32 }
-    ensures { result ≡ depth_initializer (term_of a.now) }
+    requires { depth_initializer (expression_of a.now) < 2 ^ 32 }
+    ensures { result ≡ depth_initializer (expression_of a.now) }
 {
     let own = initializer_node(a);
     expression_depth(a) + own
 }
 
-fn declared_depth(all: &[InitDeclarator]) -> u32
-    requires { depth_declared (map declared_of all.now) < 2 ^ 32 }
-    ensures { result ≡ depth_declared (map declared_of all.now) }
+fn init_declarators_depth(all: &[InitDeclarator]) -> u32
+    requires { depth_init_declarators (map init_declarator_of all.now) < 2 ^ 32 }
+    ensures { result ≡ depth_init_declarators (map init_declarator_of all.now) }
 {
     let mut most = 0;
     for d in all {
@@ -247,16 +247,16 @@ fn declared_depth(all: &[InitDeclarator]) -> u32
 }
 
 fn declaration_depth(d: &Declaration) -> u32
-    requires { depth_declaration (declares_of d.now) < 2 ^ 32 }
-    ensures { result ≡ depth_declaration (declares_of d.now) }
+    requires { depth_declaration (declaration_of d.now) < 2 ^ 32 }
+    ensures { result ≡ depth_declaration (declaration_of d.now) }
 {
     let specifiers = specifiers_depth(d.specifiers.as_slice());
-    specifiers.max(declared_depth(d.declarators.as_slice())) + 1
+    specifiers.max(init_declarators_depth(d.declarators.as_slice())) + 1
 }
 
 fn optional_depth(a: &Option<Boxed<Expression>>) -> u32
-    requires { depth_if_any (option_map term_of a.now) < 2 ^ 32 }
-    ensures { result ≡ depth_if_any (option_map term_of a.now) }
+    requires { depth_if_any (option_map expression_of a.now) < 2 ^ 32 }
+    ensures { result ≡ depth_if_any (option_map expression_of a.now) }
 {
     match a {
         None => 0,
@@ -279,9 +279,9 @@ fn labels_depth(all: &[Label]) -> u32
     most
 }
 
-fn start_depth(start: &ForStart) -> u32
-    requires { depth_start (start_of start.now) < 2 ^ 32 }
-    ensures { result ≡ depth_start (start_of start.now) }
+fn for_start_depth(start: &ForStart) -> u32
+    requires { depth_for_start (for_start_of start.now) < 2 ^ 32 }
+    ensures { result ≡ depth_for_start (for_start_of start.now) }
 {
     match start {
         ForStart::Expression(a, _) => optional_depth(a),
@@ -291,13 +291,13 @@ fn start_depth(start: &ForStart) -> u32
 
 #[cycle(statement_depths)]
 fn statement_depth(s: &Statement) -> u32
-    requires { depth_act (act_of s.now) < 2 ^ 32 }
-    ensures { result ≡ depth_act (act_of s.now) }
+    requires { depth_statement (statement_of s.now) < 2 ^ 32 }
+    ensures { result ≡ depth_statement (statement_of s.now) }
 {
     match &s.node {
         StatementNode::Break(_, _) | StatementNode::Continue(_, _) => 1,
         StatementNode::Expression(a, _) | StatementNode::Return(_, a, _) => optional_depth(a) + 1,
-        StatementNode::Block(block) => entries_depth(block.items.as_slice()) + 1,
+        StatementNode::Block(block) => block_items_depth(block.items.as_slice()) + 1,
         StatementNode::If(_, _, a, _, body)
         | StatementNode::While(_, _, a, _, body)
         | StatementNode::DoWhile(_, body, _, _, a, _, _) => {
@@ -308,24 +308,24 @@ fn statement_depth(s: &Statement) -> u32
             first.max(statement_depth(other.get())) + 1
         }
         StatementNode::For(_, _, start, test, _, step, _, body) => {
-            let head = start_depth(start).max(optional_depth(test));
+            let head = for_start_depth(start).max(optional_depth(test));
             let head = head.max(optional_depth(step));
             head.max(statement_depth(body.get())) + 1
         }
-        StatementNode::Switch(_, _, a, _, _, arms, _) => {
-            expression_depth(a.get()).max(arms_depth(arms.as_slice())) + 1
+        StatementNode::Switch(_, _, a, _, _, switch_items, _) => {
+            expression_depth(a.get()).max(switch_items_depth(switch_items.as_slice())) + 1
         }
     }
 }
 
 #[cycle(statement_depths)]
-fn entries_depth(all: &[BlockItem]) -> u32
-    requires { depth_entries (entries_of (map entry_of all.now)) < 2 ^ 32 }
-    ensures { result ≡ depth_entries (entries_of (map entry_of all.now)) }
+fn block_items_depth(all: &[BlockItem]) -> u32
+    requires { depth_block_items (block_items_of (map block_item_of all.now)) < 2 ^ 32 }
+    ensures { result ≡ depth_block_items (block_items_of (map block_item_of all.now)) }
 {
     let mut most = 0;
-    for entry in all {
-        let within = match entry {
+    for block_item in all {
+        let within = match block_item {
             BlockItem::Declaration(d) => declaration_depth(d),
             BlockItem::Statement(s) => statement_depth(s),
         };
@@ -335,15 +335,15 @@ fn entries_depth(all: &[BlockItem]) -> u32
 }
 
 #[cycle(statement_depths)]
-fn arms_depth(all: &[Arm]) -> u32
-    requires { depth_arms (arms_of (map arm_of all.now)) < 2 ^ 32 }
-    ensures { result ≡ depth_arms (arms_of (map arm_of all.now)) }
+fn switch_items_depth(all: &[SwitchItem]) -> u32
+    requires { depth_switch_items (switch_items_of (map switch_item_of all.now)) < 2 ^ 32 }
+    ensures { result ≡ depth_switch_items (switch_items_of (map switch_item_of all.now)) }
 {
     let mut most = 0;
-    for arm in all {
-        let within = match arm {
-            Arm::Local(d) => declaration_depth(d),
-            Arm::Labelled(labels, s) => labels_depth(labels.as_slice()).max(statement_depth(s)),
+    for switch_item in all {
+        let within = match switch_item {
+            SwitchItem::Local(d) => declaration_depth(d),
+            SwitchItem::Labelled(labels, s) => labels_depth(labels.as_slice()).max(statement_depth(s)),
         };
         most = most.max(within);
     }
@@ -351,17 +351,17 @@ fn arms_depth(all: &[Arm]) -> u32
 }
 
 fn function_depth(f: &Function) -> u32
-    requires { depth_part (function_of f.now) < 2 ^ 32 }
-    ensures { result ≡ depth_part (function_of f.now) }
+    requires { depth_item (function_of f.now) < 2 ^ 32 }
+    ensures { result ≡ depth_item (function_of f.now) }
 {
     let specifiers = specifiers_depth(f.specifiers.as_slice());
     let head = specifiers.max(declarator_depth(&f.declarator));
-    head.max(entries_depth(f.body.items.as_slice()) + 1) + 1
+    head.max(block_items_depth(f.body.items.as_slice()) + 1) + 1
 }
 
 pub fn items_depth(all: &[Item]) -> u32
-    requires { depth_parts (map part_of all.now) < 2 ^ 32 }
-    ensures { result ≡ depth_parts (map part_of all.now) }
+    requires { depth_items (map item_of all.now) < 2 ^ 32 }
+    ensures { result ≡ depth_items (map item_of all.now) }
 {
     let mut most = 0;
     for item in all {

@@ -2,7 +2,7 @@
 //! and declarators (6.7.5).
 
 use crate::operators::{AssignOp, BinaryOp, SpecifierWord, StepOp, UnaryOp};
-use crate::words::{At, Word};
+use crate::words::{At, Spelling};
 use c_types::IntKind;
 use lay_base::{Boxed, List, Place};
 
@@ -17,34 +17,34 @@ pub struct Expression {
 #[cycle(expression)]
 #[derive(Drop)]
 pub enum ExpressionNode {
-    Name(Word),
+    Name(Spelling),
     /// An integer constant with its value and type.
-    Number(Word, u32, IntKind),
+    Number(Spelling, u32, IntKind),
     /// A character constant with its value.
-    Character(Word, u32),
+    Character(Spelling, u32),
     /// String literals, of which there is at least one.
-    Texts(List<Word>),
+    Texts(List<Spelling>),
     /// `(` expression `)`
     Paren(At, Boxed<Expression>, At),
     /// expression `[` expression `]`
     Index(Boxed<Expression>, At, Boxed<Expression>, At),
     /// expression `(` arguments `)`
-    Call(Boxed<Expression>, At, List<ExpressionItem>, At),
+    Call(Boxed<Expression>, At, List<Argument>, At),
     /// expression `.` name
-    Dot(Boxed<Expression>, At, Word),
+    Dot(Boxed<Expression>, At, Spelling),
     /// expression `->` name
-    Arrow(Boxed<Expression>, At, Word),
+    Arrow(Boxed<Expression>, At, Spelling),
     /// expression `++` or `--`
     Post(Boxed<Expression>, StepOp, At),
     /// `++` or `--` expression
     Pre(StepOp, At, Boxed<Expression>),
     Unary(UnaryOp, At, Boxed<Expression>),
     /// `sizeof` expression
-    SizeofExpr(At, Boxed<Expression>),
+    SizeofExpression(At, Boxed<Expression>),
     /// `sizeof` `(` type name `)`
-    SizeofForm(At, At, TypeForm, At),
+    SizeofType(At, At, TypeName, At),
     /// `(` type name `)` expression
-    Cast(At, TypeForm, At, Boxed<Expression>),
+    Cast(At, TypeName, At, Boxed<Expression>),
     Binary(Boxed<Expression>, BinaryOp, At, Boxed<Expression>),
     /// expression `?` expression `:` expression
     Cond(Boxed<Expression>, At, Boxed<Expression>, At, Boxed<Expression>),
@@ -53,14 +53,14 @@ pub enum ExpressionNode {
     Comma(Boxed<Expression>, At, Boxed<Expression>),
     /// `{` initializers, and a last comma or none `}`. It stands only where an initializer may
     /// (C99 6.7.8).
-    Braces(At, List<ExpressionItem>, Option<At>, At),
+    Braces(At, List<Argument>, Option<At>, At),
 }
 
 /// An argument of a call or an initializer in braces, with the comma before it where it is not the
 /// first.
 #[cycle(expression)]
 #[derive(Drop)]
-pub struct ExpressionItem {
+pub struct Argument {
     pub comma: Option<At>,
     pub value: Expression,
 }
@@ -68,7 +68,7 @@ pub struct ExpressionItem {
 /// A type name: specifiers, and an abstract declarator or none (C99 6.7.6).
 #[cycle(expression)]
 #[derive(Drop)]
-pub struct TypeForm {
+pub struct TypeName {
     pub specifiers: List<Specifier>,
     pub declarator: Option<Boxed<Declarator>>,
 }
@@ -83,33 +83,33 @@ pub struct Specifier {
 #[cycle(expression)]
 #[derive(Drop)]
 pub enum SpecifierNode {
-    Word(SpecifierWord, At),
+    Spelling(SpecifierWord, At),
     /// A name that an earlier `typedef` of the file declared.
-    Typename(Word),
+    Typename(Spelling),
     /// `struct` name
-    Struct(At, Word),
-    /// `struct` name or none `{` field lines `}`
-    StructBody(At, Option<Word>, At, List<FieldLine>, At),
+    Struct(At, Spelling),
+    /// `struct` name or none `{` member declarations `}`
+    StructBody(At, Option<Spelling>, At, List<MemberDeclaration>, At),
     /// `enum` name
-    Enum(At, Word),
+    Enum(At, Spelling),
     /// `enum` name or none `{` enumerators, and a last comma or none `}`
-    EnumBody(At, Option<Word>, At, List<Enumerator>, Option<At>, At),
+    EnumBody(At, Option<Spelling>, At, List<Enumerator>, Option<At>, At),
 }
 
 /// Specifiers and declarators of fields, and `;` (C99 6.7.2.1).
 #[cycle(expression)]
 #[derive(Drop)]
-pub struct FieldLine {
+pub struct MemberDeclaration {
     pub place: Place,
     pub specifiers: List<Specifier>,
-    pub declarators: List<FieldDeclarator>,
+    pub declarators: List<MemberDeclarator>,
     pub semicolon: At,
 }
 
 /// A declarator of a field, with the comma before it where it is not the first of its line.
 #[cycle(expression)]
 #[derive(Drop)]
-pub struct FieldDeclarator {
+pub struct MemberDeclarator {
     pub comma: Option<At>,
     pub declarator: Declarator,
 }
@@ -121,7 +121,7 @@ pub struct FieldDeclarator {
 pub struct Enumerator {
     pub place: Place,
     pub comma: Option<At>,
-    pub name: Word,
+    pub name: Spelling,
     pub value: Option<EnumeratorValue>,
 }
 
@@ -146,7 +146,7 @@ pub struct Declarator {
 #[cycle(expression)]
 #[derive(Drop)]
 pub enum DeclaratorNode {
-    Identifier(Word),
+    Identifier(Spelling),
     /// `*`, any number of `const`, and a declarator
     Pointer(At, List<At>, Option<Boxed<Declarator>>),
     /// `(` declarator `)`

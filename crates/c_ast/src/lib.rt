@@ -13,12 +13,12 @@ mod words;
 
 pub use declaration::{Declaration, InitDeclarator, InitialValue};
 pub use expression::{
-    Declarator, DeclaratorNode, Enumerator, EnumeratorValue, Expression, ExpressionItem,
-    ExpressionNode, FieldDeclarator, FieldLine, Parameter, Parameters, Specifier, SpecifierNode,
-    TypeForm,
+    Declarator, DeclaratorNode, Enumerator, EnumeratorValue, Expression, Argument,
+    ExpressionNode, MemberDeclarator, MemberDeclaration, Parameter, Parameters, Specifier, SpecifierNode,
+    TypeName,
 };
 pub use operators::{AssignOp, BinaryOp, SpecifierWord, StepOp, UnaryOp};
 pub use sizes::{depth, nodes};
-pub use statement::{Arm, Block, BlockItem, ForStart, Label, Statement, StatementNode};
+pub use statement::{SwitchItem, Block, BlockItem, ForStart, Label, Statement, StatementNode};
 pub use tree::{Function, Item, Tree};
-pub use words::{At, Word};
+pub use words::{At, Spelling};

@@ -39,7 +39,7 @@ pub enum StatementNode {
         Boxed<Statement>,
     ),
     /// `switch` `(` expression `)` `{` arms `}`
-    Switch(At, At, Boxed<Expression>, At, At, List<Arm>, At),
+    Switch(At, At, Boxed<Expression>, At, At, List<SwitchItem>, At),
     /// `break` `;`
     Break(At, At),
     /// `continue` `;`
@@ -75,7 +75,7 @@ pub enum ForStart {
 /// An item of a switch's body: a declaration, or a statement with the labels before it.
 #[cycle(statement)]
 #[derive(Drop)]
-pub enum Arm {
+pub enum SwitchItem {
     Local(Declaration),
     Labelled(List<Label>, Statement),
 }

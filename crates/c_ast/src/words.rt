@@ -8,7 +8,7 @@ pub type At = u32;
 
 /// A name, or a literal: the bytes from `from` up to `to` of the file, and what they are.
 #[derive(Debug, Drop)]
-pub struct Word {
+pub struct Spelling {
     pub from: u32,
     pub to: u32,
     pub text: Name,

@@ -63,17 +63,17 @@ module _ {A : Type 0} (l : Listing A) (n : ℕ) where
     added : (a : A) → r.0 ≡ done ++ a ∷ [] → r.1 ≡ max d (l.depth_one a) → tokens ≡ l.spelled_one a r.2 → l.IsOne (is_first done) a → l.depth_one a ≤ n → AreWhole r.2 → Grown done d tokens r
     ended : r.0 ≡ done → r.1 ≡ d → r.2 ≡ tokens → Grown done d tokens r
 
-  -- what is so far a list behind `start`, the depth before it
+  -- what is so far a list after `start`, the depth before it
   record SoFar (all : List Lexeme) (start : ℕ) (done : List A) (d : ℕ) (tokens : List Lexeme) : Type 0 where
     pub spelled_so : (last : List A) (tail : List Lexeme) → tokens ≡ l.spelled_all last tail → all ≡ l.spelled_all (done ++ last) tail
-    pub levelled : (last : List A) → l.AreAll (is_first done) last → l.AreAll true (done ++ last)
+    pub well_formed : (last : List A) → l.AreAll (is_first done) last → l.AreAll true (done ++ last)
     pub deep : (last : List A) → max d (l.depth_all last) ≡ max start (l.depth_all (done ++ last))
     pub within : d ≤ n
     pub whole : AreWhole tokens
 
   pub record Listed (End : List A → List Lexeme → Type 0) (all : List Lexeme) (start : ℕ) (y : List A × ℕ × List Lexeme) : Type 0 where
     pub spelled_so : all ≡ l.spelled_all y.0 y.2
-    pub levelled : l.AreAll true y.0
+    pub well_formed : l.AreAll true y.0
     pub deep : y.1 ≡ max start (l.depth_all y.0)
     pub within : y.1 ≤ n
     pub whole : AreWhole y.2
@@ -82,7 +82,7 @@ module _ {A : Type 0} (l : Listing A) (n : ℕ) where
   keeps : (all : List Lexeme) (start : ℕ) (done : List A) (d : ℕ) (tokens : List Lexeme) (r : List A × ℕ × List Lexeme × Bool) → SoFar all start done d tokens → Grown done d tokens r → SoFar all start r.0 r.1 r.2
   keeps all start done d tokens r p (added a is deep spelled_so one le whole) = record {
     spelled_so = λ last tail e. rw (is, append_assoc done (a ∷ []) last) (p.spelled_so (a ∷ last) tail (spelled_so ∙ ap (λ z. l.spelled_one a z) e ∙ sym (l.spelled_more a last tail)));
-    levelled = λ last w. rw (is, append_assoc done (a ∷ []) last) (p.levelled (a ∷ last) (l.are_more (is_first done) a last one (subst (λ b. l.AreAll b last) (ap is_first is ∙ first_no_more done a) w)));
+    well_formed = λ last w. rw (is, append_assoc done (a ∷ []) last) (p.well_formed (a ∷ last) (l.are_more (is_first done) a last one (subst (λ b. l.AreAll b last) (ap is_first is ∙ first_no_more done a) w)));
     deep = λ last. rw (is, append_assoc done (a ∷ []) last) (let f = p.deep (a ∷ last) in let e = l.depth_more a last in omega (arith, f, e, deep));
     within = omega (arith, p.within);
     whole = whole;
@@ -92,7 +92,7 @@ module _ {A : Type 0} (l : Listing A) (n : ℕ) where
   ends : (End : List A → List Lexeme → Type 0) (all : List Lexeme) (start : ℕ) (y : List A × ℕ × List Lexeme) → SoFar all start y.0 y.1 y.2 → End y.0 y.2 → Listed End all start y
   ends End all start y p e = record {
     spelled_so = let q = p.spelled_so [] y.2 (sym (l.spelled_none y.2)) in q ∙ ap (λ z. l.spelled_all z y.2) (append-nil y.0);
-    levelled = subst (λ z. l.AreAll true z) (append-nil y.0) (p.levelled [] (l.are_none (is_first y.0)));
+    well_formed = subst (λ z. l.AreAll true z) (append-nil y.0) (p.well_formed [] (l.are_none (is_first y.0)));
     deep = let f = p.deep [] in let e = l.depth_none in let g = ap (λ z. l.depth_all z) (append-nil y.0) in omega (arith, f, e, g);
     within = p.within;
     whole = p.whole;
@@ -103,7 +103,7 @@ module _ {A : Type 0} (l : Listing A) (n : ℕ) where
   goes End all start r true p e = p
   goes End all start r false p e = ends End all start (r.0, r.1, r.2) p (e refl)
 
-  -- such a step, with what holds behind the last
+  -- such a step, with what holds after the last
   abbrev pub Grows : (List A → List Lexeme → Type 0) → List A → ℕ → List Lexeme → List A × ℕ × List Lexeme × Bool → Type 0
   Grows End done d tokens r = Grown done d tokens r × (r.3 ≡ false → End r.0 r.2)
 
@@ -114,4 +114,4 @@ module _ {A : Type 0} (l : Listing A) (n : ℕ) where
   list_taken End step f s start le tokens w y h =
       chain_taken step (SoFar tokens start) (Listed End tokens start)
       (λ done d rest r p h. let g = f done d rest r p.whole h in goes End tokens start r r.3 (keeps tokens start done d rest r p g.0) g.1)
-      s [] start tokens y (record { spelled_so = λ last tail e. e; levelled = λ last w. w; deep = λ last. refl; within = le; whole = w }) h
+      s [] start tokens y (record { spelled_so = λ last tail e. e; well_formed = λ last w. w; deep = λ last. refl; within = le; whole = w }) h

@@ -1,13 +1,13 @@
--- What is spelled is no shorter than what stands behind it, and a list no shorter than its items are many.
+-- What is spelled is no shorter than what stands after it, and a list no shorter than its items are many.
 use Rattle.std.proofs.Common.{◌≡◌, ℕ, suc, ◌+◌, ◌≤◌, List, [], ◌∷◌, Option, Some, None, true, false, arith, length}
 use Rattle.std.proofs.Math.Nat.{le_step}
-use Rattle.c_ast.specs.declared.words.Word.{Word}
+use Rattle.c_ast.specs.declared.words.Spelling.{Spelling}
 use Rattle.c_ast.specs.Trees
-use Rattle.c_ast.specs.Spelling.{Lexeme, spelled_comma, spelled_texts, spelled_tag, spelled_consts, spelled, spelled_arguments, spelled_optional, spelled_form, spelled_specifiers, spelled_specification, spelled_lines, spelled_fields, spelled_enumerators, spelled_constant, spelled_shape, spelled_parameter_list, spelled_parameters}
-use Rattle.c_ast.specs.Levels.{AreArguments, AreFields, AreParameters}
-use Rattle.c_expressions.proofs.Lists.{arguments_list, specifiers_list, lines_list, fields_list, enumerators_list, parameters_list}
+use Rattle.c_ast.specs.Spelling.{Lexeme, spelled_comma, spelled_texts, spelled_tag, spelled_consts, spelled, spelled_arguments, spelled_optional, spelled_type_name, spelled_specifiers, spelled_specifier, spelled_member_declarations, spelled_member_declarators, spelled_enumerators, spelled_enumerator_value, spelled_declarator, spelled_parameter_list, spelled_parameters}
+use Rattle.c_ast.specs.WellFormed.{AreArguments, AreMemberDeclarators, AreParameters}
+use Rattle.c_expressions.proofs.Lists.{arguments_list, specifiers_list, member_declarations_list, member_declarators_list, enumerators_list, parameters_list}
 
-pub texts_count : (all : List Word) (rest : List Lexeme) → length (spelled_texts all rest) ≡ length all + length rest
+pub texts_count : (all : List Spelling) (rest : List Lexeme) → length (spelled_texts all rest) ≡ length all + length rest
 texts_count [] rest = omega arith
 texts_count (x ∷ all) rest = omega (arith, texts_count all rest)
 
@@ -19,12 +19,12 @@ comma_kept : (c : Option ℕ) (rest : List Lexeme) (n : ℕ) → n ≤ length re
 comma_kept None rest n h = h
 comma_kept (Some at) rest n h = le_step h
 
-tag_kept : (x : Option Word) (rest : List Lexeme) (n : ℕ) → n ≤ length rest → n ≤ length (spelled_tag x rest)
+tag_kept : (x : Option Spelling) (rest : List Lexeme) (n : ℕ) → n ≤ length rest → n ≤ length (spelled_tag x rest)
 tag_kept None rest n h = h
 tag_kept (Some x) rest n h = le_step h
 
 mutual
-  kept : (t : Trees.Term) (rest : List Lexeme) (n : ℕ) → n ≤ length rest → n ≤ length (spelled t rest)
+  kept : (t : Trees.Expression) (rest : List Lexeme) (n : ℕ) → n ≤ length rest → n ≤ length (spelled t rest)
   kept (Trees.name x) rest n h = le_step h
   kept (Trees.number x v kind) rest n h = le_step h
   kept (Trees.character x v) rest n h = le_step h
@@ -37,9 +37,9 @@ mutual
   kept (Trees.post a op at) rest n h = kept a _ n (le_step h)
   kept (Trees.pre op at a) rest n h = le_step (kept a _ n h)
   kept (Trees.unary op at a) rest n h = le_step (kept a _ n h)
-  kept (Trees.sizeof_term at a) rest n h = le_step (kept a _ n h)
-  kept (Trees.sizeof_form at left t right) rest n h = le_step (le_step (form_kept t _ n (le_step h)))
-  kept (Trees.cast left t right a) rest n h = le_step (form_kept t _ n (le_step (kept a _ n h)))
+  kept (Trees.sizeof_expression at a) rest n h = le_step (kept a _ n h)
+  kept (Trees.sizeof_type at left t right) rest n h = le_step (le_step (type_name_kept t _ n (le_step h)))
+  kept (Trees.cast left t right a) rest n h = le_step (type_name_kept t _ n (le_step (kept a _ n h)))
   kept (Trees.binary a op at b) rest n h = kept a _ n (le_step (kept b _ n h))
   kept (Trees.cond a question b colon c) rest n h = kept a _ n (le_step (kept b _ n (le_step (kept c _ n h))))
   kept (Trees.assign a op at b) rest n h = kept a _ n (le_step (kept b _ n h))
@@ -50,49 +50,49 @@ mutual
   arguments_kept Trees.no_arguments rest n h = h
   arguments_kept (Trees.and_argument comma a more) rest n h = comma_kept comma _ n (kept a _ n (arguments_kept more _ n h))
 
-  optional_kept : (o : Trees.OptionalTerm) (rest : List Lexeme) (n : ℕ) → n ≤ length rest → n ≤ length (spelled_optional o rest)
-  optional_kept Trees.no_term rest n h = h
-  optional_kept (Trees.some_term a) rest n h = kept a _ n h
+  optional_kept : (o : Trees.OptionalExpression) (rest : List Lexeme) (n : ℕ) → n ≤ length rest → n ≤ length (spelled_optional o rest)
+  optional_kept Trees.no_expression rest n h = h
+  optional_kept (Trees.some_expression a) rest n h = kept a _ n h
 
-  form_kept : (t : Trees.Form) (rest : List Lexeme) (n : ℕ) → n ≤ length rest → n ≤ length (spelled_form t rest)
-  form_kept (Trees.form specs d) rest n h = specifiers_kept specs _ n (shape_kept d _ n h)
+  type_name_kept : (t : Trees.TypeName) (rest : List Lexeme) (n : ℕ) → n ≤ length rest → n ≤ length (spelled_type_name t rest)
+  type_name_kept (Trees.type_name specs d) rest n h = specifiers_kept specs _ n (declarator_kept d _ n h)
 
   specifiers_kept : (specs : Trees.Specifiers) (rest : List Lexeme) (n : ℕ) → n ≤ length rest → n ≤ length (spelled_specifiers specs rest)
   specifiers_kept Trees.no_specifiers rest n h = h
-  specifiers_kept (Trees.and_specifier s more) rest n h = specification_kept s _ n (le_step (specifiers_kept more _ n h))
+  specifiers_kept (Trees.and_specifier s more) rest n h = specifier_kept s _ n (le_step (specifiers_kept more _ n h))
 
   -- a specifier is one token or more
-  specification_kept : (s : Trees.Specification) (rest : List Lexeme) (n : ℕ) → n ≤ suc (length rest) → n ≤ length (spelled_specification s rest)
-  specification_kept (Trees.plain op at) rest n h = h
-  specification_kept (Trees.typename x) rest n h = h
-  specification_kept (Trees.struct_named at x) rest n h = le_step h
-  specification_kept (Trees.struct_body at x left lines right) rest n h = le_step (tag_kept x _ n (le_step (lines_kept lines _ n h)))
-  specification_kept (Trees.enum_named at x) rest n h = le_step h
-  specification_kept (Trees.enum_body at x left all comma right) rest n h = le_step (tag_kept x _ n (le_step (enumerators_kept all _ n (comma_kept comma _ n h))))
+  specifier_kept : (s : Trees.Specifier) (rest : List Lexeme) (n : ℕ) → n ≤ suc (length rest) → n ≤ length (spelled_specifier s rest)
+  specifier_kept (Trees.plain op at) rest n h = h
+  specifier_kept (Trees.typename x) rest n h = h
+  specifier_kept (Trees.struct_named at x) rest n h = le_step h
+  specifier_kept (Trees.struct_body at x left member_declarations right) rest n h = le_step (tag_kept x _ n (le_step (member_declarations_kept member_declarations _ n h)))
+  specifier_kept (Trees.enum_named at x) rest n h = le_step h
+  specifier_kept (Trees.enum_body at x left all comma right) rest n h = le_step (tag_kept x _ n (le_step (enumerators_kept all _ n (comma_kept comma _ n h))))
 
-  lines_kept : (lines : Trees.Lines) (rest : List Lexeme) (n : ℕ) → n ≤ length rest → n ≤ length (spelled_lines lines rest)
-  lines_kept Trees.no_lines rest n h = h
-  lines_kept (Trees.and_line specs fields semicolon more) rest n h = specifiers_kept specs _ n (fields_kept fields _ n (le_step (lines_kept more _ n h)))
+  member_declarations_kept : (member_declarations : Trees.MemberDeclarations) (rest : List Lexeme) (n : ℕ) → n ≤ length rest → n ≤ length (spelled_member_declarations member_declarations rest)
+  member_declarations_kept Trees.no_member_declarations rest n h = h
+  member_declarations_kept (Trees.and_member_declaration specs member_declarators semicolon more) rest n h = specifiers_kept specs _ n (member_declarators_kept member_declarators _ n (le_step (member_declarations_kept more _ n h)))
 
-  fields_kept : (fields : Trees.Fields) (rest : List Lexeme) (n : ℕ) → n ≤ length rest → n ≤ length (spelled_fields fields rest)
-  fields_kept Trees.no_fields rest n h = h
-  fields_kept (Trees.and_field comma d more) rest n h = comma_kept comma _ n (shape_kept d _ n (fields_kept more _ n h))
+  member_declarators_kept : (member_declarators : Trees.MemberDeclarators) (rest : List Lexeme) (n : ℕ) → n ≤ length rest → n ≤ length (spelled_member_declarators member_declarators rest)
+  member_declarators_kept Trees.no_member_declarators rest n h = h
+  member_declarators_kept (Trees.and_member_declarator comma d more) rest n h = comma_kept comma _ n (declarator_kept d _ n (member_declarators_kept more _ n h))
 
   enumerators_kept : (all : Trees.Enumerators) (rest : List Lexeme) (n : ℕ) → n ≤ length rest → n ≤ length (spelled_enumerators all rest)
   enumerators_kept Trees.no_enumerators rest n h = h
-  enumerators_kept (Trees.and_enumerator comma x value more) rest n h = comma_kept comma _ n (le_step (constant_kept value _ n (enumerators_kept more _ n h)))
+  enumerators_kept (Trees.and_enumerator comma x value more) rest n h = comma_kept comma _ n (le_step (enumerator_value_kept value _ n (enumerators_kept more _ n h)))
 
-  constant_kept : (value : Trees.EnumeratorConstant) (rest : List Lexeme) (n : ℕ) → n ≤ length rest → n ≤ length (spelled_constant value rest)
-  constant_kept Trees.no_constant rest n h = h
-  constant_kept (Trees.constant equal a) rest n h = le_step (kept a _ n h)
+  enumerator_value_kept : (value : Trees.EnumeratorValue) (rest : List Lexeme) (n : ℕ) → n ≤ length rest → n ≤ length (spelled_enumerator_value value rest)
+  enumerator_value_kept Trees.no_value rest n h = h
+  enumerator_value_kept (Trees.valued equal a) rest n h = le_step (kept a _ n h)
 
-  shape_kept : (d : Trees.Shape) (rest : List Lexeme) (n : ℕ) → n ≤ length rest → n ≤ length (spelled_shape d rest)
-  shape_kept Trees.nothing rest n h = h
-  shape_kept (Trees.named x) rest n h = le_step h
-  shape_kept (Trees.pointer at consts d) rest n h = le_step (omega (arith, consts_count consts (spelled_shape d rest), shape_kept d rest n h))
-  shape_kept (Trees.enclosed left d right) rest n h = le_step (shape_kept d _ n (le_step h))
-  shape_kept (Trees.array d left o right) rest n h = shape_kept d _ n (le_step (optional_kept o _ n (le_step h)))
-  shape_kept (Trees.function d left all right) rest n h = shape_kept d _ n (le_step (parameter_list_kept all _ n (le_step h)))
+  declarator_kept : (d : Trees.Declarator) (rest : List Lexeme) (n : ℕ) → n ≤ length rest → n ≤ length (spelled_declarator d rest)
+  declarator_kept Trees.nothing rest n h = h
+  declarator_kept (Trees.named x) rest n h = le_step h
+  declarator_kept (Trees.pointer at consts d) rest n h = le_step (omega (arith, consts_count consts (spelled_declarator d rest), declarator_kept d rest n h))
+  declarator_kept (Trees.enclosed left d right) rest n h = le_step (declarator_kept d _ n (le_step h))
+  declarator_kept (Trees.array d left o right) rest n h = declarator_kept d _ n (le_step (optional_kept o _ n (le_step h)))
+  declarator_kept (Trees.function d left all right) rest n h = declarator_kept d _ n (le_step (parameter_list_kept all _ n (le_step h)))
 
   parameter_list_kept : (all : Trees.ParameterList) (rest : List Lexeme) (n : ℕ) → n ≤ length rest → n ≤ length (spelled_parameter_list all rest)
   parameter_list_kept (Trees.void_alone at) rest n h = le_step h
@@ -100,7 +100,7 @@ mutual
 
   parameters_kept : (all : Trees.Parameters) (rest : List Lexeme) (n : ℕ) → n ≤ length rest → n ≤ length (spelled_parameters all rest)
   parameters_kept Trees.no_parameters rest n h = h
-  parameters_kept (Trees.and_parameter comma specs d more) rest n h = comma_kept comma _ n (specifiers_kept specs _ n (shape_kept d _ n (parameters_kept more _ n h)))
+  parameters_kept (Trees.and_parameter comma specs d more) rest n h = comma_kept comma _ n (specifiers_kept specs _ n (declarator_kept d _ n (parameters_kept more _ n h)))
 
 -- ---- how many items: in some lists all but the first have a comma
 
@@ -117,29 +117,29 @@ arguments_room types (Trees.and_argument comma a more) w t rest = comma_kept com
 parameters_count : (types : List (List ℕ)) (all : Trees.Parameters) → AreParameters types false all → (rest : List Lexeme) → length (parameters_list all) + length rest ≤ length (spelled_parameters all rest)
 parameters_count types Trees.no_parameters w rest = omega arith
 parameters_count types (Trees.and_parameter None specs d more) w rest = let e : false ≡ true = w.0 in cc
-parameters_count types (Trees.and_parameter (Some c) specs d more) w rest = omega (arith, specifiers_kept specs (spelled_shape d (spelled_parameters more rest)) _ (shape_kept d (spelled_parameters more rest) _ (parameters_count types more w.3 rest)))
+parameters_count types (Trees.and_parameter (Some c) specs d more) w rest = omega (arith, specifiers_kept specs (spelled_declarator d (spelled_parameters more rest)) _ (declarator_kept d (spelled_parameters more rest) _ (parameters_count types more w.3 rest)))
 
 pub parameters_room : (types : List (List ℕ)) (all : Trees.Parameters) → AreParameters types true all → (t : Lexeme) (rest : List Lexeme) → length (parameters_list all) ≤ length (spelled_parameters all (t ∷ rest))
 parameters_room types Trees.no_parameters w t rest = omega arith
-parameters_room types (Trees.and_parameter comma specs d more) w t rest = comma_kept comma _ _ (specifiers_kept specs _ _ (shape_kept d _ _ (omega (arith, parameters_count types more w.3 (t ∷ rest)))))
+parameters_room types (Trees.and_parameter comma specs d more) w t rest = comma_kept comma _ _ (specifiers_kept specs _ _ (declarator_kept d _ _ (omega (arith, parameters_count types more w.3 (t ∷ rest)))))
 
-fields_count : (types : List (List ℕ)) (all : Trees.Fields) → AreFields types false all → (rest : List Lexeme) → length (fields_list all) + length rest ≤ length (spelled_fields all rest)
-fields_count types Trees.no_fields w rest = omega arith
-fields_count types (Trees.and_field None d more) w rest = let e : false ≡ true = w.0 in cc
-fields_count types (Trees.and_field (Some c) d more) w rest = omega (arith, shape_kept d (spelled_fields more rest) _ (fields_count types more w.3 rest))
+member_declarators_count : (types : List (List ℕ)) (all : Trees.MemberDeclarators) → AreMemberDeclarators types false all → (rest : List Lexeme) → length (member_declarators_list all) + length rest ≤ length (spelled_member_declarators all rest)
+member_declarators_count types Trees.no_member_declarators w rest = omega arith
+member_declarators_count types (Trees.and_member_declarator None d more) w rest = let e : false ≡ true = w.0 in cc
+member_declarators_count types (Trees.and_member_declarator (Some c) d more) w rest = omega (arith, declarator_kept d (spelled_member_declarators more rest) _ (member_declarators_count types more w.3 rest))
 
-pub fields_room : (types : List (List ℕ)) (all : Trees.Fields) → AreFields types true all → (t : Lexeme) (rest : List Lexeme) → length (fields_list all) ≤ length (spelled_fields all (t ∷ rest))
-fields_room types Trees.no_fields w t rest = omega arith
-fields_room types (Trees.and_field comma d more) w t rest = comma_kept comma _ _ (shape_kept d _ _ (omega (arith, fields_count types more w.3 (t ∷ rest))))
+pub member_declarators_room : (types : List (List ℕ)) (all : Trees.MemberDeclarators) → AreMemberDeclarators types true all → (t : Lexeme) (rest : List Lexeme) → length (member_declarators_list all) ≤ length (spelled_member_declarators all (t ∷ rest))
+member_declarators_room types Trees.no_member_declarators w t rest = omega arith
+member_declarators_room types (Trees.and_member_declarator comma d more) w t rest = comma_kept comma _ _ (declarator_kept d _ _ (omega (arith, member_declarators_count types more w.3 (t ∷ rest))))
 
 pub specifiers_room : (specs : Trees.Specifiers) (rest : List Lexeme) → length (specifiers_list specs) ≤ length (spelled_specifiers specs rest)
 specifiers_room Trees.no_specifiers rest = omega arith
-specifiers_room (Trees.and_specifier s more) rest = specification_kept s _ _ (omega (arith, specifiers_room more rest))
+specifiers_room (Trees.and_specifier s more) rest = specifier_kept s _ _ (omega (arith, specifiers_room more rest))
 
-pub lines_room : (lines : Trees.Lines) (rest : List Lexeme) → length (lines_list lines) ≤ length (spelled_lines lines rest)
-lines_room Trees.no_lines rest = omega arith
-lines_room (Trees.and_line specs fields semicolon more) rest = specifiers_kept specs _ _ (fields_kept fields _ _ (omega (arith, lines_room more rest)))
+pub member_declarations_room : (member_declarations : Trees.MemberDeclarations) (rest : List Lexeme) → length (member_declarations_list member_declarations) ≤ length (spelled_member_declarations member_declarations rest)
+member_declarations_room Trees.no_member_declarations rest = omega arith
+member_declarations_room (Trees.and_member_declaration specs member_declarators semicolon more) rest = specifiers_kept specs _ _ (member_declarators_kept member_declarators _ _ (omega (arith, member_declarations_room more rest)))
 
 pub enumerators_room : (all : Trees.Enumerators) (rest : List Lexeme) → length (enumerators_list all) ≤ length (spelled_enumerators all rest)
 enumerators_room Trees.no_enumerators rest = omega arith
-enumerators_room (Trees.and_enumerator comma x value more) rest = comma_kept comma _ _ (omega (arith, constant_kept value (spelled_enumerators more rest) _ (enumerators_room more rest)))
+enumerators_room (Trees.and_enumerator comma x value more) rest = comma_kept comma _ _ (omega (arith, enumerator_value_kept value (spelled_enumerators more rest) _ (enumerators_room more rest)))

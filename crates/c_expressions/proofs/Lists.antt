@@ -1,33 +1,33 @@
 -- The lists of a tree as lists, and the commas between their items.
 use Rattle.std.proofs.Common.{◌≡◌, ℕ, List, [], ◌∷◌, ◌++◌, Option, Some, None, Bool, true, false, refl, ap}
-use Rattle.c_ast.specs.declared.words.Word.{Word}
+use Rattle.c_ast.specs.declared.words.Spelling.{Spelling}
 use Rattle.c_ast.specs.Trees
 use Rattle.c_ast.specs.Spelling.{Lexeme, spelled_comma}
-use Rattle.c_ast.specs.Levels.{IsComma}
-use Rattle.c_ast.specs.Views.{arguments_of, specifiers_of, lines_of, fields_of, enumerators_of, parameters_of}
+use Rattle.c_ast.specs.WellFormed.{IsComma}
+use Rattle.c_ast.specs.Views.{arguments_of, specifiers_of, member_declarations_of, member_declarators_of, enumerators_of, parameters_of}
 use Rattle.c_expressions.specs.Reading.{comma_before}
 
-abbrev pub arguments_list : Trees.Arguments → List (Option ℕ × Trees.Term)
+abbrev pub arguments_list : Trees.Arguments → List (Option ℕ × Trees.Expression)
 arguments_list Trees.no_arguments = []
 arguments_list (Trees.and_argument comma a more) = (comma, a) ∷ arguments_list more
 
-abbrev pub specifiers_list : Trees.Specifiers → List Trees.Specification
+abbrev pub specifiers_list : Trees.Specifiers → List Trees.Specifier
 specifiers_list Trees.no_specifiers = []
 specifiers_list (Trees.and_specifier s more) = s ∷ specifiers_list more
 
-abbrev pub lines_list : Trees.Lines → List (Trees.Specifiers × Trees.Fields × ℕ)
-lines_list Trees.no_lines = []
-lines_list (Trees.and_line specs fields semicolon more) = (specs, fields, semicolon) ∷ lines_list more
+abbrev pub member_declarations_list : Trees.MemberDeclarations → List (Trees.Specifiers × Trees.MemberDeclarators × ℕ)
+member_declarations_list Trees.no_member_declarations = []
+member_declarations_list (Trees.and_member_declaration specs member_declarators semicolon more) = (specs, member_declarators, semicolon) ∷ member_declarations_list more
 
-abbrev pub fields_list : Trees.Fields → List (Option ℕ × Trees.Shape)
-fields_list Trees.no_fields = []
-fields_list (Trees.and_field comma d more) = (comma, d) ∷ fields_list more
+abbrev pub member_declarators_list : Trees.MemberDeclarators → List (Option ℕ × Trees.Declarator)
+member_declarators_list Trees.no_member_declarators = []
+member_declarators_list (Trees.and_member_declarator comma d more) = (comma, d) ∷ member_declarators_list more
 
-abbrev pub enumerators_list : Trees.Enumerators → List (Option ℕ × Word × Trees.EnumeratorConstant)
+abbrev pub enumerators_list : Trees.Enumerators → List (Option ℕ × Spelling × Trees.EnumeratorValue)
 enumerators_list Trees.no_enumerators = []
 enumerators_list (Trees.and_enumerator comma x value more) = (comma, x, value) ∷ enumerators_list more
 
-abbrev pub parameters_list : Trees.Parameters → List (Option ℕ × Trees.Specifiers × Trees.Shape)
+abbrev pub parameters_list : Trees.Parameters → List (Option ℕ × Trees.Specifiers × Trees.Declarator)
 parameters_list Trees.no_parameters = []
 parameters_list (Trees.and_parameter comma specs d more) = (comma, specs, d) ∷ parameters_list more
 
@@ -39,13 +39,13 @@ pub specifiers_again : (specs : Trees.Specifiers) → specifiers_of (specifiers_
 specifiers_again Trees.no_specifiers = refl
 specifiers_again (Trees.and_specifier s more) = ap (λ r. Trees.and_specifier s r) (specifiers_again more)
 
-pub lines_again : (lines : Trees.Lines) → lines_of (lines_list lines) ≡ lines
-lines_again Trees.no_lines = refl
-lines_again (Trees.and_line specs fields semicolon more) = ap (λ r. Trees.and_line specs fields semicolon r) (lines_again more)
+pub member_declarations_again : (member_declarations : Trees.MemberDeclarations) → member_declarations_of (member_declarations_list member_declarations) ≡ member_declarations
+member_declarations_again Trees.no_member_declarations = refl
+member_declarations_again (Trees.and_member_declaration specs member_declarators semicolon more) = ap (λ r. Trees.and_member_declaration specs member_declarators semicolon r) (member_declarations_again more)
 
-pub fields_again : (fields : Trees.Fields) → fields_of (fields_list fields) ≡ fields
-fields_again Trees.no_fields = refl
-fields_again (Trees.and_field comma d more) = ap (λ r. Trees.and_field comma d r) (fields_again more)
+pub member_declarators_again : (member_declarators : Trees.MemberDeclarators) → member_declarators_of (member_declarators_list member_declarators) ≡ member_declarators
+member_declarators_again Trees.no_member_declarators = refl
+member_declarators_again (Trees.and_member_declarator comma d more) = ap (λ r. Trees.and_member_declarator comma d r) (member_declarators_again more)
 
 pub enumerators_again : (all : Trees.Enumerators) → enumerators_of (enumerators_list all) ≡ all
 enumerators_again Trees.no_enumerators = refl

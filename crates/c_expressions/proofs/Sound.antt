@@ -1,14 +1,14 @@
--- What is read is spelled so, is well levelled, and has that depth.
+-- What is read is spelled so, is well formed, and has that depth.
 use Rattle.std.proofs.Common.{ℕ, zero, suc, List, refl, arith}
-use Rattle.c_ast.specs.Spelling.{spelled_shape}
-use Rattle.c_ast.specs.Levels.{IsShape}
-use Rattle.c_ast.specs.Sizes.{depth_shape}
+use Rattle.c_ast.specs.Spelling.{spelled_declarator}
+use Rattle.c_ast.specs.WellFormed.{IsDeclarator}
+use Rattle.c_ast.specs.Depths.{depth_declarator}
 use Rattle.c_expressions.specs.Reading.{Inner, none, around, at}
 use Rattle.c_expressions.proofs.Fronts.{given}
 use Rattle.c_expressions.proofs.Taken.{Took, IsSound}
-use Rattle.c_expressions.proofs.TermSound.{unary_expression_reads, operand_reads, operators_read, conditional_reads, assignment_reads, expression_reads}
-use Rattle.c_expressions.proofs.SpecifierSound.{line_reads, enumerator_reads, specifiers_read}
-use Rattle.c_expressions.proofs.ShapeSound.{shape_reads}
+use Rattle.c_expressions.proofs.ExpressionSound.{unary_expression_reads, operand_reads, operators_read, conditional_reads, assignment_reads, expression_reads}
+use Rattle.c_expressions.proofs.SpecifierSound.{member_declaration_reads, enumerator_reads, specifiers_read}
+use Rattle.c_expressions.proofs.DeclaratorSound.{declarator_reads}
 
 pub none_sound : (types : List (List ℕ)) → IsSound types 0 none
 none_sound types = record {
@@ -19,9 +19,9 @@ none_sound types = record {
   operand = λ tokens w y h. cc;
   unary = λ tokens w y h. cc;
   specifiers = λ tokens w y h. cc;
-  line = λ tokens w y h. cc;
+  member_declaration = λ tokens w y h. cc;
   enumerator = λ tokens w y h. cc;
-  shape = λ tokens w y h. given (Took spelled_shape (IsShape types) depth_shape 0 tokens) _ y h (record { spelled_so = refl; levelled = tt; deep = refl; within = omega arith; whole = w });
+  declarator = λ tokens w y h. given (Took spelled_declarator (IsDeclarator types) depth_declarator 0 tokens) _ y h (record { spelled_so = refl; well_formed = tt; deep = refl; within = omega arith; whole = w });
 }
 
 pub around_sound : (types : List (List ℕ)) (k : ℕ) (inner : Inner) → IsSound types k inner → IsSound types (suc k) (around types k inner)
@@ -33,9 +33,9 @@ around_sound types k inner sound = record {
   operand = operand_reads types k inner sound;
   unary = unary_expression_reads types k inner sound;
   specifiers = specifiers_read types k inner sound;
-  line = line_reads types k inner sound;
+  member_declaration = member_declaration_reads types k inner sound;
   enumerator = enumerator_reads types k inner sound;
-  shape = shape_reads types k inner sound;
+  declarator = declarator_reads types k inner sound;
 }
 
 pub sound : (types : List (List ℕ)) (k : ℕ) → IsSound types k (at types k)

@@ -1,4 +1,4 @@
--- A table of names answers as their list does, also behind one more name.
+-- A table of names answers as their list does, also after one more name.
 use Rattle.std.proofs.Common.{◌≡◌, ℕ, Bool, true, false, not, ◌||◌, List, [], ◌∷◌, ◌++◌, Vec, Global, refl, sym, ◌∙◌, ap, subst}
 use Rattle.std.specs.Bool.{MatchBool}
 use Rattle.std.specs.List.{list_any}
@@ -7,7 +7,7 @@ use Rattle.std.specs.Str.{bytes_eq}
 use Rattle.std.proofs.lemmas.List.Folds.{list_any-append}
 use Rattle.std.proofs.lemmas.List.Sorted.{list_any-IsPermutation}
 use Rattle.std.proofs.lemmas.Slice.Eq.{bytes_eq-Decides}
-use Rattle.c_ast.specs.Levels.{is_typename}
+use Rattle.c_ast.specs.WellFormed.{is_typename}
 
 abbrev Keys : Type 0
 Keys = List (Vec ℕ Global)

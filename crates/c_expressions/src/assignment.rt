@@ -1,26 +1,26 @@
 //! Conditional expressions, assignments and the comma (C99 6.5.15 to 6.5.17).
 
-ghost use Rattle.c_ast.specs.Places.{term_stands};
-ghost use Rattle.c_ast.specs.Views.{term_of};
+ghost use Rattle.c_ast.specs.Places.{expression_stands};
+ghost use Rattle.c_ast.specs.Views.{expression_of};
 ghost use Rattle.c_expressions.specs.Gives.{Gives};
 ghost use Rattle.c_expressions.specs.Lexemes.{lexemes_of};
-ghost use Rattle.c_expressions.specs.Reading.{chosen_in, conditional_in, assignment_behind, assignment_in, comma_step, expression_in, at};
+ghost use Rattle.c_expressions.specs.Reading.{chosen_in, conditional_in, assignment_after, assignment_in, comma_step, expression_in, at};
 ghost use Rattle.std.specs.Prelude.{IfOk, true, ◌≡◌};
 
 use crate::binary::operators;
-use crate::building::boxed;
+use lay_base::boxed;
 use crate::failure::Failure;
 use crate::inside::{assignment_inside, conditional_inside, expression_inside};
 use crate::operators::{assigning_of, level_of};
 use crate::places::place_of;
 use crate::source::Source;
-use crate::tokens::{behind_colon, deeper_than, larger};
+use crate::tokens::{after_colon, deeper_than, larger};
 use c_ast::{At, Expression, ExpressionNode};
-use c_lexer::{Mark, Token, TokenKind};
+use c_lexer::{Punctuator, Token, TokenKind};
 use lay_base::Boxed;
 use std::alloc::Global;
 
-/// What stands behind `?`.
+/// What stands after `?`.
 #[cycle(expression)]
 #[tactic(auto, unfolding(crate::specs::Reading::chosen_in))]
 pub fn chosen<'a>(
@@ -32,12 +32,12 @@ pub fn chosen<'a>(
     question: At,
     tokens: &'a [Token],
 ) -> Result<(Boxed<Expression>, u32, &'a [Token]), Failure>
-    requires places { (term_stands source.now.file a).right ≡ true }
-    ensures tree { Gives (λ x. (term_of x.0, x.1, lexemes_of source.now.bytes.now x.2.now)) result (chosen_in inside (at source.now.types.now inside) (term_of a) d question (lexemes_of source.now.bytes.now tokens.now)) }
-    ensures places { IfOk result (λ x. (term_stands source.now.file x.0).right ≡ true) }
+    requires places { (expression_stands source.now.file a).right ≡ true }
+    ensures tree { Gives (λ x. (expression_of x.0, x.1, lexemes_of source.now.bytes.now x.2.now)) result (chosen_in inside (at source.now.types.now inside) (expression_of a) d question (lexemes_of source.now.bytes.now tokens.now)) }
+    ensures places { IfOk result (λ x. (expression_stands source.now.file x.0).right ≡ true) }
 {
     let (b, e, rest) = expression_inside(alloc, source, inside, tokens)?;
-    let (colon, rest) = behind_colon(source, rest)?;
+    let (colon, rest) = after_colon(source, rest)?;
     let (c, f, rest) = conditional_inside(alloc, source, inside, rest)?;
     let d = deeper_than(inside, larger(larger(d, e), f), rest)?;
     let whole = Expression {
@@ -56,20 +56,20 @@ pub fn conditional<'a>(
     inside: u16,
     tokens: &'a [Token],
 ) -> Result<(Boxed<Expression>, u32, &'a [Token]), Failure>
-    ensures tree { Gives (λ x. (term_of x.0, x.1, lexemes_of source.now.bytes.now x.2.now)) result (conditional_in source.now.types.now inside (at source.now.types.now inside) (lexemes_of source.now.bytes.now tokens.now)) }
-    ensures places { IfOk result (λ x. (term_stands source.now.file x.0).right ≡ true) }
+    ensures tree { Gives (λ x. (expression_of x.0, x.1, lexemes_of source.now.bytes.now x.2.now)) result (conditional_in source.now.types.now inside (at source.now.types.now inside) (lexemes_of source.now.bytes.now tokens.now)) }
+    ensures places { IfOk result (λ x. (expression_stands source.now.file x.0).right ≡ true) }
 {
     let (a, d, rest) = operators(alloc, source, inside, 3, tokens)?;
     match rest {
         [
             Token {
-                kind: TokenKind::Mark(Mark::Question),
+                kind: TokenKind::Punctuator(Punctuator::Question),
                 from,
                 ..
             },
-            behind @ ..,
+            after @ ..,
         ] => {
-            let (x, d, rest) = chosen(alloc, source, inside, a, d, *from, behind)?;
+            let (x, d, rest) = chosen(alloc, source, inside, a, d, *from, after)?;
             Ok((x, d, rest))
         }
         _ => Ok((a, d, rest)),
@@ -78,7 +78,7 @@ pub fn conditional<'a>(
 
 /// An assignment operator with what is assigned, if one stands at the front.
 #[cycle(expression)]
-#[tactic(auto, unfolding(crate::specs::Reading::assignment_behind))]
+#[tactic(auto, unfolding(crate::specs::Reading::assignment_after))]
 pub fn assigned<'a>(
     alloc: Global,
     source: &Source,
@@ -87,9 +87,9 @@ pub fn assigned<'a>(
     d: u32,
     tokens: &'a [Token],
 ) -> Result<(Boxed<Expression>, u32, &'a [Token]), Failure>
-    requires places { (term_stands source.now.file a).right ≡ true }
-    ensures tree { Gives (λ x. (term_of x.0, x.1, lexemes_of source.now.bytes.now x.2.now)) result (assignment_behind inside (at source.now.types.now inside) (term_of a) d (lexemes_of source.now.bytes.now tokens.now)) }
-    ensures places { IfOk result (λ x. (term_stands source.now.file x.0).right ≡ true) }
+    requires places { (expression_stands source.now.file a).right ≡ true }
+    ensures tree { Gives (λ x. (expression_of x.0, x.1, lexemes_of source.now.bytes.now x.2.now)) result (assignment_after inside (at source.now.types.now inside) (expression_of a) d (lexemes_of source.now.bytes.now tokens.now)) }
+    ensures places { IfOk result (λ x. (expression_stands source.now.file x.0).right ≡ true) }
 {
     match tokens {
         [token, rest @ ..] => match assigning_of(token.kind) {
@@ -120,8 +120,8 @@ pub fn assignment<'a>(
     inside: u16,
     tokens: &'a [Token],
 ) -> Result<(Boxed<Expression>, u32, &'a [Token]), Failure>
-    ensures tree { Gives (λ x. (term_of x.0, x.1, lexemes_of source.now.bytes.now x.2.now)) result (assignment_in source.now.types.now inside (at source.now.types.now inside) (lexemes_of source.now.bytes.now tokens.now)) }
-    ensures places { IfOk result (λ x. (term_stands source.now.file x.0).right ≡ true) }
+    ensures tree { Gives (λ x. (expression_of x.0, x.1, lexemes_of source.now.bytes.now x.2.now)) result (assignment_in source.now.types.now inside (at source.now.types.now inside) (lexemes_of source.now.bytes.now tokens.now)) }
+    ensures places { IfOk result (λ x. (expression_stands source.now.file x.0).right ≡ true) }
 {
     let (a, d, rest) = conditional(alloc, source, inside, tokens)?;
     let (x, d, rest) = assigned(alloc, source, inside, a, d, rest)?;
@@ -139,14 +139,14 @@ pub fn comma<'a>(
     d: u32,
     tokens: &'a [Token],
 ) -> Result<(Boxed<Expression>, u32, &'a [Token], bool), Failure>
-    requires places { (term_stands source.now.file x).right ≡ true }
-    ensures tree { Gives (λ x. (term_of x.0, x.1, lexemes_of source.now.bytes.now x.2.now, x.3)) result (comma_step inside (at source.now.types.now inside) (term_of x) d (lexemes_of source.now.bytes.now tokens.now)) }
-    ensures places { IfOk result (λ x. (term_stands source.now.file x.0).right ≡ true) }
+    requires places { (expression_stands source.now.file x).right ≡ true }
+    ensures tree { Gives (λ x. (expression_of x.0, x.1, lexemes_of source.now.bytes.now x.2.now, x.3)) result (comma_step inside (at source.now.types.now inside) (expression_of x) d (lexemes_of source.now.bytes.now tokens.now)) }
+    ensures places { IfOk result (λ x. (expression_stands source.now.file x.0).right ≡ true) }
 {
     match tokens {
         [
             Token {
-                kind: TokenKind::Mark(Mark::Comma),
+                kind: TokenKind::Punctuator(Punctuator::Comma),
                 from,
                 ..
             },
@@ -173,16 +173,16 @@ pub fn expression<'a>(
     inside: u16,
     tokens: &'a [Token],
 ) -> Result<(Boxed<Expression>, u32, &'a [Token]), Failure>
-    ensures tree { Gives (λ x. (term_of x.0, x.1, lexemes_of source.now.bytes.now x.2.now)) result (expression_in source.now.types.now inside (at source.now.types.now inside) (lexemes_of source.now.bytes.now tokens.now)) }
-    ensures places { IfOk result (λ x. (term_stands source.now.file x.0).right ≡ true) }
+    ensures tree { Gives (λ x. (expression_of x.0, x.1, lexemes_of source.now.bytes.now x.2.now)) result (expression_in source.now.types.now inside (at source.now.types.now inside) (lexemes_of source.now.bytes.now tokens.now)) }
+    ensures places { IfOk result (λ x. (expression_stands source.now.file x.0).right ≡ true) }
 {
     let (mut x, mut d, mut rest) = assignment(alloc, source, inside, tokens)?;
     let mut turns = inside as u64 + 1;
     'more: while turns > 0 {
-        let (y, e, behind, on) = comma(alloc, source, inside, x, d, rest)?;
+        let (y, e, after, on) = comma(alloc, source, inside, x, d, rest)?;
         x = y;
         d = e;
-        rest = behind;
+        rest = after;
         turns -= 1;
         if !on {
             return Ok((x, d, rest));

@@ -2,13 +2,13 @@
 
 ghost use Rattle.std.specs.Prelude.{◌≡◌};
 ghost use Rattle.c_expressions.specs.Lexemes.{lexemes_of};
-ghost use Rattle.c_expressions.specs.Reading.{begins_specifier, begins_form, begins_parameters, begins_enclosed, begins_void, another};
+ghost use Rattle.c_expressions.specs.Reading.{begins_specifier, begins_type_name, begins_parameters, begins_enclosed, begins_void, another};
 
 use crate::names::is_type;
-use crate::operators::specifier_of;
+use crate::operators::keyword_specifier_of;
 use crate::source::Source;
 use crate::tokens::{fronted_right, fronted_right_brace};
-use c_lexer::{Mark, Token, TokenKind};
+use c_lexer::{Punctuator, Token, TokenKind};
 use lay_base::Keyword;
 
 /// Whether a specifier begins here.
@@ -17,7 +17,7 @@ pub fn begins_specifier(source: &Source, tokens: &[Token]) -> bool
 {
     match tokens {
         [token, ..] => {
-            specifier_of(token.kind).is_some()
+            keyword_specifier_of(token.kind).is_some()
                 || matches!(token.kind, TokenKind::Keyword(Keyword::Struct))
                 || matches!(token.kind, TokenKind::Keyword(Keyword::Enum))
                 || (token.kind == TokenKind::Name && is_type(source, *token))
@@ -27,17 +27,17 @@ pub fn begins_specifier(source: &Source, tokens: &[Token]) -> bool
 }
 
 /// Whether `(` and a type name begin here.
-pub fn begins_form(source: &Source, tokens: &[Token]) -> bool
-    ensures { result ≡ begins_form source.now.types.now (lexemes_of source.now.bytes.now tokens.now) }
+pub fn begins_type_name(source: &Source, tokens: &[Token]) -> bool
+    ensures { result ≡ begins_type_name source.now.types.now (lexemes_of source.now.bytes.now tokens.now) }
 {
     match tokens {
-        [token, rest @ ..] => token.kind == TokenKind::Mark(Mark::Open)
+        [token, rest @ ..] => token.kind == TokenKind::Punctuator(Punctuator::Open)
             && begins_specifier(source, rest),
         [] => false,
     }
 }
 
-/// Whether the parameters of a function begin behind `(`, or its end.
+/// Whether the parameters of a function begin after `(`, or its end.
 pub fn begins_parameters(source: &Source, tokens: &[Token]) -> bool
     ensures { result ≡ begins_parameters source.now.types.now (lexemes_of source.now.bytes.now tokens.now) }
 {
@@ -49,7 +49,7 @@ pub fn begins_enclosed(source: &Source, tokens: &[Token]) -> bool
     ensures { result ≡ begins_enclosed source.now.types.now (lexemes_of source.now.bytes.now tokens.now) }
 {
     match tokens {
-        [token, rest @ ..] => token.kind == TokenKind::Mark(Mark::Open)
+        [token, rest @ ..] => token.kind == TokenKind::Punctuator(Punctuator::Open)
             && !begins_parameters(source, rest),
         [] => false,
     }
@@ -66,12 +66,12 @@ pub fn begins_void(source: &Source, tokens: &[Token]) -> bool
     }
 }
 
-/// Whether another of a list follows: a comma, and no `}` behind it.
+/// Whether another of a list follows: a comma, and no `}` after it.
 pub fn another(source: &Source, tokens: &[Token]) -> bool
     ensures { result ≡ another (lexemes_of source.now.bytes.now tokens.now) }
 {
     match tokens {
-        [token, rest @ ..] => token.kind == TokenKind::Mark(Mark::Comma)
+        [token, rest @ ..] => token.kind == TokenKind::Punctuator(Punctuator::Comma)
             && !fronted_right_brace(source, rest),
         [] => false,
     }

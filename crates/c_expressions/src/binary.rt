@@ -1,13 +1,13 @@
 //! Binary operators (C99 6.5.5 to 6.5.14), by precedence climbing.
 
-ghost use Rattle.c_ast.specs.Places.{term_stands};
-ghost use Rattle.c_ast.specs.Views.{term_of};
+ghost use Rattle.c_ast.specs.Places.{expression_stands};
+ghost use Rattle.c_ast.specs.Views.{expression_of};
 ghost use Rattle.c_expressions.specs.Gives.{Gives};
 ghost use Rattle.c_expressions.specs.Lexemes.{lexemes_of};
 ghost use Rattle.c_expressions.specs.Reading.{operator_step, operators_in, at};
 ghost use Rattle.std.specs.Prelude.{IfOk, true, ◌≡◌};
 
-use crate::building::boxed;
+use lay_base::boxed;
 use crate::failure::Failure;
 use crate::inside::operators_inside;
 use crate::operators::{binary_of, strength_of};
@@ -32,9 +32,9 @@ pub fn operator<'a>(
     d: u32,
     tokens: &'a [Token],
 ) -> Result<(Boxed<Expression>, u32, &'a [Token], bool), Failure>
-    requires places { (term_stands source.now.file x).right ≡ true }
-    ensures tree { Gives (λ x. (term_of x.0, x.1, lexemes_of source.now.bytes.now x.2.now, x.3)) result (operator_step inside (at source.now.types.now inside) least (term_of x) d (lexemes_of source.now.bytes.now tokens.now)) }
-    ensures places { IfOk result (λ x. (term_stands source.now.file x.0).right ≡ true) }
+    requires places { (expression_stands source.now.file x).right ≡ true }
+    ensures tree { Gives (λ x. (expression_of x.0, x.1, lexemes_of source.now.bytes.now x.2.now, x.3)) result (operator_step inside (at source.now.types.now inside) least (expression_of x) d (lexemes_of source.now.bytes.now tokens.now)) }
+    ensures places { IfOk result (λ x. (expression_stands source.now.file x.0).right ≡ true) }
 {
     match tokens {
         [token, rest @ ..] => match binary_of(token.kind) {
@@ -67,16 +67,16 @@ pub fn operators<'a>(
     least: u32,
     tokens: &'a [Token],
 ) -> Result<(Boxed<Expression>, u32, &'a [Token]), Failure>
-    ensures tree { Gives (λ x. (term_of x.0, x.1, lexemes_of source.now.bytes.now x.2.now)) result (operators_in source.now.types.now inside (at source.now.types.now inside) least (lexemes_of source.now.bytes.now tokens.now)) }
-    ensures places { IfOk result (λ x. (term_stands source.now.file x.0).right ≡ true) }
+    ensures tree { Gives (λ x. (expression_of x.0, x.1, lexemes_of source.now.bytes.now x.2.now)) result (operators_in source.now.types.now inside (at source.now.types.now inside) least (lexemes_of source.now.bytes.now tokens.now)) }
+    ensures places { IfOk result (λ x. (expression_stands source.now.file x.0).right ≡ true) }
 {
     let (mut x, mut d, mut rest) = operand(alloc, source, inside, tokens)?;
     let mut turns = inside as u64 + 1;
     'more: while turns > 0 {
-        let (y, e, behind, on) = operator(alloc, source, inside, least, x, d, rest)?;
+        let (y, e, after, on) = operator(alloc, source, inside, least, x, d, rest)?;
         x = y;
         d = e;
-        rest = behind;
+        rest = after;
         turns -= 1;
         if !on {
             return Ok((x, d, rest));

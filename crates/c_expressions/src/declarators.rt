@@ -2,32 +2,32 @@
 
 ghost use Rattle.std.specs.Prelude.{◌+◌, [], length, map, IfOk, true, ◌≡◌};
 ghost use Rattle.std.specs.Option.{option_map};
-ghost use Rattle.c_ast.specs.Places.{all_right, parameter_right, parameters_right, shape_stands, stands_if_any, term_stands};
-ghost use Rattle.c_ast.specs.Views.{optional_of, parameter_list_of, parameter_of, shape_if_any, shape_of, term_of};
+ghost use Rattle.c_ast.specs.Places.{all_right, parameter_right, parameters_right, declarator_stands, stands_if_any, expression_stands};
+ghost use Rattle.c_ast.specs.Views.{optional_of, parameter_list_of, parameter_of, declarator_if_any, declarator_of, expression_of};
 ghost use Rattle.c_expressions.specs.Gives.{Gives};
 ghost use Rattle.c_expressions.specs.Lexemes.{lexemes_of};
-ghost use Rattle.c_expressions.specs.Reading.{chain, const_step, pointer_in, enclosed_in, core_in, length_in, array_in, parameter_step, parameters_in, function_in, suffix_step, direct_in, shape_in, at};
+ghost use Rattle.c_expressions.specs.Reading.{chain, const_step, pointer_in, enclosed_in, core_in, length_in, array_in, parameter_step, parameters_in, function_in, suffix_step, direct_in, declarator_in, at};
 
 use crate::begins::{begins_enclosed, begins_void};
-use crate::building::{add, boxed};
+use lay_base::{add, boxed};
 use crate::failure::Failure;
-use crate::inside::{conditional_inside, shape_inside, specifiers_inside};
-use crate::items::{parameter_of_parts, stands_for_something, with_parameter};
+use crate::inside::{conditional_inside, declarator_inside, specifiers_inside};
+use crate::items::{parameter_of_items, stands_for_something, with_parameter};
 use crate::names::{fronted_plain_name, plain_name};
 use crate::places::{place_from, placed};
 use crate::source::Source;
 use crate::tokens::{
-    behind_left, behind_right, behind_right_square, behind_void, comma_before, deeper_than,
+    after_left, after_right, after_right_square, after_void, comma_before, deeper_than,
     fronted_right, fronted_right_square, larger,
 };
 use c_ast::{At, Declarator, DeclaratorNode, Expression, Parameter, Parameters};
-use c_lexer::{Mark, Token, TokenKind};
+use c_lexer::{Punctuator, Token, TokenKind};
 use lay_base::{Boxed, Keyword, List};
 use std::alloc::Global;
 
 /// One `const` more, if one stands at the front.
 #[tactic(auto, unfolding(crate::specs::Reading::const_step))]
-pub fn constant_mark<'a>(
+pub fn const_qualifier<'a>(
     source: &Source,
     all: List<At>,
     d: u32,
@@ -52,9 +52,9 @@ pub fn constant_mark<'a>(
     }
 }
 
-/// Each `const` behind a `*`.
+/// Each `const` after a `*`.
 #[tactic(auto, using(crate::proofs::Turns::turns))]
-pub fn constant_marks<'a>(
+pub fn const_qualifiers<'a>(
     alloc: Global,
     source: &Source,
     tokens: &'a [Token],
@@ -66,10 +66,10 @@ pub fn constant_marks<'a>(
     let mut rest = tokens;
     let mut turns = tokens.len() as u64 + 1;
     'more: while turns > 0 {
-        let (more, e, behind, on) = constant_mark(source, all, d, rest)?;
+        let (more, e, after, on) = const_qualifier(source, all, d, rest)?;
         all = more;
         d = e;
-        rest = behind;
+        rest = after;
         turns -= 1;
         if !on {
             return Ok((all, d, rest));
@@ -78,25 +78,25 @@ pub fn constant_marks<'a>(
     Err(Failure::NoParse(rest.len()))
 }
 
-/// What stands behind `*`.
+/// What stands after `*`.
 #[cycle(expression)]
 #[tactic(auto, unfolding(crate::specs::Reading::pointer_in))]
 pub fn pointer<'a>(
     alloc: Global,
     source: &Source,
     inside: u16,
-    mark: At,
+    punctuator: At,
     tokens: &'a [Token],
 ) -> Result<(Boxed<Declarator>, u32, &'a [Token]), Failure>
-    ensures tree { Gives (λ x. (shape_of x.0, x.1, lexemes_of source.now.bytes.now x.2.now)) result (pointer_in inside (at source.now.types.now inside) mark (lexemes_of source.now.bytes.now tokens.now)) }
-    ensures places { IfOk result (λ x. (shape_stands source.now.file x.0).right ≡ true) }
+    ensures tree { Gives (λ x. (declarator_of x.0, x.1, lexemes_of source.now.bytes.now x.2.now)) result (pointer_in inside (at source.now.types.now inside) punctuator (lexemes_of source.now.bytes.now tokens.now)) }
+    ensures places { IfOk result (λ x. (declarator_stands source.now.file x.0).right ≡ true) }
 {
-    let (consts, _, rest) = constant_marks(alloc, source, tokens)?;
-    let (declarator, d, rest) = shape_inside(alloc, source, inside, rest)?;
+    let (consts, _, rest) = const_qualifiers(alloc, source, tokens)?;
+    let (declarator, d, rest) = declarator_inside(alloc, source, inside, rest)?;
     let d = deeper_than(inside, d, rest)?;
     let whole = Declarator {
-        place: placed(source, mark),
-        node: DeclaratorNode::Pointer(mark, consts, declarator),
+        place: placed(source, punctuator),
+        node: DeclaratorNode::Pointer(punctuator, consts, declarator),
     };
     Ok((boxed(alloc, whole)?, d, rest))
 }
@@ -110,12 +110,12 @@ pub fn enclosed<'a>(
     inside: u16,
     tokens: &'a [Token],
 ) -> Result<(Boxed<Declarator>, u32, &'a [Token]), Failure>
-    ensures tree { Gives (λ x. (shape_of x.0, x.1, lexemes_of source.now.bytes.now x.2.now)) result (enclosed_in inside (at source.now.types.now inside) (lexemes_of source.now.bytes.now tokens.now)) }
-    ensures places { IfOk result (λ x. (shape_stands source.now.file x.0).right ≡ true) }
+    ensures tree { Gives (λ x. (declarator_of x.0, x.1, lexemes_of source.now.bytes.now x.2.now)) result (enclosed_in inside (at source.now.types.now inside) (lexemes_of source.now.bytes.now tokens.now)) }
+    ensures places { IfOk result (λ x. (declarator_stands source.now.file x.0).right ≡ true) }
 {
-    let (left, rest) = behind_left(source, tokens)?;
-    let (declarator, d, rest) = shape_inside(alloc, source, inside, rest)?;
-    let (right, rest) = behind_right(source, rest)?;
+    let (left, rest) = after_left(source, tokens)?;
+    let (declarator, d, rest) = declarator_inside(alloc, source, inside, rest)?;
+    let (right, rest) = after_right(source, rest)?;
     let d = deeper_than(inside, d, rest)?;
     match declarator {
         Some(declarator) => {
@@ -139,8 +139,8 @@ pub fn core<'a>(
     inside: u16,
     tokens: &'a [Token],
 ) -> Result<(Option<Boxed<Declarator>>, u32, &'a [Token]), Failure>
-    ensures tree { Gives (λ x. (shape_if_any (option_map shape_of x.0), x.1, lexemes_of source.now.bytes.now x.2.now)) result (core_in source.now.types.now inside (at source.now.types.now inside) (lexemes_of source.now.bytes.now tokens.now)) }
-    ensures places { IfOk result (λ x. stands_if_any (option_map (shape_stands source.now.file) x.0) ≡ true) }
+    ensures tree { Gives (λ x. (declarator_if_any (option_map declarator_of x.0), x.1, lexemes_of source.now.bytes.now x.2.now)) result (core_in source.now.types.now inside (at source.now.types.now inside) (lexemes_of source.now.bytes.now tokens.now)) }
+    ensures places { IfOk result (λ x. stands_if_any (option_map (declarator_stands source.now.file) x.0) ≡ true) }
 {
     if fronted_plain_name(source, tokens) {
         let (name, rest) = plain_name(alloc, source, tokens)?;
@@ -165,8 +165,8 @@ pub fn length_of<'a>(
     inside: u16,
     tokens: &'a [Token],
 ) -> Result<(Option<Boxed<Expression>>, u32, &'a [Token]), Failure>
-    ensures tree { Gives (λ x. (optional_of (option_map term_of x.0), x.1, lexemes_of source.now.bytes.now x.2.now)) result (length_in (at source.now.types.now inside) (lexemes_of source.now.bytes.now tokens.now)) }
-    ensures places { IfOk result (λ x. stands_if_any (option_map (term_stands source.now.file) x.0) ≡ true) }
+    ensures tree { Gives (λ x. (optional_of (option_map expression_of x.0), x.1, lexemes_of source.now.bytes.now x.2.now)) result (length_in (at source.now.types.now inside) (lexemes_of source.now.bytes.now tokens.now)) }
+    ensures places { IfOk result (λ x. stands_if_any (option_map (expression_stands source.now.file) x.0) ≡ true) }
 {
     if fronted_right_square(source, tokens) {
         return Ok((None, 0, tokens));
@@ -175,7 +175,7 @@ pub fn length_of<'a>(
     Ok((Some(a), d, rest))
 }
 
-/// What stands behind the `[` of an array.
+/// What stands after the `[` of an array.
 #[cycle(expression)]
 #[tactic(auto, unfolding(crate::specs::Reading::array_in))]
 pub fn array<'a>(
@@ -187,12 +187,12 @@ pub fn array<'a>(
     left: At,
     tokens: &'a [Token],
 ) -> Result<(Boxed<Declarator>, u32, &'a [Token]), Failure>
-    requires places { stands_if_any (option_map (shape_stands source.now.file) x) ≡ true }
-    ensures tree { Gives (λ x. (shape_of x.0, x.1, lexemes_of source.now.bytes.now x.2.now)) result (array_in inside (at source.now.types.now inside) (shape_if_any (option_map shape_of x)) d left (lexemes_of source.now.bytes.now tokens.now)) }
-    ensures places { IfOk result (λ x. (shape_stands source.now.file x.0).right ≡ true) }
+    requires places { stands_if_any (option_map (declarator_stands source.now.file) x) ≡ true }
+    ensures tree { Gives (λ x. (declarator_of x.0, x.1, lexemes_of source.now.bytes.now x.2.now)) result (array_in inside (at source.now.types.now inside) (declarator_if_any (option_map declarator_of x)) d left (lexemes_of source.now.bytes.now tokens.now)) }
+    ensures places { IfOk result (λ x. (declarator_stands source.now.file x.0).right ≡ true) }
 {
     let (size, e, rest) = length_of(alloc, source, inside, tokens)?;
-    let (right, rest) = behind_right_square(source, rest)?;
+    let (right, rest) = after_right_square(source, rest)?;
     let d = deeper_than(inside, larger(d, e), rest)?;
     let whole = Declarator {
         place: place_from(source, &x, left),
@@ -221,8 +221,8 @@ pub fn parameter<'a>(
     }
     let (comma, rest) = comma_before(source, &all, tokens)?;
     let (specifiers, e, rest) = specifiers_inside(alloc, source, inside, rest)?;
-    let (declarator, f, rest) = shape_inside(alloc, source, inside, rest)?;
-    let item = parameter_of_parts(source, comma, specifiers, declarator);
+    let (declarator, f, rest) = declarator_inside(alloc, source, inside, rest)?;
+    let item = parameter_of_items(source, comma, specifiers, declarator);
     let all = with_parameter(source, all, item)?;
     Ok((all, larger(d, larger(e, f)), rest, true))
 }
@@ -244,10 +244,10 @@ pub fn parameter_list<'a>(
     let mut rest = tokens;
     let mut turns = tokens.len() as u64 + 1;
     'more: while turns > 0 {
-        let (more, e, behind, on) = parameter(alloc, source, inside, all, d, rest)?;
+        let (more, e, after, on) = parameter(alloc, source, inside, all, d, rest)?;
         all = more;
         d = e;
-        rest = behind;
+        rest = after;
         turns -= 1;
         if !on {
             return Ok((all, d, rest));
@@ -269,14 +269,14 @@ pub fn parameters<'a>(
     ensures places { IfOk result (λ x. parameters_right source.now.file x.0 ≡ true) }
 {
     if begins_void(source, tokens) {
-        let (at, rest) = behind_void(source, tokens)?;
+        let (at, rest) = after_void(source, tokens)?;
         return Ok((Parameters::Void(at), 0, rest));
     }
     let (all, d, rest) = parameter_list(alloc, source, inside, tokens)?;
     Ok((Parameters::Listed(all), d, rest))
 }
 
-/// What stands behind the `(` of a function.
+/// What stands after the `(` of a function.
 #[cycle(expression)]
 #[tactic(auto, unfolding(crate::specs::Reading::function_in))]
 pub fn function<'a>(
@@ -288,12 +288,12 @@ pub fn function<'a>(
     left: At,
     tokens: &'a [Token],
 ) -> Result<(Boxed<Declarator>, u32, &'a [Token]), Failure>
-    requires places { stands_if_any (option_map (shape_stands source.now.file) x) ≡ true }
-    ensures tree { Gives (λ x. (shape_of x.0, x.1, lexemes_of source.now.bytes.now x.2.now)) result (function_in inside (at source.now.types.now inside) (shape_if_any (option_map shape_of x)) d left (lexemes_of source.now.bytes.now tokens.now)) }
-    ensures places { IfOk result (λ x. (shape_stands source.now.file x.0).right ≡ true) }
+    requires places { stands_if_any (option_map (declarator_stands source.now.file) x) ≡ true }
+    ensures tree { Gives (λ x. (declarator_of x.0, x.1, lexemes_of source.now.bytes.now x.2.now)) result (function_in inside (at source.now.types.now inside) (declarator_if_any (option_map declarator_of x)) d left (lexemes_of source.now.bytes.now tokens.now)) }
+    ensures places { IfOk result (λ x. (declarator_stands source.now.file x.0).right ≡ true) }
 {
     let (all, e, rest) = parameters(alloc, source, inside, tokens)?;
-    let (right, rest) = behind_right(source, rest)?;
+    let (right, rest) = after_right(source, rest)?;
     let d = deeper_than(inside, larger(d, e), rest)?;
     let whole = Declarator {
         place: place_from(source, &x, left),
@@ -313,17 +313,17 @@ pub fn brackets<'a>(
     d: u32,
     tokens: &'a [Token],
 ) -> Result<(Option<Boxed<Declarator>>, u32, &'a [Token], bool), Failure>
-    requires places { stands_if_any (option_map (shape_stands source.now.file) x) ≡ true }
-    ensures tree { Gives (λ x. (shape_if_any (option_map shape_of x.0), x.1, lexemes_of source.now.bytes.now x.2.now, x.3)) result (suffix_step inside (at source.now.types.now inside) (shape_if_any (option_map shape_of x)) d (lexemes_of source.now.bytes.now tokens.now)) }
-    ensures places { IfOk result (λ x. stands_if_any (option_map (shape_stands source.now.file) x.0) ≡ true) }
+    requires places { stands_if_any (option_map (declarator_stands source.now.file) x) ≡ true }
+    ensures tree { Gives (λ x. (declarator_if_any (option_map declarator_of x.0), x.1, lexemes_of source.now.bytes.now x.2.now, x.3)) result (suffix_step inside (at source.now.types.now inside) (declarator_if_any (option_map declarator_of x)) d (lexemes_of source.now.bytes.now tokens.now)) }
+    ensures places { IfOk result (λ x. stands_if_any (option_map (declarator_stands source.now.file) x.0) ≡ true) }
 {
     match tokens {
         [token, rest @ ..] => match token.kind {
-            TokenKind::Mark(Mark::OpenSquare) => {
+            TokenKind::Punctuator(Punctuator::OpenSquare) => {
                 let (whole, d, rest) = array(alloc, source, inside, x, d, token.from, rest)?;
                 Ok((Some(whole), d, rest, true))
             }
-            TokenKind::Mark(Mark::Open) => {
+            TokenKind::Punctuator(Punctuator::Open) => {
                 let (whole, d, rest) = function(alloc, source, inside, x, d, token.from, rest)?;
                 Ok((Some(whole), d, rest, true))
             }
@@ -342,16 +342,16 @@ pub fn direct<'a>(
     inside: u16,
     tokens: &'a [Token],
 ) -> Result<(Option<Boxed<Declarator>>, u32, &'a [Token]), Failure>
-    ensures tree { Gives (λ x. (shape_if_any (option_map shape_of x.0), x.1, lexemes_of source.now.bytes.now x.2.now)) result (direct_in source.now.types.now inside (at source.now.types.now inside) (lexemes_of source.now.bytes.now tokens.now)) }
-    ensures places { IfOk result (λ x. stands_if_any (option_map (shape_stands source.now.file) x.0) ≡ true) }
+    ensures tree { Gives (λ x. (declarator_if_any (option_map declarator_of x.0), x.1, lexemes_of source.now.bytes.now x.2.now)) result (direct_in source.now.types.now inside (at source.now.types.now inside) (lexemes_of source.now.bytes.now tokens.now)) }
+    ensures places { IfOk result (λ x. stands_if_any (option_map (declarator_stands source.now.file) x.0) ≡ true) }
 {
     let (mut x, mut d, mut rest) = core(alloc, source, inside, tokens)?;
     let mut turns = inside as u64 + 2;
     'more: while turns > 0 {
-        let (y, e, behind, on) = brackets(alloc, source, inside, x, d, rest)?;
+        let (y, e, after, on) = brackets(alloc, source, inside, x, d, rest)?;
         x = y;
         d = e;
-        rest = behind;
+        rest = after;
         turns -= 1;
         if !on {
             return Ok((x, d, rest));
@@ -362,20 +362,20 @@ pub fn direct<'a>(
 
 /// A declarator, with or without a name, or nothing (C99 6.7.5, 6.7.6).
 #[cycle(expression)]
-#[tactic(auto, unfolding(crate::specs::Reading::shape_in))]
-pub fn shape<'a>(
+#[tactic(auto, unfolding(crate::specs::Reading::declarator_in))]
+pub fn declarator<'a>(
     alloc: Global,
     source: &Source,
     inside: u16,
     tokens: &'a [Token],
 ) -> Result<(Option<Boxed<Declarator>>, u32, &'a [Token]), Failure>
-    ensures tree { Gives (λ x. (shape_if_any (option_map shape_of x.0), x.1, lexemes_of source.now.bytes.now x.2.now)) result (shape_in source.now.types.now inside (at source.now.types.now inside) (lexemes_of source.now.bytes.now tokens.now)) }
-    ensures places { IfOk result (λ x. stands_if_any (option_map (shape_stands source.now.file) x.0) ≡ true) }
+    ensures tree { Gives (λ x. (declarator_if_any (option_map declarator_of x.0), x.1, lexemes_of source.now.bytes.now x.2.now)) result (declarator_in source.now.types.now inside (at source.now.types.now inside) (lexemes_of source.now.bytes.now tokens.now)) }
+    ensures places { IfOk result (λ x. stands_if_any (option_map (declarator_stands source.now.file) x.0) ≡ true) }
 {
     match tokens {
         [
             Token {
-                kind: TokenKind::Mark(Mark::Star),
+                kind: TokenKind::Punctuator(Punctuator::Star),
                 from,
                 ..
             },

@@ -2,22 +2,22 @@
 
 ghost use Rattle.std.specs.Prelude.{map, IfOk, true, ◌≡◌};
 ghost use Rattle.std.specs.Option.{option_map};
-ghost use Rattle.c_ast.specs.Places.{all_stand, constant_right, is_right_if_any, line_right, shape_stands, specifier_stands, stands_if_any, term_stands};
-ghost use Rattle.c_ast.specs.Views.{constant_of, enumerator_constant_of, line_of, shape_if_any, shape_of, specification_of, specifiers_of, term_of};
+ghost use Rattle.c_ast.specs.Places.{all_stand, enumerator_value_right, is_right_if_any, member_declaration_right, declarator_stands, specifier_stands, stands_if_any, expression_stands};
+ghost use Rattle.c_ast.specs.Views.{enumerator_value_of, enumerator_value_layer_of, member_declaration_of, declarator_if_any, declarator_of, specifier_of, specifiers_of, expression_of};
 ghost use Rattle.c_expressions.specs.Gives.{Gives};
 ghost use Rattle.c_expressions.specs.Lexemes.{lexemes_of};
 ghost use Rattle.c_expressions.specs.Reading.{at};
 
 use crate::assignment::{assignment, conditional, expression};
 use crate::binary::operators;
-use crate::declarators::shape;
+use crate::declarators::declarator;
 use crate::enumerations::enumerator;
 use crate::failure::Failure;
 use crate::source::Source;
 use crate::specifiers::specifiers;
-use crate::structures::line;
+use crate::structures::member_declaration;
 use crate::unary::{operand, unary_expression};
-use c_ast::{Declarator, EnumeratorValue, Expression, FieldLine, Specifier, Word};
+use c_ast::{Declarator, EnumeratorValue, Expression, MemberDeclaration, Specifier, Spelling};
 use c_lexer::Token;
 use lay_base::{Boxed, List};
 use std::alloc::Global;
@@ -30,8 +30,8 @@ pub fn expression_inside<'a>(
     inside: u16,
     tokens: &'a [Token],
 ) -> Result<(Boxed<Expression>, u32, &'a [Token]), Failure>
-    ensures tree { Gives (λ x. (term_of x.0, x.1, lexemes_of source.now.bytes.now x.2.now)) result ((at source.now.types.now inside).expression (lexemes_of source.now.bytes.now tokens.now)) }
-    ensures places { IfOk result (λ x. (term_stands source.now.file x.0).right ≡ true) }
+    ensures tree { Gives (λ x. (expression_of x.0, x.1, lexemes_of source.now.bytes.now x.2.now)) result ((at source.now.types.now inside).expression (lexemes_of source.now.bytes.now tokens.now)) }
+    ensures places { IfOk result (λ x. (expression_stands source.now.file x.0).right ≡ true) }
 {
     if inside == 0 {
         return Err(Failure::NoParse(tokens.len()));
@@ -47,8 +47,8 @@ pub fn assignment_inside<'a>(
     inside: u16,
     tokens: &'a [Token],
 ) -> Result<(Boxed<Expression>, u32, &'a [Token]), Failure>
-    ensures tree { Gives (λ x. (term_of x.0, x.1, lexemes_of source.now.bytes.now x.2.now)) result ((at source.now.types.now inside).assignment (lexemes_of source.now.bytes.now tokens.now)) }
-    ensures places { IfOk result (λ x. (term_stands source.now.file x.0).right ≡ true) }
+    ensures tree { Gives (λ x. (expression_of x.0, x.1, lexemes_of source.now.bytes.now x.2.now)) result ((at source.now.types.now inside).assignment (lexemes_of source.now.bytes.now tokens.now)) }
+    ensures places { IfOk result (λ x. (expression_stands source.now.file x.0).right ≡ true) }
 {
     if inside == 0 {
         return Err(Failure::NoParse(tokens.len()));
@@ -64,8 +64,8 @@ pub fn conditional_inside<'a>(
     inside: u16,
     tokens: &'a [Token],
 ) -> Result<(Boxed<Expression>, u32, &'a [Token]), Failure>
-    ensures tree { Gives (λ x. (term_of x.0, x.1, lexemes_of source.now.bytes.now x.2.now)) result ((at source.now.types.now inside).conditional (lexemes_of source.now.bytes.now tokens.now)) }
-    ensures places { IfOk result (λ x. (term_stands source.now.file x.0).right ≡ true) }
+    ensures tree { Gives (λ x. (expression_of x.0, x.1, lexemes_of source.now.bytes.now x.2.now)) result ((at source.now.types.now inside).conditional (lexemes_of source.now.bytes.now tokens.now)) }
+    ensures places { IfOk result (λ x. (expression_stands source.now.file x.0).right ≡ true) }
 {
     if inside == 0 {
         return Err(Failure::NoParse(tokens.len()));
@@ -82,8 +82,8 @@ pub fn operators_inside<'a>(
     least: u32,
     tokens: &'a [Token],
 ) -> Result<(Boxed<Expression>, u32, &'a [Token]), Failure>
-    ensures tree { Gives (λ x. (term_of x.0, x.1, lexemes_of source.now.bytes.now x.2.now)) result ((at source.now.types.now inside).operators least (lexemes_of source.now.bytes.now tokens.now)) }
-    ensures places { IfOk result (λ x. (term_stands source.now.file x.0).right ≡ true) }
+    ensures tree { Gives (λ x. (expression_of x.0, x.1, lexemes_of source.now.bytes.now x.2.now)) result ((at source.now.types.now inside).operators least (lexemes_of source.now.bytes.now tokens.now)) }
+    ensures places { IfOk result (λ x. (expression_stands source.now.file x.0).right ≡ true) }
 {
     if inside == 0 {
         return Err(Failure::NoParse(tokens.len()));
@@ -99,8 +99,8 @@ pub fn operand_inside<'a>(
     inside: u16,
     tokens: &'a [Token],
 ) -> Result<(Boxed<Expression>, u32, &'a [Token]), Failure>
-    ensures tree { Gives (λ x. (term_of x.0, x.1, lexemes_of source.now.bytes.now x.2.now)) result ((at source.now.types.now inside).operand (lexemes_of source.now.bytes.now tokens.now)) }
-    ensures places { IfOk result (λ x. (term_stands source.now.file x.0).right ≡ true) }
+    ensures tree { Gives (λ x. (expression_of x.0, x.1, lexemes_of source.now.bytes.now x.2.now)) result ((at source.now.types.now inside).operand (lexemes_of source.now.bytes.now tokens.now)) }
+    ensures places { IfOk result (λ x. (expression_stands source.now.file x.0).right ≡ true) }
 {
     if inside == 0 {
         return Err(Failure::NoParse(tokens.len()));
@@ -116,8 +116,8 @@ pub fn unary_inside<'a>(
     inside: u16,
     tokens: &'a [Token],
 ) -> Result<(Boxed<Expression>, u32, &'a [Token]), Failure>
-    ensures tree { Gives (λ x. (term_of x.0, x.1, lexemes_of source.now.bytes.now x.2.now)) result ((at source.now.types.now inside).unary (lexemes_of source.now.bytes.now tokens.now)) }
-    ensures places { IfOk result (λ x. (term_stands source.now.file x.0).right ≡ true) }
+    ensures tree { Gives (λ x. (expression_of x.0, x.1, lexemes_of source.now.bytes.now x.2.now)) result ((at source.now.types.now inside).unary (lexemes_of source.now.bytes.now tokens.now)) }
+    ensures places { IfOk result (λ x. (expression_stands source.now.file x.0).right ≡ true) }
 {
     if inside == 0 {
         return Err(Failure::NoParse(tokens.len()));
@@ -133,7 +133,7 @@ pub fn specifiers_inside<'a>(
     inside: u16,
     tokens: &'a [Token],
 ) -> Result<(List<Specifier>, u32, &'a [Token]), Failure>
-    ensures tree { Gives (λ x. (specifiers_of (map specification_of x.0), x.1, lexemes_of source.now.bytes.now x.2.now)) result ((at source.now.types.now inside).specifiers (lexemes_of source.now.bytes.now tokens.now)) }
+    ensures tree { Gives (λ x. (specifiers_of (map specifier_of x.0), x.1, lexemes_of source.now.bytes.now x.2.now)) result ((at source.now.types.now inside).specifiers (lexemes_of source.now.bytes.now tokens.now)) }
     ensures places { IfOk result (λ x. all_stand (map (specifier_stands source.now.file) x.0) ≡ true) }
 {
     if inside == 0 {
@@ -142,21 +142,21 @@ pub fn specifiers_inside<'a>(
     specifiers(alloc, source, inside - 1, tokens)
 }
 
-/// A line of fields, of a depth of at most `inside`.
+/// A member declaration, of a depth of at most `inside`.
 #[cycle(expression)]
-pub fn line_inside<'a>(
+pub fn member_declaration_inside<'a>(
     alloc: Global,
     source: &Source,
     inside: u16,
     tokens: &'a [Token],
-) -> Result<(FieldLine, u32, &'a [Token]), Failure>
-    ensures tree { Gives (λ x. (line_of x.0, x.1, lexemes_of source.now.bytes.now x.2.now)) result ((at source.now.types.now inside).line (lexemes_of source.now.bytes.now tokens.now)) }
-    ensures places { IfOk result (λ x. line_right source.now.file x.0 ≡ true) }
+) -> Result<(MemberDeclaration, u32, &'a [Token]), Failure>
+    ensures tree { Gives (λ x. (member_declaration_of x.0, x.1, lexemes_of source.now.bytes.now x.2.now)) result ((at source.now.types.now inside).member_declaration (lexemes_of source.now.bytes.now tokens.now)) }
+    ensures places { IfOk result (λ x. member_declaration_right source.now.file x.0 ≡ true) }
 {
     if inside == 0 {
         return Err(Failure::NoParse(tokens.len()));
     }
-    line(alloc, source, inside - 1, tokens)
+    member_declaration(alloc, source, inside - 1, tokens)
 }
 
 /// An enumerator, of a depth of at most `inside`.
@@ -166,9 +166,9 @@ pub fn enumerator_inside<'a>(
     source: &Source,
     inside: u16,
     tokens: &'a [Token],
-) -> Result<((Word, Option<EnumeratorValue>), u32, &'a [Token]), Failure>
-    ensures tree { Gives (λ x. ((x.0.0, constant_of (option_map enumerator_constant_of x.0.1)), x.1, lexemes_of source.now.bytes.now x.2.now)) result ((at source.now.types.now inside).enumerator (lexemes_of source.now.bytes.now tokens.now)) }
-    ensures places { IfOk result (λ x. is_right_if_any (option_map (constant_right source.now.file) x.0.1) ≡ true) }
+) -> Result<((Spelling, Option<EnumeratorValue>), u32, &'a [Token]), Failure>
+    ensures tree { Gives (λ x. ((x.0.0, enumerator_value_of (option_map enumerator_value_layer_of x.0.1)), x.1, lexemes_of source.now.bytes.now x.2.now)) result ((at source.now.types.now inside).enumerator (lexemes_of source.now.bytes.now tokens.now)) }
+    ensures places { IfOk result (λ x. is_right_if_any (option_map (enumerator_value_right source.now.file) x.0.1) ≡ true) }
 {
     if inside == 0 {
         return Err(Failure::NoParse(tokens.len()));
@@ -178,17 +178,17 @@ pub fn enumerator_inside<'a>(
 
 /// A declarator or nothing, of a depth of at most `inside`.
 #[cycle(expression)]
-pub fn shape_inside<'a>(
+pub fn declarator_inside<'a>(
     alloc: Global,
     source: &Source,
     inside: u16,
     tokens: &'a [Token],
 ) -> Result<(Option<Boxed<Declarator>>, u32, &'a [Token]), Failure>
-    ensures tree { Gives (λ x. (shape_if_any (option_map shape_of x.0), x.1, lexemes_of source.now.bytes.now x.2.now)) result ((at source.now.types.now inside).shape (lexemes_of source.now.bytes.now tokens.now)) }
-    ensures places { IfOk result (λ x. stands_if_any (option_map (shape_stands source.now.file) x.0) ≡ true) }
+    ensures tree { Gives (λ x. (declarator_if_any (option_map declarator_of x.0), x.1, lexemes_of source.now.bytes.now x.2.now)) result ((at source.now.types.now inside).declarator (lexemes_of source.now.bytes.now tokens.now)) }
+    ensures places { IfOk result (λ x. stands_if_any (option_map (declarator_stands source.now.file) x.0) ≡ true) }
 {
     if inside == 0 {
         return Ok((None, 0, tokens));
     }
-    shape(alloc, source, inside - 1, tokens)
+    declarator(alloc, source, inside - 1, tokens)
 }

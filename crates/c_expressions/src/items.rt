@@ -2,30 +2,30 @@
 
 ghost use Rattle.std.specs.Prelude.{◌≡◌, ◌++◌, ◌∷◌, [], IfOk, false, map, true};
 ghost use Rattle.std.specs.Option.{option_map};
-ghost use Rattle.c_ast.specs.Places.{all_right, all_stand, constant_right, enumerator_right, is_right_if_any, parameter_right, shape_stands, specifier_stands, stands_if_any, term_stands};
+ghost use Rattle.c_ast.specs.Places.{all_right, all_stand, enumerator_value_right, enumerator_right, is_right_if_any, parameter_right, declarator_stands, specifier_stands, stands_if_any, expression_stands};
 ghost use Rattle.c_ast.specs.Trees;
-ghost use Rattle.c_ast.specs.Views.{constant_of, enumerator_constant_of, enumerator_of, parameter_of, shape_if_any, shape_of, specification_of, specifiers_of, term_of};
+ghost use Rattle.c_ast.specs.Views.{enumerator_value_of, enumerator_value_layer_of, enumerator_of, parameter_of, declarator_if_any, declarator_of, specifier_of, specifiers_of, expression_of};
 ghost use Rattle.c_expressions.specs.Reading.{is_nothing};
 
-use crate::building::{add, boxed};
+use lay_base::{add, boxed};
 use crate::places::{place_of, placed};
 use crate::source::Source;
 use c_ast::{
     At, Declarator, DeclaratorNode, Enumerator, EnumeratorValue, Expression, ExpressionNode,
-    Parameter, Specifier, Word,
+    Parameter, Specifier, Spelling,
 };
 use lay_base::{Boxed, List, NoMemory};
 use std::alloc::Global;
 
 /// A parameter of its parts.
-pub fn parameter_of_parts(
+pub fn parameter_of_items(
     source: &Source,
     comma: Option<At>,
     specifiers: List<Specifier>,
     declarator: Option<Boxed<Declarator>>,
 ) -> Parameter
-    requires places { (all_stand (map (specifier_stands source.now.file) specifiers) ≡ true) × (stands_if_any (option_map (shape_stands source.now.file) declarator) ≡ true) }
-    ensures tree { parameter_of result ≡ (comma, specifiers_of (map specification_of specifiers), shape_if_any (option_map shape_of declarator)) }
+    requires places { (all_stand (map (specifier_stands source.now.file) specifiers) ≡ true) × (stands_if_any (option_map (declarator_stands source.now.file) declarator) ≡ true) }
+    ensures tree { parameter_of result ≡ (comma, specifiers_of (map specifier_of specifiers), declarator_if_any (option_map declarator_of declarator)) }
     ensures places { parameter_right source.now.file result ≡ true }
 {
     Parameter {
@@ -51,14 +51,14 @@ pub fn with_parameter(
 }
 
 /// An enumerator of its parts.
-pub fn enumerator_of_parts(
+pub fn enumerator_of_items(
     source: &Source,
     comma: Option<At>,
-    name: Word,
+    name: Spelling,
     value: Option<EnumeratorValue>,
 ) -> Enumerator
-    requires places { is_right_if_any (option_map (constant_right source.now.file) value) ≡ true }
-    ensures tree { enumerator_of result ≡ (comma, name, constant_of (option_map enumerator_constant_of value)) }
+    requires places { is_right_if_any (option_map (enumerator_value_right source.now.file) value) ≡ true }
+    ensures tree { enumerator_of result ≡ (comma, name, enumerator_value_of (option_map enumerator_value_layer_of value)) }
     ensures places { enumerator_right source.now.file result ≡ true }
 {
     Enumerator {
@@ -84,47 +84,47 @@ pub fn with_enumerator(
     Ok(all)
 }
 
-/// An expression with `.` and a name behind it.
+/// An expression with `.` and a name after it.
 pub fn dotted(
     alloc: Global,
     source: &Source,
     x: Boxed<Expression>,
-    mark: At,
-    name: Word,
+    punctuator: At,
+    name: Spelling,
 ) -> Result<Boxed<Expression>, NoMemory>
-    requires places { (term_stands source.now.file x).right ≡ true }
-    ensures tree { IfOk result (λ whole. term_of whole ≡ Trees.dot (term_of x) mark name) }
-    ensures places { IfOk result (λ whole. (term_stands source.now.file whole).right ≡ true) }
+    requires places { (expression_stands source.now.file x).right ≡ true }
+    ensures tree { IfOk result (λ whole. expression_of whole ≡ Trees.dot (expression_of x) punctuator name) }
+    ensures places { IfOk result (λ whole. (expression_stands source.now.file whole).right ≡ true) }
 {
     let whole = Expression {
         place: place_of(source, x.get()),
-        node: ExpressionNode::Dot(x, mark, name),
+        node: ExpressionNode::Dot(x, punctuator, name),
     };
     boxed(alloc, whole)
 }
 
-/// An expression with `->` and a name behind it.
+/// An expression with `->` and a name after it.
 pub fn arrowed(
     alloc: Global,
     source: &Source,
     x: Boxed<Expression>,
-    mark: At,
-    name: Word,
+    punctuator: At,
+    name: Spelling,
 ) -> Result<Boxed<Expression>, NoMemory>
-    requires places { (term_stands source.now.file x).right ≡ true }
-    ensures tree { IfOk result (λ whole. term_of whole ≡ Trees.arrow (term_of x) mark name) }
-    ensures places { IfOk result (λ whole. (term_stands source.now.file whole).right ≡ true) }
+    requires places { (expression_stands source.now.file x).right ≡ true }
+    ensures tree { IfOk result (λ whole. expression_of whole ≡ Trees.arrow (expression_of x) punctuator name) }
+    ensures places { IfOk result (λ whole. (expression_stands source.now.file whole).right ≡ true) }
 {
     let whole = Expression {
         place: place_of(source, x.get()),
-        node: ExpressionNode::Arrow(x, mark, name),
+        node: ExpressionNode::Arrow(x, punctuator, name),
     };
     boxed(alloc, whole)
 }
 
 /// What is known of each declarator: it stands for something.
 pub fn stands_for_something(declarator: &Declarator)
-    ensures { is_nothing (shape_of declarator.now) ≡ false }
+    ensures { is_nothing (declarator_of declarator.now) ≡ false }
 {
     match &declarator.node {
         DeclaratorNode::Identifier(_) => {}

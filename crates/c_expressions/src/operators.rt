@@ -1,12 +1,12 @@
 //! Operators and keywords by their tokens.
 
 ghost use Rattle.std.specs.Prelude.{◌≡◌};
-ghost use Rattle.c_ast.specs.Levels.{strength, level};
-ghost use Rattle.c_ast.specs.Views.{term_of};
+ghost use Rattle.c_ast.specs.WellFormed.{strength, level};
+ghost use Rattle.c_ast.specs.Views.{expression_of};
 ghost use Rattle.c_expressions.specs.Reading.{step_op, unary_op, binary_op, assign_op, specifier_word};
 
 use c_ast::{AssignOp, BinaryOp, Expression, ExpressionNode, SpecifierWord, StepOp, UnaryOp};
-use c_lexer::{Mark, TokenKind};
+use c_lexer::{Punctuator, TokenKind};
 use lay_base::Keyword;
 
 /// The operator `++` or `--` that a token is.
@@ -14,8 +14,8 @@ pub fn step_of(kind: TokenKind) -> Option<StepOp>
     ensures { result ≡ step_op kind }
 {
     match kind {
-        TokenKind::Mark(Mark::PlusPlus) => Some(StepOp::Increment),
-        TokenKind::Mark(Mark::MinusMinus) => Some(StepOp::Decrement),
+        TokenKind::Punctuator(Punctuator::PlusPlus) => Some(StepOp::Increment),
+        TokenKind::Punctuator(Punctuator::MinusMinus) => Some(StepOp::Decrement),
         _ => None,
     }
 }
@@ -25,12 +25,12 @@ pub fn unary_of(kind: TokenKind) -> Option<UnaryOp>
     ensures { result ≡ unary_op kind }
 {
     match kind {
-        TokenKind::Mark(Mark::And) => Some(UnaryOp::Address),
-        TokenKind::Mark(Mark::Star) => Some(UnaryOp::Deref),
-        TokenKind::Mark(Mark::Plus) => Some(UnaryOp::Plus),
-        TokenKind::Mark(Mark::Minus) => Some(UnaryOp::Minus),
-        TokenKind::Mark(Mark::Tilde) => Some(UnaryOp::Complement),
-        TokenKind::Mark(Mark::Not) => Some(UnaryOp::Not),
+        TokenKind::Punctuator(Punctuator::And) => Some(UnaryOp::Address),
+        TokenKind::Punctuator(Punctuator::Star) => Some(UnaryOp::Deref),
+        TokenKind::Punctuator(Punctuator::Plus) => Some(UnaryOp::Plus),
+        TokenKind::Punctuator(Punctuator::Minus) => Some(UnaryOp::Minus),
+        TokenKind::Punctuator(Punctuator::Tilde) => Some(UnaryOp::Complement),
+        TokenKind::Punctuator(Punctuator::Not) => Some(UnaryOp::Not),
         _ => None,
     }
 }
@@ -40,24 +40,24 @@ pub fn binary_of(kind: TokenKind) -> Option<BinaryOp>
     ensures { result ≡ binary_op kind }
 {
     match kind {
-        TokenKind::Mark(Mark::BarBar) => Some(BinaryOp::Or),
-        TokenKind::Mark(Mark::AndAnd) => Some(BinaryOp::And),
-        TokenKind::Mark(Mark::Bar) => Some(BinaryOp::BitOr),
-        TokenKind::Mark(Mark::Caret) => Some(BinaryOp::BitXor),
-        TokenKind::Mark(Mark::And) => Some(BinaryOp::BitAnd),
-        TokenKind::Mark(Mark::EqualEqual) => Some(BinaryOp::Equal),
-        TokenKind::Mark(Mark::NotEqual) => Some(BinaryOp::NotEqual),
-        TokenKind::Mark(Mark::Less) => Some(BinaryOp::Less),
-        TokenKind::Mark(Mark::Greater) => Some(BinaryOp::Greater),
-        TokenKind::Mark(Mark::LessEqual) => Some(BinaryOp::LessEqual),
-        TokenKind::Mark(Mark::GreaterEqual) => Some(BinaryOp::GreaterEqual),
-        TokenKind::Mark(Mark::ShiftLeft) => Some(BinaryOp::ShiftLeft),
-        TokenKind::Mark(Mark::ShiftRight) => Some(BinaryOp::ShiftRight),
-        TokenKind::Mark(Mark::Plus) => Some(BinaryOp::Add),
-        TokenKind::Mark(Mark::Minus) => Some(BinaryOp::Subtract),
-        TokenKind::Mark(Mark::Star) => Some(BinaryOp::Multiply),
-        TokenKind::Mark(Mark::Slash) => Some(BinaryOp::Divide),
-        TokenKind::Mark(Mark::Percent) => Some(BinaryOp::Remainder),
+        TokenKind::Punctuator(Punctuator::BarBar) => Some(BinaryOp::Or),
+        TokenKind::Punctuator(Punctuator::AndAnd) => Some(BinaryOp::And),
+        TokenKind::Punctuator(Punctuator::Bar) => Some(BinaryOp::BitOr),
+        TokenKind::Punctuator(Punctuator::Caret) => Some(BinaryOp::BitXor),
+        TokenKind::Punctuator(Punctuator::And) => Some(BinaryOp::BitAnd),
+        TokenKind::Punctuator(Punctuator::EqualEqual) => Some(BinaryOp::Equal),
+        TokenKind::Punctuator(Punctuator::NotEqual) => Some(BinaryOp::NotEqual),
+        TokenKind::Punctuator(Punctuator::Less) => Some(BinaryOp::Less),
+        TokenKind::Punctuator(Punctuator::Greater) => Some(BinaryOp::Greater),
+        TokenKind::Punctuator(Punctuator::LessEqual) => Some(BinaryOp::LessEqual),
+        TokenKind::Punctuator(Punctuator::GreaterEqual) => Some(BinaryOp::GreaterEqual),
+        TokenKind::Punctuator(Punctuator::ShiftLeft) => Some(BinaryOp::ShiftLeft),
+        TokenKind::Punctuator(Punctuator::ShiftRight) => Some(BinaryOp::ShiftRight),
+        TokenKind::Punctuator(Punctuator::Plus) => Some(BinaryOp::Add),
+        TokenKind::Punctuator(Punctuator::Minus) => Some(BinaryOp::Subtract),
+        TokenKind::Punctuator(Punctuator::Star) => Some(BinaryOp::Multiply),
+        TokenKind::Punctuator(Punctuator::Slash) => Some(BinaryOp::Divide),
+        TokenKind::Punctuator(Punctuator::Percent) => Some(BinaryOp::Remainder),
         _ => None,
     }
 }
@@ -67,23 +67,23 @@ pub fn assigning_of(kind: TokenKind) -> Option<AssignOp>
     ensures { result ≡ assign_op kind }
 {
     match kind {
-        TokenKind::Mark(Mark::Equal) => Some(AssignOp::Plain),
-        TokenKind::Mark(Mark::StarEqual) => Some(AssignOp::Multiply),
-        TokenKind::Mark(Mark::SlashEqual) => Some(AssignOp::Divide),
-        TokenKind::Mark(Mark::PercentEqual) => Some(AssignOp::Remainder),
-        TokenKind::Mark(Mark::PlusEqual) => Some(AssignOp::Add),
-        TokenKind::Mark(Mark::MinusEqual) => Some(AssignOp::Subtract),
-        TokenKind::Mark(Mark::ShiftLeftEqual) => Some(AssignOp::ShiftLeft),
-        TokenKind::Mark(Mark::ShiftRightEqual) => Some(AssignOp::ShiftRight),
-        TokenKind::Mark(Mark::AndEqual) => Some(AssignOp::BitAnd),
-        TokenKind::Mark(Mark::CaretEqual) => Some(AssignOp::BitXor),
-        TokenKind::Mark(Mark::BarEqual) => Some(AssignOp::BitOr),
+        TokenKind::Punctuator(Punctuator::Equal) => Some(AssignOp::Plain),
+        TokenKind::Punctuator(Punctuator::StarEqual) => Some(AssignOp::Multiply),
+        TokenKind::Punctuator(Punctuator::SlashEqual) => Some(AssignOp::Divide),
+        TokenKind::Punctuator(Punctuator::PercentEqual) => Some(AssignOp::Remainder),
+        TokenKind::Punctuator(Punctuator::PlusEqual) => Some(AssignOp::Add),
+        TokenKind::Punctuator(Punctuator::MinusEqual) => Some(AssignOp::Subtract),
+        TokenKind::Punctuator(Punctuator::ShiftLeftEqual) => Some(AssignOp::ShiftLeft),
+        TokenKind::Punctuator(Punctuator::ShiftRightEqual) => Some(AssignOp::ShiftRight),
+        TokenKind::Punctuator(Punctuator::AndEqual) => Some(AssignOp::BitAnd),
+        TokenKind::Punctuator(Punctuator::CaretEqual) => Some(AssignOp::BitXor),
+        TokenKind::Punctuator(Punctuator::BarEqual) => Some(AssignOp::BitOr),
         _ => None,
     }
 }
 
 /// The specifier that a keyword is by itself.
-pub fn specifier_of(kind: TokenKind) -> Option<SpecifierWord>
+pub fn keyword_specifier_of(kind: TokenKind) -> Option<SpecifierWord>
     ensures { result ≡ specifier_word kind }
 {
     match kind {
@@ -124,7 +124,7 @@ pub fn strength_of(op: BinaryOp) -> u32
 
 /// The level of an expression, from 0 of the comma up to 16 of what stands alone.
 pub fn level_of(expression: &Expression) -> u32
-    ensures { result ≡ level (term_of expression.now) }
+    ensures { result ≡ level (expression_of expression.now) }
 {
     match &expression.node {
         ExpressionNode::Name(_)
@@ -139,8 +139,8 @@ pub fn level_of(expression: &Expression) -> u32
         | ExpressionNode::Post(_, _, _) => 15,
         ExpressionNode::Pre(_, _, _)
         | ExpressionNode::Unary(_, _, _)
-        | ExpressionNode::SizeofExpr(_, _)
-        | ExpressionNode::SizeofForm(_, _, _, _) => 14,
+        | ExpressionNode::SizeofExpression(_, _)
+        | ExpressionNode::SizeofType(_, _, _, _) => 14,
         ExpressionNode::Cast(_, _, _, _) => 13,
         ExpressionNode::Binary(_, op, _, _) => strength_of(*op),
         ExpressionNode::Cond(_, _, _, _, _) => 2,

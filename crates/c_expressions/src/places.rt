@@ -2,10 +2,10 @@
 
 ghost use Rattle.std.specs.Prelude.{◌≡◌, map, true};
 ghost use Rattle.std.specs.Option.{option_map};
-ghost use Rattle.c_ast.specs.Places.{all_stand, first_of, first_or, first_text, is_place, shape_stands, specifier_stands, stands_if_any, term_stands};
+ghost use Rattle.c_ast.specs.Places.{all_stand, first_of, first_or, first_text, is_place, declarator_stands, specifier_stands, stands_if_any, expression_stands};
 
 use crate::source::Source;
-use c_ast::{At, Declarator, Expression, Specifier, Word};
+use c_ast::{At, Declarator, Expression, Specifier, Spelling};
 use lay_base::{Boxed, List, Place};
 
 /// The place of a byte of the file.
@@ -20,7 +20,7 @@ pub fn placed(source: &Source, at: At) -> Place
 }
 
 /// The byte of the first of several string literals.
-pub fn first_text(all: &List<Word>) -> At
+pub fn first_text(all: &List<Spelling>) -> At
     ensures { result ≡ first_text all.now }
 {
     match all.get(0) {
@@ -31,8 +31,8 @@ pub fn first_text(all: &List<Word>) -> At
 
 /// The place of an expression, at which what it stands first in begins too.
 pub fn place_of(source: &Source, a: &Expression) -> Place
-    requires { (term_stands source.now.file a.now).right ≡ true }
-    ensures { is_place source.now.file (term_stands source.now.file a.now).first result ≡ true }
+    requires { (expression_stands source.now.file a.now).right ≡ true }
+    ensures { is_place source.now.file (expression_stands source.now.file a.now).first result ≡ true }
 {
     let Expression { place, .. } = a;
     *place
@@ -40,8 +40,8 @@ pub fn place_of(source: &Source, a: &Expression) -> Place
 
 /// The place of a declarator.
 fn place_of_declarator(source: &Source, declarator: &Declarator) -> Place
-    requires { (shape_stands source.now.file declarator.now).right ≡ true }
-    ensures { is_place source.now.file (shape_stands source.now.file declarator.now).first result ≡ true }
+    requires { (declarator_stands source.now.file declarator.now).right ≡ true }
+    ensures { is_place source.now.file (declarator_stands source.now.file declarator.now).first result ≡ true }
 {
     let Declarator { place, .. } = declarator;
     *place
@@ -56,25 +56,25 @@ fn place_of_specifier(source: &Source, specifier: &Specifier) -> Place
     *place
 }
 
-/// The place of a declarator, or of the mark behind it where there is none.
-pub fn place_from(source: &Source, declarator: &Option<Boxed<Declarator>>, mark: At) -> Place
-    requires { stands_if_any (option_map (shape_stands source.now.file) declarator.now) ≡ true }
-    ensures { is_place source.now.file (first_or mark (option_map (shape_stands source.now.file) declarator.now)) result ≡ true }
+/// The place of a declarator, or of the punctuator after it where there is none.
+pub fn place_from(source: &Source, declarator: &Option<Boxed<Declarator>>, punctuator: At) -> Place
+    requires { stands_if_any (option_map (declarator_stands source.now.file) declarator.now) ≡ true }
+    ensures { is_place source.now.file (first_or punctuator (option_map (declarator_stands source.now.file) declarator.now)) result ≡ true }
 {
     match declarator {
         Some(declarator) => place_of_declarator(source, declarator.get()),
-        None => placed(source, mark),
+        None => placed(source, punctuator),
     }
 }
 
-/// The place of an expression, or of the mark behind it where there is none.
-pub fn place_before(source: &Source, a: &Option<Boxed<Expression>>, mark: At) -> Place
-    requires { stands_if_any (option_map (term_stands source.now.file) a.now) ≡ true }
-    ensures { is_place source.now.file (first_or mark (option_map (term_stands source.now.file) a.now)) result ≡ true }
+/// The place of an expression, or of the punctuator after it where there is none.
+pub fn place_before(source: &Source, a: &Option<Boxed<Expression>>, punctuator: At) -> Place
+    requires { stands_if_any (option_map (expression_stands source.now.file) a.now) ≡ true }
+    ensures { is_place source.now.file (first_or punctuator (option_map (expression_stands source.now.file) a.now)) result ≡ true }
 {
     match a {
         Some(a) => place_of(source, a.get()),
-        None => placed(source, mark),
+        None => placed(source, punctuator),
     }
 }
 

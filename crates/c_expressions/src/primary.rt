@@ -1,21 +1,21 @@
 //! Primary expressions (C99 6.5.1).
 
 ghost use Rattle.std.specs.Prelude.{◌+◌, [], length, IfOk, true, ◌≡◌};
-ghost use Rattle.c_ast.specs.Places.{term_stands};
-ghost use Rattle.c_ast.specs.Views.{term_of};
+ghost use Rattle.c_ast.specs.Places.{expression_stands};
+ghost use Rattle.c_ast.specs.Views.{expression_of};
 ghost use Rattle.c_expressions.specs.Gives.{Gives};
 ghost use Rattle.c_expressions.specs.Lexemes.{lexemes_of};
 ghost use Rattle.c_expressions.specs.Reading.{chain, text_in, texts_in, paren_in, primary_in, at};
 
-use crate::building::{add, boxed};
+use lay_base::{add, boxed};
 use crate::failure::Failure;
 use crate::inside::expression_inside;
 use crate::names::{is_type, word};
 use crate::places::{first_text, placed};
 use crate::source::Source;
-use crate::tokens::{behind_left, behind_right, deeper_than};
-use c_ast::{Expression, ExpressionNode, Word};
-use c_lexer::{Mark, Token, TokenKind};
+use crate::tokens::{after_left, after_right, deeper_than};
+use c_ast::{Expression, ExpressionNode, Spelling};
+use c_lexer::{Punctuator, Token, TokenKind};
 use lay_base::{Boxed, List};
 use std::alloc::Global;
 
@@ -24,10 +24,10 @@ use std::alloc::Global;
 pub fn text<'a>(
     alloc: Global,
     source: &Source,
-    all: List<Word>,
+    all: List<Spelling>,
     d: u32,
     tokens: &'a [Token],
-) -> Result<(List<Word>, u32, &'a [Token], bool), Failure>
+) -> Result<(List<Spelling>, u32, &'a [Token], bool), Failure>
     ensures { Gives (λ x. (x.0, x.1, lexemes_of source.now.bytes.now x.2.now, x.3)) result (text_in all d (lexemes_of source.now.bytes.now tokens.now)) }
 {
     match tokens {
@@ -49,7 +49,7 @@ pub fn text_list<'a>(
     alloc: Global,
     source: &Source,
     tokens: &'a [Token],
-) -> Result<(List<Word>, u32, &'a [Token]), Failure>
+) -> Result<(List<Spelling>, u32, &'a [Token]), Failure>
     ensures { Gives (λ x. (x.0, x.1, lexemes_of source.now.bytes.now x.2.now)) result (chain text_in (length (lexemes_of source.now.bytes.now tokens.now) + 1) [] 1 (lexemes_of source.now.bytes.now tokens.now)) }
 {
     let mut all = List::new(alloc);
@@ -57,10 +57,10 @@ pub fn text_list<'a>(
     let mut rest = tokens;
     let mut turns = tokens.len() as u64 + 1;
     'more: while turns > 0 {
-        let (more, e, behind, on) = text(alloc, source, all, d, rest)?;
+        let (more, e, after, on) = text(alloc, source, all, d, rest)?;
         all = more;
         d = e;
-        rest = behind;
+        rest = after;
         turns -= 1;
         if !on {
             return Ok((all, d, rest));
@@ -76,8 +76,8 @@ pub fn texts<'a>(
     source: &Source,
     tokens: &'a [Token],
 ) -> Result<(Boxed<Expression>, u32, &'a [Token]), Failure>
-    ensures tree { Gives (λ x. (term_of x.0, x.1, lexemes_of source.now.bytes.now x.2.now)) result (texts_in (lexemes_of source.now.bytes.now tokens.now)) }
-    ensures places { IfOk result (λ x. (term_stands source.now.file x.0).right ≡ true) }
+    ensures tree { Gives (λ x. (expression_of x.0, x.1, lexemes_of source.now.bytes.now x.2.now)) result (texts_in (lexemes_of source.now.bytes.now tokens.now)) }
+    ensures places { IfOk result (λ x. (expression_stands source.now.file x.0).right ≡ true) }
 {
     let (all, d, rest) = text_list(alloc, source, tokens)?;
     let whole = Expression {
@@ -96,12 +96,12 @@ pub fn paren<'a>(
     inside: u16,
     tokens: &'a [Token],
 ) -> Result<(Boxed<Expression>, u32, &'a [Token]), Failure>
-    ensures tree { Gives (λ x. (term_of x.0, x.1, lexemes_of source.now.bytes.now x.2.now)) result (paren_in inside (at source.now.types.now inside) (lexemes_of source.now.bytes.now tokens.now)) }
-    ensures places { IfOk result (λ x. (term_stands source.now.file x.0).right ≡ true) }
+    ensures tree { Gives (λ x. (expression_of x.0, x.1, lexemes_of source.now.bytes.now x.2.now)) result (paren_in inside (at source.now.types.now inside) (lexemes_of source.now.bytes.now tokens.now)) }
+    ensures places { IfOk result (λ x. (expression_stands source.now.file x.0).right ≡ true) }
 {
-    let (left, rest) = behind_left(source, tokens)?;
+    let (left, rest) = after_left(source, tokens)?;
     let (a, d, rest) = expression_inside(alloc, source, inside, rest)?;
-    let (right, rest) = behind_right(source, rest)?;
+    let (right, rest) = after_right(source, rest)?;
     let d = deeper_than(inside, d, rest)?;
     let whole = Expression {
         place: placed(source, left),
@@ -119,8 +119,8 @@ pub fn primary<'a>(
     inside: u16,
     tokens: &'a [Token],
 ) -> Result<(Boxed<Expression>, u32, &'a [Token]), Failure>
-    ensures tree { Gives (λ x. (term_of x.0, x.1, lexemes_of source.now.bytes.now x.2.now)) result (primary_in source.now.types.now inside (at source.now.types.now inside) (lexemes_of source.now.bytes.now tokens.now)) }
-    ensures places { IfOk result (λ x. (term_stands source.now.file x.0).right ≡ true) }
+    ensures tree { Gives (λ x. (expression_of x.0, x.1, lexemes_of source.now.bytes.now x.2.now)) result (primary_in source.now.types.now inside (at source.now.types.now inside) (lexemes_of source.now.bytes.now tokens.now)) }
+    ensures places { IfOk result (λ x. (expression_stands source.now.file x.0).right ≡ true) }
 {
     match tokens {
         [token, rest @ ..] => match token.kind {
@@ -152,7 +152,7 @@ pub fn primary<'a>(
                 Ok((boxed(alloc, whole)?, 1, rest))
             }
             TokenKind::Text => texts(alloc, source, tokens),
-            TokenKind::Mark(Mark::Open) => paren(alloc, source, inside, tokens),
+            TokenKind::Punctuator(Punctuator::Open) => paren(alloc, source, inside, tokens),
             _ => Err(Failure::NoParse(tokens.len())),
         },
         [] => Err(Failure::NoParse(tokens.len())),

@@ -2,17 +2,17 @@
 
 ghost use Rattle.std.specs.Prelude.{◌+◌, [], length, map, IfOk, true, ◌≡◌};
 ghost use Rattle.c_ast.specs.Places.{all_stand, specifier_stands};
-ghost use Rattle.c_ast.specs.Views.{specification_of, specifiers_of};
+ghost use Rattle.c_ast.specs.Views.{specifier_of, specifiers_of};
 ghost use Rattle.c_expressions.specs.Gives.{Gives};
 ghost use Rattle.c_expressions.specs.Lexemes.{lexemes_of};
-ghost use Rattle.c_expressions.specs.Reading.{chain, specification_in, specifier_step, specifiers_in, at};
+ghost use Rattle.c_expressions.specs.Reading.{chain, specifier_in, specifier_step, specifiers_in, at};
 
 use crate::begins::begins_specifier;
-use crate::building::add;
+use lay_base::add;
 use crate::enumerations::enumeration;
 use crate::failure::Failure;
 use crate::names::{is_type, word};
-use crate::operators::specifier_of;
+use crate::operators::keyword_specifier_of;
 use crate::places::placed;
 use crate::source::Source;
 use crate::structures::structure;
@@ -24,22 +24,22 @@ use std::alloc::Global;
 
 /// A specifier (C99 6.7.1 to 6.7.3).
 #[cycle(expression)]
-#[tactic(auto, unfolding(crate::specs::Reading::specification_in))]
+#[tactic(auto, unfolding(crate::specs::Reading::specifier_in))]
 pub fn specifier<'a>(
     alloc: Global,
     source: &Source,
     inside: u16,
     tokens: &'a [Token],
 ) -> Result<(Specifier, u32, &'a [Token]), Failure>
-    ensures tree { Gives (λ x. (specification_of x.0, x.1, lexemes_of source.now.bytes.now x.2.now)) result (specification_in source.now.types.now inside (at source.now.types.now inside) (lexemes_of source.now.bytes.now tokens.now)) }
+    ensures tree { Gives (λ x. (specifier_of x.0, x.1, lexemes_of source.now.bytes.now x.2.now)) result (specifier_in source.now.types.now inside (at source.now.types.now inside) (lexemes_of source.now.bytes.now tokens.now)) }
     ensures places { IfOk result (λ x. (specifier_stands source.now.file x.0).right ≡ true) }
 {
     match tokens {
-        [token, rest @ ..] => match specifier_of(token.kind) {
+        [token, rest @ ..] => match keyword_specifier_of(token.kind) {
             Some(keyword) => {
                 let whole = Specifier {
                     place: placed(source, token.from),
-                    node: SpecifierNode::Word(keyword, token.from),
+                    node: SpecifierNode::Spelling(keyword, token.from),
                 };
                 Ok((whole, 1, rest))
             }
@@ -80,7 +80,7 @@ pub fn next_specifier<'a>(
     tokens: &'a [Token],
 ) -> Result<(List<Specifier>, u32, &'a [Token], bool), Failure>
     requires places { all_stand (map (specifier_stands source.now.file) all) ≡ true }
-    ensures tree { Gives (λ x. (map specification_of x.0, x.1, lexemes_of source.now.bytes.now x.2.now, x.3)) result (specifier_step source.now.types.now inside (at source.now.types.now inside) (map specification_of all) d (lexemes_of source.now.bytes.now tokens.now)) }
+    ensures tree { Gives (λ x. (map specifier_of x.0, x.1, lexemes_of source.now.bytes.now x.2.now, x.3)) result (specifier_step source.now.types.now inside (at source.now.types.now inside) (map specifier_of all) d (lexemes_of source.now.bytes.now tokens.now)) }
     ensures places { IfOk result (λ x. all_stand (map (specifier_stands source.now.file) x.0) ≡ true) }
 {
     let (one, e, rest) = specifier(alloc, source, inside, tokens)?;
@@ -98,7 +98,7 @@ pub fn specifier_list<'a>(
     inside: u16,
     tokens: &'a [Token],
 ) -> Result<(List<Specifier>, u32, &'a [Token]), Failure>
-    ensures tree { Gives (λ x. (map specification_of x.0, x.1, lexemes_of source.now.bytes.now x.2.now)) result (chain (specifier_step source.now.types.now inside (at source.now.types.now inside)) (length (lexemes_of source.now.bytes.now tokens.now) + 1) [] 0 (lexemes_of source.now.bytes.now tokens.now)) }
+    ensures tree { Gives (λ x. (map specifier_of x.0, x.1, lexemes_of source.now.bytes.now x.2.now)) result (chain (specifier_step source.now.types.now inside (at source.now.types.now inside)) (length (lexemes_of source.now.bytes.now tokens.now) + 1) [] 0 (lexemes_of source.now.bytes.now tokens.now)) }
     ensures places { IfOk result (λ x. all_stand (map (specifier_stands source.now.file) x.0) ≡ true) }
 {
     let mut all = List::new(alloc);
@@ -106,10 +106,10 @@ pub fn specifier_list<'a>(
     let mut rest = tokens;
     let mut turns = tokens.len() as u64 + 1;
     'more: while turns > 0 {
-        let (more, e, behind, on) = next_specifier(alloc, source, inside, all, d, rest)?;
+        let (more, e, after, on) = next_specifier(alloc, source, inside, all, d, rest)?;
         all = more;
         d = e;
-        rest = behind;
+        rest = after;
         turns -= 1;
         if !on {
             return Ok((all, d, rest));
@@ -127,7 +127,7 @@ pub fn specifiers<'a>(
     inside: u16,
     tokens: &'a [Token],
 ) -> Result<(List<Specifier>, u32, &'a [Token]), Failure>
-    ensures tree { Gives (λ x. (specifiers_of (map specification_of x.0), x.1, lexemes_of source.now.bytes.now x.2.now)) result (specifiers_in source.now.types.now inside (at source.now.types.now inside) (lexemes_of source.now.bytes.now tokens.now)) }
+    ensures tree { Gives (λ x. (specifiers_of (map specifier_of x.0), x.1, lexemes_of source.now.bytes.now x.2.now)) result (specifiers_in source.now.types.now inside (at source.now.types.now inside) (lexemes_of source.now.bytes.now tokens.now)) }
     ensures places { IfOk result (λ x. all_stand (map (specifier_stands source.now.file) x.0) ≡ true) }
 {
     let (all, d, rest) = specifier_list(alloc, source, inside, tokens)?;

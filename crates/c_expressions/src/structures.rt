@@ -1,53 +1,53 @@
 //! Structures (C99 6.7.2.1).
 
 ghost use Rattle.std.specs.Prelude.{◌+◌, [], length, map, IfOk, true, ◌≡◌};
-ghost use Rattle.c_ast.specs.Places.{all_right, field_right, line_right, specifier_stands};
+ghost use Rattle.c_ast.specs.Places.{all_right, member_declarator_right, member_declaration_right, specifier_stands};
 ghost use Rattle.c_ast.specs.Trees;
-ghost use Rattle.c_ast.specs.Views.{field_of, line_of, specification_of};
+ghost use Rattle.c_ast.specs.Views.{member_declarator_of, member_declaration_of, specifier_of};
 ghost use Rattle.c_expressions.specs.Gives.{Gives};
 ghost use Rattle.c_expressions.specs.Lexemes.{lexemes_of};
-ghost use Rattle.c_expressions.specs.Reading.{chain, tag_if_any, field_step, line_in, line_step, struct_body_in, tagged_in, at};
+ghost use Rattle.c_expressions.specs.Reading.{chain, tag_if_any, member_declarator_step, member_declaration_in, member_declaration_step, struct_body_in, tagged_in, at};
 
-use crate::building::add;
+use lay_base::add;
 use crate::failure::Failure;
-use crate::inside::{line_inside, shape_inside, specifiers_inside};
+use crate::inside::{member_declaration_inside, declarator_inside, specifiers_inside};
 use crate::names::tag_if_any;
 use crate::places::{place_of_first, placed};
-use crate::shapes::has_name;
+use crate::declarator_names::has_name;
 use crate::source::Source;
 use crate::tokens::{
-    behind_left_brace, behind_right_brace, behind_semicolon, comma_before, deeper_than,
+    after_left_brace, after_right_brace, after_semicolon, comma_before, deeper_than,
     fronted_comma, fronted_left_brace, fronted_right_brace, larger,
 };
-use c_ast::{At, FieldDeclarator, FieldLine, Specifier, SpecifierNode, Word};
+use c_ast::{At, MemberDeclarator, MemberDeclaration, Specifier, SpecifierNode, Spelling};
 use c_lexer::Token;
 use lay_base::List;
 use std::alloc::Global;
 
 /// One declarator of a field more.
 #[cycle(expression)]
-#[tactic(auto, unfolding(crate::specs::Reading::field_step))]
-pub fn field<'a>(
+#[tactic(auto, unfolding(crate::specs::Reading::member_declarator_step))]
+pub fn member_declarator<'a>(
     alloc: Global,
     source: &Source,
     inside: u16,
-    all: List<FieldDeclarator>,
+    all: List<MemberDeclarator>,
     d: u32,
     tokens: &'a [Token],
-) -> Result<(List<FieldDeclarator>, u32, &'a [Token], bool), Failure>
-    requires places { all_right (map (field_right source.now.file) all) ≡ true }
-    ensures tree { Gives (λ x. (map field_of x.0, x.1, lexemes_of source.now.bytes.now x.2.now, x.3)) result (field_step (at source.now.types.now inside) (map field_of all) d (lexemes_of source.now.bytes.now tokens.now)) }
-    ensures places { IfOk result (λ x. all_right (map (field_right source.now.file) x.0) ≡ true) }
+) -> Result<(List<MemberDeclarator>, u32, &'a [Token], bool), Failure>
+    requires places { all_right (map (member_declarator_right source.now.file) all) ≡ true }
+    ensures tree { Gives (λ x. (map member_declarator_of x.0, x.1, lexemes_of source.now.bytes.now x.2.now, x.3)) result (member_declarator_step (at source.now.types.now inside) (map member_declarator_of all) d (lexemes_of source.now.bytes.now tokens.now)) }
+    ensures places { IfOk result (λ x. all_right (map (member_declarator_right source.now.file) x.0) ≡ true) }
 {
     let (comma, rest) = comma_before(source, &all, tokens)?;
-    let (declarator, e, rest) = shape_inside(alloc, source, inside, rest)?;
+    let (declarator, e, rest) = declarator_inside(alloc, source, inside, rest)?;
     match declarator {
         Some(declarator) => {
             if !has_name(declarator.get()) {
                 return Err(Failure::NoParse(rest.len()));
             }
             let mut all = all;
-            let item = FieldDeclarator {
+            let item = MemberDeclarator {
                 comma,
                 declarator: declarator.into_inner(),
             };
@@ -58,28 +58,28 @@ pub fn field<'a>(
     }
 }
 
-/// The declarators of a line of fields.
+/// The declarators of a member declaration.
 #[cycle(expression)]
 #[tactic(auto, using(crate::proofs::Turns::turns))]
-pub fn fields<'a>(
+pub fn member_declarators<'a>(
     alloc: Global,
     source: &Source,
     inside: u16,
     d: u32,
     tokens: &'a [Token],
-) -> Result<(List<FieldDeclarator>, u32, &'a [Token]), Failure>
-    ensures tree { Gives (λ x. (map field_of x.0, x.1, lexemes_of source.now.bytes.now x.2.now)) result (chain (field_step (at source.now.types.now inside)) (length (lexemes_of source.now.bytes.now tokens.now) + 1) [] d (lexemes_of source.now.bytes.now tokens.now)) }
-    ensures places { IfOk result (λ x. all_right (map (field_right source.now.file) x.0) ≡ true) }
+) -> Result<(List<MemberDeclarator>, u32, &'a [Token]), Failure>
+    ensures tree { Gives (λ x. (map member_declarator_of x.0, x.1, lexemes_of source.now.bytes.now x.2.now)) result (chain (member_declarator_step (at source.now.types.now inside)) (length (lexemes_of source.now.bytes.now tokens.now) + 1) [] d (lexemes_of source.now.bytes.now tokens.now)) }
+    ensures places { IfOk result (λ x. all_right (map (member_declarator_right source.now.file) x.0) ≡ true) }
 {
     let mut all = List::new(alloc);
     let mut d = d;
     let mut rest = tokens;
     let mut turns = tokens.len() as u64 + 1;
     'more: while turns > 0 {
-        let (more, e, behind, on) = field(alloc, source, inside, all, d, rest)?;
+        let (more, e, after, on) = member_declarator(alloc, source, inside, all, d, rest)?;
         all = more;
         d = e;
-        rest = behind;
+        rest = after;
         turns -= 1;
         if !on {
             return Ok((all, d, rest));
@@ -88,73 +88,73 @@ pub fn fields<'a>(
     Err(Failure::NoParse(rest.len()))
 }
 
-/// A line of fields (C99 6.7.2.1).
+/// A member declaration (C99 6.7.2.1).
 #[cycle(expression)]
-#[tactic(auto, unfolding(crate::specs::Reading::line_in))]
-pub fn line<'a>(
+#[tactic(auto, unfolding(crate::specs::Reading::member_declaration_in))]
+pub fn member_declaration<'a>(
     alloc: Global,
     source: &Source,
     inside: u16,
     tokens: &'a [Token],
-) -> Result<(FieldLine, u32, &'a [Token]), Failure>
-    ensures tree { Gives (λ x. (line_of x.0, x.1, lexemes_of source.now.bytes.now x.2.now)) result (line_in inside (at source.now.types.now inside) (lexemes_of source.now.bytes.now tokens.now)) }
-    ensures places { IfOk result (λ x. line_right source.now.file x.0 ≡ true) }
+) -> Result<(MemberDeclaration, u32, &'a [Token]), Failure>
+    ensures tree { Gives (λ x. (member_declaration_of x.0, x.1, lexemes_of source.now.bytes.now x.2.now)) result (member_declaration_in inside (at source.now.types.now inside) (lexemes_of source.now.bytes.now tokens.now)) }
+    ensures places { IfOk result (λ x. member_declaration_right source.now.file x.0 ≡ true) }
 {
     let (specifiers, d, rest) = specifiers_inside(alloc, source, inside, tokens)?;
-    let (declarators, d, rest) = fields(alloc, source, inside, d, rest)?;
-    let (semicolon, rest) = behind_semicolon(source, rest)?;
+    let (declarators, d, rest) = member_declarators(alloc, source, inside, d, rest)?;
+    let (semicolon, rest) = after_semicolon(source, rest)?;
     let d = deeper_than(inside, d, rest)?;
-    let line = FieldLine {
+    let member_declaration = MemberDeclaration {
         place: place_of_first(source, &specifiers),
         specifiers,
         declarators,
         semicolon,
     };
-    Ok((line, d, rest))
+    Ok((member_declaration, d, rest))
 }
 
-/// One line of fields more.
+/// One member declaration more.
 #[cycle(expression)]
-#[tactic(auto, unfolding(crate::specs::Reading::line_step))]
-pub fn next_line<'a>(
+#[tactic(auto, unfolding(crate::specs::Reading::member_declaration_step))]
+pub fn next_member_declaration<'a>(
     alloc: Global,
     source: &Source,
     inside: u16,
-    all: List<FieldLine>,
+    all: List<MemberDeclaration>,
     d: u32,
     tokens: &'a [Token],
-) -> Result<(List<FieldLine>, u32, &'a [Token], bool), Failure>
-    requires places { all_right (map (line_right source.now.file) all) ≡ true }
-    ensures tree { Gives (λ x. (map line_of x.0, x.1, lexemes_of source.now.bytes.now x.2.now, x.3)) result (line_step (at source.now.types.now inside) (map line_of all) d (lexemes_of source.now.bytes.now tokens.now)) }
-    ensures places { IfOk result (λ x. all_right (map (line_right source.now.file) x.0) ≡ true) }
+) -> Result<(List<MemberDeclaration>, u32, &'a [Token], bool), Failure>
+    requires places { all_right (map (member_declaration_right source.now.file) all) ≡ true }
+    ensures tree { Gives (λ x. (map member_declaration_of x.0, x.1, lexemes_of source.now.bytes.now x.2.now, x.3)) result (member_declaration_step (at source.now.types.now inside) (map member_declaration_of all) d (lexemes_of source.now.bytes.now tokens.now)) }
+    ensures places { IfOk result (λ x. all_right (map (member_declaration_right source.now.file) x.0) ≡ true) }
 {
-    let (line, e, rest) = line_inside(alloc, source, inside, tokens)?;
+    let (member_declaration, e, rest) = member_declaration_inside(alloc, source, inside, tokens)?;
     let mut all = all;
-    add(&mut all, line)?;
+    add(&mut all, member_declaration)?;
     Ok((all, larger(d, e), rest, !fronted_right_brace(source, rest)))
 }
 
-/// The lines of fields up to `}`.
+/// The member declarations up to `}`.
 #[cycle(expression)]
 #[tactic(auto, using(crate::proofs::Turns::turns))]
-pub fn lines<'a>(
+pub fn member_declarations<'a>(
     alloc: Global,
     source: &Source,
     inside: u16,
     tokens: &'a [Token],
-) -> Result<(List<FieldLine>, u32, &'a [Token]), Failure>
-    ensures tree { Gives (λ x. (map line_of x.0, x.1, lexemes_of source.now.bytes.now x.2.now)) result (chain (line_step (at source.now.types.now inside)) (length (lexemes_of source.now.bytes.now tokens.now) + 1) [] 0 (lexemes_of source.now.bytes.now tokens.now)) }
-    ensures places { IfOk result (λ x. all_right (map (line_right source.now.file) x.0) ≡ true) }
+) -> Result<(List<MemberDeclaration>, u32, &'a [Token]), Failure>
+    ensures tree { Gives (λ x. (map member_declaration_of x.0, x.1, lexemes_of source.now.bytes.now x.2.now)) result (chain (member_declaration_step (at source.now.types.now inside)) (length (lexemes_of source.now.bytes.now tokens.now) + 1) [] 0 (lexemes_of source.now.bytes.now tokens.now)) }
+    ensures places { IfOk result (λ x. all_right (map (member_declaration_right source.now.file) x.0) ≡ true) }
 {
     let mut all = List::new(alloc);
     let mut d = 0;
     let mut rest = tokens;
     let mut turns = tokens.len() as u64 + 1;
     'more: while turns > 0 {
-        let (more, e, behind, on) = next_line(alloc, source, inside, all, d, rest)?;
+        let (more, e, after, on) = next_member_declaration(alloc, source, inside, all, d, rest)?;
         all = more;
         d = e;
-        rest = behind;
+        rest = after;
         turns -= 1;
         if !on {
             return Ok((all, d, rest));
@@ -170,46 +170,46 @@ pub fn struct_body<'a>(
     alloc: Global,
     source: &Source,
     inside: u16,
-    mark: At,
-    name: Option<Word>,
+    punctuator: At,
+    name: Option<Spelling>,
     tokens: &'a [Token],
 ) -> Result<(Specifier, u32, &'a [Token]), Failure>
-    ensures tree { Gives (λ x. (specification_of x.0, x.1, lexemes_of source.now.bytes.now x.2.now)) result (struct_body_in inside (at source.now.types.now inside) mark name (lexemes_of source.now.bytes.now tokens.now)) }
+    ensures tree { Gives (λ x. (specifier_of x.0, x.1, lexemes_of source.now.bytes.now x.2.now)) result (struct_body_in inside (at source.now.types.now inside) punctuator name (lexemes_of source.now.bytes.now tokens.now)) }
     ensures places { IfOk result (λ x. (specifier_stands source.now.file x.0).right ≡ true) }
 {
-    let (left, rest) = behind_left_brace(source, tokens)?;
-    let (all, d, rest) = lines(alloc, source, inside, rest)?;
-    let (right, rest) = behind_right_brace(source, rest)?;
+    let (left, rest) = after_left_brace(source, tokens)?;
+    let (all, d, rest) = member_declarations(alloc, source, inside, rest)?;
+    let (right, rest) = after_right_brace(source, rest)?;
     let d = deeper_than(inside, d, rest)?;
     let whole = Specifier {
-        place: placed(source, mark),
-        node: SpecifierNode::StructBody(mark, name, left, all, right),
+        place: placed(source, punctuator),
+        node: SpecifierNode::StructBody(punctuator, name, left, all, right),
     };
     Ok((whole, d, rest))
 }
 
-/// What stands behind `struct`.
+/// What stands after `struct`.
 #[cycle(expression)]
 pub fn structure<'a>(
     alloc: Global,
     source: &Source,
     inside: u16,
-    mark: At,
+    punctuator: At,
     tokens: &'a [Token],
 ) -> Result<(Specifier, u32, &'a [Token]), Failure>
-    ensures tree { Gives (λ x. (specification_of x.0, x.1, lexemes_of source.now.bytes.now x.2.now)) result (tagged_in (Trees.struct_named mark) (struct_body_in inside (at source.now.types.now inside) mark) (tag_if_any (lexemes_of source.now.bytes.now tokens.now))) }
+    ensures tree { Gives (λ x. (specifier_of x.0, x.1, lexemes_of source.now.bytes.now x.2.now)) result (tagged_in (Trees.struct_named punctuator) (struct_body_in inside (at source.now.types.now inside) punctuator) (tag_if_any (lexemes_of source.now.bytes.now tokens.now))) }
     ensures places { IfOk result (λ x. (specifier_stands source.now.file x.0).right ≡ true) }
 {
     let (tag, rest) = tag_if_any(alloc, source, tokens)?;
     match tag {
-        None => struct_body(alloc, source, inside, mark, None, rest),
+        None => struct_body(alloc, source, inside, punctuator, None, rest),
         Some(name) => {
             if fronted_left_brace(source, rest) {
-                return struct_body(alloc, source, inside, mark, Some(name), rest);
+                return struct_body(alloc, source, inside, punctuator, Some(name), rest);
             }
             let whole = Specifier {
-                place: placed(source, mark),
-                node: SpecifierNode::Struct(mark, name),
+                place: placed(source, punctuator),
+                node: SpecifierNode::Struct(punctuator, name),
             };
             Ok((whole, 1, rest))
         }

@@ -4,22 +4,22 @@
 ghost use Rattle.std.specs.Prelude.{◌≡◌, max, Some};
 ghost use Rattle.c_expressions.specs.Gives.{Gives};
 ghost use Rattle.c_expressions.specs.Lexemes.{lexemes_of};
-ghost use Rattle.c_expressions.specs.Reading.{behind, fronted, comma_before, comma_if_any, deeper, is_left, is_right, is_right_square, is_left_brace, is_right_brace, is_comma, is_semicolon, is_colon, is_equal, is_void};
+ghost use Rattle.c_expressions.specs.Reading.{after, fronted, comma_before, comma_if_any, deeper, is_left, is_right, is_right_square, is_left_brace, is_right_brace, is_comma, is_semicolon, is_colon, is_equal, is_void};
 
 use crate::failure::Failure;
 use crate::source::Source;
 use c_ast::At;
-use c_lexer::{Mark, Token, TokenKind};
+use c_lexer::{Punctuator, Token, TokenKind};
 use lay_base::{Keyword, List};
 
-/// The place of a `(` at the front, and what stands behind it.
-pub fn behind_left<'a>(source: &Source, tokens: &'a [Token]) -> Result<(At, &'a [Token]), Failure>
-    ensures { Gives (λ x. (x.0, lexemes_of source.now.bytes.now x.1.now)) result (behind is_left (lexemes_of source.now.bytes.now tokens.now)) }
+/// The place of a `(` at the front, and what stands after it.
+pub fn after_left<'a>(source: &Source, tokens: &'a [Token]) -> Result<(At, &'a [Token]), Failure>
+    ensures { Gives (λ x. (x.0, lexemes_of source.now.bytes.now x.1.now)) result (after is_left (lexemes_of source.now.bytes.now tokens.now)) }
 {
     match tokens {
         [
             Token {
-                kind: TokenKind::Mark(Mark::Open),
+                kind: TokenKind::Punctuator(Punctuator::Open),
                 from,
                 ..
             },
@@ -29,14 +29,14 @@ pub fn behind_left<'a>(source: &Source, tokens: &'a [Token]) -> Result<(At, &'a 
     }
 }
 
-/// The place of a `)` at the front, and what stands behind it.
-pub fn behind_right<'a>(source: &Source, tokens: &'a [Token]) -> Result<(At, &'a [Token]), Failure>
-    ensures { Gives (λ x. (x.0, lexemes_of source.now.bytes.now x.1.now)) result (behind is_right (lexemes_of source.now.bytes.now tokens.now)) }
+/// The place of a `)` at the front, and what stands after it.
+pub fn after_right<'a>(source: &Source, tokens: &'a [Token]) -> Result<(At, &'a [Token]), Failure>
+    ensures { Gives (λ x. (x.0, lexemes_of source.now.bytes.now x.1.now)) result (after is_right (lexemes_of source.now.bytes.now tokens.now)) }
 {
     match tokens {
         [
             Token {
-                kind: TokenKind::Mark(Mark::Close),
+                kind: TokenKind::Punctuator(Punctuator::Close),
                 from,
                 ..
             },
@@ -46,17 +46,17 @@ pub fn behind_right<'a>(source: &Source, tokens: &'a [Token]) -> Result<(At, &'a
     }
 }
 
-/// The place of a `]` at the front, and what stands behind it.
-pub fn behind_right_square<'a>(
+/// The place of a `]` at the front, and what stands after it.
+pub fn after_right_square<'a>(
     source: &Source,
     tokens: &'a [Token],
 ) -> Result<(At, &'a [Token]), Failure>
-    ensures { Gives (λ x. (x.0, lexemes_of source.now.bytes.now x.1.now)) result (behind is_right_square (lexemes_of source.now.bytes.now tokens.now)) }
+    ensures { Gives (λ x. (x.0, lexemes_of source.now.bytes.now x.1.now)) result (after is_right_square (lexemes_of source.now.bytes.now tokens.now)) }
 {
     match tokens {
         [
             Token {
-                kind: TokenKind::Mark(Mark::CloseSquare),
+                kind: TokenKind::Punctuator(Punctuator::CloseSquare),
                 from,
                 ..
             },
@@ -66,17 +66,17 @@ pub fn behind_right_square<'a>(
     }
 }
 
-/// The place of a `{` at the front, and what stands behind it.
-pub fn behind_left_brace<'a>(
+/// The place of a `{` at the front, and what stands after it.
+pub fn after_left_brace<'a>(
     source: &Source,
     tokens: &'a [Token],
 ) -> Result<(At, &'a [Token]), Failure>
-    ensures { Gives (λ x. (x.0, lexemes_of source.now.bytes.now x.1.now)) result (behind is_left_brace (lexemes_of source.now.bytes.now tokens.now)) }
+    ensures { Gives (λ x. (x.0, lexemes_of source.now.bytes.now x.1.now)) result (after is_left_brace (lexemes_of source.now.bytes.now tokens.now)) }
 {
     match tokens {
         [
             Token {
-                kind: TokenKind::Mark(Mark::OpenBrace),
+                kind: TokenKind::Punctuator(Punctuator::OpenBrace),
                 from,
                 ..
             },
@@ -86,17 +86,17 @@ pub fn behind_left_brace<'a>(
     }
 }
 
-/// The place of a `}` at the front, and what stands behind it.
-pub fn behind_right_brace<'a>(
+/// The place of a `}` at the front, and what stands after it.
+pub fn after_right_brace<'a>(
     source: &Source,
     tokens: &'a [Token],
 ) -> Result<(At, &'a [Token]), Failure>
-    ensures { Gives (λ x. (x.0, lexemes_of source.now.bytes.now x.1.now)) result (behind is_right_brace (lexemes_of source.now.bytes.now tokens.now)) }
+    ensures { Gives (λ x. (x.0, lexemes_of source.now.bytes.now x.1.now)) result (after is_right_brace (lexemes_of source.now.bytes.now tokens.now)) }
 {
     match tokens {
         [
             Token {
-                kind: TokenKind::Mark(Mark::CloseBrace),
+                kind: TokenKind::Punctuator(Punctuator::CloseBrace),
                 from,
                 ..
             },
@@ -106,14 +106,14 @@ pub fn behind_right_brace<'a>(
     }
 }
 
-/// The place of a `,` at the front, and what stands behind it.
-pub fn behind_comma<'a>(source: &Source, tokens: &'a [Token]) -> Result<(At, &'a [Token]), Failure>
-    ensures { Gives (λ x. (x.0, lexemes_of source.now.bytes.now x.1.now)) result (behind is_comma (lexemes_of source.now.bytes.now tokens.now)) }
+/// The place of a `,` at the front, and what stands after it.
+pub fn after_comma<'a>(source: &Source, tokens: &'a [Token]) -> Result<(At, &'a [Token]), Failure>
+    ensures { Gives (λ x. (x.0, lexemes_of source.now.bytes.now x.1.now)) result (after is_comma (lexemes_of source.now.bytes.now tokens.now)) }
 {
     match tokens {
         [
             Token {
-                kind: TokenKind::Mark(Mark::Comma),
+                kind: TokenKind::Punctuator(Punctuator::Comma),
                 from,
                 ..
             },
@@ -123,17 +123,17 @@ pub fn behind_comma<'a>(source: &Source, tokens: &'a [Token]) -> Result<(At, &'a
     }
 }
 
-/// The place of a `;` at the front, and what stands behind it.
-pub fn behind_semicolon<'a>(
+/// The place of a `;` at the front, and what stands after it.
+pub fn after_semicolon<'a>(
     source: &Source,
     tokens: &'a [Token],
 ) -> Result<(At, &'a [Token]), Failure>
-    ensures { Gives (λ x. (x.0, lexemes_of source.now.bytes.now x.1.now)) result (behind is_semicolon (lexemes_of source.now.bytes.now tokens.now)) }
+    ensures { Gives (λ x. (x.0, lexemes_of source.now.bytes.now x.1.now)) result (after is_semicolon (lexemes_of source.now.bytes.now tokens.now)) }
 {
     match tokens {
         [
             Token {
-                kind: TokenKind::Mark(Mark::Semicolon),
+                kind: TokenKind::Punctuator(Punctuator::Semicolon),
                 from,
                 ..
             },
@@ -143,14 +143,14 @@ pub fn behind_semicolon<'a>(
     }
 }
 
-/// The place of a `:` at the front, and what stands behind it.
-pub fn behind_colon<'a>(source: &Source, tokens: &'a [Token]) -> Result<(At, &'a [Token]), Failure>
-    ensures { Gives (λ x. (x.0, lexemes_of source.now.bytes.now x.1.now)) result (behind is_colon (lexemes_of source.now.bytes.now tokens.now)) }
+/// The place of a `:` at the front, and what stands after it.
+pub fn after_colon<'a>(source: &Source, tokens: &'a [Token]) -> Result<(At, &'a [Token]), Failure>
+    ensures { Gives (λ x. (x.0, lexemes_of source.now.bytes.now x.1.now)) result (after is_colon (lexemes_of source.now.bytes.now tokens.now)) }
 {
     match tokens {
         [
             Token {
-                kind: TokenKind::Mark(Mark::Colon),
+                kind: TokenKind::Punctuator(Punctuator::Colon),
                 from,
                 ..
             },
@@ -160,14 +160,14 @@ pub fn behind_colon<'a>(source: &Source, tokens: &'a [Token]) -> Result<(At, &'a
     }
 }
 
-/// The place of a `=` at the front, and what stands behind it.
-pub fn behind_equal<'a>(source: &Source, tokens: &'a [Token]) -> Result<(At, &'a [Token]), Failure>
-    ensures { Gives (λ x. (x.0, lexemes_of source.now.bytes.now x.1.now)) result (behind is_equal (lexemes_of source.now.bytes.now tokens.now)) }
+/// The place of a `=` at the front, and what stands after it.
+pub fn after_equal<'a>(source: &Source, tokens: &'a [Token]) -> Result<(At, &'a [Token]), Failure>
+    ensures { Gives (λ x. (x.0, lexemes_of source.now.bytes.now x.1.now)) result (after is_equal (lexemes_of source.now.bytes.now tokens.now)) }
 {
     match tokens {
         [
             Token {
-                kind: TokenKind::Mark(Mark::Equal),
+                kind: TokenKind::Punctuator(Punctuator::Equal),
                 from,
                 ..
             },
@@ -185,7 +185,7 @@ pub fn fronted_semicolon(source: &Source, tokens: &[Token]) -> bool
         tokens,
         [
             Token {
-                kind: TokenKind::Mark(Mark::Semicolon),
+                kind: TokenKind::Punctuator(Punctuator::Semicolon),
                 ..
             },
             ..
@@ -193,9 +193,9 @@ pub fn fronted_semicolon(source: &Source, tokens: &[Token]) -> bool
     )
 }
 
-/// The place of a `void` at the front, and what stands behind it.
-pub fn behind_void<'a>(source: &Source, tokens: &'a [Token]) -> Result<(At, &'a [Token]), Failure>
-    ensures { Gives (λ x. (x.0, lexemes_of source.now.bytes.now x.1.now)) result (behind is_void (lexemes_of source.now.bytes.now tokens.now)) }
+/// The place of a `void` at the front, and what stands after it.
+pub fn after_void<'a>(source: &Source, tokens: &'a [Token]) -> Result<(At, &'a [Token]), Failure>
+    ensures { Gives (λ x. (x.0, lexemes_of source.now.bytes.now x.1.now)) result (after is_void (lexemes_of source.now.bytes.now tokens.now)) }
 {
     match tokens {
         [
@@ -218,7 +218,7 @@ pub fn fronted_right(source: &Source, tokens: &[Token]) -> bool
         tokens,
         [
             Token {
-                kind: TokenKind::Mark(Mark::Close),
+                kind: TokenKind::Punctuator(Punctuator::Close),
                 ..
             },
             ..
@@ -234,7 +234,7 @@ pub fn fronted_right_square(source: &Source, tokens: &[Token]) -> bool
         tokens,
         [
             Token {
-                kind: TokenKind::Mark(Mark::CloseSquare),
+                kind: TokenKind::Punctuator(Punctuator::CloseSquare),
                 ..
             },
             ..
@@ -250,7 +250,7 @@ pub fn fronted_left_brace(source: &Source, tokens: &[Token]) -> bool
         tokens,
         [
             Token {
-                kind: TokenKind::Mark(Mark::OpenBrace),
+                kind: TokenKind::Punctuator(Punctuator::OpenBrace),
                 ..
             },
             ..
@@ -266,7 +266,7 @@ pub fn fronted_right_brace(source: &Source, tokens: &[Token]) -> bool
         tokens,
         [
             Token {
-                kind: TokenKind::Mark(Mark::CloseBrace),
+                kind: TokenKind::Punctuator(Punctuator::CloseBrace),
                 ..
             },
             ..
@@ -282,7 +282,7 @@ pub fn fronted_comma(source: &Source, tokens: &[Token]) -> bool
         tokens,
         [
             Token {
-                kind: TokenKind::Mark(Mark::Comma),
+                kind: TokenKind::Punctuator(Punctuator::Comma),
                 ..
             },
             ..
@@ -301,18 +301,18 @@ pub fn comma_before<'a, T>(
     if list.is_empty() {
         return Ok((None, tokens));
     }
-    let (comma, rest) = behind_comma(source, tokens)?;
+    let (comma, rest) = after_comma(source, tokens)?;
     Ok((Some(comma), rest))
 }
 
-/// The place of a comma at the front, if there is one, and what stands behind it.
+/// The place of a comma at the front, if there is one, and what stands after it.
 pub fn comma_if_any<'a>(source: &Source, tokens: &'a [Token]) -> (Option<At>, &'a [Token])
     ensures { (result.0, lexemes_of source.now.bytes.now result.1.now) ≡ comma_if_any (lexemes_of source.now.bytes.now tokens.now) }
 {
     match tokens {
         [
             Token {
-                kind: TokenKind::Mark(Mark::Comma),
+                kind: TokenKind::Punctuator(Punctuator::Comma),
                 from,
                 ..
             },
@@ -330,7 +330,7 @@ pub fn larger(a: u32, b: u32) -> u32
 }
 
 /// The depth of a node over parts of a depth, which is to be at most one more than `inside`. The
-/// tokens are those behind the node.
+/// tokens are those after the node.
 pub fn deeper_than(inside: u16, depth: u32, tokens: &[Token]) -> Result<u32, Failure>
     ensures { Gives (λ x. x) result (deeper inside depth) }
 {

@@ -1,7 +1,7 @@
 //! The names that the typedefs of a file have declared so far.
 
 ghost use Rattle.std.specs.Prelude.{◌≡◌, ◌++◌, ◌∷◌, [], OnErr, OnOk};
-ghost use Rattle.c_ast.specs.Levels.{is_typename};
+ghost use Rattle.c_ast.specs.WellFormed.{is_typename};
 
 use lay_base::{Name, NoMemory};
 use std::alloc::Global;
@@ -20,7 +20,7 @@ impl Model for Typenames {
     ghost use Rattle.std.specs.Prelude.{◌≡◌, ℕ, List};
     ghost use Rattle.std.specs.List.{list_any};
     ghost use Rattle.std.specs.Str.{bytes_eq};
-    ghost use Rattle.c_ast.specs.Levels.{is_typename};
+    ghost use Rattle.c_ast.specs.WellFormed.{is_typename};
 
     ghost Value = { List (List ℕ) };
 
@@ -47,7 +47,7 @@ impl Typenames {
         self.table.contains(name)
     }
 
-    /// Adds a name behind the others, which may have it already.
+    /// Adds a name after the others, which may have it already.
     pub fn add(&mut self, alloc: Global, name: &[u8]) -> Result<(), NoMemory>
         ensures added { OnOk result (self.new ≡ self.old ++ name.now ∷ []) }
         ensures unchanged { OnErr result (self.new ≡ self.old) }

@@ -1,16 +1,16 @@
 //! Unary expressions and casts (C99 6.5.3, 6.5.4).
 
-ghost use Rattle.c_ast.specs.Places.{term_stands};
-ghost use Rattle.c_ast.specs.Views.{term_of};
+ghost use Rattle.c_ast.specs.Places.{expression_stands};
+ghost use Rattle.c_ast.specs.Views.{expression_of};
 ghost use Rattle.c_expressions.specs.Gives.{Gives};
 ghost use Rattle.c_expressions.specs.Lexemes.{lexemes_of};
 ghost use Rattle.c_expressions.specs.Reading.{pre_in, unary_in, sizeof_in, cast_in, unary_expression_in, operand_in, at};
 ghost use Rattle.std.specs.Prelude.{IfOk, true, ◌≡◌};
 
-use crate::begins::begins_form;
-use crate::building::boxed;
+use crate::begins::begins_type_name;
+use lay_base::boxed;
 use crate::failure::Failure;
-use crate::forms::enclosed_form;
+use crate::type_names::enclosed_type_name;
 use crate::inside::{operand_inside, unary_inside};
 use crate::operators::{step_of, unary_of};
 use crate::places::placed;
@@ -22,7 +22,7 @@ use c_lexer::{Token, TokenKind};
 use lay_base::{Boxed, Keyword};
 use std::alloc::Global;
 
-/// What stands behind a `++` or `--` before its operand.
+/// What stands after a `++` or `--` before its operand.
 #[cycle(expression)]
 #[tactic(auto, unfolding(crate::specs::Reading::pre_in))]
 pub fn pre<'a>(
@@ -30,22 +30,22 @@ pub fn pre<'a>(
     source: &Source,
     inside: u16,
     op: StepOp,
-    mark: At,
+    punctuator: At,
     tokens: &'a [Token],
 ) -> Result<(Boxed<Expression>, u32, &'a [Token]), Failure>
-    ensures tree { Gives (λ x. (term_of x.0, x.1, lexemes_of source.now.bytes.now x.2.now)) result (pre_in inside (at source.now.types.now inside) op mark (lexemes_of source.now.bytes.now tokens.now)) }
-    ensures places { IfOk result (λ x. (term_stands source.now.file x.0).right ≡ true) }
+    ensures tree { Gives (λ x. (expression_of x.0, x.1, lexemes_of source.now.bytes.now x.2.now)) result (pre_in inside (at source.now.types.now inside) op punctuator (lexemes_of source.now.bytes.now tokens.now)) }
+    ensures places { IfOk result (λ x. (expression_stands source.now.file x.0).right ≡ true) }
 {
     let (a, d, rest) = unary_inside(alloc, source, inside, tokens)?;
     let d = deeper_than(inside, d, rest)?;
     let whole = Expression {
-        place: placed(source, mark),
-        node: ExpressionNode::Pre(op, mark, a),
+        place: placed(source, punctuator),
+        node: ExpressionNode::Pre(op, punctuator, a),
     };
     Ok((boxed(alloc, whole)?, d, rest))
 }
 
-/// What stands behind a unary operator.
+/// What stands after a unary operator.
 #[cycle(expression)]
 #[tactic(auto, unfolding(crate::specs::Reading::unary_in))]
 pub fn unary<'a>(
@@ -53,48 +53,48 @@ pub fn unary<'a>(
     source: &Source,
     inside: u16,
     op: UnaryOp,
-    mark: At,
+    punctuator: At,
     tokens: &'a [Token],
 ) -> Result<(Boxed<Expression>, u32, &'a [Token]), Failure>
-    ensures tree { Gives (λ x. (term_of x.0, x.1, lexemes_of source.now.bytes.now x.2.now)) result (unary_in inside (at source.now.types.now inside) op mark (lexemes_of source.now.bytes.now tokens.now)) }
-    ensures places { IfOk result (λ x. (term_stands source.now.file x.0).right ≡ true) }
+    ensures tree { Gives (λ x. (expression_of x.0, x.1, lexemes_of source.now.bytes.now x.2.now)) result (unary_in inside (at source.now.types.now inside) op punctuator (lexemes_of source.now.bytes.now tokens.now)) }
+    ensures places { IfOk result (λ x. (expression_stands source.now.file x.0).right ≡ true) }
 {
     let (a, d, rest) = operand_inside(alloc, source, inside, tokens)?;
     let d = deeper_than(inside, d, rest)?;
     let whole = Expression {
-        place: placed(source, mark),
-        node: ExpressionNode::Unary(op, mark, a),
+        place: placed(source, punctuator),
+        node: ExpressionNode::Unary(op, punctuator, a),
     };
     Ok((boxed(alloc, whole)?, d, rest))
 }
 
-/// What stands behind `sizeof`.
+/// What stands after `sizeof`.
 #[cycle(expression)]
 #[tactic(auto, unfolding(crate::specs::Reading::sizeof_in))]
 pub fn sizeof<'a>(
     alloc: Global,
     source: &Source,
     inside: u16,
-    mark: At,
+    punctuator: At,
     tokens: &'a [Token],
 ) -> Result<(Boxed<Expression>, u32, &'a [Token]), Failure>
-    ensures tree { Gives (λ x. (term_of x.0, x.1, lexemes_of source.now.bytes.now x.2.now)) result (sizeof_in source.now.types.now inside (at source.now.types.now inside) mark (lexemes_of source.now.bytes.now tokens.now)) }
-    ensures places { IfOk result (λ x. (term_stands source.now.file x.0).right ≡ true) }
+    ensures tree { Gives (λ x. (expression_of x.0, x.1, lexemes_of source.now.bytes.now x.2.now)) result (sizeof_in source.now.types.now inside (at source.now.types.now inside) punctuator (lexemes_of source.now.bytes.now tokens.now)) }
+    ensures places { IfOk result (λ x. (expression_stands source.now.file x.0).right ≡ true) }
 {
-    if begins_form(source, tokens) {
-        let ((left, form, right), d, rest) = enclosed_form(alloc, source, inside, tokens)?;
+    if begins_type_name(source, tokens) {
+        let ((left, type_name, right), d, rest) = enclosed_type_name(alloc, source, inside, tokens)?;
         let d = deeper_than(inside, d, rest)?;
         let whole = Expression {
-            place: placed(source, mark),
-            node: ExpressionNode::SizeofForm(mark, left, form, right),
+            place: placed(source, punctuator),
+            node: ExpressionNode::SizeofType(punctuator, left, type_name, right),
         };
         Ok((boxed(alloc, whole)?, d, rest))
     } else {
         let (a, d, rest) = unary_inside(alloc, source, inside, tokens)?;
         let d = deeper_than(inside, d, rest)?;
         let whole = Expression {
-            place: placed(source, mark),
-            node: ExpressionNode::SizeofExpr(mark, a),
+            place: placed(source, punctuator),
+            node: ExpressionNode::SizeofExpression(punctuator, a),
         };
         Ok((boxed(alloc, whole)?, d, rest))
     }
@@ -109,15 +109,15 @@ pub fn cast<'a>(
     inside: u16,
     tokens: &'a [Token],
 ) -> Result<(Boxed<Expression>, u32, &'a [Token]), Failure>
-    ensures tree { Gives (λ x. (term_of x.0, x.1, lexemes_of source.now.bytes.now x.2.now)) result (cast_in inside (at source.now.types.now inside) (lexemes_of source.now.bytes.now tokens.now)) }
-    ensures places { IfOk result (λ x. (term_stands source.now.file x.0).right ≡ true) }
+    ensures tree { Gives (λ x. (expression_of x.0, x.1, lexemes_of source.now.bytes.now x.2.now)) result (cast_in inside (at source.now.types.now inside) (lexemes_of source.now.bytes.now tokens.now)) }
+    ensures places { IfOk result (λ x. (expression_stands source.now.file x.0).right ≡ true) }
 {
-    let ((left, form, right), d, rest) = enclosed_form(alloc, source, inside, tokens)?;
+    let ((left, type_name, right), d, rest) = enclosed_type_name(alloc, source, inside, tokens)?;
     let (a, e, rest) = operand_inside(alloc, source, inside, rest)?;
     let d = deeper_than(inside, larger(d, e), rest)?;
     let whole = Expression {
         place: placed(source, left),
-        node: ExpressionNode::Cast(left, form, right, a),
+        node: ExpressionNode::Cast(left, type_name, right, a),
     };
     Ok((boxed(alloc, whole)?, d, rest))
 }
@@ -131,8 +131,8 @@ pub fn unary_expression<'a>(
     inside: u16,
     tokens: &'a [Token],
 ) -> Result<(Boxed<Expression>, u32, &'a [Token]), Failure>
-    ensures tree { Gives (λ x. (term_of x.0, x.1, lexemes_of source.now.bytes.now x.2.now)) result (unary_expression_in source.now.types.now inside (at source.now.types.now inside) (lexemes_of source.now.bytes.now tokens.now)) }
-    ensures places { IfOk result (λ x. (term_stands source.now.file x.0).right ≡ true) }
+    ensures tree { Gives (λ x. (expression_of x.0, x.1, lexemes_of source.now.bytes.now x.2.now)) result (unary_expression_in source.now.types.now inside (at source.now.types.now inside) (lexemes_of source.now.bytes.now tokens.now)) }
+    ensures places { IfOk result (λ x. (expression_stands source.now.file x.0).right ≡ true) }
 {
     match tokens {
         [token, rest @ ..] => match step_of(token.kind) {
@@ -161,10 +161,10 @@ pub fn operand<'a>(
     inside: u16,
     tokens: &'a [Token],
 ) -> Result<(Boxed<Expression>, u32, &'a [Token]), Failure>
-    ensures tree { Gives (λ x. (term_of x.0, x.1, lexemes_of source.now.bytes.now x.2.now)) result (operand_in source.now.types.now inside (at source.now.types.now inside) (lexemes_of source.now.bytes.now tokens.now)) }
-    ensures places { IfOk result (λ x. (term_stands source.now.file x.0).right ≡ true) }
+    ensures tree { Gives (λ x. (expression_of x.0, x.1, lexemes_of source.now.bytes.now x.2.now)) result (operand_in source.now.types.now inside (at source.now.types.now inside) (lexemes_of source.now.bytes.now tokens.now)) }
+    ensures places { IfOk result (λ x. (expression_stands source.now.file x.0).right ≡ true) }
 {
-    if begins_form(source, tokens) {
+    if begins_type_name(source, tokens) {
         cast(alloc, source, inside, tokens)
     } else {
         unary_expression(alloc, source, inside, tokens)

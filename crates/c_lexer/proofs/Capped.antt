@@ -4,7 +4,7 @@ use Rattle.std.proofs.lemmas.Bool.{cases_lt}
 use Rattle.c_lexer.specs.Characters.{digit_value, value_of_digits}
 use Rattle.c_lexer.specs.NumberScan.{capped_value}
 
--- one digit more, behind a number that was kept at `most` where it is greater
+-- one digit more, after a number that was kept at `most` where it is greater
 step_capped : (base n v most : ℕ) → 1 ≤ base → min (base * min n most + v) most ≡ min (base * n + v) most
 step_capped base n v most h = ⊎_elim within beyond (cases_lt n most)
   where

@@ -17,7 +17,7 @@ is_slash b = b == 47
 one_byte_more : (found : Option ℕ) (n : ℕ) → found ≡ Some (n + 2) → option_map suc found ≡ Some (suc n + 2)
 one_byte_more found n h = rw h (ap (λ m. Some m) (omega arith))
 
--- up to the first end; behind a star or not
+-- up to the first end; after a star or not
 comment_read_from : (starred : Bool) (body rest : List ℕ) → has_end body ≡ false → (starred && begins is_slash body) ≡ false → comment_length starred (body ++ 42 ∷ 47 ∷ rest) ≡ Some (length body + 2)
 comment_read_from true [] rest h s = refl
 comment_read_from false [] rest h s = refl
@@ -28,7 +28,7 @@ comment_read_from starred (b ∷ body) rest h s =
 pub comment_read : (body rest : List ℕ) → has_end body ≡ false → comment_length false (body ++ 42 ∷ 47 ∷ rest) ≡ Some (length body + 2)
 comment_read body rest h = comment_read_from false body rest h refl
 
--- what stands before the first end, and behind it
+-- what stands before the first end, and after it
 pub record Ended (bytes : List ℕ) (n : ℕ) : Type 0 where
   pub body : List ℕ
   pub rest : List ℕ
@@ -36,12 +36,12 @@ pub record Ended (bytes : List ℕ) (n : ℕ) : Type 0 where
   pub no_end : has_end body ≡ false
   pub size : n ≡ length body + 2
 
--- no slash stands at once behind a star
+-- no slash stands at once after a star
 record EndedFrom (starred : Bool) (bytes : List ℕ) (n : ℕ) : Type 0 where
   ended : Ended bytes n
   no_slash : (starred && begins is_slash ended.body) ≡ false
 
--- a slash at once, behind a star, or an end further on
+-- a slash at once, after a star, or an end further on
 abbrev Ends : Bool → List ℕ → ℕ → Type 0
 Ends starred bytes n = ((starred ≡ true) × (rest : List ℕ) × (bytes ≡ 47 ∷ rest) × (n ≡ 1)) ⊎ EndedFrom starred bytes n
 
@@ -51,8 +51,8 @@ end_here starred b bytes n s (rest, e, one) =
     let first : b ≡ 42 = eqb-true b 42 s in
     record { ended = record { body = []; rest = rest; is = cc (first, e); no_end = refl; size = rw one refl }; no_slash = and_right starred false refl }
 
-end_behind : (starred : Bool) (b : ℕ) (bytes : List ℕ) (n : ℕ) → (starred && is_slash b) ≡ false → EndedFrom (b == 42) bytes n → EndedFrom starred (b ∷ bytes) (suc n)
-end_behind starred b bytes n s e =
+end_after : (starred : Bool) (b : ℕ) (bytes : List ℕ) (n : ℕ) → (starred && is_slash b) ≡ false → EndedFrom (b == 42) bytes n → EndedFrom starred (b ∷ bytes) (suc n)
+end_after starred b bytes n s e =
     record {
       ended = record { body = b ∷ e.ended.body; rest = e.ended.rest; is = ap (λ l. b ∷ l) e.ended.is; no_end = or_from _ _ e.no_slash e.ended.no_end; size = let k = e.ended.size in omega (arith, k) };
       no_slash = s;
@@ -65,7 +65,7 @@ ends_taken starred (b ∷ bytes) n h =
     (λ s h. let a = and_parts starred (is_slash b) s in inl (a.0, bytes, ap (λ x. x ∷ bytes) (eqb-true b 47 a.1), sym (same_Some 1 n h)))
     (λ s h.
     let m = counted (comment_length (b == 42) bytes) n h in
-    inr (subst (EndedFrom starred (b ∷ bytes)) m.2 (⊎_elim (λ e. end_here starred b bytes m.0 e.0 (e.1, e.2, e.3)) (end_behind starred b bytes m.0 s) (ends_taken (b == 42) bytes m.0 m.1))))
+    inr (subst (EndedFrom starred (b ∷ bytes)) m.2 (⊎_elim (λ e. end_here starred b bytes m.0 e.0 (e.1, e.2, e.3)) (end_after starred b bytes m.0 s) (ends_taken (b == 42) bytes m.0 m.1))))
     h
 
 pub comment_taken : (bytes : List ℕ) (n : ℕ) → comment_length false bytes ≡ Some n → Ended bytes n

@@ -1,4 +1,4 @@
--- The directive that the bytes behind '#' are is read, exactly.
+-- The directive that the bytes after '#' are is read, exactly.
 use Rattle.std.proofs.Common.{◌≡◌, ℕ, ◌+◌, Bool, true, false, List, [], ◌++◌, length, take, drop, codes, Option, Some, None, refl, sym, ap, subst, ◌∙◌, arith, append_assoc, append-nil, add-zero, length-append}
 use Rattle.std.specs.List.{prefix_len}
 use Rattle.std.specs.Str.{bytes_eq}
@@ -11,23 +11,23 @@ use Rattle.c_lexer.specs.declared.directive.Directive.{Directive}
 use Rattle.c_lexer.specs.declared.directive.Directive.TheVariants.{Silent, Renumbers}
 use Rattle.c_lexer.specs.Characters.{is_blank, is_digit, goes_on_in_name, begins, value_of_digits}
 use Rattle.c_lexer.specs.Directives.{AreBlank, AreDigits, IsWordGap, Marker, IsMarker, word_text, name_text, flags_text, name_range, marker_text, directive_of, IsDirective, null, pragma, marker}
-use Rattle.c_lexer.specs.DirectiveScan.{marker_at, line_at, directive_behind, directive_in}
+use Rattle.c_lexer.specs.DirectiveScan.{marker_at, line_at, directive_after, directive_in}
 use Rattle.c_lexer.proofs.RunLengths.{run_read, no_run, run_taken, run_front, run_rest, begins_whole, begins_other}
 use Rattle.c_lexer.proofs.MarkerEnds.{End, digit_no_blank, end_read, end_taken}
-use Rattle.c_lexer.proofs.Markers.{Behind, Numbered, behind_read, behind_taken, behind_no_digit, at_read, at_taken, line_read, line_taken}
+use Rattle.c_lexer.proofs.Markers.{After, Numbered, after_read, after_taken, after_no_digit, at_read, at_taken, line_read, line_taken}
 
--- ---- behind the blanks that follow the '#'
+-- ---- after the blanks that follow the '#'
 
-front_read : (front text : List ℕ) → AreBlank front → begins is_blank text ≡ false → directive_in (front ++ text) ≡ directive_behind (length front) text
+front_read : (front text : List ℕ) → AreBlank front → begins is_blank text ≡ false → directive_in (front ++ text) ≡ directive_after (length front) text
 unfolding directive_in
 front_read front text blank stops =
     rw (run_read is_blank front text blank stops, drop-append_seam front text) refl
 
--- a word is read whole, where no byte of a name stands behind it
-pragma_read : (at : ℕ) (anything : List ℕ) → begins goes_on_in_name anything ≡ false → directive_behind at (codes "pragma" ++ anything) ≡ Some Silent
+-- a word is read whole, where no byte of a name stands after it
+pragma_read : (at : ℕ) (anything : List ℕ) → begins goes_on_in_name anything ≡ false → directive_after at (codes "pragma" ++ anything) ≡ Some Silent
 pragma_read at anything stops = rw (no_run goes_on_in_name anything stops) refl
 
-line_word_read : (at : ℕ) (rest : List ℕ) → begins goes_on_in_name rest ≡ false → directive_behind at (codes "line" ++ rest) ≡ line_at (at + 4) rest
+line_word_read : (at : ℕ) (rest : List ℕ) → begins goes_on_in_name rest ≡ false → directive_after at (codes "line" ++ rest) ≡ line_at (at + 4) rest
 line_word_read at rest stops = rw (no_run goes_on_in_name rest stops) refl
 
 -- ---- markers are read
@@ -35,8 +35,8 @@ line_word_read at rest stops = rw (no_run goes_on_in_name rest stops) refl
 blank_no_name : (b : ℕ) → is_blank b ≡ true → goes_on_in_name b ≡ false
 blank_no_name b h = grind (arith, nat_tests)
 
--- the word "line", where it stands, and the blanks behind it
-word_read : (worded : Bool) (at : ℕ) (middle digits rest : List ℕ) (flags : List (List ℕ × List ℕ)) → IsWordGap worded middle flags → AreDigits digits → directive_behind at (word_text worded middle ++ (digits ++ rest)) ≡ marker_at worded (at + length (word_text worded middle)) (digits ++ rest)
+-- the word "line", where it stands, and the blanks after it
+word_read : (worded : Bool) (at : ℕ) (middle digits rest : List ℕ) (flags : List (List ℕ × List ℕ)) → IsWordGap worded middle flags → AreDigits digits → directive_after at (word_text worded middle ++ (digits ++ rest)) ≡ marker_at worded (at + length (word_text worded middle)) (digits ++ rest)
 word_read false at middle digits rest flags w d =
     cond-true (begins is_digit (digits ++ rest)) _ _ (begins_whole is_digit digits rest d.0) ∙ ap (λ n. marker_at false n (digits ++ rest)) (sym (add-zero at))
 word_read true at middle digits rest flags w d =
@@ -50,7 +50,7 @@ word_no_blank : (worded : Bool) (middle text : List ℕ) → begins is_blank tex
 word_no_blank false middle text h = h
 word_no_blank true middle text h = refl
 
--- behind the word "line" there are no flags
+-- after the word "line" there are no flags
 no_flags : (worded : Bool) (middle : List ℕ) (flags : List (List ℕ × List ℕ)) → IsWordGap worded middle flags → worded ≡ true → flags ≡ []
 no_flags true middle flags w e = w.1
 no_flags false middle flags w e = cc
@@ -73,8 +73,8 @@ marker_read m is =
     ap directive_in (pieces m.front word m.digits (name_text m.name) (flags_text m.flags) m.back)
     ∙ front_read m.front (word ++ (m.digits ++ rest)) is.front (word_no_blank m.worded m.middle (m.digits ++ rest) stops)
     ∙ word_read m.worded (length m.front) m.middle m.digits rest m.flags is.word is.digits
-    ∙ at_read m.worded (length m.front + length word) m.digits rest is.digits is.small (behind_no_digit m.worded m.name tail is.name ends)
-    ∙ behind_read m.worded (value_of_digits 10 m.digits) (length m.front + length word + length m.digits) m.name tail is.name ends
+    ∙ at_read m.worded (length m.front + length word) m.digits rest is.digits is.small (after_no_digit m.worded m.name tail is.name ends)
+    ∙ after_read m.worded (value_of_digits 10 m.digits) (length m.front + length word + length m.digits) m.name tail is.name ends
     ∙ ap (λ n. Some (Renumbers (value_of_digits 10 m.digits) (name_range n m.name))) (number_end m.front word m.digits)
 
 pub directive_read : (content : List ℕ) (directive : Directive) → IsDirective content directive → directive_in content ≡ Some directive
@@ -91,12 +91,12 @@ directive_read content directive (marker m is) = marker_read m is
 same_line : (a b : List ℕ) (d e : Directive) → a ≡ b → e ≡ d → IsDirective a d → IsDirective b e
 same_line a b d e p q h = subst (IsDirective b) (sym q) (subst (λ l. IsDirective l d) p h)
 
--- the blanks behind the word "line", where it stands, and nothing elsewhere
+-- the blanks after the word "line", where it stands, and nothing elsewhere
 abbrev IsMiddle : Bool → List ℕ → Type 0
 IsMiddle worded middle = (flags : List (List ℕ × List ℕ)) → (worded ≡ true → flags ≡ []) → IsWordGap worded middle flags
 
 -- a marker of the pieces that were read
-marker_of_pieces : (front : List ℕ) (worded : Bool) (middle text : List ℕ) (at : ℕ) (d : Directive) → AreBlank front → IsMiddle worded middle → at ≡ length front + length (word_text worded middle) → (n : Numbered worded at text d) (b : Behind worded (value_of_digits 10 n.digits) (at + length n.digits) n.rest d) → End worded b.tail → IsDirective (front ++ (word_text worded middle ++ text)) d
+marker_of_pieces : (front : List ℕ) (worded : Bool) (middle text : List ℕ) (at : ℕ) (d : Directive) → AreBlank front → IsMiddle worded middle → at ≡ length front + length (word_text worded middle) → (n : Numbered worded at text d) (b : After worded (value_of_digits 10 n.digits) (at + length n.digits) n.rest d) → End worded b.tail → IsDirective (front ++ (word_text worded middle ++ text)) d
 marker_of_pieces front worded middle text at d blank gap place n b e =
     let word = word_text worded middle in
     let m : Marker = record { worded = worded; front = front; middle = middle; digits = n.digits; name = b.name; flags = e.flags.flags; back = e.flags.back } in
@@ -113,22 +113,22 @@ marker_of_pieces front worded middle text at d blank gap place n b e =
 marker_taken : (front : List ℕ) (worded : Bool) (middle text : List ℕ) (at : ℕ) (d : Directive) → AreBlank front → IsMiddle worded middle → at ≡ length front + length (word_text worded middle) → marker_at worded at text ≡ Some d → IsDirective (front ++ (word_text worded middle ++ text)) d
 marker_taken front worded middle text at d blank gap place h =
     let n = at_taken worded at text d h in
-    let b = behind_taken worded (value_of_digits 10 n.digits) (at + length n.digits) n.rest d n.behind in
+    let b = after_taken worded (value_of_digits 10 n.digits) (at + length n.digits) n.rest d n.after in
     marker_of_pieces front worded middle text at d blank gap place n b (end_taken worded b.tail b.ends)
 
--- a word, and what stands behind it
+-- a word, and what stands after it
 record Word (word text : List ℕ) : Type 0 where
   rest : List ℕ
   is : text ≡ word ++ rest
   stops : begins goes_on_in_name rest ≡ false
   size : prefix_len goes_on_in_name text ≡ length word
-  behind : drop (prefix_len goes_on_in_name text) text ≡ rest
+  after : drop (prefix_len goes_on_in_name text) text ≡ rest
 
 word_taken : (word text : List ℕ) → bytes_eq (take (prefix_len goes_on_in_name text) text) word ≡ true → Word word text
 word_taken word text h =
     let r = run_taken goes_on_in_name text in
     let same : r.front ≡ word = sym (run_front goes_on_in_name text r) ∙ (bytes_eq-Decides _ word).0 h in
-    record { rest = r.rest; is = r.is ∙ ap (λ l. l ++ r.rest) same; stops = r.stops; size = r.size ∙ ap length same; behind = run_rest goes_on_in_name text r }
+    record { rest = r.rest; is = r.is ∙ ap (λ l. l ++ r.rest) same; stops = r.stops; size = r.size ∙ ap length same; after = run_rest goes_on_in_name text r }
 
 -- `#` alone
 null_taken : (front text : List ℕ) (d : Directive) → AreBlank front → bytes_eq text [] ≡ true → Some Silent ≡ Some d → IsDirective (front ++ text) d
@@ -143,11 +143,11 @@ line_word_taken : (front text : List ℕ) (d : Directive) → AreBlank front →
 line_word_taken front text d blank w h =
     let s = line_taken (length front + 4) w.rest d h in
     subst (λ l. IsDirective (front ++ l) d) (ap (λ l. codes "line" ++ l) (sym s.is) ∙ sym w.is)
-    (marker_taken front true s.gap s.rest (length front + 4 + length s.gap) d blank (λ flags bare. (s.blank, bare refl)) (omega arith) s.behind)
+    (marker_taken front true s.gap s.rest (length front + 4 + length s.gap) d blank (λ flags bare. (s.blank, bare refl)) (omega arith) s.after)
 
--- what is read behind the blanks that follow the '#'
-behind_front_taken : (front text : List ℕ) (d : Directive) → AreBlank front → directive_behind (length front) text ≡ Some d → IsDirective (front ++ text) d
-behind_front_taken front text d blank h =
+-- what is read after the blanks that follow the '#'
+after_front_taken : (front text : List ℕ) (d : Directive) → AreBlank front → directive_after (length front) text ≡ Some d → IsDirective (front ++ text) d
+after_front_taken front text d blank h =
     let at = length front in
     let n = prefix_len goes_on_in_name text in
     let P : Option Directive → Type 0 = λ o. o ≡ Some d → IsDirective (front ++ text) d in
@@ -156,7 +156,7 @@ behind_front_taken front text d blank h =
     (λ _. cond_both (bytes_eq text []) (Some Silent) _ P (null_taken front text d blank)
     (λ _. cond_both (bytes_eq (take n text) (codes "pragma")) (Some Silent) _ P (λ e. pragma_taken front text d blank (word_taken (codes "pragma") text e))
     (λ _. cond_both (bytes_eq (take n text) (codes "line")) (line_at (at + n) (drop n text)) None P
-    (λ e h. let w = word_taken (codes "line") text e in line_word_taken front text d blank w (rw (w.behind, w.size) at h))
+    (λ e h. let w = word_taken (codes "line") text e in line_word_taken front text d blank w (rw (w.after, w.size) at h))
     (λ _ h. cc))))
     h
 
@@ -164,4 +164,4 @@ pub directive_taken : (content : List ℕ) (directive : Directive) → directive
 directive_taken content directive h =
     let r = run_taken is_blank content in
     subst (λ l. IsDirective l directive) (sym r.is)
-    (behind_front_taken r.front r.rest directive r.each (sym (front_read r.front r.rest r.each r.stops) ∙ subst (λ l. directive_in l ≡ Some directive) r.is h))
+    (after_front_taken r.front r.rest directive r.each (sym (front_read r.front r.rest r.each r.stops) ∙ subst (λ l. directive_in l ≡ Some directive) r.is h))

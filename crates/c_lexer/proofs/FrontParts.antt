@@ -28,7 +28,7 @@ use Rattle.c_lexer.proofs.Comments.{comment_read, comment_taken, endless_read, e
 
 -- ---- what is read stands there
 
--- the part at the front, and what stands behind it
+-- the part at the front, and what stands after it
 pub record Standing (begins_line : Bool) (bytes : List ℕ) (kind : PartKind) (size : ℕ) : Type 0 where
   pub text : List ℕ
   pub rest : List ℕ
@@ -182,7 +182,7 @@ unquoted_begins S.Name b u h = grind (arith, nat_tests)
 unquoted_begins S.Number b u h = grind (arith, nat_tests)
 unquoted_begins S.Character b u h = absurd u
 unquoted_begins S.Text b u h = absurd u
-unquoted_begins (S.Mark mark) b u h = grind (arith, nat_tests)
+unquoted_begins (S.Punctuator punctuator) b u h = grind (arith, nat_tests)
 
 unquoted_word : (begins_line : Bool) (shape : Shape) (word rest : List ℕ) → IsUnquoted shape → Stands begins_line (P.Word shape) word rest → part_at begins_line (word ++ rest) ≡ Ok (P.Word shape, length word)
 unfolding part_at
@@ -224,7 +224,7 @@ part_read begins_line (P.Word S.Name) text rest s = unquoted_word begins_line S.
 part_read begins_line (P.Word S.Number) text rest s = unquoted_word begins_line S.Number text rest tt s
 part_read begins_line (P.Word S.Character) text rest ((body, is, inside), longest, c) = rw is (quoted_word (P.Word S.Character) 39 body rest refl inside)
 part_read begins_line (P.Word S.Text) text rest ((body, is, inside), longest, c) = rw is (quoted_word (P.Word S.Text) 34 body rest refl inside)
-part_read begins_line (P.Word (S.Mark mark)) text rest s = unquoted_word begins_line (S.Mark mark) text rest tt s
+part_read begins_line (P.Word (S.Punctuator punctuator)) text rest s = unquoted_word begins_line (S.Punctuator punctuator) text rest tt s
 
 -- ---- faults
 

@@ -41,7 +41,7 @@ read_small (hexadecimal digits) h = omega (arith, h)
 
 -- ---- one item is read
 
--- the letter or mark of a simple escape is no octal digit and no "x"
+-- the letter or punctuator of a simple escape is no octal digit and no "x"
 record IsApart (b : ℕ) : Type 0 where
   no_octal : is_octal b ≡ false
   no_x : eqb b 120 ≡ false
@@ -60,14 +60,14 @@ escape_apart b h =
     }
 
 -- one byte more before what was found
-abbrev behind_one : Option (ℕ × ℕ) → Option (ℕ × ℕ)
-behind_one = option_map (λ it. (it.0, it.1 + 1))
+abbrev after_one : Option (ℕ × ℕ) → Option (ℕ × ℕ)
+after_one = option_map (λ it. (it.0, it.1 + 1))
 
 -- a value of one byte
 abbrev of_one : Option ℕ → Option (ℕ × ℕ)
 of_one = option_map (λ value. (value, 1))
 
-simple_found : (o : Option ℕ) → IsSome o → behind_one (of_one o) ≡ Some (unwrap_or o 0, 2)
+simple_found : (o : Option ℕ) → IsSome o → after_one (of_one o) ≡ Some (unwrap_or o 0, 2)
 simple_found None h = cc
 simple_found (Some value) h = refl
 
@@ -98,11 +98,11 @@ pub item_read : (item : Item) (rest : List ℕ) → IsItem item rest → item_at
 item_read (plain b) rest i = rw (ne_eqb b 92 i) refl
 item_read (simple b) rest i = let a = escape_apart b i in rw (a.no_octal, a.no_x) (simple_found (simple_value b) i)
 item_read (octal digits) rest i =
-    ap behind_one (octal_branch digits rest i.0 ∙ digits_read 7 digits rest _ (octal_count digits rest i.1 i.2 i.3) (let e = octal_count digits rest i.1 i.2 i.3 in omega (arith, e, begun_long is_octal digits i.0)))
+    ap after_one (octal_branch digits rest i.0 ∙ digits_read 7 digits rest _ (octal_count digits rest i.1 i.2 i.3) (let e = octal_count digits rest i.1 i.2 i.3 in omega (arith, e, begun_long is_octal digits i.0)))
     ∙ ap (λ n. Some (min (value_of_digits 8 digits) 256, n)) (omega arith)
 item_read (hexadecimal digits) rest i =
     let count = run_read is_hexadecimal digits rest i.1 i.2 in
-    ap (λ o. behind_one (behind_one o)) (digits_read 15 digits rest _ count (omega (arith, count, begun_long is_hexadecimal digits i.0)))
+    ap (λ o. after_one (after_one o)) (digits_read 15 digits rest _ count (omega (arith, count, begun_long is_hexadecimal digits i.0)))
     ∙ ap (λ n. Some (min (value_of_digits 16 digits) 256, n)) (omega arith)
 
 -- ---- what is read is an item

@@ -3,7 +3,7 @@ pub mod Comments
 pub mod Digits
 pub mod DirectiveLines
 pub mod Exactness
-pub mod FirstMarks
+pub mod FirstPunctuators
 pub mod FrontParts
 pub mod FrontWords
 pub mod Items

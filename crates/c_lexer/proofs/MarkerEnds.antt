@@ -1,4 +1,4 @@
--- What stands behind the number and the name of a line marker: flags and blanks, exactly.
+-- What stands after the number and the name of a line marker: flags and blanks, exactly.
 use Rattle.std.proofs.Common.{◌≡◌, ℕ, ◌+◌, Bool, true, false, cond, IsTrue, ◌&&◌, List, [], ◌∷◌, ◌++◌, drop, refl, sym, ap, subst, ◌∙◌, one-add, arith, append_assoc}
 use Rattle.std.specs.List.{All, list_all, prefix_len}
 use Rattle.std.specs.Prelude.{◌==◌}
@@ -31,7 +31,7 @@ blanks_read : (bytes text : List ℕ) → AreBlank bytes → are_flags true (byt
 blanks_read [] text each = refl
 blanks_read (b ∷ bytes) text each = rw (All-head IsBlank b bytes each) (blanks_read bytes text (All-tail IsBlank b bytes each))
 
--- behind a gap a digit may come
+-- after a gap a digit may come
 gap_read : (may : Bool) (gap text : List ℕ) → IsGap gap → are_flags may (gap ++ text) ≡ are_flags true text
 gap_read may [] text g = cc (g.0)
 gap_read may (b ∷ gap) text g = rw g.0 (blanks_read gap text (All-tail IsBlank b gap g.1))
@@ -59,7 +59,7 @@ flags_read may (flag ∷ flags) back each blank =
     ∙ digits_read flag.1 (flags_text flags ++ back) h.1.1
     ∙ flags_read true flags back (All-tail IsFlag flag flags each) blank
 
--- flags, or blanks alone behind the word "line"
+-- flags, or blanks alone after the word "line"
 pub end_read : (worded : Bool) (flags : List (List ℕ × List ℕ)) (back : List ℕ) → (worded ≡ true → flags ≡ []) → All IsFlag flags → AreBlank back → is_marker_end worded (flags_text flags ++ back) ≡ true
 end_read true flags back bare each blank = rw (bare refl) (list_all-from_AllPass is_blank back blank)
 end_read false flags back bare each blank = flags_read false flags back each blank
@@ -74,7 +74,7 @@ pub record Flags (bytes : List ℕ) : Type 0 where
   pub each : All IsFlag flags
   pub blank : AreBlank back
 
--- the same behind more digits of a flag
+-- the same after more digits of a flag
 record InFlag (bytes : List ℕ) : Type 0 where
   digits : List ℕ
   rest : List ℕ
@@ -141,7 +141,7 @@ flags_taken (b ∷ bytes) h =
     let each : (c : Bool) → P c = λ c. elim c as P [ true ↦ at_blank | false ↦ elsewhere ] in
     each (is_blank b) refl h
 
--- flags, of which there is none behind the word "line"
+-- flags, of which there is none after the word "line"
 pub record End (worded : Bool) (bytes : List ℕ) : Type 0 where
   pub flags : Flags bytes
   pub bare : worded ≡ true → flags.flags ≡ []

@@ -50,11 +50,11 @@ number_taken before (b ∷ bytes) =
 
 -- ---- the first bytes
 
--- a digit goes on behind each byte
+-- a digit goes on after each byte
 pub digit_goes_on : (before b : ℕ) → is_digit b ≡ true → goes_on_in_number before b ≡ true
 digit_goes_on before b h = or_left _ _ (or_left _ _ (or_right _ _ h))
 
--- what begins a number begins one with more behind it
+-- what begins a number begins one with more after it
 pub number_whole : (word rest : List ℕ) → begins_number word ≡ true → begins_number (word ++ rest) ≡ true
 number_whole [] rest h = cc
 number_whole (b ∷ []) rest h = or_left _ _ (or_alone (is_digit b) (b == 46) h)

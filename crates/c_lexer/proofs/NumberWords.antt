@@ -21,7 +21,7 @@ use Rattle.c_lexer.specs.declared.radix.Suffix.{Suffix}
 use Rattle.c_lexer.specs.declared.radix.Suffix.TheVariants.{Plain, Unsigned, UnsignedLong, LongLong, Long}
 use Rattle.c_lexer.specs.Characters.{is_digit, is_octal, is_hexadecimal, begins}
 use Rattle.c_lexer.specs.Numbers.{base, IsConstant, suffix_texts, IsOneOf, IsInteger, kinds, first_holding, value, type_of}
-use Rattle.c_lexer.specs.NumberScan.{capped_value, is_radix_letter, begins_hexadecimal, radix_at, is_digit_in, is_u, is_l, suffix_of_one, suffix_of_two, suffix_of_three, suffix_at, typed_number, suffixed_number, number_behind, number_from, number_of}
+use Rattle.c_lexer.specs.NumberScan.{capped_value, is_radix_letter, begins_hexadecimal, radix_at, is_digit_in, is_u, is_l, suffix_of_one, suffix_of_two, suffix_of_three, suffix_at, typed_number, suffixed_number, number_after, number_from, number_of}
 use Rattle.c_lexer.specs.Words.{IsMalformed}
 use Rattle.c_lexer.proofs.Capped.{capped_value_is}
 use Rattle.c_lexer.proofs.RunLengths.{run_read, run_each, run_begins}
@@ -60,7 +60,7 @@ typed_capped n (kind ∷ more) =
 
 -- ---- an integer constant is read
 
--- what is to be known of the bytes behind the digits
+-- what is to be known of the bytes after the digits
 abbrev IsEnd : Suffix → List ℕ → Type 0
 IsEnd suffix tail = (suffix_at tail ≡ Some suffix) × (begins is_hexadecimal tail ≡ false) × (begins is_radix_letter tail ≡ false)
 
@@ -102,11 +102,11 @@ begins_append : (p : ℕ → Bool) (digits tail : List ℕ) → begins p digits 
 begins_append p [] tail h = cc
 begins_append p (d ∷ digits) tail h = h
 
--- the digits stand so far behind the beginning of the text
+-- the digits stand so far after the beginning of the text
 record StartsAt (word : List ℕ) (radix : Radix) (digits tail : List ℕ) : Type 0 where
   front : ℕ
   radix_is : radix_at word ≡ Some (radix, front)
-  behind : drop front word ≡ digits ++ tail
+  after : drop front word ≡ digits ++ tail
   each : All (λ d. IsTrue (is_digit_in radix d)) digits
 
 decimal_start : (digits tail : List ℕ) → IsTrue (begins (leb 49) digits) → All (λ d. IsTrue (is_digit d)) digits → radix_at (digits ++ tail) ≡ Some (Decimal, 0)
@@ -116,12 +116,12 @@ decimal_start (d ∷ digits) tail h each =
     rw (other, All-head (λ d. IsTrue (is_digit d)) d digits each) refl
 
 constant_read : (radix : Radix) (digits text tail : List ℕ) → IsConstant radix digits text → begins is_radix_letter tail ≡ false → StartsAt (text ++ tail) radix digits tail
-constant_read Decimal digits text tail c h = subst (λ l. StartsAt (l ++ tail) Decimal digits tail) (sym c.0) (record { front = 0; radix_is = decimal_start digits tail c.1 c.2; behind = refl; each = c.2 })
-constant_read Octal digits text tail c h = subst (λ l. StartsAt (l ++ tail) Octal digits tail) (sym c.0) (record { front = 1; radix_is = rw (no_hexadecimal digits tail c.1 h) refl; behind = refl; each = c.1 })
-constant_read Hexadecimal digits text tail c h = subst (λ l. StartsAt (l ++ tail) Hexadecimal digits tail) (sym c.1) (record { front = 2; radix_is = rw (c.2, begins_append is_hexadecimal digits tail c.3) refl; behind = refl; each = c.4 })
+constant_read Decimal digits text tail c h = subst (λ l. StartsAt (l ++ tail) Decimal digits tail) (sym c.0) (record { front = 0; radix_is = decimal_start digits tail c.1 c.2; after = refl; each = c.2 })
+constant_read Octal digits text tail c h = subst (λ l. StartsAt (l ++ tail) Octal digits tail) (sym c.0) (record { front = 1; radix_is = rw (no_hexadecimal digits tail c.1 h) refl; after = refl; each = c.1 })
+constant_read Hexadecimal digits text tail c h = subst (λ l. StartsAt (l ++ tail) Hexadecimal digits tail) (sym c.1) (record { front = 2; radix_is = rw (c.2, begins_append is_hexadecimal digits tail c.3) refl; after = refl; each = c.4 })
 
-behind_read : (radix : Radix) (digits tail : List ℕ) (suffix : Suffix) → All (λ d. IsTrue (is_digit_in radix d)) digits → IsEnd suffix tail → number_behind radix (digits ++ tail) ≡ typed_number (value radix digits) (type_of radix digits suffix)
-behind_read radix digits tail suffix each ends =
+after_read : (radix : Radix) (digits tail : List ℕ) (suffix : Suffix) → All (λ d. IsTrue (is_digit_in radix d)) digits → IsEnd suffix tail → number_after radix (digits ++ tail) ≡ typed_number (value radix digits) (type_of radix digits suffix)
+after_read radix digits tail suffix each ends =
     let text = digits ++ tail in
     let read : List ℕ → List ℕ → Result TokenKind FaultKind = λ d t. suffixed_number radix (capped_value (base radix) d) (suffix_at t) in
     ap (λ n. read (take n text) (drop n text)) (run_read (is_digit_in radix) digits tail each (no_digit radix tail ends.1))
@@ -140,8 +140,8 @@ integer_read word radix digits suffix i =
     let whole = i.text ++ i.tail in
     ap (λ l. number_from l (radix_at l)) i.word_is
     ∙ ap (number_from whole) start.radix_is
-    ∙ ap (number_behind radix) start.behind
-    ∙ behind_read radix digits i.tail suffix start.each ends
+    ∙ ap (number_after radix) start.after
+    ∙ after_read radix digits i.tail suffix start.each ends
 
 pub number_read : (word : List ℕ) (radix : Radix) (digits : List ℕ) (suffix : Suffix) (n : ℕ) (kind : IntKind) → IsInteger word radix digits suffix → value radix digits ≡ n → type_of radix digits suffix ≡ Some kind → number_of word ≡ Ok (K.Number n kind)
 number_read word radix digits suffix n kind i v t = integer_read word radix digits suffix i ∙ ap (typed_number (value radix digits)) t ∙ ap (λ m. Ok (K.Number m kind)) v
@@ -229,9 +229,9 @@ suffix_taken (a ∷ b ∷ []) suffix h = two_taken a b suffix h
 suffix_taken (a ∷ b ∷ c ∷ []) suffix h = three_taken a b c suffix h
 suffix_taken (a ∷ b ∷ c ∷ d ∷ tail) suffix h = cc
 
--- the run of digits behind such a beginning
+-- the run of digits after such a beginning
 abbrev digits_in : List ℕ → Radix × ℕ → List ℕ
-digits_in word start = let behind = drop start.1 word in take (prefix_len (is_digit_in start.0) behind) behind
+digits_in word start = let after = drop start.1 word in take (prefix_len (is_digit_in start.0) after) after
 
 abbrev IsConstantFrom : List ℕ → Radix × ℕ → Type 0
 IsConstantFrom word start = IsConstant start.0 (digits_in word start) (take start.1 word ++ digits_in word start)
@@ -260,14 +260,14 @@ constant_taken (b ∷ bytes) start h =
 
 integer_taken : (word : List ℕ) (start : Radix × ℕ) (suffix : Suffix) → radix_at word ≡ Some start → suffix_at (drop (prefix_len (is_digit_in start.0) (drop start.1 word)) (drop start.1 word)) ≡ Some suffix → IsInteger word start.0 (digits_in word start) suffix
 integer_taken word start suffix h s =
-    let behind = drop start.1 word in
-    let n = prefix_len (is_digit_in start.0) behind in
+    let after = drop start.1 word in
+    let n = prefix_len (is_digit_in start.0) after in
     record {
       text = take start.1 word ++ digits_in word start;
-      tail = drop n behind;
-      word_is = sym (append_assoc (take start.1 word) (take n behind) (drop n behind) ∙ ap (λ l. take start.1 word ++ l) (take-append-drop n behind) ∙ take-append-drop start.1 word);
+      tail = drop n after;
+      word_is = sym (append_assoc (take start.1 word) (take n after) (drop n after) ∙ ap (λ l. take start.1 word ++ l) (take-append-drop n after) ∙ take-append-drop start.1 word);
       constant = constant_taken word start h;
-      suffixed = suffix_taken (drop n behind) suffix s;
+      suffixed = suffix_taken (drop n after) suffix s;
     }
 
 -- the word is an integer constant, or reading it says that it is malformed
@@ -277,16 +277,16 @@ IsReadOrNot word = ((radix : Radix) × (digits : List ℕ) × (suffix : Suffix) 
 read_or_not : (word : List ℕ) → IsReadOrNot word
 unfolding number_of
 read_or_not word =
-    let behind : Radix × ℕ → List ℕ = λ start. drop start.1 word in
-    let run : Radix × ℕ → ℕ = λ start. prefix_len (is_digit_in start.0) (behind start) in
+    let after : Radix × ℕ → List ℕ = λ start. drop start.1 word in
+    let run : Radix × ℕ → ℕ = λ start. prefix_len (is_digit_in start.0) (after start) in
     let number : Radix × ℕ → Option Suffix → Result TokenKind FaultKind = λ start o. suffixed_number start.0 (capped_value (base start.0) (digits_in word start)) o in
-    let ended : (start : Radix × ℕ) → radix_at word ≡ Some start → (o : Option Suffix) → suffix_at (drop (run start) (behind start)) ≡ o → IsReadOrNot word = λ start h o. elim o as (λ o. suffix_at (drop (run start) (behind start)) ≡ o → IsReadOrNot word) [
+    let ended : (start : Radix × ℕ) → radix_at word ≡ Some start → (o : Option Suffix) → suffix_at (drop (run start) (after start)) ≡ o → IsReadOrNot word = λ start h o. elim o as (λ o. suffix_at (drop (run start) (after start)) ≡ o → IsReadOrNot word) [
       | None ↦ λ s. inr (ap (number_from word) h ∙ ap (number start) s)
       | Some suffix ↦ λ s. inl (start.0, digits_in word start, suffix, integer_taken word start suffix h s)
     ] in
     let started : (o : Option (Radix × ℕ)) → radix_at word ≡ o → IsReadOrNot word = λ o. elim o as (λ o. radix_at word ≡ o → IsReadOrNot word) [
       | None ↦ λ h. inr (ap (number_from word) h)
-      | Some start ↦ λ h. ended start h (suffix_at (drop (run start) (behind start))) refl
+      | Some start ↦ λ h. ended start h (suffix_at (drop (run start) (after start))) refl
     ] in
     started (radix_at word) refl
 

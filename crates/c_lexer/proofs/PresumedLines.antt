@@ -12,34 +12,34 @@ use Rattle.c_lexer.specs.declared.token.Token.{Token}
 use Rattle.c_lexer.specs.Characters.{is_line_feed, value_of_digits}
 use Rattle.c_lexer.specs.Directives.{name_text, flags_text, word_text, name_range, IsDirective, null, pragma, marker}
 use Rattle.c_lexer.specs.DirectiveScan.{directive_in}
-use Rattle.c_lexer.specs.Parts.{Part, text_of, Stands, AreParts, begins_line_behind}
+use Rattle.c_lexer.specs.Parts.{Part, text_of, Stands, AreParts, begins_line_after_part}
 use Rattle.c_lexer.specs.Lexes.{Lexes}
-use Rattle.c_lexer.specs.Scanning.{part_at, begins_line_behind_part}
-use Rattle.c_lexer.specs.Presuming.{first_lines, behind_byte, behind_directive, Moves, Presumes, IsPresumed, with_directive, behind_part}
+use Rattle.c_lexer.specs.Scanning.{part_at, begins_line_after_kind}
+use Rattle.c_lexer.specs.Presuming.{first_lines, after_byte, after_directive, Moves, Presumes, IsPresumed, with_directive, after_part}
 use Rattle.c_lexer.proofs.DirectiveLines.{directive_read, directive_taken}
 use Rattle.c_lexer.proofs.Exactness.{PartsAreExact}
-use Rattle.c_lexer.proofs.WholeTexts.{line_behind, part_long}
+use Rattle.c_lexer.proofs.WholeTexts.{line_after, part_long}
 use Rattle.c_lexer.proofs.OneReading.{same_answer}
 
 -- ---- the relation and the function
 
--- behind parts that begin at a byte of the file
-abbrev pub behind_parts : ℕ → List Part → Lines → Lines
-behind_parts at [] lines = lines
-behind_parts at (part ∷ parts) lines = behind_parts (at + length part.text) parts (behind_part at part.kind part.text lines)
+-- after parts that begin at a byte of the file
+abbrev pub after_parts : ℕ → List Part → Lines → Lines
+after_parts at [] lines = lines
+after_parts at (part ∷ parts) lines = after_parts (at + length part.text) parts (after_part at part.kind part.text lines)
 
-moves_read : (at : ℕ) (begins_line : Bool) (kind : PartKind) (text rest : List ℕ) (lines : Lines) → Stands begins_line kind text rest → Moves at kind text lines (behind_part at kind text lines)
+moves_read : (at : ℕ) (begins_line : Bool) (kind : PartKind) (text rest : List ℕ) (lines : Lines) → Stands begins_line kind text rest → Moves at kind text lines (after_part at kind text lines)
 moves_read at begins_line P.Directive text rest lines s = (s.0, s.1, s.2, s.6, rw s.2 (ap (λ o. with_directive at o lines) (directive_read s.0 s.1 s.6)))
 moves_read at begins_line P.White text rest lines s = refl
 moves_read at begins_line P.Comment text rest lines s = refl
 moves_read at begins_line P.LineComment text rest lines s = refl
 moves_read at begins_line (P.Word shape) text rest lines s = refl
 
-pub presumes_read : (parts : List Part) (at : ℕ) (begins_line : Bool) (lines : Lines) → AreParts begins_line parts [] → Presumes at parts lines (behind_parts at parts lines)
+pub presumes_read : (parts : List Part) (at : ℕ) (begins_line : Bool) (lines : Lines) → AreParts begins_line parts [] → Presumes at parts lines (after_parts at parts lines)
 presumes_read [] at begins_line lines a = refl
 presumes_read (part ∷ parts) at begins_line lines a =
-    let after = behind_part at part.kind part.text lines in
-    (after, moves_read at begins_line part.kind part.text (text_of parts ++ []) lines a.0, presumes_read parts (at + length part.text) (begins_line_behind begins_line part) after a.1)
+    let after = after_part at part.kind part.text lines in
+    (after, moves_read at begins_line part.kind part.text (text_of parts ++ []) lines a.0, presumes_read parts (at + length part.text) (begins_line_after_part begins_line part) after a.1)
 
 -- ---- what a directive says is small
 
@@ -67,7 +67,7 @@ directive_is_small content directive (marker m is) =
 pub directive_fits : (content : List ℕ) (directive : Directive) → directive_in content ≡ Some directive → FitsIn (length content) directive
 directive_fits content directive h = directive_is_small content directive (directive_taken content directive h)
 
--- the name is among the bytes behind '#'
+-- the name is among the bytes after '#'
 pub name_within : (content : List ℕ) (directive : Directive) (number : ℕ) (found : Option NameRange) (name : NameRange) → Some directive ≡ directive_in content → directive ≡ Renumbers number found → found ≡ Some name → (name.from ≤ length content) × (name.to ≤ length content)
 name_within content directive number found name e d f =
     let fits : FitsIn (length content) (Renumbers number (Some name)) = directive_fits content _ (sym e ∙ ap Some (d ∙ ap (Renumbers number) f)) in
@@ -80,20 +80,20 @@ pub record AreSmall (limit : ℕ) (lines : Lines) : Type 0 where
   pub here : lines.here.line ≤ limit
   pub next : lines.next.line ≤ limit
 
-byte_small : (limit : ℕ) (lines : Lines) (b : ℕ) → AreSmall limit lines → AreSmall (limit + 1) (behind_byte lines b)
+byte_small : (limit : ℕ) (lines : Lines) (b : ℕ) → AreSmall limit lines → AreSmall (limit + 1) (after_byte lines b)
 byte_small limit lines b s = each (is_line_feed b)
   where
     each : (c : Bool) → AreSmall (limit + 1) (cond c (record { here = lines.next; next = record lines.next { line = lines.next.line + 1 } }) lines)
     each true = record { here = omega arith; next = omega arith }
     each false = record { here = omega arith; next = omega arith }
 
-bytes_small : (text : List ℕ) (limit : ℕ) (lines : Lines) → AreSmall limit lines → AreSmall (limit + length text) (fold behind_byte lines text)
+bytes_small : (text : List ℕ) (limit : ℕ) (lines : Lines) → AreSmall limit lines → AreSmall (limit + length text) (fold after_byte lines text)
 bytes_small [] limit lines s = record { here = omega arith; next = omega arith }
 bytes_small (b ∷ text) limit lines s =
-    let more = bytes_small text (limit + 1) (behind_byte lines b) (byte_small limit lines b s) in
+    let more = bytes_small text (limit + 1) (after_byte lines b) (byte_small limit lines b s) in
     record { here = omega (arith, more.here); next = omega (arith, more.next) }
 
-directive_small : (at n limit : ℕ) (directive : Directive) (lines : Lines) → FitsIn n directive → 2147483647 ≤ limit → AreSmall limit lines → AreSmall limit (behind_directive at directive lines)
+directive_small : (at n limit : ℕ) (directive : Directive) (lines : Lines) → FitsIn n directive → 2147483647 ≤ limit → AreSmall limit lines → AreSmall limit (after_directive at directive lines)
 directive_small at n limit Silent lines f l s = s
 directive_small at n limit (Renumbers number None) lines f l s = record { here = s.here; next = omega arith }
 directive_small at n limit (Renumbers number (Some name)) lines f l s = record { here = s.here; next = omega (arith, f.0) }
@@ -105,7 +105,7 @@ found_small at limit content lines (Some directive) e l s = directive_small at (
 higher : (limit more : ℕ) (lines : Lines) → limit ≤ more → AreSmall limit lines → AreSmall more lines
 higher limit more lines h s = record { here = omega arith; next = omega arith }
 
-part_small : (at limit : ℕ) (kind : PartKind) (text : List ℕ) (lines : Lines) → 2147483647 ≤ limit → AreSmall limit lines → AreSmall (limit + length text) (behind_part at kind text lines)
+part_small : (at limit : ℕ) (kind : PartKind) (text : List ℕ) (lines : Lines) → 2147483647 ≤ limit → AreSmall limit lines → AreSmall (limit + length text) (after_part at kind text lines)
 part_small at limit P.Directive [] lines l s = higher limit _ lines (omega arith) s
 part_small at limit P.Directive (b ∷ content) lines l s = higher limit _ _ (omega arith) (found_small at limit content lines (directive_in content) refl l s)
 part_small at limit P.White text lines l s = bytes_small text limit lines s
@@ -115,12 +115,12 @@ part_small at limit (P.Word shape) text lines l s = bytes_small text limit lines
 
 -- ---- turns of the loop over the parts before the place
 
--- the rest has parts, behind which stands what is presumed of the end of the whole
+-- the rest has parts, after which stands what is presumed of the end of the whole
 pub record LeadsOn (whole : List ℕ) (at : ℕ) (begins_line : Bool) (rest : List ℕ) (lines : Lines) : Type 0 where
   pub parts : List Part
   pub is : rest ≡ text_of parts
   pub are_parts : AreParts begins_line parts []
-  pub leads : IsPresumed whole (behind_parts at parts lines).here
+  pub leads : IsPresumed whole (after_parts at parts lines).here
   pub small : AreSmall (2147483647 + at) lines
 
 pub leads_begins : (whole : List ℕ) (tokens : List Token) → Lexes whole tokens → LeadsOn whole 0 true whole first_lines
@@ -128,34 +128,34 @@ leads_begins whole tokens l = record {
   parts = l.parts;
   is = l.bytes_are;
   are_parts = l.are_parts;
-  leads = record { parts = l.parts; behind = behind_parts 0 l.parts first_lines; bytes_are = l.bytes_are; are_parts = l.are_parts; presumes = presumes_read l.parts 0 true first_lines l.are_parts; here = refl };
+  leads = record { parts = l.parts; following = after_parts 0 l.parts first_lines; bytes_are = l.bytes_are; are_parts = l.are_parts; presumes = presumes_read l.parts 0 true first_lines l.are_parts; here = refl };
   small = record { here = omega arith; next = omega arith };
 }
 
--- behind the first part of the rest
-leads_behind : (p : PartsAreExact) (whole : List ℕ) (at : ℕ) (begins_line : Bool) (lines : Lines) (part : Part) (parts : List Part) → AreParts begins_line (part ∷ parts) [] → IsPresumed whole (behind_parts at (part ∷ parts) lines).here → AreSmall (2147483647 + at) lines → LeadsOn whole (at + length part.text) (begins_line_behind_part begins_line part.kind part.text) (text_of parts) (behind_part at part.kind part.text lines)
-leads_behind p whole at begins_line lines part parts a leads small = record {
+-- after the first part of the rest
+leads_after : (p : PartsAreExact) (whole : List ℕ) (at : ℕ) (begins_line : Bool) (lines : Lines) (part : Part) (parts : List Part) → AreParts begins_line (part ∷ parts) [] → IsPresumed whole (after_parts at (part ∷ parts) lines).here → AreSmall (2147483647 + at) lines → LeadsOn whole (at + length part.text) (begins_line_after_kind begins_line part.kind part.text) (text_of parts) (after_part at part.kind part.text lines)
+leads_after p whole at begins_line lines part parts a leads small = record {
   parts = parts;
   is = refl;
-  are_parts = rw (line_behind begins_line part.kind part.text (text_of parts ++ []) a.0) a.1;
+  are_parts = rw (line_after begins_line part.kind part.text (text_of parts ++ []) a.0) a.1;
   leads = leads;
   small = higher (2147483647 + at + length part.text) _ _ (omega arith) (part_small at (2147483647 + at) part.kind part.text lines (omega arith) small);
 }
 
 -- the part that is read is that first part
-leads_over : (p : PartsAreExact) (whole : List ℕ) (at : ℕ) (begins_line : Bool) (rest : List ℕ) (lines : Lines) (parts : List Part) → rest ≡ text_of parts → AreParts begins_line parts [] → IsPresumed whole (behind_parts at parts lines).here → AreSmall (2147483647 + at) lines → (kind : PartKind) (size : ℕ) → part_at begins_line rest ≡ Ok (kind, size) → 0 < length rest → LeadsOn whole (at + size) (begins_line_behind_part begins_line kind (take size rest)) (drop size rest) (behind_part at kind (take size rest) lines)
+leads_over : (p : PartsAreExact) (whole : List ℕ) (at : ℕ) (begins_line : Bool) (rest : List ℕ) (lines : Lines) (parts : List Part) → rest ≡ text_of parts → AreParts begins_line parts [] → IsPresumed whole (after_parts at parts lines).here → AreSmall (2147483647 + at) lines → (kind : PartKind) (size : ℕ) → part_at begins_line rest ≡ Ok (kind, size) → 0 < length rest → LeadsOn whole (at + size) (begins_line_after_kind begins_line kind (take size rest)) (drop size rest) (after_part at kind (take size rest) lines)
 leads_over p whole at begins_line rest lines [] is a leads small kind size e h = absurd (omega (arith, ap length is))
 leads_over p whole at begins_line rest lines (part ∷ parts) is a leads small kind size e h =
-    let behind = text_of parts in
-    let read = ap (part_at begins_line) (is ∙ ap (λ l. part.text ++ l) (sym (append-nil behind))) ∙ p.part_read begins_line part.kind part.text (behind ++ []) a.0 in
+    let following = text_of parts in
+    let read = ap (part_at begins_line) (is ∙ ap (λ l. part.text ++ l) (sym (append-nil following))) ∙ p.part_read begins_line part.kind part.text (following ++ []) a.0 in
     let pairs = same_answer _ (kind, size) (part.kind, length part.text) e read in
     let kinds : kind ≡ part.kind = ap (λ z. z.0) pairs in
     let sizes : size ≡ length part.text = ap (λ z. z.1) pairs in
-    let front : take (length part.text) rest ≡ part.text = ap (take (length part.text)) is ∙ take-append_seam part.text behind in
-    let back : drop (length part.text) rest ≡ behind = ap (drop (length part.text)) is ∙ drop-append_seam part.text behind in
-    rw (kinds, sizes, front, back) (leads_behind p whole at begins_line lines part parts a leads small)
+    let front : take (length part.text) rest ≡ part.text = ap (take (length part.text)) is ∙ take-append_seam part.text following in
+    let back : drop (length part.text) rest ≡ following = ap (drop (length part.text)) is ∙ drop-append_seam part.text following in
+    rw (kinds, sizes, front, back) (leads_after p whole at begins_line lines part parts a leads small)
 
-pub leads_more : (p : PartsAreExact) (whole : List ℕ) (at : ℕ) (begins_line : Bool) (rest : List ℕ) (lines : Lines) (kind : PartKind) (size : ℕ) → part_at begins_line rest ≡ Ok (kind, size) → 0 < length rest → LeadsOn whole at begins_line rest lines → LeadsOn whole (at + size) (begins_line_behind_part begins_line kind (take size rest)) (drop size rest) (behind_part at kind (take size rest) lines)
+pub leads_more : (p : PartsAreExact) (whole : List ℕ) (at : ℕ) (begins_line : Bool) (rest : List ℕ) (lines : Lines) (kind : PartKind) (size : ℕ) → part_at begins_line rest ≡ Ok (kind, size) → 0 < length rest → LeadsOn whole at begins_line rest lines → LeadsOn whole (at + size) (begins_line_after_kind begins_line kind (take size rest)) (drop size rest) (after_part at kind (take size rest) lines)
 leads_more p whole at begins_line rest lines kind size e h l = leads_over p whole at begins_line rest lines l.parts l.is l.are_parts l.leads l.small kind size e h
 
 parts_are_read : (p : PartsAreExact) (begins_line : Bool) (parts : List Part) (fault : FaultKind) → AreParts begins_line parts [] → 0 < length (text_of parts) → part_at begins_line (text_of parts) ≡ Err fault → ⊥
@@ -167,7 +167,7 @@ parts_are_read p begins_line (part ∷ parts) fault a h e =
 pub leads_never : (p : PartsAreExact) (whole : List ℕ) (at : ℕ) (begins_line : Bool) (rest : List ℕ) (lines : Lines) (fault : FaultKind) → part_at begins_line rest ≡ Err fault → 0 < length rest → LeadsOn whole at begins_line rest lines → ⊥
 leads_never p whole at begins_line rest lines fault e h l = parts_are_read p begins_line l.parts fault l.are_parts (rw l.is at h) (rw l.is at e)
 
-no_parts : (p : PartsAreExact) (at : ℕ) (begins_line : Bool) (parts : List Part) (lines : Lines) → AreParts begins_line parts [] → length (text_of parts) ≡ 0 → behind_parts at parts lines ≡ lines
+no_parts : (p : PartsAreExact) (at : ℕ) (begins_line : Bool) (parts : List Part) (lines : Lines) → AreParts begins_line parts [] → length (text_of parts) ≡ 0 → after_parts at parts lines ≡ lines
 no_parts p at begins_line [] lines a h = refl
 no_parts p at begins_line (part ∷ parts) lines a h = absurd (omega (arith, length-append part.text (text_of parts), part_long p begins_line part (text_of parts ++ []) a.0))
 

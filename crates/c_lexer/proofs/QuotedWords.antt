@@ -65,9 +65,9 @@ with_item_taken (Some found) more values h =
     ] in
     each (more found.1) refl h
 
--- what stands behind the item that was found
-item_behind : (bytes : List ℕ) (found : ℕ × ℕ) (it : IsItemAt bytes found) → drop found.1 bytes ≡ it.rest
-item_behind bytes found it =
+-- what stands after the item that was found
+item_after : (bytes : List ℕ) (found : ℕ × ℕ) (it : IsItemAt bytes found) → drop found.1 bytes ≡ it.rest
+item_after bytes found it =
     ap (λ f. drop f.1 bytes) it.found_is
     ∙ ap (drop (length (item_text it.item))) it.bytes_are
     ∙ drop_at (item_text it.item) it.rest (length (item_text it.item)) refl
@@ -82,7 +82,7 @@ items_taken (suc n) (b ∷ body) values h e =
     let w = with_item_taken (item_at whole) (λ size. values_in n (drop size whole)) values e in
     let it = item_taken whole w.found w.item_is in
     let size : length whole ≡ length (item_text it.item) + length it.rest = ap length it.bytes_are ∙ length-append (item_text it.item) it.rest in
-    let more = items_taken n it.rest w.rest (omega (arith, h, size, item_long it.item)) (ap (values_in n) (sym (item_behind whole w.found it)) ∙ w.more_is) in
+    let more = items_taken n it.rest w.rest (omega (arith, h, size, item_long it.item)) (ap (values_in n) (sym (item_after whole w.found it)) ∙ w.more_is) in
     (it.item ∷ more.0, (it.rest, it.bytes_are, it.is_item, more.1), w.values_are ∙ ap (λ v. v.0 ∷ w.rest) it.found_is ∙ ap (λ l. read_value it.item ∷ l) more.2)
 
 -- ---- words

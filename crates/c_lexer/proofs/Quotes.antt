@@ -10,7 +10,7 @@ use Rattle.c_lexer.specs.QuotedScan.{quoted_length}
 longer : (n k : ℕ) (found : Option ℕ) → found ≡ Some (n + 1) → k ≡ n + 1 → option_map suc found ≡ Some (k + 1)
 longer n k found h e = rw (h, e) (ap (λ m. Some m) (sym (add-one (n + 1))))
 
--- what stands inside is found up to a quote, behind a backslash or not
+-- what stands inside is found up to a quote, after a backslash or not
 pub quoted_read : (quote : ℕ) (escaped : Bool) (body rest : List ℕ) → quote ≢ 10 → IsInside quote escaped body → quoted_length quote escaped (body ++ quote ∷ rest) ≡ Some (length body + 1)
 quoted_read quote true [] rest n h = cc
 quoted_read quote false [] rest n h = rw (ne_eqb quote 10 n, eq-eqb quote quote refl) refl
@@ -35,7 +35,7 @@ closed_escaped quote b bytes n line c = record { body = b ∷ c.body; rest = c.r
 closed_more : (quote b : ℕ) (bytes : List ℕ) (n : ℕ) → b ≢ 10 → b ≢ quote → Closed quote (b == 92) bytes n → Closed quote false (b ∷ bytes) (suc n)
 closed_more quote b bytes n line other c = record { body = b ∷ c.body; rest = c.rest; is = ap (λ l. b ∷ l) c.is; inside = (line, other, c.inside); size = let e = c.size in omega (arith, e) }
 
--- how many bytes were counted behind the first
+-- how many bytes were counted after the first
 pub counted : (found : Option ℕ) (n : ℕ) → option_map suc found ≡ Some n → (m : ℕ) × (found ≡ Some m) × (suc m ≡ n)
 counted None n h = cc
 counted (Some m) n h = (m, refl, same_Some (suc m) n h)

@@ -73,7 +73,7 @@ module _ (p : ℕ → Bool) where
       (λ e l. All-cons (λ b. IsTrue (p b)) b (take n bytes) e (run_each n bytes (omega (arith, l))))
       (λ e l. absurd (omega (arith, l))) h
 
-  -- no such byte stands behind it
+  -- no such byte stands after it
   pub run_stops : (bytes : List ℕ) → begins p (drop (prefix_len p bytes) bytes) ≡ false
   run_stops [] = refl
   run_stops (b ∷ bytes) =
@@ -117,6 +117,6 @@ drop_next : (front rest : List ℕ) (c : ℕ) → drop (suc (length front)) (fro
 drop_next [] rest c = refl
 drop_next (b ∷ front) rest c = drop_next front rest c
 
--- behind a front and one byte more
-pub drop_behind : (front rest : List ℕ) (c : ℕ) → drop (length front + 1) (front ++ c ∷ rest) ≡ rest
-drop_behind front rest c = ap (λ n. drop n (front ++ c ∷ rest)) (add-one (length front)) ∙ drop_next front rest c
+-- after a front and one byte more
+pub drop_after : (front rest : List ℕ) (c : ℕ) → drop (length front + 1) (front ++ c ∷ rest) ≡ rest
+drop_after front rest c = ap (λ n. drop n (front ++ c ∷ rest)) (add-one (length front)) ∙ drop_next front rest c

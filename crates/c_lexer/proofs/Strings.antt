@@ -10,11 +10,11 @@ use Rattle.c_lexer.specs.declared.token.TokenKind.TheVariants.{Text}
 use Rattle.c_lexer.specs.QuotedScan.{item_at, escape_at, with_item, values_in, is_too_great, text_with}
 
 -- what the rest of a body gives, where a character before it was too great or none was
-abbrev pub text_behind : Bool → Option (List ℕ) → Result TokenKind FaultKind
-text_behind wide None = Err BadLiteral
-text_behind wide (Some values) = cond (wide || list_any is_too_great values) (Err TooWide) (Ok Text)
+abbrev pub text_after : Bool → Option (List ℕ) → Result TokenKind FaultKind
+text_after wide None = Err BadLiteral
+text_after wide (Some values) = cond (wide || list_any is_too_great values) (Err TooWide) (Ok Text)
 
-pub text_begins : (o : Option (List ℕ)) → text_behind false o ≡ text_with o
+pub text_begins : (o : Option (List ℕ)) → text_after false o ≡ text_with o
 text_begins None = refl
 text_begins (Some values) = refl
 
@@ -63,13 +63,13 @@ or_apart : (a b c : Bool) → (a || (b || c)) ≡ ((a || b) || c)
 or_apart true b c = refl
 or_apart false b c = refl
 
-behind_one : (wide : Bool) (value : ℕ) (o : Option (List ℕ)) → text_behind wide (option_map (λ values. value ∷ values) o) ≡ text_behind (wide || is_too_great value) o
-behind_one wide value None = refl
-behind_one wide value (Some values) = rw (or_apart wide (is_too_great value) (list_any is_too_great values)) refl
+after_one : (wide : Bool) (value : ℕ) (o : Option (List ℕ)) → text_after wide (option_map (λ values. value ∷ values) o) ≡ text_after (wide || is_too_great value) o
+after_one wide value None = refl
+after_one wide value (Some values) = rw (or_apart wide (is_too_great value) (list_any is_too_great values)) refl
 
-pub text_kept : (wide now : Bool) (text rest : List ℕ) (value size : ℕ) (found : Result TokenKind FaultKind) → now ≡ (wide || is_too_great value) → rest ≡ drop size text → item_at text ≡ Some (value, size) → text_behind wide (values_in (length text) text) ≡ found → text_behind now (values_in (length rest) rest) ≡ found
-text_kept wide now text rest value size found w r h e = rw (w, r) (sym (behind_one wide value (values_in (length (drop size text)) (drop size text))) ∙ sym (ap (text_behind wide) (values_turn text (value, size) h)) ∙ e)
+pub text_kept : (wide now : Bool) (text rest : List ℕ) (value size : ℕ) (found : Result TokenKind FaultKind) → now ≡ (wide || is_too_great value) → rest ≡ drop size text → item_at text ≡ Some (value, size) → text_after wide (values_in (length text) text) ≡ found → text_after now (values_in (length rest) rest) ≡ found
+text_kept wide now text rest value size found w r h e = rw (w, r) (sym (after_one wide value (values_in (length (drop size text)) (drop size text))) ∙ sym (ap (text_after wide) (values_turn text (value, size) h)) ∙ e)
 
-pub text_stops : (wide : Bool) (text : List ℕ) → item_at text ≡ None → 0 < length text → text_behind wide (values_in (length text) text) ≡ Err BadLiteral
+pub text_stops : (wide : Bool) (text : List ℕ) → item_at text ≡ None → 0 < length text → text_after wide (values_in (length text) text) ≡ Err BadLiteral
 text_stops wide [] h k = absurd (omega (arith, k))
 text_stops wide (b ∷ text) h k = rw h refl

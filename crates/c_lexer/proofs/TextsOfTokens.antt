@@ -8,9 +8,9 @@ use Rattle.c_lexer.specs.declared.part.Shape.TheVariants as S
 use Rattle.c_lexer.specs.declared.token.Token.{Token}
 use Rattle.c_lexer.specs.declared.token.TokenKind.{TokenKind}
 use Rattle.c_lexer.specs.declared.token.TokenKind.TheVariants as K
-use Rattle.c_lexer.specs.Marks.{mark_text}
+use Rattle.c_lexer.specs.Punctuators.{punctuator_text}
 use Rattle.c_lexer.specs.Words.{IsWord, IsToken}
-use Rattle.c_lexer.specs.Parts.{Part, text_of, Stands, AreParts, begins_line_behind}
+use Rattle.c_lexer.specs.Parts.{Part, text_of, Stands, AreParts, begins_line_after_part}
 use Rattle.c_lexer.specs.Lexes.{AreTokens, AreTokensFrom, Lexes}
 use Rattle.c_lexer.specs.TokenTexts.{token_text, IsTextOf, HaveTexts, TokensHaveTexts}
 
@@ -23,12 +23,12 @@ its_text S.Name text (K.Keyword keyword) w h = h
 its_text S.Number text (K.Keyword keyword) w h = absurd h
 its_text S.Character text (K.Keyword keyword) w h = absurd h
 its_text S.Text text (K.Keyword keyword) w h = absurd h
-its_text (S.Mark mark) text (K.Keyword keyword) w h = absurd h
-its_text S.Name text (K.Mark m) w h = absurd h
-its_text S.Number text (K.Mark m) w h = absurd h
-its_text S.Character text (K.Mark m) w h = absurd h
-its_text S.Text text (K.Mark m) w h = absurd h
-its_text (S.Mark mark) text (K.Mark m) w h = w ∙ ap mark_text (sym h)
+its_text (S.Punctuator punctuator) text (K.Keyword keyword) w h = absurd h
+its_text S.Name text (K.Punctuator m) w h = absurd h
+its_text S.Number text (K.Punctuator m) w h = absurd h
+its_text S.Character text (K.Punctuator m) w h = absurd h
+its_text S.Text text (K.Punctuator m) w h = absurd h
+its_text (S.Punctuator punctuator) text (K.Punctuator m) w h = w ∙ ap punctuator_text (sym h)
 
 -- the bytes between the front and the rest
 between : (front text rest : List ℕ) (from to : ℕ) → from ≡ length front → to ≡ from + length text → take (to - from) (drop from (front ++ (text ++ rest))) ≡ text
@@ -56,7 +56,7 @@ those [] front tokens bytes at b e l s h = subst (HaveTexts bytes) (sym h) tt
 those (part ∷ parts) front tokens bytes at b e l s h =
     let size : at + length part.text ≡ length (front ++ part.text) = omega (arith, l, length-append front part.text) in
     by_kind part.kind front part.text (text_of parts) bytes b (AreTokens (at + length part.text) parts) tokens at e l (subst (λ rest. Stands b part.kind part.text rest) (append-nil (text_of parts)) s.0)
-    (λ more m. those parts (front ++ part.text) more bytes (at + length part.text) (begins_line_behind b part) (e ∙ sym (append_assoc front part.text (text_of parts))) size s.1 m) h
+    (λ more m. those parts (front ++ part.text) more bytes (at + length part.text) (begins_line_after_part b part) (e ∙ sym (append_assoc front part.text (text_of parts))) size s.1 m) h
 
 pub tokens_have_texts : TokensHaveTexts
 tokens_have_texts bytes tokens l = those l.parts [] tokens bytes 0 true l.bytes_are refl l.are_parts l.are_tokens

@@ -11,7 +11,7 @@ use Rattle.c_lexer.specs.declared.part.Shape.TheVariants as S
 use Rattle.c_lexer.specs.declared.token.TokenKind.{TokenKind}
 use Rattle.c_lexer.specs.declared.token.TokenKind.TheVariants as K
 use Rattle.c_lexer.specs.declared.fault.FaultKind.TheVariants.{BadLiteral, TooWide}
-use Rattle.c_lexer.specs.Keywords.{keyword_text}
+use Rattle.lay_base.specs.Keywords.{keyword_text}
 use Rattle.c_lexer.specs.Scanning.{first_keyword, keywords, name_with, token_of}
 use Rattle.c_lexer.specs.Words.{IsWord, IsToken, IsMalformed, IsTooWide}
 use Rattle.c_lexer.proofs.TokenSays.{Says}
@@ -143,7 +143,7 @@ token_taken S.Name word w = name_says word (first_keyword keywords word) refl
 token_taken S.Number word w = number_taken word
 token_taken S.Character word w = character_taken word w
 token_taken S.Text word w = text_taken word w
-token_taken (S.Mark mark) word w = refl
+token_taken (S.Punctuator punctuator) word w = refl
 
 pub token_read : (shape : Shape) (word : List ℕ) (kind : TokenKind) → IsWord shape word → IsToken shape word kind → token_of shape word ≡ Ok kind
 token_read S.Name word (K.Keyword keyword) w t = ap (name_with (length word)) (keyword_read word keyword t)
@@ -155,19 +155,19 @@ token_read S.Character word (K.Character n) w t = character_read word n t
 token_read S.Character word _ w t = absurd t
 token_read S.Text word K.Text w t = text_read word t
 token_read S.Text word _ w t = absurd t
-token_read (S.Mark mark) word (K.Mark m) w t = ap (λ m. Ok (K.Mark m)) (sym t)
-token_read (S.Mark mark) word _ w t = absurd t
+token_read (S.Punctuator punctuator) word (K.Punctuator m) w t = ap (λ m. Ok (K.Punctuator m)) (sym t)
+token_read (S.Punctuator punctuator) word _ w t = absurd t
 
 pub malformed_read : (shape : Shape) (word : List ℕ) → IsWord shape word → IsMalformed shape word → token_of shape word ≡ Err BadLiteral
 malformed_read S.Name word w m = absurd m
 malformed_read S.Number word w m = malformed_number_read word m
 malformed_read S.Character word w m = malformed_character_read word w m
 malformed_read S.Text word w m = malformed_text_read word w m
-malformed_read (S.Mark mark) word w m = absurd m
+malformed_read (S.Punctuator punctuator) word w m = absurd m
 
 pub wide_read : (shape : Shape) (word : List ℕ) → IsWord shape word → IsTooWide shape word → token_of shape word ≡ Err TooWide
 wide_read S.Name word w t = wide_name_read word t
 wide_read S.Number word w t = wide_number_read word t.0 t.1 t.2 t.3 t.4
 wide_read S.Character word w t = wide_character_read word t
 wide_read S.Text word w t = wide_text_read word t
-wide_read (S.Mark mark) word w t = absurd t
+wide_read (S.Punctuator punctuator) word w t = absurd t

@@ -11,29 +11,29 @@ use Rattle.c_lexer.specs.declared.part.Shape.{Shape}
 use Rattle.c_lexer.specs.declared.token.Token.{Token}
 use Rattle.c_lexer.specs.declared.token.TokenKind.{TokenKind}
 use Rattle.c_lexer.specs.Words.{IsWord, IsToken}
-use Rattle.c_lexer.specs.Parts.{Part, text_of, Stands, AreParts, begins_line_behind, begins_line_after}
+use Rattle.c_lexer.specs.Parts.{Part, text_of, Stands, AreParts, begins_line_after_part, begins_line_after_parts}
 use Rattle.c_lexer.specs.Lexes.{AreTokensFrom, AreTokens, Lexes, IsUnclosed, HasFault, LexFaultAt}
-use Rattle.c_lexer.specs.Scanning.{part_at, token_of, begins_line_behind_part, token_in, turn_with, turn_over, turn_at, Scanned, with_token, with_turn, scan}
+use Rattle.c_lexer.specs.Scanning.{part_at, token_of, begins_line_after_kind, token_in, turn_with, turn_over, turn_at, Scanned, with_token, with_turn, scan}
 use Rattle.c_lexer.proofs.Exactness.{PartsAreExact, IsFaulty, TokensAreExact}
 use Rattle.c_lexer.proofs.Scans.{with_front, front_nothing}
 use Rattle.c_lexer.proofs.Strings.{drop_shorter}
 
 -- ---- one part is read
 
-pub line_behind : (begins_line : Bool) (kind : PartKind) (text rest : List ℕ) → Stands begins_line kind text rest → begins_line_behind_part begins_line kind text ≡ begins_line_behind begins_line (record { kind = kind; text = text })
-line_behind begins_line P.White text rest s = rw s.1 refl
-line_behind begins_line P.Comment text rest s = refl
-line_behind begins_line P.LineComment text rest s = refl
-line_behind begins_line P.Directive text rest s = refl
-line_behind begins_line (P.Word shape) text rest s = refl
+pub line_after : (begins_line : Bool) (kind : PartKind) (text rest : List ℕ) → Stands begins_line kind text rest → begins_line_after_kind begins_line kind text ≡ begins_line_after_part begins_line (record { kind = kind; text = text })
+line_after begins_line P.White text rest s = rw s.1 refl
+line_after begins_line P.Comment text rest s = refl
+line_after begins_line P.LineComment text rest s = refl
+line_after begins_line P.Directive text rest s = refl
+line_after begins_line (P.Word shape) text rest s = refl
 
 -- what a turn over the part gives
-part_turn : (p : PartsAreExact) (at : ℕ) (begins_line : Bool) (part : Part) (rest : List ℕ) → Stands begins_line part.kind part.text rest → turn_at at begins_line (part.text ++ rest) ≡ turn_with (length part.text) (begins_line_behind begins_line part) (token_in at part.kind part.text)
+part_turn : (p : PartsAreExact) (at : ℕ) (begins_line : Bool) (part : Part) (rest : List ℕ) → Stands begins_line part.kind part.text rest → turn_at at begins_line (part.text ++ rest) ≡ turn_with (length part.text) (begins_line_after_part begins_line part) (token_in at part.kind part.text)
 unfolding turn_at
 part_turn p at begins_line part rest s =
     ap (turn_over at begins_line (part.text ++ rest)) (p.part_read begins_line part.kind part.text rest s)
-    ∙ ap (λ t. turn_with (length part.text) (begins_line_behind_part begins_line part.kind t) (token_in at part.kind t)) (take-append_seam part.text rest)
-    ∙ ap (λ b. turn_with (length part.text) b (token_in at part.kind part.text)) (line_behind begins_line part.kind part.text rest s)
+    ∙ ap (λ t. turn_with (length part.text) (begins_line_after_kind begins_line part.kind t) (token_in at part.kind t)) (take-append_seam part.text rest)
+    ∙ ap (λ b. turn_with (length part.text) b (token_in at part.kind part.text)) (line_after begins_line part.kind part.text rest s)
 
 -- a part has a byte
 pub part_long : (p : PartsAreExact) (begins_line : Bool) (part : Part) (rest : List ℕ) → Stands begins_line part.kind part.text rest → 0 < length part.text
@@ -56,16 +56,16 @@ unfolding scan
 scan_end zero at begins_line = refl
 scan_end (suc n) at begins_line = refl
 
-part_scan : (p : PartsAreExact) (n at : ℕ) (begins_line : Bool) (part : Part) (rest : List ℕ) (found : Option Token) → Stands begins_line part.kind part.text rest → token_in at part.kind part.text ≡ Ok found → scan (suc n) at begins_line (part.text ++ rest) ≡ with_token found (scan n (at + length part.text) (begins_line_behind begins_line part) rest)
+part_scan : (p : PartsAreExact) (n at : ℕ) (begins_line : Bool) (part : Part) (rest : List ℕ) (found : Option Token) → Stands begins_line part.kind part.text rest → token_in at part.kind part.text ≡ Ok found → scan (suc n) at begins_line (part.text ++ rest) ≡ with_token found (scan n (at + length part.text) (begins_line_after_part begins_line part) rest)
 part_scan p n at begins_line part rest found s is =
-    let turn : Turn = record { found = found; size = length part.text; begins_line = begins_line_behind begins_line part } in
+    let turn : Turn = record { found = found; size = length part.text; begins_line = begins_line_after_part begins_line part } in
     scan_turn n at begins_line (part.text ++ rest) turn (omega (arith, length-append part.text rest, part_long p begins_line part rest s))
-    (part_turn p at begins_line part rest s ∙ ap (turn_with (length part.text) (begins_line_behind begins_line part)) is)
-    ∙ ap (λ l. with_token found (scan n (at + length part.text) (begins_line_behind begins_line part) l)) (drop-append_seam part.text rest)
+    (part_turn p at begins_line part rest s ∙ ap (turn_with (length part.text) (begins_line_after_part begins_line part)) is)
+    ∙ ap (λ l. with_token found (scan n (at + length part.text) (begins_line_after_part begins_line part) l)) (drop-append_seam part.text rest)
 
 -- ---- parts are read
 
--- the token of a part, where it is one, and the tokens behind it
+-- the token of a part, where it is one, and the tokens after it
 record First (at : ℕ) (kind : PartKind) (text : List ℕ) (GoOn : List Token → Type 0) (tokens : List Token) : Type 0 where
   found : Option Token
   more : List Token
@@ -93,13 +93,13 @@ token_front None tokens scanned = refl
 token_front (Some token) tokens (Ok more) = refl
 token_front (Some token) tokens (Err fault) = refl
 
--- the scan comes to what stands behind the parts, with turns enough for it
+-- the scan comes to what stands after the parts, with turns enough for it
 record Comes (n at : ℕ) (begins_line : Bool) (parts : List Part) (rest : List ℕ) (tokens : List Token) : Type 0 where
   turns : ℕ
   enough : length rest ≤ turns
-  is : scan n at begins_line (text_of parts ++ rest) ≡ with_front tokens (scan turns (at + length (text_of parts)) (begins_line_after begins_line parts) rest)
+  is : scan n at begins_line (text_of parts ++ rest) ≡ with_front tokens (scan turns (at + length (text_of parts)) (begins_line_after_parts begins_line parts) rest)
 
-comes_more : (p : PartsAreExact) (n at : ℕ) (begins_line : Bool) (part : Part) (parts : List Part) (rest : List ℕ) (tokens : List Token) (GoOn : List Token → Type 0) → Stands begins_line part.kind part.text (text_of parts ++ rest) → (f : First at part.kind part.text GoOn tokens) → Comes n (at + length part.text) (begins_line_behind begins_line part) parts rest f.more → Comes (suc n) at begins_line (part ∷ parts) rest tokens
+comes_more : (p : PartsAreExact) (n at : ℕ) (begins_line : Bool) (part : Part) (parts : List Part) (rest : List ℕ) (tokens : List Token) (GoOn : List Token → Type 0) → Stands begins_line part.kind part.text (text_of parts ++ rest) → (f : First at part.kind part.text GoOn tokens) → Comes n (at + length part.text) (begins_line_after_part begins_line part) parts rest f.more → Comes (suc n) at begins_line (part ∷ parts) rest tokens
 comes_more p n at begins_line part parts rest tokens GoOn s f c =
     let place : at + length part.text + length (text_of parts) ≡ at + length (part.text ++ text_of parts) = omega (arith, length-append part.text (text_of parts)) in
     record {
@@ -110,8 +110,8 @@ comes_more p n at begins_line part parts rest tokens GoOn s f c =
           ∙ part_scan p n at begins_line part (text_of parts ++ rest) f.found s f.is
           ∙ ap (with_token f.found) c.is
           ∙ token_front f.found f.more _
-          ∙ ap (λ l. with_front l (scan c.turns (at + length part.text + length (text_of parts)) (begins_line_after begins_line (part ∷ parts)) rest)) (sym f.tokens_are)
-          ∙ ap (λ k. with_front tokens (scan c.turns k (begins_line_after begins_line (part ∷ parts)) rest)) place;
+          ∙ ap (λ l. with_front l (scan c.turns (at + length part.text + length (text_of parts)) (begins_line_after_parts begins_line (part ∷ parts)) rest)) (sym f.tokens_are)
+          ∙ ap (λ k. with_front tokens (scan c.turns k (begins_line_after_parts begins_line (part ∷ parts)) rest)) place;
     }
 
 append_sizes : (a b c : List ℕ) → length ((a ++ b) ++ c) ≡ length a + length (b ++ c)
@@ -125,7 +125,7 @@ comes p t (part ∷ parts) (suc n) at begins_line rest tokens a k l =
     let f = first_of_part t at begins_line part.kind part.text (text_of parts ++ rest) (AreTokens (at + length part.text) parts) tokens a.0 k in
     let short : length (text_of parts ++ rest) ≤ n = omega (arith, append_sizes part.text (text_of parts) rest, part_long p begins_line part (text_of parts ++ rest) a.0) in
     comes_more p n at begins_line part parts rest tokens (AreTokens (at + length part.text) parts) a.0 f
-    (comes p t parts n (at + length part.text) (begins_line_behind begins_line part) rest f.more a.1 f.go_on short)
+    (comes p t parts n (at + length part.text) (begins_line_after_part begins_line part) rest f.more a.1 f.go_on short)
 
 -- ---- tokens and faults are read
 
@@ -171,7 +171,7 @@ pub fault_read : (p : PartsAreExact) (t : TokensAreExact) (n : ℕ) (bytes : Lis
 fault_read p t n bytes kind at f h =
     let c = comes p t f.parts n 0 true f.rest f.tokens f.are_parts f.are_tokens (rw f.bytes_are at h) in
     let place : at ≡ 0 + length (text_of f.parts) = omega (arith, f.place) in
-    let stop = fault_stop p t kind (0 + length (text_of f.parts)) (begins_line_after true f.parts) f.rest f.fault in
+    let stop = fault_stop p t kind (0 + length (text_of f.parts)) (begins_line_after_parts true f.parts) f.rest f.fault in
     ap (scan n 0 true) f.bytes_are ∙ c.is
     ∙ ap (with_front f.tokens) (scan_stop c.turns _ _ f.rest kind stop.0 c.enough stop.1)
     ∙ ap (λ k. Err (kind, k)) (sym place)
@@ -186,7 +186,7 @@ record Turned (at : ℕ) (begins_line : Bool) (bytes : List ℕ) (turn : Turn) :
   stands : Stands begins_line part.kind part.text rest
   found : token_in at part.kind part.text ≡ Ok turn.found
   size : turn.size ≡ length part.text
-  behind : turn.begins_line ≡ begins_line_behind begins_line part
+  after : turn.begins_line ≡ begins_line_after_part begins_line part
 
 abbrev TurnSays : ℕ → Bool → List ℕ → Result Turn FaultKind → Type 0
 TurnSays at begins_line bytes (Ok turn) = Turned at begins_line bytes turn
@@ -217,8 +217,8 @@ part_refused t at begins_line P.LineComment text rest fault s h = cc
 part_refused t at begins_line P.Directive text rest fault s h = cc
 
 -- what is found in a part
-found_says : (t : TokensAreExact) (at : ℕ) (begins_line : Bool) (part : Part) (rest : List ℕ) (r : Result (Option Token) FaultKind) → Stands begins_line part.kind part.text rest → token_in at part.kind part.text ≡ r → TurnSays at begins_line (part.text ++ rest) (turn_with (length part.text) (begins_line_behind begins_line part) r)
-found_says t at begins_line part rest (Ok found) s e = record { part = part; rest = rest; is = refl; stands = s; found = e; size = refl; behind = refl }
+found_says : (t : TokensAreExact) (at : ℕ) (begins_line : Bool) (part : Part) (rest : List ℕ) (r : Result (Option Token) FaultKind) → Stands begins_line part.kind part.text rest → token_in at part.kind part.text ≡ r → TurnSays at begins_line (part.text ++ rest) (turn_with (length part.text) (begins_line_after_part begins_line part) r)
+found_says t at begins_line part rest (Ok found) s e = record { part = part; rest = rest; is = refl; stands = s; found = e; size = refl; after = refl }
 found_says t at begins_line part rest (Err fault) s e = part_refused t at begins_line part.kind part.text rest fault s e
 
 turn_says : (p : PartsAreExact) (t : TokensAreExact) (at : ℕ) (begins_line : Bool) (bytes : List ℕ) (r : Result (PartKind × ℕ) FaultKind) → (bytes ≡ [] → ⊥) → part_at begins_line bytes ≡ r → TurnSays at begins_line bytes (turn_at at begins_line bytes)
@@ -247,13 +247,13 @@ record Stops (at : ℕ) (begins_line : Bool) (bytes : List ℕ) (kind : FaultKin
   are_parts : AreParts begins_line parts rest
   are_tokens : AreTokens at parts tokens
   place_is : place ≡ at + length (text_of parts)
-  fault : HasFault kind (begins_line_after begins_line parts) rest
+  fault : HasFault kind (begins_line_after_parts begins_line parts) rest
 
 abbrev Says : ℕ → Bool → List ℕ → Scanned → Type 0
 Says at begins_line bytes (Ok tokens) = Reads at begins_line bytes tokens
 Says at begins_line bytes (Err fault) = Stops at begins_line bytes fault.0 fault.1
 
--- the tokens of a part and of those behind it
+-- the tokens of a part and of those after it
 word_tokens : (t : TokensAreExact) (at : ℕ) (begins_line : Bool) (shape : Shape) (text rest : List ℕ) (found : Option Token) (GoOn : List Token → Type 0) (more : List Token) (r : Result TokenKind FaultKind) → token_of shape text ≡ r → Stands begins_line (P.Word shape) text rest → token_in at (P.Word shape) text ≡ Ok found → GoOn more → AreTokensFrom at (P.Word shape) text GoOn (option_to_list found ++ more)
 word_tokens t at begins_line shape text rest found GoOn more (Err fault) e s h g = let f = word_fault at shape text fault e in cc
 word_tokens t at begins_line shape text rest found GoOn more (Ok kind) e s h g =
@@ -268,7 +268,7 @@ part_tokens t at begins_line P.Comment text rest found GoOn more s h g = let sam
 part_tokens t at begins_line P.LineComment text rest found GoOn more s h g = let same : found ≡ None = cc in rw same g
 part_tokens t at begins_line P.Directive text rest found GoOn more s h g = let same : found ≡ None = cc in rw same g
 
-reads_more : (t : TokensAreExact) (at : ℕ) (begins_line : Bool) (bytes : List ℕ) (turn : Turn) (tokens : List Token) (u : Turned at begins_line bytes turn) → Reads (at + length u.part.text) (begins_line_behind begins_line u.part) u.rest tokens → Reads at begins_line bytes (option_to_list turn.found ++ tokens)
+reads_more : (t : TokensAreExact) (at : ℕ) (begins_line : Bool) (bytes : List ℕ) (turn : Turn) (tokens : List Token) (u : Turned at begins_line bytes turn) → Reads (at + length u.part.text) (begins_line_after_part begins_line u.part) u.rest tokens → Reads at begins_line bytes (option_to_list turn.found ++ tokens)
 reads_more t at begins_line bytes turn tokens u r = record {
   parts = u.part ∷ r.parts;
   is = u.is ∙ ap (λ l. u.part.text ++ l) r.is;
@@ -276,7 +276,7 @@ reads_more t at begins_line bytes turn tokens u r = record {
   are_tokens = part_tokens t at begins_line u.part.kind u.part.text u.rest turn.found (AreTokens (at + length u.part.text) r.parts) tokens u.stands u.found r.are_tokens;
 }
 
-stops_more : (t : TokensAreExact) (at : ℕ) (begins_line : Bool) (bytes : List ℕ) (turn : Turn) (kind : FaultKind) (place : ℕ) (u : Turned at begins_line bytes turn) → Stops (at + length u.part.text) (begins_line_behind begins_line u.part) u.rest kind place → Stops at begins_line bytes kind place
+stops_more : (t : TokensAreExact) (at : ℕ) (begins_line : Bool) (bytes : List ℕ) (turn : Turn) (kind : FaultKind) (place : ℕ) (u : Turned at begins_line bytes turn) → Stops (at + length u.part.text) (begins_line_after_part begins_line u.part) u.rest kind place → Stops at begins_line bytes kind place
 stops_more t at begins_line bytes turn kind place u r = record {
   parts = u.part ∷ r.parts;
   tokens = option_to_list turn.found ++ r.tokens;
@@ -296,16 +296,16 @@ no_token : (found : Option Token) (fault : FaultKind × ℕ) → with_token foun
 no_token None fault = refl
 no_token (Some token) fault = refl
 
--- what is said behind a part, as said from its beginning
-behind_part : (t : TokensAreExact) (at : ℕ) (begins_line : Bool) (bytes : List ℕ) (turn : Turn) (scanned : Scanned) (u : Turned at begins_line bytes turn) → Says (at + length u.part.text) (begins_line_behind begins_line u.part) u.rest scanned → Says at begins_line bytes (with_token turn.found scanned)
-behind_part t at begins_line bytes turn (Ok tokens) u r = rw token_or_not (reads_more t at begins_line bytes turn tokens u r)
-behind_part t at begins_line bytes turn (Err fault) u r = rw no_token (stops_more t at begins_line bytes turn fault.0 fault.1 u r)
+-- what is said after a part, as said from its beginning
+after_part : (t : TokensAreExact) (at : ℕ) (begins_line : Bool) (bytes : List ℕ) (turn : Turn) (scanned : Scanned) (u : Turned at begins_line bytes turn) → Says (at + length u.part.text) (begins_line_after_part begins_line u.part) u.rest scanned → Says at begins_line bytes (with_token turn.found scanned)
+after_part t at begins_line bytes turn (Ok tokens) u r = rw token_or_not (reads_more t at begins_line bytes turn tokens u r)
+after_part t at begins_line bytes turn (Err fault) u r = rw no_token (stops_more t at begins_line bytes turn fault.0 fault.1 u r)
 
 with_turn_says : (t : TokensAreExact) (at : ℕ) (begins_line : Bool) (bytes : List ℕ) (r : Result Turn FaultKind) (more : Turn → Scanned) → TurnSays at begins_line bytes r → ((turn : Turn) → Turned at begins_line bytes turn → Says (at + turn.size) turn.begins_line (drop turn.size bytes) (more turn)) → Says at begins_line bytes (with_turn at r more)
 with_turn_says t at begins_line bytes (Err kind) more s g = record { parts = []; tokens = []; rest = bytes; is = refl; are_parts = tt; are_tokens = refl; place_is = sym (add-zero at); fault = s }
 with_turn_says t at begins_line bytes (Ok turn) more u g =
     let rest : drop turn.size bytes ≡ u.rest = ap (λ n. drop n bytes) u.size ∙ ap (drop (length u.part.text)) u.is ∙ drop-append_seam u.part.text u.rest in
-    behind_part t at begins_line bytes turn (more turn) u (rw (← rest, ← u.size, ← u.behind) (g turn u))
+    after_part t at begins_line bytes turn (more turn) u (rw (← rest, ← u.size, ← u.after) (g turn u))
 
 end_says : (n at : ℕ) (begins_line : Bool) → Says at begins_line [] (scan n at begins_line [])
 end_says n at begins_line = rw (scan_end n at begins_line) (record { parts = []; is = refl; are_parts = tt; are_tokens = refl })

@@ -28,7 +28,7 @@ is_letter b = (nat_le 65 b && nat_le b 90) || (nat_le 97 b && nat_le b 122) || b
 abbrev pub goes_on_in_name : ℕ → Bool
 goes_on_in_name b = is_letter b || is_digit b
 
--- "e", "E", "p" and "P", behind which a sign goes on in a number
+-- "e", "E", "p" and "P", after which a sign goes on in a number
 abbrev pub is_exponent : ℕ → Bool
 is_exponent b = b == 101 || b == 69 || b == 112 || b == 80
 

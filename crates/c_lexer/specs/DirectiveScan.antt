@@ -22,14 +22,14 @@ abbrev pub renumbers_if : Bool → ℕ → Option NameRange → Option Directive
 renumbers_if false number name = None
 renumbers_if true number name = Some (Renumbers number name)
 
--- a name of so many bytes, with its closing quote, that begin at a byte behind the '#'
+-- a name of so many bytes, with its closing quote, that begin at a byte after the '#'
 abbrev pub named : Bool → ℕ → ℕ → List ℕ → Option ℕ → Option Directive
 named worded number at text None = None
 named worded number at text (Some size) = renumbers_if (is_marker_end worded (drop size text)) number (Some (record { from = at; to = at + size - 1 }))
 
--- behind the number
-abbrev pub marker_behind : Bool → ℕ → ℕ → List ℕ → Option Directive
-marker_behind worded number at text =
+-- after the number
+abbrev pub marker_after : Bool → ℕ → ℕ → List ℕ → Option Directive
+marker_after worded number at text =
     let n = prefix_len is_blank text in
     if begins (λ b. b == 34) (drop n text)
     then named worded number (at + n + 1) (drop (n + 1) text) (quoted_length 34 false (drop (n + 1) text))
@@ -40,17 +40,17 @@ abbrev pub marker_at : Bool → ℕ → List ℕ → Option Directive
 marker_at worded at text =
     let n = prefix_len is_digit text in
     let number = capped_value 10 (take n text) in
-    if begins is_digit text && nat_lt number (2 ^ 31) then marker_behind worded number (at + n) (drop n text) else None
+    if begins is_digit text && nat_lt number (2 ^ 31) then marker_after worded number (at + n) (drop n text) else None
 
--- behind the word "line"
+-- after the word "line"
 abbrev pub line_at : ℕ → List ℕ → Option Directive
 line_at at text =
     let n = prefix_len is_blank text in
     if begins is_blank text then marker_at true (at + n) (drop n text) else None
 
--- behind the blanks that follow the '#'
-abbrev pub directive_behind : ℕ → List ℕ → Option Directive
-directive_behind at text =
+-- after the blanks that follow the '#'
+abbrev pub directive_after : ℕ → List ℕ → Option Directive
+directive_after at text =
     let n = prefix_len goes_on_in_name text in
     if begins is_digit text then marker_at false at text
     else if bytes_eq text [] then Some Silent
@@ -58,6 +58,6 @@ directive_behind at text =
     else if bytes_eq (take n text) (codes "line") then line_at (at + n) (drop n text)
     else None
 
--- the directive that the bytes behind '#' are
+-- the directive that the bytes after '#' are
 unfoldable pub directive_in : List ℕ → Option Directive
-directive_in content = let n = prefix_len is_blank content in directive_behind n (drop n content)
+directive_in content = let n = prefix_len is_blank content in directive_after n (drop n content)

@@ -17,11 +17,11 @@ AreDigits digits = IsTrue (begins is_digit digits) × All (λ d. IsTrue (is_digi
 abbrev pub IsGap : List ℕ → Type 0
 IsGap bytes = IsTrue (begins is_blank bytes) × AreBlank bytes
 
--- the pieces of `NUMBER`, `NUMBER "NAME"` and `NUMBER "NAME" FLAG ..`, with the blanks before and behind each
+-- the pieces of `NUMBER`, `NUMBER "NAME"` and `NUMBER "NAME" FLAG ..`, with the blanks before and after each
 pub record Marker : Type 0 where
   -- does the word "line" stand before the number?
   pub worded : Bool
-  -- the blanks behind the '#', and those behind that word
+  -- the blanks after the '#', and those after that word
   pub front : List ℕ
   pub middle : List ℕ
   pub digits : List ℕ
@@ -46,7 +46,7 @@ flags_text (flag ∷ flags) = flag.0 ++ flag.1 ++ flags_text flags
 abbrev pub marker_text : Marker → List ℕ
 marker_text m = m.front ++ word_text m.worded m.middle ++ m.digits ++ name_text m.name ++ flags_text m.flags ++ m.back
 
--- blanks stand behind the word "line"; only a marker without that word has flags
+-- blanks stand after the word "line"; only a marker without that word has flags
 abbrev pub IsWordGap : Bool → List ℕ → List (List ℕ × List ℕ) → Type 0
 IsWordGap false middle flags = middle ≡ []
 IsWordGap true middle flags = IsGap middle × (flags ≡ [])
@@ -66,7 +66,7 @@ pub record IsMarker (m : Marker) : Type 0 where
 
 -- ---- a line
 
--- where the name stands behind the '#'
+-- where the name stands after the '#'
 abbrev pub name_range : ℕ → Option (List ℕ × List ℕ) → Option NameRange
 name_range at None = None
 name_range at (Some name) = Some (record { from = at + length name.0 + 1; to = at + length name.0 + 1 + length name.1 })
@@ -74,7 +74,7 @@ name_range at (Some name) = Some (record { from = at + length name.0 + 1; to = a
 abbrev pub directive_of : Marker → Directive
 directive_of m = Renumbers (value_of_digits 10 m.digits) (name_range (length (m.front ++ word_text m.worded m.middle ++ m.digits)) m.name)
 
--- the bytes behind '#', up to the end of the line, are a directive
+-- the bytes after '#', up to the end of the line, are a directive
 pub data IsDirective : List ℕ → Directive → Type 0 where
   -- `#` alone
   null : {content : List ℕ} → AreBlank content → IsDirective content Silent

@@ -8,7 +8,7 @@ use Rattle.c_lexer.specs.declared.fault.FaultKind.{FaultKind}
 use Rattle.c_lexer.specs.declared.fault.FaultKind.TheVariants as F
 use Rattle.c_lexer.specs.Quoted.{IsInside}
 use Rattle.c_lexer.specs.Words.{IsToken, IsMalformed, IsTooWide}
-use Rattle.c_lexer.specs.Parts.{Part, text_of, has_end, Stands, AreParts, begins_line_after}
+use Rattle.c_lexer.specs.Parts.{Part, text_of, has_end, Stands, AreParts, begins_line_after_parts}
 
 -- the tokens begin with that of the part, where it is a word, and go on so
 abbrev pub AreTokensFrom : ℕ → PartKind → List ℕ → (List Token → Type 0) → List Token → Type 0
@@ -55,4 +55,4 @@ pub record LexFaultAt (bytes : List ℕ) (kind : FaultKind) (at : ℕ) : Type 0 
   pub are_parts : AreParts true parts rest
   pub are_tokens : AreTokens 0 parts tokens
   pub place : at ≡ length (text_of parts)
-  pub fault : HasFault kind (begins_line_after true parts) rest
+  pub fault : HasFault kind (begins_line_after_parts true parts) rest

@@ -1,6 +1,5 @@
 pub mod Characters
-pub mod Keywords
-pub mod Marks
+pub mod Punctuators
 pub mod Numbers
 pub mod Quoted
 pub mod Words

@@ -13,7 +13,7 @@ use Rattle.c_lexer.specs.declared.token.TokenKind.TheVariants.{Number}
 use Rattle.c_lexer.specs.Characters.{is_digit, is_octal, is_hexadecimal, begins, digit_value}
 use Rattle.c_lexer.specs.Numbers.{base, goes_on_in_number, kinds, first_holding}
 
--- how far a number goes on behind a byte of it
+-- how far a number goes on after a byte of it
 abbrev pub number_length : ℕ → List ℕ → ℕ
 number_length before [] = 0
 number_length before (b ∷ bytes) = if goes_on_in_number before b then number_length b bytes + 1 else 0
@@ -25,7 +25,7 @@ capped_value base digits = fold (λ n d. min (base * n + digit_value d) (2 ^ 32)
 abbrev pub is_radix_letter : ℕ → Bool
 is_radix_letter b = b == 120 || b == 88
 
--- does a hexadecimal constant begin, from behind its 0?
+-- does a hexadecimal constant begin, from after its 0?
 abbrev pub begins_hexadecimal : List ℕ → Bool
 begins_hexadecimal [] = false
 begins_hexadecimal (x ∷ bytes) = is_radix_letter x && begins is_hexadecimal bytes
@@ -76,15 +76,15 @@ abbrev pub suffixed_number : Radix → ℕ → Option Suffix → Result TokenKin
 suffixed_number radix n None = Err BadLiteral
 suffixed_number radix n (Some suffix) = typed_number n (first_holding n (kinds radix suffix))
 
--- the digits, and what stands behind them
-abbrev pub number_behind : Radix → List ℕ → Result TokenKind FaultKind
-number_behind radix text =
+-- the digits, and what stands after them
+abbrev pub number_after : Radix → List ℕ → Result TokenKind FaultKind
+number_after radix text =
     let n = prefix_len (is_digit_in radix) text in
     suffixed_number radix (capped_value (base radix) (take n text)) (suffix_at (drop n text))
 
 abbrev pub number_from : List ℕ → Option (Radix × ℕ) → Result TokenKind FaultKind
 number_from word None = Err BadLiteral
-number_from word (Some start) = number_behind start.0 (drop start.1 word)
+number_from word (Some start) = number_after start.0 (drop start.1 word)
 
 -- the token that a preprocessing number is
 unfoldable pub number_of : List ℕ → Result TokenKind FaultKind

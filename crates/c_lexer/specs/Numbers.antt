@@ -16,7 +16,7 @@ abbrev pub begins_number : List ℕ → Bool
 begins_number [] = false
 begins_number (b ∷ bytes) = is_digit b || (b == 46 && begins is_digit bytes)
 
--- behind that byte: digits, letters and dots go on in a number, and a sign behind the letter of an exponent
+-- after that byte: digits, letters and dots go on in a number, and a sign after the letter of an exponent
 abbrev pub goes_on_in_number : ℕ → ℕ → Bool
 goes_on_in_number before b = goes_on_in_name b || b == 46 || (is_exponent before && is_sign b)
 

@@ -34,12 +34,12 @@ IsLineEnd [] = Unit {0}
 IsLineEnd (b ∷ bytes) = IsTrue (is_line_feed b)
 
 -- is there only white space before it on its line?
-abbrev pub begins_line_behind : Bool → Part → Bool
-begins_line_behind begins_line part = behind part.kind part.text
+abbrev pub begins_line_after_part : Bool → Part → Bool
+begins_line_after_part begins_line part = after part.kind part.text
   where
-    behind : PartKind → List ℕ → Bool
-    behind P.White (b ∷ []) = begins_line || is_line_feed b
-    behind _ _ = false
+    after : PartKind → List ℕ → Bool
+    after P.White (b ∷ []) = begins_line || is_line_feed b
+    after _ _ = false
 
 -- a part of such a kind and text, at a place that begins its line or not, before what follows
 abbrev pub Stands : Bool → PartKind → List ℕ → List ℕ → Type 0
@@ -49,12 +49,12 @@ Stands begins_line P.LineComment text rest = (body : List ℕ) × (text ≡ 47 �
 Stands begins_line P.Directive text rest = (content : List ℕ) × (directive : Directive) × (text ≡ 35 ∷ content) × IsTrue begins_line × HasNoLineFeed content × IsLineEnd rest × IsDirective content directive
 Stands begins_line (P.Word shape) text rest = IsWord shape text × IsLongest text rest × (begins_comment (text ++ rest) ≡ false)
 
--- parts, one behind the other, before what follows
+-- parts, one after the other, before what follows
 abbrev pub AreParts : Bool → List Part → List ℕ → Type 0
 AreParts begins_line [] rest = Unit {0}
-AreParts begins_line (part ∷ parts) rest = Stands begins_line part.kind part.text (text_of parts ++ rest) × AreParts (begins_line_behind begins_line part) parts rest
+AreParts begins_line (part ∷ parts) rest = Stands begins_line part.kind part.text (text_of parts ++ rest) × AreParts (begins_line_after_part begins_line part) parts rest
 
--- is there only white space before what stands behind the parts on its line?
-abbrev pub begins_line_after : Bool → List Part → Bool
-begins_line_after begins_line [] = begins_line
-begins_line_after begins_line (part ∷ parts) = begins_line_after (begins_line_behind begins_line part) parts
+-- is there only white space before what stands after the parts on its line?
+abbrev pub begins_line_after_parts : Bool → List Part → Bool
+begins_line_after_parts begins_line [] = begins_line
+begins_line_after_parts begins_line (part ∷ parts) = begins_line_after_parts (begins_line_after_part begins_line part) parts

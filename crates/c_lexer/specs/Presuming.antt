@@ -17,34 +17,34 @@ use Rattle.c_lexer.specs.Lexes.{Lexes}
 abbrev pub first_lines : Lines
 first_lines = record { here = record { from = 0; to = 0; line = 1 }; next = record { from = 0; to = 0; line = 2 } }
 
--- behind one more byte: a line feed begins the next line
-abbrev pub behind_byte : Lines → ℕ → Lines
-behind_byte lines b = if is_line_feed b then record { here = lines.next; next = record lines.next { line = lines.next.line + 1 } } else lines
+-- after one more byte: a line feed begins the next line
+abbrev pub after_byte : Lines → ℕ → Lines
+after_byte lines b = if is_line_feed b then record { here = lines.next; next = record lines.next { line = lines.next.line + 1 } } else lines
 
--- behind a directive whose '#' stands at that byte of the file
-abbrev pub behind_directive : ℕ → Directive → Lines → Lines
-behind_directive at Silent lines = lines
-behind_directive at (Renumbers number None) lines = record lines { next = record lines.here { line = number } }
-behind_directive at (Renumbers number (Some name)) lines = record lines { next = record { from = at + 1 + name.from; to = at + 1 + name.to; line = number } }
+-- after a directive whose '#' stands at that byte of the file
+abbrev pub after_directive : ℕ → Directive → Lines → Lines
+after_directive at Silent lines = lines
+after_directive at (Renumbers number None) lines = record lines { next = record lines.here { line = number } }
+after_directive at (Renumbers number (Some name)) lines = record lines { next = record { from = at + 1 + name.from; to = at + 1 + name.to; line = number } }
 
--- behind one more part, which begins at a byte of the file
+-- after one more part, which begins at a byte of the file
 abbrev pub Moves : ℕ → PartKind → List ℕ → Lines → Lines → Type 0
-Moves at P.Directive text before behind = (content : List ℕ) × (directive : Directive) × (text ≡ 35 ∷ content) × IsDirective content directive × (behind ≡ behind_directive at directive before)
-Moves at _ text before behind = behind ≡ fold behind_byte before text
+Moves at P.Directive text before following = (content : List ℕ) × (directive : Directive) × (text ≡ 35 ∷ content) × IsDirective content directive × (following ≡ after_directive at directive before)
+Moves at _ text before following = following ≡ fold after_byte before text
 
--- behind parts that begin at a byte of the file
+-- after parts that begin at a byte of the file
 abbrev pub Presumes : ℕ → List Part → Lines → Lines → Type 0
-Presumes at [] before behind = behind ≡ before
-Presumes at (part ∷ parts) before behind = (after : Lines) × Moves at part.kind part.text before after × Presumes (at + length part.text) parts after behind
+Presumes at [] before following = following ≡ before
+Presumes at (part ∷ parts) before following = (after : Lines) × Moves at part.kind part.text before after × Presumes (at + length part.text) parts after following
 
--- what is presumed of the place behind the text
+-- what is presumed of the place after the text
 pub record IsPresumed (bytes : List ℕ) (presumed : Presumed) : Type 0 where
   pub parts : List Part
-  pub behind : Lines
+  pub following : Lines
   pub bytes_are : bytes ≡ text_of parts
   pub are_parts : AreParts true parts []
-  pub presumes : Presumes 0 parts first_lines behind
-  pub here : presumed ≡ behind.here
+  pub presumes : Presumes 0 parts first_lines following
+  pub here : presumed ≡ following.here
 
 -- the bytes before a place are tokens
 abbrev pub AreTokensBefore : ℕ → List ℕ → Type 0
@@ -54,10 +54,10 @@ AreTokensBefore at bytes = (tokens : List Token) × Lexes (take at bytes) tokens
 
 abbrev pub with_directive : ℕ → Option Directive → Lines → Lines
 with_directive at None lines = lines
-with_directive at (Some directive) lines = behind_directive at directive lines
+with_directive at (Some directive) lines = after_directive at directive lines
 
--- behind one more part, which begins at a byte of the file
-abbrev pub behind_part : ℕ → PartKind → List ℕ → Lines → Lines
-behind_part at P.Directive [] lines = lines
-behind_part at P.Directive (b ∷ content) lines = with_directive at (directive_in content) lines
-behind_part at _ text lines = fold behind_byte lines text
+-- after one more part, which begins at a byte of the file
+abbrev pub after_part : ℕ → PartKind → List ℕ → Lines → Lines
+after_part at P.Directive [] lines = lines
+after_part at P.Directive (b ∷ content) lines = with_directive at (directive_in content) lines
+after_part at _ text lines = fold after_byte lines text

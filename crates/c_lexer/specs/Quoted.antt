@@ -5,13 +5,13 @@ use Rattle.c_lexer.specs.Characters.{is_octal, is_hexadecimal, begins, value_of_
 
 -- ---- what stands between quotes
 
--- no line feed, and the quote only behind a backslash, which takes the next byte along; is the byte behind one?
+-- no line feed, and the quote only after a backslash, which takes the next byte along; is the byte after one?
 abbrev pub IsInside : ℕ → Bool → List ℕ → Type 0
 IsInside quote escaped [] = escaped ≡ false
 IsInside quote true (b ∷ body) = (b ≢ 10) × IsInside quote false body
 IsInside quote false (b ∷ body) = (b ≢ 10) × (b ≢ quote) × IsInside quote (b == 92) body
 
--- from a quote to the next one that stands behind no backslash
+-- from a quote to the next one that stands after no backslash
 abbrev pub IsQuoted : ℕ → List ℕ → Type 0
 IsQuoted quote word = (body : List ℕ) × (word ≡ quote ∷ body ++ quote ∷ []) × IsInside quote false body
 
@@ -20,7 +20,7 @@ IsQuoted quote word = (body : List ℕ) × (word ≡ quote ∷ body ++ quote ∷
 pub data Item : Type 0 where
   -- a byte that stands for itself
   plain : (b : ℕ) → Item
-  -- "\" and a letter or mark
+  -- "\" and a letter or punctuator
   simple : (b : ℕ) → Item
   -- "\" and octal digits
   octal : (digits : List ℕ) → Item
@@ -33,7 +33,7 @@ item_text (simple b) = 92 ∷ b ∷ []
 item_text (octal digits) = 92 ∷ digits
 item_text (hexadecimal digits) = 92 ∷ 120 ∷ digits
 
--- the letters and marks of simple escapes with their values: ' " ? \ and alert, backspace, form feed, line feed,
+-- the letters and punctuators of simple escapes with their values: ' " ? \ and alert, backspace, form feed, line feed,
 -- carriage return, horizontal and vertical tab
 abbrev pub simple_escapes : List (ℕ × ℕ)
 simple_escapes = (39, 39) ∷ (34, 34) ∷ (63, 63) ∷ (92, 92) ∷ (97, 7) ∷ (98, 8) ∷ (102, 12) ∷ (110, 10) ∷ (114, 13) ∷ (116, 9) ∷ (118, 11) ∷ []
@@ -54,7 +54,7 @@ item_value (simple b) = unwrap_or (simple_value b) 0
 item_value (octal digits) = value_of_digits 8 digits
 item_value (hexadecimal digits) = value_of_digits 16 digits
 
--- the body is these items, one behind the other
+-- the body is these items, one after the other
 abbrev pub AreItems : List Item → List ℕ → Type 0
 AreItems [] body = body ≡ []
 AreItems (item ∷ items) body = (rest : List ℕ) × (body ≡ item_text item ++ rest) × IsItem item rest × AreItems items rest

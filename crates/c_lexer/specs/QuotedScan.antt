@@ -9,7 +9,7 @@ use Rattle.c_lexer.specs.declared.token.TokenKind.TheVariants.{Character, Text}
 use Rattle.c_lexer.specs.Characters.{is_octal, is_hexadecimal, digit_value}
 use Rattle.c_lexer.specs.Quoted.{simple_value}
 
--- how many bytes go up to the closing quote, and with it, from behind the opening one
+-- how many bytes go up to the closing quote, and with it, from after the opening one
 abbrev pub quoted_length : ℕ → Bool → List ℕ → Option ℕ
 quoted_length quote escaped [] = None
 quoted_length quote true (b ∷ bytes) = if b == 10 then None else option_map suc (quoted_length quote false bytes)
@@ -27,7 +27,7 @@ abbrev pub digits_at : ℕ → ℕ → List ℕ → Option (ℕ × ℕ)
 digits_at base zero bytes = None
 digits_at base (suc n) bytes = Some (capped_character base (take (suc n) bytes), suc n)
 
--- behind a backslash: the value, and how many bytes
+-- after a backslash: the value, and how many bytes
 abbrev pub escape_at : List ℕ → Option (ℕ × ℕ)
 escape_at [] = None
 escape_at (b ∷ bytes) =

@@ -5,8 +5,8 @@ use Rattle.std.specs.List.{prefix_len}
 use Rattle.std.specs.Str.{bytes_eq}
 use Rattle.lay_base.specs.declared.faults.Keyword.{Keyword}
 use Rattle.lay_base.specs.declared.faults.Keyword.TheVariants as W
-use Rattle.c_lexer.specs.declared.mark.Mark.{Mark}
-use Rattle.c_lexer.specs.declared.mark.Mark.TheVariants as M
+use Rattle.c_lexer.specs.declared.punctuator.Punctuator.{Punctuator}
+use Rattle.c_lexer.specs.declared.punctuator.Punctuator.TheVariants as M
 use Rattle.c_lexer.specs.declared.part.Shape.{Shape}
 use Rattle.c_lexer.specs.declared.part.Shape.TheVariants as S
 use Rattle.c_lexer.specs.declared.part.PartKind.{PartKind}
@@ -18,8 +18,8 @@ use Rattle.c_lexer.specs.declared.token.TokenKind.TheVariants as K
 use Rattle.c_lexer.specs.declared.fault.FaultKind.{FaultKind}
 use Rattle.c_lexer.specs.declared.fault.FaultKind.TheVariants as F
 use Rattle.c_lexer.specs.Characters.{is_white, is_line_feed, is_letter, goes_on_in_name, begins}
-use Rattle.c_lexer.specs.Keywords.{keyword_text}
-use Rattle.c_lexer.specs.Marks.{mark_text}
+use Rattle.lay_base.specs.Keywords.{keyword_text}
+use Rattle.c_lexer.specs.Punctuators.{punctuator_text}
 use Rattle.c_lexer.specs.Numbers.{begins_number}
 use Rattle.c_lexer.specs.NumberScan.{number_length, number_of}
 use Rattle.c_lexer.specs.QuotedScan.{quoted_length, character_of, string_of}
@@ -34,14 +34,14 @@ is_front [] bytes = true
 is_front (w ∷ word) [] = false
 is_front (w ∷ word) (b ∷ bytes) = w == b && is_front word bytes
 
--- the first mark of a table that is a front
-abbrev pub first_mark : List Mark → List ℕ → Option Mark
-first_mark [] bytes = None
-first_mark (mark ∷ marks) bytes = if is_front (mark_text mark) bytes then Some mark else first_mark marks bytes
+-- the first punctuator of a table that is a front
+abbrev pub first_punctuator : List Punctuator → List ℕ → Option Punctuator
+first_punctuator [] bytes = None
+first_punctuator (punctuator ∷ punctuators) bytes = if is_front (punctuator_text punctuator) bytes then Some punctuator else first_punctuator punctuators bytes
 
--- all marks, none behind one that it begins with
-abbrev pub marks : List Mark
-marks =
+-- all punctuators, none after one that it begins with
+abbrev pub punctuators : List Punctuator
+punctuators =
     M.OpenSquare ∷ M.CloseSquare ∷ M.Open ∷ M.Close ∷ M.OpenBrace ∷ M.CloseBrace ∷ M.Dots ∷ M.Dot ∷
     M.Arrow ∷ M.MinusMinus ∷ M.MinusEqual ∷ M.Minus ∷ M.PlusPlus ∷ M.PlusEqual ∷ M.Plus ∷ M.AndAnd ∷
     M.AndEqual ∷ M.And ∷ M.StarEqual ∷ M.Star ∷ M.Tilde ∷ M.NotEqual ∷ M.Not ∷ M.SlashEqual ∷ M.Slash ∷
@@ -49,9 +49,9 @@ marks =
     M.ShiftRight ∷ M.GreaterEqual ∷ M.Greater ∷ M.EqualEqual ∷ M.Equal ∷ M.CaretEqual ∷ M.Caret ∷ M.BarBar ∷
     M.BarEqual ∷ M.Bar ∷ M.Question ∷ M.Colon ∷ M.Semicolon ∷ M.Comma ∷ []
 
-abbrev pub mark_word : Option Mark → Option (Shape × ℕ)
-mark_word None = None
-mark_word (Some mark) = Some (S.Mark mark, length (mark_text mark))
+abbrev pub punctuator_word : Option Punctuator → Option (Shape × ℕ)
+punctuator_word None = None
+punctuator_word (Some punctuator) = Some (S.Punctuator punctuator, length (punctuator_text punctuator))
 
 -- the shape and the length of the word at the front, which is neither a character nor a string
 abbrev pub word_at : List ℕ → Option (Shape × ℕ)
@@ -59,7 +59,7 @@ word_at [] = None
 word_at (b ∷ bytes) =
     if is_letter b then Some (S.Name, prefix_len goes_on_in_name bytes + 1)
     else if begins_number (b ∷ bytes) then Some (S.Number, number_length b bytes + 1)
-    else mark_word (first_mark marks (b ∷ bytes))
+    else punctuator_word (first_punctuator punctuators (b ∷ bytes))
 
 -- ---- the part at the front
 
@@ -71,7 +71,7 @@ comment_length starred (b ∷ bytes) = if starred && b == 47 then Some 1 else op
 abbrev pub line_length : List ℕ → ℕ
 line_length bytes = prefix_len (λ b. not (is_line_feed b)) bytes
 
--- a part that goes so far behind so many bytes, or one without its end
+-- a part that goes so far after so many bytes, or one without its end
 abbrev pub closed : PartKind → ℕ → Option ℕ → Result (PartKind × ℕ) FaultKind
 closed kind front None = Err F.Unclosed
 closed kind front (Some n) = Ok (kind, front + n)
@@ -85,7 +85,7 @@ directive_part begins_line bytes =
     let n = line_length bytes in
     if begins_line && is_some (directive_in (take n bytes)) then Ok (P.Directive, n + 1) else Err F.BadByte
 
--- behind a "/", which is among the bytes
+-- after a "/", which is among the bytes
 abbrev pub slash_part : List ℕ → Result (PartKind × ℕ) FaultKind
 slash_part bytes =
     if begins (λ c. c == 42) (drop 1 bytes) then closed P.Comment 2 (comment_length false (drop 2 bytes))
@@ -129,14 +129,14 @@ token_of S.Name word = name_with (length word) (first_keyword keywords word)
 token_of S.Number word = number_of word
 token_of S.Character word = character_of word
 token_of S.Text word = string_of word
-token_of (S.Mark mark) word = Ok (K.Mark mark)
+token_of (S.Punctuator punctuator) word = Ok (K.Punctuator punctuator)
 
 -- ---- the whole text
 
--- behind a part: is there only white space before it on its line?
-abbrev pub begins_line_behind_part : Bool → PartKind → List ℕ → Bool
-begins_line_behind_part begins_line P.White text = begins_line || begins is_line_feed text
-begins_line_behind_part begins_line _ text = false
+-- after a part: is there only white space before it on its line?
+abbrev pub begins_line_after_kind : Bool → PartKind → List ℕ → Bool
+begins_line_after_kind begins_line P.White text = begins_line || begins is_line_feed text
+begins_line_after_kind begins_line _ text = false
 
 -- what a part gives: nothing, a token, or a fault
 abbrev pub token_in : ℕ → PartKind → List ℕ → Result (Option Token) FaultKind
@@ -154,7 +154,7 @@ turn_with size begins_line (Ok found) = Ok (record { found = found; size = size;
 abbrev pub turn_over : ℕ → Bool → List ℕ → Result (PartKind × ℕ) FaultKind → Result Turn FaultKind
 turn_over at begins_line text (Err fault) = Err fault
 turn_over at begins_line text (Ok part) =
-    turn_with part.1 (begins_line_behind_part begins_line part.0 (take part.1 text)) (token_in at part.0 (take part.1 text))
+    turn_with part.1 (begins_line_after_kind begins_line part.0 (take part.1 text)) (token_in at part.0 (take part.1 text))
 
 -- what the part at the front gives
 unfoldable pub turn_at : ℕ → Bool → List ℕ → Result Turn FaultKind

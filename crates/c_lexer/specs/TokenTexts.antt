@@ -3,8 +3,8 @@ use Rattle.std.specs.Prelude.{◌≡◌, ℕ, ◌+◌, ◌-◌, List, [], ◌∷
 use Rattle.c_lexer.specs.declared.token.Token.{Token}
 use Rattle.c_lexer.specs.declared.token.TokenKind.{TokenKind}
 use Rattle.c_lexer.specs.declared.token.TokenKind.TheVariants as K
-use Rattle.c_lexer.specs.Keywords.{keyword_text}
-use Rattle.c_lexer.specs.Marks.{mark_text}
+use Rattle.lay_base.specs.Keywords.{keyword_text}
+use Rattle.c_lexer.specs.Punctuators.{punctuator_text}
 use Rattle.c_lexer.specs.Lexes.{Lexes}
 
 -- the bytes of a file that a token is
@@ -13,13 +13,13 @@ token_text bytes token = take (token.to - token.from) (drop token.from bytes)
 
 abbrev pub IsTextOf : TokenKind → List ℕ → Type 0
 IsTextOf (K.Keyword keyword) text = text ≡ keyword_text keyword
-IsTextOf (K.Mark mark) text = text ≡ mark_text mark
+IsTextOf (K.Punctuator punctuator) text = text ≡ punctuator_text punctuator
 IsTextOf _ text = Unit {0}
 
 abbrev pub HaveTexts : List ℕ → List Token → Type 0
 HaveTexts bytes [] = Unit {0}
 HaveTexts bytes (token ∷ tokens) = (token.to ≡ token.from + length (token_text bytes token)) × IsTextOf token.kind (token_text bytes token) × HaveTexts bytes tokens
 
--- the bytes of a keyword or a mark are its spelling
+-- the bytes of a keyword or a punctuator are its spelling
 abbrev pub TokensHaveTexts : Type 0
 TokensHaveTexts = (bytes : List ℕ) (tokens : List Token) → Lexes bytes tokens → HaveTexts bytes tokens

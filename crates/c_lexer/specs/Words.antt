@@ -6,8 +6,8 @@ use Rattle.c_lexer.specs.declared.part.Shape.TheVariants as S
 use Rattle.c_lexer.specs.declared.token.TokenKind.{TokenKind}
 use Rattle.c_lexer.specs.declared.token.TokenKind.TheVariants as K
 use Rattle.c_lexer.specs.Characters.{is_letter, goes_on_in_name}
-use Rattle.c_lexer.specs.Keywords.{keyword_text}
-use Rattle.c_lexer.specs.Marks.{mark_text}
+use Rattle.lay_base.specs.Keywords.{keyword_text}
+use Rattle.c_lexer.specs.Punctuators.{punctuator_text}
 use Rattle.c_lexer.specs.declared.radix.Radix.{Radix}
 use Rattle.c_lexer.specs.declared.radix.Suffix.{Suffix}
 use Rattle.c_lexer.specs.Numbers.{IsNumber, IsInteger, value, type_of}
@@ -24,7 +24,7 @@ IsWord S.Name word = IsName word
 IsWord S.Number word = IsNumber word
 IsWord S.Character word = IsQuoted 39 word
 IsWord S.Text word = IsQuoted 34 word
-IsWord (S.Mark mark) word = word ≡ mark_text mark
+IsWord (S.Punctuator punctuator) word = word ≡ punctuator_text punctuator
 
 -- no longer front of the text can be one token
 abbrev pub IsLongest : List ℕ → List ℕ → Type 0
@@ -45,7 +45,7 @@ IsToken S.Name word K.Name = (length word ≤ longest_name) × ((keyword : Keywo
 IsToken S.Number word (K.Number n kind) = (radix : Radix) × (digits : List ℕ) × (suffix : Suffix) × IsInteger word radix digits suffix × (value radix digits ≡ n) × (type_of radix digits suffix ≡ Some kind)
 IsToken S.Character word (K.Character n) = (item : Item) × HasItems 39 (item ∷ []) word × (item_value item ≡ n) × (n ≤ greatest_character)
 IsToken S.Text word K.Text = (items : List Item) × HasItems 34 items word × All (λ item. item_value item ≤ greatest_character) items
-IsToken (S.Mark mark) word (K.Mark m) = m ≡ mark
+IsToken (S.Punctuator punctuator) word (K.Punctuator m) = m ≡ punctuator
 IsToken _ word _ = ⊥
 
 -- a number that is no integer constant, a character constant of no or several characters, and an escape that is none
@@ -61,4 +61,4 @@ IsTooWide S.Name word = longest_name < length word
 IsTooWide S.Number word = (radix : Radix) × (digits : List ℕ) × (suffix : Suffix) × IsInteger word radix digits suffix × (type_of radix digits suffix ≡ None)
 IsTooWide S.Character word = (item : Item) × HasItems 39 (item ∷ []) word × (greatest_character < item_value item)
 IsTooWide S.Text word = (items : List Item) × HasItems 34 items word × Any (λ item. greatest_character < item_value item) items
-IsTooWide (S.Mark mark) word = ⊥
+IsTooWide (S.Punctuator punctuator) word = ⊥

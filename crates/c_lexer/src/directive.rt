@@ -1,6 +1,6 @@
 //! Lines that begin with `#`.
 
-/// What a line that begins with `#` says of the lines behind it.
+/// What a line that begins with `#` says of the lines after it.
 #[derive(Clone, Copy)]
 pub enum Directive {
     /// Nothing.
@@ -9,7 +9,7 @@ pub enum Directive {
     Renumbers(u32, Option<NameRange>),
 }
 
-/// The bytes behind the `#`, from `from` up to `to`, that are a file's name.
+/// The bytes after the `#`, from `from` up to `to`, that are a file's name.
 #[derive(Clone, Copy)]
 pub struct NameRange {
     pub from: u32,

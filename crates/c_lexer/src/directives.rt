@@ -3,7 +3,7 @@
 ghost use Rattle.std.specs.Prelude.{◌≡◌, ◌≤◌, ◌+◌, ◌<◌, ◌^◌, length, IfSome, true, false};
 ghost use Rattle.std.specs.List.{list_all};
 ghost use Rattle.c_lexer.specs.Characters.{is_blank};
-ghost use Rattle.c_lexer.specs.DirectiveScan.{are_flags, is_marker_end, named, marker_behind, marker_at, line_at, directive_behind, directive_in};
+ghost use Rattle.c_lexer.specs.DirectiveScan.{are_flags, is_marker_end, named, marker_after, marker_at, line_at, directive_after, directive_in};
 ghost use Rattle.c_lexer.specs.QuotedScan.{quoted_length};
 
 use crate::characters::{blank, decimal};
@@ -21,7 +21,7 @@ fn is_blank_alone(rest: &[u8]) -> bool
     rest.iter().all(|b| blank(*b))
 }
 
-/// Whether only flags stand there, each behind a blank.
+/// Whether only flags stand there, each after a blank.
 fn are_flags(rest: &[u8]) -> bool
     ensures { result ≡ are_flags false rest.now }
 {
@@ -46,7 +46,7 @@ fn is_marker_end(worded: bool, rest: &[u8]) -> bool
     }
 }
 
-/// A marker whose name begins at byte `at` behind the `#`, from that name on.
+/// A marker whose name begins at byte `at` after the `#`, from that name on.
 fn named(worded: bool, number: u32, at: u32, text: &[u8]) -> Option<Directive>
     requires { at + length text.now ≤ 4194304 }
     ensures { result ≡ named worded number at text.now (quoted_length 34 false text.now) }
@@ -62,10 +62,10 @@ fn named(worded: bool, number: u32, at: u32, text: &[u8]) -> Option<Directive>
     Some(Directive::Renumbers(number, Some(name)))
 }
 
-/// A marker from behind its number on.
-fn marker_behind(worded: bool, number: u32, at: u32, text: &[u8]) -> Option<Directive>
+/// A marker from after its number on.
+fn marker_after(worded: bool, number: u32, at: u32, text: &[u8]) -> Option<Directive>
     requires { at + length text.now ≤ 4194304 }
-    ensures { result ≡ marker_behind worded number at text.now }
+    ensures { result ≡ marker_after worded number at text.now }
 {
     let blanks = blank_run(text);
     match &text[blanks..] {
@@ -90,10 +90,10 @@ fn marker_at(worded: bool, at: u32, text: &[u8]) -> Option<Directive>
     if number >= NUMBER_LIMIT {
         return None;
     }
-    marker_behind(worded, number as u32, at + count as u32, rest)
+    marker_after(worded, number as u32, at + count as u32, rest)
 }
 
-/// From behind the word `line` on.
+/// From after the word `line` on.
 fn line_at(at: u32, text: &[u8]) -> Option<Directive>
     requires { at + length text.now ≤ 4194304 }
     ensures { result ≡ line_at at text.now }
@@ -105,10 +105,10 @@ fn line_at(at: u32, text: &[u8]) -> Option<Directive>
     marker_at(true, at + blanks as u32, &text[blanks..])
 }
 
-/// From behind the blanks that follow the `#`.
-fn directive_behind(at: u32, text: &[u8]) -> Option<Directive>
+/// From after the blanks that follow the `#`.
+fn directive_after(at: u32, text: &[u8]) -> Option<Directive>
     requires { at + length text.now ≤ 4194304 }
-    ensures { result ≡ directive_behind at text.now }
+    ensures { result ≡ directive_after at text.now }
 {
     if let [] = text {
         return Some(Directive::Silent);
@@ -127,12 +127,12 @@ fn directive_behind(at: u32, text: &[u8]) -> Option<Directive>
     }
 }
 
-/// The directive that the bytes behind a `#` are, up to the end of the line.
+/// The directive that the bytes after a `#` are, up to the end of the line.
 #[tactic(auto, unfolding(crate::specs::DirectiveScan::directive_in))]
 pub fn directive_in(content: &[u8]) -> Option<Directive>
     requires { length content.now ≤ 4194304 }
     ensures { result ≡ directive_in content.now }
 {
     let blanks = blank_run(content);
-    directive_behind(blanks as u32, &content[blanks..])
+    directive_after(blanks as u32, &content[blanks..])
 }

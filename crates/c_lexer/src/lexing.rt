@@ -9,7 +9,7 @@ ghost use Rattle.c_lexer.specs.TokenTexts.{TokensHaveTexts};
 
 use crate::fault::{FaultKind, LexFault};
 use crate::part::PartKind;
-use crate::parts::{begins_line_behind, part_at};
+use crate::parts::{begins_line_after_part, part_at};
 use crate::token::{Token, Tokens};
 use crate::words::token_of;
 use lay_base::{Bytes, List};
@@ -32,7 +32,7 @@ fn token_in(at: u32, kind: PartKind, text: &[u8]) -> Result<Option<Token>, Fault
 }
 
 /// What the part at the front gives: the token that it is, where it is one, how many bytes it has,
-/// and whether only white space stands behind it on its line.
+/// and whether only white space stands after it on its line.
 #[derive(Clone, Copy)]
 pub struct Turn {
     pub found: Option<Token>,
@@ -51,7 +51,7 @@ fn turn_at(at: u32, begins_line: bool, text: &[u8]) -> Result<Turn, FaultKind>
     Ok(Turn {
         found: token_in(at, kind, part)?,
         size,
-        begins_line: begins_line_behind(begins_line, kind, part),
+        begins_line: begins_line_after_part(begins_line, kind, part),
     })
 }
 
@@ -121,7 +121,7 @@ pub fn texts_have_one_reading()
     ensures { HaveOneReading }
 {}
 
-/// The bytes of a keyword or of a mark are its spelling.
+/// The bytes of a keyword or of a punctuator are its spelling.
 pub fn tokens_have_texts()
     ensures { TokensHaveTexts }
 {}

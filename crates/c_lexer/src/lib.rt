@@ -9,7 +9,7 @@ mod directive;
 mod directives;
 mod fault;
 mod lexing;
-mod mark;
+mod punctuator;
 mod numbers;
 mod part;
 mod parts;
@@ -23,7 +23,7 @@ mod words;
 
 pub use fault::LexFault;
 pub use lexing::{lex, texts_have_one_reading, tokens_have_texts};
-pub use mark::Mark;
+pub use punctuator::Punctuator;
 pub use presumed::Presumed;
 pub use presuming::presumed_at;
 pub use token::{Token, TokenKind, Tokens};

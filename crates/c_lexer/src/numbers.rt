@@ -4,7 +4,7 @@ ghost use Rattle.std.specs.Prelude.{◌≡◌, ◌≤◌, ◌^◌, length, take,
 ghost use Rattle.std.specs.List.{list_all, prefix_len};
 ghost use Rattle.c_lexer.specs.Characters.{is_hexadecimal};
 ghost use Rattle.c_lexer.specs.Numbers.{base, begins_number, goes_on_in_number, kinds, first_holding};
-ghost use Rattle.c_lexer.specs.NumberScan.{number_length, capped_value, radix_at, is_digit_in, is_u, is_l, suffix_of_one, suffix_of_two, suffix_of_three, suffix_at, number_behind, number_of};
+ghost use Rattle.c_lexer.specs.NumberScan.{number_length, capped_value, radix_at, is_digit_in, is_u, is_l, suffix_of_one, suffix_of_two, suffix_of_three, suffix_at, number_after, number_of};
 
 use crate::characters::{decimal, digit, hexadecimal, name_byte};
 use crate::fault::FaultKind;
@@ -34,7 +34,7 @@ fn number_goes_on(before: u8, b: u8) -> bool
     name_byte(b) || b == b'.' || (exponent && (b == b'+' || b == b'-'))
 }
 
-/// How far a number goes on behind a byte of it.
+/// How far a number goes on after a byte of it.
 pub fn number_run(first: u8, bytes: &[u8]) -> usize
     ensures is { result ≡ number_length first bytes.now }
     ensures within { result ≤ length bytes.now }
@@ -179,8 +179,8 @@ fn type_of(radix: Radix, value: u64, suffix: Suffix) -> Option<IntKind>
 }
 
 /// The number with those digits and that suffix.
-fn number_behind(radix: Radix, text: &[u8]) -> Result<TokenKind, FaultKind>
-    ensures { result ≡ number_behind radix text.now }
+fn number_after(radix: Radix, text: &[u8]) -> Result<TokenKind, FaultKind>
+    ensures { result ≡ number_after radix text.now }
 {
     let (digits, tail) = text.split_at(digit_run(radix, text));
     let value = value_of(base_of(radix), digits);
@@ -199,7 +199,7 @@ pub fn number_of(word: &[u8]) -> Result<TokenKind, FaultKind>
     ensures { result ≡ number_of word.now }
 {
     match radix_of(word) {
-        Some((radix, front)) => number_behind(radix, &word[front..]),
+        Some((radix, front)) => number_after(radix, &word[front..]),
         None => Err(FaultKind::BadLiteral),
     }
 }

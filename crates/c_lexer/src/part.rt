@@ -1,6 +1,6 @@
 //! What the text of a file consists of.
 
-use crate::mark::Mark;
+use crate::punctuator::Punctuator;
 
 /// What a word looks like, before it is known whether it is a valid token.
 #[derive(Clone, Copy)]
@@ -13,7 +13,7 @@ pub enum Shape {
     Character,
     /// Something between double quotes.
     Text,
-    Mark(Mark),
+    Punctuator(Punctuator),
 }
 
 /// What a stretch of text is.

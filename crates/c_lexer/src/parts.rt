@@ -3,7 +3,7 @@
 ghost use Rattle.std.specs.Prelude.{◌≡◌, ◌≤◌, ◌<◌, ◌+◌, length, IfOk, IfSome, false};
 ghost use Rattle.c_lexer.specs.declared.part.PartKind.TheVariants as P;
 ghost use Rattle.c_lexer.specs.QuotedScan.{quoted_length};
-ghost use Rattle.c_lexer.specs.Scanning.{closed, comment_length, word_part, directive_part, slash_part, part_at, begins_line_behind_part, word_at};
+ghost use Rattle.c_lexer.specs.Scanning.{closed, comment_length, word_part, directive_part, slash_part, part_at, begins_line_after_kind, word_at};
 
 use crate::characters::white;
 use crate::directives::directive_in;
@@ -100,9 +100,9 @@ pub fn part_at(begins_line: bool, bytes: &[u8]) -> Result<(PartKind, usize), Fau
     }
 }
 
-/// Whether only white space stands behind the part on its line.
-pub fn begins_line_behind(begins_line: bool, kind: PartKind, text: &[u8]) -> bool
-    ensures { result ≡ begins_line_behind_part begins_line kind text.now }
+/// Whether only white space stands after the part on its line.
+pub fn begins_line_after_part(begins_line: bool, kind: PartKind, text: &[u8]) -> bool
+    ensures { result ≡ begins_line_after_kind begins_line kind text.now }
 {
     match kind {
         PartKind::White => begins_line || matches!(text, [b'\n', ..]),

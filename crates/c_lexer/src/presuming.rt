@@ -2,12 +2,12 @@
 
 ghost use Rattle.std.specs.Prelude.{◌≡◌, ◌≤◌, ◌<◌, ◌+◌, fold, length, take};
 ghost use Rattle.c_lexer.specs.DirectiveScan.{directive_in};
-ghost use Rattle.c_lexer.specs.Presuming.{first_lines, behind_byte, with_directive, behind_part, AreTokensBefore, IsPresumed};
+ghost use Rattle.c_lexer.specs.Presuming.{first_lines, after_byte, with_directive, after_part, AreTokensBefore, IsPresumed};
 
 use crate::directive::Directive;
 use crate::directives::directive_in;
 use crate::part::PartKind;
-use crate::parts::{begins_line_behind, part_at};
+use crate::parts::{begins_line_after_part, part_at};
 use crate::presumed::Presumed;
 
 /// What is presumed of the line of a place, and of the next line.
@@ -36,9 +36,9 @@ fn first_lines() -> Lines
 }
 
 /// A line feed begins the next line.
-fn behind_byte(lines: Lines, byte: u8) -> Lines
+fn after_byte(lines: Lines, byte: u8) -> Lines
     requires { lines.next.line < 4294967295 }
-    ensures { result ≡ behind_byte lines byte }
+    ensures { result ≡ after_byte lines byte }
 {
     if byte != b'\n' {
         return lines;
@@ -52,20 +52,20 @@ fn behind_byte(lines: Lines, byte: u8) -> Lines
     }
 }
 
-fn behind_bytes(lines: Lines, text: &[u8]) -> Lines
+fn after_bytes(lines: Lines, text: &[u8]) -> Lines
     requires { lines.next.line + length text.now ≤ 4294967295 }
-    ensures { result ≡ fold behind_byte lines text.now }
+    ensures { result ≡ fold after_byte lines text.now }
 {
-    let mut behind = lines;
+    let mut after = lines;
     for byte in text {
-        behind = behind_byte(behind, *byte);
+        after = after_byte(after, *byte);
     }
-    behind
+    after
 }
 
-/// Behind a directive whose `#` stands at byte `at`.
+/// After a directive whose `#` stands at byte `at`.
 #[tactic(auto, using(crate::proofs::PresumedLines::name_within))]
-fn behind_directive(at: u32, content: &[u8], lines: Lines) -> Lines
+fn after_directive(at: u32, content: &[u8], lines: Lines) -> Lines
     requires { at + 1 + length content.now ≤ 4194304 }
     ensures { result ≡ with_directive at (directive_in content.now) lines }
 {
@@ -86,16 +86,16 @@ fn behind_directive(at: u32, content: &[u8], lines: Lines) -> Lines
     }
 }
 
-/// Behind a part that begins at byte `at`.
-fn behind_part(at: u32, kind: PartKind, text: &[u8], lines: Lines) -> Lines
+/// After a part that begins at byte `at`.
+fn after_part(at: u32, kind: PartKind, text: &[u8], lines: Lines) -> Lines
     requires short { at + length text.now ≤ 4194304 }
     requires small { lines.next.line ≤ 2147483647 + at }
-    ensures { result ≡ behind_part at kind text.now lines }
+    ensures { result ≡ after_part at kind text.now lines }
 {
     match (kind, text) {
-        (PartKind::Directive, [_, content @ ..]) => behind_directive(at, content, lines),
+        (PartKind::Directive, [_, content @ ..]) => after_directive(at, content, lines),
         (PartKind::Directive, []) => lines,
-        _ => behind_bytes(lines, text),
+        _ => after_bytes(lines, text),
     }
 }
 
@@ -115,11 +115,11 @@ pub fn presumed_at(bytes: &[u8], at: u32) -> Presumed
         let Ok((kind, size)) = part_at(begins_line, rest) else {
             return lines.here;
         };
-        let (part, behind) = rest.split_at(size);
-        lines = behind_part(from, kind, part, lines);
-        begins_line = begins_line_behind(begins_line, kind, part);
+        let (part, after) = rest.split_at(size);
+        lines = after_part(from, kind, part, lines);
+        begins_line = begins_line_after_part(begins_line, kind, part);
         from += size as u32;
-        rest = behind;
+        rest = after;
     }
     lines.here
 }

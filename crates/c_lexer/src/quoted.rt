@@ -14,7 +14,7 @@ use crate::token::TokenKind;
 /// What no value of a character passes: the first that is too great.
 const CAP: u64 = 256;
 
-/// How many bytes go up to the closing quote, and with it, from behind the opening one.
+/// How many bytes go up to the closing quote, and with it, from after the opening one.
 pub fn quoted_run(quote: u8, bytes: &[u8]) -> Option<usize>
     ensures is { result ≡ quoted_length quote false bytes.now }
     ensures within { IfSome result (λ n. (0 < n) × (n ≤ length bytes.now)) }
@@ -79,7 +79,7 @@ fn digits_at(base: u64, count: usize, bytes: &[u8]) -> Option<(u32, usize)>
     Some((character_value(base, &bytes[..count]), count))
 }
 
-/// Behind a backslash: the value of the escape, and how many bytes it has.
+/// After a backslash: the value of the escape, and how many bytes it has.
 #[tactic(auto, using(crate::proofs::Digits::hexadecimal_run_passes))]
 fn escape_at(bytes: &[u8]) -> Option<(u32, usize)>
     ensures is { result ≡ escape_at bytes.now }

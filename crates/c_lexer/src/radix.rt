@@ -8,7 +8,7 @@ pub enum Radix {
     Hexadecimal,
 }
 
-/// What stands behind the digits (C99 6.4.4.1).
+/// What stands after the digits (C99 6.4.4.1).
 #[derive(Clone, Copy)]
 pub enum Suffix {
     Plain,

@@ -1,6 +1,6 @@
 //! Tokens.
 
-use crate::mark::Mark;
+use crate::punctuator::Punctuator;
 use c_types::IntKind;
 use lay_base::{Bytes, Keyword, List};
 
@@ -16,7 +16,7 @@ pub enum TokenKind {
     Character(u32),
     /// A string literal.
     Text,
-    Mark(Mark),
+    Punctuator(Punctuator),
 }
 
 /// A token, and the bytes from `from` up to, but without, `to` that it is.

@@ -1,12 +1,12 @@
 //! Words: names, keywords, numbers and punctuators.
 
 ghost use Rattle.std.specs.Prelude.{◌≡◌, ◌≤◌, ◌<◌, length, IfSome};
-ghost use Rattle.c_lexer.specs.Marks.{mark_text};
-ghost use Rattle.c_lexer.specs.Scanning.{first_mark, marks, word_at, first_keyword, keywords, name_with, token_of};
+ghost use Rattle.c_lexer.specs.Punctuators.{punctuator_text};
+ghost use Rattle.c_lexer.specs.Scanning.{first_punctuator, punctuators, word_at, first_keyword, keywords, name_with, token_of};
 
 use crate::characters::letter;
 use crate::fault::FaultKind;
-use crate::mark::Mark;
+use crate::punctuator::Punctuator;
 use crate::numbers::{number_begins, number_of, number_run};
 use crate::part::Shape;
 use crate::quoted::{character_of, string_of};
@@ -17,87 +17,87 @@ use lay_base::Keyword;
 /// The most bytes that a name may have.
 const LONGEST_NAME: usize = 255;
 
-/// The longest mark at the front.
-fn mark_of(bytes: &[u8]) -> Option<Mark>
-    ensures is { result ≡ first_mark marks bytes.now }
-    ensures within { IfSome result (λ mark. length (mark_text mark) ≤ length bytes.now) }
+/// The longest punctuator at the front.
+fn punctuator_of(bytes: &[u8]) -> Option<Punctuator>
+    ensures is { result ≡ first_punctuator punctuators bytes.now }
+    ensures within { IfSome result (λ punctuator. length (punctuator_text punctuator) ≤ length bytes.now) }
 {
     match bytes {
-        [b'[', ..] => Some(Mark::OpenSquare),
-        [b']', ..] => Some(Mark::CloseSquare),
-        [b'(', ..] => Some(Mark::Open),
-        [b')', ..] => Some(Mark::Close),
-        [b'{', ..] => Some(Mark::OpenBrace),
-        [b'}', ..] => Some(Mark::CloseBrace),
-        [b'.', b'.', b'.', ..] => Some(Mark::Dots),
-        [b'.', ..] => Some(Mark::Dot),
-        [b'-', b'>', ..] => Some(Mark::Arrow),
-        [b'-', b'-', ..] => Some(Mark::MinusMinus),
-        [b'-', b'=', ..] => Some(Mark::MinusEqual),
-        [b'-', ..] => Some(Mark::Minus),
-        [b'+', b'+', ..] => Some(Mark::PlusPlus),
-        [b'+', b'=', ..] => Some(Mark::PlusEqual),
-        [b'+', ..] => Some(Mark::Plus),
-        [b'&', b'&', ..] => Some(Mark::AndAnd),
-        [b'&', b'=', ..] => Some(Mark::AndEqual),
-        [b'&', ..] => Some(Mark::And),
-        [b'*', b'=', ..] => Some(Mark::StarEqual),
-        [b'*', ..] => Some(Mark::Star),
-        [b'~', ..] => Some(Mark::Tilde),
-        [b'!', b'=', ..] => Some(Mark::NotEqual),
-        [b'!', ..] => Some(Mark::Not),
-        [b'/', b'=', ..] => Some(Mark::SlashEqual),
-        [b'/', ..] => Some(Mark::Slash),
-        [b'%', b'=', ..] => Some(Mark::PercentEqual),
-        [b'%', ..] => Some(Mark::Percent),
-        [b'<', b'<', b'=', ..] => Some(Mark::ShiftLeftEqual),
-        [b'<', b'<', ..] => Some(Mark::ShiftLeft),
-        [b'<', b'=', ..] => Some(Mark::LessEqual),
-        [b'<', ..] => Some(Mark::Less),
-        [b'>', b'>', b'=', ..] => Some(Mark::ShiftRightEqual),
-        [b'>', b'>', ..] => Some(Mark::ShiftRight),
-        [b'>', b'=', ..] => Some(Mark::GreaterEqual),
-        [b'>', ..] => Some(Mark::Greater),
-        [b'=', b'=', ..] => Some(Mark::EqualEqual),
-        [b'=', ..] => Some(Mark::Equal),
-        [b'^', b'=', ..] => Some(Mark::CaretEqual),
-        [b'^', ..] => Some(Mark::Caret),
-        [b'|', b'|', ..] => Some(Mark::BarBar),
-        [b'|', b'=', ..] => Some(Mark::BarEqual),
-        [b'|', ..] => Some(Mark::Bar),
-        [b'?', ..] => Some(Mark::Question),
-        [b':', ..] => Some(Mark::Colon),
-        [b';', ..] => Some(Mark::Semicolon),
-        [b',', ..] => Some(Mark::Comma),
+        [b'[', ..] => Some(Punctuator::OpenSquare),
+        [b']', ..] => Some(Punctuator::CloseSquare),
+        [b'(', ..] => Some(Punctuator::Open),
+        [b')', ..] => Some(Punctuator::Close),
+        [b'{', ..] => Some(Punctuator::OpenBrace),
+        [b'}', ..] => Some(Punctuator::CloseBrace),
+        [b'.', b'.', b'.', ..] => Some(Punctuator::Dots),
+        [b'.', ..] => Some(Punctuator::Dot),
+        [b'-', b'>', ..] => Some(Punctuator::Arrow),
+        [b'-', b'-', ..] => Some(Punctuator::MinusMinus),
+        [b'-', b'=', ..] => Some(Punctuator::MinusEqual),
+        [b'-', ..] => Some(Punctuator::Minus),
+        [b'+', b'+', ..] => Some(Punctuator::PlusPlus),
+        [b'+', b'=', ..] => Some(Punctuator::PlusEqual),
+        [b'+', ..] => Some(Punctuator::Plus),
+        [b'&', b'&', ..] => Some(Punctuator::AndAnd),
+        [b'&', b'=', ..] => Some(Punctuator::AndEqual),
+        [b'&', ..] => Some(Punctuator::And),
+        [b'*', b'=', ..] => Some(Punctuator::StarEqual),
+        [b'*', ..] => Some(Punctuator::Star),
+        [b'~', ..] => Some(Punctuator::Tilde),
+        [b'!', b'=', ..] => Some(Punctuator::NotEqual),
+        [b'!', ..] => Some(Punctuator::Not),
+        [b'/', b'=', ..] => Some(Punctuator::SlashEqual),
+        [b'/', ..] => Some(Punctuator::Slash),
+        [b'%', b'=', ..] => Some(Punctuator::PercentEqual),
+        [b'%', ..] => Some(Punctuator::Percent),
+        [b'<', b'<', b'=', ..] => Some(Punctuator::ShiftLeftEqual),
+        [b'<', b'<', ..] => Some(Punctuator::ShiftLeft),
+        [b'<', b'=', ..] => Some(Punctuator::LessEqual),
+        [b'<', ..] => Some(Punctuator::Less),
+        [b'>', b'>', b'=', ..] => Some(Punctuator::ShiftRightEqual),
+        [b'>', b'>', ..] => Some(Punctuator::ShiftRight),
+        [b'>', b'=', ..] => Some(Punctuator::GreaterEqual),
+        [b'>', ..] => Some(Punctuator::Greater),
+        [b'=', b'=', ..] => Some(Punctuator::EqualEqual),
+        [b'=', ..] => Some(Punctuator::Equal),
+        [b'^', b'=', ..] => Some(Punctuator::CaretEqual),
+        [b'^', ..] => Some(Punctuator::Caret),
+        [b'|', b'|', ..] => Some(Punctuator::BarBar),
+        [b'|', b'=', ..] => Some(Punctuator::BarEqual),
+        [b'|', ..] => Some(Punctuator::Bar),
+        [b'?', ..] => Some(Punctuator::Question),
+        [b':', ..] => Some(Punctuator::Colon),
+        [b';', ..] => Some(Punctuator::Semicolon),
+        [b',', ..] => Some(Punctuator::Comma),
         _ => None,
     }
 }
 
-fn mark_length(mark: Mark) -> usize
-    ensures is { result ≡ length (mark_text mark) }
+fn punctuator_length(punctuator: Punctuator) -> usize
+    ensures is { result ≡ length (punctuator_text punctuator) }
     ensures some { 0 < result }
 {
-    match mark {
-        Mark::Dots | Mark::ShiftLeftEqual | Mark::ShiftRightEqual => 3,
-        Mark::Arrow
-        | Mark::MinusMinus
-        | Mark::MinusEqual
-        | Mark::PlusPlus
-        | Mark::PlusEqual
-        | Mark::AndAnd
-        | Mark::AndEqual
-        | Mark::StarEqual
-        | Mark::NotEqual
-        | Mark::SlashEqual
-        | Mark::PercentEqual
-        | Mark::ShiftLeft
-        | Mark::LessEqual
-        | Mark::ShiftRight
-        | Mark::GreaterEqual
-        | Mark::EqualEqual
-        | Mark::CaretEqual
-        | Mark::BarBar
-        | Mark::BarEqual => 2,
+    match punctuator {
+        Punctuator::Dots | Punctuator::ShiftLeftEqual | Punctuator::ShiftRightEqual => 3,
+        Punctuator::Arrow
+        | Punctuator::MinusMinus
+        | Punctuator::MinusEqual
+        | Punctuator::PlusPlus
+        | Punctuator::PlusEqual
+        | Punctuator::AndAnd
+        | Punctuator::AndEqual
+        | Punctuator::StarEqual
+        | Punctuator::NotEqual
+        | Punctuator::SlashEqual
+        | Punctuator::PercentEqual
+        | Punctuator::ShiftLeft
+        | Punctuator::LessEqual
+        | Punctuator::ShiftRight
+        | Punctuator::GreaterEqual
+        | Punctuator::EqualEqual
+        | Punctuator::CaretEqual
+        | Punctuator::BarBar
+        | Punctuator::BarEqual => 2,
         _ => 1,
     }
 }
@@ -116,8 +116,8 @@ pub fn word_at(bytes: &[u8]) -> Option<(Shape, usize)>
     if number_begins(bytes) {
         return Some((Shape::Number, number_run(*first, rest) + 1));
     }
-    let mark = mark_of(bytes)?;
-    Some((Shape::Mark(mark), mark_length(mark)))
+    let punctuator = punctuator_of(bytes)?;
+    Some((Shape::Punctuator(punctuator), punctuator_length(punctuator)))
 }
 
 /// The keyword that a name is.
@@ -222,6 +222,6 @@ pub fn token_of(shape: Shape, word: &[u8]) -> Result<TokenKind, FaultKind>
         Shape::Number => number_of(word),
         Shape::Character => character_of(word),
         Shape::Text => string_of(word),
-        Shape::Mark(mark) => Ok(TokenKind::Mark(mark)),
+        Shape::Punctuator(punctuator) => Ok(TokenKind::Punctuator(punctuator)),
     }
 }

@@ -1,6 +1,4 @@
-pub mod ThinTree
-pub mod ThinText
-pub mod ThinScan
-pub mod ThinReading
-pub use Rattle.c_statements.specs.Parsing
-pub use Rattle.c_statements.specs.TreesOfTokens
+pub mod StatementReading
+pub mod TreesOfTokens
+pub mod Openings
+pub mod Parsing

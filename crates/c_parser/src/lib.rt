@@ -1,17 +1,28 @@
-//! The parser: the tree of a file's tokens, and of the text of a thin program.
+//! The tree of a file's tokens: initializers, declarations, statements and the items of a file (C99 6.7
+//! to 6.9).
 //!
-//! It stands on `lay_base` and `c_statements`, whose `parse` it passes on: the tree of a file comes
-//! exactly where its tokens have one. `thin` is for programs that only print constant sums and return
-//! one, until all programs are compiled. It promises that a tree comes exactly for the texts that
-//! spell one, and that no other tree is spelled so.
+//! It stands on `c_expressions`. It promises that the tree of a file's tokens is found exactly where
+//! there is one, and that they have at most one. Each reader answers what the reader on lists of its
+//! name gives (`specs/StatementReading.antt`), of which two theorems say that what is read is spelled
+//! so, well formed and so deep, and that whatever is so is read.
 #![tactic(auto)]
 
-mod thin_reading;
-mod thin_scan;
-mod thin_text;
-mod thin_token;
-mod thin_tree;
+mod conditions;
+mod declarations;
+mod declarators;
+mod faults;
+mod initializers;
+mod items;
+mod iteration;
+mod laws;
+mod openings;
+mod parsing;
+mod selection;
+mod statements;
+mod switch_labels;
+mod switches;
+mod typenames;
 
-pub use c_statements::{ParseFault, parse, tokens_have_one_tree};
-pub use thin_text::thin;
-pub use thin_tree::{Sum, Thin};
+pub use faults::ParseFault;
+pub use laws::tokens_have_one_tree;
+pub use parsing::parse;

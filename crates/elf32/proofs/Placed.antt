@@ -40,12 +40,12 @@ segments_apart bytes earlier h apart address in_earlier in_h =
 -- one that meets none of the earlier ones
 apart_from_each : (h g : ProgramHeader) (before after : List ProgramHeader) → list_any (meets h) (before ++ g ∷ after) ≡ false → meets h g ≡ false
 apart_from_each h g before after none =
-    let behind = or_parts (list_any (meets h) before) (list_any (meets h) (g ∷ after)) (sym (list_any-append (meets h) before (g ∷ after)) ∙ none) in
-    (or_parts (meets h g) (list_any (meets h) after) behind.1).0
+    let following = or_parts (list_any (meets h) before) (list_any (meets h) (g ∷ after)) (sym (list_any-append (meets h) before (g ∷ after)) ∙ none) in
+    (or_parts (meets h g) (list_any (meets h) after) following.1).0
 
 -- ---- all segments
 
--- those behind a segment have no address in common with it
+-- those after a segment have no address in common with it
 later_apart : (bytes : List ℕ) (n : ℕ) (g : ProgramHeader) (before after hs : List ProgramHeader) → AllPass (segments_tests n (before ++ g ∷ after) hs)
     → All (AreApart (segment_of bytes g)) (map (segment_of bytes) hs)
 later_apart bytes n g before after [] pass = All-nil (AreApart (segment_of bytes g))

@@ -171,7 +171,7 @@ record IsHeld (file_length : ℕ) (h : ProgramHeader) : Type 0 where
 segment_passes : (file_length : ℕ) (earlier : List ProgramHeader) (h : ProgramHeader) → IsHeld file_length h → list_any (meets h) earlier ≡ false → AllPass (segment_tests file_length earlier h)
 segment_passes n earlier h held overlap = (le-ltb _ _ held.range, (le-ltb _ _ held.sizes, (le-ltb _ _ held.address, (overlap, tt))))
 
--- the tests of a segment, then those of the ones behind it
+-- the tests of a segment, then those of the ones after it
 segments_then : (n : ℕ) (earlier : List ProgramHeader) (h : ProgramHeader) (hs : List ProgramHeader) → IsHeld n h → list_any (meets h) earlier ≡ false → AllPass (segments_tests n (earlier ++ h ∷ []) hs) → AllPass (segments_tests n earlier (h ∷ hs))
 segments_then n earlier h hs held overlap rest = AllPass-append (segment_tests n earlier h) (segments_tests n (earlier ++ h ∷ []) hs) (segment_passes n earlier h held overlap) rest
 

@@ -11,7 +11,7 @@ header machine =
     ∷ 2 ∷ 0 ∷ machine ∷ 0 ∷ 1 ∷ 0 ∷ 0 ∷ 0 ∷ 0 ∷ 0 ∷ 1 ∷ 0 ∷ 52 ∷ 0 ∷ 0 ∷ 0 ∷ 0 ∷ 0 ∷ 0 ∷ 0
     ∷ 0 ∷ 0 ∷ 0 ∷ 0 ∷ 52 ∷ 0 ∷ 32 ∷ 0 ∷ 1 ∷ 0 ∷ 0 ∷ 0 ∷ 0 ∷ 0 ∷ 0 ∷ 0 ∷ []
 
--- a segment to be loaded at 0x10000: the four bytes at offset 84 and more zeros behind them, to be
+-- a segment to be loaded at 0x10000: the four bytes at offset 84 and more zeros after them, to be
 -- read and executed
 abbrev program : (size : ℕ) → List ℕ
 program size =

@@ -69,7 +69,7 @@ unfoldable pub zeros : ℕ → List ℕ
 zeros n = replicate n 0
 
 -- 7F 45 4C 46, 32 bits, little-endian, version 1, and nine zeros; an executable for RISC-V, whose
--- program headers stand behind this header; no sections and no flags
+-- program headers stand after this header; no sections and no flags
 abbrev pub file_header : (entry headers : ℕ) → List ℕ
 file_header entry headers =
     0x7F ∷ 0x45 ∷ 0x4C ∷ 0x46 ∷ 1 ∷ 1 ∷ 1 ∷ 0 ∷ 0 ∷ 0 ∷ 0 ∷ 0 ∷ 0 ∷ 0 ∷ 0 ∷ 0
@@ -80,7 +80,7 @@ abbrev pub program_header : (offset file_size : ℕ) → Segment → List ℕ
 program_header offset file_size s =
     word 1 ++ (word offset ++ (word s.at ++ (word s.at ++ (word file_size ++ (word s.size ++ (word s.flags ++ word 0x1000))))))
 
--- text stands at 0x1000, data at the next multiple of 0x1000 behind it; the file ends with the data
+-- text stands at 0x1000, data at the next multiple of 0x1000 after it; the file ends with the data
 abbrev pub data_offset : Segment → ℕ
 data_offset text = 0x1000 + page_up (length text.bytes)
 

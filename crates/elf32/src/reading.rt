@@ -89,7 +89,7 @@ struct FirstHeaders {
 }
 
 impl FirstHeaders {
-    /// Counts one more header behind the others, and keeps it where it is one of the first 16.
+    /// Counts one more header after the others, and keeps it where it is one of the first 16.
     fn add(&mut self, header: ProgramHeader) -> Result<(), NoMemory>
         requires { self.old.count + 1 < 2 ^ 64 }
         ensures count { OnOk result (self.new.count ≡ self.old.count + 1) }

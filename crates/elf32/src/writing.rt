@@ -43,7 +43,7 @@ fn pad_to(out: &mut Vec<u8>, offset: u32) -> Result<(), NoMemory>
     out.resize(offset as usize, 0).map_err(|_| NoMemory)
 }
 
-/// The file header of an executable for RISC-V. Its program headers stand behind it; it has no
+/// The file header of an executable for RISC-V. Its program headers stand after it; it has no
 /// section headers and no flags.
 fn file_header(out: &mut Vec<u8>, entry: u32, headers: u16) -> Result<(), NoMemory>
     ensures { OnOk result (out.new.items ≡ out.old.items ++ header_bytes entry headers) }

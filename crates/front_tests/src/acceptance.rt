@@ -1,4 +1,4 @@
-//! Which texts have a tree, by `parse` behind `lex`.
+//! Which texts have a tree, by `parse` after `lex`.
 
 use crate::answer::{Answer, tree_of};
 use lay_base::Keyword;

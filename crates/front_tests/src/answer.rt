@@ -1,4 +1,4 @@
-//! The tree of a text, by `parse` behind `lex`, or what the text comes to.
+//! The tree of a text, by `parse` after `lex`, or what the text comes to.
 
 use c_ast::Tree;
 use c_lexer::lex;

@@ -222,7 +222,7 @@ static TYPE_NAMES: &[Row] = &[
     ),
 ];
 
-/// Type names in casts and behind `sizeof`.
+/// Type names in casts and after `sizeof`.
 static FORMS: &[Row] = &[
     ("sizeof(int *)", "(sizeof-type (int (*)))"),
     ("sizeof(int **)", "(sizeof-type (int (* (*))))"),

@@ -5,8 +5,8 @@ use crate::operator_text::{
 };
 use crate::writer::Writer;
 use c_ast::{
-    Declarator, DeclaratorNode, Enumerator, Expression, ExpressionItem, ExpressionNode, FieldLine,
-    Parameter, Parameters, Specifier, SpecifierNode, TypeForm, Word,
+    Declarator, DeclaratorNode, Enumerator, Expression, Argument, ExpressionNode, MemberDeclaration,
+    Parameter, Parameters, Specifier, SpecifierNode, TypeName, Spelling,
 };
 use c_types::IntKind;
 use lay_base::Boxed;
@@ -16,7 +16,7 @@ use std::alloc::AllocError;
 const NOTHING: &str = "()";
 
 /// A name or a literal as it is spelled.
-fn put_word(out: &mut Writer, name: &Word) -> Result<(), AllocError> {
+fn put_word(out: &mut Writer, name: &Spelling) -> Result<(), AllocError> {
     out.bytes(name.text.as_slice())
 }
 
@@ -32,7 +32,7 @@ fn put_number(out: &mut Writer, value: u32, kind: IntKind) -> Result<(), AllocEr
     out.number(value, suffix)
 }
 
-fn put_strings(out: &mut Writer, all: &[Word]) -> Result<(), AllocError> {
+fn put_strings(out: &mut Writer, all: &[Spelling]) -> Result<(), AllocError> {
     out.open("strings")?;
     for text in all {
         put_word(out, text)?;
@@ -55,7 +55,7 @@ fn put_leaf(out: &mut Writer, node: &ExpressionNode) -> Result<(), AllocError> {
     }
 }
 
-/// The word or the mark for an expression that has parts.
+/// The word or the punctuator for an expression that has parts.
 fn head_of(node: &ExpressionNode) -> Option<&'static str> {
     let head = match node {
         ExpressionNode::Name(_)
@@ -70,8 +70,8 @@ fn head_of(node: &ExpressionNode) -> Option<&'static str> {
         ExpressionNode::Post(_, op, _) => postfix_text(*op),
         ExpressionNode::Pre(op, _, _) => prefix_text(*op),
         ExpressionNode::Unary(op, _, _) => unary_text(*op),
-        ExpressionNode::SizeofExpr(_, _) => "sizeof",
-        ExpressionNode::SizeofForm(_, _, _, _) => "sizeof-type",
+        ExpressionNode::SizeofExpression(_, _) => "sizeof",
+        ExpressionNode::SizeofType(_, _, _, _) => "sizeof-type",
         ExpressionNode::Cast(_, _, _, _) => "cast",
         ExpressionNode::Binary(_, op, _, _) => binary_text(*op),
         ExpressionNode::Cond(_, _, _, _, _) => "?",
@@ -107,12 +107,12 @@ fn put_parts(out: &mut Writer, node: &ExpressionNode) -> Result<(), AllocError> 
         | ExpressionNode::Post(a, _, _)
         | ExpressionNode::Pre(_, _, a)
         | ExpressionNode::Unary(_, _, a)
-        | ExpressionNode::SizeofExpr(_, a) => put_expression(out, a.get())?,
+        | ExpressionNode::SizeofExpression(_, a) => put_expression(out, a.get())?,
         ExpressionNode::Dot(a, _, name) | ExpressionNode::Arrow(a, _, name) => {
             put_expression(out, a.get())?;
             put_word(out, name)?;
         }
-        ExpressionNode::SizeofForm(_, _, form, _) => put_form(out, form)?,
+        ExpressionNode::SizeofType(_, _, form, _) => put_form(out, form)?,
         ExpressionNode::Cast(_, form, _, a) => {
             put_form(out, form)?;
             put_expression(out, a.get())?;
@@ -141,7 +141,7 @@ fn put_parts(out: &mut Writer, node: &ExpressionNode) -> Result<(), AllocError> 
     Ok(())
 }
 
-/// A comma, where one stands behind the last of a list.
+/// A comma, where one stands after the last of a list.
 fn put_last_comma(out: &mut Writer, comma: Option<u32>) -> Result<(), AllocError> {
     match comma {
         None => Ok(()),
@@ -151,7 +151,7 @@ fn put_last_comma(out: &mut Writer, comma: Option<u32>) -> Result<(), AllocError
 
 /// Arguments, or initializers in braces.
 #[cycle(expression_text)]
-fn put_list(out: &mut Writer, all: &[ExpressionItem]) -> Result<(), AllocError> {
+fn put_list(out: &mut Writer, all: &[Argument]) -> Result<(), AllocError> {
     for item in all {
         put_expression(out, &item.value)?;
     }
@@ -171,7 +171,7 @@ pub fn put_optional_expression(
 
 /// A type name: specifiers and an abstract declarator or none.
 #[cycle(expression_text)]
-fn put_form(out: &mut Writer, form: &TypeForm) -> Result<(), AllocError> {
+fn put_form(out: &mut Writer, form: &TypeName) -> Result<(), AllocError> {
     out.open("")?;
     put_specifiers(out, form.specifiers.as_slice())?;
     if let Some(declarator) = &form.declarator {
@@ -189,7 +189,7 @@ pub fn put_specifiers(out: &mut Writer, all: &[Specifier]) -> Result<(), AllocEr
 }
 
 /// The keyword and the tag or none of a `struct` or an `enum`.
-fn open_tagged(out: &mut Writer, keyword: &str, tag: &Option<Word>) -> Result<(), AllocError> {
+fn open_tagged(out: &mut Writer, keyword: &str, tag: &Option<Spelling>) -> Result<(), AllocError> {
     out.open(keyword)?;
     match tag {
         None => Ok(()),
@@ -201,7 +201,7 @@ fn open_tagged(out: &mut Writer, keyword: &str, tag: &Option<Word>) -> Result<()
 fn put_specifier(out: &mut Writer, specifier: &Specifier) -> Result<(), AllocError> {
     out.place(specifier.place)?;
     match &specifier.node {
-        SpecifierNode::Word(of, _) => out.word(specifier_text(*of)),
+        SpecifierNode::Spelling(of, _) => out.word(specifier_text(*of)),
         SpecifierNode::Typename(name) => out.type_name(name.text.as_slice()),
         SpecifierNode::Struct(_, tag) => {
             out.open("struct")?;
@@ -233,7 +233,7 @@ fn put_specifier(out: &mut Writer, specifier: &Specifier) -> Result<(), AllocErr
 
 /// The lines of a struct, each with its specifiers and its declarators.
 #[cycle(expression_text)]
-fn put_lines(out: &mut Writer, lines: &[FieldLine]) -> Result<(), AllocError> {
+fn put_lines(out: &mut Writer, lines: &[MemberDeclaration]) -> Result<(), AllocError> {
     for line in lines {
         out.place(line.place)?;
         out.open("")?;

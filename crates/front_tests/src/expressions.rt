@@ -1,7 +1,7 @@
 //! Whole trees of expressions. What is wanted was written by hand from C99 6.5; `T` is a type.
 
-use crate::rows::{Frame, Row, first_otherwise, told_in};
-use crate::told::NO_TREE;
+use crate::rows::{Frame, Row, first_otherwise, written_in};
+use crate::written::NO_TREE;
 use std::test::Fail;
 
 /// A function that returns the expression.
@@ -224,7 +224,7 @@ static SIZES: &[Row] = &[
     ("sizeof 'a'", "(sizeof (character 97))"),
 ];
 
-/// The name of a type is a plain name behind `.`, `->`, `struct` and `enum`.
+/// The name of a type is a plain name after `.`, `->`, `struct` and `enum`.
 static TYPE_NAMES: &[Row] = &[
     ("s.T", "(. s T)"),
     ("p->T", "(-> p T)"),
@@ -309,7 +309,7 @@ static NO_EXPRESSIONS: &[&str] = &[
     "a?T:b",
     "sizeof T",
     "s.(T)",
-    // `sizeof` and a type name in parentheses have nothing more behind them.
+    // `sizeof` and a type name in parentheses have nothing more after them.
     "sizeof(T)x",
     "sizeof(T)(x)",
     "sizeof(T)[0]",
@@ -363,7 +363,7 @@ fn each_expression_has_its_tree(rt: HostRuntime) -> Result<(), Fail> {
 #[test]
 fn what_is_no_expression_has_no_tree(rt: HostRuntime) -> Result<(), Fail> {
     for expression in NO_EXPRESSIONS {
-        let found = told_in(rt.alloc(), &RETURNED, expression)?;
+        let found = written_in(rt.alloc(), &RETURNED, expression)?;
         assert_eq!(rt; found.as_str(), NO_TREE, "at {expression}");
     }
     Ok(())

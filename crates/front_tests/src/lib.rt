@@ -27,7 +27,7 @@ mod stops;
 #[cfg(test)]
 mod tokens;
 #[cfg(test)]
-mod told;
+mod written;
 #[cfg(test)]
 mod tree_text;
 #[cfg(test)]

@@ -10,7 +10,7 @@ pub fn prefix_text(op: StepOp) -> &'static str {
     }
 }
 
-/// `++` and `--` behind their operand.
+/// `++` and `--` after their operand.
 pub fn postfix_text(op: StepOp) -> &'static str {
     match op {
         StepOp::Increment => "post++",

@@ -2,7 +2,7 @@
 //! by hand.
 
 use crate::answer::{FILE, tree_of};
-use crate::told::told_with;
+use crate::written::written_with;
 use std::alloc::Global;
 use std::test::Fail;
 
@@ -34,7 +34,7 @@ static PLACES: &[(&str, &str)] = &[
 #[test]
 fn each_node_has_its_place(rt: HostRuntime) -> Result<(), Fail> {
     for (text, wanted) in PLACES {
-        let found = told_with(rt.alloc(), Some(FILE), text)?;
+        let found = written_with(rt.alloc(), Some(FILE), text)?;
         assert_eq!(rt; found.as_str(), *wanted, "at {text}");
     }
     Ok(())

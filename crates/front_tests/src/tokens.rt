@@ -1,7 +1,7 @@
 //! Whole texts with their tokens or their fault, and places with what is presumed of them. What is
 //! wanted was written by hand from C99: 6.4 for tokens, 6.10.4 for lines.
 
-use c_lexer::{LexFault, Mark, Presumed, Token, TokenKind, Tokens, lex, presumed_at};
+use c_lexer::{LexFault, Punctuator, Presumed, Token, TokenKind, Tokens, lex, presumed_at};
 use lay_base::Keyword;
 use std::alloc::{AllocError, Global};
 use std::test::Fail;
@@ -12,13 +12,13 @@ const LIMIT: usize = 4_194_304;
 /// Texts, and the kinds of their tokens, or their fault.
 static TEXTS: [(&str, &str); 118] = [
     // The longest front that is a token is the next one.
-    ("x+++y", "Name Mark(PlusPlus) Mark(Plus) Name"),
-    ("<<=", "Mark(ShiftLeftEqual)"),
-    ("<<<", "Mark(ShiftLeft) Mark(Less)"),
-    ("...", "Mark(Dots)"),
-    ("..", "Mark(Dot) Mark(Dot)"),
-    ("->", "Mark(Arrow)"),
-    ("-->", "Mark(MinusMinus) Mark(Greater)"),
+    ("x+++y", "Name Punctuator(PlusPlus) Punctuator(Plus) Name"),
+    ("<<=", "Punctuator(ShiftLeftEqual)"),
+    ("<<<", "Punctuator(ShiftLeft) Punctuator(Less)"),
+    ("...", "Punctuator(Dots)"),
+    ("..", "Punctuator(Dot) Punctuator(Dot)"),
+    ("->", "Punctuator(Arrow)"),
+    ("-->", "Punctuator(MinusMinus) Punctuator(Greater)"),
     ("int intern", "Keyword(Int) Name"),
     ("x1_", "Name"),
     ("_1x 1", "Name Number(1, Int)"),
@@ -104,7 +104,7 @@ static TEXTS: [(&str, &str); 118] = [
     ("a/* // */b", "Name Name"),
     ("a//b\nc", "Name Name"),
     ("a//b", "Name"),
-    ("a/b", "Name Mark(Slash) Name"),
+    ("a/b", "Name Punctuator(Slash) Name"),
     ("/*", "Unclosed(0)"),
     ("a /*/", "Unclosed(2)"),
     // What begins nothing.
@@ -180,53 +180,53 @@ static KEYWORDS: [(&str, Keyword); 37] = [
 ];
 
 /// The punctuators of 6.4.6, but `#`, `##` and the digraphs.
-static MARKS: [(&str, Mark); 46] = [
-    ("[", Mark::OpenSquare),
-    ("]", Mark::CloseSquare),
-    ("(", Mark::Open),
-    (")", Mark::Close),
-    ("{", Mark::OpenBrace),
-    ("}", Mark::CloseBrace),
-    (".", Mark::Dot),
-    ("->", Mark::Arrow),
-    ("++", Mark::PlusPlus),
-    ("--", Mark::MinusMinus),
-    ("&", Mark::And),
-    ("*", Mark::Star),
-    ("+", Mark::Plus),
-    ("-", Mark::Minus),
-    ("~", Mark::Tilde),
-    ("!", Mark::Not),
-    ("/", Mark::Slash),
-    ("%", Mark::Percent),
-    ("<<", Mark::ShiftLeft),
-    (">>", Mark::ShiftRight),
-    ("<", Mark::Less),
-    (">", Mark::Greater),
-    ("<=", Mark::LessEqual),
-    (">=", Mark::GreaterEqual),
-    ("==", Mark::EqualEqual),
-    ("!=", Mark::NotEqual),
-    ("^", Mark::Caret),
-    ("|", Mark::Bar),
-    ("&&", Mark::AndAnd),
-    ("||", Mark::BarBar),
-    ("?", Mark::Question),
-    (":", Mark::Colon),
-    (";", Mark::Semicolon),
-    ("...", Mark::Dots),
-    ("=", Mark::Equal),
-    ("*=", Mark::StarEqual),
-    ("/=", Mark::SlashEqual),
-    ("%=", Mark::PercentEqual),
-    ("+=", Mark::PlusEqual),
-    ("-=", Mark::MinusEqual),
-    ("<<=", Mark::ShiftLeftEqual),
-    (">>=", Mark::ShiftRightEqual),
-    ("&=", Mark::AndEqual),
-    ("^=", Mark::CaretEqual),
-    ("|=", Mark::BarEqual),
-    (",", Mark::Comma),
+static MARKS: [(&str, Punctuator); 46] = [
+    ("[", Punctuator::OpenSquare),
+    ("]", Punctuator::CloseSquare),
+    ("(", Punctuator::Open),
+    (")", Punctuator::Close),
+    ("{", Punctuator::OpenBrace),
+    ("}", Punctuator::CloseBrace),
+    (".", Punctuator::Dot),
+    ("->", Punctuator::Arrow),
+    ("++", Punctuator::PlusPlus),
+    ("--", Punctuator::MinusMinus),
+    ("&", Punctuator::And),
+    ("*", Punctuator::Star),
+    ("+", Punctuator::Plus),
+    ("-", Punctuator::Minus),
+    ("~", Punctuator::Tilde),
+    ("!", Punctuator::Not),
+    ("/", Punctuator::Slash),
+    ("%", Punctuator::Percent),
+    ("<<", Punctuator::ShiftLeft),
+    (">>", Punctuator::ShiftRight),
+    ("<", Punctuator::Less),
+    (">", Punctuator::Greater),
+    ("<=", Punctuator::LessEqual),
+    (">=", Punctuator::GreaterEqual),
+    ("==", Punctuator::EqualEqual),
+    ("!=", Punctuator::NotEqual),
+    ("^", Punctuator::Caret),
+    ("|", Punctuator::Bar),
+    ("&&", Punctuator::AndAnd),
+    ("||", Punctuator::BarBar),
+    ("?", Punctuator::Question),
+    (":", Punctuator::Colon),
+    (";", Punctuator::Semicolon),
+    ("...", Punctuator::Dots),
+    ("=", Punctuator::Equal),
+    ("*=", Punctuator::StarEqual),
+    ("/=", Punctuator::SlashEqual),
+    ("%=", Punctuator::PercentEqual),
+    ("+=", Punctuator::PlusEqual),
+    ("-=", Punctuator::MinusEqual),
+    ("<<=", Punctuator::ShiftLeftEqual),
+    (">>=", Punctuator::ShiftRightEqual),
+    ("&=", Punctuator::AndEqual),
+    ("^=", Punctuator::CaretEqual),
+    ("|=", Punctuator::BarEqual),
+    (",", Punctuator::Comma),
 ];
 
 /// Texts, a byte of each, and what is presumed of it: the range of a name, and a line.
@@ -357,25 +357,25 @@ fn tokens_in(alloc: Global, text: &[u8]) -> Result<Vec<Token>, LexFault> {
     Ok(list.into_vec())
 }
 
-/// The kinds of tokens, one behind the other.
-fn put_kinds(told: &mut String, tokens: &[Token]) -> Result<(), AllocError> {
+/// The kinds of tokens, one after the other.
+fn put_kinds(written: &mut String, tokens: &[Token]) -> Result<(), AllocError> {
     for token in tokens {
-        if !told.is_empty() {
-            told.push(' ')?;
+        if !written.is_empty() {
+            written.push(' ')?;
         }
-        write!(told, "{:?}", token.kind)?;
+        write!(written, "{:?}", token.kind)?;
     }
     Ok(())
 }
 
 /// The kinds of the tokens of a text, or its fault.
-fn told(alloc: Global, text: &[u8]) -> Result<String, AllocError> {
-    let mut told = String::new(alloc);
+fn written(alloc: Global, text: &[u8]) -> Result<String, AllocError> {
+    let mut written = String::new(alloc);
     match tokens_in(alloc, text) {
-        Ok(tokens) => put_kinds(&mut told, &tokens)?,
-        Err(fault) => write!(told, "{fault:?}")?,
+        Ok(tokens) => put_kinds(&mut written, &tokens)?,
+        Err(fault) => write!(written, "{fault:?}")?,
     }
-    Ok(told)
+    Ok(written)
 }
 
 /// The kind of the one token of a text.
@@ -404,7 +404,7 @@ fn presumed(alloc: Global, text: &[u8], at: u32) -> Option<Presumed> {
 fn a_text_has_its_tokens_or_its_first_fault(rt: HostRuntime) -> Result<(), Fail> {
     for (text, wanted) in &TEXTS {
         assert_eq!(rt;
-            told(rt.alloc(), text.as_bytes())?.as_str(),
+            written(rt.alloc(), text.as_bytes())?.as_str(),
             *wanted,
             "at {text}"
         );
@@ -414,8 +414,8 @@ fn a_text_has_its_tokens_or_its_first_fault(rt: HostRuntime) -> Result<(), Fail>
 
 #[test]
 fn a_name_has_at_most_255_letters(rt: HostRuntime) -> Result<(), Fail> {
-    assert_eq!(rt; told(rt.alloc(), &LETTERS[1..])?.as_str(), "Name");
-    assert_eq!(rt; told(rt.alloc(), &LETTERS)?.as_str(), "TooWide(0)");
+    assert_eq!(rt; written(rt.alloc(), &LETTERS[1..])?.as_str(), "Name");
+    assert_eq!(rt; written(rt.alloc(), &LETTERS)?.as_str(), "TooWide(0)");
     Ok(())
 }
 
@@ -428,10 +428,10 @@ fn each_keyword_is_that_keyword(rt: HostRuntime) {
 }
 
 #[test]
-fn each_mark_is_that_mark(rt: HostRuntime) {
-    for (text, mark) in &MARKS {
+fn each_punctuator_is_that_punctuator(rt: HostRuntime) {
+    for (text, punctuator) in &MARKS {
         let kind = kind_of(rt.alloc(), text.as_bytes());
-        assert_eq!(rt; kind, Some(TokenKind::Mark(*mark)), "at {text}");
+        assert_eq!(rt; kind, Some(TokenKind::Punctuator(*punctuator)), "at {text}");
     }
 }
 

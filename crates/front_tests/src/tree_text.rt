@@ -1,11 +1,11 @@
-//! Trees as text: the parts of a node behind the word or the mark for its alternative, in parentheses.
+//! Trees as text: the parts of a node after the word or the punctuator for its alternative, in parentheses.
 
 use crate::expression_text::{
     put_declarator, put_expression, put_optional_expression, put_specifiers,
 };
 use crate::writer::Writer;
 use c_ast::{
-    Arm, BlockItem, Declaration, ForStart, Function, InitDeclarator, Item, Label, Statement,
+    SwitchItem, BlockItem, Declaration, ForStart, Function, InitDeclarator, Item, Label, Statement,
     StatementNode, Tree,
 };
 use std::alloc::AllocError;
@@ -120,11 +120,11 @@ fn put_entries(out: &mut Writer, entries: &[BlockItem]) -> Result<(), AllocError
 
 /// Declarations, and statements with their labels.
 #[cycle(statement_text)]
-fn put_arms(out: &mut Writer, arms: &[Arm]) -> Result<(), AllocError> {
+fn put_arms(out: &mut Writer, arms: &[SwitchItem]) -> Result<(), AllocError> {
     for arm in arms {
         match arm {
-            Arm::Local(declaration) => put_declaration(out, declaration)?,
-            Arm::Labelled(labels, statement) => {
+            SwitchItem::Local(declaration) => put_declaration(out, declaration)?,
+            SwitchItem::Labelled(labels, statement) => {
                 out.open("arm")?;
                 for label in labels.as_slice() {
                     put_label(out, label)?;

@@ -3,7 +3,7 @@
 use lay_base::Place;
 use std::alloc::{AllocError, Global};
 
-/// A text of words and parentheses. Where `places` has a file's number, each node stands behind its
+/// A text of words and parentheses. Where `places` has a file's number, each node stands after its
 /// byte in that file and a colon.
 #[derive(Drop)]
 pub struct Writer {
@@ -24,7 +24,7 @@ impl Writer {
         self.text.as_slice()
     }
 
-    /// A space, but at the start and behind an opening parenthesis or a place.
+    /// A space, but at the start and after an opening parenthesis or a place.
     fn gap(&mut self) -> Result<(), AllocError> {
         match self.text.last() {
             None | Some(b'(' | b':') => Ok(()),
@@ -64,7 +64,7 @@ impl Writer {
         self.text.extend_from_slice(b">")
     }
 
-    /// `(`, and the first word behind it.
+    /// `(`, and the first word after it.
     pub fn open(&mut self, head: &str) -> Result<(), AllocError> {
         self.word("(")?;
         self.text.extend_from_slice(head.as_bytes())

@@ -46,14 +46,14 @@ or_none : {X : Type 0} (o : Option X) → option_or o None ≡ o
 or_none None = refl
 or_none (Some x) = refl
 
--- a file behind others with other names
-behind : (b : Bool) (files : List File) (file : File) (other : List ℕ) → find (named file.name) files ≡ None → named other file ≡ b → contents_of (files ++ file ∷ []) other ≡ cond b (Some file.bytes) (contents_of files other)
-behind true files file other none is =
+-- a file after others with other names
+after : (b : Bool) (files : List File) (file : File) (other : List ℕ) → find (named file.name) files ≡ None → named other file ≡ b → contents_of (files ++ file ∷ []) other ≡ cond b (Some file.bytes) (contents_of files other)
+after true files file other none is =
     let n : file.name ≡ other = (bytes_eq-Decides _ _).0 is in
     let was : find (named other) files ≡ None = rw (← n) none in
     let found : option_or (find (named other) files) (find (named other) (file ∷ [])) ≡ Some file = rw (was, is) refl in
     ap (option_map (λ f. f.bytes)) (find-append (named other) files (file ∷ []) ∙ found)
-behind false files file other none is =
+after false files file other none is =
     let same : option_or (find (named other) files) (find (named other) (file ∷ [])) ≡ find (named other) files = rw is (or_none (find (named other) files)) in
     ap (option_map (λ f. f.bytes)) (find-append (named other) files (file ∷ []) ∙ same)
 
@@ -63,7 +63,7 @@ no_file files name e =
     let past : length files ≤ position_or_len (named name) files = grind (arith, nat_tests) in
     find_at (named name) files ∙ slice_get_past files _ past
 
--- a new file behind the others
+-- a new file after the others
 pub contents_of-push : (files : List File) (name bytes other : List ℕ) → position (named name) files ≡ None → contents_of (files ++ record { name = name; bytes = bytes } ∷ []) other ≡ cond (bytes_eq name other) (Some bytes) (contents_of files other)
 contents_of-push files name bytes other e =
-    behind (bytes_eq name other) files (record { name = name; bytes = bytes }) other (no_file files name e) refl
+    after (bytes_eq name other) files (record { name = name; bytes = bytes }) other (no_file files name e) refl

@@ -2,7 +2,7 @@
 use Rattle.std.specs.Prelude.{◌≡◌, ℕ, ◌<◌, ◌≤◌, ◌⊎◌, List, [], ◌∷◌, length, take, Option, Some, None, Result, Ok, Err, ⊤}
 use Rattle.std.specs.Global.{Vec}
 use Rattle.std.specs.Io.KnownBytes.{IsAtEnd}
-use Rattle.lay_base.specs.Told.{Rose, Contents, Tells, Keeps, Appends, Consumes}
+use Rattle.lay_base.specs.Known.{Rose, Contents, Tells, Keeps, Appends, Consumes}
 use Rattle.lay_base.specs.declared.outside.SourceFault.{SourceFault}
 use Rattle.lay_base.specs.declared.outside.SinkFault.{SinkFault}
 use Rattle.lay_base.specs.declared.outside.HostRead.{HostRead}

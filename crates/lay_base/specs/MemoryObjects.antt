@@ -3,7 +3,7 @@ use Rattle.std.specs.Prelude.{ℕ, ◌==◌, ◌/◌, ◌-◌, ◌||◌, min, Bo
 use Rattle.std.specs.List.{find, list_any}
 use Rattle.std.specs.Option.{is_none}
 use Rattle.std.specs.Str.{bytes_eq}
-use Rattle.lay_base.specs.Told.{raised, Contents}
+use Rattle.lay_base.specs.Known.{raised, Contents}
 use Rattle.lay_base.specs.declared.memory_objects.plan.Plan.{Plan}
 use Rattle.lay_base.specs.declared.place.File.{File}
 

@@ -6,6 +6,7 @@
 #![tactic(auto)]
 
 mod boxed;
+mod building;
 mod bytes;
 mod faults;
 mod list;
@@ -16,6 +17,7 @@ mod outside;
 mod place;
 
 pub use boxed::Boxed;
+pub use building::{add, boxed};
 pub use bytes::{Bytes, Name};
 pub use faults::{
     ElfField, Keyword, LimitKind, RoomKind, Rule, Stale, StaleKind, TrapKind, UndefinedKind,

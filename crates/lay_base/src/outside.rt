@@ -5,7 +5,7 @@
 
 ghost use Rattle.std.specs.Prelude.{◌≡◌, ◌≤◌, ℕ, List, Option, IsOk};
 ghost use Rattle.lay_base.specs.Calls.{NextGives, PutGives, ReadGives, WriteGives};
-ghost use Rattle.lay_base.specs.Told.{Contents, FilesKeep, FilesKeepBut, Raises};
+ghost use Rattle.lay_base.specs.Known.{Contents, FilesKeep, FilesKeepBut, Raises};
 
 /// A source failed to give a byte.
 #[derive(Clone, Copy, Debug, PartialEq, Eq)]
@@ -40,7 +40,7 @@ pub trait Source {
     // How many calls have failed.
     ghost faults: { Self → ℕ };
 
-    // The bytes that are left, where they are told.
+    // The bytes that are left, where they are known.
     ghost left: { Self → Option (List ℕ) };
 
     /// The next byte, or `None` at the end.
@@ -55,7 +55,7 @@ pub trait Sink {
     // How many calls have failed.
     ghost faults: { Self → ℕ };
 
-    // The bytes that were written, where they are told.
+    // The bytes that were written, where they are known.
     ghost written: { Self → Option (List ℕ) };
 
     /// Writes a piece at the end. A call that fails may have written a first part of it.
@@ -73,7 +73,7 @@ pub trait Host {
     // How many writes of each name have failed.
     ghost failed_writes: { Self → List ℕ → ℕ };
 
-    // The files, where they are told.
+    // The files, where they are known.
     ghost files: { Self → Option Contents };
 
     /// The bytes of a file, at most `limit` of them.

@@ -4,7 +4,7 @@ use Rattle.std.specs.Prelude.{◌≢◌, ◌⊎◌}
 use Rattle.std.proofs.Common.{inl, inr}
 use Rattle.std.specs.Str.{bytes_eq}
 use Rattle.std.proofs.lemmas.Slice.Eq.{bytes_eq-Decides}
-use Rattle.lay_base.specs.Told.{Contents, Tells, FilesKeep, FilesKeepBut}
+use Rattle.lay_base.specs.Known.{Contents, Tells, FilesKeep, FilesKeepBut}
 
 -- two names are one name or two
 same_name : (a b : List ℕ) → (a ≡ b) ⊎ (a ≢ b)

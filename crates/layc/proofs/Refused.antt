@@ -1,11 +1,11 @@
 -- What a refusal leaves: of `compile` where the ELF file was not written, and of either command.
 use Rattle.std.proofs.Common.{◌≡◌, ℕ, List, Option, Some, None, refl, ◌∙◌, inl, inr}
 use Rattle.std.specs.Prelude.{take, ◌⊎◌, Err}
-use Rattle.lay_base.specs.Told.{Contents, Tells, FilesKeep, FilesKeepBut}
+use Rattle.lay_base.specs.Known.{Contents, Tells, FilesKeep, FilesKeepBut}
 use Rattle.refusals.specs.declared.refusal.Refusal.{Refusal}
 use Rattle.refusals.specs.declared.refusal.Refusal.TheVariants as R
-use Rattle.c_parser.specs.ThinTree.{Program}
-use Rattle.c_parser.specs.ThinText.{IsThinText}
+use Rattle.thin_parser.specs.ThinTree.{Program}
+use Rattle.thin_parser.specs.ThinText.{IsThinText}
 use Rattle.layc.specs.declared.outcome.Outcome.TheVariants.{Refused}
 use Rattle.layc.specs.Words.{Compile, Run, AsksFor}
 use Rattle.layc.specs.Outside.{Stream, Outside, outside}
@@ -24,11 +24,11 @@ partly out file text elf p (Some f0) (Some f1) None k was thin agrees left = (te
 partly out file text elf p (Some f0) (Some f1) (Some f2) k was thin agrees left =
     (text, was, (p, thin, elim left [ inl same ↦ inl (same ∙ k out) | inr some ↦ inr (elf, agrees, some) ]))
 
-pub write_elf_refused : (out file text elf : List ℕ) (p : Program) (f0 f1 f2 : Option Contents) (reads0 reads2 writes0 writes1 writes2 : List ℕ → ℕ) (input out_seen : Stream) (refusal : Refusal)
+pub write_elf_refused : (out file text elf : List ℕ) (p : Program) (f0 f1 f2 : Option Contents) (reads0 reads2 writes0 writes1 writes2 : List ℕ → ℕ) (input out_observed : Stream) (refusal : Refusal)
     → FilesKeep f0 f1 → Tells f0 file (λ was. was ≡ Some text) → IsThinText text p → AgreesWith p elf → writes1 out ≡ writes0 out → FilesKeepBut out f1 f2
     → ElfGives (writes1 out) (writes2 out) f1 f2 out elf (Err refusal)
-    → CompileGives out file (outside f0 reads0 writes0 input out_seen) (outside f2 reads2 writes2 input out_seen) (Err refusal)
-write_elf_refused out file text elf p f0 f1 f2 reads0 reads2 writes0 writes1 writes2 input out_seen R.WriteFault k was thin agrees same but gives =
+    → CompileGives out file (outside f0 reads0 writes0 input out_observed) (outside f2 reads2 writes2 input out_observed) (Err refusal)
+write_elf_refused out file text elf p f0 f1 f2 reads0 reads2 writes0 writes1 writes2 input out_observed R.WriteFault k was thin agrees same but gives =
     inl (record {
       cause = rw (← same) gives.0;
       partly = partly out file text elf p f0 f1 f2 k was thin agrees gives.1;
@@ -36,9 +36,9 @@ write_elf_refused out file text elf p f0 f1 f2 reads0 reads2 writes0 writes1 wri
       unreported = refl;
       unread = refl;
     })
-write_elf_refused out file text elf p f0 f1 f2 reads0 reads2 writes0 writes1 writes2 input out_seen R.Memory k was thin agrees same but gives =
+write_elf_refused out file text elf p f0 f1 f2 reads0 reads2 writes0 writes1 writes2 input out_observed R.Memory k was thin agrees same but gives =
     record { files = keep_then_same out f0 f1 f2 k but gives; input = refl; out = refl }
-write_elf_refused out file text elf p f0 f1 f2 reads0 reads2 writes0 writes1 writes2 input out_seen _ k was thin agrees same but gives = absurd gives
+write_elf_refused out file text elf p f0 f1 f2 reads0 reads2 writes0 writes1 writes2 input out_observed _ k was thin agrees same but gives = absurd gives
 
 -- ---- either command
 

@@ -1,6 +1,6 @@
 -- When each outcome comes, and what it leaves.
 use Rattle.std.specs.Prelude.{◌≡◌, ℕ, List, [], take, Result, Ok, Err, ◌⊎◌, ⊤}
-use Rattle.lay_base.specs.Told.{Rose, Appends}
+use Rattle.lay_base.specs.Known.{Rose, Appends}
 use Rattle.refusals.specs.Table.{refusal_text}
 use Rattle.refusals.specs.declared.refusal.Refusal.{Refusal}
 use Rattle.refusals.specs.declared.refusal.Refusal.TheVariants as R
@@ -28,14 +28,14 @@ OutcomeGives words before now (Refused refusal) =
     ⊎ AsksToRun words (λ steps elf. RunGives steps elf before now (Err refusal))
 
 -- the text of a refusal went to err: all of it, or a first part where err failed
-abbrev pub IsTold : (before now : Stream) → Refusal → Type 0
-IsTold before now refusal =
+abbrev pub IsKnown : (before now : Stream) → Refusal → Type 0
+IsKnown before now refusal =
     Appends before.bytes now.bytes (refusal_text [] [] refusal)
     ⊎ (Rose before.faults now.faults × ((k : ℕ) × Appends before.bytes now.bytes (take k (refusal_text [] [] refusal))))
 
 -- what a command leaves of err, by its outcome
 abbrev pub ErrGives : (before now : Stream) → Outcome → Type 0
-ErrGives before now (Refused refusal) = IsTold before now refusal
+ErrGives before now (Refused refusal) = IsKnown before now refusal
 ErrGives before now _ = now ≡ before
 
 -- the outcomes of a program that ran on the machine

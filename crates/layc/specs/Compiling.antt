@@ -1,8 +1,8 @@
--- What `compile` leaves behind.
+-- What `compile` leaves after.
 use Rattle.std.specs.Prelude.{◌≡◌, ℕ, List, [], ◌∷◌, ◌++◌, take, codes, Option, Some, ◌⊎◌}
-use Rattle.lay_base.specs.Told.{Contents, Rose, Tells, Appends, FilesKeepBut}
-use Rattle.c_parser.specs.ThinTree.{Program}
-use Rattle.c_parser.specs.ThinText.{IsThinText}
+use Rattle.lay_base.specs.Known.{Contents, Rose, Tells, Appends, FilesKeepBut}
+use Rattle.thin_parser.specs.ThinTree.{Program}
+use Rattle.thin_parser.specs.ThinText.{IsThinText}
 use Rattle.thin_code.specs.Meaning.{thin_run, IsLight}
 use Rattle.agreement.specs.Agreement.{Agrees}
 use Rattle.layc.specs.Outside.{Outside}
@@ -22,7 +22,7 @@ report = codes "layc report 1" ++ 10 ∷ []
 abbrev pub AgreesWith : Program → (elf : List ℕ) → Type 0
 AgreesWith p elf = Agrees (thin_run p) IsLight elf heap_mib stack_mib
 
--- where the files are told: the file was the text of a program with that fact
+-- where the files are known: the file was the text of a program with that fact
 abbrev pub WasTextOf : Option Contents → (file : List ℕ) → (Program → Type 0) → Type 0
 WasTextOf files file P = Tells files file (λ was. (text : List ℕ) × (was ≡ Some text) × ((p : Program) × IsThinText text p × P p))
 

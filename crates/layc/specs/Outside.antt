@@ -1,6 +1,6 @@
 -- What is seen of the objects that a command is given: what they tell, and how often they failed.
 use Rattle.std.specs.Prelude.{◌≡◌, ℕ, List, Option}
-use Rattle.lay_base.specs.Told.{Contents, FilesKeep}
+use Rattle.lay_base.specs.Known.{Contents, FilesKeep}
 
 -- the bytes that are left of a stream, or that were written to it, and how often it failed
 pub record Stream : Type 0 where

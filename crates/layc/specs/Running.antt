@@ -1,6 +1,6 @@
--- What `run` leaves behind.
+-- What `run` leaves after.
 use Rattle.std.specs.Prelude.{◌≡◌, ℕ, ◌+◌, ◌<◌, ◌≤◌, List, ◌++◌, length, take, drop, Option, Some, Ok}
-use Rattle.lay_base.specs.Told.{Contents, Tells, Appends, FilesKeep}
+use Rattle.lay_base.specs.Known.{Contents, Tells, Appends, FilesKeep}
 use Rattle.rv_isa.specs.declared.image.Image.{Image}
 use Rattle.rv_isa.specs.Memory.{bytes_at}
 use Rattle.rv_isa.specs.Step.{State, Standing, Running, register}
@@ -13,7 +13,7 @@ use Rattle.layc.specs.Outside.{Outside}
 abbrev pub elf_limit : ℕ
 elf_limit = 201326592
 
--- where the files are told: ELF has bytes within the limit, and this holds of them
+-- where the files are known: ELF has bytes within the limit, and this holds of them
 abbrev pub HoldsElf : Option Contents → (elf : List ℕ) → (List ℕ → Type 0) → Type 0
 HoldsElf files elf P = Tells files elf (λ file. (bytes : List ℕ) × (file ≡ Some bytes) × (length bytes ≤ elf_limit) × P bytes)
 
@@ -21,7 +21,7 @@ HoldsElf files elf P = Tells files elf (λ file. (bytes : List ℕ) × (file ≡
 abbrev pub HoldsLonger : (elf : List ℕ) → (before now : Outside) → Type 0
 HoldsLonger elf before now = Tells before.files elf (λ file. (now.failed_reads elf ≡ before.failed_reads elf) × ((bytes : List ℕ) × (file ≡ Some bytes) × (elf_limit < length bytes)))
 
--- The bytes of ELF load as an image. Where the input is told too, this holds of the image with that input. No
+-- The bytes of ELF load as an image. Where the input is known too, this holds of the image with that input. No
 -- file changed.
 pub record Ran (elf : List ℕ) (before now : Outside) (P : Image → (input : List ℕ) → Type 0) : Type 0 where
   pub program : HoldsElf before.files elf (λ bytes. (image : Image) × (loaded bytes ≡ Ok image) × ((input : List ℕ) → before.input.bytes ≡ Some input → P image input))

@@ -1,12 +1,12 @@
 -- What each stage of `compile` and of `run` gives, by its answer. Want of memory says nothing.
 use Rattle.std.specs.Prelude.{◌≡◌, ℕ, ◌<◌, ◌≤◌, List, length, take, Option, Some, Result, Ok, Err, ◌⊎◌}
 use Rattle.std.specs.Global.{Vec}
-use Rattle.lay_base.specs.Told.{Contents, Rose, Tells, Appends}
+use Rattle.lay_base.specs.Known.{Contents, Rose, Tells, Appends}
 use Rattle.refusals.specs.declared.refusal.Refusal.{Refusal}
 use Rattle.refusals.specs.declared.refusal.Refusal.TheVariants as R
-use Rattle.c_parser.specs.declared.thin_tree.Thin.{Thin}
-use Rattle.c_parser.specs.ThinTree.{Program, program_of}
-use Rattle.c_parser.specs.ThinText.{IsThinText}
+use Rattle.thin_parser.specs.declared.thin_tree.Thin.{Thin}
+use Rattle.thin_parser.specs.ThinTree.{Program, program_of}
+use Rattle.thin_parser.specs.ThinText.{IsThinText}
 use Rattle.rv_isa.specs.declared.image.Image.{Image}
 use Rattle.rv_isa.specs.Step.{Exits, Trap, Break}
 use Rattle.elf32.specs.Loaded.{loaded}

@@ -5,7 +5,7 @@
 
 ghost use Rattle.std.specs.Prelude.{◌≡◌, ◌≤◌, ℕ, List, None, is_ok, if◌then◌else◌};
 ghost use Rattle.lay_base.specs.Calls.{ReadGives, WriteGives};
-ghost use Rattle.lay_base.specs.Told.{Raises, raised};
+ghost use Rattle.lay_base.specs.Known.{Raises, raised};
 
 use lay_base::{Host, HostRead, HostWrite, Sink, SinkFault, Source, SourceFault};
 use std::fs::Files;

@@ -1,15 +1,15 @@
 //! `compile`: from the text of a program to an ELF file and a report.
 
 ghost use Rattle.std.specs.Prelude.{◌≡◌, ◌≤◌, ℕ, List, IfOk, OnOk, All, length};
-ghost use Rattle.lay_base.specs.Told.{FilesKeep, FilesKeepBut};
-ghost use Rattle.c_parser.specs.ThinTree.{program_of};
-ghost use Rattle.c_parser.specs.ThinText.{marks, whole_sums, spelled_program};
+ghost use Rattle.lay_base.specs.Known.{FilesKeep, FilesKeepBut};
+ghost use Rattle.thin_parser.specs.ThinTree.{program_of};
+ghost use Rattle.thin_parser.specs.ThinText.{punctuators, whole_sums, spelled_program};
 ghost use Rattle.layc.specs.Outside.{Stream, outside, stream};
 ghost use Rattle.layc.specs.Compiling.{AgreesWith};
 ghost use Rattle.layc.specs.Stages.{TextGives, ProgramGives, ElfGives, ReportGives, CompileGives};
 
 use crate::words::CompileRequest;
-use c_parser::{Thin, thin};
+use thin_parser::{Thin, thin};
 use lay_base::{Host, HostRead, HostWrite, Name, NoMemory, Sink};
 use refusals::Refusal;
 use std::alloc::Global;
@@ -50,7 +50,7 @@ fn program_in(alloc: Global, file: &str, text: &[u8]) -> Result<Thin, Refusal>
 
 /// The ELF file of a program.
 fn elf_of(alloc: Global, program: &Thin) -> Result<Vec<u8>, NoMemory>
-    requires small { All (λ t. marks t ≤ 300) (whole_sums (program_of program.now)) }
+    requires small { All (λ t. punctuators t ≤ 300) (whole_sums (program_of program.now)) }
     requires few { length (spelled_program (program_of program.now)) ≤ 10000 }
     ensures { IfOk result (λ elf. AgreesWith (program_of program.now) elf.items) }
 {

@@ -21,7 +21,7 @@ use std::env;
 use std::process::ExitCode;
 use top::layc;
 
-/// The words behind the program's own name. Where the system does not give them as text, there
+/// The words after the program's own name. Where the system does not give them as text, there
 /// are none, which asks for nothing.
 fn words_of(rt: &HostRuntime) -> Vec<String> {
     let mut words = Vec::new(rt.alloc());

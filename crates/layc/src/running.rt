@@ -1,7 +1,7 @@
 //! `run`: an ELF file on the machine.
 
 ghost use Rattle.std.specs.Prelude.{◌≡◌, ◌⊎◌, IfOk};
-ghost use Rattle.lay_base.specs.Told.{FilesKeep};
+ghost use Rattle.lay_base.specs.Known.{FilesKeep};
 ghost use Rattle.rv_isa.specs.Placed.{IsPlaced};
 ghost use Rattle.rv_machine.specs.Runs.{IsFresh};
 ghost use Rattle.layc.specs.Outside.{outside, stream};
@@ -32,7 +32,7 @@ fn bytes_of<H: Host>(alloc: Global, host: &mut H, elf: &str) -> Result<Vec<u8>, 
     }
 }
 
-/// The image that the bytes load as. It takes the bytes, so that their memory is free behind it.
+/// The image that the bytes load as. It takes the bytes, so that their memory is free after it.
 fn image_in(alloc: Global, bytes: Vec<u8>) -> Result<Image, Refusal>
     ensures placed { IfOk result IsPlaced }
     ensures gives { ImageGives bytes.items result }
@@ -44,7 +44,7 @@ fn image_in(alloc: Global, bytes: Vec<u8>) -> Result<Image, Refusal>
     }
 }
 
-/// A machine that holds the image. It takes the image, so that its memory is free behind it.
+/// A machine that holds the image. It takes the image, so that its memory is free after it.
 fn machine_of(alloc: Global, image: Image) -> Result<Machine, NoMemory>
     requires { IsPlaced image }
     ensures { IfOk result (IsFresh image) }

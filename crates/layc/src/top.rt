@@ -40,7 +40,7 @@ fn outcome_of<H: Host, I: Source, O: Sink>(
     }
 }
 
-/// Runs the command that the words behind the program's own name ask for. A refusal writes its
+/// Runs the command that the words after the program's own name ask for. A refusal writes its
 /// text to `err`; a fault of `err` does not change the outcome.
 pub fn layc<H: Host, I: Source, O: Sink, E: Sink>(
     alloc: Global,

@@ -61,7 +61,7 @@ static PROGRAMS: [Run; 3] = [
         registers: &[(6, 4294967295), (28, 0), (10, 0)],
         ..SILENT
     },
-    // A word spans two segments, and the byte behind them traps.
+    // A word spans two segments, and the byte after them traps.
     Run {
         words: &[
             0x0800_0537, // lui x10, 0x8000
@@ -92,7 +92,7 @@ static PROGRAMS: [Run; 3] = [
         ],
         ..SILENT
     },
-    // Twice a store changes the instruction behind it, first to an addition of 1 and then to one of 16.
+    // Twice a store changes the instruction after it, first to an addition of 1 and then to one of 16.
     Run {
         flags: 7,
         words: &[
@@ -341,7 +341,7 @@ fn code_and_data(alloc: Global, run: &Run) -> Result<Image, AllocError>
     })
 }
 
-/// Code behind data of 4 bytes, of which 3 are given.
+/// Code after data of 4 bytes, of which 3 are given.
 fn data_and_code(alloc: Global, run: &Run) -> Result<Image, AllocError>
     ensures { IfOk result (λ image. IsPlaced image) }
 {
@@ -356,7 +356,7 @@ fn data_and_code(alloc: Global, run: &Run) -> Result<Image, AllocError>
 }
 
 /// The name of an end, with the number that it has.
-fn told(end: MachineEnd) -> (&'static str, u64) {
+fn known(end: MachineEnd) -> (&'static str, u64) {
     match end {
         MachineEnd::Exits(status) => ("exit", status as u64),
         MachineEnd::Trap(TrapKind::Unmapped, pc) => ("unmapped", pc as u64),
@@ -389,7 +389,7 @@ fn has_registers(machine: &Machine, registers: &[(u8, u32)]) -> bool {
 
 /// What a machine that has run shows otherwise than it should.
 fn difference(end: MachineEnd, machine: &Machine, sink: &MemSink, run: &Run) -> &'static str {
-    if told(end) != run.end {
+    if known(end) != run.end {
         "the end"
     } else if machine.steps() != run.steps {
         "the steps"
@@ -451,8 +451,8 @@ fn difference_of(alloc: Global, run: &Run) -> Result<&'static str, Fail> {
     difference_in(alloc, &code_and_data(alloc, run)?, run)
 }
 
-/// The same of a program behind the four bytes.
-fn difference_behind(alloc: Global, run: &Run) -> Result<&'static str, Fail> {
+/// The same of a program after the four bytes.
+fn difference_after(alloc: Global, run: &Run) -> Result<&'static str, Fail> {
     difference_in(alloc, &data_and_code(alloc, run)?, run)
 }
 
@@ -487,7 +487,7 @@ fn a_stream_that_fails_ends_the_run_at_its_call(rt: HostRuntime) -> Result<(), F
 #[test]
 fn bytes_and_zeros_stand_at_their_addresses(rt: HostRuntime) -> Result<(), Fail> {
     for (i, run) in BYTES.iter().enumerate() {
-        assert_eq!(rt; difference_behind(rt.alloc(), run)?, "", "in run {i}");
+        assert_eq!(rt; difference_after(rt.alloc(), run)?, "", "in run {i}");
     }
     Ok(())
 }

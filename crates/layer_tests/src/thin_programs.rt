@@ -1,6 +1,6 @@
 //! The code of a small program, from its text.
 
-use c_parser::thin;
+use thin_parser::thin;
 use lay_base::NoMemory;
 use rv_isa::Image;
 use std::alloc::Global;
@@ -42,7 +42,7 @@ fn image_of(alloc: Global, text: &[u8]) -> Result<Option<Image>, NoMemory> {
     }
 }
 
-/// Whether the bytes are a jump over 0x1000 bytes and, behind these, the program's words.
+/// Whether the bytes are a jump over 0x1000 bytes and, after these, the program's words.
 fn is_text(bytes: &[u8]) -> bool {
     let words = bytes.chunks_exact(4).skip(1024);
     bytes.starts_with(&[0x6F, 0x10, 0, 0])

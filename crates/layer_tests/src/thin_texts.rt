@@ -1,6 +1,6 @@
 //! Texts that are thin programs, with what they are read as, and texts that are none.
 
-use c_parser::{Sum, Thin, thin};
+use thin_parser::{Sum, Thin, thin};
 use lay_base::NoMemory;
 use std::alloc::{AllocError, Global};
 use std::test::Fail;
@@ -101,7 +101,7 @@ fn operators_group_as_in_c(rt: HostRuntime) -> Result<(), Fail> {
     Ok(())
 }
 
-/// Numbers, words and marks that are no tokens, and sums that are none.
+/// Numbers, words and punctuators that are no tokens, and sums that are none.
 static NOT_THIN: [&[u8]; 17] = [
     b"int main(void){return 08;}",
     b"int main(void){return 2147483648;}",

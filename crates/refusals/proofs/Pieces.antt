@@ -4,14 +4,14 @@ use Rattle.std.proofs.Math.Seq.{take-append-add}
 use Rattle.std.proofs.lemmas.List.{take-append-le, take_min}
 use Rattle.std.specs.List.{concat}
 use Rattle.lay_base.specs.declared.outside.SinkFault.{SinkFault}
-use Rattle.lay_base.specs.Told.{Rose, Appends}
+use Rattle.lay_base.specs.Known.{Rose, Appends}
 use Rattle.lay_base.specs.Calls.{PutGives}
 use Rattle.refusals.specs.Puts.{Puts}
 use Rattle.refusals.specs.Table.{line, line_at}
 
 -- ---- two puts in a row
 
--- told bytes with one piece behind them and then another
+-- known bytes with one piece after them and then another
 joined : (p q : List ℕ) (old : Option (List ℕ)) → option_map (λ bytes. bytes ++ q) (option_map (λ bytes. bytes ++ p) old) ≡ option_map (λ bytes. bytes ++ (p ++ q)) old
 joined p q None = refl
 joined p q (Some bytes) = ap Some (append_assoc bytes p q)
@@ -25,7 +25,7 @@ appends_none : (old : Option (List ℕ)) → Appends old old []
 appends_none None = refl
 appends_none (Some bytes) = ap Some (sym (append-nil bytes))
 
--- a first part of a piece is one of the piece with more behind it
+-- a first part of a piece is one of the piece with more after it
 prefix : (k : ℕ) (p q : List ℕ) → take (min k (length p)) (p ++ q) ≡ take k p
 prefix k p q = let within : min k (length p) ≤ length p = omega arith in rw take-append-le (take_min k p)
 
@@ -76,7 +76,7 @@ all_of-take-suc (x ∷ xs) zero h = append-nil x.now
 all_of-take-suc (x ∷ xs) (suc i) h =
     ap (λ bytes. x.now ++ bytes) (all_of-take-suc xs i (omega arith)) ∙ sym (append_assoc x.now (all_of (take i xs)) (get_or xs i no_piece).now)
 
--- the bytes of a piece stand between those before it and those behind it
+-- the bytes of a piece stand between those before it and those after it
 pub all_of-split : (pieces : List (Bor (List ℕ))) (i : ℕ) → i < length pieces → all_of pieces ≡ all_of (take i pieces) ++ ((get_or pieces i no_piece).now ++ all_of (drop (suc i) pieces))
 all_of-split [] i h = absurd (omega arith)
 all_of-split (x ∷ xs) zero h = refl
@@ -88,7 +88,7 @@ pub line-pieces : (pieces : List (List ℕ)) → line pieces ≡ codes "layc: " 
 unfolding line
 line-pieces pieces = refl
 
--- so is a line behind a place
+-- so is a line after a place
 pub line_at-pieces : (at : List ℕ) (pieces : List (List ℕ)) → line_at at pieces ≡ (codes "layc: " ++ (at ++ (codes ": " ++ []))) ++ (concat pieces ++ codes "\n")
 unfolding line line_at
 line_at-pieces at pieces = simp append_assoc

@@ -6,7 +6,7 @@ use Rattle.lay_base.specs.declared.faults.StaleKind.{StaleKind}
 use Rattle.lay_base.specs.declared.faults.StaleKind.TheVariants.{Functions, Order, Loops, Arms}
 use Rattle.refusals.specs.declared.refusal.Refusal.{Refusal}
 use Rattle.refusals.specs.declared.refusal.Refusal.TheVariants.{BadByte, BadLiteral, Unclosed, TooWide, NoParse, Unsupported, TooBig, IllTyped, Undeclared, Redeclared, Missing, Twice, TagClash, NoMain, Limit, Undefined, TurnLimit, Room, ReadFault, WriteFault, BadProfile, Stale, BadElf, Trap, Break, StepLimit, Usage, FileFault, TooLong, Memory, NameClash, NotBuilt}
-use Rattle.c_lexer.specs.Keywords.{keyword_text}
+use Rattle.lay_base.specs.Keywords.{keyword_text}
 use Rattle.refusals.specs.Names.{rule_name, limit_name, room_name, undefined_name, trap_name, field_name}
 
 -- ---- codes and exit statuses
@@ -62,7 +62,7 @@ status refusal = (numbers refusal).1
 unfoldable pub line : List (List ℕ) → List ℕ
 line pieces = codes "layc: " ++ (concat pieces ++ codes "\n")
 
--- the same behind the place FILE:LINE of which it speaks
+-- the same after the place FILE:LINE of which it speaks
 unfoldable pub line_at : List ℕ → List (List ℕ) → List ℕ
 line_at at pieces = line (at ∷ codes ": " ∷ pieces)
 

@@ -28,7 +28,7 @@ pub fn put_line<E: Sink>(err: &mut E, pieces: &[&[u8]]) -> Result<(), SinkFault>
     err.put(b"\n")
 }
 
-/// Puts the pieces of a message as a line behind a place.
+/// Puts the pieces of a message as a line after a place.
 pub fn put_line_at<E: Sink>(err: &mut E, at: &[u8], pieces: &[&[u8]]) -> Result<(), SinkFault>
     ensures { Puts (E.faults err.old) (E.faults err.new) (E.written err.old) (E.written err.new)
         (line_at at.now (map (λ piece. piece.now) pieces.now)) result }

@@ -1,7 +1,7 @@
 //! The names that stand in the texts of refusals.
 
 ghost use Rattle.std.specs.Prelude.{◌≡◌};
-ghost use Rattle.c_lexer.specs.Keywords.{keyword_text};
+ghost use Rattle.lay_base.specs.Keywords.{keyword_text};
 ghost use Rattle.refusals.specs.Names.{rule_name, limit_name, room_name, undefined_name, trap_name, field_name};
 
 use lay_base::{ElfField, Keyword, LimitKind, RoomKind, Rule, TrapKind, UndefinedKind};

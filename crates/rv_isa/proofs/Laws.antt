@@ -212,7 +212,7 @@ system_fields f rs2 t two h =
 
 -- ---- a chain of tests, link by link
 
--- a test that leads to an answer, and the tests behind it
+-- a test that leads to an answer, and the tests after it
 link : {A : Type 0} (P : A → Type 0) (b : Bool) (here rest : Option A) → (b ≡ true → IfSome here P) → IfSome rest P → IfSome (cond b here rest) P
 link P b here rest h r = cond_both b here rest (λ o. IfSome o P) h (λ t. r)
 

@@ -9,8 +9,8 @@ use Rattle.rv_isa.specs.Events.{step_events, events_then, events}
 none_before : (k : ℕ) → zero + k ≡ k
 none_before k = omega arith
 
-none_behind : (m : ℕ) → m + zero ≡ m
-none_behind m = omega arith
+none_after : (m : ℕ) → m + zero ≡ m
+none_after m = omega arith
 
 one_before : (m k : ℕ) → suc m + k ≡ suc (m + k)
 one_before m k = omega arith
@@ -120,7 +120,7 @@ module _ (segments : List Segment) where
   -- so it does after none where it still runs
   pub running_runs_compose : (m k : ℕ) (s : State) → (run segments m s).standing ≡ Running → run segments (m + k) s ≡ run segments k (state_after segments m s)
   unfolding run
-  running_runs_compose m zero s r = ap (λ n. run segments n s) (none_behind m) ∙ run_shows_state m s ∙ ap (λ x. shown x (state_after segments m s)) r
+  running_runs_compose m zero s r = ap (λ n. run segments n s) (none_after m) ∙ run_shows_state m s ∙ ap (λ x. shown x (state_after segments m s)) r
   running_runs_compose m (suc k) s r = runs_compose m k s
 
   -- ---- a run that ended

@@ -33,7 +33,7 @@ are_mapped segments flag address (suc n) = is_mapped segments flag address && ar
 abbrev pub Memory : Type 0
 Memory = ℕ → ℕ
 
--- a segment's bytes, and zeros behind them
+-- a segment's bytes, and zeros after them
 abbrev pub initial_memory : List Segment → Memory
 initial_memory [] address = 0
 initial_memory (segment ∷ segments) address = if is_in segment address then slice_index segment.bytes (address - segment.at) else initial_memory segments address

@@ -51,7 +51,7 @@ traps s kind = Ends (Trap kind s.pc)
 abbrev pub writes : State → (rd value : ℕ) → Stepped
 writes s rd v = Goes (record s { registers = with_register s.registers rd v; pc = next_pc s })
 
--- a jump, whose target is to be a multiple of 4; the register gets the place behind it
+-- a jump, whose target is to be a multiple of 4; the register gets the place after it
 abbrev pub jumps : State → (rd target : ℕ) → Stepped
 jumps s rd target = if target % 4 == 0 then Goes (record s { registers = with_register s.registers rd (next_pc s); pc = target }) else traps s Jump
 

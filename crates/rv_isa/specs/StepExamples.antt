@@ -70,10 +70,10 @@ load_steps : map (λ row. executed segments (with_values row.1 0) row.0) loads �
 unfolding are_mapped
 load_steps = refl
 
--- the registers, the place and the data behind a step
-abbrev behind : Stepped → Option (List ℕ × ℕ × List ℕ)
-behind (Goes t) = Some (t.registers, t.pc, bytes_at t.memory 0x20000 6)
-behind (Ends standing) = None
+-- the registers, the place and the data after a step
+abbrev after : Stepped → Option (List ℕ × ℕ × List ℕ)
+after (Goes t) = Some (t.registers, t.pc, bytes_at t.memory 0x20000 6)
+after (Ends standing) = None
 
 -- an instruction that stores from an x2 of 0x12345678, x1, and the data that it leaves
 abbrev stores : List (Inst × ℕ × List ℕ)
@@ -83,7 +83,7 @@ stores =
     (Sw 1 2 (negsuc 3), 0x20004, 0x78 ∷ 0x56 ∷ 0x34 ∷ 0x12 ∷ 0xFE ∷ 0xCA ∷ []) ∷
     []
 
-store_steps : map (λ row. behind (executed segments (with_values row.1 0x12345678) row.0)) stores ≡ map (λ row. Some ((with_values row.1 0x12345678).registers, 0x10004, row.2)) stores
+store_steps : map (λ row. after (executed segments (with_values row.1 0x12345678) row.0)) stores ≡ map (λ row. Some ((with_values row.1 0x12345678).registers, 0x10004, row.2)) stores
 unfolding are_mapped bytes_at
 store_steps = refl
 
@@ -114,7 +114,7 @@ before_call a7 a0 a1 a2 input = record at_start {
 exit_has_a_byte : executed segments (before_call 93 0x12B 0 0 []) Ecall ≡ Ends (Exits 0x2B)
 exit_has_a_byte = refl
 
--- a0, the data, the output and the input left behind a step
+-- a0, the data, the output and the input left after a step
 abbrev served : Stepped → Option (ℕ × List ℕ × List ℕ × List ℕ)
 served (Goes t) = Some (register t 10, bytes_at t.memory 0x20000 6, t.output, t.input)
 served (Ends standing) = None
@@ -153,7 +153,7 @@ trapping =
     (Lw 3 1 (pos 2), 0x20000, 0, Misaligned) ∷
     (Sh 1 2 (pos 1), 0x50000, 0, Misaligned) ∷
     (Sw 1 2 (pos 1), 0x50000, 0, Misaligned) ∷
-    -- no segment, two bytes of four behind a segment, no flag to read, no flag to write
+    -- no segment, two bytes of four after a segment, no flag to read, no flag to write
     (Lb 3 1 (pos 0), 0xFFFFFFFF, 0, Unmapped) ∷
     (Lw 3 1 (pos 4), 0x20000, 0, Unmapped) ∷
     (Lw 3 1 (pos 0), 0x30000, 0, Unmapped) ∷
@@ -184,7 +184,7 @@ call_traps = refl
 
 -- ---- fetching
 
--- two of the four bytes lie behind the code
+-- two of the four bytes lie after the code
 fetch_past_the_end_is_unmapped : step segments (record at_start { pc = 0x1000A }) ≡ Ends (Trap Unmapped 0x1000A)
 unfolding step are_mapped
 fetch_past_the_end_is_unmapped = refl

@@ -1,7 +1,7 @@
 -- What the turns of a run come to.
 use Rattle.std.proofs.Common.{◌≡◌, ℕ, ◌+◌, ◌<◌, List, [], map, Some, refl, sym, ap, ◌∙◌, subst, arith}
 use Rattle.std.proofs.Math.Path.{fun_ext}
-use Rattle.lay_base.specs.Told.{Rose, Appends}
+use Rattle.lay_base.specs.Known.{Rose, Appends}
 use Rattle.rv_isa.specs.declared.image.Image.{Image}
 use Rattle.rv_isa.specs.declared.image.Segment.{Segment}
 use Rattle.rv_isa.specs.Step.{State, Standing, Running, Ends, step}
@@ -14,7 +14,7 @@ use Rattle.rv_machine.specs.View.{bare}
 use Rattle.rv_machine.specs.Harts.{places_of, state_of}
 use Rattle.rv_machine.specs.Stepping.{with_streams}
 use Rattle.rv_machine.specs.Turns.{Streams, AreSteady, IsAtCall, GoesOn, SameButMemory, ReadsPart, WritesPart, Moves, Stops}
-use Rattle.rv_machine.specs.Runs.{ProgramRun, own_run, run_of, IsFresh, MachineSeen, Left, Stopped, Comes, RunGives, seen}
+use Rattle.rv_machine.specs.Runs.{ProgramRun, own_run, run_of, IsFresh, Observation, Left, Stopped, Comes, RunGives, observed}
 use Rattle.rv_machine.proofs.Bare.{run_bare, state_after_bare}
 use Rattle.rv_machine.proofs.Reaching.{Reached, reached_more, reached_shows, reached_state, reached_end, reached_end_state, reached_before, reached_goes}
 
@@ -45,7 +45,7 @@ fresh_run image machine fresh =
 
 module _ (hart : Hart) (before now next : Streams) (input : List ℕ) (i : ℕ) (here : Hart) (r : Reached (places_of hart) (state_of hart) before now input i (state_of here)) (machine : Machine) where
   -- the program came to an end
-  pub left_at_end : (standing : Standing) → Stops (step (places_of hart)) (state_of here) (state_of machine.hart) now next standing → machine.steps ≡ i + 1 → Left (own_run hart) before next input standing (seen machine)
+  pub left_at_end : (standing : Standing) → Stops (step (places_of hart)) (state_of here) (state_of machine.hart) now next standing → machine.steps ≡ i + 1 → Left (own_run hart) before next input standing (observed machine)
   left_at_end standing stops steps =
       let e = stops.2 r.rest r.output in
       let state : state_after (places_of hart) machine.steps (with_streams input [] (state_of hart)) ≡ with_streams r.rest r.output (state_of here)
@@ -64,7 +64,7 @@ module _ (hart : Hart) (before now next : Streams) (input : List ℕ) (i : ℕ) 
       }
 
   -- the program goes on
-  pub left_running : machine.hart ≡ here → next ≡ now → machine.steps ≡ i → Left (own_run hart) before next input Running (seen machine)
+  pub left_running : machine.hart ≡ here → next ≡ now → machine.steps ≡ i → Left (own_run hart) before next input Running (observed machine)
   left_running same streams steps =
       let state : state_after (places_of hart) machine.steps (with_streams input [] (state_of hart)) ≡ with_streams r.rest r.output (state_of here)
       = ap (λ (n : ℕ). state_after (places_of hart) n (with_streams input [] (state_of hart))) steps ∙ reached_state (places_of hart) (state_of hart) before now input i (state_of here) r in
@@ -83,7 +83,7 @@ module _ (hart : Hart) (before now next : Streams) (input : List ℕ) (i : ℕ) 
 
   -- a call of the environment failed
   pub stopped : (number : ℕ) (Part : State → (before now : Streams) → Type 0) → ((input output : List ℕ) (a b : Streams) → Part (state_of here) a b → Part (with_streams input output (state_of here)) a b)
-      → IsAtCall number (state_of here) → GoesOn (step (places_of hart)) (state_of here) → SameButMemory (state_of here) (state_of machine.hart) → Part (state_of here) now next → machine.steps ≡ i → Stopped (own_run hart) before next input number Part (seen machine)
+      → IsAtCall number (state_of here) → GoesOn (step (places_of hart)) (state_of here) → SameButMemory (state_of here) (state_of machine.hart) → Part (state_of here) now next → machine.steps ≡ i → Stopped (own_run hart) before next input number Part (observed machine)
   stopped number Part with call goes same part steps =
       let state : state_after (places_of hart) machine.steps (with_streams input [] (state_of hart)) ≡ with_streams r.rest r.output (state_of here)
       = ap (λ (n : ℕ). state_after (places_of hart) n (with_streams input [] (state_of hart))) steps ∙ reached_state (places_of hart) (state_of hart) before now input i (state_of here) r in
@@ -129,12 +129,12 @@ rose_later a b c e r = subst (λ (x : ℕ). Rose x c) e r
 -- ---- a run, by the turn that it ended with
 
 module _ (hart here turned : Hart) (before now next : Streams) (limit i : ℕ) (machine : Machine) (placed : places_of here ≡ places_of hart) (steady : AreSteady before now) (reached : (input : List ℕ) → before.left ≡ Some input → Reached (places_of hart) (state_of hart) before now input i (state_of here)) (kept : machine.hart ≡ turned) where
-  pub comes_to : (standing : Standing) → Stops (step (places_of here)) (state_of here) (state_of turned) now next standing → machine.steps ≡ i + 1 → i < limit → Comes (own_run hart) limit before next (seen machine) standing
+  pub comes_to : (standing : Standing) → Stops (step (places_of here)) (state_of here) (state_of turned) now next standing → machine.steps ≡ i + 1 → i < limit → Comes (own_run hart) limit before next (observed machine) standing
   comes_to standing stops steps lt = (
     omega (arith, steps),
     steady_same before now next steady stops.0,
-    λ input told.
-        left_at_end hart before now next input i here (reached input told) machine standing
+    λ input known.
+        left_at_end hart before now next input i here (reached input known) machine standing
         (stops.0, ap state_of kept ∙ stops.1, subst (λ (p : List Segment). (input output : List ℕ) → step p (with_streams input output (state_of here)) ≡ Ends standing) placed stops.2) steps,
   )
 
@@ -142,34 +142,34 @@ module _ (hart here turned : Hart) (before now next : Streams) (limit i : ℕ) (
   same_but_memory s = record { registers = ap (λ (h : Hart). h.registers) kept ∙ s.registers; pc = ap (λ (h : Hart). h.pc) kept ∙ s.pc }
 
   pub fails_reading : Rose now.read_faults next.read_faults → SameButMemory (state_of here) (state_of turned) → IsAtCall 63 (state_of here) → GoesOn (step (places_of here)) (state_of here) → ReadsPart (state_of here) now next → machine.steps ≡ i → i < limit
-      → RunGives (own_run hart) limit before next (seen machine) E.ReadFault
+      → RunGives (own_run hart) limit before next (observed machine) E.ReadFault
   fails_reading rose same call goes part steps lt = (
     rose_later before.read_faults now.read_faults next.read_faults steady.read_faults rose,
     omega (arith, steps),
-    λ input told. stopped hart before now next input i here (reached input told) machine 63 ReadsPart (reads_part_with (state_of here)) call (subst (λ (p : List Segment). GoesOn (step p) (state_of here)) placed goes) (same_but_memory same) part steps,
+    λ input known. stopped hart before now next input i here (reached input known) machine 63 ReadsPart (reads_part_with (state_of here)) call (subst (λ (p : List Segment). GoesOn (step p) (state_of here)) placed goes) (same_but_memory same) part steps,
   )
 
   pub fails_writing : Rose now.write_faults next.write_faults → SameButMemory (state_of here) (state_of turned) → IsAtCall 64 (state_of here) → GoesOn (step (places_of here)) (state_of here) → WritesPart (state_of here) now next → machine.steps ≡ i → i < limit
-      → RunGives (own_run hart) limit before next (seen machine) E.WriteFault
+      → RunGives (own_run hart) limit before next (observed machine) E.WriteFault
   fails_writing rose same call goes part steps lt = (
     rose_later before.write_faults now.write_faults next.write_faults steady.write_faults rose,
     omega (arith, steps),
-    λ input told. stopped hart before now next input i here (reached input told) machine 64 WritesPart (writes_part_with (state_of here)) call (subst (λ (p : List Segment). GoesOn (step p) (state_of here)) placed goes) (same_but_memory same) part steps,
+    λ input known. stopped hart before now next input i here (reached input known) machine 64 WritesPart (writes_part_with (state_of here)) call (subst (λ (p : List Segment). GoesOn (step p) (state_of here)) placed goes) (same_but_memory same) part steps,
   )
 
 -- or that it ended with none
 pub runs_still : (hart here : Hart) (before now : Streams) (limit i : ℕ) (machine : Machine) → AreSteady before now → ((input : List ℕ) → before.left ≡ Some input → Reached (places_of hart) (state_of hart) before now input i (state_of here)) → machine.hart ≡ here → machine.steps ≡ limit → i ≡ limit
-    → RunGives (own_run hart) limit before now (seen machine) (E.StepLimit limit)
+    → RunGives (own_run hart) limit before now (observed machine) (E.StepLimit limit)
 runs_still hart here before now limit i machine steady reached kept steps all =
-    (refl, steps, steady, λ input told. left_running hart before now now input i here (reached input told) machine kept refl (steps ∙ sym all))
+    (refl, steps, steady, λ input known. left_running hart before now now input i here (reached input known) machine kept refl (steps ∙ sym all))
 
 -- one turn more
 pub reached_next : (hart here turned : Hart) (before now next : Streams) (i : ℕ) → places_of here ≡ places_of hart → ((input : List ℕ) → before.left ≡ Some input → Reached (places_of hart) (state_of hart) before now input i (state_of here))
     → ((input : List ℕ) → now.left ≡ Some input → Moves (step (places_of here)) (state_of here) (state_of turned) now next input) → (input : List ℕ) → before.left ≡ Some input → Reached (places_of hart) (state_of hart) before next input (i + 1) (state_of turned)
-reached_next hart here turned before now next i placed reached moves input told =
-    reached_more (places_of hart) (state_of hart) before now next input i (state_of here) (state_of turned) (reached input told)
+reached_next hart here turned before now next i placed reached moves input known =
+    reached_more (places_of hart) (state_of hart) before now next input i (state_of here) (state_of turned) (reached input known)
     (subst (λ (p : List Segment). (input : List ℕ) → now.left ≡ Some input → Moves (step p) (state_of here) (state_of turned) now next input) placed moves)
 
 -- the run of a fresh machine's own hart is its image's
-pub fresh_gives : (image : Image) (machine : Machine) (limit : ℕ) (before now : Streams) (after : MachineSeen) (end : MachineEnd) → IsFresh image machine → RunGives (own_run machine.hart) limit before now after end → RunGives (run_of image) limit before now after end
+pub fresh_gives : (image : Image) (machine : Machine) (limit : ℕ) (before now : Streams) (after : Observation) (end : MachineEnd) → IsFresh image machine → RunGives (own_run machine.hart) limit before now after end → RunGives (run_of image) limit before now after end
 fresh_gives image machine limit before now after end fresh gives = subst (λ (r : ProgramRun). RunGives r limit before now after end) (fresh_run image machine fresh) gives

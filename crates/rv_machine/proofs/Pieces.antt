@@ -8,7 +8,7 @@ use Rattle.std.proofs.lemmas.Bool.{and_parts}
 use Rattle.std.proofs.lemmas.Bool.Decides.{nat_tests}
 use Rattle.std.proofs.lemmas.List.{drop_more, get_or_append_left, take-append-le, take_min, length-take-le, length-drop}
 use Rattle.lay_base.specs.declared.outside.SinkFault.{SinkFault}
-use Rattle.lay_base.specs.Told.{Rose, Appends, Consumes}
+use Rattle.lay_base.specs.Known.{Rose, Appends, Consumes}
 use Rattle.lay_base.specs.Calls.{PutGives}
 use Rattle.rv_isa.specs.declared.image.Segment.{Segment}
 use Rattle.rv_isa.specs.Memory.{Memory as Content, is_mapped, are_mapped, writable, bytes_at, with_byte, with_bytes}
@@ -23,12 +23,12 @@ use Rattle.rv_machine.proofs.Stores.{mapped_at}
 -- ---- pieces of memory
 
 -- a range without its first part is mapped where the range is
-pub mapped_behind : (segments : List Segment) (flag a n m : ℕ) → are_mapped segments flag a m ≡ true → n ≤ m → are_mapped segments flag (a + n) (m - n) ≡ true
-mapped_behind segments flag a n m mapped le =
+pub mapped_after : (segments : List Segment) (flag a n m : ℕ) → are_mapped segments flag a m ≡ true → n ≤ m → are_mapped segments flag (a + n) (m - n) ≡ true
+mapped_after segments flag a n m mapped le =
     let e : n + (m - n) ≡ m = omega arith in
     (and_parts _ _ (sym (mapped_split segments flag a n (m - n)) ∙ ap (are_mapped segments flag a) e ∙ mapped)).1
 
--- the bytes of a range are those of its first part and those behind
+-- the bytes of a range are those of its first part and those after
 bytes_split : (content : Content) (a n m : ℕ) → bytes_at content a (n + m) ≡ bytes_at content a n ++ bytes_at content (a + n) m
 unfolding bytes_at
 bytes_split content a zero m = let e : 0 + m ≡ m = omega arith in let f : a + 0 ≡ a = omega arith in rw (e, f) refl
@@ -37,14 +37,14 @@ bytes_split content a (suc n) m =
     let f : a + suc n ≡ a + 1 + n = omega arith in
     rw (e, f) (ap (λ (bytes : List ℕ). content a ∷ bytes) (bytes_split content (a + 1) n m))
 
-pub bytes_behind : (content : Content) (a n m : ℕ) → n ≤ m → bytes_at content a m ≡ bytes_at content a n ++ bytes_at content (a + n) (m - n)
-bytes_behind content a n m le = let e : n + (m - n) ≡ m = omega arith in ap (bytes_at content a) (sym e) ∙ bytes_split content a n (m - n)
+pub bytes_after : (content : Content) (a n m : ℕ) → n ≤ m → bytes_at content a m ≡ bytes_at content a n ++ bytes_at content (a + n) (m - n)
+bytes_after content a n m le = let e : n + (m - n) ≡ m = omega arith in ap (bytes_at content a) (sym e) ∙ bytes_split content a n (m - n)
 
 pub bytes_none : (content : Content) (a n : ℕ) → n ≡ 0 → bytes_at content a n ≡ []
 unfolding bytes_at
 bytes_none content a n e = rw e refl
 
--- bytes that stand one behind the other from a place on
+-- bytes that stand one after the other from a place on
 bytes_standing : (content : Content) (bytes : List ℕ) (a place n : ℕ) → place + n ≤ length bytes → ((k : ℕ) → k < n → content (a + k) ≡ slice_index bytes (place + k)) → take n (drop place bytes) ≡ bytes_at content a n
 unfolding bytes_at
 bytes_standing content bytes a place zero le each = refl
@@ -66,7 +66,7 @@ piece_found memory flag a n place m bytes found same e =
 
 -- ---- pieces that are put
 
--- told bytes with one piece behind them and then another
+-- known bytes with one piece after them and then another
 appends_both : (old between new : Option (List ℕ)) (p q : List ℕ) → Appends old between p → Appends between new q → Appends old new (p ++ q)
 appends_both old between new p q a b = b ∙ ap (option_map (λ bytes. bytes ++ q)) a ∙ joined old
   where
@@ -86,7 +86,7 @@ pub wrote_split : (before mid : ℕ) (old between : Option (List ℕ)) (bytes pi
     → Wrote before mid old between bytes (piece ++ bytes_at content (a + length piece) (n - length piece))
 wrote_split before mid old between bytes piece content a n wrote is le =
     let e : bytes_at content a n ≡ piece ++ bytes_at content (a + length piece) (n - length piece) =
-    bytes_behind content a (length piece) n le ∙ ap (λ (p : List ℕ). p ++ bytes_at content (a + length piece) (n - length piece)) (sym is) in
+    bytes_after content a (length piece) n le ∙ ap (λ (p : List ℕ). p ++ bytes_at content (a + length piece) (n - length piece)) (sym is) in
     subst (Wrote before mid old between bytes) e wrote
 
 module _ (before mid now : ℕ) (old between new : Option (List ℕ)) (bytes piece rest : List ℕ) (wrote : Wrote before mid old between bytes (piece ++ rest)) where
@@ -131,7 +131,7 @@ with_more content a v piece b e = fun_ext (λ x.
     let before : x - a < length piece → get_or (piece ++ b ∷ []) (x - a) 0 ≡ get_or piece (x - a) 0 = get_or_append_left piece (b ∷ []) 0 (x - a) in
     grind (arith, nat_tests))
 
--- a byte is taken and stored behind the others
+-- a byte is taken and stored after the others
 pub comes_more : (old between new : Option (List ℕ)) (content content1 content2 : Content) (a n v b : ℕ) → ComesIn old between content content1 a n → Consumes between new (b ∷ []) → content2 ≡ with_byte content1 (a + n) v → v % 2 ^ 8 ≡ b
     → ComesIn old new content content2 a (n + 1)
 comes_more old between new content content1 content2 a n v b came taken stored same = record {
@@ -150,18 +150,18 @@ stored_in first old new a n k v done all lt rows mapped content =
 
 -- ---- what a read is to the step
 
--- of told input as many bytes come in as are asked for and there are
-pub record ReadsTold (left : List ℕ) (new : Option (List ℕ)) (content content1 : Content) (address count n : ℕ) : Type 0 where
+-- of known input as many bytes come in as are asked for and there are
+pub record ReadsKnown (left : List ℕ) (new : Option (List ℕ)) (content content1 : Content) (address count n : ℕ) : Type 0 where
   pub number : n ≡ min count (length left)
   pub rest : new ≡ Some (drop n left)
   pub stored : content1 ≡ with_bytes content address (take n left)
 
-pub reads_told : (before now : ℕ) (old new : Option (List ℕ)) (left : List ℕ) (content content1 : Content) (address count n : ℕ) → old ≡ Some left → ReadsIn before now old new content content1 address count (Ok n)
-    → ReadsTold left new content content1 address count n
-reads_told before now old None left content content1 address count n told h = absurd (let e = sym told ∙ h.0.taken in cc)
-reads_told before now old (Some rest) left content content1 address count n told h =
+pub reads_known : (before now : ℕ) (old new : Option (List ℕ)) (left : List ℕ) (content content1 : Content) (address count n : ℕ) → old ≡ Some left → ReadsIn before now old new content content1 address count (Ok n)
+    → ReadsKnown left new content content1 address count n
+reads_known before now old None left content content1 address count n known h = absurd (let e = sym known ∙ h.0.taken in cc)
+reads_known before now old (Some rest) left content content1 address count n known h =
     let came = h.0 in
-    let parts : left ≡ came.piece ++ rest = some_is left (came.piece ++ rest) (sym told ∙ came.taken) in
+    let parts : left ≡ came.piece ++ rest = some_is left (came.piece ++ rest) (sym known ∙ came.taken) in
     let size : length left ≡ n + length rest = ap length parts ∙ length-append came.piece rest ∙ ap (λ (k : ℕ). k + length rest) came.size in
     let ended : n < count → length rest ≡ 0 = λ lt. ap length (h.2 lt) in
     record {

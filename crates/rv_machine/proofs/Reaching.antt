@@ -3,7 +3,7 @@ use Rattle.std.proofs.Common.{◌≡◌, ℕ, suc, ◌+◌, ◌<◌, ◌≤◌, 
 use Rattle.std.specs.Prelude.{option_map, ◌⊎◌}
 use Rattle.std.proofs.Common.{inl, inr}
 use Rattle.std.proofs.lemmas.Bool.{cases_lt}
-use Rattle.lay_base.specs.Told.{Appends}
+use Rattle.lay_base.specs.Known.{Appends}
 use Rattle.rv_isa.specs.declared.image.Segment.{Segment}
 use Rattle.rv_isa.specs.Step.{State, Standing, Running, Stepped, Goes, Ends, step}
 use Rattle.rv_isa.specs.Run.{Shown, shown, run, state_after}
@@ -12,7 +12,7 @@ use Rattle.rv_machine.specs.Stepping.{with_streams}
 use Rattle.rv_machine.specs.Turns.{Streams, Moves, goes}
 use Rattle.rv_machine.specs.Runs.{shows}
 
--- after i turns the machine is in this state, for told input
+-- after i turns the machine is in this state, for known input
 pub record Reached (places : List Segment) (first : State) (before now : Streams) (input : List ℕ) (i : ℕ) (s : State) : Type 0 where
   pub output : List ℕ
   pub rest : List ℕ
@@ -40,10 +40,10 @@ appends_more (Some a) b c x y e f = f ∙ ap (option_map (λ bytes. bytes ++ y))
 
 -- no turn
 pub reached_none : (places : List Segment) (first : State) (before : Streams) (input : List ℕ) → before.left ≡ Some input → Reached places first before before input 0 first
-reached_none places first before input told = record {
+reached_none places first before input known = record {
   output = [];
   rest = input;
-  left = told;
+  left = known;
   written = appends_nothing before.written;
   states = λ k. ap (λ (n : ℕ). state_after places n (with_streams input [] first)) (let e : 0 + k ≡ k = omega arith in e);
   runs = λ k. ap (λ (n : ℕ). run places n (with_streams input [] first)) (let e : 0 + k ≡ k = omega arith in e);

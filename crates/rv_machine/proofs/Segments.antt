@@ -1,4 +1,4 @@
--- The rows and the bytes of segments that stand one behind the other: they are sound, and stand for
+-- The rows and the bytes of segments that stand one after the other: they are sound, and stand for
 -- these segments and their bytes.
 use Rattle.std.proofs.Common.{◌≡◌, ℕ, ◌+◌, ◌-◌, ◌<◌, ◌≤◌, Bool, true, false, cond, List, [], ◌∷◌, ◌++◌, length, map, replicate, Option, Some, refl, sym, ap, ◌∙◌, arith, inl, inr, append_assoc}
 use Rattle.std.specs.Prelude.{All, slice_index}
@@ -45,28 +45,28 @@ bytes_length (s ∷ segments) p =
 
 -- ---- each row serves
 
--- a row behind a row that is apart from it
-behind : (front row : Row) (rows : List Row) (size : ℕ) → ((a : ℕ) → holds front a ≡ true → holds row a ≡ true → ⊥) → Serves rows size row → Serves (front ∷ rows) size row
-behind front row rows size apart serves = record {
+-- a row after a row that is apart from it
+after : (front row : Row) (rows : List Row) (size : ℕ) → ((a : ℕ) → holds front a ≡ true → holds row a ≡ true → ⊥) → Serves rows size row → Serves (front ∷ rows) size row
+after front row rows size apart serves = record {
   end = serves.end;
   place = serves.place;
   found = λ a h. let e : holds front a ≡ false = false_from_ne_true _ (λ t. apart a t h) in rw e (serves.found a h);
 }
 
-all_behind : (front : Segment) (first start size : ℕ) (rows : List Row) (segments : List Segment) → All (AreApart front) segments → All (Serves rows size) (rows_from start segments)
+all_after : (front : Segment) (first start size : ℕ) (rows : List Row) (segments : List Segment) → All (AreApart front) segments → All (Serves rows size) (rows_from start segments)
     → All (Serves (row_of first front ∷ rows) size) (rows_from start segments)
-all_behind front first start size rows [] apart all = All-nil (Serves (row_of first front ∷ rows) size)
-all_behind front first start size rows (s ∷ segments) apart all =
+all_after front first start size rows [] apart all = All-nil (Serves (row_of first front ∷ rows) size)
+all_after front first start size rows (s ∷ segments) apart all =
     All-cons (Serves (row_of first front ∷ rows) size) _ _
-    (behind (row_of first front) (row_of start s) rows size (All-head (AreApart front) s segments apart) (All-head (Serves rows size) (row_of start s) _ all))
-    (all_behind front first (start + s.size) size rows segments (All-tail (AreApart front) s segments apart) (All-tail (Serves rows size) (row_of start s) _ all))
+    (after (row_of first front) (row_of start s) rows size (All-head (AreApart front) s segments apart) (All-head (Serves rows size) (row_of start s) _ all))
+    (all_after front first (start + s.size) size rows segments (All-tail (AreApart front) s segments apart) (All-tail (Serves rows size) (row_of start s) _ all))
 
 each_serves : (start size : ℕ) (segments : List Segment) → AllPlaced segments → start + size_of segments ≤ size → All (Serves (rows_from start segments) size) (rows_from start segments)
 each_serves start size [] p le = All-nil (Serves [] size)
 each_serves start size (s ∷ segments) p le =
     All-cons (Serves (rows_from start (s ∷ segments)) size) (row_of start s) (rows_from (start + s.size) segments)
     (record { end = p.0.end; place = omega (arith, size_cons s segments); found = λ a h. rw h refl })
-    (all_behind s start (start + s.size) size (rows_from (start + s.size) segments) segments p.1 (each_serves (start + s.size) size segments p.2 (omega (arith, size_cons s segments))))
+    (all_after s start (start + s.size) size (rows_from (start + s.size) segments) segments p.1 (each_serves (start + s.size) size segments p.2 (omega (arith, size_cons s segments))))
 
 -- a row without address
 pub serves_nothing : (rows : List Row) (size : ℕ) → Serves rows size (record { at = 0; size = 0; start = 0; flags = 0 })
@@ -89,9 +89,9 @@ begins_nothing rows size flag = record {
 same_row : (r s : Row) → ◌≡◌ {A = Option Row} (Some r) (Some s) → r ≡ s
 same_row r s e = cc
 
-starts_behind : (start b : ℕ) (segments : List Segment) (r : Row) → row_at (rows_from start segments) b ≡ Some r → start ≤ r.start
-starts_behind start b [] r e = absurd cc
-starts_behind start b (s ∷ segments) r e = go (starts_behind (start + s.size) b segments r) (holds (row_of start s) b) e
+starts_after : (start b : ℕ) (segments : List Segment) (r : Row) → row_at (rows_from start segments) b ≡ Some r → start ≤ r.start
+starts_after start b [] r e = absurd cc
+starts_after start b (s ∷ segments) r e = go (starts_after (start + s.size) b segments r) (holds (row_of start s) b) e
   where
     go : (row_at (rows_from (start + s.size) segments) b ≡ Some r → start + s.size ≤ r.start) → (h : Bool) → cond h (Some (row_of start s)) (row_at (rows_from (start + s.size) segments) b) ≡ Some r → start ≤ r.start
     go further true f = let same = ap (λ (q : Row). q.start) (same_row (row_of start s) r f) in omega (arith, same)
@@ -115,12 +115,12 @@ places_apart start a b (s ∷ segments) q r e f same = go (places_apart (start +
     go further true false ha hb ea eb =
         let first = held_between (row_of start s) a ha in
         let one : place_in q a ≡ place_in (row_of start s) a = ap (λ (row : Row). place_in row a) (same_row q (row_of start s) (sym ea)) in
-        let two : start + s.size ≤ r.start = starts_behind (start + s.size) b segments r eb in
+        let two : start + s.size ≤ r.start = starts_after (start + s.size) b segments r eb in
         omega (arith, first.0, first.1)
     go further false true ha hb ea eb =
         let second = held_between (row_of start s) b hb in
         let one : place_in r b ≡ place_in (row_of start s) b = ap (λ (row : Row). place_in row b) (same_row r (row_of start s) (sym eb)) in
-        let two : start + s.size ≤ q.start = starts_behind (start + s.size) a segments q ea in
+        let two : start + s.size ≤ q.start = starts_after (start + s.size) a segments q ea in
         omega (arith, second.0, second.1)
     go further false false ha hb ea eb = further ea eb same
 

@@ -21,7 +21,7 @@ module _ (rows : List Row) (bytes : List ℕ) (flag a n place : ℕ) (sound : Ar
       let h = byte_stored_in rows bytes (length bytes) flag a n place 0 b v sound found (omega arith) lt same in
       ap (λ (p : ℕ). memory_of rows (slice_set bytes p b)) (sym e) ∙ h ∙ ap (λ (x : ℕ). with_byte (memory_of rows bytes) x v) f
 
-  -- a byte behind bytes that are stored
+  -- a byte after bytes that are stored
   next_stored : (now : List ℕ) (k b v : ℕ) → length bytes ≤ length now → k < n → b ≡ v % 2 ^ 8 → memory_of rows (slice_set now (place + k) b) ≡ with_byte (memory_of rows now) (a + k) v
   next_stored now k b v le lt same = byte_stored_in rows now (length bytes) flag a n place k b v sound found le lt same
 

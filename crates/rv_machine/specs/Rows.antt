@@ -67,7 +67,7 @@ pub record Covers (row : Row) (flag address width place : ℕ) : Type 0 where
   pub high : address + width ≤ row.at + row.size
   pub is_place : place ≡ place_in row address
 
--- bytes from an address on stand from this place on, one behind the other, and may be used so
+-- bytes from an address on stand from this place on, one after the other, and may be used so
 pub record IsFound (rows : List Row) (size flag address width place : ℕ) : Type 0 where
   pub within : place + width ≤ size
   pub mapped : are_mapped (segments_of rows) flag address width ≡ true

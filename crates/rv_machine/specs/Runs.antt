@@ -1,6 +1,6 @@
 -- What a run of the machine gives.
 use Rattle.std.specs.Prelude.{◌≡◌, ℕ, ◌+◌, ◌<◌, ◌≤◌, List, [], map, Some, None}
-use Rattle.lay_base.specs.Told.{Rose, Appends}
+use Rattle.lay_base.specs.Known.{Rose, Appends}
 use Rattle.rv_isa.specs.declared.image.Image.{Image}
 use Rattle.rv_isa.specs.Step.{State, Standing, Running, Exits, Trap, Break}
 use Rattle.rv_isa.specs.Run.{Shown, start, run, state_after, machine_run}
@@ -43,24 +43,24 @@ pub record IsFresh (image : Image) (machine : Machine) : Type 0 where
 -- ---- after a run
 
 -- what can be asked of a machine
-pub record MachineSeen : Type 0 where
+pub record Observation : Type 0 where
   pub registers : List ℕ
   pub pc : ℕ
   pub steps : ℕ
 
-abbrev pub seen : Machine → MachineSeen
-seen machine = record { registers = machine.hart.registers; pc = machine.hart.pc; steps = machine.steps }
+abbrev pub observed : Machine → Observation
+observed machine = record { registers = machine.hart.registers; pc = machine.hart.pc; steps = machine.steps }
 
 -- the program came to this: it had shown this output, this is left of the input, and the machine is in its
 -- state
-pub record Came (run : ProgramRun) (input : List ℕ) (standing : Standing) (output rest : List ℕ) (machine : MachineSeen) : Type 0 where
+pub record Came (run : ProgramRun) (input : List ℕ) (standing : Standing) (output rest : List ℕ) (machine : Observation) : Type 0 where
   pub shows : run.shows input machine.steps ≡ shows standing output rest
   pub before : (k : ℕ) → k < machine.steps → (run.shows input k).standing ≡ Running
   pub registers : machine.registers ≡ (run.states input machine.steps).registers
   pub pc : machine.pc ≡ (run.states input machine.steps).pc
 
 -- ... and the streams have gained and lost just that
-pub record Left (run : ProgramRun) (before now : Streams) (input : List ℕ) (standing : Standing) (machine : MachineSeen) : Type 0 where
+pub record Left (run : ProgramRun) (before now : Streams) (input : List ℕ) (standing : Standing) (machine : Observation) : Type 0 where
   pub output : List ℕ
   pub rest : List ℕ
   pub came : Came run input standing output rest machine
@@ -68,7 +68,7 @@ pub record Left (run : ProgramRun) (before now : Streams) (input : List ℕ) (st
   pub left : now.left ≡ Some rest
 
 -- the program was at a call with this number, with which it would have gone on, and of which a part was done
-pub record Stopped (run : ProgramRun) (before now : Streams) (input : List ℕ) (number : ℕ) (Part : State → (before now : Streams) → Type 0) (machine : MachineSeen) : Type 0 where
+pub record Stopped (run : ProgramRun) (before now : Streams) (input : List ℕ) (number : ℕ) (Part : State → (before now : Streams) → Type 0) (machine : Observation) : Type 0 where
   pub output : List ℕ
   pub rest : List ℕ
   pub came : Came run input Running output rest machine
@@ -80,12 +80,12 @@ pub record Stopped (run : ProgramRun) (before now : Streams) (input : List ℕ) 
   pub part : Part (run.states input machine.steps) middle now
 
 -- the program came to an end within so many steps
-abbrev pub Comes : ProgramRun → (limit : ℕ) → (before now : Streams) → MachineSeen → Standing → Type 0
+abbrev pub Comes : ProgramRun → (limit : ℕ) → (before now : Streams) → Observation → Standing → Type 0
 Comes run limit before now machine standing =
     (machine.steps ≤ limit) × AreSteady before now × ((input : List ℕ) → before.left ≡ Some input → Left run before now input standing machine)
 
--- What a run of at most so many steps gives, by its answer. Of the program it speaks where the input is told.
-abbrev pub RunGives : ProgramRun → (limit : ℕ) → (before now : Streams) → MachineSeen → MachineEnd → Type 0
+-- What a run of at most so many steps gives, by its answer. Of the program it speaks where the input is known.
+abbrev pub RunGives : ProgramRun → (limit : ℕ) → (before now : Streams) → Observation → MachineEnd → Type 0
 RunGives run limit before now machine (E.StepLimit n) =
     (n ≡ limit) × (machine.steps ≡ limit) × AreSteady before now × ((input : List ℕ) → before.left ≡ Some input → Left run before now input Running machine)
 RunGives run limit before now machine E.ReadFault =

@@ -1,7 +1,7 @@
 -- What a read of the environment moves from the input to memory.
 use Rattle.std.specs.Prelude.{◌≡◌, ℕ, ◌<◌, ◌≤◌, List, length, Option, Result, Ok, Err}
 use Rattle.std.specs.Io.KnownBytes.{IsAtEnd}
-use Rattle.lay_base.specs.Told.{Rose, Consumes}
+use Rattle.lay_base.specs.Known.{Rose, Consumes}
 use Rattle.lay_base.specs.declared.outside.SourceFault.{SourceFault}
 use Rattle.rv_isa.specs.Memory.{Memory as Content, with_bytes}
 

@@ -1,6 +1,6 @@
 -- What a step of the machine's code does to the machine and to the two streams.
 use Rattle.std.specs.Prelude.{◌≡◌, ℕ, ◌<◌, List, ◌++◌, length, take, Bool, true, false, Option, Some}
-use Rattle.lay_base.specs.Told.{Rose, Keeps, Appends, Consumes}
+use Rattle.lay_base.specs.Known.{Rose, Keeps, Appends, Consumes}
 use Rattle.rv_isa.specs.declared.instruction.Inst.TheVariants.{Ecall}
 use Rattle.rv_isa.specs.Decoding.{decoded}
 use Rattle.rv_isa.specs.Memory.{word_at, bytes_at}
@@ -50,7 +50,7 @@ ReadsPart s before now = (piece : List ℕ) × (length piece < register s 12) ×
 abbrev pub WritesPart : State → (before now : Streams) → Type 0
 WritesPart s before now = (k : ℕ) × Appends before.written now.written (take k (bytes_at s.memory (register s 11) (register s 12))) × Keeps before.left now.left
 
--- what is done leads from one state to the next, for told input: what it takes of the input, and what it writes
+-- what is done leads from one state to the next, for known input: what it takes of the input, and what it writes
 abbrev pub Moves : (does : State → Stepped) → (old new : State) → (before now : Streams) → (input : List ℕ) → Type 0
 Moves does old new before now input =
     (rest : List ℕ) × (piece : List ℕ) × (now.left ≡ Some rest) × Appends before.written now.written piece

@@ -28,7 +28,7 @@ struct Entry {
 }
 
 /// The last word that was fetched at each address, for as many addresses as there are entries. Memory
-/// may change behind it, so an entry serves only where the word that is fetched is its own.
+/// may change after it, so an entry serves only where the word that is fetched is its own.
 #[derive(Drop)]
 pub(crate) struct Decoder {
     entries: Vec<Entry>,

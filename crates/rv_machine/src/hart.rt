@@ -68,7 +68,7 @@ impl Hart {
         Moved::Goes
     }
 
-    /// A jump, whose target is to be a multiple of 4; the register gets the place behind it.
+    /// A jump, whose target is to be a multiple of 4; the register gets the place after it.
     #[inline(always)]
     pub(crate) fn jump(&mut self, rd: u8, target: u32) -> Moved
         requires { rd < 32 }

@@ -1,7 +1,7 @@
 //! A machine that runs RV32IM programs, with the environment's calls read, write and exit.
 //!
 //! It stands on `lay_base` and `rv_isa`. It promises that a run is the run of the image by `rv_isa`'s
-//! step, for told input: it ends at the least number of steps at which that run ends, and has then
+//! step, for known input: it ends at the least number of steps at which that run ends, and has then
 //! read and written what that run has. A run takes no memory, and comes to a fault only where its
 //! input or its output failed.
 #![tactic(auto)]

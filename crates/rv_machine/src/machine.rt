@@ -60,7 +60,7 @@ impl Machine {
     ghost use Rattle.rv_machine.specs.Keeping.{IsReady};
     ghost use Rattle.rv_machine.specs.Stepping.{StepGives};
     ghost use Rattle.rv_machine.specs.Turns.{TurnGives, streams};
-    ghost use Rattle.rv_machine.specs.Runs.{IsFresh, RunGives, own_run, run_of, seen};
+    ghost use Rattle.rv_machine.specs.Runs.{IsFresh, RunGives, own_run, run_of, observed};
 
     /// Whether the next instruction stands in the row of the last one and is kept.
     #[inline(always)]
@@ -159,7 +159,7 @@ impl Machine {
     fn go<I: Source, O: Sink>(&mut self, input: &mut I, out: &mut O, limit: u64) -> MachineEnd
         ensures { RunGives (own_run self.old.hart) limit
             (streams (I.left input.old) (I.faults input.old) (O.written out.old) (O.faults out.old))
-            (streams (I.left input.new) (I.faults input.new) (O.written out.new) (O.faults out.new)) (seen self.new) result }
+            (streams (I.left input.new) (I.faults input.new) (O.written out.new) (O.faults out.new)) (observed self.new) result }
     {
         for done in 0..limit {
             match self.turn(input, out) {
@@ -205,7 +205,7 @@ impl Machine {
         ensures again { IsSome self.old.ended → (self.new ≡ self.old) × (input.new ≡ input.old) × (out.new ≡ out.old) }
         ensures gives { (image : Image) → IsFresh image self.old → RunGives (run_of image) steps
             (streams (I.left input.old) (I.faults input.old) (O.written out.old) (O.faults out.old))
-            (streams (I.left input.new) (I.faults input.new) (O.written out.new) (O.faults out.new)) (seen self.new) result }
+            (streams (I.left input.new) (I.faults input.new) (O.written out.new) (O.faults out.new)) (observed self.new) result }
     {
         if let Some(end) = self.ended {
             return end;

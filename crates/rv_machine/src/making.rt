@@ -1,4 +1,4 @@
-//! The memory that a loader makes: all segments' bytes, one segment behind the other.
+//! The memory that a loader makes: all segments' bytes, one segment after the other.
 
 ghost use Rattle.std.specs.Prelude.{◌≡◌, ◌++◌, ◌<◌, ◌^◌, All, IfOk, OnOk, map};
 ghost use Rattle.rv_isa.specs.Memory.{initial_memory};
@@ -43,7 +43,7 @@ fn rows_for(alloc: Global, segments: &[Segment]) -> Result<Vec<Row>, NoMemory>
     Ok(rows)
 }
 
-/// Adds the bytes of a segment, and zeros behind them.
+/// Adds the bytes of a segment, and zeros after them.
 fn put_segment(bytes: &mut Vec<u8>, segment: &Segment) -> Result<(), NoMemory>
     requires { Fits segment.now }
     ensures { OnOk result (bytes.new.items ≡ bytes.old.items ++ whole segment.now) }
@@ -68,7 +68,7 @@ fn bytes_for(alloc: Global, segments: &[Segment], total: usize) -> Result<Vec<u8
 }
 
 impl Memory {
-    /// The memory of segments: the bytes of each, and zeros behind them. Its one refusal is want of
+    /// The memory of segments: the bytes of each, and zeros after them. Its one refusal is want of
     /// memory.
     pub fn of(alloc: Global, segments: &[Segment]) -> Result<Memory, NoMemory>
         requires { AllPlaced segments.now }

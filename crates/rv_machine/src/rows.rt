@@ -95,7 +95,7 @@ impl Row {
     }
 }
 
-/// Bytes that stand one behind the other: the place of the first, and how many they are.
+/// Bytes that stand one after the other: the place of the first, and how many they are.
 #[derive(Clone, Copy, Debug)]
 pub struct Stretch {
     pub place: usize,

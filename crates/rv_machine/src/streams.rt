@@ -10,7 +10,7 @@ impl Memory {
     ghost use Rattle.rv_machine.specs.Streams.{ReadsIn};
     ghost use Rattle.rv_machine.specs.View.{content_of, segments_in};
 
-    /// The bytes from an address on that stand one behind the other, at most so many; all that were
+    /// The bytes from an address on that stand one after the other, at most so many; all that were
     /// asked for may be read.
     fn piece_at(&self, address: u64, count: u64) -> &[u8]
         requires some { 0 < count }

@@ -17,7 +17,7 @@ module _ (text : List ℕ) (i word : ℕ) (lt : i < length text) where
   pub value_other : digit (get_or text i 0) ≡ None → value (drop i text) word ≡ None
   value_other e = value_more ∙ ap (with_digit (value (drop (i + 1) text)) word) e
 
--- behind the last there is no more
+-- after the last there is no more
 pub value_end : (text : List ℕ) (i word : ℕ) → i ≡ length text → value (drop i text) word ≡ Some word
 unfolding value
 value_end text i word e = ap (λ n. value (drop n text) word) e ∙ ap (λ rest. value rest word) (drop-length text)

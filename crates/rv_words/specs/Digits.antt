@@ -13,7 +13,7 @@ abbrev pub with_digit : (rest : ℕ → Option ℕ) (so_far : ℕ) → Option �
 with_digit rest so_far None = None
 with_digit rest so_far (Some d) = rest (so_far * 16 + d)
 
--- the value of digits behind others, the highest first
+-- the value of digits after others, the highest first
 unfoldable pub value : List ℕ → (so_far : ℕ) → Option ℕ
 value [] so_far = Some so_far
 value (byte ∷ bytes) so_far = with_digit (value bytes) so_far (digit byte)

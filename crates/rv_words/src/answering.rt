@@ -26,7 +26,7 @@ impl From<io::Error> for Stopped {
     }
 }
 
-/// The instruction of a word, behind its word by the table.
+/// The instruction of a word, after its word by the table.
 fn instruction_at(word: u32) -> Option<(u32, Inst)>
     ensures { MatchOption result (decoded word ≡ None) (λ found. (decoded word ≡ Some found.1) × (found.0 ≡ word)) }
 {

@@ -3,8 +3,8 @@ use Rattle.std.proofs.Common.{◌≡◌, ℕ, zero, suc, ◌≤◌, List, [], �
 use Rattle.std.specs.List.{AllByRecursion}
 use Rattle.std.specs.Option.{option_to_list}
 use Rattle.std.proofs.lemmas.List.Elements.{recursion_from_All}
-use Rattle.c_parser.specs.ThinTree.{Term, Program}
-use Rattle.c_parser.specs.ThinText.{marks, whole_sums, spelled_program}
+use Rattle.thin_parser.specs.ThinTree.{Term, Program}
+use Rattle.thin_parser.specs.ThinText.{punctuators, whole_sums, spelled_program}
 use Rattle.source_end.specs.SourceEnd.{Ends, GoesOn}
 use Rattle.rv_isa.specs.declared.instruction.Inst.{Inst}
 use Rattle.rv_isa.specs.declared.instruction.Inst.TheVariants.{Jal}
@@ -33,7 +33,7 @@ back_small : (a b : List Term) → AllByRecursion IsSmall (a ++ b) → AllByRecu
 back_small [] b h = h
 back_small (t ∷ a) b h = back_small a b h.1
 
-module _ (p : Program) (heap stack : ℕ) (small : All (λ t. marks t ≤ 300) (whole_sums p)) (few : length (spelled_program p) ≤ 10000) (heap_low : 1 ≤ heap) (heap_high : heap ≤ 1024) (stack_low : 1 ≤ stack) (stack_high : stack ≤ 128) where
+module _ (p : Program) (heap stack : ℕ) (small : All (λ t. punctuators t ≤ 300) (whole_sums p)) (few : length (spelled_program p) ≤ 10000) (heap_low : 1 ≤ heap) (heap_high : heap ≤ 1024) (stack_low : 1 ≤ stack) (stack_high : stack ≤ 128) where
   abbrev code : List Inst
   code = program_code stack p
 
@@ -46,7 +46,7 @@ module _ (p : Program) (heap stack : ℕ) (small : All (λ t. marks t ≤ 300) (
     abbrev s0 : State
     s0 = start (image_of p heap stack) input
 
-    -- behind the jump at the entry
+    -- after the jump at the entry
     abbrev s1 : State
     s1 = record s0 { pc = 0x11000 }
 

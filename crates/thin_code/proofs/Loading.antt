@@ -63,7 +63,7 @@ pub record Holds (memory : Memory) (at : ℕ) (bytes : List ℕ) : Type 0 where
 holds_front : (memory : Memory) (at : ℕ) (a b : List ℕ) → Holds memory at (a ++ b) → Holds memory at a
 holds_front memory at a b h = record { by = λ k lt. h.by k (omega (arith, length-append a b)) ∙ get_or_append_left a b 0 k lt }
 
--- the rest stands behind them
+-- the rest stands after them
 holds_back : (memory : Memory) (at : ℕ) (a b : List ℕ) → Holds memory at (a ++ b) → Holds memory (at + length a) b
 holds_back memory at a b h = record {
   by = λ k lt.
@@ -180,7 +180,7 @@ module _ (code : List Inst) (heap stack : ℕ) (small : length code ≤ 60000) (
       code_stands segments text_address (text_address + length (text_bytes code)) data_address (initial_memory segments) jump text_address text_fetch text_end (omega arith) (omega (arith, text_length code)) (entry_in_range, tt)
       (holds_front (initial_memory segments) text_address (code_bytes jump) (zeros (0x1000 - 4) ++ code_bytes code) text_holds)
 
-  -- the bytes of the code stand behind the first 0x1000
+  -- the bytes of the code stand after the first 0x1000
   code_holds : Holds (initial_memory segments) 0x11000 (code_bytes code)
   code_holds =
       let h = holds_back (initial_memory segments) text_address (code_bytes jump) (zeros (0x1000 - 4) ++ code_bytes code) text_holds in

@@ -2,8 +2,8 @@
 use Rattle.std.proofs.Common.{◌≡◌, ℕ, ◌+◌, ◌-◌, ◌*◌, ◌/◌, ◌%◌, ◌^◌, ◌<◌, ◌≤◌, Bool, List, [], ◌∷◌, ◌++◌, map, length, Option, Some, None, pos, refl, sym, ap, ◌∙◌, subst, arith, length-append, append_assoc, append-nil}
 use Rattle.std.specs.List.{AllByRecursion}
 use Rattle.std.specs.Option.{option_to_list}
-use Rattle.c_parser.specs.ThinTree.{Term, Program}
-use Rattle.c_parser.specs.ThinText.{marks}
+use Rattle.thin_parser.specs.ThinTree.{Term, Program}
+use Rattle.thin_parser.specs.ThinText.{punctuators}
 use Rattle.rv_isa.specs.declared.instruction.Inst.{Inst}
 use Rattle.rv_isa.specs.declared.instruction.Inst.TheVariants.{Lui, Addi}
 use Rattle.rv_isa.specs.Arithmetic.{plus}
@@ -33,9 +33,9 @@ pub record Printed (l : Layout) (m : ℕ) (bytes : List ℕ) (s t : State) : Typ
   pub input : t.input ≡ s.input
   pub output : t.output ≡ s.output ++ bytes
 
--- few marks
+-- few punctuators
 abbrev pub IsSmall : Term → Type 0
-IsSmall t = marks t ≤ 300
+IsSmall t = punctuators t ≤ 300
 
 -- less room is there too
 fewer : (l : Layout) (n : ℕ) (s : State) → n ≤ 300 → Ready l 300 s → Ready l n s
@@ -60,7 +60,7 @@ sum_memory l n m v s t le idle g =
 -- ---- the call of putchar
 
 -- a sum and the writing of its byte
-both : (l : Layout) (t : Term) (s s1 s2 : State) → IsSmall t → Idle l s → Gave (marks t) (length (sum_code t)) (value t) s s1 → Wrote (register s1 10) s1 s2 → Printed l (length (sum_code t) + 6) (low_byte (value t) ∷ []) s s2
+both : (l : Layout) (t : Term) (s s1 s2 : State) → IsSmall t → Idle l s → Gave (punctuators t) (length (sum_code t)) (value t) s s1 → Wrote (register s1 10) s1 s2 → Printed l (length (sum_code t) + 6) (low_byte (value t) ∷ []) s s2
 both l t s s1 s2 small idle g w =
     let idle1 = idle_still l s s1 idle g.registers g.others in
     let byte = same_but_more _ _ l.limit (2 ^ 32) s1.memory s2.memory l.data_above (omega arith) w.memory in
@@ -72,9 +72,9 @@ both l t s s1 s2 small idle g w =
       output = w.output ∙ ap (λ (z : ℕ). s1.output ++ low_byte z ∷ []) g.value ∙ ap (λ (out : List ℕ). out ++ low_byte (value t) ∷ []) g.output;
     }
 
--- code behind a stretch stands still
-behind : (l : Layout) (m : ℕ) (bytes : List ℕ) (s t : State) (front back : List Inst) → length front ≡ m → Printed l m bytes s t → Code l.segments l.limit s.memory s.pc (front ++ back) → Code l.segments l.limit t.memory t.pc back
-behind l m bytes s t front back len p code =
+-- code after a stretch stands still
+after : (l : Layout) (m : ℕ) (bytes : List ℕ) (s t : State) (front back : List Inst) → length front ≡ m → Printed l m bytes s t → Code l.segments l.limit s.memory s.pc (front ++ back) → Code l.segments l.limit t.memory t.pc back
+after l m bytes s t front back len p code =
     let rest = code_back l.segments l.limit s.memory s.pc front back code in
     let stays = code_stays l.segments l.limit l.limit (2 ^ 32) s.memory t.memory (s.pc + 4 * length front) back (omega arith) p.memory rest in
     let pc : s.pc + 4 * length front ≡ t.pc = omega (arith, len, p.pc) in
@@ -84,7 +84,7 @@ behind l m bytes s t front back len p code =
 put_works : (l : Layout) (t : Term) (s : State) → IsSmall t → Idle l s → Code l.segments l.limit s.memory s.pc (sum_code t ++ write_code) → s.pc + 4 * (length (sum_code t) + 6) < 2 ^ 32
     → (u : State) × Comes l.segments s u × Printed l (length (sum_code t) + 6) (low_byte (value t) ∷ []) s u
 put_works l t s small idle code lt =
-    let A = sum_works l t s (code_front l.segments l.limit s.memory s.pc (sum_code t) write_code code) (fewer l (marks t) s small idle.ready) (omega arith) in
+    let A = sum_works l t s (code_front l.segments l.limit s.memory s.pc (sum_code t) write_code code) (fewer l (punctuators t) s small idle.ready) (omega arith) in
     let s1 = A.0 in
     let g = A.2 in
     let rest = code_back l.segments l.limit s.memory s.pc (sum_code t) write_code code in
@@ -124,7 +124,7 @@ puts_work l (t ∷ ts) s small idle code lt =
     let len = puts_length t ts in
     let code' = subst (λ is. Code l.segments l.limit s.memory s.pc is) (sym (append_assoc (sum_code t) write_code (puts_code ts))) code in
     let A = put_works l t s small.0 idle (code_front l.segments l.limit s.memory s.pc (sum_code t ++ write_code) (puts_code ts) code') (omega arith) in
-    let here = behind l _ _ s A.0 (sum_code t ++ write_code) (puts_code ts) (one_length t) A.2 code' in
+    let here = after l _ _ s A.0 (sum_code t ++ write_code) (puts_code ts) (one_length t) A.2 code' in
     let pc = A.2.pc in
     let B = puts_work l ts A.0 small.1 A.2.idle here (omega arith) in
     let both = prints_then l _ _ _ _ s A.0 B.0 A.2 B.2 in
@@ -158,7 +158,7 @@ status_works l declared puts None s small idle code lt =
       },
     )
 status_works l declared puts (Some t) s small idle code lt =
-    let A = sum_works l t s code (fewer l (marks t) s small.0 idle.ready) lt in
+    let A = sum_works l t s code (fewer l (punctuators t) s small.0 idle.ready) lt in
     let g = A.2 in (
       A.0,
       A.1,
@@ -229,12 +229,12 @@ module _ (l : Layout) (stack : ℕ) (p : Program) (s : State) (begins : Begins l
       let P = puts_work l p.puts s1 small_puts idle_1 (code_front l.segments l.limit s.memory (s.pc + 4) (puts_code p.puts) back code.1) (omega arith) in
       let s2 = P.0 in
       let pc2 = P.2.pc in
-      let code2 = behind l _ _ s1 s2 (puts_code p.puts) back refl P.2 code.1 in
+      let code2 = after l _ _ s1 s2 (puts_code p.puts) back refl P.2 code.1 in
       let S = status_works l p.declared p.puts p.last s2 small_last P.2.idle (code_front l.segments l.limit s2.memory s2.pc (status_code p.last) exit_code code2) (omega arith) in
       let s3 = S.0 in
       let printed3 = S.2.printed in
       let pc3 = printed3.pc in
-      let code3 = behind l _ _ s2 s3 (status_code p.last) exit_code refl printed3 code2 in
+      let code3 = after l _ _ s2 s3 (status_code p.last) exit_code refl printed3 code2 in
       let E = exit_works l s3 printed3.idle.ready.registers printed3.idle.nil code3 (omega arith) in
       let comes = comes_then l.segments s s1 s3 m1 (comes_then l.segments s1 s2 s3 P.1 S.1) in
       ends_so l s s1 s2 s3 (length (puts_code p.puts)) (length (status_code p.last)) E.0 (low_byte (register s3 10)) (status p) (printed p) comes P.2 printed3 E.1 S.2.value

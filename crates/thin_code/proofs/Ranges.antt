@@ -2,10 +2,10 @@
 use Rattle.std.proofs.Common.{◌≡◌, ℕ, ◌+◌, ◌*◌, ◌%◌, ◌^◌, ◌<◌, ◌≤◌, Bool, true, false, List, [], ◌∷◌, ◌++◌, length, Option, Some, None, pos, refl, arith, length-append}
 use Rattle.std.specs.List.{AllByRecursion}
 use Rattle.std.proofs.lemmas.Int.{ints}
-use Rattle.c_parser.specs.ThinTree.{Term, number, paren, add, sub, mul, Program}
-use Rattle.c_parser.specs.ThinText.{spelled_sum, spelled_puts, spelled_last, spelled_declaration, spelled_program}
-use Rattle.c_parser.specs.declared.thin_token.ThinToken.{ThinToken}
-use Rattle.c_parser.specs.declared.thin_token.ThinToken.TheVariants.{Int, Main, Void, Open, Close, OpenBrace, CloseBrace, Semicolon, Plus, Minus, Star}
+use Rattle.thin_parser.specs.ThinTree.{Term, number, paren, add, sub, mul, Program}
+use Rattle.thin_parser.specs.ThinText.{spelled_sum, spelled_puts, spelled_last, spelled_declaration, spelled_program}
+use Rattle.thin_parser.specs.declared.thin_token.ThinToken.{ThinToken}
+use Rattle.thin_parser.specs.declared.thin_token.ThinToken.TheVariants.{Int, Main, Void, Open, Close, OpenBrace, CloseBrace, Semicolon, Plus, Minus, Star}
 use Rattle.rv_isa.specs.declared.instruction.Inst.{Inst}
 use Rattle.rv_isa.specs.declared.instruction.Inst.TheVariants.{Jal, Addi, Add, Sub, Mul}
 use Rattle.rv_isa.specs.Encoding.{IsInRange, IsShort}

@@ -55,7 +55,7 @@ pub code_front : (segments : List Segment) (limit : ℕ) (memory : Memory) (pc :
 code_front segments limit memory pc [] b h = tt
 code_front segments limit memory pc (i ∷ a) b h = (h.0, code_front segments limit memory (pc + 4) a b h.1)
 
--- the rest of the code stands behind it
+-- the rest of the code stands after it
 pub code_back : (segments : List Segment) (limit : ℕ) (memory : Memory) (pc : ℕ) (a b : List Inst) → Code segments limit memory pc (a ++ b) → Code segments limit memory (pc + 4 * length a) b
 code_back segments limit memory pc [] b h = let e : pc ≡ pc + 4 * 0 = omega arith in subst (λ n. Code segments limit memory n b) e h
 code_back segments limit memory pc (i ∷ a) b h =

@@ -1,8 +1,8 @@
 -- The code of each sum leaves its value in a0.
 use Rattle.std.proofs.Common.{◌≡◌, ℕ, suc, ◌+◌, ◌-◌, ◌*◌, ◌^◌, ◌<◌, List, ◌++◌, length, sym, ap, ◌∙◌, subst, inl, inr, arith, length-append}
 use Rattle.std.proofs.lemmas.Bool.{cases_eq}
-use Rattle.c_parser.specs.ThinTree.{Term, number, paren, add, sub, mul}
-use Rattle.c_parser.specs.ThinText.{marks}
+use Rattle.thin_parser.specs.ThinTree.{Term, number, paren, add, sub, mul}
+use Rattle.thin_parser.specs.ThinText.{punctuators}
 use Rattle.rv_isa.specs.declared.instruction.Inst.{Inst}
 use Rattle.rv_isa.specs.declared.instruction.Inst.TheVariants.{Add, Sub, Mul}
 use Rattle.rv_isa.specs.Memory.{word_at}
@@ -67,7 +67,7 @@ module _ (l : Layout) (operation : Inst) (f : ℕ → ℕ → ℕ) (joins : Join
   abbrev Result : Type 0
   Result = (t : State) × Comes l.segments s t × Gave room words (f va vb) s t
 
-  -- behind the right operand, the join
+  -- after the right operand, the join
   after_b : (s1 s2 s3 : State) → Ready l room s → s.pc + 4 * words < 2 ^ 32 → vb < 2 ^ 32
       → Gave na (length code_a) va s s1 → Pushed s1 s2 → Code l.segments l.limit s2.memory s2.pc back_b → Gave nb (length code_b) vb s2 s3 → Comes l.segments s s3 → Result
   after_b s1 s2 s3 ready lt fits g1 p2 code g3 comes =
@@ -90,7 +90,7 @@ module _ (l : Layout) (operation : Inst) (f : ℕ → ℕ → ℕ) (joins : Join
       let J = join_works l operation f joins s3 jr here in
       (J.0, comes_then l.segments s s3 J.0 comes J.1, together s1 s2 s3 J.0 ready g1 p2 g3 J.2)
 
-  -- behind the push, the right operand
+  -- after the push, the right operand
   after_push : (s1 s2 : State) → Ready l room s → s.pc + 4 * words < 2 ^ 32 → vb < 2 ^ 32
       → Gave na (length code_a) va s s1 → Code l.segments l.limit s1.memory s1.pc back_a → Pushed s1 s2 → Comes l.segments s s2 → ((s' : State) → Works l nb vb code_b s') → Result
   after_push s1 s2 ready lt fits g1 code p2 comes hb =
@@ -105,7 +105,7 @@ module _ (l : Layout) (operation : Inst) (f : ℕ → ℕ → ℕ) (joins : Join
       let B = hb s2 (code_front l.segments l.limit s2.memory s2.pc code_b (join_code operation) here) rb (omega (arith, g1.pc, p2.pc)) in
       after_b s1 s2 B.0 ready lt fits g1 p2 here B.2 (comes_then l.segments s s2 B.0 comes B.1)
 
-  -- behind the left operand, the push
+  -- after the left operand, the push
   after_a : (s1 : State) → Ready l room s → s.pc + 4 * words < 2 ^ 32 → va < 2 ^ 32 → vb < 2 ^ 32
       → Code l.segments l.limit s.memory s.pc (code_a ++ back_a) → Gave na (length code_a) va s s1 → Comes l.segments s s1 → ((s' : State) → Works l nb vb code_b s') → Result
   after_a s1 ready lt fits_a fits_b code g1 comes hb =
@@ -135,10 +135,10 @@ module _ (l : Layout) (operation : Inst) (f : ℕ → ℕ → ℕ) (joins : Join
 -- ---- each sum
 
 -- the code of a sum gives its value
-pub sum_works : (l : Layout) (t : Term) (s : State) → Works l (marks t) (value t) (sum_code t) s
+pub sum_works : (l : Layout) (t : Term) (s : State) → Works l (punctuators t) (value t) (sum_code t) s
 sum_works l (number n) s code ready lt = number_works l n s code ready lt
 sum_works l (paren a) s code ready lt =
-    let ra : Ready l (marks a) s = record { registers = ready.registers; aligned = ready.aligned; low = omega (arith, ready.low); high = ready.high } in
+    let ra : Ready l (punctuators a) s = record { registers = ready.registers; aligned = ready.aligned; low = omega (arith, ready.low); high = ready.high } in
     let A = sum_works l a s code ra lt in
     let g = A.2 in (
       A.0,
@@ -148,11 +148,11 @@ sum_works l (paren a) s code ready lt =
         value = g.value;
         others = g.others;
         registers = g.registers;
-        memory = same_but_more (register s 2 - 4 * marks a) (register s 2) _ _ s.memory A.0.memory (omega arith) (omega arith) g.memory;
+        memory = same_but_more (register s 2 - 4 * punctuators a) (register s 2) _ _ s.memory A.0.memory (omega arith) (omega arith) g.memory;
         input = g.input;
         output = g.output;
       },
     )
-sum_works l (add a b) s code ready lt = operator_works l (Add 10 10 11) _ adds (sum_code a) (sum_code b) (marks a) (marks b) (value a) (value b) s (value_fits a) (value_fits b) (λ s'. sum_works l a s') (λ s'. sum_works l b s') code ready lt
-sum_works l (sub a b) s code ready lt = operator_works l (Sub 10 10 11) _ subtracts (sum_code a) (sum_code b) (marks a) (marks b) (value a) (value b) s (value_fits a) (value_fits b) (λ s'. sum_works l a s') (λ s'. sum_works l b s') code ready lt
-sum_works l (mul a b) s code ready lt = operator_works l (Mul 10 10 11) _ multiplies (sum_code a) (sum_code b) (marks a) (marks b) (value a) (value b) s (value_fits a) (value_fits b) (λ s'. sum_works l a s') (λ s'. sum_works l b s') code ready lt
+sum_works l (add a b) s code ready lt = operator_works l (Add 10 10 11) _ adds (sum_code a) (sum_code b) (punctuators a) (punctuators b) (value a) (value b) s (value_fits a) (value_fits b) (λ s'. sum_works l a s') (λ s'. sum_works l b s') code ready lt
+sum_works l (sub a b) s code ready lt = operator_works l (Sub 10 10 11) _ subtracts (sum_code a) (sum_code b) (punctuators a) (punctuators b) (value a) (value b) s (value_fits a) (value_fits b) (λ s'. sum_works l a s') (λ s'. sum_works l b s') code ready lt
+sum_works l (mul a b) s code ready lt = operator_works l (Mul 10 10 11) _ multiplies (sum_code a) (sum_code b) (punctuators a) (punctuators b) (value a) (value b) s (value_fits a) (value_fits b) (λ s'. sum_works l a s') (λ s'. sum_works l b s') code ready lt

@@ -1,4 +1,4 @@
--- What the code behind a sum does: it writes the low byte of a0, or exits with it.
+-- What the code after a sum does: it writes the low byte of a0, or exits with it.
 use Rattle.std.proofs.Common.{◌≡◌, ℕ, ◌+◌, ◌/◌, ◌%◌, ◌^◌, ◌<◌, true, List, [], ◌∷◌, ◌++◌, length, pos, slice_set, refl, ap, ◌∙◌, arith, get_or-set_other, length-set}
 use Rattle.rv_isa.specs.declared.instruction.Inst.TheVariants.{Lui, Sb, Addi, Ecall}
 use Rattle.rv_isa.specs.Memory.{Memory, readable, writable, are_mapped, with_byte, bytes_at}

@@ -1,7 +1,7 @@
 -- The code of a thin program. Each sum leaves its value in a0 and keeps what it still needs on the stack.
 use Rattle.std.specs.Prelude.{ℕ, ◌+◌, ◌-◌, ◌*◌, ◌/◌, ◌%◌, ◌^◌, List, [], ◌∷◌, ◌++◌, length, Option, Some, None, pos, negsuc}
 use Rattle.std.specs.Int.{w32, to_le_bytes}
-use Rattle.c_parser.specs.ThinTree.{Term, number, paren, add, sub, mul, Program}
+use Rattle.thin_parser.specs.ThinTree.{Term, number, paren, add, sub, mul, Program}
 use Rattle.rv_isa.specs.declared.image.Image.{Image}
 use Rattle.rv_isa.specs.declared.image.Segment.{Segment}
 use Rattle.rv_isa.specs.declared.instruction.Inst.{Inst}
@@ -77,7 +77,7 @@ abbrev pub code_bytes : List Inst → List ℕ
 code_bytes [] = []
 code_bytes (i ∷ is) = to_le_bytes w32 (encoding i) ++ code_bytes is
 
--- the code stands 0x1000 behind the entry, which jumps to it
+-- the code stands 0x1000 after the entry, which jumps to it
 abbrev pub text_bytes : List Inst → List ℕ
 text_bytes code = code_bytes (Jal 0 (pos 4096) ∷ []) ++ (zeros (0x1000 - 4) ++ code_bytes code)
 

@@ -2,12 +2,12 @@
 
 ghost use Rattle.std.specs.Prelude.{◌≡◌, ◌++◌, ◌∷◌, [], ◌≤◌, map, OnOk, IfOk};
 ghost use Rattle.std.specs.Option.{option_map};
-ghost use Rattle.c_parser.specs.ThinTree.{term_of, program_of};
+ghost use Rattle.thin_parser.specs.ThinTree.{term_of, program_of};
 ghost use Rattle.thin_code.specs.Code.{write_code, puts_code, status_code, exit_code, program_code};
 
 use crate::memory_map::{DATA, MIB, STACK};
 use crate::sums::{A0, A1, A2, A7, SP, sum};
-use c_parser::{Sum, Thin};
+use thin_parser::{Sum, Thin};
 use rv_isa::Inst;
 use std::alloc::{AllocError, Global};
 

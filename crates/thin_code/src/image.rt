@@ -1,8 +1,8 @@
 //! The image of a thin program.
 
 ghost use Rattle.std.specs.Prelude.{◌≡◌, ℕ, List as Sequence, ◌++◌, ◌∷◌, [], ◌<◌, ◌≤◌, ◌^◌, length, vec_len, All, Ok, OnOk, IfOk};
-ghost use Rattle.c_parser.specs.ThinTree.{program_of};
-ghost use Rattle.c_parser.specs.ThinText.{marks, whole_sums, spelled_program};
+ghost use Rattle.thin_parser.specs.ThinTree.{program_of};
+ghost use Rattle.thin_parser.specs.ThinText.{punctuators, whole_sums, spelled_program};
 ghost use Rattle.rv_isa.specs.Encoding.{IsInRange};
 ghost use Rattle.elf32.specs.Loaded.{loaded};
 ghost use Rattle.elf32.specs.Written.{IsWritable, zeros};
@@ -12,7 +12,7 @@ ghost use Rattle.thin_code.specs.Code.{program_code, code_bytes, text_bytes, ful
 
 use crate::code::instructions;
 use crate::memory_map::{DATA, HEAP, MIB, STACK, TEXT};
-use c_parser::Thin;
+use thin_parser::Thin;
 use lay_base::{Bytes, List, NoMemory};
 use rv_isa::{Image, Inst, Segment, encode};
 use std::alloc::{AllocError, Global};
@@ -31,7 +31,7 @@ fn zero_bytes(alloc: Global, n: usize) -> Result<Vec<u8>, AllocError>
     Ok(vec![in alloc; 0; n]?)
 }
 
-/// The words of instructions, the lowest byte of each first, behind what is there.
+/// The words of instructions, the lowest byte of each first, after what is there.
 #[tactic(auto, using(crate::proofs::Lists::bytes_append, std::proofs::lemmas::Grind::common_steps))]
 fn words(bytes: &mut Vec<u8>, code: &[Inst]) -> Result<(), AllocError>
     requires { All IsInRange code.now }
@@ -43,7 +43,7 @@ fn words(bytes: &mut Vec<u8>, code: &[Inst]) -> Result<(), AllocError>
     Ok(())
 }
 
-/// The text segment's bytes: a jump over the first 0x1000 bytes, and behind them the code.
+/// The text segment's bytes: a jump over the first 0x1000 bytes, and after them the code.
 fn text(alloc: Global, code: &[Inst]) -> Result<Vec<u8>, AllocError>
     requires { All IsInRange code.now }
     ensures { IfOk result (λ bytes. bytes.items ≡ text_bytes code.now) }
@@ -120,7 +120,7 @@ pub fn image_of_thin(
     heap: u32,
     stack: u32,
 ) -> Result<Image, NoMemory>
-    requires small { All (λ t. marks t ≤ 300) (whole_sums (program_of program.now)) }
+    requires small { All (λ t. punctuators t ≤ 300) (whole_sums (program_of program.now)) }
     requires few { length (spelled_program (program_of program.now)) ≤ 10000 }
     requires heap { (1 ≤ heap) × (heap ≤ 1024) }
     requires stack { (1 ≤ stack) × (stack ≤ 128) }

@@ -1,6 +1,6 @@
 //! Where the segments of an image stand.
 
-/// The entry, and the code behind it.
+/// The entry, and the code after it.
 pub const TEXT: u32 = 0x0001_0000;
 
 /// The byte that a program writes.

@@ -2,10 +2,10 @@
 
 ghost use Rattle.std.specs.Prelude.{◌≡◌, ◌++◌, ◌∷◌, [], ◌%◌, ◌^◌, OnOk};
 ghost use Rattle.rv_isa.specs.TwosComplement.{signed};
-ghost use Rattle.c_parser.specs.ThinTree.{term_of};
+ghost use Rattle.thin_parser.specs.ThinTree.{term_of};
 ghost use Rattle.thin_code.specs.Code.{number_code, push_code, join_code, sum_code};
 
-use c_parser::Sum;
+use thin_parser::Sum;
 use rv_isa::Inst;
 use std::alloc::AllocError;
 
@@ -117,7 +117,7 @@ fn join(code: &mut Vec<Inst>, operation: Inst) -> Result<(), AllocError>
     ])
 }
 
-/// The instructions of a sum, which leave its value in `a0`, behind what is there.
+/// The instructions of a sum, which leave its value in `a0`, after what is there.
 pub fn sum(code: &mut Vec<Inst>, t: &Sum) -> Result<(), AllocError>
     ensures { OnOk result (code.new.items ≡ code.old.items ++ sum_code (term_of t.now)) }
 {

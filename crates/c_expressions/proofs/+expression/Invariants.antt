@@ -1,16 +1,16 @@
 use Rattle.std.proofs.Common.{◌≡◌, ◌+◌, ◌*◌, map, length, [], true}
 use Rattle.std.specs.Option.{option_map}
-use Rattle.c_ast.specs.Places.{all_right, all_stand, enumerator_right, field_right, item_right, line_right, parameter_right, shape_stands, specifier_stands, stands_if_any, term_stands}
-use Rattle.c_ast.specs.Views.{enumerator_of, field_of, item_of, line_of, parameter_of, shape_if_any, shape_of, specification_of, term_of}
+use Rattle.c_ast.specs.Places.{all_right, all_stand, enumerator_right, member_declarator_right, argument_right, member_declaration_right, parameter_right, declarator_stands, specifier_stands, stands_if_any, expression_stands}
+use Rattle.c_ast.specs.Views.{enumerator_of, member_declarator_of, argument_of, member_declaration_of, parameter_of, declarator_if_any, declarator_of, specifier_of, expression_of}
 use Rattle.c_expressions.specs.Lexemes.{lexemes_of}
-use Rattle.c_expressions.specs.Reading.{chain, argument_in, postfix_step, postfix_in, operator_step, operators_in, comma_step, expression_in, field_step, line_step, enumerator_step, specifier_step, parameter_step, suffix_step, direct_in, at}
+use Rattle.c_expressions.specs.Reading.{chain, argument_in, postfix_step, postfix_in, operator_step, operators_in, comma_step, expression_in, member_declarator_step, member_declaration_step, enumerator_step, specifier_step, parameter_step, suffix_step, direct_in, at}
 use Rattle.c_expressions.proofs.+expression.Given as goal
 
-abbrev pub decreases-forms::form : goal.decreases-forms::form
-decreases-forms::form l = 13 * l.inside + 1
+abbrev pub decreases-type_names::type_name : goal.decreases-type_names::type_name
+decreases-type_names::type_name l = 13 * l.inside + 1
 
-abbrev pub decreases-forms::enclosed_form : goal.decreases-forms::enclosed_form
-decreases-forms::enclosed_form l = 13 * l.inside + 2
+abbrev pub decreases-type_names::enclosed_type_name : goal.decreases-type_names::enclosed_type_name
+decreases-type_names::enclosed_type_name l = 13 * l.inside + 2
 
 abbrev pub decreases-primary::paren : goal.decreases-primary::paren
 decreases-primary::paren l = 13 * l.inside + 1
@@ -81,20 +81,20 @@ decreases-assignment::comma l = 13 * l.inside + 1
 abbrev pub decreases-assignment::expression : goal.decreases-assignment::expression
 decreases-assignment::expression l = 13 * l.inside + 12
 
-abbrev pub decreases-structures::field : goal.decreases-structures::field
-decreases-structures::field l = 13 * l.inside + 1
+abbrev pub decreases-structures::member_declarator : goal.decreases-structures::member_declarator
+decreases-structures::member_declarator l = 13 * l.inside + 1
 
-abbrev pub decreases-structures::fields : goal.decreases-structures::fields
-decreases-structures::fields l = 13 * l.inside + 2
+abbrev pub decreases-structures::member_declarators : goal.decreases-structures::member_declarators
+decreases-structures::member_declarators l = 13 * l.inside + 2
 
-abbrev pub decreases-structures::line : goal.decreases-structures::line
-decreases-structures::line l = 13 * l.inside + 3
+abbrev pub decreases-structures::member_declaration : goal.decreases-structures::member_declaration
+decreases-structures::member_declaration l = 13 * l.inside + 3
 
-abbrev pub decreases-structures::next_line : goal.decreases-structures::next_line
-decreases-structures::next_line l = 13 * l.inside + 1
+abbrev pub decreases-structures::next_member_declaration : goal.decreases-structures::next_member_declaration
+decreases-structures::next_member_declaration l = 13 * l.inside + 1
 
-abbrev pub decreases-structures::lines : goal.decreases-structures::lines
-decreases-structures::lines l = 13 * l.inside + 2
+abbrev pub decreases-structures::member_declarations : goal.decreases-structures::member_declarations
+decreases-structures::member_declarations l = 13 * l.inside + 2
 
 abbrev pub decreases-structures::struct_body : goal.decreases-structures::struct_body
 decreases-structures::struct_body l = 13 * l.inside + 3
@@ -162,8 +162,8 @@ decreases-declarators::brackets l = 13 * l.inside + 5
 abbrev pub decreases-declarators::direct : goal.decreases-declarators::direct
 decreases-declarators::direct l = 13 * l.inside + 6
 
-abbrev pub decreases-declarators::shape : goal.decreases-declarators::shape
-decreases-declarators::shape l = 13 * l.inside + 7
+abbrev pub decreases-declarators::declarator : goal.decreases-declarators::declarator
+decreases-declarators::declarator l = 13 * l.inside + 7
 
 abbrev pub decreases-inside::expression_inside : goal.decreases-inside::expression_inside
 decreases-inside::expression_inside l = 13 * l.inside + 0
@@ -186,50 +186,50 @@ decreases-inside::unary_inside l = 13 * l.inside + 0
 abbrev pub decreases-inside::specifiers_inside : goal.decreases-inside::specifiers_inside
 decreases-inside::specifiers_inside l = 13 * l.inside + 0
 
-abbrev pub decreases-inside::line_inside : goal.decreases-inside::line_inside
-decreases-inside::line_inside l = 13 * l.inside + 0
+abbrev pub decreases-inside::member_declaration_inside : goal.decreases-inside::member_declaration_inside
+decreases-inside::member_declaration_inside l = 13 * l.inside + 0
 
 abbrev pub decreases-inside::enumerator_inside : goal.decreases-inside::enumerator_inside
 decreases-inside::enumerator_inside l = 13 * l.inside + 0
 
-abbrev pub decreases-inside::shape_inside : goal.decreases-inside::shape_inside
-decreases-inside::shape_inside l = 13 * l.inside + 0
+abbrev pub decreases-inside::declarator_inside : goal.decreases-inside::declarator_inside
+decreases-inside::declarator_inside l = 13 * l.inside + 0
 
 abbrev pub invariant-postfix::argument_list-more : goal.invariant-postfix::argument_list-more
-invariant-postfix::argument_list-more l = (chain (argument_in (at l.source.types.now l.inside)) l.turns (map item_of l.all) l.d (lexemes_of l.source.bytes.now l.rest) ≡ chain (argument_in (at l.source.types.now l.inside)) (length (lexemes_of l.source.bytes.now l.tokens) + 1) [] 0 (lexemes_of l.source.bytes.now l.tokens)) × (all_right (map (item_right l.source.file) l.all) ≡ true)
+invariant-postfix::argument_list-more l = (chain (argument_in (at l.source.types.now l.inside)) l.turns (map argument_of l.all) l.d (lexemes_of l.source.bytes.now l.rest) ≡ chain (argument_in (at l.source.types.now l.inside)) (length (lexemes_of l.source.bytes.now l.tokens) + 1) [] 0 (lexemes_of l.source.bytes.now l.tokens)) × (all_right (map (argument_right l.source.file) l.all) ≡ true)
 
 abbrev pub decreases-postfix::argument_list-more : goal.decreases-postfix::argument_list-more
 decreases-postfix::argument_list-more l = l.turns
 
 abbrev pub invariant-postfix::postfix-more : goal.invariant-postfix::postfix-more
-invariant-postfix::postfix-more l = (chain (postfix_step l.inside (at l.source.types.now l.inside)) l.turns (term_of l.x) l.d (lexemes_of l.source.bytes.now l.rest) ≡ postfix_in l.source.types.now l.inside (at l.source.types.now l.inside) (lexemes_of l.source.bytes.now l.tokens)) × ((term_stands l.source.file l.x).right ≡ true)
+invariant-postfix::postfix-more l = (chain (postfix_step l.inside (at l.source.types.now l.inside)) l.turns (expression_of l.x) l.d (lexemes_of l.source.bytes.now l.rest) ≡ postfix_in l.source.types.now l.inside (at l.source.types.now l.inside) (lexemes_of l.source.bytes.now l.tokens)) × ((expression_stands l.source.file l.x).right ≡ true)
 
 abbrev pub decreases-postfix::postfix-more : goal.decreases-postfix::postfix-more
 decreases-postfix::postfix-more l = l.turns
 
 abbrev pub invariant-binary::operators-more : goal.invariant-binary::operators-more
-invariant-binary::operators-more l = (chain (operator_step l.inside (at l.source.types.now l.inside) l.least) l.turns (term_of l.x) l.d (lexemes_of l.source.bytes.now l.rest) ≡ operators_in l.source.types.now l.inside (at l.source.types.now l.inside) l.least (lexemes_of l.source.bytes.now l.tokens)) × ((term_stands l.source.file l.x).right ≡ true)
+invariant-binary::operators-more l = (chain (operator_step l.inside (at l.source.types.now l.inside) l.least) l.turns (expression_of l.x) l.d (lexemes_of l.source.bytes.now l.rest) ≡ operators_in l.source.types.now l.inside (at l.source.types.now l.inside) l.least (lexemes_of l.source.bytes.now l.tokens)) × ((expression_stands l.source.file l.x).right ≡ true)
 
 abbrev pub decreases-binary::operators-more : goal.decreases-binary::operators-more
 decreases-binary::operators-more l = l.turns
 
 abbrev pub invariant-assignment::expression-more : goal.invariant-assignment::expression-more
-invariant-assignment::expression-more l = (chain (comma_step l.inside (at l.source.types.now l.inside)) l.turns (term_of l.x) l.d (lexemes_of l.source.bytes.now l.rest) ≡ expression_in l.source.types.now l.inside (at l.source.types.now l.inside) (lexemes_of l.source.bytes.now l.tokens)) × ((term_stands l.source.file l.x).right ≡ true)
+invariant-assignment::expression-more l = (chain (comma_step l.inside (at l.source.types.now l.inside)) l.turns (expression_of l.x) l.d (lexemes_of l.source.bytes.now l.rest) ≡ expression_in l.source.types.now l.inside (at l.source.types.now l.inside) (lexemes_of l.source.bytes.now l.tokens)) × ((expression_stands l.source.file l.x).right ≡ true)
 
 abbrev pub decreases-assignment::expression-more : goal.decreases-assignment::expression-more
 decreases-assignment::expression-more l = l.turns
 
-abbrev pub invariant-structures::fields-more : goal.invariant-structures::fields-more
-invariant-structures::fields-more l = (chain (field_step (at l.source.types.now l.inside)) l.turns (map field_of l.all) l.d (lexemes_of l.source.bytes.now l.rest) ≡ chain (field_step (at l.source.types.now l.inside)) (length (lexemes_of l.source.bytes.now l.tokens) + 1) [] l.fn.d (lexemes_of l.source.bytes.now l.tokens)) × (all_right (map (field_right l.source.file) l.all) ≡ true)
+abbrev pub invariant-structures::member_declarators-more : goal.invariant-structures::member_declarators-more
+invariant-structures::member_declarators-more l = (chain (member_declarator_step (at l.source.types.now l.inside)) l.turns (map member_declarator_of l.all) l.d (lexemes_of l.source.bytes.now l.rest) ≡ chain (member_declarator_step (at l.source.types.now l.inside)) (length (lexemes_of l.source.bytes.now l.tokens) + 1) [] l.fn.d (lexemes_of l.source.bytes.now l.tokens)) × (all_right (map (member_declarator_right l.source.file) l.all) ≡ true)
 
-abbrev pub decreases-structures::fields-more : goal.decreases-structures::fields-more
-decreases-structures::fields-more l = l.turns
+abbrev pub decreases-structures::member_declarators-more : goal.decreases-structures::member_declarators-more
+decreases-structures::member_declarators-more l = l.turns
 
-abbrev pub invariant-structures::lines-more : goal.invariant-structures::lines-more
-invariant-structures::lines-more l = (chain (line_step (at l.source.types.now l.inside)) l.turns (map line_of l.all) l.d (lexemes_of l.source.bytes.now l.rest) ≡ chain (line_step (at l.source.types.now l.inside)) (length (lexemes_of l.source.bytes.now l.tokens) + 1) [] 0 (lexemes_of l.source.bytes.now l.tokens)) × (all_right (map (line_right l.source.file) l.all) ≡ true)
+abbrev pub invariant-structures::member_declarations-more : goal.invariant-structures::member_declarations-more
+invariant-structures::member_declarations-more l = (chain (member_declaration_step (at l.source.types.now l.inside)) l.turns (map member_declaration_of l.all) l.d (lexemes_of l.source.bytes.now l.rest) ≡ chain (member_declaration_step (at l.source.types.now l.inside)) (length (lexemes_of l.source.bytes.now l.tokens) + 1) [] 0 (lexemes_of l.source.bytes.now l.tokens)) × (all_right (map (member_declaration_right l.source.file) l.all) ≡ true)
 
-abbrev pub decreases-structures::lines-more : goal.decreases-structures::lines-more
-decreases-structures::lines-more l = l.turns
+abbrev pub decreases-structures::member_declarations-more : goal.decreases-structures::member_declarations-more
+decreases-structures::member_declarations-more l = l.turns
 
 abbrev pub invariant-enumerations::enumerators-more : goal.invariant-enumerations::enumerators-more
 invariant-enumerations::enumerators-more l = (chain (enumerator_step (at l.source.types.now l.inside)) l.turns (map enumerator_of l.all) l.d (lexemes_of l.source.bytes.now l.rest) ≡ chain (enumerator_step (at l.source.types.now l.inside)) (length (lexemes_of l.source.bytes.now l.tokens) + 1) [] 0 (lexemes_of l.source.bytes.now l.tokens)) × (all_right (map (enumerator_right l.source.file) l.all) ≡ true)
@@ -238,7 +238,7 @@ abbrev pub decreases-enumerations::enumerators-more : goal.decreases-enumeration
 decreases-enumerations::enumerators-more l = l.turns
 
 abbrev pub invariant-specifiers::specifier_list-more : goal.invariant-specifiers::specifier_list-more
-invariant-specifiers::specifier_list-more l = (chain (specifier_step l.source.types.now l.inside (at l.source.types.now l.inside)) l.turns (map specification_of l.all) l.d (lexemes_of l.source.bytes.now l.rest) ≡ chain (specifier_step l.source.types.now l.inside (at l.source.types.now l.inside)) (length (lexemes_of l.source.bytes.now l.tokens) + 1) [] 0 (lexemes_of l.source.bytes.now l.tokens)) × (all_stand (map (specifier_stands l.source.file) l.all) ≡ true)
+invariant-specifiers::specifier_list-more l = (chain (specifier_step l.source.types.now l.inside (at l.source.types.now l.inside)) l.turns (map specifier_of l.all) l.d (lexemes_of l.source.bytes.now l.rest) ≡ chain (specifier_step l.source.types.now l.inside (at l.source.types.now l.inside)) (length (lexemes_of l.source.bytes.now l.tokens) + 1) [] 0 (lexemes_of l.source.bytes.now l.tokens)) × (all_stand (map (specifier_stands l.source.file) l.all) ≡ true)
 
 abbrev pub decreases-specifiers::specifier_list-more : goal.decreases-specifiers::specifier_list-more
 decreases-specifiers::specifier_list-more l = l.turns
@@ -250,7 +250,7 @@ abbrev pub decreases-declarators::parameter_list-more : goal.decreases-declarato
 decreases-declarators::parameter_list-more l = l.turns
 
 abbrev pub invariant-declarators::direct-more : goal.invariant-declarators::direct-more
-invariant-declarators::direct-more l = (chain (suffix_step l.inside (at l.source.types.now l.inside)) l.turns (shape_if_any (option_map shape_of l.x)) l.d (lexemes_of l.source.bytes.now l.rest) ≡ direct_in l.source.types.now l.inside (at l.source.types.now l.inside) (lexemes_of l.source.bytes.now l.tokens)) × (stands_if_any (option_map (shape_stands l.source.file) l.x) ≡ true)
+invariant-declarators::direct-more l = (chain (suffix_step l.inside (at l.source.types.now l.inside)) l.turns (declarator_if_any (option_map declarator_of l.x)) l.d (lexemes_of l.source.bytes.now l.rest) ≡ direct_in l.source.types.now l.inside (at l.source.types.now l.inside) (lexemes_of l.source.bytes.now l.tokens)) × (stands_if_any (option_map (declarator_stands l.source.file) l.x) ≡ true)
 
 abbrev pub decreases-declarators::direct-more : goal.decreases-declarators::direct-more
 decreases-declarators::direct-more l = l.turns

@@ -4,7 +4,7 @@ ghost use Rattle.std.specs.Prelude.{◌≡◌, ◌≢◌, ◌≤◌, ◌/◌, �
 ghost use Rattle.std.specs.Str.{bytes_eq};
 ghost use Rattle.lay_base.specs.Calls.{ReadGives, WriteGives};
 ghost use Rattle.lay_base.specs.MemoryObjects.{called, contents_of, fails_next, read_fails};
-ghost use Rattle.lay_base.specs.Told.{FilesKeepBut};
+ghost use Rattle.lay_base.specs.Known.{FilesKeepBut};
 
 use crate::bytes::{Bytes, Name};
 use crate::list::List;

@@ -16,7 +16,7 @@ pub struct Plan {
 
 impl Plan {
     ghost use Rattle.std.specs.Prelude.{◌≡◌, ◌≤◌, false};
-    ghost use Rattle.lay_base.specs.Told.{raised};
+    ghost use Rattle.lay_base.specs.Known.{raised};
     ghost use Rattle.lay_base.specs.MemoryObjects.{called, fails_next, plan_of};
 
     /// A plan before the first call.

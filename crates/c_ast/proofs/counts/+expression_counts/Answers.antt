@@ -1,5 +1,5 @@
 use Rattle.std.proofs.Common.{arith, rules}
-use Rattle.c_ast.specs.declared.expression.ExpressionItem.{the_lemmas}
+use Rattle.c_ast.specs.declared.expression.Argument.{the_lemmas}
 use Rattle.c_ast.proofs.Initializers.{next_nodes}
 use Rattle.c_ast.proofs.counts.+expression_counts.Goals as goal
 

@@ -1,11 +1,11 @@
 use Rattle.std.proofs.Common.{◌≡◌, ◌+◌, drop}
 use Rattle.std.specs.Prelude.{map}
-use Rattle.c_ast.specs.Nodes.{nodes_entries, nodes_arms}
-use Rattle.c_ast.specs.Views.{entry_of, entries_of, arm_of, arms_of}
+use Rattle.c_ast.specs.Nodes.{nodes_block_items, nodes_switch_items}
+use Rattle.c_ast.specs.Views.{block_item_of, block_items_of, switch_item_of, switch_items_of}
 use Rattle.c_ast.proofs.counts.+statement_counts.Given as goal
 
-abbrev pub invariant-entries_nodes-loop-entry : goal.invariant-entries_nodes-loop-entry
-invariant-entries_nodes-loop-entry l = l.count + nodes_entries (entries_of (map entry_of (drop l.entry-index l.all))) ≡ nodes_entries (entries_of (map entry_of l.all))
+abbrev pub invariant-block_items_nodes-loop-block_item : goal.invariant-block_items_nodes-loop-block_item
+invariant-block_items_nodes-loop-block_item l = l.count + nodes_block_items (block_items_of (map block_item_of (drop l.block_item-index l.all))) ≡ nodes_block_items (block_items_of (map block_item_of l.all))
 
-abbrev pub invariant-arms_nodes-loop-arm : goal.invariant-arms_nodes-loop-arm
-invariant-arms_nodes-loop-arm l = l.count + nodes_arms (arms_of (map arm_of (drop l.arm-index l.all))) ≡ nodes_arms (arms_of (map arm_of l.all))
+abbrev pub invariant-switch_items_nodes-loop-switch_item : goal.invariant-switch_items_nodes-loop-switch_item
+invariant-switch_items_nodes-loop-switch_item l = l.count + nodes_switch_items (switch_items_of (map switch_item_of (drop l.switch_item-index l.all))) ≡ nodes_switch_items (switch_items_of (map switch_item_of l.all))

@@ -1,11 +1,11 @@
 use Rattle.std.proofs.Common.{◌≡◌, drop}
 use Rattle.std.specs.Prelude.{map, max}
-use Rattle.c_ast.specs.Sizes.{depth_entries, depth_arms}
-use Rattle.c_ast.specs.Views.{entry_of, entries_of, arm_of, arms_of}
+use Rattle.c_ast.specs.Depths.{depth_block_items, depth_switch_items}
+use Rattle.c_ast.specs.Views.{block_item_of, block_items_of, switch_item_of, switch_items_of}
 use Rattle.c_ast.proofs.depths.+statement_depths.Given as goal
 
-abbrev pub invariant-entries_depth-loop-entry : goal.invariant-entries_depth-loop-entry
-invariant-entries_depth-loop-entry l = max l.most (depth_entries (entries_of (map entry_of (drop l.entry-index l.all)))) ≡ depth_entries (entries_of (map entry_of l.all))
+abbrev pub invariant-block_items_depth-loop-block_item : goal.invariant-block_items_depth-loop-block_item
+invariant-block_items_depth-loop-block_item l = max l.most (depth_block_items (block_items_of (map block_item_of (drop l.block_item-index l.all)))) ≡ depth_block_items (block_items_of (map block_item_of l.all))
 
-abbrev pub invariant-arms_depth-loop-arm : goal.invariant-arms_depth-loop-arm
-invariant-arms_depth-loop-arm l = max l.most (depth_arms (arms_of (map arm_of (drop l.arm-index l.all)))) ≡ depth_arms (arms_of (map arm_of l.all))
+abbrev pub invariant-switch_items_depth-loop-switch_item : goal.invariant-switch_items_depth-loop-switch_item
+invariant-switch_items_depth-loop-switch_item l = max l.most (depth_switch_items (switch_items_of (map switch_item_of (drop l.switch_item-index l.all)))) ≡ depth_switch_items (switch_items_of (map switch_item_of l.all))

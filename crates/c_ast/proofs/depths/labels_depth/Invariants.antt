@@ -1,6 +1,6 @@
 use Rattle.std.proofs.Common.{◌≡◌, drop}
 use Rattle.std.specs.Prelude.{map, max}
-use Rattle.c_ast.specs.Sizes.{depth_labels}
+use Rattle.c_ast.specs.Depths.{depth_labels}
 use Rattle.c_ast.specs.Views.{label_of}
 use Rattle.c_ast.proofs.depths.labels_depth.Given as goal
 

@@ -12,12 +12,12 @@ loop-rest-init c = record {
 pub returns-in_default : goal.returns-in_default
 returns-in_default c = absurd (leads_never parts_are_exact _ c.loop-rest.from c.loop-rest.begins_line c.loop-rest.rest.now c.loop-rest.lines c.in_default.field-0 (sym c.part_at.ensures.is ∙ c.in_default.is) (search rules) c.loop-rest.invariant.leads)
 
-pub behind_part-lines-requires-clause-small : goal.behind_part-lines-requires-clause-small
-behind_part-lines-requires-clause-small c = c.loop-rest.invariant.leads.small.next
+pub after_part-lines-requires-clause-small : goal.after_part-lines-requires-clause-small
+after_part-lines-requires-clause-small c = c.loop-rest.invariant.leads.small.next
 
 pub loop-rest-preserved : goal.loop-rest-preserved
 loop-rest-preserved c = record {
-  leads = rw (c.begins_line_behind-begins_line.ensures, c.split_at-in-loop-rest.ensures.back, c.behind_part-lines.ensures, c.split_at-in-loop-rest.ensures.front) (leads_more parts_are_exact _ c.loop-rest.from c.loop-rest.begins_line c.loop-rest.rest.now c.loop-rest.lines c.in-Ok.kind c.in-Ok.size (search rules) (search rules) c.loop-rest.invariant.leads);
+  leads = rw (c.begins_line_after_part-begins_line.ensures, c.split_at-in-loop-rest.ensures.back, c.after_part-lines.ensures, c.split_at-in-loop-rest.ensures.front) (leads_more parts_are_exact _ c.loop-rest.from c.loop-rest.begins_line c.loop-rest.rest.now c.loop-rest.lines c.in-Ok.kind c.in-Ok.size (search rules) (search rules) c.loop-rest.invariant.leads);
   place = search rules;
 }
 

@@ -1,6 +1,6 @@
 use Rattle.std.proofs.Common.{subst, List, ℕ}
-use Rattle.c_parser.specs.ThinTree.{program_of}
-use Rattle.c_parser.specs.ThinText.{IsThinText}
+use Rattle.thin_parser.specs.ThinTree.{program_of}
+use Rattle.thin_parser.specs.ThinText.{IsThinText}
 use Rattle.layc.specs.Outside.{stream}
 use Rattle.layc.specs.Stages.{ElfGives}
 use Rattle.std.proofs.Common.{Err}

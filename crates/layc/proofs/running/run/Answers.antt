@@ -1,4 +1,4 @@
-use Rattle.rv_machine.specs.Runs.{seen}
+use Rattle.rv_machine.specs.Runs.{observed}
 use Rattle.layc.specs.Outside.{stream}
 use Rattle.layc.proofs.Ran.{run_gives}
 use Rattle.layc.proofs.running.run.Goals as goal
@@ -11,6 +11,6 @@ returns-clause-gives g c =
     (g.H.Host.failed_writes c.args.host.now) (g.H.Host.failed_writes c.bytes_of.new.host)
     (stream (g.I.Source.left c.args.input.now) (g.I.Source.faults c.args.input.now)) (stream (g.I.Source.left c.run.new.input) (g.I.Source.faults c.run.new.input))
     (stream (g.O.Sink.written c.args.out.now) (g.O.Sink.faults c.args.out.now)) (stream (g.O.Sink.written c.run.new.out) (g.O.Sink.faults c.run.new.out))
-    c.in_ok-image.image (seen c.run.new.self) c.in_ok-bytes.bytes.items
+    c.in_ok-image.image (observed c.run.new.self) c.in_ok-bytes.bytes.items
     c.bytes_of.ensures.files c.in_ok-bytes.ensures.gives.0 c.in_ok-bytes.ensures.gives.1 c.in_ok-image.ensures.gives
     c.run.result (c.run.ensures.gives c.in_ok-image.image c.in_ok-machine.ensures))

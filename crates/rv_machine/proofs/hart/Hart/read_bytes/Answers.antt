@@ -1,7 +1,7 @@
 use Rattle.std.proofs.Common.{[], drop, sym, refl}
 use Rattle.rv_machine.specs.View.{content_of}
 use Rattle.rv_machine.specs.Harts.{places_of}
-use Rattle.rv_machine.proofs.Pieces.{reads_told}
+use Rattle.rv_machine.proofs.Pieces.{reads_known}
 use Rattle.rv_machine.proofs.Accesses.{read_goes}
 use Rattle.rv_machine.proofs.Reaching.{appends_nothing}
 use Rattle.rv_machine.proofs.hart.Hart.read_bytes.Goals as goal
@@ -9,8 +9,8 @@ use Rattle.rv_machine.proofs.hart.Hart.read_bytes.Goals as goal
 pub returns-in-Ok-clause-gives : goal.returns-in-Ok-clause-gives
 returns-in-Ok-clause-gives g c = (
   record { read_faults = c.in-Ok.ensures.kept refl; write_faults = refl },
-  λ input told.
-      let reads = reads_told (g.I.Source.faults c.args.input.now) (g.I.Source.faults c.read_in.new.input) _ _ input _ _ _ _ c.in-Ok.n told c.in-Ok.ensures.gives in (
+  λ input known.
+      let reads = reads_known (g.I.Source.faults c.args.input.now) (g.I.Source.faults c.read_in.new.input) _ _ input _ _ _ _ c.in-Ok.n known c.in-Ok.ensures.gives in (
         drop c.in-Ok.n input,
         [],
         reads.rest,

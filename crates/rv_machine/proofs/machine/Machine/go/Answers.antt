@@ -9,7 +9,7 @@ pub loop-done-init : goal.loop-done-init
 loop-done-init g c = record {
   placed = refl;
   steady = steady_none _;
-  reached = λ input told. reached_none (places_of c.args.self.now.hart) (state_of c.args.self.now.hart) _ input told;
+  reached = λ input known. reached_none (places_of c.args.self.now.hart) (state_of c.args.self.now.hart) _ input known;
 }
 
 pub loop-done-preserved : goal.loop-done-preserved

@@ -1,6 +1,6 @@
 use Rattle.std.proofs.Common.{true, refl, arith}
 use Rattle.std.proofs.lemmas.Result.{err_from_is_err_and}
-use Rattle.rv_machine.proofs.Pieces.{mapped_behind, bytes_none, wrote_split, wrote_more, wrote_part, wrote_all}
+use Rattle.rv_machine.proofs.Pieces.{mapped_after, bytes_none, wrote_split, wrote_more, wrote_part, wrote_all}
 use Rattle.rv_machine.proofs.memory.Memory.write_out.Goals as goal
 
 pub returns-in_err-put-clause-gives : goal.returns-in_err-put-clause-gives
@@ -17,7 +17,7 @@ loop-left-preserved g c =
     let wrote = wrote_split _ _ _ _ _ piece.result.now _ _ c.loop-left.left c.loop-left.invariant.wrote piece.ensures.bytes within in
     record {
       place = omega arith;
-      mapped = mapped_behind _ _ _ _ c.loop-left.left c.loop-left.invariant.mapped within;
+      mapped = mapped_after _ _ _ _ c.loop-left.left c.loop-left.invariant.mapped within;
       wrote = wrote_more _ _ _ _ _ _ _ _ _ wrote (c.in_ok-put.ensures.kept (refl {a = true})) c.in_ok-put.ensures.gives;
     }
 

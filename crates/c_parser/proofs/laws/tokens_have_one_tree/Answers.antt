@@ -1,0 +1,5 @@
+use Rattle.c_parser.proofs.OneTree.{one_tree}
+use Rattle.c_parser.proofs.laws.tokens_have_one_tree.Goals as goal
+
+pub returns : goal.returns
+returns c = one_tree

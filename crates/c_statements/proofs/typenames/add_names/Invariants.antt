@@ -1,7 +1,0 @@
-use Rattle.std.proofs.Common.{◌≡◌, ◌++◌, drop, map}
-use Rattle.c_ast.specs.Levels.{declared_names}
-use Rattle.c_ast.specs.Views.{declared_of}
-use Rattle.c_statements.proofs.typenames.add_names.Given as goal
-
-abbrev pub invariant-loop-one : goal.invariant-loop-one
-invariant-loop-one l = l.types ++ declared_names (map declared_of (drop l.one-index l.declarators)) ≡ l.fn.types ++ declared_names (map declared_of l.declarators)

@@ -1,4 +1,0 @@
-pub mod StatementReading
-pub mod TreesOfTokens
-pub mod Openings
-pub mod Parsing

@@ -1,0 +1,29 @@
+//! A text answered in writing: its tree, or that it has none.
+
+use crate::answer::{Answer, tree_of};
+use crate::tree_text::put_tree;
+use crate::writer::Writer;
+use std::alloc::{AllocError, Global};
+
+/// What is written for a text that has no tree.
+pub const NO_TREE: &str = "no tree";
+
+fn put_answer(out: &mut Writer, alloc: Global, text: &str) -> Result<(), AllocError> {
+    match tree_of(alloc, text.as_bytes()) {
+        Ok(tree) => put_tree(out, &tree),
+        Err(Answer::NoParse) => out.word(NO_TREE),
+        Err(_) => out.word("no answer"),
+    }
+}
+
+/// The tree of a text, with the places of its nodes where they are in the file of that number.
+pub fn written_with(alloc: Global, places: Option<u16>, text: &str) -> Result<String, AllocError> {
+    let mut out = Writer::new(alloc, places);
+    put_answer(&mut out, alloc, text)?;
+    String::from_utf8_lossy(alloc, out.as_slice())
+}
+
+/// The tree of a text.
+pub fn written(alloc: Global, text: &str) -> Result<String, AllocError> {
+    written_with(alloc, None, text)
+}

@@ -1,0 +1,29 @@
+//! Trees and lists as they are built, where an item that finds no memory is let go.
+
+ghost use Rattle.std.specs.Prelude.{◌≡◌, ◌++◌, ◌∷◌, [], IfOk, OnErr, OnOk};
+
+use crate::boxed::Boxed;
+use crate::list::List;
+use crate::no_memory::NoMemory;
+use std::alloc::Global;
+
+/// A value in a box.
+pub fn boxed<T: Drop>(alloc: Global, value: T) -> Result<Boxed<T>, NoMemory>
+    ensures { IfOk result (λ boxed. boxed ≡ value) }
+{
+    match Boxed::new(alloc, value) {
+        Ok(boxed) => Ok(boxed),
+        Err(_) => Err(NoMemory),
+    }
+}
+
+/// Adds an item at the end of a list.
+pub fn add<T: Drop>(list: &mut List<T>, item: T) -> Result<(), NoMemory>
+    ensures added { OnOk result (list.new ≡ list.old ++ item ∷ []) }
+    ensures unchanged { OnErr result (list.new ≡ list.old) }
+{
+    match list.push(item) {
+        Ok(()) => Ok(()),
+        Err(_) => Err(NoMemory),
+    }
+}
