@@ -2,9 +2,9 @@
 
 ghost use Rattle.std.specs.Prelude.{◌≡◌, ◌++◌, ◌∷◌, [], IfOk, OnErr, OnOk};
 
-use crate::boxed::Boxed;
 use crate::list::List;
 use crate::no_memory::NoMemory;
+use crate::value_box::Boxed;
 use std::alloc::Global;
 
 /// A value in a box.

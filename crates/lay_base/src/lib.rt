@@ -5,7 +5,6 @@
 //! and that an object of the outside fails only where its count of faults says so.
 #![tactic(auto)]
 
-mod boxed;
 mod building;
 mod bytes;
 mod faults;
@@ -15,8 +14,8 @@ mod no_memory;
 mod operators;
 mod outside;
 mod place;
+mod value_box;
 
-pub use boxed::Boxed;
 pub use building::{add, boxed};
 pub use bytes::{Bytes, Name};
 pub use faults::{
@@ -28,3 +27,4 @@ pub use no_memory::NoMemory;
 pub use operators::{divide, remain, shift_left, shift_right};
 pub use outside::{Host, HostRead, HostWrite, Sink, SinkFault, Source, SourceFault};
 pub use place::{File, Files, Place};
+pub use value_box::Boxed;
