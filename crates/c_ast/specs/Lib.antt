@@ -1,7 +1,8 @@
 pub mod Trees
 pub mod Spelling
 pub mod WellFormed
-pub mod Depths
-pub mod Nodes
+pub mod Sizes
 pub mod Places
 pub mod Views
+pub mod Lexemes
+pub mod TreesOfFiles

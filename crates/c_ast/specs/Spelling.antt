@@ -17,8 +17,8 @@ use Rattle.c_ast.specs.declared.operators.BinaryOp.{BinaryOp}
 use Rattle.c_ast.specs.declared.operators.BinaryOp.TheVariants as B
 use Rattle.c_ast.specs.declared.operators.AssignOp.{AssignOp}
 use Rattle.c_ast.specs.declared.operators.AssignOp.TheVariants as A
-use Rattle.c_ast.specs.declared.operators.SpecifierWord.{SpecifierWord}
-use Rattle.c_ast.specs.declared.operators.SpecifierWord.TheVariants as S
+use Rattle.c_ast.specs.declared.operators.SpecifierKeyword.{SpecifierKeyword}
+use Rattle.c_ast.specs.declared.operators.SpecifierKeyword.TheVariants as S
 use Rattle.c_ast.specs.Trees
 
 -- a token with the bytes that it is, and its text
@@ -84,7 +84,7 @@ assign_punctuator A.BitAnd = M.AndEqual
 assign_punctuator A.BitXor = M.CaretEqual
 assign_punctuator A.BitOr = M.BarEqual
 
-abbrev pub specifier_keyword : SpecifierWord → Keyword
+abbrev pub specifier_keyword : SpecifierKeyword → Keyword
 specifier_keyword S.Typedef = W.Typedef
 specifier_keyword S.Extern = W.Extern
 specifier_keyword S.Static = W.Static

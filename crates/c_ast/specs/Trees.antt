@@ -7,7 +7,7 @@ use Rattle.c_ast.specs.declared.operators.StepOp.{StepOp}
 use Rattle.c_ast.specs.declared.operators.UnaryOp.{UnaryOp}
 use Rattle.c_ast.specs.declared.operators.BinaryOp.{BinaryOp}
 use Rattle.c_ast.specs.declared.operators.AssignOp.{AssignOp}
-use Rattle.c_ast.specs.declared.operators.SpecifierWord.{SpecifierWord}
+use Rattle.c_ast.specs.declared.operators.SpecifierKeyword.{SpecifierKeyword}
 
 mutual
   -- an expression (6.5)
@@ -54,7 +54,7 @@ mutual
     and_specifier : (s : Specifier) → (more : Specifiers) → Specifiers
 
   pub data Specifier : Type 0 where
-    plain : (word : SpecifierWord) → (at : ℕ) → Specifier
+    plain : (word : SpecifierKeyword) → (at : ℕ) → Specifier
     typename : (x : Spelling) → Specifier
     struct_named : (at : ℕ) → (x : Spelling) → Specifier
     struct_body : (at : ℕ) → (x : Option Spelling) → (left : ℕ) → (member_declarations : MemberDeclarations) → (right : ℕ) → Specifier

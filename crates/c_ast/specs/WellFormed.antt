@@ -5,7 +5,7 @@ use Rattle.std.specs.List.{list_any}
 use Rattle.std.specs.Str.{bytes_eq}
 use Rattle.c_ast.specs.declared.operators.BinaryOp.{BinaryOp}
 use Rattle.c_ast.specs.declared.operators.BinaryOp.TheVariants as B
-use Rattle.c_ast.specs.declared.operators.SpecifierWord.TheVariants as S
+use Rattle.c_ast.specs.declared.operators.SpecifierKeyword.TheVariants as S
 use Rattle.c_ast.specs.Trees
 
 -- ---- levels of expressions, from loosest: 0 comma, 1 assignment, 2 ?:, 3 to 12 binary operators, 13 cast, 14 unary,

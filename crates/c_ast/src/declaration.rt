@@ -2,12 +2,11 @@
 
 use crate::expression::{Declarator, Expression, Specifier};
 use crate::words::At;
-use lay_base::{Boxed, List, Place};
+use lay_base::{Boxed, List};
 
 /// Specifiers, declarators with their initializers, and `;`.
 #[derive(Drop)]
 pub struct Declaration {
-    pub place: Place,
     pub specifiers: List<Specifier>,
     pub declarators: List<InitDeclarator>,
     pub semicolon: At,

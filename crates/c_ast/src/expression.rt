@@ -1,22 +1,15 @@
 //! Expressions (C99 6.5), and what they lead to: type names (6.7.6), specifiers (6.7.1 to 6.7.3)
 //! and declarators (6.7.5).
 
-use crate::operators::{AssignOp, BinaryOp, SpecifierWord, StepOp, UnaryOp};
+use crate::operators::{AssignOp, BinaryOp, SpecifierKeyword, StepOp, UnaryOp};
 use crate::words::{At, Spelling};
 use c_types::IntKind;
-use lay_base::{Boxed, List, Place};
+use lay_base::{Boxed, List};
 
+/// An expression: the alternatives, with the tokens of each in their order.
 #[cycle(expression)]
 #[derive(Drop)]
-pub struct Expression {
-    pub place: Place,
-    pub node: ExpressionNode,
-}
-
-/// The alternatives, with the tokens of each in their order.
-#[cycle(expression)]
-#[derive(Drop)]
-pub enum ExpressionNode {
+pub enum Expression {
     Name(Spelling),
     /// An integer constant with its value and type.
     Number(Spelling, u32, IntKind),
@@ -75,15 +68,8 @@ pub struct TypeName {
 
 #[cycle(expression)]
 #[derive(Drop)]
-pub struct Specifier {
-    pub place: Place,
-    pub node: SpecifierNode,
-}
-
-#[cycle(expression)]
-#[derive(Drop)]
-pub enum SpecifierNode {
-    Spelling(SpecifierWord, At),
+pub enum Specifier {
+    Keyword(SpecifierKeyword, At),
     /// A name that an earlier `typedef` of the file declared.
     Typename(Spelling),
     /// `struct` name
@@ -100,7 +86,6 @@ pub enum SpecifierNode {
 #[cycle(expression)]
 #[derive(Drop)]
 pub struct MemberDeclaration {
-    pub place: Place,
     pub specifiers: List<Specifier>,
     pub declarators: List<MemberDeclarator>,
     pub semicolon: At,
@@ -114,12 +99,10 @@ pub struct MemberDeclarator {
     pub declarator: Declarator,
 }
 
-/// An enumerator, with the comma before it where it is not the first (C99 6.7.2.2). Its place is
-/// that of its name.
+/// An enumerator, with the comma before it where it is not the first (C99 6.7.2.2).
 #[cycle(expression)]
 #[derive(Drop)]
 pub struct Enumerator {
-    pub place: Place,
     pub comma: Option<At>,
     pub name: Spelling,
     pub value: Option<EnumeratorValue>,
@@ -133,19 +116,11 @@ pub struct EnumeratorValue {
     pub value: Boxed<Expression>,
 }
 
-/// A declarator, with or without its name (C99 6.7.5, 6.7.6).
-#[cycle(expression)]
-#[derive(Drop)]
-pub struct Declarator {
-    pub place: Place,
-    pub node: DeclaratorNode,
-}
-
-/// The alternatives. What a pointer, an array or a function is of is left out where a declarator
+/// A declarator, with or without its name (C99 6.7.5, 6.7.6). What a pointer, an array or a function is of is left out where a declarator
 /// without a name has nothing there.
 #[cycle(expression)]
 #[derive(Drop)]
-pub enum DeclaratorNode {
+pub enum Declarator {
     Identifier(Spelling),
     /// `*`, any number of `const`, and a declarator
     Pointer(At, List<At>, Option<Boxed<Declarator>>),

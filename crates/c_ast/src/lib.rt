@@ -1,11 +1,12 @@
 //! The tree of a source file, as the grammar of C has it (C99 6.5 to 6.9), with every token kept.
 #![tactic(auto)]
 
-mod counts;
 mod declaration;
-mod depths;
 mod expression;
+mod measuring;
 mod operators;
+mod places;
+mod size;
 mod sizes;
 mod statement;
 mod tree;
@@ -13,12 +14,16 @@ mod words;
 
 pub use declaration::{Declaration, InitDeclarator, InitialValue};
 pub use expression::{
-    Declarator, DeclaratorNode, Enumerator, EnumeratorValue, Expression, Argument,
-    ExpressionNode, MemberDeclarator, MemberDeclaration, Parameter, Parameters, Specifier, SpecifierNode,
-    TypeName,
+    Argument, Declarator, Enumerator, EnumeratorValue, Expression, MemberDeclaration,
+    MemberDeclarator, Parameter, Parameters, Specifier, TypeName,
 };
-pub use operators::{AssignOp, BinaryOp, SpecifierWord, StepOp, UnaryOp};
-pub use sizes::{depth, nodes};
-pub use statement::{SwitchItem, Block, BlockItem, ForStart, Label, Statement, StatementNode};
+pub use operators::{AssignOp, BinaryOp, SpecifierKeyword, StepOp, UnaryOp};
+pub use places::{
+    first_if_any, first_of_declaration, first_of_declarator, first_of_expression, first_of_item,
+    first_of_specifier, first_of_specifiers, first_of_statement,
+};
+pub use size::Size;
+pub use sizes::{depth, nodes, nodes_of_item};
+pub use statement::{BlockItem, ForStart, Label, Statement, SwitchItem};
 pub use tree::{Function, Item, Tree};
 pub use words::{At, Spelling};

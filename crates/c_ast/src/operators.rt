@@ -94,7 +94,7 @@ pub enum AssignOp {
 
 /// The keywords that are specifiers by themselves (C99 6.7.1 to 6.7.3).
 #[derive(Clone, Copy)]
-pub enum SpecifierWord {
+pub enum SpecifierKeyword {
     Typedef,
     Extern,
     Static,

@@ -3,20 +3,14 @@
 use crate::declaration::Declaration;
 use crate::expression::Expression;
 use crate::words::At;
-use lay_base::{Boxed, List, Place};
+use lay_base::{Boxed, List};
 
+/// A statement: the alternatives, with the tokens of each in their order.
 #[cycle(statement)]
 #[derive(Drop)]
-pub struct Statement {
-    pub place: Place,
-    pub node: StatementNode,
-}
-
-/// The alternatives, with the tokens of each in their order.
-#[cycle(statement)]
-#[derive(Drop)]
-pub enum StatementNode {
-    Block(Block),
+pub enum Statement {
+    /// `{` items `}`
+    Block(At, List<BlockItem>, At),
     /// expression or none `;`
     Expression(Option<Boxed<Expression>>, At),
     /// `if` `(` expression `)` statement
@@ -46,15 +40,6 @@ pub enum StatementNode {
     Continue(At, At),
     /// `return` expression or none `;`
     Return(At, Option<Boxed<Expression>>, At),
-}
-
-/// `{` items `}`
-#[cycle(statement)]
-#[derive(Drop)]
-pub struct Block {
-    pub open: At,
-    pub items: List<BlockItem>,
-    pub close: At,
 }
 
 #[cycle(statement)]

@@ -2,8 +2,9 @@
 
 use crate::declaration::Declaration;
 use crate::expression::{Declarator, Specifier};
-use crate::statement::Block;
-use lay_base::{List, Place};
+use crate::statement::BlockItem;
+use crate::words::At;
+use lay_base::List;
 
 #[derive(Drop)]
 pub struct Tree {
@@ -20,8 +21,9 @@ pub enum Item {
 /// The definition of a function (C99 6.9.1).
 #[derive(Drop)]
 pub struct Function {
-    pub place: Place,
     pub specifiers: List<Specifier>,
     pub declarator: Declarator,
-    pub body: Block,
+    pub open: At,
+    pub body: List<BlockItem>,
+    pub close: At,
 }

@@ -3,8 +3,8 @@
 ghost use Rattle.c_ast.specs.Places.{expression_stands};
 ghost use Rattle.c_ast.specs.Views.{expression_of};
 ghost use Rattle.c_expressions.specs.Gives.{Gives};
-ghost use Rattle.c_expressions.specs.Lexemes.{lexemes_of};
-ghost use Rattle.c_expressions.specs.Reading.{chosen_in, conditional_in, assignment_after, assignment_in, comma_step, expression_in, at};
+ghost use Rattle.c_ast.specs.Lexemes.{lexemes_of};
+ghost use Rattle.c_grammar.specs.Reading.{chosen_in, conditional_in, assignment_after, assignment_in, comma_step, expression_in, at};
 ghost use Rattle.std.specs.Prelude.{IfOk, true, ◌≡◌};
 
 use crate::binary::operators;
@@ -22,7 +22,7 @@ use std::alloc::Global;
 
 /// What stands after `?`.
 #[cycle(expression)]
-#[tactic(auto, unfolding(crate::specs::Reading::chosen_in))]
+#[tactic(auto, unfolding(c_grammar::specs::Reading::chosen_in))]
 pub fn chosen<'a>(
     alloc: Global,
     source: &Source,
@@ -49,7 +49,7 @@ pub fn chosen<'a>(
 
 /// A conditional expression (C99 6.5.15).
 #[cycle(expression)]
-#[tactic(auto, unfolding(crate::specs::Reading::conditional_in))]
+#[tactic(auto, unfolding(c_grammar::specs::Reading::conditional_in))]
 pub fn conditional<'a>(
     alloc: Global,
     source: &Source,
@@ -78,7 +78,7 @@ pub fn conditional<'a>(
 
 /// An assignment operator with what is assigned, if one stands at the front.
 #[cycle(expression)]
-#[tactic(auto, unfolding(crate::specs::Reading::assignment_after))]
+#[tactic(auto, unfolding(c_grammar::specs::Reading::assignment_after))]
 pub fn assigned<'a>(
     alloc: Global,
     source: &Source,
@@ -113,7 +113,7 @@ pub fn assigned<'a>(
 
 /// An assignment expression (C99 6.5.16).
 #[cycle(expression)]
-#[tactic(auto, unfolding(crate::specs::Reading::assignment_in))]
+#[tactic(auto, unfolding(c_grammar::specs::Reading::assignment_in))]
 pub fn assignment<'a>(
     alloc: Global,
     source: &Source,
@@ -130,7 +130,7 @@ pub fn assignment<'a>(
 
 /// One comma more with its second operand, if one stands at the front.
 #[cycle(expression)]
-#[tactic(auto, unfolding(crate::specs::Reading::comma_step))]
+#[tactic(auto, unfolding(c_grammar::specs::Reading::comma_step))]
 pub fn comma<'a>(
     alloc: Global,
     source: &Source,
@@ -166,7 +166,7 @@ pub fn comma<'a>(
 
 /// An expression (C99 6.5.17).
 #[cycle(expression)]
-#[tactic(auto, using(crate::proofs::Turns::turns), unfolding(crate::specs::Reading::expression_in))]
+#[tactic(auto, using(c_grammar::proofs::Rounds::rounds), unfolding(c_grammar::specs::Reading::expression_in))]
 pub fn expression<'a>(
     alloc: Global,
     source: &Source,

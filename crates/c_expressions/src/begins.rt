@@ -1,8 +1,8 @@
 //! What begins at a token.
 
 ghost use Rattle.std.specs.Prelude.{◌≡◌};
-ghost use Rattle.c_expressions.specs.Lexemes.{lexemes_of};
-ghost use Rattle.c_expressions.specs.Reading.{begins_specifier, begins_type_name, begins_parameters, begins_enclosed, begins_void, another};
+ghost use Rattle.c_ast.specs.Lexemes.{lexemes_of};
+ghost use Rattle.c_grammar.specs.Reading.{begins_specifier, begins_type_name, begins_parameters, begins_enclosed, begins_void, another};
 
 use crate::names::is_type;
 use crate::operators::keyword_specifier_of;

@@ -3,8 +3,8 @@
 ghost use Rattle.c_ast.specs.Places.{expression_stands};
 ghost use Rattle.c_ast.specs.Views.{expression_of};
 ghost use Rattle.c_expressions.specs.Gives.{Gives};
-ghost use Rattle.c_expressions.specs.Lexemes.{lexemes_of};
-ghost use Rattle.c_expressions.specs.Reading.{operator_step, operators_in, at};
+ghost use Rattle.c_ast.specs.Lexemes.{lexemes_of};
+ghost use Rattle.c_grammar.specs.Reading.{operator_step, operators_in, at};
 ghost use Rattle.std.specs.Prelude.{IfOk, true, ◌≡◌};
 
 use lay_base::boxed;
@@ -22,7 +22,7 @@ use std::alloc::Global;
 
 /// One operator more with its second operand, if one of at least that strength stands at the front.
 #[cycle(expression)]
-#[tactic(auto, unfolding(crate::specs::Reading::operator_step))]
+#[tactic(auto, unfolding(c_grammar::specs::Reading::operator_step))]
 pub fn operator<'a>(
     alloc: Global,
     source: &Source,
@@ -59,7 +59,7 @@ pub fn operator<'a>(
 
 /// Operands with binary operators of at least that strength between them (C99 6.5.5 to 6.5.14).
 #[cycle(expression)]
-#[tactic(auto, using(crate::proofs::Turns::turns), unfolding(crate::specs::Reading::operators_in))]
+#[tactic(auto, using(c_grammar::proofs::Rounds::rounds), unfolding(c_grammar::specs::Reading::operators_in))]
 pub fn operators<'a>(
     alloc: Global,
     source: &Source,

@@ -5,8 +5,8 @@ ghost use Rattle.std.specs.Option.{option_map};
 ghost use Rattle.c_ast.specs.Places.{all_right, parameter_right, parameters_right, declarator_stands, stands_if_any, expression_stands};
 ghost use Rattle.c_ast.specs.Views.{optional_of, parameter_list_of, parameter_of, declarator_if_any, declarator_of, expression_of};
 ghost use Rattle.c_expressions.specs.Gives.{Gives};
-ghost use Rattle.c_expressions.specs.Lexemes.{lexemes_of};
-ghost use Rattle.c_expressions.specs.Reading.{chain, const_step, pointer_in, enclosed_in, core_in, length_in, array_in, parameter_step, parameters_in, function_in, suffix_step, direct_in, declarator_in, at};
+ghost use Rattle.c_ast.specs.Lexemes.{lexemes_of};
+ghost use Rattle.c_grammar.specs.Reading.{chain, const_step, pointer_in, enclosed_in, core_in, length_in, array_in, parameter_step, parameters_in, function_in, suffix_step, direct_in, declarator_in, at};
 
 use crate::begins::{begins_enclosed, begins_void};
 use lay_base::{add, boxed};
@@ -26,7 +26,7 @@ use lay_base::{Boxed, Keyword, List};
 use std::alloc::Global;
 
 /// One `const` more, if one stands at the front.
-#[tactic(auto, unfolding(crate::specs::Reading::const_step))]
+#[tactic(auto, unfolding(c_grammar::specs::Reading::const_step))]
 pub fn const_qualifier<'a>(
     source: &Source,
     all: List<At>,
@@ -53,7 +53,7 @@ pub fn const_qualifier<'a>(
 }
 
 /// Each `const` after a `*`.
-#[tactic(auto, using(crate::proofs::Turns::turns))]
+#[tactic(auto, using(c_grammar::proofs::Rounds::rounds))]
 pub fn const_qualifiers<'a>(
     alloc: Global,
     source: &Source,
@@ -80,7 +80,7 @@ pub fn const_qualifiers<'a>(
 
 /// What stands after `*`.
 #[cycle(expression)]
-#[tactic(auto, unfolding(crate::specs::Reading::pointer_in))]
+#[tactic(auto, unfolding(c_grammar::specs::Reading::pointer_in))]
 pub fn pointer<'a>(
     alloc: Global,
     source: &Source,
@@ -103,7 +103,7 @@ pub fn pointer<'a>(
 
 /// A declarator in parentheses.
 #[cycle(expression)]
-#[tactic(auto, unfolding(crate::specs::Reading::enclosed_in))]
+#[tactic(auto, unfolding(c_grammar::specs::Reading::enclosed_in))]
 pub fn enclosed<'a>(
     alloc: Global,
     source: &Source,
@@ -132,7 +132,7 @@ pub fn enclosed<'a>(
 
 /// What stands before the brackets and parentheses.
 #[cycle(expression)]
-#[tactic(auto, unfolding(crate::specs::Reading::core_in))]
+#[tactic(auto, unfolding(c_grammar::specs::Reading::core_in))]
 pub fn core<'a>(
     alloc: Global,
     source: &Source,
@@ -177,7 +177,7 @@ pub fn length_of<'a>(
 
 /// What stands after the `[` of an array.
 #[cycle(expression)]
-#[tactic(auto, unfolding(crate::specs::Reading::array_in))]
+#[tactic(auto, unfolding(c_grammar::specs::Reading::array_in))]
 pub fn array<'a>(
     alloc: Global,
     source: &Source,
@@ -203,7 +203,7 @@ pub fn array<'a>(
 
 /// One parameter more, if `)` does not stand at the front.
 #[cycle(expression)]
-#[tactic(auto, unfolding(crate::specs::Reading::parameter_step))]
+#[tactic(auto, unfolding(c_grammar::specs::Reading::parameter_step))]
 pub fn parameter<'a>(
     alloc: Global,
     source: &Source,
@@ -229,7 +229,7 @@ pub fn parameter<'a>(
 
 /// The parameters up to `)`.
 #[cycle(expression)]
-#[tactic(auto, using(crate::proofs::Turns::turns))]
+#[tactic(auto, using(c_grammar::proofs::Rounds::rounds))]
 pub fn parameter_list<'a>(
     alloc: Global,
     source: &Source,
@@ -258,7 +258,7 @@ pub fn parameter_list<'a>(
 
 /// What stands in the parentheses of a function.
 #[cycle(expression)]
-#[tactic(auto, unfolding(crate::specs::Reading::parameters_in))]
+#[tactic(auto, unfolding(c_grammar::specs::Reading::parameters_in))]
 pub fn parameters<'a>(
     alloc: Global,
     source: &Source,
@@ -278,7 +278,7 @@ pub fn parameters<'a>(
 
 /// What stands after the `(` of a function.
 #[cycle(expression)]
-#[tactic(auto, unfolding(crate::specs::Reading::function_in))]
+#[tactic(auto, unfolding(c_grammar::specs::Reading::function_in))]
 pub fn function<'a>(
     alloc: Global,
     source: &Source,
@@ -304,7 +304,7 @@ pub fn function<'a>(
 
 /// One pair of brackets or parentheses more, if one stands at the front.
 #[cycle(expression)]
-#[tactic(auto, unfolding(crate::specs::Reading::suffix_step))]
+#[tactic(auto, unfolding(c_grammar::specs::Reading::suffix_step))]
 pub fn brackets<'a>(
     alloc: Global,
     source: &Source,
@@ -335,7 +335,7 @@ pub fn brackets<'a>(
 
 /// A declarator that is no pointer.
 #[cycle(expression)]
-#[tactic(auto, using(crate::proofs::Turns::turns), unfolding(crate::specs::Reading::direct_in))]
+#[tactic(auto, using(c_grammar::proofs::Rounds::rounds), unfolding(c_grammar::specs::Reading::direct_in))]
 pub fn direct<'a>(
     alloc: Global,
     source: &Source,
@@ -362,7 +362,7 @@ pub fn direct<'a>(
 
 /// A declarator, with or without a name, or nothing (C99 6.7.5, 6.7.6).
 #[cycle(expression)]
-#[tactic(auto, unfolding(crate::specs::Reading::declarator_in))]
+#[tactic(auto, unfolding(c_grammar::specs::Reading::declarator_in))]
 pub fn declarator<'a>(
     alloc: Global,
     source: &Source,

@@ -6,8 +6,8 @@ ghost use Rattle.c_ast.specs.Places.{all_right, enumerator_value_right, enumerat
 ghost use Rattle.c_ast.specs.Trees;
 ghost use Rattle.c_ast.specs.Views.{enumerator_value_of, enumerator_value_layer_of, enumerator_of, specifier_of};
 ghost use Rattle.c_expressions.specs.Gives.{Gives};
-ghost use Rattle.c_expressions.specs.Lexemes.{lexemes_of};
-ghost use Rattle.c_expressions.specs.Reading.{chain, tag_if_any, enumerator_in, enumerator_step, enum_body_in, tagged_in, at};
+ghost use Rattle.c_ast.specs.Lexemes.{lexemes_of};
+ghost use Rattle.c_grammar.specs.Reading.{chain, tag_if_any, enumerator_in, enumerator_step, enum_body_in, tagged_in, at};
 
 use crate::begins::another;
 use crate::failure::Failure;
@@ -27,7 +27,7 @@ use std::alloc::Global;
 
 /// An enumerator with its constant, if it has one (C99 6.7.2.2).
 #[cycle(expression)]
-#[tactic(auto, unfolding(crate::specs::Reading::enumerator_in))]
+#[tactic(auto, unfolding(c_grammar::specs::Reading::enumerator_in))]
 pub fn enumerator<'a>(
     alloc: Global,
     source: &Source,
@@ -61,7 +61,7 @@ pub fn enumerator<'a>(
 
 /// One enumerator more.
 #[cycle(expression)]
-#[tactic(auto, unfolding(crate::specs::Reading::enumerator_step))]
+#[tactic(auto, unfolding(c_grammar::specs::Reading::enumerator_step))]
 pub fn next_enumerator<'a>(
     alloc: Global,
     source: &Source,
@@ -83,7 +83,7 @@ pub fn next_enumerator<'a>(
 
 /// The enumerators up to `}`, or the comma before it.
 #[cycle(expression)]
-#[tactic(auto, using(crate::proofs::Turns::turns))]
+#[tactic(auto, using(c_grammar::proofs::Rounds::rounds))]
 pub fn enumerators<'a>(
     alloc: Global,
     source: &Source,
@@ -112,7 +112,7 @@ pub fn enumerators<'a>(
 
 /// The body of an enumeration.
 #[cycle(expression)]
-#[tactic(auto, unfolding(crate::specs::Reading::enum_body_in))]
+#[tactic(auto, unfolding(c_grammar::specs::Reading::enum_body_in))]
 pub fn enum_body<'a>(
     alloc: Global,
     source: &Source,

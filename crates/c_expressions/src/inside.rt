@@ -5,8 +5,8 @@ ghost use Rattle.std.specs.Option.{option_map};
 ghost use Rattle.c_ast.specs.Places.{all_stand, enumerator_value_right, is_right_if_any, member_declaration_right, declarator_stands, specifier_stands, stands_if_any, expression_stands};
 ghost use Rattle.c_ast.specs.Views.{enumerator_value_of, enumerator_value_layer_of, member_declaration_of, declarator_if_any, declarator_of, specifier_of, specifiers_of, expression_of};
 ghost use Rattle.c_expressions.specs.Gives.{Gives};
-ghost use Rattle.c_expressions.specs.Lexemes.{lexemes_of};
-ghost use Rattle.c_expressions.specs.Reading.{at};
+ghost use Rattle.c_ast.specs.Lexemes.{lexemes_of};
+ghost use Rattle.c_grammar.specs.Reading.{at};
 
 use crate::assignment::{assignment, conditional, expression};
 use crate::binary::operators;

@@ -5,7 +5,7 @@ ghost use Rattle.std.specs.Option.{option_map};
 ghost use Rattle.c_ast.specs.Places.{all_right, all_stand, enumerator_value_right, enumerator_right, is_right_if_any, parameter_right, declarator_stands, specifier_stands, stands_if_any, expression_stands};
 ghost use Rattle.c_ast.specs.Trees;
 ghost use Rattle.c_ast.specs.Views.{enumerator_value_of, enumerator_value_layer_of, enumerator_of, parameter_of, declarator_if_any, declarator_of, specifier_of, specifiers_of, expression_of};
-ghost use Rattle.c_expressions.specs.Reading.{is_nothing};
+ghost use Rattle.c_grammar.specs.Reading.{is_nothing};
 
 use lay_base::{add, boxed};
 use crate::places::{place_of, placed};

@@ -3,8 +3,8 @@
 ghost use Rattle.std.specs.Prelude.{◌≡◌, ◌-◌, IfOk, is_some, take, drop};
 ghost use Rattle.c_ast.specs.WellFormed.{is_typename};
 ghost use Rattle.c_expressions.specs.Gives.{Gives};
-ghost use Rattle.c_expressions.specs.Lexemes.{lexeme_of, lexemes_of};
-ghost use Rattle.c_expressions.specs.Reading.{any_name, plain_name, tag_if_any, spelling_of};
+ghost use Rattle.c_ast.specs.Lexemes.{lexeme_of, lexemes_of};
+ghost use Rattle.c_grammar.specs.Reading.{any_name, plain_name, tag_if_any, spelling_of};
 
 use crate::failure::Failure;
 use crate::source::Source;

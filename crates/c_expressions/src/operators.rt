@@ -3,9 +3,9 @@
 ghost use Rattle.std.specs.Prelude.{◌≡◌};
 ghost use Rattle.c_ast.specs.WellFormed.{strength, level};
 ghost use Rattle.c_ast.specs.Views.{expression_of};
-ghost use Rattle.c_expressions.specs.Reading.{step_op, unary_op, binary_op, assign_op, specifier_word};
+ghost use Rattle.c_grammar.specs.Reading.{step_op, unary_op, binary_op, assign_op, keyword_specifier};
 
-use c_ast::{AssignOp, BinaryOp, Expression, ExpressionNode, SpecifierWord, StepOp, UnaryOp};
+use c_ast::{AssignOp, BinaryOp, Expression, ExpressionNode, SpecifierKeyword, StepOp, UnaryOp};
 use c_lexer::{Punctuator, TokenKind};
 use lay_base::Keyword;
 
@@ -83,23 +83,23 @@ pub fn assigning_of(kind: TokenKind) -> Option<AssignOp>
 }
 
 /// The specifier that a keyword is by itself.
-pub fn keyword_specifier_of(kind: TokenKind) -> Option<SpecifierWord>
-    ensures { result ≡ specifier_word kind }
+pub fn keyword_specifier_of(kind: TokenKind) -> Option<SpecifierKeyword>
+    ensures { result ≡ keyword_specifier kind }
 {
     match kind {
-        TokenKind::Keyword(Keyword::Typedef) => Some(SpecifierWord::Typedef),
-        TokenKind::Keyword(Keyword::Extern) => Some(SpecifierWord::Extern),
-        TokenKind::Keyword(Keyword::Static) => Some(SpecifierWord::Static),
-        TokenKind::Keyword(Keyword::Auto) => Some(SpecifierWord::Auto),
-        TokenKind::Keyword(Keyword::Register) => Some(SpecifierWord::Register),
-        TokenKind::Keyword(Keyword::Const) => Some(SpecifierWord::Const),
-        TokenKind::Keyword(Keyword::Void) => Some(SpecifierWord::Void),
-        TokenKind::Keyword(Keyword::Char) => Some(SpecifierWord::Char),
-        TokenKind::Keyword(Keyword::Short) => Some(SpecifierWord::Short),
-        TokenKind::Keyword(Keyword::Int) => Some(SpecifierWord::Int),
-        TokenKind::Keyword(Keyword::Long) => Some(SpecifierWord::Long),
-        TokenKind::Keyword(Keyword::Signed) => Some(SpecifierWord::Signed),
-        TokenKind::Keyword(Keyword::Unsigned) => Some(SpecifierWord::Unsigned),
+        TokenKind::Keyword(Keyword::Typedef) => Some(SpecifierKeyword::Typedef),
+        TokenKind::Keyword(Keyword::Extern) => Some(SpecifierKeyword::Extern),
+        TokenKind::Keyword(Keyword::Static) => Some(SpecifierKeyword::Static),
+        TokenKind::Keyword(Keyword::Auto) => Some(SpecifierKeyword::Auto),
+        TokenKind::Keyword(Keyword::Register) => Some(SpecifierKeyword::Register),
+        TokenKind::Keyword(Keyword::Const) => Some(SpecifierKeyword::Const),
+        TokenKind::Keyword(Keyword::Void) => Some(SpecifierKeyword::Void),
+        TokenKind::Keyword(Keyword::Char) => Some(SpecifierKeyword::Char),
+        TokenKind::Keyword(Keyword::Short) => Some(SpecifierKeyword::Short),
+        TokenKind::Keyword(Keyword::Int) => Some(SpecifierKeyword::Int),
+        TokenKind::Keyword(Keyword::Long) => Some(SpecifierKeyword::Long),
+        TokenKind::Keyword(Keyword::Signed) => Some(SpecifierKeyword::Signed),
+        TokenKind::Keyword(Keyword::Unsigned) => Some(SpecifierKeyword::Unsigned),
         _ => None,
     }
 }

@@ -4,8 +4,8 @@ ghost use Rattle.std.specs.Prelude.{◌+◌, [], length, map, IfOk, true, ◌≡
 ghost use Rattle.c_ast.specs.Places.{all_right, argument_right, expression_stands};
 ghost use Rattle.c_ast.specs.Views.{arguments_of, argument_of, expression_of};
 ghost use Rattle.c_expressions.specs.Gives.{Gives};
-ghost use Rattle.c_expressions.specs.Lexemes.{lexemes_of};
-ghost use Rattle.c_expressions.specs.Reading.{chain, argument_in, arguments_in, index_in, call_in, stepped_in, postfix_step, postfix_in, at};
+ghost use Rattle.c_ast.specs.Lexemes.{lexemes_of};
+ghost use Rattle.c_grammar.specs.Reading.{chain, argument_in, arguments_in, index_in, call_in, stepped_in, postfix_step, postfix_in, at};
 
 use lay_base::{add, boxed};
 use crate::failure::Failure;
@@ -25,7 +25,7 @@ use std::alloc::Global;
 
 /// One argument more, if `)` does not stand at the front.
 #[cycle(expression)]
-#[tactic(auto, unfolding(crate::specs::Reading::argument_in))]
+#[tactic(auto, unfolding(c_grammar::specs::Reading::argument_in))]
 pub fn argument<'a>(
     alloc: Global,
     source: &Source,
@@ -54,7 +54,7 @@ pub fn argument<'a>(
 
 /// The arguments up to `)`.
 #[cycle(expression)]
-#[tactic(auto, using(crate::proofs::Turns::turns))]
+#[tactic(auto, using(c_grammar::proofs::Rounds::rounds))]
 pub fn argument_list<'a>(
     alloc: Global,
     source: &Source,
@@ -83,7 +83,7 @@ pub fn argument_list<'a>(
 
 /// The arguments after `(`, with the place of `)`.
 #[cycle(expression)]
-#[tactic(auto, unfolding(crate::specs::Reading::arguments_in))]
+#[tactic(auto, unfolding(c_grammar::specs::Reading::arguments_in))]
 pub fn arguments<'a>(
     alloc: Global,
     source: &Source,
@@ -100,7 +100,7 @@ pub fn arguments<'a>(
 
 /// What stands after `[`.
 #[cycle(expression)]
-#[tactic(auto, unfolding(crate::specs::Reading::index_in))]
+#[tactic(auto, unfolding(c_grammar::specs::Reading::index_in))]
 pub fn index<'a>(
     alloc: Global,
     source: &Source,
@@ -126,7 +126,7 @@ pub fn index<'a>(
 
 /// What stands after the `(` of a call.
 #[cycle(expression)]
-#[tactic(auto, unfolding(crate::specs::Reading::call_in))]
+#[tactic(auto, unfolding(c_grammar::specs::Reading::call_in))]
 pub fn call<'a>(
     alloc: Global,
     source: &Source,
@@ -150,7 +150,7 @@ pub fn call<'a>(
 }
 
 /// An expression with `++` or `--` after it, and the tokens after that.
-#[tactic(auto, unfolding(crate::specs::Reading::stepped_in))]
+#[tactic(auto, unfolding(c_grammar::specs::Reading::stepped_in))]
 fn stepped<'a>(
     alloc: Global,
     source: &Source,
@@ -175,7 +175,7 @@ fn stepped<'a>(
 
 /// One suffix more, if one stands at the front.
 #[cycle(expression)]
-#[tactic(auto, unfolding(crate::specs::Reading::postfix_step, crate::specs::Reading::member_in))]
+#[tactic(auto, unfolding(c_grammar::specs::Reading::postfix_step, c_grammar::specs::Reading::member_in))]
 pub fn suffix<'a>(
     alloc: Global,
     source: &Source,
@@ -226,7 +226,7 @@ pub fn suffix<'a>(
 
 /// A postfix expression (C99 6.5.2).
 #[cycle(expression)]
-#[tactic(auto, using(crate::proofs::Turns::turns), unfolding(crate::specs::Reading::postfix_in))]
+#[tactic(auto, using(c_grammar::proofs::Rounds::rounds), unfolding(c_grammar::specs::Reading::postfix_in))]
 pub fn postfix<'a>(
     alloc: Global,
     source: &Source,

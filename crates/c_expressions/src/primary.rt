@@ -4,8 +4,8 @@ ghost use Rattle.std.specs.Prelude.{◌+◌, [], length, IfOk, true, ◌≡◌};
 ghost use Rattle.c_ast.specs.Places.{expression_stands};
 ghost use Rattle.c_ast.specs.Views.{expression_of};
 ghost use Rattle.c_expressions.specs.Gives.{Gives};
-ghost use Rattle.c_expressions.specs.Lexemes.{lexemes_of};
-ghost use Rattle.c_expressions.specs.Reading.{chain, text_in, texts_in, paren_in, primary_in, at};
+ghost use Rattle.c_ast.specs.Lexemes.{lexemes_of};
+ghost use Rattle.c_grammar.specs.Reading.{chain, text_in, texts_in, paren_in, primary_in, at};
 
 use lay_base::{add, boxed};
 use crate::failure::Failure;
@@ -20,7 +20,7 @@ use lay_base::{Boxed, List};
 use std::alloc::Global;
 
 /// One string literal more, if one stands at the front.
-#[tactic(auto, unfolding(crate::specs::Reading::text_in))]
+#[tactic(auto, unfolding(c_grammar::specs::Reading::text_in))]
 pub fn text<'a>(
     alloc: Global,
     source: &Source,
@@ -44,7 +44,7 @@ pub fn text<'a>(
 }
 
 /// All string literals at the front.
-#[tactic(auto, using(crate::proofs::Turns::turns))]
+#[tactic(auto, using(c_grammar::proofs::Rounds::rounds))]
 pub fn text_list<'a>(
     alloc: Global,
     source: &Source,
@@ -70,7 +70,7 @@ pub fn text_list<'a>(
 }
 
 /// An expression of all string literals at the front.
-#[tactic(auto, unfolding(crate::specs::Reading::texts_in))]
+#[tactic(auto, unfolding(c_grammar::specs::Reading::texts_in))]
 pub fn texts<'a>(
     alloc: Global,
     source: &Source,
@@ -89,7 +89,7 @@ pub fn texts<'a>(
 
 /// An expression in parentheses.
 #[cycle(expression)]
-#[tactic(auto, unfolding(crate::specs::Reading::paren_in))]
+#[tactic(auto, unfolding(c_grammar::specs::Reading::paren_in))]
 pub fn paren<'a>(
     alloc: Global,
     source: &Source,
@@ -112,7 +112,7 @@ pub fn paren<'a>(
 
 /// A primary expression (C99 6.5.1).
 #[cycle(expression)]
-#[tactic(auto, unfolding(crate::specs::Reading::primary_in))]
+#[tactic(auto, unfolding(c_grammar::specs::Reading::primary_in))]
 pub fn primary<'a>(
     alloc: Global,
     source: &Source,

@@ -4,8 +4,8 @@ ghost use Rattle.std.specs.Prelude.{◌+◌, [], length, map, IfOk, true, ◌≡
 ghost use Rattle.c_ast.specs.Places.{all_stand, specifier_stands};
 ghost use Rattle.c_ast.specs.Views.{specifier_of, specifiers_of};
 ghost use Rattle.c_expressions.specs.Gives.{Gives};
-ghost use Rattle.c_expressions.specs.Lexemes.{lexemes_of};
-ghost use Rattle.c_expressions.specs.Reading.{chain, specifier_in, specifier_step, specifiers_in, at};
+ghost use Rattle.c_ast.specs.Lexemes.{lexemes_of};
+ghost use Rattle.c_grammar.specs.Reading.{chain, specifier_in, specifier_step, specifiers_in, at};
 
 use crate::begins::begins_specifier;
 use lay_base::add;
@@ -24,7 +24,7 @@ use std::alloc::Global;
 
 /// A specifier (C99 6.7.1 to 6.7.3).
 #[cycle(expression)]
-#[tactic(auto, unfolding(crate::specs::Reading::specifier_in))]
+#[tactic(auto, unfolding(c_grammar::specs::Reading::specifier_in))]
 pub fn specifier<'a>(
     alloc: Global,
     source: &Source,
@@ -39,7 +39,7 @@ pub fn specifier<'a>(
             Some(keyword) => {
                 let whole = Specifier {
                     place: placed(source, token.from),
-                    node: SpecifierNode::Spelling(keyword, token.from),
+                    node: SpecifierNode::Keyword(keyword, token.from),
                 };
                 Ok((whole, 1, rest))
             }
@@ -70,7 +70,7 @@ pub fn specifier<'a>(
 
 /// One specifier more.
 #[cycle(expression)]
-#[tactic(auto, unfolding(crate::specs::Reading::specifier_step))]
+#[tactic(auto, unfolding(c_grammar::specs::Reading::specifier_step))]
 pub fn next_specifier<'a>(
     alloc: Global,
     source: &Source,
@@ -91,7 +91,7 @@ pub fn next_specifier<'a>(
 
 /// One specifier after the other.
 #[cycle(expression)]
-#[tactic(auto, using(crate::proofs::Turns::turns))]
+#[tactic(auto, using(c_grammar::proofs::Rounds::rounds))]
 pub fn specifier_list<'a>(
     alloc: Global,
     source: &Source,
@@ -120,7 +120,7 @@ pub fn specifier_list<'a>(
 
 /// One specifier or more.
 #[cycle(expression)]
-#[tactic(auto, unfolding(crate::specs::Reading::specifiers_in))]
+#[tactic(auto, unfolding(c_grammar::specs::Reading::specifiers_in))]
 pub fn specifiers<'a>(
     alloc: Global,
     source: &Source,

@@ -5,8 +5,8 @@ ghost use Rattle.c_ast.specs.Places.{all_right, member_declarator_right, member_
 ghost use Rattle.c_ast.specs.Trees;
 ghost use Rattle.c_ast.specs.Views.{member_declarator_of, member_declaration_of, specifier_of};
 ghost use Rattle.c_expressions.specs.Gives.{Gives};
-ghost use Rattle.c_expressions.specs.Lexemes.{lexemes_of};
-ghost use Rattle.c_expressions.specs.Reading.{chain, tag_if_any, member_declarator_step, member_declaration_in, member_declaration_step, struct_body_in, tagged_in, at};
+ghost use Rattle.c_ast.specs.Lexemes.{lexemes_of};
+ghost use Rattle.c_grammar.specs.Reading.{chain, tag_if_any, member_declarator_step, member_declaration_in, member_declaration_step, struct_body_in, tagged_in, at};
 
 use lay_base::add;
 use crate::failure::Failure;
@@ -26,7 +26,7 @@ use std::alloc::Global;
 
 /// One declarator of a field more.
 #[cycle(expression)]
-#[tactic(auto, unfolding(crate::specs::Reading::member_declarator_step))]
+#[tactic(auto, unfolding(c_grammar::specs::Reading::member_declarator_step))]
 pub fn member_declarator<'a>(
     alloc: Global,
     source: &Source,
@@ -60,7 +60,7 @@ pub fn member_declarator<'a>(
 
 /// The declarators of a member declaration.
 #[cycle(expression)]
-#[tactic(auto, using(crate::proofs::Turns::turns))]
+#[tactic(auto, using(c_grammar::proofs::Rounds::rounds))]
 pub fn member_declarators<'a>(
     alloc: Global,
     source: &Source,
@@ -90,7 +90,7 @@ pub fn member_declarators<'a>(
 
 /// A member declaration (C99 6.7.2.1).
 #[cycle(expression)]
-#[tactic(auto, unfolding(crate::specs::Reading::member_declaration_in))]
+#[tactic(auto, unfolding(c_grammar::specs::Reading::member_declaration_in))]
 pub fn member_declaration<'a>(
     alloc: Global,
     source: &Source,
@@ -115,7 +115,7 @@ pub fn member_declaration<'a>(
 
 /// One member declaration more.
 #[cycle(expression)]
-#[tactic(auto, unfolding(crate::specs::Reading::member_declaration_step))]
+#[tactic(auto, unfolding(c_grammar::specs::Reading::member_declaration_step))]
 pub fn next_member_declaration<'a>(
     alloc: Global,
     source: &Source,
@@ -136,7 +136,7 @@ pub fn next_member_declaration<'a>(
 
 /// The member declarations up to `}`.
 #[cycle(expression)]
-#[tactic(auto, using(crate::proofs::Turns::turns))]
+#[tactic(auto, using(c_grammar::proofs::Rounds::rounds))]
 pub fn member_declarations<'a>(
     alloc: Global,
     source: &Source,
@@ -165,7 +165,7 @@ pub fn member_declarations<'a>(
 
 /// The body of a structure.
 #[cycle(expression)]
-#[tactic(auto, unfolding(crate::specs::Reading::struct_body_in))]
+#[tactic(auto, unfolding(c_grammar::specs::Reading::struct_body_in))]
 pub fn struct_body<'a>(
     alloc: Global,
     source: &Source,

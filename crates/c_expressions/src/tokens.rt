@@ -3,8 +3,8 @@
 
 ghost use Rattle.std.specs.Prelude.{◌≡◌, max, Some};
 ghost use Rattle.c_expressions.specs.Gives.{Gives};
-ghost use Rattle.c_expressions.specs.Lexemes.{lexemes_of};
-ghost use Rattle.c_expressions.specs.Reading.{after, fronted, comma_before, comma_if_any, deeper, is_left, is_right, is_right_square, is_left_brace, is_right_brace, is_comma, is_semicolon, is_colon, is_equal, is_void};
+ghost use Rattle.c_ast.specs.Lexemes.{lexemes_of};
+ghost use Rattle.c_grammar.specs.Reading.{after, fronted, comma_before, comma_if_any, deeper, is_left, is_right, is_right_square, is_left_brace, is_right_brace, is_comma, is_semicolon, is_colon, is_equal, is_void};
 
 use crate::failure::Failure;
 use crate::source::Source;

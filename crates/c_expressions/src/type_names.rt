@@ -3,8 +3,8 @@
 ghost use Rattle.c_ast.specs.Places.{type_name_right};
 ghost use Rattle.c_ast.specs.Views.{type_name_of};
 ghost use Rattle.c_expressions.specs.Gives.{Gives};
-ghost use Rattle.c_expressions.specs.Lexemes.{lexemes_of};
-ghost use Rattle.c_expressions.specs.Reading.{type_name_in, enclosed_type_name_in, at};
+ghost use Rattle.c_ast.specs.Lexemes.{lexemes_of};
+ghost use Rattle.c_grammar.specs.Reading.{type_name_in, enclosed_type_name_in, at};
 ghost use Rattle.std.specs.Prelude.{IfOk, true, ◌≡◌};
 
 use crate::failure::Failure;
@@ -18,7 +18,7 @@ use std::alloc::Global;
 
 /// Specifiers, and an abstract declarator or none.
 #[cycle(expression)]
-#[tactic(auto, unfolding(crate::specs::Reading::type_name_in))]
+#[tactic(auto, unfolding(c_grammar::specs::Reading::type_name_in))]
 pub fn type_name<'a>(
     alloc: Global,
     source: &Source,
@@ -42,7 +42,7 @@ pub fn type_name<'a>(
 
 /// A type name in parentheses, with the places of both.
 #[cycle(expression)]
-#[tactic(auto, unfolding(crate::specs::Reading::enclosed_type_name_in))]
+#[tactic(auto, unfolding(c_grammar::specs::Reading::enclosed_type_name_in))]
 pub fn enclosed_type_name<'a>(
     alloc: Global,
     source: &Source,

@@ -3,8 +3,8 @@
 ghost use Rattle.c_ast.specs.Places.{expression_stands};
 ghost use Rattle.c_ast.specs.Views.{expression_of};
 ghost use Rattle.c_expressions.specs.Gives.{Gives};
-ghost use Rattle.c_expressions.specs.Lexemes.{lexemes_of};
-ghost use Rattle.c_expressions.specs.Reading.{pre_in, unary_in, sizeof_in, cast_in, unary_expression_in, operand_in, at};
+ghost use Rattle.c_ast.specs.Lexemes.{lexemes_of};
+ghost use Rattle.c_grammar.specs.Reading.{pre_in, unary_in, sizeof_in, cast_in, unary_expression_in, operand_in, at};
 ghost use Rattle.std.specs.Prelude.{IfOk, true, ◌≡◌};
 
 use crate::begins::begins_type_name;
@@ -24,7 +24,7 @@ use std::alloc::Global;
 
 /// What stands after a `++` or `--` before its operand.
 #[cycle(expression)]
-#[tactic(auto, unfolding(crate::specs::Reading::pre_in))]
+#[tactic(auto, unfolding(c_grammar::specs::Reading::pre_in))]
 pub fn pre<'a>(
     alloc: Global,
     source: &Source,
@@ -47,7 +47,7 @@ pub fn pre<'a>(
 
 /// What stands after a unary operator.
 #[cycle(expression)]
-#[tactic(auto, unfolding(crate::specs::Reading::unary_in))]
+#[tactic(auto, unfolding(c_grammar::specs::Reading::unary_in))]
 pub fn unary<'a>(
     alloc: Global,
     source: &Source,
@@ -70,7 +70,7 @@ pub fn unary<'a>(
 
 /// What stands after `sizeof`.
 #[cycle(expression)]
-#[tactic(auto, unfolding(crate::specs::Reading::sizeof_in))]
+#[tactic(auto, unfolding(c_grammar::specs::Reading::sizeof_in))]
 pub fn sizeof<'a>(
     alloc: Global,
     source: &Source,
@@ -102,7 +102,7 @@ pub fn sizeof<'a>(
 
 /// A cast (C99 6.5.4).
 #[cycle(expression)]
-#[tactic(auto, unfolding(crate::specs::Reading::cast_in))]
+#[tactic(auto, unfolding(c_grammar::specs::Reading::cast_in))]
 pub fn cast<'a>(
     alloc: Global,
     source: &Source,
@@ -124,7 +124,7 @@ pub fn cast<'a>(
 
 /// A unary expression (C99 6.5.3).
 #[cycle(expression)]
-#[tactic(auto, unfolding(crate::specs::Reading::unary_expression_in))]
+#[tactic(auto, unfolding(c_grammar::specs::Reading::unary_expression_in))]
 pub fn unary_expression<'a>(
     alloc: Global,
     source: &Source,
@@ -154,7 +154,7 @@ pub fn unary_expression<'a>(
 
 /// An operand of a binary operator: a cast, or a unary expression.
 #[cycle(expression)]
-#[tactic(auto, unfolding(crate::specs::Reading::operand_in))]
+#[tactic(auto, unfolding(c_grammar::specs::Reading::operand_in))]
 pub fn operand<'a>(
     alloc: Global,
     source: &Source,

@@ -2,8 +2,8 @@
 use Rattle.std.proofs.Common.{◌≡◌, ◌<◌, ℕ, zero, suc, ◌-◌, List, Option, Some, None, max, refl, arith}
 use Rattle.c_ast.specs.Trees
 use Rattle.c_ast.specs.Spelling.{Lexeme}
-use Rattle.c_expressions.specs.Reading.{◌>>=◌, deeper}
-use Rattle.c_parser.specs.StatementReading.{statement_at, below_at, block_in, body_after}
+use Rattle.c_grammar.specs.Reading.{◌>>=◌, deeper}
+use Rattle.c_grammar.specs.StatementReading.{statement_at, below_at, block_in, body_after}
 
 -- the item of a body that is read, with a depth of at most j
 abbrev pub defined_of : ℕ → ℕ → Trees.Specifiers → Trees.Declarator → ℕ → ℕ → (Trees.BlockItems × ℕ) × ℕ × List Lexeme → Option (Trees.Item × ℕ × List Lexeme)

@@ -7,9 +7,9 @@ use Rattle.c_lexer.specs.declared.token.Token.{Token}
 use Rattle.c_expressions.specs.declared.failure.Failure.{Failure}
 use Rattle.c_expressions.specs.declared.failure.Failure.TheVariants.{Memory, NoParse}
 use Rattle.c_expressions.specs.Gives.{Fails}
-use Rattle.c_expressions.specs.Lexemes.{lexemes_of}
-use Rattle.c_expressions.specs.Reading.{◌>>=◌}
-use Rattle.c_parser.specs.StatementReading.{item_in, items_in}
+use Rattle.c_ast.specs.Lexemes.{lexemes_of}
+use Rattle.c_grammar.specs.Reading.{◌>>=◌}
+use Rattle.c_grammar.specs.StatementReading.{item_in, items_in}
 
 -- the items so far, and those of the rest
 abbrev pub with_front : List Trees.Item → Option (List Trees.Item) → Option (List Trees.Item)

@@ -2,8 +2,8 @@
 use Rattle.std.proofs.Common.{◌≡◌, ℕ, Bool, List, [], ◌∷◌, ◌++◌, max, Option, Some, None, refl}
 use Rattle.c_ast.specs.Trees
 use Rattle.c_ast.specs.Spelling.{Lexeme}
-use Rattle.c_expressions.specs.Reading.{◌>>=◌, Reader, comma_before, fronted, is_comma}
-use Rattle.c_parser.specs.StatementReading.{named_in, valued_in, one_in, init_declarator_step}
+use Rattle.c_grammar.specs.Reading.{◌>>=◌, Reader, comma_before, fronted, is_comma}
+use Rattle.c_grammar.specs.StatementReading.{named_in, valued_in, one_in, init_declarator_step}
 
 apart : {A B C : Type 0} (o : Option A) (f : A → Option B) (g : B → Option C) → (o >>= λ x. f x >>= g) ≡ ((o >>= f) >>= g)
 apart None f g = refl

@@ -9,7 +9,7 @@ use Rattle.c_ast.specs.Spelling.{Lexeme}
 use Rattle.c_parser.specs.declared.openings.Opening.{Opening}
 use Rattle.c_parser.specs.declared.openings.Opening.TheVariants as O
 use Rattle.c_parser.specs.Openings.{opening_of}
-use Rattle.c_parser.specs.StatementReading.{Below, statement_of_kind, if_in, while_in, do_in, for_in, switch_in, jump_in, return_in, block_statement_in, evaluate_in}
+use Rattle.c_grammar.specs.StatementReading.{Below, statement_of_kind, if_in, while_in, do_in, for_in, switch_in, jump_in, return_in, block_statement_in, evaluate_in}
 
 abbrev pub by_opening : ℕ → Below → Lexeme → List Lexeme → Opening → Option (Trees.Statement × ℕ × List Lexeme)
 by_opening k below t rest O.If = if_in k below t.from rest

@@ -11,8 +11,8 @@ use Rattle.c_ast.specs.declared.tree.Tree.{Tree}
 use Rattle.c_ast.specs.Trees
 use Rattle.c_ast.specs.Places.{is_placed}
 use Rattle.c_ast.specs.Views.{items_of}
-use Rattle.c_expressions.specs.Lexemes.{lexemes_of}
-use Rattle.c_parser.specs.TreesOfTokens.{IsTreeOf}
+use Rattle.c_ast.specs.Lexemes.{lexemes_of}
+use Rattle.c_ast.specs.TreesOfFiles.{IsTreeOfTokens}
 use Rattle.c_parser.specs.declared.faults.ParseFault.{ParseFault}
 use Rattle.c_parser.specs.declared.faults.ParseFault.TheVariants as F
 

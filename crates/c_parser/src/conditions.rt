@@ -4,9 +4,9 @@ ghost use Rattle.std.specs.Option.{option_map};
 ghost use Rattle.c_ast.specs.Places.{stands_if_any, expression_stands};
 ghost use Rattle.c_ast.specs.Views.{expression_of};
 ghost use Rattle.c_expressions.specs.Gives.{Gives};
-ghost use Rattle.c_expressions.specs.Lexemes.{lexemes_of};
-ghost use Rattle.c_expressions.specs.Reading.{at, is_right, is_semicolon};
-ghost use Rattle.c_parser.specs.StatementReading.{condition_in, expression_if_any};
+ghost use Rattle.c_ast.specs.Lexemes.{lexemes_of};
+ghost use Rattle.c_grammar.specs.Reading.{at, is_right, is_semicolon};
+ghost use Rattle.c_grammar.specs.StatementReading.{condition_in, expression_if_any};
 ghost use Rattle.std.specs.Prelude.{IfOk, true, ◌≡◌};
 
 use c_ast::{At, Expression};
@@ -18,7 +18,7 @@ use lay_base::Boxed;
 use std::alloc::Global;
 
 /// An expression before `;`, or none.
-#[tactic(auto, unfolding(crate::specs::StatementReading::expression_if_any))]
+#[tactic(auto, unfolding(c_grammar::specs::StatementReading::expression_if_any))]
 pub fn before_semicolon<'a>(
     alloc: Global,
     source: &Source,
@@ -36,7 +36,7 @@ pub fn before_semicolon<'a>(
 }
 
 /// An expression before `)`, or none.
-#[tactic(auto, unfolding(crate::specs::StatementReading::expression_if_any))]
+#[tactic(auto, unfolding(c_grammar::specs::StatementReading::expression_if_any))]
 pub fn before_right<'a>(
     alloc: Global,
     source: &Source,
@@ -54,7 +54,7 @@ pub fn before_right<'a>(
 }
 
 /// `(` expression `)`
-#[tactic(auto, unfolding(crate::specs::StatementReading::condition_in))]
+#[tactic(auto, unfolding(c_grammar::specs::StatementReading::condition_in))]
 pub fn condition<'a>(
     alloc: Global,
     source: &Source,

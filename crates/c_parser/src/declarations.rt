@@ -4,9 +4,9 @@ ghost use Rattle.std.specs.Prelude.{◌≡◌, ◌+◌, ◌++◌, ◌∷◌, [],
 ghost use Rattle.c_ast.specs.Places.{all_right, declaration_stands, init_declarator_right, declarator_stands};
 ghost use Rattle.c_ast.specs.Views.{init_declarator_of, declaration_of, declarator_of, declarator_if_any, specifier_of, specifiers_of};
 ghost use Rattle.c_expressions.specs.Gives.{Gives};
-ghost use Rattle.c_expressions.specs.Lexemes.{lexemes_of};
-ghost use Rattle.c_expressions.specs.Reading.{at, chain};
-ghost use Rattle.c_parser.specs.StatementReading.{declaration_at, declaration_in, declarators_after, declarators_if_any, declarators_in, init_declarator_step, initial_at, more_init_declarators, one_in};
+ghost use Rattle.c_ast.specs.Lexemes.{lexemes_of};
+ghost use Rattle.c_grammar.specs.Reading.{at, chain};
+ghost use Rattle.c_grammar.specs.StatementReading.{declaration_at, declaration_in, declarators_after, declarators_if_any, declarators_in, init_declarator_step, initial_at, more_init_declarators, one_in};
 
 use crate::declarators::{named, valued};
 use c_ast::{At, Declaration, Declarator, InitDeclarator};
@@ -19,7 +19,7 @@ use lay_base::{Boxed, List, NoMemory};
 use std::alloc::Global;
 
 /// A declarator with its name and its initializer, if there is one.
-#[tactic(auto, unfolding(crate::specs::StatementReading::one_in))]
+#[tactic(auto, unfolding(c_grammar::specs::StatementReading::one_in))]
 fn declared<'a>(
     alloc: Global,
     source: &Source,
@@ -71,7 +71,7 @@ fn next_declarator<'a>(
 }
 
 /// The declarators after the first, which is read with its initializer.
-#[tactic(auto, using(c_expressions::proofs::Turns::turns))]
+#[tactic(auto, using(c_grammar::proofs::Rounds::rounds))]
 fn more_declarators<'a>(
     alloc: Global,
     source: &Source,
@@ -106,7 +106,7 @@ fn more_declarators<'a>(
 }
 
 /// All declarators, after the first, which is read.
-#[tactic(auto, unfolding(crate::specs::StatementReading::declarators_after))]
+#[tactic(auto, unfolding(c_grammar::specs::StatementReading::declarators_after))]
 pub fn declarators_after<'a>(
     alloc: Global,
     source: &Source,
@@ -125,7 +125,7 @@ pub fn declarators_after<'a>(
 }
 
 /// The declarators of a declaration; where it need not have one, there may be none.
-#[tactic(auto, unfolding(crate::specs::StatementReading::declarators_in))]
+#[tactic(auto, unfolding(c_grammar::specs::StatementReading::declarators_in))]
 fn declarators<'a>(
     alloc: Global,
     source: &Source,
@@ -145,7 +145,7 @@ fn declarators<'a>(
 }
 
 /// A declaration, which has a declarator where it is to be full.
-#[tactic(auto, unfolding(crate::specs::StatementReading::declaration_in))]
+#[tactic(auto, unfolding(c_grammar::specs::StatementReading::declaration_in))]
 fn declaration<'a>(
     alloc: Global,
     source: &Source,

@@ -3,9 +3,9 @@
 ghost use Rattle.c_ast.specs.Places.{init_declarator_right, declarator_stands};
 ghost use Rattle.c_ast.specs.Views.{init_declarator_of, declarator_of};
 ghost use Rattle.c_expressions.specs.Gives.{Gives};
-ghost use Rattle.c_expressions.specs.Lexemes.{lexemes_of};
-ghost use Rattle.c_expressions.specs.Reading.{at};
-ghost use Rattle.c_parser.specs.StatementReading.{initial_at, named_in, valued_in};
+ghost use Rattle.c_ast.specs.Lexemes.{lexemes_of};
+ghost use Rattle.c_grammar.specs.Reading.{at};
+ghost use Rattle.c_grammar.specs.StatementReading.{initial_at, named_in, valued_in};
 ghost use Rattle.std.specs.Prelude.{IfOk, true, ◌≡◌};
 
 use crate::initializers::initializer_inside;
@@ -16,7 +16,7 @@ use lay_base::Boxed;
 use std::alloc::Global;
 
 /// A declarator with its name.
-#[tactic(auto, unfolding(crate::specs::StatementReading::named_in))]
+#[tactic(auto, unfolding(c_grammar::specs::StatementReading::named_in))]
 pub fn named<'a>(
     alloc: Global,
     source: &Source,
@@ -39,7 +39,7 @@ pub fn named<'a>(
 }
 
 /// A declarator that is read, with its initializer if there is one.
-#[tactic(auto, unfolding(crate::specs::StatementReading::valued_in))]
+#[tactic(auto, unfolding(c_grammar::specs::StatementReading::valued_in))]
 pub fn valued<'a>(
     alloc: Global,
     source: &Source,

@@ -4,9 +4,9 @@ ghost use Rattle.std.specs.Prelude.{◌+◌, [], length, map, IfOk, true, ◌≡
 ghost use Rattle.c_ast.specs.Places.{all_right, argument_right, expression_stands};
 ghost use Rattle.c_ast.specs.Views.{argument_of, expression_of};
 ghost use Rattle.c_expressions.specs.Gives.{Gives};
-ghost use Rattle.c_expressions.specs.Lexemes.{lexemes_of};
-ghost use Rattle.c_expressions.specs.Reading.{at, chain};
-ghost use Rattle.c_parser.specs.StatementReading.{braces_in, initial_at, initial_in, initial_step};
+ghost use Rattle.c_ast.specs.Lexemes.{lexemes_of};
+ghost use Rattle.c_grammar.specs.Reading.{at, chain};
+ghost use Rattle.c_grammar.specs.StatementReading.{braces_in, initial_at, initial_in, initial_step};
 
 use c_ast::{At, Expression, Argument, ExpressionNode};
 use c_expressions::{
@@ -19,7 +19,7 @@ use std::alloc::Global;
 
 /// One initializer in braces more.
 #[cycle(initializer)]
-#[tactic(auto, unfolding(crate::specs::StatementReading::initial_step))]
+#[tactic(auto, unfolding(c_grammar::specs::StatementReading::initial_step))]
 fn next_initializer<'a>(
     alloc: Global,
     source: &Source,
@@ -45,7 +45,7 @@ fn next_initializer<'a>(
 
 /// The initializers up to `}`, or the comma before it.
 #[cycle(initializer)]
-#[tactic(auto, using(c_expressions::proofs::Turns::turns))]
+#[tactic(auto, using(c_grammar::proofs::Rounds::rounds))]
 fn initializers<'a>(
     alloc: Global,
     source: &Source,
@@ -74,7 +74,7 @@ fn initializers<'a>(
 
 /// Initializers in braces, from after `{` on.
 #[cycle(initializer)]
-#[tactic(auto, unfolding(crate::specs::StatementReading::braces_in))]
+#[tactic(auto, unfolding(c_grammar::specs::StatementReading::braces_in))]
 fn braces<'a>(
     alloc: Global,
     source: &Source,
@@ -98,7 +98,7 @@ fn braces<'a>(
 
 /// An initializer.
 #[cycle(initializer)]
-#[tactic(auto, unfolding(crate::specs::StatementReading::initial_in))]
+#[tactic(auto, unfolding(c_grammar::specs::StatementReading::initial_in))]
 fn initializer<'a>(
     alloc: Global,
     source: &Source,

@@ -5,9 +5,9 @@ ghost use Rattle.c_ast.specs.Places.{all_right, all_stand, block_item_right, ite
 ghost use Rattle.c_ast.specs.Trees;
 ghost use Rattle.c_ast.specs.Views.{block_items_of, block_item_of, item_of, declarator_of, specifier_of, specifiers_of};
 ghost use Rattle.c_expressions.specs.Gives.{Gives};
-ghost use Rattle.c_expressions.specs.Lexemes.{lexemes_of};
-ghost use Rattle.c_expressions.specs.Reading.{after, is_left_brace, is_semicolon};
-ghost use Rattle.c_parser.specs.StatementReading.{body_after, item_after, item_in};
+ghost use Rattle.c_ast.specs.Lexemes.{lexemes_of};
+ghost use Rattle.c_grammar.specs.Reading.{after, is_left_brace, is_semicolon};
+ghost use Rattle.c_grammar.specs.StatementReading.{body_after, item_after, item_in};
 
 use crate::declarations::declarators_after;
 use crate::declarators::named;
@@ -139,7 +139,7 @@ fn declared<'a>(
 }
 
 /// An item, of a depth of at most `inside` and 1.
-#[tactic(auto, unfolding(crate::specs::StatementReading::item_in))]
+#[tactic(auto, unfolding(c_grammar::specs::StatementReading::item_in))]
 pub fn item<'a>(
     alloc: Global,
     source: &Source,

@@ -4,9 +4,9 @@ ghost use Rattle.std.specs.Prelude.{max, IfOk, true, ◌≡◌};
 ghost use Rattle.c_ast.specs.Places.{statement_stands, for_start_right};
 ghost use Rattle.c_ast.specs.Views.{statement_of, for_start_of};
 ghost use Rattle.c_expressions.specs.Gives.{Gives};
-ghost use Rattle.c_expressions.specs.Lexemes.{lexemes_of};
-ghost use Rattle.c_expressions.specs.Reading.{after};
-ghost use Rattle.c_parser.specs.StatementReading.{statement_at, below_at, do_in, for_in, is_while, for_start_in, while_in};
+ghost use Rattle.c_ast.specs.Lexemes.{lexemes_of};
+ghost use Rattle.c_grammar.specs.Reading.{after};
+ghost use Rattle.c_grammar.specs.StatementReading.{statement_at, below_at, do_in, for_in, is_while, for_start_in, while_in};
 
 use crate::conditions::{before_right, before_semicolon, condition};
 use crate::declarations::declaration_inside;
@@ -39,7 +39,7 @@ fn after_while<'a>(source: &Source, tokens: &'a [Token]) -> Result<(At, &'a [Tok
 
 /// What stands after `while`.
 #[cycle(statement)]
-#[tactic(auto, unfolding(crate::specs::StatementReading::while_in))]
+#[tactic(auto, unfolding(c_grammar::specs::StatementReading::while_in))]
 pub fn while_loop<'a>(
     alloc: Global,
     source: &Source,
@@ -63,7 +63,7 @@ pub fn while_loop<'a>(
 
 /// What stands after `do`.
 #[cycle(statement)]
-#[tactic(auto, unfolding(crate::specs::StatementReading::do_in))]
+#[tactic(auto, unfolding(c_grammar::specs::StatementReading::do_in))]
 pub fn do_loop<'a>(
     alloc: Global,
     source: &Source,
@@ -88,7 +88,7 @@ pub fn do_loop<'a>(
 }
 
 /// What stands first in the parentheses of a `for`.
-#[tactic(auto, unfolding(crate::specs::StatementReading::for_start_in))]
+#[tactic(auto, unfolding(c_grammar::specs::StatementReading::for_start_in))]
 fn start<'a>(
     alloc: Global,
     source: &Source,
@@ -110,7 +110,7 @@ fn start<'a>(
 
 /// What stands after `for`.
 #[cycle(statement)]
-#[tactic(auto, unfolding(crate::specs::StatementReading::for_in))]
+#[tactic(auto, unfolding(c_grammar::specs::StatementReading::for_in))]
 pub fn for_loop<'a>(
     alloc: Global,
     source: &Source,

@@ -6,9 +6,9 @@ ghost use Rattle.c_lexer.specs.Lexes.{Lexes};
 ghost use Rattle.c_ast.specs.Places.{all_stand, item_stands};
 ghost use Rattle.c_ast.specs.Views.{item_of};
 ghost use Rattle.c_expressions.specs.Gives.{Gives};
-ghost use Rattle.c_expressions.specs.Lexemes.{lexemes_of};
+ghost use Rattle.c_ast.specs.Lexemes.{lexemes_of};
 ghost use Rattle.c_parser.specs.Parsing.{IsPlaceIn, ParseGives, first_unsupported, is_unsupported};
-ghost use Rattle.c_parser.specs.StatementReading.{item_in, items_in};
+ghost use Rattle.c_grammar.specs.StatementReading.{item_in, items_in};
 
 use crate::faults::ParseFault;
 use crate::items::item;

@@ -4,9 +4,9 @@ ghost use Rattle.std.specs.Prelude.{max, IfOk, true, ◌≡◌};
 ghost use Rattle.c_ast.specs.Places.{statement_stands, expression_stands};
 ghost use Rattle.c_ast.specs.Views.{statement_of, expression_of};
 ghost use Rattle.c_expressions.specs.Gives.{Gives};
-ghost use Rattle.c_expressions.specs.Lexemes.{lexemes_of};
-ghost use Rattle.c_expressions.specs.Reading.{after};
-ghost use Rattle.c_parser.specs.StatementReading.{statement_at, below_at, else_after, if_in, is_else};
+ghost use Rattle.c_ast.specs.Lexemes.{lexemes_of};
+ghost use Rattle.c_grammar.specs.Reading.{after};
+ghost use Rattle.c_grammar.specs.StatementReading.{statement_at, below_at, else_after, if_in, is_else};
 
 use crate::conditions::condition;
 use crate::statements::statement_inside;
@@ -64,7 +64,7 @@ fn branches<'a>(
 
 /// What stands after `if`.
 #[cycle(statement)]
-#[tactic(auto, unfolding(crate::specs::StatementReading::if_in))]
+#[tactic(auto, unfolding(c_grammar::specs::StatementReading::if_in))]
 pub fn selection<'a>(
     alloc: Global,
     source: &Source,

@@ -5,9 +5,9 @@ ghost use Rattle.c_ast.specs.Places.{statement_stands, all_right, block_item_rig
 ghost use Rattle.c_ast.specs.Trees;
 ghost use Rattle.c_ast.specs.Views.{statement_of, block_items_of, block_item_of};
 ghost use Rattle.c_expressions.specs.Gives.{Gives};
-ghost use Rattle.c_expressions.specs.Lexemes.{lexemes_of};
-ghost use Rattle.c_expressions.specs.Reading.{chain};
-ghost use Rattle.c_parser.specs.StatementReading.{statement_at, statement_in, below_at, block_statement_in, block_in, block_item_in, block_item_step, evaluate_in, jump_in, return_in};
+ghost use Rattle.c_ast.specs.Lexemes.{lexemes_of};
+ghost use Rattle.c_grammar.specs.Reading.{chain};
+ghost use Rattle.c_grammar.specs.StatementReading.{statement_at, statement_in, below_at, block_statement_in, block_in, block_item_in, block_item_step, evaluate_in, jump_in, return_in};
 
 use crate::conditions::before_semicolon;
 use crate::declarations::declaration_inside;
@@ -26,7 +26,7 @@ use std::alloc::Global;
 
 /// An item of a block.
 #[cycle(statement)]
-#[tactic(auto, unfolding(crate::specs::StatementReading::block_item_in))]
+#[tactic(auto, unfolding(c_grammar::specs::StatementReading::block_item_in))]
 fn block_item<'a>(
     alloc: Global,
     source: &Source,
@@ -47,7 +47,7 @@ fn block_item<'a>(
 
 /// One item of a block more, or the `}` after the last.
 #[cycle(statement)]
-#[tactic(auto, unfolding(crate::specs::StatementReading::block_item_step))]
+#[tactic(auto, unfolding(c_grammar::specs::StatementReading::block_item_step))]
 fn next_item<'a>(
     alloc: Global,
     source: &Source,
@@ -71,7 +71,7 @@ fn next_item<'a>(
 
 /// The items of a block up to `}`.
 #[cycle(statement)]
-#[tactic(auto, using(c_expressions::proofs::Turns::turns))]
+#[tactic(auto, using(c_grammar::proofs::Rounds::rounds))]
 fn items<'a>(
     alloc: Global,
     source: &Source,
@@ -100,7 +100,7 @@ fn items<'a>(
 
 /// A block, from after `{` on, with the place of its `}`.
 #[cycle(statement)]
-#[tactic(auto, unfolding(crate::specs::StatementReading::block_in))]
+#[tactic(auto, unfolding(c_grammar::specs::StatementReading::block_in))]
 pub fn block<'a>(
     alloc: Global,
     source: &Source,
@@ -116,7 +116,7 @@ pub fn block<'a>(
 }
 
 /// `;` after `break`.
-#[tactic(auto, unfolding(crate::specs::StatementReading::jump_in))]
+#[tactic(auto, unfolding(c_grammar::specs::StatementReading::jump_in))]
 fn break_statement<'a>(
     source: &Source,
     punctuator: At,
@@ -134,7 +134,7 @@ fn break_statement<'a>(
 }
 
 /// `;` after `continue`.
-#[tactic(auto, unfolding(crate::specs::StatementReading::jump_in))]
+#[tactic(auto, unfolding(c_grammar::specs::StatementReading::jump_in))]
 fn continue_statement<'a>(
     source: &Source,
     punctuator: At,
@@ -152,7 +152,7 @@ fn continue_statement<'a>(
 }
 
 /// What stands after `return`.
-#[tactic(auto, unfolding(crate::specs::StatementReading::return_in))]
+#[tactic(auto, unfolding(c_grammar::specs::StatementReading::return_in))]
 fn return_statement<'a>(
     alloc: Global,
     source: &Source,
@@ -174,7 +174,7 @@ fn return_statement<'a>(
 }
 
 /// An expression or none, before `;`.
-#[tactic(auto, unfolding(crate::specs::StatementReading::evaluate_in))]
+#[tactic(auto, unfolding(c_grammar::specs::StatementReading::evaluate_in))]
 fn expression_statement<'a>(
     alloc: Global,
     source: &Source,
@@ -212,7 +212,7 @@ fn whole_block(source: &Source, left: At, items: List<BlockItem>, right: At) -> 
 
 /// A block as a statement, from after `{` on.
 #[cycle(statement)]
-#[tactic(auto, unfolding(crate::specs::StatementReading::block_statement_in))]
+#[tactic(auto, unfolding(c_grammar::specs::StatementReading::block_statement_in))]
 fn block_statement<'a>(
     alloc: Global,
     source: &Source,
@@ -230,7 +230,7 @@ fn block_statement<'a>(
 
 /// A statement by its first token (C99 6.8).
 #[cycle(statement)]
-#[tactic(auto, using(crate::proofs::OpeningStatements::statement_by_opening), unfolding(crate::specs::StatementReading::statement_in))]
+#[tactic(auto, using(crate::proofs::OpeningStatements::statement_by_opening), unfolding(c_grammar::specs::StatementReading::statement_in))]
 fn statement<'a>(
     alloc: Global,
     source: &Source,

@@ -4,9 +4,9 @@ ghost use Rattle.std.specs.Prelude.{◌+◌, [], length, map, IfOk, true, ◌≡
 ghost use Rattle.c_ast.specs.Places.{all_right, label_right};
 ghost use Rattle.c_ast.specs.Views.{label_of};
 ghost use Rattle.c_expressions.specs.Gives.{Gives};
-ghost use Rattle.c_expressions.specs.Lexemes.{lexemes_of};
-ghost use Rattle.c_expressions.specs.Reading.{chain};
-ghost use Rattle.c_parser.specs.StatementReading.{statement_at, below_at, label_step};
+ghost use Rattle.c_ast.specs.Lexemes.{lexemes_of};
+ghost use Rattle.c_grammar.specs.Reading.{chain};
+ghost use Rattle.c_grammar.specs.StatementReading.{statement_at, below_at, label_step};
 
 use c_ast::Label;
 use c_expressions::{Failure, Source, add, after_colon, conditional_inside, larger};
@@ -15,7 +15,7 @@ use lay_base::{Keyword, List};
 use std::alloc::Global;
 
 /// One label more, or what stands after the last.
-#[tactic(auto, unfolding(crate::specs::StatementReading::label_step))]
+#[tactic(auto, unfolding(c_grammar::specs::StatementReading::label_step))]
 fn next_label<'a>(
     alloc: Global,
     source: &Source,
@@ -60,7 +60,7 @@ fn next_label<'a>(
 }
 
 /// The labels before a statement.
-#[tactic(auto, using(c_expressions::proofs::Turns::turns))]
+#[tactic(auto, using(c_grammar::proofs::Rounds::rounds))]
 pub fn labels<'a>(
     alloc: Global,
     source: &Source,

@@ -4,9 +4,9 @@ ghost use Rattle.std.specs.Prelude.{◌+◌, [], length, map, IfOk, true, ◌≡
 ghost use Rattle.c_ast.specs.Places.{statement_stands, all_right, switch_item_right};
 ghost use Rattle.c_ast.specs.Views.{statement_of, switch_item_of};
 ghost use Rattle.c_expressions.specs.Gives.{Gives};
-ghost use Rattle.c_expressions.specs.Lexemes.{lexemes_of};
-ghost use Rattle.c_expressions.specs.Reading.{chain};
-ghost use Rattle.c_parser.specs.StatementReading.{statement_at, switch_item_in, switch_item_step, below_at, labelled_in, switch_in};
+ghost use Rattle.c_ast.specs.Lexemes.{lexemes_of};
+ghost use Rattle.c_grammar.specs.Reading.{chain};
+ghost use Rattle.c_grammar.specs.StatementReading.{statement_at, switch_item_in, switch_item_step, below_at, labelled_in, switch_in};
 
 use crate::conditions::condition;
 use crate::declarations::declaration_inside;
@@ -23,7 +23,7 @@ use std::alloc::Global;
 
 /// A statement with the labels before it.
 #[cycle(statement)]
-#[tactic(auto, unfolding(crate::specs::StatementReading::labelled_in))]
+#[tactic(auto, unfolding(c_grammar::specs::StatementReading::labelled_in))]
 fn labelled<'a>(
     alloc: Global,
     source: &Source,
@@ -40,7 +40,7 @@ fn labelled<'a>(
 
 /// An item of a switch's body.
 #[cycle(statement)]
-#[tactic(auto, unfolding(crate::specs::StatementReading::switch_item_in))]
+#[tactic(auto, unfolding(c_grammar::specs::StatementReading::switch_item_in))]
 fn switch_item<'a>(
     alloc: Global,
     source: &Source,
@@ -61,7 +61,7 @@ fn switch_item<'a>(
 
 /// One item of a switch's body more, or the `}` after the last.
 #[cycle(statement)]
-#[tactic(auto, unfolding(crate::specs::StatementReading::switch_item_step))]
+#[tactic(auto, unfolding(c_grammar::specs::StatementReading::switch_item_step))]
 fn next_switch_item<'a>(
     alloc: Global,
     source: &Source,
@@ -85,7 +85,7 @@ fn next_switch_item<'a>(
 
 /// The items of a switch's body up to `}`.
 #[cycle(statement)]
-#[tactic(auto, using(c_expressions::proofs::Turns::turns))]
+#[tactic(auto, using(c_grammar::proofs::Rounds::rounds))]
 fn switch_items<'a>(
     alloc: Global,
     source: &Source,
@@ -114,7 +114,7 @@ fn switch_items<'a>(
 
 /// What stands after `switch`.
 #[cycle(statement)]
-#[tactic(auto, unfolding(crate::specs::StatementReading::switch_in))]
+#[tactic(auto, unfolding(c_grammar::specs::StatementReading::switch_in))]
 pub fn switch<'a>(
     alloc: Global,
     source: &Source,

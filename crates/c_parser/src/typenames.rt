@@ -5,7 +5,7 @@ ghost use Rattle.c_ast.specs.WellFormed.{declared_name, declared_names, has_type
 ghost use Rattle.c_ast.specs.Views.{init_declarator_of, declaration_of, item_of, declarator_of, specifier_of, specifiers_of};
 
 use c_ast::{
-    Declarator, DeclaratorNode, InitDeclarator, Item, Specifier, SpecifierNode, SpecifierWord,
+    Declarator, DeclaratorNode, InitDeclarator, Item, Specifier, SpecifierNode, SpecifierKeyword,
 };
 use c_expressions::Typenames;
 use lay_base::NoMemory;
@@ -30,7 +30,7 @@ fn has_typedef(specifiers: &[Specifier]) -> bool
     ensures { result ≡ has_typedef (specifiers_of (map specifier_of specifiers.now)) }
 {
     for specifier in specifiers {
-        if let SpecifierNode::Spelling(SpecifierWord::Typedef, _) = &specifier.node {
+        if let SpecifierNode::Keyword(SpecifierKeyword::Typedef, _) = &specifier.node {
             return true;
         }
     }

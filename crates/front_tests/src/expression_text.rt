@@ -201,7 +201,7 @@ fn open_tagged(out: &mut Writer, keyword: &str, tag: &Option<Spelling>) -> Resul
 fn put_specifier(out: &mut Writer, specifier: &Specifier) -> Result<(), AllocError> {
     out.place(specifier.place)?;
     match &specifier.node {
-        SpecifierNode::Spelling(of, _) => out.word(specifier_text(*of)),
+        SpecifierNode::Keyword(of, _) => out.word(specifier_text(*of)),
         SpecifierNode::Typename(name) => out.type_name(name.text.as_slice()),
         SpecifierNode::Struct(_, tag) => {
             out.open("struct")?;

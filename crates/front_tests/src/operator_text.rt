@@ -1,6 +1,6 @@
 //! Operators and the keywords of specifiers, as C spells them.
 
-use c_ast::{AssignOp, BinaryOp, SpecifierWord, StepOp, UnaryOp};
+use c_ast::{AssignOp, BinaryOp, SpecifierKeyword, StepOp, UnaryOp};
 
 /// `++` and `--` before their operand.
 pub fn prefix_text(op: StepOp) -> &'static str {
@@ -68,20 +68,20 @@ pub fn assign_text(op: AssignOp) -> &'static str {
     }
 }
 
-pub fn specifier_text(of: SpecifierWord) -> &'static str {
+pub fn specifier_text(of: SpecifierKeyword) -> &'static str {
     match of {
-        SpecifierWord::Typedef => "typedef",
-        SpecifierWord::Extern => "extern",
-        SpecifierWord::Static => "static",
-        SpecifierWord::Auto => "auto",
-        SpecifierWord::Register => "register",
-        SpecifierWord::Const => "const",
-        SpecifierWord::Void => "void",
-        SpecifierWord::Char => "char",
-        SpecifierWord::Short => "short",
-        SpecifierWord::Int => "int",
-        SpecifierWord::Long => "long",
-        SpecifierWord::Signed => "signed",
-        SpecifierWord::Unsigned => "unsigned",
+        SpecifierKeyword::Typedef => "typedef",
+        SpecifierKeyword::Extern => "extern",
+        SpecifierKeyword::Static => "static",
+        SpecifierKeyword::Auto => "auto",
+        SpecifierKeyword::Register => "register",
+        SpecifierKeyword::Const => "const",
+        SpecifierKeyword::Void => "void",
+        SpecifierKeyword::Char => "char",
+        SpecifierKeyword::Short => "short",
+        SpecifierKeyword::Int => "int",
+        SpecifierKeyword::Long => "long",
+        SpecifierKeyword::Signed => "signed",
+        SpecifierKeyword::Unsigned => "unsigned",
     }
 }

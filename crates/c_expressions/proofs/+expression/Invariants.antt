@@ -2,8 +2,8 @@ use Rattle.std.proofs.Common.{◌≡◌, ◌+◌, ◌*◌, map, length, [], true
 use Rattle.std.specs.Option.{option_map}
 use Rattle.c_ast.specs.Places.{all_right, all_stand, enumerator_right, member_declarator_right, argument_right, member_declaration_right, parameter_right, declarator_stands, specifier_stands, stands_if_any, expression_stands}
 use Rattle.c_ast.specs.Views.{enumerator_of, member_declarator_of, argument_of, member_declaration_of, parameter_of, declarator_if_any, declarator_of, specifier_of, expression_of}
-use Rattle.c_expressions.specs.Lexemes.{lexemes_of}
-use Rattle.c_expressions.specs.Reading.{chain, argument_in, postfix_step, postfix_in, operator_step, operators_in, comma_step, expression_in, member_declarator_step, member_declaration_step, enumerator_step, specifier_step, parameter_step, suffix_step, direct_in, at}
+use Rattle.c_ast.specs.Lexemes.{lexemes_of}
+use Rattle.c_grammar.specs.Reading.{chain, argument_in, postfix_step, postfix_in, operator_step, operators_in, comma_step, expression_in, member_declarator_step, member_declaration_step, enumerator_step, specifier_step, parameter_step, suffix_step, direct_in, at}
 use Rattle.c_expressions.proofs.+expression.Given as goal
 
 abbrev pub decreases-type_names::type_name : goal.decreases-type_names::type_name

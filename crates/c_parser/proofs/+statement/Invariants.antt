@@ -1,9 +1,9 @@
 use Rattle.std.proofs.Common.{◌≡◌, ◌+◌, ◌*◌, map, length, [], true}
 use Rattle.c_ast.specs.Places.{all_right, switch_item_right, block_item_right}
 use Rattle.c_ast.specs.Views.{switch_item_of, block_item_of}
-use Rattle.c_expressions.specs.Lexemes.{lexemes_of}
-use Rattle.c_expressions.specs.Reading.{chain}
-use Rattle.c_parser.specs.StatementReading.{statement_at, switch_item_step, below_at, block_item_step}
+use Rattle.c_ast.specs.Lexemes.{lexemes_of}
+use Rattle.c_grammar.specs.Reading.{chain}
+use Rattle.c_grammar.specs.StatementReading.{statement_at, switch_item_step, below_at, block_item_step}
 use Rattle.c_parser.proofs.+statement.Given as goal
 
 abbrev pub decreases-statements::statement_inside : goal.decreases-statements::statement_inside

@@ -1,6 +1,6 @@
 use Rattle.std.proofs.Common.{◌≡◌, ◌+◌, length, []}
-use Rattle.c_expressions.specs.Lexemes.{lexemes_of}
-use Rattle.c_expressions.specs.Reading.{chain, const_step}
+use Rattle.c_ast.specs.Lexemes.{lexemes_of}
+use Rattle.c_grammar.specs.Reading.{chain, const_step}
 use Rattle.c_expressions.proofs.declarators.const_qualifiers.Given as goal
 
 abbrev pub invariant-more : goal.invariant-more

@@ -1,6 +1,6 @@
 use Rattle.std.proofs.Common.{◌≡◌, ◌+◌, length, []}
-use Rattle.c_expressions.specs.Lexemes.{lexemes_of}
-use Rattle.c_expressions.specs.Reading.{chain, text_in}
+use Rattle.c_ast.specs.Lexemes.{lexemes_of}
+use Rattle.c_grammar.specs.Reading.{chain, text_in}
 use Rattle.c_expressions.proofs.primary.text_list.Given as goal
 
 abbrev pub invariant-more : goal.invariant-more

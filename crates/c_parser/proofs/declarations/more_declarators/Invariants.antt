@@ -1,9 +1,9 @@
 use Rattle.std.proofs.Common.{◌≡◌, ◌+◌, map, length, [], ◌∷◌, true}
 use Rattle.c_ast.specs.Places.{all_right, init_declarator_right}
 use Rattle.c_ast.specs.Views.{init_declarator_of}
-use Rattle.c_expressions.specs.Lexemes.{lexemes_of}
-use Rattle.c_expressions.specs.Reading.{at, chain}
-use Rattle.c_parser.specs.StatementReading.{init_declarator_step, initial_at}
+use Rattle.c_ast.specs.Lexemes.{lexemes_of}
+use Rattle.c_grammar.specs.Reading.{at, chain}
+use Rattle.c_grammar.specs.StatementReading.{init_declarator_step, initial_at}
 use Rattle.c_parser.proofs.declarations.more_declarators.Given as goal
 
 abbrev pub invariant-more : goal.invariant-more

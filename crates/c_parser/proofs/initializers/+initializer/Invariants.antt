@@ -1,9 +1,9 @@
 use Rattle.std.proofs.Common.{◌≡◌, ◌+◌, ◌*◌, map, length, [], true}
 use Rattle.c_ast.specs.Places.{all_right, argument_right}
 use Rattle.c_ast.specs.Views.{argument_of}
-use Rattle.c_expressions.specs.Lexemes.{lexemes_of}
-use Rattle.c_expressions.specs.Reading.{chain}
-use Rattle.c_parser.specs.StatementReading.{initial_at, initial_step}
+use Rattle.c_ast.specs.Lexemes.{lexemes_of}
+use Rattle.c_grammar.specs.Reading.{chain}
+use Rattle.c_grammar.specs.StatementReading.{initial_at, initial_step}
 use Rattle.c_parser.proofs.initializers.+initializer.Given as goal
 
 abbrev pub decreases-initializer_inside : goal.decreases-initializer_inside

@@ -1,6 +1,6 @@
 use Rattle.std.proofs.Common.{rules, map, refl}
 use Rattle.c_ast.specs.Views.{item_of}
-use Rattle.c_expressions.specs.Lexemes.{lexemes_of}
+use Rattle.c_ast.specs.Lexemes.{lexemes_of}
 use Rattle.c_parser.proofs.ItemTurns.{items_end, items_out, items_fail, items_go, some_lexemes, no_lexemes}
 use Rattle.c_parser.proofs.parsing.items_of.Goals as goal
 

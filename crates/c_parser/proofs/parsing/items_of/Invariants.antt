@@ -1,8 +1,8 @@
 use Rattle.std.proofs.Common.{◌≡◌, map, length, [], true}
 use Rattle.c_ast.specs.Places.{all_stand, item_stands}
 use Rattle.c_ast.specs.Views.{item_of}
-use Rattle.c_expressions.specs.Lexemes.{lexemes_of}
-use Rattle.c_parser.specs.StatementReading.{items_in}
+use Rattle.c_ast.specs.Lexemes.{lexemes_of}
+use Rattle.c_grammar.specs.StatementReading.{items_in}
 use Rattle.c_parser.proofs.ItemTurns.{with_front}
 use Rattle.c_parser.proofs.parsing.items_of.Given as goal
 

@@ -1,8 +1,8 @@
 use Rattle.std.proofs.Common.{rules, map, length}
 use Rattle.c_lexer.proofs.TextsOfTokens.{tokens_have_texts}
 use Rattle.c_ast.specs.Views.{item_of}
-use Rattle.c_parser.proofs.WholeTokens.{tokens_are_whole}
-use Rattle.c_parser.proofs.OneTree.{tree_read, no_tree}
+use Rattle.c_grammar.proofs.WholeTokens.{tokens_are_whole}
+use Rattle.c_grammar.proofs.OneTree.{tree_read, no_tree}
 use Rattle.c_parser.proofs.ItemTurns.{lexemes_count}
 use Rattle.c_parser.proofs.parsing.parse.Goals as goal
 

@@ -1,9 +1,9 @@
 use Rattle.std.proofs.Common.{◌≡◌, ◌+◌, map, length, [], true}
 use Rattle.c_ast.specs.Places.{all_right, label_right}
 use Rattle.c_ast.specs.Views.{label_of}
-use Rattle.c_expressions.specs.Lexemes.{lexemes_of}
-use Rattle.c_expressions.specs.Reading.{chain}
-use Rattle.c_parser.specs.StatementReading.{statement_at, below_at, label_step}
+use Rattle.c_ast.specs.Lexemes.{lexemes_of}
+use Rattle.c_grammar.specs.Reading.{chain}
+use Rattle.c_grammar.specs.StatementReading.{statement_at, below_at, label_step}
 use Rattle.c_parser.proofs.switch_labels.labels.Given as goal
 
 abbrev pub invariant-more : goal.invariant-more

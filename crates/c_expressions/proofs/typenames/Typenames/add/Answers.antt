@@ -1,7 +1,7 @@
 use Rattle.std.proofs.Common.{rules, ◌≡◌, ◌++◌, ◌∷◌, [], ◌∙◌, ap}
 use Rattle.c_ast.specs.WellFormed.{is_typename}
 use Rattle.c_expressions.proofs.typenames.Typenames.add.Goals as goal
-use Rattle.c_expressions.proofs.Tables.{one_more}
+use Rattle.c_grammar.proofs.Tables.{one_more}
 
 pub invariant_of-self-in-Ok : goal.invariant_of-self-in-Ok
 invariant_of-self-in-Ok c x =
