@@ -50,3 +50,7 @@ first_unsupported (token ∷ tokens) = unsupported_or token.kind token.from (fir
 -- ---- the tree of a file's bytes: they are tokens, none of them a keyword that is left out, and the tree is theirs
 abbrev pub IsTreeOf : List ℕ → List Trees.Item → Type 0
 IsTreeOf bytes items = (tokens : List Token) × Lexes bytes tokens × (first_unsupported tokens ≡ None) × IsTreeOfTokens (lexemes_of bytes tokens) items
+
+-- tokens have one tree, and so has a file
+abbrev pub TreesAreOne : Type 0
+TreesAreOne = (tokens : List Lexeme) (items others : List Trees.Item) → IsTreeOfTokens tokens items → IsTreeOfTokens tokens others → others ≡ items

@@ -10,7 +10,7 @@ use Rattle.c_ast.specs.Sizes.{depth_declarator, depth_specifiers, depth_value, d
 use Rattle.c_grammar.specs.Reading.{fronted, is_left_brace, is_comma, is_semicolon, begins_specifier, chain, at}
 use Rattle.c_grammar.proofs.Follow.{pull, declarators_pull, no_equal, within}
 use Rattle.c_grammar.proofs.Lists.{is_new, not_new, comma_read}
-use Rattle.c_grammar.specs.StatementReading.{initial_at, valued_in, named_in, init_declarator_step, more_init_declarators, declarators_after, declarators_in, declarators_if_any, declaration_in, declaration_at}
+use Rattle.c_grammar.specs.StatementReading.{initial_at, valued_in, named_in, init_declarator_step, more_init_declarators, declarators_after, declarators_in, declarators_if_any, declaration_in}
 use Rattle.c_grammar.proofs.CompleteBelow.{IsComplete}
 use Rattle.c_grammar.proofs.FirstTokens.{fronted_not, begins_declarator, declarator_start}
 use Rattle.c_grammar.proofs.Longer.{init_declarators_count}
@@ -173,13 +173,12 @@ module _ (types : List (List ℕ)) (c : IsComplete types) where
 
   items_read : (full : Bool) (specs : Trees.Specifiers) (all : List Trees.InitDeclarator) (semicolon : ℕ) → AreSpecifiers types specs → AreInitDeclarators types true all → Fills full all → (k : ℕ) (rest : List Lexeme) → max (depth_specifiers specs) (depth_init_declarators all) ≤ k
       → declaration_in full types k (spelled_specifiers specs (spelled_init_declarators all (punctuator M.Semicolon semicolon ∷ rest)))
-      ≡ Some (record { specs = specs; all = all; semicolon = semicolon }, max (depth_specifiers specs) (depth_init_declarators all) + 1, rest)
+      ≡ Some (record { specs = specs; all = all; semicolon = semicolon }, max (depth_specifiers specs) (depth_init_declarators all), rest)
   unfolding declaration_in
   items_read full specs all semicolon v w f k rest h =
       let tail = spelled_init_declarators all (punctuator M.Semicolon semicolon ∷ rest) in
       let b = after_specifiers all w semicolon rest in
-      rw (c.specifiers_read specs k tail v (omega arith) b.no_specifier b.no_left_brace, if_any_read full all w f k semicolon rest (omega arith), within (max (depth_specifiers specs) (depth_init_declarators all)) k h) refl
+      rw (c.specifiers_read specs k tail v (omega arith) b.no_specifier b.no_left_brace, if_any_read full all w f k semicolon rest (omega arith)) refl
 
-  pub declaration_read : (full : Bool) (d : Trees.Declaration) → IsDeclaration types d → Fills full d.all → (k : ℕ) (rest : List Lexeme) → depth_declaration d ≤ k → declaration_at full types k (spelled_declaration d rest) ≡ Some (d, depth_declaration d, rest)
-  declaration_read full d w f zero rest h = absurd (omega arith)
-  declaration_read full d w f (suc k) rest h = items_read full d.specs d.all d.semicolon w.0 w.1 f k rest (omega arith)
+  pub declaration_read : (full : Bool) (d : Trees.Declaration) → IsDeclaration types d → Fills full d.all → (k : ℕ) (rest : List Lexeme) → depth_declaration d ≤ k → declaration_in full types k (spelled_declaration d rest) ≡ Some (d, depth_declaration d, rest)
+  declaration_read full d w f k rest h = items_read full d.specs d.all d.semicolon w.0 w.1 f k rest (omega arith)

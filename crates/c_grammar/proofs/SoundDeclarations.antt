@@ -10,7 +10,7 @@ use Rattle.c_grammar.specs.Reading.{after, fronted, is_comma, is_semicolon, is_e
 use Rattle.c_grammar.proofs.Fronts.{bind_some, given, chosen, both, negated, deeper_taken, semicolon_taken, equal_taken, comma_before_taken, is_first}
 use Rattle.c_grammar.proofs.Chains.{Goes, chain_taken}
 use Rattle.c_grammar.proofs.Taken.{Took, Reads, IsSound}
-use Rattle.c_grammar.specs.StatementReading.{value_after, valued_in, named_in, init_declarator_step, more_init_declarators, declarators_after, declarators_in, declarators_if_any, declaration_in, declaration_at, initial_at}
+use Rattle.c_grammar.specs.StatementReading.{value_after, valued_in, named_in, init_declarator_step, more_init_declarators, declarators_after, declarators_in, declarators_if_any, declaration_in, initial_at}
 use Rattle.c_grammar.proofs.SoundInitializers.{bound, ReadsInitializer, initial_sound}
 
 -- ---- a declarator with its name, and its initializer
@@ -181,25 +181,20 @@ declaration_of : (full : Bool) (types : List (List ℕ)) (x : Trees.Declaration)
 declaration_of true types x f p = (f refl, p)
 declaration_of false types x f p = p
 
-declaration_taken : (full : Bool) (types : List (List ℕ)) → ((k : ℕ) → IsSound types k (at types k)) → (k : ℕ) → Reads spelled_declaration (IsDeclarationOf full types) depth_declaration (suc k) (declaration_in full types k)
+pub declaration_sound : (full : Bool) (types : List (List ℕ)) → ((k : ℕ) → IsSound types k (at types k)) → (k : ℕ)
+    → Reads spelled_declaration (IsDeclarationOf full types) depth_declaration k (declaration_in full types k)
 unfolding declaration_in
-declaration_taken full types s k tokens w y h =
+declaration_sound full types s k tokens w y h =
     let specs = bind_some ((at types k).specifiers tokens) _ y h in
     let all = bind_some (declarators_if_any full ((at types k).declarator) (initial_at types k) specs.0.2) _ y specs.2 in
     let semicolon = bind_some (after is_semicolon all.0.2) _ y all.2 in
-    let d = bind_some (deeper k (max specs.0.1 all.0.1)) _ y semicolon.2 in
     let p = (s k).specifiers tokens w specs.0 specs.1 in
     let q = if_any_taken types k (initial_at types k) (initial_sound types s k) ((at types k).declarator) ((s k).declarator) full specs.0.2 p.whole all.0 all.1 in
     let l = semicolon_taken all.0.2 q.whole semicolon.0 semicolon.1 in
-    let n = deeper_taken k (max specs.0.1 all.0.1) d.0 d.1 in
-    given (Took spelled_declaration (IsDeclarationOf full types) depth_declaration (suc k) tokens) _ y d.2 (record {
+    given (Took spelled_declaration (IsDeclarationOf full types) depth_declaration k tokens) _ y semicolon.2 (record {
       spelled_so = p.spelled_so ∙ ap (λ z. spelled_specifiers specs.0.0 z) (q.spelled_so ∙ ap (λ z. spelled_init_declarators all.0.0 z) l.0);
       well_formed = declaration_of full types _ q.some (p.well_formed, q.well_formed);
-      deep = (let e = p.deep in let f = q.deep in omega (arith, n.1, e, f));
-      within = omega (arith, n.0, n.1);
+      deep = (let e = p.deep in let f = q.deep in omega (arith, e, f));
+      within = (let e = p.within in let f = q.within in omega (arith, e, f));
       whole = l.1;
     })
-
-pub declaration_sound : (full : Bool) (types : List (List ℕ)) → ((k : ℕ) → IsSound types k (at types k)) → (k : ℕ) → Reads spelled_declaration (IsDeclarationOf full types) depth_declaration k (declaration_at full types k)
-declaration_sound full types s zero tokens w y h = cc
-declaration_sound full types s (suc k) tokens w y h = declaration_taken full types s k tokens w y h

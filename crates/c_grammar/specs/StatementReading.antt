@@ -88,13 +88,7 @@ declaration_in full types k tokens = do
   specs ← (at types k).specifiers tokens
   all ← declarators_if_any full ((at types k).declarator) (initial_at types k) specs.2
   semicolon ← after is_semicolon all.2
-  d ← deeper k (max specs.1 all.1)
-  Some (record { specs = specs.0; all = all.0; semicolon = semicolon.0 }, d, semicolon.1)
-
--- declarations of depth at most n
-abbrev pub declaration_at : Bool → List (List ℕ) → ℕ → Reader Trees.Declaration
-declaration_at full types zero tokens = None
-declaration_at full types (suc k) tokens = declaration_in full types k tokens
+  Some (record { specs = specs.0; all = all.0; semicolon = semicolon.0 }, max specs.1 all.1, semicolon.1)
 
 -- ---- statements
 
@@ -277,8 +271,8 @@ below_at types k statement = record {
   types = types;
   expression = (at types k).expression;
   conditional = (at types k).conditional;
-  local = declaration_at false types k;
-  full = declaration_at true types k;
+  local = declaration_in false types k;
+  full = declaration_in true types k;
   statement = statement;
 }
 
