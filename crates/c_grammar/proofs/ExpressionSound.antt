@@ -98,7 +98,7 @@ module _ (types : List (List ℕ)) (k : ℕ) (inner : Inner) (sound : IsSound ty
       })
 
   prefixed_reads : (t : Lexeme) (rest : List Lexeme) → AreWhole (t ∷ rest) → (step : Option StepOp) (op : Option UnaryOp) → step_op t.kind ≡ step → unary_op t.kind ≡ op
-      → (y : Trees.Expression × ℕ × List Lexeme) → prefixed_in types k inner t rest step op ≡ Some y → TookExpression types 14 (suc k) (t ∷ rest) y
+      → (y : Trees.Expression × ℕ × List Lexeme) → prefixed_in types k inner (t ∷ rest) step op ≡ Some y → TookExpression types 14 (suc k) (t ∷ rest) y
   prefixed_reads t rest w (Some op) o e f y h =
       rw (punctuator_whole t (step_punctuator op) (front_whole t rest w) (punctuators_some step_punctuator t.kind (step_op t.kind) op (step_kind t.kind) e)) (pre_reads op t.from rest (rest_whole t rest w) y h)
   prefixed_reads t rest w None (Some op) e f y h =
@@ -110,7 +110,7 @@ module _ (types : List (List ℕ)) (k : ℕ) (inner : Inner) (sound : IsSound ty
 
   pub unary_expression_reads : ReadsExpression types 14 (suc k) (unary_expression_in types k inner)
   unfolding unary_expression_in
-  unary_expression_reads [] w y h = cc
+  unary_expression_reads [] w y h = looser types (suc k) 15 14 [] y (omega arith) (postfix_reads types k inner sound [] w y h)
   unary_expression_reads (t ∷ rest) w y h = prefixed_reads t rest w (step_op t.kind) (unary_op t.kind) refl refl y h
 
   pub operand_reads : ReadsExpression types 13 (suc k) (operand_in types k inner)
@@ -133,7 +133,7 @@ module _ (types : List (List ℕ)) (k : ℕ) (inner : Inner) (sound : IsSound ty
   OperatorGoes least all r = Goes (Chained least all) (Chains least all) r r.3
 
   operated_goes : (least : ℕ) → 3 ≤ least → (all : List Lexeme) (x : Trees.Expression) (d : ℕ) (t : Lexeme) (rest : List Lexeme) (o : Option BinaryOp) (r : Trees.Expression × ℕ × List Lexeme × Bool)
-      → Chained least all x d (t ∷ rest) → binary_op t.kind ≡ o → operated_in k inner least x d t rest o ≡ Some r → OperatorGoes least all r
+      → Chained least all x d (t ∷ rest) → binary_op t.kind ≡ o → operated_in k inner least x d (t ∷ rest) o ≡ Some r → OperatorGoes least all r
   operated_goes least i all x d t rest None r p e h =
       let f : strength_if_any (binary_op t.kind) ≡ 0 = ap strength_if_any e in
       given (OperatorGoes least all) _ r h (p.0, omega (arith, f))
@@ -202,7 +202,7 @@ module _ (types : List (List ℕ)) (k : ℕ) (inner : Inner) (sound : IsSound ty
 
   -- ---- assignments
 
-  assigned_takes : (all : List Lexeme) (a : Trees.Expression) (d : ℕ) (t : Lexeme) (rest : List Lexeme) (o : Option AssignOp) → TookExpression types 2 (suc k) all (a, d, t ∷ rest) → assign_op t.kind ≡ o → (y : Trees.Expression × ℕ × List Lexeme) → assigned_in k inner a d t rest o ≡ Some y → TookExpression types 1 (suc k) all y
+  assigned_takes : (all : List Lexeme) (a : Trees.Expression) (d : ℕ) (t : Lexeme) (rest : List Lexeme) (o : Option AssignOp) → TookExpression types 2 (suc k) all (a, d, t ∷ rest) → assign_op t.kind ≡ o → (y : Trees.Expression × ℕ × List Lexeme) → assigned_in k inner a d (t ∷ rest) o ≡ Some y → TookExpression types 1 (suc k) all y
   assigned_takes all a d t rest None p e y h = given (TookExpression types 1 (suc k) all) _ y h (looser types (suc k) 2 1 all (a, d, t ∷ rest) (omega arith) p)
   assigned_takes all a d t rest (Some op) p e y h =
       chosen (leb 14 (level a)) _ _ y (TookExpression types 1 (suc k) all y) h

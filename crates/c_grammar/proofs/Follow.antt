@@ -101,7 +101,7 @@ operator_pull : (kind : TokenKind) → taken (binary_op kind) ≤ pull_kind kind
 operator_pull (K.Punctuator M.BarBar) = omega arith
 operator_pull kind = omega arith
 
-operator_ends : (o : Option BinaryOp) (k : ℕ) (inner : Inner) (least : ℕ) (x : Trees.Expression) (d : ℕ) (t : Lexeme) (rest : List Lexeme) → taken o ≤ least → operated_in k inner least x d t rest o ≡ Some (x, d, t ∷ rest, false)
+operator_ends : (o : Option BinaryOp) (k : ℕ) (inner : Inner) (least : ℕ) (x : Trees.Expression) (d : ℕ) (t : Lexeme) (rest : List Lexeme) → taken o ≤ least → operated_in k inner least x d (t ∷ rest) o ≡ Some (x, d, t ∷ rest, false)
 operator_ends None k inner least x d t rest h = refl
 operator_ends (Some op) k inner least x d t rest h = rw (above least (strength op) (omega arith))
 

@@ -176,7 +176,7 @@ module _ (k : ℕ) (below : Below) (sound : IsSoundBelow k below) where
   -- ---- the body of a switch
 
   label_kind_taken : (done : List Trees.Label) (d : ℕ) (kind : TokenKind) (from to : ℕ) (text : List ℕ) (rest : List Lexeme) (r : List Trees.Label × ℕ × List Lexeme × Bool)
-      → AreWhole (lexeme kind from to text ∷ rest) → label_of_kind below done d (lexeme kind from to text) rest kind ≡ Some r → Grows (labels below.types) k AnyEnd done d (lexeme kind from to text ∷ rest) r
+      → AreWhole (lexeme kind from to text ∷ rest) → label_of_kind below done d (lexeme kind from to text ∷ rest) (Some kind) ≡ Some r → Grows (labels below.types) k AnyEnd done d (lexeme kind from to text ∷ rest) r
   label_kind_taken done d (K.Keyword W.Case) from to text rest r w h =
       let t = lexeme (K.Keyword W.Case) from to text in
       let a = bind_some (below.conditional rest) _ r h in

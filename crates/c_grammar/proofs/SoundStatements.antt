@@ -298,7 +298,7 @@ module _ (k : ℕ) (below : Below) (sound : IsSoundBelow k below) where
       (λ c h. evaluate_taken (t ∷ rest) w y h)
 
   kind_taken : (kind : TokenKind) (from to : ℕ) (text : List ℕ) (rest : List Lexeme) → AreWhole (lexeme kind from to text ∷ rest) → (y : Trees.Statement × ℕ × List Lexeme)
-      → statement_of_kind k below (lexeme kind from to text) rest kind ≡ Some y → TookStatement below.types (suc k) (lexeme kind from to text ∷ rest) y
+      → statement_of_kind k below (lexeme kind from to text ∷ rest) kind ≡ Some y → TookStatement below.types (suc k) (lexeme kind from to text ∷ rest) y
   kind_taken (K.Keyword W.If) from to text rest w y h = by_keyword W.If from to text rest w y (λ v. if_taken from rest v y h)
   kind_taken (K.Keyword W.While) from to text rest w y h = by_keyword W.While from to text rest w y (λ v. while_taken from rest v y h)
   kind_taken (K.Keyword W.Do) from to text rest w y h = by_keyword W.Do from to text rest w y (λ v. do_taken from rest v y h)

@@ -221,7 +221,7 @@ module _ (types : List (List ℕ)) (k : ℕ) (inner : Inner) (sound : IsSound ty
       subst (λ z. TookSpecifier (keyword W.Enum at ∷ z) y) (sym p.0)
       (tagged_takes W.Enum at (Trees.enum_named at) (enum_body_in k inner at) (λ x rest w. record { spelled_so = refl; well_formed = tt; deep = refl; within = omega arith; whole = w }) (enum_body_reads at) (tag_if_any tokens).0 (tag_if_any tokens).1 p.1 y h)
 
-  specified_takes : (t : Lexeme) (rest : List Lexeme) (o : Option SpecifierKeyword) → AreWhole (t ∷ rest) → keyword_specifier t.kind ≡ o → (y : Trees.Specifier × ℕ × List Lexeme) → specified_in types k inner t rest o ≡ Some y → TookSpecifier (t ∷ rest) y
+  specified_takes : (t : Lexeme) (rest : List Lexeme) (o : Option SpecifierKeyword) → AreWhole (t ∷ rest) → keyword_specifier t.kind ≡ o → (y : Trees.Specifier × ℕ × List Lexeme) → specified_in types k inner (t ∷ rest) o ≡ Some y → TookSpecifier (t ∷ rest) y
   specified_takes t rest (Some s) w e y h =
       given (TookSpecifier (t ∷ rest)) _ y h (record {
         spelled_so = ap (λ z. z ∷ rest) (keyword_whole t (specifier_keyword s) (front_whole t rest w) (says_some t.kind (keyword_specifier t.kind) s (specifier_kind t.kind) e));

@@ -46,27 +46,31 @@ statement_start types (Trees.evaluate (Some a) semicolon) w rest = evaluate_star
 statement_start types (Trees.evaluate None semicolon) w rest = record { no_specifier = refl; not_end = refl; not_else = refl; not_label = refl }
 statement_start types a w rest = record { no_specifier = refl; not_end = refl; not_else = refl; not_label = refl }
 
-plain_kind : (k : ℕ) (below : Below) (t : Lexeme) (rest : List Lexeme) (kind : TokenKind) → begins_expression kind ≡ true → statement_of_kind k below t rest kind ≡ evaluate_in k below (t ∷ rest)
-plain_kind k below t rest (K.Keyword W.If) h = cc
-plain_kind k below t rest (K.Keyword W.While) h = cc
-plain_kind k below t rest (K.Keyword W.Do) h = cc
-plain_kind k below t rest (K.Keyword W.For) h = cc
-plain_kind k below t rest (K.Keyword W.Switch) h = cc
-plain_kind k below t rest (K.Keyword W.Break) h = cc
-plain_kind k below t rest (K.Keyword W.Continue) h = cc
-plain_kind k below t rest (K.Keyword W.Return) h = cc
-plain_kind k below t rest (K.Punctuator M.OpenBrace) h = cc
-plain_kind k below t rest kind h = refl
+abbrev lexeme : TokenKind → ℕ → ℕ → List ℕ → Lexeme
+lexeme kind from to text = record { kind = kind; from = from; to = to; text = text }
+
+plain_kind : (k : ℕ) (below : Below) (from to : ℕ) (text : List ℕ) (rest : List Lexeme) (kind : TokenKind) → begins_expression kind ≡ true
+    → statement_of_kind k below (lexeme kind from to text ∷ rest) kind ≡ evaluate_in k below (lexeme kind from to text ∷ rest)
+plain_kind k below from to text rest (K.Keyword W.If) h = cc
+plain_kind k below from to text rest (K.Keyword W.While) h = cc
+plain_kind k below from to text rest (K.Keyword W.Do) h = cc
+plain_kind k below from to text rest (K.Keyword W.For) h = cc
+plain_kind k below from to text rest (K.Keyword W.Switch) h = cc
+plain_kind k below from to text rest (K.Keyword W.Break) h = cc
+plain_kind k below from to text rest (K.Keyword W.Continue) h = cc
+plain_kind k below from to text rest (K.Keyword W.Return) h = cc
+plain_kind k below from to text rest (K.Punctuator M.OpenBrace) h = cc
+plain_kind k below from to text rest kind h = refl
 
 -- a statement that begins as an expression is one
 pub plain : (k : ℕ) (below : Below) (tokens : List Lexeme) → fronted begins_expression tokens ≡ true → statement_in k below tokens ≡ evaluate_in k below tokens
 unfolding statement_in
 plain k below [] h = cc
-plain k below (t ∷ rest) h = plain_kind k below t rest t.kind h
+plain k below (t ∷ rest) h = plain_kind k below t.from t.to t.text rest t.kind h
 
 -- ---- labels
 
-label_kind : (below : Below) (all : List Trees.Label) (d : ℕ) (t : Lexeme) (rest : List Lexeme) (kind : TokenKind) → is_label kind ≡ false → label_of_kind below all d t rest kind ≡ Some (all, d, t ∷ rest, false)
+label_kind : (below : Below) (all : List Trees.Label) (d : ℕ) (t : Lexeme) (rest : List Lexeme) (kind : TokenKind) → is_label kind ≡ false → label_of_kind below all d (t ∷ rest) (Some kind) ≡ Some (all, d, t ∷ rest, false)
 label_kind below all d t rest (K.Keyword W.Case) h = cc
 label_kind below all d t rest (K.Keyword W.Default) h = cc
 label_kind below all d t rest kind h = refl

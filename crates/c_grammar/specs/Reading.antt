@@ -1,6 +1,10 @@
 -- Reading an expression, a type name, specifiers or a declarator from the left of a list of tokens.
 use Rattle.std.specs.Prelude.{ℕ, zero, suc, ◌+◌, leb, ◌&&◌, ◌||◌, not, Bool, true, false, List, [], ◌∷◌, ◌++◌, length, Option, Some, None, is_some, max, if◌then◌else◌}
+use Rattle.lay_base.specs.declared.faults.Keyword.{Keyword}
 use Rattle.lay_base.specs.declared.faults.Keyword.TheVariants as W
+use Rattle.lay_base.specs.contracts.faults.KeywordPartialEq.TheImpl as keywords
+use Rattle.c_lexer.specs.declared.punctuator.Punctuator.{Punctuator}
+use Rattle.c_lexer.specs.contracts.punctuator.PunctuatorPartialEq.TheImpl as punctuators
 use Rattle.c_lexer.specs.declared.punctuator.Punctuator.TheVariants as M
 use Rattle.c_lexer.specs.declared.token.TokenKind.{TokenKind}
 use Rattle.c_lexer.specs.declared.token.TokenKind.TheVariants as K
@@ -27,7 +31,17 @@ None >>= f = None
 
 -- ---- tokens
 
--- the place of a token of that kind at the front, and what stands after it
+-- the kind of the token at the front
+abbrev pub front : List Lexeme → Option TokenKind
+front [] = None
+front (t ∷ rest) = Some t.kind
+
+-- the byte of the token at the front, and what stands after it
+abbrev pub advance : List Lexeme → ℕ × List Lexeme
+advance [] = (0, [])
+advance (t ∷ rest) = (t.from, rest)
+
+-- the byte of a token of that kind at the front, and what stands after it
 abbrev pub after : (TokenKind → Bool) → List Lexeme → Option (ℕ × List Lexeme)
 after p [] = None
 after p (t ∷ rest) = if p t.kind then Some (t.from, rest) else None
@@ -37,61 +51,62 @@ abbrev pub fronted : (TokenKind → Bool) → List Lexeme → Bool
 fronted p [] = false
 fronted p (t ∷ rest) = p t.kind
 
+abbrev pub is_punctuator : Punctuator → TokenKind → Bool
+is_punctuator p (K.Punctuator q) = punctuators.eq-value.it q p
+is_punctuator p _ = false
+
+abbrev pub is_keyword : Keyword → TokenKind → Bool
+is_keyword k (K.Keyword l) = keywords.eq-value.it l k
+is_keyword k _ = false
+
+-- that punctuator at the front
+abbrev pub expect : Punctuator → List Lexeme → Option (ℕ × List Lexeme)
+expect p tokens = after (is_punctuator p) tokens
+
+abbrev pub peek : Punctuator → List Lexeme → Bool
+peek p tokens = fronted (is_punctuator p) tokens
+
 abbrev pub is_left : TokenKind → Bool
-is_left (K.Punctuator M.Open) = true
-is_left _ = false
+is_left = is_punctuator M.Open
 
 abbrev pub is_right : TokenKind → Bool
-is_right (K.Punctuator M.Close) = true
-is_right _ = false
+is_right = is_punctuator M.Close
 
 abbrev pub is_left_square : TokenKind → Bool
-is_left_square (K.Punctuator M.OpenSquare) = true
-is_left_square _ = false
+is_left_square = is_punctuator M.OpenSquare
 
 abbrev pub is_right_square : TokenKind → Bool
-is_right_square (K.Punctuator M.CloseSquare) = true
-is_right_square _ = false
+is_right_square = is_punctuator M.CloseSquare
 
 abbrev pub is_left_brace : TokenKind → Bool
-is_left_brace (K.Punctuator M.OpenBrace) = true
-is_left_brace _ = false
+is_left_brace = is_punctuator M.OpenBrace
 
 abbrev pub is_right_brace : TokenKind → Bool
-is_right_brace (K.Punctuator M.CloseBrace) = true
-is_right_brace _ = false
+is_right_brace = is_punctuator M.CloseBrace
 
 abbrev pub is_comma : TokenKind → Bool
-is_comma (K.Punctuator M.Comma) = true
-is_comma _ = false
+is_comma = is_punctuator M.Comma
 
 abbrev pub is_semicolon : TokenKind → Bool
-is_semicolon (K.Punctuator M.Semicolon) = true
-is_semicolon _ = false
+is_semicolon = is_punctuator M.Semicolon
 
 abbrev pub is_colon : TokenKind → Bool
-is_colon (K.Punctuator M.Colon) = true
-is_colon _ = false
+is_colon = is_punctuator M.Colon
 
 abbrev pub is_question : TokenKind → Bool
-is_question (K.Punctuator M.Question) = true
-is_question _ = false
+is_question = is_punctuator M.Question
 
 abbrev pub is_equal : TokenKind → Bool
-is_equal (K.Punctuator M.Equal) = true
-is_equal _ = false
+is_equal = is_punctuator M.Equal
 
 abbrev pub is_star : TokenKind → Bool
-is_star (K.Punctuator M.Star) = true
-is_star _ = false
+is_star = is_punctuator M.Star
 
 abbrev pub is_const : TokenKind → Bool
-is_const (K.Keyword W.Const) = true
-is_const _ = false
+is_const = is_keyword W.Const
 
 abbrev pub is_void : TokenKind → Bool
-is_void (K.Keyword W.Void) = true
-is_void _ = false
+is_void = is_keyword W.Void
 
 abbrev pub is_name : TokenKind → Bool
 is_name K.Name = true
@@ -109,6 +124,16 @@ any_name (t ∷ rest) = if is_name t.kind then Some (spelling_of t, rest) else N
 abbrev pub plain_name : List (List ℕ) → List Lexeme → Option (Spelling × List Lexeme)
 plain_name types [] = None
 plain_name types (t ∷ rest) = if is_name t.kind && not (is_typename types t.text) then Some (spelling_of t, rest) else None
+
+-- the token at the front, whatever it is
+abbrev pub any_word : List Lexeme → Option (Spelling × List Lexeme)
+any_word [] = None
+any_word (t ∷ rest) = Some (spelling_of t, rest)
+
+-- is the text at the front that of a type's name?
+abbrev pub names_type : List (List ℕ) → List Lexeme → Bool
+names_type types [] = false
+names_type types (t ∷ rest) = is_typename types t.text
 
 -- ---- operators
 
@@ -177,13 +202,27 @@ keyword_specifier (K.Keyword W.Signed) = Some S.Signed
 keyword_specifier (K.Keyword W.Unsigned) = Some S.Unsigned
 keyword_specifier _ = None
 
+-- the operator at the front, if there is one
+abbrev pub step_at : List Lexeme → Option StepOp
+step_at tokens = front tokens >>= step_op
+
+abbrev pub unary_at : List Lexeme → Option UnaryOp
+unary_at tokens = front tokens >>= unary_op
+
+abbrev pub binary_at : List Lexeme → Option BinaryOp
+binary_at tokens = front tokens >>= binary_op
+
+abbrev pub assign_at : List Lexeme → Option AssignOp
+assign_at tokens = front tokens >>= assign_op
+
+abbrev pub specifier_at : List Lexeme → Option SpecifierKeyword
+specifier_at tokens = front tokens >>= keyword_specifier
+
 abbrev pub is_struct : TokenKind → Bool
-is_struct (K.Keyword W.Struct) = true
-is_struct _ = false
+is_struct = is_keyword W.Struct
 
 abbrev pub is_enum : TokenKind → Bool
-is_enum (K.Keyword W.Enum) = true
-is_enum _ = false
+is_enum = is_keyword W.Enum
 
 -- does a specifier begin here?
 abbrev pub begins_specifier : List (List ℕ) → List Lexeme → Bool
@@ -230,7 +269,7 @@ chain step (suc s) x d tokens = step x d tokens >>= λ r. if r.3 then chain step
 -- the comma before the next of a list: none before the first
 abbrev pub comma_before : {A : Type 0} → List A → List Lexeme → Option (Option ℕ × List Lexeme)
 comma_before [] tokens = Some (None, tokens)
-comma_before (a ∷ all) tokens = after is_comma tokens >>= λ c. Some (Some c.0, c.1)
+comma_before (a ∷ all) tokens = expect M.Comma tokens >>= λ c. Some (Some c.0, c.1)
 
 -- ---- type names
 
@@ -244,20 +283,19 @@ type_name_in inner tokens = do
 -- a type name in parentheses: the places of both with it
 unfoldable pub enclosed_type_name_in : Inner → Reader (ℕ × Trees.TypeName × ℕ)
 enclosed_type_name_in inner tokens = do
-  left ← after is_left tokens
+  left ← expect M.Open tokens
   t ← type_name_in inner left.1
-  right ← after is_right t.2
+  right ← expect M.Close t.2
   Some ((left.0, t.0, right.0), t.1, right.1)
 
 -- ---- primary expressions
 
 unfoldable pub text_in : Step (List Spelling)
-text_in all d [] = Some (all, d, [], false)
-text_in all d (t ∷ rest) = text_step t.kind
+text_in all d tokens = text_step (front tokens)
   where
-    text_step : TokenKind → Option (List Spelling × ℕ × List Lexeme × Bool)
-    text_step K.Text = Some (all ++ spelling_of t ∷ [], d, rest, true)
-    text_step _ = Some (all, d, t ∷ rest, false)
+    text_step : Option TokenKind → Option (List Spelling × ℕ × List Lexeme × Bool)
+    text_step (Some K.Text) = any_word tokens >>= λ x. Some (all ++ x.0 ∷ [], d, x.1, true)
+    text_step _ = Some (all, d, tokens, false)
 
 unfoldable pub texts_in : Reader Trees.Expression
 texts_in tokens = do
@@ -266,45 +304,45 @@ texts_in tokens = do
 
 unfoldable pub paren_in : ℕ → Inner → Reader Trees.Expression
 paren_in k inner tokens = do
-  left ← after is_left tokens
+  left ← expect M.Open tokens
   a ← inner.expression left.1
-  right ← after is_right a.2
+  right ← expect M.Close a.2
   d ← deeper k a.1
   Some (Trees.paren left.0 a.0 right.0, d, right.1)
 
-abbrev pub literal_in : Lexeme → List Lexeme → TokenKind → Option (Trees.Expression × ℕ × List Lexeme)
-literal_in t rest (K.Number n kind) = Some (Trees.number (spelling_of t) n kind, 1, rest)
-literal_in t rest (K.Character n) = Some (Trees.character (spelling_of t) n, 1, rest)
-literal_in t rest _ = None
+abbrev pub literal_in : List Lexeme → TokenKind → Option (Trees.Expression × ℕ × List Lexeme)
+literal_in tokens (K.Number n kind) = any_word tokens >>= λ x. Some (Trees.number x.0 n kind, 1, x.1)
+literal_in tokens (K.Character n) = any_word tokens >>= λ x. Some (Trees.character x.0 n, 1, x.1)
+literal_in tokens _ = None
 
 unfoldable pub primary_in : List (List ℕ) → ℕ → Inner → Reader Trees.Expression
-primary_in types k inner [] = None
-primary_in types k inner (t ∷ rest) = primary t.kind
+primary_in types k inner tokens = primary (front tokens)
   where
-    primary : TokenKind → Option (Trees.Expression × ℕ × List Lexeme)
-    primary K.Name = if is_typename types t.text then None else Some (Trees.name (spelling_of t), 1, rest)
-    primary K.Text = texts_in (t ∷ rest)
-    primary (K.Punctuator M.Open) = paren_in k inner (t ∷ rest)
-    primary kind = literal_in t rest kind
+    primary : Option TokenKind → Option (Trees.Expression × ℕ × List Lexeme)
+    primary None = None
+    primary (Some K.Name) = if names_type types tokens then None else (any_word tokens >>= λ x. Some (Trees.name x.0, 1, x.1))
+    primary (Some K.Text) = texts_in tokens
+    primary (Some (K.Punctuator M.Open)) = paren_in k inner tokens
+    primary (Some kind) = literal_in tokens kind
 
 -- ---- postfix expressions
 
 unfoldable pub argument_in : Inner → Step (List (Option ℕ × Trees.Expression))
 argument_in inner all d tokens =
-    if fronted is_right tokens then Some (all, d, tokens, false)
+    if peek M.Close tokens then Some (all, d, tokens, false)
     else (comma_before all tokens >>= λ c. inner.assignment c.1 >>= λ a. Some (all ++ (c.0, a.0) ∷ [], max d a.1, a.2, true))
 
 -- the arguments after "(", with the place of ")"
 unfoldable pub arguments_in : Inner → Reader (Trees.Arguments × ℕ)
 arguments_in inner tokens = do
   all ← chain (argument_in inner) (length tokens + 1) [] 0 tokens
-  right ← after is_right all.2
+  right ← expect M.Close all.2
   Some ((arguments_of all.0, right.0), all.1, right.1)
 
 unfoldable pub index_in : ℕ → Inner → Trees.Expression → ℕ → ℕ → Reader Trees.Expression
 index_in k inner x d left tokens = do
   b ← inner.expression tokens
-  right ← after is_right_square b.2
+  right ← expect M.CloseSquare b.2
   n ← deeper k (max d b.1)
   Some (Trees.index x left b.0 right.0, n, right.1)
 
@@ -329,17 +367,16 @@ abbrev pub going_on : Option (Trees.Expression × ℕ × List Lexeme) → Option
 going_on o = o >>= λ r. Some (r.0, r.1, r.2, true)
 
 unfoldable pub postfix_step : ℕ → Inner → Step Trees.Expression
-postfix_step k inner x d [] = Some (x, d, [], false)
-postfix_step k inner x d (t ∷ rest) = by_kind t.kind
+postfix_step k inner x d tokens = by_kind (front tokens)
   where
-    by_kind : TokenKind → Option (Trees.Expression × ℕ × List Lexeme × Bool)
-    by_kind (K.Punctuator M.OpenSquare) = going_on (index_in k inner x d t.from rest)
-    by_kind (K.Punctuator M.Open) = going_on (call_in k inner x d t.from rest)
-    by_kind (K.Punctuator M.Dot) = going_on (member_in k (Trees.dot x t.from) d rest)
-    by_kind (K.Punctuator M.Arrow) = going_on (member_in k (Trees.arrow x t.from) d rest)
-    by_kind (K.Punctuator M.PlusPlus) = going_on (stepped_in k x d P.Increment t.from rest)
-    by_kind (K.Punctuator M.MinusMinus) = going_on (stepped_in k x d P.Decrement t.from rest)
-    by_kind _ = Some (x, d, t ∷ rest, false)
+    by_kind : Option TokenKind → Option (Trees.Expression × ℕ × List Lexeme × Bool)
+    by_kind (Some (K.Punctuator M.OpenSquare)) = going_on (index_in k inner x d (advance tokens).0 (advance tokens).1)
+    by_kind (Some (K.Punctuator M.Open)) = going_on (call_in k inner x d (advance tokens).0 (advance tokens).1)
+    by_kind (Some (K.Punctuator M.Dot)) = going_on (member_in k (Trees.dot x (advance tokens).0) d (advance tokens).1)
+    by_kind (Some (K.Punctuator M.Arrow)) = going_on (member_in k (Trees.arrow x (advance tokens).0) d (advance tokens).1)
+    by_kind (Some (K.Punctuator M.PlusPlus)) = going_on (stepped_in k x d P.Increment (advance tokens).0 (advance tokens).1)
+    by_kind (Some (K.Punctuator M.MinusMinus)) = going_on (stepped_in k x d P.Decrement (advance tokens).0 (advance tokens).1)
+    by_kind _ = Some (x, d, tokens, false)
 
 unfoldable pub postfix_in : List (List ℕ) → ℕ → Inner → Reader Trees.Expression
 postfix_in types k inner tokens = do
@@ -374,19 +411,17 @@ cast_in k inner tokens = do
   Some (Trees.cast t.0.0 t.0.1 t.0.2 a.0, d, a.2)
 
 abbrev pub is_sizeof : TokenKind → Bool
-is_sizeof (K.Keyword W.Sizeof) = true
-is_sizeof _ = false
+is_sizeof = is_keyword W.Sizeof
 
 -- a unary expression by its first token, or a postfix one
-abbrev pub prefixed_in : List (List ℕ) → ℕ → Inner → Lexeme → List Lexeme → Option StepOp → Option UnaryOp → Option (Trees.Expression × ℕ × List Lexeme)
-prefixed_in types k inner t rest (Some op) o = pre_in k inner op t.from rest
-prefixed_in types k inner t rest None (Some op) = unary_in k inner op t.from rest
-prefixed_in types k inner t rest None None =
-    if is_sizeof t.kind then sizeof_in types k inner t.from rest else postfix_in types k inner (t ∷ rest)
+abbrev pub prefixed_in : List (List ℕ) → ℕ → Inner → List Lexeme → Option StepOp → Option UnaryOp → Option (Trees.Expression × ℕ × List Lexeme)
+prefixed_in types k inner tokens (Some op) o = pre_in k inner op (advance tokens).0 (advance tokens).1
+prefixed_in types k inner tokens None (Some op) = unary_in k inner op (advance tokens).0 (advance tokens).1
+prefixed_in types k inner tokens None None =
+    if fronted is_sizeof tokens then sizeof_in types k inner (advance tokens).0 (advance tokens).1 else postfix_in types k inner tokens
 
 unfoldable pub unary_expression_in : List (List ℕ) → ℕ → Inner → Reader Trees.Expression
-unary_expression_in types k inner [] = None
-unary_expression_in types k inner (t ∷ rest) = prefixed_in types k inner t rest (step_op t.kind) (unary_op t.kind)
+unary_expression_in types k inner tokens = prefixed_in types k inner tokens (step_at tokens) (unary_at tokens)
 
 unfoldable pub operand_in : List (List ℕ) → ℕ → Inner → Reader Trees.Expression
 operand_in types k inner tokens =
@@ -394,16 +429,15 @@ operand_in types k inner tokens =
 
 -- ---- binary operators, from a least strength on
 
-abbrev pub operated_in : ℕ → Inner → ℕ → Trees.Expression → ℕ → Lexeme → List Lexeme → Option BinaryOp → Option (Trees.Expression × ℕ × List Lexeme × Bool)
-operated_in k inner least x d t rest None = Some (x, d, t ∷ rest, false)
-operated_in k inner least x d t rest (Some op) =
+abbrev pub operated_in : ℕ → Inner → ℕ → Trees.Expression → ℕ → List Lexeme → Option BinaryOp → Option (Trees.Expression × ℕ × List Lexeme × Bool)
+operated_in k inner least x d tokens None = Some (x, d, tokens, false)
+operated_in k inner least x d tokens (Some op) =
     if leb least (strength op)
-    then (inner.operators (strength op + 1) rest >>= λ b. deeper k (max d b.1) >>= λ n. Some (Trees.binary x op t.from b.0, n, b.2, true))
-    else Some (x, d, t ∷ rest, false)
+    then (inner.operators (strength op + 1) (advance tokens).1 >>= λ b. deeper k (max d b.1) >>= λ n. Some (Trees.binary x op (advance tokens).0 b.0, n, b.2, true))
+    else Some (x, d, tokens, false)
 
 unfoldable pub operator_step : ℕ → Inner → ℕ → Step Trees.Expression
-operator_step k inner least x d [] = Some (x, d, [], false)
-operator_step k inner least x d (t ∷ rest) = operated_in k inner least x d t rest (binary_op t.kind)
+operator_step k inner least x d tokens = operated_in k inner least x d tokens (binary_at tokens)
 
 unfoldable pub operators_in : List (List ℕ) → ℕ → Inner → ℕ → Reader Trees.Expression
 operators_in types k inner least tokens = do
@@ -415,7 +449,7 @@ operators_in types k inner least tokens = do
 unfoldable pub chosen_in : ℕ → Inner → Trees.Expression → ℕ → ℕ → Reader Trees.Expression
 chosen_in k inner a d question tokens = do
   b ← inner.expression tokens
-  colon ← after is_colon b.2
+  colon ← expect M.Colon b.2
   c ← inner.conditional colon.1
   n ← deeper k (max (max d b.1) c.1)
   Some (Trees.cond a question b.0 colon.0 c.0, n, c.2)
@@ -427,18 +461,17 @@ conditional_after k inner a d rest (Some question) = chosen_in k inner a d quest
 unfoldable pub conditional_in : List (List ℕ) → ℕ → Inner → Reader Trees.Expression
 conditional_in types k inner tokens = do
   a ← operators_in types k inner 3 tokens
-  conditional_after k inner a.0 a.1 a.2 (after is_question a.2)
+  conditional_after k inner a.0 a.1 a.2 (expect M.Question a.2)
 
-abbrev pub assigned_in : ℕ → Inner → Trees.Expression → ℕ → Lexeme → List Lexeme → Option AssignOp → Option (Trees.Expression × ℕ × List Lexeme)
-assigned_in k inner a d t rest None = Some (a, d, t ∷ rest)
-assigned_in k inner a d t rest (Some op) =
+abbrev pub assigned_in : ℕ → Inner → Trees.Expression → ℕ → List Lexeme → Option AssignOp → Option (Trees.Expression × ℕ × List Lexeme)
+assigned_in k inner a d tokens None = Some (a, d, tokens)
+assigned_in k inner a d tokens (Some op) =
     if leb 14 (level a)
-    then (inner.assignment rest >>= λ b. deeper k (max d b.1) >>= λ n. Some (Trees.assign a op t.from b.0, n, b.2))
+    then (inner.assignment (advance tokens).1 >>= λ b. deeper k (max d b.1) >>= λ n. Some (Trees.assign a op (advance tokens).0 b.0, n, b.2))
     else None
 
 unfoldable pub assignment_after : ℕ → Inner → Trees.Expression → ℕ → Reader Trees.Expression
-assignment_after k inner a d [] = Some (a, d, [])
-assignment_after k inner a d (t ∷ rest) = assigned_in k inner a d t rest (assign_op t.kind)
+assignment_after k inner a d tokens = assigned_in k inner a d tokens (assign_at tokens)
 
 unfoldable pub assignment_in : List (List ℕ) → ℕ → Inner → Reader Trees.Expression
 assignment_in types k inner tokens = do
@@ -450,7 +483,7 @@ comma_after k inner x d tokens None = Some (x, d, tokens, false)
 comma_after k inner x d tokens (Some comma) = inner.assignment comma.1 >>= λ b. deeper k (max d b.1) >>= λ n. Some (Trees.comma x comma.0 b.0, n, b.2, true)
 
 unfoldable pub comma_step : ℕ → Inner → Step Trees.Expression
-comma_step k inner x d tokens = comma_after k inner x d tokens (after is_comma tokens)
+comma_step k inner x d tokens = comma_after k inner x d tokens (expect M.Comma tokens)
 
 unfoldable pub expression_in : List (List ℕ) → ℕ → Inner → Reader Trees.Expression
 expression_in types k inner tokens = do
@@ -461,7 +494,7 @@ expression_in types k inner tokens = do
 
 -- a comma at the front, if there is one
 abbrev pub comma_if_any : List Lexeme → Option ℕ × List Lexeme
-comma_if_any tokens = if_found (after is_comma tokens)
+comma_if_any tokens = if_found (expect M.Comma tokens)
   where
     if_found : Option (ℕ × List Lexeme) → Option ℕ × List Lexeme
     if_found None = (None, tokens)
@@ -481,26 +514,26 @@ tag_if_any tokens = if_found (any_name tokens)
 unfoldable pub member_declarator_step : Inner → Step (List (Option ℕ × Trees.Declarator))
 member_declarator_step inner all d tokens =
     comma_before all tokens >>= λ c. inner.declarator c.1 >>= λ s.
-    if has_name s.0 then Some (all ++ (c.0, s.0) ∷ [], max d s.1, s.2, fronted is_comma s.2) else None
+    if has_name s.0 then Some (all ++ (c.0, s.0) ∷ [], max d s.1, s.2, peek M.Comma s.2) else None
 
 unfoldable pub member_declaration_in : ℕ → Inner → Reader (Trees.Specifiers × Trees.MemberDeclarators × ℕ)
 member_declaration_in k inner tokens = do
   specs ← inner.specifiers tokens
   all ← chain (member_declarator_step inner) (length specs.2 + 1) [] specs.1 specs.2
-  semicolon ← after is_semicolon all.2
+  semicolon ← expect M.Semicolon all.2
   d ← deeper k all.1
   Some ((specs.0, member_declarators_of all.0, semicolon.0), d, semicolon.1)
 
 unfoldable pub member_declaration_step : Inner → Step (List (Trees.Specifiers × Trees.MemberDeclarators × ℕ))
 member_declaration_step inner all d tokens =
-    inner.member_declaration tokens >>= λ member_declaration. Some (all ++ member_declaration.0 ∷ [], max d member_declaration.1, member_declaration.2, not (fronted is_right_brace member_declaration.2))
+    inner.member_declaration tokens >>= λ member_declaration. Some (all ++ member_declaration.0 ∷ [], max d member_declaration.1, member_declaration.2, not (peek M.CloseBrace member_declaration.2))
 
 -- the body of a structure, from "{" on
 unfoldable pub struct_body_in : ℕ → Inner → ℕ → Option Spelling → Reader Trees.Specifier
 struct_body_in k inner at x tokens = do
-  left ← after is_left_brace tokens
+  left ← expect M.OpenBrace tokens
   all ← chain (member_declaration_step inner) (length left.1 + 1) [] 0 left.1
-  right ← after is_right_brace all.2
+  right ← expect M.CloseBrace all.2
   d ← deeper k all.1
   Some (Trees.struct_body at x left.0 (member_declarations_of all.0) right.0, d, right.1)
 
@@ -511,12 +544,12 @@ enumerator_value_after k inner x rest (Some equal) = inner.conditional equal.1 >
 unfoldable pub enumerator_in : List (List ℕ) → ℕ → Inner → Reader (Spelling × Trees.EnumeratorValue)
 enumerator_in types k inner tokens = do
   x ← plain_name types tokens
-  enumerator_value_after k inner x.0 x.1 (after is_equal x.1)
+  enumerator_value_after k inner x.0 x.1 (expect M.Equal x.1)
 
 -- does another of a list follow: a comma, and no "}" after it?
 abbrev pub another : List Lexeme → Bool
 another [] = false
-another (t ∷ rest) = is_comma t.kind && not (fronted is_right_brace rest)
+another (t ∷ rest) = is_comma t.kind && not (peek M.CloseBrace rest)
 
 unfoldable pub enumerator_step : Inner → Step (List (Option ℕ × Spelling × Trees.EnumeratorValue))
 enumerator_step inner all d tokens =
@@ -526,9 +559,9 @@ enumerator_step inner all d tokens =
 -- the body of an enumeration, from "{" on
 unfoldable pub enum_body_in : ℕ → Inner → ℕ → Option Spelling → Reader Trees.Specifier
 enum_body_in k inner at x tokens = do
-  left ← after is_left_brace tokens
+  left ← expect M.OpenBrace tokens
   all ← chain (enumerator_step inner) (length left.1 + 1) [] 0 left.1
-  right ← after is_right_brace ((comma_if_any all.2).1)
+  right ← expect M.CloseBrace ((comma_if_any all.2).1)
   d ← deeper k all.1
   Some (Trees.enum_body at x left.0 (enumerators_of all.0) ((comma_if_any all.2).0) right.0, d, right.1)
 
@@ -537,19 +570,23 @@ enum_body_in k inner at x tokens = do
 -- after `struct` or `enum`: a name without a body, or a body with or without a name
 abbrev pub tagged_in : (Spelling → Trees.Specifier) → (Option Spelling → Reader Trees.Specifier) → Option Spelling × List Lexeme → Option (Trees.Specifier × ℕ × List Lexeme)
 tagged_in named body (None, rest) = body None rest
-tagged_in named body (Some x, rest) = if fronted is_left_brace rest then body (Some x) rest else Some (named x, 1, rest)
+tagged_in named body (Some x, rest) = if peek M.OpenBrace rest then body (Some x) rest else Some (named x, 1, rest)
 
-abbrev pub specified_in : List (List ℕ) → ℕ → Inner → Lexeme → List Lexeme → Option SpecifierKeyword → Option (Trees.Specifier × ℕ × List Lexeme)
-specified_in types k inner t rest (Some word) = Some (Trees.plain word t.from, 1, rest)
-specified_in types k inner t rest None =
-    if is_struct t.kind then tagged_in (Trees.struct_named t.from) (struct_body_in k inner t.from) (tag_if_any rest)
-    else if is_enum t.kind then tagged_in (Trees.enum_named t.from) (enum_body_in k inner t.from) (tag_if_any rest)
-    else if is_name t.kind && is_typename types t.text then Some (Trees.typename (spelling_of t), 1, rest)
+-- does the name of a type stand at the front?
+abbrev pub begins_typename : List (List ℕ) → List Lexeme → Bool
+begins_typename types [] = false
+begins_typename types (t ∷ rest) = is_name t.kind && is_typename types t.text
+
+abbrev pub specified_in : List (List ℕ) → ℕ → Inner → List Lexeme → Option SpecifierKeyword → Option (Trees.Specifier × ℕ × List Lexeme)
+specified_in types k inner tokens (Some word) = Some (Trees.plain word (advance tokens).0, 1, (advance tokens).1)
+specified_in types k inner tokens None =
+    if fronted is_struct tokens then tagged_in (Trees.struct_named (advance tokens).0) (struct_body_in k inner (advance tokens).0) (tag_if_any (advance tokens).1)
+    else if fronted is_enum tokens then tagged_in (Trees.enum_named (advance tokens).0) (enum_body_in k inner (advance tokens).0) (tag_if_any (advance tokens).1)
+    else if begins_typename types tokens then (any_word tokens >>= λ x. Some (Trees.typename x.0, 1, x.1))
     else None
 
 unfoldable pub specifier_in : List (List ℕ) → ℕ → Inner → Reader Trees.Specifier
-specifier_in types k inner [] = None
-specifier_in types k inner (t ∷ rest) = specified_in types k inner t rest (keyword_specifier t.kind)
+specifier_in types k inner tokens = specified_in types k inner tokens (specifier_at tokens)
 
 unfoldable pub specifier_step : List (List ℕ) → ℕ → Inner → Step (List Trees.Specifier)
 specifier_step types k inner all d tokens =
@@ -563,8 +600,8 @@ specifiers_in types k inner tokens = do
 -- ---- declarators
 
 unfoldable pub const_step : Step (List ℕ)
-const_step all d [] = Some (all, d, [], false)
-const_step all d (t ∷ rest) = if is_const t.kind then Some (all ++ t.from ∷ [], d, rest, true) else Some (all, d, t ∷ rest, false)
+const_step all d tokens =
+    if fronted is_const tokens then Some (all ++ (advance tokens).0 ∷ [], d, (advance tokens).1, true) else Some (all, d, tokens, false)
 
 unfoldable pub pointer_in : ℕ → Inner → ℕ → Reader Trees.Declarator
 pointer_in k inner at tokens = do
@@ -579,15 +616,15 @@ is_nothing _ = false
 
 unfoldable pub enclosed_in : ℕ → Inner → Reader Trees.Declarator
 enclosed_in k inner tokens = do
-  left ← after is_left tokens
+  left ← expect M.Open tokens
   d ← inner.declarator left.1
-  right ← after is_right d.2
+  right ← expect M.Close d.2
   n ← deeper k d.1
   if is_nothing d.0 then None else Some (Trees.enclosed left.0 d.0 right.0, n, right.1)
 
 -- do the parameters of a function begin after "(", or its end?
 abbrev pub begins_parameters : List (List ℕ) → List Lexeme → Bool
-begins_parameters types tokens = fronted is_right tokens || begins_specifier types tokens
+begins_parameters types tokens = peek M.Close tokens || begins_specifier types tokens
 
 -- does "(" begin a declarator in parentheses?
 abbrev pub begins_enclosed : List (List ℕ) → List Lexeme → Bool
@@ -603,25 +640,25 @@ unfoldable pub core_in : List (List ℕ) → ℕ → Inner → Reader Trees.Decl
 core_in types k inner tokens = core_after types k inner tokens (plain_name types tokens)
 
 abbrev pub length_in : Inner → Reader Trees.OptionalExpression
-length_in inner tokens = if fronted is_right_square tokens then Some (Trees.no_expression, 0, tokens) else (inner.conditional tokens >>= λ a. Some (Trees.some_expression a.0, a.1, a.2))
+length_in inner tokens = if peek M.CloseSquare tokens then Some (Trees.no_expression, 0, tokens) else (inner.conditional tokens >>= λ a. Some (Trees.some_expression a.0, a.1, a.2))
 
 unfoldable pub array_in : ℕ → Inner → Trees.Declarator → ℕ → ℕ → Reader Trees.Declarator
 array_in k inner x d left tokens = do
   n ← length_in inner tokens
-  right ← after is_right_square n.2
+  right ← expect M.CloseSquare n.2
   m ← deeper k (max d n.1)
   Some (Trees.array x left n.0 right.0, m, right.1)
 
 unfoldable pub parameter_step : Inner → Step (List (Option ℕ × Trees.Specifiers × Trees.Declarator))
 parameter_step inner all d tokens =
-    if fronted is_right tokens then Some (all, d, tokens, false)
+    if peek M.Close tokens then Some (all, d, tokens, false)
     else (comma_before all tokens >>= λ c. inner.specifiers c.1 >>= λ specs. inner.declarator specs.2 >>= λ s.
     Some (all ++ (c.0, specs.0, s.0) ∷ [], max d (max specs.1 s.1), s.2, true))
 
 -- is `void` alone there, before ")"?
 abbrev pub begins_void : List Lexeme → Bool
 begins_void [] = false
-begins_void (t ∷ rest) = is_void t.kind && fronted is_right rest
+begins_void (t ∷ rest) = is_void t.kind && peek M.Close rest
 
 unfoldable pub parameters_in : Inner → Reader Trees.ParameterList
 parameters_in inner tokens =
@@ -631,7 +668,7 @@ parameters_in inner tokens =
 unfoldable pub function_in : ℕ → Inner → Trees.Declarator → ℕ → ℕ → Reader Trees.Declarator
 function_in k inner x d left tokens = do
   all ← parameters_in inner tokens
-  right ← after is_right all.2
+  right ← expect M.Close all.2
   n ← deeper k (max d all.1)
   Some (Trees.function x left all.0 right.0, n, right.1)
 
@@ -639,11 +676,10 @@ abbrev pub shaping : Option (Trees.Declarator × ℕ × List Lexeme) → Option 
 shaping o = o >>= λ r. Some (r.0, r.1, r.2, true)
 
 unfoldable pub suffix_step : ℕ → Inner → Step Trees.Declarator
-suffix_step k inner x d [] = Some (x, d, [], false)
-suffix_step k inner x d (t ∷ rest) =
-    if is_left_square t.kind then shaping (array_in k inner x d t.from rest)
-    else if is_left t.kind then shaping (function_in k inner x d t.from rest)
-    else Some (x, d, t ∷ rest, false)
+suffix_step k inner x d tokens =
+    if peek M.OpenSquare tokens then shaping (array_in k inner x d (advance tokens).0 (advance tokens).1)
+    else if peek M.Open tokens then shaping (function_in k inner x d (advance tokens).0 (advance tokens).1)
+    else Some (x, d, tokens, false)
 
 unfoldable pub direct_in : List (List ℕ) → ℕ → Inner → Reader Trees.Declarator
 direct_in types k inner tokens = do
@@ -656,7 +692,7 @@ declarator_after types k inner tokens (Some star) = pointer_in k inner star.0 st
 
 -- a declarator, with or without a name, or nothing
 unfoldable pub declarator_in : List (List ℕ) → ℕ → Inner → Reader Trees.Declarator
-declarator_in types k inner tokens = declarator_after types k inner tokens (after is_star tokens)
+declarator_in types k inner tokens = declarator_after types k inner tokens (expect M.Star tokens)
 
 -- ---- all of them
 

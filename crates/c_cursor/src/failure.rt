@@ -1,7 +1,7 @@
 //! Why nothing was read.
 
 ghost use Rattle.std.specs.Prelude.{◌≡◌};
-ghost use Rattle.c_expressions.specs.declared.failure.Failure.TheVariants.{Memory};
+ghost use Rattle.c_cursor.specs.declared.failure.Failure.TheVariants.{Memory};
 
 use lay_base::NoMemory;
 

@@ -1,7 +1,7 @@
 -- What a call of the parser returned, against what is to be read.
 use Rattle.std.specs.Prelude.{◌≡◌, Option, Some, None, Result, Ok, Err}
-use Rattle.c_expressions.specs.declared.failure.Failure.{Failure}
-use Rattle.c_expressions.specs.declared.failure.Failure.TheVariants.{Memory, NoParse}
+use Rattle.c_cursor.specs.declared.failure.Failure.{Failure}
+use Rattle.c_cursor.specs.declared.failure.Failure.TheVariants.{Memory, NoParse}
 
 -- want of memory says nothing of it
 abbrev pub Fails : {Y : Type 0} → Failure → Option Y → Type 0
