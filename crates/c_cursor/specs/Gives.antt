@@ -1,5 +1,6 @@
 -- What a call of the parser returned, against what is to be read.
-use Rattle.std.specs.Prelude.{◌≡◌, Option, Some, None, Result, Ok, Err}
+use Rattle.std.specs.Prelude.{◌≡◌, ℕ, List, Option, Some, None, Result, Ok, Err}
+use Rattle.c_ast.specs.Spelling.{Lexeme}
 use Rattle.c_cursor.specs.declared.failure.Failure.{Failure}
 use Rattle.c_cursor.specs.declared.failure.Failure.TheVariants.{Memory, NoParse}
 
@@ -11,3 +12,8 @@ Fails (NoParse left) read = read ≡ None
 abbrev pub Gives : {X Y : Type 0} → (X → Y) → Result X Failure → Option Y → Type 0
 Gives view (Ok x) read = read ≡ Some (view x)
 Gives view (Err failure) read = Fails failure read
+
+-- what was passed where it stood at the front, and what is left
+abbrev pub Accepts : Option ℕ → List Lexeme → List Lexeme → Option (ℕ × List Lexeme) → Type 0
+Accepts None left tokens found = (found ≡ None) × (left ≡ tokens)
+Accepts (Some at) left tokens found = found ≡ Some (at, left)

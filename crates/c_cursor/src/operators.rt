@@ -5,7 +5,7 @@ ghost use Rattle.c_ast.specs.WellFormed.{strength, level};
 ghost use Rattle.c_ast.specs.Views.{expression_of};
 ghost use Rattle.c_grammar.specs.Reading.{step_op, unary_op, binary_op, assign_op, keyword_specifier};
 
-use c_ast::{AssignOp, BinaryOp, Expression, ExpressionNode, SpecifierKeyword, StepOp, UnaryOp};
+use c_ast::{AssignOp, BinaryOp, Expression, SpecifierKeyword, StepOp, UnaryOp};
 use c_lexer::{Punctuator, TokenKind};
 use lay_base::Keyword;
 
@@ -126,25 +126,25 @@ pub fn strength_of(op: BinaryOp) -> u32
 pub fn level_of(expression: &Expression) -> u32
     ensures { result ≡ level (expression_of expression.now) }
 {
-    match &expression.node {
-        ExpressionNode::Name(_)
-        | ExpressionNode::Number(_, _, _)
-        | ExpressionNode::Character(_, _)
-        | ExpressionNode::Texts(_)
-        | ExpressionNode::Paren(_, _, _) => 16,
-        ExpressionNode::Index(_, _, _, _)
-        | ExpressionNode::Call(_, _, _, _)
-        | ExpressionNode::Dot(_, _, _)
-        | ExpressionNode::Arrow(_, _, _)
-        | ExpressionNode::Post(_, _, _) => 15,
-        ExpressionNode::Pre(_, _, _)
-        | ExpressionNode::Unary(_, _, _)
-        | ExpressionNode::SizeofExpression(_, _)
-        | ExpressionNode::SizeofType(_, _, _, _) => 14,
-        ExpressionNode::Cast(_, _, _, _) => 13,
-        ExpressionNode::Binary(_, op, _, _) => strength_of(*op),
-        ExpressionNode::Cond(_, _, _, _, _) => 2,
-        ExpressionNode::Assign(_, _, _, _) => 1,
-        ExpressionNode::Comma(_, _, _) | ExpressionNode::Braces(_, _, _, _) => 0,
+    match expression {
+        Expression::Name(_)
+        | Expression::Number(_, _, _)
+        | Expression::Character(_, _)
+        | Expression::Texts(_)
+        | Expression::Paren(_, _, _) => 16,
+        Expression::Index(_, _, _, _)
+        | Expression::Call(_, _, _, _)
+        | Expression::Dot(_, _, _)
+        | Expression::Arrow(_, _, _)
+        | Expression::Post(_, _, _) => 15,
+        Expression::Pre(_, _, _)
+        | Expression::Unary(_, _, _)
+        | Expression::SizeofExpression(_, _)
+        | Expression::SizeofType(_, _, _, _) => 14,
+        Expression::Cast(_, _, _, _) => 13,
+        Expression::Binary(_, op, _, _) => strength_of(*op),
+        Expression::Cond(_, _, _, _, _) => 2,
+        Expression::Assign(_, _, _, _) => 1,
+        Expression::Comma(_, _, _) | Expression::Braces(_, _, _, _) => 0,
     }
 }
