@@ -1,10 +1,10 @@
 //! The tokens of a file that are left to be read.
 
-ghost use Rattle.std.specs.Prelude.{◌≡◌, ◌↔◌, [], IfOk, IsTrue, is_some, length};
+ghost use Rattle.std.specs.Prelude.{◌≡◌, ◌↔◌, ◌<◌, ◌^◌, [], IfOk, IsTrue, is_some, length};
 ghost use Rattle.c_ast.specs.Lexemes.{lexemes_of};
 ghost use Rattle.c_cursor.specs.Gives.{Accepts, Gives};
 ghost use Rattle.c_cursor.specs.declared.failure.Failure.TheVariants.{NoParse};
-ghost use Rattle.c_grammar.specs.Reading.{advance, after, another, any_name, any_word, assign_at, begins_enclosed, begins_specifier, begins_type_name, begins_typename, begins_void, binary_at, comma_before, deeper, expect, front, fronted, is_keyword, names_type, peek, plain_name, specifier_at, step_at, tag_if_any, unary_at};
+ghost use Rattle.c_grammar.specs.Reading.{advance, after, another, any_name, any_word, assign_at, begins_enclosed, begins_specifier, begins_type_name, begins_typename, begins_void, binary_at, comma_before, comma_if_any, deeper, expect, front, fronted, is_keyword, names_type, peek, plain_name, specifier_at, step_at, tag_if_any, unary_at};
 
 use crate::begins;
 use crate::failure::Failure;
@@ -44,7 +44,8 @@ impl<'a> Cursor<'a> {
 
     /// How many tokens are left.
     pub fn len(&self) -> usize
-        ensures { result ≡ length self.now }
+        ensures count { result ≡ length self.now }
+        ensures within { result < 2 ^ 63 }
     {
         self.tokens.len()
     }
@@ -149,6 +150,13 @@ impl<'a> Cursor<'a> {
         } else {
             None
         }
+    }
+
+    /// Passes a comma where one stands at the front, and answers its byte.
+    pub fn comma_if_any(&mut self) -> Option<At>
+        ensures { (result, self.new) ≡ comma_if_any self.old }
+    {
+        self.accept(Punctuator::Comma)
     }
 
     /// The comma before the next of a list, of which there is none before the first.

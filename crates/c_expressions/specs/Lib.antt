@@ -1,3 +1,1 @@
-pub mod Reading
-pub mod Lexemes
-pub mod Gives
+pub mod Levels

@@ -1,389 +1,337 @@
 //! Declarators (C99 6.7.5, 6.7.6).
 
-ghost use Rattle.std.specs.Prelude.{◌+◌, [], length, map, IfOk, true, ◌≡◌};
+ghost use Rattle.std.specs.Prelude.{◌≡◌, ◌+◌, [], false, length, map};
 ghost use Rattle.std.specs.Option.{option_map};
-ghost use Rattle.c_ast.specs.Places.{all_right, parameter_right, parameters_right, declarator_stands, stands_if_any, expression_stands};
-ghost use Rattle.c_ast.specs.Views.{optional_of, parameter_list_of, parameter_of, declarator_if_any, declarator_of, expression_of};
-ghost use Rattle.c_expressions.specs.Gives.{Gives};
-ghost use Rattle.c_ast.specs.Lexemes.{lexemes_of};
-ghost use Rattle.c_grammar.specs.Reading.{chain, const_step, pointer_in, enclosed_in, core_in, length_in, array_in, parameter_step, parameters_in, function_in, suffix_step, direct_in, declarator_in, at};
+ghost use Rattle.c_ast.specs.Views.{declarator_if_any, declarator_of, expression_of, optional_of, parameter_list_of, parameter_of};
+ghost use Rattle.c_cursor.specs.Gives.{Gives, Reads, Steps};
+ghost use Rattle.c_grammar.specs.Reading.{array_in, at, chain, const_step, core_in, declarator_in, direct_in, enclosed_in, function_in, is_nothing, length_in, parameter_step, parameters_in, pointer_in, suffix_step};
 
-use crate::begins::{begins_enclosed, begins_void};
-use lay_base::{add, boxed};
-use crate::failure::Failure;
-use crate::inside::{conditional_inside, declarator_inside, specifiers_inside};
-use crate::items::{parameter_of_items, stands_for_something, with_parameter};
-use crate::names::{fronted_plain_name, plain_name};
-use crate::places::{place_from, placed};
-use crate::source::Source;
-use crate::tokens::{
-    after_left, after_right, after_right_square, after_void, comma_before, deeper_than,
-    fronted_right, fronted_right_square, larger,
-};
-use c_ast::{At, Declarator, DeclaratorNode, Expression, Parameter, Parameters};
-use c_lexer::{Punctuator, Token, TokenKind};
-use lay_base::{Boxed, Keyword, List};
+use crate::level::Level;
+use crate::within::{declarator_inside, expression_inside, specifiers_inside};
+use c_ast::{At, Declarator, Expression, Parameter, Parameters};
+use c_cursor::{Cursor, Failure, Typenames, deeper_than};
+use c_lexer::Punctuator;
+use lay_base::{Boxed, Keyword, List, add, boxed};
 use std::alloc::Global;
 
 /// One `const` more, if one stands at the front.
 #[tactic(auto, unfolding(c_grammar::specs::Reading::const_step))]
-pub fn const_qualifier<'a>(
-    source: &Source,
+fn const_qualifier(
     all: List<At>,
     d: u32,
-    tokens: &'a [Token],
-) -> Result<(List<At>, u32, &'a [Token], bool), Failure>
-    ensures { Gives (λ x. (x.0, x.1, lexemes_of source.now.bytes.now x.2.now, x.3)) result (const_step all d (lexemes_of source.now.bytes.now tokens.now)) }
+    tokens: &mut Cursor,
+) -> Result<(List<At>, u32, bool), Failure>
+    ensures { Steps (λ all. all) result tokens.new (const_step all d tokens.old) }
 {
-    match tokens {
-        [
-            Token {
-                kind: TokenKind::Keyword(Keyword::Const),
-                from,
-                ..
-            },
-            rest @ ..,
-        ] => {
-            let mut all = all;
-            add(&mut all, *from)?;
-            Ok((all, d, rest, true))
-        }
-        _ => Ok((all, d, tokens, false)),
+    if !tokens.peek_keyword(Keyword::Const) {
+        return Ok((all, d, false));
     }
+    let mut all = all;
+    add(&mut all, tokens.advance())?;
+    Ok((all, d, true))
 }
 
 /// Each `const` after a `*`.
 #[tactic(auto, using(c_grammar::proofs::Rounds::rounds))]
-pub fn const_qualifiers<'a>(
-    alloc: Global,
-    source: &Source,
-    tokens: &'a [Token],
-) -> Result<(List<At>, u32, &'a [Token]), Failure>
-    ensures { Gives (λ x. (x.0, x.1, lexemes_of source.now.bytes.now x.2.now)) result (chain const_step (length (lexemes_of source.now.bytes.now tokens.now) + 1) [] 0 (lexemes_of source.now.bytes.now tokens.now)) }
+fn const_qualifiers(alloc: Global, tokens: &mut Cursor) -> Result<(List<At>, u32), Failure>
+    ensures { Reads (λ all. all) result tokens.new (chain const_step (length tokens.old + 1) [] 0 tokens.old) }
 {
     let mut all = List::new(alloc);
     let mut d = 0;
-    let mut rest = tokens;
-    let mut turns = tokens.len() as u64 + 1;
-    'more: while turns > 0 {
-        let (more, e, after, on) = const_qualifier(source, all, d, rest)?;
+    let mut rounds = tokens.len() as u64 + 1;
+    'more: while rounds > 0 {
+        let (more, e, on) = const_qualifier(all, d, tokens)?;
         all = more;
         d = e;
-        rest = after;
-        turns -= 1;
+        rounds -= 1;
         if !on {
-            return Ok((all, d, rest));
+            return Ok((all, d));
         }
     }
-    Err(Failure::NoParse(rest.len()))
+    Err(tokens.stop())
 }
 
 /// What stands after `*`.
 #[cycle(expression)]
 #[tactic(auto, unfolding(c_grammar::specs::Reading::pointer_in))]
-pub fn pointer<'a>(
+fn pointer(
     alloc: Global,
-    source: &Source,
+    types: &Typenames,
     inside: u16,
-    punctuator: At,
-    tokens: &'a [Token],
-) -> Result<(Boxed<Declarator>, u32, &'a [Token]), Failure>
-    ensures tree { Gives (λ x. (declarator_of x.0, x.1, lexemes_of source.now.bytes.now x.2.now)) result (pointer_in inside (at source.now.types.now inside) punctuator (lexemes_of source.now.bytes.now tokens.now)) }
-    ensures places { IfOk result (λ x. (declarator_stands source.now.file x.0).right ≡ true) }
+    star: At,
+    tokens: &mut Cursor,
+) -> Result<(Boxed<Declarator>, u32), Failure>
+    ensures { Reads declarator_of result tokens.new (pointer_in inside (at types.now inside) star tokens.old) }
 {
-    let (consts, _, rest) = const_qualifiers(alloc, source, tokens)?;
-    let (declarator, d, rest) = declarator_inside(alloc, source, inside, rest)?;
-    let d = deeper_than(inside, d, rest)?;
-    let whole = Declarator {
-        place: placed(source, punctuator),
-        node: DeclaratorNode::Pointer(punctuator, consts, declarator),
-    };
-    Ok((boxed(alloc, whole)?, d, rest))
+    let (consts, _) = const_qualifiers(alloc, tokens)?;
+    let (declarator, d) = declarator_inside(alloc, types, inside, tokens)?;
+    let d = deeper_than(inside, d, tokens)?;
+    Ok((
+        boxed(alloc, Declarator::Pointer(star, consts, declarator))?,
+        d,
+    ))
+}
+
+/// What is known of each declarator: it stands for something.
+fn stands_for_something(declarator: &Declarator)
+    ensures { is_nothing (declarator_of declarator.now) ≡ false }
+{
+    match declarator {
+        Declarator::Identifier(_) => {}
+        Declarator::Pointer(_, _, _) => {}
+        Declarator::Enclosed(_, _, _) => {}
+        Declarator::Array(_, _, _, _) => {}
+        Declarator::Function(_, _, _, _) => {}
+    }
 }
 
 /// A declarator in parentheses.
 #[cycle(expression)]
 #[tactic(auto, unfolding(c_grammar::specs::Reading::enclosed_in))]
-pub fn enclosed<'a>(
+fn enclosed(
     alloc: Global,
-    source: &Source,
+    types: &Typenames,
     inside: u16,
-    tokens: &'a [Token],
-) -> Result<(Boxed<Declarator>, u32, &'a [Token]), Failure>
-    ensures tree { Gives (λ x. (declarator_of x.0, x.1, lexemes_of source.now.bytes.now x.2.now)) result (enclosed_in inside (at source.now.types.now inside) (lexemes_of source.now.bytes.now tokens.now)) }
-    ensures places { IfOk result (λ x. (declarator_stands source.now.file x.0).right ≡ true) }
+    tokens: &mut Cursor,
+) -> Result<(Boxed<Declarator>, u32), Failure>
+    ensures { Reads declarator_of result tokens.new (enclosed_in inside (at types.now inside) tokens.old) }
 {
-    let (left, rest) = after_left(source, tokens)?;
-    let (declarator, d, rest) = declarator_inside(alloc, source, inside, rest)?;
-    let (right, rest) = after_right(source, rest)?;
-    let d = deeper_than(inside, d, rest)?;
+    let left = tokens.expect(Punctuator::Open)?;
+    let (declarator, d) = declarator_inside(alloc, types, inside, tokens)?;
+    let right = tokens.expect(Punctuator::Close)?;
+    let d = deeper_than(inside, d, tokens)?;
     match declarator {
         Some(declarator) => {
             stands_for_something(declarator.get());
-            let whole = Declarator {
-                place: placed(source, left),
-                node: DeclaratorNode::Enclosed(left, declarator, right),
-            };
-            Ok((boxed(alloc, whole)?, d, rest))
+            Ok((
+                boxed(alloc, Declarator::Enclosed(left, declarator, right))?,
+                d,
+            ))
         }
-        None => Err(Failure::NoParse(rest.len())),
+        None => Err(tokens.stop()),
     }
 }
 
 /// What stands before the brackets and parentheses.
 #[cycle(expression)]
 #[tactic(auto, unfolding(c_grammar::specs::Reading::core_in))]
-pub fn core<'a>(
+fn core(
     alloc: Global,
-    source: &Source,
+    types: &Typenames,
     inside: u16,
-    tokens: &'a [Token],
-) -> Result<(Option<Boxed<Declarator>>, u32, &'a [Token]), Failure>
-    ensures tree { Gives (λ x. (declarator_if_any (option_map declarator_of x.0), x.1, lexemes_of source.now.bytes.now x.2.now)) result (core_in source.now.types.now inside (at source.now.types.now inside) (lexemes_of source.now.bytes.now tokens.now)) }
-    ensures places { IfOk result (λ x. stands_if_any (option_map (declarator_stands source.now.file) x.0) ≡ true) }
+    tokens: &mut Cursor,
+) -> Result<(Option<Boxed<Declarator>>, u32), Failure>
+    ensures { Reads (λ d. declarator_if_any (option_map declarator_of d)) result tokens.new (core_in types.now inside (at types.now inside) tokens.old) }
 {
-    if fronted_plain_name(source, tokens) {
-        let (name, rest) = plain_name(alloc, source, tokens)?;
-        let whole = Declarator {
-            place: placed(source, name.from),
-            node: DeclaratorNode::Identifier(name),
-        };
-        Ok((Some(boxed(alloc, whole)?), 1, rest))
-    } else if begins_enclosed(source, tokens) {
-        let (declarator, d, rest) = enclosed(alloc, source, inside, tokens)?;
-        Ok((Some(declarator), d, rest))
+    if tokens.begins_plain_name(types) {
+        let name = tokens.plain_name(alloc, types)?;
+        Ok((Some(boxed(alloc, Declarator::Identifier(name))?), 1))
+    } else if tokens.begins_enclosed(types) {
+        let (declarator, d) = enclosed(alloc, types, inside, tokens)?;
+        Ok((Some(declarator), d))
     } else {
-        Ok((None, 0, tokens))
+        Ok((None, 0))
     }
 }
 
 /// The length of an array, if it has one.
 #[cycle(expression)]
-pub fn length_of<'a>(
+fn length_of(
     alloc: Global,
-    source: &Source,
+    types: &Typenames,
     inside: u16,
-    tokens: &'a [Token],
-) -> Result<(Option<Boxed<Expression>>, u32, &'a [Token]), Failure>
-    ensures tree { Gives (λ x. (optional_of (option_map expression_of x.0), x.1, lexemes_of source.now.bytes.now x.2.now)) result (length_in (at source.now.types.now inside) (lexemes_of source.now.bytes.now tokens.now)) }
-    ensures places { IfOk result (λ x. stands_if_any (option_map (expression_stands source.now.file) x.0) ≡ true) }
+    tokens: &mut Cursor,
+) -> Result<(Option<Boxed<Expression>>, u32), Failure>
+    ensures { Reads (λ a. optional_of (option_map expression_of a)) result tokens.new (length_in (at types.now inside) tokens.old) }
 {
-    if fronted_right_square(source, tokens) {
-        return Ok((None, 0, tokens));
+    if tokens.peek(Punctuator::CloseSquare) {
+        return Ok((None, 0));
     }
-    let (a, d, rest) = conditional_inside(alloc, source, inside, tokens)?;
-    Ok((Some(a), d, rest))
+    let (a, d) = expression_inside(alloc, types, inside, Level::Conditional, tokens)?;
+    Ok((Some(a), d))
 }
 
 /// What stands after the `[` of an array.
 #[cycle(expression)]
 #[tactic(auto, unfolding(c_grammar::specs::Reading::array_in))]
-pub fn array<'a>(
+fn array(
     alloc: Global,
-    source: &Source,
+    types: &Typenames,
     inside: u16,
     x: Option<Boxed<Declarator>>,
     d: u32,
     left: At,
-    tokens: &'a [Token],
-) -> Result<(Boxed<Declarator>, u32, &'a [Token]), Failure>
-    requires places { stands_if_any (option_map (declarator_stands source.now.file) x) ≡ true }
-    ensures tree { Gives (λ x. (declarator_of x.0, x.1, lexemes_of source.now.bytes.now x.2.now)) result (array_in inside (at source.now.types.now inside) (declarator_if_any (option_map declarator_of x)) d left (lexemes_of source.now.bytes.now tokens.now)) }
-    ensures places { IfOk result (λ x. (declarator_stands source.now.file x.0).right ≡ true) }
+    tokens: &mut Cursor,
+) -> Result<(Boxed<Declarator>, u32), Failure>
+    ensures { Reads declarator_of result tokens.new (array_in inside (at types.now inside) (declarator_if_any (option_map declarator_of x)) d left tokens.old) }
 {
-    let (size, e, rest) = length_of(alloc, source, inside, tokens)?;
-    let (right, rest) = after_right_square(source, rest)?;
-    let d = deeper_than(inside, larger(d, e), rest)?;
-    let whole = Declarator {
-        place: place_from(source, &x, left),
-        node: DeclaratorNode::Array(x, left, size, right),
-    };
-    Ok((boxed(alloc, whole)?, d, rest))
+    let (size, e) = length_of(alloc, types, inside, tokens)?;
+    let right = tokens.expect(Punctuator::CloseSquare)?;
+    let d = deeper_than(inside, d.max(e), tokens)?;
+    Ok((boxed(alloc, Declarator::Array(x, left, size, right))?, d))
 }
 
 /// One parameter more, if `)` does not stand at the front.
 #[cycle(expression)]
 #[tactic(auto, unfolding(c_grammar::specs::Reading::parameter_step))]
-pub fn parameter<'a>(
+fn parameter(
     alloc: Global,
-    source: &Source,
+    types: &Typenames,
     inside: u16,
     all: List<Parameter>,
     d: u32,
-    tokens: &'a [Token],
-) -> Result<(List<Parameter>, u32, &'a [Token], bool), Failure>
-    requires places { all_right (map (parameter_right source.now.file) all) ≡ true }
-    ensures tree { Gives (λ x. (map parameter_of x.0, x.1, lexemes_of source.now.bytes.now x.2.now, x.3)) result (parameter_step (at source.now.types.now inside) (map parameter_of all) d (lexemes_of source.now.bytes.now tokens.now)) }
-    ensures places { IfOk result (λ x. all_right (map (parameter_right source.now.file) x.0) ≡ true) }
+    tokens: &mut Cursor,
+) -> Result<(List<Parameter>, u32, bool), Failure>
+    ensures { Steps (λ all. map parameter_of all) result tokens.new (parameter_step (at types.now inside) (map parameter_of all) d tokens.old) }
 {
-    if fronted_right(source, tokens) {
-        return Ok((all, d, tokens, false));
+    if tokens.peek(Punctuator::Close) {
+        return Ok((all, d, false));
     }
-    let (comma, rest) = comma_before(source, &all, tokens)?;
-    let (specifiers, e, rest) = specifiers_inside(alloc, source, inside, rest)?;
-    let (declarator, f, rest) = declarator_inside(alloc, source, inside, rest)?;
-    let item = parameter_of_items(source, comma, specifiers, declarator);
-    let all = with_parameter(source, all, item)?;
-    Ok((all, larger(d, larger(e, f)), rest, true))
+    let comma = tokens.comma_before(&all)?;
+    let (specifiers, e) = specifiers_inside(alloc, types, inside, tokens)?;
+    let (declarator, f) = declarator_inside(alloc, types, inside, tokens)?;
+    let item = Parameter {
+        comma,
+        specifiers,
+        declarator,
+    };
+    let mut all = all;
+    add(&mut all, item)?;
+    Ok((all, d.max(e.max(f)), true))
 }
 
 /// The parameters up to `)`.
 #[cycle(expression)]
 #[tactic(auto, using(c_grammar::proofs::Rounds::rounds))]
-pub fn parameter_list<'a>(
+fn parameter_list(
     alloc: Global,
-    source: &Source,
+    types: &Typenames,
     inside: u16,
-    tokens: &'a [Token],
-) -> Result<(List<Parameter>, u32, &'a [Token]), Failure>
-    ensures tree { Gives (λ x. (map parameter_of x.0, x.1, lexemes_of source.now.bytes.now x.2.now)) result (chain (parameter_step (at source.now.types.now inside)) (length (lexemes_of source.now.bytes.now tokens.now) + 1) [] 0 (lexemes_of source.now.bytes.now tokens.now)) }
-    ensures places { IfOk result (λ x. all_right (map (parameter_right source.now.file) x.0) ≡ true) }
+    tokens: &mut Cursor,
+) -> Result<(List<Parameter>, u32), Failure>
+    ensures { Reads (λ all. map parameter_of all) result tokens.new (chain (parameter_step (at types.now inside)) (length tokens.old + 1) [] 0 tokens.old) }
 {
     let mut all = List::new(alloc);
     let mut d = 0;
-    let mut rest = tokens;
-    let mut turns = tokens.len() as u64 + 1;
-    'more: while turns > 0 {
-        let (more, e, after, on) = parameter(alloc, source, inside, all, d, rest)?;
+    let mut rounds = tokens.len() as u64 + 1;
+    'more: while rounds > 0 {
+        let (more, e, on) = parameter(alloc, types, inside, all, d, tokens)?;
         all = more;
         d = e;
-        rest = after;
-        turns -= 1;
+        rounds -= 1;
         if !on {
-            return Ok((all, d, rest));
+            return Ok((all, d));
         }
     }
-    Err(Failure::NoParse(rest.len()))
+    Err(tokens.stop())
 }
 
 /// What stands in the parentheses of a function.
 #[cycle(expression)]
 #[tactic(auto, unfolding(c_grammar::specs::Reading::parameters_in))]
-pub fn parameters<'a>(
+fn parameters(
     alloc: Global,
-    source: &Source,
+    types: &Typenames,
     inside: u16,
-    tokens: &'a [Token],
-) -> Result<(Parameters, u32, &'a [Token]), Failure>
-    ensures tree { Gives (λ x. (parameter_list_of x.0, x.1, lexemes_of source.now.bytes.now x.2.now)) result (parameters_in (at source.now.types.now inside) (lexemes_of source.now.bytes.now tokens.now)) }
-    ensures places { IfOk result (λ x. parameters_right source.now.file x.0 ≡ true) }
+    tokens: &mut Cursor,
+) -> Result<(Parameters, u32), Failure>
+    ensures { Reads parameter_list_of result tokens.new (parameters_in (at types.now inside) tokens.old) }
 {
-    if begins_void(source, tokens) {
-        let (at, rest) = after_void(source, tokens)?;
-        return Ok((Parameters::Void(at), 0, rest));
+    if tokens.begins_void() {
+        let void = tokens.expect_keyword(Keyword::Void)?;
+        return Ok((Parameters::Void(void), 0));
     }
-    let (all, d, rest) = parameter_list(alloc, source, inside, tokens)?;
-    Ok((Parameters::Listed(all), d, rest))
+    let (all, d) = parameter_list(alloc, types, inside, tokens)?;
+    Ok((Parameters::Listed(all), d))
 }
 
 /// What stands after the `(` of a function.
 #[cycle(expression)]
 #[tactic(auto, unfolding(c_grammar::specs::Reading::function_in))]
-pub fn function<'a>(
+fn function(
     alloc: Global,
-    source: &Source,
+    types: &Typenames,
     inside: u16,
     x: Option<Boxed<Declarator>>,
     d: u32,
     left: At,
-    tokens: &'a [Token],
-) -> Result<(Boxed<Declarator>, u32, &'a [Token]), Failure>
-    requires places { stands_if_any (option_map (declarator_stands source.now.file) x) ≡ true }
-    ensures tree { Gives (λ x. (declarator_of x.0, x.1, lexemes_of source.now.bytes.now x.2.now)) result (function_in inside (at source.now.types.now inside) (declarator_if_any (option_map declarator_of x)) d left (lexemes_of source.now.bytes.now tokens.now)) }
-    ensures places { IfOk result (λ x. (declarator_stands source.now.file x.0).right ≡ true) }
+    tokens: &mut Cursor,
+) -> Result<(Boxed<Declarator>, u32), Failure>
+    ensures { Reads declarator_of result tokens.new (function_in inside (at types.now inside) (declarator_if_any (option_map declarator_of x)) d left tokens.old) }
 {
-    let (all, e, rest) = parameters(alloc, source, inside, tokens)?;
-    let (right, rest) = after_right(source, rest)?;
-    let d = deeper_than(inside, larger(d, e), rest)?;
-    let whole = Declarator {
-        place: place_from(source, &x, left),
-        node: DeclaratorNode::Function(x, left, all, right),
-    };
-    Ok((boxed(alloc, whole)?, d, rest))
+    let (all, e) = parameters(alloc, types, inside, tokens)?;
+    let right = tokens.expect(Punctuator::Close)?;
+    let d = deeper_than(inside, d.max(e), tokens)?;
+    Ok((boxed(alloc, Declarator::Function(x, left, all, right))?, d))
 }
 
 /// One pair of brackets or parentheses more, if one stands at the front.
 #[cycle(expression)]
 #[tactic(auto, unfolding(c_grammar::specs::Reading::suffix_step))]
-pub fn brackets<'a>(
+fn brackets(
     alloc: Global,
-    source: &Source,
+    types: &Typenames,
     inside: u16,
     x: Option<Boxed<Declarator>>,
     d: u32,
-    tokens: &'a [Token],
-) -> Result<(Option<Boxed<Declarator>>, u32, &'a [Token], bool), Failure>
-    requires places { stands_if_any (option_map (declarator_stands source.now.file) x) ≡ true }
-    ensures tree { Gives (λ x. (declarator_if_any (option_map declarator_of x.0), x.1, lexemes_of source.now.bytes.now x.2.now, x.3)) result (suffix_step inside (at source.now.types.now inside) (declarator_if_any (option_map declarator_of x)) d (lexemes_of source.now.bytes.now tokens.now)) }
-    ensures places { IfOk result (λ x. stands_if_any (option_map (declarator_stands source.now.file) x.0) ≡ true) }
+    tokens: &mut Cursor,
+) -> Result<(Option<Boxed<Declarator>>, u32, bool), Failure>
+    ensures { Steps (λ d. declarator_if_any (option_map declarator_of d)) result tokens.new (suffix_step inside (at types.now inside) (declarator_if_any (option_map declarator_of x)) d tokens.old) }
 {
-    match tokens {
-        [token, rest @ ..] => match token.kind {
-            TokenKind::Punctuator(Punctuator::OpenSquare) => {
-                let (whole, d, rest) = array(alloc, source, inside, x, d, token.from, rest)?;
-                Ok((Some(whole), d, rest, true))
-            }
-            TokenKind::Punctuator(Punctuator::Open) => {
-                let (whole, d, rest) = function(alloc, source, inside, x, d, token.from, rest)?;
-                Ok((Some(whole), d, rest, true))
-            }
-            _ => Ok((x, d, tokens, false)),
-        },
-        [] => Ok((x, d, tokens, false)),
+    if tokens.peek(Punctuator::OpenSquare) {
+        let left = tokens.advance();
+        let (whole, d) = array(alloc, types, inside, x, d, left, tokens)?;
+        Ok((Some(whole), d, true))
+    } else if tokens.peek(Punctuator::Open) {
+        let left = tokens.advance();
+        let (whole, d) = function(alloc, types, inside, x, d, left, tokens)?;
+        Ok((Some(whole), d, true))
+    } else {
+        Ok((x, d, false))
     }
 }
 
 /// A declarator that is no pointer.
 #[cycle(expression)]
 #[tactic(auto, using(c_grammar::proofs::Rounds::rounds), unfolding(c_grammar::specs::Reading::direct_in))]
-pub fn direct<'a>(
+fn direct(
     alloc: Global,
-    source: &Source,
+    types: &Typenames,
     inside: u16,
-    tokens: &'a [Token],
-) -> Result<(Option<Boxed<Declarator>>, u32, &'a [Token]), Failure>
-    ensures tree { Gives (λ x. (declarator_if_any (option_map declarator_of x.0), x.1, lexemes_of source.now.bytes.now x.2.now)) result (direct_in source.now.types.now inside (at source.now.types.now inside) (lexemes_of source.now.bytes.now tokens.now)) }
-    ensures places { IfOk result (λ x. stands_if_any (option_map (declarator_stands source.now.file) x.0) ≡ true) }
+    tokens: &mut Cursor,
+) -> Result<(Option<Boxed<Declarator>>, u32), Failure>
+    ensures { Reads (λ d. declarator_if_any (option_map declarator_of d)) result tokens.new (direct_in types.now inside (at types.now inside) tokens.old) }
 {
-    let (mut x, mut d, mut rest) = core(alloc, source, inside, tokens)?;
-    let mut turns = inside as u64 + 2;
-    'more: while turns > 0 {
-        let (y, e, after, on) = brackets(alloc, source, inside, x, d, rest)?;
+    let (mut x, mut d) = core(alloc, types, inside, tokens)?;
+    let mut rounds = inside as u64 + 2;
+    'more: while rounds > 0 {
+        let (y, e, on) = brackets(alloc, types, inside, x, d, tokens)?;
         x = y;
         d = e;
-        rest = after;
-        turns -= 1;
+        rounds -= 1;
         if !on {
-            return Ok((x, d, rest));
+            return Ok((x, d));
         }
     }
-    Err(Failure::NoParse(rest.len()))
+    Err(tokens.stop())
 }
 
-/// A declarator, with or without a name, or nothing (C99 6.7.5, 6.7.6).
+/// A declarator, with or without a name, or nothing.
 #[cycle(expression)]
 #[tactic(auto, unfolding(c_grammar::specs::Reading::declarator_in))]
-pub fn declarator<'a>(
+pub fn declarator(
     alloc: Global,
-    source: &Source,
+    types: &Typenames,
     inside: u16,
-    tokens: &'a [Token],
-) -> Result<(Option<Boxed<Declarator>>, u32, &'a [Token]), Failure>
-    ensures tree { Gives (λ x. (declarator_if_any (option_map declarator_of x.0), x.1, lexemes_of source.now.bytes.now x.2.now)) result (declarator_in source.now.types.now inside (at source.now.types.now inside) (lexemes_of source.now.bytes.now tokens.now)) }
-    ensures places { IfOk result (λ x. stands_if_any (option_map (declarator_stands source.now.file) x.0) ≡ true) }
+    tokens: &mut Cursor,
+) -> Result<(Option<Boxed<Declarator>>, u32), Failure>
+    ensures { Reads (λ d. declarator_if_any (option_map declarator_of d)) result tokens.new (declarator_in types.now inside (at types.now inside) tokens.old) }
 {
-    match tokens {
-        [
-            Token {
-                kind: TokenKind::Punctuator(Punctuator::Star),
-                from,
-                ..
-            },
-            rest @ ..,
-        ] => {
-            let (whole, d, rest) = pointer(alloc, source, inside, *from, rest)?;
-            Ok((Some(whole), d, rest))
+    match tokens.accept(Punctuator::Star) {
+        Some(star) => {
+            let (whole, d) = pointer(alloc, types, inside, star, tokens)?;
+            Ok((Some(whole), d))
         }
-        _ => direct(alloc, source, inside, tokens),
+        None => direct(alloc, types, inside, tokens),
     }
 }

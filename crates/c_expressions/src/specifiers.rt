@@ -1,135 +1,102 @@
 //! Specifiers (C99 6.7.1 to 6.7.3).
 
-ghost use Rattle.std.specs.Prelude.{◌+◌, [], length, map, IfOk, true, ◌≡◌};
-ghost use Rattle.c_ast.specs.Places.{all_stand, specifier_stands};
+ghost use Rattle.std.specs.Prelude.{◌+◌, [], length, map};
 ghost use Rattle.c_ast.specs.Views.{specifier_of, specifiers_of};
-ghost use Rattle.c_expressions.specs.Gives.{Gives};
-ghost use Rattle.c_ast.specs.Lexemes.{lexemes_of};
-ghost use Rattle.c_grammar.specs.Reading.{chain, specifier_in, specifier_step, specifiers_in, at};
+ghost use Rattle.c_cursor.specs.Gives.{Gives, Reads, Steps};
+ghost use Rattle.c_grammar.specs.Reading.{at, chain, specifier_in, specifier_step, specifiers_in};
 
-use crate::begins::begins_specifier;
-use lay_base::add;
 use crate::enumerations::enumeration;
-use crate::failure::Failure;
-use crate::names::{is_type, word};
-use crate::operators::keyword_specifier_of;
-use crate::places::placed;
-use crate::source::Source;
 use crate::structures::structure;
-use crate::tokens::larger;
-use c_ast::{Specifier, SpecifierNode};
-use c_lexer::{Token, TokenKind};
-use lay_base::{Keyword, List};
+use c_ast::Specifier;
+use c_cursor::{Cursor, Failure, Typenames};
+use lay_base::{Keyword, List, add};
 use std::alloc::Global;
 
-/// A specifier (C99 6.7.1 to 6.7.3).
+/// A specifier.
 #[cycle(expression)]
 #[tactic(auto, unfolding(c_grammar::specs::Reading::specifier_in))]
-pub fn specifier<'a>(
+fn specifier(
     alloc: Global,
-    source: &Source,
+    types: &Typenames,
     inside: u16,
-    tokens: &'a [Token],
-) -> Result<(Specifier, u32, &'a [Token]), Failure>
-    ensures tree { Gives (λ x. (specifier_of x.0, x.1, lexemes_of source.now.bytes.now x.2.now)) result (specifier_in source.now.types.now inside (at source.now.types.now inside) (lexemes_of source.now.bytes.now tokens.now)) }
-    ensures places { IfOk result (λ x. (specifier_stands source.now.file x.0).right ≡ true) }
+    tokens: &mut Cursor,
+) -> Result<(Specifier, u32), Failure>
+    ensures { Reads specifier_of result tokens.new (specifier_in types.now inside (at types.now inside) tokens.old) }
 {
-    match tokens {
-        [token, rest @ ..] => match keyword_specifier_of(token.kind) {
-            Some(keyword) => {
-                let whole = Specifier {
-                    place: placed(source, token.from),
-                    node: SpecifierNode::Keyword(keyword, token.from),
-                };
-                Ok((whole, 1, rest))
-            }
-            None => match token.kind {
-                TokenKind::Keyword(Keyword::Struct) => structure(
-                    alloc, source, inside, token.from, rest,
-                ),
-                TokenKind::Keyword(Keyword::Enum) => enumeration(
-                    alloc, source, inside, token.from, rest,
-                ),
-                TokenKind::Name => {
-                    if !is_type(source, *token) {
-                        return Err(Failure::NoParse(tokens.len()));
-                    }
-                    let x = word(alloc, source, *token)?;
-                    let whole = Specifier {
-                        place: placed(source, x.from),
-                        node: SpecifierNode::Typename(x),
-                    };
-                    Ok((whole, 1, rest))
-                }
-                _ => Err(Failure::NoParse(tokens.len())),
-            },
-        },
-        [] => Err(Failure::NoParse(tokens.len())),
+    if let Some(keyword) = tokens.specifier_at() {
+        return Ok((Specifier::Keyword(keyword, tokens.advance()), 1));
     }
+    if tokens.peek_keyword(Keyword::Struct) {
+        let mark = tokens.advance();
+        return structure(alloc, types, inside, mark, tokens);
+    }
+    if tokens.peek_keyword(Keyword::Enum) {
+        let mark = tokens.advance();
+        return enumeration(alloc, types, inside, mark, tokens);
+    }
+    if tokens.begins_typename(types) {
+        let name = tokens.word(alloc)?;
+        return Ok((Specifier::Typename(name), 1));
+    }
+    Err(tokens.stop())
 }
 
 /// One specifier more.
 #[cycle(expression)]
 #[tactic(auto, unfolding(c_grammar::specs::Reading::specifier_step))]
-pub fn next_specifier<'a>(
+fn next_specifier(
     alloc: Global,
-    source: &Source,
+    types: &Typenames,
     inside: u16,
     all: List<Specifier>,
     d: u32,
-    tokens: &'a [Token],
-) -> Result<(List<Specifier>, u32, &'a [Token], bool), Failure>
-    requires places { all_stand (map (specifier_stands source.now.file) all) ≡ true }
-    ensures tree { Gives (λ x. (map specifier_of x.0, x.1, lexemes_of source.now.bytes.now x.2.now, x.3)) result (specifier_step source.now.types.now inside (at source.now.types.now inside) (map specifier_of all) d (lexemes_of source.now.bytes.now tokens.now)) }
-    ensures places { IfOk result (λ x. all_stand (map (specifier_stands source.now.file) x.0) ≡ true) }
+    tokens: &mut Cursor,
+) -> Result<(List<Specifier>, u32, bool), Failure>
+    ensures { Steps (λ all. map specifier_of all) result tokens.new (specifier_step types.now inside (at types.now inside) (map specifier_of all) d tokens.old) }
 {
-    let (one, e, rest) = specifier(alloc, source, inside, tokens)?;
+    let (one, e) = specifier(alloc, types, inside, tokens)?;
     let mut all = all;
     add(&mut all, one)?;
-    Ok((all, larger(d, e), rest, begins_specifier(source, rest)))
+    Ok((all, d.max(e), tokens.begins_specifier(types)))
 }
 
 /// One specifier after the other.
 #[cycle(expression)]
 #[tactic(auto, using(c_grammar::proofs::Rounds::rounds))]
-pub fn specifier_list<'a>(
+fn specifier_list(
     alloc: Global,
-    source: &Source,
+    types: &Typenames,
     inside: u16,
-    tokens: &'a [Token],
-) -> Result<(List<Specifier>, u32, &'a [Token]), Failure>
-    ensures tree { Gives (λ x. (map specifier_of x.0, x.1, lexemes_of source.now.bytes.now x.2.now)) result (chain (specifier_step source.now.types.now inside (at source.now.types.now inside)) (length (lexemes_of source.now.bytes.now tokens.now) + 1) [] 0 (lexemes_of source.now.bytes.now tokens.now)) }
-    ensures places { IfOk result (λ x. all_stand (map (specifier_stands source.now.file) x.0) ≡ true) }
+    tokens: &mut Cursor,
+) -> Result<(List<Specifier>, u32), Failure>
+    ensures { Reads (λ all. map specifier_of all) result tokens.new (chain (specifier_step types.now inside (at types.now inside)) (length tokens.old + 1) [] 0 tokens.old) }
 {
     let mut all = List::new(alloc);
     let mut d = 0;
-    let mut rest = tokens;
-    let mut turns = tokens.len() as u64 + 1;
-    'more: while turns > 0 {
-        let (more, e, after, on) = next_specifier(alloc, source, inside, all, d, rest)?;
+    let mut rounds = tokens.len() as u64 + 1;
+    'more: while rounds > 0 {
+        let (more, e, on) = next_specifier(alloc, types, inside, all, d, tokens)?;
         all = more;
         d = e;
-        rest = after;
-        turns -= 1;
+        rounds -= 1;
         if !on {
-            return Ok((all, d, rest));
+            return Ok((all, d));
         }
     }
-    Err(Failure::NoParse(rest.len()))
+    Err(tokens.stop())
 }
 
 /// One specifier or more.
 #[cycle(expression)]
 #[tactic(auto, unfolding(c_grammar::specs::Reading::specifiers_in))]
-pub fn specifiers<'a>(
+pub fn specifiers(
     alloc: Global,
-    source: &Source,
+    types: &Typenames,
     inside: u16,
-    tokens: &'a [Token],
-) -> Result<(List<Specifier>, u32, &'a [Token]), Failure>
-    ensures tree { Gives (λ x. (specifiers_of (map specifier_of x.0), x.1, lexemes_of source.now.bytes.now x.2.now)) result (specifiers_in source.now.types.now inside (at source.now.types.now inside) (lexemes_of source.now.bytes.now tokens.now)) }
-    ensures places { IfOk result (λ x. all_stand (map (specifier_stands source.now.file) x.0) ≡ true) }
+    tokens: &mut Cursor,
+) -> Result<(List<Specifier>, u32), Failure>
+    ensures { Reads (λ all. specifiers_of (map specifier_of all)) result tokens.new (specifiers_in types.now inside (at types.now inside) tokens.old) }
 {
-    let (all, d, rest) = specifier_list(alloc, source, inside, tokens)?;
-    Ok((all, d, rest))
+    let (all, d) = specifier_list(alloc, types, inside, tokens)?;
+    Ok((all, d))
 }

@@ -14,7 +14,7 @@ use Rattle.c_ast.specs.Trees
 use Rattle.c_ast.specs.Spelling.{Lexeme, punctuator, word, binary_punctuator, assign_punctuator, spelled_texts, spelled, spelled_type_name}
 use Rattle.c_ast.specs.WellFormed.{strength, level, is_typename, IsExpression}
 use Rattle.c_ast.specs.Sizes.{depth, depth_type_name}
-use Rattle.c_grammar.specs.Reading.{chain, text_in, texts_in, paren_in, primary_in, index_in, member_in, stepped_in, postfix_step, postfix_in, pre_in, unary_in, sizeof_in, cast_in, enclosed_type_name_in, unary_expression_in, operand_in, operator_step, operators_in, chosen_in, conditional_in, assignment_after, assignment_in, comma_step, expression_in, begins_type_name, at}
+use Rattle.c_grammar.specs.Reading.{chain, text_in, texts_in, paren_in, primary_in, index_in, dot_in, arrow_in, stepped_in, postfix_step, postfix_in, pre_in, unary_in, sizeof_in, cast_in, enclosed_type_name_in, unary_expression_in, operand_in, operator_step, operators_in, chosen_in, conditional_in, assignment_after, assignment_in, comma_step, expression_in, begins_type_name, at}
 use Rattle.c_grammar.proofs.Follow.{pull, within, strength_least, strength_most, pull_binary, pull_assign, binary_again, assign_again, text_stops, postfix_stops, operators_stops, conditional_stops, assignment_stops, comma_stops}
 use Rattle.c_grammar.proofs.Beginnings.{no_type_name, unary_by_postfix}
 use Rattle.c_grammar.proofs.Lengths.{texts_count}
@@ -192,12 +192,12 @@ module _ (types : List (List ℕ)) where
       ∙ rw (expression_inside b rb k (punctuator M.CloseSquare right ∷ rest) (omega arith) refl, within (max (depth a) (depth b)) k (omega arith)) refl
 
   pub dot_reads : (a : Trees.Expression) (i : ℕ) (x : Spelling) → 15 ≤ level a → Reads a → Postfix (Trees.dot a i x)
-  unfolding chain postfix_step member_in
+  unfolding chain postfix_step dot_in
   dot_reads a i x l r k s rest d e h =
       r.postfix l k (suc s) (punctuator M.Dot i ∷ word K.Name x ∷ rest) (omega arith) (omega arith) (omega arith) ∙ rw (within (depth a) k (omega arith)) refl
 
   pub arrow_reads : (a : Trees.Expression) (i : ℕ) (x : Spelling) → 15 ≤ level a → Reads a → Postfix (Trees.arrow a i x)
-  unfolding chain postfix_step member_in
+  unfolding chain postfix_step arrow_in
   arrow_reads a i x l r k s rest d e h =
       r.postfix l k (suc s) (punctuator M.Arrow i ∷ word K.Name x ∷ rest) (omega arith) (omega arith) (omega arith) ∙ rw (within (depth a) k (omega arith)) refl
 

@@ -13,7 +13,7 @@ use Rattle.c_ast.specs.WellFormed.{level, has_name, is_typename, IsComma, IsExpr
 use Rattle.c_ast.specs.Sizes.{depth, depth_type_name, depth_arguments}
 use Rattle.c_ast.specs.Views.{arguments_of}
 use Rattle.c_grammar.proofs.Wholeness.{AreWhole}
-use Rattle.c_grammar.specs.Reading.{Inner, fronted, is_right, spelling_of, type_name_in, enclosed_type_name_in, text_in, texts_in, paren_in, primary_in, argument_in, arguments_in, index_in, call_in, member_in, stepped_in, going_on, postfix_step, postfix_in}
+use Rattle.c_grammar.specs.Reading.{Inner, fronted, is_right, spelling_of, type_name_in, enclosed_type_name_in, text_in, texts_in, paren_in, primary_in, argument_in, arguments_in, index_in, call_in, dot_in, arrow_in, stepped_in, going_on, postfix_step, postfix_in}
 use Rattle.c_grammar.proofs.Fronts.{bind_taken, given, chosen, deeper_taken, lexeme, front_whole, rest_whole, left_taken, right_taken, right_square_taken, any_name_taken, comma_before_taken}
 use Rattle.c_grammar.proofs.Chains.{Goes, chain_taken, Listing, added, ended, Grows, list_taken, AnyEnd}
 use Rattle.c_grammar.proofs.Taken.{Took, Reads, took_before, TookExpression, ReadsExpression, looser, IsSound}
@@ -221,8 +221,8 @@ module _ (types : List (List ℕ)) (k : ℕ) (inner : Inner) (sound : IsSound ty
         whole = b.1.whole;
       })
 
-  dot_takes : (all : List Lexeme) (x : Trees.Expression) (d at : ℕ) (tokens : List Lexeme) → TookExpression types 15 (suc k) all (x, d, punctuator M.Dot at ∷ tokens) → (y : Trees.Expression × ℕ × List Lexeme) → member_in k (Trees.dot x at) d tokens ≡ Some y → TookExpression types 15 (suc k) all y
-  unfolding member_in
+  dot_takes : (all : List Lexeme) (x : Trees.Expression) (d at : ℕ) (tokens : List Lexeme) → TookExpression types 15 (suc k) all (x, d, punctuator M.Dot at ∷ tokens) → (y : Trees.Expression × ℕ × List Lexeme) → dot_in k x d at tokens ≡ Some y → TookExpression types 15 (suc k) all y
+  unfolding dot_in
   dot_takes all x d at tokens t y h =
       let b = bind_taken _ (any_name_taken tokens (rest_whole (punctuator M.Dot at) tokens t.whole)) h in
       let n = bind_taken _ (deeper_taken k d) b.2 in
@@ -234,8 +234,8 @@ module _ (types : List (List ℕ)) (k : ℕ) (inner : Inner) (sound : IsSound ty
         whole = b.1.1;
       })
 
-  arrow_takes : (all : List Lexeme) (x : Trees.Expression) (d at : ℕ) (tokens : List Lexeme) → TookExpression types 15 (suc k) all (x, d, punctuator M.Arrow at ∷ tokens) → (y : Trees.Expression × ℕ × List Lexeme) → member_in k (Trees.arrow x at) d tokens ≡ Some y → TookExpression types 15 (suc k) all y
-  unfolding member_in
+  arrow_takes : (all : List Lexeme) (x : Trees.Expression) (d at : ℕ) (tokens : List Lexeme) → TookExpression types 15 (suc k) all (x, d, punctuator M.Arrow at ∷ tokens) → (y : Trees.Expression × ℕ × List Lexeme) → arrow_in k x d at tokens ≡ Some y → TookExpression types 15 (suc k) all y
+  unfolding arrow_in
   arrow_takes all x d at tokens t y h =
       let b = bind_taken _ (any_name_taken tokens (rest_whole (punctuator M.Arrow at) tokens t.whole)) h in
       let n = bind_taken _ (deeper_taken k d) b.2 in

@@ -289,14 +289,6 @@ module _ (k : ℕ) (below : Below) (sound : IsSoundBelow k below) where
       let t = lexeme (K.Keyword which) from to text in
       subst (λ t. TookStatement below.types (suc k) (t ∷ rest) y) (sym (front_whole t rest w)) (f (rest_whole t rest w))
 
-  other_taken : (kind : TokenKind) (from to : ℕ) (text : List ℕ) (rest : List Lexeme) → AreWhole (lexeme kind from to text ∷ rest) → (y : Trees.Statement × ℕ × List Lexeme)
-      → cond (is_left_brace kind) (block_statement_in k below from rest) (evaluate_in k below (lexeme kind from to text ∷ rest)) ≡ Some y → TookStatement below.types (suc k) (lexeme kind from to text ∷ rest) y
-  other_taken kind from to text rest w y h =
-      let t = lexeme kind from to text in
-      chosen (is_left_brace kind) _ _ y (TookStatement below.types (suc k) (t ∷ rest) y) h
-      (λ c h. (let b = left_brace_taken (t ∷ rest) w (from, rest) (rw c refl) in subst (λ z. TookStatement below.types (suc k) z y) (sym b.0) (block_statement_taken from rest b.1 y h)))
-      (λ c h. evaluate_taken (t ∷ rest) w y h)
-
   kind_taken : (kind : TokenKind) (from to : ℕ) (text : List ℕ) (rest : List Lexeme) → AreWhole (lexeme kind from to text ∷ rest) → (y : Trees.Statement × ℕ × List Lexeme)
       → statement_of_kind k below (lexeme kind from to text ∷ rest) kind ≡ Some y → TookStatement below.types (suc k) (lexeme kind from to text ∷ rest) y
   kind_taken (K.Keyword W.If) from to text rest w y h = by_keyword W.If from to text rest w y (λ v. if_taken from rest v y h)
@@ -307,7 +299,11 @@ module _ (k : ℕ) (below : Below) (sound : IsSoundBelow k below) where
   kind_taken (K.Keyword W.Break) from to text rest w y h = by_keyword W.Break from to text rest w y (λ v. jump_taken (keyword W.Break from) (Trees.break from) (λ s rest. refl) (λ s. (tt, refl, refl)) rest v y h)
   kind_taken (K.Keyword W.Continue) from to text rest w y h = by_keyword W.Continue from to text rest w y (λ v. jump_taken (keyword W.Continue from) (Trees.continue from) (λ s rest. refl) (λ s. (tt, refl, refl)) rest v y h)
   kind_taken (K.Keyword W.Return) from to text rest w y h = by_keyword W.Return from to text rest w y (λ v. return_taken from rest v y h)
-  kind_taken kind from to text rest w y h = other_taken kind from to text rest w y h
+  kind_taken (K.Punctuator M.OpenBrace) from to text rest w y h =
+      let t = lexeme (K.Punctuator M.OpenBrace) from to text in
+      let b = left_brace_taken (t ∷ rest) w (from, rest) refl in
+      subst (λ z. TookStatement below.types (suc k) z y) (sym b.0) (block_statement_taken from rest b.1 y h)
+  kind_taken kind from to text rest w y h = evaluate_taken (lexeme kind from to text ∷ rest) w y h
 
   statement_taken : (tokens : List Lexeme) → AreWhole tokens → (y : Trees.Statement × ℕ × List Lexeme) → statement_in k below tokens ≡ Some y → TookStatement below.types (suc k) tokens y
   unfolding statement_in

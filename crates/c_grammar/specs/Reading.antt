@@ -352,11 +352,17 @@ call_in k inner x d left tokens = do
   n ← deeper k (max d all.1)
   Some (Trees.call x left all.0.0 all.0.1, n, all.2)
 
-unfoldable pub member_in : ℕ → (Spelling → Trees.Expression) → ℕ → Reader Trees.Expression
-member_in k made d tokens = do
-  x ← any_name tokens
+unfoldable pub dot_in : ℕ → Trees.Expression → ℕ → ℕ → Reader Trees.Expression
+dot_in k x d at tokens = do
+  name ← any_name tokens
   n ← deeper k d
-  Some (made x.0, n, x.1)
+  Some (Trees.dot x at name.0, n, name.1)
+
+unfoldable pub arrow_in : ℕ → Trees.Expression → ℕ → ℕ → Reader Trees.Expression
+arrow_in k x d at tokens = do
+  name ← any_name tokens
+  n ← deeper k d
+  Some (Trees.arrow x at name.0, n, name.1)
 
 unfoldable pub stepped_in : ℕ → Trees.Expression → ℕ → StepOp → ℕ → Reader Trees.Expression
 stepped_in k x d op at tokens = do
@@ -372,8 +378,8 @@ postfix_step k inner x d tokens = by_kind (front tokens)
     by_kind : Option TokenKind → Option (Trees.Expression × ℕ × List Lexeme × Bool)
     by_kind (Some (K.Punctuator M.OpenSquare)) = going_on (index_in k inner x d (advance tokens).0 (advance tokens).1)
     by_kind (Some (K.Punctuator M.Open)) = going_on (call_in k inner x d (advance tokens).0 (advance tokens).1)
-    by_kind (Some (K.Punctuator M.Dot)) = going_on (member_in k (Trees.dot x (advance tokens).0) d (advance tokens).1)
-    by_kind (Some (K.Punctuator M.Arrow)) = going_on (member_in k (Trees.arrow x (advance tokens).0) d (advance tokens).1)
+    by_kind (Some (K.Punctuator M.Dot)) = going_on (dot_in k x d (advance tokens).0 (advance tokens).1)
+    by_kind (Some (K.Punctuator M.Arrow)) = going_on (arrow_in k x d (advance tokens).0 (advance tokens).1)
     by_kind (Some (K.Punctuator M.PlusPlus)) = going_on (stepped_in k x d P.Increment (advance tokens).0 (advance tokens).1)
     by_kind (Some (K.Punctuator M.MinusMinus)) = going_on (stepped_in k x d P.Decrement (advance tokens).0 (advance tokens).1)
     by_kind _ = Some (x, d, tokens, false)

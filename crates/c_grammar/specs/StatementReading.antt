@@ -258,8 +258,8 @@ statement_of_kind k below tokens (K.Keyword W.Switch) = switch_in k below (advan
 statement_of_kind k below tokens (K.Keyword W.Break) = jump_in (Trees.break (advance tokens).0) (advance tokens).1
 statement_of_kind k below tokens (K.Keyword W.Continue) = jump_in (Trees.continue (advance tokens).0) (advance tokens).1
 statement_of_kind k below tokens (K.Keyword W.Return) = return_in k below (advance tokens).0 (advance tokens).1
-statement_of_kind k below tokens kind =
-    if peek M.OpenBrace tokens then block_statement_in k below (advance tokens).0 (advance tokens).1 else evaluate_in k below tokens
+statement_of_kind k below tokens (K.Punctuator M.OpenBrace) = block_statement_in k below (advance tokens).0 (advance tokens).1
+statement_of_kind k below tokens kind = evaluate_in k below tokens
 
 unfoldable pub statement_in : ℕ → Below → Reader Trees.Statement
 statement_in k below tokens = front tokens >>= statement_of_kind k below tokens
@@ -281,18 +281,26 @@ statement_at types (suc k) tokens = statement_in k (below_at types k (statement_
 
 -- ---- files
 
-abbrev pub body_after : List (List ℕ) → ℕ → Trees.Specifiers → Trees.Declarator → ℕ → List Lexeme → Option (ℕ × List Lexeme) → Option (Trees.Item × ℕ × List Lexeme)
-body_after types k specs s d tokens None = do
+-- the definition of a function, from after the "{" of its body on
+abbrev pub body_in : List (List ℕ) → ℕ → Trees.Specifiers → Trees.Declarator → ℕ → ℕ → Reader Trees.Item
+body_in types zero specs s d left tokens = None
+body_in types (suc k) specs s d left tokens = do
+  b ← block_in (below_at types k (statement_at types k)) tokens
+  m ← deeper k b.1
+  n ← deeper (suc k) (max d m)
+  Some (Trees.defines specs s left b.0.0 b.0.1, n, b.2)
+
+-- a declaration, from after its first declarator on
+abbrev pub rest_of_declaration_in : List (List ℕ) → ℕ → Trees.Specifiers → Trees.Declarator → ℕ → Reader Trees.Item
+rest_of_declaration_in types k specs s d tokens = do
   all ← declarators_after ((at types k).declarator) (initial_at types k) s 0 tokens
   semicolon ← expect M.Semicolon all.2
   n ← deeper k (max d all.1)
   Some (Trees.declaration (record { specs = specs; all = all.0; semicolon = semicolon.0 }), n, semicolon.1)
-body_after types zero specs s d tokens (Some left) = None
-body_after types (suc k) specs s d tokens (Some left) = do
-  b ← block_in (below_at types k (statement_at types k)) left.1
-  m ← deeper k b.1
-  n ← deeper (suc k) (max d m)
-  Some (Trees.defines specs s left.0 b.0.0 b.0.1, n, b.2)
+
+abbrev pub body_after : List (List ℕ) → ℕ → Trees.Specifiers → Trees.Declarator → ℕ → List Lexeme → Option (ℕ × List Lexeme) → Option (Trees.Item × ℕ × List Lexeme)
+body_after types k specs s d tokens None = rest_of_declaration_in types k specs s d tokens
+body_after types k specs s d tokens (Some left) = body_in types k specs s d left.0 left.1
 
 -- an item, after its specifiers
 abbrev pub item_after : List (List ℕ) → ℕ → Trees.Specifiers → ℕ → List Lexeme → Option (ℕ × List Lexeme) → Option (Trees.Item × ℕ × List Lexeme)

@@ -1,85 +1,73 @@
 //! Declarators with their initializers (C99 6.7).
 
-ghost use Rattle.c_ast.specs.Places.{init_declarator_right, declarator_stands};
-ghost use Rattle.c_ast.specs.Views.{init_declarator_of, declarator_of};
-ghost use Rattle.c_expressions.specs.Gives.{Gives};
-ghost use Rattle.c_ast.specs.Lexemes.{lexemes_of};
+ghost use Rattle.c_ast.specs.Views.{declarator_of, init_declarator_of};
+ghost use Rattle.c_cursor.specs.Gives.{Reads};
 ghost use Rattle.c_grammar.specs.Reading.{at};
 ghost use Rattle.c_grammar.specs.StatementReading.{initial_at, named_in, valued_in};
-ghost use Rattle.std.specs.Prelude.{IfOk, true, ◌≡◌};
 
 use crate::initializers::initializer_inside;
 use c_ast::{At, Declarator, InitDeclarator, InitialValue};
-use c_expressions::{Failure, Source, has_name, larger, declarator_inside};
-use c_lexer::{Punctuator, Token, TokenKind};
+use c_cursor::{Cursor, Failure, Typenames};
+use c_expressions::{declarator_inside, has_name};
+use c_lexer::Punctuator;
 use lay_base::Boxed;
 use std::alloc::Global;
 
 /// A declarator with its name.
 #[tactic(auto, unfolding(c_grammar::specs::StatementReading::named_in))]
-pub fn named<'a>(
+pub fn named(
     alloc: Global,
-    source: &Source,
+    types: &Typenames,
     inside: u16,
-    tokens: &'a [Token],
-) -> Result<(Boxed<Declarator>, u32, &'a [Token]), Failure>
-    ensures tree { Gives (λ x. (declarator_of x.0, x.1, lexemes_of source.now.bytes.now x.2.now)) result (named_in ((at source.now.types.now inside).declarator) (lexemes_of source.now.bytes.now tokens.now)) }
-    ensures places { IfOk result (λ x. (declarator_stands source.now.file x.0).right ≡ true) }
+    tokens: &mut Cursor,
+) -> Result<(Boxed<Declarator>, u32), Failure>
+    ensures { Reads declarator_of result tokens.new (named_in ((at types.now inside).declarator) tokens.old) }
 {
-    let (declarator, d, rest) = declarator_inside(alloc, source, inside, tokens)?;
+    let (declarator, d) = declarator_inside(alloc, types, inside, tokens)?;
     match declarator {
         Some(declarator) => {
             if !has_name(declarator.get()) {
-                return Err(Failure::NoParse(rest.len()));
+                return Err(tokens.stop());
             }
-            Ok((declarator, d, rest))
+            Ok((declarator, d))
         }
-        None => Err(Failure::NoParse(rest.len())),
+        None => Err(tokens.stop()),
     }
 }
 
 /// A declarator that is read, with its initializer if there is one.
 #[tactic(auto, unfolding(c_grammar::specs::StatementReading::valued_in))]
-pub fn valued<'a>(
+pub fn valued(
     alloc: Global,
-    source: &Source,
+    types: &Typenames,
     inside: u16,
     comma: Option<At>,
     declarator: Boxed<Declarator>,
     d: u32,
-    tokens: &'a [Token],
-) -> Result<(InitDeclarator, u32, &'a [Token]), Failure>
-    requires places { (declarator_stands source.now.file declarator).right ≡ true }
-    ensures tree { Gives (λ x. (init_declarator_of x.0, x.1, lexemes_of source.now.bytes.now x.2.now)) result (valued_in (initial_at source.now.types.now inside) comma (declarator_of declarator) d (lexemes_of source.now.bytes.now tokens.now)) }
-    ensures places { IfOk result (λ x. init_declarator_right source.now.file x.0 ≡ true) }
+    tokens: &mut Cursor,
+) -> Result<(InitDeclarator, u32), Failure>
+    ensures { Reads init_declarator_of result tokens.new (valued_in (initial_at types.now inside) comma (declarator_of declarator) d tokens.old) }
 {
-    match tokens {
-        [
-            Token {
-                kind: TokenKind::Punctuator(Punctuator::Equal),
-                from,
-                ..
-            },
-            after @ ..,
-        ] => {
-            let (value, e, rest) = initializer_inside(alloc, source, inside, after)?;
-            let one = InitDeclarator {
+    match tokens.accept(Punctuator::Equal) {
+        Some(equal) => {
+            let (value, e) = initializer_inside(alloc, types, inside, tokens)?;
+            let whole = InitDeclarator {
                 comma,
                 declarator: declarator.into_inner(),
                 value: Some(InitialValue {
-                    equal: *from,
+                    equal,
                     value,
                 }),
             };
-            Ok((one, larger(d, e), rest))
+            Ok((whole, d.max(e)))
         }
-        _ => {
-            let one = InitDeclarator {
+        None => {
+            let whole = InitDeclarator {
                 comma,
                 declarator: declarator.into_inner(),
                 value: None,
             };
-            Ok((one, d, tokens))
+            Ok((whole, d))
         }
     }
 }

@@ -1,63 +1,42 @@
 //! `if` (C99 6.8.4.1).
 
-ghost use Rattle.std.specs.Prelude.{max, IfOk, true, ◌≡◌};
-ghost use Rattle.c_ast.specs.Places.{statement_stands, expression_stands};
-ghost use Rattle.c_ast.specs.Views.{statement_of, expression_of};
-ghost use Rattle.c_expressions.specs.Gives.{Gives};
-ghost use Rattle.c_ast.specs.Lexemes.{lexemes_of};
+ghost use Rattle.c_ast.specs.Views.{expression_of, statement_of};
+ghost use Rattle.c_cursor.specs.Gives.{Reads};
 ghost use Rattle.c_grammar.specs.Reading.{after};
-ghost use Rattle.c_grammar.specs.StatementReading.{statement_at, below_at, else_after, if_in, is_else};
+ghost use Rattle.c_grammar.specs.StatementReading.{below_at, else_after, if_in, is_else, statement_at};
 
 use crate::conditions::condition;
 use crate::statements::statement_inside;
-use c_ast::{At, Expression, Statement, StatementNode};
-use c_expressions::{Failure, Source, boxed, deeper_than, larger, placed};
-use c_lexer::{Token, TokenKind};
-use lay_base::{Boxed, Keyword};
+use c_ast::{At, Expression, Statement};
+use c_cursor::{Cursor, Failure, Typenames, deeper_than};
+use lay_base::{Boxed, Keyword, boxed};
 use std::alloc::Global;
 
 /// What stands after the first branch.
 #[cycle(statement)]
-fn branches<'a>(
+fn branches(
     alloc: Global,
-    source: &Source,
+    types: &Typenames,
     inside: u16,
-    punctuator: At,
+    mark: At,
     test: (At, Boxed<Expression>, At),
     one: Boxed<Statement>,
     d: u32,
-    tokens: &'a [Token],
-) -> Result<(Statement, u32, &'a [Token]), Failure>
-    requires places { ((statement_stands source.now.file one).right ≡ true) × ((expression_stands source.now.file test.1).right ≡ true) }
-    ensures tree { Gives (λ x. (statement_of x.0, x.1, lexemes_of source.now.bytes.now x.2.now)) result (else_after inside (below_at source.now.types.now inside (statement_at source.now.types.now inside)) punctuator (test.0, expression_of test.1, test.2) (statement_of one) d (lexemes_of source.now.bytes.now tokens.now) (after is_else (lexemes_of source.now.bytes.now tokens.now))) }
-    ensures places { IfOk result (λ x. (statement_stands source.now.file x.0).right ≡ true) }
+    tokens: &mut Cursor,
+) -> Result<(Statement, u32), Failure>
+    ensures { Reads statement_of result tokens.new (else_after inside (below_at types.now inside (statement_at types.now inside)) mark (test.0, expression_of test.1, test.2) (statement_of one) d tokens.old (after is_else tokens.old)) }
 {
     let (left, value, right) = test;
-    match tokens {
-        [
-            Token {
-                kind: TokenKind::Keyword(Keyword::Else),
-                from,
-                ..
-            },
-            rest @ ..,
-        ] => {
-            let (other, e, rest) = statement_inside(alloc, source, inside, rest)?;
+    match tokens.accept_keyword(Keyword::Else) {
+        Some(otherwise) => {
+            let (other, e) = statement_inside(alloc, types, inside, tokens)?;
             let other = boxed(alloc, other)?;
-            let d = deeper_than(inside, larger(d, e), rest)?;
-            let whole = Statement {
-                place: placed(source, punctuator),
-                node: StatementNode::IfElse(punctuator, left, value, right, one, *from, other),
-            };
-            Ok((whole, d, rest))
+            let d = deeper_than(inside, d.max(e), tokens)?;
+            Ok((Statement::IfElse(mark, left, value, right, one, otherwise, other), d))
         }
-        _ => {
+        None => {
             let d = deeper_than(inside, d, tokens)?;
-            let whole = Statement {
-                place: placed(source, punctuator),
-                node: StatementNode::If(punctuator, left, value, right, one),
-            };
-            Ok((whole, d, tokens))
+            Ok((Statement::If(mark, left, value, right, one), d))
         }
     }
 }
@@ -65,19 +44,18 @@ fn branches<'a>(
 /// What stands after `if`.
 #[cycle(statement)]
 #[tactic(auto, unfolding(c_grammar::specs::StatementReading::if_in))]
-pub fn selection<'a>(
+pub fn selection(
     alloc: Global,
-    source: &Source,
+    types: &Typenames,
     inside: u16,
-    punctuator: At,
-    tokens: &'a [Token],
-) -> Result<(Statement, u32, &'a [Token]), Failure>
-    ensures tree { Gives (λ x. (statement_of x.0, x.1, lexemes_of source.now.bytes.now x.2.now)) result (if_in inside (below_at source.now.types.now inside (statement_at source.now.types.now inside)) punctuator (lexemes_of source.now.bytes.now tokens.now)) }
-    ensures places { IfOk result (λ x. (statement_stands source.now.file x.0).right ≡ true) }
+    mark: At,
+    tokens: &mut Cursor,
+) -> Result<(Statement, u32), Failure>
+    ensures { Reads statement_of result tokens.new (if_in inside (below_at types.now inside (statement_at types.now inside)) mark tokens.old) }
 {
-    let (test, d, rest) = condition(alloc, source, inside, tokens)?;
-    let (one, e, rest) = statement_inside(alloc, source, inside, rest)?;
+    let (test, d) = condition(alloc, types, inside, tokens)?;
+    let (one, e) = statement_inside(alloc, types, inside, tokens)?;
     let one = boxed(alloc, one)?;
-    let (whole, d, rest) = branches(alloc, source, inside, punctuator, test, one, larger(d, e), rest)?;
-    Ok((whole, d, rest))
+    let (whole, d) = branches(alloc, types, inside, mark, test, one, d.max(e), tokens)?;
+    Ok((whole, d))
 }

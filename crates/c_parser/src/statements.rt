@@ -1,275 +1,220 @@
 //! Blocks, and statements by their first token (C99 6.8).
 
-ghost use Rattle.std.specs.Prelude.{◌≡◌, ◌+◌, [], length, map, IfOk, true};
-ghost use Rattle.c_ast.specs.Places.{statement_stands, all_right, block_item_right};
+ghost use Rattle.std.specs.Prelude.{◌+◌, [], length, map};
 ghost use Rattle.c_ast.specs.Trees;
-ghost use Rattle.c_ast.specs.Views.{statement_of, block_items_of, block_item_of};
-ghost use Rattle.c_expressions.specs.Gives.{Gives};
-ghost use Rattle.c_ast.specs.Lexemes.{lexemes_of};
+ghost use Rattle.c_ast.specs.Views.{block_item_of, block_items_of, statement_of};
+ghost use Rattle.c_cursor.specs.Gives.{Gives, Reads, Steps};
 ghost use Rattle.c_grammar.specs.Reading.{chain};
-ghost use Rattle.c_grammar.specs.StatementReading.{statement_at, statement_in, below_at, block_statement_in, block_in, block_item_in, block_item_step, evaluate_in, jump_in, return_in};
+ghost use Rattle.c_grammar.specs.StatementReading.{below_at, block_in, block_item_in, block_item_step, block_statement_in, evaluate_in, jump_in, return_in, statement_at, statement_in};
 
-use crate::conditions::before_semicolon;
-use crate::declarations::declaration_inside;
+use crate::conditions::expression_before;
+use crate::declarations::declaration;
 use crate::iteration::{do_loop, for_loop, while_loop};
 use crate::openings::{Opening, opening_of};
 use crate::selection::selection;
 use crate::switches::switch;
-use c_ast::{At, Block, BlockItem, Statement, StatementNode};
-use c_expressions::{
-    Failure, Source, add, begins_specifier, after_right_brace, after_semicolon, deeper_than,
-    fronted_right_brace, larger, place_before, placed,
-};
-use c_lexer::Token;
-use lay_base::List;
+use c_ast::{At, BlockItem, Statement};
+use c_cursor::{Cursor, Failure, Typenames, deeper_than};
+use c_lexer::Punctuator;
+use lay_base::{List, add};
 use std::alloc::Global;
 
 /// An item of a block.
 #[cycle(statement)]
 #[tactic(auto, unfolding(c_grammar::specs::StatementReading::block_item_in))]
-fn block_item<'a>(
+fn block_item(
     alloc: Global,
-    source: &Source,
+    types: &Typenames,
     inside: u16,
-    tokens: &'a [Token],
-) -> Result<(BlockItem, u32, &'a [Token]), Failure>
-    ensures tree { Gives (λ x. (block_item_of x.0, x.1, lexemes_of source.now.bytes.now x.2.now)) result (block_item_in (below_at source.now.types.now inside (statement_at source.now.types.now inside)) (lexemes_of source.now.bytes.now tokens.now)) }
-    ensures places { IfOk result (λ x. block_item_right source.now.file x.0 ≡ true) }
+    tokens: &mut Cursor,
+) -> Result<(BlockItem, u32), Failure>
+    ensures { Reads block_item_of result tokens.new (block_item_in (below_at types.now inside (statement_at types.now inside)) tokens.old) }
 {
-    if begins_specifier(source, tokens) {
-        let (declaration, d, rest) = declaration_inside(alloc, source, false, inside, tokens)?;
-        Ok((BlockItem::Declaration(declaration), d, rest))
+    if tokens.begins_specifier(types) {
+        let (declaration, d) = declaration(alloc, types, false, inside, tokens)?;
+        Ok((BlockItem::Declaration(declaration), d))
     } else {
-        let (statement, d, rest) = statement_inside(alloc, source, inside, tokens)?;
-        Ok((BlockItem::Statement(statement), d, rest))
+        let (statement, d) = statement_inside(alloc, types, inside, tokens)?;
+        Ok((BlockItem::Statement(statement), d))
     }
 }
 
-/// One item of a block more, or the `}` after the last.
+/// One item of a block more, if `}` does not stand at the front.
 #[cycle(statement)]
 #[tactic(auto, unfolding(c_grammar::specs::StatementReading::block_item_step))]
-fn next_item<'a>(
+fn next_block_item(
     alloc: Global,
-    source: &Source,
+    types: &Typenames,
     inside: u16,
     all: List<BlockItem>,
     d: u32,
-    tokens: &'a [Token],
-) -> Result<(List<BlockItem>, u32, &'a [Token], bool), Failure>
-    requires places { all_right (map (block_item_right source.now.file) all) ≡ true }
-    ensures tree { Gives (λ x. (map block_item_of x.0, x.1, lexemes_of source.now.bytes.now x.2.now, x.3)) result (block_item_step (below_at source.now.types.now inside (statement_at source.now.types.now inside)) (map block_item_of all) d (lexemes_of source.now.bytes.now tokens.now)) }
-    ensures places { IfOk result (λ x. all_right (map (block_item_right source.now.file) x.0) ≡ true) }
+    tokens: &mut Cursor,
+) -> Result<(List<BlockItem>, u32, bool), Failure>
+    ensures { Steps (λ all. map block_item_of all) result tokens.new (block_item_step (below_at types.now inside (statement_at types.now inside)) (map block_item_of all) d tokens.old) }
 {
-    if fronted_right_brace(source, tokens) {
-        return Ok((all, d, tokens, false));
+    if tokens.peek(Punctuator::CloseBrace) {
+        return Ok((all, d, false));
     }
-    let (item, e, rest) = block_item(alloc, source, inside, tokens)?;
+    let (item, e) = block_item(alloc, types, inside, tokens)?;
     let mut all = all;
     add(&mut all, item)?;
-    Ok((all, larger(d, e), rest, true))
+    Ok((all, d.max(e), true))
 }
 
 /// The items of a block up to `}`.
 #[cycle(statement)]
 #[tactic(auto, using(c_grammar::proofs::Rounds::rounds))]
-fn items<'a>(
+fn block_items(
     alloc: Global,
-    source: &Source,
+    types: &Typenames,
     inside: u16,
-    tokens: &'a [Token],
-) -> Result<(List<BlockItem>, u32, &'a [Token]), Failure>
-    ensures tree { Gives (λ x. (map block_item_of x.0, x.1, lexemes_of source.now.bytes.now x.2.now)) result (chain (block_item_step (below_at source.now.types.now inside (statement_at source.now.types.now inside))) (length (lexemes_of source.now.bytes.now tokens.now) + 1) [] 0 (lexemes_of source.now.bytes.now tokens.now)) }
-    ensures places { IfOk result (λ x. all_right (map (block_item_right source.now.file) x.0) ≡ true) }
+    tokens: &mut Cursor,
+) -> Result<(List<BlockItem>, u32), Failure>
+    ensures { Reads (λ all. map block_item_of all) result tokens.new (chain (block_item_step (below_at types.now inside (statement_at types.now inside))) (length tokens.old + 1) [] 0 tokens.old) }
 {
     let mut all = List::new(alloc);
     let mut d = 0;
-    let mut rest = tokens;
-    let mut turns = tokens.len() as u64 + 1;
-    'more: while turns > 0 {
-        let (more, e, after, on) = next_item(alloc, source, inside, all, d, rest)?;
+    let mut rounds = tokens.len() as u64 + 1;
+    'more: while rounds > 0 {
+        let (more, e, on) = next_block_item(alloc, types, inside, all, d, tokens)?;
         all = more;
         d = e;
-        rest = after;
-        turns -= 1;
+        rounds -= 1;
         if !on {
-            return Ok((all, d, rest));
+            return Ok((all, d));
         }
     }
-    Err(Failure::NoParse(rest.len()))
+    Err(tokens.stop())
 }
 
-/// A block, from after `{` on, with the place of its `}`.
+/// A block, from after `{` on, with the byte of its `}`.
 #[cycle(statement)]
 #[tactic(auto, unfolding(c_grammar::specs::StatementReading::block_in))]
-pub fn block<'a>(
+pub fn block(
     alloc: Global,
-    source: &Source,
+    types: &Typenames,
     inside: u16,
-    tokens: &'a [Token],
-) -> Result<((List<BlockItem>, At), u32, &'a [Token]), Failure>
-    ensures tree { Gives (λ x. ((block_items_of (map block_item_of x.0.0), x.0.1), x.1, lexemes_of source.now.bytes.now x.2.now)) result (block_in (below_at source.now.types.now inside (statement_at source.now.types.now inside)) (lexemes_of source.now.bytes.now tokens.now)) }
-    ensures places { IfOk result (λ x. all_right (map (block_item_right source.now.file) x.0.0) ≡ true) }
+    tokens: &mut Cursor,
+) -> Result<((List<BlockItem>, At), u32), Failure>
+    ensures { Reads (λ x. (block_items_of (map block_item_of x.0), x.1)) result tokens.new (block_in (below_at types.now inside (statement_at types.now inside)) tokens.old) }
 {
-    let (items, d, rest) = items(alloc, source, inside, tokens)?;
-    let (right, rest) = after_right_brace(source, rest)?;
-    Ok(((items, right), d, rest))
+    let (items, d) = block_items(alloc, types, inside, tokens)?;
+    let right = tokens.expect(Punctuator::CloseBrace)?;
+    Ok(((items, right), d))
 }
 
 /// `;` after `break`.
 #[tactic(auto, unfolding(c_grammar::specs::StatementReading::jump_in))]
-fn break_statement<'a>(
-    source: &Source,
-    punctuator: At,
-    tokens: &'a [Token],
-) -> Result<(Statement, u32, &'a [Token]), Failure>
-    ensures tree { Gives (λ x. (statement_of x.0, x.1, lexemes_of source.now.bytes.now x.2.now)) result (jump_in (Trees.break punctuator) (lexemes_of source.now.bytes.now tokens.now)) }
-    ensures places { IfOk result (λ x. (statement_stands source.now.file x.0).right ≡ true) }
+fn break_statement(mark: At, tokens: &mut Cursor) -> Result<(Statement, u32), Failure>
+    ensures { Reads statement_of result tokens.new (jump_in (Trees.break mark) tokens.old) }
 {
-    let (semicolon, rest) = after_semicolon(source, tokens)?;
-    let whole = Statement {
-        place: placed(source, punctuator),
-        node: StatementNode::Break(punctuator, semicolon),
-    };
-    Ok((whole, 1, rest))
+    let semicolon = tokens.expect(Punctuator::Semicolon)?;
+    Ok((Statement::Break(mark, semicolon), 1))
 }
 
 /// `;` after `continue`.
 #[tactic(auto, unfolding(c_grammar::specs::StatementReading::jump_in))]
-fn continue_statement<'a>(
-    source: &Source,
-    punctuator: At,
-    tokens: &'a [Token],
-) -> Result<(Statement, u32, &'a [Token]), Failure>
-    ensures tree { Gives (λ x. (statement_of x.0, x.1, lexemes_of source.now.bytes.now x.2.now)) result (jump_in (Trees.continue punctuator) (lexemes_of source.now.bytes.now tokens.now)) }
-    ensures places { IfOk result (λ x. (statement_stands source.now.file x.0).right ≡ true) }
+fn continue_statement(mark: At, tokens: &mut Cursor) -> Result<(Statement, u32), Failure>
+    ensures { Reads statement_of result tokens.new (jump_in (Trees.continue mark) tokens.old) }
 {
-    let (semicolon, rest) = after_semicolon(source, tokens)?;
-    let whole = Statement {
-        place: placed(source, punctuator),
-        node: StatementNode::Continue(punctuator, semicolon),
-    };
-    Ok((whole, 1, rest))
+    let semicolon = tokens.expect(Punctuator::Semicolon)?;
+    Ok((Statement::Continue(mark, semicolon), 1))
 }
 
 /// What stands after `return`.
 #[tactic(auto, unfolding(c_grammar::specs::StatementReading::return_in))]
-fn return_statement<'a>(
+fn return_statement(
     alloc: Global,
-    source: &Source,
+    types: &Typenames,
     inside: u16,
-    punctuator: At,
-    tokens: &'a [Token],
-) -> Result<(Statement, u32, &'a [Token]), Failure>
-    ensures tree { Gives (λ x. (statement_of x.0, x.1, lexemes_of source.now.bytes.now x.2.now)) result (return_in inside (below_at source.now.types.now inside (statement_at source.now.types.now inside)) punctuator (lexemes_of source.now.bytes.now tokens.now)) }
-    ensures places { IfOk result (λ x. (statement_stands source.now.file x.0).right ≡ true) }
+    mark: At,
+    tokens: &mut Cursor,
+) -> Result<(Statement, u32), Failure>
+    ensures { Reads statement_of result tokens.new (return_in inside (below_at types.now inside (statement_at types.now inside)) mark tokens.old) }
 {
-    let (value, d, rest) = before_semicolon(alloc, source, inside, tokens)?;
-    let (semicolon, rest) = after_semicolon(source, rest)?;
-    let d = deeper_than(inside, d, rest)?;
-    let whole = Statement {
-        place: placed(source, punctuator),
-        node: StatementNode::Return(punctuator, value, semicolon),
-    };
-    Ok((whole, d, rest))
+    let (value, d) = expression_before(alloc, types, inside, Punctuator::Semicolon, tokens)?;
+    let semicolon = tokens.expect(Punctuator::Semicolon)?;
+    let d = deeper_than(inside, d, tokens)?;
+    Ok((Statement::Return(mark, value, semicolon), d))
 }
 
 /// An expression or none, before `;`.
 #[tactic(auto, unfolding(c_grammar::specs::StatementReading::evaluate_in))]
-fn expression_statement<'a>(
+fn expression_statement(
     alloc: Global,
-    source: &Source,
+    types: &Typenames,
     inside: u16,
-    tokens: &'a [Token],
-) -> Result<(Statement, u32, &'a [Token]), Failure>
-    ensures tree { Gives (λ x. (statement_of x.0, x.1, lexemes_of source.now.bytes.now x.2.now)) result (evaluate_in inside (below_at source.now.types.now inside (statement_at source.now.types.now inside)) (lexemes_of source.now.bytes.now tokens.now)) }
-    ensures places { IfOk result (λ x. (statement_stands source.now.file x.0).right ≡ true) }
+    tokens: &mut Cursor,
+) -> Result<(Statement, u32), Failure>
+    ensures { Reads statement_of result tokens.new (evaluate_in inside (below_at types.now inside (statement_at types.now inside)) tokens.old) }
 {
-    let (value, d, rest) = before_semicolon(alloc, source, inside, tokens)?;
-    let (semicolon, rest) = after_semicolon(source, rest)?;
-    let d = deeper_than(inside, d, rest)?;
-    let whole = Statement {
-        place: place_before(source, &value, semicolon),
-        node: StatementNode::Expression(value, semicolon),
-    };
-    Ok((whole, d, rest))
-}
-
-/// A block as a statement.
-fn whole_block(source: &Source, left: At, items: List<BlockItem>, right: At) -> Statement
-    requires places { all_right (map (block_item_right source.now.file) items) ≡ true }
-    ensures tree { statement_of result ≡ Trees.block left (block_items_of (map block_item_of items)) right }
-    ensures places { (statement_stands source.now.file result).right ≡ true }
-{
-    Statement {
-        place: placed(source, left),
-        node: StatementNode::Block(Block {
-            open: left,
-            items,
-            close: right,
-        }),
-    }
+    let (value, d) = expression_before(alloc, types, inside, Punctuator::Semicolon, tokens)?;
+    let semicolon = tokens.expect(Punctuator::Semicolon)?;
+    let d = deeper_than(inside, d, tokens)?;
+    Ok((Statement::Expression(value, semicolon), d))
 }
 
 /// A block as a statement, from after `{` on.
 #[cycle(statement)]
 #[tactic(auto, unfolding(c_grammar::specs::StatementReading::block_statement_in))]
-fn block_statement<'a>(
+fn block_statement(
     alloc: Global,
-    source: &Source,
+    types: &Typenames,
     inside: u16,
     left: At,
-    tokens: &'a [Token],
-) -> Result<(Statement, u32, &'a [Token]), Failure>
-    ensures tree { Gives (λ x. (statement_of x.0, x.1, lexemes_of source.now.bytes.now x.2.now)) result (block_statement_in inside (below_at source.now.types.now inside (statement_at source.now.types.now inside)) left (lexemes_of source.now.bytes.now tokens.now)) }
-    ensures places { IfOk result (λ x. (statement_stands source.now.file x.0).right ≡ true) }
+    tokens: &mut Cursor,
+) -> Result<(Statement, u32), Failure>
+    ensures { Reads statement_of result tokens.new (block_statement_in inside (below_at types.now inside (statement_at types.now inside)) left tokens.old) }
 {
-    let ((items, right), d, rest) = block(alloc, source, inside, tokens)?;
-    let d = deeper_than(inside, d, rest)?;
-    Ok((whole_block(source, left, items, right), d, rest))
+    let ((items, right), d) = block(alloc, types, inside, tokens)?;
+    let d = deeper_than(inside, d, tokens)?;
+    Ok((Statement::Block(left, items, right), d))
 }
 
-/// A statement by its first token (C99 6.8).
+/// A statement by its first token.
 #[cycle(statement)]
 #[tactic(auto, using(crate::proofs::OpeningStatements::statement_by_opening), unfolding(c_grammar::specs::StatementReading::statement_in))]
-fn statement<'a>(
+fn statement(
     alloc: Global,
-    source: &Source,
+    types: &Typenames,
     inside: u16,
-    tokens: &'a [Token],
-) -> Result<(Statement, u32, &'a [Token]), Failure>
-    ensures tree { Gives (λ x. (statement_of x.0, x.1, lexemes_of source.now.bytes.now x.2.now)) result (statement_in inside (below_at source.now.types.now inside (statement_at source.now.types.now inside)) (lexemes_of source.now.bytes.now tokens.now)) }
-    ensures places { IfOk result (λ x. (statement_stands source.now.file x.0).right ≡ true) }
+    tokens: &mut Cursor,
+) -> Result<(Statement, u32), Failure>
+    ensures { Reads statement_of result tokens.new (statement_in inside (below_at types.now inside (statement_at types.now inside)) tokens.old) }
 {
-    let [first, rest @ ..] = tokens else {
-        return Err(Failure::NoParse(tokens.len()));
+    let Some(kind) = tokens.front() else {
+        return Err(tokens.stop());
     };
-    match opening_of(first.kind) {
-        Opening::If => selection(alloc, source, inside, first.from, rest),
-        Opening::While => while_loop(alloc, source, inside, first.from, rest),
-        Opening::Do => do_loop(alloc, source, inside, first.from, rest),
-        Opening::For => for_loop(alloc, source, inside, first.from, rest),
-        Opening::Switch => switch(alloc, source, inside, first.from, rest),
-        Opening::Break => break_statement(source, first.from, rest),
-        Opening::Continue => continue_statement(source, first.from, rest),
-        Opening::Return => return_statement(alloc, source, inside, first.from, rest),
-        Opening::Block => block_statement(alloc, source, inside, first.from, rest),
-        Opening::Expression => expression_statement(alloc, source, inside, tokens),
+    let opening = opening_of(kind);
+    if let Opening::Expression = opening {
+        return expression_statement(alloc, types, inside, tokens);
+    }
+    let mark = tokens.advance();
+    match opening {
+        Opening::If => selection(alloc, types, inside, mark, tokens),
+        Opening::While => while_loop(alloc, types, inside, mark, tokens),
+        Opening::Do => do_loop(alloc, types, inside, mark, tokens),
+        Opening::For => for_loop(alloc, types, inside, mark, tokens),
+        Opening::Switch => switch(alloc, types, inside, mark, tokens),
+        Opening::Break => break_statement(mark, tokens),
+        Opening::Continue => continue_statement(mark, tokens),
+        Opening::Return => return_statement(alloc, types, inside, mark, tokens),
+        Opening::Block | Opening::Expression => block_statement(alloc, types, inside, mark, tokens),
     }
 }
 
 /// A statement, of a depth of at most `inside`.
 #[cycle(statement)]
-pub fn statement_inside<'a>(
+pub fn statement_inside(
     alloc: Global,
-    source: &Source,
+    types: &Typenames,
     inside: u16,
-    tokens: &'a [Token],
-) -> Result<(Statement, u32, &'a [Token]), Failure>
-    ensures tree { Gives (λ x. (statement_of x.0, x.1, lexemes_of source.now.bytes.now x.2.now)) result (statement_at source.now.types.now inside (lexemes_of source.now.bytes.now tokens.now)) }
-    ensures places { IfOk result (λ x. (statement_stands source.now.file x.0).right ≡ true) }
+    tokens: &mut Cursor,
+) -> Result<(Statement, u32), Failure>
+    ensures { Reads statement_of result tokens.new (statement_at types.now inside tokens.old) }
 {
     if inside == 0 {
-        return Err(Failure::NoParse(tokens.len()));
+        return Err(tokens.stop());
     }
-    statement(alloc, source, inside - 1, tokens)
+    statement(alloc, types, inside - 1, tokens)
 }

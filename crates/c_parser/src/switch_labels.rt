@@ -1,88 +1,70 @@
 //! Labels in a switch (C99 6.8.1).
 
-ghost use Rattle.std.specs.Prelude.{◌+◌, [], length, map, IfOk, true, ◌≡◌};
-ghost use Rattle.c_ast.specs.Places.{all_right, label_right};
+ghost use Rattle.std.specs.Prelude.{◌+◌, [], length, map};
 ghost use Rattle.c_ast.specs.Views.{label_of};
-ghost use Rattle.c_expressions.specs.Gives.{Gives};
-ghost use Rattle.c_ast.specs.Lexemes.{lexemes_of};
+ghost use Rattle.c_cursor.specs.Gives.{Gives, Reads, Steps};
 ghost use Rattle.c_grammar.specs.Reading.{chain};
-ghost use Rattle.c_grammar.specs.StatementReading.{statement_at, below_at, label_step};
+ghost use Rattle.c_grammar.specs.StatementReading.{below_at, label_step, statement_at};
 
 use c_ast::Label;
-use c_expressions::{Failure, Source, add, after_colon, conditional_inside, larger};
-use c_lexer::{Token, TokenKind};
-use lay_base::{Keyword, List};
+use c_cursor::{Cursor, Failure, Typenames};
+use c_expressions::{Level, expression_inside};
+use c_lexer::{Punctuator, TokenKind};
+use lay_base::{Keyword, List, add};
 use std::alloc::Global;
 
-/// One label more, or what stands after the last.
+/// One label more, if one stands at the front.
 #[tactic(auto, unfolding(c_grammar::specs::StatementReading::label_step))]
-fn next_label<'a>(
+fn next_label(
     alloc: Global,
-    source: &Source,
+    types: &Typenames,
     inside: u16,
     all: List<Label>,
     d: u32,
-    tokens: &'a [Token],
-) -> Result<(List<Label>, u32, &'a [Token], bool), Failure>
-    requires places { all_right (map (label_right source.now.file) all) ≡ true }
-    ensures tree { Gives (λ x. (map label_of x.0, x.1, lexemes_of source.now.bytes.now x.2.now, x.3)) result (label_step (below_at source.now.types.now inside (statement_at source.now.types.now inside)) (map label_of all) d (lexemes_of source.now.bytes.now tokens.now)) }
-    ensures places { IfOk result (λ x. all_right (map (label_right source.now.file) x.0) ≡ true) }
+    tokens: &mut Cursor,
+) -> Result<(List<Label>, u32, bool), Failure>
+    ensures { Steps (λ all. map label_of all) result tokens.new (label_step (below_at types.now inside (statement_at types.now inside)) (map label_of all) d tokens.old) }
 {
     let mut all = all;
-    match tokens {
-        [
-            Token {
-                kind: TokenKind::Keyword(Keyword::Case),
-                from,
-                ..
-            },
-            rest @ ..,
-        ] => {
-            let (value, e, rest) = conditional_inside(alloc, source, inside, rest)?;
-            let (colon, rest) = after_colon(source, rest)?;
-            add(&mut all, Label::Case(*from, value.into_inner(), colon))?;
-            Ok((all, larger(d, e), rest, true))
+    match tokens.front() {
+        Some(TokenKind::Keyword(Keyword::Case)) => {
+            let mark = tokens.advance();
+            let (value, e) = expression_inside(alloc, types, inside, Level::Conditional, tokens)?;
+            let colon = tokens.expect(Punctuator::Colon)?;
+            add(&mut all, Label::Case(mark, value.into_inner(), colon))?;
+            Ok((all, d.max(e), true))
         }
-        [
-            Token {
-                kind: TokenKind::Keyword(Keyword::Default),
-                from,
-                ..
-            },
-            rest @ ..,
-        ] => {
-            let (colon, rest) = after_colon(source, rest)?;
-            add(&mut all, Label::Default(*from, colon))?;
-            Ok((all, d, rest, true))
+        Some(TokenKind::Keyword(Keyword::Default)) => {
+            let mark = tokens.advance();
+            let colon = tokens.expect(Punctuator::Colon)?;
+            add(&mut all, Label::Default(mark, colon))?;
+            Ok((all, d, true))
         }
-        _ => Ok((all, d, tokens, false)),
+        _ => Ok((all, d, false)),
     }
 }
 
 /// The labels before a statement.
 #[tactic(auto, using(c_grammar::proofs::Rounds::rounds))]
-pub fn labels<'a>(
+pub fn labels(
     alloc: Global,
-    source: &Source,
+    types: &Typenames,
     inside: u16,
-    tokens: &'a [Token],
-) -> Result<(List<Label>, u32, &'a [Token]), Failure>
-    ensures tree { Gives (λ x. (map label_of x.0, x.1, lexemes_of source.now.bytes.now x.2.now)) result (chain (label_step (below_at source.now.types.now inside (statement_at source.now.types.now inside))) (length (lexemes_of source.now.bytes.now tokens.now) + 1) [] 0 (lexemes_of source.now.bytes.now tokens.now)) }
-    ensures places { IfOk result (λ x. all_right (map (label_right source.now.file) x.0) ≡ true) }
+    tokens: &mut Cursor,
+) -> Result<(List<Label>, u32), Failure>
+    ensures { Reads (λ all. map label_of all) result tokens.new (chain (label_step (below_at types.now inside (statement_at types.now inside))) (length tokens.old + 1) [] 0 tokens.old) }
 {
     let mut all = List::new(alloc);
     let mut d = 0;
-    let mut rest = tokens;
-    let mut turns = tokens.len() as u64 + 1;
-    'more: while turns > 0 {
-        let (more, e, after, on) = next_label(alloc, source, inside, all, d, rest)?;
+    let mut rounds = tokens.len() as u64 + 1;
+    'more: while rounds > 0 {
+        let (more, e, on) = next_label(alloc, types, inside, all, d, tokens)?;
         all = more;
         d = e;
-        rest = after;
-        turns -= 1;
+        rounds -= 1;
         if !on {
-            return Ok((all, d, rest));
+            return Ok((all, d));
         }
     }
-    Err(Failure::NoParse(rest.len()))
+    Err(tokens.stop())
 }

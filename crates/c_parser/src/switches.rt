@@ -1,138 +1,121 @@
 //! `switch` (C99 6.8.4.2).
 
-ghost use Rattle.std.specs.Prelude.{◌+◌, [], length, map, IfOk, true, ◌≡◌};
-ghost use Rattle.c_ast.specs.Places.{statement_stands, all_right, switch_item_right};
+ghost use Rattle.std.specs.Prelude.{◌+◌, [], length, map};
 ghost use Rattle.c_ast.specs.Views.{statement_of, switch_item_of};
-ghost use Rattle.c_expressions.specs.Gives.{Gives};
-ghost use Rattle.c_ast.specs.Lexemes.{lexemes_of};
+ghost use Rattle.c_cursor.specs.Gives.{Gives, Reads, Steps};
 ghost use Rattle.c_grammar.specs.Reading.{chain};
-ghost use Rattle.c_grammar.specs.StatementReading.{statement_at, switch_item_in, switch_item_step, below_at, labelled_in, switch_in};
+ghost use Rattle.c_grammar.specs.StatementReading.{below_at, labelled_in, statement_at, switch_in, switch_item_in, switch_item_step};
 
 use crate::conditions::condition;
-use crate::declarations::declaration_inside;
+use crate::declarations::declaration;
 use crate::statements::statement_inside;
 use crate::switch_labels::labels;
-use c_ast::{SwitchItem, At, Statement, StatementNode};
-use c_expressions::{
-    Failure, Source, add, begins_specifier, after_left_brace, after_right_brace, deeper_than,
-    fronted_right_brace, larger, placed,
-};
-use c_lexer::Token;
-use lay_base::List;
+use c_ast::{At, Statement, SwitchItem};
+use c_cursor::{Cursor, Failure, Typenames, deeper_than};
+use c_lexer::Punctuator;
+use lay_base::{List, add};
 use std::alloc::Global;
 
 /// A statement with the labels before it.
 #[cycle(statement)]
 #[tactic(auto, unfolding(c_grammar::specs::StatementReading::labelled_in))]
-fn labelled<'a>(
+fn labelled(
     alloc: Global,
-    source: &Source,
+    types: &Typenames,
     inside: u16,
-    tokens: &'a [Token],
-) -> Result<(SwitchItem, u32, &'a [Token]), Failure>
-    ensures tree { Gives (λ x. (switch_item_of x.0, x.1, lexemes_of source.now.bytes.now x.2.now)) result (labelled_in (below_at source.now.types.now inside (statement_at source.now.types.now inside)) (lexemes_of source.now.bytes.now tokens.now)) }
-    ensures places { IfOk result (λ x. switch_item_right source.now.file x.0 ≡ true) }
+    tokens: &mut Cursor,
+) -> Result<(SwitchItem, u32), Failure>
+    ensures { Reads switch_item_of result tokens.new (labelled_in (below_at types.now inside (statement_at types.now inside)) tokens.old) }
 {
-    let (labels, d, rest) = labels(alloc, source, inside, tokens)?;
-    let (statement, e, rest) = statement_inside(alloc, source, inside, rest)?;
-    Ok((SwitchItem::Labelled(labels, statement), larger(d, e), rest))
+    let (labels, d) = labels(alloc, types, inside, tokens)?;
+    let (statement, e) = statement_inside(alloc, types, inside, tokens)?;
+    Ok((SwitchItem::Labelled(labels, statement), d.max(e)))
 }
 
 /// An item of a switch's body.
 #[cycle(statement)]
 #[tactic(auto, unfolding(c_grammar::specs::StatementReading::switch_item_in))]
-fn switch_item<'a>(
+fn switch_item(
     alloc: Global,
-    source: &Source,
+    types: &Typenames,
     inside: u16,
-    tokens: &'a [Token],
-) -> Result<(SwitchItem, u32, &'a [Token]), Failure>
-    ensures tree { Gives (λ x. (switch_item_of x.0, x.1, lexemes_of source.now.bytes.now x.2.now)) result (switch_item_in (below_at source.now.types.now inside (statement_at source.now.types.now inside)) (lexemes_of source.now.bytes.now tokens.now)) }
-    ensures places { IfOk result (λ x. switch_item_right source.now.file x.0 ≡ true) }
+    tokens: &mut Cursor,
+) -> Result<(SwitchItem, u32), Failure>
+    ensures { Reads switch_item_of result tokens.new (switch_item_in (below_at types.now inside (statement_at types.now inside)) tokens.old) }
 {
-    if begins_specifier(source, tokens) {
-        let (declaration, d, rest) = declaration_inside(alloc, source, true, inside, tokens)?;
-        Ok((SwitchItem::Local(declaration), d, rest))
+    if tokens.begins_specifier(types) {
+        let (declaration, d) = declaration(alloc, types, true, inside, tokens)?;
+        Ok((SwitchItem::Local(declaration), d))
     } else {
-        let (switch_item, d, rest) = labelled(alloc, source, inside, tokens)?;
-        Ok((switch_item, d, rest))
+        let (item, d) = labelled(alloc, types, inside, tokens)?;
+        Ok((item, d))
     }
 }
 
-/// One item of a switch's body more, or the `}` after the last.
+/// One item of a switch's body more, if `}` does not stand at the front.
 #[cycle(statement)]
 #[tactic(auto, unfolding(c_grammar::specs::StatementReading::switch_item_step))]
-fn next_switch_item<'a>(
+fn next_switch_item(
     alloc: Global,
-    source: &Source,
+    types: &Typenames,
     inside: u16,
     all: List<SwitchItem>,
     d: u32,
-    tokens: &'a [Token],
-) -> Result<(List<SwitchItem>, u32, &'a [Token], bool), Failure>
-    requires places { all_right (map (switch_item_right source.now.file) all) ≡ true }
-    ensures tree { Gives (λ x. (map switch_item_of x.0, x.1, lexemes_of source.now.bytes.now x.2.now, x.3)) result (switch_item_step (below_at source.now.types.now inside (statement_at source.now.types.now inside)) (map switch_item_of all) d (lexemes_of source.now.bytes.now tokens.now)) }
-    ensures places { IfOk result (λ x. all_right (map (switch_item_right source.now.file) x.0) ≡ true) }
+    tokens: &mut Cursor,
+) -> Result<(List<SwitchItem>, u32, bool), Failure>
+    ensures { Steps (λ all. map switch_item_of all) result tokens.new (switch_item_step (below_at types.now inside (statement_at types.now inside)) (map switch_item_of all) d tokens.old) }
 {
-    if fronted_right_brace(source, tokens) {
-        return Ok((all, d, tokens, false));
+    if tokens.peek(Punctuator::CloseBrace) {
+        return Ok((all, d, false));
     }
-    let (item, e, rest) = switch_item(alloc, source, inside, tokens)?;
+    let (item, e) = switch_item(alloc, types, inside, tokens)?;
     let mut all = all;
     add(&mut all, item)?;
-    Ok((all, larger(d, e), rest, true))
+    Ok((all, d.max(e), true))
 }
 
 /// The items of a switch's body up to `}`.
 #[cycle(statement)]
 #[tactic(auto, using(c_grammar::proofs::Rounds::rounds))]
-fn switch_items<'a>(
+fn switch_items(
     alloc: Global,
-    source: &Source,
+    types: &Typenames,
     inside: u16,
-    tokens: &'a [Token],
-) -> Result<(List<SwitchItem>, u32, &'a [Token]), Failure>
-    ensures tree { Gives (λ x. (map switch_item_of x.0, x.1, lexemes_of source.now.bytes.now x.2.now)) result (chain (switch_item_step (below_at source.now.types.now inside (statement_at source.now.types.now inside))) (length (lexemes_of source.now.bytes.now tokens.now) + 1) [] 0 (lexemes_of source.now.bytes.now tokens.now)) }
-    ensures places { IfOk result (λ x. all_right (map (switch_item_right source.now.file) x.0) ≡ true) }
+    tokens: &mut Cursor,
+) -> Result<(List<SwitchItem>, u32), Failure>
+    ensures { Reads (λ all. map switch_item_of all) result tokens.new (chain (switch_item_step (below_at types.now inside (statement_at types.now inside))) (length tokens.old + 1) [] 0 tokens.old) }
 {
     let mut all = List::new(alloc);
     let mut d = 0;
-    let mut rest = tokens;
-    let mut turns = tokens.len() as u64 + 1;
-    'more: while turns > 0 {
-        let (more, e, after, on) = next_switch_item(alloc, source, inside, all, d, rest)?;
+    let mut rounds = tokens.len() as u64 + 1;
+    'more: while rounds > 0 {
+        let (more, e, on) = next_switch_item(alloc, types, inside, all, d, tokens)?;
         all = more;
         d = e;
-        rest = after;
-        turns -= 1;
+        rounds -= 1;
         if !on {
-            return Ok((all, d, rest));
+            return Ok((all, d));
         }
     }
-    Err(Failure::NoParse(rest.len()))
+    Err(tokens.stop())
 }
 
 /// What stands after `switch`.
 #[cycle(statement)]
 #[tactic(auto, unfolding(c_grammar::specs::StatementReading::switch_in))]
-pub fn switch<'a>(
+pub fn switch(
     alloc: Global,
-    source: &Source,
+    types: &Typenames,
     inside: u16,
-    punctuator: At,
-    tokens: &'a [Token],
-) -> Result<(Statement, u32, &'a [Token]), Failure>
-    ensures tree { Gives (λ x. (statement_of x.0, x.1, lexemes_of source.now.bytes.now x.2.now)) result (switch_in inside (below_at source.now.types.now inside (statement_at source.now.types.now inside)) punctuator (lexemes_of source.now.bytes.now tokens.now)) }
-    ensures places { IfOk result (λ x. (statement_stands source.now.file x.0).right ≡ true) }
+    mark: At,
+    tokens: &mut Cursor,
+) -> Result<(Statement, u32), Failure>
+    ensures { Reads statement_of result tokens.new (switch_in inside (below_at types.now inside (statement_at types.now inside)) mark tokens.old) }
 {
-    let ((left, value, right), d, rest) = condition(alloc, source, inside, tokens)?;
-    let (begin, rest) = after_left_brace(source, rest)?;
-    let (all, e, rest) = switch_items(alloc, source, inside, rest)?;
-    let (end, rest) = after_right_brace(source, rest)?;
-    let d = deeper_than(inside, larger(d, e), rest)?;
-    let whole = Statement {
-        place: placed(source, punctuator),
-        node: StatementNode::Switch(punctuator, left, value, right, begin, all, end),
-    };
-    Ok((whole, d, rest))
+    let ((left, value, right), d) = condition(alloc, types, inside, tokens)?;
+    let begin = tokens.expect(Punctuator::OpenBrace)?;
+    let (all, e) = switch_items(alloc, types, inside, tokens)?;
+    let end = tokens.expect(Punctuator::CloseBrace)?;
+    let d = deeper_than(inside, d.max(e), tokens)?;
+    Ok((Statement::Switch(mark, left, value, right, begin, all, end), d))
 }
