@@ -51,6 +51,10 @@ first_unsupported (token ∷ tokens) = unsupported_or token.kind token.from (fir
 abbrev pub IsTreeOf : List ℕ → List Trees.Item → Type 0
 IsTreeOf bytes items = (tokens : List Token) × Lexes bytes tokens × (first_unsupported tokens ≡ None) × IsTreeOfTokens (lexemes_of bytes tokens) items
 
--- tokens have one tree, and so has a file
+-- tokens have one tree
 abbrev pub TreesAreOne : Type 0
 TreesAreOne = (tokens : List Lexeme) (items others : List Trees.Item) → IsTreeOfTokens tokens items → IsTreeOfTokens tokens others → others ≡ items
+
+-- a file has one tree
+abbrev pub FilesHaveOneTree : Type 0
+FilesHaveOneTree = (bytes : List ℕ) (items others : List Trees.Item) → IsTreeOf bytes items → IsTreeOf bytes others → others ≡ items

@@ -1,8 +1,9 @@
 -- A step over declarators reads one of them, with its initializer.
 use Rattle.std.proofs.Common.{◌≡◌, ℕ, Bool, List, [], ◌∷◌, ◌++◌, max, Option, Some, None, refl}
+use Rattle.c_lexer.specs.declared.punctuator.Punctuator.TheVariants as M
 use Rattle.c_ast.specs.Trees
 use Rattle.c_ast.specs.Spelling.{Lexeme}
-use Rattle.c_grammar.specs.Reading.{◌>>=◌, Reader, comma_before, fronted, is_comma}
+use Rattle.c_grammar.specs.Reading.{◌>>=◌, Reader, comma_before, peek}
 use Rattle.c_grammar.specs.StatementReading.{named_in, valued_in, one_in, init_declarator_step}
 
 apart : {A B C : Type 0} (o : Option A) (f : A → Option B) (g : B → Option C) → (o >>= λ x. f x >>= g) ≡ ((o >>= f) >>= g)
@@ -11,7 +12,7 @@ apart (Some x) f g = refl
 
 -- the list with one more, and whether another follows
 abbrev pub with_one : List Trees.InitDeclarator → ℕ → Trees.InitDeclarator × ℕ × List Lexeme → Option (List Trees.InitDeclarator × ℕ × List Lexeme × Bool)
-with_one all d one = Some (all ++ one.0 ∷ [], max d one.1, one.2, fronted is_comma one.2)
+with_one all d one = Some (all ++ one.0 ∷ [], max d one.1, one.2, peek M.Comma one.2)
 
 step_with : (declarator : Reader Trees.Declarator) (initial : Reader Trees.Expression) (all : List Trees.InitDeclarator) (d : ℕ) (o : Option (Option ℕ × List Lexeme))
     → (o >>= λ c. named_in declarator c.1 >>= λ s. valued_in initial c.0 s.0 s.1 s.2 >>= with_one all d) ≡ (o >>= λ c. one_in declarator initial c.0 c.1 >>= with_one all d)

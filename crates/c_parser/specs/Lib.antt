@@ -1,4 +1,2 @@
-pub mod StatementReading
-pub mod TreesOfTokens
 pub mod Openings
 pub mod Parsing

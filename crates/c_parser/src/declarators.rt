@@ -54,10 +54,7 @@ pub fn valued(
             let whole = InitDeclarator {
                 comma,
                 declarator: declarator.into_inner(),
-                value: Some(InitialValue {
-                    equal,
-                    value,
-                }),
+                value: Some(InitialValue { equal, value }),
             };
             Ok((whole, d.max(e)))
         }

@@ -79,7 +79,10 @@ fn braces(
     let comma = tokens.comma_if_any();
     let right = tokens.expect(Punctuator::CloseBrace)?;
     let d = deeper_than(inside, d, tokens)?;
-    Ok((boxed(alloc, Expression::Braces(left, all, comma, right))?, d))
+    Ok((
+        boxed(alloc, Expression::Braces(left, all, comma, right))?,
+        d,
+    ))
 }
 
 /// An initializer.

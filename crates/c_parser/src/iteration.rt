@@ -50,7 +50,10 @@ pub fn do_loop(
     let ((left, value, right), e) = condition(alloc, types, inside, tokens)?;
     let semicolon = tokens.expect(Punctuator::Semicolon)?;
     let d = deeper_than(inside, d.max(e), tokens)?;
-    Ok((Statement::DoWhile(mark, body, test, left, value, right, semicolon), d))
+    Ok((
+        Statement::DoWhile(mark, body, test, left, value, right, semicolon),
+        d,
+    ))
 }
 
 /// What stands first in the parentheses of a `for`.
@@ -94,5 +97,8 @@ pub fn for_loop(
     let (body, g) = statement_inside(alloc, types, inside, tokens)?;
     let body = boxed(alloc, body)?;
     let d = deeper_than(inside, d.max(e).max(f).max(g), tokens)?;
-    Ok((Statement::For(mark, left, start, test, semicolon, step, right, body), d))
+    Ok((
+        Statement::For(mark, left, start, test, semicolon, step, right, body),
+        d,
+    ))
 }

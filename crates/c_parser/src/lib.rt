@@ -1,10 +1,8 @@
-//! The tree of a file's tokens: initializers, declarations, statements and the items of a file (C99 6.7
+//! The parser: the tree of a file's tokens, with initializers, declarations, statements and the items of a file (C99 6.7
 //! to 6.9).
 //!
-//! It stands on `c_expressions`. It promises that the tree of a file's tokens is found exactly where
-//! there is one, and that they have at most one. Each reader answers what the reader on lists of its
-//! name gives (`specs/StatementReading.antt`), of which two theorems say that what is read is spelled
-//! so, well formed and so deep, and that whatever is so is read.
+//! It stands on `c_expressions`, `c_cursor` and `c_grammar`. It promises that the tree of a file's bytes is found exactly
+//! where there is one, and that there is at most one. Each reader answers what the reader on lists of its name gives.
 #![tactic(auto)]
 
 mod conditions;
@@ -24,5 +22,5 @@ mod switches;
 mod typenames;
 
 pub use faults::ParseFault;
-pub use laws::tokens_have_one_tree;
+pub use laws::{files_have_one_tree, tokens_have_one_tree};
 pub use parsing::parse;

@@ -1,22 +1,22 @@
 //! The tree of a file's tokens.
 
-ghost use Rattle.std.specs.Prelude.{◌≡◌, ◌≤◌, ◌++◌, ◌∷◌, length, map, [], IfOk, OnOk, true};
-ghost use Rattle.c_ast.specs.WellFormed.{types_after};
-ghost use Rattle.c_lexer.specs.Lexes.{Lexes};
-ghost use Rattle.c_ast.specs.Places.{all_stand, item_stands};
-ghost use Rattle.c_ast.specs.Views.{item_of};
-ghost use Rattle.c_expressions.specs.Gives.{Gives};
+ghost use Rattle.std.specs.Prelude.{◌≡◌, ◌≤◌, ◌++◌, ◌∷◌, length, map, [], IfOk, OnOk};
 ghost use Rattle.c_ast.specs.Lexemes.{lexemes_of};
-ghost use Rattle.c_parser.specs.Parsing.{IsPlaceIn, ParseGives, first_unsupported, is_unsupported};
-ghost use Rattle.c_grammar.specs.StatementReading.{item_in, items_in};
+ghost use Rattle.c_ast.specs.TreesOfFiles.{first_unsupported, is_unsupported};
+ghost use Rattle.c_ast.specs.Views.{item_of};
+ghost use Rattle.c_ast.specs.WellFormed.{types_after};
+ghost use Rattle.c_cursor.specs.Gives.{Gives};
+ghost use Rattle.c_grammar.specs.StatementReading.{items_in};
+ghost use Rattle.c_lexer.specs.Lexes.{Lexes};
+ghost use Rattle.c_parser.specs.Parsing.{IsPlaceIn, ParseGives};
 
 use crate::faults::ParseFault;
 use crate::items::item;
 use crate::typenames::add_types;
 use c_ast::{Item, Tree};
-use c_expressions::{Failure, Source, Typenames, add};
-use c_lexer::{Token, TokenKind, Tokens};
-use lay_base::{Keyword, List, NoMemory, Place};
+use c_cursor::{Cursor, Failure, Typenames};
+use c_lexer::{Token, TokenKind, Tokens, texts_have_one_reading};
+use lay_base::{Keyword, List, NoMemory, Place, add};
 use std::alloc::Global;
 
 /// The deepest tree that is read.
@@ -55,33 +55,14 @@ fn first_unsupported(tokens: &[Token]) -> Option<(Keyword, u32)>
     None
 }
 
-/// The item at the front, after the typedefs of those before it.
-fn next_item<'a>(
-    alloc: Global,
-    file: u16,
-    bytes: &[u8],
-    types: &Typenames,
-    tokens: &'a [Token],
-) -> Result<(Item, u32, &'a [Token]), Failure>
-    ensures tree { Gives (λ x. (item_of x.0, x.1, lexemes_of bytes.now x.2.now)) result (item_in types.now 399 (lexemes_of bytes.now tokens.now)) }
-    ensures places { IfOk result (λ x. (item_stands file x.0).right ≡ true) }
-{
-    let source = Source { file, bytes, types };
-    let (one, d, rest) = item(alloc, &source, DEPTH - 1, tokens)?;
-    Ok((one, d, rest))
-}
-
 /// The items with one more, and the types that it declares.
 fn kept(
     alloc: Global,
-    file: u16,
     types: &mut Typenames,
     all: List<Item>,
     one: Item,
 ) -> Result<List<Item>, NoMemory>
-    requires places { (all_stand (map (item_stands file) all) ≡ true) × ((item_stands file one).right ≡ true) }
     ensures items { IfOk result (λ more. map item_of more ≡ map item_of all ++ item_of one ∷ []) }
-    ensures places { IfOk result (λ more. all_stand (map (item_stands file) more) ≡ true) }
     ensures types { OnOk result (types.new ≡ types_after types.old (item_of one)) }
 {
     add_types(alloc, types, &one)?;
@@ -91,23 +72,20 @@ fn kept(
 }
 
 /// All items, or why one cannot be read.
-#[tactic(auto, using(crate::proofs::ItemTurns::front_nothing))]
-fn items_of(alloc: Global, file: u16, bytes: &[u8], tokens: &[Token]) -> Result<List<Item>, Failure>
-    ensures tree { Gives (λ items. map item_of items) result (items_in 399 (length tokens.now) [] (lexemes_of bytes.now tokens.now)) }
-    ensures places { IfOk result (λ items. all_stand (map (item_stands file) items) ≡ true) }
+#[tactic(auto, using(crate::proofs::ItemRounds::front_nothing))]
+fn items_of(alloc: Global, tokens: &mut Cursor) -> Result<List<Item>, Failure>
+    ensures { Gives (λ items. map item_of items) result (items_in 399 (length tokens.old) [] tokens.old) }
 {
     let mut types = Typenames::new(alloc);
     let mut all = List::new(alloc);
-    let mut rest = tokens;
-    let mut turns = tokens.len();
-    while !rest.is_empty() {
-        if turns == 0 {
-            return Err(Failure::NoParse(rest.len()));
+    let mut rounds = tokens.len();
+    while !tokens.is_empty() {
+        if rounds == 0 {
+            return Err(tokens.stop());
         }
-        turns -= 1;
-        let (one, _, after) = next_item(alloc, file, bytes, &types, rest)?;
-        all = kept(alloc, file, &mut types, all, one)?;
-        rest = after;
+        rounds -= 1;
+        let (one, _) = item(alloc, &types, DEPTH - 1, tokens)?;
+        all = kept(alloc, &mut types, all, one)?;
     }
     Ok(all)
 }
@@ -140,7 +118,9 @@ pub fn parse(alloc: Global, tokens: &Tokens) -> Result<Tree, ParseFault>
     if let Some((keyword, at)) = first_unsupported(list) {
         return Err(ParseFault::Unsupported(keyword, Place { file, at }));
     }
-    match items_of(alloc, file, tokens.bytes.as_slice(), list) {
+    texts_have_one_reading();
+    let mut cursor = Cursor::new(tokens.bytes.as_slice(), list);
+    match items_of(alloc, &mut cursor) {
         Ok(items) => Ok(Tree { file, items }),
         Err(Failure::NoParse(left)) => Err(ParseFault::NoParse(place_of(tokens, left))),
         Err(Failure::Memory) => Err(ParseFault::Memory),

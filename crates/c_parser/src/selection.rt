@@ -32,7 +32,10 @@ fn branches(
             let (other, e) = statement_inside(alloc, types, inside, tokens)?;
             let other = boxed(alloc, other)?;
             let d = deeper_than(inside, d.max(e), tokens)?;
-            Ok((Statement::IfElse(mark, left, value, right, one, otherwise, other), d))
+            Ok((
+                Statement::IfElse(mark, left, value, right, one, otherwise, other),
+                d,
+            ))
         }
         None => {
             let d = deeper_than(inside, d, tokens)?;

@@ -117,5 +117,8 @@ pub fn switch(
     let (all, e) = switch_items(alloc, types, inside, tokens)?;
     let end = tokens.expect(Punctuator::CloseBrace)?;
     let d = deeper_than(inside, d.max(e), tokens)?;
-    Ok((Statement::Switch(mark, left, value, right, begin, all, end), d))
+    Ok((
+        Statement::Switch(mark, left, value, right, begin, all, end),
+        d,
+    ))
 }

@@ -4,10 +4,8 @@ ghost use Rattle.std.specs.Prelude.{◌≡◌, ◌++◌, map, IfOk, OnOk, option
 ghost use Rattle.c_ast.specs.WellFormed.{declared_name, declared_names, has_typedef, types_after};
 ghost use Rattle.c_ast.specs.Views.{init_declarator_of, declaration_of, item_of, declarator_of, specifier_of, specifiers_of};
 
-use c_ast::{
-    Declarator, DeclaratorNode, InitDeclarator, Item, Specifier, SpecifierNode, SpecifierKeyword,
-};
-use c_expressions::Typenames;
+use c_ast::{Declarator, InitDeclarator, Item, Specifier, SpecifierKeyword};
+use c_cursor::Typenames;
 use lay_base::NoMemory;
 use std::alloc::Global;
 
@@ -15,12 +13,12 @@ use std::alloc::Global;
 fn name_in(declarator: &Declarator) -> Option<&[u8]>
     ensures { option_to_list (option_map (λ name. name.now) result) ≡ declared_name (declarator_of declarator.now) }
 {
-    match &declarator.node {
-        DeclaratorNode::Identifier(word) => Some(word.text.as_slice()),
-        DeclaratorNode::Enclosed(_, d, _) => name_in(d.get()),
-        DeclaratorNode::Pointer(_, _, Some(d)) => name_in(d.get()),
-        DeclaratorNode::Array(Some(d), _, _, _) => name_in(d.get()),
-        DeclaratorNode::Function(Some(d), _, _, _) => name_in(d.get()),
+    match declarator {
+        Declarator::Identifier(word) => Some(word.text.as_slice()),
+        Declarator::Enclosed(_, d, _) => name_in(d.get()),
+        Declarator::Pointer(_, _, Some(d)) => name_in(d.get()),
+        Declarator::Array(Some(d), _, _, _) => name_in(d.get()),
+        Declarator::Function(Some(d), _, _, _) => name_in(d.get()),
         _ => None,
     }
 }
@@ -30,7 +28,7 @@ fn has_typedef(specifiers: &[Specifier]) -> bool
     ensures { result ≡ has_typedef (specifiers_of (map specifier_of specifiers.now)) }
 {
     for specifier in specifiers {
-        if let SpecifierNode::Keyword(SpecifierKeyword::Typedef, _) = &specifier.node {
+        if let Specifier::Keyword(SpecifierKeyword::Typedef, _) = specifier {
             return true;
         }
     }

@@ -1,13 +1,14 @@
-use Rattle.std.proofs.Common.{◌≡◌, ◌+◌, map, length, [], ◌∷◌, true}
-use Rattle.c_ast.specs.Places.{all_right, init_declarator_right}
+use Rattle.std.proofs.Common.{◌≡◌, ◌+◌, map, length, [], ◌∷◌}
 use Rattle.c_ast.specs.Views.{init_declarator_of}
-use Rattle.c_ast.specs.Lexemes.{lexemes_of}
 use Rattle.c_grammar.specs.Reading.{at, chain}
 use Rattle.c_grammar.specs.StatementReading.{init_declarator_step, initial_at}
 use Rattle.c_parser.proofs.declarations.more_declarators.Given as goal
 
 abbrev pub invariant-more : goal.invariant-more
-invariant-more l = (chain (init_declarator_step ((at l.source.types.now l.inside).declarator) (initial_at l.source.types.now l.inside)) l.turns (map init_declarator_of l.all) l.d (lexemes_of l.source.bytes.now l.rest) ≡ chain (init_declarator_step ((at l.source.types.now l.inside).declarator) (initial_at l.source.types.now l.inside)) (length (lexemes_of l.source.bytes.now l.tokens) + 1) (init_declarator_of l.fn.first ∷ []) l.depth (lexemes_of l.source.bytes.now l.tokens)) × (all_right (map (init_declarator_right l.source.file) l.all) ≡ true)
+invariant-more l =
+    let step = init_declarator_step ((at l.types l.inside).declarator) (initial_at l.types l.inside) in
+    chain step l.rounds (map init_declarator_of l.all) l.d l.tokens
+    ≡ chain step (length l.fn.tokens + 1) (init_declarator_of l.fn.first ∷ []) l.fn.depth l.fn.tokens
 
 abbrev pub decreases-more : goal.decreases-more
-decreases-more l = l.turns
+decreases-more l = l.rounds

@@ -1,5 +1,5 @@
 use Rattle.std.proofs.Common.{◌≡◌, drop}
-use Rattle.c_parser.specs.Parsing.{first_unsupported}
+use Rattle.c_ast.specs.TreesOfFiles.{first_unsupported}
 use Rattle.c_parser.proofs.parsing.first_unsupported.Given as goal
 
 abbrev pub invariant-loop-token : goal.invariant-loop-token

@@ -1,12 +1,12 @@
--- Turns of the loop over the items of a file.
+-- Rounds of the loop over the items of a file.
 use Rattle.std.proofs.Common.{◌≡◌, ◌≤◌, ◌<◌, ℕ, zero, suc, ◌-◌, List, [], ◌∷◌, ◌++◌, length, Option, Some, None, refl, ap, sym, ◌∙◌, arith, append_assoc, append-nil}
 use Rattle.c_ast.specs.Trees
 use Rattle.c_ast.specs.Spelling.{Lexeme}
 use Rattle.c_ast.specs.WellFormed.{types_after}
 use Rattle.c_lexer.specs.declared.token.Token.{Token}
-use Rattle.c_expressions.specs.declared.failure.Failure.{Failure}
-use Rattle.c_expressions.specs.declared.failure.Failure.TheVariants.{Memory, NoParse}
-use Rattle.c_expressions.specs.Gives.{Fails}
+use Rattle.c_cursor.specs.declared.failure.Failure.{Failure}
+use Rattle.c_cursor.specs.declared.failure.Failure.TheVariants.{Memory, NoParse}
+use Rattle.c_cursor.specs.Gives.{Fails}
 use Rattle.c_ast.specs.Lexemes.{lexemes_of}
 use Rattle.c_grammar.specs.Reading.{◌>>=◌}
 use Rattle.c_grammar.specs.StatementReading.{item_in, items_in}
@@ -49,14 +49,6 @@ items_go done zero m types others (t ∷ tokens) rest item d read h l z p o e = 
 items_go done (suc n) m types others (t ∷ tokens) rest item d read h l z p o e =
     let s : m ≡ n = omega (arith, l) in
     rw (s, o) (sym (front_one done item (items_in 399 n (types_after types item) rest)) ∙ ap (with_front done) (sym (ap (λ r. r >>= λ x. items_in 399 n (types_after types x.0) x.2 >>= λ more. Some (x.0 ∷ more)) p)) ∙ e)
-
-pub some_lexemes : (bytes : List ℕ) (tokens : List Token) → 0 < length tokens → 0 < length (lexemes_of bytes tokens)
-some_lexemes bytes [] h = absurd (omega (arith, h))
-some_lexemes bytes (t ∷ tokens) h = omega arith
-
-pub no_lexemes : (bytes : List ℕ) (tokens : List Token) → length tokens ≡ 0 → length (lexemes_of bytes tokens) ≡ 0
-no_lexemes bytes [] h = refl
-no_lexemes bytes (t ∷ tokens) h = absurd (omega (arith, h))
 
 -- an item that was not read
 pub items_fail : (failure : Failure) (done : List Trees.Item) (n : ℕ) (types : List (List ℕ)) (tokens : List Lexeme) (read : Option (List Trees.Item)) → 0 < length tokens → 0 < n → Fails failure (item_in types 399 tokens) → with_front done (items_in 399 n types tokens) ≡ read → Fails failure read
