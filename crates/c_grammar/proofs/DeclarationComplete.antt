@@ -10,7 +10,7 @@ use Rattle.c_ast.specs.Sizes.{depth_declarator, depth_specifiers, depth_value, d
 use Rattle.c_grammar.specs.Reading.{fronted, is_left_brace, is_comma, is_semicolon, begins_specifier, chain, at}
 use Rattle.c_grammar.proofs.Follow.{pull, declarators_pull, no_equal, within}
 use Rattle.c_grammar.proofs.Lists.{is_new, not_new, comma_read}
-use Rattle.c_grammar.specs.StatementReading.{initial_at, valued_in, named_in, init_declarator_step, more_init_declarators, declarators_after, declarators_in, declarators_if_any, declaration_in}
+use Rattle.c_grammar.specs.StatementReading.{initial_at, valued_in, named_in, one_in, init_declarator_step, more_init_declarators, declarators_after, declarators_in, declarators_if_any, declaration_in}
 use Rattle.c_grammar.proofs.CompleteBelow.{IsComplete}
 use Rattle.c_grammar.proofs.FirstTokens.{fronted_not, begins_declarator, declarator_start}
 use Rattle.c_grammar.proofs.Longer.{init_declarators_count}
@@ -80,7 +80,7 @@ module _ (types : List (List ℕ)) (c : IsComplete types) where
       → false ≡ is_new done → depth_init_declarators (one ∷ all) ≤ k → length all ≤ s
       → chain (init_declarator_step ((at types k).declarator) (initial_at types k)) (suc s) done d (spelled_init_declarators (one ∷ all) (punctuator M.Semicolon semicolon ∷ rest))
       ≡ Some (done ++ one ∷ all, max d (depth_init_declarators (one ∷ all)), punctuator M.Semicolon semicolon ∷ rest)
-  unfolding chain init_declarator_step
+  unfolding chain init_declarator_step one_in
   init_declarators_read [] one w k s done d semicolon rest n h i =
       let tail = punctuator M.Semicolon semicolon ∷ rest in
       let e : max d (max (depth_declarator one.declarator) (depth_value one.value)) ≡ max d (max (max (depth_declarator one.declarator) (depth_value one.value)) 0) = omega arith in

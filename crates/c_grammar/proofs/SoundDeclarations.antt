@@ -10,7 +10,7 @@ use Rattle.c_grammar.specs.Reading.{after, fronted, is_comma, is_semicolon, is_e
 use Rattle.c_grammar.proofs.Fronts.{bind_some, given, chosen, both, negated, deeper_taken, semicolon_taken, equal_taken, comma_before_taken, is_first}
 use Rattle.c_grammar.proofs.Chains.{Goes, chain_taken}
 use Rattle.c_grammar.proofs.Taken.{Took, Reads, IsSound}
-use Rattle.c_grammar.specs.StatementReading.{value_after, valued_in, named_in, init_declarator_step, more_init_declarators, declarators_after, declarators_in, declarators_if_any, declaration_in, initial_at}
+use Rattle.c_grammar.specs.StatementReading.{value_after, valued_in, named_in, one_in, init_declarator_step, more_init_declarators, declarators_after, declarators_in, declarators_if_any, declaration_in, initial_at}
 use Rattle.c_grammar.proofs.SoundInitializers.{bound, ReadsInitializer, initial_sound}
 
 -- ---- a declarator with its name, and its initializer
@@ -106,15 +106,15 @@ module _ (types : List (List ℕ)) (k : ℕ) (initial : Reader Trees.Expression)
   module _ (declarator : Reader Trees.Declarator) (declarators_pull : ReadsDeclarator types k declarator) where
     init_declarator_step_taken : (all : List Lexeme) (start : ℕ) (done : List Trees.InitDeclarator) (d : ℕ) (tokens : List Lexeme) (r : List Trees.InitDeclarator × ℕ × List Lexeme × Bool)
         → SoFar all start done d tokens → init_declarator_step declarator initial done d tokens ≡ Some r → Goes (SoFar all start) (Listed all start) r r.3
-    unfolding init_declarator_step
+    unfolding init_declarator_step one_in
     init_declarator_step_taken all start done d tokens r p h =
         let P = Goes (SoFar all start) (Listed all start) r r.3 in
         bound (comma_before done tokens) _ r P h λ c c_is h.
-        bound (named_in declarator c.1) _ r P h λ s s_is h.
-        bound (valued_in initial c.0 s.0 s.1 s.2) _ r P h λ one one_is h.
+        bound (one_in declarator initial c.0 c.1) _ r P h λ one one_is h.
+        let s = bind_some (named_in declarator c.1) _ one one_is in
         let u = comma_before_taken done tokens p.whole c c_is in
-        let v = named_taken types k declarator declarators_pull c.1 u.2 s s_is in
-        let q = valued_taken false tokens c.0 s.0 s.1 s.2 (u.0 ∙ ap (λ z. spelled_comma c.0 z) v.spelled_so) (subst (λ b. IsComma b c.0) p.some u.1) v.well_formed v.within v.whole one one_is in
+        let v = named_taken types k declarator declarators_pull c.1 u.2 s.0 s.1 in
+        let q = valued_taken false tokens c.0 s.0.0 s.0.1 s.0.2 (u.0 ∙ ap (λ z. spelled_comma c.0 z) v.spelled_so) (subst (λ b. IsComma b c.0) p.some u.1) v.well_formed v.within v.whole one s.2 in
         given (λ r. Goes (SoFar all start) (Listed all start) r r.3) _ r h
         (goes all start (done ++ one.0 ∷ []) (max d one.1) one.2 (fronted is_comma one.2) (record {
           spelled_so = λ last tail e. rw (append_assoc done (one.0 ∷ []) last) (p.spelled_so (one.0 ∷ last) tail (q.spelled_so ∙ ap (λ z. spelled_comma one.0.comma (spelled_declarator one.0.declarator (spelled_value one.0.value z))) e));

@@ -58,8 +58,7 @@ one_in declarator initial comma tokens = named_in declarator tokens >>= λ s. va
 unfoldable pub init_declarator_step : Reader Trees.Declarator → Reader Trees.Expression → Step (List Trees.InitDeclarator)
 init_declarator_step declarator initial all d tokens = do
   c ← comma_before all tokens
-  s ← named_in declarator c.1
-  one ← valued_in initial c.0 s.0 s.1 s.2
+  one ← one_in declarator initial c.0 c.1
   Some (all ++ one.0 ∷ [], max d one.1, one.2, peek M.Comma one.2)
 
 -- the declarators after the first, which is read with its initializer

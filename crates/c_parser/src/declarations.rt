@@ -1,6 +1,6 @@
 //! Declarations (C99 6.7).
 
-ghost use Rattle.std.specs.Prelude.{map};
+ghost use Rattle.std.specs.Prelude.{◌≡◌, ◌++◌, ◌∷◌, [], IfOk, map};
 ghost use Rattle.c_ast.specs.Views.{declaration_of, declarator_of, init_declarator_of};
 ghost use Rattle.c_cursor.specs.Gives.{Gives, Reads, Steps};
 ghost use Rattle.c_grammar.specs.Reading.{at};
@@ -11,7 +11,7 @@ use c_ast::{At, Declaration, Declarator, InitDeclarator};
 use c_cursor::{Cursor, Failure, Typenames};
 use c_expressions::specifiers_inside;
 use c_lexer::Punctuator;
-use lay_base::{Boxed, List, add};
+use lay_base::{Boxed, List, NoMemory, add};
 use std::alloc::Global;
 
 /// A declarator with its name and its initializer, if there is one.
@@ -30,6 +30,18 @@ fn init_declarator(
     Ok((one, d))
 }
 
+/// A list with one declarator more.
+fn with_declarator(
+    all: List<InitDeclarator>,
+    one: InitDeclarator,
+) -> Result<List<InitDeclarator>, NoMemory>
+    ensures { IfOk result (λ more. map init_declarator_of more ≡ map init_declarator_of all ++ init_declarator_of one ∷ []) }
+{
+    let mut all = all;
+    add(&mut all, one)?;
+    Ok(all)
+}
+
 /// One declarator with its initializer more.
 #[tactic(auto, using(crate::proofs::OneDeclarator::step_by_one))]
 fn next_declarator(
@@ -44,8 +56,7 @@ fn next_declarator(
 {
     let comma = tokens.comma_before(&all)?;
     let (one, e) = init_declarator(alloc, types, inside, comma, tokens)?;
-    let mut all = all;
-    add(&mut all, one)?;
+    let all = with_declarator(all, one)?;
     Ok((all, d.max(e), tokens.peek(Punctuator::Comma)))
 }
 

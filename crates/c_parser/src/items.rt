@@ -24,10 +24,10 @@ fn function(
     specifiers: List<Specifier>,
     declarator: Boxed<Declarator>,
     d: u32,
-    open: At,
+    left: At,
     tokens: &mut Cursor,
 ) -> Result<(Item, u32), Failure>
-    ensures { Reads item_of result tokens.new (body_in types.now inside (specifiers_of (map specifier_of specifiers)) (declarator_of declarator) d open tokens.old) }
+    ensures { Reads item_of result tokens.new (body_in types.now inside (specifiers_of (map specifier_of specifiers)) (declarator_of declarator) d left tokens.old) }
 {
     if inside == 0 {
         return Err(tokens.stop());
@@ -38,7 +38,7 @@ fn function(
     let whole = Function {
         specifiers,
         declarator: declarator.into_inner(),
-        open,
+        open: left,
         body,
         close,
     };
@@ -82,12 +82,16 @@ fn declared(
     let (declarator, e) = named(alloc, types, inside, tokens)?;
     let d = d.max(e);
     match tokens.accept(Punctuator::OpenBrace) {
-        Some(open) => {
-            let (whole, d) = function(alloc, types, inside, specifiers, declarator, d, open, tokens)?;
+        Some(left) => {
+            let (whole, d) = function(
+                alloc, types, inside, specifiers, declarator, d, left, tokens,
+            )?;
             Ok((whole, d))
         }
         None => {
-            let (whole, d) = rest_of_declaration(alloc, types, inside, specifiers, declarator, d, tokens)?;
+            let (whole, d) = rest_of_declaration(
+                alloc, types, inside, specifiers, declarator, d, tokens,
+            )?;
             Ok((whole, d))
         }
     }

@@ -79,7 +79,7 @@ fn items_of(alloc: Global, tokens: &mut Cursor) -> Result<List<Item>, Failure>
     let mut types = Typenames::new(alloc);
     let mut all = List::new(alloc);
     let mut rounds = tokens.len();
-    while !tokens.is_empty() {
+    'items: while !tokens.is_empty() {
         if rounds == 0 {
             return Err(tokens.stop());
         }

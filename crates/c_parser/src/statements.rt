@@ -185,21 +185,44 @@ fn statement(
     let Some(kind) = tokens.front() else {
         return Err(tokens.stop());
     };
-    let opening = opening_of(kind);
-    if let Opening::Expression = opening {
-        return expression_statement(alloc, types, inside, tokens);
-    }
-    let mark = tokens.advance();
-    match opening {
-        Opening::If => selection(alloc, types, inside, mark, tokens),
-        Opening::While => while_loop(alloc, types, inside, mark, tokens),
-        Opening::Do => do_loop(alloc, types, inside, mark, tokens),
-        Opening::For => for_loop(alloc, types, inside, mark, tokens),
-        Opening::Switch => switch(alloc, types, inside, mark, tokens),
-        Opening::Break => break_statement(mark, tokens),
-        Opening::Continue => continue_statement(mark, tokens),
-        Opening::Return => return_statement(alloc, types, inside, mark, tokens),
-        Opening::Block | Opening::Expression => block_statement(alloc, types, inside, mark, tokens),
+    match opening_of(kind) {
+        Opening::If => {
+            let mark = tokens.advance();
+            selection(alloc, types, inside, mark, tokens)
+        }
+        Opening::While => {
+            let mark = tokens.advance();
+            while_loop(alloc, types, inside, mark, tokens)
+        }
+        Opening::Do => {
+            let mark = tokens.advance();
+            do_loop(alloc, types, inside, mark, tokens)
+        }
+        Opening::For => {
+            let mark = tokens.advance();
+            for_loop(alloc, types, inside, mark, tokens)
+        }
+        Opening::Switch => {
+            let mark = tokens.advance();
+            switch(alloc, types, inside, mark, tokens)
+        }
+        Opening::Break => {
+            let mark = tokens.advance();
+            break_statement(mark, tokens)
+        }
+        Opening::Continue => {
+            let mark = tokens.advance();
+            continue_statement(mark, tokens)
+        }
+        Opening::Return => {
+            let mark = tokens.advance();
+            return_statement(alloc, types, inside, mark, tokens)
+        }
+        Opening::Block => {
+            let mark = tokens.advance();
+            block_statement(alloc, types, inside, mark, tokens)
+        }
+        Opening::Expression => expression_statement(alloc, types, inside, tokens),
     }
 }
 

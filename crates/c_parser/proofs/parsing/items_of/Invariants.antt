@@ -4,8 +4,8 @@ use Rattle.c_grammar.specs.StatementReading.{items_in}
 use Rattle.c_parser.proofs.ItemRounds.{with_front}
 use Rattle.c_parser.proofs.parsing.items_of.Given as goal
 
-abbrev pub invariant-loop : goal.invariant-loop
-invariant-loop l = with_front (map item_of l.all) (items_in 399 l.rounds l.types l.tokens) ≡ items_in 399 (length l.fn.tokens) [] l.fn.tokens
+abbrev pub invariant-items : goal.invariant-items
+invariant-items l = with_front (map item_of l.all) (items_in 399 l.rounds l.types l.tokens) ≡ items_in 399 (length l.fn.tokens) [] l.fn.tokens
 
-abbrev pub decreases-loop : goal.decreases-loop
-decreases-loop l = l.rounds
+abbrev pub decreases-items : goal.decreases-items
+decreases-items l = l.rounds
