@@ -104,6 +104,11 @@ class Proof:
         self.log.seek(0)
         return self.log.read()
 
+    def last_lines(self):
+        """The end of the log, without what says that something is proved or loaded."""
+        lines = [line for line in self.text().splitlines() if not re.search(r": proved$|^checked |^so far: |: modules loaded=", line)]
+        return "\n".join(lines[-SHOWN_LINES:])
+
     def progress(self):
         counts = re.findall(r"(\d+) of (\d+)", self.text())
         return f"{self.crate} ({counts[-1][0]} of {counts[-1][1]} functions)" if counts else self.crate
@@ -195,7 +200,7 @@ def build(crate, say):
         work.stop()
     if failed is not None:
         say(f"the crate {failed.crate} is not proved; nothing was built. Its log ends so:")
-        print("\n".join(failed.text().splitlines()[-SHOWN_LINES:]), file=sys.stderr)
+        print(failed.last_lines(), file=sys.stderr)
         return False
     linked, text = link(crate)
     if not linked:
