@@ -3,9 +3,8 @@ use Rattle.std.specs.Prelude.{◌≡◌, ℕ, ◌+◌, ◌<◌, ◌≤◌, List,
 use Rattle.lay_base.specs.Known.{Contents, IfKnown, Appends, FilesKeep}
 use Rattle.rv_isa.specs.declared.image.Image.{Image}
 use Rattle.rv_isa.specs.Memory.{bytes_at}
-use Rattle.rv_isa.specs.Step.{State, Standing, Running, register}
+use Rattle.rv_isa.specs.Step.{State, Standing, Running, register, IsAtCall}
 use Rattle.rv_isa.specs.Run.{start, state_after, machine_run}
-use Rattle.rv_machine.specs.Turns.{IsAtCall}
 use Rattle.elf32.specs.Loaded.{loaded}
 use Rattle.lay_commands.specs.Outside.{Outside}
 

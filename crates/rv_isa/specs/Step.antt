@@ -1,5 +1,5 @@
 -- One step of the machine (RISC-V unprivileged specification, chapters on RV32I and M).
-use Rattle.std.specs.Prelude.{ℕ, ◌+◌, ◌*◌, ◌/◌, ◌%◌, ◌^◌, min, nat_lt, ◌==◌, ◌&&◌, Bool, not, if◌then◌else◌, List, ◌++◌, take, drop, length, slice_index, slice_set, Option, Some, None, ℤ, bit_and, bit_or, bit_xor}
+use Rattle.std.specs.Prelude.{◌≡◌, ℕ, ◌+◌, ◌*◌, ◌/◌, ◌%◌, ◌^◌, min, nat_lt, ◌==◌, ◌&&◌, Bool, not, if◌then◌else◌, List, ◌++◌, take, drop, length, slice_index, slice_set, Option, Some, None, ℤ, bit_and, bit_or, bit_xor}
 use Rattle.std.specs.Int.{w8, w16, cast_signed}
 use Rattle.lay_base.specs.declared.faults.TrapKind.{TrapKind}
 use Rattle.lay_base.specs.declared.faults.TrapKind.TheVariants.{Unmapped, Illegal, Jump, Misaligned, Call}
@@ -155,3 +155,8 @@ performed segments s (Some i) = executed segments s i
 unfoldable pub step : List Segment → State → Stepped
 step segments s =
     if are_mapped segments executable s.pc 4 then performed segments s (decoded (word_at s.memory s.pc)) else traps s Unmapped
+
+-- the state is before a call of the environment with this number
+pub record IsAtCall (number : ℕ) (s : State) : Type 0 where
+  pub instruction : decoded (word_at s.memory s.pc) ≡ Some Ecall
+  pub in_a7 : register s 17 ≡ number

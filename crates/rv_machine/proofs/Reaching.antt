@@ -1,4 +1,4 @@
--- How far a run of the machine has come, turn by turn.
+-- How far a run of the machine has come, step by step.
 use Rattle.std.proofs.Common.{◌≡◌, ℕ, suc, ◌+◌, ◌<◌, ◌≤◌, true, List, [], ◌++◌, Option, Some, None, refl, sym, ap, ◌∙◌, arith, append_assoc, append-nil}
 use Rattle.std.specs.Prelude.{option_map, ◌⊎◌}
 use Rattle.std.proofs.Common.{inl, inr}
@@ -9,10 +9,10 @@ use Rattle.rv_isa.specs.Step.{State, Standing, Running, Stepped, Goes, Ends, ste
 use Rattle.rv_isa.specs.Run.{Shown, shown, run, state_after}
 use Rattle.rv_isa.proofs.Runs.{run_goes, run_ends, state_after_goes, state_after_ends}
 use Rattle.rv_machine.specs.Stepping.{with_streams}
-use Rattle.rv_machine.specs.Turns.{Streams, Moves, goes}
+use Rattle.rv_machine.specs.Advances.{Streams, Moves, goes}
 use Rattle.rv_machine.specs.Runs.{shows}
 
--- after i turns the machine is in this state, for known input
+-- after i steps the machine is in this state, for known input
 pub record Reached (places : List Segment) (first : State) (before now : Streams) (input : List ℕ) (i : ℕ) (s : State) : Type 0 where
   pub output : List ℕ
   pub rest : List ℕ
@@ -38,7 +38,7 @@ appends_more : (a b c : Option (List ℕ)) (x y : List ℕ) → Appends a b x �
 appends_more None b c x y e f = f ∙ ap (option_map (λ bytes. bytes ++ y)) e
 appends_more (Some a) b c x y e f = f ∙ ap (option_map (λ bytes. bytes ++ y)) e ∙ ap Some (append_assoc a x y)
 
--- no turn
+-- no step
 pub reached_none : (places : List Segment) (first : State) (before : Streams) (input : List ℕ) → before.left ≡ Some input → Reached places first before before input 0 first
 reached_none places first before input known = record {
   output = [];
@@ -50,7 +50,7 @@ reached_none places first before input known = record {
   running = λ k le. ap (λ (n : ℕ). (run places n (with_streams input [] first)).standing) (let e : k ≡ 0 = omega arith in e) ∙ ap (λ (x : Shown). x.standing) (run_zero places (with_streams input [] first));
 }
 
--- one turn more
+-- one step more
 pub reached_more : (places : List Segment) (first : State) (before now next : Streams) (input : List ℕ) (i : ℕ) (s t : State) → Reached places first before now input i s → ((rest : List ℕ) → now.left ≡ Some rest → Moves (step places) s t now next rest)
     → Reached places first before next input (i + 1) t
 reached_more places first before now next input i s t r moves =

@@ -2,7 +2,7 @@
 use Rattle.std.specs.Prelude.{◌≡◌, ℕ, ◌+◌, ◌<◌, ◌≤◌, List, [], map, Some, None}
 use Rattle.lay_base.specs.Known.{Rose, Appends}
 use Rattle.rv_isa.specs.declared.image.Image.{Image}
-use Rattle.rv_isa.specs.Step.{State, Standing, Running, Exits, Trap, Break}
+use Rattle.rv_isa.specs.Step.{State, Standing, Running, Exits, Trap, Break, IsAtCall}
 use Rattle.rv_isa.specs.Run.{Shown, start, run, state_after, machine_run}
 use Rattle.rv_machine.specs.declared.machine.Machine.{Machine}
 use Rattle.rv_machine.specs.declared.machine.MachineEnd.{MachineEnd}
@@ -11,7 +11,7 @@ use Rattle.rv_machine.specs.declared.hart.Hart.{Hart}
 use Rattle.rv_machine.specs.View.{bare}
 use Rattle.rv_machine.specs.Stepping.{with_streams}
 use Rattle.rv_machine.specs.Harts.{places_of, state_of}
-use Rattle.rv_machine.specs.Turns.{Streams, AreSteady, IsAtCall, ReadsPart, WritesPart}
+use Rattle.rv_machine.specs.Advances.{Streams, AreSteady, ReadsPart, WritesPart}
 
 -- ---- what a machine runs
 

@@ -96,11 +96,13 @@ module _ (p : Program) (heap stack : ℕ) (small : All (λ t. punctuators t ≤ 
     loads = loads;
     heap_room = record { segment = room_segment heap_address heap; among = (3, omega arith, refl); is_at = refl; size = refl };
     stack_room = record { segment = room_segment stack_address stack; among = (2, omega arith, refl); is_at = refl; size = refl };
-    ends = λ input n output st rest e light. ends input n output st rest e;
-    goes_on = λ input n output rest e light. goes_on input n output rest e;
-    nothing_else = λ input defined light.
-        let E = machine_ends input in
-        shows_only (image_of p heap stack).segments (start (image_of p heap stack) input) (thin_run p) input 1 E.0 (status p) (printed p) input E.1 refl;
+    each_input = λ input bytes. record {
+      ends = λ n output st rest e light. ends input n output st rest e;
+      goes_on = λ n output rest e light. goes_on input n output rest e;
+      nothing_else = λ defined light.
+          let E = machine_ends input in
+          shows_only (image_of p heap stack).segments (start (image_of p heap stack) input) (thin_run p) input 1 E.0 (status p) (printed p) input E.1 refl;
+    };
   }
 
   -- the image has its entry and four segments at their places

@@ -193,7 +193,8 @@ fn punctuators_before_semicolon(tokens: &[ThinToken]) -> usize
     'tokens: for token in tokens {
         match token {
             ThinToken::Semicolon => return punctuators,
-            ThinToken::Plus | ThinToken::Minus | ThinToken::Star | ThinToken::Open => punctuators += 1,
+            ThinToken::Plus | ThinToken::Minus | ThinToken::Star | ThinToken::Open => punctuators +=
+                1,
             _ => {}
         }
     }

@@ -1,15 +1,13 @@
 -- What a step of the machine's code does to the machine and to the two streams.
 use Rattle.std.specs.Prelude.{◌≡◌, ℕ, ◌<◌, List, ◌++◌, length, take, Bool, true, false, Option, Some}
 use Rattle.lay_base.specs.Known.{Rose, Keeps, Appends, Consumes}
-use Rattle.rv_isa.specs.declared.instruction.Inst.TheVariants.{Ecall}
-use Rattle.rv_isa.specs.Decoding.{decoded}
-use Rattle.rv_isa.specs.Memory.{word_at, bytes_at}
-use Rattle.rv_isa.specs.Step.{State, Stepped, Standing, Exits, Trap, Break, Goes, Ends, register}
-use Rattle.rv_machine.specs.declared.machine.Turn.{Turn}
-use Rattle.rv_machine.specs.declared.machine.Turn.TheVariants as T
+use Rattle.rv_isa.specs.Memory.{bytes_at}
+use Rattle.rv_isa.specs.Step.{State, Stepped, Standing, Exits, Trap, Break, Goes, Ends, register, IsAtCall}
+use Rattle.rv_machine.specs.declared.machine.Advance.{Advance}
+use Rattle.rv_machine.specs.declared.machine.Advance.TheVariants as A
 use Rattle.rv_machine.specs.Stepping.{with_streams}
 
--- what is seen of the input and of the output
+-- what can be observed of the input and of the output
 pub record Streams : Type 0 where
   pub left : Option (List ℕ)
   pub read_faults : ℕ
@@ -23,11 +21,6 @@ streams left read_faults written write_faults = record { left = left; read_fault
 pub record AreSteady (before now : Streams) : Type 0 where
   pub read_faults : now.read_faults ≡ before.read_faults
   pub write_faults : now.write_faults ≡ before.write_faults
-
--- the state is before a call of the environment with this number
-pub record IsAtCall (number : ℕ) (s : State) : Type 0 where
-  pub instruction : decoded (word_at s.memory s.pc) ≡ Some Ecall
-  pub in_a7 : register s 17 ≡ number
 
 -- registers and program counter stay
 pub record SameButMemory (old new : State) : Type 0 where
@@ -61,10 +54,12 @@ abbrev pub Stops : (does : State → Stepped) → (old new : State) → (before 
 Stops does old new before now standing = (now ≡ before) × (new ≡ old) × ((input output : List ℕ) → does (with_streams input output old) ≡ Ends standing)
 
 -- what is done, by the answer of the code
-abbrev pub TurnGives : (does : State → Stepped) → (old new : State) → (before now : Streams) → Turn → Type 0
-TurnGives does old new before now T.Goes = AreSteady before now × ((input : List ℕ) → before.left ≡ Some input → Moves does old new before now input)
-TurnGives does old new before now (T.Exits status) = Stops does old new before now (Exits status)
-TurnGives does old new before now (T.Traps kind) = Stops does old new before now (Trap kind old.pc)
-TurnGives does old new before now T.Breaks = Stops does old new before now (Break old.pc)
-TurnGives does old new before now T.ReadFails = Rose before.read_faults now.read_faults × SameButMemory old new × IsAtCall 63 old × GoesOn does old × ReadsPart old before now
-TurnGives does old new before now T.WriteFails = Rose before.write_faults now.write_faults × SameButMemory old new × IsAtCall 64 old × GoesOn does old × WritesPart old before now
+abbrev pub AdvanceGives : (does : State → Stepped) → (old new : State) → (before now : Streams) → Advance → Type 0
+AdvanceGives does old new before now A.Goes = AreSteady before now × ((input : List ℕ) → before.left ≡ Some input → Moves does old new before now input)
+AdvanceGives does old new before now (A.Exits status) = Stops does old new before now (Exits status)
+AdvanceGives does old new before now (A.Traps kind) = Stops does old new before now (Trap kind old.pc)
+AdvanceGives does old new before now A.Breaks = Stops does old new before now (Break old.pc)
+AdvanceGives does old new before now A.ReadFails =
+    Rose before.read_faults now.read_faults × SameButMemory old new × IsAtCall 63 old × GoesOn does old × ReadsPart old before now
+AdvanceGives does old new before now A.WriteFails =
+    Rose before.write_faults now.write_faults × SameButMemory old new × IsAtCall 64 old × GoesOn does old × WritesPart old before now
