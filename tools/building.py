@@ -95,6 +95,7 @@ class Proof:
 
     def __init__(self, crate, words):
         self.crate = crate
+        self.began = time.monotonic()
         self.log = tempfile.TemporaryFile("w+", errors="replace")
         self.process = subprocess.Popen(
             words, cwd=folder_of(crate), stdin=subprocess.DEVNULL, stdout=self.log, stderr=subprocess.STDOUT, start_new_session=True
@@ -110,8 +111,7 @@ class Proof:
         return "\n".join(lines[-SHOWN_LINES:])
 
     def progress(self):
-        counts = re.findall(r"(\d+) of (\d+)", self.text())
-        return f"{self.crate} ({counts[-1][0]} of {counts[-1][1]} functions)" if counts else self.crate
+        return f"{self.crate} (for {minutes(self.began)})"
 
     def stop(self):
         if self.process.poll() is None:
