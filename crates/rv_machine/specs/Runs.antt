@@ -68,7 +68,8 @@ pub record Left (run : ProgramRun) (before now : Streams) (input : List ℕ) (st
   pub left : now.left ≡ Some rest
 
 -- the program was at a call with this number, with which it would have gone on, and of which a part was done
-pub record Stopped (run : ProgramRun) (before now : Streams) (input : List ℕ) (number : ℕ) (Part : State → (before now : Streams) → Type 0) (machine : Observation) : Type 0 where
+pub record Stopped (run : ProgramRun) (before now : Streams) (input : List ℕ)
+    (number : ℕ) (Part : State → (before now : Streams) → Type 0) (machine : Observation) : Type 0 where
   pub output : List ℕ
   pub rest : List ℕ
   pub came : Came run input Running output rest machine
@@ -89,9 +90,11 @@ abbrev pub RunGives : ProgramRun → (limit : ℕ) → (before now : Streams) �
 RunGives run limit before now machine (E.StepLimit n) =
     (n ≡ limit) × (machine.steps ≡ limit) × AreSteady before now × ((input : List ℕ) → before.left ≡ Some input → Left run before now input Running machine)
 RunGives run limit before now machine E.ReadFault =
-    Rose before.read_faults now.read_faults × (machine.steps < limit) × ((input : List ℕ) → before.left ≡ Some input → Stopped run before now input 63 ReadsPart machine)
+    Rose before.read_faults now.read_faults × (machine.steps < limit)
+    × ((input : List ℕ) → before.left ≡ Some input → Stopped run before now input 63 ReadsPart machine)
 RunGives run limit before now machine E.WriteFault =
-    Rose before.write_faults now.write_faults × (machine.steps < limit) × ((input : List ℕ) → before.left ≡ Some input → Stopped run before now input 64 WritesPart machine)
+    Rose before.write_faults now.write_faults × (machine.steps < limit)
+    × ((input : List ℕ) → before.left ≡ Some input → Stopped run before now input 64 WritesPart machine)
 RunGives run limit before now machine (E.Exits status) = Comes run limit before now machine (Exits status)
 RunGives run limit before now machine (E.Trap kind pc) = Comes run limit before now machine (Trap kind pc)
 RunGives run limit before now machine (E.Break pc) = Comes run limit before now machine (Break pc)
