@@ -120,7 +120,8 @@ unfolding events step are_mapped decoded
 the_runtime_makes_no_request = refl
 
 -- the request is the whole product
-calloc_asks_for_the_product : events segments 1 (record at_start { registers = replicate 10 0 ++ (0x10000 ∷ 0x10001 ∷ replicate 20 0); pc = 0x11028 }) ≡ Request 0x100010000 ∷ []
+calloc_asks_for_the_product : events segments 1 (record at_start { registers = replicate 10 0 ++ (0x10000 ∷ 0x10001 ∷ replicate 20 0); pc = 0x11028 })
+    ≡ Request 0x100010000 ∷ []
 unfolding events step are_mapped decoded
 calloc_asks_for_the_product = refl
 

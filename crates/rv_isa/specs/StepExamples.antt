@@ -92,7 +92,8 @@ stores =
     (Sw 1 2 (negsuc 3), 0x20004, 0x78 ∷ 0x56 ∷ 0x34 ∷ 0x12 ∷ 0xFE ∷ 0xCA ∷ []) ∷
     []
 
-store_steps : map (λ row. after (executed segments (with_values row.1 0x12345678) row.0)) stores ≡ map (λ row. Some ((with_values row.1 0x12345678).registers, 0x10004, row.2)) stores
+store_steps : map (λ row. after (executed segments (with_values row.1 0x12345678) row.0)) stores
+    ≡ map (λ row. Some ((with_values row.1 0x12345678).registers, 0x10004, row.2)) stores
 unfolding are_mapped bytes_at
 store_steps = refl
 
@@ -160,12 +161,14 @@ unfolding are_mapped bytes_at
 write_of_nothing = refl
 
 -- at most two bytes of three
-read_leaves_the_rest : served (executed segments (before_call 63 0 0x20002 2 (0x11 ∷ 0x22 ∷ 0x33 ∷ [])) Ecall) ≡ Some (2, 0x00 ∷ 0x80 ∷ 0x11 ∷ 0x22 ∷ 0xFE ∷ 0xCA ∷ [], 0x2A ∷ [], 0x33 ∷ [])
+read_leaves_the_rest : served (executed segments (before_call 63 0 0x20002 2 (0x11 ∷ 0x22 ∷ 0x33 ∷ [])) Ecall)
+    ≡ Some (2, 0x00 ∷ 0x80 ∷ 0x11 ∷ 0x22 ∷ 0xFE ∷ 0xCA ∷ [], 0x2A ∷ [], 0x33 ∷ [])
 unfolding are_mapped bytes_at
 read_leaves_the_rest = refl
 
 -- at most four bytes, of which two are left
-read_takes_what_is_left : served (executed segments (before_call 63 0 0x20002 4 (0x11 ∷ 0x22 ∷ [])) Ecall) ≡ Some (2, 0x00 ∷ 0x80 ∷ 0x11 ∷ 0x22 ∷ 0xFE ∷ 0xCA ∷ [], 0x2A ∷ [], [])
+read_takes_what_is_left : served (executed segments (before_call 63 0 0x20002 4 (0x11 ∷ 0x22 ∷ [])) Ecall)
+    ≡ Some (2, 0x00 ∷ 0x80 ∷ 0x11 ∷ 0x22 ∷ 0xFE ∷ 0xCA ∷ [], 0x2A ∷ [], [])
 unfolding are_mapped bytes_at
 read_takes_what_is_left = refl
 
@@ -216,7 +219,8 @@ trapping_calls =
     (63, 0, 0x10000, 1, Unmapped) ∷
     []
 
-call_traps : map (λ row. executed segments (before_call row.0 row.1 row.2 row.3 (7 ∷ [])) Ecall) trapping_calls ≡ map (λ row. Ends (Trap row.4 0x10000)) trapping_calls
+call_traps : map (λ row. executed segments (before_call row.0 row.1 row.2 row.3 (7 ∷ [])) Ecall) trapping_calls
+    ≡ map (λ row. Ends (Trap row.4 0x10000)) trapping_calls
 unfolding are_mapped
 call_traps = refl
 

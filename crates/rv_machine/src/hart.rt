@@ -2,7 +2,7 @@
 
 ghost use Rattle.std.specs.Prelude.{◌≡◌, ◌<◌, slice_index};
 
-use crate::arithmetic::{extended_byte, extended_half, plus};
+use crate::arithmetic::{extended_byte, extended_half, plus, quotient};
 use crate::memory::Memory;
 use lay_base::TrapKind;
 
@@ -250,5 +250,18 @@ impl Hart {
         } else {
             Moved::Traps(TrapKind::Unmapped)
         }
+    }
+
+    /// The quotient of two registers, of which none traps (DIV).
+    #[inline(always)]
+    pub(crate) fn divide(&mut self, rd: u8, rs1: u8, rs2: u8) -> Moved
+        requires rd { rd < 32 }
+        requires rs1 { rs1 < 32 }
+        requires rs2 { rs2 < 32 }
+        ensures places { places_of self.new ≡ places_of self.old }
+        ensures moved { Executes (state_of self.old) (state_of self.new) (executed (places_of self.old) (state_of self.old) (I.Div rd rs1 rs2)) result }
+    {
+        let divisor = self.register(rs2);
+        self.write(rd, quotient(self.register(rs1), divisor))
     }
 }

@@ -24,12 +24,14 @@ taken_shorter n tokens y p = let e : length tokens ≡ length (spelled_sum y.0 y
 after_shorter : (first : ThinToken) (tokens rest more : List ThinToken) → tokens ≡ first ∷ rest → length more < length rest → length more < length tokens
 after_shorter first tokens rest more e h = let f : length tokens ≡ length (first ∷ rest) = ap length e in omega arith
 
-factor_shorter : (depth : ℕ) (tokens : List ThinToken) (b : Term × List ThinToken) → factor_in (sum_at depth) tokens ≡ Some (Some b) → length b.1 < length tokens
+factor_shorter : (depth : ℕ) (tokens : List ThinToken) (b : Term × List ThinToken) → factor_in (sum_at depth) tokens ≡ Some (Some b)
+    → length b.1 < length tokens
 factor_shorter depth tokens b h =
     let p = factor_takes (sum_at depth) (sum_taken depth) tokens b h in
     after_shorter Star tokens p.0 b.1 p.1 (taken_shorter 2 p.0 b p.2)
 
-summand_shorter : (depth : ℕ) (tokens : List ThinToken) (b : (Sign × Term) × List ThinToken) → summand_in (sum_at depth) tokens ≡ Some (Some b) → length b.1 < length tokens
+summand_shorter : (depth : ℕ) (tokens : List ThinToken) (b : (Sign × Term) × List ThinToken) → summand_in (sum_at depth) tokens ≡ Some (Some b)
+    → length b.1 < length tokens
 summand_shorter depth tokens b h =
     let p = summand_takes (sum_at depth) (sum_taken depth) tokens b h in
     after_shorter _ tokens p.0 b.1 p.1 (taken_shorter 1 p.0 (b.0.1, b.1) p.2)
@@ -39,9 +41,10 @@ put_shorter tokens b h =
     let e = ap length ((put_taken tokens b h).0) in
     omega (arith, e, longer b.0 (Close ∷ Semicolon ∷ b.1))
 
--- ---- turns
+-- ---- one round and the next
 
-module _ {A S : Type 0} (more : OptionalReader A) (join : S → A → S) (at_end : more [] ≡ Some None) (shorter : (tokens : List ThinToken) (b : A × List ThinToken) → more tokens ≡ Some (Some b) → length b.1 < length tokens) where
+module _ {A S : Type 0} (more : OptionalReader A) (join : S → A → S) (at_end : more [] ≡ Some None)
+    (shorter : (tokens : List ThinToken) (b : A × List ThinToken) → more tokens ≡ Some (Some b) → length b.1 < length tokens) where
   abbrev after : ℕ → S → List ThinToken → Option (A × List ThinToken) → Option (S × List ThinToken)
   after most x tokens next = elim next [ None ↦ Some (x, tokens) | Some b ↦ joined more join most (join x b.0) b.1 ]
 
@@ -52,7 +55,8 @@ module _ {A S : Type 0} (more : OptionalReader A) (join : S → A → S) (at_end
   enough_next (Some None) m n x tokens f = refl
   enough_next (Some (Some b)) m n x tokens f = f b refl
 
-  pub joined_enough : (m n : ℕ) (x : S) (tokens : List ThinToken) → length tokens ≤ m → length tokens ≤ n → joined more join m x tokens ≡ joined more join n x tokens
+  pub joined_enough : (m n : ℕ) (x : S) (tokens : List ThinToken) → length tokens ≤ m → length tokens ≤ n
+      → joined more join m x tokens ≡ joined more join n x tokens
   unfolding joined
   joined_enough zero zero x tokens h i = refl
   joined_enough zero (suc n) x [] h i = rw at_end refl
@@ -62,12 +66,14 @@ module _ {A S : Type 0} (more : OptionalReader A) (join : S → A → S) (at_end
   joined_enough (suc m) (suc n) x tokens h i =
       enough_next (more tokens) m n x tokens (λ b e. let s = shorter tokens b e in joined_enough m n (join x b.0) b.1 (omega arith) (omega arith))
 
-  once : (most : ℕ) (x : S) (tokens : List ThinToken) (b : A) (rest : List ThinToken) → more tokens ≡ Some (Some (b, rest)) → joined more join (suc most) x tokens ≡ joined more join most (join x b) rest
+  once : (most : ℕ) (x : S) (tokens : List ThinToken) (b : A) (rest : List ThinToken) → more tokens ≡ Some (Some (b, rest))
+      → joined more join (suc most) x tokens ≡ joined more join most (join x b) rest
   unfolding joined
   once most x tokens b rest e = rw e refl
 
-  -- where one stands here, one more turn
-  pub joined_more : (x : S) (tokens : List ThinToken) (b : A) (rest : List ThinToken) → more tokens ≡ Some (Some (b, rest)) → joined more join (length tokens) x tokens ≡ joined more join (length rest) (join x b) rest
+  -- where one stands here, one more round
+  pub joined_more : (x : S) (tokens : List ThinToken) (b : A) (rest : List ThinToken) → more tokens ≡ Some (Some (b, rest))
+      → joined more join (length tokens) x tokens ≡ joined more join (length rest) (join x b) rest
   joined_more x tokens b rest e =
       let s = shorter tokens (b, rest) e in
       joined_enough (length tokens) (suc (length tokens)) x tokens (omega arith) (omega arith)
@@ -98,13 +104,16 @@ pub factors_more : (depth : ℕ) (a : Term) (tokens : List ThinToken) (b : Term)
     → joined (factor_in (sum_at depth)) mul (length tokens) a tokens ≡ joined (factor_in (sum_at depth)) mul (length rest) (mul a b) rest
 factors_more depth a tokens b rest e = joined_more (factor_in (sum_at depth)) mul (factor_at_end depth) (factor_shorter depth) a tokens b rest e
 
-pub factors_end : (depth : ℕ) (a : Term) (tokens : List ThinToken) → factor_in (sum_at depth) tokens ≡ Some None → joined (factor_in (sum_at depth)) mul (length tokens) a tokens ≡ Some (a, tokens)
+pub factors_end : (depth : ℕ) (a : Term) (tokens : List ThinToken) → factor_in (sum_at depth) tokens ≡ Some None
+    → joined (factor_in (sum_at depth)) mul (length tokens) a tokens ≡ Some (a, tokens)
 factors_end depth a tokens e = joined_end (factor_in (sum_at depth)) mul (factor_at_end depth) (factor_shorter depth) a tokens e
 
-pub factors_fail : (depth : ℕ) (a : Term) (tokens : List ThinToken) → factor_in (sum_at depth) tokens ≡ None → joined (factor_in (sum_at depth)) mul (length tokens) a tokens ≡ None
+pub factors_fail : (depth : ℕ) (a : Term) (tokens : List ThinToken) → factor_in (sum_at depth) tokens ≡ None
+    → joined (factor_in (sum_at depth)) mul (length tokens) a tokens ≡ None
 factors_fail depth a tokens e = joined_fails (factor_in (sum_at depth)) mul (factor_at_end depth) (factor_shorter depth) a tokens e
 
-pub factors_shorter : (depth : ℕ) (tokens : List ThinToken) (b : Term) (rest : List ThinToken) → factor_in (sum_at depth) tokens ≡ Some (Some (b, rest)) → length rest < length tokens
+pub factors_shorter : (depth : ℕ) (tokens : List ThinToken) (b : Term) (rest : List ThinToken)
+    → factor_in (sum_at depth) tokens ≡ Some (Some (b, rest)) → length rest < length tokens
 factors_shorter depth tokens b rest e = factor_shorter depth tokens (b, rest) e
 
 pub ruleset factors = (factors_more, factors_end, factors_fail, factors_shorter)
@@ -113,17 +122,23 @@ summand_at_end : (depth : ℕ) → summand_in (sum_at depth) [] ≡ Some None
 unfolding summand_in
 summand_at_end depth = refl
 
-pub summands_more : (depth : ℕ) (a : Term) (tokens : List ThinToken) (sign : Sign) (b : Term) (rest : List ThinToken) → summand_in (sum_at depth) tokens ≡ Some (Some ((sign, b), rest))
-    → joined (summand_in (sum_at depth)) plus_or_minus (length tokens) a tokens ≡ joined (summand_in (sum_at depth)) plus_or_minus (length rest) (plus_or_minus a (sign, b)) rest
-summands_more depth a tokens sign b rest e = joined_more (summand_in (sum_at depth)) plus_or_minus (summand_at_end depth) (summand_shorter depth) a tokens (sign, b) rest e
+pub summands_more : (depth : ℕ) (a : Term) (tokens : List ThinToken) (sign : Sign) (b : Term) (rest : List ThinToken)
+    → summand_in (sum_at depth) tokens ≡ Some (Some ((sign, b), rest))
+    → joined (summand_in (sum_at depth)) plus_or_minus (length tokens) a tokens
+    ≡ joined (summand_in (sum_at depth)) plus_or_minus (length rest) (plus_or_minus a (sign, b)) rest
+summands_more depth a tokens sign b rest e =
+    joined_more (summand_in (sum_at depth)) plus_or_minus (summand_at_end depth) (summand_shorter depth) a tokens (sign, b) rest e
 
-pub summands_end : (depth : ℕ) (a : Term) (tokens : List ThinToken) → summand_in (sum_at depth) tokens ≡ Some None → joined (summand_in (sum_at depth)) plus_or_minus (length tokens) a tokens ≡ Some (a, tokens)
+pub summands_end : (depth : ℕ) (a : Term) (tokens : List ThinToken) → summand_in (sum_at depth) tokens ≡ Some None
+    → joined (summand_in (sum_at depth)) plus_or_minus (length tokens) a tokens ≡ Some (a, tokens)
 summands_end depth a tokens e = joined_end (summand_in (sum_at depth)) plus_or_minus (summand_at_end depth) (summand_shorter depth) a tokens e
 
-pub summands_fail : (depth : ℕ) (a : Term) (tokens : List ThinToken) → summand_in (sum_at depth) tokens ≡ None → joined (summand_in (sum_at depth)) plus_or_minus (length tokens) a tokens ≡ None
+pub summands_fail : (depth : ℕ) (a : Term) (tokens : List ThinToken) → summand_in (sum_at depth) tokens ≡ None
+    → joined (summand_in (sum_at depth)) plus_or_minus (length tokens) a tokens ≡ None
 summands_fail depth a tokens e = joined_fails (summand_in (sum_at depth)) plus_or_minus (summand_at_end depth) (summand_shorter depth) a tokens e
 
-pub summands_shorter : (depth : ℕ) (tokens : List ThinToken) (sign : Sign) (b : Term) (rest : List ThinToken) → summand_in (sum_at depth) tokens ≡ Some (Some ((sign, b), rest)) → length rest < length tokens
+pub summands_shorter : (depth : ℕ) (tokens : List ThinToken) (sign : Sign) (b : Term) (rest : List ThinToken)
+    → summand_in (sum_at depth) tokens ≡ Some (Some ((sign, b), rest)) → length rest < length tokens
 summands_shorter depth tokens sign b rest e = summand_shorter depth tokens ((sign, b), rest) e
 
 pub ruleset summands = (summands_more, summands_end, summands_fail, summands_shorter)
@@ -136,7 +151,8 @@ pub puts_more : (done : List Term) (tokens : List ThinToken) (a : Term) (rest : 
     → joined put_in with_argument (length tokens) done tokens ≡ joined put_in with_argument (length rest) (done ++ a ∷ []) rest
 puts_more done tokens a rest e = joined_more put_in with_argument put_at_end put_shorter done tokens a rest e
 
-pub puts_end : (done : List Term) (tokens : List ThinToken) → put_in tokens ≡ Some None → joined put_in with_argument (length tokens) done tokens ≡ Some (done, tokens)
+pub puts_end : (done : List Term) (tokens : List ThinToken) → put_in tokens ≡ Some None
+    → joined put_in with_argument (length tokens) done tokens ≡ Some (done, tokens)
 puts_end done tokens e = joined_end put_in with_argument put_at_end put_shorter done tokens e
 
 pub puts_fail : (done : List Term) (tokens : List ThinToken) → put_in tokens ≡ None → joined put_in with_argument (length tokens) done tokens ≡ None
