@@ -34,7 +34,7 @@ data_segment = record { at = 0x20000; size = 6; flags = 6; bytes = data_bytes }
 abbrev zeros : Segment
 zeros = record { at = 0x30000; size = 4; flags = 1; bytes = [] }
 
--- which may be written and nothing else
+-- zeros that may be written and nothing else
 abbrev written_only : Segment
 written_only = record { at = 0x40000; size = 4; flags = 2; bytes = [] }
 
