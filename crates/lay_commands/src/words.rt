@@ -7,21 +7,21 @@ ghost use Rattle.std.specs.Char.{is_ascii_digit};
 ghost use Rattle.lay_commands.specs.Words.{Asks, AsksFor, Compile, Run, IsFileWord, SpellsSteps};
 
 /// A request to compile `file` to an ELF file under `out`.
-#[derive(Clone, Copy, Debug)]
+#[derive(Clone, Copy)]
 pub struct CompileRequest<'a> {
     pub out: &'a str,
     pub file: &'a str,
 }
 
 /// A request to run the ELF file `elf` for at most `steps` steps.
-#[derive(Clone, Copy, Debug)]
+#[derive(Clone, Copy)]
 pub struct RunRequest<'a> {
     pub steps: u64,
     pub elf: &'a str,
 }
 
 /// What the words can ask for.
-#[derive(Clone, Copy, Debug)]
+#[derive(Clone, Copy)]
 pub enum Request<'a> {
     Compile(CompileRequest<'a>),
     Run(RunRequest<'a>),
