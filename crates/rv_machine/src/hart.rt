@@ -252,7 +252,7 @@ impl Hart {
         }
     }
 
-    /// The quotient of two registers, of which none traps (DIV).
+    /// The quotient of two registers; no divisor traps (DIV).
     #[inline(always)]
     pub(crate) fn divide(&mut self, rd: u8, rs1: u8, rs2: u8) -> Moved
         requires rd { rd < 32 }
