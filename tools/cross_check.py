@@ -338,10 +338,9 @@ def check_random_programs(folder, count, tools):
 def main():
     random.seed(SEED)
     count = int(sys.argv[1]) if len(sys.argv) > 1 else 150
-    if not shutil.which("rt") and not os.path.exists(os.path.join(HERE, "crates", "layc", "out", "layc")):
+    if checking.built("layc") is None and not shutil.which("rt"):
         print("skipped: the compiler is not built, and there is no rt to build it")
         return 0
-    subprocess.run([LAYC], stdout=subprocess.DEVNULL, stderr=subprocess.DEVNULL)
     tools = [tool for tool in [EMULATOR, OBJDUMP, READELF] if have(tool)]
     with tempfile.TemporaryDirectory() as folder:
         check_examples(folder, tools)
