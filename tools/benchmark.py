@@ -80,20 +80,20 @@ table:
 # What the assembler makes of the text: `la` is two instructions, as is the wide `li`.
 BEFORE_LOOP = 2 + 2 + 1 + 1 + 2
 EACH_TURN, ODD_TURN_MORE = 19, 3
-BEHIND_LOOP = 3
+AFTER_LOOP = 3
 
 
 def guest_instructions(turns):
     """How many instructions the loop program makes; the turns are counted down, so half of an even
     number of them are odd."""
-    return BEFORE_LOOP + EACH_TURN * turns + ODD_TURN_MORE * (turns // 2) + BEHIND_LOOP
+    return BEFORE_LOOP + EACH_TURN * turns + ODD_TURN_MORE * (turns // 2) + AFTER_LOOP
 
 
 def turns_for(instructions):
     """The least even number of turns that make so many instructions."""
     turns = 2
     each_pair = 2 * EACH_TURN + ODD_TURN_MORE
-    return max(turns, 2 * -(-(instructions - BEFORE_LOOP - BEHIND_LOOP) // each_pair))
+    return max(turns, 2 * -(-(instructions - BEFORE_LOOP - AFTER_LOOP) // each_pair))
 
 
 def loop_program(gcc, folder, millions):
@@ -152,8 +152,8 @@ def show_host_instructions(gcc, layc, folder):
         if host is None:
             print(f"{name} gives no number")
             return
-        told = "as" if confirms(layc, program, guest) else "NOT AS"
-        print(f"{guest} guest instructions, {told} --steps has it: {host} host instructions, by {name}")
+        confirmed = "as" if confirms(layc, program, guest) else "NOT AS"
+        print(f"{guest} guest instructions, {confirmed} --steps has it: {host} host instructions, by {name}")
         counts.append((guest, host))
     (guest, host), (more_guest, more_host) = counts
     each = (more_host - host) / (more_guest - guest)
@@ -164,13 +164,13 @@ def show_host_instructions(gcc, layc, folder):
 
 
 def measured(words, folder):
-    """Status, seconds and peak memory in MiB of one run. The memory is told by `time`, since a child
-    of this program would be told the memory of this program where that is more."""
-    told = os.path.join(folder, "peak")
+    """Status, seconds and peak memory in MiB of one run. The memory is what `time` reports, since
+    a child of this program would have the memory of this program where that is more."""
+    report = os.path.join(folder, "peak")
     start = time.monotonic()
-    done = run([TIME, "--quiet", "-f", "%M", "-o", told, *words])
+    done = run([TIME, "--quiet", "-f", "%M", "-o", report, *words])
     seconds = time.monotonic() - start
-    with open(told) as f:
+    with open(report) as f:
         return done.returncode, seconds, int(f.read()) / 1024
 
 

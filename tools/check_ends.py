@@ -2,6 +2,7 @@
 that ask for nothing, and faults of files and streams. What is wanted stands beside each case."""
 
 import os
+import select
 import subprocess
 
 from checking import ELF_STATUS, LIMIT_STATUS, OUTSIDE_STATUS, TRAP_STATUS, USAGE, USAGE_STATUS, check, run
@@ -39,8 +40,8 @@ def leave(status):
     return call(93, status)
 
 
-def behind(words):
-    """The address of the instruction behind these words of code."""
+def after(words):
+    """The address of the instruction after these words of code."""
     return TEXT + 4 * len(words)
 
 
@@ -157,7 +158,7 @@ ILLEGAL = {
 def check_illegal(runs):
     for what, number in ILLEGAL.items():
         runs.check(what, code_file([number]), trap("Illegal", TEXT))
-    runs.check("zeros behind the file's bytes", elf_file([Segment(TEXT, words_of(load(5, 1)), 64, READ | EXECUTE)]), trap("Illegal", TEXT + 8))
+    runs.check("zeros after the file's bytes", elf_file([Segment(TEXT, words_of(load(5, 1)), 64, READ | EXECUTE)]), trap("Illegal", TEXT + 8))
 
 
 # ---- jumps and fetches
@@ -166,8 +167,8 @@ def check_illegal(runs):
 def check_jumps(runs):
     two, three = load(5, 2), load(5, 3)
     ends = {
-        "JALR to 2": (two + [word("jalr", rs1=5)], trap("Jump", behind(two))),
-        "JALR to 3, whose bit 0 is cleared": (three + [word("jalr", rs1=5)], trap("Jump", behind(three))),
+        "JALR to 2": (two + [word("jalr", rs1=5)], trap("Jump", after(two))),
+        "JALR to 3, whose bit 0 is cleared": (three + [word("jalr", rs1=5)], trap("Jump", after(three))),
         "JALR from 3 by -2, to 0": (three + [word("jalr", rs1=5, imm=-2)], trap("Unmapped", 0)),
         "JALR to the greatest word": ([word("jalr", imm=-4)], trap("Unmapped", 0xFFFFFFFC)),
         "a branch that is taken by 6": ([word("beq", imm=6)], trap("Jump", TEXT)),
@@ -195,7 +196,7 @@ def check_fetches(runs):
         "a word that lies in two segments": (elf_file(halves), exits(21)),
         "flags above the low byte": (elf_file([Segment(TEXT, code, 64, 0x100 | EXECUTE)]), exits(21)),
         "flags with an empty low byte": (elf_file([Segment(TEXT, code, 64, 0xFFFFFF00)]), trap("Unmapped", TEXT)),
-        "the pc behind the last word": (elf_file([last], 0xFFFFFFFC), trap("Unmapped", 0)),
+        "the pc after the last word": (elf_file([last], 0xFFFFFFFC), trap("Unmapped", 0)),
     }
     for what, (data, end) in ends.items():
         runs.check(what, data, end)
@@ -204,7 +205,7 @@ def check_fetches(runs):
 def check_own_code(runs):
     """A program that writes over its own next instruction runs the new one."""
     head = load(5, word("addi", rd=10, imm=33)) + load(17, 93)
-    place = behind(head) + 4 * 3
+    place = after(head) + 4 * 3
     words = head + load(6, place) + [word("sw", rs1=6, rs2=5), word("addi", rd=10, imm=1), word("ecall")]
     segment = Segment(TEXT, words_of(words), 4 * len(words), READ | WRITE | EXECUTE)
     runs.check("code that is written over", elf_file([segment]), exits(33))
@@ -226,7 +227,7 @@ def access(name, address):
 
 
 def check_accesses(runs):
-    here = behind(load(5, 0))
+    here = after(load(5, 0))
     for name, width in WIDTHS.items():
         for address in [DATA, DATA + 64 - width]:
             runs.check(f"{name} at {address:#x}", code_file(access(name, address) + leave(3), data_segment()), exits(3))
@@ -241,7 +242,7 @@ def check_flags(runs):
     """Loads need the flag for reading, stores that for writing, each segment by itself."""
     for flags in range(8):
         for name, needed in [("lw", READ), ("sw", WRITE)]:
-            end = exits(3) if flags & needed else trap("Unmapped", behind(load(5, 0)))
+            end = exits(3) if flags & needed else trap("Unmapped", after(load(5, 0)))
             runs.check(f"{name} with flags {flags}", code_file(access(name, DATA) + leave(3), data_segment(flags=flags)), end)
 
 
@@ -253,7 +254,7 @@ def check_two_segments(runs):
     words = load(5, DATA) + load(6, 0x64636261 + 0x01010101) + [word("sw", rs1=5, rs2=6)] + write(DATA, 6) + leave(0)
     runs.check("a store to two segments", code_file(words, *parts), exits(0), b"bcdeef")
     parts[1] = parts[1]._replace(flags=READ)
-    runs.check("a store to a segment and one that may only be read", code_file(words, *parts), trap("Unmapped", behind(load(5, 0) * 2)))
+    runs.check("a store to a segment and one that may only be read", code_file(words, *parts), trap("Unmapped", after(load(5, 0) * 2)))
 
 
 # ---- the three calls
@@ -273,12 +274,12 @@ ECHO = (
 def check_other_calls(runs):
     for number in [0, 1, 62, 65, 92, 94, 214, 2**31, 2**32 - 1]:
         words = call(number, 1, DATA, 1)
-        runs.check(f"call {number}", code_file(words, data_segment()), trap("Call", behind(words) - 4))
+        runs.check(f"call {number}", code_file(words, data_segment()), trap("Call", after(words) - 4))
     for number, descriptor in [(63, 1), (63, 2), (64, 0), (64, 2), (64, 257), (63, 256), (63, 2**32 - 1)]:
         words = call(number, descriptor, DATA, 1)
-        runs.check(f"call {number} on {descriptor}", code_file(words, data_segment()), trap("Call", behind(words) - 4), input=b"x")
+        runs.check(f"call {number} on {descriptor}", code_file(words, data_segment()), trap("Call", after(words) - 4), input=b"x")
         words = call(number, descriptor, 0, 1)
-        runs.check(f"call {number} on {descriptor} without a range", code_file(words), trap("Call", behind(words) - 4), input=b"x")
+        runs.check(f"call {number} on {descriptor} without a range", code_file(words), trap("Call", after(words) - 4), input=b"x")
 
 
 def check_ranges(runs):
@@ -300,10 +301,10 @@ def check_ranges(runs):
         ("a read into two segments", read(DATA + 1, 3) + write(DATA, 6), b"xyz", b"axyzef"),
         ("a write to the end of memory", write(0xFFFFFFFC, 4), b"", b"high"),
     ]:
-        end, output = (trap("Unmapped", behind(words) - 4), b"") if end is None else (exits(4), end)
+        end, output = (trap("Unmapped", after(words) - 4), b"") if end is None else (exits(4), end)
         runs.check(what, code_file(words + leave(4), low, *parts, high), end, output, input=input_)
     hidden = data_segment(b"hidden", flags=WRITE | EXECUTE)
-    runs.check("a write of what may not be read", code_file(write(DATA, 1), hidden), trap("Unmapped", behind(write(0, 0)) - 4))
+    runs.check("a write of what may not be read", code_file(write(DATA, 1), hidden), trap("Unmapped", after(write(0, 0)) - 4))
 
 
 def check_calls(runs):
@@ -317,8 +318,8 @@ def check_calls(runs):
         runs.check(f"exit with {status}", code_file(leave(status)), exits(status % 256))
     said = write(DATA, 5)
     data = data_segment(b"hello")
-    runs.check("a break behind output", code_file(said + [word("ebreak")], data), out_of_room(behind(said)), b"hello")
-    runs.check("a trap behind output", code_file(said + [0], data), trap("Illegal", behind(said)), b"hello")
+    runs.check("a break after output", code_file(said + [word("ebreak")], data), out_of_room(after(said)), b"hello")
+    runs.check("a trap after output", code_file(said + [0], data), trap("Illegal", after(said)), b"hello")
 
 
 # ---- the limit of steps
@@ -333,7 +334,7 @@ def check_limits(runs):
         runs.check(f"{steps} steps within {count}", code_file(leave(5)), end, words=["--steps", str(count)])
     runs.check("leading zeros", one_word(LOOP), limit(1000), words=["--steps", "1000".rjust(20, "0")])
     runs.check("a trap within one step", one_word(0), trap("Illegal", TEXT), words=["--steps", "1"])
-    runs.check("a trap behind one step", one_word(0x13), limit(1), words=["--steps", "1"])
+    runs.check("a trap after one step", one_word(0x13), limit(1), words=["--steps", "1"])
     runs.check("a trap within two steps", one_word(0x13), trap("Unmapped", TEXT + 4), words=["--steps", "2"])
     said = code_file(write(DATA, 5) + [LOOP], data_segment(b"hello"))
     runs.check("output before the limit", said, limit(100), b"hello", words=["--steps", "100"])
@@ -402,6 +403,34 @@ def shell(runs, name, redirected):
     return done.returncode, done.stderr
 
 
+def copy_of_input(count):
+    """Reads so many bytes at a time and writes them, until the input ends."""
+    reads = read(DATA, count)
+    writes = load(17, 64) + [word("addi", rd=12, rs1=10)] + load(10, 1) + load(11, DATA) + [word("ecall")]
+    loop = reads + [word("beq", rs1=10, imm=4 * (len(writes) + 2))] + writes
+    return code_file(loop + [word("jal", imm=-4 * len(loop))] + leave(0), data_segment(size=4096))
+
+
+def is_answered_at_once(layc, path):
+    """Whether each byte of the input comes back before the next one is sent."""
+    with subprocess.Popen([layc, "run", path], stdin=subprocess.PIPE, stdout=subprocess.PIPE, bufsize=0) as process:
+        for byte in [b"a", b"b", b"\n"]:
+            process.stdin.write(byte)
+            if not select.select([process.stdout], [], [], 10)[0] or process.stdout.read(1) != byte:
+                process.kill()
+                return False
+        process.stdin.close()
+        return process.stdout.read() == b"" and process.wait() == 0
+
+
+def check_pieces(runs):
+    """Input longer than the pieces in which it is read, and input that comes byte by byte."""
+    long = bytes(i * i % 251 for i in range(100_000))
+    for count in [1, 7, 4096]:
+        runs.check(f"a copy by {count} bytes", copy_of_input(count), exits(0), long, input=long)
+    check(is_answered_at_once(runs.layc, runs.write_file("copy.elf", copy_of_input(1))), "a byte is answered before the next one comes")
+
+
 def check_streams(runs):
     """Streams that fail, under programs that use them and under one that does not."""
     data = data_segment(b"hello")
@@ -447,6 +476,7 @@ def check_ends(layc, folder):
         check_refused_files,
         check_words_refused,
         check_files,
+        check_pieces,
         check_streams,
         check_broken_pipe,
     ]:

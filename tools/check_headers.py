@@ -176,12 +176,12 @@ def check_pairs(layc, path, data, name):
 def check_several_fields(layc, path, data, random, name):
     places = file_places() + program_places(data) * 3
     for _ in range(SEVERAL_MUTATIONS):
-        damaged, told = data, []
+        damaged, changes = data, []
         for what, at, length in random.sample(places, random.choice([2, 2, 3])):
             number = random.choice(edges(data, at, length))
             damaged = with_number(damaged, at, length, number)
-            told.append(f"{what} {number}")
-        check_file(layc, path, damaged[: random.choice([None] * 9 + [len(data) - 1])], f"{name}, {', '.join(told)}")
+            changes.append(f"{what} {number}")
+        check_file(layc, path, damaged[: random.choice([None] * 9 + [len(data) - 1])], f"{name}, {', '.join(changes)}")
 
 
 def check_random_bytes(layc, path, data, random, name):
@@ -196,7 +196,7 @@ def check_random_bytes(layc, path, data, random, name):
 def check_lengths(layc, path, data, name):
     for length in range(len(data)):
         check_file(layc, path, data[:length], f"the first {length} bytes of {name}")
-    check_file(layc, path, data + b"more", f"{name} with more bytes behind it")
+    check_file(layc, path, data + b"more", f"{name} with more bytes after it")
 
 
 def check_numbers_of_segments(layc, path):

@@ -12,7 +12,7 @@ RANDOM_PROGRAMS, RANDOM_STEPS = 30, 500
 # Registers that hold the place of the next result, so that every other register is used by some.
 POINTERS = [3, 9, 30]
 
-# One of the compilers makes code for any address if it is not told otherwise.
+# One of the compilers makes code for any address where no option says otherwise.
 TARGET = ["-march=rv32im", "-mabi=ilp32", "-nostdlib", "-static", "-fno-pie", "-no-pie"]
 # The compiler must not make a call of memcpy out of the body of memcpy.
 OF_C = ["-std=c99", "-ffreestanding", "-fno-tree-loop-distribute-patterns"]

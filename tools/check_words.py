@@ -14,7 +14,7 @@ from instructions import TABLE, debug_text, random_fields, word
 
 FIELDS_EACH = 150
 RANDOM_WORDS = 4000
-# objdump may read a word as the first part of a longer instruction, so each stands alone: behind it
+# objdump may read a word as the first part of a longer instruction, so each stands alone: after it
 # comes ADDI x0,x0,0 until the longest instruction that objdump knows has ended.
 SLOT = 32
 PADDING = struct.pack("<I", 0x13) * (SLOT // 4 - 1)
@@ -104,7 +104,7 @@ def distance(target, address):
 
 
 def is_fence(w):
-    """FENCE is told by its opcode and funct3 alone; objdump names some of them otherwise, and some not at all."""
+    """FENCE is known by its opcode and funct3 alone; objdump names some of them otherwise, and some not at all."""
     return w % 128 == 0x0F and (w >> 12) % 8 == 0
 
 

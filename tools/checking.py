@@ -4,6 +4,9 @@ the programs of this repository."""
 import os
 import shutil
 import subprocess
+import sys
+
+import building
 
 HERE = os.path.dirname(os.path.dirname(os.path.abspath(__file__)))
 LAYC = os.path.join(HERE, "layc")
@@ -101,25 +104,9 @@ def run(words, seconds=600, **more):
         return subprocess.CompletedProcess(words, None, late.stdout or b"", b"(does not end)")
 
 
-def is_stale(program):
-    """Whether some source is newer than the program."""
-    built_at = os.path.getmtime(program)
-    if os.path.getmtime(os.path.join(HERE, "crates.txt")) > built_at:
-        return True
-    crates = os.path.join(HERE, "crates")
-    for crate in os.listdir(crates):
-        for part in ["src", "specs", "proofs"]:
-            for folder, _, names in os.walk(os.path.join(crates, crate, part)):
-                if any(os.path.getmtime(os.path.join(folder, name)) > built_at for name in names):
-                    return True
-    return False
-
-
 def built(crate):
-    """The program of a crate, built where it is missing or older than the sources; None where it cannot be."""
-    folder = os.path.join(HERE, "crates", crate)
-    program = os.path.join(folder, "out", crate)
-    if (not os.path.exists(program) or is_stale(program)) and shutil.which("rt") and os.path.isdir(os.path.join(folder, "src")):
-        quiet = dict(stdout=subprocess.DEVNULL, stderr=subprocess.DEVNULL, stdin=subprocess.DEVNULL)
-        subprocess.run(["rt", "run"], cwd=folder, **quiet)
+    """The program of a crate, built where it is missing or older than its sources; None where it cannot be."""
+    if not building.is_built(crate):
+        building.build(crate, lambda text: print(f"{crate}: {text}", file=sys.stderr, flush=True))
+    program = building.program_of(crate)
     return program if os.path.exists(program) else None

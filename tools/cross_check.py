@@ -164,7 +164,7 @@ def check_code(path, code, what):
     with open(path, "rb") as f:
         data = f.read()
     check(data[0x1000:0x1004] == bytes.fromhex("6f100000"), f"{what}: the entry jumps by 0x1000")
-    check(data[0x1004:0x2000] == bytes(0xFFC), f"{what}: zeros behind the jump")
+    check(data[0x1004:0x2000] == bytes(0xFFC), f"{what}: zeros after the jump")
     words = data[0x2000 : 0x2000 + 4 * len(code)]
     got = decoded(words)
     same = got == code
@@ -194,7 +194,8 @@ def check_refused(folder, text, what):
     with open(path, "wb") as f:
         f.write(b"before")
     done = compile_text(folder, text)
-    check((done.returncode, done.stdout, done.stderr) == (PROGRAM_STATUS, b"", b"layc: t.c: form not built yet\n"), f"{what}: answers {done.returncode} {done.stderr!r}")
+    wanted = (PROGRAM_STATUS, b"", b"layc: t.c: form not built yet\n")
+    check((done.returncode, done.stdout, done.stderr) == wanted, f"{what}: answers {done.returncode} {done.stderr!r}")
     with open(path, "rb") as f:
         check(f.read() == b"before", f"{what}: the file under OUT stays")
 
@@ -224,11 +225,11 @@ def check_edges(folder, tools):
         "division": main_of(b"4/2"),
         "a return without a value": b"int main(void){return;}",
         "two returns": b"int main(void){return 1;return 2;}",
-        "a call behind the return": b"int putchar(int);int main(void){return 1;putchar(65);}",
+        "a call after the return": b"int putchar(int);int main(void){return 1;putchar(65);}",
         "a sum that does not end": main_of(b"1 +"),
         "an open parenthesis": main_of(b"(1"),
         "a closed parenthesis": main_of(b"1)"),
-        "text behind the end": b"int main(void){return 0;}}",
+        "text after the end": b"int main(void){return 0;}}",
         "301 parentheses": main_of(b"(" * 301 + b"1" + b")" * 301),
         "301 operators": main_of(b"1" + b"+1" * 301),
         "50000 parentheses": main_of(b"(" * 30000 + b"1" + b")" * 30000),
@@ -243,7 +244,9 @@ def check_edges(folder, tools):
     deep, wide = one, one
     for _ in range(300):
         deep = paren(deep)
-        wide = Sum(wide.text + "+1", wide.value + 1, wide.code + ["addi x2,x2,-4", "sw x10,0(x2)"] + one.code + ["addi x11,x10,0", "lw x10,0(x2)", "addi x2,x2,4", "add x10,x10,x11"], LOOSE, wide.marks + 1)
+        sums = ["addi x11,x10,0", "lw x10,0(x2)", "addi x2,x2,4", "add x10,x10,x11"]
+        code = wide.code + ["addi x2,x2,-4", "sw x10,0(x2)"] + one.code + sums
+        wide = Sum(wide.text + "+1", wide.value + 1, code, LOOSE, wide.marks + 1)
     check_program(folder, Program(False, [], deep), tools, "300 parentheses")
     check_program(folder, Program(False, [], wide), tools, "300 operators")
     check_program(folder, Program(False, [], number(2147483647)), tools, "2147483647")
@@ -260,8 +263,22 @@ def check_edges(folder, tools):
 # ---- the outside
 
 
+ASK_FOR_NOTHING = [
+    [],
+    ["compile"],
+    ["compile", "t.c"],
+    ["compile", "-o", "o"],
+    ["compile", "-o", "", "t.c"],
+    ["compile", "-o", "o", "-"],
+    ["compile", "-o", "o", "t.c", "u.c"],
+    ["--help"],
+    ["compile", "-o", "o", b"\xff\xfe"],
+    [b"\xff"],
+]
+
+
 def check_outside(folder):
-    for words in [[], ["compile"], ["compile", "t.c"], ["compile", "-o", "o"], ["compile", "-o", "", "t.c"], ["compile", "-o", "o", "-"], ["compile", "-o", "o", "t.c", "u.c"], ["--help"], ["compile", "-o", "o", b"\xff\xfe"], [b"\xff"]]:
+    for words in ASK_FOR_NOTHING:
         done = run([LAYC] + words, cwd=folder)
         check(done.returncode == USAGE_STATUS and done.stdout == b"" and done.stderr == USAGE, f"the words {words}: {done.returncode} {done.stderr!r}")
     text = main_of(b"7")
@@ -321,10 +338,9 @@ def check_random_programs(folder, count, tools):
 def main():
     random.seed(SEED)
     count = int(sys.argv[1]) if len(sys.argv) > 1 else 150
-    if not shutil.which("rt") and not os.path.exists(os.path.join(HERE, "crates", "layc", "out", "layc")):
+    if checking.built("layc") is None and not shutil.which("rt"):
         print("skipped: the compiler is not built, and there is no rt to build it")
         return 0
-    subprocess.run([LAYC], stdout=subprocess.DEVNULL, stderr=subprocess.DEVNULL)
     tools = [tool for tool in [EMULATOR, OBJDUMP, READELF] if have(tool)]
     with tempfile.TemporaryDirectory() as folder:
         check_examples(folder, tools)

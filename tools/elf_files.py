@@ -88,7 +88,7 @@ def elf_file(segments, entry=TEXT):
 
 
 def code_file(words, *others):
-    """A file whose first segment holds the words as code at the entry; others stand behind it."""
+    """A file whose first segment holds the words as code at the entry; others stand after it."""
     return elf_file([Segment(TEXT, words_of(words), 4 * len(words), READ | EXECUTE), *others])
 
 

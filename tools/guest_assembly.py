@@ -83,7 +83,7 @@ def shared_registers(random, pointer):
             operands = form.format(f"x{one}", f"x{other}")
             program.add(f"{name} {operands}")
             program.keep(one, f"{name} {operands}")
-            program.keep(0, f"x0 behind {name} {operands}")
+            program.keep(0, f"x0 after {name} {operands}")
     return program
 
 
@@ -99,7 +99,7 @@ def immediates(random, pointer):
             program.add(f"{name} x{to}, x{left}, {n}")
             program.keep(to, f"{name} of {a:#x} and {n}")
         program.add(f"{name} x0, x{left}, {n}")
-        program.keep(0, f"x0 behind {name}")
+        program.keep(0, f"x0 after {name}")
     return program
 
 
@@ -111,13 +111,13 @@ def upper_immediates(random, pointer):
             (to,) = program.registers(random, 1)
             program.add(f"{name} x{to}, {n:#x}", f"{name} x0, {n:#x}")
             program.keep(to, f"{name} of {n:#x}")
-            program.keep(0, f"x0 behind {name}")
+            program.keep(0, f"x0 after {name}")
     for _ in range(20):
         fields = random_fields(random, "fence")
         (to,) = program.registers(random, 1)
         program.set(to, 0x5A5A5A5A)
         program.add(f".word {word('fence', **dict(fields, rd=to)):#x}")
-        program.keep(to, f"a register behind FENCE {fields}")
+        program.keep(to, f"a register after FENCE {fields}")
     return program
 
 
@@ -140,7 +140,7 @@ def loads(random, pointer):
             program.add(f"la x{base}, {address}", f"{name} x{to}, {distance}(x{base})")
             program.keep(to, f"{name} at {place}")
         program.add(f"la x{base}, scratch", f"{name} x0, 0(x{base})")
-        program.keep(0, f"x0 behind {name}")
+        program.keep(0, f"x0 after {name}")
     return program
 
 
@@ -162,21 +162,21 @@ def stores(random, pointer):
 
 
 def branches(random, pointer):
-    """Every branch on pairs of edges, over code and back to code; one bit tells whether it was taken."""
+    """Every branch on pairs of edges, over code and back to code; one bit says whether it was taken."""
     program = Assembly(pointer)
     numbers = [0, 1, 2, 0x7FFFFFFF, 0x80000000, 0x80000001, 0xFFFFFFFF]
     for name in BRANCHES:
         for a in numbers:
             for b in numbers:
-                left, right, told = program.registers(random, 3)
+                left, right, count = program.registers(random, 3)
                 over, taken, past, done = [program.label() for _ in range(4)]
                 program.set(left, a)
                 program.set(right, b)
-                program.set(told, 0)
-                program.add(f"{name} x{left}, x{right}, {over}", f"addi x{told}, x{told}, 1", f"{over}:", f"j {past}")
-                program.add(f"{taken}:", f"addi x{told}, x{told}, 2", f"j {done}")
-                program.add(f"{past}:", f"{name} x{left}, x{right}, {taken}", f"addi x{told}, x{told}, 4", f"{done}:")
-                program.keep(told, f"{name} of {a:#x} and {b:#x}")
+                program.set(count, 0)
+                program.add(f"{name} x{left}, x{right}, {over}", f"addi x{count}, x{count}, 1", f"{over}:", f"j {past}")
+                program.add(f"{taken}:", f"addi x{count}, x{count}, 2", f"j {done}")
+                program.add(f"{past}:", f"{name} x{left}, x{right}, {taken}", f"addi x{count}, x{count}, 4", f"{done}:")
+                program.keep(count, f"{name} of {a:#x} and {b:#x}")
     return program
 
 
@@ -231,7 +231,7 @@ def random_code(random, pointer, steps):
     for step in range(steps):
         program.add(random_step(random, registers, base))
         if step % 25 == 24:
-            program.keep(random.choice(registers), f"a register behind {step + 1} random instructions")
+            program.keep(random.choice(registers), f"a register after {step + 1} random instructions")
     for register in registers:
         program.keep(register, f"x{register} at the end")
     return program

@@ -1,7 +1,7 @@
 -- When an ELF file does what a source program does. The source is given by its runs (for an input
 -- and a number of turns) and by which of them are light, that is, fit in the file's room.
-use Rattle.std.specs.Prelude.{◌≡◌, ℕ, ◌*◌, ◌^◌, ◌≤◌, List, Contains, Ok}
-use Rattle.source_end.specs.SourceEnd.{SourceEnd, Ends, GoesOn, Undefined, IsDefined}
+use Rattle.std.specs.Prelude.{◌≡◌, ℕ, ◌*◌, ◌^◌, ◌<◌, ◌≤◌, List, All, Contains, Ok}
+use Rattle.source_end.specs.SourceEnd.{SourceEnd, Ends, GoesOn, IsDefined}
 use Rattle.rv_isa.specs.declared.image.Image.{Image}
 use Rattle.rv_isa.specs.declared.image.Segment.{Segment}
 use Rattle.rv_isa.specs.Step.{Standing, Running, Exits, Trap, Break}
@@ -38,18 +38,23 @@ ShowsOnlySource source input m = by_standing m.standing
     by_standing (Trap kind pc) = ⊥
     by_standing (Break pc) = ⊥
 
--- The machine on the file does what the source does, with so many MiB of heap and stack.
+-- For this input the machine on the image does what the source does.
+pub record AgreesFor (source : SourceRun) (IsLight : Lightness) (image : Image) (input : List ℕ) : Type 0 where
+  -- where the source ends, the machine ends so
+  pub ends : (n : ℕ) (output : List ℕ) (status : ℕ) (rest : List ℕ) → source input n ≡ Ends output status rest → IsLight input n
+      → (m : ℕ) × (machine_run image input m ≡ shows (Exits status) output rest)
+  -- where the source goes on after n turns, the machine runs on after n steps or more, with the same output so far
+  pub goes_on : (n : ℕ) (output rest : List ℕ) → source input n ≡ GoesOn output rest → IsLight input n
+      → (m : ℕ) × (n ≤ m) × (machine_run image input m ≡ shows Running output rest)
+  -- where every run of the source is defined and light, the machine does nothing else
+  pub nothing_else : ((n : ℕ) → IsDefined (source input n)) → ((n : ℕ) → IsLight input n)
+      → (m : ℕ) → ShowsOnlySource source input (machine_run image input m)
+
+-- The machine on the file does what the source does for every input, that is, for all bytes, with so
+-- many MiB of heap and stack.
 pub record Agrees (source : SourceRun) (IsLight : Lightness) (file : List ℕ) (heap stack : ℕ) : Type 0 where
   pub image : Image
   pub loads : loaded file ≡ Ok image
   pub heap_room : HasRoom image heap_address heap
   pub stack_room : HasRoom image stack_address stack
-  -- where the source ends, the machine ends so
-  pub ends : (input : List ℕ) (n : ℕ) (output : List ℕ) (status : ℕ) (rest : List ℕ) → source input n ≡ Ends output status rest → IsLight input n
-      → (m : ℕ) × (machine_run image input m ≡ shows (Exits status) output rest)
-  -- where the source goes on after n turns, the machine runs on after n steps or more, with the same output so far
-  pub goes_on : (input : List ℕ) (n : ℕ) (output rest : List ℕ) → source input n ≡ GoesOn output rest → IsLight input n
-      → (m : ℕ) × (n ≤ m) × (machine_run image input m ≡ shows Running output rest)
-  -- where every run of the source is defined and light, the machine does nothing else
-  pub nothing_else : (input : List ℕ) → ((n : ℕ) → IsDefined (source input n)) → ((n : ℕ) → IsLight input n)
-      → (m : ℕ) → ShowsOnlySource source input (machine_run image input m)
+  pub each_input : (input : List ℕ) → All (λ b. b < 2 ^ 8) input → AgreesFor source IsLight image input

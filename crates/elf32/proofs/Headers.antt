@@ -1,5 +1,6 @@
 -- One more program header.
-use Rattle.std.proofs.Common.{◌≡◌, ◌≢◌, ◌==◌, ℕ, zero, suc, ◌+◌, ◌*◌, ◌<◌, true, false, eq-eqb, ne_eqb, List, [], ◌∷◌, ◌++◌, length, take, filter, refl, sym, ap, ◌∙◌, add-one, add-zero, arith}
+use Rattle.std.proofs.Common.{◌≡◌, ◌≢◌, ◌==◌, ℕ, zero, suc, ◌+◌, ◌*◌, ◌<◌, true, false, eq-eqb, ne_eqb, List, [], ◌∷◌, ◌++◌, length, take, filter}
+use Rattle.std.proofs.Common.{refl, sym, ap, ◌∙◌, add-one, add-zero, arith}
 use Rattle.std.proofs.lemmas.List.{take_all, append-nil, length-append}
 use Rattle.std.proofs.lemmas.List.Elements.{filter-append}
 use Rattle.elf32.specs.declared.header.ProgramHeader.{ProgramHeader}
@@ -13,10 +14,13 @@ headers_more bytes at (suc n) =
     ∙ ap (λ (place : ℕ). header_at bytes at ∷ (headers_from bytes (at + 32) n ++ header_at bytes place ∷ [])) moved
 
 -- the loadable ones of so many headers and one more
-loadable_more : (bytes : List ℕ) (at n : ℕ) → filter (λ h. h.kind == 1) (headers_from bytes at (n + 1)) ≡ filter (λ h. h.kind == 1) (headers_from bytes at n) ++ filter (λ h. h.kind == 1) (header_at bytes (at + 32 * n) ∷ [])
+loadable_more : (bytes : List ℕ) (at n : ℕ) → filter (λ h. h.kind == 1) (headers_from bytes at (n + 1))
+    ≡ filter (λ h. h.kind == 1) (headers_from bytes at n) ++ filter (λ h. h.kind == 1) (header_at bytes (at + 32 * n) ∷ [])
 loadable_more bytes at n =
-    let more : headers_from bytes at (n + 1) ≡ headers_from bytes at n ++ header_at bytes (at + 32 * n) ∷ [] = ap (headers_from bytes at) (add-one n) ∙ headers_more bytes at n in
-    ap (filter (λ (h : ProgramHeader). h.kind == 1)) more ∙ filter-append (λ (h : ProgramHeader). h.kind == 1) (headers_from bytes at n) (header_at bytes (at + 32 * n) ∷ [])
+    let more : headers_from bytes at (n + 1) ≡ headers_from bytes at n ++ header_at bytes (at + 32 * n) ∷ [] = ap (headers_from bytes at) (add-one n)
+    ∙ headers_more bytes at n in
+    ap (filter (λ (h : ProgramHeader). h.kind == 1)) more
+    ∙ filter-append (λ (h : ProgramHeader). h.kind == 1) (headers_from bytes at n) (header_at bytes (at + 32 * n) ∷ [])
 
 -- which is one of them
 pub loadable_taken : (bytes : List ℕ) (at n : ℕ) (h : ProgramHeader) → h ≡ header_at bytes (at + 32 * n) → h.kind ≡ 1
@@ -34,4 +38,5 @@ loadable_passed bytes at n h is kind =
 
 -- the first of a list with one element more
 pub first_more : {A : Type 0} (most : ℕ) (xs : List A) (x : A) → length xs < most → take most (xs ++ x ∷ []) ≡ take most xs ++ x ∷ []
-first_more most xs x lt = take_all most (xs ++ x ∷ []) (omega (arith, length-append xs (x ∷ []))) ∙ ap (λ ys. ys ++ x ∷ []) (sym (take_all most xs (omega arith)))
+first_more most xs x lt =
+    take_all most (xs ++ x ∷ []) (omega (arith, length-append xs (x ∷ []))) ∙ ap (λ ys. ys ++ x ∷ []) (sym (take_all most xs (omega arith)))

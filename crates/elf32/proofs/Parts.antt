@@ -17,7 +17,8 @@ length-four_headers text globals stack heap = refl
 
 -- ---- lists joined from a file header, program headers, zeros, text, zeros and data
 
-pub length-parts : (f p z t y d : List ℕ) → length (f ++ (p ++ (z ++ (t ++ (y ++ d))))) ≡ length f + (length p + (length z + (length t + (length y + length d))))
+pub length-parts : (f p z t y d : List ℕ) → length (f ++ (p ++ (z ++ (t ++ (y ++ d)))))
+    ≡ length f + (length p + (length z + (length t + (length y + length d))))
 length-parts f p z t y d = simp length-append
 
 slice_at : (front piece rest : List ℕ) (n : ℕ) → length front ≡ n → take (length piece) (drop n (front ++ (piece ++ rest))) ≡ piece
@@ -29,12 +30,14 @@ text_part f p z t y d n e =
     let len : length (f ++ (p ++ z)) ≡ n = simp length-append e in
     ap (λ (bytes : List ℕ). take (length t) (drop n bytes)) grouped ∙ slice_at (f ++ (p ++ z)) t (y ++ d) n len
 
-pub data_part : (f p z t y d : List ℕ) (n : ℕ) → length f + (length p + (length z + (length t + length y))) ≡ n → take (length d) (drop n (f ++ (p ++ (z ++ (t ++ (y ++ d)))))) ≡ d
+pub data_part : (f p z t y d : List ℕ) (n : ℕ) → length f + (length p + (length z + (length t + length y))) ≡ n
+    → take (length d) (drop n (f ++ (p ++ (z ++ (t ++ (y ++ d)))))) ≡ d
 data_part f p z t y d n e =
     let grouped : f ++ (p ++ (z ++ (t ++ (y ++ d)))) ≡ (f ++ (p ++ (z ++ (t ++ y)))) ++ (d ++ []) = simp (append_assoc, append-nil) in
     let len : length (f ++ (p ++ (z ++ (t ++ y)))) ≡ n = simp length-append e in
     ap (λ (bytes : List ℕ). take (length d) (drop n bytes)) grouped ∙ slice_at (f ++ (p ++ (z ++ (t ++ y)))) d [] n len
 
 -- the same parts, appended one after the other
-pub appended : (o f p q r s z t y d : List ℕ) → o ≡ [] → ((((((((o ++ f) ++ p) ++ q) ++ r) ++ s) ++ z) ++ t) ++ y) ++ d ≡ f ++ ((p ++ (q ++ (r ++ s))) ++ (z ++ (t ++ (y ++ d))))
+pub appended : (o f p q r s z t y d : List ℕ) → o ≡ []
+    → ((((((((o ++ f) ++ p) ++ q) ++ r) ++ s) ++ z) ++ t) ++ y) ++ d ≡ f ++ ((p ++ (q ++ (r ++ s))) ++ (z ++ (t ++ (y ++ d))))
 appended o f p q r s z t y d e = rw e (simp append_assoc)

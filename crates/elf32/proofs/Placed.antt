@@ -1,5 +1,6 @@
 -- What loads can be held by a machine.
-use Rattle.std.proofs.Common.{◌≡◌, ℕ, ◌+◌, ◌<◌, ◌≤◌, true, false, List, [], ◌∷◌, ◌++◌, length, drop, map, Option, Some, None, Ok, refl, sym, subst, ◌∙◌, append_assoc, arith}
+use Rattle.std.proofs.Common.{◌≡◌, ℕ, ◌+◌, ◌<◌, ◌≤◌, true, false, List, [], ◌∷◌, ◌++◌, length, drop, map, Option, Some, None, Ok, refl, sym, subst}
+use Rattle.std.proofs.Common.{◌∙◌, append_assoc, arith}
 use Rattle.std.specs.List.{All, list_any}
 use Rattle.std.proofs.lemmas.Bool.{or_parts, and_parts, not-false, eqb-true, ltb-true, ltb-false, leb-true}
 use Rattle.std.proofs.lemmas.List.{length-take}
@@ -11,7 +12,8 @@ use Rattle.rv_isa.specs.Memory.{is_in}
 use Rattle.rv_isa.specs.Placed.{Fits, AreApart, AllPlaced, IsPlaced}
 use Rattle.elf32.specs.declared.header.ProgramHeader.{ProgramHeader}
 use Rattle.elf32.specs.Header.{loadable}
-use Rattle.elf32.specs.Loaded.{Test, file_tests, meets, segment_tests, segments_tests, last_tests, tests, first_refusal, segment_of, image_of, unless_refused, loaded}
+use Rattle.elf32.specs.Loaded.{Test, file_tests, meets, segment_tests, segments_tests, last_tests, tests, first_refusal, segment_of, image_of}
+use Rattle.elf32.specs.Loaded.{unless_refused, loaded}
 use Rattle.elf32.specs.Written.{IsWritable, elf_file}
 use Rattle.elf32.proofs.Tests.{AllPass, AllPass-parts, all_pass}
 use Rattle.elf32.proofs.ReadBack.{read_back}

@@ -32,7 +32,8 @@ refuses_first t ts fault refused = by_first t.refuses refl
 -- where one of the first refuses, that is the answer
 pub tested_fault : (ts us : List Test) (fault : ElfFault) → tested ts ≡ Err fault → tested (ts ++ us) ≡ Err fault
 tested_fault [] us fault refused = cc
-tested_fault (t ∷ ts) us fault refused = elim (refuses_first t ts fault refused) [ inl here ↦ rw here.0 (ap Err here.1) | inr later ↦ rw later.0 (tested_fault ts us fault later.1) ]
+tested_fault (t ∷ ts) us fault refused =
+    elim (refuses_first t ts fault refused) [ inl here ↦ rw here.0 (ap Err here.1) | inr later ↦ rw later.0 (tested_fault ts us fault later.1) ]
 
 -- ---- no test refuses
 
@@ -92,15 +93,19 @@ fault_read bytes fault refused = refused_fault (first_refusal (tests bytes)) (im
 -- those of the file header refuse
 pub header_refused : (bytes : List ℕ) (fault : ElfFault) → tested (take 10 (file_tests bytes)) ≡ Err fault → ReadGives (Err fault) (loaded bytes)
 header_refused bytes fault refused =
-    fault_read bytes fault (tested_fault (take 10 (file_tests bytes)) (drop 10 (file_tests bytes) ++ (segments_tests (length bytes) [] (loadable bytes) ++ last_tests bytes)) fault refused)
+    fault_read bytes fault (tested_fault (take 10 (file_tests bytes))
+    (drop 10 (file_tests bytes) ++ (segments_tests (length bytes) [] (loadable bytes) ++ last_tests bytes)) fault refused)
 
 -- they pass, and that of the number of segments refuses
-number_refused : (bytes : List ℕ) (fault : ElfFault) → tested (take 10 (file_tests bytes)) ≡ Ok tt → tested (drop 10 (file_tests bytes)) ≡ Err fault → ReadGives (Err fault) (loaded bytes)
+number_refused : (bytes : List ℕ) (fault : ElfFault) → tested (take 10 (file_tests bytes)) ≡ Ok tt → tested (drop 10 (file_tests bytes)) ≡ Err fault
+    → ReadGives (Err fault) (loaded bytes)
 number_refused bytes fault header refused =
     let later = segments_tests (length bytes) [] (loadable bytes) ++ last_tests bytes in
-    fault_read bytes fault (tested_then (take 10 (file_tests bytes)) (drop 10 (file_tests bytes) ++ later) header ∙ tested_fault (drop 10 (file_tests bytes)) later fault refused)
+    fault_read bytes fault (tested_then (take 10 (file_tests bytes)) (drop 10 (file_tests bytes) ++ later) header
+    ∙ tested_fault (drop 10 (file_tests bytes)) later fault refused)
 
-pub loads_refused : (bytes : List ℕ) (fault : ElfFault) → tested (take 10 (file_tests bytes)) ≡ Ok tt → LoadableGives (Err fault) bytes → ReadGives (Err fault) (loaded bytes)
+pub loads_refused : (bytes : List ℕ) (fault : ElfFault) → tested (take 10 (file_tests bytes)) ≡ Ok tt → LoadableGives (Err fault) bytes
+    → ReadGives (Err fault) (loaded bytes)
 loads_refused bytes (BadElf field found) header gives = number_refused bytes (BadElf field found) header gives
 loads_refused bytes Memory header gives = tt
 
@@ -115,16 +120,19 @@ segments_next bytes file =
     tested_then (take 10 (file_tests bytes)) (drop 10 (file_tests bytes) ++ later) file.header ∙ tested_then (drop 10 (file_tests bytes)) later file.loads
 
 -- and one of the segments' refuses
-pub segments_refused : (bytes : List ℕ) (fault : ElfFault) → FilePasses bytes → tested (segments_tests (length bytes) [] (loadable bytes)) ≡ Err fault → ReadGives (Err fault) (loaded bytes)
+pub segments_refused : (bytes : List ℕ) (fault : ElfFault) → FilePasses bytes → tested (segments_tests (length bytes) [] (loadable bytes)) ≡ Err fault
+    → ReadGives (Err fault) (loaded bytes)
 segments_refused bytes fault file refused =
     fault_read bytes fault (segments_next bytes file ∙ tested_fault (segments_tests (length bytes) [] (loadable bytes)) (last_tests bytes) fault refused)
 
 -- those pass as well, and one of the last refuses
-pub last_refused : (bytes : List ℕ) (fault : ElfFault) → FilePasses bytes → tested (segments_tests (length bytes) [] (loadable bytes)) ≡ Ok tt → tested (last_tests bytes) ≡ Err fault → ReadGives (Err fault) (loaded bytes)
+pub last_refused : (bytes : List ℕ) (fault : ElfFault) → FilePasses bytes → tested (segments_tests (length bytes) [] (loadable bytes)) ≡ Ok tt
+    → tested (last_tests bytes) ≡ Err fault → ReadGives (Err fault) (loaded bytes)
 last_refused bytes fault file segments refused =
     fault_read bytes fault (segments_next bytes file ∙ tested_then (segments_tests (length bytes) [] (loadable bytes)) (last_tests bytes) segments ∙ refused)
 
 -- all pass
-pub all_passed : (bytes : List ℕ) → FilePasses bytes → tested (segments_tests (length bytes) [] (loadable bytes)) ≡ Ok tt → tested (last_tests bytes) ≡ Ok tt → loaded bytes ≡ Ok (image_of bytes)
+pub all_passed : (bytes : List ℕ) → FilePasses bytes → tested (segments_tests (length bytes) [] (loadable bytes)) ≡ Ok tt
+    → tested (last_tests bytes) ≡ Ok tt → loaded bytes ≡ Ok (image_of bytes)
 all_passed bytes file segments last =
     image_read bytes (segments_next bytes file ∙ tested_then (segments_tests (length bytes) [] (loadable bytes)) (last_tests bytes) segments ∙ last)

@@ -22,7 +22,10 @@ abbrev code : List ℕ
 code = 0x73 ∷ 0 ∷ 0 ∷ 0 ∷ []
 
 -- 16 MiB of which four bytes are in the file
-one_segment : loaded (header 243 ++ (program 1 ++ code)) ≡ Ok (record { entry = 0x10000; segments = record { at = 0x10000; size = 0x01000000; flags = 5; bytes = code } ∷ [] })
+one_segment : loaded (header 243 ++ (program 1 ++ code)) ≡ Ok (record {
+  entry = 0x10000;
+  segments = record { at = 0x10000; size = 0x01000000; flags = 5; bytes = code } ∷ [];
+})
 unfolding loaded
 one_segment = refl
 

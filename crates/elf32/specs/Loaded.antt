@@ -1,8 +1,10 @@
 -- The image that the bytes of an ELF file load as, or the first field that the loader refuses.
-use Rattle.std.specs.Prelude.{ℕ, ◌+◌, ◌*◌, ◌%◌, ◌^◌, min, max, nat_lt, ◌==◌, ◌&&◌, ◌||◌, Bool, not, List, [], ◌∷◌, ◌++◌, map, take, drop, length, slice_index, sum_by, if◌then◌else◌, Option, Some, None, Result, Ok, Err}
+use Rattle.std.specs.Prelude.{ℕ, ◌+◌, ◌*◌, ◌%◌, ◌^◌, min, max, nat_lt, ◌==◌, ◌&&◌, ◌||◌, Bool, not, List, [], ◌∷◌, ◌++◌, map, take, drop, length}
+use Rattle.std.specs.Prelude.{slice_index, sum_by, if◌then◌else◌, Option, Some, None, Result, Ok, Err}
 use Rattle.std.specs.List.{list_any}
 use Rattle.lay_base.specs.declared.faults.ElfField.{ElfField}
-use Rattle.lay_base.specs.declared.faults.ElfField.TheVariants.{Length, Magic, Class, Data, Ident, Kind, Machine, Version, HeaderSize, Headers, Loads, FileRange, Sizes, Address, Overlap, Total, Entry}
+use Rattle.lay_base.specs.declared.faults.ElfField.TheVariants.{Length, Magic, Class, Data, Ident, Kind, Machine, Version, HeaderSize, Headers}
+use Rattle.lay_base.specs.declared.faults.ElfField.TheVariants.{Loads, FileRange, Sizes, Address, Overlap, Total, Entry}
 use Rattle.rv_isa.specs.declared.image.Image.{Image}
 use Rattle.rv_isa.specs.declared.image.Segment.{Segment}
 use Rattle.elf32.specs.declared.header.ProgramHeader.{ProgramHeader}

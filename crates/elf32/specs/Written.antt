@@ -73,7 +73,8 @@ zeros n = replicate n 0
 abbrev pub file_header : (entry headers : ℕ) → List ℕ
 file_header entry headers =
     0x7F ∷ 0x45 ∷ 0x4C ∷ 0x46 ∷ 1 ∷ 1 ∷ 1 ∷ 0 ∷ 0 ∷ 0 ∷ 0 ∷ 0 ∷ 0 ∷ 0 ∷ 0 ∷ 0
-    ∷ (half 2 ++ (half 243 ++ (word 1 ++ (word entry ++ (word 52 ++ (word 0 ++ (word 0 ++ (half 52 ++ (half 32 ++ (half headers ++ (half 0 ++ (half 0 ++ half 0))))))))))))
+    ∷ (half 2 ++ (half 243 ++ (word 1 ++ (word entry ++ (word 52 ++ (word 0 ++ (word 0
+    ++ (half 52 ++ (half 32 ++ (half headers ++ (half 0 ++ (half 0 ++ half 0))))))))))))
 
 -- loadable; the physical address is the address, and the alignment 0x1000
 abbrev pub program_header : (offset file_size : ℕ) → Segment → List ℕ

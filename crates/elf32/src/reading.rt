@@ -261,5 +261,6 @@ pub fn read(alloc: Global, bytes: &[u8]) -> Result<Image, ElfFault>
 /// The file of an image is read as that image: on the bytes that `write` gives, `read` may answer the
 /// image or want of memory, and nothing else.
 pub fn files_are_read_back()
-    ensures { (image : Image) (answer : Result Image ElfFault) → IsWritable image → ReadGives answer (loaded (elf_file image)) → (answer ≡ Ok image) ⊎ (answer ≡ Err ElfFault.Memory) }
+    ensures { (image : Image) (answer : Result Image ElfFault) → IsWritable image → ReadGives answer (loaded (elf_file image))
+        → (answer ≡ Ok image) ⊎ (answer ≡ Err ElfFault.Memory) }
 {}

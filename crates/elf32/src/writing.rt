@@ -2,7 +2,8 @@
 
 ghost use Rattle.std.specs.Prelude.{◌≡◌, ◌<◌, ◌≤◌, ◌-◌, ◌^◌, ◌++◌, ◌∷◌, [], IfOk, Ok, OnOk, length};
 ghost use Rattle.elf32.specs.Loaded.{loaded};
-ghost use Rattle.elf32.specs.Written.{AreInPlace, IsWritable, elf_file, file_header as header_bytes, file_of, half as half_bytes, page_up as next_page, program_header as program_header_bytes, word as word_bytes, zeros};
+ghost use Rattle.elf32.specs.Written.{AreInPlace, IsWritable, elf_file, file_header as header_bytes, file_of, half as half_bytes};
+ghost use Rattle.elf32.specs.Written.{page_up as next_page, program_header as program_header_bytes, word as word_bytes, zeros};
 
 use crate::header::{CURRENT, EXECUTABLE, FILE_HEADER, LOAD, PROGRAM_HEADER, RISC_V};
 use byteorder::{LittleEndian, WriteBytesExt};

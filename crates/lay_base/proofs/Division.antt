@@ -18,7 +18,8 @@ below : (x : ℕ) → x ≤ 2 ^ 31 → is_int (neg_ℤ (pos x)) ≡ true
 below zero h = refl
 below (suc n) h = grind (arith, nat_tests)
 
-defined : (a b : ℤ) → int_eq b (pos 0) ≡ false → is_int (int_div a b) ≡ true → (IsUndefinedDivision a b → ⊥) → (is_divisible a b ≡ false) ↔ IsUndefinedDivision a b
+defined : (a b : ℤ) → int_eq b (pos 0) ≡ false → is_int (int_div a b) ≡ true → (IsUndefinedDivision a b → ⊥)
+    → (is_divisible a b ≡ false) ↔ IsUndefinedDivision a b
 defined a b e f not_so =
     let divides : is_divisible a b ≡ true = rw (e, f) in
     (λ g. absurd (let h : is_divisible a b ≡ false = g in cc), λ u. absurd (not_so u))
@@ -36,4 +37,5 @@ undefined_divisions (pos n) (negsuc m) f g =
     defined (pos n) (negsuc m) refl (below (n / suc m) (omega (arith, div-le_self n (suc m)))) (λ u. grind arith)
 undefined_divisions (negsuc n) (negsuc zero) f g = at_one n f.sfits
 undefined_divisions (negsuc n) (negsuc (suc m)) f g =
-    defined (negsuc n) (negsuc (suc m)) refl (above (suc n / suc (suc m)) (div_below (suc n) (suc (suc m)) (2 ^ 31) (omega arith) (omega arith))) (λ u. grind arith)
+    defined (negsuc n) (negsuc (suc m)) refl
+    (above (suc n / suc (suc m)) (div_below (suc n) (suc (suc m)) (2 ^ 31) (omega arith) (omega arith))) (λ u. grind arith)

@@ -1,5 +1,6 @@
--- What a host in memory tells after bytes were put under a name.
-use Rattle.std.proofs.Common.{◌≡◌, ℕ, ◌<◌, ◌≤◌, Bool, true, false, cond, List, [], ◌∷◌, ◌++◌, length, get_or, Option, Some, None, option_map, position, refl, ◌∙◌, ap, arith}
+-- What a host in memory holds after bytes were put under a name.
+use Rattle.std.proofs.Common.{◌≡◌, ℕ, ◌<◌, ◌≤◌, Bool, true, false, cond, List, [], ◌∷◌, ◌++◌, length, get_or, Option, Some, None, option_map}
+use Rattle.std.proofs.Common.{position, refl, ◌∙◌, ap, arith}
 use Rattle.std.proofs.Math.ListN.{set}
 use Rattle.std.proofs.lemmas.Bool.Decides.{nat_tests}
 use Rattle.std.proofs.lemmas.List.Folds.{find-set, find_past, find-append, find_at}
@@ -27,7 +28,8 @@ name_at files at name d e =
     (bytes_eq-Decides _ _).0 passes
 
 -- a file over the first one of its name
-over_first : (b : Bool) (files : List File) (at : ℕ) (file : File) (other : List ℕ) → position (named file.name) files ≡ Some at → named other file ≡ b → contents_of (set files at file) other ≡ cond b (Some file.bytes) (contents_of files other)
+over_first : (b : Bool) (files : List File) (at : ℕ) (file : File) (other : List ℕ) → position (named file.name) files ≡ Some at
+    → named other file ≡ b → contents_of (set files at file) other ≡ cond b (Some file.bytes) (contents_of files other)
 over_first true files at file other e is =
     let n : file.name ≡ other = (bytes_eq-Decides _ _).0 is in
     let first = position_at (named file.name) files at e in
@@ -37,7 +39,9 @@ over_first false files at file other e is =
     ap (option_map (λ f. f.bytes)) (find_past (named other) files at file file was is)
 
 -- bytes over those of the first file of a name
-pub contents_of-set : (files : List File) (at : ℕ) (old : File) (name bytes other : List ℕ) → position (named name) files ≡ Some at → old ≡ get_or files at old → contents_of (set files at (record { name = old.name; bytes = bytes })) other ≡ cond (bytes_eq name other) (Some bytes) (contents_of files other)
+pub contents_of-set : (files : List File) (at : ℕ) (old : File) (name bytes other : List ℕ) → position (named name) files ≡ Some at
+    → old ≡ get_or files at old
+    → contents_of (set files at (record { name = old.name; bytes = bytes })) other ≡ cond (bytes_eq name other) (Some bytes) (contents_of files other)
 contents_of-set files at old name bytes other e here =
     let n : old.name ≡ name = ap (λ f. f.name) here ∙ name_at files at name old e in
     rw n (over_first (bytes_eq name other) files at (record { name = name; bytes = bytes }) other e refl)
@@ -47,7 +51,8 @@ or_none None = refl
 or_none (Some x) = refl
 
 -- a file after others with other names
-after : (b : Bool) (files : List File) (file : File) (other : List ℕ) → find (named file.name) files ≡ None → named other file ≡ b → contents_of (files ++ file ∷ []) other ≡ cond b (Some file.bytes) (contents_of files other)
+after : (b : Bool) (files : List File) (file : File) (other : List ℕ) → find (named file.name) files ≡ None → named other file ≡ b
+    → contents_of (files ++ file ∷ []) other ≡ cond b (Some file.bytes) (contents_of files other)
 after true files file other none is =
     let n : file.name ≡ other = (bytes_eq-Decides _ _).0 is in
     let was : find (named other) files ≡ None = rw (← n) none in
@@ -64,6 +69,7 @@ no_file files name e =
     find_at (named name) files ∙ slice_get_past files _ past
 
 -- a new file after the others
-pub contents_of-push : (files : List File) (name bytes other : List ℕ) → position (named name) files ≡ None → contents_of (files ++ record { name = name; bytes = bytes } ∷ []) other ≡ cond (bytes_eq name other) (Some bytes) (contents_of files other)
+pub contents_of-push : (files : List File) (name bytes other : List ℕ) → position (named name) files ≡ None
+    → contents_of (files ++ record { name = name; bytes = bytes } ∷ []) other ≡ cond (bytes_eq name other) (Some bytes) (contents_of files other)
 contents_of-push files name bytes other e =
     after (bytes_eq name other) files (record { name = name; bytes = bytes }) other (no_file files name e) refl

@@ -2,7 +2,7 @@
 use Rattle.std.specs.Prelude.{◌≡◌, ℕ, ◌<◌, ◌≤◌, ◌⊎◌, List, [], ◌∷◌, length, take, Option, Some, None, Result, Ok, Err, ⊤}
 use Rattle.std.specs.Global.{Vec}
 use Rattle.std.specs.Io.KnownBytes.{IsAtEnd}
-use Rattle.lay_base.specs.Known.{Rose, Contents, Tells, Keeps, Appends, Consumes}
+use Rattle.lay_base.specs.Known.{Rose, Contents, IfKnown, Keeps, Appends, Consumes}
 use Rattle.lay_base.specs.declared.outside.SourceFault.{SourceFault}
 use Rattle.lay_base.specs.declared.outside.SinkFault.{SinkFault}
 use Rattle.lay_base.specs.declared.outside.HostRead.{HostRead}
@@ -24,17 +24,17 @@ PutGives before now old new piece (Err fault) = Rose before now × ((k : ℕ) ×
 -- the bytes under the name, at most `limit` of them; they are more; the read failed; or memory was out
 abbrev pub ReadGives : (before now : ℕ) (files : Option Contents) (name : List ℕ) (limit : ℕ) → Result (Vec ℕ) HostRead → Type 0
 ReadGives before now files name limit (Ok bytes) =
-    Tells files name (λ file. file ≡ Some bytes.items) × (length bytes.items ≤ limit)
+    IfKnown files name (λ file. file ≡ Some bytes.items) × (length bytes.items ≤ limit)
 ReadGives before now files name limit (Err TooLong) =
-    Tells files name (λ file. (now ≡ before) × ((bytes : List ℕ) × (file ≡ Some bytes) × (limit < length bytes)))
+    IfKnown files name (λ file. (now ≡ before) × ((bytes : List ℕ) × (file ≡ Some bytes) × (limit < length bytes)))
 ReadGives before now files name limit (Err Failed) = Rose before now
 ReadGives before now files name limit (Err Memory) = ⊤
 
 -- the name holds the bytes; the write failed, and the name is as before or holds some first part
 -- of them; or memory was out, and nothing changed
 abbrev pub WriteGives : (before now : ℕ) (old new : Option Contents) (name bytes : List ℕ) → Result (Unit {0}) HostWrite → Type 0
-WriteGives before now old new name bytes (Ok done) = Tells new name (λ file. file ≡ Some bytes)
+WriteGives before now old new name bytes (Ok done) = IfKnown new name (λ file. file ≡ Some bytes)
 WriteGives before now old new name bytes (Err W.Failed) =
-    Rose before now × Tells old name (λ was. Tells new name (λ file. (file ≡ was) ⊎ ((k : ℕ) × (file ≡ Some (take k bytes)))))
+    Rose before now × IfKnown old name (λ was. IfKnown new name (λ file. (file ≡ was) ⊎ ((k : ℕ) × (file ≡ Some (take k bytes)))))
 WriteGives before now old new name bytes (Err W.Memory) =
-    Tells old name (λ was. (now ≡ before) × Tells new name (λ file. file ≡ was))
+    IfKnown old name (λ was. (now ≡ before) × IfKnown new name (λ file. file ≡ was))

@@ -16,7 +16,8 @@ remainders : remainder (pos 7) (pos 2) ∷ remainder (negsuc 6) (pos 2) ∷ rema
 remainders = refl
 
 -- by 0, and the least int by -1
-undefined_quotients : quotient (pos 7) (pos 0) ∷ remainder (pos 7) (pos 0) ∷ quotient (negsuc (2 ^ 31 - 1)) (negsuc 0) ∷ remainder (negsuc (2 ^ 31 - 1)) (negsuc 0) ∷ []
+undefined_quotients : quotient (pos 7) (pos 0) ∷ remainder (pos 7) (pos 0)
+    ∷ quotient (negsuc (2 ^ 31 - 1)) (negsuc 0) ∷ remainder (negsuc (2 ^ 31 - 1)) (negsuc 0) ∷ []
     ≡ None ∷ None ∷ None ∷ None ∷ []
 undefined_quotients = refl
 
@@ -31,10 +32,12 @@ left_shifts : shifted_left 3 (pos 31) ∷ shifted_left 3 (pos 32) ∷ shifted_le
 left_shifts = refl
 
 -- the least int, and -7, shifted as signed and as unsigned
-right_shifts : shifted_right 0x80000000 (pos 31) true ∷ shifted_right 0x80000000 (pos 31) false ∷ shifted_right 0xfffffff9 (pos 1) true ∷ shifted_right 0xfffffff9 (pos 1) false ∷ []
+right_shifts : shifted_right 0x80000000 (pos 31) true ∷ shifted_right 0x80000000 (pos 31) false
+    ∷ shifted_right 0xfffffff9 (pos 1) true ∷ shifted_right 0xfffffff9 (pos 1) false ∷ []
     ≡ Some 0xffffffff ∷ Some 1 ∷ Some 0xfffffffc ∷ Some 0x7ffffffc ∷ []
 right_shifts = refl
 
-undefined_right_shifts : shifted_right 1 (pos 32) true ∷ shifted_right 1 (negsuc 0) true ∷ shifted_right 1 (pos 32) false ∷ shifted_right 1 (negsuc 0) false ∷ []
+undefined_right_shifts : shifted_right 1 (pos 32) true ∷ shifted_right 1 (negsuc 0) true
+    ∷ shifted_right 1 (pos 32) false ∷ shifted_right 1 (negsuc 0) false ∷ []
     ≡ None ∷ None ∷ None ∷ None ∷ []
 undefined_right_shifts = refl

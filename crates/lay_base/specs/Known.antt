@@ -1,4 +1,4 @@
--- Counts of faults, and contents that an object of the outside may tell.
+-- Counts of faults of an object of the outside, and its contents where they are known.
 use Rattle.std.specs.Prelude.{◌≡◌, ◌≢◌, ℕ, ◌+◌, ◌-◌, ◌^◌, ◌≤◌, min, List, ◌++◌, Option, Some, None, option_map, Result, Ok, Err, ⊤}
 
 -- one more than a count, which stops at its last value
@@ -19,9 +19,9 @@ abbrev pub Contents : Type 0
 Contents = List ℕ → Option (List ℕ)
 
 -- a fact of the file under a name, where the files are known
-abbrev pub Tells : Option Contents → List ℕ → (Option (List ℕ) → Type 0) → Type 0
-Tells None name P = ⊤
-Tells (Some files) name P = P (files name)
+abbrev pub IfKnown : Option Contents → List ℕ → (Option (List ℕ) → Type 0) → Type 0
+IfKnown None name P = ⊤
+IfKnown (Some files) name P = P (files name)
 
 -- known bytes stay as they are, and unknown bytes unknown
 abbrev pub Keeps : Option (List ℕ) → Option (List ℕ) → Type 0

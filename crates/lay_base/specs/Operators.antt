@@ -1,6 +1,7 @@
 -- `/`, `%`, `<<` and `>>` on integers of 32 bits (C99 6.5.5 and 6.5.7). None stands where a
 -- program's behaviour is undefined. A signed integer is its number, and an unsigned one its bits.
-use Rattle.std.specs.Prelude.{◌≡◌, ◌⊎◌, ℕ, ◌-◌, ◌*◌, ◌/◌, ◌%◌, ◌^◌, Bool, not, ◌&&◌, if◌then◌else◌, nat_lt, ℤ, pos, negsuc, int_le, int_div, int_rem, Option, None}
+use Rattle.std.specs.Prelude.{◌≡◌, ◌⊎◌, ℕ, ◌-◌, ◌*◌, ◌/◌, ◌%◌, ◌^◌, Bool, not, ◌&&◌, if◌then◌else◌, nat_lt, ℤ, pos, negsuc, int_le, int_div, int_rem}
+use Rattle.std.specs.Prelude.{Option, None}
 use Rattle.std.specs.Bool.{then_some}
 use Rattle.std.specs.Ordering.{int_eq}
 use Rattle.std.specs.Int.{w32, cast_signed, cast_unsigned, int_shr}

@@ -90,6 +90,11 @@ impl<T> List<T> {
         ensures ok { OnOk result (self.new ≡ self.old ++ item ∷ []) }
         ensures err { MatchResult result (λ _. Unit {0}) (λ back. (back ≡ item) × (self.new ≡ self.old)) }
     {
+        // Many lists have one item, so the room grows from one on and doubles. A vector would begin with four.
+        let len = self.items.len();
+        if len == self.items.capacity() && self.items.reserve_exact(len.max(1)).is_err() {
+            return Err(item);
+        }
         match self.items.push(item) {
             Ok(()) => Ok(()),
             Err(failed) => {

@@ -1,4 +1,4 @@
-//! Objects in memory that tell all they hold and fail at the calls that they are given.
+//! Objects in memory, whose contents are known, and which fail at the calls that they are given.
 
 mod host;
 mod plan;

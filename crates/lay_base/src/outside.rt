@@ -1,7 +1,7 @@
 //! What a program reads from and writes to: sources and sinks of bytes, and a host of files.
 //!
-//! Each object counts its failed calls, and may tell what it holds. A call fails only where a
-//! count rises or stands at its last value, `u64::MAX`.
+//! Each object counts its failed calls, and its contents are known or unknown to contracts. A call
+//! fails only where a count rises or stands at its last value, `u64::MAX`.
 
 ghost use Rattle.std.specs.Prelude.{◌≡◌, ◌≤◌, ℕ, List, Option, IsOk};
 ghost use Rattle.lay_base.specs.Calls.{NextGives, PutGives, ReadGives, WriteGives};
@@ -88,5 +88,6 @@ pub trait Host {
         ensures reads { Raises (failed_reads self.old) (failed_reads self.new) result }
         ensures writes { Raises (failed_writes self.old) (failed_writes self.new) result }
         ensures others { FilesKeepBut name.now (files self.old) (files self.new) }
-        ensures gives { WriteGives (failed_writes self.old name.now) (failed_writes self.new name.now) (files self.old) (files self.new) name.now bytes.now result };
+        ensures gives { WriteGives (failed_writes self.old name.now) (failed_writes self.new name.now) (files self.old) (files self.new)
+            name.now bytes.now result };
 }

@@ -1,50 +1,70 @@
-//! `layc`, a whole-program C compiler for RV32IM, and a machine for what it compiles: the top call,
-//! the real objects that it is given, and the program. The program that `run` runs reads standard
-//! input and writes to standard output.
-//!
-//! It stands on every crate of the repository. The contract of `top::layc` says of every outcome
-//! when it comes and what it leaves; the definitions that it cites are in `specs/`.
+//! `layc`, a whole-program C compiler for RV32IM, and a machine for what it compiles: the commands of
+//! `lay_commands` on the real files and streams. The program that `run` runs reads standard input and
+//! writes to standard output.
 #![tactic(auto)]
 
 mod adapters;
-mod compiling;
-mod outcome;
-mod running;
 #[cfg(test)]
 mod tests;
-mod top;
-mod words;
 
 use adapters::{FileHost, StdSink, StdSource};
-use outcome::status_of;
+use lay_base::NoMemory;
+use lay_commands::{Outcome, layc, status_of};
+use refusals::{Refusal, put_refusal};
 use std::env;
+use std::io::{BufReader, ErrorKind};
 use std::process::ExitCode;
-use top::layc;
 
 /// The words after the program's own name. Where the system does not give them as text, there
 /// are none, which asks for nothing.
-fn words_of(rt: &HostRuntime) -> Vec<String> {
+fn words_of(rt: &HostRuntime) -> Result<Vec<String>, NoMemory> {
     let mut words = Vec::new(rt.alloc());
-    if let Ok(args) = env::args(rt) {
-        for word in args.skip(1) {
-            if words.push(word).is_err() {
-                words.clear();
-                break;
+    match env::args(rt) {
+        Ok(args) => {
+            for word in args.skip(1) {
+                if words.push(word).is_err() {
+                    return Err(NoMemory);
+                }
+            }
+            Ok(words)
+        }
+        Err(e) => {
+            if e.kind() == ErrorKind::OutOfMemory {
+                Err(NoMemory)
+            } else {
+                Ok(words)
             }
         }
     }
-    words
+}
+
+/// Does what the words ask for. Standard input is read in pieces, each of which is used at once however
+/// short it is.
+fn outcome_of(rt: &HostRuntime) -> Result<Outcome, NoMemory> {
+    let words = words_of(rt)?;
+    let Ok(input) = BufReader::new(rt.alloc(), rt.stdin()) else {
+        return Err(NoMemory);
+    };
+    Ok(layc(
+        rt.alloc(),
+        &words,
+        &mut FileHost::new(rt),
+        &mut StdSource::new(input),
+        &mut StdSink::new(rt.stdout()),
+        &mut StdSink::new(rt.stderr()),
+    ))
+}
+
+/// The refusal for want of memory before a command is known, whose text goes to standard error.
+fn refused_for_memory(rt: &HostRuntime) -> Outcome {
+    let _ = put_refusal(&mut StdSink::new(rt.stderr()), &Refusal::Memory, b"", b"");
+    Outcome::Refused(Refusal::Memory)
 }
 
 fn main(rt: HostRuntime) -> ExitCode {
-    let words = words_of(&rt);
-    let outcome = layc(
-        rt.alloc(),
-        &words,
-        &mut FileHost::new(&rt),
-        &mut StdSource::new(rt.stdin()),
-        &mut StdSink::new(rt.stdout()),
-        &mut StdSink::new(rt.stderr()),
-    );
+    let outcome = match outcome_of(&rt) {
+        Ok(outcome) => outcome,
+        Err(NoMemory) => refused_for_memory(&rt),
+    };
     ExitCode::from(status_of(&outcome))
 }

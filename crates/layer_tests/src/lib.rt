@@ -8,8 +8,6 @@
 #[cfg(test)]
 mod elf_files;
 #[cfg(test)]
-mod instructions;
-#[cfg(test)]
 mod machine_runs;
 #[cfg(test)]
 mod memory_objects;
@@ -19,5 +17,3 @@ mod refusal_texts;
 mod thin_programs;
 #[cfg(test)]
 mod thin_texts;
-#[cfg(test)]
-mod trees;

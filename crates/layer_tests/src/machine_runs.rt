@@ -356,7 +356,7 @@ fn data_and_code(alloc: Global, run: &Run) -> Result<Image, AllocError>
 }
 
 /// The name of an end, with the number that it has.
-fn known(end: MachineEnd) -> (&'static str, u64) {
+fn name_and_number(end: MachineEnd) -> (&'static str, u64) {
     match end {
         MachineEnd::Exits(status) => ("exit", status as u64),
         MachineEnd::Trap(TrapKind::Unmapped, pc) => ("unmapped", pc as u64),
@@ -389,7 +389,7 @@ fn has_registers(machine: &Machine, registers: &[(u8, u32)]) -> bool {
 
 /// What a machine that has run shows otherwise than it should.
 fn difference(end: MachineEnd, machine: &Machine, sink: &MemSink, run: &Run) -> &'static str {
-    if known(end) != run.end {
+    if name_and_number(end) != run.end {
         "the end"
     } else if machine.steps() != run.steps {
         "the steps"

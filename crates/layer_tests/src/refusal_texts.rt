@@ -37,7 +37,9 @@ static NAMELESS: [(u8, u8, &str); 22] = [
     (
         28,
         120,
-        "usage: layc compile -o OUT [--profile P] [--plain] [--heap MIB] [--stack MIB] FILE...\n       layc profile -o P [--turns N] FILE...\n       layc interp [--turns N] FILE...\n       layc run [--steps N] ELF\n       layc bench N\n",
+        "usage: layc compile -o OUT [--profile P] [--plain] [--heap MIB] [--stack MIB] FILE...\n       \
+         layc profile -o P [--turns N] FILE...\n       layc interp [--turns N] FILE...\n       \
+         layc run [--steps N] ELF\n       layc bench N\n",
     ),
     (31, 127, "layc: out of memory\n"),
 ];

@@ -1,11 +1,11 @@
 //! The code of a small program, from its text.
 
-use thin_parser::thin;
 use lay_base::NoMemory;
 use rv_isa::Image;
 use std::alloc::Global;
 use std::test::Fail;
 use thin_code::image_of_thin;
+use thin_parser::thin;
 
 const TEXT: &[u8] = b"int putchar(int); int main(void){putchar(7 * 4094); return 3;}";
 

@@ -1,9 +1,9 @@
 //! Texts that are thin programs, with what they are read as, and texts that are none.
 
-use thin_parser::{Sum, Thin, thin};
 use lay_base::NoMemory;
 use std::alloc::{AllocError, Global};
 use std::test::Fail;
+use thin_parser::{Sum, Thin, thin};
 
 /// Whether putchar is declared, how often it is called, and whether a sum is returned.
 fn parts_of(thin: &Thin) -> (bool, usize, bool) {

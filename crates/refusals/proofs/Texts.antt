@@ -1,7 +1,8 @@
 -- Laws of the texts of refusals.
 use Rattle.std.proofs.Common.{◌≡◌, ℕ, List, [], ◌∷◌, ◌++◌, append_assoc, refl}
 use Rattle.refusals.specs.declared.refusal.Refusal.{Refusal}
-use Rattle.refusals.specs.declared.refusal.Refusal.TheVariants.{BadByte, BadLiteral, Unclosed, TooWide, NoParse, Unsupported, TooBig, IllTyped, Undeclared, Redeclared, Twice, TagClash, Undefined, NameClash}
+use Rattle.refusals.specs.declared.refusal.Refusal.TheVariants.{BadByte, BadLiteral, Unclosed, TooWide, NoParse, Unsupported, TooBig, IllTyped}
+use Rattle.refusals.specs.declared.refusal.Refusal.TheVariants.{Undeclared, Redeclared, Twice, TagClash, Undefined, NameClash}
 use Rattle.refusals.specs.Table.{HasPlace, line, refusal_text}
 
 -- a text with no place in it is the same for any texts of places

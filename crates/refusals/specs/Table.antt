@@ -5,7 +5,10 @@ use Rattle.lay_base.specs.declared.faults.Stale.{Stale as Difference}
 use Rattle.lay_base.specs.declared.faults.StaleKind.{StaleKind}
 use Rattle.lay_base.specs.declared.faults.StaleKind.TheVariants.{Functions, Order, Loops, Arms}
 use Rattle.refusals.specs.declared.refusal.Refusal.{Refusal}
-use Rattle.refusals.specs.declared.refusal.Refusal.TheVariants.{BadByte, BadLiteral, Unclosed, TooWide, NoParse, Unsupported, TooBig, IllTyped, Undeclared, Redeclared, Missing, Twice, TagClash, NoMain, Limit, Undefined, TurnLimit, Room, ReadFault, WriteFault, BadProfile, Stale, BadElf, Trap, Break, StepLimit, Usage, FileFault, TooLong, Memory, NameClash, NotBuilt}
+use Rattle.refusals.specs.declared.refusal.Refusal.TheVariants.{BadByte, BadLiteral, Unclosed, TooWide, NoParse, Unsupported, TooBig, IllTyped}
+use Rattle.refusals.specs.declared.refusal.Refusal.TheVariants.{Undeclared, Redeclared, Missing, Twice, TagClash, NoMain, Limit, Undefined, TurnLimit}
+use Rattle.refusals.specs.declared.refusal.Refusal.TheVariants.{Room, ReadFault, WriteFault, BadProfile, Stale, BadElf, Trap, Break, StepLimit, Usage}
+use Rattle.refusals.specs.declared.refusal.Refusal.TheVariants.{FileFault, TooLong, Memory, NameClash, NotBuilt}
 use Rattle.lay_base.specs.Keywords.{keyword_text}
 use Rattle.refusals.specs.Names.{rule_name, limit_name, room_name, undefined_name, trap_name, field_name}
 

@@ -1,8 +1,8 @@
 //! Refusals: every reason for which a command ends without its result, with its code, its exit
 //! status and its text.
 //!
-//! It stands on `lay_base`, and on `c_lexer` for the spelling of keywords. It promises that what is
-//! written for a refusal is the text of the table, or a first part of it where the sink failed.
+//! It stands on `lay_base`. It promises that what is written for a refusal is the text of the table, or
+//! a first part of it where the sink failed.
 #![tactic(auto)]
 
 mod lines;

@@ -46,7 +46,9 @@ branch_bits n lt = by_sign (λ z. low_bits 13 z ≡ n) 13 n (λ l. omega arith) 
 
 -- each 13 bits, the lowest of them 0, are a distance in range
 pub branch_fits : (n : ℕ) → n < 2 ^ 13 → n % 2 ≡ 0 → IsBranchDistance (signed 13 n)
-branch_fits n lt even = by_sign IsBranchDistance 13 n (λ l. (omega (arith, ints), omega (arith, ints), omega arith)) (λ h. (omega (arith, ints), omega (arith, ints), omega arith))
+branch_fits n lt even =
+    by_sign IsBranchDistance 13 n (λ l. (omega (arith, ints), omega (arith, ints), omega arith))
+    (λ h. (omega (arith, ints), omega (arith, ints), omega arith))
 
 -- ---- 21 bits
 
@@ -61,4 +63,6 @@ distance_bits n lt = by_sign (λ z. low_bits 21 z ≡ n) 21 n (λ l. omega arith
 
 -- each 21 bits, the lowest of them 0, are a distance in range
 pub distance_fits : (n : ℕ) → n < 2 ^ 21 → n % 2 ≡ 0 → IsDistance (signed 21 n)
-distance_fits n lt even = by_sign IsDistance 21 n (λ l. (omega (arith, ints), omega (arith, ints), omega arith)) (λ h. (omega (arith, ints), omega (arith, ints), omega arith))
+distance_fits n lt even =
+    by_sign IsDistance 21 n (λ l. (omega (arith, ints), omega (arith, ints), omega arith))
+    (λ h. (omega (arith, ints), omega (arith, ints), omega arith))

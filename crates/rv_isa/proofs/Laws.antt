@@ -5,27 +5,37 @@ use Rattle.std.specs.Prelude.{IfSome, MatchOption, ◌&&◌}
 use Rattle.std.proofs.lemmas.Bool.{cond_both, eqb-true, and_parts}
 use Rattle.rv_isa.specs.declared.fields.Fields.{Fields}
 use Rattle.rv_isa.specs.declared.instruction.Inst.{Inst}
-use Rattle.rv_isa.specs.declared.instruction.Inst.TheVariants.{Lui, Auipc, Jal, Jalr, Beq, Bne, Blt, Bge, Bltu, Bgeu, Lb, Lh, Lw, Lbu, Lhu, Sb, Sh, Sw, Addi, Slti, Sltiu, Xori, Ori, Andi, Slli, Srli, Srai, Add, Sub, Sll, Slt, Sltu, Xor, Srl, Sra, Or, And, Mul, Mulh, Mulhsu, Mulhu, Div, Divu, Rem, Remu, Fence, Ecall, Ebreak}
+use Rattle.rv_isa.specs.declared.instruction.Inst.TheVariants.{Lui, Auipc, Jal, Jalr, Beq, Bne, Blt, Bge, Bltu, Bgeu, Lb, Lh, Lw, Lbu, Lhu, Sb, Sh}
+use Rattle.rv_isa.specs.declared.instruction.Inst.TheVariants.{Sw, Addi, Slti, Sltiu, Xori, Ori, Andi, Slli, Srli, Srai, Add, Sub, Sll, Slt, Sltu}
+use Rattle.rv_isa.specs.declared.instruction.Inst.TheVariants.{Xor, Srl, Sra, Or, And, Mul, Mulh, Mulhsu, Mulhu, Div, Divu, Rem, Remu, Fence, Ecall}
+use Rattle.rv_isa.specs.declared.instruction.Inst.TheVariants.{Ebreak}
 use Rattle.rv_isa.specs.Fields.{word, fields_of, InRange}
 use Rattle.rv_isa.specs.TwosComplement.{signed, low_bits}
-use Rattle.rv_isa.specs.Encoding.{format_r, format_i, format_s, format_b, format_u, format_j, row, encoding, IsRegister, IsShort, IsBranchDistance, IsDistance, IsInRange}
-use Rattle.rv_isa.specs.Decoding.{imm_i, imm_s, imm_b, imm_u, imm_j, by_opcode, decoded, indirect_jump_of, branch_of, load_of, store_of, right_shift_of, immediate_of, basic_of, other_of, product_of, register_of, fence_of, system_of}
+use Rattle.rv_isa.specs.Encoding.{format_r, format_i, format_s, format_b, format_u, format_j, row, encoding, IsRegister, IsShort, IsBranchDistance}
+use Rattle.rv_isa.specs.Encoding.{IsDistance, IsInRange}
+use Rattle.rv_isa.specs.Decoding.{imm_i, imm_s, imm_b, imm_u, imm_j, by_opcode, decoded, indirect_jump_of, branch_of, load_of, store_of}
+use Rattle.rv_isa.specs.Decoding.{right_shift_of, immediate_of, basic_of, other_of, product_of, register_of, fence_of, system_of}
 use Rattle.rv_isa.proofs.Words.{same_fields, fields_of_word, word_of_fields, fields_fit, word_fits}
-use Rattle.rv_isa.proofs.Immediates.{short_again, short_bits, short_fits, amount_again, amount_fits, branch_again, branch_bits, branch_fits, distance_again, distance_bits, distance_fits}
+use Rattle.rv_isa.proofs.Immediates.{short_again, short_bits, short_fits, amount_again, amount_fits, branch_again, branch_bits, branch_fits}
+use Rattle.rv_isa.proofs.Immediates.{distance_again, distance_bits, distance_fits}
 
 -- ---- the fields of each row are in range
 
 -- of each format
-r_fits : (funct7 rs2 rs1 funct3 rd opcode : ℕ) → funct7 < 2 ^ 7 → IsRegister rs2 → IsRegister rs1 → funct3 < 2 ^ 3 → IsRegister rd → opcode < 2 ^ 7 → InRange (format_r funct7 rs2 rs1 funct3 rd opcode)
+r_fits : (funct7 rs2 rs1 funct3 rd opcode : ℕ) → funct7 < 2 ^ 7 → IsRegister rs2 → IsRegister rs1 → funct3 < 2 ^ 3 → IsRegister rd → opcode < 2 ^ 7
+    → InRange (format_r funct7 rs2 rs1 funct3 rd opcode)
 r_fits funct7 rs2 rs1 funct3 rd opcode a b c d e h = record { funct7 = a; rs2 = b; rs1 = c; funct3 = d; rd = e; opcode = h }
 
-i_fits : (imm : ℤ) (rs1 funct3 rd opcode : ℕ) → IsRegister rs1 → funct3 < 2 ^ 3 → IsRegister rd → opcode < 2 ^ 7 → InRange (format_i (low_bits 12 imm) rs1 funct3 rd opcode)
+i_fits : (imm : ℤ) (rs1 funct3 rd opcode : ℕ) → IsRegister rs1 → funct3 < 2 ^ 3 → IsRegister rd → opcode < 2 ^ 7
+    → InRange (format_i (low_bits 12 imm) rs1 funct3 rd opcode)
 i_fits imm rs1 funct3 rd opcode c d e h = r_fits _ _ _ _ _ _ (omega arith) (omega arith) c d e h
 
-s_fits : (imm : ℤ) (rs2 rs1 funct3 opcode : ℕ) → IsRegister rs2 → IsRegister rs1 → funct3 < 2 ^ 3 → opcode < 2 ^ 7 → InRange (format_s (low_bits 12 imm) rs2 rs1 funct3 opcode)
+s_fits : (imm : ℤ) (rs2 rs1 funct3 opcode : ℕ) → IsRegister rs2 → IsRegister rs1 → funct3 < 2 ^ 3 → opcode < 2 ^ 7
+    → InRange (format_s (low_bits 12 imm) rs2 rs1 funct3 opcode)
 s_fits imm rs2 rs1 funct3 opcode b c d h = r_fits _ _ _ _ _ _ (omega arith) b c d (omega arith) h
 
-b_fits : (imm : ℤ) (rs2 rs1 funct3 opcode : ℕ) → IsRegister rs2 → IsRegister rs1 → funct3 < 2 ^ 3 → opcode < 2 ^ 7 → InRange (format_b (low_bits 13 imm) rs2 rs1 funct3 opcode)
+b_fits : (imm : ℤ) (rs2 rs1 funct3 opcode : ℕ) → IsRegister rs2 → IsRegister rs1 → funct3 < 2 ^ 3 → opcode < 2 ^ 7
+    → InRange (format_b (low_bits 13 imm) rs2 rs1 funct3 opcode)
 b_fits imm rs2 rs1 funct3 opcode b c d h = r_fits _ _ _ _ _ _ (omega arith) b c d (omega arith) h
 
 u_fits : (imm rd opcode : ℕ) → imm < 2 ^ 20 → IsRegister rd → opcode < 2 ^ 7 → InRange (format_u imm rd opcode)
@@ -162,7 +172,8 @@ pub record Means (f : Fields) (i : Inst) : Type 0 where
   pub row : row i ≡ f
 
 -- the format of what was read gives the same fields
-r_fields : (f : Fields) (funct7 funct3 opcode : ℕ) → f.funct7 ≡ funct7 → f.funct3 ≡ funct3 → f.opcode ≡ opcode → format_r funct7 f.rs2 f.rs1 funct3 f.rd opcode ≡ f
+r_fields : (f : Fields) (funct7 funct3 opcode : ℕ) → f.funct7 ≡ funct7 → f.funct3 ≡ funct3 → f.opcode ≡ opcode
+    → format_r funct7 f.rs2 f.rs1 funct3 f.rd opcode ≡ f
 r_fields f funct7 funct3 opcode a d h = same_fields (format_r funct7 f.rs2 f.rs1 funct3 f.rd opcode) f (sym a) refl refl (sym d) refl (sym h)
 
 i_fields : (f : Fields) (funct3 opcode : ℕ) → InRange f → f.funct3 ≡ funct3 → f.opcode ≡ opcode → format_i (low_bits 12 (imm_i f)) f.rs1 funct3 f.rd opcode ≡ f
@@ -186,8 +197,10 @@ b_fields f funct3 opcode r d h =
     ∙ same_fields (format_b (bits_b f) f.rs2 f.rs1 funct3 opcode) f (omega arith) refl refl (sym d) (omega arith) (sym h)
 
 -- an amount is no more than its bits
-amount_fields : (f : Fields) (funct7 funct3 opcode : ℕ) → InRange f → f.funct7 ≡ funct7 → f.funct3 ≡ funct3 → f.opcode ≡ opcode → format_r funct7 (low_bits 5 (pos f.rs2)) f.rs1 funct3 f.rd opcode ≡ f
-amount_fields f funct7 funct3 opcode r a d h = same_fields (format_r funct7 (low_bits 5 (pos f.rs2)) f.rs1 funct3 f.rd opcode) f (sym a) (omega arith) refl (sym d) refl (sym h)
+amount_fields : (f : Fields) (funct7 funct3 opcode : ℕ) → InRange f → f.funct7 ≡ funct7 → f.funct3 ≡ funct3 → f.opcode ≡ opcode
+    → format_r funct7 (low_bits 5 (pos f.rs2)) f.rs1 funct3 f.rd opcode ≡ f
+amount_fields f funct7 funct3 opcode r a d h =
+    same_fields (format_r funct7 (low_bits 5 (pos f.rs2)) f.rs1 funct3 f.rd opcode) f (sym a) (omega arith) refl (sym d) refl (sym h)
 
 u_fields : (f : Fields) (opcode : ℕ) → InRange f → f.opcode ≡ opcode → format_u (imm_u f) f.rd opcode ≡ f
 u_fields f opcode r h = same_fields (format_u (imm_u f) f.rd opcode) f (omega arith) (omega arith) (omega arith) (omega arith) refl (sym h)
@@ -203,12 +216,14 @@ j_fields f opcode r h =
     ∙ same_fields (format_j (bits_j f) f.rd opcode) f (omega arith) (omega arith) (omega arith) (omega arith) refl (sym h)
 
 -- the tests of a system instruction
-system_fields : (f : Fields) (rs2 : ℕ) → (eqb f.funct7 0 && eqb f.rs1 0 && eqb f.funct3 0 && eqb f.rd 0) ≡ true → f.rs2 ≡ rs2 → f.opcode ≡ 0x73 → format_r 0 rs2 0 0 0 0x73 ≡ f
+system_fields : (f : Fields) (rs2 : ℕ) → (eqb f.funct7 0 && eqb f.rs1 0 && eqb f.funct3 0 && eqb f.rd 0) ≡ true → f.rs2 ≡ rs2 → f.opcode ≡ 0x73
+    → format_r 0 rs2 0 0 0 0x73 ≡ f
 system_fields f rs2 t two h =
     let p = and_parts (eqb f.funct7 0 && eqb f.rs1 0 && eqb f.funct3 0) (eqb f.rd 0) t in
     let q = and_parts (eqb f.funct7 0 && eqb f.rs1 0) (eqb f.funct3 0) p.0 in
     let s = and_parts (eqb f.funct7 0) (eqb f.rs1 0) q.0 in
-    same_fields (format_r 0 rs2 0 0 0 0x73) f (sym (eqb-true _ _ s.0)) (sym two) (sym (eqb-true _ _ s.1)) (sym (eqb-true _ _ q.1)) (sym (eqb-true _ _ p.1)) (sym h)
+    same_fields (format_r 0 rs2 0 0 0 0x73) f (sym (eqb-true _ _ s.0)) (sym two) (sym (eqb-true _ _ s.1)) (sym (eqb-true _ _ q.1))
+    (sym (eqb-true _ _ p.1)) (sym h)
 
 -- ---- a chain of tests, link by link
 
@@ -226,12 +241,30 @@ module _ (f : Fields) (r : InRange f) where
 
   branch_sound : f.opcode ≡ 0x63 → IfSome (branch_of f) (Means f)
   branch_sound o =
-      test (Means f) f.funct3 0 _ _ (λ z. record { in_range = (r.rs1, r.rs2, branch_fits (bits_b f) (omega arith) (omega arith)); row = b_fields f 0 0x63 r z o })
-      (test (Means f) f.funct3 1 _ _ (λ z. record { in_range = (r.rs1, r.rs2, branch_fits (bits_b f) (omega arith) (omega arith)); row = b_fields f 1 0x63 r z o })
-      (test (Means f) f.funct3 4 _ _ (λ z. record { in_range = (r.rs1, r.rs2, branch_fits (bits_b f) (omega arith) (omega arith)); row = b_fields f 4 0x63 r z o })
-      (test (Means f) f.funct3 5 _ _ (λ z. record { in_range = (r.rs1, r.rs2, branch_fits (bits_b f) (omega arith) (omega arith)); row = b_fields f 5 0x63 r z o })
-      (test (Means f) f.funct3 6 _ _ (λ z. record { in_range = (r.rs1, r.rs2, branch_fits (bits_b f) (omega arith) (omega arith)); row = b_fields f 6 0x63 r z o })
-      (test (Means f) f.funct3 7 _ _ (λ z. record { in_range = (r.rs1, r.rs2, branch_fits (bits_b f) (omega arith) (omega arith)); row = b_fields f 7 0x63 r z o }) tt)))))
+      test (Means f) f.funct3 0 _ _ (λ z. record {
+        in_range = (r.rs1, r.rs2, branch_fits (bits_b f) (omega arith) (omega arith));
+        row = b_fields f 0 0x63 r z o;
+      })
+      (test (Means f) f.funct3 1 _ _ (λ z. record {
+        in_range = (r.rs1, r.rs2, branch_fits (bits_b f) (omega arith) (omega arith));
+        row = b_fields f 1 0x63 r z o;
+      })
+      (test (Means f) f.funct3 4 _ _ (λ z. record {
+        in_range = (r.rs1, r.rs2, branch_fits (bits_b f) (omega arith) (omega arith));
+        row = b_fields f 4 0x63 r z o;
+      })
+      (test (Means f) f.funct3 5 _ _ (λ z. record {
+        in_range = (r.rs1, r.rs2, branch_fits (bits_b f) (omega arith) (omega arith));
+        row = b_fields f 5 0x63 r z o;
+      })
+      (test (Means f) f.funct3 6 _ _ (λ z. record {
+        in_range = (r.rs1, r.rs2, branch_fits (bits_b f) (omega arith) (omega arith));
+        row = b_fields f 6 0x63 r z o;
+      })
+      (test (Means f) f.funct3 7 _ _ (λ z. record {
+        in_range = (r.rs1, r.rs2, branch_fits (bits_b f) (omega arith) (omega arith));
+        row = b_fields f 7 0x63 r z o;
+      }) tt)))))
 
   load_sound : f.opcode ≡ 0x03 → IfSome (load_of f) (Means f)
   load_sound o =
@@ -253,7 +286,8 @@ module _ (f : Fields) (r : InRange f) where
       (test (Means f) f.funct7 0x20 _ _ (λ g. record { in_range = (r.rd, r.rs1, amount_fits f.rs2 r.rs2); row = amount_fields f 0x20 5 0x13 r g z o }) tt)
 
   left_shift_sound : f.opcode ≡ 0x13 → f.funct3 ≡ 1 → IfSome (cond (eqb f.funct7 0) (Some (Slli f.rd f.rs1 (pos f.rs2))) None) (Means f)
-  left_shift_sound o z = test (Means f) f.funct7 0 _ _ (λ g. record { in_range = (r.rd, r.rs1, amount_fits f.rs2 r.rs2); row = amount_fields f 0 1 0x13 r g z o }) tt
+  left_shift_sound o z =
+      test (Means f) f.funct7 0 _ _ (λ g. record { in_range = (r.rd, r.rs1, amount_fits f.rs2 r.rs2); row = amount_fields f 0 1 0x13 r g z o }) tt
 
   immediate_sound : f.opcode ≡ 0x13 → IfSome (immediate_of f) (Means f)
   immediate_sound o =
@@ -304,7 +338,8 @@ module _ (f : Fields) (r : InRange f) where
 
   system_sound : f.opcode ≡ 0x73 → IfSome (system_of f) (Means f)
   system_sound o =
-      link (Means f) (eqb f.funct7 0 && eqb f.rs1 0 && eqb f.funct3 0 && eqb f.rd 0) (cond (eqb f.rs2 0) (Some Ecall) (cond (eqb f.rs2 1) (Some Ebreak) None)) None
+      link (Means f) (eqb f.funct7 0 && eqb f.rs1 0 && eqb f.funct3 0 && eqb f.rd 0)
+      (cond (eqb f.rs2 0) (Some Ecall) (cond (eqb f.rs2 1) (Some Ebreak) None)) None
       (λ t.
       test (Means f) f.rs2 0 _ _ (λ z. record { in_range = tt; row = system_fields f 0 t z o })
       (test (Means f) f.rs2 1 _ _ (λ z. record { in_range = tt; row = system_fields f 1 t z o }) tt))
@@ -344,6 +379,7 @@ encoded_again w i lt e =
     (m.in_range, ap word m.row ∙ word_of_fields w lt)
 
 -- the decoder finds exactly the words of the table
-pub of_table : (w : ℕ) (found : Option Inst) → w < 2 ^ 32 → found ≡ decoded w → MatchOption found ((i : Inst) → IsInRange i → encoding i ≡ w → ⊥) (λ i. IsInRange i × (encoding i ≡ w))
+pub of_table : (w : ℕ) (found : Option Inst) → w < 2 ^ 32 → found ≡ decoded w
+    → MatchOption found ((i : Inst) → IsInRange i → encoding i ≡ w → ⊥) (λ i. IsInRange i × (encoding i ≡ w))
 of_table w None lt e = λ i r same. let again : None ≡ Some i = e ∙ ap decoded (sym same) ∙ decoded_again i r in cc
 of_table w (Some i) lt e = encoded_again w i lt (sym e)

@@ -58,9 +58,12 @@ module _ (segments : List Segment) where
 
   -- ---- the state after two parts
 
-  states_by : (m k : ℕ) (s : State) (d : Stepped) → step segments s ≡ d → ((t : State) → state_after segments (m + k) t ≡ state_after segments k (state_after segments m t)) → state_after segments (suc (m + k)) s ≡ state_after segments k (state_after segments (suc m) s)
+  states_by : (m k : ℕ) (s : State) (d : Stepped) → step segments s ≡ d
+      → ((t : State) → state_after segments (m + k) t ≡ state_after segments k (state_after segments m t))
+      → state_after segments (suc (m + k)) s ≡ state_after segments k (state_after segments (suc m) s)
   states_by m k s (Goes t) e h = state_after_goes (m + k) s t e ∙ h t ∙ ap (state_after segments k) (sym (state_after_goes m s t e))
-  states_by m k s (Ends standing) e h = state_after_ends (suc (m + k)) s standing e ∙ sym (state_after_ends k s standing e) ∙ ap (state_after segments k) (sym (state_after_ends (suc m) s standing e))
+  states_by m k s (Ends standing) e h = state_after_ends (suc (m + k)) s standing e ∙ sym (state_after_ends k s standing e)
+      ∙ ap (state_after segments k) (sym (state_after_ends (suc m) s standing e))
 
   -- a state that ended stays, and a further step ends it again
   pub states_compose : (m k : ℕ) (s : State) → state_after segments (m + k) s ≡ state_after segments k (state_after segments m s)
@@ -70,7 +73,9 @@ module _ (segments : List Segment) where
 
   -- ---- the events of two parts
 
-  events_by : (m k : ℕ) (s : State) (d : Stepped) → step segments s ≡ d → ((t : State) → events segments (m + k) t ≡ events segments m t ++ events segments k (state_after segments m t)) → events segments (suc (m + k)) s ≡ events segments (suc m) s ++ events segments k (state_after segments (suc m) s)
+  events_by : (m k : ℕ) (s : State) (d : Stepped) → step segments s ≡ d
+      → ((t : State) → events segments (m + k) t ≡ events segments m t ++ events segments k (state_after segments m t))
+      → events segments (suc (m + k)) s ≡ events segments (suc m) s ++ events segments k (state_after segments (suc m) s)
   events_by m k s (Goes t) e h =
       events_goes (m + k) s t e
       ∙ ap (λ x. step_events segments s t ++ x) (h t)
@@ -91,7 +96,9 @@ module _ (segments : List Segment) where
   -- ---- what a run shows after two parts
 
   -- the output and the input left are those of the state
-  shows_by : (m : ℕ) (s : State) (d : Stepped) → step segments s ≡ d → ((t : State) → run segments m t ≡ shown (run segments m t).standing (state_after segments m t)) → run segments (suc m) s ≡ shown (run segments (suc m) s).standing (state_after segments (suc m) s)
+  shows_by : (m : ℕ) (s : State) (d : Stepped) → step segments s ≡ d
+      → ((t : State) → run segments m t ≡ shown (run segments m t).standing (state_after segments m t))
+      → run segments (suc m) s ≡ shown (run segments (suc m) s).standing (state_after segments (suc m) s)
   shows_by m s (Goes t) e h =
       run_goes m s t e
       ∙ h t
@@ -108,9 +115,12 @@ module _ (segments : List Segment) where
   run_shows_state (suc m) s = shows_by m s (step segments s) refl (run_shows_state m)
 
   -- a state that ended shows its end after each further step
-  runs_by : (m k : ℕ) (s : State) (d : Stepped) → step segments s ≡ d → ((t : State) → run segments (m + suc k) t ≡ run segments (suc k) (state_after segments m t)) → run segments (suc (m + suc k)) s ≡ run segments (suc k) (state_after segments (suc m) s)
+  runs_by : (m k : ℕ) (s : State) (d : Stepped) → step segments s ≡ d
+      → ((t : State) → run segments (m + suc k) t ≡ run segments (suc k) (state_after segments m t))
+      → run segments (suc (m + suc k)) s ≡ run segments (suc k) (state_after segments (suc m) s)
   runs_by m k s (Goes t) e h = run_goes (m + suc k) s t e ∙ h t ∙ ap (run segments (suc k)) (sym (state_after_goes m s t e))
-  runs_by m k s (Ends standing) e h = run_ends (m + suc k) s standing e ∙ sym (run_ends k s standing e) ∙ ap (run segments (suc k)) (sym (state_after_ends (suc m) s standing e))
+  runs_by m k s (Ends standing) e h =
+      run_ends (m + suc k) s standing e ∙ sym (run_ends k s standing e) ∙ ap (run segments (suc k)) (sym (state_after_ends (suc m) s standing e))
 
   pub runs_compose : (m k : ℕ) (s : State) → run segments (m + suc k) s ≡ run segments (suc k) (state_after segments m s)
   unfolding state_after

@@ -2,7 +2,9 @@
 use Rattle.std.proofs.Common.{refl}
 use Rattle.std.specs.Prelude.{◌≡◌, ℕ, List, [], ◌∷◌, map, replicate, pos, negsuc}
 use Rattle.rv_isa.specs.declared.instruction.Inst.{Inst}
-use Rattle.rv_isa.specs.declared.instruction.Inst.TheVariants.{Lui, Auipc, Jal, Jalr, Beq, Bne, Blt, Bge, Bltu, Bgeu, Addi, Slti, Sltiu, Xori, Ori, Andi, Slli, Srli, Srai, Add, Sub, Sll, Slt, Sltu, Xor, Srl, Sra, Or, And, Mul, Mulh, Mulhsu, Mulhu, Div, Divu, Rem, Remu}
+use Rattle.rv_isa.specs.declared.instruction.Inst.TheVariants.{Lui, Auipc, Jal, Jalr, Beq, Bne, Blt, Bge, Bltu, Bgeu, Addi, Slti, Sltiu, Xori, Ori}
+use Rattle.rv_isa.specs.declared.instruction.Inst.TheVariants.{Andi, Slli, Srli, Srai, Add, Sub, Sll, Slt, Sltu, Xor, Srl, Sra, Or, And, Mul, Mulh}
+use Rattle.rv_isa.specs.declared.instruction.Inst.TheVariants.{Mulhsu, Mulhu, Div, Divu, Rem, Remu}
 use Rattle.rv_isa.specs.Step.{State, Goes, executed}
 use Rattle.rv_isa.specs.Run.{start}
 
@@ -64,8 +66,11 @@ arithmetic =
     (Sltu 3 1 2, 1, 0xFFFFFFFF, 1) ∷
     (Slti 3 1 (negsuc 0), 1, 0, 0) ∷
     (Slti 3 1 (negsuc 0), 0x80000000, 0, 1) ∷
+    -- the immediate's sign is extended first, and then both are compared without signs
     (Sltiu 3 1 (negsuc 0), 1, 0, 1) ∷
+    (Sltiu 3 1 (negsuc 0), 0xFFFFFFFE, 0, 1) ∷
     (Sltiu 3 1 (negsuc 0), 0xFFFFFFFF, 0, 0) ∷
+    (Sltiu 3 1 (pos 1), 0xFFFFFFFF, 0, 0) ∷
     -- bit by bit; the immediate's sign is extended
     (And 3 1 2, 0xFF00FF00, 0x0F0F0F0F, 0x0F000F00) ∷
     (Or 3 1 2, 0xFF00FF00, 0x0F0F0F0F, 0xFF0FFF0F) ∷
@@ -117,3 +122,20 @@ jump_steps = refl
 -- the target is read before the register is written
 jump_through_its_own_register : executed [] (at 0x10000 0x20000 0 0) (Jalr 1 1 (pos 4)) ≡ Goes (at 0x20004 0x10004 0 0)
 jump_through_its_own_register = refl
+
+-- ---- the end of the addresses
+
+-- an instruction at the last word, the place of the next one, and the x3 that it gives
+abbrev at_the_end : List (Inst × ℕ × ℕ)
+at_the_end =
+    (Addi 3 0 (pos 5), 0, 5) ∷
+    (Auipc 3 1, 0, 0xFFC) ∷
+    (Beq 1 2 (pos 16), 0, 7) ∷
+    (Bne 1 2 (pos 16), 12, 7) ∷
+    (Jal 3 (pos 16), 12, 0) ∷
+    (Jalr 3 1 (pos 16), 0x20010, 0) ∷
+    []
+
+-- the program counter wraps, also where it becomes the register's value
+end_steps : map (λ row. executed [] (at 0xFFFFFFFC 0x20000 0 7) row.0) at_the_end ≡ map (λ row. Goes (at row.1 0x20000 0 row.2)) at_the_end
+end_steps = refl

@@ -1,5 +1,6 @@
 -- Memory: the byte at each address, and which addresses a program may use for what.
-use Rattle.std.specs.Prelude.{ℕ, zero, suc, ◌+◌, ◌-◌, ◌*◌, ◌/◌, ◌%◌, ◌^◌, nat_le, nat_lt, ◌==◌, ◌&&◌, Bool, true, if◌then◌else◌, List, [], ◌∷◌, length, slice_index, bit_and}
+use Rattle.std.specs.Prelude.{ℕ, zero, suc, ◌+◌, ◌-◌, ◌*◌, ◌/◌, ◌%◌, ◌^◌, nat_le, nat_lt, ◌==◌, ◌&&◌, Bool, true, if◌then◌else◌, List, [], ◌∷◌}
+use Rattle.std.specs.Prelude.{length, slice_index, bit_and}
 use Rattle.std.specs.List.{list_any}
 use Rattle.rv_isa.specs.declared.image.Segment.{Segment}
 
@@ -36,7 +37,8 @@ Memory = ℕ → ℕ
 -- a segment's bytes, and zeros after them
 abbrev pub initial_memory : List Segment → Memory
 initial_memory [] address = 0
-initial_memory (segment ∷ segments) address = if is_in segment address then slice_index segment.bytes (address - segment.at) else initial_memory segments address
+initial_memory (segment ∷ segments) address =
+    if is_in segment address then slice_index segment.bytes (address - segment.at) else initial_memory segments address
 
 -- four bytes, the lowest first
 abbrev pub word_at : Memory → ℕ → ℕ

@@ -1,14 +1,19 @@
 -- One step of the machine (RISC-V unprivileged specification, chapters on RV32I and M).
-use Rattle.std.specs.Prelude.{ℕ, ◌+◌, ◌*◌, ◌/◌, ◌%◌, ◌^◌, min, nat_lt, ◌==◌, ◌&&◌, Bool, not, if◌then◌else◌, List, ◌++◌, take, drop, length, slice_index, slice_set, Option, Some, None, ℤ, bit_and, bit_or, bit_xor}
+use Rattle.std.specs.Prelude.{◌≡◌, ℕ, ◌+◌, ◌*◌, ◌/◌, ◌%◌, ◌^◌, min, nat_lt, ◌==◌, ◌&&◌, Bool, not, if◌then◌else◌, List, ◌++◌, take, drop, length}
+use Rattle.std.specs.Prelude.{slice_index, slice_set, Option, Some, None, ℤ, bit_and, bit_or, bit_xor}
 use Rattle.std.specs.Int.{w8, w16, cast_signed}
 use Rattle.lay_base.specs.declared.faults.TrapKind.{TrapKind}
 use Rattle.lay_base.specs.declared.faults.TrapKind.TheVariants.{Unmapped, Illegal, Jump, Misaligned, Call}
 use Rattle.rv_isa.specs.declared.image.Segment.{Segment}
 use Rattle.rv_isa.specs.declared.instruction.Inst.{Inst}
-use Rattle.rv_isa.specs.declared.instruction.Inst.TheVariants.{Lui, Auipc, Jal, Jalr, Beq, Bne, Blt, Bge, Bltu, Bgeu, Lb, Lh, Lw, Lbu, Lhu, Sb, Sh, Sw, Addi, Slti, Sltiu, Xori, Ori, Andi, Slli, Srli, Srai, Add, Sub, Sll, Slt, Sltu, Xor, Srl, Sra, Or, And, Mul, Mulh, Mulhsu, Mulhu, Div, Divu, Rem, Remu, Fence, Ecall, Ebreak}
+use Rattle.rv_isa.specs.declared.instruction.Inst.TheVariants.{Lui, Auipc, Jal, Jalr, Beq, Bne, Blt, Bge, Bltu, Bgeu, Lb, Lh, Lw, Lbu, Lhu, Sb, Sh}
+use Rattle.rv_isa.specs.declared.instruction.Inst.TheVariants.{Sw, Addi, Slti, Sltiu, Xori, Ori, Andi, Slli, Srli, Srai, Add, Sub, Sll, Slt, Sltu}
+use Rattle.rv_isa.specs.declared.instruction.Inst.TheVariants.{Xor, Srl, Sra, Or, And, Mul, Mulh, Mulhsu, Mulhu, Div, Divu, Rem, Remu, Fence, Ecall}
+use Rattle.rv_isa.specs.declared.instruction.Inst.TheVariants.{Ebreak}
 use Rattle.rv_isa.specs.Memory.{Memory, executable, writable, readable, are_mapped, half_at, word_at, with_byte, with_half, with_word, bytes_at, with_bytes}
 use Rattle.rv_isa.specs.Decoding.{decoded}
-use Rattle.rv_isa.specs.Arithmetic.{one_if, plus, extended, is_less, sum, difference, product, high_signed, high_mixed, high_unsigned, shifted_left, shifted_right, shifted_right_signed, quotient, quotient_unsigned, remainder, remainder_unsigned}
+use Rattle.rv_isa.specs.Arithmetic.{one_if, plus, extended, is_less, sum, difference, product, high_signed, high_mixed, high_unsigned, shifted_left}
+use Rattle.rv_isa.specs.Arithmetic.{shifted_right, shifted_right_signed, quotient, quotient_unsigned, remainder, remainder_unsigned}
 
 -- the registers x0 to x31, the program counter, memory, the input left and the output
 pub record State : Type 0 where
@@ -77,7 +82,11 @@ exit_call s = Ends (Exits (register s 10 % 2 ^ 8))
 abbrev pub write_call : List Segment → State → Stepped
 write_call segments s =
     if are_mapped segments readable (register s 11) (register s 12)
-    then Goes (record s { registers = with_register s.registers 10 (register s 12); pc = next_pc s; output = s.output ++ bytes_at s.memory (register s 11) (register s 12) })
+    then Goes (record s {
+      registers = with_register s.registers 10 (register s 12);
+      pc = next_pc s;
+      output = s.output ++ bytes_at s.memory (register s 11) (register s 12);
+    })
     else traps s Unmapped
 
 -- read: the next bytes of the input, at most a2, come to a1, and a0 gets their number
@@ -85,7 +94,12 @@ abbrev pub read_call : List Segment → State → Stepped
 read_call segments s =
     let n = min (register s 12) (length s.input) in
     if are_mapped segments writable (register s 11) (register s 12)
-    then Goes (record s { registers = with_register s.registers 10 n; pc = next_pc s; memory = with_bytes s.memory (register s 11) (take n s.input); input = drop n s.input })
+    then Goes (record s {
+      registers = with_register s.registers 10 n;
+      pc = next_pc s;
+      memory = with_bytes s.memory (register s 11) (take n s.input);
+      input = drop n s.input;
+    })
     else traps s Unmapped
 
 abbrev pub calls : List Segment → State → Stepped
@@ -107,8 +121,10 @@ executed segments s (Blt rs1 rs2 imm) = branches s (is_less (register s rs1) (re
 executed segments s (Bge rs1 rs2 imm) = branches s (not (is_less (register s rs1) (register s rs2))) imm
 executed segments s (Bltu rs1 rs2 imm) = branches s (nat_lt (register s rs1) (register s rs2)) imm
 executed segments s (Bgeu rs1 rs2 imm) = branches s (not (nat_lt (register s rs1) (register s rs2))) imm
-executed segments s (Lb rd rs1 imm) = let a = plus (register s rs1) imm in accesses segments s readable a 1 (writes s rd (extended (cast_signed w8 (s.memory a))))
-executed segments s (Lh rd rs1 imm) = let a = plus (register s rs1) imm in accesses segments s readable a 2 (writes s rd (extended (cast_signed w16 (half_at s.memory a))))
+executed segments s (Lb rd rs1 imm) =
+    let a = plus (register s rs1) imm in accesses segments s readable a 1 (writes s rd (extended (cast_signed w8 (s.memory a))))
+executed segments s (Lh rd rs1 imm) =
+    let a = plus (register s rs1) imm in accesses segments s readable a 2 (writes s rd (extended (cast_signed w16 (half_at s.memory a))))
 executed segments s (Lw rd rs1 imm) = let a = plus (register s rs1) imm in accesses segments s readable a 4 (writes s rd (word_at s.memory a))
 executed segments s (Lbu rd rs1 imm) = let a = plus (register s rs1) imm in accesses segments s readable a 1 (writes s rd (s.memory a))
 executed segments s (Lhu rd rs1 imm) = let a = plus (register s rs1) imm in accesses segments s readable a 2 (writes s rd (half_at s.memory a))
@@ -155,3 +171,8 @@ performed segments s (Some i) = executed segments s i
 unfoldable pub step : List Segment → State → Stepped
 step segments s =
     if are_mapped segments executable s.pc 4 then performed segments s (decoded (word_at s.memory s.pc)) else traps s Unmapped
+
+-- the state is before a call of the environment with this number
+pub record IsAtCall (number : ℕ) (s : State) : Type 0 where
+  pub instruction : decoded (word_at s.memory s.pc) ≡ Some Ecall
+  pub in_a7 : register s 17 ≡ number

@@ -7,7 +7,7 @@ use Rattle.rv_isa.specs.declared.image.Image.{Image}
 use Rattle.rv_isa.specs.declared.image.Segment.{Segment}
 use Rattle.rv_isa.specs.declared.instruction.Inst.{Inst}
 use Rattle.rv_isa.specs.declared.instruction.Inst.TheVariants.{Lui, Jal, Jalr, Beq, Lb, Lh, Lw, Lbu, Lhu, Sb, Sh, Sw, Addi, Mul, Fence, Ecall, Ebreak}
-use Rattle.rv_isa.specs.Memory.{are_mapped, bytes_at}
+use Rattle.rv_isa.specs.Memory.{are_mapped, word_at, bytes_at}
 use Rattle.rv_isa.specs.Decoding.{decoded}
 use Rattle.rv_isa.specs.Step.{State, Stepped, Exits, Trap, Break, Goes, Ends, register, executed, step}
 use Rattle.rv_isa.specs.Run.{start, run, machine_run}
@@ -34,8 +34,12 @@ data_segment = record { at = 0x20000; size = 6; flags = 6; bytes = data_bytes }
 abbrev zeros : Segment
 zeros = record { at = 0x30000; size = 4; flags = 1; bytes = [] }
 
+-- zeros that may be written and nothing else
+abbrev written_only : Segment
+written_only = record { at = 0x40000; size = 4; flags = 2; bytes = [] }
+
 abbrev segments : List Segment
-segments = code ∷ data_segment ∷ zeros ∷ []
+segments = code ∷ data_segment ∷ zeros ∷ written_only ∷ []
 
 abbrev image : Image
 image = record { entry = 0x10000; segments = segments }
@@ -63,6 +67,11 @@ loads =
     (Lhu 3 1 (pos 0), 0x20000, 0x8000) ∷
     (Lh 3 1 (pos 2), 0x20000, 0x017F) ∷
     (Lw 3 1 (pos 0), 0x20000, 0x017F8000) ∷
+    -- what may be read need not be writable
+    (Lb 3 1 (pos 0), 0x10000, 0x13) ∷
+    (Lbu 3 1 (pos 2), 0x10000, 0xA0) ∷
+    (Lh 3 1 (pos 0), 0x10000, 0x0513) ∷
+    (Lhu 3 1 (pos 2), 0x10000, 0x02A0) ∷
     (Lw 3 1 (pos 8), 0xFFFC, 0x05D00893) ∷
     []
 
@@ -83,9 +92,22 @@ stores =
     (Sw 1 2 (negsuc 3), 0x20004, 0x78 ∷ 0x56 ∷ 0x34 ∷ 0x12 ∷ 0xFE ∷ 0xCA ∷ []) ∷
     []
 
-store_steps : map (λ row. after (executed segments (with_values row.1 0x12345678) row.0)) stores ≡ map (λ row. Some ((with_values row.1 0x12345678).registers, 0x10004, row.2)) stores
+store_steps : map (λ row. after (executed segments (with_values row.1 0x12345678) row.0)) stores
+    ≡ map (λ row. Some ((with_values row.1 0x12345678).registers, 0x10004, row.2)) stores
 unfolding are_mapped bytes_at
 store_steps = refl
+
+-- what may be written need not be readable: an instruction that stores there from an x2 of 0x12345678, and the word that stands there then
+abbrev blind_stores : List (Inst × ℕ)
+blind_stores = (Sb 1 2 (pos 1), 0x00007800) ∷ (Sh 1 2 (pos 2), 0x56780000) ∷ (Sw 1 2 (pos 0), 0x12345678) ∷ []
+
+abbrev word_after : Stepped → Option ℕ
+word_after (Goes t) = Some (word_at t.memory 0x40000)
+word_after (Ends standing) = None
+
+blind_store_steps : map (λ row. word_after (executed segments (with_values 0x40000 0x12345678) row.0)) blind_stores ≡ map (λ row. Some row.1) blind_stores
+unfolding are_mapped
+blind_store_steps = refl
 
 -- ---- x0, FENCE and EBREAK
 
@@ -96,6 +118,10 @@ to_x0 = Addi 0 0 (pos 5) ∷ Lui 0 1 ∷ Mul 0 1 1 ∷ Lw 0 1 (pos 0) ∷ Fence 
 x0_stays_0 : map (executed segments (with_values 0x10000 0)) to_x0 ≡ replicate 5 (Goes (with_results 0x10000 0 0 0x10004))
 unfolding are_mapped
 x0_stays_0 = refl
+
+-- FENCE changes no register, whatever its fields are
+fence_does_nothing : executed segments (with_results 5 6 7 0x10000) (Fence 3 1 (pos 255)) ≡ Goes (with_results 5 6 7 0x10004)
+fence_does_nothing = refl
 
 ebreak_ends : executed segments at_start Ebreak ≡ Ends (Break 0x10000)
 ebreak_ends = refl
@@ -124,20 +150,32 @@ write_appends : served (executed segments (before_call 64 1 0x20001 3 (7 ∷ [])
 unfolding are_mapped bytes_at
 write_appends = refl
 
+-- three bytes that may not be written
+write_of_code : served (executed segments (before_call 64 1 0x10000 3 []) Ecall) ≡ Some (3, data_bytes, 0x2A ∷ 0x13 ∷ 0x05 ∷ 0xA0 ∷ [], [])
+unfolding are_mapped bytes_at
+write_of_code = refl
+
 -- no byte, from an address that is not mapped
 write_of_nothing : served (executed segments (before_call 64 1 0x50000 0 []) Ecall) ≡ Some (0, data_bytes, 0x2A ∷ [], [])
 unfolding are_mapped bytes_at
 write_of_nothing = refl
 
 -- at most two bytes of three
-read_leaves_the_rest : served (executed segments (before_call 63 0 0x20002 2 (0x11 ∷ 0x22 ∷ 0x33 ∷ [])) Ecall) ≡ Some (2, 0x00 ∷ 0x80 ∷ 0x11 ∷ 0x22 ∷ 0xFE ∷ 0xCA ∷ [], 0x2A ∷ [], 0x33 ∷ [])
+read_leaves_the_rest : served (executed segments (before_call 63 0 0x20002 2 (0x11 ∷ 0x22 ∷ 0x33 ∷ [])) Ecall)
+    ≡ Some (2, 0x00 ∷ 0x80 ∷ 0x11 ∷ 0x22 ∷ 0xFE ∷ 0xCA ∷ [], 0x2A ∷ [], 0x33 ∷ [])
 unfolding are_mapped bytes_at
 read_leaves_the_rest = refl
 
 -- at most four bytes, of which two are left
-read_takes_what_is_left : served (executed segments (before_call 63 0 0x20002 4 (0x11 ∷ 0x22 ∷ [])) Ecall) ≡ Some (2, 0x00 ∷ 0x80 ∷ 0x11 ∷ 0x22 ∷ 0xFE ∷ 0xCA ∷ [], 0x2A ∷ [], [])
+read_takes_what_is_left : served (executed segments (before_call 63 0 0x20002 4 (0x11 ∷ 0x22 ∷ [])) Ecall)
+    ≡ Some (2, 0x00 ∷ 0x80 ∷ 0x11 ∷ 0x22 ∷ 0xFE ∷ 0xCA ∷ [], 0x2A ∷ [], [])
 unfolding are_mapped bytes_at
 read_takes_what_is_left = refl
+
+-- to where nothing may be read
+read_into_what_is_not_readable : word_after (executed segments (before_call 63 0 0x40001 1 (0x11 ∷ [])) Ecall) ≡ Some 0x1100
+unfolding are_mapped
+read_into_what_is_not_readable = refl
 
 -- ---- traps, in their order
 
@@ -150,6 +188,7 @@ trapping =
     (Beq 1 2 (pos 2), 5, 5, Jump) ∷
     -- an address that is no multiple of the width, mapped or not
     (Lh 3 1 (pos 1), 0x20000, 0, Misaligned) ∷
+    (Lhu 3 1 (pos 1), 0x20000, 0, Misaligned) ∷
     (Lw 3 1 (pos 2), 0x20000, 0, Misaligned) ∷
     (Sh 1 2 (pos 1), 0x50000, 0, Misaligned) ∷
     (Sw 1 2 (pos 1), 0x50000, 0, Misaligned) ∷
@@ -157,7 +196,9 @@ trapping =
     (Lb 3 1 (pos 0), 0xFFFFFFFF, 0, Unmapped) ∷
     (Lw 3 1 (pos 4), 0x20000, 0, Unmapped) ∷
     (Lw 3 1 (pos 0), 0x30000, 0, Unmapped) ∷
+    (Lb 3 1 (pos 0), 0x40000, 0, Unmapped) ∷
     (Sw 1 2 (pos 0), 0x10000, 0, Unmapped) ∷
+    (Sb 1 2 (pos 0), 0x10000, 0, Unmapped) ∷
     []
 
 trap_steps : map (λ row. executed segments (with_values row.1 row.2) row.0) trapping ≡ map (λ row. Ends (Trap row.3 0x10000)) trapping
@@ -178,7 +219,8 @@ trapping_calls =
     (63, 0, 0x10000, 1, Unmapped) ∷
     []
 
-call_traps : map (λ row. executed segments (before_call row.0 row.1 row.2 row.3 (7 ∷ [])) Ecall) trapping_calls ≡ map (λ row. Ends (Trap row.4 0x10000)) trapping_calls
+call_traps : map (λ row. executed segments (before_call row.0 row.1 row.2 row.3 (7 ∷ [])) Ecall) trapping_calls
+    ≡ map (λ row. Ends (Trap row.4 0x10000)) trapping_calls
 unfolding are_mapped
 call_traps = refl
 

@@ -5,7 +5,8 @@ ghost use Rattle.rv_isa.specs.declared.instruction.Inst.{Inst};
 ghost use Rattle.rv_isa.specs.Fields.{InRange};
 ghost use Rattle.rv_isa.specs.TwosComplement.{signed};
 ghost use Rattle.rv_isa.specs.Encoding.{IsInRange, encoding};
-ghost use Rattle.rv_isa.specs.Decoding.{by_opcode, branch_of, decoded, fence_of, immediate_of, imm_b, imm_i, imm_j, imm_s, imm_u, indirect_jump_of, load_of, register_of, store_of, system_of};
+ghost use Rattle.rv_isa.specs.Decoding.{by_opcode, branch_of, decoded, fence_of, immediate_of, imm_b, imm_i, imm_j, imm_s, imm_u, indirect_jump_of};
+ghost use Rattle.rv_isa.specs.Decoding.{load_of, register_of, store_of, system_of};
 
 use crate::fields::{Fields, split};
 use crate::instruction::Inst;

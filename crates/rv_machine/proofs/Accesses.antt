@@ -7,16 +7,31 @@ use Rattle.rv_isa.specs.Step.{State, Goes, accesses, stores, next_pc, read_call}
 use Rattle.rv_machine.proofs.Pieces.{ReadsKnown}
 
 -- a store of n bytes at an address that is a multiple of n and may be written
-pub store_moves : (segments : List Segment) (s : State) (put : Content → ℕ → ℕ → Content) (a x n : ℕ) (memory : Content) → a % n ≡ 0 → true ≡ are_mapped segments writable a n → memory ≡ put s.memory a x
+pub store_moves : (segments : List Segment) (s : State) (put : Content → ℕ → ℕ → Content) (a x n : ℕ) (memory : Content) → a % n ≡ 0
+    → true ≡ are_mapped segments writable a n → memory ≡ put s.memory a x
     → accesses segments s writable a n (stores s (put s.memory a x)) ≡ Goes (record s { memory = memory; pc = next_pc s })
 store_moves segments s put a x n memory whole mapped same =
     let e : eqb (a % n) 0 ≡ true = eq-eqb (a % n) 0 whole in
     rw (e, ← mapped) (ap (λ (m : Content). Goes (record s { memory = m; pc = next_pc s })) (sym same))
 
 -- a read of the environment that was answered
-pub read_goes : (places : List Segment) (registers : List ℕ) (pc : ℕ) (content content1 : Content) (input : List ℕ) (n : ℕ) → are_mapped places writable (slice_index registers 11) (slice_index registers 12) ≡ true
+pub read_goes : (places : List Segment) (registers : List ℕ) (pc : ℕ) (content content1 : Content) (input : List ℕ) (n : ℕ)
+    → are_mapped places writable (slice_index registers 11) (slice_index registers 12) ≡ true
     → ReadsKnown input (Some (drop n input)) content content1 (slice_index registers 11) (slice_index registers 12) n → (output : List ℕ)
-    → read_call places (record { registers = registers; pc = pc; memory = content; input = input; output = output }) ≡ Goes (record { registers = slice_set registers 10 n; pc = (pc + 4) % 2 ^ 32; memory = content1; input = drop n input; output = output ++ [] })
+    → read_call places (record { registers = registers; pc = pc; memory = content; input = input; output = output })
+    ≡ Goes (record {
+      registers = slice_set registers 10 n;
+      pc = (pc + 4) % 2 ^ 32;
+      memory = content1;
+      input = drop n input;
+      output = output ++ [];
+    })
 read_goes places registers pc content content1 input n mapped known output =
     let e : output ++ [] ≡ output = append-nil output in
-    rw (mapped, e, ← known.number) (ap (λ (m : Content). Goes (record { registers = slice_set registers 10 n; pc = (pc + 4) % 2 ^ 32; memory = m; input = drop n input; output = output })) (sym known.stored))
+    rw (mapped, e, ← known.number) (ap (λ (m : Content). Goes (record {
+      registers = slice_set registers 10 n;
+      pc = (pc + 4) % 2 ^ 32;
+      memory = m;
+      input = drop n input;
+      output = output;
+    })) (sym known.stored))

@@ -54,9 +54,11 @@ module _ (segments : List Segment) where
   pub run_bare : (m : ℕ) (s : State) → run (map bare segments) m s ≡ run segments m s
   unfolding run
   run_bare zero s = refl
-  run_bare (suc m) s = ap (after (run (map bare segments) m) s) (step_bare s) ∙ ap (λ (next : State → Shown). after next s (step segments s)) (fun_ext (run_bare m))
+  run_bare (suc m) s =
+      ap (after (run (map bare segments) m) s) (step_bare s) ∙ ap (λ (next : State → Shown). after next s (step segments s)) (fun_ext (run_bare m))
 
   pub state_after_bare : (m : ℕ) (s : State) → state_after (map bare segments) m s ≡ state_after segments m s
   unfolding state_after
   state_after_bare zero s = refl
-  state_after_bare (suc m) s = ap (state_then (state_after (map bare segments) m) s) (step_bare s) ∙ ap (λ (next : State → State). state_then next s (step segments s)) (fun_ext (state_after_bare m))
+  state_after_bare (suc m) s = ap (state_then (state_after (map bare segments) m) s) (step_bare s)
+      ∙ ap (λ (next : State → State). state_then next s (step segments s)) (fun_ext (state_after_bare m))

@@ -35,9 +35,11 @@ module _ (input output : List ℕ) where
     branches_lift true distance = jumps_lift 0 _
     branches_lift false distance = refl
 
-    accesses_lift : (flag a n : ℕ) (done : Stepped) → accesses places (with_streams input output s) flag a n (lifted input output done) ≡ lifted input output (accesses places s flag a n done)
+    accesses_lift : (flag a n : ℕ) (done : Stepped)
+        → accesses places (with_streams input output s) flag a n (lifted input output done) ≡ lifted input output (accesses places s flag a n done)
     accesses_lift flag a n done =
-        sym (lifted_cond (eqb (a % n) 0) _ _ ∙ ap (λ (x : Stepped). cond (eqb (a % n) 0) x (Ends (Trap Misaligned s.pc))) (lifted_cond (are_mapped places flag a n) _ _))
+        sym (lifted_cond (eqb (a % n) 0) _ _ ∙ ap (λ (x : Stepped). cond (eqb (a % n) 0) x (Ends (Trap Misaligned s.pc)))
+        (lifted_cond (are_mapped places flag a n) _ _))
 
     -- every instruction but a call of the environment
     executed_lift : (i : Inst) → (i ≡ Ecall → ⊥) → executed places (with_streams input output s) i ≡ lifted input output (executed places s i)
@@ -70,14 +72,17 @@ kind_of places old new Ecall moved h = Calling refl h.0 h.1
 kind_of places old new _ moved h = Plain (λ e. cc) h
 
 -- the step of an instruction that is executed
-plain_gives : (places : List Segment) (old new : State) (moved : Moved) (stepped : Stepped) → ((input output : List ℕ) → step places (with_streams input output old) ≡ lifted input output stepped) → Executes old new stepped moved → StepGives places old new moved
+plain_gives : (places : List Segment) (old new : State) (moved : Moved) (stepped : Stepped)
+    → ((input output : List ℕ) → step places (with_streams input output old) ≡ lifted input output stepped) → Executes old new stepped moved
+    → StepGives places old new moved
 plain_gives places old new M.Goes stepped h e = λ input output. h input output ∙ ap (lifted input output) e
 plain_gives places old new (M.Exits status) stepped h e = ((λ input output. h input output ∙ ap (lifted input output) e.0), e.1)
 plain_gives places old new (M.Traps kind) stepped h e = ((λ input output. h input output ∙ ap (lifted input output) e.0), e.1)
 plain_gives places old new M.Breaks stepped h e = ((λ input output. h input output ∙ ap (lifted input output) e.0), e.1)
 plain_gives places old new M.Calls stepped h e = absurd e
 
-module _ (places : List Segment) (old new : State) (w : ℕ) (i : Inst) (moved : Moved) (mapped : are_mapped places executable old.pc 4 ≡ true) (word : w ≡ word_at old.memory old.pc) (read : decoded w ≡ Some i) where
+module _ (places : List Segment) (old new : State) (w : ℕ) (i : Inst) (moved : Moved) (mapped : are_mapped places executable old.pc 4 ≡ true)
+    (word : w ≡ word_at old.memory old.pc) (read : decoded w ≡ Some i) where
   -- the step is the instruction
   step_is : (input output : List ℕ) → step places (with_streams input output old) ≡ executed places (with_streams input output old) i
   unfolding step
@@ -87,19 +92,31 @@ module _ (places : List Segment) (old new : State) (w : ℕ) (i : Inst) (moved :
 
   by_kind : Kind places old new i moved → StepGives places old new moved
   by_kind (Calling call moves same) =
-      subst (StepGives places old new) (sym moves) (ap decoded (sym word) ∙ read ∙ ap Some call, (λ input output. step_is input output ∙ ap (executed places (with_streams input output old)) call), same)
-  by_kind (Plain other e) = plain_gives places old new moved (executed places old i) (λ input output. step_is input output ∙ executed_lift input output places old i other) e
+      subst (StepGives places old new) (sym moves) (
+        ap decoded (sym word) ∙ read
+            ∙ ap Some call,
+        (λ input output. step_is input output ∙ ap (executed places (with_streams input output old)) call),
+        same,
+      )
+  by_kind (Plain other e) =
+      plain_gives places old new moved (executed places old i) (λ input output. step_is input output
+      ∙ executed_lift input output places old i other) e
 
   pub performed_gives : Performs places old new i moved → StepGives places old new moved
   performed_gives h = by_kind (kind_of places old new i moved h)
 
 -- the step where there is no instruction
-pub unmapped_gives : (places : List Segment) (old new : State) → are_mapped places executable old.pc 4 ≡ false → new ≡ old → StepGives places old new (M.Traps Unmapped)
+pub unmapped_gives : (places : List Segment) (old new : State) → are_mapped places executable old.pc 4 ≡ false → new ≡ old
+    → StepGives places old new (M.Traps Unmapped)
 unfolding step
-unmapped_gives places old new mapped same =
-    ((λ input output. ap (λ (b : Bool). cond b (performed places (with_streams input output old) (decoded (word_at old.memory old.pc))) (Ends (Trap Unmapped old.pc))) mapped), same)
+unmapped_gives places old new mapped same = (
+  (λ input output. ap (λ (b : Bool). cond b (performed places (with_streams input output old) (decoded (word_at old.memory old.pc)))
+      (Ends (Trap Unmapped old.pc))) mapped),
+  same,
+)
 
-pub illegal_gives : (places : List Segment) (old new : State) (w : ℕ) → are_mapped places executable old.pc 4 ≡ true → w ≡ word_at old.memory old.pc → None ≡ decoded w → new ≡ old → StepGives places old new (M.Traps Illegal)
+pub illegal_gives : (places : List Segment) (old new : State) (w : ℕ) → are_mapped places executable old.pc 4 ≡ true → w ≡ word_at old.memory old.pc
+    → None ≡ decoded w → new ≡ old → StepGives places old new (M.Traps Illegal)
 unfolding step
 illegal_gives places old new w mapped word read same = (
   (λ input output.
@@ -111,16 +128,19 @@ illegal_gives places old new w mapped word read same = (
 -- ---- the code's step
 
 module _ (hart : Hart) where
-  pub code_unmapped : None ≡ if_mapped hart.memory 1 hart.pc 4 (word_at (content_of hart.memory) hart.pc) → StepGives (places_of hart) (state_of hart) (state_of hart) (M.Traps Unmapped)
+  pub code_unmapped : None ≡ if_mapped hart.memory 1 hart.pc 4 (word_at (content_of hart.memory) hart.pc)
+      → StepGives (places_of hart) (state_of hart) (state_of hart) (M.Traps Unmapped)
   code_unmapped fetched = unmapped_gives (places_of hart) (state_of hart) (state_of hart) (none_if _ (word_at (content_of hart.memory) hart.pc) fetched) refl
 
-  pub code_illegal : (w : ℕ) → Some w ≡ if_mapped hart.memory 1 hart.pc 4 (word_at (content_of hart.memory) hart.pc) → decoded w ≡ None → StepGives (places_of hart) (state_of hart) (state_of hart) (M.Traps Illegal)
+  pub code_illegal : (w : ℕ) → Some w ≡ if_mapped hart.memory 1 hart.pc 4 (word_at (content_of hart.memory) hart.pc) → decoded w ≡ None
+      → StepGives (places_of hart) (state_of hart) (state_of hart) (M.Traps Illegal)
   code_illegal w fetched read =
       let f = some_if _ w (word_at (content_of hart.memory) hart.pc) fetched in
       illegal_gives (places_of hart) (state_of hart) (state_of hart) w f.0 f.1 (sym read) refl
 
 -- an instruction that is executed where it is ready, in a hart that is as it was before
-pub code_gives : (old here : Hart) (decoder : Decoder) (new : State) (i : Inst) (moved : Moved) → places_of here ≡ places_of old → state_of here ≡ state_of old → IsReady here decoder → ((w : ℕ) → Keeps decoder here.pc w → decoded w ≡ Some i)
+pub code_gives : (old here : Hart) (decoder : Decoder) (new : State) (i : Inst) (moved : Moved) → places_of here ≡ places_of old
+    → state_of here ≡ state_of old → IsReady here decoder → ((w : ℕ) → Keeps decoder here.pc w → decoded w ≡ Some i)
     → Performs (places_of here) (state_of here) new i moved → StepGives (places_of old) (state_of old) new moved
 code_gives old here decoder new i moved places state ready read h =
     subst (λ (p : List Segment). StepGives p (state_of old) new moved) places

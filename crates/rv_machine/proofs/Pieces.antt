@@ -1,5 +1,7 @@
 -- Bytes of memory as pieces that a stream takes or gives one after the other.
-use Rattle.std.proofs.Common.{◌≡◌, ℕ, zero, suc, ◌+◌, ◌-◌, ◌%◌, ◌^◌, ◌<◌, ◌≤◌, min, Bool, true, cond, List, [], ◌∷◌, ◌++◌, length, take, drop, get_or, Option, Some, None, Ok, Err, option_map, refl, sym, ap, subst, ◌∙◌, arith, append_assoc, append-nil, length-append}
+use Rattle.std.proofs.Common.{◌≡◌, ℕ, zero, suc, ◌+◌, ◌-◌, ◌%◌, ◌^◌, ◌<◌, ◌≤◌, min, Bool, true, cond, List, [], ◌∷◌, ◌++◌, length, take, drop}
+use Rattle.std.proofs.Common.{get_or, Option, Some, None, Ok, Err, option_map, refl, sym, ap, subst, ◌∙◌, arith, append_assoc, append-nil}
+use Rattle.std.proofs.Common.{length-append}
 use Rattle.std.specs.Prelude.{slice_index}
 use Rattle.std.specs.Global.{Vec}
 use Rattle.std.proofs.Math.Path.{fun_ext}
@@ -45,23 +47,29 @@ unfolding bytes_at
 bytes_none content a n e = rw e refl
 
 -- bytes that stand one after the other from a place on
-bytes_standing : (content : Content) (bytes : List ℕ) (a place n : ℕ) → place + n ≤ length bytes → ((k : ℕ) → k < n → content (a + k) ≡ slice_index bytes (place + k)) → take n (drop place bytes) ≡ bytes_at content a n
+bytes_standing : (content : Content) (bytes : List ℕ) (a place n : ℕ) → place + n ≤ length bytes
+    → ((k : ℕ) → k < n → content (a + k) ≡ slice_index bytes (place + k)) → take n (drop place bytes) ≡ bytes_at content a n
 unfolding bytes_at
 bytes_standing content bytes a place zero le each = refl
 bytes_standing content bytes a place (suc n) le each =
-    let first : content a ≡ get_or bytes place 0 = let e : a + 0 ≡ a = omega arith in let f : place + 0 ≡ place = omega arith in rw (e, f) at (each 0 (omega arith)) in
-    let others = bytes_standing content bytes (a + 1) (place + 1) n (omega arith) (λ k lt. let e : a + 1 + k ≡ a + suc k = omega arith in let f : place + 1 + k ≡ place + suc k = omega arith in rw (e, f) (each (suc k) (omega arith))) in
+    let first : content a ≡ get_or bytes place 0 = let e : a + 0 ≡ a = omega arith in let f : place + 0 ≡ place = omega arith in
+    rw (e, f) at (each 0 (omega arith)) in
+    let others = bytes_standing content bytes (a + 1) (place + 1) n (omega arith) (λ k lt. let e : a + 1 + k ≡ a + suc k = omega arith in
+    let f : place + 1 + k ≡ place + suc k = omega arith in rw (e, f) (each (suc k) (omega arith))) in
     ap (take (suc n)) (drop_more bytes place 0 (omega arith)) ∙ cc (first, others)
 
 -- the piece at a place that was found
-pub piece_found : (memory : Memory) (flag a n place m : ℕ) (bytes : List ℕ) → IsFound memory.rows.items (length memory.bytes.items) flag a n place → bytes ≡ memory.bytes.items → m ≡ n
+pub piece_found : (memory : Memory) (flag a n place m : ℕ) (bytes : List ℕ) → IsFound memory.rows.items (length memory.bytes.items) flag a n place
+    → bytes ≡ memory.bytes.items → m ≡ n
     → take m (drop place bytes) ≡ bytes_at (content_of memory) a (length (take m (drop place bytes)))
 piece_found memory flag a n place m bytes found same e =
     let within = found.within in
     let size : length bytes ≡ length memory.bytes.items = ap length same in
     let long : length (take n (drop place bytes)) ≡ n = length-take-le n (drop place bytes) (omega (arith, length-drop place bytes)) in
     let is : take n (drop place bytes) ≡ bytes_at (content_of memory) a n =
-    bytes_standing (content_of memory) bytes a place n (omega arith) (λ k lt. byte_found memory.rows.items memory.bytes.items (length memory.bytes.items) flag a n place found k lt ∙ ap (λ (bs : List ℕ). slice_index bs (place + k)) (sym same)) in
+    bytes_standing (content_of memory) bytes a place n (omega arith)
+    (λ k lt. byte_found memory.rows.items memory.bytes.items (length memory.bytes.items) flag a n place found k lt
+    ∙ ap (λ (bs : List ℕ). slice_index bs (place + k)) (sym same)) in
     rw (e, long) is
 
 -- ---- pieces that are put
@@ -82,7 +90,8 @@ pub record Wrote (before now : ℕ) (old new : Option (List ℕ)) (bytes rest : 
   pub whole : bytes ≡ done ++ rest
 
 -- the rest begins with a piece
-pub wrote_split : (before mid : ℕ) (old between : Option (List ℕ)) (bytes piece : List ℕ) (content : Content) (a n : ℕ) → Wrote before mid old between bytes (bytes_at content a n) → piece ≡ bytes_at content a (length piece) → length piece ≤ n
+pub wrote_split : (before mid : ℕ) (old between : Option (List ℕ)) (bytes piece : List ℕ) (content : Content) (a n : ℕ)
+    → Wrote before mid old between bytes (bytes_at content a n) → piece ≡ bytes_at content a (length piece) → length piece ≤ n
     → Wrote before mid old between bytes (piece ++ bytes_at content (a + length piece) (n - length piece))
 wrote_split before mid old between bytes piece content a n wrote is le =
     let e : bytes_at content a n ≡ piece ++ bytes_at content (a + length piece) (n - length piece) =
@@ -124,7 +133,8 @@ consumes_both old between new p q a b = a ∙ ap (option_map (λ bytes. p ++ byt
     joined (Some bytes) = ap Some (sym (append_assoc p q bytes))
 
 -- one byte more
-with_more : (content : Content) (a v : ℕ) (piece : List ℕ) (b : ℕ) → v % 2 ^ 8 ≡ b → with_byte (with_bytes content a piece) (a + length piece) v ≡ with_bytes content a (piece ++ b ∷ [])
+with_more : (content : Content) (a v : ℕ) (piece : List ℕ) (b : ℕ) → v % 2 ^ 8 ≡ b
+    → with_byte (with_bytes content a piece) (a + length piece) v ≡ with_bytes content a (piece ++ b ∷ [])
 with_more content a v piece b e = fun_ext (λ x.
     let size : length (piece ++ b ∷ []) ≡ length piece + 1 = omega (arith, length-append piece (b ∷ [])) in
     let last = get_or-append_seam piece b [] 0 in
@@ -132,20 +142,24 @@ with_more content a v piece b e = fun_ext (λ x.
     grind (arith, nat_tests))
 
 -- a byte is taken and stored after the others
-pub comes_more : (old between new : Option (List ℕ)) (content content1 content2 : Content) (a n v b : ℕ) → ComesIn old between content content1 a n → Consumes between new (b ∷ []) → content2 ≡ with_byte content1 (a + n) v → v % 2 ^ 8 ≡ b
+pub comes_more : (old between new : Option (List ℕ)) (content content1 content2 : Content) (a n v b : ℕ) → ComesIn old between content content1 a n
+    → Consumes between new (b ∷ []) → content2 ≡ with_byte content1 (a + n) v → v % 2 ^ 8 ≡ b
     → ComesIn old new content content2 a (n + 1)
 comes_more old between new content content1 content2 a n v b came taken stored same = record {
   piece = came.piece ++ b ∷ [];
   size = omega (arith, length-append came.piece (b ∷ []), came.size);
   taken = consumes_both old between new came.piece (b ∷ []) came.taken taken;
-  stored = stored ∙ ap (λ (m : Content). with_byte m (a + n) v) came.stored ∙ ap (λ (k : ℕ). with_byte (with_bytes content a came.piece) (a + k) v) (sym came.size) ∙ with_more content a v came.piece b same;
+  stored = stored ∙ ap (λ (m : Content). with_byte m (a + n) v) came.stored
+      ∙ ap (λ (k : ℕ). with_byte (with_bytes content a came.piece) (a + k) v) (sym came.size) ∙ with_more content a v came.piece b same;
 }
 
 -- a byte of a range that may be written is stored, in a memory with the same rows as the first
-pub stored_in : (first old new : Memory) (a n k v : ℕ) (done : Bool) → are_mapped (segments_in first) writable a n ≡ true → k < n → old.rows ≡ first.rows → done ≡ is_mapped (segments_in old) writable (a + k)
+pub stored_in : (first old new : Memory) (a n k v : ℕ) (done : Bool) → are_mapped (segments_in first) writable a n ≡ true → k < n
+    → old.rows ≡ first.rows → done ≡ is_mapped (segments_in old) writable (a + k)
     → content_of new ≡ cond done (with_byte (content_of old) (a + k) v) (content_of old) → content_of new ≡ with_byte (content_of old) (a + k) v
 stored_in first old new a n k v done all lt rows mapped content =
-    let t : done ≡ true = mapped ∙ ap (λ (r : Vec Row). is_mapped (segments_of r.items) writable (a + k)) rows ∙ mapped_at (segments_in first) writable a n all k lt in
+    let t : done ≡ true = mapped ∙ ap (λ (r : Vec Row). is_mapped (segments_of r.items) writable (a + k)) rows
+    ∙ mapped_at (segments_in first) writable a n all k lt in
     content ∙ ap (λ (b : Bool). cond b (with_byte (content_of old) (a + k) v) (content_of old)) t
 
 -- ---- what a read is to the step
@@ -156,7 +170,8 @@ pub record ReadsKnown (left : List ℕ) (new : Option (List ℕ)) (content conte
   pub rest : new ≡ Some (drop n left)
   pub stored : content1 ≡ with_bytes content address (take n left)
 
-pub reads_known : (before now : ℕ) (old new : Option (List ℕ)) (left : List ℕ) (content content1 : Content) (address count n : ℕ) → old ≡ Some left → ReadsIn before now old new content content1 address count (Ok n)
+pub reads_known : (before now : ℕ) (old new : Option (List ℕ)) (left : List ℕ) (content content1 : Content) (address count n : ℕ) → old ≡ Some left
+    → ReadsIn before now old new content content1 address count (Ok n)
     → ReadsKnown left new content content1 address count n
 reads_known before now old None left content content1 address count n known h = absurd (let e = sym known ∙ h.0.taken in cc)
 reads_known before now old (Some rest) left content content1 address count n known h =
@@ -167,7 +182,8 @@ reads_known before now old (Some rest) left content content1 address count n kno
     record {
       number = fewest n count (length left) (length rest) size h.1 ended;
       rest = ap Some (sym (ap (drop n) parts ∙ ap (λ (k : ℕ). drop k (came.piece ++ rest)) (sym came.size) ∙ drop-append_seam came.piece rest));
-      stored = came.stored ∙ ap (with_bytes content address) (sym (ap (take n) parts ∙ ap (λ (k : ℕ). take k (came.piece ++ rest)) (sym came.size) ∙ take-append_seam came.piece rest));
+      stored = came.stored ∙ ap (with_bytes content address) (sym (ap (take n) parts ∙ ap (λ (k : ℕ). take k (came.piece ++ rest)) (sym came.size)
+          ∙ take-append_seam came.piece rest));
     }
   where
     some_is : (p q : List ℕ) → ◌≡◌ {A = Option (List ℕ)} (Some p) (Some q) → p ≡ q

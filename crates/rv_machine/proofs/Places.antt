@@ -1,5 +1,6 @@
 -- What rows that are sound say of the segments that they stand for, and of their bytes.
-use Rattle.std.proofs.Common.{◌≡◌, ℕ, zero, suc, ◌+◌, ◌-◌, ◌*◌, ◌%◌, ◌^◌, ◌<◌, ◌≤◌, Bool, true, false, cond, eqb, leb, ltb, List, [], ◌∷◌, length, Option, Some, None, refl, sym, ap, ◌∙◌, subst, arith, inl, inr, slice_set, eq-eqb}
+use Rattle.std.proofs.Common.{◌≡◌, ℕ, zero, suc, ◌+◌, ◌-◌, ◌*◌, ◌%◌, ◌^◌, ◌<◌, ◌≤◌, Bool, true, false, cond, eqb, leb, ltb, List, [], ◌∷◌, length}
+use Rattle.std.proofs.Common.{Option, Some, None, refl, sym, ap, ◌∙◌, subst, arith, inl, inr, slice_set, eq-eqb}
 use Rattle.std.specs.Prelude.{◌&&◌, ◌||◌, All, IfSome, MatchOption, slice_index}
 use Rattle.std.proofs.Math.Path.{fun_ext}
 use Rattle.std.proofs.Math.Bool.{or-true, and-true, and_assoc, and-false}
@@ -45,12 +46,15 @@ pub mapped_in : (rows : List Row) (flag a : ℕ) (r : Row) → row_at rows a ≡
 mapped_in [] flag a r e allowed = absurd cc
 mapped_in (row ∷ rows) flag a r e allowed = go (λ f. mapped_in rows flag a r f allowed) (holds row a) refl e
   where
-    go : (row_at rows a ≡ Some r → is_mapped (segments_of rows) flag a ≡ true) → (b : Bool) → holds row a ≡ b → cond b (Some row) (row_at rows a) ≡ Some r → ((allows row flag && holds row a) || is_mapped (segments_of rows) flag a) ≡ true
-    go further true h f = let same : row ≡ r = some_is row r f in let t : (allows row flag && holds row a) ≡ true = and_from _ _ (ap (λ (q : Row). allows q flag) same ∙ allowed) h in rw t refl
+    go : (row_at rows a ≡ Some r → is_mapped (segments_of rows) flag a ≡ true) → (b : Bool) → holds row a ≡ b
+        → cond b (Some row) (row_at rows a) ≡ Some r → ((allows row flag && holds row a) || is_mapped (segments_of rows) flag a) ≡ true
+    go further true h f = let same : row ≡ r = some_is row r f in let t : (allows row flag && holds row a) ≡ true =
+        and_from _ _ (ap (λ (q : Row). allows q flag) same ∙ allowed) h in rw t refl
     go further false h f = rw (further f) (or-true (allows row flag && holds row a))
 
 -- what is mapped is mapped in the row that has it
-mapped_among : (rows some : List Row) (size flag a : ℕ) → All (Serves rows size) some → is_mapped (segments_of some) flag a ≡ true → (q : Row) × (row_at rows a ≡ Some q) × (allows q flag ≡ true)
+mapped_among : (rows some : List Row) (size flag a : ℕ) → All (Serves rows size) some → is_mapped (segments_of some) flag a ≡ true
+    → (q : Row) × (row_at rows a ≡ Some q) × (allows q flag ≡ true)
 mapped_among rows [] size flag a all e = absurd cc
 mapped_among rows (q ∷ some) size flag a all e =
     elim (or_cases (allows q flag && holds q a) (is_mapped (segments_of some) flag a) e) [
@@ -59,7 +63,8 @@ mapped_among rows (q ∷ some) size flag a all e =
     ]
 
 -- where the row of an address does not allow it, it is not mapped
-pub mapped_not : (rows : List Row) (size flag a : ℕ) (r : Row) → AreSound rows size → row_at rows a ≡ Some r → allows r flag ≡ false → is_mapped (segments_of rows) flag a ≡ false
+pub mapped_not : (rows : List Row) (size flag a : ℕ) (r : Row) → AreSound rows size → row_at rows a ≡ Some r → allows r flag ≡ false
+    → is_mapped (segments_of rows) flag a ≡ false
 mapped_not rows size flag a r sound e not_allowed =
     false_from_ne_true _ (λ m.
     let q = mapped_among rows rows size flag a sound.serve m in
@@ -69,7 +74,8 @@ mapped_not rows size flag a r sound e not_allowed =
 
 -- an address of no row is not mapped
 pub mapped_none : (rows : List Row) (size flag a : ℕ) → AreSound rows size → row_at rows a ≡ None → is_mapped (segments_of rows) flag a ≡ false
-mapped_none rows size flag a sound e = false_from_ne_true _ (λ m. let q = mapped_among rows rows size flag a sound.serve m in let t : None ≡ Some q.0 = sym e ∙ q.1 in cc)
+mapped_none rows size flag a sound e =
+    false_from_ne_true _ (λ m. let q = mapped_among rows rows size flag a sound.serve m in let t : None ≡ Some q.0 = sym e ∙ q.1 in cc)
 
 -- ---- ranges
 
@@ -78,8 +84,10 @@ pub mapped_each : (segments : List Segment) (flag a n : ℕ) → ((k : ℕ) → 
 unfolding are_mapped
 mapped_each segments flag a zero each = refl
 mapped_each segments flag a (suc n) each =
-    let first : is_mapped segments flag a ≡ true = subst (λ (b : ℕ). is_mapped segments flag b ≡ true) (let e : a + 0 ≡ a = omega arith in e) (each 0 (omega arith)) in
-    and_from _ _ first (mapped_each segments flag (a + 1) n (λ k lt. subst (λ (b : ℕ). is_mapped segments flag b ≡ true) (let e : a + suc k ≡ a + 1 + k = omega arith in e) (each (suc k) (omega arith))))
+    let first : is_mapped segments flag a ≡ true = subst (λ (b : ℕ). is_mapped segments flag b ≡ true) (let e : a + 0 ≡ a = omega arith in
+    e) (each 0 (omega arith)) in
+    and_from _ _ first (mapped_each segments flag (a + 1) n (λ k lt.
+    subst (λ (b : ℕ). is_mapped segments flag b ≡ true) (let e : a + suc k ≡ a + 1 + k = omega arith in e) (each (suc k) (omega arith))))
 
 -- a row holds an address between its ends
 pub holds_between : (row : Row) (a : ℕ) → row.at ≤ a → a < row.at + row.size → holds row a ≡ true
@@ -89,34 +97,40 @@ pub held_between : (row : Row) (a : ℕ) → holds row a ≡ true → (row.at �
 held_between row a e = let p = and_parts (leb row.at a) (ltb a (row.at + row.size)) e in (leb-true _ _ p.0, ltb-true _ _ p.1)
 
 -- a range that a row holds is found there
-pub found_in : (rows : List Row) (size flag a n : ℕ) (row : Row) → Serves rows size row → allows row flag ≡ true → row.at ≤ a → a + n ≤ row.at + row.size → IsFound rows size flag a n (place_in row a)
+pub found_in : (rows : List Row) (size flag a n : ℕ) (row : Row) → Serves rows size row → allows row flag ≡ true → row.at ≤ a
+    → a + n ≤ row.at + row.size → IsFound rows size flag a n (place_in row a)
 found_in rows size flag a n row serves allowed low high = record {
   within = let p = serves.place in omega arith;
-  mapped = mapped_each (segments_of rows) flag a n (λ k lt. mapped_in rows flag (a + k) row (serves.found (a + k) (holds_between row (a + k) (omega arith) (omega arith))) allowed);
+  mapped = mapped_each (segments_of rows) flag a n (λ k lt. mapped_in rows flag (a + k) row
+      (serves.found (a + k) (holds_between row (a + k) (omega arith) (omega arith))) allowed);
   at = λ k lt. (row, serves.found (a + k) (holds_between row (a + k) (omega arith) (omega arith)), omega arith);
 }
 
 -- a byte is found in the row that has it
-pub found_at : (rows : List Row) (size flag a place : ℕ) (r : Row) → AreSound rows size → row_at rows a ≡ Some r → allows r flag ≡ true → place ≡ place_in r a → IsFound rows size flag a 1 place
+pub found_at : (rows : List Row) (size flag a place : ℕ) (r : Row) → AreSound rows size → row_at rows a ≡ Some r → allows r flag ≡ true
+    → place ≡ place_in r a → IsFound rows size flag a 1 place
 found_at rows size flag a place r sound e allowed p =
     let serves = row_at_serves rows size a r sound e in
     let ends = held_between r a (row_at_holds rows a r e) in
     subst (λ (x : ℕ). IsFound rows size flag a 1 x) (sym p) (found_in rows size flag a 1 r serves allowed ends.0 (omega (arith, ends.1)))
 
 -- the place of a byte, by the row that has it
-pub place_found : (rows : List Row) (size flag a : ℕ) (r : Row) → AreSound rows size → row_at rows a ≡ Some r → (o : Option ℕ) → MatchOption o (allows r flag ≡ false) (λ place. (allows r flag ≡ true) × (place ≡ place_in r a))
+pub place_found : (rows : List Row) (size flag a : ℕ) (r : Row) → AreSound rows size → row_at rows a ≡ Some r → (o : Option ℕ)
+    → MatchOption o (allows r flag ≡ false) (λ place. (allows r flag ≡ true) × (place ≡ place_in r a))
     → MatchOption o (is_mapped (segments_of rows) flag a ≡ false) (λ place. IsFound rows size flag a 1 place)
 place_found rows size flag a r sound e None not_allowed = mapped_not rows size flag a r sound e not_allowed
 place_found rows size flag a r sound e (Some place) h = found_at rows size flag a place r sound e h.0 h.1
 
 -- bytes from an address on, where a row has them all
-pub covered : (rows : List Row) (size flag a n : ℕ) (row : Row) → Serves rows size row → (o : Option ℕ) → IfSome o (λ place. Covers row flag a n place) → IfSome o (λ place. IsFound rows size flag a n place)
+pub covered : (rows : List Row) (size flag a n : ℕ) (row : Row) → Serves rows size row → (o : Option ℕ)
+    → IfSome o (λ place. Covers row flag a n place) → IfSome o (λ place. IsFound rows size flag a n place)
 covered rows size flag a n row serves None h = tt
 covered rows size flag a n row serves (Some place) h =
     subst (λ (x : ℕ). IsFound rows size flag a n x) (sym h.is_place) (found_in rows size flag a n row serves h.allowed h.low h.high)
 
 -- the places of a row at which a word may begin
-pub words_begin : (rows : List Row) (size flag : ℕ) (row : Row) → Serves rows size row → allows row flag ≡ true → Begins rows size flag (record row { size = row.size - 3 })
+pub words_begin : (rows : List Row) (size flag : ℕ) (row : Row) → Serves rows size row → allows row flag ≡ true
+    → Begins rows size flag (record row { size = row.size - 3 })
 words_begin rows size flag row serves allowed = record {
   end = let p = serves.end in omega arith;
   place = let p = serves.place in omega arith;
@@ -125,11 +139,13 @@ words_begin rows size flag row serves allowed = record {
 }
 
 -- a word that begins there is found
-pub word_within : (rows : List Row) (size flag a place : ℕ) (row : Row) → Begins rows size flag row → holds row a ≡ true → place ≡ place_in row a → IsFound rows size flag a 4 place
+pub word_within : (rows : List Row) (size flag a place : ℕ) (row : Row) → Begins rows size flag row → holds row a ≡ true → place ≡ place_in row a
+    → IsFound rows size flag a 4 place
 word_within rows size flag a place row begins held p =
     let ends = held_between row a held in
     let some : 0 < row.size = omega (arith, ends.0, ends.1) in
-    subst (λ (x : ℕ). IsFound rows size flag a 4 x) (sym p) (found_in rows size flag a 4 (record row { size = row.size + 3 }) (begins.serves some) (begins.allowed some) ends.0 (omega (arith, ends.1)))
+    subst (λ (x : ℕ). IsFound rows size flag a 4 x) (sym p) (found_in rows size flag a 4 (record row { size = row.size + 3 }) (begins.serves some)
+    (begins.allowed some) ends.0 (omega (arith, ends.1)))
 
 -- ---- bytes
 
@@ -140,10 +156,12 @@ module _ (rows : List Row) (bytes : List ℕ) (size flag a n place : ℕ) (found
 
 -- ---- a byte is stored
 
-byte_stored_at : (rows : List Row) (bytes : List ℕ) (size a place b x : ℕ) (r : Row) → AreSound rows size → row_at rows a ≡ Some r → place_in r a ≡ place → place < length bytes → (o : Option Row) → row_at rows x ≡ o
+byte_stored_at : (rows : List Row) (bytes : List ℕ) (size a place b x : ℕ) (r : Row) → AreSound rows size → row_at rows a ≡ Some r
+    → place_in r a ≡ place → place < length bytes → (o : Option Row) → row_at rows x ≡ o
     → byte_in (slice_set bytes place b) o x ≡ cond (eqb x a) b (byte_in bytes o x)
 byte_stored_at rows bytes size a place b x r sound e p lt None ex =
-    cond_both (eqb x a) b 0 (λ y. 0 ≡ y) (λ t. let same : x ≡ a = eqb-true x a t in let f : None ≡ Some r = sym ex ∙ ap (row_at rows) same ∙ e in cc) (λ t. refl)
+    cond_both (eqb x a) b 0 (λ y. 0 ≡ y) (λ t. let same : x ≡ a = eqb-true x a t in let f : None ≡ Some r = sym ex ∙ ap (row_at rows) same ∙ e in
+    cc) (λ t. refl)
 byte_stored_at rows bytes size a place b x r sound e p lt (Some s) ex =
     cond_both (eqb x a) b (slice_index bytes (place_in s x)) (λ y. slice_index (slice_set bytes place b) (place_in s x) ≡ y)
     (λ t.
@@ -157,13 +175,16 @@ byte_stored_at rows bytes size a place b x r sound e p lt (Some s) ex =
     eqb_false m n f q = let t : eqb m n ≡ true = eq-eqb m n q in cc
 
 -- a byte at the place of an address is the byte at the address
-pub byte_stored : (rows : List Row) (bytes : List ℕ) (size a place b v : ℕ) (r : Row) → AreSound rows size → row_at rows a ≡ Some r → place_in r a ≡ place → place < length bytes → b ≡ v % 2 ^ 8
+pub byte_stored : (rows : List Row) (bytes : List ℕ) (size a place b v : ℕ) (r : Row) → AreSound rows size → row_at rows a ≡ Some r
+    → place_in r a ≡ place → place < length bytes → b ≡ v % 2 ^ 8
     → memory_of rows (slice_set bytes place b) ≡ with_byte (memory_of rows bytes) a v
 byte_stored rows bytes size a place b v r sound e p lt same =
-    fun_ext (λ x. byte_stored_at rows bytes size a place b x r sound e p lt (row_at rows x) refl ∙ ap (λ (y : ℕ). cond (eqb x a) y (memory_of rows bytes x)) same)
+    fun_ext (λ x. byte_stored_at rows bytes size a place b x r sound e p lt (row_at rows x) refl
+    ∙ ap (λ (y : ℕ). cond (eqb x a) y (memory_of rows bytes x)) same)
 
 -- the byte at a place that was found
-pub byte_stored_in : (rows : List Row) (bytes : List ℕ) (size flag a n place k b v : ℕ) → AreSound rows size → IsFound rows size flag a n place → size ≤ length bytes → k < n → b ≡ v % 2 ^ 8
+pub byte_stored_in : (rows : List Row) (bytes : List ℕ) (size flag a n place k b v : ℕ) → AreSound rows size → IsFound rows size flag a n place
+    → size ≤ length bytes → k < n → b ≡ v % 2 ^ 8
     → memory_of rows (slice_set bytes (place + k) b) ≡ with_byte (memory_of rows bytes) (a + k) v
 byte_stored_in rows bytes size flag a n place k b v sound found le lt same =
     let r = found.at k lt in
@@ -177,13 +198,15 @@ unfolding are_mapped
 one_mapped segments flag a = and-true (is_mapped segments flag a)
 
 -- a range is two ranges
-pub mapped_split : (segments : List Segment) (flag a m n : ℕ) → are_mapped segments flag a (m + n) ≡ (are_mapped segments flag a m && are_mapped segments flag (a + m) n)
+pub mapped_split : (segments : List Segment) (flag a m n : ℕ)
+    → are_mapped segments flag a (m + n) ≡ (are_mapped segments flag a m && are_mapped segments flag (a + m) n)
 unfolding are_mapped
 mapped_split segments flag a zero n = let e : 0 + n ≡ n = omega arith in let f : a + 0 ≡ a = omega arith in rw (e, f) refl
 mapped_split segments flag a (suc m) n =
     let e : suc m + n ≡ suc (m + n) = omega arith in
     let f : a + suc m ≡ a + 1 + m = omega arith in
-    rw (e, f) (ap (λ (b : Bool). is_mapped segments flag a && b) (mapped_split segments flag (a + 1) m n) ∙ sym (and_assoc (is_mapped segments flag a) (are_mapped segments flag (a + 1) m) (are_mapped segments flag (a + 1 + m) n)))
+    rw (e, f) (ap (λ (b : Bool). is_mapped segments flag a && b) (mapped_split segments flag (a + 1) m n)
+    ∙ sym (and_assoc (is_mapped segments flag a) (are_mapped segments flag (a + 1) m) (are_mapped segments flag (a + 1 + m) n)))
 
 pub some_if : (b : Bool) (x v : ℕ) → Some x ≡ cond b (Some v) None → (b ≡ true) × (x ≡ v)
 some_if true x v e = (refl, some_number x v e)
@@ -205,7 +228,8 @@ one_not memory flag a v h = if_none _ v (one_mapped (segments_in memory) flag a 
 
 module _ (memory : Memory) (flag a m n : ℕ) where
   -- the two halves of a range are there
-  pub both_there : (x y v w z u : ℕ) → Some x ≡ if_mapped memory flag a m v → Some y ≡ if_mapped memory flag (a + m) n w → (x ≡ v → y ≡ w → z ≡ u) → Some z ≡ if_mapped memory flag a (m + n) u
+  pub both_there : (x y v w z u : ℕ) → Some x ≡ if_mapped memory flag a m v → Some y ≡ if_mapped memory flag (a + m) n w → (x ≡ v → y ≡ w → z ≡ u)
+      → Some z ≡ if_mapped memory flag a (m + n) u
   both_there x y v w z u e f h =
       let p = some_if _ x v e in
       let q = some_if _ y w f in
@@ -220,17 +244,20 @@ module _ (memory : Memory) (flag a m n : ℕ) where
 
   pub second_not : (w u : ℕ) → None ≡ if_mapped memory flag (a + m) n w → None ≡ if_mapped memory flag a (m + n) u
   second_not w u e =
-      let t : are_mapped (segments_in memory) flag a (m + n) ≡ false = mapped_split (segments_in memory) flag a m n ∙ rw (none_if _ w e) (and-false (are_mapped (segments_in memory) flag a m)) in
+      let t : are_mapped (segments_in memory) flag a (m + n) ≡ false = mapped_split (segments_in memory) flag a m n
+      ∙ rw (none_if _ w e) (and-false (are_mapped (segments_in memory) flag a m)) in
       if_none _ u t
 
 -- ---- what is read at a place that was found, where nothing has changed since
 
-kept_found : (old new : Memory) (flag a n place : ℕ) → IsKept old new → IsFound new.rows.items (length new.bytes.items) flag a n place → IsFound old.rows.items (length old.bytes.items) flag a n place
+kept_found : (old new : Memory) (flag a n place : ℕ) → IsKept old new → IsFound new.rows.items (length new.bytes.items) flag a n place
+    → IsFound old.rows.items (length old.bytes.items) flag a n place
 kept_found old new flag a n place k f =
     subst (λ (v : Vec Row). IsFound v.items (length old.bytes.items) flag a n place) k.rows
     (subst (λ (v : Vec ℕ). IsFound new.rows.items (length v.items) flag a n place) k.bytes f)
 
-module _ (old new : Memory) (flag a n place : ℕ) (bytes : List ℕ) (kept : IsKept old new) (found : IsFound new.rows.items (length new.bytes.items) flag a n place) (same : bytes ≡ new.bytes.items) where
+module _ (old new : Memory) (flag a n place : ℕ) (bytes : List ℕ) (kept : IsKept old new)
+    (found : IsFound new.rows.items (length new.bytes.items) flag a n place) (same : bytes ≡ new.bytes.items) where
   found_before : IsFound old.rows.items (length old.bytes.items) flag a n place
   found_before = kept_found old new flag a n place kept found
 
@@ -241,7 +268,8 @@ module _ (old new : Memory) (flag a n place : ℕ) (bytes : List ℕ) (kept : Is
   mapped_before = found_before.mapped
 
   pub byte_before : (k : ℕ) → k < n → slice_index bytes (place + k) ≡ content_of old (a + k)
-  byte_before k lt = ap (λ (bs : List ℕ). slice_index bs (place + k)) bytes_before ∙ sym (byte_found old.rows.items old.bytes.items (length old.bytes.items) flag a n place found_before k lt)
+  byte_before k lt = ap (λ (bs : List ℕ). slice_index bs (place + k)) bytes_before
+      ∙ sym (byte_found old.rows.items old.bytes.items (length old.bytes.items) flag a n place found_before k lt)
 
   pub first_before : 0 < n → slice_index bytes place ≡ content_of old a
   first_before lt =
@@ -250,10 +278,14 @@ module _ (old new : Memory) (flag a n place : ℕ) (bytes : List ℕ) (kept : Is
       ap (slice_index bytes) e ∙ byte_before 0 lt ∙ ap (content_of old) f
 
 module _ (old new : Memory) (flag a place : ℕ) (bytes : List ℕ) (kept : IsKept old new) (same : bytes ≡ new.bytes.items) where
-  pub byte_loaded : (v : ℕ) → IsFound new.rows.items (length new.bytes.items) flag a 1 place → v ≡ slice_index bytes place → Some v ≡ if_mapped old flag a 1 (content_of old a)
-  byte_loaded v found e = rw (mapped_before old new flag a 1 place bytes kept found same) (ap Some (e ∙ first_before old new flag a 1 place bytes kept found same (omega arith)))
+  pub byte_loaded : (v : ℕ) → IsFound new.rows.items (length new.bytes.items) flag a 1 place → v ≡ slice_index bytes place
+      → Some v ≡ if_mapped old flag a 1 (content_of old a)
+  byte_loaded v found e =
+      rw (mapped_before old new flag a 1 place bytes kept found same)
+      (ap Some (e ∙ first_before old new flag a 1 place bytes kept found same (omega arith)))
 
-  pub half_loaded : (v : ℕ) → IsFound new.rows.items (length new.bytes.items) flag a 2 place → v ≡ slice_index bytes place + 2 ^ 8 * slice_index bytes (place + 1) → Some v ≡ if_mapped old flag a 2 (half_at (content_of old) a)
+  pub half_loaded : (v : ℕ) → IsFound new.rows.items (length new.bytes.items) flag a 2 place
+      → v ≡ slice_index bytes place + 2 ^ 8 * slice_index bytes (place + 1) → Some v ≡ if_mapped old flag a 2 (half_at (content_of old) a)
   half_loaded v found e =
       let b0 = first_before old new flag a 2 place bytes kept found same (omega arith) in
       let b1 = byte_before old new flag a 2 place bytes kept found same 1 (omega arith) in
@@ -262,7 +294,9 @@ module _ (old new : Memory) (flag a place : ℕ) (bytes : List ℕ) (kept : IsKe
       two : (b0 b1 c0 c1 : ℕ) → b0 ≡ c0 → b1 ≡ c1 → b0 + 2 ^ 8 * b1 ≡ c0 + 2 ^ 8 * c1
       two b0 b1 c0 c1 e0 e1 = cc
 
-  pub word_loaded : (v : ℕ) → IsFound new.rows.items (length new.bytes.items) flag a 4 place → v ≡ slice_index bytes place + 2 ^ 8 * slice_index bytes (place + 1) + 2 ^ 16 * slice_index bytes (place + 2) + 2 ^ 24 * slice_index bytes (place + 3) → Some v ≡ if_mapped old flag a 4 (word_at (content_of old) a)
+  pub word_loaded : (v : ℕ) → IsFound new.rows.items (length new.bytes.items) flag a 4 place
+      → v ≡ slice_index bytes place + 2 ^ 8 * slice_index bytes (place + 1) + 2 ^ 16 * slice_index bytes (place + 2) + 2 ^ 24 * slice_index bytes
+      (place + 3) → Some v ≡ if_mapped old flag a 4 (word_at (content_of old) a)
   word_loaded v found e =
       let b0 = first_before old new flag a 4 place bytes kept found same (omega arith) in
       let b1 = byte_before old new flag a 4 place bytes kept found same 1 (omega arith) in
@@ -270,7 +304,8 @@ module _ (old new : Memory) (flag a place : ℕ) (bytes : List ℕ) (kept : IsKe
       let b3 = byte_before old new flag a 4 place bytes kept found same 3 (omega arith) in
       rw (mapped_before old new flag a 4 place bytes kept found same) (ap Some (e ∙ four _ _ _ _ _ _ _ _ b0 b1 b2 b3))
     where
-      four : (b0 b1 b2 b3 c0 c1 c2 c3 : ℕ) → b0 ≡ c0 → b1 ≡ c1 → b2 ≡ c2 → b3 ≡ c3 → b0 + 2 ^ 8 * b1 + 2 ^ 16 * b2 + 2 ^ 24 * b3 ≡ c0 + 2 ^ 8 * c1 + 2 ^ 16 * c2 + 2 ^ 24 * c3
+      four : (b0 b1 b2 b3 c0 c1 c2 c3 : ℕ) → b0 ≡ c0 → b1 ≡ c1 → b2 ≡ c2 → b3 ≡ c3
+          → b0 + 2 ^ 8 * b1 + 2 ^ 16 * b2 + 2 ^ 24 * b3 ≡ c0 + 2 ^ 8 * c1 + 2 ^ 16 * c2 + 2 ^ 24 * c3
       four b0 b1 b2 b3 c0 c1 c2 c3 e0 e1 e2 e3 = cc
 
 -- two halves of a word
@@ -285,14 +320,16 @@ word_joined content a low high e f =
 -- ---- ranges piece by piece
 
 -- a part of a range that stands in one row
-pub stretch_found : (rows : List Row) (size flag a n place : ℕ) (r : Row) → AreSound rows size → row_at rows a ≡ Some r → allows r flag ≡ true → place ≡ place_in r a → a + n ≤ r.at + r.size → IsFound rows size flag a n place
+pub stretch_found : (rows : List Row) (size flag a n place : ℕ) (r : Row) → AreSound rows size → row_at rows a ≡ Some r → allows r flag ≡ true
+    → place ≡ place_in r a → a + n ≤ r.at + r.size → IsFound rows size flag a n place
 stretch_found rows size flag a n place r sound e allowed p high =
     let serves = row_at_serves rows size a r sound e in
     let ends = held_between r a (row_at_holds rows a r e) in
     subst (λ (x : ℕ). IsFound rows size flag a n x) (sym p) (found_in rows size flag a n r serves allowed ends.0 high)
 
 -- a range whose first part is mapped is mapped as the rest is
-pub mapped_rest : (segments : List Segment) (flag a n m : ℕ) → are_mapped segments flag a n ≡ true → n ≤ m → are_mapped segments flag a m ≡ are_mapped segments flag (a + n) (m - n)
+pub mapped_rest : (segments : List Segment) (flag a n m : ℕ) → are_mapped segments flag a n ≡ true → n ≤ m
+    → are_mapped segments flag a m ≡ are_mapped segments flag (a + n) (m - n)
 mapped_rest segments flag a n m first le =
     let e : n + (m - n) ≡ m = omega arith in
     ap (are_mapped segments flag a) (sym e) ∙ mapped_split segments flag a n (m - n) ∙ rw first refl

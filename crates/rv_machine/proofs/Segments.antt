@@ -1,6 +1,7 @@
 -- The rows and the bytes of segments that stand one after the other: they are sound, and stand for
 -- these segments and their bytes.
-use Rattle.std.proofs.Common.{◌≡◌, ℕ, ◌+◌, ◌-◌, ◌<◌, ◌≤◌, Bool, true, false, cond, List, [], ◌∷◌, ◌++◌, length, map, replicate, Option, Some, refl, sym, ap, ◌∙◌, arith, inl, inr, append_assoc}
+use Rattle.std.proofs.Common.{◌≡◌, ℕ, ◌+◌, ◌-◌, ◌<◌, ◌≤◌, Bool, true, false, cond, List, [], ◌∷◌, ◌++◌, length, map, replicate, Option, Some, refl}
+use Rattle.std.proofs.Common.{sym, ap, ◌∙◌, arith, inl, inr, append_assoc}
 use Rattle.std.specs.Prelude.{All, slice_index}
 use Rattle.std.proofs.Math.Path.{fun_ext}
 use Rattle.std.proofs.Math.ListN.{get_or-append, length-append}
@@ -28,7 +29,8 @@ fits_each (s ∷ segments) p = All-cons Fits s segments p.0 (fits_each segments 
 -- ---- how many bytes there are
 
 whole_length : (s : Segment) → Fits s → length (whole s) ≡ s.size
-whole_length s fits = let zeros : ℕ = s.size - length s.bytes in length-append s.bytes (replicate zeros 0) ∙ omega (arith, length-replicate {A = ℕ} zeros 0, fits.bytes)
+whole_length s fits =
+    let zeros : ℕ = s.size - length s.bytes in length-append s.bytes (replicate zeros 0) ∙ omega (arith, length-replicate {A = ℕ} zeros 0, fits.bytes)
 
 size_cons : (s : Segment) (segments : List Segment) → size_of (s ∷ segments) ≡ s.size + size_of segments
 size_cons s segments = sum_by-cons (λ (t : Segment). t.size) s segments
@@ -46,27 +48,32 @@ bytes_length (s ∷ segments) p =
 -- ---- each row serves
 
 -- a row after a row that is apart from it
-after : (front row : Row) (rows : List Row) (size : ℕ) → ((a : ℕ) → holds front a ≡ true → holds row a ≡ true → ⊥) → Serves rows size row → Serves (front ∷ rows) size row
+after : (front row : Row) (rows : List Row) (size : ℕ) → ((a : ℕ) → holds front a ≡ true → holds row a ≡ true → ⊥) → Serves rows size row
+    → Serves (front ∷ rows) size row
 after front row rows size apart serves = record {
   end = serves.end;
   place = serves.place;
   found = λ a h. let e : holds front a ≡ false = false_from_ne_true _ (λ t. apart a t h) in rw e (serves.found a h);
 }
 
-all_after : (front : Segment) (first start size : ℕ) (rows : List Row) (segments : List Segment) → All (AreApart front) segments → All (Serves rows size) (rows_from start segments)
+all_after : (front : Segment) (first start size : ℕ) (rows : List Row) (segments : List Segment) → All (AreApart front) segments
+    → All (Serves rows size) (rows_from start segments)
     → All (Serves (row_of first front ∷ rows) size) (rows_from start segments)
 all_after front first start size rows [] apart all = All-nil (Serves (row_of first front ∷ rows) size)
 all_after front first start size rows (s ∷ segments) apart all =
     All-cons (Serves (row_of first front ∷ rows) size) _ _
     (after (row_of first front) (row_of start s) rows size (All-head (AreApart front) s segments apart) (All-head (Serves rows size) (row_of start s) _ all))
-    (all_after front first (start + s.size) size rows segments (All-tail (AreApart front) s segments apart) (All-tail (Serves rows size) (row_of start s) _ all))
+    (all_after front first (start + s.size) size rows segments (All-tail (AreApart front) s segments apart)
+    (All-tail (Serves rows size) (row_of start s) _ all))
 
-each_serves : (start size : ℕ) (segments : List Segment) → AllPlaced segments → start + size_of segments ≤ size → All (Serves (rows_from start segments) size) (rows_from start segments)
+each_serves : (start size : ℕ) (segments : List Segment) → AllPlaced segments → start + size_of segments ≤ size
+    → All (Serves (rows_from start segments) size) (rows_from start segments)
 each_serves start size [] p le = All-nil (Serves [] size)
 each_serves start size (s ∷ segments) p le =
     All-cons (Serves (rows_from start (s ∷ segments)) size) (row_of start s) (rows_from (start + s.size) segments)
     (record { end = p.0.end; place = omega (arith, size_cons s segments); found = λ a h. rw h refl })
-    (all_after s start (start + s.size) size (rows_from (start + s.size) segments) segments p.1 (each_serves (start + s.size) size segments p.2 (omega (arith, size_cons s segments))))
+    (all_after s start (start + s.size) size (rows_from (start + s.size) segments) segments p.1
+    (each_serves (start + s.size) size segments p.2 (omega (arith, size_cons s segments))))
 
 -- a row without address
 pub serves_nothing : (rows : List Row) (size : ℕ) → Serves rows size (record { at = 0; size = 0; start = 0; flags = 0 })
@@ -93,18 +100,22 @@ starts_after : (start b : ℕ) (segments : List Segment) (r : Row) → row_at (r
 starts_after start b [] r e = absurd cc
 starts_after start b (s ∷ segments) r e = go (starts_after (start + s.size) b segments r) (holds (row_of start s) b) e
   where
-    go : (row_at (rows_from (start + s.size) segments) b ≡ Some r → start + s.size ≤ r.start) → (h : Bool) → cond h (Some (row_of start s)) (row_at (rows_from (start + s.size) segments) b) ≡ Some r → start ≤ r.start
+    go : (row_at (rows_from (start + s.size) segments) b ≡ Some r → start + s.size ≤ r.start) → (h : Bool)
+        → cond h (Some (row_of start s)) (row_at (rows_from (start + s.size) segments) b) ≡ Some r → start ≤ r.start
     go further true f = let same = ap (λ (q : Row). q.start) (same_row (row_of start s) r f) in omega (arith, same)
     go further false f = omega (arith, further f)
 
-places_apart : (start a b : ℕ) (segments : List Segment) (q r : Row) → row_at (rows_from start segments) a ≡ Some q → row_at (rows_from start segments) b ≡ Some r → place_in q a ≡ place_in r b → a ≡ b
+places_apart : (start a b : ℕ) (segments : List Segment) (q r : Row) → row_at (rows_from start segments) a ≡ Some q
+    → row_at (rows_from start segments) b ≡ Some r → place_in q a ≡ place_in r b → a ≡ b
 places_apart start a b [] q r e f same = absurd cc
-places_apart start a b (s ∷ segments) q r e f same = go (places_apart (start + s.size) a b segments q r) (holds (row_of start s) a) (holds (row_of start s) b) refl refl e f
+places_apart start a b (s ∷ segments) q r e f same =
+    go (places_apart (start + s.size) a b segments q r) (holds (row_of start s) a) (holds (row_of start s) b) refl refl e f
   where
     rest : List Row
     rest = rows_from (start + s.size) segments
 
-    go : (row_at rest a ≡ Some q → row_at rest b ≡ Some r → place_in q a ≡ place_in r b → a ≡ b) → (h i : Bool) → holds (row_of start s) a ≡ h → holds (row_of start s) b ≡ i
+    go : (row_at rest a ≡ Some q → row_at rest b ≡ Some r → place_in q a ≡ place_in r b → a ≡ b) → (h i : Bool) → holds (row_of start s) a ≡ h
+        → holds (row_of start s) b ≡ i
         → cond h (Some (row_of start s)) (row_at rest a) ≡ Some q → cond i (Some (row_of start s)) (row_at rest b) ≡ Some r → a ≡ b
     go further true true ha hb ea eb =
         let first = held_between (row_of start s) a ha in
@@ -146,12 +157,16 @@ zero_at n k = elim (cases_lt k n) [
 whole_at : (s : Segment) (k : ℕ) → slice_index (whole s) k ≡ slice_index s.bytes k
 whole_at s k = elim (cases_lt k (length s.bytes)) [
   | inl lt ↦ get_or-append s.bytes (replicate (s.size - length s.bytes) 0) 0 k lt
-  | inr le ↦ get_or-append_right s.bytes (replicate (s.size - length s.bytes) 0) (length s.bytes) k 0 refl le ∙ zero_at (s.size - length s.bytes) (k - length s.bytes) ∙ sym (get_or_past s.bytes k 0 le)
+  | inr le ↦ get_or-append_right s.bytes (replicate (s.size - length s.bytes) 0) (length s.bytes) k 0 refl le
+      ∙ zero_at (s.size - length s.bytes) (k - length s.bytes) ∙ sym (get_or_past s.bytes k 0 le)
 ]
 
-content_at : (before : List ℕ) (start a : ℕ) (segments : List Segment) → AllPlaced segments → length before ≡ start → memory_of (rows_from start segments) (before ++ bytes_of segments) a ≡ initial_memory segments a
+content_at : (before : List ℕ) (start a : ℕ) (segments : List Segment) → AllPlaced segments → length before ≡ start
+    → memory_of (rows_from start segments) (before ++ bytes_of segments) a ≡ initial_memory segments a
 content_at before start a [] p e = refl
-content_at before start a (s ∷ segments) p e = go (content_at (before ++ whole s) (start + s.size) a segments p.2 (length-append before (whole s) ∙ omega (arith, whole_length s p.0))) (holds (row_of start s) a) refl
+content_at before start a (s ∷ segments) p e =
+    go (content_at (before ++ whole s) (start + s.size) a segments p.2 (length-append before (whole s) ∙ omega (arith, whole_length s p.0)))
+    (holds (row_of start s) a) refl
   where
     bytes : List ℕ
     bytes = before ++ (whole s ++ bytes_of segments)

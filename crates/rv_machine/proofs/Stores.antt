@@ -12,7 +12,8 @@ use Rattle.rv_machine.proofs.Places.{byte_stored_in}
 
 -- ---- at a place that was found
 
-module _ (rows : List Row) (bytes : List ℕ) (flag a n place : ℕ) (sound : AreSound rows (length bytes)) (found : IsFound rows (length bytes) flag a n place) where
+module _ (rows : List Row) (bytes : List ℕ) (flag a n place : ℕ) (sound : AreSound rows (length bytes))
+    (found : IsFound rows (length bytes) flag a n place) where
   -- the first byte
   first_stored : (b v : ℕ) → 0 < n → b ≡ v % 2 ^ 8 → memory_of rows (slice_set bytes place b) ≡ with_byte (memory_of rows bytes) a v
   first_stored b v lt same =
@@ -22,7 +23,8 @@ module _ (rows : List Row) (bytes : List ℕ) (flag a n place : ℕ) (sound : Ar
       ap (λ (p : ℕ). memory_of rows (slice_set bytes p b)) (sym e) ∙ h ∙ ap (λ (x : ℕ). with_byte (memory_of rows bytes) x v) f
 
   -- a byte after bytes that are stored
-  next_stored : (now : List ℕ) (k b v : ℕ) → length bytes ≤ length now → k < n → b ≡ v % 2 ^ 8 → memory_of rows (slice_set now (place + k) b) ≡ with_byte (memory_of rows now) (a + k) v
+  next_stored : (now : List ℕ) (k b v : ℕ) → length bytes ≤ length now → k < n → b ≡ v % 2 ^ 8
+      → memory_of rows (slice_set now (place + k) b) ≡ with_byte (memory_of rows now) (a + k) v
   next_stored now k b v le lt same = byte_stored_in rows now (length bytes) flag a n place k b v sound found le lt same
 
   half_stored_here : (v : ℕ) → 2 ≤ n → memory_of rows (half_put bytes place v) ≡ with_half (memory_of rows bytes) a v
@@ -35,25 +37,29 @@ module _ (rows : List Row) (bytes : List ℕ) (flag a n place : ℕ) (sound : Ar
   word_stored_here : (v : ℕ) → v < 2 ^ 32 → 4 ≤ n → memory_of rows (word_put bytes place v) ≡ with_word (memory_of rows bytes) a v
   word_stored_here v fits le =
       let two : List ℕ = half_put bytes place v in
-      let s2 : length two ≡ length bytes = length-set (slice_set bytes place (v % 2 ^ 8)) (place + 1) (v / 2 ^ 8 % 2 ^ 8) ∙ length-set bytes place (v % 2 ^ 8) in
+      let s2 : length two ≡ length bytes = length-set (slice_set bytes place (v % 2 ^ 8)) (place + 1) (v / 2 ^ 8 % 2 ^ 8)
+      ∙ length-set bytes place (v % 2 ^ 8) in
       let three : List ℕ = slice_set two (place + 2) (v / 2 ^ 16 % 2 ^ 8) in
       let s3 : length three ≡ length bytes = length-set two (place + 2) (v / 2 ^ 16 % 2 ^ 8) ∙ s2 in
       next_stored three 3 (v / 2 ^ 24) (v / 2 ^ 24) (omega arith) (omega arith) (omega arith)
       ∙ ap (λ (m : Content). with_byte m (a + 3) (v / 2 ^ 24))
-      (next_stored two 2 (v / 2 ^ 16 % 2 ^ 8) (v / 2 ^ 16) (omega arith) (omega arith) refl ∙ ap (λ (m : Content). with_byte m (a + 2) (v / 2 ^ 16)) (half_stored_here v (omega arith)))
+      (next_stored two 2 (v / 2 ^ 16 % 2 ^ 8) (v / 2 ^ 16) (omega arith) (omega arith) refl
+      ∙ ap (λ (m : Content). with_byte m (a + 2) (v / 2 ^ 16)) (half_stored_here v (omega arith)))
 
 -- the same where the place was found in memory as it was before
 pub kept_content : (old new : Memory) → IsKept old new → content_of new ≡ content_of old
 kept_content old new k = ap (λ (v : Vec Row). memory_of v.items new.bytes.items) k.rows ∙ ap (λ (v : Vec ℕ). memory_of old.rows.items v.items) k.bytes
 
-pub half_stored : (old new : Memory) (flag a place v : ℕ) (before after : List ℕ) → IsKept old new → IsFound new.rows.items (length new.bytes.items) flag a 2 place → before ≡ new.bytes.items → after ≡ half_put before place v
+pub half_stored : (old new : Memory) (flag a place v : ℕ) (before after : List ℕ) → IsKept old new
+    → IsFound new.rows.items (length new.bytes.items) flag a 2 place → before ≡ new.bytes.items → after ≡ half_put before place v
     → memory_of new.rows.items after ≡ with_half (content_of old) a v
 half_stored old new flag a place v before after kept found same put =
     ap (memory_of new.rows.items) (put ∙ ap (λ (bs : List ℕ). half_put bs place v) same)
     ∙ half_stored_here new.rows.items new.bytes.items flag a 2 place new.sound found v (omega arith)
     ∙ ap (λ (m : Content). with_half m a v) (kept_content old new kept)
 
-pub word_stored : (old new : Memory) (flag a place v : ℕ) (before after : List ℕ) → v < 2 ^ 32 → IsKept old new → IsFound new.rows.items (length new.bytes.items) flag a 4 place → before ≡ new.bytes.items → after ≡ word_put before place v
+pub word_stored : (old new : Memory) (flag a place v : ℕ) (before after : List ℕ) → v < 2 ^ 32 → IsKept old new
+    → IsFound new.rows.items (length new.bytes.items) flag a 4 place → before ≡ new.bytes.items → after ≡ word_put before place v
     → memory_of new.rows.items after ≡ with_word (content_of old) a v
 word_stored old new flag a place v before after fits kept found same put =
     ap (memory_of new.rows.items) (put ∙ ap (λ (bs : List ℕ). word_put bs place v) same)
@@ -83,14 +89,16 @@ record Puts (first old new : Memory) (a v : ℕ) : Type 0 where
   mapped : done ≡ is_mapped (segments_in old) writable a
   content : content_of new ≡ cond done (with_byte (content_of old) a v) (content_of old)
 
-puts_done : (first old new : Memory) (a v : ℕ) → is_mapped (segments_in first) writable a ≡ true → Puts first old new a v → content_of new ≡ with_byte (content_of old) a v
+puts_done : (first old new : Memory) (a v : ℕ) → is_mapped (segments_in first) writable a ≡ true → Puts first old new a v
+    → content_of new ≡ with_byte (content_of old) a v
 puts_done first old new a v m p =
     let t : p.done ≡ true = p.mapped ∙ ap (λ (rows : Vec Row). is_mapped (segments_of rows.items) writable a) p.same ∙ m in
     p.content ∙ ap (λ (b : Bool). cond b (with_byte (content_of old) a v) (content_of old)) t
 
 pub half_apart : (m0 m1 m2 : Memory) (a v : ℕ) (d1 d2 : Bool) → are_mapped (segments_in m0) writable a 2 ≡ true
     → m1.rows ≡ m0.rows → d1 ≡ is_mapped (segments_in m0) writable a → content_of m1 ≡ cond d1 (with_byte (content_of m0) a v) (content_of m0)
-    → m2.rows ≡ m1.rows → d2 ≡ is_mapped (segments_in m1) writable (a + 1) → content_of m2 ≡ cond d2 (with_byte (content_of m1) (a + 1) (v / 2 ^ 8)) (content_of m1)
+    → m2.rows ≡ m1.rows → d2 ≡ is_mapped (segments_in m1) writable (a + 1)
+    → content_of m2 ≡ cond d2 (with_byte (content_of m1) (a + 1) (v / 2 ^ 8)) (content_of m1)
     → content_of m2 ≡ with_half (content_of m0) a v
 half_apart m0 m1 m2 a v d1 d2 all r1 t1 c1 r2 t2 c2 =
     let e : a + 0 ≡ a = omega arith in
@@ -102,9 +110,12 @@ half_apart m0 m1 m2 a v d1 d2 all r1 t1 c1 r2 t2 c2 =
 
 pub word_apart : (m0 m1 m2 m3 m4 : Memory) (a v : ℕ) (d1 d2 d3 d4 : Bool) → are_mapped (segments_in m0) writable a 4 ≡ true
     → m1.rows ≡ m0.rows → d1 ≡ is_mapped (segments_in m0) writable a → content_of m1 ≡ cond d1 (with_byte (content_of m0) a v) (content_of m0)
-    → m2.rows ≡ m1.rows → d2 ≡ is_mapped (segments_in m1) writable (a + 1) → content_of m2 ≡ cond d2 (with_byte (content_of m1) (a + 1) (v / 2 ^ 8)) (content_of m1)
-    → m3.rows ≡ m2.rows → d3 ≡ is_mapped (segments_in m2) writable (a + 2) → content_of m3 ≡ cond d3 (with_byte (content_of m2) (a + 2) (v / 2 ^ 16)) (content_of m2)
-    → m4.rows ≡ m3.rows → d4 ≡ is_mapped (segments_in m3) writable (a + 3) → content_of m4 ≡ cond d4 (with_byte (content_of m3) (a + 3) (v / 2 ^ 24)) (content_of m3)
+    → m2.rows ≡ m1.rows → d2 ≡ is_mapped (segments_in m1) writable (a + 1)
+    → content_of m2 ≡ cond d2 (with_byte (content_of m1) (a + 1) (v / 2 ^ 8)) (content_of m1)
+    → m3.rows ≡ m2.rows → d3 ≡ is_mapped (segments_in m2) writable (a + 2)
+    → content_of m3 ≡ cond d3 (with_byte (content_of m2) (a + 2) (v / 2 ^ 16)) (content_of m2)
+    → m4.rows ≡ m3.rows → d4 ≡ is_mapped (segments_in m3) writable (a + 3)
+    → content_of m4 ≡ cond d4 (with_byte (content_of m3) (a + 3) (v / 2 ^ 24)) (content_of m3)
     → content_of m4 ≡ with_word (content_of m0) a v
 word_apart m0 m1 m2 m3 m4 a v d1 d2 d3 d4 all r1 t1 c1 r2 t2 c2 r3 t3 c3 r4 t4 c4 =
     let e : a + 0 ≡ a = omega arith in

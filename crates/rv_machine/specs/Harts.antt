@@ -29,7 +29,11 @@ Executes old new stepped (M.Traps kind) = (stepped ≡ Ends (Trap kind old.pc)) 
 Executes old new stepped M.Breaks = (stepped ≡ Ends (Break old.pc)) × (new ≡ old)
 Executes old new stepped M.Calls = ⊥
 
--- the same of each instruction; a call of the environment is left to the caller
+-- an instruction that calls nothing, on a hart
+abbrev pub Does : (old new : Hart) → Inst → Moved → Type 0
+Does old new i moved = Executes (state_of old) (state_of new) (executed (places_of old) (state_of old) i) moved
+
+-- each instruction; a call of the environment is left to the caller
 abbrev pub Performs : List Segment → (old new : State) → Inst → Moved → Type 0
 Performs segments old new Ecall moved = (moved ≡ M.Calls) × (new ≡ old)
 Performs segments old new i moved = Executes old new (executed segments old i) moved

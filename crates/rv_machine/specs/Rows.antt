@@ -1,6 +1,7 @@
 -- How the machine keeps its memory: all segments' bytes in one list, and a row for each segment that
 -- says where among the bytes it stands.
-use Rattle.std.specs.Prelude.{◌≡◌, ℕ, ◌+◌, ◌-◌, ◌/◌, ◌%◌, ◌^◌, ◌<◌, ◌≤◌, ◌==◌, true, Bool, if◌then◌else◌, List, [], ◌∷◌, map, slice_index, slice_set, All, Option, Some, None, bit_and}
+use Rattle.std.specs.Prelude.{◌≡◌, ℕ, ◌+◌, ◌-◌, ◌/◌, ◌%◌, ◌^◌, ◌<◌, ◌≤◌, ◌==◌, true, Bool, if◌then◌else◌, List, [], ◌∷◌, map, slice_index, slice_set}
+use Rattle.std.specs.Prelude.{All, Option, Some, None, bit_and}
 use Rattle.rv_isa.specs.declared.image.Segment.{Segment}
 use Rattle.rv_isa.specs.Memory.{Memory, is_in, are_mapped}
 use Rattle.rv_machine.specs.declared.rows.Row.{Row}

@@ -19,4 +19,5 @@ StepGives places old new M.Goes = (input output : List ℕ) → step places (wit
 StepGives places old new (M.Exits status) = ((input output : List ℕ) → step places (with_streams input output old) ≡ Ends (Exits status)) × (new ≡ old)
 StepGives places old new (M.Traps kind) = ((input output : List ℕ) → step places (with_streams input output old) ≡ Ends (Trap kind old.pc)) × (new ≡ old)
 StepGives places old new M.Breaks = ((input output : List ℕ) → step places (with_streams input output old) ≡ Ends (Break old.pc)) × (new ≡ old)
-StepGives places old new M.Calls = (decoded (word_at old.memory old.pc) ≡ Some Ecall) × ((input output : List ℕ) → step places (with_streams input output old) ≡ calls places (with_streams input output old)) × (new ≡ old)
+StepGives places old new M.Calls = (decoded (word_at old.memory old.pc) ≡ Some Ecall)
+    × ((input output : List ℕ) → step places (with_streams input output old) ≡ calls places (with_streams input output old)) × (new ≡ old)

@@ -3,7 +3,8 @@
 
 ghost use Rattle.std.specs.Prelude.{◌≡◌, FitsSigned};
 ghost use Rattle.std.specs.Int.{w8, w16, w32, cast_signed, cast_unsigned, int_shr};
-ghost use Rattle.rv_isa.specs.Arithmetic.{extended, high_mixed, high_signed, high_unsigned, is_less, one_if, plus, quotient, quotient_unsigned, remainder, remainder_unsigned, shifted_left, shifted_right, shifted_right_signed};
+ghost use Rattle.rv_isa.specs.Arithmetic.{extended, high_mixed, high_signed, high_unsigned, is_less, one_if, plus, quotient, quotient_unsigned};
+ghost use Rattle.rv_isa.specs.Arithmetic.{remainder, remainder_unsigned, shifted_left, shifted_right, shifted_right_signed};
 
 /// 1 where the test holds, and else 0.
 #[inline(always)]

@@ -1,8 +1,8 @@
 //! What each instruction does to a hart.
 
 use crate::arithmetic::{
-    extended, high_mixed, high_signed, high_unsigned, is_less, plus, quotient, quotient_unsigned,
-    remainder, remainder_unsigned, shifted_left, shifted_right, shifted_right_signed, word_if,
+    extended, high_mixed, high_signed, high_unsigned, is_less, plus, quotient_unsigned, remainder,
+    remainder_unsigned, shifted_left, shifted_right, shifted_right_signed, word_if,
 };
 use crate::hart::{Hart, Moved};
 use rv_isa::Inst;
@@ -127,10 +127,7 @@ impl Hart {
                 rd,
                 high_unsigned(self.register(rs1), self.register(rs2)),
             ),
-            Inst::Div { rd, rs1, rs2 } => self.write(
-                rd,
-                quotient(self.register(rs1), self.register(rs2)),
-            ),
+            Inst::Div { rd, rs1, rs2 } => self.divide(rd, rs1, rs2),
             Inst::Divu { rd, rs1, rs2 } => self.write(
                 rd,
                 quotient_unsigned(self.register(rs1), self.register(rs2)),

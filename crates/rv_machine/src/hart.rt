@@ -2,7 +2,7 @@
 
 ghost use Rattle.std.specs.Prelude.{◌≡◌, ◌<◌, slice_index};
 
-use crate::arithmetic::{extended_byte, extended_half, plus};
+use crate::arithmetic::{extended_byte, extended_half, plus, quotient};
 use crate::memory::Memory;
 use lay_base::TrapKind;
 
@@ -33,8 +33,8 @@ impl Hart {
     ghost use Rattle.std.specs.Prelude.{◌≡◌, ◌<◌, slice_index};
     ghost use Rattle.rv_isa.specs.declared.instruction.Inst.TheVariants as I;
     ghost use Rattle.rv_isa.specs.Arithmetic.{plus as plus_word};
-    ghost use Rattle.rv_isa.specs.Step.{branches, executed, jumps, writes};
-    ghost use Rattle.rv_machine.specs.Harts.{Executes, passes, places_of, state_of};
+    ghost use Rattle.rv_isa.specs.Step.{branches, jumps, writes};
+    ghost use Rattle.rv_machine.specs.Harts.{Does, Executes, passes, places_of, state_of};
 
     #[inline(always)]
     pub(crate) fn register(&self, r: u8) -> u32
@@ -114,7 +114,7 @@ impl Hart {
         requires rd { rd < 32 }
         requires rs1 { rs1 < 32 }
         ensures places { places_of self.new ≡ places_of self.old }
-        ensures moved { Executes (state_of self.old) (state_of self.new) (executed (places_of self.old) (state_of self.old) (I.Lb rd rs1 imm)) result }
+        ensures moved { Does self.old self.new (I.Lb rd rs1 imm) result }
     {
         let address = self.address(rs1, imm);
         match self.memory.load_byte(address) {
@@ -129,7 +129,7 @@ impl Hart {
         requires rd { rd < 32 }
         requires rs1 { rs1 < 32 }
         ensures places { places_of self.new ≡ places_of self.old }
-        ensures moved { Executes (state_of self.old) (state_of self.new) (executed (places_of self.old) (state_of self.old) (I.Lh rd rs1 imm)) result }
+        ensures moved { Does self.old self.new (I.Lh rd rs1 imm) result }
     {
         let address = self.address(rs1, imm);
         if address % 2 != 0 {
@@ -147,7 +147,7 @@ impl Hart {
         requires rd { rd < 32 }
         requires rs1 { rs1 < 32 }
         ensures places { places_of self.new ≡ places_of self.old }
-        ensures moved { Executes (state_of self.old) (state_of self.new) (executed (places_of self.old) (state_of self.old) (I.Lw rd rs1 imm)) result }
+        ensures moved { Does self.old self.new (I.Lw rd rs1 imm) result }
     {
         let address = self.address(rs1, imm);
         if address % 4 != 0 {
@@ -165,7 +165,7 @@ impl Hart {
         requires rd { rd < 32 }
         requires rs1 { rs1 < 32 }
         ensures places { places_of self.new ≡ places_of self.old }
-        ensures moved { Executes (state_of self.old) (state_of self.new) (executed (places_of self.old) (state_of self.old) (I.Lbu rd rs1 imm)) result }
+        ensures moved { Does self.old self.new (I.Lbu rd rs1 imm) result }
     {
         let address = self.address(rs1, imm);
         match self.memory.load_byte(address) {
@@ -180,7 +180,7 @@ impl Hart {
         requires rd { rd < 32 }
         requires rs1 { rs1 < 32 }
         ensures places { places_of self.new ≡ places_of self.old }
-        ensures moved { Executes (state_of self.old) (state_of self.new) (executed (places_of self.old) (state_of self.old) (I.Lhu rd rs1 imm)) result }
+        ensures moved { Does self.old self.new (I.Lhu rd rs1 imm) result }
     {
         let address = self.address(rs1, imm);
         if address % 2 != 0 {
@@ -198,7 +198,7 @@ impl Hart {
         requires rs1 { rs1 < 32 }
         requires rs2 { rs2 < 32 }
         ensures places { places_of self.new ≡ places_of self.old }
-        ensures moved { Executes (state_of self.old) (state_of self.new) (executed (places_of self.old) (state_of self.old) (I.Sb rs1 rs2 imm)) result }
+        ensures moved { Does self.old self.new (I.Sb rs1 rs2 imm) result }
     {
         let address = self.address(rs1, imm);
         let value = self.register(rs2);
@@ -216,7 +216,7 @@ impl Hart {
         requires rs1 { rs1 < 32 }
         requires rs2 { rs2 < 32 }
         ensures places { places_of self.new ≡ places_of self.old }
-        ensures moved { Executes (state_of self.old) (state_of self.new) (executed (places_of self.old) (state_of self.old) (I.Sh rs1 rs2 imm)) result }
+        ensures moved { Does self.old self.new (I.Sh rs1 rs2 imm) result }
     {
         let address = self.address(rs1, imm);
         if address % 2 != 0 {
@@ -237,7 +237,7 @@ impl Hart {
         requires rs1 { rs1 < 32 }
         requires rs2 { rs2 < 32 }
         ensures places { places_of self.new ≡ places_of self.old }
-        ensures moved { Executes (state_of self.old) (state_of self.new) (executed (places_of self.old) (state_of self.old) (I.Sw rs1 rs2 imm)) result }
+        ensures moved { Does self.old self.new (I.Sw rs1 rs2 imm) result }
     {
         let address = self.address(rs1, imm);
         if address % 4 != 0 {
@@ -250,5 +250,18 @@ impl Hart {
         } else {
             Moved::Traps(TrapKind::Unmapped)
         }
+    }
+
+    /// The quotient of two registers; no divisor traps (DIV).
+    #[inline(always)]
+    pub(crate) fn divide(&mut self, rd: u8, rs1: u8, rs2: u8) -> Moved
+        requires rd { rd < 32 }
+        requires rs1 { rs1 < 32 }
+        requires rs2 { rs2 < 32 }
+        ensures places { places_of self.new ≡ places_of self.old }
+        ensures moved { Does self.old self.new (I.Div rd rs1 rs2) result }
+    {
+        let divisor = self.register(rs2);
+        self.write(rd, quotient(self.register(rs1), divisor))
     }
 }

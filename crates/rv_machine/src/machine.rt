@@ -24,9 +24,9 @@ pub enum MachineEnd {
     WriteFault,
 }
 
-/// What a step of the code came to, with what a call of the environment did.
+/// What the code of one step came to, with that of the call of the environment that it may be.
 #[derive(Clone, Copy, Debug)]
-pub enum Turn {
+pub enum Advance {
     /// The program goes on.
     Goes,
     /// The program exited with a status.
@@ -59,7 +59,7 @@ impl Machine {
     ghost use Rattle.rv_machine.specs.declared.hart.Moved.TheVariants.{Traps};
     ghost use Rattle.rv_machine.specs.Keeping.{IsReady};
     ghost use Rattle.rv_machine.specs.Stepping.{StepGives};
-    ghost use Rattle.rv_machine.specs.Turns.{TurnGives, streams};
+    ghost use Rattle.rv_machine.specs.Advances.{AdvanceGives, streams};
     ghost use Rattle.rv_machine.specs.Runs.{IsFresh, RunGives, own_run, run_of, observed};
 
     /// Whether the next instruction stands in the row of the last one and is kept.
@@ -129,18 +129,18 @@ impl Machine {
 
     /// One step, with what a call of the environment does.
     #[inline(always)]
-    fn turn<I: Source, O: Sink>(&mut self, input: &mut I, out: &mut O) -> Turn
+    fn advance<I: Source, O: Sink>(&mut self, input: &mut I, out: &mut O) -> Advance
         ensures places { places_of self.new.hart ≡ places_of self.old.hart }
         ensures steps { self.new.steps ≡ self.old.steps }
-        ensures gives { TurnGives (step (places_of self.old.hart)) (state_of self.old.hart) (state_of self.new.hart)
+        ensures gives { AdvanceGives (step (places_of self.old.hart)) (state_of self.old.hart) (state_of self.new.hart)
             (streams (I.left input.old) (I.faults input.old) (O.written out.old) (O.faults out.old))
             (streams (I.left input.new) (I.faults input.new) (O.written out.new) (O.faults out.new)) result }
     {
         match self.step() {
-            Moved::Goes => Turn::Goes,
-            Moved::Exits(status) => Turn::Exits(status),
-            Moved::Traps(kind) => Turn::Traps(kind),
-            Moved::Breaks => Turn::Breaks,
+            Moved::Goes => Advance::Goes,
+            Moved::Exits(status) => Advance::Exits(status),
+            Moved::Traps(kind) => Advance::Traps(kind),
+            Moved::Breaks => Advance::Breaks,
             Moved::Calls => self.hart.call(input, out),
         }
     }
@@ -162,16 +162,16 @@ impl Machine {
             (streams (I.left input.new) (I.faults input.new) (O.written out.new) (O.faults out.new)) (observed self.new) result }
     {
         for done in 0..limit {
-            match self.turn(input, out) {
-                Turn::Goes => {}
-                Turn::Exits(status) => return self.stop(done + 1, MachineEnd::Exits(status)),
-                Turn::Traps(kind) => return self.stop(
+            match self.advance(input, out) {
+                Advance::Goes => {}
+                Advance::Exits(status) => return self.stop(done + 1, MachineEnd::Exits(status)),
+                Advance::Traps(kind) => return self.stop(
                     done + 1,
                     MachineEnd::Trap(kind, self.hart.pc),
                 ),
-                Turn::Breaks => return self.stop(done + 1, MachineEnd::Break(self.hart.pc)),
-                Turn::ReadFails => return self.stop(done, MachineEnd::ReadFault),
-                Turn::WriteFails => return self.stop(done, MachineEnd::WriteFault),
+                Advance::Breaks => return self.stop(done + 1, MachineEnd::Break(self.hart.pc)),
+                Advance::ReadFails => return self.stop(done, MachineEnd::ReadFault),
+                Advance::WriteFails => return self.stop(done, MachineEnd::WriteFault),
             }
         }
         self.stop(limit, MachineEnd::StepLimit(limit))

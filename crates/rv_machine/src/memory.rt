@@ -24,7 +24,8 @@ fn half_from(bytes: &[u8], place: usize) -> u16
 /// The word at a place among bytes, the lowest byte first.
 fn word_from(bytes: &[u8], place: usize) -> u32
     requires { place + 4 ≤ length bytes.now }
-    ensures { result ≡ slice_index bytes.now place + 2 ^ 8 * slice_index bytes.now (place + 1) + 2 ^ 16 * slice_index bytes.now (place + 2) + 2 ^ 24 * slice_index bytes.now (place + 3) }
+    ensures { result ≡ slice_index bytes.now place + 2 ^ 8 * slice_index bytes.now (place + 1)
+        + 2 ^ 16 * slice_index bytes.now (place + 2) + 2 ^ 24 * slice_index bytes.now (place + 3) }
 {
     bytes[place] as u32
         + 256 * bytes[place + 1] as u32

@@ -35,7 +35,8 @@ impl Memory {
     ) -> Result<(), SinkFault>
         requires { are_mapped (segments_in self.now) readable address count ≡ true }
         ensures kept { IsOk result → O.faults out.new ≡ O.faults out.old }
-        ensures gives { PutGives (O.faults out.old) (O.faults out.new) (O.written out.old) (O.written out.new) (bytes_at (content_of self.now) address count) result }
+        ensures gives { PutGives (O.faults out.old) (O.faults out.new) (O.written out.old) (O.written out.new)
+            (bytes_at (content_of self.now) address count) result }
     {
         let mut next = address as u64;
         let mut left = count as u64;
@@ -60,7 +61,8 @@ impl Memory {
         requires { are_mapped (segments_in self.old) writable address count ≡ true }
         ensures rows { self.new.rows ≡ self.old.rows }
         ensures kept { IsOk result → I.faults input.new ≡ I.faults input.old }
-        ensures gives { ReadsIn (I.faults input.old) (I.faults input.new) (I.left input.old) (I.left input.new) (content_of self.old) (content_of self.new) address count result }
+        ensures gives { ReadsIn (I.faults input.old) (I.faults input.new) (I.left input.old) (I.left input.new) (content_of self.old)
+            (content_of self.new) address count result }
     {
         for i in 0..count {
             match input.next()? {

@@ -24,7 +24,7 @@ fn answer_input(rt: &HostRuntime) -> Result<(), Stopped> {
 }
 
 fn main(rt: HostRuntime) -> ExitCode {
-    let known = match answer_input(&rt) {
+    let reported = match answer_input(&rt) {
         Ok(()) => return ExitCode::SUCCESS,
         Err(Stopped::NoWord(line)) => {
             eprintln!(rt; "rv_words: line {line} is no word of at most 8 hexadecimal digits")
@@ -32,6 +32,6 @@ fn main(rt: HostRuntime) -> ExitCode {
         Err(Stopped::Io(error)) => eprintln!(rt; "rv_words: {error}"),
     };
     // Where the message cannot be written either, the status still tells.
-    drop(known);
+    drop(reported);
     ExitCode::FAILURE
 }

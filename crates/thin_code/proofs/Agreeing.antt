@@ -33,7 +33,8 @@ back_small : (a b : List Term) → AllByRecursion IsSmall (a ++ b) → AllByRecu
 back_small [] b h = h
 back_small (t ∷ a) b h = back_small a b h.1
 
-module _ (p : Program) (heap stack : ℕ) (small : All (λ t. punctuators t ≤ 300) (whole_sums p)) (few : length (spelled_program p) ≤ 10000) (heap_low : 1 ≤ heap) (heap_high : heap ≤ 1024) (stack_low : 1 ≤ stack) (stack_high : stack ≤ 128) where
+module _ (p : Program) (heap stack : ℕ) (small : All (λ t. punctuators t ≤ 300) (whole_sums p)) (few : length (spelled_program p) ≤ 10000)
+    (heap_low : 1 ≤ heap) (heap_high : heap ≤ 1024) (stack_low : 1 ≤ stack) (stack_high : stack ≤ 128) where
   abbrev code : List Inst
   code = program_code stack p
 
@@ -52,7 +53,9 @@ module _ (p : Program) (heap stack : ℕ) (small : All (λ t. punctuators t ≤ 
 
     -- the jump at the entry leads to the code
     jumps_there : Comes (segments code heap stack code_small stack_high) s0 s1
-    jumps_there = comes_one (segments code heap stack code_small stack_high) data_address s0 s1 (Jal 0 (pos 4096)) (entry_stands code heap stack code_small stack_high).0 refl
+    jumps_there =
+        comes_one (segments code heap stack code_small stack_high) data_address s0 s1 (Jal 0 (pos 4096))
+        (entry_stands code heap stack code_small stack_high).0 refl
 
     -- what the code begins with holds there
     begins : Begins (layout code heap stack code_small stack_high) stack s1
@@ -64,12 +67,14 @@ module _ (p : Program) (heap stack : ℕ) (small : All (λ t. punctuators t ≤ 
         let each = recursion_from_All IsSmall (whole_sums p) small in
         let stands = program_stands code heap stack code_small stack_high (program_in_range stack p stack_high) in
         let last = option_to_list p.last in
-        let W = program_works (layout code heap stack code_small stack_high) stack p s1 begins (front_small p.puts last each) (back_small p.puts last each) stands (omega (arith, code_small)) in
+        let W = program_works (layout code heap stack code_small stack_high) stack p s1 begins (front_small p.puts last each)
+        (back_small p.puts last each) stands (omega (arith, code_small)) in
         let c = jumps_there.by W.0 in
         (c.0, c.2 ∙ W.1)
 
     -- where the program ends, the machine ends so
-    ends : (n : ℕ) (output : List ℕ) (st : ℕ) (rest : List ℕ) → thin_run p input n ≡ Ends output st rest → (m : ℕ) × (machine_run (image_of p heap stack) input m ≡ shows (Exits st) output rest)
+    ends : (n : ℕ) (output : List ℕ) (st : ℕ) (rest : List ℕ) → thin_run p input n ≡ Ends output st rest
+        → (m : ℕ) × (machine_run (image_of p heap stack) input m ≡ shows (Exits st) output rest)
     ends zero output st rest e = absurd cc
     ends (suc n) output st rest e =
         let f : printed p ≡ output = cc in
@@ -79,7 +84,8 @@ module _ (p : Program) (heap stack : ℕ) (small : All (λ t. punctuators t ≤ 
         (E.0, E.1 ∙ ap (λ (z : ℕ). shows (Exits z) (printed p) input) g ∙ ap (λ (z : List ℕ). shows (Exits st) z input) f ∙ ap (shows (Exits st) output) h)
 
     -- a run of no turns is a run of no steps
-    goes_on : (n : ℕ) (output rest : List ℕ) → thin_run p input n ≡ GoesOn output rest → (m : ℕ) × (n ≤ m) × (machine_run (image_of p heap stack) input m ≡ shows Running output rest)
+    goes_on : (n : ℕ) (output rest : List ℕ) → thin_run p input n ≡ GoesOn output rest
+        → (m : ℕ) × (n ≤ m) × (machine_run (image_of p heap stack) input m ≡ shows Running output rest)
     unfolding run
     goes_on zero output rest e =
         let f : [] ≡ output = cc in
@@ -96,11 +102,13 @@ module _ (p : Program) (heap stack : ℕ) (small : All (λ t. punctuators t ≤ 
     loads = loads;
     heap_room = record { segment = room_segment heap_address heap; among = (3, omega arith, refl); is_at = refl; size = refl };
     stack_room = record { segment = room_segment stack_address stack; among = (2, omega arith, refl); is_at = refl; size = refl };
-    ends = λ input n output st rest e light. ends input n output st rest e;
-    goes_on = λ input n output rest e light. goes_on input n output rest e;
-    nothing_else = λ input defined light.
-        let E = machine_ends input in
-        shows_only (image_of p heap stack).segments (start (image_of p heap stack) input) (thin_run p) input 1 E.0 (status p) (printed p) input E.1 refl;
+    each_input = λ input bytes. record {
+      ends = λ n output st rest e light. ends input n output st rest e;
+      goes_on = λ n output rest e light. goes_on input n output rest e;
+      nothing_else = λ defined light.
+          let E = machine_ends input in
+          shows_only (image_of p heap stack).segments (start (image_of p heap stack) input) (thin_run p) input 1 E.0 (status p) (printed p) input E.1 refl;
+    };
   }
 
   -- the image has its entry and four segments at their places
@@ -108,8 +116,21 @@ module _ (p : Program) (heap stack : ℕ) (small : All (λ t. punctuators t ≤ 
   image_writable = record {
     entry = refl;
     segments = record {
-      text_full = record { is_at = refl; has_flags = refl; size = refl; at_least = omega (arith, text_length code); at_most = omega (arith, text_length code, code_small) };
-      globals_full = record { is_at = refl; has_flags = refl; size = refl; at_least = omega (arith, zeros_length 256); at_most = omega (arith, zeros_length 256) };
+      text_full = record {
+        is_at = refl;
+        has_flags = refl;
+        size = refl;
+        at_least = omega (arith, text_length code);
+        at_most = omega (arith, text_length code, code_small);
+      };
+      globals_full =
+          record {
+            is_at = refl;
+            has_flags = refl;
+            size = refl;
+            at_least = omega (arith, zeros_length 256);
+            at_most = omega (arith, zeros_length 256);
+          };
       globals_whole = omega (arith, zeros_length 256);
       stack_room = record { is_at = refl; has_flags = refl; bytes = refl; mib = stack; size = refl; at_least = stack_low; at_most = stack_high };
       heap_room = record { is_at = refl; has_flags = refl; bytes = refl; mib = heap; size = refl; at_least = heap_low; at_most = heap_high };

@@ -9,7 +9,8 @@ use Rattle.thin_code.specs.Code.{sum_code, write_code, puts_code, code_bytes}
 -- the bytes of code, part by part
 pub bytes_append : (a b : List Inst) → code_bytes (a ++ b) ≡ code_bytes a ++ code_bytes b
 bytes_append [] b = refl
-bytes_append (i ∷ a) b = ap (λ (x : List ℕ). to_le_bytes w32 (encoding i) ++ x) (bytes_append a b) ∙ sym (append_assoc (to_le_bytes w32 (encoding i)) (code_bytes a) (code_bytes b))
+bytes_append (i ∷ a) b = ap (λ (x : List ℕ). to_le_bytes w32 (encoding i) ++ x) (bytes_append a b)
+    ∙ sym (append_assoc (to_le_bytes w32 (encoding i)) (code_bytes a) (code_bytes b))
 
 -- the code of calls, part by part
 pub puts_append : (a b : List Term) → puts_code (a ++ b) ≡ puts_code a ++ puts_code b

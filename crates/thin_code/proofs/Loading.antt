@@ -1,5 +1,6 @@
 -- Where things are in the image of a program, and that its code stands in its text.
-use Rattle.std.proofs.Common.{◌≡◌, ℕ, zero, suc, ◌+◌, ◌-◌, ◌*◌, ◌^◌, ◌<◌, ◌≤◌, Bool, true, ◌&&◌, eqb, bit_and, List, [], ◌∷◌, ◌++◌, length, slice_index, pos, refl, sym, ap, ◌∙◌, subst, arith, length-append, le-leb, lt-ltb, get_or-append-add}
+use Rattle.std.proofs.Common.{◌≡◌, ℕ, zero, suc, ◌+◌, ◌-◌, ◌*◌, ◌^◌, ◌<◌, ◌≤◌, Bool, true, ◌&&◌, eqb, bit_and, List, [], ◌∷◌, ◌++◌, length}
+use Rattle.std.proofs.Common.{slice_index, pos, refl, sym, ap, ◌∙◌, subst, arith, length-append, le-leb, lt-ltb, get_or-append-add}
 use Rattle.std.proofs.lemmas.Bool.{and_from, or_left, or_right}
 use Rattle.std.proofs.lemmas.List.{get_or_append_left, length-replicate}
 use Rattle.std.specs.Int.{w32, to_le_bytes}
@@ -22,7 +23,8 @@ abbrev has : (flag address : ℕ) → Segment → Bool
 has flag address segment = eqb (bit_and segment.flags flag) flag && is_in segment address
 
 -- a segment with the flag has its addresses
-has_yes : (flag address : ℕ) (segment : Segment) → eqb (bit_and segment.flags flag) flag ≡ true → segment.at ≤ address → address < segment.at + segment.size → has flag address segment ≡ true
+has_yes : (flag address : ℕ) (segment : Segment) → eqb (bit_and segment.flags flag) flag ≡ true → segment.at ≤ address
+    → address < segment.at + segment.size → has flag address segment ≡ true
 has_yes flag address segment e low high = and_from _ _ e (and_from _ _ (le-leb _ _ low) (lt-ltb _ _ high))
 
 -- addresses are mapped where each of them is
@@ -44,14 +46,18 @@ module _ (text globals stack heap : Segment) where
   in_text flag n a e low high = mapped_each four flag n a (λ k lt. or_left (has flag (a + k) text) _ (has_yes flag (a + k) text e (omega arith) (omega arith)))
 
   -- of the second
-  in_globals : (flag n a : ℕ) → eqb (bit_and globals.flags flag) flag ≡ true → globals.at ≤ a → a + n ≤ globals.at + globals.size → are_mapped four flag a n ≡ true
-  in_globals flag n a e low high = mapped_each four flag n a (λ k lt. or_right (has flag (a + k) text) _ (or_left (has flag (a + k) globals) _ (has_yes flag (a + k) globals e (omega arith) (omega arith))))
+  in_globals : (flag n a : ℕ) → eqb (bit_and globals.flags flag) flag ≡ true → globals.at ≤ a → a + n ≤ globals.at + globals.size
+      → are_mapped four flag a n ≡ true
+  in_globals flag n a e low high =
+      mapped_each four flag n a (λ k lt. or_right (has flag (a + k) text) _
+      (or_left (has flag (a + k) globals) _ (has_yes flag (a + k) globals e (omega arith) (omega arith))))
 
   -- of the third
   in_stack : (flag n a : ℕ) → eqb (bit_and stack.flags flag) flag ≡ true → stack.at ≤ a → a + n ≤ stack.at + stack.size → are_mapped four flag a n ≡ true
   in_stack flag n a e low high =
       mapped_each four flag n a
-      (λ k lt. or_right (has flag (a + k) text) _ (or_right (has flag (a + k) globals) _ (or_left (has flag (a + k) stack) _ (has_yes flag (a + k) stack e (omega arith) (omega arith)))))
+      (λ k lt. or_right (has flag (a + k) text) _ (or_right (has flag (a + k) globals) _
+      (or_left (has flag (a + k) stack) _ (has_yes flag (a + k) stack e (omega arith) (omega arith)))))
 
 -- ---- what stands there
 
@@ -72,7 +78,8 @@ holds_back memory at a b h = record {
 }
 
 -- the bytes of a number make it again
-joined_bytes : (n b0 b1 b2 b3 : ℕ) → n < 2 ^ 32 → b0 ≡ slice_index (to_le_bytes w32 n) 0 → b1 ≡ slice_index (to_le_bytes w32 n) 1 → b2 ≡ slice_index (to_le_bytes w32 n) 2 → b3 ≡ slice_index (to_le_bytes w32 n) 3 → b0 + 2 ^ 8 * b1 + 2 ^ 16 * b2 + 2 ^ 24 * b3 ≡ n
+joined_bytes : (n b0 b1 b2 b3 : ℕ) → n < 2 ^ 32 → b0 ≡ slice_index (to_le_bytes w32 n) 0 → b1 ≡ slice_index (to_le_bytes w32 n) 1
+    → b2 ≡ slice_index (to_le_bytes w32 n) 2 → b3 ≡ slice_index (to_le_bytes w32 n) 3 → b0 + 2 ^ 8 * b1 + 2 ^ 16 * b2 + 2 ^ 24 * b3 ≡ n
 joined_bytes n b0 b1 b2 b3 lt e0 e1 e2 e3 = omega arith
 
 -- the bytes of a number stand as its word
@@ -82,7 +89,9 @@ holds_word memory at n lt h =
     joined_bytes n _ _ _ _ lt (ap memory z ∙ h.by 0 (omega arith)) (h.by 1 (omega arith)) (h.by 2 (omega arith)) (h.by 3 (omega arith))
 
 -- bytes of instructions stand as code
-pub code_stands : (segments : List Segment) (low end limit : ℕ) (memory : Memory) (is : List Inst) (pc : ℕ) → ((a : ℕ) → low ≤ a → a + 4 ≤ end → are_mapped segments executable a 4 ≡ true) → end ≤ limit → low ≤ pc → pc + 4 * length is ≤ end → AreInRange is → Holds memory pc (code_bytes is)
+pub code_stands : (segments : List Segment) (low end limit : ℕ) (memory : Memory) (is : List Inst) (pc : ℕ)
+    → ((a : ℕ) → low ≤ a → a + 4 ≤ end → are_mapped segments executable a 4 ≡ true) → end ≤ limit → low ≤ pc → pc + 4 * length is ≤ end
+    → AreInRange is → Holds memory pc (code_bytes is)
     → Code segments limit memory pc is
 code_stands segments low end limit memory [] pc fetch lim le fits r h = tt
 code_stands segments low end limit memory (i ∷ is) pc fetch lim le fits r h =
@@ -109,7 +118,14 @@ bytes_length (i ∷ is) = let h = bytes_length is in omega (arith, length-append
 
 pub text_length : (code : List Inst) → length (text_bytes code) ≡ 0x1000 + 4 * length code
 text_length code =
-    omega (arith, length-append (code_bytes (Jal 0 (pos 4096) ∷ [])) (zeros (0x1000 - 4) ++ code_bytes code), length-append (zeros (0x1000 - 4)) (code_bytes code), zeros_length (0x1000 - 4), bytes_length code, bytes_length (Jal 0 (pos 4096) ∷ []))
+    omega (
+      arith,
+      length-append (code_bytes (Jal 0 (pos 4096) ∷ [])) (zeros (0x1000 - 4) ++ code_bytes code),
+      length-append (zeros (0x1000 - 4)) (code_bytes code),
+      zeros_length (0x1000 - 4),
+      bytes_length code,
+      bytes_length (Jal 0 (pos 4096) ∷ []),
+    )
 
 -- ---- the image
 
@@ -136,10 +152,12 @@ module _ (code : List Inst) (heap stack : ℕ) (small : length code ≤ 60000) (
 
   -- the byte of data is to be read and written
   pub globals_mapped : (flag : ℕ) → eqb (bit_and 6 flag) flag ≡ true → are_mapped segments flag data_address 1 ≡ true
-  globals_mapped flag e = in_globals text globals stack_room (room_segment heap_address heap) flag 1 data_address e (omega arith) (omega (arith, zeros_length 256))
+  globals_mapped flag e =
+      in_globals text globals stack_room (room_segment heap_address heap) flag 1 data_address e (omega arith) (omega (arith, zeros_length 256))
 
   -- the stack is to be read and written
-  pub stack_mapped : (flag : ℕ) → eqb (bit_and 6 flag) flag ≡ true → (a : ℕ) → stack_address ≤ a → a + 4 ≤ stack_address + stack * 2 ^ 20 → are_mapped segments flag a 4 ≡ true
+  pub stack_mapped : (flag : ℕ) → eqb (bit_and 6 flag) flag ≡ true → (a : ℕ) → stack_address ≤ a → a + 4 ≤ stack_address + stack * 2 ^ 20
+      → are_mapped segments flag a 4 ≡ true
   stack_mapped flag e a low high = in_stack text globals stack_room (room_segment heap_address heap) flag 4 a e low high
 
   abbrev pub layout : Layout
@@ -159,7 +177,9 @@ module _ (code : List Inst) (heap stack : ℕ) (small : length code ≤ 60000) (
 
   -- below the end of the text
   within : (k : ℕ) → k < length (text_bytes code) → is_in text (text_address + k) ≡ true
-  within k lt = and_from _ _ (le-leb text_address (text_address + k) (omega arith)) (lt-ltb (text_address + k) (text_address + length (text_bytes code)) (omega arith))
+  within k lt =
+      and_from _ _ (le-leb text_address (text_address + k) (omega arith))
+      (lt-ltb (text_address + k) (text_address + length (text_bytes code)) (omega arith))
 
   -- the bytes of the text stand at its address
   text_holds : Holds (initial_memory segments) text_address (text_bytes code)
@@ -177,7 +197,8 @@ module _ (code : List Inst) (heap stack : ℕ) (small : length code ≤ 60000) (
   -- the jump stands at the entry
   pub entry_stands : Code segments data_address (initial_memory segments) text_address jump
   entry_stands =
-      code_stands segments text_address (text_address + length (text_bytes code)) data_address (initial_memory segments) jump text_address text_fetch text_end (omega arith) (omega (arith, text_length code)) (entry_in_range, tt)
+      code_stands segments text_address (text_address + length (text_bytes code)) data_address (initial_memory segments) jump text_address text_fetch
+      text_end (omega arith) (omega (arith, text_length code)) (entry_in_range, tt)
       (holds_front (initial_memory segments) text_address (code_bytes jump) (zeros (0x1000 - 4) ++ code_bytes code) text_holds)
 
   -- the bytes of the code stand after the first 0x1000
@@ -191,4 +212,5 @@ module _ (code : List Inst) (heap stack : ℕ) (small : length code ≤ 60000) (
   -- the program's code
   pub program_stands : AreInRange code → Code segments data_address (initial_memory segments) 0x11000 code
   program_stands r =
-      code_stands segments text_address (text_address + length (text_bytes code)) data_address (initial_memory segments) code 0x11000 text_fetch text_end (omega arith) (omega (arith, text_length code)) r code_holds
+      code_stands segments text_address (text_address + length (text_bytes code)) data_address (initial_memory segments) code 0x11000 text_fetch
+      text_end (omega arith) (omega (arith, text_length code)) r code_holds

@@ -1,5 +1,6 @@
 -- The code of a program writes its bytes in order, and exits with its status.
-use Rattle.std.proofs.Common.{◌≡◌, ℕ, ◌+◌, ◌-◌, ◌*◌, ◌/◌, ◌%◌, ◌^◌, ◌<◌, ◌≤◌, Bool, List, [], ◌∷◌, ◌++◌, map, length, Option, Some, None, pos, refl, sym, ap, ◌∙◌, subst, arith, length-append, append_assoc, append-nil}
+use Rattle.std.proofs.Common.{◌≡◌, ℕ, ◌+◌, ◌-◌, ◌*◌, ◌/◌, ◌%◌, ◌^◌, ◌<◌, ◌≤◌, Bool, List, [], ◌∷◌, ◌++◌, map, length, Option, Some, None, pos, refl}
+use Rattle.std.proofs.Common.{sym, ap, ◌∙◌, subst, arith, length-append, append_assoc, append-nil}
 use Rattle.std.specs.List.{AllByRecursion}
 use Rattle.std.specs.Option.{option_to_list}
 use Rattle.thin_parser.specs.ThinTree.{Term, Program}
@@ -55,25 +56,29 @@ idle_still l s t idle len others =
 sum_memory : (l : Layout) (n m v : ℕ) (s t : State) → n ≤ 300 → Idle l s → Gave n m v s t → SameBut l.limit (2 ^ 32) s.memory t.memory
 sum_memory l n m v s t le idle g =
     let ready = idle.ready in
-    same_but_more (register s 2 - 4 * n) (register s 2) l.limit (2 ^ 32) s.memory t.memory (omega (arith, ready.low, l.above)) (omega (arith, ready.high, l.end)) g.memory
+    same_but_more (register s 2 - 4 * n) (register s 2) l.limit (2 ^ 32) s.memory t.memory (omega (arith, ready.low, l.above))
+    (omega (arith, ready.high, l.end)) g.memory
 
 -- ---- the call of putchar
 
 -- a sum and the writing of its byte
-both : (l : Layout) (t : Term) (s s1 s2 : State) → IsSmall t → Idle l s → Gave (punctuators t) (length (sum_code t)) (value t) s s1 → Wrote (register s1 10) s1 s2 → Printed l (length (sum_code t) + 6) (low_byte (value t) ∷ []) s s2
+both : (l : Layout) (t : Term) (s s1 s2 : State) → IsSmall t → Idle l s → Gave (punctuators t) (length (sum_code t)) (value t) s s1
+    → Wrote (register s1 10) s1 s2 → Printed l (length (sum_code t) + 6) (low_byte (value t) ∷ []) s s2
 both l t s s1 s2 small idle g w =
     let idle1 = idle_still l s s1 idle g.registers g.others in
     let byte = same_but_more _ _ l.limit (2 ^ 32) s1.memory s2.memory l.data_above (omega arith) w.memory in
     record {
       idle = idle_still l s1 s2 idle1 w.registers w.others;
       pc = omega (arith, g.pc, w.pc);
-      memory = same_then _ _ _ _ l.limit (2 ^ 32) s.memory s1.memory s2.memory (omega arith) (omega arith) (omega arith) (omega arith) (sum_memory l _ _ _ s s1 small idle g) byte;
+      memory = same_then _ _ _ _ l.limit (2 ^ 32) s.memory s1.memory s2.memory (omega arith) (omega arith) (omega arith) (omega arith)
+          (sum_memory l _ _ _ s s1 small idle g) byte;
       input = w.input ∙ g.input;
       output = w.output ∙ ap (λ (z : ℕ). s1.output ++ low_byte z ∷ []) g.value ∙ ap (λ (out : List ℕ). out ++ low_byte (value t) ∷ []) g.output;
     }
 
 -- code after a stretch stands still
-after : (l : Layout) (m : ℕ) (bytes : List ℕ) (s t : State) (front back : List Inst) → length front ≡ m → Printed l m bytes s t → Code l.segments l.limit s.memory s.pc (front ++ back) → Code l.segments l.limit t.memory t.pc back
+after : (l : Layout) (m : ℕ) (bytes : List ℕ) (s t : State) (front back : List Inst) → length front ≡ m → Printed l m bytes s t
+    → Code l.segments l.limit s.memory s.pc (front ++ back) → Code l.segments l.limit t.memory t.pc back
 after l m bytes s t front back len p code =
     let rest = code_back l.segments l.limit s.memory s.pc front back code in
     let stays = code_stays l.segments l.limit l.limit (2 ^ 32) s.memory t.memory (s.pc + 4 * length front) back (omega arith) p.memory rest in
@@ -81,14 +86,17 @@ after l m bytes s t front back len p code =
     subst (λ q. Code l.segments l.limit t.memory q back) pc stays
 
 -- a call of putchar prints its byte
-put_works : (l : Layout) (t : Term) (s : State) → IsSmall t → Idle l s → Code l.segments l.limit s.memory s.pc (sum_code t ++ write_code) → s.pc + 4 * (length (sum_code t) + 6) < 2 ^ 32
+put_works : (l : Layout) (t : Term) (s : State) → IsSmall t → Idle l s → Code l.segments l.limit s.memory s.pc (sum_code t ++ write_code)
+    → s.pc + 4 * (length (sum_code t) + 6) < 2 ^ 32
     → (u : State) × Comes l.segments s u × Printed l (length (sum_code t) + 6) (low_byte (value t) ∷ []) s u
 put_works l t s small idle code lt =
-    let A = sum_works l t s (code_front l.segments l.limit s.memory s.pc (sum_code t) write_code code) (fewer l (punctuators t) s small idle.ready) (omega arith) in
+    let A = sum_works l t s (code_front l.segments l.limit s.memory s.pc (sum_code t) write_code code) (fewer l (punctuators t) s small idle.ready)
+    (omega arith) in
     let s1 = A.0 in
     let g = A.2 in
     let rest = code_back l.segments l.limit s.memory s.pc (sum_code t) write_code code in
-    let stays = code_stays l.segments l.limit l.limit (2 ^ 32) s.memory s1.memory (s.pc + 4 * length (sum_code t)) write_code (omega arith) (sum_memory l _ _ _ s s1 small idle g) rest in
+    let stays = code_stays l.segments l.limit l.limit (2 ^ 32) s.memory s1.memory (s.pc + 4 * length (sum_code t)) write_code (omega arith)
+    (sum_memory l _ _ _ s s1 small idle g) rest in
     let here = subst (λ q. Code l.segments l.limit s1.memory q write_code) (sym g.pc) stays in
     let idle1 = idle_still l s s1 idle g.registers g.others in
     let W = write_works l s1 g.registers idle1.nil here (omega (arith, g.pc)) in
@@ -117,7 +125,8 @@ puts_length : (t : Term) (ts : List Term) → length (puts_code (t ∷ ts)) ≡ 
 puts_length t ts = omega (arith, length-append (sum_code t) (write_code ++ puts_code ts), length-append write_code (puts_code ts))
 
 -- the calls of putchar print their bytes in order
-pub puts_work : (l : Layout) (ts : List Term) (s : State) → AllByRecursion IsSmall ts → Idle l s → Code l.segments l.limit s.memory s.pc (puts_code ts) → s.pc + 4 * length (puts_code ts) < 2 ^ 32
+pub puts_work : (l : Layout) (ts : List Term) (s : State) → AllByRecursion IsSmall ts → Idle l s
+    → Code l.segments l.limit s.memory s.pc (puts_code ts) → s.pc + 4 * length (puts_code ts) < 2 ^ 32
     → (u : State) × Comes l.segments s u × Printed l (length (puts_code ts)) (map (λ t. low_byte (value t)) ts) s u
 puts_work l [] s small idle code lt = (s, comes_none l.segments s, prints_none l s idle)
 puts_work l (t ∷ ts) s small idle code lt =
@@ -138,7 +147,8 @@ pub record HasStatus (l : Layout) (m status : ℕ) (s t : State) : Type 0 where
   pub value : low_byte (register t 10) ≡ status
 
 -- the status comes into a0, and nothing is printed
-pub status_works : (l : Layout) (declared : Bool) (puts : List Term) (last : Option Term) (s : State) → AllByRecursion IsSmall (option_to_list last) → Idle l s → Code l.segments l.limit s.memory s.pc (status_code last) → s.pc + 4 * length (status_code last) < 2 ^ 32
+pub status_works : (l : Layout) (declared : Bool) (puts : List Term) (last : Option Term) (s : State) → AllByRecursion IsSmall (option_to_list last)
+    → Idle l s → Code l.segments l.limit s.memory s.pc (status_code last) → s.pc + 4 * length (status_code last) < 2 ^ 32
     → (u : State) × Comes l.segments s u × HasStatus l (length (status_code last)) (status (record { declared = declared; puts = puts; last = last })) s u
 status_works l declared puts None s small idle code lt =
     let len = idle.ready.registers in
@@ -185,7 +195,8 @@ pub record Begins (l : Layout) (stack : ℕ) (s : State) : Type 0 where
   pub enough : 1200 ≤ l.size
 
 -- where the run ends after a stretch that writes nothing more, so does that of each state that comes there
-ends_so : (l : Layout) (s s1 s2 t : State) (n k m a b : ℕ) (bytes : List ℕ) → Comes l.segments s t → Printed l n bytes s1 s2 → Printed l k [] s2 t → run l.segments m t ≡ shown (Exits a) t → a ≡ b
+ends_so : (l : Layout) (s s1 s2 t : State) (n k m a b : ℕ) (bytes : List ℕ) → Comes l.segments s t → Printed l n bytes s1 s2 → Printed l k [] s2 t
+    → run l.segments m t ≡ shown (Exits a) t → a ≡ b
     → (j : ℕ) × (run l.segments j s ≡ shows (Exits b) (s1.output ++ bytes) s1.input)
 ends_so l s s1 s2 t n k m a b bytes comes p q ends e =
     let output : t.output ≡ s1.output ++ bytes = q.output ∙ append-nil s2.output ∙ p.output in
@@ -220,7 +231,8 @@ module _ (l : Layout) (stack : ℕ) (p : Program) (s : State) (begins : Begins l
   lengths = omega (arith, length-append (puts_code p.puts) (status_code p.last ++ exit_code), length-append (status_code p.last) exit_code)
 
   -- the run ends with the program's output and status
-  pub program_works : AllByRecursion IsSmall p.puts → AllByRecursion IsSmall (option_to_list p.last) → Code l.segments l.limit s.memory s.pc (program_code stack p) → s.pc + 4 * length (program_code stack p) < 2 ^ 32
+  pub program_works : AllByRecursion IsSmall p.puts → AllByRecursion IsSmall (option_to_list p.last)
+      → Code l.segments l.limit s.memory s.pc (program_code stack p) → s.pc + 4 * length (program_code stack p) < 2 ^ 32
       → (m : ℕ) × (run l.segments m s ≡ shows (Exits (status p)) (s.output ++ printed p) s.input)
   program_works small_puts small_last code lt =
       let len = lengths in
@@ -230,11 +242,13 @@ module _ (l : Layout) (stack : ℕ) (p : Program) (s : State) (begins : Begins l
       let s2 = P.0 in
       let pc2 = P.2.pc in
       let code2 = after l _ _ s1 s2 (puts_code p.puts) back refl P.2 code.1 in
-      let S = status_works l p.declared p.puts p.last s2 small_last P.2.idle (code_front l.segments l.limit s2.memory s2.pc (status_code p.last) exit_code code2) (omega arith) in
+      let S = status_works l p.declared p.puts p.last s2 small_last P.2.idle
+      (code_front l.segments l.limit s2.memory s2.pc (status_code p.last) exit_code code2) (omega arith) in
       let s3 = S.0 in
       let printed3 = S.2.printed in
       let pc3 = printed3.pc in
       let code3 = after l _ _ s2 s3 (status_code p.last) exit_code refl printed3 code2 in
       let E = exit_works l s3 printed3.idle.ready.registers printed3.idle.nil code3 (omega arith) in
       let comes = comes_then l.segments s s1 s3 m1 (comes_then l.segments s1 s2 s3 P.1 S.1) in
-      ends_so l s s1 s2 s3 (length (puts_code p.puts)) (length (status_code p.last)) E.0 (low_byte (register s3 10)) (status p) (printed p) comes P.2 printed3 E.1 S.2.value
+      ends_so l s s1 s2 s3 (length (puts_code p.puts)) (length (status_code p.last)) E.0 (low_byte (register s3 10)) (status p) (printed p) comes P.2
+      printed3 E.1 S.2.value

@@ -1,5 +1,6 @@
 -- Each instruction of a program's code is in range, and the code is no longer than its text allows.
-use Rattle.std.proofs.Common.{◌≡◌, ℕ, ◌+◌, ◌*◌, ◌%◌, ◌^◌, ◌<◌, ◌≤◌, Bool, true, false, List, [], ◌∷◌, ◌++◌, length, Option, Some, None, pos, refl, arith, length-append}
+use Rattle.std.proofs.Common.{◌≡◌, ℕ, ◌+◌, ◌*◌, ◌%◌, ◌^◌, ◌<◌, ◌≤◌, Bool, true, false, List, [], ◌∷◌, ◌++◌, length, Option, Some, None, pos, refl}
+use Rattle.std.proofs.Common.{arith, length-append}
 use Rattle.std.specs.List.{AllByRecursion}
 use Rattle.std.proofs.lemmas.Int.{ints}
 use Rattle.thin_parser.specs.ThinTree.{Term, number, paren, add, sub, mul, Program}
@@ -41,7 +42,8 @@ join_in_range operation r = (
   ((omega arith, omega arith, positive 0 (omega arith)), (add_in_range 2 2 4 (omega arith) (omega arith) (omega arith), (r, tt))),
 )
 
-operator_in_range : (operation : Inst) (a b : List Inst) → IsInRange operation → AreInRange a → AreInRange b → AreInRange (a ++ (push_code ++ (b ++ join_code operation)))
+operator_in_range : (operation : Inst) (a b : List Inst) → IsInRange operation → AreInRange a → AreInRange b
+    → AreInRange (a ++ (push_code ++ (b ++ join_code operation)))
 operator_in_range operation a b r ha hb =
     append_in_range a (push_code ++ (b ++ join_code operation)) ha
     (append_in_range push_code (b ++ join_code operation) push_in_range (append_in_range b (join_code operation) hb (join_in_range operation r)))
@@ -67,7 +69,9 @@ write_in_range = (
 
 puts_in_range : (ts : List Term) → AreInRange (puts_code ts)
 puts_in_range [] = tt
-puts_in_range (t ∷ ts) = append_in_range (sum_code t) (write_code ++ puts_code ts) (sum_in_range t) (append_in_range write_code (puts_code ts) write_in_range (puts_in_range ts))
+puts_in_range (t ∷ ts) =
+    append_in_range (sum_code t) (write_code ++ puts_code ts) (sum_in_range t)
+    (append_in_range write_code (puts_code ts) write_in_range (puts_in_range ts))
 
 status_in_range : (last : Option Term) → AreInRange (status_code last)
 status_in_range None = (add_in_range 10 0 0 (omega arith) (omega arith) (omega arith), tt)
@@ -89,7 +93,13 @@ entry_in_range = (omega arith, (omega (arith, ints), omega (arith, ints), refl))
 -- ---- lengths: at most six instructions for a token
 
 operator_length : (operation : Inst) (a b : List Inst) → length (a ++ (push_code ++ (b ++ join_code operation))) ≡ length a + length b + 6
-operator_length operation a b = omega (arith, length-append a (push_code ++ (b ++ join_code operation)), length-append push_code (b ++ join_code operation), length-append b (join_code operation))
+operator_length operation a b =
+    omega (
+      arith,
+      length-append a (push_code ++ (b ++ join_code operation)),
+      length-append push_code (b ++ join_code operation),
+      length-append b (join_code operation),
+    )
 
 -- with six instructions for each token of a sum
 sum_length : (t : Term) (rest : List ThinToken) → length (sum_code t) + 6 * length rest ≤ 6 * length (spelled_sum t rest)

@@ -12,7 +12,8 @@ use Rattle.rv_isa.proofs.Runs.{settled}
 running_fine : (source : SourceRun) (input : List ℕ) (m : Shown) → m.standing ≡ Running → ShowsOnlySource source input m
 running_fine source input m e = subst (λ (z : Standing). ShowsOnlySource source input (shows z m.output m.rest)) (sym e) tt
 
-module _ (segments : List Segment) (s : State) (source : SourceRun) (input : List ℕ) (n last status : ℕ) (output rest : List ℕ) (ends : run segments last s ≡ shows (Exits status) output rest) (says : source input n ≡ Ends output status rest) where
+module _ (segments : List Segment) (s : State) (source : SourceRun) (input : List ℕ) (n last status : ℕ) (output rest : List ℕ)
+    (ends : run segments last s ≡ shows (Exits status) output rest) (says : source input n ≡ Ends output status rest) where
   -- the end of the run is the source's
   end_fine : (m : Shown) → m ≡ shows (Exits status) output rest → ShowsOnlySource source input m
   end_fine m e = subst (λ (z : Shown). ShowsOnlySource source input z) (sym e) (n, says)
@@ -27,6 +28,7 @@ module _ (segments : List Segment) (s : State) (source : SourceRun) (input : Lis
         ]
         | inr earlier ↦ elim (settled segments m s) [
           | inl r ↦ running_fine source input (run segments m s) r
-          | inr f ↦ (let e : m + (last - m) ≡ last = omega arith in end_fine (run segments m s) (sym (f (last - m)) ∙ ap (λ (k : ℕ). run segments k s) e ∙ ends))
+          | inr f ↦ (let e : m + (last - m) ≡ last = omega arith in
+              end_fine (run segments m s) (sym (f (last - m)) ∙ ap (λ (k : ℕ). run segments k s) e ∙ ends))
         ]
       ]

@@ -45,25 +45,29 @@ step_is segments limit s i h =
     ∙ ap (performed segments s) (decoded_again i h.in_range)
 
 -- one instruction
-pub comes_one : (segments : List Segment) (limit : ℕ) (s t : State) (i : Inst) → Stands segments limit s.memory s.pc i → executed segments s i ≡ Goes t → Comes segments s t
+pub comes_one : (segments : List Segment) (limit : ℕ) (s t : State) (i : Inst) → Stands segments limit s.memory s.pc i
+    → executed segments s i ≡ Goes t → Comes segments s t
 comes_one segments limit s t i h e = record {
   by = λ k. (suc k, omega arith, run_suc segments k s ∙ ap (after (run segments k) s) (step_is segments limit s i h ∙ e));
 }
 
 -- the first of the code stands
-pub code_front : (segments : List Segment) (limit : ℕ) (memory : Memory) (pc : ℕ) (a b : List Inst) → Code segments limit memory pc (a ++ b) → Code segments limit memory pc a
+pub code_front : (segments : List Segment) (limit : ℕ) (memory : Memory) (pc : ℕ) (a b : List Inst) → Code segments limit memory pc (a ++ b)
+    → Code segments limit memory pc a
 code_front segments limit memory pc [] b h = tt
 code_front segments limit memory pc (i ∷ a) b h = (h.0, code_front segments limit memory (pc + 4) a b h.1)
 
 -- the rest of the code stands after it
-pub code_back : (segments : List Segment) (limit : ℕ) (memory : Memory) (pc : ℕ) (a b : List Inst) → Code segments limit memory pc (a ++ b) → Code segments limit memory (pc + 4 * length a) b
+pub code_back : (segments : List Segment) (limit : ℕ) (memory : Memory) (pc : ℕ) (a b : List Inst) → Code segments limit memory pc (a ++ b)
+    → Code segments limit memory (pc + 4 * length a) b
 code_back segments limit memory pc [] b h = let e : pc ≡ pc + 4 * 0 = omega arith in subst (λ n. Code segments limit memory n b) e h
 code_back segments limit memory pc (i ∷ a) b h =
     let e : pc + 4 + 4 * length a ≡ pc + 4 * length (i ∷ a) = omega arith in
     subst (λ n. Code segments limit memory n b) e (code_back segments limit memory (pc + 4) a b h.1)
 
 -- code stands while nothing below the limit changes
-pub code_stays : (segments : List Segment) (limit low high : ℕ) (old new : Memory) (pc : ℕ) (is : List Inst) → limit ≤ low → SameBut low high old new → Code segments limit old pc is → Code segments limit new pc is
+pub code_stays : (segments : List Segment) (limit low high : ℕ) (old new : Memory) (pc : ℕ) (is : List Inst) → limit ≤ low → SameBut low high old new
+    → Code segments limit old pc is → Code segments limit new pc is
 code_stays segments limit low high old new pc [] le s h = tt
 code_stays segments limit low high old new pc (i ∷ is) le s h = (
   record { mapped = h.0.mapped; below = h.0.below; word = word_below low high old new pc s (omega (arith, h.0.below)) ∙ h.0.word; in_range = h.0.in_range },

@@ -31,7 +31,8 @@ pub record Gave (n m v : ℕ) (s t : State) : Type 0 where
 
 -- ---- a number
 
-pub number_works : (l : Layout) (n : ℕ) (s : State) → Code l.segments l.limit s.memory s.pc (number_code n) → Ready l 0 s → s.pc + 8 < 2 ^ 32 → (t : State) × Comes l.segments s t × Gave 0 2 (n % 2 ^ 32) s t
+pub number_works : (l : Layout) (n : ℕ) (s : State) → Code l.segments l.limit s.memory s.pc (number_code n) → Ready l 0 s → s.pc + 8 < 2 ^ 32
+    → (t : State) × Comes l.segments s t × Gave 0 2 (n % 2 ^ 32) s t
 number_works l n s code ready lt =
     let hi = (n + 2 ^ 11) / 2 ^ 12 % 2 ^ 20 * 2 ^ 12 in
     let v = n % 2 ^ 32 in
@@ -67,7 +68,8 @@ pub record Pushed (s t : State) : Type 0 where
   pub input : t.input ≡ s.input
   pub output : t.output ≡ s.output
 
-pub push_works : (l : Layout) (n : ℕ) (s : State) → Code l.segments l.limit s.memory s.pc push_code → Ready l (suc n) s → register s 10 < 2 ^ 32 → s.pc + 8 < 2 ^ 32 → (t : State) × Comes l.segments s t × Pushed s t
+pub push_works : (l : Layout) (n : ℕ) (s : State) → Code l.segments l.limit s.memory s.pc push_code → Ready l (suc n) s → register s 10 < 2 ^ 32
+    → s.pc + 8 < 2 ^ 32 → (t : State) × Comes l.segments s t × Pushed s t
 push_works l n s code ready fits lt =
     let a = register s 2 - 4 in
     let v = register s 10 in
@@ -171,7 +173,8 @@ module _ (l : Layout) (operation : Inst) (f : ℕ → ℕ → ℕ) (joins : Join
   left_3 = put_other s2 2 (a + 4) 10 (λ e. absurd (omega arith)) ∙ put_same s1 10 x (omega (arith, len_1))
 
   right_3 : register s3 11 ≡ y
-  right_3 = put_other s2 2 (a + 4) 11 (λ e. absurd (omega arith)) ∙ put_other s1 10 x 11 (λ e. absurd (omega arith)) ∙ put_same s 11 y (omega (arith, ready.registers))
+  right_3 = put_other s2 2 (a + 4) 11 (λ e. absurd (omega arith)) ∙ put_other s1 10 x 11 (λ e. absurd (omega arith))
+      ∙ put_same s 11 y (omega (arith, ready.registers))
 
   moves : plus y (pos 0) ≡ y
   moves = omega (arith, ready.fits)
@@ -185,9 +188,11 @@ module _ (l : Layout) (operation : Inst) (f : ℕ → ℕ → ℕ) (joins : Join
   join_comes : Code l.segments l.limit s.memory s.pc (join_code operation) → Comes l.segments s s4
   join_comes code =
       let m1 = comes_put l s (Addi 11 10 (pos 0)) 11 y _ code.0 refl moves (omega (arith, ready.pc)) in
-      let m2 = comes_load l s1 2 (pos 0) a code.1.0 (ap (λ (z : ℕ). plus z (pos 0)) sp_1 ∙ stays) ready.aligned ready.low ready.high (omega (arith, ready.pc)) in
+      let m2 = comes_load l s1 2 (pos 0) a code.1.0 (ap (λ (z : ℕ). plus z (pos 0)) sp_1
+      ∙ stays) ready.aligned ready.low ready.high (omega (arith, ready.pc)) in
       let m3 = comes_put l s2 (Addi 2 2 (pos 4)) 2 (a + 4) _ code.1.1.0 refl (ap (λ (z : ℕ). plus z (pos 4)) sp_2 ∙ rises) (omega (arith, ready.pc)) in
-      let m4 = comes_put l s3 operation 10 (f x y) _ code.1.1.1.0 (joins.does l.segments s3) (ap (λ (z : ℕ). f z (register s3 11)) left_3 ∙ ap (f x) right_3) (omega (arith, ready.pc)) in
+      let m4 = comes_put l s3 operation 10 (f x y) _ code.1.1.1.0 (joins.does l.segments s3) (ap (λ (z : ℕ). f z (register s3 11)) left_3
+      ∙ ap (f x) right_3) (omega (arith, ready.pc)) in
       comes_then l.segments s s1 s4 m1 (comes_then l.segments s1 s2 s4 m2 (comes_then l.segments s2 s3 s4 m3 m4))
 
   join_leaves : Joined f s s4
@@ -195,7 +200,8 @@ module _ (l : Layout) (operation : Inst) (f : ℕ → ℕ → ℕ) (joins : Join
     pc = omega arith;
     value = put_same s3 10 (f x y) (omega (arith, len_3));
     sp = put_other s3 10 (f x y) 2 (λ e. absurd (omega arith)) ∙ put_same s2 2 (a + 4) (omega (arith, len_2));
-    others = λ r r10 r2. put_other s3 10 (f x y) r (λ e. omega arith) ∙ put_other s2 2 (a + 4) r r2 ∙ put_other s1 10 x r (λ e. omega arith) ∙ put_other s 11 y r (λ e. omega arith);
+    others = λ r r10 r2. put_other s3 10 (f x y) r (λ e. omega arith) ∙ put_other s2 2 (a + 4) r r2 ∙ put_other s1 10 x r (λ e. omega arith)
+        ∙ put_other s 11 y r (λ e. omega arith);
     registers = put_length s3 10 (f x y) ∙ len_3;
     memory = refl;
     input = refl;

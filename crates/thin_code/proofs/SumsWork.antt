@@ -24,7 +24,8 @@ value_fits (mul a b) = omega arith
 
 -- the code gives v, from each state that is ready
 abbrev pub Works : Layout → (n v : ℕ) → List Inst → State → Type 0
-Works l n v code s = Code l.segments l.limit s.memory s.pc code → Ready l n s → s.pc + 4 * length code < 2 ^ 32 → (t : State) × Comes l.segments s t × Gave n (length code) v s t
+Works l n v code s = Code l.segments l.limit s.memory s.pc code → Ready l n s → s.pc + 4 * length code < 2 ^ 32
+    → (t : State) × Comes l.segments s t × Gave n (length code) v s t
 
 -- ---- an operator and its operands: their code, the words of room that they need, and their values
 
@@ -42,15 +43,19 @@ module _ (l : Layout) (operation : Inst) (f : ℕ → ℕ → ℕ) (joins : Join
   back_a = push_code ++ back_b
 
   -- the four stretches together
-  together : (s1 s2 s3 s4 : State) → Ready l room s → Gave na (length code_a) va s s1 → Pushed s1 s2 → Gave nb (length code_b) vb s2 s3 → Joined f s3 s4 → Gave room words (f va vb) s s4
+  together : (s1 s2 s3 s4 : State) → Ready l room s → Gave na (length code_a) va s s1 → Pushed s1 s2 → Gave nb (length code_b) vb s2 s3
+      → Joined f s3 s4 → Gave room words (f va vb) s s4
   together s1 s2 s3 s4 ready g1 p2 g3 j4 =
       let sp1 : register s1 2 ≡ register s 2 = g1.others 2 (omega arith) in
       let sp3 : register s3 2 ≡ register s2 2 = g3.others 2 (omega arith) in
       let sp2 = p2.sp in
       let low = ready.low in
-      let w : word_at s3.memory (register s3 2) ≡ va = ap (λ (z : ℕ). word_at s3.memory z) sp3 ∙ word_above _ _ s2.memory s3.memory (register s2 2) g3.memory (omega arith) ∙ p2.word ∙ g1.value in
-      let m12 = same_then _ _ _ _ (register s 2 - 4 * room) (register s 2) s.memory s1.memory s2.memory (omega arith) (omega arith) (omega arith) (omega arith) g1.memory p2.memory in
-      let m13 = same_then _ _ _ _ (register s 2 - 4 * room) (register s 2) s.memory s2.memory s3.memory (omega arith) (omega arith) (omega arith) (omega arith) m12 g3.memory in
+      let w : word_at s3.memory (register s3 2) ≡ va = ap (λ (z : ℕ). word_at s3.memory z) sp3
+      ∙ word_above _ _ s2.memory s3.memory (register s2 2) g3.memory (omega arith) ∙ p2.word ∙ g1.value in
+      let m12 = same_then _ _ _ _ (register s 2 - 4 * room) (register s 2) s.memory s1.memory s2.memory (omega arith) (omega arith) (omega arith)
+      (omega arith) g1.memory p2.memory in
+      let m13 = same_then _ _ _ _ (register s 2 - 4 * room) (register s 2) s.memory s2.memory s3.memory (omega arith) (omega arith) (omega arith)
+      (omega arith) m12 g3.memory in
       record {
         pc = omega (arith, g1.pc, p2.pc, g3.pc, j4.pc);
         value = j4.value ∙ ap (λ (z : ℕ). f z (register s3 10)) w ∙ ap (f va) g3.value;
@@ -69,7 +74,8 @@ module _ (l : Layout) (operation : Inst) (f : ℕ → ℕ → ℕ) (joins : Join
 
   -- after the right operand, the join
   after_b : (s1 s2 s3 : State) → Ready l room s → s.pc + 4 * words < 2 ^ 32 → vb < 2 ^ 32
-      → Gave na (length code_a) va s s1 → Pushed s1 s2 → Code l.segments l.limit s2.memory s2.pc back_b → Gave nb (length code_b) vb s2 s3 → Comes l.segments s s3 → Result
+      → Gave na (length code_a) va s s1 → Pushed s1 s2 → Code l.segments l.limit s2.memory s2.pc back_b → Gave nb (length code_b) vb s2 s3
+      → Comes l.segments s s3 → Result
   after_b s1 s2 s3 ready lt fits g1 p2 code g3 comes =
       let sp1 : register s1 2 ≡ register s 2 = g1.others 2 (omega arith) in
       let sp3 : register s3 2 ≡ register s2 2 = g3.others 2 (omega arith) in
@@ -77,7 +83,8 @@ module _ (l : Layout) (operation : Inst) (f : ℕ → ℕ → ℕ) (joins : Join
       let low = ready.low in
       let high = ready.high in
       let rest = code_back l.segments l.limit s2.memory s2.pc code_b (join_code operation) code in
-      let stays = code_stays l.segments l.limit _ _ s2.memory s3.memory (s2.pc + 4 * length code_b) (join_code operation) (omega (arith, l.above)) g3.memory rest in
+      let stays = code_stays l.segments l.limit _ _ s2.memory s3.memory (s2.pc + 4 * length code_b) (join_code operation) (omega (arith, l.above))
+      g3.memory rest in
       let here = subst (λ p. Code l.segments l.limit s3.memory p (join_code operation)) (sym g3.pc) stays in
       let jr : JoinReady l s3 = record {
         registers = g3.registers;
@@ -92,7 +99,8 @@ module _ (l : Layout) (operation : Inst) (f : ℕ → ℕ → ℕ) (joins : Join
 
   -- after the push, the right operand
   after_push : (s1 s2 : State) → Ready l room s → s.pc + 4 * words < 2 ^ 32 → vb < 2 ^ 32
-      → Gave na (length code_a) va s s1 → Code l.segments l.limit s1.memory s1.pc back_a → Pushed s1 s2 → Comes l.segments s s2 → ((s' : State) → Works l nb vb code_b s') → Result
+      → Gave na (length code_a) va s s1 → Code l.segments l.limit s1.memory s1.pc back_a → Pushed s1 s2 → Comes l.segments s s2
+      → ((s' : State) → Works l nb vb code_b s') → Result
   after_push s1 s2 ready lt fits g1 code p2 comes hb =
       let sp1 : register s1 2 ≡ register s 2 = g1.others 2 (omega arith) in
       let sp2 = p2.sp in
@@ -107,7 +115,8 @@ module _ (l : Layout) (operation : Inst) (f : ℕ → ℕ → ℕ) (joins : Join
 
   -- after the left operand, the push
   after_a : (s1 : State) → Ready l room s → s.pc + 4 * words < 2 ^ 32 → va < 2 ^ 32 → vb < 2 ^ 32
-      → Code l.segments l.limit s.memory s.pc (code_a ++ back_a) → Gave na (length code_a) va s s1 → Comes l.segments s s1 → ((s' : State) → Works l nb vb code_b s') → Result
+      → Code l.segments l.limit s.memory s.pc (code_a ++ back_a) → Gave na (length code_a) va s s1 → Comes l.segments s s1
+      → ((s' : State) → Works l nb vb code_b s') → Result
   after_a s1 ready lt fits_a fits_b code g1 comes hb =
       let sp1 : register s1 2 ≡ register s 2 = g1.others 2 (omega arith) in
       let low = ready.low in
@@ -124,7 +133,8 @@ module _ (l : Layout) (operation : Inst) (f : ℕ → ℕ → ℕ) (joins : Join
   words_are = omega (arith, length-append code_a back_a, length-append push_code back_b, length-append code_b (join_code operation))
 
   -- an operator gives what its operation makes of the operands' values
-  pub operator_works : va < 2 ^ 32 → vb < 2 ^ 32 → ((s' : State) → Works l na va code_a s') → ((s' : State) → Works l nb vb code_b s') → Works l room (f va vb) (code_a ++ back_a) s
+  pub operator_works : va < 2 ^ 32 → vb < 2 ^ 32 → ((s' : State) → Works l na va code_a s') → ((s' : State) → Works l nb vb code_b s')
+      → Works l room (f va vb) (code_a ++ back_a) s
   operator_works fits_a fits_b ha hb code ready lt =
       let total = words_are in
       let ra : Ready l na s = record { registers = ready.registers; aligned = ready.aligned; low = omega (arith, ready.low); high = ready.high } in
@@ -153,6 +163,12 @@ sum_works l (paren a) s code ready lt =
         output = g.output;
       },
     )
-sum_works l (add a b) s code ready lt = operator_works l (Add 10 10 11) _ adds (sum_code a) (sum_code b) (punctuators a) (punctuators b) (value a) (value b) s (value_fits a) (value_fits b) (λ s'. sum_works l a s') (λ s'. sum_works l b s') code ready lt
-sum_works l (sub a b) s code ready lt = operator_works l (Sub 10 10 11) _ subtracts (sum_code a) (sum_code b) (punctuators a) (punctuators b) (value a) (value b) s (value_fits a) (value_fits b) (λ s'. sum_works l a s') (λ s'. sum_works l b s') code ready lt
-sum_works l (mul a b) s code ready lt = operator_works l (Mul 10 10 11) _ multiplies (sum_code a) (sum_code b) (punctuators a) (punctuators b) (value a) (value b) s (value_fits a) (value_fits b) (λ s'. sum_works l a s') (λ s'. sum_works l b s') code ready lt
+sum_works l (add a b) s code ready lt =
+    operator_works l (Add 10 10 11) _ adds (sum_code a) (sum_code b) (punctuators a) (punctuators b) (value a) (value b) s (value_fits a)
+    (value_fits b) (λ s'. sum_works l a s') (λ s'. sum_works l b s') code ready lt
+sum_works l (sub a b) s code ready lt =
+    operator_works l (Sub 10 10 11) _ subtracts (sum_code a) (sum_code b) (punctuators a) (punctuators b) (value a) (value b) s (value_fits a)
+    (value_fits b) (λ s'. sum_works l a s') (λ s'. sum_works l b s') code ready lt
+sum_works l (mul a b) s code ready lt =
+    operator_works l (Mul 10 10 11) _ multiplies (sum_code a) (sum_code b) (punctuators a) (punctuators b) (value a) (value b) s (value_fits a)
+    (value_fits b) (λ s'. sum_works l a s') (λ s'. sum_works l b s') code ready lt

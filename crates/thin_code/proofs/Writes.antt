@@ -1,5 +1,6 @@
 -- What the code after a sum does: it writes the low byte of a0, or exits with it.
-use Rattle.std.proofs.Common.{◌≡◌, ℕ, ◌+◌, ◌/◌, ◌%◌, ◌^◌, ◌<◌, true, List, [], ◌∷◌, ◌++◌, length, pos, slice_set, refl, ap, ◌∙◌, arith, get_or-set_other, length-set}
+use Rattle.std.proofs.Common.{◌≡◌, ℕ, ◌+◌, ◌/◌, ◌%◌, ◌^◌, ◌<◌, true, List, [], ◌∷◌, ◌++◌, length, pos, slice_set, refl, ap, ◌∙◌, arith}
+use Rattle.std.proofs.Common.{get_or-set_other, length-set}
 use Rattle.rv_isa.specs.declared.instruction.Inst.TheVariants.{Lui, Sb, Addi, Ecall}
 use Rattle.rv_isa.specs.Memory.{Memory, readable, writable, are_mapped, with_byte, bytes_at}
 use Rattle.rv_isa.specs.Arithmetic.{plus}
@@ -18,11 +19,13 @@ abbrev pub stored : State → (v : ℕ) → State
 stored s v = record s { memory = with_byte s.memory data_address v; pc = s.pc + 4 }
 
 -- rs1 has the address of the data, and rs2 the value
-pub comes_store : (l : Layout) (s : State) (rs1 rs2 v : ℕ) → Stands l.segments l.limit s.memory s.pc (Sb rs1 rs2 (pos 0)) → register s rs1 ≡ data_address → register s rs2 ≡ v → s.pc + 4 < 2 ^ 32 → Comes l.segments s (stored s v)
+pub comes_store : (l : Layout) (s : State) (rs1 rs2 v : ℕ) → Stands l.segments l.limit s.memory s.pc (Sb rs1 rs2 (pos 0))
+    → register s rs1 ≡ data_address → register s rs2 ≡ v → s.pc + 4 < 2 ^ 32 → Comes l.segments s (stored s v)
 comes_store l s rs1 rs2 v h e f lt =
     let p : (s.pc + 4) % 2 ^ 32 ≡ s.pc + 4 = omega arith in
     let a : plus (register s rs1) (pos 0) ≡ data_address = ap (λ (z : ℕ). plus z (pos 0)) e in
-    let done = accesses_done l.segments s writable (plus (register s rs1) (pos 0)) data_address 1 (stores s (with_byte s.memory (plus (register s rs1) (pos 0)) (register s rs2))) a refl l.data_write in
+    let done = accesses_done l.segments s writable (plus (register s rs1) (pos 0)) data_address 1
+    (stores s (with_byte s.memory (plus (register s rs1) (pos 0)) (register s rs2))) a refl l.data_write in
     comes_one l.segments l.limit s (stored s v) (Sb rs1 rs2 (pos 0)) h
     (done
     ∙ ap (λ (z : ℕ). stores s (with_byte s.memory z (register s rs2))) a
@@ -42,20 +45,24 @@ abbrev raw_written : State → (a n p : ℕ) → Stepped
 raw_written s a n p = Goes (record s { registers = slice_set s.registers 10 n; pc = p; output = s.output ++ bytes_at s.memory a n })
 
 -- the call writes the byte
-write_done : (l : Layout) (s : State) → register s 11 ≡ data_address → register s 12 ≡ 1 → write_call l.segments s ≡ raw_written s data_address 1 ((s.pc + 4) % 2 ^ 32)
+write_done : (l : Layout) (s : State) → register s 11 ≡ data_address → register s 12 ≡ 1
+    → write_call l.segments s ≡ raw_written s data_address 1 ((s.pc + 4) % 2 ^ 32)
 write_done l s e f =
-    let m : are_mapped l.segments readable (register s 11) (register s 12) ≡ true = ap (λ (z : ℕ). are_mapped l.segments readable z (register s 12)) e ∙ ap (are_mapped l.segments readable data_address) f ∙ l.data_read in
+    let m : are_mapped l.segments readable (register s 11) (register s 12) ≡ true = ap (λ (z : ℕ). are_mapped l.segments readable z (register s 12)) e
+    ∙ ap (are_mapped l.segments readable data_address) f ∙ l.data_read in
     rw m (ap (λ (z : ℕ). raw_written s z (register s 12) ((s.pc + 4) % 2 ^ 32)) e ∙ ap (λ (z : ℕ). raw_written s data_address z ((s.pc + 4) % 2 ^ 32)) f)
 
 -- the call that writes
-pub comes_write : (l : Layout) (s : State) → Stands l.segments l.limit s.memory s.pc Ecall → register s 17 ≡ 64 → register s 10 ≡ 1 → register s 11 ≡ data_address → register s 12 ≡ 1 → s.pc + 4 < 2 ^ 32 → Comes l.segments s (written s)
+pub comes_write : (l : Layout) (s : State) → Stands l.segments l.limit s.memory s.pc Ecall → register s 17 ≡ 64 → register s 10 ≡ 1
+    → register s 11 ≡ data_address → register s 12 ≡ 1 → s.pc + 4 < 2 ^ 32 → Comes l.segments s (written s)
 comes_write l s h call out e f lt =
     let p : (s.pc + 4) % 2 ^ 32 ≡ s.pc + 4 = omega arith in
     let chosen : calls l.segments s ≡ write_call l.segments s = rw (call, out) refl in
     comes_one l.segments l.limit s (written s) Ecall h
     (chosen ∙ write_done l s e f
     ∙ ap (raw_written s data_address 1) p
-    ∙ ap (λ (bytes : List ℕ). Goes (record s { registers = slice_set s.registers 10 1; pc = s.pc + 4; output = s.output ++ bytes })) (one_byte s.memory data_address))
+    ∙ ap (λ (bytes : List ℕ). Goes (record s { registers = slice_set s.registers 10 1; pc = s.pc + 4; output = s.output ++ bytes }))
+    (one_byte s.memory data_address))
 
 -- what the writing of a byte leaves
 pub record Wrote (v : ℕ) (s t : State) : Type 0 where
@@ -101,7 +108,8 @@ module _ (l : Layout) (s : State) (len : length s.registers ≡ 32) (nil : regis
   len_5 = put_length s4 17 64 ∙ len_4
 
   others_5 : (r : ℕ) → r < 10 → register s5 r ≡ register s r
-  others_5 r r10 = put_other s4 17 64 r (λ e. omega arith) ∙ put_other s3 12 1 r (λ e. omega arith) ∙ put_other s2 10 1 r (λ e. omega arith) ∙ put_other s 11 data_address r (λ e. omega arith)
+  others_5 r r10 = put_other s4 17 64 r (λ e. omega arith) ∙ put_other s3 12 1 r (λ e. omega arith) ∙ put_other s2 10 1 r (λ e. omega arith)
+      ∙ put_other s 11 data_address r (λ e. omega arith)
 
   nil_2 : register s2 0 ≡ 0
   nil_2 = put_other s 11 data_address 0 (λ e. absurd (omega arith)) ∙ nil
@@ -116,7 +124,8 @@ module _ (l : Layout) (s : State) (len : length s.registers ≡ 32) (nil : regis
   a0_5 = put_other s4 17 64 10 (λ e. absurd (omega arith)) ∙ put_other s3 12 1 10 (λ e. absurd (omega arith)) ∙ put_same s2 10 1 (omega (arith, len_1))
 
   a1_5 : register s5 11 ≡ data_address
-  a1_5 = put_other s4 17 64 11 (λ e. absurd (omega arith)) ∙ put_other s3 12 1 11 (λ e. absurd (omega arith)) ∙ put_other s2 10 1 11 (λ e. absurd (omega arith)) ∙ put_same s 11 data_address (omega (arith, len))
+  a1_5 = put_other s4 17 64 11 (λ e. absurd (omega arith)) ∙ put_other s3 12 1 11 (λ e. absurd (omega arith))
+      ∙ put_other s2 10 1 11 (λ e. absurd (omega arith)) ∙ put_same s 11 data_address (omega (arith, len))
 
   a2_5 : register s5 12 ≡ 1
   a2_5 = put_other s4 17 64 12 (λ e. absurd (omega arith)) ∙ put_same s3 12 1 (omega (arith, len_3))
@@ -127,14 +136,17 @@ module _ (l : Layout) (s : State) (len : length s.registers ≡ 32) (nil : regis
   write_comes : Code l.segments l.limit s.memory s.pc write_code → s.pc + 24 < 2 ^ 32 → Comes l.segments s s6
   write_comes code lt =
       let frame = with_byte_frame s.memory data_address v in
-      let back = code_stays l.segments l.limit data_address (data_address + 1) s.memory s2.memory (s.pc + 4 + 4) (Addi 10 0 (pos 1) ∷ Addi 12 0 (pos 1) ∷ Addi 17 0 (pos 64) ∷ Ecall ∷ []) l.data_above frame code.1.1 in
+      let back = code_stays l.segments l.limit data_address (data_address + 1) s.memory s2.memory (s.pc + 4 + 4)
+      (Addi 10 0 (pos 1) ∷ Addi 12 0 (pos 1) ∷ Addi 17 0 (pos 64) ∷ Ecall ∷ []) l.data_above frame code.1.1 in
       let m1 = comes_put l s (Lui 11 (data_address / 2 ^ 12)) 11 data_address _ code.0 refl refl (omega arith) in
-      let m2 = comes_store l s1 11 10 v code.1.0 (put_same s 11 data_address (omega (arith, len))) (put_other s 11 data_address 10 (λ e. absurd (omega arith))) (omega arith) in
+      let m2 = comes_store l s1 11 10 v code.1.0 (put_same s 11 data_address (omega (arith, len)))
+      (put_other s 11 data_address 10 (λ e. absurd (omega arith))) (omega arith) in
       let m3 = comes_put l s2 (Addi 10 0 (pos 1)) 10 1 _ back.0 refl (ap (λ (z : ℕ). plus z (pos 1)) nil_2) (omega arith) in
       let m4 = comes_put l s3 (Addi 12 0 (pos 1)) 12 1 _ back.1.0 refl (ap (λ (z : ℕ). plus z (pos 1)) nil_3) (omega arith) in
       let m5 = comes_put l s4 (Addi 17 0 (pos 64)) 17 64 _ back.1.1.0 refl (ap (λ (z : ℕ). plus z (pos 64)) nil_4) (omega arith) in
       let m6 = comes_write l s5 back.1.1.1.0 a7_5 a0_5 a1_5 a2_5 (omega arith) in
-      comes_then l.segments s s1 s6 m1 (comes_then l.segments s1 s2 s6 m2 (comes_then l.segments s2 s3 s6 m3 (comes_then l.segments s3 s4 s6 m4 (comes_then l.segments s4 s5 s6 m5 m6))))
+      comes_then l.segments s s1 s6 m1 (comes_then l.segments s1 s2 s6 m2
+      (comes_then l.segments s2 s3 s6 m3 (comes_then l.segments s3 s4 s6 m4 (comes_then l.segments s4 s5 s6 m5 m6))))
 
   write_leaves : Wrote v s s6
   write_leaves = record {

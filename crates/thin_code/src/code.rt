@@ -7,9 +7,9 @@ ghost use Rattle.thin_code.specs.Code.{write_code, puts_code, status_code, exit_
 
 use crate::memory_map::{DATA, MIB, STACK};
 use crate::sums::{A0, A1, A2, A7, SP, sum};
-use thin_parser::{Sum, Thin};
 use rv_isa::Inst;
 use std::alloc::{AllocError, Global};
+use thin_parser::{Sum, Thin};
 
 /// What `Lui` counts in.
 const PAGE: u32 = 0x1000;

@@ -12,10 +12,10 @@ ghost use Rattle.thin_code.specs.Code.{program_code, code_bytes, text_bytes, ful
 
 use crate::code::instructions;
 use crate::memory_map::{DATA, HEAP, MIB, STACK, TEXT};
-use thin_parser::Thin;
 use lay_base::{Bytes, List, NoMemory};
 use rv_isa::{Image, Inst, Segment, encode};
 use std::alloc::{AllocError, Global};
+use thin_parser::Thin;
 
 /// The flags of a segment that holds code, as in ELF's program header.
 const READ_EXECUTE: u8 = 5;

@@ -1,5 +1,5 @@
 pub mod ScanWords
 pub mod ScanExact
 pub mod ReadingSound
-pub mod ReadingTurns
+pub mod ReadingLoops
 pub mod ReadingComplete

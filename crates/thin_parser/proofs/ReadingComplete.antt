@@ -1,17 +1,21 @@
 -- What is spelled is read: from the spelling of a well formed tree before a rest that does not go on, the reader gives that tree.
-use Rattle.std.proofs.Common.{◌≡◌, ℕ, zero, suc, ◌≤◌, ◌<◌, List, [], ◌∷◌, ◌++◌, length, All, Option, Some, None, Bool, true, false, refl, ap, sym, ◌∙◌, arith, leb, append_assoc, append-nil}
+use Rattle.std.proofs.Common.{◌≡◌, ℕ, zero, suc, ◌≤◌, ◌<◌, List, [], ◌∷◌, ◌++◌, length, All, Option, Some, None, Bool, true, false, refl, ap, sym}
+use Rattle.std.proofs.Common.{◌∙◌, arith, leb, append_assoc, append-nil}
 use Rattle.std.specs.Option.{option_to_list}
 use Rattle.std.proofs.lemmas.Bool.Decides.{nat_tests}
 use Rattle.std.proofs.lemmas.List.Elements.{All-nil, All-cons, All-head, All-tail}
 use Rattle.std.proofs.lemmas.Option.{same_Some}
 use Rattle.thin_parser.specs.declared.thin_token.ThinToken.{ThinToken}
-use Rattle.thin_parser.specs.declared.thin_token.ThinToken.TheVariants.{Int, Putchar, Main, Void, Open, Close, OpenBrace, CloseBrace, Semicolon, Plus, Minus, Star}
+use Rattle.thin_parser.specs.declared.thin_token.ThinToken.TheVariants.{Int, Putchar, Main, Void, Open, Close, OpenBrace, CloseBrace, Semicolon}
+use Rattle.thin_parser.specs.declared.thin_token.ThinToken.TheVariants.{Plus, Minus, Star}
 use Rattle.thin_parser.specs.declared.thin_reading.Sign.TheVariants.{Add, Subtract}
 use Rattle.thin_parser.specs.ThinTree.{Term, number, paren, add, sub, mul, Program}
 use Rattle.thin_parser.specs.ThinText.{spelled_sum, spelled_puts, spelled_last, spelled_declaration, level, IsWellFormed, punctuators, whole_sums}
-use Rattle.thin_parser.specs.ThinReading.{IsProgramOf, joined, atom_in, factor_in, product_in, summand_in, plus_or_minus, sum_in, sum_at, punctuators_before_semicolon, whole_sum_in, declaration_in, put_in, with_argument, permitted_puts_in, last_in, main_in, whole_program}
+use Rattle.thin_parser.specs.ThinReading.{IsProgramOf, joined, atom_in, factor_in, product_in, summand_in, plus_or_minus, sum_in, sum_at}
+use Rattle.thin_parser.specs.ThinReading.{punctuators_before_semicolon, whole_sum_in, declaration_in, put_in, with_argument, permitted_puts_in}
+use Rattle.thin_parser.specs.ThinReading.{last_in, main_in, whole_program}
 use Rattle.thin_parser.proofs.ReadingSound.{IsWhole, punctuators-spelled_sum}
-use Rattle.thin_parser.proofs.ReadingTurns.{factors_more, factors_end, summands_more, summands_end, puts_more, puts_end}
+use Rattle.thin_parser.proofs.ReadingLoops.{factors_more, factors_end, summands_more, summands_end, puts_more, puts_end}
 
 -- how tightly what follows takes hold of what is before it
 abbrev pub pull : List ThinToken → ℕ
@@ -38,7 +42,8 @@ no_summand depth (m ∷ rest) h = refl
 factors_stop : (depth : ℕ) (t : Term) (rest : List ThinToken) → pull rest ≤ 1 → joined (factor_in (sum_at depth)) mul (length rest) t rest ≡ Some (t, rest)
 factors_stop depth t rest h = factors_end depth t rest (no_factor depth rest h)
 
-summands_stop : (depth : ℕ) (t : Term) (rest : List ThinToken) → pull rest ≡ 0 → joined (summand_in (sum_at depth)) plus_or_minus (length rest) t rest ≡ Some (t, rest)
+summands_stop : (depth : ℕ) (t : Term) (rest : List ThinToken) → pull rest ≡ 0
+    → joined (summand_in (sum_at depth)) plus_or_minus (length rest) t rest ≡ Some (t, rest)
 summands_stop depth t rest h = summands_end depth t rest (no_summand depth rest h)
 
 -- ---- sums
@@ -47,10 +52,12 @@ abbrev ReadsAtom : Term → Type 0
 ReadsAtom t = (depth : ℕ) (rest : List ThinToken) → punctuators t ≤ depth → atom_in (sum_at depth) (spelled_sum t rest) ≡ Some (t, rest)
 
 abbrev ReadsProduct : Term → Type 0
-ReadsProduct t = (depth : ℕ) (rest : List ThinToken) → punctuators t ≤ depth → product_in (sum_at depth) (spelled_sum t rest) ≡ joined (factor_in (sum_at depth)) mul (length rest) t rest
+ReadsProduct t = (depth : ℕ) (rest : List ThinToken) → punctuators t ≤ depth
+    → product_in (sum_at depth) (spelled_sum t rest) ≡ joined (factor_in (sum_at depth)) mul (length rest) t rest
 
 abbrev ReadsSum : Term → Type 0
-ReadsSum t = (depth : ℕ) (rest : List ThinToken) → punctuators t ≤ depth → pull rest ≤ 1 → sum_in (sum_at depth) (spelled_sum t rest) ≡ joined (summand_in (sum_at depth)) plus_or_minus (length rest) t rest
+ReadsSum t = (depth : ℕ) (rest : List ThinToken) → punctuators t ≤ depth → pull rest ≤ 1
+    → sum_in (sum_at depth) (spelled_sum t rest) ≡ joined (summand_in (sum_at depth)) plus_or_minus (length rest) t rest
 
 -- each reader reads the tree t
 pub record Reads (t : Term) : Type 0 where
@@ -75,7 +82,8 @@ by_product t l p = record { atom = λ h. absurd (omega arith); product = λ _. p
 by_sum : (t : Term) → level t ≤ 1 → ReadsSum t → Reads t
 by_sum t l p = record { atom = λ h. absurd (omega arith); product = λ h. absurd (omega arith); sum = p }
 
-sum_read : (t : Term) → Reads t → (depth : ℕ) (rest : List ThinToken) → punctuators t ≤ depth → pull rest ≡ 0 → sum_in (sum_at depth) (spelled_sum t rest) ≡ Some (t, rest)
+sum_read : (t : Term) → Reads t → (depth : ℕ) (rest : List ThinToken) → punctuators t ≤ depth → pull rest ≡ 0
+    → sum_in (sum_at depth) (spelled_sum t rest) ≡ Some (t, rest)
 sum_read t r depth rest d h = r.sum depth rest d (omega arith) ∙ summands_stop depth t rest h
 
 -- a sum in parentheses
@@ -92,7 +100,8 @@ paren_reads : (a : Term) → Reads a → ReadsAtom (paren a)
 unfolding atom_in
 paren_reads a r depth rest d = rw (inside a r depth (Close ∷ rest) (omega arith) refl) refl
 
-factor_read : (b : Term) → ReadsAtom b → (depth : ℕ) (rest : List ThinToken) → punctuators b ≤ depth → factor_in (sum_at depth) (Star ∷ spelled_sum b rest) ≡ Some (Some (b, rest))
+factor_read : (b : Term) → ReadsAtom b → (depth : ℕ) (rest : List ThinToken) → punctuators b ≤ depth
+    → factor_in (sum_at depth) (Star ∷ spelled_sum b rest) ≡ Some (Some (b, rest))
 unfolding factor_in
 factor_read b p depth rest d = rw (p depth rest d) refl
 
@@ -101,14 +110,17 @@ mul_reads a b la lb ra rb depth rest d =
     ra.product la depth (Star ∷ spelled_sum b rest) (omega arith)
     ∙ factors_more depth a (Star ∷ spelled_sum b rest) b rest (factor_read b (rb.atom lb) depth rest (omega arith))
 
-product_whole : (b : Term) → ReadsProduct b → (depth : ℕ) (rest : List ThinToken) → punctuators b ≤ depth → pull rest ≤ 1 → product_in (sum_at depth) (spelled_sum b rest) ≡ Some (b, rest)
+product_whole : (b : Term) → ReadsProduct b → (depth : ℕ) (rest : List ThinToken) → punctuators b ≤ depth → pull rest ≤ 1
+    → product_in (sum_at depth) (spelled_sum b rest) ≡ Some (b, rest)
 product_whole b p depth rest d h = p depth rest d ∙ factors_stop depth b rest h
 
-plus_read : (b : Term) → ReadsProduct b → (depth : ℕ) (rest : List ThinToken) → punctuators b ≤ depth → pull rest ≤ 1 → summand_in (sum_at depth) (Plus ∷ spelled_sum b rest) ≡ Some (Some ((Add, b), rest))
+plus_read : (b : Term) → ReadsProduct b → (depth : ℕ) (rest : List ThinToken) → punctuators b ≤ depth → pull rest ≤ 1
+    → summand_in (sum_at depth) (Plus ∷ spelled_sum b rest) ≡ Some (Some ((Add, b), rest))
 unfolding summand_in
 plus_read b p depth rest d h = rw (product_whole b p depth rest d h) refl
 
-minus_read : (b : Term) → ReadsProduct b → (depth : ℕ) (rest : List ThinToken) → punctuators b ≤ depth → pull rest ≤ 1 → summand_in (sum_at depth) (Minus ∷ spelled_sum b rest) ≡ Some (Some ((Subtract, b), rest))
+minus_read : (b : Term) → ReadsProduct b → (depth : ℕ) (rest : List ThinToken) → punctuators b ≤ depth → pull rest ≤ 1
+    → summand_in (sum_at depth) (Minus ∷ spelled_sum b rest) ≡ Some (Some ((Subtract, b), rest))
 unfolding summand_in
 minus_read b p depth rest d h = rw (product_whole b p depth rest d h) refl
 
@@ -134,7 +146,8 @@ reads (mul a b) w = by_product (mul a b) (omega arith) (mul_reads a b w.0 w.1 (r
 within : (n m : ℕ) → n ≤ m → leb n m ≡ true
 within n m h = grind (arith, nat_tests)
 
-whole_sum_read : (t : Term) → IsWhole t → (rest : List ThinToken) → pull rest ≡ 0 → punctuators_before_semicolon rest ≡ 0 → whole_sum_in (spelled_sum t rest) ≡ Some (t, rest)
+whole_sum_read : (t : Term) → IsWhole t → (rest : List ThinToken) → pull rest ≡ 0 → punctuators_before_semicolon rest ≡ 0
+    → whole_sum_in (spelled_sum t rest) ≡ Some (t, rest)
 unfolding whole_sum_in
 whole_sum_read t w rest h m =
     let few : punctuators_before_semicolon (spelled_sum t rest) ≤ 300 = omega (arith, punctuators-spelled_sum t rest, w.1, m) in
@@ -146,14 +159,16 @@ put_read : (t : Term) → IsWhole t → (rest : List ThinToken) → put_in (Putc
 unfolding put_in
 put_read t w rest = rw (whole_sum_read t w (Close ∷ Semicolon ∷ rest) refl refl) refl
 
-puts_read : (ts : List Term) → All IsWhole ts → (done : List Term) (rest : List ThinToken) → put_in rest ≡ Some None → joined put_in with_argument (length (spelled_puts ts rest)) done (spelled_puts ts rest) ≡ Some (done ++ ts, rest)
+puts_read : (ts : List Term) → All IsWhole ts → (done : List Term) (rest : List ThinToken) → put_in rest ≡ Some None
+    → joined put_in with_argument (length (spelled_puts ts rest)) done (spelled_puts ts rest) ≡ Some (done ++ ts, rest)
 puts_read [] w done rest h = rw (append-nil done) (puts_end done rest h)
 puts_read (t ∷ ts) w done rest h =
     puts_more done (spelled_puts (t ∷ ts) rest) t (spelled_puts ts rest) (put_read t (All-head IsWhole t ts w) (spelled_puts ts rest))
     ∙ puts_read ts (All-tail IsWhole t ts w) (done ++ t ∷ []) rest h
     ∙ rw (append_assoc done (t ∷ []) ts) refl
 
-calls_read : (declared : Bool) (ts : List Term) → (declared ≡ false → ts ≡ []) → All IsWhole ts → (rest : List ThinToken) → put_in rest ≡ Some None → permitted_puts_in declared (spelled_puts ts rest) ≡ Some (ts, rest)
+calls_read : (declared : Bool) (ts : List Term) → (declared ≡ false → ts ≡ []) → All IsWhole ts → (rest : List ThinToken) → put_in rest ≡ Some None
+    → permitted_puts_in declared (spelled_puts ts rest) ≡ Some (ts, rest)
 calls_read true ts e w rest h = puts_read ts w [] rest h
 calls_read false ts e w rest h = rw (e refl) refl
 
@@ -162,7 +177,8 @@ unfolding put_in
 no_put None rest = refl
 no_put (Some t) rest = refl
 
-last_read : (last : Option Term) → All IsWhole (option_to_list last) → (rest : List ThinToken) → last_in (spelled_last last (CloseBrace ∷ rest)) ≡ Some (last, CloseBrace ∷ rest)
+last_read : (last : Option Term) → All IsWhole (option_to_list last) → (rest : List ThinToken)
+    → last_in (spelled_last last (CloseBrace ∷ rest)) ≡ Some (last, CloseBrace ∷ rest)
 unfolding last_in
 last_read None w rest = refl
 last_read (Some t) w rest = rw (whole_sum_read t (All-head IsWhole t [] w) (Semicolon ∷ CloseBrace ∷ rest) refl refl) refl

@@ -1,16 +1,21 @@
 -- What is read was spelled so: the tree that a reader gives is well formed, and spells the tokens up to the rest.
-use Rattle.std.proofs.Common.{◌≡◌, ℕ, zero, suc, ◌+◌, ◌≤◌, ◌<◌, List, [], ◌∷◌, ◌++◌, length, All, Option, Some, None, Bool, true, false, refl, ap, sym, ◌∙◌, subst, arith, leb, cond}
+use Rattle.std.proofs.Common.{◌≡◌, ℕ, zero, suc, ◌+◌, ◌≤◌, ◌<◌, List, [], ◌∷◌, ◌++◌, length, All, Option, Some, None, Bool, true, false, refl, ap}
+use Rattle.std.proofs.Common.{sym, ◌∙◌, subst, arith, leb, cond}
 use Rattle.std.specs.Option.{option_to_list}
 use Rattle.std.proofs.lemmas.Bool.Decides.{nat_tests}
 use Rattle.std.proofs.lemmas.Option.{same_Some}
 use Rattle.std.proofs.lemmas.List.Elements.{All-nil, All-cons, All-append, All-push, All-weaker}
 use Rattle.thin_parser.specs.declared.thin_token.ThinToken.{ThinToken}
-use Rattle.thin_parser.specs.declared.thin_token.ThinToken.TheVariants.{Int, Putchar, Main, Void, Return, Open, Close, OpenBrace, CloseBrace, Semicolon, Plus, Minus, Star, Number}
+use Rattle.thin_parser.specs.declared.thin_token.ThinToken.TheVariants.{Int, Putchar, Main, Void, Return, Open, Close, OpenBrace, CloseBrace}
+use Rattle.thin_parser.specs.declared.thin_token.ThinToken.TheVariants.{Semicolon, Plus, Minus, Star, Number}
 use Rattle.thin_parser.specs.declared.thin_reading.Sign.{Sign}
 use Rattle.thin_parser.specs.declared.thin_reading.Sign.TheVariants.{Add, Subtract}
 use Rattle.thin_parser.specs.ThinTree.{Term, number, paren, add, sub, mul, Program}
 use Rattle.thin_parser.specs.ThinText.{spelled_sum, spelled_puts, spelled_last, spelled_declaration, level, IsWellFormed, punctuators}
-use Rattle.thin_parser.specs.ThinReading.{◌>>=◌, Reader, OptionalReader, joined, IsProgramOf, after_close, after_semicolon, atom_in, factor_in, product_in, summand_in, plus_or_minus, sum_in, sum_at, punctuators_before_semicolon, whole_sum_in, declaration_in, after_main_head, put_in, with_argument, permitted_puts_in, last_in, ended, main_in, whole_program}
+use Rattle.thin_parser.specs.ThinReading.{◌>>=◌, Reader, OptionalReader, joined, IsProgramOf, after_close, after_semicolon, atom_in, factor_in}
+use Rattle.thin_parser.specs.ThinReading.{product_in, summand_in, plus_or_minus, sum_in, sum_at, punctuators_before_semicolon, whole_sum_in}
+use Rattle.thin_parser.specs.ThinReading.{declaration_in, after_main_head, put_in, with_argument, permitted_puts_in, last_in, ended, main_in}
+use Rattle.thin_parser.specs.ThinReading.{whole_program}
 
 pub bind_some : {A B : Type 0} (o : Option A) (f : A → Option B) (y : B) → (o >>= f) ≡ Some y → (x : A) × (o ≡ Some x) × (f x ≡ Some y)
 bind_some None f y h = cc
@@ -78,7 +83,8 @@ module _ (sum : Reader Term) (sound : (tokens : List ThinToken) (y : Term × Lis
       })
   atom_takes (m ∷ rest) y h = cc
 
-  pub factor_takes : (tokens : List ThinToken) (b : Term × List ThinToken) → factor_in sum tokens ≡ Some (Some b) → (rest : List ThinToken) × (tokens ≡ Star ∷ rest) × Takes 2 rest b
+  pub factor_takes : (tokens : List ThinToken) (b : Term × List ThinToken) → factor_in sum tokens ≡ Some (Some b)
+      → (rest : List ThinToken) × (tokens ≡ Star ∷ rest) × Takes 2 rest b
   unfolding factor_in
   factor_takes [] b h = cc
   factor_takes (Star ∷ rest) b h =
@@ -86,49 +92,67 @@ module _ (sum : Reader Term) (sound : (tokens : List ThinToken) (y : Term × Lis
       (rest, refl, given (Takes 2 rest) x.0 b (same_Some _ _ x.2) (atom_takes rest x.0 x.1))
   factor_takes (m ∷ rest) b h = cc
 
-  factor_joins : (all : List ThinToken) (a : Term) (tokens : List ThinToken) (b : Term × List ThinToken) → factor_in sum tokens ≡ Some (Some b) → Takes 1 all (a, tokens) → Takes 1 all (mul a b.0, b.1)
+  factor_joins : (all : List ThinToken) (a : Term) (tokens : List ThinToken) (b : Term × List ThinToken) → factor_in sum tokens ≡ Some (Some b)
+      → Takes 1 all (a, tokens) → Takes 1 all (mul a b.0, b.1)
   factor_joins all a tokens b h t =
       let p = factor_takes tokens b h in
-      record { spelled_so = t.spelled_so ∙ ap (λ z. spelled_sum a z) (p.1 ∙ ap (λ z. Star ∷ z) p.2.spelled_so); well_formed = (t.tight, p.2.tight, t.well_formed, p.2.well_formed); tight = omega arith }
+      record {
+        spelled_so = t.spelled_so ∙ ap (λ z. spelled_sum a z) (p.1 ∙ ap (λ z. Star ∷ z) p.2.spelled_so);
+        well_formed = (t.tight, p.2.tight, t.well_formed, p.2.well_formed);
+        tight = omega arith;
+      }
 
   pub product_takes : (tokens : List ThinToken) (y : Term × List ThinToken) → product_in sum tokens ≡ Some y → Takes 1 tokens y
   unfolding product_in
   product_takes tokens y h =
       let a = bind_some (atom_in sum tokens) _ y h in
-      joined_taken (factor_in sum) mul (λ a rest. Takes 1 tokens (a, rest)) (factor_joins tokens) (length a.0.1) a.0.0 a.0.1 y (looser 1 2 tokens a.0 (omega arith) (atom_takes tokens a.0 a.1)) a.2
+      joined_taken (factor_in sum) mul (λ a rest. Takes 1 tokens (a, rest)) (factor_joins tokens) (length a.0.1) a.0.0 a.0.1 y
+      (looser 1 2 tokens a.0 (omega arith) (atom_takes tokens a.0 a.1)) a.2
 
-  pub summand_takes : (tokens : List ThinToken) (b : (Sign × Term) × List ThinToken) → summand_in sum tokens ≡ Some (Some b) → (rest : List ThinToken) × (tokens ≡ token_of b.0.0 ∷ rest) × Takes 1 rest (b.0.1, b.1)
+  pub summand_takes : (tokens : List ThinToken) (b : (Sign × Term) × List ThinToken) → summand_in sum tokens ≡ Some (Some b)
+      → (rest : List ThinToken) × (tokens ≡ token_of b.0.0 ∷ rest) × Takes 1 rest (b.0.1, b.1)
   unfolding summand_in
   summand_takes [] b h = cc
   summand_takes (Plus ∷ rest) b h =
       let x = bind_some (product_in sum rest) _ (Some b) h in
-      given (λ (b : (Sign × Term) × List ThinToken). (more : List ThinToken) × (Plus ∷ rest ≡ token_of b.0.0 ∷ more) × Takes 1 more (b.0.1, b.1)) _ b (same_Some _ _ x.2)
+      given (λ (b : (Sign × Term) × List ThinToken). (more : List ThinToken) × (Plus ∷ rest ≡ token_of b.0.0 ∷ more)
+      × Takes 1 more (b.0.1, b.1)) _ b (same_Some _ _ x.2)
       (rest, refl, product_takes rest x.0 x.1)
   summand_takes (Minus ∷ rest) b h =
       let x = bind_some (product_in sum rest) _ (Some b) h in
-      given (λ (b : (Sign × Term) × List ThinToken). (more : List ThinToken) × (Minus ∷ rest ≡ token_of b.0.0 ∷ more) × Takes 1 more (b.0.1, b.1)) _ b (same_Some _ _ x.2)
+      given (λ (b : (Sign × Term) × List ThinToken). (more : List ThinToken) × (Minus ∷ rest ≡ token_of b.0.0 ∷ more)
+      × Takes 1 more (b.0.1, b.1)) _ b (same_Some _ _ x.2)
       (rest, refl, product_takes rest x.0 x.1)
   summand_takes (m ∷ rest) b h = cc
 
-  spelled-plus_or_minus : (a b : Term) (sign : Sign) (rest : List ThinToken) → spelled_sum (plus_or_minus a (sign, b)) rest ≡ spelled_sum a (token_of sign ∷ spelled_sum b rest)
+  spelled-plus_or_minus : (a b : Term) (sign : Sign) (rest : List ThinToken)
+      → spelled_sum (plus_or_minus a (sign, b)) rest ≡ spelled_sum a (token_of sign ∷ spelled_sum b rest)
   spelled-plus_or_minus a b Add rest = refl
   spelled-plus_or_minus a b Subtract rest = refl
 
-  well_formed-plus_or_minus : (a b : Term) (sign : Sign) → IsWellFormed a → IsWellFormed b → 1 < level b → IsWellFormed (plus_or_minus a (sign, b)) × (0 < level (plus_or_minus a (sign, b)))
+  well_formed-plus_or_minus : (a b : Term) (sign : Sign) → IsWellFormed a → IsWellFormed b → 1 < level b
+      → IsWellFormed (plus_or_minus a (sign, b)) × (0 < level (plus_or_minus a (sign, b)))
   well_formed-plus_or_minus a b Add w v l = ((l, w, v), omega arith)
   well_formed-plus_or_minus a b Subtract w v l = ((l, w, v), omega arith)
 
-  summand_joins : (all : List ThinToken) (a : Term) (tokens : List ThinToken) (b : (Sign × Term) × List ThinToken) → summand_in sum tokens ≡ Some (Some b) → Takes 0 all (a, tokens) → Takes 0 all (plus_or_minus a b.0, b.1)
+  summand_joins : (all : List ThinToken) (a : Term) (tokens : List ThinToken) (b : (Sign × Term) × List ThinToken)
+      → summand_in sum tokens ≡ Some (Some b) → Takes 0 all (a, tokens) → Takes 0 all (plus_or_minus a b.0, b.1)
   summand_joins all a tokens b h t =
       let p = summand_takes tokens b h in
       let w = well_formed-plus_or_minus a b.0.1 b.0.0 t.well_formed p.2.well_formed p.2.tight in
-      record { spelled_so = t.spelled_so ∙ ap (λ z. spelled_sum a z) (p.1 ∙ ap (λ z. token_of b.0.0 ∷ z) p.2.spelled_so) ∙ sym (spelled-plus_or_minus a b.0.1 b.0.0 b.1); well_formed = w.0; tight = w.1 }
+      record {
+        spelled_so = t.spelled_so ∙ ap (λ z. spelled_sum a z) (p.1 ∙ ap (λ z. token_of b.0.0 ∷ z) p.2.spelled_so)
+            ∙ sym (spelled-plus_or_minus a b.0.1 b.0.0 b.1);
+        well_formed = w.0;
+        tight = w.1;
+      }
 
   pub sum_takes : (tokens : List ThinToken) (y : Term × List ThinToken) → sum_in sum tokens ≡ Some y → Takes 0 tokens y
   unfolding sum_in
   sum_takes tokens y h =
       let a = bind_some (product_in sum tokens) _ y h in
-      joined_taken (summand_in sum) plus_or_minus (λ a rest. Takes 0 tokens (a, rest)) (summand_joins tokens) (length a.0.1) a.0.0 a.0.1 y (looser 0 1 tokens a.0 (omega arith) (product_takes tokens a.0 a.1)) a.2
+      joined_taken (summand_in sum) plus_or_minus (λ a rest. Takes 0 tokens (a, rest)) (summand_joins tokens) (length a.0.1) a.0.0 a.0.1 y
+      (looser 0 1 tokens a.0 (omega arith) (product_takes tokens a.0 a.1)) a.2
 
 pub sum_taken : (depth : ℕ) (tokens : List ThinToken) (y : Term × List ThinToken) → sum_at depth tokens ≡ Some y → Takes 0 tokens y
 unfolding sum_at
@@ -137,7 +161,8 @@ sum_taken (suc depth) tokens y h = sum_takes (sum_at depth) (sum_taken depth) to
 
 -- ---- whole sums
 
-pub punctuators-spelled_sum : (t : Term) (rest : List ThinToken) → punctuators_before_semicolon (spelled_sum t rest) ≡ punctuators t + punctuators_before_semicolon rest
+pub punctuators-spelled_sum : (t : Term) (rest : List ThinToken)
+    → punctuators_before_semicolon (spelled_sum t rest) ≡ punctuators t + punctuators_before_semicolon rest
 punctuators-spelled_sum (number n) rest = omega arith
 punctuators-spelled_sum (paren a) rest = omega (arith, punctuators-spelled_sum a (Close ∷ rest))
 punctuators-spelled_sum (add a b) rest = omega (arith, punctuators-spelled_sum a (Plus ∷ spelled_sum b rest), punctuators-spelled_sum b rest)
@@ -167,11 +192,13 @@ whole_sum_taken tokens y h =
 
 -- ---- programs
 
-spelled_puts-push : (done : List Term) (t : Term) (rest : List ThinToken) → spelled_puts (done ++ t ∷ []) rest ≡ spelled_puts done (Putchar ∷ Open ∷ spelled_sum t (Close ∷ Semicolon ∷ rest))
+spelled_puts-push : (done : List Term) (t : Term) (rest : List ThinToken)
+    → spelled_puts (done ++ t ∷ []) rest ≡ spelled_puts done (Putchar ∷ Open ∷ spelled_sum t (Close ∷ Semicolon ∷ rest))
 spelled_puts-push [] t rest = refl
 spelled_puts-push (a ∷ done) t rest = ap (λ z. Putchar ∷ Open ∷ spelled_sum a (Close ∷ Semicolon ∷ z)) (spelled_puts-push done t rest)
 
-pub put_taken : (tokens : List ThinToken) (y : Term × List ThinToken) → put_in tokens ≡ Some (Some y) → (tokens ≡ Putchar ∷ Open ∷ spelled_sum y.0 (Close ∷ Semicolon ∷ y.1)) × IsWhole y.0
+pub put_taken : (tokens : List ThinToken) (y : Term × List ThinToken) → put_in tokens ≡ Some (Some y)
+    → (tokens ≡ Putchar ∷ Open ∷ spelled_sum y.0 (Close ∷ Semicolon ∷ y.1)) × IsWhole y.0
 unfolding put_in
 put_taken (Putchar ∷ Open ∷ rest) y h =
     let a = bind_some (whole_sum_in rest) _ (Some y) h in
@@ -179,7 +206,8 @@ put_taken (Putchar ∷ Open ∷ rest) y h =
     let after = bind_some (after_semicolon more.0) _ (Some y) more.2 in
     let p = whole_sum_taken rest a.0 a.1 in
     let e = close_taken a.0.1 more.0 more.1 ∙ ap (λ z. Close ∷ z) (semicolon_taken more.0 after.0 after.1) in
-    given (λ (y : Term × List ThinToken). (Putchar ∷ Open ∷ rest ≡ Putchar ∷ Open ∷ spelled_sum y.0 (Close ∷ Semicolon ∷ y.1)) × IsWhole y.0) _ y (same_Some _ _ after.2)
+    given (λ (y : Term × List ThinToken). (Putchar ∷ Open ∷ rest ≡ Putchar ∷ Open ∷ spelled_sum y.0 (Close ∷ Semicolon ∷ y.1))
+    × IsWhole y.0) _ y (same_Some _ _ after.2)
     (ap (λ z. Putchar ∷ Open ∷ z) (p.0 ∙ ap (λ z. spelled_sum a.0.0 z) e), p.1)
 put_taken tokens y h = cc
 
@@ -187,14 +215,18 @@ put_taken tokens y h = cc
 abbrev TakesPuts : List ThinToken → List Term → List ThinToken → Type 0
 TakesPuts all puts rest = (all ≡ spelled_puts puts rest) × All IsWhole puts
 
-put_joins : (all : List ThinToken) (done : List Term) (tokens : List ThinToken) (y : Term × List ThinToken) → put_in tokens ≡ Some (Some y) → TakesPuts all done tokens → TakesPuts all (done ++ y.0 ∷ []) y.1
+put_joins : (all : List ThinToken) (done : List Term) (tokens : List ThinToken) (y : Term × List ThinToken) → put_in tokens ≡ Some (Some y)
+    → TakesPuts all done tokens → TakesPuts all (done ++ y.0 ∷ []) y.1
 put_joins all done tokens y h t =
     let p = put_taken tokens y h in
     (t.0 ∙ ap (λ z. spelled_puts done z) p.0 ∙ sym (spelled_puts-push done y.0 y.1), All-push IsWhole done y.0 t.1 p.1)
 
-calls_taken : (declared : Bool) (tokens : List ThinToken) (y : List Term × List ThinToken) → permitted_puts_in declared tokens ≡ Some y → TakesPuts tokens y.0 y.1 × (declared ≡ false → y.0 ≡ [])
-calls_taken true tokens y h = (joined_taken put_in with_argument (TakesPuts tokens) (put_joins tokens) (length tokens) [] tokens y (refl, All-nil IsWhole) h, λ e. cc)
-calls_taken false tokens y h = given (λ (y : List Term × List ThinToken). TakesPuts tokens y.0 y.1 × (false ≡ false → y.0 ≡ [])) _ y h ((refl, All-nil IsWhole), λ e. refl)
+calls_taken : (declared : Bool) (tokens : List ThinToken) (y : List Term × List ThinToken) → permitted_puts_in declared tokens ≡ Some y
+    → TakesPuts tokens y.0 y.1 × (declared ≡ false → y.0 ≡ [])
+calls_taken true tokens y h =
+    (joined_taken put_in with_argument (TakesPuts tokens) (put_joins tokens) (length tokens) [] tokens y (refl, All-nil IsWhole) h, λ e. cc)
+calls_taken false tokens y h =
+    given (λ (y : List Term × List ThinToken). TakesPuts tokens y.0 y.1 × (false ≡ false → y.0 ≡ [])) _ y h ((refl, All-nil IsWhole), λ e. refl)
 
 abbrev TakesLast : List ThinToken → Option Term × List ThinToken → Type 0
 TakesLast tokens y = (tokens ≡ spelled_last y.0 y.1) × All IsWhole (option_to_list y.0)
@@ -224,7 +256,8 @@ main_head_taken : (tokens more : List ThinToken) → after_main_head tokens ≡ 
 main_head_taken (Int ∷ Main ∷ Open ∷ Void ∷ Close ∷ OpenBrace ∷ rest) more h = cc
 main_head_taken tokens more h = cc
 
-main_taken : (all : List ThinToken) (declared : Bool) (tokens : List ThinToken) (p : Program) → all ≡ spelled_declaration declared tokens → main_in declared tokens ≡ Some p → IsProgramOf all p
+main_taken : (all : List ThinToken) (declared : Bool) (tokens : List ThinToken) (p : Program) → all ≡ spelled_declaration declared tokens
+    → main_in declared tokens ≡ Some p → IsProgramOf all p
 unfolding main_in
 main_taken all declared tokens p e h =
     let body = bind_some (after_main_head tokens) _ p h in
@@ -236,7 +269,8 @@ main_taken all declared tokens p e h =
     let all_whole = All-append IsWhole puts.0.0 (option_to_list last.0.0) calls.0.1 end_of.1 in
     subst (IsProgramOf all) end.1 (record {
       spelled = e ∙ ap (λ z. spelled_declaration declared z) (main_head_taken tokens body.0 body.1
-          ∙ ap (λ z. Int ∷ Main ∷ Open ∷ Void ∷ Close ∷ OpenBrace ∷ z) (calls.0.0 ∙ ap (λ z. spelled_puts puts.0.0 z) (end_of.0 ∙ ap (λ z. spelled_last last.0.0 z) end.0)));
+          ∙ ap (λ z. Int ∷ Main ∷ Open ∷ Void ∷ Close ∷ OpenBrace ∷ z) (calls.0.0
+          ∙ ap (λ z. spelled_puts puts.0.0 z) (end_of.0 ∙ ap (λ z. spelled_last last.0.0 z) end.0)));
       well_formed = All-weaker IsWhole IsWellFormed (λ x p. p.0) _ all_whole;
       declared = calls.1;
       small = All-weaker IsWhole (λ t. punctuators t ≤ 300) (λ x p. p.1) _ all_whole;

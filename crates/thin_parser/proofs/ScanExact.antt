@@ -81,7 +81,7 @@ pub record Scanned (bytes : List ℕ) (done : List ThinToken) (text : List ℕ) 
   pub splits : (tokens : List ThinToken) → Spells tokens bytes → (more : List ThinToken) × (tokens ≡ done ++ more) × Spells more text
   pub stops : (text ≡ [] → ⊥) → BeginsText text
 
--- before the first turn
+-- before the first token
 none_yet : (bytes : List ℕ) → Scanned bytes [] (after_white bytes)
 none_yet bytes = record {
   joins = λ more s. spells_after more bytes s;
@@ -94,14 +94,16 @@ pub scanned_none : (bytes : List ℕ) (done : List ThinToken) (text : List ℕ) 
 scanned_none bytes done text d e = rw (d, e) (none_yet bytes)
 
 -- where a token stands first, all that the bytes spell begins with it
-begins_with : (t : ThinToken) (bytes rest : List ℕ) → StandsFirst t bytes rest → (tokens : List ThinToken) → Spells tokens bytes → (more : List ThinToken) × (tokens ≡ t ∷ more) × Spells more rest
+begins_with : (t : ThinToken) (bytes rest : List ℕ) → StandsFirst t bytes rest → (tokens : List ThinToken) → Spells tokens bytes
+    → (more : List ThinToken) × (tokens ≡ t ∷ more) × Spells more rest
 begins_with t bytes rest f [] s = absurd (stands_no_white t bytes rest f s)
 begins_with t bytes rest f (u ∷ more) s =
     let same = one_first t u bytes rest s.0 f s.1 in
     (more, ap (λ x. x ∷ more) same.0, subst (Spells more) same.1 s.2)
 
--- after a turn, which found one token
-one_more : (bytes : List ℕ) (done : List ThinToken) (text : List ℕ) (t : ThinToken) (rest : List ℕ) → Scanned bytes done text → StandsFirst t text rest → Scanned bytes (done ++ t ∷ []) (after_white rest)
+-- with one more token
+one_more : (bytes : List ℕ) (done : List ThinToken) (text : List ℕ) (t : ThinToken) (rest : List ℕ) → Scanned bytes done text
+    → StandsFirst t text rest → Scanned bytes (done ++ t ∷ []) (after_white rest)
 one_more bytes done text t rest c first = record {
   joins = λ more s. subst (λ l. Spells l bytes) (sym (append_assoc done (t ∷ []) more)) (c.joins (t ∷ more) (rest, first, spells_after more rest s));
   splits = λ tokens s.
@@ -112,7 +114,8 @@ one_more bytes done text t rest c first = record {
 }
 
 -- the same, where list and text are equal to those
-pub scanned_more : (bytes : List ℕ) (done now : List ThinToken) (text : List ℕ) (t : ThinToken) (rest next : List ℕ) → Scanned bytes done text → first_token text ≡ Some (t, rest) → now ≡ done ++ t ∷ [] → next ≡ after_white rest → Scanned bytes now next
+pub scanned_more : (bytes : List ℕ) (done now : List ThinToken) (text : List ℕ) (t : ThinToken) (rest next : List ℕ) → Scanned bytes done text
+    → first_token text ≡ Some (t, rest) → now ≡ done ++ t ∷ [] → next ≡ after_white rest → Scanned bytes now next
 scanned_more bytes done now text t rest next c h d e = rw (d, e) (one_more bytes done text t rest c (first_taken t text rest h))
 
 -- at the end of the text the tokens so far are those of the bytes
@@ -126,7 +129,8 @@ no_more [] s = refl
 no_more (t ∷ tokens) s = absurd (stands_no_white t [] s.0 s.1 (All-nil IsWhite))
 
 -- at the end of the text no other tokens are those of the bytes
-pub scanned_only : (bytes : List ℕ) (done : List ThinToken) (text : List ℕ) → Scanned bytes done text → text ≡ [] → (others : List ThinToken) → Spells others bytes → others ≡ done
+pub scanned_only : (bytes : List ℕ) (done : List ThinToken) (text : List ℕ) → Scanned bytes done text → text ≡ [] → (others : List ThinToken)
+    → Spells others bytes → others ≡ done
 scanned_only bytes done text c e others s =
     let p = c.splits others s in
     p.1 ∙ ap (λ l. done ++ l) (no_more p.0 (subst (Spells p.0) e p.2)) ∙ append-nil done
@@ -139,7 +143,8 @@ nothing_left text begins h (t ∷ tokens) s =
     cc (h, found)
 
 -- where a text goes on and has no token in front, the bytes spell nothing
-pub scanned_stuck : (bytes : List ℕ) (done : List ThinToken) (text : List ℕ) → Scanned bytes done text → (text ≡ [] → ⊥) → first_token text ≡ None → (tokens : List ThinToken) → Spells tokens bytes → ⊥
+pub scanned_stuck : (bytes : List ℕ) (done : List ThinToken) (text : List ℕ) → Scanned bytes done text → (text ≡ [] → ⊥) → first_token text ≡ None
+    → (tokens : List ThinToken) → Spells tokens bytes → ⊥
 scanned_stuck bytes done text c some h tokens s =
     let p = c.splits tokens s in
     nothing_left text (c.stops some) h p.0 p.2

@@ -1,5 +1,6 @@
 -- White space, numbers, words and punctuators, as the scanner finds them and as the definitions have them.
-use Rattle.std.proofs.Common.{◌≡◌, ℕ, ◌+◌, ◌*◌, ◌-◌, ◌≤◌, ◌<◌, ◌^◌, Bool, true, false, cond, eqb, not, List, [], ◌∷◌, ◌++◌, length, take, drop, Option, Some, None, refl, sym, ap, subst, ◌∙◌, arith, fold, one-add, IsTrue}
+use Rattle.std.proofs.Common.{◌≡◌, ℕ, ◌+◌, ◌*◌, ◌-◌, ◌≤◌, ◌<◌, ◌^◌, Bool, true, false, cond, eqb, not, List, [], ◌∷◌, ◌++◌, length, take, drop}
+use Rattle.std.proofs.Common.{Option, Some, None, refl, sym, ap, subst, ◌∙◌, arith, fold, one-add, IsTrue}
 use Rattle.std.specs.Prelude.{codes, option_map, ◌==◌, nat_lt}
 use Rattle.std.specs.List.{All, list_all, prefix_len}
 use Rattle.std.specs.Option.{option_or}
@@ -13,8 +14,10 @@ use Rattle.std.proofs.lemmas.Option.{same_Some}
 use Rattle.std.proofs.lemmas.Slice.Eq.{bytes_eq-Decides}
 use Rattle.std.proofs.Math.Seq.{take-append_seam, drop-append_seam}
 use Rattle.thin_parser.specs.declared.thin_token.ThinToken.{ThinToken}
-use Rattle.thin_parser.specs.declared.thin_token.ThinToken.TheVariants.{Int, Putchar, Main, Void, Return, Open, Close, OpenBrace, CloseBrace, Semicolon, Plus, Minus, Star, Number}
-use Rattle.thin_parser.specs.ThinText.{is_white, is_digit, is_wordly, value_of_digits, HasNoLeadingZero, IsNumeral, IsTextOf, is_word, BeginsNoWord, StandsFirst}
+use Rattle.thin_parser.specs.declared.thin_token.ThinToken.TheVariants.{Int, Putchar, Main, Void, Return, Open, Close, OpenBrace, CloseBrace}
+use Rattle.thin_parser.specs.declared.thin_token.ThinToken.TheVariants.{Semicolon, Plus, Minus, Star, Number}
+use Rattle.thin_parser.specs.ThinText.{is_white, is_digit, is_wordly, value_of_digits, HasNoLeadingZero, IsNumeral, IsTextOf, is_word, BeginsNoWord}
+use Rattle.thin_parser.specs.ThinText.{StandsFirst}
 use Rattle.thin_parser.specs.ThinScan.{after_white, punctuator_of, has_no_leading_zero, is_numeral, number_of, keyword_of, word_token, first_word, first_token}
 
 -- ---- answers that may be missing
@@ -100,7 +103,8 @@ front_taken (d ∷ e ∷ digits) h = λ q. let n : not (eqb 48 48) ≡ true = su
 numeral_read : (n : ℕ) (word : List ℕ) → IsNumeral n word → number_of word ≡ Some n
 numeral_read n word i =
     let small : nat_lt (value_of_digits word) (2 ^ 31) ≡ true = lt-ltb _ _ (rw i.value i.small) in
-    cond-true (is_numeral word) (Some (value_of_digits word)) None (and_from _ _ (and_from _ _ (front_read word i.front) (list_all-from_AllPass is_digit word i.each)) small)
+    cond-true (is_numeral word) (Some (value_of_digits word)) None (and_from _ _
+    (and_from _ _ (front_read word i.front) (list_all-from_AllPass is_digit word i.each)) small)
     ∙ ap (λ v. Some v) i.value
 
 -- what is read as a number is a numeral of it
@@ -125,7 +129,13 @@ no_keyword : (word : List ℕ) → All (λ d. IsTrue (is_digit d)) word → keyw
 no_keyword [] each = refl
 no_keyword (d ∷ word) each =
     let h = All-head (λ d. IsTrue (is_digit d)) d word each in
-    rw (digit_no_letter d 105 h (omega arith), digit_no_letter d 112 h (omega arith), digit_no_letter d 109 h (omega arith), digit_no_letter d 118 h (omega arith), digit_no_letter d 114 h (omega arith)) refl
+    rw (
+      digit_no_letter d 105 h (omega arith),
+      digit_no_letter d 112 h (omega arith),
+      digit_no_letter d 109 h (omega arith),
+      digit_no_letter d 118 h (omega arith),
+      digit_no_letter d 114 h (omega arith),
+    ) refl
 
 -- a numeral is read as that number's token
 number_read : (n : ℕ) (word : List ℕ) → IsNumeral n word → word_token word ≡ Some (Number n)
@@ -148,7 +158,8 @@ keyword_taken t word h =
     choice (bytes_eq word (codes "putchar")) _ _ t (IsWordOf t word) h (spelled word (codes "putchar") Putchar t (λ e. record { text = e; is = refl })) (λ h.
     choice (bytes_eq word (codes "main")) _ _ t (IsWordOf t word) h (spelled word (codes "main") Main t (λ e. record { text = e; is = refl })) (λ h.
     choice (bytes_eq word (codes "void")) _ _ t (IsWordOf t word) h (spelled word (codes "void") Void t (λ e. record { text = e; is = refl })) (λ h.
-    choice (bytes_eq word (codes "return")) _ _ t (IsWordOf t word) h (spelled word (codes "return") Return t (λ e. record { text = e; is = refl })) (λ h. cc)))))
+    choice (bytes_eq word (codes "return")) _ _ t (IsWordOf t word) h (spelled word (codes "return") Return t (λ e. record { text = e; is = refl }))
+    (λ h. cc)))))
 
 -- what is read as a word or number is one
 word_taken : (t : ThinToken) (word : List ℕ) → word_token word ≡ Some t → IsWordOf t word
@@ -177,16 +188,19 @@ run_stops (b ∷ bytes) =
 -- a digit or letter is no punctuator
 wordly_no_punctuator : (b : ℕ) → is_wordly b ≡ true → punctuator_of b ≡ None
 wordly_no_punctuator b h =
-    let other : (c : ℕ) → is_wordly c ≡ false → eqb b c ≡ false = λ c q. ne_eqb b c (λ e. let r : is_wordly c ≡ true = subst (λ x. is_wordly x ≡ true) e h in cc) in
+    let other : (c : ℕ) → is_wordly c ≡ false → eqb b c ≡ false = λ c q.
+    ne_eqb b c (λ e. let r : is_wordly c ≡ true = subst (λ x. is_wordly x ≡ true) e h in cc) in
     rw (other 40 refl, other 41 refl, other 123 refl, other 125 refl, other 59 refl, other 43 refl, other 45 refl, other 42 refl) refl
 
 -- a word in front is found, where no word begins after it
-word_read : (t : ThinToken) (word rest : List ℕ) → list_all is_wordly word ≡ true → BeginsNoWord rest → word_token word ≡ Some t → first_token (word ++ rest) ≡ Some (t, rest)
+word_read : (t : ThinToken) (word rest : List ℕ) → list_all is_wordly word ≡ true → BeginsNoWord rest → word_token word ≡ Some t
+    → first_token (word ++ rest) ≡ Some (t, rest)
 word_read t [] rest each stops h = cc
 word_read t (b ∷ word) rest each stops h =
     let text = b ∷ (word ++ rest) in
     let split : ℕ → Option (ThinToken × List ℕ) = λ n. option_map (λ u. (u, drop n text)) (word_token (take n text)) in
-    ap (λ m. option_or (option_map (λ punctuator. (punctuator, word ++ rest)) m) (first_word text)) (wordly_no_punctuator b (and_parts (is_wordly b) (list_all is_wordly word) each).0)
+    ap (λ m. option_or (option_map (λ punctuator. (punctuator, word ++ rest)) m) (first_word text))
+    (wordly_no_punctuator b (and_parts (is_wordly b) (list_all is_wordly word) each).0)
     ∙ ap split (run_read (b ∷ word) rest each stops)
     ∙ ap (λ w. option_map (λ u. (u, drop (length (b ∷ word)) text)) (word_token w)) (take-append_seam (b ∷ word) rest)
     ∙ ap (λ r. option_map (λ u. (u, r)) (word_token (b ∷ word))) (drop-append_seam (b ∷ word) rest)
@@ -258,7 +272,8 @@ record IsPunctuatorOf (t : ThinToken) (b : ℕ) : Type 0 where
 
 -- the punctuator of a byte that this one equals
 marked : (b c : ℕ) (x t : ThinToken) → IsPunctuatorOf x c → eqb b c ≡ true → Some x ≡ Some t → IsPunctuatorOf t b
-marked b c x t is h e = let same : b ≡ c = grind (arith, nat_tests) in subst (λ y. IsPunctuatorOf y b) (same_Some x t e) (subst (IsPunctuatorOf x) (sym same) is)
+marked b c x t is h e =
+    let same : b ≡ c = grind (arith, nat_tests) in subst (λ y. IsPunctuatorOf y b) (same_Some x t e) (subst (IsPunctuatorOf x) (sym same) is)
 
 -- what is read as a punctuator is one
 punctuator_taken : (t : ThinToken) (b : ℕ) → punctuator_of b ≡ Some t → IsPunctuatorOf t b
@@ -274,20 +289,30 @@ punctuator_taken t b h =
 
 -- a punctuator in front stands first
 punctuator_stands : (t : ThinToken) (b : ℕ) (bytes rest : List ℕ) → bytes ≡ rest → IsPunctuatorOf t b → StandsFirst t (b ∷ bytes) rest
-punctuator_stands t b bytes rest e m = record { white = []; text = b ∷ []; bytes_are = ap (λ l. b ∷ l) e; is_space = All-nil IsWhite; is_text = m.text; apart = λ w. let n = m.is in cc }
+punctuator_stands t b bytes rest e m =
+    record { white = []; text = b ∷ []; bytes_are = ap (λ l. b ∷ l) e; is_space = All-nil IsWhite; is_text = m.text; apart = λ w. let n = m.is in cc }
 
 -- a word in front that takes the whole run of digits and letters stands first
-word_stands : (t : ThinToken) (bytes rest : List ℕ) → drop (prefix_len is_wordly bytes) bytes ≡ rest → IsWordOf t (take (prefix_len is_wordly bytes) bytes) → StandsFirst t bytes rest
+word_stands : (t : ThinToken) (bytes rest : List ℕ) → drop (prefix_len is_wordly bytes) bytes ≡ rest
+    → IsWordOf t (take (prefix_len is_wordly bytes) bytes) → StandsFirst t bytes rest
 word_stands t bytes rest e w =
     let n = prefix_len is_wordly bytes in
-    record { white = []; text = take n bytes; bytes_are = sym (take-append-drop n bytes) ∙ ap (λ l. take n bytes ++ l) e; is_space = All-nil IsWhite; is_text = w.text; apart = λ _. subst BeginsNoWord e (run_stops bytes) }
+    record {
+      white = [];
+      text = take n bytes;
+      bytes_are = sym (take-append-drop n bytes) ∙ ap (λ l. take n bytes ++ l) e;
+      is_space = All-nil IsWhite;
+      is_text = w.text;
+      apart = λ _. subst BeginsNoWord e (run_stops bytes);
+    }
 
 -- what is found in front stands first
 pub first_taken : (t : ThinToken) (bytes rest : List ℕ) → first_token bytes ≡ Some (t, rest) → StandsFirst t bytes rest
 first_taken t [] rest h = cc
 first_taken t (b ∷ bytes) rest h =
     or_taken (option_map (λ punctuator. (punctuator, bytes)) (punctuator_of b)) (first_word (b ∷ bytes)) (t, rest) (StandsFirst t (b ∷ bytes) rest) h
-    (λ e. let m = map_taken (λ punctuator. (punctuator, bytes)) (punctuator_of b) (t, rest) e in punctuator_stands t b bytes rest (ap (λ y. y.1) m.2) (punctuator_taken t b (m.1 ∙ ap (λ y. Some y.0) m.2)))
+    (λ e. let m = map_taken (λ punctuator. (punctuator, bytes)) (punctuator_of b) (t, rest) e in
+    punctuator_stands t b bytes rest (ap (λ y. y.1) m.2) (punctuator_taken t b (m.1 ∙ ap (λ y. Some y.0) m.2)))
     (λ e.
     let n = prefix_len is_wordly (b ∷ bytes) in
     let m = map_taken (λ u. (u, drop n (b ∷ bytes))) (word_token (take n (b ∷ bytes))) (t, rest) e in

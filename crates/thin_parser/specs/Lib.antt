@@ -2,5 +2,3 @@ pub mod ThinTree
 pub mod ThinText
 pub mod ThinScan
 pub mod ThinReading
-pub use Rattle.c_parser.specs.Parsing
-pub use Rattle.c_parser.specs.TreesOfTokens

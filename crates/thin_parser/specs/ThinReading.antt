@@ -1,7 +1,9 @@
 -- The programs that tokens spell, and how one is read from the left.
-use Rattle.std.specs.Prelude.{◌≡◌, ℕ, zero, suc, ◌+◌, ◌≤◌, leb, Bool, true, false, if◌then◌else◌, List, [], ◌∷◌, ◌++◌, length, All, Option, Some, None, Result, Ok, Err}
+use Rattle.std.specs.Prelude.{◌≡◌, ℕ, zero, suc, ◌+◌, ◌≤◌, leb, Bool, true, false, if◌then◌else◌, List, [], ◌∷◌, ◌++◌, length, All, Option, Some}
+use Rattle.std.specs.Prelude.{None, Result, Ok, Err}
 use Rattle.thin_parser.specs.declared.thin_token.ThinToken.{ThinToken}
-use Rattle.thin_parser.specs.declared.thin_token.ThinToken.TheVariants.{Int, Putchar, Main, Void, Return, Open, Close, OpenBrace, CloseBrace, Semicolon, Plus, Minus, Star, Number}
+use Rattle.thin_parser.specs.declared.thin_token.ThinToken.TheVariants.{Int, Putchar, Main, Void, Return, Open, Close, OpenBrace, CloseBrace}
+use Rattle.thin_parser.specs.declared.thin_token.ThinToken.TheVariants.{Semicolon, Plus, Minus, Star, Number}
 use Rattle.thin_parser.specs.declared.thin_reading.Failure.{Failure}
 use Rattle.thin_parser.specs.declared.thin_reading.Failure.TheVariants.{Memory, NoParse}
 use Rattle.thin_parser.specs.declared.thin_reading.Sign.{Sign}

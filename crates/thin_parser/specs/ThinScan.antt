@@ -1,10 +1,12 @@
 -- What each step of the scanner answers.
-use Rattle.std.specs.Prelude.{ℕ, ◌^◌, nat_lt, ◌==◌, ◌&&◌, not, Bool, true, false, if◌then◌else◌, List, [], ◌∷◌, take, drop, codes, Option, Some, None, option_map}
+use Rattle.std.specs.Prelude.{ℕ, ◌^◌, nat_lt, ◌==◌, ◌&&◌, not, Bool, true, false, if◌then◌else◌, List, [], ◌∷◌, take, drop, codes, Option, Some}
+use Rattle.std.specs.Prelude.{None, option_map}
 use Rattle.std.specs.List.{prefix_len, list_all}
 use Rattle.std.specs.Option.{option_or}
 use Rattle.std.specs.Str.{bytes_eq}
 use Rattle.thin_parser.specs.declared.thin_token.ThinToken.{ThinToken}
-use Rattle.thin_parser.specs.declared.thin_token.ThinToken.TheVariants.{Int, Putchar, Main, Void, Return, Open, Close, OpenBrace, CloseBrace, Semicolon, Plus, Minus, Star, Number}
+use Rattle.thin_parser.specs.declared.thin_token.ThinToken.TheVariants.{Int, Putchar, Main, Void, Return, Open, Close, OpenBrace, CloseBrace}
+use Rattle.thin_parser.specs.declared.thin_token.ThinToken.TheVariants.{Semicolon, Plus, Minus, Star, Number}
 use Rattle.thin_parser.specs.ThinText.{is_white, is_digit, is_wordly, value_of_digits}
 
 -- what stands after the white space at the front

@@ -5,10 +5,12 @@
 --   sum     = product { ( "+" | "-" ) product }
 --   product = atom { "*" atom }
 --   atom    = number | "(" sum ")"
-use Rattle.std.specs.Prelude.{◌≡◌, ℕ, ◌+◌, ◌-◌, ◌*◌, ◌^◌, ◌<◌, ◌≤◌, nat_le, ◌==◌, ◌&&◌, ◌||◌, Bool, true, false, IsTrue, List, [], ◌∷◌, ◌++◌, length, All, fold, codes, Option, Some, None}
+use Rattle.std.specs.Prelude.{◌≡◌, ℕ, ◌+◌, ◌-◌, ◌*◌, ◌^◌, ◌<◌, ◌≤◌, nat_le, ◌==◌, ◌&&◌, ◌||◌, Bool, true, false, IsTrue, List, [], ◌∷◌, ◌++◌, length}
+use Rattle.std.specs.Prelude.{All, fold, codes, Option, Some, None}
 use Rattle.std.specs.Option.{option_to_list}
 use Rattle.thin_parser.specs.declared.thin_token.ThinToken.{ThinToken}
-use Rattle.thin_parser.specs.declared.thin_token.ThinToken.TheVariants.{Int, Putchar, Main, Void, Return, Open, Close, OpenBrace, CloseBrace, Semicolon, Plus, Minus, Star, Number}
+use Rattle.thin_parser.specs.declared.thin_token.ThinToken.TheVariants.{Int, Putchar, Main, Void, Return, Open, Close, OpenBrace, CloseBrace}
+use Rattle.thin_parser.specs.declared.thin_token.ThinToken.TheVariants.{Semicolon, Plus, Minus, Star, Number}
 use Rattle.thin_parser.specs.ThinTree.{Term, number, paren, add, sub, mul, Program}
 
 -- ---- the tokens of a tree, before those of what follows: one rule for each alternative

@@ -6,7 +6,9 @@ ghost use Rattle.std.specs.Prelude.{◌≡◌, ◌++◌, ◌∷◌, [], length, 
 ghost use Rattle.std.specs.Option.{option_map};
 ghost use Rattle.thin_parser.specs.declared.thin_reading.Failure.TheVariants.{Memory};
 ghost use Rattle.thin_parser.specs.ThinTree.{Program, term_of, program_of, mul};
-ghost use Rattle.thin_parser.specs.ThinReading.{IsProgramOf, Gives, after_close, after_semicolon, atom_in, factor_in, product_in, summand_in, plus_or_minus, sum_in, sum_at, punctuators_before_semicolon, whole_sum_in, declaration_in, after_main_head, put_in, puts_in, permitted_puts_in, last_in, main_in, whole_program};
+ghost use Rattle.thin_parser.specs.ThinReading.{IsProgramOf, Gives, after_close, after_semicolon, atom_in, factor_in, product_in, summand_in};
+ghost use Rattle.thin_parser.specs.ThinReading.{plus_or_minus, sum_in, sum_at, punctuators_before_semicolon, whole_sum_in, declaration_in};
+ghost use Rattle.thin_parser.specs.ThinReading.{after_main_head, put_in, puts_in, permitted_puts_in, last_in, main_in, whole_program};
 
 use crate::thin_token::ThinToken;
 use crate::thin_tree::{Sum, Thin};
@@ -105,7 +107,7 @@ fn times(alloc: Global, a: Sum, b: Sum) -> Result<Sum, NoMemory>
 
 /// `product = atom { "*" atom }`.
 #[cycle(sum)]
-#[tactic(auto, using(crate::proofs::ReadingTurns::factors), unfolding(crate::specs::ThinReading::product_in))]
+#[tactic(auto, using(crate::proofs::ReadingLoops::factors), unfolding(crate::specs::ThinReading::product_in))]
 fn product<'a>(
     alloc: Global,
     depth: u16,
@@ -153,7 +155,7 @@ fn plus_or_minus(alloc: Global, a: Sum, sign: Sign, b: Sum) -> Result<Sum, NoMem
 
 /// `sum = product { ( "+" | "-" ) product }`. Each operator has to its left all that came before.
 #[cycle(sum)]
-#[tactic(auto, using(crate::proofs::ReadingTurns::summands), unfolding(crate::specs::ThinReading::sum_in))]
+#[tactic(auto, using(crate::proofs::ReadingLoops::summands), unfolding(crate::specs::ThinReading::sum_in))]
 fn sum<'a>(
     alloc: Global,
     depth: u16,
@@ -193,7 +195,8 @@ fn punctuators_before_semicolon(tokens: &[ThinToken]) -> usize
     'tokens: for token in tokens {
         match token {
             ThinToken::Semicolon => return punctuators,
-            ThinToken::Plus | ThinToken::Minus | ThinToken::Star | ThinToken::Open => punctuators += 1,
+            ThinToken::Plus | ThinToken::Minus | ThinToken::Star | ThinToken::Open => punctuators +=
+                1,
             _ => {}
         }
     }
@@ -265,7 +268,7 @@ fn put(alloc: Global, tokens: &[ThinToken]) -> Result<Option<(Sum, &[ThinToken])
 }
 
 /// `{ "putchar" "(" sum ")" ";" }`: the arguments.
-#[tactic(auto, using(crate::proofs::ReadingTurns::puts))]
+#[tactic(auto, using(crate::proofs::ReadingLoops::puts))]
 fn puts(alloc: Global, tokens: &[ThinToken]) -> Result<(List<Sum>, &[ThinToken]), Failure>
     ensures { Gives (λ x. (map term_of x.0, x.1.now)) result (puts_in tokens.now) }
 {

@@ -1,6 +1,7 @@
 //! `MemHost`: a host of files in memory.
 
-ghost use Rattle.std.specs.Prelude.{◌≡◌, ◌≢◌, ◌≤◌, ◌/◌, ◌↔◌, List as Sequence, ℕ, Some, false, IsTrue, OnErr, OnOk, IsSomeAnd, if◌then◌else◌, is_err, length, option_map, position, take};
+ghost use Rattle.std.specs.Prelude.{◌≡◌, ◌≢◌, ◌≤◌, ◌/◌, ◌↔◌, List as Sequence, ℕ, Some, false, IsTrue, OnErr, OnOk, IsSomeAnd, if◌then◌else◌, is_err};
+ghost use Rattle.std.specs.Prelude.{length, option_map, position, take};
 ghost use Rattle.std.specs.Str.{bytes_eq};
 ghost use Rattle.lay_base.specs.Calls.{ReadGives, WriteGives};
 ghost use Rattle.lay_base.specs.MemoryObjects.{called, contents_of, fails_next, read_fails};
@@ -87,7 +88,8 @@ impl Host for MemHost {
     fn write_file(&mut self, name: &str, bytes: &[u8]) -> Result<(), HostWrite>
         ensures count { self.old.plan.faults ≤ self.new.plan.faults }
         ensures others { FilesKeepBut name.now (Some (contents_of self.old.files)) (Some (contents_of self.new.files)) }
-        ensures gives { WriteGives self.old.plan.faults self.new.plan.faults (Some (contents_of self.old.files)) (Some (contents_of self.new.files)) name.now bytes.now result }
+        ensures gives { WriteGives self.old.plan.faults self.new.plan.faults (Some (contents_of self.old.files)) (Some (contents_of self.new.files))
+            name.now bytes.now result }
         ensures memory { result ≡ Err HostWrite.Memory → self.new ≡ record self.old { plan = called self.old.plan false } }
         ensures fails { result ≢ Err HostWrite.Memory → is_err result ≡ fails_next self.old.plan }
         ensures counted { result ≢ Err HostWrite.Memory → self.new.plan ≡ called self.old.plan (is_err result) }
@@ -132,7 +134,8 @@ fn index_of(files: &[File], name: &str) -> Option<usize>
 /// Puts bytes under a name: in the first file of that name, or in a new one at the end. Where no
 /// memory is left, nothing changes.
 fn store(alloc: Global, files: &mut Vec<File>, name: &str, bytes: &[u8]) -> Result<(), NoMemory>
-    ensures ok { OnOk result ((other : Sequence ℕ) → contents_of files.new.items other ≡ (if bytes_eq name.now other then Some bytes.now else contents_of files.old.items other)) }
+    ensures ok { OnOk result ((other : Sequence ℕ) → contents_of files.new.items other
+        ≡ (if bytes_eq name.now other then Some bytes.now else contents_of files.old.items other)) }
     ensures err { OnErr result (files.new.items ≡ files.old.items) }
 {
     let Ok(bytes) = Vec::from_slice(alloc, bytes) else {

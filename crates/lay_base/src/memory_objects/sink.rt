@@ -71,7 +71,10 @@ impl Sink for MemSink {
         ensures count { self.old.plan.faults ≤ self.new.plan.faults }
         ensures gives { PutGives self.old.plan.faults self.new.plan.faults (Some self.old.written) (Some self.new.written) piece.now result }
         ensures fails { is_err result ≡ (fails_next self.old.plan || nat_lt self.old.room (length self.old.written + length piece.now)) }
-        ensures after { self.new ≡ record self.old { written = self.old.written ++ take (kept_of self.old piece.now) piece.now; plan = called self.old.plan (is_err result) } }
+        ensures after { self.new ≡ record self.old {
+          written = self.old.written ++ take (kept_of self.old piece.now) piece.now;
+          plan = called self.old.plan (is_err result);
+        } }
     {
         let to_fail = self.plan.call();
         let wanted = if to_fail {

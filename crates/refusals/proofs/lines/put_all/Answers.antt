@@ -17,4 +17,5 @@ returns-in_err-put g c =
     let within : c.loop-piece.piece-index < length c.args.pieces.now = omega arith in
     let is_err = err_from_is_err_and c.from_residual.result c.from_residual.ensures.1 in
     rw (all_of-split c.args.pieces.now c.loop-piece.piece-index within, is_err.1)
-    (puts_both c.loop-piece.invariant (fails_first _ (record { count = c.in_err-put.ensures.count; kept = c.in_err-put.ensures.kept; gives = c.in_err-put.ensures.gives })))
+    (puts_both c.loop-piece.invariant
+    (fails_first _ (record { count = c.in_err-put.ensures.count; kept = c.in_err-put.ensures.kept; gives = c.in_err-put.ensures.gives })))

@@ -13,9 +13,11 @@ pub returns-in_err-put_all : goal.returns-in_err-put_all
 returns-in_err-put_all g c =
     let is_err = err_from_is_err_and c.from_residual-in_err-put_all.result c.from_residual-in_err-put_all.ensures.1 in
     rw (line-pieces (map (λ piece. piece.now) c.args.pieces.now), is_err.1)
-    (puts_both {p = codes "layc: "} (record { count = c.in_ok-put.ensures.count; kept = c.in_ok-put.ensures.kept; gives = c.in_ok-put.ensures.gives }) (fails_first _ c.in_err-put_all.ensures))
+    (puts_both {p = codes "layc: "} (record { count = c.in_ok-put.ensures.count; kept = c.in_ok-put.ensures.kept; gives = c.in_ok-put.ensures.gives })
+    (fails_first _ c.in_err-put_all.ensures))
 
 pub returns : goal.returns
 returns g c =
     rw (line-pieces (map (λ piece. piece.now) c.args.pieces.now))
-    (puts_both {p = codes "layc: "} (record { count = c.in_ok-put.ensures.count; kept = c.in_ok-put.ensures.kept; gives = c.in_ok-put.ensures.gives }) (puts_both c.in_ok-put_all.ensures (record { count = c.put-2.ensures.count; kept = c.put-2.ensures.kept; gives = c.put-2.ensures.gives })))
+    (puts_both {p = codes "layc: "} (record { count = c.in_ok-put.ensures.count; kept = c.in_ok-put.ensures.kept; gives = c.in_ok-put.ensures.gives })
+    (puts_both c.in_ok-put_all.ensures (record { count = c.put-2.ensures.count; kept = c.put-2.ensures.kept; gives = c.put-2.ensures.gives })))

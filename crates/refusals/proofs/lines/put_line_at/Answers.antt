@@ -11,8 +11,11 @@ returns-in_err-put_all g c =
 pub returns-in_err-put_all-2 : goal.returns-in_err-put_all-2
 returns-in_err-put_all-2 g c =
     let is_err = err_from_is_err_and c.from_residual-in_err-put_all-2.result c.from_residual-in_err-put_all-2.ensures.1 in
-    rw (line_at-pieces c.args.at.now (map (λ piece. piece.now) c.args.pieces.now), is_err.1) (puts_both c.in_ok-put_all.ensures (fails_first _ c.in_err-put_all-2.ensures))
+    rw (line_at-pieces c.args.at.now (map (λ piece. piece.now) c.args.pieces.now), is_err.1)
+    (puts_both c.in_ok-put_all.ensures (fails_first _ c.in_err-put_all-2.ensures))
 
 pub returns : goal.returns
 returns g c =
-    rw (line_at-pieces c.args.at.now (map (λ piece. piece.now) c.args.pieces.now)) (puts_both c.in_ok-put_all.ensures (puts_both c.in_ok-put_all-2.ensures (record { count = c.put.ensures.count; kept = c.put.ensures.kept; gives = c.put.ensures.gives })))
+    rw (line_at-pieces c.args.at.now (map (λ piece. piece.now) c.args.pieces.now))
+    (puts_both c.in_ok-put_all.ensures (puts_both c.in_ok-put_all-2.ensures
+    (record { count = c.put.ensures.count; kept = c.put.ensures.kept; gives = c.put.ensures.gives })))

@@ -11,7 +11,8 @@ loop-text-init c = record {
 
 pub loop-text-preserved : goal.loop-text-preserved
 loop-text-preserved c = record {
-  scanned = scanned_more _ _ _ _ c.in-Some.token c.in-Some.rest.now _ c.loop-text.invariant.scanned (search rules) (search rules) c.after_white-text-in-loop-text.ensures;
+  scanned = scanned_more _ _ _ _ c.in-Some.token c.in-Some.rest.now _ c.loop-text.invariant.scanned (search rules) (search rules)
+      c.after_white-text-in-loop-text.ensures;
   few = grind (arith, common_steps);
 }
 

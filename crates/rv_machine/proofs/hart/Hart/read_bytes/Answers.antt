@@ -10,12 +10,14 @@ pub returns-in-Ok-clause-gives : goal.returns-in-Ok-clause-gives
 returns-in-Ok-clause-gives g c = (
   record { read_faults = c.in-Ok.ensures.kept refl; write_faults = refl },
   λ input known.
-      let reads = reads_known (g.I.Source.faults c.args.input.now) (g.I.Source.faults c.read_in.new.input) _ _ input _ _ _ _ c.in-Ok.n known c.in-Ok.ensures.gives in (
+      let reads = reads_known (g.I.Source.faults c.args.input.now) (g.I.Source.faults c.read_in.new.input) _ _ input _ _ _ _ c.in-Ok.n known
+      c.in-Ok.ensures.gives in (
         drop c.in-Ok.n input,
         [],
         reads.rest,
         appends_nothing (g.O.Sink.written c.args.out.now),
-        λ output. read_goes (places_of c.args.self.now) c.args.self.now.registers c.args.self.now.pc (content_of c.args.self.now.memory) (content_of c.read_in.new.self) input c.in-Ok.n (sym c.if-not-may_use.ensures)
+        λ output. read_goes (places_of c.args.self.now) c.args.self.now.registers c.args.self.now.pc (content_of c.args.self.now.memory)
+            (content_of c.read_in.new.self) input c.in-Ok.n (sym c.if-not-may_use.ensures)
             (record { number = reads.number; rest = refl; stored = reads.stored }) output,
       ),
 )

@@ -11,4 +11,5 @@ returns-then-store_byte-clause-moved c =
     let a : c.address-address.result ≡ plus (slice_index c.args.self.now.registers c.args.rs1) c.args.imm = search rules in
     let v : c.register-value.result ≡ slice_index c.args.self.now.registers c.args.rs2 = c.register-value.ensures in
     rw (← a, ← v)
-    (store_moves (places_of c.args.self.now) (state_of c.args.self.now) with_byte c.address-address.result c.register-value.result 1 _ (omega arith) c.if-store_byte.ensures.mapped c.if-store_byte.ensures.content)
+    (store_moves (places_of c.args.self.now) (state_of c.args.self.now) with_byte c.address-address.result c.register-value.result 1 _ (omega arith)
+    c.if-store_byte.ensures.mapped c.if-store_byte.ensures.content)

@@ -16,47 +16,57 @@ pub loop-done-preserved : goal.loop-done-preserved
 loop-done-preserved g c =
     let far = c.loop-done.invariant in
     record {
-      placed = c.turn.ensures.places ∙ far.placed;
+      placed = c.advance.ensures.places ∙ far.placed;
       steady = steady_then _ _ _ far.steady c.in-Goes.ensures.gives.0;
-      reached = reached_next c.args.self.now.hart c.loop-done.self.hart c.turn.new.self.hart _ _ _ c.loop-done.done far.placed far.reached c.in-Goes.ensures.gives.1;
+      reached = reached_next c.args.self.now.hart c.loop-done.self.hart c.advance.new.self.hart _ _ _ c.loop-done.done far.placed far.reached
+          c.in-Goes.ensures.gives.1;
     }
 
 pub returns-in-Exits : goal.returns-in-Exits
 returns-in-Exits g c =
     let far = c.loop-done.invariant in
     rw c.stop.ensures.end
-    (comes_to c.args.self.now.hart c.loop-done.self.hart c.turn.new.self.hart _ _ _ c.args.limit c.loop-done.done c.stop.new.self far.placed far.steady far.reached c.stop.ensures.hart _ c.in-Exits.ensures.gives c.stop.ensures.steps c.loop-done-test.true)
+    (comes_to c.args.self.now.hart c.loop-done.self.hart c.advance.new.self.hart _ _ _ c.args.limit c.loop-done.done c.stop.new.self far.placed
+    far.steady far.reached c.stop.ensures.hart _ c.in-Exits.ensures.gives c.stop.ensures.steps c.loop-done-test.true)
 
 pub returns-in-Traps : goal.returns-in-Traps
 returns-in-Traps g c =
     let far = c.loop-done.invariant in
-    let there : c.turn.new.self.hart.pc ≡ c.loop-done.self.hart.pc = ap (λ (s : State). s.pc) c.in-Traps.ensures.gives.1 in
+    let there : c.advance.new.self.hart.pc ≡ c.loop-done.self.hart.pc = ap (λ (s : State). s.pc) c.in-Traps.ensures.gives.1 in
     rw (c.stop-in-Traps.ensures.end, there)
-    (comes_to c.args.self.now.hart c.loop-done.self.hart c.turn.new.self.hart _ _ _ c.args.limit c.loop-done.done c.stop-in-Traps.new.self far.placed far.steady far.reached c.stop-in-Traps.ensures.hart _ c.in-Traps.ensures.gives c.stop-in-Traps.ensures.steps c.loop-done-test.true)
+    (comes_to c.args.self.now.hart c.loop-done.self.hart c.advance.new.self.hart _ _ _ c.args.limit c.loop-done.done c.stop-in-Traps.new.self
+    far.placed far.steady far.reached c.stop-in-Traps.ensures.hart _ c.in-Traps.ensures.gives c.stop-in-Traps.ensures.steps c.loop-done-test.true)
 
 pub returns-in-Breaks : goal.returns-in-Breaks
 returns-in-Breaks g c =
     let far = c.loop-done.invariant in
-    let there : c.turn.new.self.hart.pc ≡ c.loop-done.self.hart.pc = ap (λ (s : State). s.pc) c.in-Breaks.ensures.gives.1 in
+    let there : c.advance.new.self.hart.pc ≡ c.loop-done.self.hart.pc = ap (λ (s : State). s.pc) c.in-Breaks.ensures.gives.1 in
     rw (c.stop-in-Breaks.ensures.end, there)
-    (comes_to c.args.self.now.hart c.loop-done.self.hart c.turn.new.self.hart _ _ _ c.args.limit c.loop-done.done c.stop-in-Breaks.new.self far.placed far.steady far.reached c.stop-in-Breaks.ensures.hart _ c.in-Breaks.ensures.gives c.stop-in-Breaks.ensures.steps c.loop-done-test.true)
+    (comes_to c.args.self.now.hart c.loop-done.self.hart c.advance.new.self.hart _ _ _ c.args.limit c.loop-done.done c.stop-in-Breaks.new.self
+    far.placed far.steady far.reached c.stop-in-Breaks.ensures.hart _ c.in-Breaks.ensures.gives c.stop-in-Breaks.ensures.steps
+    c.loop-done-test.true)
 
 pub returns-in-ReadFails : goal.returns-in-ReadFails
 returns-in-ReadFails g c =
     let far = c.loop-done.invariant in
     let gives = c.in-ReadFails.ensures.gives in
     rw c.stop-in-ReadFails.ensures.end
-    (fails_reading c.args.self.now.hart c.loop-done.self.hart c.turn.new.self.hart _ _ _ c.args.limit c.loop-done.done c.stop-in-ReadFails.new.self far.placed far.steady far.reached c.stop-in-ReadFails.ensures.hart gives.0 gives.1 gives.2 gives.3 gives.4 c.stop-in-ReadFails.ensures.steps c.loop-done-test.true)
+    (fails_reading c.args.self.now.hart c.loop-done.self.hart c.advance.new.self.hart _ _ _ c.args.limit c.loop-done.done c.stop-in-ReadFails.new.self
+    far.placed far.steady far.reached c.stop-in-ReadFails.ensures.hart gives.0 gives.1 gives.2 gives.3 gives.4 c.stop-in-ReadFails.ensures.steps
+    c.loop-done-test.true)
 
 pub returns-in-WriteFails : goal.returns-in-WriteFails
 returns-in-WriteFails g c =
     let far = c.loop-done.invariant in
     let gives = c.in-WriteFails.ensures.gives in
     rw c.stop-in-WriteFails.ensures.end
-    (fails_writing c.args.self.now.hart c.loop-done.self.hart c.turn.new.self.hart _ _ _ c.args.limit c.loop-done.done c.stop-in-WriteFails.new.self far.placed far.steady far.reached c.stop-in-WriteFails.ensures.hart gives.0 gives.1 gives.2 gives.3 gives.4 c.stop-in-WriteFails.ensures.steps c.loop-done-test.true)
+    (fails_writing c.args.self.now.hart c.loop-done.self.hart c.advance.new.self.hart _ _ _ c.args.limit c.loop-done.done
+    c.stop-in-WriteFails.new.self far.placed far.steady far.reached c.stop-in-WriteFails.ensures.hart gives.0 gives.1 gives.2 gives.3 gives.4
+    c.stop-in-WriteFails.ensures.steps c.loop-done-test.true)
 
 pub returns : goal.returns
 returns g c =
     let far = c.loop-done.invariant in
     rw c.stop-2.ensures.end
-    (runs_still c.args.self.now.hart c.loop-done.self.hart _ _ c.args.limit c.loop-done.done c.stop-2.new.self far.steady far.reached c.stop-2.ensures.hart c.stop-2.ensures.steps (omega arith))
+    (runs_still c.args.self.now.hart c.loop-done.self.hart _ _ c.args.limit c.loop-done.done c.stop-2.new.self far.steady far.reached
+    c.stop-2.ensures.hart c.stop-2.ensures.steps (omega arith))

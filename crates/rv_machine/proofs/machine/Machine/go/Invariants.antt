@@ -1,7 +1,7 @@
 use Rattle.std.proofs.Common.{◌≡◌, ℕ, List, Some}
 use Rattle.rv_machine.specs.declared.hart.Hart.{Hart}
 use Rattle.rv_machine.specs.Harts.{places_of, state_of}
-use Rattle.rv_machine.specs.Turns.{AreSteady, Streams, streams}
+use Rattle.rv_machine.specs.Advances.{AreSteady, Streams, streams}
 use Rattle.rv_machine.proofs.Reaching.{Reached}
 use Rattle.rv_machine.proofs.machine.Machine.go.Given as goal
 

@@ -16,10 +16,12 @@ place_at-requires-clause-room c =
 
 pub returns-in-Some : goal.returns-in-Some
 returns-in-Some c =
-    let e : row_at c.args.self.now.rows.items c.args.address ≡ Some c.in-Some.row = ap (λ rows. row_at rows c.args.address) (sym c.deref.ensures.value) ∙ sym c.row_with.ensures ∙ c.in-Some.is in
+    let e : row_at c.args.self.now.rows.items c.args.address ≡ Some c.in-Some.row =
+    ap (λ rows. row_at rows c.args.address) (sym c.deref.ensures.value) ∙ sym c.row_with.ensures ∙ c.in-Some.is in
     place_found _ _ c.args.flag _ _ c.args.self.now.sound e _ c.place_at.ensures
 
 pub returns-in-None : goal.returns-in-None
 returns-in-None c =
-    let e : row_at c.args.self.now.rows.items c.args.address ≡ None = ap (λ rows. row_at rows c.args.address) (sym c.deref.ensures.value) ∙ sym c.row_with.ensures ∙ c.in-None.is in
+    let e : row_at c.args.self.now.rows.items c.args.address ≡ None = ap (λ rows. row_at rows c.args.address) (sym c.deref.ensures.value)
+    ∙ sym c.row_with.ensures ∙ c.in-None.is in
     mapped_none _ _ c.args.flag _ c.args.self.now.sound e

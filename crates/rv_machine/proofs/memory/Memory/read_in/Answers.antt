@@ -6,7 +6,8 @@ pub loop-i-preserved : goal.loop-i-preserved
 loop-i-preserved g c =
     let rows = c.loop-i.invariant.rows in
     let gives = rw c.in-Some.is at c.in_ok-byte.ensures.gives in
-    let stored = stored_in c.args.self.now c.loop-i.self c.put.new.self c.args.address c.args.count c.loop-i.i c.in-Some.byte c.put.result c.requires (omega arith) rows c.put.ensures.mapped c.put.ensures.content in
+    let stored = stored_in c.args.self.now c.loop-i.self c.put.new.self c.args.address c.args.count c.loop-i.i c.in-Some.byte c.put.result c.requires
+    (omega arith) rows c.put.ensures.mapped c.put.ensures.content in
     record {
       rows = c.put.ensures.rows ∙ rows;
       kept = c.in_ok-byte.ensures.kept refl ∙ c.loop-i.invariant.kept;

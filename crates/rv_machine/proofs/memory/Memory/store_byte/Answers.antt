@@ -5,4 +5,5 @@ use Rattle.rv_machine.proofs.Places.{one_mapped}
 use Rattle.rv_machine.proofs.memory.Memory.store_byte.Goals as goal
 
 pub returns-in-None-clause-mapped : goal.returns-in-None-clause-mapped
-returns-in-None-clause-mapped c = c.put.ensures.mapped ∙ ap (λ rows. is_mapped (segments_of rows.items) writable c.args.address) c.find.ensures.kept.rows ∙ sym (one_mapped _ _ _)
+returns-in-None-clause-mapped c =
+    c.put.ensures.mapped ∙ ap (λ rows. is_mapped (segments_of rows.items) writable c.args.address) c.find.ensures.kept.rows ∙ sym (one_mapped _ _ _)

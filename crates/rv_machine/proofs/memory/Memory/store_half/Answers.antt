@@ -7,4 +7,5 @@ use Rattle.rv_machine.proofs.memory.Memory.store_half.Goals as goal
 pub returns-in-Some-clause-content : goal.returns-in-Some-clause-content
 returns-in-Some-clause-content c =
     ap (memory_of c.find.new.self.rows.items) (with_items_is c.find.new.self.bytes c.put_half.new.bytes (omega (arith, c.deref_mut.ensures.len)))
-    ∙ half_stored c.args.self.now c.find.new.self _ c.args.address c.in-Some.place c.args.value _ _ c.find.ensures.kept c.in-Some.ensures.found c.deref_mut.ensures.value c.put_half.ensures
+    ∙ half_stored c.args.self.now c.find.new.self _ c.args.address c.in-Some.place c.args.value _ _ c.find.ensures.kept c.in-Some.ensures.found
+    c.deref_mut.ensures.value c.put_half.ensures

@@ -5,12 +5,17 @@ use Rattle.rv_machine.proofs.Places.{both_there, first_not, second_not, word_joi
 use Rattle.rv_machine.proofs.memory.Memory.word_apart.Goals as goal
 
 pub returns-in_err-low : goal.returns-in_err-low
-returns-in_err-low c = c.from_residual.ensures ∙ first_not c.args.self.now c.args.flag c.args.address 2 2 (half_at (content_of c.args.self.now) c.args.address) (word_at (content_of c.args.self.now) c.args.address) c.in_err-low.ensures
+returns-in_err-low c =
+    c.from_residual.ensures ∙ first_not c.args.self.now c.args.flag c.args.address 2 2 (half_at (content_of c.args.self.now) c.args.address)
+    (word_at (content_of c.args.self.now) c.args.address) c.in_err-low.ensures
 
 pub returns-in_err-high : goal.returns-in_err-high
-returns-in_err-high c = c.from_residual-in_err-high.ensures ∙ second_not c.args.self.now c.args.flag c.args.address 2 2 (half_at (content_of c.args.self.now) (c.args.address + 2)) (word_at (content_of c.args.self.now) c.args.address) c.in_err-high.ensures
+returns-in_err-high c =
+    c.from_residual-in_err-high.ensures ∙ second_not c.args.self.now c.args.flag c.args.address 2 2
+    (half_at (content_of c.args.self.now) (c.args.address + 2)) (word_at (content_of c.args.self.now) c.args.address) c.in_err-high.ensures
 
 pub returns : goal.returns
 returns c =
-    both_there c.args.self.now c.args.flag c.args.address 2 2 c.in_ok-low.low c.in_ok-high.high (half_at (content_of c.args.self.now) c.args.address) (half_at (content_of c.args.self.now) (c.args.address + 2)) _ _
+    both_there c.args.self.now c.args.flag c.args.address 2 2 c.in_ok-low.low c.in_ok-high.high (half_at (content_of c.args.self.now) c.args.address)
+    (half_at (content_of c.args.self.now) (c.args.address + 2)) _ _
     c.in_ok-low.ensures c.in_ok-high.ensures (λ e f. word_joined (content_of c.args.self.now) c.args.address _ _ e f)

@@ -1,0 +1,241 @@
+//! Worked examples of `compile`, and of words that ask for nothing.
+
+use crate::world::{PRINTS_A, World, calls, fail_on, file, status, streams_with};
+use lay_base::{List, MemHost};
+use std::test::Fail;
+
+const USAGE: &[u8] = b"\
+    usage: layc compile -o OUT [--profile P] [--plain] [--heap MIB] [--stack MIB] FILE...\n       \
+    layc profile -o P [--turns N] FILE...\n       \
+    layc interp [--turns N] FILE...\n       \
+    layc run [--steps N] ELF\n       \
+    layc bench N\n";
+
+/// Which calls fail, numbered from 1.
+#[derive(Clone, Copy)]
+struct Fails<'a> {
+    host: &'a [u64],
+    out: &'a [u64],
+    err: &'a [u64],
+}
+
+const NONE: Fails<'static> = Fails {
+    host: &[],
+    out: &[],
+    err: &[],
+};
+
+/// A call on `o` that holds `before` and `t.c` that holds the text, and what it is to leave.
+#[derive(Clone, Copy)]
+struct Row<'a> {
+    words: &'a [&'a str],
+    text: &'a [u8],
+    fails: Fails<'a>,
+    status: u8,
+    out: &'a [u8],
+    err: &'a [u8],
+    /// What the file `o` begins with, and how many bytes it has.
+    file: &'a [u8],
+    length: usize,
+}
+
+const WORDS: [&str; 4] = ["compile", "-o", "o", "t.c"];
+
+/// A refusal that leaves the files and `out` as they were.
+fn refused<'a>(
+    words: &'a [&'a str],
+    text: &'a [u8],
+    fails: Fails<'a>,
+    status: u8,
+    err: &'a [u8],
+) -> Row<'a> {
+    Row {
+        words,
+        text,
+        fails,
+        status,
+        out: b"",
+        err,
+        file: b"before",
+        length: 6,
+    }
+}
+
+fn host(rt: &HostRuntime, row: &Row) -> Result<MemHost, Fail> {
+    let files = vec![in rt.alloc(); file(rt, "t.c", row.text)?, file(rt, "o", b"before")?]?;
+    Ok(MemHost::new(rt.alloc(), List::of(files), calls(rt, row.fails.host)?))
+}
+
+/// Whether the source is as it was, and `o` as the row says.
+fn has_files(host: &MemHost, row: &Row) -> bool {
+    match (host.bytes_of("t.c"), host.bytes_of("o")) {
+        (Some(text), Some(left)) => text == row.text
+            && left.len() == row.length
+            && left.starts_with(row.file),
+        _ => false,
+    }
+}
+
+/// What differs first from what the row says.
+fn difference(row: &Row, status: u8, world: &World) -> Option<&'static str> {
+    if status != row.status {
+        Some("the status")
+    } else if world.streams.out.bytes() != row.out {
+        Some("what was written to out")
+    } else if world.streams.err.bytes() != row.err {
+        Some("what was written to err")
+    } else if has_files(&world.host, row) {
+        None
+    } else {
+        Some("the files")
+    }
+}
+
+fn world_of(rt: &HostRuntime, row: &Row) -> Result<World, Fail> {
+    Ok(World {
+        host: host(rt, row)?,
+        streams: streams_with(rt, b"", [&[], row.fails.out, row.fails.err])?,
+    })
+}
+
+fn check_in(rt: &HostRuntime, row: &Row, world: &mut World) -> Result<(), Fail> {
+    let status = status(rt, row.words, world)?;
+    fail_on(difference(row, status, world))
+}
+
+fn check(rt: &HostRuntime, row: &Row) -> Result<(), Fail> {
+    check_in(rt, row, &mut world_of(rt, row)?)
+}
+
+/// The headers of the file that is written for so many bytes of code, byte by byte by the tables of
+/// ELF32: the file header, then text, data, stack and heap.
+fn headers(rt: &HostRuntime, code: u16) -> Result<Vec<u8>, Fail> {
+    let text = 0x1000 + code as u32;
+    let mut bytes =
+        b"\x7FELF\x01\x01\x01\0\0\0\0\0\0\0\0\0\x02\0\xF3\0\x01\0\0\0\0\0\x01\0\x34\0\0\0\0\0\0\0\0\0\0\0\x34\0\x20\0\x04\0\0\0\0\0\0\0".to_vec(
+            rt.alloc(),
+        )?;
+    let rows: [[u32; 8]; 4] = [
+        [1, 0x1000, 0x0001_0000, 0x0001_0000, text, text, 5, 0x1000],
+        [1, 0x3000, 0x0800_0000, 0x0800_0000, 256, 256, 6, 0x1000],
+        [1, 0, 0x1000_0000, 0x1000_0000, 0, 64 << 20, 6, 0x1000],
+        [1, 0, 0x2000_0000, 0x2000_0000, 0, 256 << 20, 6, 0x1000],
+    ];
+    for row in rows {
+        for word in row {
+            bytes.extend_from_slice(&word.to_le_bytes())?;
+        }
+    }
+    Ok(bytes)
+}
+
+/// A text that is compiled, and how many instructions it has.
+fn check_compiled(rt: &HostRuntime, text: &[u8], instructions: u8) -> Result<(), Fail> {
+    let headers = headers(rt, 4 * instructions as u16)?;
+    check(
+        rt,
+        &Row {
+            words: &WORDS,
+            text,
+            fails: NONE,
+            status: 0,
+            out: b"layc report 1\n",
+            err: b"",
+            file: &headers,
+            length: 0x3000 + 256,
+        },
+    )
+}
+
+#[test]
+fn a_thin_program_is_compiled_and_reported(rt: HostRuntime) -> Result<(), Fail> {
+    // Instructions by hand: one for the stack pointer, two for a number, six beside the operands
+    // of an operator, six beside the sum of a call of putchar, two for the exit.
+    check_compiled(&rt, PRINTS_A, 1 + (3 * 2 + 2 * 6 + 6) + 2 + 2)?;
+    check_compiled(&rt, b"int main(void){return 256 + 3;}", 1 + (2 * 2 + 6) + 2)?;
+    check_compiled(
+        &rt,
+        b"int main(void){return 2*(3+4)-1;}",
+        1 + (4 * 2 + 3 * 6) + 2,
+    )?;
+    check_compiled(&rt, b"int main(void){}", 1 + 1 + 2)
+}
+
+const ASK_FOR_NOTHING: [&[&str]; 14] = [
+    &[],
+    &["compile", "t.c"],
+    &["compile", "-o", "", "t.c"],
+    &["compile", "-o", "o", "-t.c"],
+    &["compile", "-o", "o", "t.c", "t.c"],
+    &["run"],
+    &["run", "-o"],
+    &["run", "o", "o"],
+    &["run", "--steps", "o"],
+    &["run", "--steps", "0", "o"],
+    &["run", "--steps", "1000000000000000001", "o"],
+    &["run", "--steps", "000000000000000000001", "o"],
+    &["run", "--steps", "x", "o"],
+    &["run", "--steps", "+1", "o"],
+];
+
+#[test]
+fn words_that_ask_for_nothing_get_the_usage_text(rt: HostRuntime) -> Result<(), Fail> {
+    for words in ASK_FOR_NOTHING {
+        let row = refused(words, PRINTS_A, NONE, 120, USAGE);
+        check(&rt, &row)?;
+    }
+    Ok(())
+}
+
+#[test]
+fn a_text_that_is_not_thin_is_not_built(rt: HostRuntime) -> Result<(), Fail> {
+    let long = vec![in rt.alloc(); b' '; 65_537]?;
+    for text in [b"int main(void){int x;}".as_slice(), b"".as_slice(), &long] {
+        check(
+            &rt,
+            &refused(&WORDS, text, NONE, 122, b"layc: t.c: form not built yet\n"),
+        )?;
+    }
+    Ok(())
+}
+
+#[test]
+fn a_failed_read_names_the_file(rt: HostRuntime) -> Result<(), Fail> {
+    let fails = Fails { host: &[1], ..NONE };
+    check(
+        &rt,
+        &refused(&WORDS, PRINTS_A, fails, 121, b"layc: cannot read t.c\n"),
+    )
+}
+
+#[test]
+fn a_failed_write_of_the_file_leaves_a_first_part_and_no_report(
+    rt: HostRuntime,
+) -> Result<(), Fail> {
+    let fails = Fails { host: &[2], ..NONE };
+    let row = Row {
+        file: b"\x7FELF",
+        length: (0x3000 + 256) / 2,
+        ..refused(&WORDS, PRINTS_A, fails, 121, b"layc: write failed\n")
+    };
+    check(&rt, &row)
+}
+
+#[test]
+fn a_failed_write_of_the_report_leaves_the_file_whole(rt: HostRuntime) -> Result<(), Fail> {
+    let fails = Fails { out: &[1], ..NONE };
+    let row = Row {
+        out: b"layc re",
+        file: b"\x7FELF",
+        length: 0x3000 + 256,
+        ..refused(&WORDS, PRINTS_A, fails, 121, b"layc: write failed\n")
+    };
+    check(&rt, &row)
+}
+
+#[test]
+fn a_fault_of_err_changes_no_outcome(rt: HostRuntime) -> Result<(), Fail> {
+    let fails = Fails { err: &[1], ..NONE };
+    // The text is put in pieces, of which the first is `layc: `; half of it is kept.
+    check(&rt, &refused(&WORDS, b"int x;", fails, 122, b"lay"))
+}

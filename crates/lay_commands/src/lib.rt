@@ -1,0 +1,15 @@
+//! The commands of `layc`, over any host and any streams: from the words after the program's name to an
+//! outcome and its exit status.
+//!
+//! It joins the layers below it and adds no rule of C, of RISC-V or of ELF. The contract of `layc` says of
+//! every outcome when it comes and what it leaves; the definitions that it cites are in `specs/`.
+#![tactic(auto)]
+
+mod compiling;
+mod outcome;
+mod running;
+mod top;
+mod words;
+
+pub use outcome::{Outcome, status_of};
+pub use top::layc;

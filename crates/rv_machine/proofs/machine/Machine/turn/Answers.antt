@@ -1,9 +1,0 @@
-use Rattle.std.proofs.Common.{◌≡◌, Some, sym, subst}
-use Rattle.rv_isa.specs.declared.instruction.Inst.TheVariants.{Ecall}
-use Rattle.rv_isa.specs.Decoding.{decoded}
-use Rattle.rv_isa.specs.Memory.{word_at}
-use Rattle.rv_isa.specs.Step.{State}
-use Rattle.rv_machine.proofs.machine.Machine.turn.Goals as goal
-
-pub call-requires : goal.call-requires
-call-requires g c = subst (λ (s : State). decoded (word_at s.memory s.pc) ≡ Some Ecall) (sym c.in-Calls.ensures.moved.2) c.in-Calls.ensures.moved.0
