@@ -17,6 +17,7 @@ pub mod QuotedWords
 pub mod Quotes
 pub mod RunLengths
 pub mod Scans
+pub mod StringBytes
 pub mod Strings
 pub mod TokenSays
 pub mod TokenWords

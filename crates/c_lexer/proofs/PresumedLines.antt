@@ -15,7 +15,8 @@ use Rattle.c_lexer.specs.DirectiveScan.{directive_in}
 use Rattle.c_lexer.specs.Parts.{Part, text_of, Stands, AreParts, begins_line_after_part}
 use Rattle.c_lexer.specs.Lexes.{Lexes}
 use Rattle.c_lexer.specs.Scanning.{part_at, begins_line_after_kind}
-use Rattle.c_lexer.specs.Presuming.{first_lines, after_byte, after_directive, Moves, Presumes, IsPresumed, with_directive, after_part}
+use Rattle.c_lexer.specs.Presuming.{first_lines, after_byte, after_directive, Moves, Presumes, IsPresumed}
+use Rattle.c_lexer.specs.PresumingScan.{with_directive, after_part}
 use Rattle.c_lexer.proofs.DirectiveLines.{directive_read, directive_taken}
 use Rattle.c_lexer.proofs.Exactness.{PartsAreExact}
 use Rattle.c_lexer.proofs.WholeTexts.{line_after, part_long}
@@ -113,7 +114,7 @@ part_small at limit P.Comment text lines l s = bytes_small text limit lines s
 part_small at limit P.LineComment text lines l s = bytes_small text limit lines s
 part_small at limit (P.Word shape) text lines l s = bytes_small text limit lines s
 
--- ---- turns of the loop over the parts before the place
+-- ---- steps of the loop over the parts before the place
 
 -- the rest has parts, after which stands what is presumed of the end of the whole
 pub record LeadsOn (whole : List ℕ) (at : ℕ) (begins_line : Bool) (rest : List ℕ) (lines : Lines) : Type 0 where
@@ -128,7 +129,7 @@ leads_begins whole tokens l = record {
   parts = l.parts;
   is = l.bytes_are;
   are_parts = l.are_parts;
-  leads = record { parts = l.parts; following = after_parts 0 l.parts first_lines; bytes_are = l.bytes_are; are_parts = l.are_parts; presumes = presumes_read l.parts 0 true first_lines l.are_parts; here = refl };
+  leads = record { parts = l.parts; last = after_parts 0 l.parts first_lines; bytes_are = l.bytes_are; are_parts = l.are_parts; presumes = presumes_read l.parts 0 true first_lines l.are_parts; here = refl };
   small = record { here = omega arith; next = omega arith };
 }
 
@@ -146,13 +147,13 @@ leads_after p whole at begins_line lines part parts a leads small = record {
 leads_over : (p : PartsAreExact) (whole : List ℕ) (at : ℕ) (begins_line : Bool) (rest : List ℕ) (lines : Lines) (parts : List Part) → rest ≡ text_of parts → AreParts begins_line parts [] → IsPresumed whole (after_parts at parts lines).here → AreSmall (2147483647 + at) lines → (kind : PartKind) (size : ℕ) → part_at begins_line rest ≡ Ok (kind, size) → 0 < length rest → LeadsOn whole (at + size) (begins_line_after_kind begins_line kind (take size rest)) (drop size rest) (after_part at kind (take size rest) lines)
 leads_over p whole at begins_line rest lines [] is a leads small kind size e h = absurd (omega (arith, ap length is))
 leads_over p whole at begins_line rest lines (part ∷ parts) is a leads small kind size e h =
-    let following = text_of parts in
-    let read = ap (part_at begins_line) (is ∙ ap (λ l. part.text ++ l) (sym (append-nil following))) ∙ p.part_read begins_line part.kind part.text (following ++ []) a.0 in
+    let more = text_of parts in
+    let read = ap (part_at begins_line) (is ∙ ap (λ l. part.text ++ l) (sym (append-nil more))) ∙ p.part_read begins_line part.kind part.text (more ++ []) a.0 in
     let pairs = same_answer _ (kind, size) (part.kind, length part.text) e read in
     let kinds : kind ≡ part.kind = ap (λ z. z.0) pairs in
     let sizes : size ≡ length part.text = ap (λ z. z.1) pairs in
-    let front : take (length part.text) rest ≡ part.text = ap (take (length part.text)) is ∙ take-append_seam part.text following in
-    let back : drop (length part.text) rest ≡ following = ap (drop (length part.text)) is ∙ drop-append_seam part.text following in
+    let front : take (length part.text) rest ≡ part.text = ap (take (length part.text)) is ∙ take-append_seam part.text more in
+    let back : drop (length part.text) rest ≡ more = ap (drop (length part.text)) is ∙ drop-append_seam part.text more in
     rw (kinds, sizes, front, back) (leads_after p whole at begins_line lines part parts a leads small)
 
 pub leads_more : (p : PartsAreExact) (whole : List ℕ) (at : ℕ) (begins_line : Bool) (rest : List ℕ) (lines : Lines) (kind : PartKind) (size : ℕ) → part_at begins_line rest ≡ Ok (kind, size) → 0 < length rest → LeadsOn whole at begins_line rest lines → LeadsOn whole (at + size) (begins_line_after_kind begins_line kind (take size rest)) (drop size rest) (after_part at kind (take size rest) lines)

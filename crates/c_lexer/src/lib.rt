@@ -18,6 +18,7 @@ mod presuming;
 mod quoted;
 mod radix;
 mod runs;
+mod string_bytes;
 mod token;
 mod words;
 
@@ -26,4 +27,5 @@ pub use lexing::{lex, texts_have_one_reading, tokens_have_texts};
 pub use punctuator::Punctuator;
 pub use presumed::Presumed;
 pub use presuming::presumed_at;
+pub use string_bytes::{add_text_bytes, strings_have_bytes, text_bytes};
 pub use token::{Token, TokenKind, Tokens};

@@ -2,7 +2,8 @@
 
 ghost use Rattle.std.specs.Prelude.{◌≡◌, ◌≤◌, ◌<◌, ◌+◌, fold, length, take};
 ghost use Rattle.c_lexer.specs.DirectiveScan.{directive_in};
-ghost use Rattle.c_lexer.specs.Presuming.{first_lines, after_byte, with_directive, after_part, AreTokensBefore, IsPresumed};
+ghost use Rattle.c_lexer.specs.Presuming.{first_lines, after_byte, AreTokensBefore, IsPresumed};
+ghost use Rattle.c_lexer.specs.PresumingScan.{with_directive, after_part};
 
 use crate::directive::Directive;
 use crate::directives::directive_in;
