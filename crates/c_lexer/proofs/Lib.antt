@@ -5,6 +5,7 @@ pub mod DirectiveLines
 pub mod Exactness
 pub mod FirstPunctuators
 pub mod FrontParts
+pub mod FrontTexts
 pub mod FrontWords
 pub mod Items
 pub mod MarkerEnds
@@ -12,6 +13,7 @@ pub mod Markers
 pub mod NumberRuns
 pub mod NumberWords
 pub mod OneReading
+pub mod PlacesOfTokens
 pub mod PresumedLines
 pub mod QuotedWords
 pub mod Quotes

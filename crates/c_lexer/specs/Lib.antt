@@ -17,3 +17,4 @@ pub mod Scanning
 pub mod Readings
 pub mod TokenTexts
 pub mod StringBytes
+pub mod TokenPlaces

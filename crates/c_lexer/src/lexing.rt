@@ -6,6 +6,7 @@ ghost use Rattle.c_lexer.specs.Scanning.{scan, token_in, step_at, ScanGives, fau
 ghost use Rattle.c_lexer.specs.Answers.{LexGives};
 ghost use Rattle.c_lexer.specs.Readings.{HaveOneReading};
 ghost use Rattle.c_lexer.specs.TokenTexts.{TokensHaveTexts};
+ghost use Rattle.c_lexer.specs.TokenPlaces.{TokensHavePlaces};
 
 use crate::fault::{FaultKind, LexFault};
 use crate::part::PartKind;
@@ -121,7 +122,13 @@ pub fn texts_have_one_reading()
     ensures { HaveOneReading }
 {}
 
-/// The bytes of a keyword or of a punctuator are its spelling.
+/// The bytes of a keyword or of a punctuator are its spelling, and those of any other token can be it.
 pub fn tokens_have_texts()
     ensures { TokensHaveTexts }
+{}
+
+/// Of the places of tokens, of the end of the file and of a fault lines are presumed. Tokens come in
+/// order, and are no more than the bytes.
+pub fn tokens_have_places()
+    ensures { TokensHavePlaces }
 {}

@@ -23,7 +23,7 @@ mod token;
 mod words;
 
 pub use fault::LexFault;
-pub use lexing::{lex, texts_have_one_reading, tokens_have_texts};
+pub use lexing::{lex, texts_have_one_reading, tokens_have_places, tokens_have_texts};
 pub use punctuator::Punctuator;
 pub use presumed::Presumed;
 pub use presuming::presumed_at;
