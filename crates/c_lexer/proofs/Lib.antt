@@ -8,13 +8,13 @@ pub mod FrontParts
 pub mod FrontTexts
 pub mod FrontWords
 pub mod Items
+pub mod LinesOfParts
 pub mod MarkerEnds
 pub mod Markers
 pub mod NumberRuns
 pub mod NumberWords
 pub mod OneReading
 pub mod PlacesOfTokens
-pub mod PresumedLines
 pub mod QuotedWords
 pub mod Quotes
 pub mod RunLengths

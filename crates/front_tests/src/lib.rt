@@ -25,6 +25,8 @@ mod statements;
 #[cfg(test)]
 mod stops;
 #[cfg(test)]
+mod string_bytes;
+#[cfg(test)]
 mod tokens;
 #[cfg(test)]
 mod written;
