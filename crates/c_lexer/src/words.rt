@@ -6,9 +6,9 @@ ghost use Rattle.c_lexer.specs.Scanning.{first_punctuator, punctuators, punctuat
 
 use crate::characters::letter;
 use crate::fault::FaultKind;
-use crate::punctuator::Punctuator;
 use crate::numbers::{number_begins, number_of, number_run};
 use crate::part::Shape;
+use crate::punctuator::Punctuator;
 use crate::quoted::{character_of, string_of};
 use crate::runs::name_run;
 use crate::token::TokenKind;
