@@ -19,6 +19,8 @@ mod operator_text;
 #[cfg(test)]
 mod places;
 #[cfg(test)]
+mod presumed_lines;
+#[cfg(test)]
 mod rows;
 #[cfg(test)]
 mod statements;
