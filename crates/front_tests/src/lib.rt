@@ -19,15 +19,11 @@ mod operator_text;
 #[cfg(test)]
 mod places;
 #[cfg(test)]
-mod presumed_lines;
-#[cfg(test)]
 mod rows;
 #[cfg(test)]
 mod statements;
 #[cfg(test)]
 mod stops;
-#[cfg(test)]
-mod string_bytes;
 #[cfg(test)]
 mod tokens;
 #[cfg(test)]
