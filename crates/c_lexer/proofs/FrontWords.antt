@@ -216,8 +216,8 @@ no_more_quoted : (quote other : ℕ) (word more : List ℕ) → quote ≢ 10 →
 no_more_quoted quote other word more n (body, is, i) (next, whole, k) =
     let e : quote ∷ (body ++ quote ∷ more) ≡ other ∷ (next ++ other ∷ []) = ap (λ l. quote ∷ l) (sym (append_assoc body (quote ∷ []) more)) ∙ ap (λ l. l ++ more) (sym is) ∙ whole in
     let same : other ≡ quote = cc in
-    let following : body ++ quote ∷ more ≡ next ++ other ∷ [] = cc in
-    one_close quote body next more n i (subst (λ q. IsInside q false next) same k) (subst (λ q. body ++ quote ∷ more ≡ next ++ q ∷ []) same following)
+    let after : body ++ quote ∷ more ≡ next ++ other ∷ [] = cc in
+    one_close quote body next more n i (subst (λ q. IsInside q false next) same k) (subst (λ q. body ++ quote ∷ more ≡ next ++ q ∷ []) same after)
 
 pub quote_no_line_feed : (quote : ℕ) → IsTrue (quote == 34 || quote == 39) → quote ≢ 10
 quote_no_line_feed quote q e = let k : false ≡ true = subst (λ b. (b == 34 || b == 39) ≡ true) e q in cc

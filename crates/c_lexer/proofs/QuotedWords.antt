@@ -88,7 +88,7 @@ items_taken (suc n) (b ∷ body) values h e =
 -- ---- words
 
 -- what stands between the quotes is found
-body_read : (quote : ℕ) (body word : List ℕ) → word ≡ quote ∷ body ++ quote ∷ [] → body_of word ≡ body
+pub body_read : (quote : ℕ) (body word : List ℕ) → word ≡ quote ∷ body ++ quote ∷ [] → body_of word ≡ body
 body_read quote body word e =
     let size : length word - 2 ≡ length body = let n = ap length e in omega (arith, n, length-append body (quote ∷ [])) in
     ap (λ n. take n (drop 1 word)) size ∙ ap (λ l. take (length body) (drop 1 l)) e ∙ take_at body (quote ∷ []) (length body) refl

@@ -1,4 +1,4 @@
--- Turns of the loop over the characters of a string.
+-- Steps of the loop over the characters of a string.
 use Rattle.std.proofs.Common.{◌≡◌, ◌≤◌, ◌<◌, ℕ, zero, suc, ◌+◌, Bool, true, false, ◌||◌, List, [], ◌∷◌, drop, length, Option, Some, None, ◌==◌, Result, Ok, Err, refl, ap, sym, ◌∙◌, arith, cond}
 use Rattle.std.proofs.lemmas.Option.{same_Some}
 use Rattle.std.specs.List.{list_any}
@@ -40,7 +40,7 @@ pub drop_shorter : (n : ℕ) (b : ℕ) (bytes : List ℕ) → 0 < n → length (
 drop_shorter zero b bytes h = absurd (omega (arith, h))
 drop_shorter (suc n) b bytes h = drop_length n bytes
 
--- more turns than bytes change nothing
+-- more steps than bytes change nothing
 values_enough : (n m : ℕ) (text : List ℕ) → length text ≤ n → length text ≤ m → values_in n text ≡ values_in m text
 values_enough n m [] h k = refl
 values_enough zero m (b ∷ text) h k = absurd (omega (arith, h))
@@ -54,9 +54,9 @@ values_enough (suc n) (suc m) (b ∷ text) h k =
     each (item_at (b ∷ text)) refl
 
 -- the values of a body are those of its first character and of its rest
-values_turn : (text : List ℕ) (y : ℕ × ℕ) → item_at text ≡ Some y → values_in (length text) text ≡ option_map (λ values. y.0 ∷ values) (values_in (length (drop y.1 text)) (drop y.1 text))
-values_turn [] y h = cc
-values_turn (b ∷ text) y h =
+pub values_step : (text : List ℕ) (y : ℕ × ℕ) → item_at text ≡ Some y → values_in (length text) text ≡ option_map (λ values. y.0 ∷ values) (values_in (length (drop y.1 text)) (drop y.1 text))
+values_step [] y h = cc
+values_step (b ∷ text) y h =
     rw h (ap (option_map (λ values. y.0 ∷ values)) (values_enough (length text) (length (drop y.1 (b ∷ text))) (drop y.1 (b ∷ text)) (drop_shorter y.1 b text (item_takes (b ∷ text) y h)) (omega arith)))
 
 or_apart : (a b c : Bool) → (a || (b || c)) ≡ ((a || b) || c)
@@ -68,7 +68,7 @@ after_one wide value None = refl
 after_one wide value (Some values) = rw (or_apart wide (is_too_great value) (list_any is_too_great values)) refl
 
 pub text_kept : (wide now : Bool) (text rest : List ℕ) (value size : ℕ) (found : Result TokenKind FaultKind) → now ≡ (wide || is_too_great value) → rest ≡ drop size text → item_at text ≡ Some (value, size) → text_after wide (values_in (length text) text) ≡ found → text_after now (values_in (length rest) rest) ≡ found
-text_kept wide now text rest value size found w r h e = rw (w, r) (sym (after_one wide value (values_in (length (drop size text)) (drop size text))) ∙ sym (ap (text_after wide) (values_turn text (value, size) h)) ∙ e)
+text_kept wide now text rest value size found w r h e = rw (w, r) (sym (after_one wide value (values_in (length (drop size text)) (drop size text))) ∙ sym (ap (text_after wide) (values_step text (value, size) h)) ∙ e)
 
 pub text_stops : (wide : Bool) (text : List ℕ) → item_at text ≡ None → 0 < length text → text_after wide (values_in (length text) text) ≡ Err BadLiteral
 text_stops wide [] h k = absurd (omega (arith, k))

@@ -15,10 +15,26 @@ use Rattle.c_lexer.specs.Lexes.{AreTokens, AreTokensFrom, Lexes}
 use Rattle.c_lexer.specs.TokenTexts.{token_text, IsTextOf, HaveTexts, TokensHaveTexts}
 
 its_text : (shape : Shape) (text : List ℕ) (kind : TokenKind) → IsWord shape text → IsToken shape text kind → IsTextOf kind text
-its_text shape text K.Name w h = tt
-its_text shape text (K.Number n kind) w h = tt
-its_text shape text (K.Character n) w h = tt
-its_text shape text K.Text w h = tt
+its_text S.Name text K.Name w h = h
+its_text S.Number text K.Name w h = absurd h
+its_text S.Character text K.Name w h = absurd h
+its_text S.Text text K.Name w h = absurd h
+its_text (S.Punctuator punctuator) text K.Name w h = absurd h
+its_text S.Name text (K.Number n kind) w h = absurd h
+its_text S.Number text (K.Number n kind) w h = h
+its_text S.Character text (K.Number n kind) w h = absurd h
+its_text S.Text text (K.Number n kind) w h = absurd h
+its_text (S.Punctuator punctuator) text (K.Number n kind) w h = absurd h
+its_text S.Name text (K.Character n) w h = absurd h
+its_text S.Number text (K.Character n) w h = absurd h
+its_text S.Character text (K.Character n) w h = h
+its_text S.Text text (K.Character n) w h = absurd h
+its_text (S.Punctuator punctuator) text (K.Character n) w h = absurd h
+its_text S.Name text K.Text w h = absurd h
+its_text S.Number text K.Text w h = absurd h
+its_text S.Character text K.Text w h = absurd h
+its_text S.Text text K.Text w h = h
+its_text (S.Punctuator punctuator) text K.Text w h = absurd h
 its_text S.Name text (K.Keyword keyword) w h = h
 its_text S.Number text (K.Keyword keyword) w h = absurd h
 its_text S.Character text (K.Keyword keyword) w h = absurd h

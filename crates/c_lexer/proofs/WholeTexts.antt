@@ -4,7 +4,7 @@ use Rattle.std.proofs.Math.Seq.{take-append_seam, drop-append_seam}
 use Rattle.std.specs.Option.{option_to_list}
 use Rattle.c_lexer.specs.declared.fault.FaultKind.{FaultKind}
 use Rattle.c_lexer.specs.declared.fault.FaultKind.TheVariants as F
-use Rattle.c_lexer.specs.declared.lexing.Turn.{Turn}
+use Rattle.c_lexer.specs.declared.lexing.Step.{Step}
 use Rattle.c_lexer.specs.declared.part.PartKind.{PartKind}
 use Rattle.c_lexer.specs.declared.part.PartKind.TheVariants as P
 use Rattle.c_lexer.specs.declared.part.Shape.{Shape}
@@ -13,7 +13,7 @@ use Rattle.c_lexer.specs.declared.token.TokenKind.{TokenKind}
 use Rattle.c_lexer.specs.Words.{IsWord, IsToken}
 use Rattle.c_lexer.specs.Parts.{Part, text_of, Stands, AreParts, begins_line_after_part, begins_line_after_parts}
 use Rattle.c_lexer.specs.Lexes.{AreTokensFrom, AreTokens, Lexes, IsUnclosed, HasFault, LexFaultAt}
-use Rattle.c_lexer.specs.Scanning.{part_at, token_of, begins_line_after_kind, token_in, turn_with, turn_over, turn_at, Scanned, with_token, with_turn, scan}
+use Rattle.c_lexer.specs.Scanning.{part_at, token_of, begins_line_after_kind, token_in, step_with, step_over, step_at, Scanned, with_token, with_step, scan}
 use Rattle.c_lexer.proofs.Exactness.{PartsAreExact, IsFaulty, TokensAreExact}
 use Rattle.c_lexer.proofs.Scans.{with_front, front_nothing}
 use Rattle.c_lexer.proofs.Strings.{drop_shorter}
@@ -27,29 +27,29 @@ line_after begins_line P.LineComment text rest s = refl
 line_after begins_line P.Directive text rest s = refl
 line_after begins_line (P.Word shape) text rest s = refl
 
--- what a turn over the part gives
-part_turn : (p : PartsAreExact) (at : ℕ) (begins_line : Bool) (part : Part) (rest : List ℕ) → Stands begins_line part.kind part.text rest → turn_at at begins_line (part.text ++ rest) ≡ turn_with (length part.text) (begins_line_after_part begins_line part) (token_in at part.kind part.text)
-unfolding turn_at
-part_turn p at begins_line part rest s =
-    ap (turn_over at begins_line (part.text ++ rest)) (p.part_read begins_line part.kind part.text rest s)
-    ∙ ap (λ t. turn_with (length part.text) (begins_line_after_kind begins_line part.kind t) (token_in at part.kind t)) (take-append_seam part.text rest)
-    ∙ ap (λ b. turn_with (length part.text) b (token_in at part.kind part.text)) (line_after begins_line part.kind part.text rest s)
+-- what a step over the part gives
+part_step : (p : PartsAreExact) (at : ℕ) (begins_line : Bool) (part : Part) (rest : List ℕ) → Stands begins_line part.kind part.text rest → step_at at begins_line (part.text ++ rest) ≡ step_with (length part.text) (begins_line_after_part begins_line part) (token_in at part.kind part.text)
+unfolding step_at
+part_step p at begins_line part rest s =
+    ap (step_over at begins_line (part.text ++ rest)) (p.part_read begins_line part.kind part.text rest s)
+    ∙ ap (λ t. step_with (length part.text) (begins_line_after_kind begins_line part.kind t) (token_in at part.kind t)) (take-append_seam part.text rest)
+    ∙ ap (λ b. step_with (length part.text) b (token_in at part.kind part.text)) (line_after begins_line part.kind part.text rest s)
 
 -- a part has a byte
 pub part_long : (p : PartsAreExact) (begins_line : Bool) (part : Part) (rest : List ℕ) → Stands begins_line part.kind part.text rest → 0 < length part.text
 part_long p begins_line part rest s =
     let t = p.part_taken begins_line (part.text ++ rest) part.kind (length part.text) (p.part_read begins_line part.kind part.text rest s) in t.4
 
-scan_turn : (n at : ℕ) (begins_line : Bool) (bytes : List ℕ) (turn : Turn) → 0 < length bytes → turn_at at begins_line bytes ≡ Ok turn → scan (suc n) at begins_line bytes ≡ with_token turn.found (scan n (at + turn.size) turn.begins_line (drop turn.size bytes))
+scan_step : (n at : ℕ) (begins_line : Bool) (bytes : List ℕ) (step : Step) → 0 < length bytes → step_at at begins_line bytes ≡ Ok step → scan (suc n) at begins_line bytes ≡ with_token step.found (scan n (at + step.size) step.begins_line (drop step.size bytes))
 unfolding scan
-scan_turn n at begins_line [] turn h e = absurd (omega arith)
-scan_turn n at begins_line (b ∷ bytes) turn h e = ap (λ r. with_turn at r (λ turn. scan n (at + turn.size) turn.begins_line (drop turn.size (b ∷ bytes)))) e
+scan_step n at begins_line [] step h e = absurd (omega arith)
+scan_step n at begins_line (b ∷ bytes) step h e = ap (λ r. with_step at r (λ step. scan n (at + step.size) step.begins_line (drop step.size (b ∷ bytes)))) e
 
-scan_stop : (n at : ℕ) (begins_line : Bool) (bytes : List ℕ) (kind : FaultKind) → 0 < length bytes → length bytes ≤ n → turn_at at begins_line bytes ≡ Err kind → scan n at begins_line bytes ≡ Err (kind, at)
+scan_stop : (n at : ℕ) (begins_line : Bool) (bytes : List ℕ) (kind : FaultKind) → 0 < length bytes → length bytes ≤ n → step_at at begins_line bytes ≡ Err kind → scan n at begins_line bytes ≡ Err (kind, at)
 unfolding scan
 scan_stop n at begins_line [] kind h l e = absurd (omega arith)
 scan_stop zero at begins_line (b ∷ bytes) kind h l e = absurd (omega arith)
-scan_stop (suc n) at begins_line (b ∷ bytes) kind h l e = ap (λ r. with_turn at r (λ turn. scan n (at + turn.size) turn.begins_line (drop turn.size (b ∷ bytes)))) e
+scan_stop (suc n) at begins_line (b ∷ bytes) kind h l e = ap (λ r. with_step at r (λ step. scan n (at + step.size) step.begins_line (drop step.size (b ∷ bytes)))) e
 
 scan_end : (n at : ℕ) (begins_line : Bool) → scan n at begins_line [] ≡ Ok []
 unfolding scan
@@ -58,9 +58,9 @@ scan_end (suc n) at begins_line = refl
 
 part_scan : (p : PartsAreExact) (n at : ℕ) (begins_line : Bool) (part : Part) (rest : List ℕ) (found : Option Token) → Stands begins_line part.kind part.text rest → token_in at part.kind part.text ≡ Ok found → scan (suc n) at begins_line (part.text ++ rest) ≡ with_token found (scan n (at + length part.text) (begins_line_after_part begins_line part) rest)
 part_scan p n at begins_line part rest found s is =
-    let turn : Turn = record { found = found; size = length part.text; begins_line = begins_line_after_part begins_line part } in
-    scan_turn n at begins_line (part.text ++ rest) turn (omega (arith, length-append part.text rest, part_long p begins_line part rest s))
-    (part_turn p at begins_line part rest s ∙ ap (turn_with (length part.text) (begins_line_after_part begins_line part)) is)
+    let step : Step = record { found = found; size = length part.text; begins_line = begins_line_after_part begins_line part } in
+    scan_step n at begins_line (part.text ++ rest) step (omega (arith, length-append part.text rest, part_long p begins_line part rest s))
+    (part_step p at begins_line part rest s ∙ ap (step_with (length part.text) (begins_line_after_part begins_line part)) is)
     ∙ ap (λ l. with_token found (scan n (at + length part.text) (begins_line_after_part begins_line part) l)) (drop-append_seam part.text rest)
 
 -- ---- parts are read
@@ -93,32 +93,32 @@ token_front None tokens scanned = refl
 token_front (Some token) tokens (Ok more) = refl
 token_front (Some token) tokens (Err fault) = refl
 
--- the scan comes to what stands after the parts, with turns enough for it
+-- the scan comes to what stands after the parts, with steps enough for it
 record Comes (n at : ℕ) (begins_line : Bool) (parts : List Part) (rest : List ℕ) (tokens : List Token) : Type 0 where
-  turns : ℕ
-  enough : length rest ≤ turns
-  is : scan n at begins_line (text_of parts ++ rest) ≡ with_front tokens (scan turns (at + length (text_of parts)) (begins_line_after_parts begins_line parts) rest)
+  steps : ℕ
+  enough : length rest ≤ steps
+  is : scan n at begins_line (text_of parts ++ rest) ≡ with_front tokens (scan steps (at + length (text_of parts)) (begins_line_after_parts begins_line parts) rest)
 
 comes_more : (p : PartsAreExact) (n at : ℕ) (begins_line : Bool) (part : Part) (parts : List Part) (rest : List ℕ) (tokens : List Token) (GoOn : List Token → Type 0) → Stands begins_line part.kind part.text (text_of parts ++ rest) → (f : First at part.kind part.text GoOn tokens) → Comes n (at + length part.text) (begins_line_after_part begins_line part) parts rest f.more → Comes (suc n) at begins_line (part ∷ parts) rest tokens
 comes_more p n at begins_line part parts rest tokens GoOn s f c =
     let place : at + length part.text + length (text_of parts) ≡ at + length (part.text ++ text_of parts) = omega (arith, length-append part.text (text_of parts)) in
     record {
-      turns = c.turns;
+      steps = c.steps;
       enough = c.enough;
       is =
           ap (scan (suc n) at begins_line) (append_assoc part.text (text_of parts) rest)
           ∙ part_scan p n at begins_line part (text_of parts ++ rest) f.found s f.is
           ∙ ap (with_token f.found) c.is
           ∙ token_front f.found f.more _
-          ∙ ap (λ l. with_front l (scan c.turns (at + length part.text + length (text_of parts)) (begins_line_after_parts begins_line (part ∷ parts)) rest)) (sym f.tokens_are)
-          ∙ ap (λ k. with_front tokens (scan c.turns k (begins_line_after_parts begins_line (part ∷ parts)) rest)) place;
+          ∙ ap (λ l. with_front l (scan c.steps (at + length part.text + length (text_of parts)) (begins_line_after_parts begins_line (part ∷ parts)) rest)) (sym f.tokens_are)
+          ∙ ap (λ k. with_front tokens (scan c.steps k (begins_line_after_parts begins_line (part ∷ parts)) rest)) place;
     }
 
 append_sizes : (a b c : List ℕ) → length ((a ++ b) ++ c) ≡ length a + length (b ++ c)
 append_sizes a b c = omega (arith, length-append a b, length-append (a ++ b) c, length-append b c)
 
 comes : (p : PartsAreExact) (t : TokensAreExact) (parts : List Part) (n at : ℕ) (begins_line : Bool) (rest : List ℕ) (tokens : List Token) → AreParts begins_line parts rest → AreTokens at parts tokens → length (text_of parts ++ rest) ≤ n → Comes n at begins_line parts rest tokens
-comes p t [] n at begins_line rest tokens a k l = record { turns = n; enough = l; is = rw (k, add-zero at) (sym (front_nothing (scan n at begins_line rest))) }
+comes p t [] n at begins_line rest tokens a k l = record { steps = n; enough = l; is = rw (k, add-zero at) (sym (front_nothing (scan n at begins_line rest))) }
 comes p t (part ∷ parts) zero at begins_line rest tokens a k l =
     absurd (omega (arith, length-append part.text (text_of parts), length-append (part.text ++ text_of parts) rest, part_long p begins_line part (text_of parts ++ rest) a.0))
 comes p t (part ∷ parts) (suc n) at begins_line rest tokens a k l =
@@ -133,7 +133,7 @@ pub lexes_read : (p : PartsAreExact) (t : TokensAreExact) (n : ℕ) (bytes : Lis
 lexes_read p t n bytes tokens l h =
     let whole : bytes ≡ text_of l.parts ++ [] = l.bytes_are ∙ sym (append-nil (text_of l.parts)) in
     let c = comes p t l.parts n 0 true [] tokens l.are_parts l.are_tokens (rw whole at h) in
-    ap (scan n 0 true) whole ∙ c.is ∙ ap (with_front tokens) (scan_end c.turns _ _) ∙ ap Ok (append-nil tokens)
+    ap (scan n 0 true) whole ∙ c.is ∙ ap (with_front tokens) (scan_end c.steps _ _) ∙ ap Ok (append-nil tokens)
 
 not_empty : (bytes : List ℕ) → (bytes ≡ [] → ⊥) → 0 < length bytes
 not_empty [] h = absurd (h refl)
@@ -143,13 +143,13 @@ unclosed_long : (bytes : List ℕ) → IsUnclosed bytes → 0 < length bytes
 unclosed_long [] h = absurd h
 unclosed_long (b ∷ bytes) h = omega arith
 
--- a turn stops at a fault, which has a byte
+-- a step stops at a fault, which has a byte
 abbrev IsStop : ℕ → Bool → List ℕ → FaultKind → Type 0
-IsStop at begins_line bytes kind = (0 < length bytes) × (turn_at at begins_line bytes ≡ Err kind)
+IsStop at begins_line bytes kind = (0 < length bytes) × (step_at at begins_line bytes ≡ Err kind)
 
-part_stop : (at : ℕ) (begins_line : Bool) (bytes : List ℕ) (kind : FaultKind) → part_at begins_line bytes ≡ Err kind → turn_at at begins_line bytes ≡ Err kind
-unfolding turn_at
-part_stop at begins_line bytes kind e = ap (turn_over at begins_line bytes) e
+part_stop : (at : ℕ) (begins_line : Bool) (bytes : List ℕ) (kind : FaultKind) → part_at begins_line bytes ≡ Err kind → step_at at begins_line bytes ≡ Err kind
+unfolding step_at
+part_stop at begins_line bytes kind e = ap (step_over at begins_line bytes) e
 
 word_fault : (at : ℕ) (shape : Shape) (text : List ℕ) (kind : FaultKind) → token_of shape text ≡ Err kind → token_in at (P.Word shape) text ≡ Err kind
 word_fault at shape text kind e = rw e refl
@@ -158,7 +158,7 @@ word_stop : (p : PartsAreExact) (at : ℕ) (begins_line : Bool) (shape : Shape) 
 word_stop p at begins_line shape bytes word rest kind is s e =
     let part : Part = record { kind = P.Word shape; text = word } in (
       omega (arith, ap length is, length-append word rest, part_long p begins_line part rest s),
-      ap (turn_at at begins_line) is ∙ part_turn p at begins_line part rest s ∙ ap (turn_with (length word) false) (word_fault at shape word kind e),
+      ap (step_at at begins_line) is ∙ part_step p at begins_line part rest s ∙ ap (step_with (length word) false) (word_fault at shape word kind e),
     )
 
 fault_stop : (p : PartsAreExact) (t : TokensAreExact) (kind : FaultKind) (at : ℕ) (begins_line : Bool) (bytes : List ℕ) → HasFault kind begins_line bytes → IsStop at begins_line bytes kind
@@ -173,24 +173,24 @@ fault_read p t n bytes kind at f h =
     let place : at ≡ 0 + length (text_of f.parts) = omega (arith, f.place) in
     let stop = fault_stop p t kind (0 + length (text_of f.parts)) (begins_line_after_parts true f.parts) f.rest f.fault in
     ap (scan n 0 true) f.bytes_are ∙ c.is
-    ∙ ap (with_front f.tokens) (scan_stop c.turns _ _ f.rest kind stop.0 c.enough stop.1)
+    ∙ ap (with_front f.tokens) (scan_stop c.steps _ _ f.rest kind stop.0 c.enough stop.1)
     ∙ ap (λ k. Err (kind, k)) (sym place)
 
 -- ---- what one part gives is taken
 
--- the part that a turn goes over
-record Turned (at : ℕ) (begins_line : Bool) (bytes : List ℕ) (turn : Turn) : Type 0 where
+-- the part that a step goes over
+record SteppedOver (at : ℕ) (begins_line : Bool) (bytes : List ℕ) (step : Step) : Type 0 where
   part : Part
   rest : List ℕ
   is : bytes ≡ part.text ++ rest
   stands : Stands begins_line part.kind part.text rest
-  found : token_in at part.kind part.text ≡ Ok turn.found
-  size : turn.size ≡ length part.text
-  after : turn.begins_line ≡ begins_line_after_part begins_line part
+  found : token_in at part.kind part.text ≡ Ok step.found
+  size : step.size ≡ length part.text
+  after : step.begins_line ≡ begins_line_after_part begins_line part
 
-abbrev TurnSays : ℕ → Bool → List ℕ → Result Turn FaultKind → Type 0
-TurnSays at begins_line bytes (Ok turn) = Turned at begins_line bytes turn
-TurnSays at begins_line bytes (Err kind) = HasFault kind begins_line bytes
+abbrev StepSays : ℕ → Bool → List ℕ → Result Step FaultKind → Type 0
+StepSays at begins_line bytes (Ok step) = SteppedOver at begins_line bytes step
+StepSays at begins_line bytes (Err kind) = HasFault kind begins_line bytes
 
 word_found : (at : ℕ) (shape : Shape) (text : List ℕ) (kind : TokenKind) → token_of shape text ≡ Ok kind → token_in at (P.Word shape) text ≡ Ok (Some (record { kind = kind; from = at; to = at + length text }))
 word_found at shape text kind e = rw e refl
@@ -217,17 +217,17 @@ part_refused t at begins_line P.LineComment text rest fault s h = cc
 part_refused t at begins_line P.Directive text rest fault s h = cc
 
 -- what is found in a part
-found_says : (t : TokensAreExact) (at : ℕ) (begins_line : Bool) (part : Part) (rest : List ℕ) (r : Result (Option Token) FaultKind) → Stands begins_line part.kind part.text rest → token_in at part.kind part.text ≡ r → TurnSays at begins_line (part.text ++ rest) (turn_with (length part.text) (begins_line_after_part begins_line part) r)
+found_says : (t : TokensAreExact) (at : ℕ) (begins_line : Bool) (part : Part) (rest : List ℕ) (r : Result (Option Token) FaultKind) → Stands begins_line part.kind part.text rest → token_in at part.kind part.text ≡ r → StepSays at begins_line (part.text ++ rest) (step_with (length part.text) (begins_line_after_part begins_line part) r)
 found_says t at begins_line part rest (Ok found) s e = record { part = part; rest = rest; is = refl; stands = s; found = e; size = refl; after = refl }
 found_says t at begins_line part rest (Err fault) s e = part_refused t at begins_line part.kind part.text rest fault s e
 
-turn_says : (p : PartsAreExact) (t : TokensAreExact) (at : ℕ) (begins_line : Bool) (bytes : List ℕ) (r : Result (PartKind × ℕ) FaultKind) → (bytes ≡ [] → ⊥) → part_at begins_line bytes ≡ r → TurnSays at begins_line bytes (turn_at at begins_line bytes)
-turn_says p t at begins_line bytes (Err fault) some e = rw (part_stop at begins_line bytes fault e) (p.fault_taken begins_line bytes fault some e)
-turn_says p t at begins_line bytes (Ok y) some e =
+step_says : (p : PartsAreExact) (t : TokensAreExact) (at : ℕ) (begins_line : Bool) (bytes : List ℕ) (r : Result (PartKind × ℕ) FaultKind) → (bytes ≡ [] → ⊥) → part_at begins_line bytes ≡ r → StepSays at begins_line bytes (step_at at begins_line bytes)
+step_says p t at begins_line bytes (Err fault) some e = rw (part_stop at begins_line bytes fault e) (p.fault_taken begins_line bytes fault some e)
+step_says p t at begins_line bytes (Ok y) some e =
     let k = p.part_taken begins_line bytes y.0 y.1 e in
     let part : Part = record { kind = y.0; text = k.0 } in
-    subst (λ l. TurnSays at begins_line l (turn_at at begins_line l)) (sym k.2)
-    (rw (part_turn p at begins_line part k.1 k.5) (found_says t at begins_line part k.1 (token_in at y.0 k.0) k.5 refl))
+    subst (λ l. StepSays at begins_line l (step_at at begins_line l)) (sym k.2)
+    (rw (part_step p at begins_line part k.1 k.5) (found_says t at begins_line part k.1 (token_in at y.0 k.0) k.5 refl))
 
 -- ---- what the scan answers is taken
 
@@ -268,22 +268,22 @@ part_tokens t at begins_line P.Comment text rest found GoOn more s h g = let sam
 part_tokens t at begins_line P.LineComment text rest found GoOn more s h g = let same : found ≡ None = cc in rw same g
 part_tokens t at begins_line P.Directive text rest found GoOn more s h g = let same : found ≡ None = cc in rw same g
 
-reads_more : (t : TokensAreExact) (at : ℕ) (begins_line : Bool) (bytes : List ℕ) (turn : Turn) (tokens : List Token) (u : Turned at begins_line bytes turn) → Reads (at + length u.part.text) (begins_line_after_part begins_line u.part) u.rest tokens → Reads at begins_line bytes (option_to_list turn.found ++ tokens)
-reads_more t at begins_line bytes turn tokens u r = record {
+reads_more : (t : TokensAreExact) (at : ℕ) (begins_line : Bool) (bytes : List ℕ) (step : Step) (tokens : List Token) (u : SteppedOver at begins_line bytes step) → Reads (at + length u.part.text) (begins_line_after_part begins_line u.part) u.rest tokens → Reads at begins_line bytes (option_to_list step.found ++ tokens)
+reads_more t at begins_line bytes step tokens u r = record {
   parts = u.part ∷ r.parts;
   is = u.is ∙ ap (λ l. u.part.text ++ l) r.is;
   are_parts = (subst (Stands begins_line u.part.kind u.part.text) (r.is ∙ sym (append-nil (text_of r.parts))) u.stands, r.are_parts);
-  are_tokens = part_tokens t at begins_line u.part.kind u.part.text u.rest turn.found (AreTokens (at + length u.part.text) r.parts) tokens u.stands u.found r.are_tokens;
+  are_tokens = part_tokens t at begins_line u.part.kind u.part.text u.rest step.found (AreTokens (at + length u.part.text) r.parts) tokens u.stands u.found r.are_tokens;
 }
 
-stops_more : (t : TokensAreExact) (at : ℕ) (begins_line : Bool) (bytes : List ℕ) (turn : Turn) (kind : FaultKind) (place : ℕ) (u : Turned at begins_line bytes turn) → Stops (at + length u.part.text) (begins_line_after_part begins_line u.part) u.rest kind place → Stops at begins_line bytes kind place
-stops_more t at begins_line bytes turn kind place u r = record {
+stops_more : (t : TokensAreExact) (at : ℕ) (begins_line : Bool) (bytes : List ℕ) (step : Step) (kind : FaultKind) (place : ℕ) (u : SteppedOver at begins_line bytes step) → Stops (at + length u.part.text) (begins_line_after_part begins_line u.part) u.rest kind place → Stops at begins_line bytes kind place
+stops_more t at begins_line bytes step kind place u r = record {
   parts = u.part ∷ r.parts;
-  tokens = option_to_list turn.found ++ r.tokens;
+  tokens = option_to_list step.found ++ r.tokens;
   rest = r.rest;
   is = u.is ∙ ap (λ l. u.part.text ++ l) r.is ∙ sym (append_assoc u.part.text (text_of r.parts) r.rest);
   are_parts = (subst (Stands begins_line u.part.kind u.part.text) r.is u.stands, r.are_parts);
-  are_tokens = part_tokens t at begins_line u.part.kind u.part.text u.rest turn.found (AreTokens (at + length u.part.text) r.parts) r.tokens u.stands u.found r.are_tokens;
+  are_tokens = part_tokens t at begins_line u.part.kind u.part.text u.rest step.found (AreTokens (at + length u.part.text) r.parts) r.tokens u.stands u.found r.are_tokens;
   place_is = omega (arith, r.place_is, length-append u.part.text (text_of r.parts));
   fault = r.fault;
 }
@@ -297,15 +297,15 @@ no_token None fault = refl
 no_token (Some token) fault = refl
 
 -- what is said after a part, as said from its beginning
-after_part : (t : TokensAreExact) (at : ℕ) (begins_line : Bool) (bytes : List ℕ) (turn : Turn) (scanned : Scanned) (u : Turned at begins_line bytes turn) → Says (at + length u.part.text) (begins_line_after_part begins_line u.part) u.rest scanned → Says at begins_line bytes (with_token turn.found scanned)
-after_part t at begins_line bytes turn (Ok tokens) u r = rw token_or_not (reads_more t at begins_line bytes turn tokens u r)
-after_part t at begins_line bytes turn (Err fault) u r = rw no_token (stops_more t at begins_line bytes turn fault.0 fault.1 u r)
+after_part : (t : TokensAreExact) (at : ℕ) (begins_line : Bool) (bytes : List ℕ) (step : Step) (scanned : Scanned) (u : SteppedOver at begins_line bytes step) → Says (at + length u.part.text) (begins_line_after_part begins_line u.part) u.rest scanned → Says at begins_line bytes (with_token step.found scanned)
+after_part t at begins_line bytes step (Ok tokens) u r = rw token_or_not (reads_more t at begins_line bytes step tokens u r)
+after_part t at begins_line bytes step (Err fault) u r = rw no_token (stops_more t at begins_line bytes step fault.0 fault.1 u r)
 
-with_turn_says : (t : TokensAreExact) (at : ℕ) (begins_line : Bool) (bytes : List ℕ) (r : Result Turn FaultKind) (more : Turn → Scanned) → TurnSays at begins_line bytes r → ((turn : Turn) → Turned at begins_line bytes turn → Says (at + turn.size) turn.begins_line (drop turn.size bytes) (more turn)) → Says at begins_line bytes (with_turn at r more)
-with_turn_says t at begins_line bytes (Err kind) more s g = record { parts = []; tokens = []; rest = bytes; is = refl; are_parts = tt; are_tokens = refl; place_is = sym (add-zero at); fault = s }
-with_turn_says t at begins_line bytes (Ok turn) more u g =
-    let rest : drop turn.size bytes ≡ u.rest = ap (λ n. drop n bytes) u.size ∙ ap (drop (length u.part.text)) u.is ∙ drop-append_seam u.part.text u.rest in
-    after_part t at begins_line bytes turn (more turn) u (rw (← rest, ← u.size, ← u.after) (g turn u))
+with_step_says : (t : TokensAreExact) (at : ℕ) (begins_line : Bool) (bytes : List ℕ) (r : Result Step FaultKind) (more : Step → Scanned) → StepSays at begins_line bytes r → ((step : Step) → SteppedOver at begins_line bytes step → Says (at + step.size) step.begins_line (drop step.size bytes) (more step)) → Says at begins_line bytes (with_step at r more)
+with_step_says t at begins_line bytes (Err kind) more s g = record { parts = []; tokens = []; rest = bytes; is = refl; are_parts = tt; are_tokens = refl; place_is = sym (add-zero at); fault = s }
+with_step_says t at begins_line bytes (Ok step) more u g =
+    let rest : drop step.size bytes ≡ u.rest = ap (λ n. drop n bytes) u.size ∙ ap (drop (length u.part.text)) u.is ∙ drop-append_seam u.part.text u.rest in
+    after_part t at begins_line bytes step (more step) u (rw (← rest, ← u.size, ← u.after) (g step u))
 
 end_says : (n at : ℕ) (begins_line : Bool) → Says at begins_line [] (scan n at begins_line [])
 end_says n at begins_line = rw (scan_end n at begins_line) (record { parts = []; is = refl; are_parts = tt; are_tokens = refl })
@@ -315,10 +315,10 @@ unfolding scan
 scan_says p t n at begins_line [] h = end_says n at begins_line
 scan_says p t zero at begins_line (b ∷ bytes) h = absurd (omega arith)
 scan_says p t (suc n) at begins_line (b ∷ bytes) h =
-    with_turn_says t at begins_line (b ∷ bytes) (turn_at at begins_line (b ∷ bytes)) (λ turn. scan n (at + turn.size) turn.begins_line (drop turn.size (b ∷ bytes)))
-    (turn_says p t at begins_line (b ∷ bytes) (part_at begins_line (b ∷ bytes)) (λ e. cc) refl)
-    (λ turn u. scan_says p t n (at + turn.size) turn.begins_line (drop turn.size (b ∷ bytes))
-    (omega (arith, h, drop_shorter turn.size b bytes (omega (arith, u.size, part_long p begins_line u.part u.rest u.stands)))))
+    with_step_says t at begins_line (b ∷ bytes) (step_at at begins_line (b ∷ bytes)) (λ step. scan n (at + step.size) step.begins_line (drop step.size (b ∷ bytes)))
+    (step_says p t at begins_line (b ∷ bytes) (part_at begins_line (b ∷ bytes)) (λ e. cc) refl)
+    (λ step u. scan_says p t n (at + step.size) step.begins_line (drop step.size (b ∷ bytes))
+    (omega (arith, h, drop_shorter step.size b bytes (omega (arith, u.size, part_long p begins_line u.part u.rest u.stands)))))
 
 -- the tokens of the text, or its first fault
 abbrev pub TextSays : List ℕ → Scanned → Type 0

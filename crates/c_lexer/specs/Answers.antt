@@ -1,13 +1,11 @@
--- What the calls of the lexer answer.
+-- What `lex` answers.
 use Rattle.std.specs.Prelude.{◌≡◌, ℕ, List, Result, Ok, Err}
-use Rattle.c_lexer.specs.declared.token.Token.{Token}
 use Rattle.c_lexer.specs.declared.token.Tokens.{Tokens}
 use Rattle.c_lexer.specs.declared.fault.FaultKind.{FaultKind}
 use Rattle.c_lexer.specs.declared.fault.FaultKind.TheVariants as F
 use Rattle.c_lexer.specs.declared.fault.LexFault.{LexFault}
 use Rattle.c_lexer.specs.declared.fault.LexFault.TheVariants as L
 use Rattle.c_lexer.specs.Lexes.{Lexes, LexFaultAt}
-use Rattle.c_lexer.specs.Scanning.{Scanned}
 
 -- a fault is of a kind, at a place; of want of memory nothing is said
 abbrev pub OnFault : LexFault → (FaultKind → ℕ → Type 0) → Type 0
@@ -21,16 +19,3 @@ OnFault L.Memory Says = Unit {0}
 abbrev pub LexGives : List ℕ → ℕ → Result Tokens LexFault → Type 0
 LexGives bytes file (Ok tokens) = (tokens.file ≡ file) × (tokens.bytes ≡ bytes) × Lexes bytes tokens.list
 LexGives bytes file (Err fault) = OnFault fault (LexFaultAt bytes)
-
--- ---- what the private functions answer
-
-abbrev pub fault_at : FaultKind → ℕ → LexFault
-fault_at F.BadByte at = L.BadByte at
-fault_at F.BadLiteral at = L.BadLiteral at
-fault_at F.Unclosed at = L.Unclosed at
-fault_at F.TooWide at = L.TooWide at
-
--- what was scanned, seen through a view
-abbrev pub ScanGives : {X : Type 0} → (X → List Token) → Scanned → Result X LexFault → Type 0
-ScanGives view scanned (Ok tokens) = scanned ≡ Ok (view tokens)
-ScanGives view scanned (Err fault) = OnFault fault (λ kind at. scanned ≡ Err (kind, at))

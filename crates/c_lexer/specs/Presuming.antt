@@ -1,5 +1,5 @@
 -- Presumed lines and file names (C99 6.10.4).
-use Rattle.std.specs.Prelude.{◌≡◌, ℕ, ◌+◌, true, List, [], ◌∷◌, fold, take, length, Option, Some, None, if◌then◌else◌}
+use Rattle.std.specs.Prelude.{◌≡◌, ℕ, ◌+◌, true, List, [], ◌∷◌, fold, take, length, Some, None, if◌then◌else◌}
 use Rattle.c_lexer.specs.declared.part.PartKind.{PartKind}
 use Rattle.c_lexer.specs.declared.part.PartKind.TheVariants as P
 use Rattle.c_lexer.specs.declared.presumed.Presumed.{Presumed}
@@ -9,7 +9,6 @@ use Rattle.c_lexer.specs.declared.directive.Directive.{Directive}
 use Rattle.c_lexer.specs.declared.directive.Directive.TheVariants.{Silent, Renumbers}
 use Rattle.c_lexer.specs.declared.token.Token.{Token}
 use Rattle.c_lexer.specs.Directives.{IsDirective}
-use Rattle.c_lexer.specs.DirectiveScan.{directive_in}
 use Rattle.c_lexer.specs.Parts.{Part, text_of, AreParts}
 use Rattle.c_lexer.specs.Lexes.{Lexes}
 
@@ -29,35 +28,23 @@ after_directive at (Renumbers number (Some name)) lines = record lines { next = 
 
 -- after one more part, which begins at a byte of the file
 abbrev pub Moves : ℕ → PartKind → List ℕ → Lines → Lines → Type 0
-Moves at P.Directive text before following = (content : List ℕ) × (directive : Directive) × (text ≡ 35 ∷ content) × IsDirective content directive × (following ≡ after_directive at directive before)
-Moves at _ text before following = following ≡ fold after_byte before text
+Moves at P.Directive text before after = (content : List ℕ) × (directive : Directive) × (text ≡ 35 ∷ content) × IsDirective content directive × (after ≡ after_directive at directive before)
+Moves at _ text before after = after ≡ fold after_byte before text
 
 -- after parts that begin at a byte of the file
 abbrev pub Presumes : ℕ → List Part → Lines → Lines → Type 0
-Presumes at [] before following = following ≡ before
-Presumes at (part ∷ parts) before following = (after : Lines) × Moves at part.kind part.text before after × Presumes (at + length part.text) parts after following
+Presumes at [] before last = last ≡ before
+Presumes at (part ∷ parts) before last = (after : Lines) × Moves at part.kind part.text before after × Presumes (at + length part.text) parts after last
 
 -- what is presumed of the place after the text
 pub record IsPresumed (bytes : List ℕ) (presumed : Presumed) : Type 0 where
   pub parts : List Part
-  pub following : Lines
+  pub last : Lines
   pub bytes_are : bytes ≡ text_of parts
   pub are_parts : AreParts true parts []
-  pub presumes : Presumes 0 parts first_lines following
-  pub here : presumed ≡ following.here
+  pub presumes : Presumes 0 parts first_lines last
+  pub here : presumed ≡ last.here
 
 -- the bytes before a place are tokens
 abbrev pub AreTokensBefore : ℕ → List ℕ → Type 0
 AreTokensBefore at bytes = (tokens : List Token) × Lexes (take at bytes) tokens
-
--- ---- from the left: what the private functions compute
-
-abbrev pub with_directive : ℕ → Option Directive → Lines → Lines
-with_directive at None lines = lines
-with_directive at (Some directive) lines = after_directive at directive lines
-
--- after one more part, which begins at a byte of the file
-abbrev pub after_part : ℕ → PartKind → List ℕ → Lines → Lines
-after_part at P.Directive [] lines = lines
-after_part at P.Directive (b ∷ content) lines = with_directive at (directive_in content) lines
-after_part at _ text lines = fold after_byte lines text

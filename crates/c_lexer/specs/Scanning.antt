@@ -1,6 +1,6 @@
 -- Reading the parts and the tokens of a text from the left: what the private functions compute. No public clause cites
 -- it.
-use Rattle.std.specs.Prelude.{ℕ, zero, suc, ◌+◌, nat_le, ◌==◌, ◌&&◌, ◌||◌, not, Bool, true, false, List, [], ◌∷◌, take, drop, length, Option, Some, None, is_some, option_map, Result, Ok, Err, if◌then◌else◌}
+use Rattle.std.specs.Prelude.{◌≡◌, ℕ, zero, suc, ◌+◌, nat_le, ◌==◌, ◌&&◌, ◌||◌, not, Bool, true, false, List, [], ◌∷◌, take, drop, length, Option, Some, None, is_some, option_map, Result, Ok, Err, if◌then◌else◌}
 use Rattle.std.specs.List.{prefix_len}
 use Rattle.std.specs.Str.{bytes_eq}
 use Rattle.lay_base.specs.declared.faults.Keyword.{Keyword}
@@ -12,11 +12,13 @@ use Rattle.c_lexer.specs.declared.part.Shape.TheVariants as S
 use Rattle.c_lexer.specs.declared.part.PartKind.{PartKind}
 use Rattle.c_lexer.specs.declared.part.PartKind.TheVariants as P
 use Rattle.c_lexer.specs.declared.token.Token.{Token}
-use Rattle.c_lexer.specs.declared.lexing.Turn.{Turn}
+use Rattle.c_lexer.specs.declared.lexing.Step.{Step}
 use Rattle.c_lexer.specs.declared.token.TokenKind.{TokenKind}
 use Rattle.c_lexer.specs.declared.token.TokenKind.TheVariants as K
 use Rattle.c_lexer.specs.declared.fault.FaultKind.{FaultKind}
 use Rattle.c_lexer.specs.declared.fault.FaultKind.TheVariants as F
+use Rattle.c_lexer.specs.declared.fault.LexFault.{LexFault}
+use Rattle.c_lexer.specs.declared.fault.LexFault.TheVariants as L
 use Rattle.c_lexer.specs.Characters.{is_white, is_line_feed, is_letter, goes_on_in_name, begins}
 use Rattle.lay_base.specs.Keywords.{keyword_text}
 use Rattle.c_lexer.specs.Punctuators.{punctuator_text}
@@ -25,6 +27,7 @@ use Rattle.c_lexer.specs.NumberScan.{number_length, number_of}
 use Rattle.c_lexer.specs.QuotedScan.{quoted_length, character_of, string_of}
 use Rattle.c_lexer.specs.DirectiveScan.{directive_in}
 use Rattle.c_lexer.specs.Words.{longest_name}
+use Rattle.c_lexer.specs.Answers.{OnFault}
 
 -- ---- the word at the front
 
@@ -39,15 +42,22 @@ abbrev pub first_punctuator : List Punctuator → List ℕ → Option Punctuator
 first_punctuator [] bytes = None
 first_punctuator (punctuator ∷ punctuators) bytes = if is_front (punctuator_text punctuator) bytes then Some punctuator else first_punctuator punctuators bytes
 
+abbrev pub punctuators_after_percent : List Punctuator
+punctuators_after_percent =
+    M.ShiftLeftEqual ∷ M.ShiftLeft ∷ M.LessEqual ∷ M.Less ∷ M.ShiftRightEqual ∷ M.ShiftRight ∷ M.GreaterEqual ∷
+    M.Greater ∷ M.EqualEqual ∷ M.Equal ∷ M.CaretEqual ∷ M.Caret ∷ M.BarBar ∷ M.BarEqual ∷ M.Bar ∷ M.Question ∷
+    M.Colon ∷ M.Semicolon ∷ M.Comma ∷ []
+
+abbrev pub punctuators_after_plus : List Punctuator
+punctuators_after_plus =
+    M.AndAnd ∷ M.AndEqual ∷ M.And ∷ M.StarEqual ∷ M.Star ∷ M.Tilde ∷ M.NotEqual ∷ M.Not ∷ M.SlashEqual ∷ M.Slash ∷
+    M.PercentEqual ∷ M.Percent ∷ punctuators_after_percent
+
 -- all punctuators, none after one that it begins with
 abbrev pub punctuators : List Punctuator
 punctuators =
-    M.OpenSquare ∷ M.CloseSquare ∷ M.Open ∷ M.Close ∷ M.OpenBrace ∷ M.CloseBrace ∷ M.Dots ∷ M.Dot ∷
-    M.Arrow ∷ M.MinusMinus ∷ M.MinusEqual ∷ M.Minus ∷ M.PlusPlus ∷ M.PlusEqual ∷ M.Plus ∷ M.AndAnd ∷
-    M.AndEqual ∷ M.And ∷ M.StarEqual ∷ M.Star ∷ M.Tilde ∷ M.NotEqual ∷ M.Not ∷ M.SlashEqual ∷ M.Slash ∷
-    M.PercentEqual ∷ M.Percent ∷ M.ShiftLeftEqual ∷ M.ShiftLeft ∷ M.LessEqual ∷ M.Less ∷ M.ShiftRightEqual ∷
-    M.ShiftRight ∷ M.GreaterEqual ∷ M.Greater ∷ M.EqualEqual ∷ M.Equal ∷ M.CaretEqual ∷ M.Caret ∷ M.BarBar ∷
-    M.BarEqual ∷ M.Bar ∷ M.Question ∷ M.Colon ∷ M.Semicolon ∷ M.Comma ∷ []
+    M.OpenSquare ∷ M.CloseSquare ∷ M.Open ∷ M.Close ∷ M.OpenBrace ∷ M.CloseBrace ∷ M.Dots ∷ M.Dot ∷ M.Arrow ∷
+    M.MinusMinus ∷ M.MinusEqual ∷ M.Minus ∷ M.PlusPlus ∷ M.PlusEqual ∷ M.Plus ∷ punctuators_after_plus
 
 abbrev pub punctuator_word : Option Punctuator → Option (Shape × ℕ)
 punctuator_word None = None
@@ -112,13 +122,25 @@ abbrev pub first_keyword : List Keyword → List ℕ → Option Keyword
 first_keyword [] word = None
 first_keyword (keyword ∷ keywords) word = if bytes_eq word (keyword_text keyword) then Some keyword else first_keyword keywords word
 
+abbrev pub keywords_after_while : List Keyword
+keywords_after_while =
+    W.UnderscoreBool ∷ W.UnderscoreComplex ∷ W.UnderscoreImaginary ∷ []
+
+abbrev pub keywords_after_static : List Keyword
+keywords_after_static =
+    W.Struct ∷ W.Switch ∷ W.Typedef ∷ W.Union ∷ W.Unsigned ∷ W.Void ∷ W.Volatile ∷ W.While ∷ keywords_after_while
+
+abbrev pub keywords_after_int : List Keyword
+keywords_after_int =
+    W.Long ∷ W.Register ∷ W.Restrict ∷ W.Return ∷ W.Short ∷ W.Signed ∷ W.Sizeof ∷ W.Static ∷ keywords_after_static
+
+abbrev pub keywords_after_double : List Keyword
+keywords_after_double =
+    W.Else ∷ W.Enum ∷ W.Extern ∷ W.Float ∷ W.For ∷ W.Goto ∷ W.If ∷ W.Inline ∷ W.Int ∷ keywords_after_int
+
 abbrev pub keywords : List Keyword
 keywords =
-    W.Auto ∷ W.Break ∷ W.Case ∷ W.Char ∷ W.Const ∷ W.Continue ∷ W.Default ∷ W.Do ∷ W.Double ∷ W.Else ∷
-    W.Enum ∷ W.Extern ∷ W.Float ∷ W.For ∷ W.Goto ∷ W.If ∷ W.Inline ∷ W.Int ∷ W.Long ∷ W.Register ∷
-    W.Restrict ∷ W.Return ∷ W.Short ∷ W.Signed ∷ W.Sizeof ∷ W.Static ∷ W.Struct ∷ W.Switch ∷ W.Typedef ∷
-    W.Union ∷ W.Unsigned ∷ W.Void ∷ W.Volatile ∷ W.While ∷ W.UnderscoreBool ∷ W.UnderscoreComplex ∷
-    W.UnderscoreImaginary ∷ []
+    W.Auto ∷ W.Break ∷ W.Case ∷ W.Char ∷ W.Const ∷ W.Continue ∷ W.Default ∷ W.Do ∷ W.Double ∷ keywords_after_double
 
 abbrev pub name_with : ℕ → Option Keyword → Result TokenKind FaultKind
 name_with size (Some keyword) = Ok (K.Keyword keyword)
@@ -147,18 +169,18 @@ token_in at (P.Word shape) text = word_token at text (token_of shape text)
     word_token at text (Ok kind) = Ok (Some (record { kind = kind; from = at; to = at + length text }))
 token_in at _ text = Ok None
 
-abbrev pub turn_with : ℕ → Bool → Result (Option Token) FaultKind → Result Turn FaultKind
-turn_with size begins_line (Err fault) = Err fault
-turn_with size begins_line (Ok found) = Ok (record { found = found; size = size; begins_line = begins_line })
+abbrev pub step_with : ℕ → Bool → Result (Option Token) FaultKind → Result Step FaultKind
+step_with size begins_line (Err fault) = Err fault
+step_with size begins_line (Ok found) = Ok (record { found = found; size = size; begins_line = begins_line })
 
-abbrev pub turn_over : ℕ → Bool → List ℕ → Result (PartKind × ℕ) FaultKind → Result Turn FaultKind
-turn_over at begins_line text (Err fault) = Err fault
-turn_over at begins_line text (Ok part) =
-    turn_with part.1 (begins_line_after_kind begins_line part.0 (take part.1 text)) (token_in at part.0 (take part.1 text))
+abbrev pub step_over : ℕ → Bool → List ℕ → Result (PartKind × ℕ) FaultKind → Result Step FaultKind
+step_over at begins_line text (Err fault) = Err fault
+step_over at begins_line text (Ok part) =
+    step_with part.1 (begins_line_after_kind begins_line part.0 (take part.1 text)) (token_in at part.0 (take part.1 text))
 
 -- what the part at the front gives
-unfoldable pub turn_at : ℕ → Bool → List ℕ → Result Turn FaultKind
-turn_at at begins_line text = turn_over at begins_line text (part_at begins_line text)
+unfoldable pub step_at : ℕ → Bool → List ℕ → Result Step FaultKind
+step_at at begins_line text = step_over at begins_line text (part_at begins_line text)
 
 -- all tokens, or the first fault with its place
 abbrev pub Scanned : Type 0
@@ -169,13 +191,26 @@ with_token None more = more
 with_token (Some token) (Ok tokens) = Ok (token ∷ tokens)
 with_token (Some token) (Err fault) = Err fault
 
-abbrev pub with_turn : ℕ → Result Turn FaultKind → (Turn → Scanned) → Scanned
-with_turn at (Err fault) more = Err (fault, at)
-with_turn at (Ok turn) more = with_token turn.found (more turn)
+abbrev pub with_step : ℕ → Result Step FaultKind → (Step → Scanned) → Scanned
+with_step at (Err fault) more = Err (fault, at)
+with_step at (Ok step) more = with_token step.found (more step)
 
 -- the tokens of the text from a byte of the file on, or the first fault; a text of n bytes has no more than n parts
 unfoldable pub scan : ℕ → ℕ → Bool → List ℕ → Scanned
 scan n at begins_line [] = Ok []
 scan zero at begins_line (b ∷ bytes) = Ok []
 scan (suc n) at begins_line (b ∷ bytes) =
-    with_turn at (turn_at at begins_line (b ∷ bytes)) (λ turn. scan n (at + turn.size) turn.begins_line (drop turn.size (b ∷ bytes)))
+    with_step at (step_at at begins_line (b ∷ bytes)) (λ step. scan n (at + step.size) step.begins_line (drop step.size (b ∷ bytes)))
+
+-- ---- what the functions that scan answer
+
+abbrev pub fault_at : FaultKind → ℕ → LexFault
+fault_at F.BadByte at = L.BadByte at
+fault_at F.BadLiteral at = L.BadLiteral at
+fault_at F.Unclosed at = L.Unclosed at
+fault_at F.TooWide at = L.TooWide at
+
+-- what was scanned, seen through a view
+abbrev pub ScanGives : {X : Type 0} → (X → List Token) → Scanned → Result X LexFault → Type 0
+ScanGives view scanned (Ok tokens) = scanned ≡ Ok (view tokens)
+ScanGives view scanned (Err fault) = OnFault fault (λ kind at. scanned ≡ Err (kind, at))

@@ -2,10 +2,11 @@
 
 ghost use Rattle.std.specs.Prelude.{◌≡◌, ◌≤◌, ◌<◌, ◌+◌, ◌++◌, length, true, IfOk, IfErr, OnOk, option_to_list};
 ghost use Rattle.c_lexer.specs.declared.fault.LexFault.TheVariants as L;
-ghost use Rattle.c_lexer.specs.Scanning.{scan, token_in, turn_at};
-ghost use Rattle.c_lexer.specs.Answers.{LexGives, ScanGives, fault_at};
+ghost use Rattle.c_lexer.specs.Scanning.{scan, token_in, step_at, ScanGives, fault_at};
+ghost use Rattle.c_lexer.specs.Answers.{LexGives};
 ghost use Rattle.c_lexer.specs.Readings.{HaveOneReading};
 ghost use Rattle.c_lexer.specs.TokenTexts.{TokensHaveTexts};
+ghost use Rattle.c_lexer.specs.TokenPlaces.{TokensHavePlaces};
 
 use crate::fault::{FaultKind, LexFault};
 use crate::part::PartKind;
@@ -34,21 +35,21 @@ fn token_in(at: u32, kind: PartKind, text: &[u8]) -> Result<Option<Token>, Fault
 /// What the part at the front gives: the token that it is, where it is one, how many bytes it has,
 /// and whether only white space stands after it on its line.
 #[derive(Clone, Copy)]
-pub struct Turn {
+pub struct Step {
     pub found: Option<Token>,
     pub size: usize,
     pub begins_line: bool,
 }
 
-#[tactic(auto, unfolding(crate::specs::Scanning::turn_at))]
-fn turn_at(at: u32, begins_line: bool, text: &[u8]) -> Result<Turn, FaultKind>
+#[tactic(auto, unfolding(crate::specs::Scanning::step_at))]
+fn step_at(at: u32, begins_line: bool, text: &[u8]) -> Result<Step, FaultKind>
     requires { at + length text.now ≤ 4194304 }
-    ensures is { result ≡ turn_at at begins_line text.now }
-    ensures within { IfOk result (λ turn. (0 < turn.size) × (turn.size ≤ length text.now)) }
+    ensures is { result ≡ step_at at begins_line text.now }
+    ensures within { IfOk result (λ step. (0 < step.size) × (step.size ≤ length text.now)) }
 {
     let (kind, size) = part_at(begins_line, text)?;
     let (part, _) = text.split_at(size);
-    Ok(Turn {
+    Ok(Step {
         found: token_in(at, kind, part)?,
         size,
         begins_line: begins_line_after_part(begins_line, kind, part),
@@ -88,14 +89,14 @@ fn tokens_of(alloc: Global, bytes: &[u8]) -> Result<Vec<Token>, LexFault>
     let mut at = 0;
     let mut begins_line = true;
     while !rest.is_empty() {
-        let turn = match turn_at(at, begins_line, rest) {
-            Ok(turn) => turn,
+        let step = match step_at(at, begins_line, rest) {
+            Ok(step) => step,
             Err(kind) => return Err(fault_at(kind, at)),
         };
-        add(&mut tokens, turn.found)?;
-        (_, rest) = rest.split_at(turn.size);
-        at += turn.size as u32;
-        begins_line = turn.begins_line;
+        add(&mut tokens, step.found)?;
+        (_, rest) = rest.split_at(step.size);
+        at += step.size as u32;
+        begins_line = step.begins_line;
     }
     Ok(tokens)
 }
@@ -121,7 +122,13 @@ pub fn texts_have_one_reading()
     ensures { HaveOneReading }
 {}
 
-/// The bytes of a keyword or of a punctuator are its spelling.
+/// The bytes of a keyword or of a punctuator are its spelling, and those of any other token can be it.
 pub fn tokens_have_texts()
     ensures { TokensHaveTexts }
+{}
+
+/// Of the places of tokens, of the end of the file and of a fault lines are presumed. Tokens come in
+/// order, and are no more than the bytes.
+pub fn tokens_have_places()
+    ensures { TokensHavePlaces }
 {}

@@ -1,8 +1,9 @@
 //! What is presumed of a place.
 
-ghost use Rattle.std.specs.Prelude.{◌≡◌, ◌≤◌, ◌<◌, ◌+◌, fold, length, take};
+ghost use Rattle.std.specs.Prelude.{◌≡◌, ◌≤◌, ◌<◌, ◌+◌, fold, length, take, IfSome};
 ghost use Rattle.c_lexer.specs.DirectiveScan.{directive_in};
-ghost use Rattle.c_lexer.specs.Presuming.{first_lines, after_byte, with_directive, after_part, AreTokensBefore, IsPresumed};
+ghost use Rattle.c_lexer.specs.Presuming.{first_lines, after_byte, AreTokensBefore, IsPresumed};
+ghost use Rattle.c_lexer.specs.PresumingScan.{with_directive, after_part, IsRead};
 
 use crate::directive::Directive;
 use crate::directives::directive_in;
@@ -12,9 +13,9 @@ use crate::presumed::Presumed;
 
 /// What is presumed of the line of a place, and of the next line.
 #[derive(Clone, Copy)]
-struct Lines {
-    here: Presumed,
-    next: Presumed,
+pub struct Lines {
+    pub here: Presumed,
+    pub next: Presumed,
 }
 
 /// The first two lines, under the file's own name.
@@ -64,7 +65,7 @@ fn after_bytes(lines: Lines, text: &[u8]) -> Lines
 }
 
 /// After a directive whose `#` stands at byte `at`.
-#[tactic(auto, using(crate::proofs::PresumedLines::name_within))]
+#[tactic(auto, using(crate::proofs::LinesOfParts::name_within))]
 fn after_directive(at: u32, content: &[u8], lines: Lines) -> Lines
     requires { at + 1 + length content.now ≤ 4194304 }
     ensures { result ≡ with_directive at (directive_in content.now) lines }
@@ -99,27 +100,94 @@ fn after_part(at: u32, kind: PartKind, text: &[u8], lines: Lines) -> Lines
     }
 }
 
-/// What is presumed of the place at byte `at`, of a text whose bytes before it are tokens.
-pub fn presumed_at(bytes: &[u8], at: u32) -> Presumed
+/// How far a text was read from its start: up to byte `from`, before which only white space stands
+/// on its line or not.
+#[derive(Clone, Copy)]
+pub struct Reached {
+    pub from: u32,
+    pub begins_line: bool,
+    pub lines: Lines,
+}
+
+/// At the start of a text.
+pub fn at_start(bytes: &[u8]) -> Reached
+    ensures read { IsRead bytes.now result }
+    ensures start { result.from ≡ 0 }
+{
+    Reached {
+        from: 0,
+        begins_line: true,
+        lines: first_lines(),
+    }
+}
+
+/// After one more part, where it ends at byte `at` or before it.
+fn after_next(bytes: &[u8], at: u32, reached: Reached) -> Option<Reached>
     requires short { length bytes.now ≤ 4194304 }
     requires within { at ≤ length bytes.now }
+    requires before { reached.from ≤ at }
     requires tokens { AreTokensBefore at bytes.now }
+    requires read { IsRead bytes.now reached }
+    ensures read { IfSome result (λ next. IsRead bytes.now next) }
+    ensures within { IfSome result (λ next. (reached.from < next.from) × (next.from ≤ at)) }
+{
+    let (_, rest) = bytes.split_at(reached.from as usize);
+    let Ok((kind, size)) = part_at(reached.begins_line, rest) else {
+        return None;
+    };
+    if size > (at - reached.from) as usize {
+        return None;
+    }
+    let (part, _) = rest.split_at(size);
+    Some(Reached {
+        from: reached.from + size as u32,
+        begins_line: begins_line_after_part(reached.begins_line, kind, part),
+        lines: after_part(reached.from, kind, part, reached.lines),
+    })
+}
+
+/// After all parts that end at byte `at` or before it.
+pub fn after_parts(bytes: &[u8], at: u32, start: Reached) -> Reached
+    requires short { length bytes.now ≤ 4194304 }
+    requires within { at ≤ length bytes.now }
+    requires before { start.from ≤ at }
+    requires tokens { AreTokensBefore at bytes.now }
+    requires read { IsRead bytes.now start }
+    ensures read { IsRead bytes.now result }
+    ensures within { result.from ≤ at }
+{
+    let mut reached = start;
+    while let Some(next) = after_next(bytes, at, reached) {
+        reached = next;
+    }
+    reached
+}
+
+/// What is presumed of the place at byte `at`, from a place before it on. A part may begin between
+/// the two that ends after `at`: its bytes before `at` are parts too.
+pub fn presumed_after(bytes: &[u8], at: u32, start: Reached) -> Presumed
+    requires short { length bytes.now ≤ 4194304 }
+    requires within { at ≤ length bytes.now }
+    requires before { start.from ≤ at }
+    requires tokens { AreTokensBefore at bytes.now }
+    requires read { IsRead bytes.now start }
     ensures { IsPresumed (take at bytes.now) result }
 {
-    let mut lines = first_lines();
-    let (mut rest, _) = bytes.split_at(at as usize);
-    let mut from = 0;
-    let mut begins_line = true;
+    let mut reached = start;
+    let (front, _) = bytes.split_at(at as usize);
+    let (_, mut rest) = front.split_at(start.from as usize);
     while !rest.is_empty() {
         // The bytes are tokens, so a part is always found.
-        let Ok((kind, size)) = part_at(begins_line, rest) else {
-            return lines.here;
+        let Ok((kind, size)) = part_at(reached.begins_line, rest) else {
+            return reached.lines.here;
         };
         let (part, after) = rest.split_at(size);
-        lines = after_part(from, kind, part, lines);
-        begins_line = begins_line_after_part(begins_line, kind, part);
-        from += size as u32;
+        reached = Reached {
+            from: reached.from + size as u32,
+            begins_line: begins_line_after_part(reached.begins_line, kind, part),
+            lines: after_part(reached.from, kind, part, reached.lines),
+        };
         rest = after;
     }
-    lines.here
+    reached.lines.here
 }

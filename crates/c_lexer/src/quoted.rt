@@ -97,7 +97,7 @@ fn escape_at(bytes: &[u8]) -> Option<(u32, usize)>
 }
 
 /// The value of the first character, and how many bytes it has.
-fn item_at(body: &[u8]) -> Option<(u32, usize)>
+pub fn item_at(body: &[u8]) -> Option<(u32, usize)>
     ensures is { result ≡ item_at body.now }
     ensures within { IfSome result (λ it. (0 < it.1) × (it.1 ≤ length body.now)) }
 {
@@ -112,7 +112,7 @@ fn item_at(body: &[u8]) -> Option<(u32, usize)>
 }
 
 /// What stands between the quotes of a word.
-fn body_of(word: &[u8]) -> &[u8]
+pub fn body_of(word: &[u8]) -> &[u8]
     ensures { result.now ≡ body_of word.now }
 {
     match word {

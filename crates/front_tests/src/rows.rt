@@ -14,7 +14,7 @@ pub struct Frame {
 
 fn between(alloc: Global, ends: (&str, &str), text: &str) -> Result<String, AllocError> {
     let (before, after) = ends;
-    format!(in alloc; "{before}{text}{behind}")
+    format!(in alloc; "{before}{text}{after}")
 }
 
 /// What is written for a text in its frame.

@@ -180,7 +180,7 @@ static KEYWORDS: [(&str, Keyword); 37] = [
 ];
 
 /// The punctuators of 6.4.6, but `#`, `##` and the digraphs.
-static MARKS: [(&str, Punctuator); 46] = [
+static PUNCTUATORS: [(&str, Punctuator); 46] = [
     ("[", Punctuator::OpenSquare),
     ("]", Punctuator::CloseSquare),
     ("(", Punctuator::Open),
@@ -429,7 +429,7 @@ fn each_keyword_is_that_keyword(rt: HostRuntime) {
 
 #[test]
 fn each_punctuator_is_that_punctuator(rt: HostRuntime) {
-    for (text, punctuator) in &MARKS {
+    for (text, punctuator) in &PUNCTUATORS {
         let kind = kind_of(rt.alloc(), text.as_bytes());
         assert_eq!(rt; kind, Some(TokenKind::Punctuator(*punctuator)), "at {text}");
     }

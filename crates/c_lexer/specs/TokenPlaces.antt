@@ -1,0 +1,23 @@
+-- Tokens and faults stand at places of which lines are presumed, and in order.
+use Rattle.std.specs.Prelude.{ℕ, ◌≤◌, List, [], ◌∷◌, All, length}
+use Rattle.c_lexer.specs.declared.token.Token.{Token}
+use Rattle.c_lexer.specs.declared.fault.FaultKind.{FaultKind}
+use Rattle.c_lexer.specs.Lexes.{Lexes, LexFaultAt}
+use Rattle.c_lexer.specs.Presuming.{AreTokensBefore}
+
+-- a place in the text, before which there are tokens
+abbrev pub IsPlaceIn : List ℕ → ℕ → Type 0
+IsPlaceIn bytes at = (at ≤ length bytes) × AreTokensBefore at bytes
+
+-- the tokens come one after the other, from a byte on
+abbrev pub AreInOrder : ℕ → List Token → Type 0
+AreInOrder at [] = Unit {0}
+AreInOrder at (token ∷ tokens) = (at ≤ token.from) × (token.from ≤ token.to) × AreInOrder token.to tokens
+
+pub record TokensHavePlaces : Type 0 where
+  pub of_tokens : (bytes : List ℕ) (tokens : List Token) → Lexes bytes tokens → All (λ token. IsPlaceIn bytes token.from) tokens
+  pub of_end : (bytes : List ℕ) (tokens : List Token) → Lexes bytes tokens → IsPlaceIn bytes (length bytes)
+  pub of_fault : (bytes : List ℕ) (kind : FaultKind) (at : ℕ) → LexFaultAt bytes kind at → IsPlaceIn bytes at
+  pub in_order : (bytes : List ℕ) (tokens : List Token) → Lexes bytes tokens → AreInOrder 0 tokens
+  -- there are no more tokens than bytes
+  pub few : (bytes : List ℕ) (tokens : List Token) → Lexes bytes tokens → length tokens ≤ length bytes
