@@ -1,0 +1,51 @@
+//! Presumed lines of the tokens of a text, asked in order. What is wanted was written by hand from C99
+//! 6.10.4; markers stand as `gcc -E` writes them.
+
+use c_lexer::{Presumed, PresumedLines, Tokens, lex, presumed_at, tokens_have_places};
+use std::alloc::Global;
+
+/// Texts, and the line that is presumed of each token and of the end.
+static TEXTS: [(&str, &[u32]); 7] = [
+    ("", &[1]),
+    ("a\nb c\n\nd", &[1, 2, 2, 4, 4]),
+    ("# 1 \"a.c\"\na\n# 7 \"a.h\" 1\nb\nc\n# 3 \"a.c\" 2\nd\n", &[1, 7, 8, 3, 4]),
+    ("#line 40\na\n#line 9 \"b.c\"\nb /*\n\n*/ c", &[40, 9, 11, 11]),
+    ("/*\n# 5\n*/ a // b\nc", &[3, 4, 4]),
+    ("# 0 \"<built-in>\"\n# 0 \"<command-line>\"\n# 1 \"a.c\"\nint\nx\n;", &[1, 2, 3, 3]),
+    ("a\n#pragma once\nb", &[1, 3, 3]),
+];
+
+/// The line at a place, where it is the one that is found from the start of the text.
+fn line_at(lines: &mut PresumedLines, text: &[u8], at: u32) -> Option<u32> {
+    let found = lines.presumed_at(at);
+    if found == presumed_at(text, at) {
+        Some(found.line)
+    } else {
+        None
+    }
+}
+
+/// Whether these are the lines of a text's tokens, and of its end.
+fn has_lines(alloc: Global, text: &[u8], wanted: &[u32]) -> bool {
+    tokens_have_places();
+    let Ok(Tokens { list, .. }) = lex(alloc, text, 0) else {
+        return false;
+    };
+    if wanted.len() != list.len() + 1 {
+        return false;
+    }
+    let mut lines = PresumedLines::new(text);
+    for (token, line) in list.as_slice().iter().zip(wanted) {
+        if line_at(&mut lines, text, token.from) != Some(*line) {
+            return false;
+        }
+    }
+    line_at(&mut lines, text, text.len() as u32) == wanted.last().copied()
+}
+
+#[test]
+fn lines_asked_in_order_are_those_asked_one_by_one(rt: HostRuntime) {
+    for (text, wanted) in &TEXTS {
+        assert!(rt; has_lines(rt.alloc(), text.as_bytes(), *wanted), "at {text}");
+    }
+}
