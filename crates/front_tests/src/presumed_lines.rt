@@ -1,7 +1,10 @@
 //! Presumed lines of the tokens of a text, asked in order. What is wanted was written by hand from C99
 //! 6.10.4; markers stand as `gcc -E` writes them.
 
-use c_lexer::{Presumed, PresumedLines, Tokens, lex, presumed_at, tokens_have_places};
+ghost use Rattle.std.specs.Prelude.{◌≡◌, ◌≤◌, All, IfSome, length};
+ghost use Rattle.c_lexer.specs.TokenPlaces.{IsPlaceIn};
+
+use c_lexer::{PresumedLines, Tokens, lex, presumed_at, tokens_have_places};
 use std::alloc::Global;
 
 /// Texts, and the line that is presumed of each token and of the end.
@@ -15,8 +18,17 @@ static TEXTS: [(&str, &[u32]); 7] = [
     ("a\n#pragma once\nb", &[1, 3, 3]),
 ];
 
-/// The line at a place, where it is the one that is found from the start of the text.
-fn line_at(lines: &mut PresumedLines, text: &[u8], at: u32) -> Option<u32> {
+/// The line of a place that comes after those that were asked, where it is the one that is found from
+/// the start of the text.
+fn line_at(lines: &mut PresumedLines, asked: u32, text: &[u8], at: u32) -> Option<u32>
+    requires short { length text.now ≤ 4194304 }
+    requires of { lines.old ≡ (text.now, asked) }
+    requires place { IsPlaceIn text.now at }
+    ensures { IfSome result (λ line. lines.new ≡ (text.now, at)) }
+{
+    if at < asked {
+        return None;
+    }
     let found = lines.presumed_at(at);
     if found == presumed_at(text, at) {
         Some(found.line)
@@ -25,22 +37,41 @@ fn line_at(lines: &mut PresumedLines, text: &[u8], at: u32) -> Option<u32> {
     }
 }
 
-/// Whether these are the lines of a text's tokens, and of its end.
-fn has_lines(alloc: Global, text: &[u8], wanted: &[u32]) -> bool {
-    tokens_have_places();
-    let Ok(Tokens { list, .. }) = lex(alloc, text, 0) else {
-        return false;
-    };
-    if wanted.len() != list.len() + 1 {
-        return false;
-    }
+/// Whether these are the lines of tokens of a text, and of its end.
+fn are_lines(text: &[u8], tokens: &Tokens, wanted: &[u32]) -> bool
+    requires short { length text.now ≤ 4194304 }
+    requires places { All (λ token. IsPlaceIn text.now token.from) tokens.now.list }
+    requires end { IsPlaceIn text.now (length text.now) }
+{
     let mut lines = PresumedLines::new(text);
-    for (token, line) in list.as_slice().iter().zip(wanted) {
-        if line_at(&mut lines, text, token.from) != Some(*line) {
+    let mut asked = 0;
+    let mut wanted = wanted;
+    for token in tokens.list.as_slice() {
+        let [line, others @ ..] = wanted else {
+            return false;
+        };
+        if line_at(&mut lines, asked, text, token.from) != Some(*line) {
             return false;
         }
+        asked = token.from;
+        wanted = others;
     }
-    line_at(&mut lines, text, text.len() as u32) == wanted.last().copied()
+    let [line] = wanted else {
+        return false;
+    };
+    line_at(&mut lines, asked, text, text.len() as u32) == Some(*line)
+}
+
+/// Whether these are the lines of a text's tokens, and of its end.
+fn has_lines(alloc: Global, text: &[u8], wanted: &[u32]) -> bool {
+    if text.len() > 4_194_304 {
+        return false;
+    }
+    tokens_have_places();
+    match lex(alloc, text, 0) {
+        Ok(tokens) => are_lines(text, &tokens, wanted),
+        Err(_) => false,
+    }
 }
 
 #[test]

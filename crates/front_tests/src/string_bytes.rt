@@ -1,7 +1,9 @@
 //! The bytes of string literals, by `add_text_bytes`. What is wanted was written by hand from C99
 //! 6.4.4.4 and 6.4.5.
 
-use c_lexer::{LexFault, TokenKind, Tokens, add_text_bytes, lex, tokens_have_texts};
+ghost use Rattle.c_lexer.specs.TokenTexts.{HaveTexts};
+
+use c_lexer::{Token, TokenKind, Tokens, add_text_bytes, lex, text_bytes, tokens_have_texts};
 use std::alloc::Global;
 
 /// Adjacent literals, and their bytes.
@@ -27,8 +29,49 @@ static LITERALS: [(&[u8], &[u8]); 16] = [
     (b"\"/*\"/**/\"*/\"", b"/**/"),
 ];
 
-/// The bytes of a text of string literals and nothing else.
-fn joined(alloc: Global, text: &[u8]) -> Option<Vec<u8>> {
+/// The bytes of the string literals that these tokens of a text are, where they are nothing else.
+fn joined(alloc: Global, text: &[u8], tokens: &[Token]) -> Option<Vec<u8>>
+    requires { HaveTexts text.now tokens.now }
+{
+    let mut bytes = Vec::new(alloc);
+    let mut rest = tokens;
+    while let [token, more @ ..] = rest {
+        let TokenKind::Text = token.kind else {
+            return None;
+        };
+        let literal = text.get(token.from as usize..token.to as usize)?;
+        if add_text_bytes(&mut bytes, literal).is_err() {
+            return None;
+        }
+        rest = more;
+    }
+    Some(bytes)
+}
+
+/// Whether a text is string literals that have these bytes when they are joined.
+fn has_bytes(alloc: Global, text: &[u8], wanted: &[u8]) -> bool {
+    if text.len() > 4_194_304 {
+        return false;
+    }
+    tokens_have_texts();
+    let Ok(Tokens { list, .. }) = lex(alloc, text, 0) else {
+        return false;
+    };
+    match joined(alloc, text, list.as_slice()) {
+        Some(bytes) => bytes.as_slice() == wanted,
+        None => false,
+    }
+}
+
+#[test]
+fn string_literals_have_their_bytes(rt: HostRuntime) {
+    for (text, wanted) in &LITERALS {
+        assert!(rt; has_bytes(rt.alloc(), *text, *wanted), "at {text:?}");
+    }
+}
+
+/// The bytes of a text that is one string literal.
+fn bytes_of(alloc: Global, text: &[u8]) -> Option<Vec<u8>> {
     if text.len() > 4_194_304 {
         return None;
     }
@@ -36,22 +79,20 @@ fn joined(alloc: Global, text: &[u8]) -> Option<Vec<u8>> {
     let Ok(Tokens { list, .. }) = lex(alloc, text, 0) else {
         return None;
     };
-    let mut bytes = Vec::new(alloc);
-    for token in list.as_slice() {
-        if token.kind != TokenKind::Text {
-            return None;
-        }
-        let Ok(()) = add_text_bytes(&mut bytes, &text[token.from as usize..token.to as usize]) else {
-            return None;
-        };
-    }
-    Some(bytes)
+    let [token] = list.as_slice() else {
+        return None;
+    };
+    let TokenKind::Text = token.kind else {
+        return None;
+    };
+    let literal = text.get(token.from as usize..token.to as usize)?;
+    text_bytes(alloc, literal).ok()
 }
 
 #[test]
-fn string_literals_have_their_bytes(rt: HostRuntime) {
-    for (text, wanted) in &LITERALS {
-        let found = joined(rt.alloc(), *text);
-        assert!(rt; matches!(found, Some(bytes) if bytes.as_slice() == *wanted), "at {text:?}");
+fn a_string_literal_has_its_bytes(rt: HostRuntime) {
+    match bytes_of(rt.alloc(), b" \"a\\n\\x41\" ") {
+        Some(bytes) => assert_eq!(rt; bytes.as_slice(), b"a\x0aA".as_slice()),
+        None => assert!(rt; false),
     }
 }
