@@ -1,13 +1,12 @@
 -- Rounds of the loop over the items of a file.
-use Rattle.std.proofs.Common.{◌≡◌, ◌≤◌, ◌<◌, ℕ, zero, suc, ◌-◌, List, [], ◌∷◌, ◌++◌, length, Option, Some, None, refl, ap, sym, ◌∙◌, arith, append_assoc, append-nil}
+use Rattle.std.proofs.Common.{◌≡◌, ◌<◌, ◌↔◌, ℕ, Bool, true, false, zero, suc, ◌-◌, List, [], ◌∷◌, ◌++◌, length, Option, Some, None, refl, ap, sym, ◌∙◌, arith, append_assoc, append-nil}
+use Rattle.std.specs.Prelude.{IsTrue}
 use Rattle.c_ast.specs.Trees
 use Rattle.c_ast.specs.Spelling.{Lexeme}
 use Rattle.c_ast.specs.WellFormed.{types_after}
-use Rattle.c_lexer.specs.declared.token.Token.{Token}
 use Rattle.c_cursor.specs.declared.failure.Failure.{Failure}
 use Rattle.c_cursor.specs.declared.failure.Failure.TheVariants.{Memory, NoParse}
 use Rattle.c_cursor.specs.Gives.{Fails}
-use Rattle.c_ast.specs.Lexemes.{lexemes_of}
 use Rattle.c_grammar.specs.Reading.{◌>>=◌}
 use Rattle.c_grammar.specs.StatementReading.{item_in, items_in}
 
@@ -55,6 +54,11 @@ pub items_fail : (failure : Failure) (done : List Trees.Item) (n : ℕ) (types :
 items_fail Memory done n types tokens read h z p e = tt
 items_fail (NoParse left) done n types tokens read h z p e = items_stop done n types tokens read h z p e
 
-pub lexemes_count : (bytes : List ℕ) (tokens : List Token) → length (lexemes_of bytes tokens) ≤ length tokens
-lexemes_count bytes [] = omega arith
-lexemes_count bytes (t ∷ tokens) = omega (arith, lexemes_count bytes tokens)
+-- ---- whether tokens are left
+
+pub some_tokens : (empty : Bool) (tokens : List Lexeme) → (IsTrue empty ↔ (tokens ≡ [])) → empty ≡ false → 0 < length tokens
+some_tokens empty [] h e = let f = h.1 refl in cc
+some_tokens empty (t ∷ tokens) h e = omega arith
+
+pub no_tokens : (empty : Bool) (tokens : List Lexeme) → (IsTrue empty ↔ (tokens ≡ [])) → empty ≡ true → length tokens ≡ 0
+no_tokens empty tokens h e = ap length (h.0 e)
