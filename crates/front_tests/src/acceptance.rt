@@ -135,9 +135,10 @@ fn other_texts_have_none(rt: HostRuntime) {
     assert_eq!(rt; first_otherwise(rt.alloc(), REFUSED, Answer::NoParse), None);
 }
 
-/// `int x = 1;` with so many parentheses round the number.
-fn nested(alloc: Global, count: usize) -> Result<Vec<u8>, Fail> {
-    let mut text = Vec::from_slice(alloc, b"int x = ")?;
+/// An initializer with so many pairs of parentheses around it, between two texts.
+fn nested(alloc: Global, ends: (&[u8], &[u8]), count: usize) -> Result<Vec<u8>, Fail> {
+    let (before, after) = ends;
+    let mut text = Vec::from_slice(alloc, before)?;
     for _ in 0..count {
         text.push(b'(')?;
     }
@@ -145,18 +146,26 @@ fn nested(alloc: Global, count: usize) -> Result<Vec<u8>, Fail> {
     for _ in 0..count {
         text.push(b')')?;
     }
-    text.push(b';')?;
+    text.extend_from_slice(after)?;
     Ok(text)
 }
 
-/// A declaration, an initializer and a number are three nodes of depth beside the parentheses.
+/// Texts before and after an initializer, and how many pairs of parentheses there may be around it. Of
+/// the 400 nodes one below another, one is the item, one the body of a function, one the initializer
+/// and one its number.
+static DEEPEST: &[((&[u8], &[u8]), usize)] = &[
+    ((b"int x=", b";"), 397),
+    ((b"int f(void){int x=", b";return x;}"), 396),
+];
+
 #[test]
 fn a_tree_is_400_deep_at_most(rt: HostRuntime) -> Result<(), Fail> {
     let alloc = rt.alloc();
-    assert_eq!(rt; what_becomes_of(alloc, &nested(alloc, 397)?), Answer::Tree);
-    assert_eq!(rt;
-        what_becomes_of(alloc, &nested(alloc, 398)?),
-        Answer::NoParse
-    );
+    for (ends, most) in DEEPEST {
+        let text = nested(alloc, *ends, *most)?;
+        assert_eq!(rt; what_becomes_of(alloc, &text), Answer::Tree);
+        let text = nested(alloc, *ends, *most + 1)?;
+        assert_eq!(rt; what_becomes_of(alloc, &text), Answer::NoParse);
+    }
     Ok(())
 }

@@ -5,8 +5,9 @@ use crate::operator_text::{
 };
 use crate::writer::Writer;
 use c_ast::{
-    Declarator, DeclaratorNode, Enumerator, Expression, Argument, ExpressionNode, MemberDeclaration,
-    Parameter, Parameters, Specifier, SpecifierNode, TypeName, Spelling,
+    Argument, At, Declarator, Enumerator, Expression, MemberDeclaration, Parameter, Parameters,
+    Specifier, Spelling, TypeName, first_of_declarator, first_of_expression, first_of_specifier,
+    first_of_specifiers,
 };
 use c_types::IntKind;
 use lay_base::Boxed;
@@ -41,55 +42,55 @@ fn put_strings(out: &mut Writer, all: &[Spelling]) -> Result<(), AllocError> {
 }
 
 /// A name or a constant.
-fn put_leaf(out: &mut Writer, node: &ExpressionNode) -> Result<(), AllocError> {
+fn put_leaf(out: &mut Writer, node: &Expression) -> Result<(), AllocError> {
     match node {
-        ExpressionNode::Name(name) => put_word(out, name),
-        ExpressionNode::Number(_, value, kind) => put_number(out, *value, *kind),
-        ExpressionNode::Character(_, value) => {
+        Expression::Name(name) => put_word(out, name),
+        Expression::Number(_, value, kind) => put_number(out, *value, *kind),
+        Expression::Character(_, value) => {
             out.open("character")?;
             put_number(out, *value, IntKind::Int)?;
             out.close()
         }
-        ExpressionNode::Texts(all) => put_strings(out, all.as_slice()),
+        Expression::Texts(all) => put_strings(out, all.as_slice()),
         _ => Ok(()),
     }
 }
 
 /// The word or the punctuator for an expression that has parts.
-fn head_of(node: &ExpressionNode) -> Option<&'static str> {
+fn head_of(node: &Expression) -> Option<&'static str> {
     let head = match node {
-        ExpressionNode::Name(_)
-        | ExpressionNode::Number(_, _, _)
-        | ExpressionNode::Character(_, _)
-        | ExpressionNode::Texts(_) => return None,
-        ExpressionNode::Paren(_, _, _) => "paren",
-        ExpressionNode::Index(_, _, _, _) => "index",
-        ExpressionNode::Call(_, _, _, _) => "call",
-        ExpressionNode::Dot(_, _, _) => ".",
-        ExpressionNode::Arrow(_, _, _) => "->",
-        ExpressionNode::Post(_, op, _) => postfix_text(*op),
-        ExpressionNode::Pre(op, _, _) => prefix_text(*op),
-        ExpressionNode::Unary(op, _, _) => unary_text(*op),
-        ExpressionNode::SizeofExpression(_, _) => "sizeof",
-        ExpressionNode::SizeofType(_, _, _, _) => "sizeof-type",
-        ExpressionNode::Cast(_, _, _, _) => "cast",
-        ExpressionNode::Binary(_, op, _, _) => binary_text(*op),
-        ExpressionNode::Cond(_, _, _, _, _) => "?",
-        ExpressionNode::Assign(_, op, _, _) => assign_text(*op),
-        ExpressionNode::Comma(_, _, _) => ",",
-        ExpressionNode::Braces(_, _, _, _) => "braces",
+        Expression::Name(_)
+        | Expression::Number(_, _, _)
+        | Expression::Character(_, _)
+        | Expression::Texts(_) => return None,
+        Expression::Paren(_, _, _) => "paren",
+        Expression::Index(_, _, _, _) => "index",
+        Expression::Call(_, _, _, _) => "call",
+        Expression::Dot(_, _, _) => ".",
+        Expression::Arrow(_, _, _) => "->",
+        Expression::Post(_, op, _) => postfix_text(*op),
+        Expression::Pre(op, _, _) => prefix_text(*op),
+        Expression::Unary(op, _, _) => unary_text(*op),
+        Expression::SizeofExpression(_, _) => "sizeof",
+        Expression::SizeofType(_, _, _, _) => "sizeof-type",
+        Expression::Cast(_, _, _, _) => "cast",
+        Expression::Binary(_, op, _, _) => binary_text(*op),
+        Expression::Cond(_, _, _, _, _) => "?",
+        Expression::Assign(_, op, _, _) => assign_text(*op),
+        Expression::Comma(_, _, _) => ",",
+        Expression::Braces(_, _, _, _) => "braces",
     };
     Some(head)
 }
 
 #[cycle(expression_text)]
 pub fn put_expression(out: &mut Writer, expression: &Expression) -> Result<(), AllocError> {
-    out.place(expression.place)?;
-    match head_of(&expression.node) {
-        None => put_leaf(out, &expression.node),
+    out.place(first_of_expression(expression))?;
+    match head_of(expression) {
+        None => put_leaf(out, expression),
         Some(head) => {
             out.open(head)?;
-            put_parts(out, &expression.node)?;
+            put_parts(out, expression)?;
             out.close()
         }
     }
@@ -97,43 +98,43 @@ pub fn put_expression(out: &mut Writer, expression: &Expression) -> Result<(), A
 
 /// The parts of an expression that has parts.
 #[cycle(expression_text)]
-fn put_parts(out: &mut Writer, node: &ExpressionNode) -> Result<(), AllocError> {
+fn put_parts(out: &mut Writer, node: &Expression) -> Result<(), AllocError> {
     match node {
-        ExpressionNode::Name(_)
-        | ExpressionNode::Number(_, _, _)
-        | ExpressionNode::Character(_, _)
-        | ExpressionNode::Texts(_) => {}
-        ExpressionNode::Paren(_, a, _)
-        | ExpressionNode::Post(a, _, _)
-        | ExpressionNode::Pre(_, _, a)
-        | ExpressionNode::Unary(_, _, a)
-        | ExpressionNode::SizeofExpression(_, a) => put_expression(out, a.get())?,
-        ExpressionNode::Dot(a, _, name) | ExpressionNode::Arrow(a, _, name) => {
+        Expression::Name(_)
+        | Expression::Number(_, _, _)
+        | Expression::Character(_, _)
+        | Expression::Texts(_) => {}
+        Expression::Paren(_, a, _)
+        | Expression::Post(a, _, _)
+        | Expression::Pre(_, _, a)
+        | Expression::Unary(_, _, a)
+        | Expression::SizeofExpression(_, a) => put_expression(out, a.get())?,
+        Expression::Dot(a, _, name) | Expression::Arrow(a, _, name) => {
             put_expression(out, a.get())?;
             put_word(out, name)?;
         }
-        ExpressionNode::SizeofType(_, _, form, _) => put_form(out, form)?,
-        ExpressionNode::Cast(_, form, _, a) => {
-            put_form(out, form)?;
+        Expression::SizeofType(_, _, type_name, _) => put_type_name(out, type_name)?,
+        Expression::Cast(_, type_name, _, a) => {
+            put_type_name(out, type_name)?;
             put_expression(out, a.get())?;
         }
-        ExpressionNode::Index(a, _, b, _)
-        | ExpressionNode::Binary(a, _, _, b)
-        | ExpressionNode::Assign(a, _, _, b)
-        | ExpressionNode::Comma(a, _, b) => {
+        Expression::Index(a, _, b, _)
+        | Expression::Binary(a, _, _, b)
+        | Expression::Assign(a, _, _, b)
+        | Expression::Comma(a, _, b) => {
             put_expression(out, a.get())?;
             put_expression(out, b.get())?;
         }
-        ExpressionNode::Cond(a, _, b, _, c) => {
+        Expression::Cond(a, _, b, _, c) => {
             put_expression(out, a.get())?;
             put_expression(out, b.get())?;
             put_expression(out, c.get())?;
         }
-        ExpressionNode::Call(callee, _, all, _) => {
+        Expression::Call(callee, _, all, _) => {
             put_expression(out, callee.get())?;
             put_list(out, all.as_slice())?;
         }
-        ExpressionNode::Braces(_, all, last, _) => {
+        Expression::Braces(_, all, last, _) => {
             put_list(out, all.as_slice())?;
             put_last_comma(out, *last)?;
         }
@@ -171,10 +172,10 @@ pub fn put_optional_expression(
 
 /// A type name: specifiers and an abstract declarator or none.
 #[cycle(expression_text)]
-fn put_form(out: &mut Writer, form: &TypeName) -> Result<(), AllocError> {
+fn put_type_name(out: &mut Writer, type_name: &TypeName) -> Result<(), AllocError> {
     out.open("")?;
-    put_specifiers(out, form.specifiers.as_slice())?;
-    if let Some(declarator) = &form.declarator {
+    put_specifiers(out, type_name.specifiers.as_slice())?;
+    if let Some(declarator) = &type_name.declarator {
         put_declarator(out, declarator.get())?;
     }
     out.close()
@@ -199,28 +200,28 @@ fn open_tagged(out: &mut Writer, keyword: &str, tag: &Option<Spelling>) -> Resul
 
 #[cycle(expression_text)]
 fn put_specifier(out: &mut Writer, specifier: &Specifier) -> Result<(), AllocError> {
-    out.place(specifier.place)?;
-    match &specifier.node {
-        SpecifierNode::Keyword(of, _) => out.word(specifier_text(*of)),
-        SpecifierNode::Typename(name) => out.type_name(name.text.as_slice()),
-        SpecifierNode::Struct(_, tag) => {
+    out.place(first_of_specifier(specifier))?;
+    match specifier {
+        Specifier::Keyword(of, _) => out.word(specifier_text(*of)),
+        Specifier::Typename(name) => out.type_name(name.text.as_slice()),
+        Specifier::Struct(_, tag) => {
             out.open("struct")?;
             put_word(out, tag)?;
             out.close()
         }
-        SpecifierNode::Enum(_, tag) => {
+        Specifier::Enum(_, tag) => {
             out.open("enum")?;
             put_word(out, tag)?;
             out.close()
         }
-        SpecifierNode::StructBody(_, tag, _, lines, _) => {
+        Specifier::StructBody(_, tag, _, all, _) => {
             open_tagged(out, "struct", tag)?;
             out.word("{")?;
-            put_lines(out, lines.as_slice())?;
+            put_member_declarations(out, all.as_slice())?;
             out.word("}")?;
             out.close()
         }
-        SpecifierNode::EnumBody(_, tag, _, all, last, _) => {
+        Specifier::EnumBody(_, tag, _, all, last, _) => {
             open_tagged(out, "enum", tag)?;
             out.word("{")?;
             put_enumerators(out, all.as_slice())?;
@@ -231,15 +232,16 @@ fn put_specifier(out: &mut Writer, specifier: &Specifier) -> Result<(), AllocErr
     }
 }
 
-/// The lines of a struct, each with its specifiers and its declarators.
+/// The member declarations of a struct, each with its specifiers and its declarators.
 #[cycle(expression_text)]
-fn put_lines(out: &mut Writer, lines: &[MemberDeclaration]) -> Result<(), AllocError> {
-    for line in lines {
-        out.place(line.place)?;
+fn put_member_declarations(out: &mut Writer, all: &[MemberDeclaration]) -> Result<(), AllocError> {
+    for member in all {
+        let specifiers = member.specifiers.as_slice();
+        out.place(first_of_specifiers(specifiers))?;
         out.open("")?;
-        put_specifiers(out, line.specifiers.as_slice())?;
-        for field in line.declarators.as_slice() {
-            put_declarator(out, &field.declarator)?;
+        put_specifiers(out, specifiers)?;
+        for one in member.declarators.as_slice() {
+            put_declarator(out, &one.declarator)?;
         }
         out.close()?;
     }
@@ -250,7 +252,7 @@ fn put_lines(out: &mut Writer, lines: &[MemberDeclaration]) -> Result<(), AllocE
 #[cycle(expression_text)]
 fn put_enumerators(out: &mut Writer, all: &[Enumerator]) -> Result<(), AllocError> {
     for enumerator in all {
-        out.place(enumerator.place)?;
+        out.place(enumerator.name.from)?;
         match &enumerator.value {
             None => put_word(out, &enumerator.name)?,
             Some(value) => {
@@ -273,22 +275,33 @@ fn open_pointer(out: &mut Writer, times: usize) -> Result<(), AllocError> {
     Ok(())
 }
 
+/// Where a declarator that has a token begins.
+fn place_of_declarator(declarator: &Declarator) -> At {
+    match declarator {
+        Declarator::Identifier(name) => name.from,
+        Declarator::Pointer(at, _, _) | Declarator::Enclosed(at, _, _) => *at,
+        Declarator::Array(inner, left, _, _) | Declarator::Function(inner, left, _, _) => {
+            first_of_declarator(inner, *left)
+        }
+    }
+}
+
 #[cycle(expression_text)]
 pub fn put_declarator(out: &mut Writer, declarator: &Declarator) -> Result<(), AllocError> {
-    out.place(declarator.place)?;
-    match &declarator.node {
-        DeclaratorNode::Identifier(name) => return put_word(out, name),
-        DeclaratorNode::Enclosed(_, inner, _) => {
+    out.place(place_of_declarator(declarator))?;
+    match declarator {
+        Declarator::Identifier(name) => return put_word(out, name),
+        Declarator::Enclosed(_, inner, _) => {
             out.open("paren")?;
             put_declarator(out, inner.get())?;
         }
-        DeclaratorNode::Pointer(_, consts, inner) => {
+        Declarator::Pointer(_, consts, inner) => {
             open_pointer(out, consts.len())?;
             if let Some(inner) = inner {
                 put_declarator(out, inner.get())?;
             }
         }
-        DeclaratorNode::Array(inner, _, length, _) => {
+        Declarator::Array(inner, _, length, _) => {
             out.open("array")?;
             put_inner(out, inner)?;
             match length {
@@ -296,7 +309,7 @@ pub fn put_declarator(out: &mut Writer, declarator: &Declarator) -> Result<(), A
                 Some(length) => put_expression(out, length.get())?,
             }
         }
-        DeclaratorNode::Function(inner, _, parameters, _) => {
+        Declarator::Function(inner, _, parameters, _) => {
             out.open("function")?;
             put_inner(out, inner)?;
             put_parameters(out, parameters)?;

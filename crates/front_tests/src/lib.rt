@@ -19,16 +19,22 @@ mod operator_text;
 #[cfg(test)]
 mod places;
 #[cfg(test)]
+mod presumed_lines;
+#[cfg(test)]
 mod rows;
+#[cfg(test)]
+mod sizes;
 #[cfg(test)]
 mod statements;
 #[cfg(test)]
 mod stops;
 #[cfg(test)]
-mod tokens;
+mod string_bytes;
 #[cfg(test)]
-mod written;
+mod tokens;
 #[cfg(test)]
 mod tree_text;
 #[cfg(test)]
 mod writer;
+#[cfg(test)]
+mod written;

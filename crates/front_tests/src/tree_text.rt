@@ -5,8 +5,8 @@ use crate::expression_text::{
 };
 use crate::writer::Writer;
 use c_ast::{
-    SwitchItem, BlockItem, Declaration, ForStart, Function, InitDeclarator, Item, Label, Statement,
-    StatementNode, Tree,
+    BlockItem, Declaration, ForStart, Function, InitDeclarator, Item, Label, Statement, SwitchItem,
+    Tree, first_of_item, first_of_statement,
 };
 use std::alloc::AllocError;
 
@@ -25,7 +25,6 @@ fn put_declared(out: &mut Writer, declared: &InitDeclarator) -> Result<(), Alloc
 
 /// Specifiers and declarators.
 fn put_declaration(out: &mut Writer, declaration: &Declaration) -> Result<(), AllocError> {
-    out.place(declaration.place)?;
     out.open("declare")?;
     put_specifiers(out, declaration.specifiers.as_slice())?;
     for declared in declaration.declarators.as_slice() {
@@ -53,64 +52,64 @@ fn put_start(out: &mut Writer, start: &ForStart) -> Result<(), AllocError> {
 }
 
 /// The word for a statement.
-fn statement_head(node: &StatementNode) -> &'static str {
-    match node {
-        StatementNode::Block(_) => "block",
-        StatementNode::Expression(_, _) => ";",
-        StatementNode::If(_, _, _, _, _) => "if",
-        StatementNode::IfElse(_, _, _, _, _, _, _) => "if-else",
-        StatementNode::While(_, _, _, _, _) => "while",
-        StatementNode::DoWhile(_, _, _, _, _, _, _) => "do-while",
-        StatementNode::For(_, _, _, _, _, _, _, _) => "for",
-        StatementNode::Switch(_, _, _, _, _, _, _) => "switch",
-        StatementNode::Break(_, _) => "break",
-        StatementNode::Continue(_, _) => "continue",
-        StatementNode::Return(_, _, _) => "return",
+fn statement_head(statement: &Statement) -> &'static str {
+    match statement {
+        Statement::Block(_, _, _) => "block",
+        Statement::Expression(_, _) => ";",
+        Statement::If(_, _, _, _, _) => "if",
+        Statement::IfElse(_, _, _, _, _, _, _) => "if-else",
+        Statement::While(_, _, _, _, _) => "while",
+        Statement::DoWhile(_, _, _, _, _, _, _) => "do-while",
+        Statement::For(_, _, _, _, _, _, _, _) => "for",
+        Statement::Switch(_, _, _, _, _, _, _) => "switch",
+        Statement::Break(_, _) => "break",
+        Statement::Continue(_, _) => "continue",
+        Statement::Return(_, _, _) => "return",
     }
 }
 
 #[cycle(statement_text)]
 fn put_statement(out: &mut Writer, statement: &Statement) -> Result<(), AllocError> {
-    out.place(statement.place)?;
-    out.open(statement_head(&statement.node))?;
-    match &statement.node {
-        StatementNode::Break(_, _) | StatementNode::Continue(_, _) => {}
-        StatementNode::Expression(None, _) | StatementNode::Return(_, None, _) => {}
-        StatementNode::Expression(Some(value), _) | StatementNode::Return(_, Some(value), _) => {
+    out.place(first_of_statement(statement))?;
+    out.open(statement_head(statement))?;
+    match statement {
+        Statement::Break(_, _) | Statement::Continue(_, _) => {}
+        Statement::Expression(None, _) | Statement::Return(_, None, _) => {}
+        Statement::Expression(Some(value), _) | Statement::Return(_, Some(value), _) => {
             put_expression(out, value.get())?;
         }
-        StatementNode::Block(block) => put_entries(out, block.items.as_slice())?,
-        StatementNode::If(_, _, test, _, body) | StatementNode::While(_, _, test, _, body) => {
+        Statement::Block(_, all, _) => put_block_items(out, all.as_slice())?,
+        Statement::If(_, _, test, _, body) | Statement::While(_, _, test, _, body) => {
             put_expression(out, test.get())?;
             put_statement(out, body.get())?;
         }
-        StatementNode::DoWhile(_, body, _, _, test, _, _) => {
+        Statement::DoWhile(_, body, _, _, test, _, _) => {
             put_statement(out, body.get())?;
             put_expression(out, test.get())?;
         }
-        StatementNode::IfElse(_, _, test, _, one, _, other) => {
+        Statement::IfElse(_, _, test, _, one, _, other) => {
             put_expression(out, test.get())?;
             put_statement(out, one.get())?;
             put_statement(out, other.get())?;
         }
-        StatementNode::For(_, _, start, test, _, step, _, body) => {
+        Statement::For(_, _, start, test, _, step, _, body) => {
             put_start(out, start)?;
             put_optional_expression(out, test)?;
             put_optional_expression(out, step)?;
             put_statement(out, body.get())?;
         }
-        StatementNode::Switch(_, _, value, _, _, arms, _) => {
+        Statement::Switch(_, _, value, _, _, all, _) => {
             put_expression(out, value.get())?;
-            put_arms(out, arms.as_slice())?;
+            put_switch_items(out, all.as_slice())?;
         }
     }
     out.close()
 }
 
 #[cycle(statement_text)]
-fn put_entries(out: &mut Writer, entries: &[BlockItem]) -> Result<(), AllocError> {
-    for entry in entries {
-        match entry {
+fn put_block_items(out: &mut Writer, all: &[BlockItem]) -> Result<(), AllocError> {
+    for item in all {
+        match item {
             BlockItem::Declaration(declaration) => put_declaration(out, declaration)?,
             BlockItem::Statement(statement) => put_statement(out, statement)?,
         }
@@ -120,9 +119,9 @@ fn put_entries(out: &mut Writer, entries: &[BlockItem]) -> Result<(), AllocError
 
 /// Declarations, and statements with their labels.
 #[cycle(statement_text)]
-fn put_arms(out: &mut Writer, arms: &[SwitchItem]) -> Result<(), AllocError> {
-    for arm in arms {
-        match arm {
+fn put_switch_items(out: &mut Writer, all: &[SwitchItem]) -> Result<(), AllocError> {
+    for item in all {
+        match item {
             SwitchItem::Local(declaration) => put_declaration(out, declaration)?,
             SwitchItem::Labelled(labels, statement) => {
                 out.open("arm")?;
@@ -138,12 +137,12 @@ fn put_arms(out: &mut Writer, arms: &[SwitchItem]) -> Result<(), AllocError> {
 }
 
 fn put_function(out: &mut Writer, function: &Function) -> Result<(), AllocError> {
-    out.place(function.place)?;
     out.open("define")?;
     put_specifiers(out, function.specifiers.as_slice())?;
     put_declarator(out, &function.declarator)?;
+    out.place(function.open)?;
     out.open("block")?;
-    put_entries(out, function.body.items.as_slice())?;
+    put_block_items(out, function.body.as_slice())?;
     out.close()?;
     out.close()
 }
@@ -151,6 +150,7 @@ fn put_function(out: &mut Writer, function: &Function) -> Result<(), AllocError>
 /// The text of a tree.
 pub fn put_tree(out: &mut Writer, tree: &Tree) -> Result<(), AllocError> {
     for item in tree.items.as_slice() {
+        out.place(first_of_item(item))?;
         match item {
             Item::Function(function) => put_function(out, function)?,
             Item::Declaration(declaration) => put_declaration(out, declaration)?,

@@ -1,18 +1,18 @@
 //! The text of a tree as it grows: words and parentheses, with a space between any two of them.
 
-use lay_base::Place;
+use c_ast::At;
 use std::alloc::{AllocError, Global};
 
-/// A text of words and parentheses. Where `places` has a file's number, each node stands after its
-/// byte in that file and a colon.
+/// A text of words and parentheses. With `places`, each node stands after the byte at which it begins
+/// and a colon.
 #[derive(Drop)]
 pub struct Writer {
     text: Vec<u8>,
-    places: Option<u16>,
+    places: bool,
 }
 
 impl Writer {
-    pub fn new(alloc: Global, places: Option<u16>) -> Writer {
+    pub fn new(alloc: Global, places: bool) -> Writer {
         Writer {
             text: Vec::new(alloc),
             places,
@@ -33,11 +33,11 @@ impl Writer {
     }
 
     /// The place of the node that follows.
-    pub fn place(&mut self, place: Place) -> Result<(), AllocError> {
-        match self.places {
-            None => Ok(()),
-            Some(file) if place.file == file => self.number(place.at, ":"),
-            Some(_) => self.word("elsewhere:"),
+    pub fn place(&mut self, at: At) -> Result<(), AllocError> {
+        if self.places {
+            self.number(at, ":")
+        } else {
+            Ok(())
         }
     }
 

@@ -16,8 +16,8 @@ fn put_answer(out: &mut Writer, alloc: Global, text: &str) -> Result<(), AllocEr
     }
 }
 
-/// The tree of a text, with the places of its nodes where they are in the file of that number.
-pub fn written_with(alloc: Global, places: Option<u16>, text: &str) -> Result<String, AllocError> {
+/// The tree of a text, with or without the places of its nodes.
+pub fn written_with(alloc: Global, places: bool, text: &str) -> Result<String, AllocError> {
     let mut out = Writer::new(alloc, places);
     put_answer(&mut out, alloc, text)?;
     String::from_utf8_lossy(alloc, out.as_slice())
@@ -25,5 +25,5 @@ pub fn written_with(alloc: Global, places: Option<u16>, text: &str) -> Result<St
 
 /// The tree of a text.
 pub fn written(alloc: Global, text: &str) -> Result<String, AllocError> {
-    written_with(alloc, None, text)
+    written_with(alloc, false, text)
 }
