@@ -35,3 +35,4 @@ pub mod Tables
 pub mod Taken
 pub mod WholeTokens
 pub mod Wholeness
+pub mod FewNodes
