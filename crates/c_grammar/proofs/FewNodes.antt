@@ -5,8 +5,9 @@ use Rattle.lay_base.specs.declared.faults.Keyword.TheVariants as W
 use Rattle.c_lexer.specs.declared.punctuator.Punctuator.TheVariants as M
 use Rattle.c_lexer.specs.declared.token.TokenKind.TheVariants as K
 use Rattle.c_ast.specs.declared.words.Spelling.{Spelling}
+use Rattle.c_ast.specs.declared.size.Size.{Size}
 use Rattle.c_ast.specs.Trees
-use Rattle.c_ast.specs.Spelling.{Lexeme, punctuator, keyword, word, step_punctuator, binary_punctuator, assign_punctuator, spelled_comma, spelled_tag}
+use Rattle.c_ast.specs.Spelling.{Lexeme, spell, punctuator, keyword, word, step_punctuator, binary_punctuator, assign_punctuator, spelled_comma, spelled_tag}
 use Rattle.c_ast.specs.Spelling.{spelled, spelled_arguments, spelled_optional, spelled_type_name, spelled_specifiers, spelled_specifier}
 use Rattle.c_ast.specs.Spelling.{spelled_member_declarations, spelled_member_declarators, spelled_enumerators, spelled_enumerator_value, spelled_declarator}
 use Rattle.c_ast.specs.Spelling.{spelled_parameter_list, spelled_parameters, spelled_value, spelled_init_declarators, spelled_declaration, spelled_if_any}
@@ -23,248 +24,242 @@ use Rattle.c_ast.specs.Sizes.{size_for_start, size_statement, size_block_item, s
 use Rattle.c_grammar.proofs.Lengths.{texts_count, consts_count}
 use Rattle.c_grammar.proofs.Longer.{longer_comma}
 
+-- no more nodes than tokens before what follows
+abbrev Few : {A : Type 0} → (A → Size) → (A → List Lexeme → List Lexeme) → A → Type 0
+Few size spelled t = (rest : List Lexeme) → (size t).nodes + length rest ≤ length (spelled t rest)
+
+-- and a token more than nodes
+abbrev Fewer : {A : Type 0} → (A → Size) → (A → List Lexeme → List Lexeme) → A → Type 0
+Fewer size spelled t = (rest : List Lexeme) → (size t).nodes + length rest < length (spelled t rest)
+
+-- or no more than with the token before them
+abbrev FewAfterOne : {A : Type 0} → (A → Size) → (A → List Lexeme → List Lexeme) → A → Type 0
+FewAfterOne size spelled t = (rest : List Lexeme) → (size t).nodes + length rest ≤ length (spelled t rest) + 1
+
 longer_tag : (x : Option Spelling) (rest : List Lexeme) → length rest ≤ length (spelled_tag x rest)
 longer_tag None rest = omega arith
 longer_tag (Some x) rest = omega arith
 
 module _ (types : List (List ℕ)) where
   mutual
-    few : (t : Trees.Expression) (rest : List Lexeme) → IsExpression types t → (size t).nodes + length rest ≤ length (spelled t rest)
-    few (Trees.name x) rest w = omega arith
-    few (Trees.number x n kind) rest w = omega arith
-    few (Trees.character x n) rest w = omega arith
-    few (Trees.texts []) rest w = absurd (w refl)
-    few (Trees.texts (x ∷ more)) rest w = omega (arith, texts_count more rest)
-    few (Trees.paren left a right) rest w = omega (arith, few a (punctuator M.Close right ∷ rest) w)
-    few (Trees.index a left b right) rest w =
-        omega (arith, few a (punctuator M.OpenSquare left ∷ spelled b (punctuator M.CloseSquare right ∷ rest)) w.1,
-          few b (punctuator M.CloseSquare right ∷ rest) w.2)
-    few (Trees.call f left all right) rest w =
-        omega (arith, few f (punctuator M.Open left ∷ spelled_arguments all (punctuator M.Close right ∷ rest)) w.1,
-          arguments_few true all (punctuator M.Close right ∷ rest) w.2)
-    few (Trees.dot a at x) rest w = omega (arith, few a (punctuator M.Dot at ∷ word K.Name x ∷ rest) w.1)
-    few (Trees.arrow a at x) rest w = omega (arith, few a (punctuator M.Arrow at ∷ word K.Name x ∷ rest) w.1)
-    few (Trees.post a op at) rest w = omega (arith, few a (punctuator (step_punctuator op) at ∷ rest) w.1)
-    few (Trees.pre op at a) rest w = omega (arith, few a rest w.1)
-    few (Trees.unary op at a) rest w = omega (arith, few a rest w.1)
-    few (Trees.sizeof_expression at a) rest w = omega (arith, few a rest w.1)
-    few (Trees.sizeof_type at left t right) rest w = omega (arith, type_name_few t (punctuator M.Close right ∷ rest) w)
-    few (Trees.cast left t right a) rest w = omega (arith, type_name_few t (punctuator M.Close right ∷ spelled a rest) w.1, few a rest w.2)
-    few (Trees.binary a op at b) rest w = omega (arith, few a (punctuator (binary_punctuator op) at ∷ spelled b rest) w.2, few b rest w.3)
-    few (Trees.cond a question b colon c) rest w =
-        omega (arith, few a (punctuator M.Question question ∷ spelled b (punctuator M.Colon colon ∷ spelled c rest)) w.2,
-          few b (punctuator M.Colon colon ∷ spelled c rest) w.3, few c rest w.4)
-    few (Trees.assign a op at b) rest w = omega (arith, few a (punctuator (assign_punctuator op) at ∷ spelled b rest) w.2, few b rest w.3)
-    few (Trees.comma a at b) rest w = omega (arith, few a (punctuator M.Comma at ∷ spelled b rest) w.1, few b rest w.2)
-    few (Trees.braces left all comma right) rest w = absurd w
+    few : (t : Trees.Expression) → IsExpression types t → Few size spelled t
+    few (Trees.name x) w rest = omega arith
+    few (Trees.number x n kind) w rest = omega arith
+    few (Trees.character x n) w rest = omega arith
+    few (Trees.texts []) w rest = absurd (w refl)
+    few (Trees.texts (x ∷ more)) w rest = omega (arith, texts_count more rest)
+    few (Trees.paren left a right) w rest = omega (arith, few a w (punctuator M.Close right ∷ rest))
+    few (Trees.index a left b right) w rest =
+        omega (arith, few a w.1 (punctuator M.OpenSquare left ∷ spelled b (punctuator M.CloseSquare right ∷ rest)),
+          few b w.2 (punctuator M.CloseSquare right ∷ rest))
+    few (Trees.call f left all right) w rest =
+        omega (arith, few f w.1 (punctuator M.Open left ∷ spelled_arguments all (punctuator M.Close right ∷ rest)),
+          arguments_few true all w.2 (punctuator M.Close right ∷ rest))
+    few (Trees.dot a at x) w rest = omega (arith, few a w.1 (punctuator M.Dot at ∷ word K.Name x ∷ rest))
+    few (Trees.arrow a at x) w rest = omega (arith, few a w.1 (punctuator M.Arrow at ∷ word K.Name x ∷ rest))
+    few (Trees.post a op at) w rest = omega (arith, few a w.1 (punctuator (step_punctuator op) at ∷ rest))
+    few (Trees.pre op at a) w rest = omega (arith, few a w.1 rest)
+    few (Trees.unary op at a) w rest = omega (arith, few a w.1 rest)
+    few (Trees.sizeof_expression at a) w rest = omega (arith, few a w.1 rest)
+    few (Trees.sizeof_type at left t right) w rest = omega (arith, type_name_few t w (punctuator M.Close right ∷ rest))
+    few (Trees.cast left t right a) w rest = omega (arith, type_name_few t w.1 (punctuator M.Close right ∷ spelled a rest), few a w.2 rest)
+    few (Trees.binary a op at b) w rest = omega (arith, few a w.2 (punctuator (binary_punctuator op) at ∷ spelled b rest), few b w.3 rest)
+    few (Trees.cond a question b colon c) w rest =
+        omega (arith, few a w.2 (punctuator M.Question question ∷ spelled b (punctuator M.Colon colon ∷ spelled c rest)),
+          few b w.3 (punctuator M.Colon colon ∷ spelled c rest), few c w.4 rest)
+    few (Trees.assign a op at b) w rest = omega (arith, few a w.2 (punctuator (assign_punctuator op) at ∷ spelled b rest), few b w.3 rest)
+    few (Trees.comma a at b) w rest = omega (arith, few a w.1 (punctuator M.Comma at ∷ spelled b rest), few b w.2 rest)
+    few (Trees.braces left all comma right) w rest = absurd w
 
-    arguments_few : (first : Bool) (t : Trees.Arguments) (rest : List Lexeme) → AreArguments types first t
-        → (size_arguments t).nodes + length rest ≤ length (spelled_arguments t rest)
-    arguments_few first Trees.no_arguments rest w = omega arith
-    arguments_few first (Trees.and_argument comma a more) rest w =
-        omega (arith, longer_comma comma (spelled a (spelled_arguments more rest)), few a (spelled_arguments more rest) w.2,
-          arguments_few false more rest w.3)
+    arguments_few : (first : Bool) (t : Trees.Arguments) → AreArguments types first t → Few size_arguments spelled_arguments t
+    arguments_few first Trees.no_arguments w rest = omega arith
+    arguments_few first (Trees.and_argument comma a more) w rest =
+        omega (arith, longer_comma comma (spelled a (spelled_arguments more rest)), few a w.2 (spelled_arguments more rest),
+          arguments_few false more w.3 rest)
 
-    optional_few : (t : Trees.OptionalExpression) (rest : List Lexeme) → IsOptional types t
-        → (size_optional t).nodes + length rest ≤ length (spelled_optional t rest)
-    optional_few Trees.no_expression rest w = omega arith
-    optional_few (Trees.some_expression a) rest w = omega (arith, few a rest w.1)
+    optional_few : (t : Trees.OptionalExpression) → IsOptional types t → Few size_optional spelled_optional t
+    optional_few Trees.no_expression w rest = omega arith
+    optional_few (Trees.some_expression a) w rest = omega (arith, few a w.1 rest)
 
-    type_name_few : (t : Trees.TypeName) (rest : List Lexeme) → IsTypeName types t
-        → (size_type_name t).nodes + length rest ≤ length (spelled_type_name t rest)
-    type_name_few (Trees.type_name specs d) rest w = omega (arith, specifiers_few specs (spelled_declarator d rest) w.0, declarator_few d rest w.1)
+    type_name_few : (t : Trees.TypeName) → IsTypeName types t → Few size_type_name spelled_type_name t
+    type_name_few (Trees.type_name specs d) w rest = omega (arith, specifiers_few specs w.0 (spelled_declarator d rest), declarator_few d w.1 rest)
 
-    specifiers_few : (t : Trees.Specifiers) (rest : List Lexeme) → AreSpecifiers types t
-        → (size_specifiers t).nodes + length rest ≤ length (spelled_specifiers t rest)
-    specifiers_few Trees.no_specifiers rest w = absurd w
-    specifiers_few (Trees.and_specifier s more) rest w =
-        omega (arith, specifier_few s (spelled_specifiers more rest) w.0, more_specifiers_few more rest w.1)
+    specifiers_few : (t : Trees.Specifiers) → AreSpecifiers types t → Few size_specifiers spelled_specifiers t
+    specifiers_few Trees.no_specifiers w rest = absurd w
+    specifiers_few (Trees.and_specifier s more) w rest =
+        omega (arith, specifier_few s w.0 (spelled_specifiers more rest), more_specifiers_few more w.1 rest)
 
-    more_specifiers_few : (t : Trees.Specifiers) (rest : List Lexeme) → AreMoreSpecifiers types t
-        → (size_specifiers t).nodes + length rest ≤ length (spelled_specifiers t rest)
-    more_specifiers_few Trees.no_specifiers rest w = omega arith
-    more_specifiers_few (Trees.and_specifier s more) rest w =
-        omega (arith, specifier_few s (spelled_specifiers more rest) w.0, more_specifiers_few more rest w.1)
+    more_specifiers_few : (t : Trees.Specifiers) → AreMoreSpecifiers types t → Few size_specifiers spelled_specifiers t
+    more_specifiers_few Trees.no_specifiers w rest = omega arith
+    more_specifiers_few (Trees.and_specifier s more) w rest =
+        omega (arith, specifier_few s w.0 (spelled_specifiers more rest), more_specifiers_few more w.1 rest)
 
-    specifier_few : (t : Trees.Specifier) (rest : List Lexeme) → IsSpecifier types t
-        → (size_specifier t).nodes + length rest ≤ length (spelled_specifier t rest)
-    specifier_few (Trees.plain word at) rest w = omega arith
-    specifier_few (Trees.typename x) rest w = omega arith
-    specifier_few (Trees.struct_named at x) rest w = omega arith
-    specifier_few (Trees.struct_body at x left all right) rest w =
+    specifier_few : (t : Trees.Specifier) → IsSpecifier types t → Few size_specifier spelled_specifier t
+    specifier_few (Trees.plain word at) w rest = omega arith
+    specifier_few (Trees.typename x) w rest = omega arith
+    specifier_few (Trees.struct_named at x) w rest = omega arith
+    specifier_few (Trees.struct_body at x left all right) w rest =
         omega (arith, longer_tag x (punctuator M.OpenBrace left ∷ spelled_member_declarations all (punctuator M.CloseBrace right ∷ rest)),
-          member_declarations_few all (punctuator M.CloseBrace right ∷ rest) w.1)
-    specifier_few (Trees.enum_named at x) rest w = omega arith
-    specifier_few (Trees.enum_body at x left all comma right) rest w =
+          member_declarations_few all w.1 (punctuator M.CloseBrace right ∷ rest))
+    specifier_few (Trees.enum_named at x) w rest = omega arith
+    specifier_few (Trees.enum_body at x left all comma right) w rest =
         omega (arith, longer_tag x (punctuator M.OpenBrace left ∷ spelled_enumerators all (spelled_comma comma (punctuator M.CloseBrace right ∷ rest))),
-          enumerators_few true all (spelled_comma comma (punctuator M.CloseBrace right ∷ rest)) w.1,
+          enumerators_few true all w.1 (spelled_comma comma (punctuator M.CloseBrace right ∷ rest)),
           longer_comma comma (punctuator M.CloseBrace right ∷ rest))
 
-    member_declarations_few : (t : Trees.MemberDeclarations) (rest : List Lexeme) → AreMemberDeclarations types t
-        → (size_member_declarations t).nodes + length rest ≤ length (spelled_member_declarations t rest)
-    member_declarations_few Trees.no_member_declarations rest w = omega arith
-    member_declarations_few (Trees.and_member_declaration specs all semicolon more) rest w =
-        omega (arith, specifiers_few specs (spelled_member_declarators all (punctuator M.Semicolon semicolon ∷ spelled_member_declarations more rest)) w.0,
-          member_declarators_few true all (punctuator M.Semicolon semicolon ∷ spelled_member_declarations more rest) w.2,
-          member_declarations_few more rest w.3)
+    member_declarations_few : (t : Trees.MemberDeclarations) → AreMemberDeclarations types t → Few size_member_declarations spelled_member_declarations t
+    member_declarations_few Trees.no_member_declarations w rest = omega arith
+    member_declarations_few (Trees.and_member_declaration specs all semicolon more) w rest =
+        omega (arith, specifiers_few specs w.0 (spelled_member_declarators all (punctuator M.Semicolon semicolon ∷ spelled_member_declarations more rest)),
+          member_declarators_few true all w.2 (punctuator M.Semicolon semicolon ∷ spelled_member_declarations more rest),
+          member_declarations_few more w.3 rest)
 
-    member_declarators_few : (first : Bool) (t : Trees.MemberDeclarators) (rest : List Lexeme) → AreMemberDeclarators types first t
-        → (size_member_declarators t).nodes + length rest ≤ length (spelled_member_declarators t rest)
-    member_declarators_few first Trees.no_member_declarators rest w = omega arith
-    member_declarators_few first (Trees.and_member_declarator comma d more) rest w =
+    member_declarators_few : (first : Bool) (t : Trees.MemberDeclarators) → AreMemberDeclarators types first t → Few size_member_declarators spelled_member_declarators t
+    member_declarators_few first Trees.no_member_declarators w rest = omega arith
+    member_declarators_few first (Trees.and_member_declarator comma d more) w rest =
         omega (arith, longer_comma comma (spelled_declarator d (spelled_member_declarators more rest)),
-          declarator_few d (spelled_member_declarators more rest) w.1, member_declarators_few false more rest w.3)
+          declarator_few d w.1 (spelled_member_declarators more rest), member_declarators_few false more w.3 rest)
 
-    enumerators_few : (first : Bool) (t : Trees.Enumerators) (rest : List Lexeme) → AreEnumerators types first t
-        → (size_enumerators t).nodes + length rest ≤ length (spelled_enumerators t rest)
-    enumerators_few first Trees.no_enumerators rest w = omega arith
-    enumerators_few first (Trees.and_enumerator comma x value more) rest w =
+    enumerators_few : (first : Bool) (t : Trees.Enumerators) → AreEnumerators types first t → Few size_enumerators spelled_enumerators t
+    enumerators_few first Trees.no_enumerators w rest = omega arith
+    enumerators_few first (Trees.and_enumerator comma x value more) w rest =
         omega (arith, longer_comma comma (word K.Name x ∷ spelled_enumerator_value value (spelled_enumerators more rest)),
-          enumerator_value_few value (spelled_enumerators more rest) w.2, enumerators_few false more rest w.3)
+          enumerator_value_few value w.2 (spelled_enumerators more rest), enumerators_few false more w.3 rest)
 
-    enumerator_value_few : (t : Trees.EnumeratorValue) (rest : List Lexeme) → IsEnumeratorValue types t
-        → (size_enumerator_value t).nodes + length rest ≤ length (spelled_enumerator_value t rest)
-    enumerator_value_few Trees.no_value rest w = omega arith
-    enumerator_value_few (Trees.valued equal a) rest w = omega (arith, few a rest w.1)
+    enumerator_value_few : (t : Trees.EnumeratorValue) → IsEnumeratorValue types t → Few size_enumerator_value spelled_enumerator_value t
+    enumerator_value_few Trees.no_value w rest = omega arith
+    enumerator_value_few (Trees.valued equal a) w rest = omega (arith, few a w.1 rest)
 
-    declarator_few : (t : Trees.Declarator) (rest : List Lexeme) → IsDeclarator types t
-        → (size_declarator t).nodes + length rest ≤ length (spelled_declarator t rest)
-    declarator_few Trees.nothing rest w = omega arith
-    declarator_few (Trees.named x) rest w = omega arith
-    declarator_few (Trees.pointer at consts d) rest w = omega (arith, consts_count consts (spelled_declarator d rest), declarator_few d rest w)
-    declarator_few (Trees.enclosed left d right) rest w = omega (arith, declarator_few d (punctuator M.Close right ∷ rest) w.1)
-    declarator_few (Trees.array d left length right) rest w =
-        omega (arith, declarator_few d (punctuator M.OpenSquare left ∷ spelled_optional length (punctuator M.CloseSquare right ∷ rest)) w.1,
-          optional_few length (punctuator M.CloseSquare right ∷ rest) w.2)
-    declarator_few (Trees.function d left all right) rest w =
-        omega (arith, declarator_few d (punctuator M.Open left ∷ spelled_parameter_list all (punctuator M.Close right ∷ rest)) w.1,
-          parameter_list_few all (punctuator M.Close right ∷ rest) w.2)
+    declarator_few : (t : Trees.Declarator) → IsDeclarator types t → Few size_declarator spelled_declarator t
+    declarator_few Trees.nothing w rest = omega arith
+    declarator_few (Trees.named x) w rest = omega arith
+    declarator_few (Trees.pointer at consts d) w rest = omega (arith, consts_count consts (spelled_declarator d rest), declarator_few d w rest)
+    declarator_few (Trees.enclosed left d right) w rest = omega (arith, declarator_few d w.1 (punctuator M.Close right ∷ rest))
+    declarator_few (Trees.array d left length right) w rest =
+        omega (arith, declarator_few d w.1 (punctuator M.OpenSquare left ∷ spelled_optional length (punctuator M.CloseSquare right ∷ rest)),
+          optional_few length w.2 (punctuator M.CloseSquare right ∷ rest))
+    declarator_few (Trees.function d left all right) w rest =
+        omega (arith, declarator_few d w.1 (punctuator M.Open left ∷ spelled_parameter_list all (punctuator M.Close right ∷ rest)),
+          parameter_list_few all w.2 (punctuator M.Close right ∷ rest))
 
-    parameter_list_few : (t : Trees.ParameterList) (rest : List Lexeme) → IsParameterList types t
-        → (size_parameter_list t).nodes + length rest ≤ length (spelled_parameter_list t rest)
-    parameter_list_few (Trees.void_alone at) rest w = omega arith
-    parameter_list_few (Trees.listed all) rest w = omega (arith, parameters_few true all rest w.1)
+    parameter_list_few : (t : Trees.ParameterList) → IsParameterList types t → Few size_parameter_list spelled_parameter_list t
+    parameter_list_few (Trees.void_alone at) w rest = omega arith
+    parameter_list_few (Trees.listed all) w rest = omega (arith, parameters_few true all w.1 rest)
 
-    parameters_few : (first : Bool) (t : Trees.Parameters) (rest : List Lexeme) → AreParameters types first t
-        → (size_parameters t).nodes + length rest ≤ length (spelled_parameters t rest)
-    parameters_few first Trees.no_parameters rest w = omega arith
-    parameters_few first (Trees.and_parameter comma specs d more) rest w =
+    parameters_few : (first : Bool) (t : Trees.Parameters) → AreParameters types first t → Few size_parameters spelled_parameters t
+    parameters_few first Trees.no_parameters w rest = omega arith
+    parameters_few first (Trees.and_parameter comma specs d more) w rest =
         omega (arith, longer_comma comma (spelled_specifiers specs (spelled_declarator d (spelled_parameters more rest))),
-          specifiers_few specs (spelled_declarator d (spelled_parameters more rest)) w.1, declarator_few d (spelled_parameters more rest) w.2,
-          parameters_few false more rest w.3)
+          specifiers_few specs w.1 (spelled_declarator d (spelled_parameters more rest)), declarator_few d w.2 (spelled_parameters more rest),
+          parameters_few false more w.3 rest)
 
   mutual
-    initializer_few : (t : Trees.Expression) (rest : List Lexeme) → IsInitializer types t
-        → (size_initializer t).nodes + length rest ≤ length (spelled t rest) + 1
-    initializer_few (Trees.braces left all comma right) rest w =
-        omega (arith, first_initializers_few all (spelled_comma comma (punctuator M.CloseBrace right ∷ rest)) w.1,
+    initializer_few : (t : Trees.Expression) → IsInitializer types t → FewAfterOne size_initializer spelled t
+    initializer_few (Trees.braces left all comma right) w rest =
+        omega (arith, first_initializers_few all w.1 (spelled_comma comma (punctuator M.CloseBrace right ∷ rest)),
           longer_comma comma (punctuator M.CloseBrace right ∷ rest))
-    initializer_few a rest w = omega (arith, few a rest w.1)
+    initializer_few a w rest = omega (arith, few a w.1 rest)
 
-    -- each has a comma before it, which stands for the node of an initializer over its expression
-    initializers_few : (t : Trees.Arguments) (rest : List Lexeme) → AreInitializers types false t → (size_initializers t).nodes + length rest ≤ length (spelled_arguments t rest)
-    initializers_few Trees.no_arguments rest w = omega arith
-    initializers_few (Trees.and_argument None a more) rest w = let e : false ≡ true = w.0 in cc
-    initializers_few (Trees.and_argument (Some c) a more) rest w = omega (arith, initializer_few a (spelled_arguments more rest) w.1,
-    initializers_few more rest w.2)
+    -- each has a comma before it
+    initializers_few : (t : Trees.Arguments) → AreInitializers types false t → Few size_initializers spelled_arguments t
+    initializers_few Trees.no_arguments w rest = omega arith
+    initializers_few (Trees.and_argument None a more) w rest = let e : false ≡ true = w.0 in cc
+    initializers_few (Trees.and_argument (Some c) a more) w rest =
+        omega (arith, initializer_few a w.1 (spelled_arguments more rest), initializers_few more w.2 rest)
 
-    first_initializers_few : (t : Trees.Arguments) (rest : List Lexeme) → AreInitializers types true t → (size_initializers t).nodes + length rest ≤ length (spelled_arguments t rest) + 1
-    first_initializers_few Trees.no_arguments rest w = omega arith
-    first_initializers_few (Trees.and_argument comma a more) rest w =
-        omega (arith, longer_comma comma (spelled a (spelled_arguments more rest)), initializer_few a (spelled_arguments more rest) w.1,
-          initializers_few more rest w.2)
+    first_initializers_few : (t : Trees.Arguments) → AreInitializers types true t → FewAfterOne size_initializers spelled_arguments t
+    first_initializers_few Trees.no_arguments w rest = omega arith
+    first_initializers_few (Trees.and_argument comma a more) w rest =
+        omega (arith, longer_comma comma (spelled a (spelled_arguments more rest)),
+          initializer_few a w.1 (spelled_arguments more rest), initializers_few more w.2 rest)
 
-  value_few : (t : Option (ℕ × Trees.Expression)) (rest : List Lexeme) → IsValue types t → (size_value t).nodes + length rest ≤ length (spelled_value t rest)
-  value_few None rest w = omega arith
-  value_few (Some value) rest w = omega (arith, initializer_few value.1 rest w)
+  value_few : (t : Option (ℕ × Trees.Expression)) → IsValue types t → Few size_value spelled_value t
+  value_few None w rest = omega arith
+  value_few (Some value) w rest = omega (arith, initializer_few value.1 w rest)
 
-  init_declarators_few : (first : Bool) (t : List Trees.InitDeclarator) (rest : List Lexeme) → AreInitDeclarators types first t
-      → (size_init_declarators t).nodes + length rest ≤ length (spelled_init_declarators t rest)
-  init_declarators_few first [] rest w = omega arith
-  init_declarators_few first (d ∷ more) rest w =
+  init_declarators_few : (first : Bool) (t : List Trees.InitDeclarator) → AreInitDeclarators types first t → Few size_init_declarators spelled_init_declarators t
+  init_declarators_few first [] w rest = omega arith
+  init_declarators_few first (d ∷ more) w rest =
       omega (arith, longer_comma d.comma (spelled_declarator d.declarator (spelled_value d.value (spelled_init_declarators more rest))),
-        declarator_few d.declarator (spelled_value d.value (spelled_init_declarators more rest)) w.1,
-        value_few d.value (spelled_init_declarators more rest) w.3, init_declarators_few false more rest w.4)
+        declarator_few d.declarator w.1 (spelled_value d.value (spelled_init_declarators more rest)),
+        value_few d.value w.3 (spelled_init_declarators more rest), init_declarators_few false more w.4 rest)
 
-  -- its semicolon is none of its nodes
-  declaration_few : (t : Trees.Declaration) (rest : List Lexeme) → IsDeclaration types t
-      → (size_declaration t).nodes + length rest < length (spelled_declaration t rest)
-  declaration_few d rest w =
-      omega (arith, specifiers_few d.specs (spelled_init_declarators d.all (punctuator M.Semicolon d.semicolon ∷ rest)) w.0,
-        init_declarators_few true d.all (punctuator M.Semicolon d.semicolon ∷ rest) w.1)
+  declaration_few : (t : Trees.Declaration) → IsDeclaration types t → Fewer size_declaration spelled_declaration t
+  declaration_few d w rest =
+      omega (arith, specifiers_few d.specs w.0 (spelled_init_declarators d.all (punctuator M.Semicolon d.semicolon ∷ rest)),
+        init_declarators_few true d.all w.1 (punctuator M.Semicolon d.semicolon ∷ rest))
 
-  if_any_few : (t : Option Trees.Expression) (rest : List Lexeme) → IsExpressionIfAny types t
-      → (size_if_any t).nodes + length rest ≤ length (spelled_if_any t rest)
-  if_any_few None rest w = omega arith
-  if_any_few (Some a) rest w = omega (arith, few a rest w)
+  if_any_few : (t : Option Trees.Expression) → IsExpressionIfAny types t → Few size_if_any spelled_if_any t
+  if_any_few None w rest = omega arith
+  if_any_few (Some a) w rest = omega (arith, few a w rest)
 
-  labels_few : (t : List Trees.Label) (rest : List Lexeme) → AreLabels types t → (size_labels t).nodes + length rest ≤ length (spelled_labels t rest)
-  labels_few [] rest w = omega arith
-  labels_few (Trees.case at a colon ∷ more) rest w =
-      omega (arith, few a (punctuator M.Colon colon ∷ spelled_labels more rest) w.1, labels_few more rest w.2)
-  labels_few (Trees.default at colon ∷ more) rest w = omega (arith, labels_few more rest w)
+  labels_few : (t : List Trees.Label) → AreLabels types t → Few size_labels spelled_labels t
+  labels_few [] w rest = omega arith
+  labels_few (Trees.case at a colon ∷ more) w rest =
+      omega (arith, few a w.1 (punctuator M.Colon colon ∷ spelled_labels more rest), labels_few more w.2 rest)
+  labels_few (Trees.default at colon ∷ more) w rest = omega (arith, labels_few more w rest)
 
-  for_start_few : (t : Trees.ForStart) (rest : List Lexeme) → IsForStart types t → (size_for_start t).nodes + length rest ≤ length (spelled_for_start t rest)
-  for_start_few (Trees.starts_with a semicolon) rest w = omega (arith, if_any_few a (punctuator M.Semicolon semicolon ∷ rest) w)
-  for_start_few (Trees.declares d) rest w = omega (arith, declaration_few d rest w.1)
+  for_start_few : (t : Trees.ForStart) → IsForStart types t → Few size_for_start spelled_for_start t
+  for_start_few (Trees.starts_with a semicolon) w rest = omega (arith, if_any_few a w (punctuator M.Semicolon semicolon ∷ rest))
+  for_start_few (Trees.declares d) w rest = omega (arith, declaration_few d w.1 rest)
 
   mutual
-    statement_few : (t : Trees.Statement) (rest : List Lexeme) → IsStatement types t
-        → (size_statement t).nodes + length rest ≤ length (spelled_statement t rest)
-    statement_few (Trees.block left items right) rest w = omega (arith, block_items_few items (punctuator M.CloseBrace right ∷ rest) w)
-    statement_few (Trees.evaluate a semicolon) rest w = omega (arith, if_any_few a (punctuator M.Semicolon semicolon ∷ rest) w)
-    statement_few (Trees.when at left a right one) rest w =
-        omega (arith, few a (punctuator M.Close right ∷ spelled_statement one rest) w.0, statement_few one rest w.1)
-    statement_few (Trees.choose at left a right one else other) rest w =
-        omega (arith, few a (punctuator M.Close right ∷ spelled_statement one (keyword W.Else else ∷ spelled_statement other rest)) w.1,
-          statement_few one (keyword W.Else else ∷ spelled_statement other rest) w.2, statement_few other rest w.3)
-    statement_few (Trees.while at left a right body) rest w =
-        omega (arith, few a (punctuator M.Close right ∷ spelled_statement body rest) w.0, statement_few body rest w.1)
-    statement_few (Trees.do_while at body while left a right semicolon) rest w =
+    statement_few : (t : Trees.Statement) → IsStatement types t → Few size_statement spelled_statement t
+    statement_few (Trees.block left items right) w rest = omega (arith, block_items_few items w (punctuator M.CloseBrace right ∷ rest))
+    statement_few (Trees.evaluate a semicolon) w rest = omega (arith, if_any_few a w (punctuator M.Semicolon semicolon ∷ rest))
+    statement_few (Trees.when at left a right one) w rest =
+        omega (arith, few a w.0 (punctuator M.Close right ∷ spelled_statement one rest), statement_few one w.1 rest)
+    statement_few (Trees.choose at left a right one else other) w rest =
+        omega (arith, few a w.1 (punctuator M.Close right ∷ spelled_statement one (keyword W.Else else ∷ spelled_statement other rest)),
+          statement_few one w.2 (keyword W.Else else ∷ spelled_statement other rest), statement_few other w.3 rest)
+    statement_few (Trees.while at left a right body) w rest =
+        omega (arith, few a w.0 (punctuator M.Close right ∷ spelled_statement body rest), statement_few body w.1 rest)
+    statement_few (Trees.do_while at body while left a right semicolon) w rest =
         omega (arith,
-          statement_few body (keyword W.While while ∷ punctuator M.Open left ∷ spelled a (punctuator M.Close right ∷ punctuator M.Semicolon semicolon ∷ rest)) w.0, few a (punctuator M.Close right ∷ punctuator M.Semicolon semicolon ∷ rest) w.1)
-    statement_few (Trees.for at left start test semicolon step right body) rest w =
+          statement_few body w.0 (keyword W.While while ∷ punctuator M.Open left ∷ spelled a (punctuator M.Close right ∷ punctuator M.Semicolon semicolon ∷ rest)), few a w.1 (punctuator M.Close right ∷ punctuator M.Semicolon semicolon ∷ rest))
+    statement_few (Trees.for at left start test semicolon step right body) w rest =
         omega (arith,
-          for_start_few start (spelled_if_any test (punctuator M.Semicolon semicolon ∷ spelled_if_any step (punctuator M.Close right ∷ spelled_statement body rest))) w.0, if_any_few test (punctuator M.Semicolon semicolon ∷ spelled_if_any step (punctuator M.Close right ∷ spelled_statement body rest)) w.1, if_any_few step (punctuator M.Close right ∷ spelled_statement body rest) w.2, statement_few body rest w.3)
-    statement_few (Trees.switch at left a right begin switch_items end) rest w =
+          for_start_few start w.0 (spelled_if_any test (punctuator M.Semicolon semicolon ∷ spelled_if_any step (punctuator M.Close right ∷ spelled_statement body rest))), if_any_few test w.1 (punctuator M.Semicolon semicolon ∷ spelled_if_any step (punctuator M.Close right ∷ spelled_statement body rest)), if_any_few step w.2 (punctuator M.Close right ∷ spelled_statement body rest), statement_few body w.3 rest)
+    statement_few (Trees.switch at left a right begin switch_items end) w rest =
         omega (arith,
-          few a (punctuator M.Close right ∷ punctuator M.OpenBrace begin ∷ spelled_switch_items switch_items (punctuator M.CloseBrace end ∷ rest)) w.0,
-          switch_items_few switch_items (punctuator M.CloseBrace end ∷ rest) w.1)
-    statement_few (Trees.break at semicolon) rest w = omega arith
-    statement_few (Trees.continue at semicolon) rest w = omega arith
-    statement_few (Trees.return at a semicolon) rest w = omega (arith, if_any_few a (punctuator M.Semicolon semicolon ∷ rest) w)
+          few a w.0 (punctuator M.Close right ∷ punctuator M.OpenBrace begin ∷ spelled_switch_items switch_items (punctuator M.CloseBrace end ∷ rest)),
+          switch_items_few switch_items w.1 (punctuator M.CloseBrace end ∷ rest))
+    statement_few (Trees.break at semicolon) w rest = omega arith
+    statement_few (Trees.continue at semicolon) w rest = omega arith
+    statement_few (Trees.return at a semicolon) w rest = omega (arith, if_any_few a w (punctuator M.Semicolon semicolon ∷ rest))
 
-    block_item_few : (t : Trees.BlockItem) (rest : List Lexeme) → IsBlockItem types t
-        → (size_block_item t).nodes + length rest ≤ length (spelled_block_item t rest)
-    block_item_few (Trees.local d) rest w = omega (arith, declaration_few d rest w)
-    block_item_few (Trees.statement a) rest w = omega (arith, statement_few a rest w)
+    block_item_few : (t : Trees.BlockItem) → IsBlockItem types t → Few size_block_item spelled_block_item t
+    block_item_few (Trees.local d) w rest = omega (arith, declaration_few d w rest)
+    block_item_few (Trees.statement a) w rest = omega (arith, statement_few a w rest)
 
-    block_items_few : (t : Trees.BlockItems) (rest : List Lexeme) → AreBlockItems types t
-        → (size_block_items t).nodes + length rest ≤ length (spelled_block_items t rest)
-    block_items_few Trees.no_block_items rest w = omega arith
-    block_items_few (Trees.and_block_item e more) rest w =
-        omega (arith, block_item_few e (spelled_block_items more rest) w.0, block_items_few more rest w.1)
+    block_items_few : (t : Trees.BlockItems) → AreBlockItems types t → Few size_block_items spelled_block_items t
+    block_items_few Trees.no_block_items w rest = omega arith
+    block_items_few (Trees.and_block_item e more) w rest =
+        omega (arith, block_item_few e w.0 (spelled_block_items more rest), block_items_few more w.1 rest)
 
-    switch_item_few : (t : Trees.SwitchItem) (rest : List Lexeme) → IsSwitchItem types t
-        → (size_switch_item t).nodes + length rest ≤ length (spelled_switch_item t rest)
-    switch_item_few (Trees.local_switch_item d) rest w = omega (arith, declaration_few d rest w.1)
-    switch_item_few (Trees.labelled labels a) rest w = omega (arith, labels_few labels (spelled_statement a rest) w.0, statement_few a rest w.1)
+    switch_item_few : (t : Trees.SwitchItem) → IsSwitchItem types t → Few size_switch_item spelled_switch_item t
+    switch_item_few (Trees.local_switch_item d) w rest = omega (arith, declaration_few d w.1 rest)
+    switch_item_few (Trees.labelled labels a) w rest = omega (arith, labels_few labels w.0 (spelled_statement a rest), statement_few a w.1 rest)
 
-    switch_items_few : (t : Trees.SwitchItems) (rest : List Lexeme) → AreSwitchItems types t
-        → (size_switch_items t).nodes + length rest ≤ length (spelled_switch_items t rest)
-    switch_items_few Trees.no_switch_items rest w = omega arith
-    switch_items_few (Trees.and_switch_item switch_item more) rest w =
-        omega (arith, switch_item_few switch_item (spelled_switch_items more rest) w.0, switch_items_few more rest w.1)
+    switch_items_few : (t : Trees.SwitchItems) → AreSwitchItems types t → Few size_switch_items spelled_switch_items t
+    switch_items_few Trees.no_switch_items w rest = omega arith
+    switch_items_few (Trees.and_switch_item switch_item more) w rest =
+        omega (arith, switch_item_few switch_item w.0 (spelled_switch_items more rest), switch_items_few more w.1 rest)
 
-pub item_few : (types : List (List ℕ)) (t : Trees.Item) (rest : List Lexeme) → IsItem types t → (size_item t).nodes + length rest ≤ length (spelled_item t rest)
-item_few types (Trees.defines specs d left items right) rest w =
+item_few : (types : List (List ℕ)) (t : Trees.Item) → IsItem types t → Few size_item spelled_item t
+item_few types (Trees.defines specs d left items right) w rest =
     omega (arith,
-      specifiers_few types specs (spelled_declarator d (punctuator M.OpenBrace left ∷ spelled_block_items items (punctuator M.CloseBrace right ∷ rest))) w.0,
-      declarator_few types d (punctuator M.OpenBrace left ∷ spelled_block_items items (punctuator M.CloseBrace right ∷ rest)) w.1,
-      block_items_few types items (punctuator M.CloseBrace right ∷ rest) w.3)
-item_few types (Trees.declaration d) rest w =
-    omega (arith, declaration_few types d rest w)
+      specifiers_few types specs w.0 (spelled_declarator d (punctuator M.OpenBrace left ∷ spelled_block_items items (punctuator M.CloseBrace right ∷ rest))),
+      declarator_few types d w.1 (punctuator M.OpenBrace left ∷ spelled_block_items items (punctuator M.CloseBrace right ∷ rest)),
+      block_items_few types items w.3 (punctuator M.CloseBrace right ∷ rest))
+item_few types (Trees.declaration d) w rest =
+    omega (arith, declaration_few types d w rest)
 
-pub items_few : (types : List (List ℕ)) (t : List Trees.Item) (rest : List Lexeme) → AreItems types t → (size_items t).nodes + length rest ≤ length (spelled_items t rest)
-items_few types [] rest w = omega arith
-items_few types (item ∷ items) rest w = omega (arith, item_few types item (spelled_items items rest) w.0, items_few (types_after types item) items rest w.1)
+items_few : (types : List (List ℕ)) (t : List Trees.Item) → AreItems types t → Few size_items spelled_items t
+items_few types [] w rest = omega arith
+items_few types (item ∷ items) w rest =
+    omega (arith, item_few types item w.0 (spelled_items items rest), items_few (types_after types item) items w.1 rest)
+
+-- there are no more nodes than tokens
+pub no_more_nodes : (items : List Trees.Item) → AreItems [] items → (size_items items).nodes ≤ length (spell items)
+no_more_nodes items w = omega (arith, items_few [] items w [])

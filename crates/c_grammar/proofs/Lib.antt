@@ -36,3 +36,4 @@ pub mod Taken
 pub mod WholeTokens
 pub mod Wholeness
 pub mod FewNodes
+pub mod FirstPlaces
