@@ -6,7 +6,7 @@ use Rattle.c_ast.specs.WellFormed.{IsExpression, IsInitializer, AreSpecifiers, I
 use Rattle.c_ast.specs.Places.{begins_at, first, first_specifier, first_specifiers, first_declarator, first_declaration, first_statement, first_item}
 use Rattle.c_ast.specs.Laws.{TreesBeginFirst}
 
-expression_first : (types : List (List ℕ)) (t : Trees.Expression) → IsExpression types t → (rest : List Lexeme) → begins_at (spelled t rest) ≡ first t
+pub expression_first : (types : List (List ℕ)) (t : Trees.Expression) → IsExpression types t → (rest : List Lexeme) → begins_at (spelled t rest) ≡ first t
 expression_first types (Trees.name x) w rest = refl
 expression_first types (Trees.number x n kind) w rest = refl
 expression_first types (Trees.character x n) w rest = refl
@@ -41,7 +41,7 @@ specifier_first (Trees.struct_body at x left all right) rest = refl
 specifier_first (Trees.enum_named at x) rest = refl
 specifier_first (Trees.enum_body at x left all comma right) rest = refl
 
-specifiers_first : (types : List (List ℕ)) (specs : Trees.Specifiers) → AreSpecifiers types specs → (rest : List Lexeme)
+pub specifiers_first : (types : List (List ℕ)) (specs : Trees.Specifiers) → AreSpecifiers types specs → (rest : List Lexeme)
     → begins_at (spelled_specifiers specs rest) ≡ first_specifiers specs
 specifiers_first types Trees.no_specifiers w rest = absurd w
 specifiers_first types (Trees.and_specifier s more) w rest = specifier_first s _

@@ -37,3 +37,5 @@ pub mod WholeTokens
 pub mod Wholeness
 pub mod FewNodes
 pub mod FirstPlaces
+pub mod NodePlaces
+pub mod NodeCounts
