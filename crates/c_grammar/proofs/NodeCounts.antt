@@ -13,7 +13,8 @@ use Rattle.c_ast.specs.Places.{places_parameter_list, places_parameters, places_
 use Rattle.c_ast.specs.Places.{places_declaration, places_if_any, places_labels, places_for_start, places_statement, places_block_item, places_block_items}
 use Rattle.c_ast.specs.Places.{places_switch_item, places_switch_items, places_item, places_items}
 
-as_initializer_count : (a : Trees.Expression) (own : List ℕ) (n : Size) → length own ≡ n.nodes → length (places_as_initializer a own) ≡ (as_initializer a n).nodes
+as_initializer_count : (a : Trees.Expression) (own : List ℕ) (n : Size) → length own ≡ n.nodes
+    → length (places_as_initializer a own) ≡ (as_initializer a n).nodes
 as_initializer_count (Trees.braces left all comma right) own n h = h
 as_initializer_count a own n h = omega (arith, h)
 
@@ -56,7 +57,7 @@ mutual
   specifiers_count : (t : Trees.Specifiers) → length (places_specifiers t) ≡ (size_specifiers t).nodes
   specifiers_count Trees.no_specifiers = refl
   specifiers_count (Trees.and_specifier s more) =
-      omega (arith, length-append (places_specifier s) (places_specifiers more), specifier_count s, more_specifiers_count more)
+      omega (arith, length-append (places_specifier s) (places_specifiers more), specifier_count s, specifiers_count more)
 
   specifier_count : (t : Trees.Specifier) → length (places_specifier t) ≡ (size_specifier t).nodes
   specifier_count (Trees.plain word at) = refl
@@ -108,13 +109,14 @@ mutual
         length-append (places_specifiers specs ++ places_declarator d) (places_parameters more), specifiers_count specs, declarator_count d,
         parameters_count more)
 
-  initializer_count : (t : Trees.Expression) → length (places_initializer t) ≡ (size_initializer t).nodes
-  initializer_count a = as_initializer_count a (places a) (size a) (count a)
-
   initializers_count : (t : Trees.Arguments) → length (places_initializers t) ≡ (size_initializers t).nodes
   initializers_count Trees.no_arguments = refl
   initializers_count (Trees.and_argument comma a more) =
-      omega (arith, length-append (places_initializer a) (places_initializers more), initializer_count a, initializers_count more)
+      omega (arith, length-append (places_initializer a) (places_initializers more), as_initializer_count a (places a) (size a) (count a),
+        initializers_count more)
+
+initializer_count : (t : Trees.Expression) → length (places_initializer t) ≡ (size_initializer t).nodes
+initializer_count a = as_initializer_count a (places a) (size a) (count a)
 
 value_count : (t : Option (ℕ × Trees.Expression)) → length (places_value t) ≡ (size_value t).nodes
 value_count None = refl
