@@ -86,7 +86,8 @@ of_each P (item ∷ items) h =
 pub nodes_have_places : TokensHavePlaces → NodesHavePlaces
 nodes_have_places p = record {
   of_tree = λ items w.
-      All-from_recursion (IsPlaceOf (spell items)) (places_items items) (placed (IsPlaceOf (spell items)) items w (own_places (spell items) [] (spell items) refl));
+      All-from_recursion (IsPlaceOf (spell items)) (places_items items)
+        (placed (IsPlaceOf (spell items)) items w (own_places (spell items) [] (spell items) refl));
   of_file = λ bytes items t. All-from_recursion (IsPlaceIn bytes) (places_items items) (placed_in p bytes items t);
   of_item = λ bytes items t.
       All-from_recursion (λ item. All (IsPlaceIn bytes) (places_item item)) items (of_each (IsPlaceIn bytes) items (placed_in p bytes items t));

@@ -93,8 +93,8 @@ mutual
   declarator_count (Trees.named x) = refl
   declarator_count (Trees.pointer at consts d) = omega (arith, declarator_count d)
   declarator_count (Trees.enclosed left d right) = omega (arith, declarator_count d)
-  declarator_count (Trees.array d left length right) =
-      omega (arith, length-append (places_declarator d) (places_optional length), declarator_count d, optional_count length)
+  declarator_count (Trees.array d left bound right) =
+      omega (arith, length-append (places_declarator d) (places_optional bound), declarator_count d, optional_count bound)
   declarator_count (Trees.function d left all right) =
       omega (arith, length-append (places_declarator d) (places_parameter_list all), declarator_count d, parameter_list_count all)
 
@@ -162,8 +162,8 @@ mutual
         length-append (places_for_start start ++ places_if_any test) (places_if_any step),
         length-append (places_for_start start ++ places_if_any test ++ places_if_any step) (places_statement body), for_start_count start, if_any_count test,
         if_any_count step, statement_count body)
-  statement_count (Trees.switch at left a right begin switch_items end) =
-      omega (arith, length-append (places a) (places_switch_items switch_items), count a, switch_items_count switch_items)
+  statement_count (Trees.switch at left a right begin all end) =
+      omega (arith, length-append (places a) (places_switch_items all), count a, switch_items_count all)
   statement_count (Trees.break at semicolon) = refl
   statement_count (Trees.continue at semicolon) = refl
   statement_count (Trees.return at a semicolon) = omega (arith, if_any_count a)
@@ -184,8 +184,8 @@ mutual
 
   switch_items_count : (t : Trees.SwitchItems) → length (places_switch_items t) ≡ (size_switch_items t).nodes
   switch_items_count Trees.no_switch_items = refl
-  switch_items_count (Trees.and_switch_item switch_item more) =
-      omega (arith, length-append (places_switch_item switch_item) (places_switch_items more), switch_item_count switch_item, switch_items_count more)
+  switch_items_count (Trees.and_switch_item e more) =
+      omega (arith, length-append (places_switch_item e) (places_switch_items more), switch_item_count e, switch_items_count more)
 
 pub item_count : (t : Trees.Item) → length (places_item t) ≡ (size_item t).nodes
 item_count (Trees.defines specs d left items right) =
