@@ -1,5 +1,5 @@
 -- What holds of the trees of files: their sizes, where they begin, and where their nodes stand.
-use Rattle.std.specs.Prelude.{◌≡◌, ℕ, ◌≤◌, ◌<◌, ◌^◌, List, [], ◌∷◌, ◌++◌, All, length}
+use Rattle.std.specs.Prelude.{◌≡◌, ℕ, ◌≤◌, List, [], ◌∷◌, ◌++◌, All, length}
 use Rattle.c_lexer.specs.TokenPlaces.{IsPlaceIn}
 use Rattle.c_ast.specs.Trees
 use Rattle.c_ast.specs.Spelling.{Lexeme, spelled, spelled_specifiers, spelled_declarator, spelled_declaration, spelled_statement, spelled_item, spell}

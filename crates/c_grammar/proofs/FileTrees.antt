@@ -1,5 +1,5 @@
 -- The tree of a file is small, and its nodes stand at tokens of the file.
-use Rattle.std.proofs.Common.{◌≡◌, ℕ, ◌+◌, ◌≤◌, ◌<◌, ◌^◌, max, List, [], ◌∷◌, ◌++◌, length, map, refl, ap, sym, ◌∙◌, subst, arith}
+use Rattle.std.proofs.Common.{◌≡◌, ℕ, ◌≤◌, List, [], ◌∷◌, ◌++◌, length, refl, ap, sym, ◌∙◌, subst, arith}
 use Rattle.std.specs.List.{All, AllByRecursion}
 use Rattle.std.proofs.lemmas.List.{length-map, append_assoc}
 use Rattle.std.proofs.lemmas.List.Elements.{All-from_recursion, recursion_from_All}
@@ -14,7 +14,7 @@ use Rattle.c_ast.specs.Places.{places_item, places_items}
 use Rattle.c_ast.specs.TreesOfFiles.{IsTreeOf, greatest_depth}
 use Rattle.c_ast.specs.Laws.{TreesAreSmall, IsPlaceOf, NodesHavePlaces}
 use Rattle.c_grammar.proofs.FewNodes.{no_more_nodes}
-use Rattle.c_grammar.proofs.NodePlaces.{Each, EachToken, items_stand}
+use Rattle.c_grammar.proofs.NodePlaces.{items_stand}
 use Rattle.c_grammar.proofs.NodeCounts.{item_count, items_count}
 
 -- ---- each item of a tree is no larger than the tree

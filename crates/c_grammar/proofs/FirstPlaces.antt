@@ -1,9 +1,9 @@
 -- A well formed tree begins where `first` says: at the first token of its spelling.
-use Rattle.std.proofs.Common.{◌≡◌, ℕ, List, [], ◌∷◌, Option, Some, None, true, refl}
+use Rattle.std.proofs.Common.{◌≡◌, ℕ, List, [], ◌∷◌, Some, None, refl}
 use Rattle.c_ast.specs.Trees
 use Rattle.c_ast.specs.Spelling.{Lexeme, spelled, spelled_specifiers, spelled_specifier, spelled_declarator, spelled_declaration, spelled_statement}
 use Rattle.c_ast.specs.Spelling.{spelled_item}
-use Rattle.c_ast.specs.WellFormed.{IsExpression, IsInitializer, AreSpecifiers, IsSpecifier, IsDeclaration, IsStatement, IsItem}
+use Rattle.c_ast.specs.WellFormed.{IsExpression, IsInitializer, AreSpecifiers, IsDeclaration, IsStatement, IsItem}
 use Rattle.c_ast.specs.Places.{begins_at, first, first_specifier, first_specifiers, first_declarator, first_declaration, first_statement, first_item}
 use Rattle.c_ast.specs.Laws.{TreesBeginFirst}
 
