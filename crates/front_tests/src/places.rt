@@ -2,12 +2,19 @@
 //! by hand.
 
 use crate::answer::{FILE, tree_of};
-use crate::written::written_with;
+use crate::rows::{Frame, Row, first_otherwise};
 use std::alloc::Global;
 use std::test::Fail;
 
+/// Files, with the places of nodes.
+static PLACED: Frame = Frame {
+    text: ("", ""),
+    tree: ("", ""),
+    places: true,
+};
+
 /// Files, and their trees with the place of each node.
-static PLACES: &[(&str, &str)] = &[
+static PLACES: &[Row] = &[
     (
         "int\nf(int *x, int [3])\n{\n  return a *\n    b + (int (*)(int ())) *x;\n}\n",
         "0:(define 0:int 4:(function 4:f (6:int 10:(* 11:x)) (14:int 18:(array () 19:3))) 23:(block 27:(return 34:(+ 34:(* 34:a 42:b) 46:(cast (47:int 51:(function 51:(paren 52:(*)) (55:int 59:(function ())))) 64:(* 65:x))))))",
@@ -33,10 +40,7 @@ static PLACES: &[(&str, &str)] = &[
 
 #[test]
 fn each_node_has_its_place(rt: HostRuntime) -> Result<(), Fail> {
-    for (text, wanted) in PLACES {
-        let found = written_with(rt.alloc(), true, text)?;
-        assert_eq!(rt; found.as_str(), *wanted, "at {text}");
-    }
+    assert_eq!(rt; first_otherwise(rt.alloc(), &PLACED, &[PLACES])?, None);
     Ok(())
 }
 

@@ -400,15 +400,20 @@ fn presumed(alloc: Global, text: &[u8], at: u32) -> Option<Presumed> {
     }
 }
 
+/// The first text that has other tokens or another fault, with what is written of it.
+fn first_otherwise(alloc: Global) -> Result<Option<(&'static str, String)>, AllocError> {
+    for (text, wanted) in &TEXTS {
+        let found = written(alloc, text.as_bytes())?;
+        if found.as_str() != *wanted {
+            return Ok(Some((*text, found)));
+        }
+    }
+    Ok(None)
+}
+
 #[test]
 fn a_text_has_its_tokens_or_its_first_fault(rt: HostRuntime) -> Result<(), Fail> {
-    for (text, wanted) in &TEXTS {
-        assert_eq!(rt;
-            written(rt.alloc(), text.as_bytes())?.as_str(),
-            *wanted,
-            "at {text}"
-        );
-    }
+    assert_eq!(rt; first_otherwise(rt.alloc())?, None);
     Ok(())
 }
 
