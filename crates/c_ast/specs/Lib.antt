@@ -6,3 +6,4 @@ pub mod Places
 pub mod Views
 pub mod Lexemes
 pub mod TreesOfFiles
+pub mod Laws

@@ -82,7 +82,8 @@ abbrev mutual
 
   pub size_member_declarations : Trees.MemberDeclarations → Size
   size_member_declarations Trees.no_member_declarations = empty
-  size_member_declarations (Trees.and_member_declaration specs member_declarators semicolon more) = beside (over (beside (size_specifiers specs) (size_member_declarators member_declarators))) (size_member_declarations more)
+  size_member_declarations (Trees.and_member_declaration specs member_declarators semicolon more) =
+      beside (over (beside (size_specifiers specs) (size_member_declarators member_declarators))) (size_member_declarations more)
 
   pub size_member_declarators : Trees.MemberDeclarators → Size
   size_member_declarators Trees.no_member_declarators = empty
@@ -151,7 +152,8 @@ abbrev mutual
   size_statement (Trees.choose at left a right one else other) = over (beside (beside (size a) (size_statement one)) (size_statement other))
   size_statement (Trees.while at left a right body) = over (beside (size a) (size_statement body))
   size_statement (Trees.do_while at body while left a right semicolon) = over (beside (size_statement body) (size a))
-  size_statement (Trees.for at left start test semicolon step right body) = over (beside (beside (beside (size_for_start start) (size_if_any test)) (size_if_any step)) (size_statement body))
+  size_statement (Trees.for at left start test semicolon step right body) =
+      over (beside (beside (beside (size_for_start start) (size_if_any test)) (size_if_any step)) (size_statement body))
   size_statement (Trees.switch at left a right begin switch_items end) = over (beside (size a) (size_switch_items switch_items))
   size_statement (Trees.break at semicolon) = leaf
   size_statement (Trees.continue at semicolon) = leaf

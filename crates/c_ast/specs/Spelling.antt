@@ -138,7 +138,8 @@ abbrev mutual
   spelled (Trees.cond a question b colon c) rest = spelled a (punctuator M.Question question ∷ spelled b (punctuator M.Colon colon ∷ spelled c rest))
   spelled (Trees.assign a op at b) rest = spelled a (punctuator (assign_punctuator op) at ∷ spelled b rest)
   spelled (Trees.comma a at b) rest = spelled a (punctuator M.Comma at ∷ spelled b rest)
-  spelled (Trees.braces left all comma right) rest = punctuator M.OpenBrace left ∷ spelled_arguments all (spelled_comma comma (punctuator M.CloseBrace right ∷ rest))
+  spelled (Trees.braces left all comma right) rest = punctuator M.OpenBrace left ∷ spelled_arguments all
+      (spelled_comma comma (punctuator M.CloseBrace right ∷ rest))
 
   pub spelled_arguments : Trees.Arguments → List Lexeme → List Lexeme
   spelled_arguments Trees.no_arguments rest = rest
@@ -159,13 +160,16 @@ abbrev mutual
   spelled_specifier (Trees.plain word at) rest = keyword (specifier_keyword word) at ∷ rest
   spelled_specifier (Trees.typename x) rest = word K.Name x ∷ rest
   spelled_specifier (Trees.struct_named at x) rest = keyword W.Struct at ∷ word K.Name x ∷ rest
-  spelled_specifier (Trees.struct_body at x left member_declarations right) rest = keyword W.Struct at ∷ spelled_tag x (punctuator M.OpenBrace left ∷ spelled_member_declarations member_declarations (punctuator M.CloseBrace right ∷ rest))
+  spelled_specifier (Trees.struct_body at x left member_declarations right) rest =
+      keyword W.Struct at ∷ spelled_tag x (punctuator M.OpenBrace left ∷ spelled_member_declarations member_declarations (punctuator M.CloseBrace right ∷ rest))
   spelled_specifier (Trees.enum_named at x) rest = keyword W.Enum at ∷ word K.Name x ∷ rest
-  spelled_specifier (Trees.enum_body at x left all comma right) rest = keyword W.Enum at ∷ spelled_tag x (punctuator M.OpenBrace left ∷ spelled_enumerators all (spelled_comma comma (punctuator M.CloseBrace right ∷ rest)))
+  spelled_specifier (Trees.enum_body at x left all comma right) rest =
+      keyword W.Enum at ∷ spelled_tag x (punctuator M.OpenBrace left ∷ spelled_enumerators all (spelled_comma comma (punctuator M.CloseBrace right ∷ rest)))
 
   pub spelled_member_declarations : Trees.MemberDeclarations → List Lexeme → List Lexeme
   spelled_member_declarations Trees.no_member_declarations rest = rest
-  spelled_member_declarations (Trees.and_member_declaration specs member_declarators semicolon more) rest = spelled_specifiers specs (spelled_member_declarators member_declarators (punctuator M.Semicolon semicolon ∷ spelled_member_declarations more rest))
+  spelled_member_declarations (Trees.and_member_declaration specs member_declarators semicolon more) rest =
+      spelled_specifiers specs (spelled_member_declarators member_declarators (punctuator M.Semicolon semicolon ∷ spelled_member_declarations more rest))
 
   pub spelled_member_declarators : Trees.MemberDeclarators → List Lexeme → List Lexeme
   spelled_member_declarators Trees.no_member_declarators rest = rest
@@ -173,7 +177,8 @@ abbrev mutual
 
   pub spelled_enumerators : Trees.Enumerators → List Lexeme → List Lexeme
   spelled_enumerators Trees.no_enumerators rest = rest
-  spelled_enumerators (Trees.and_enumerator comma x value more) rest = spelled_comma comma (word K.Name x ∷ spelled_enumerator_value value (spelled_enumerators more rest))
+  spelled_enumerators (Trees.and_enumerator comma x value more) rest =
+      spelled_comma comma (word K.Name x ∷ spelled_enumerator_value value (spelled_enumerators more rest))
 
   pub spelled_enumerator_value : Trees.EnumeratorValue → List Lexeme → List Lexeme
   spelled_enumerator_value Trees.no_value rest = rest
@@ -184,8 +189,10 @@ abbrev mutual
   spelled_declarator (Trees.named x) rest = word K.Name x ∷ rest
   spelled_declarator (Trees.pointer at consts d) rest = punctuator M.Star at ∷ spelled_consts consts (spelled_declarator d rest)
   spelled_declarator (Trees.enclosed left d right) rest = punctuator M.Open left ∷ spelled_declarator d (punctuator M.Close right ∷ rest)
-  spelled_declarator (Trees.array d left length right) rest = spelled_declarator d (punctuator M.OpenSquare left ∷ spelled_optional length (punctuator M.CloseSquare right ∷ rest))
-  spelled_declarator (Trees.function d left all right) rest = spelled_declarator d (punctuator M.Open left ∷ spelled_parameter_list all (punctuator M.Close right ∷ rest))
+  spelled_declarator (Trees.array d left length right) rest =
+      spelled_declarator d (punctuator M.OpenSquare left ∷ spelled_optional length (punctuator M.CloseSquare right ∷ rest))
+  spelled_declarator (Trees.function d left all right) rest =
+      spelled_declarator d (punctuator M.Open left ∷ spelled_parameter_list all (punctuator M.Close right ∷ rest))
 
   pub spelled_parameter_list : Trees.ParameterList → List Lexeme → List Lexeme
   spelled_parameter_list (Trees.void_alone at) rest = keyword W.Void at ∷ rest
@@ -193,7 +200,8 @@ abbrev mutual
 
   pub spelled_parameters : Trees.Parameters → List Lexeme → List Lexeme
   spelled_parameters Trees.no_parameters rest = rest
-  spelled_parameters (Trees.and_parameter comma specs d more) rest = spelled_comma comma (spelled_specifiers specs (spelled_declarator d (spelled_parameters more rest)))
+  spelled_parameters (Trees.and_parameter comma specs d more) rest =
+      spelled_comma comma (spelled_specifiers specs (spelled_declarator d (spelled_parameters more rest)))
 
 -- ---- declarations
 
@@ -227,12 +235,22 @@ abbrev mutual
   pub spelled_statement : Trees.Statement → List Lexeme → List Lexeme
   spelled_statement (Trees.block left items right) rest = punctuator M.OpenBrace left ∷ spelled_block_items items (punctuator M.CloseBrace right ∷ rest)
   spelled_statement (Trees.evaluate a semicolon) rest = spelled_if_any a (punctuator M.Semicolon semicolon ∷ rest)
-  spelled_statement (Trees.when at left a right one) rest = keyword W.If at ∷ punctuator M.Open left ∷ spelled a (punctuator M.Close right ∷ spelled_statement one rest)
-  spelled_statement (Trees.choose at left a right one else other) rest = keyword W.If at ∷ punctuator M.Open left ∷ spelled a (punctuator M.Close right ∷ spelled_statement one (keyword W.Else else ∷ spelled_statement other rest))
-  spelled_statement (Trees.while at left a right body) rest = keyword W.While at ∷ punctuator M.Open left ∷ spelled a (punctuator M.Close right ∷ spelled_statement body rest)
-  spelled_statement (Trees.do_while at body while left a right semicolon) rest = keyword W.Do at ∷ spelled_statement body (keyword W.While while ∷ punctuator M.Open left ∷ spelled a (punctuator M.Close right ∷ punctuator M.Semicolon semicolon ∷ rest))
-  spelled_statement (Trees.for at left start test semicolon step right body) rest = keyword W.For at ∷ punctuator M.Open left ∷ spelled_for_start start (spelled_if_any test (punctuator M.Semicolon semicolon ∷ spelled_if_any step (punctuator M.Close right ∷ spelled_statement body rest)))
-  spelled_statement (Trees.switch at left a right begin switch_items end) rest = keyword W.Switch at ∷ punctuator M.Open left ∷ spelled a (punctuator M.Close right ∷ punctuator M.OpenBrace begin ∷ spelled_switch_items switch_items (punctuator M.CloseBrace end ∷ rest))
+  spelled_statement (Trees.when at left a right one) rest = keyword W.If at ∷ punctuator M.Open left ∷ spelled a
+      (punctuator M.Close right ∷ spelled_statement one rest)
+  spelled_statement (Trees.choose at left a right one else other) rest =
+      keyword W.If at ∷ punctuator M.Open left ∷ spelled a (punctuator M.Close right ∷ spelled_statement one
+      (keyword W.Else else ∷ spelled_statement other rest))
+  spelled_statement (Trees.while at left a right body) rest =
+      keyword W.While at ∷ punctuator M.Open left ∷ spelled a (punctuator M.Close right ∷ spelled_statement body rest)
+  spelled_statement (Trees.do_while at body while left a right semicolon) rest =
+      keyword W.Do at ∷ spelled_statement body (keyword W.While while ∷ punctuator M.Open left ∷ spelled a
+      (punctuator M.Close right ∷ punctuator M.Semicolon semicolon ∷ rest))
+  spelled_statement (Trees.for at left start test semicolon step right body) rest =
+      keyword W.For at ∷ punctuator M.Open left ∷ spelled_for_start start
+      (spelled_if_any test (punctuator M.Semicolon semicolon ∷ spelled_if_any step (punctuator M.Close right ∷ spelled_statement body rest)))
+  spelled_statement (Trees.switch at left a right begin switch_items end) rest =
+      keyword W.Switch at ∷ punctuator M.Open left ∷ spelled a
+      (punctuator M.Close right ∷ punctuator M.OpenBrace begin ∷ spelled_switch_items switch_items (punctuator M.CloseBrace end ∷ rest))
   spelled_statement (Trees.break at semicolon) rest = keyword W.Break at ∷ punctuator M.Semicolon semicolon ∷ rest
   spelled_statement (Trees.continue at semicolon) rest = keyword W.Continue at ∷ punctuator M.Semicolon semicolon ∷ rest
   spelled_statement (Trees.return at a semicolon) rest = keyword W.Return at ∷ spelled_if_any a (punctuator M.Semicolon semicolon ∷ rest)
@@ -256,7 +274,8 @@ abbrev mutual
 -- ---- files
 
 abbrev pub spelled_item : Trees.Item → List Lexeme → List Lexeme
-spelled_item (Trees.defines specs d left items right) rest = spelled_specifiers specs (spelled_declarator d (punctuator M.OpenBrace left ∷ spelled_block_items items (punctuator M.CloseBrace right ∷ rest)))
+spelled_item (Trees.defines specs d left items right) rest =
+    spelled_specifiers specs (spelled_declarator d (punctuator M.OpenBrace left ∷ spelled_block_items items (punctuator M.CloseBrace right ∷ rest)))
 spelled_item (Trees.declaration d) rest = spelled_declaration d rest
 
 abbrev pub spelled_items : List Trees.Item → List Lexeme → List Lexeme

@@ -64,7 +64,8 @@ mutual
   -- the member declarations of a structure (6.7.2.1)
   pub data MemberDeclarations : Type 0 where
     no_member_declarations : MemberDeclarations
-    and_member_declaration : (specs : Specifiers) → (member_declarators : MemberDeclarators) → (semicolon : ℕ) → (more : MemberDeclarations) → MemberDeclarations
+    and_member_declaration : (specs : Specifiers) → (member_declarators : MemberDeclarators) → (semicolon : ℕ) → (more : MemberDeclarations)
+        → MemberDeclarations
 
   -- the declarators of a line; each but the first has a comma before it
   pub data MemberDeclarators : Type 0 where
@@ -130,7 +131,8 @@ mutual
     choose : (at left : ℕ) → (a : Expression) → (right : ℕ) → (one : Statement) → (else : ℕ) → (other : Statement) → Statement
     while : (at left : ℕ) → (a : Expression) → (right : ℕ) → (body : Statement) → Statement
     do_while : (at : ℕ) → (body : Statement) → (while left : ℕ) → (a : Expression) → (right semicolon : ℕ) → Statement
-    for : (at left : ℕ) → (start : ForStart) → (test : Option Expression) → (semicolon : ℕ) → (step : Option Expression) → (right : ℕ) → (body : Statement) → Statement
+    for : (at left : ℕ) → (start : ForStart) → (test : Option Expression) → (semicolon : ℕ) → (step : Option Expression) → (right : ℕ)
+        → (body : Statement) → Statement
     switch : (at left : ℕ) → (a : Expression) → (right begin : ℕ) → (switch_items : SwitchItems) → (end : ℕ) → Statement
     break : (at semicolon : ℕ) → Statement
     continue : (at semicolon : ℕ) → Statement

@@ -60,7 +60,8 @@ specifiers_of (s ∷ more) = Trees.and_specifier s (specifiers_of more)
 
 abbrev pub member_declarations_of : List OneMemberDeclaration → Trees.MemberDeclarations
 member_declarations_of [] = Trees.no_member_declarations
-member_declarations_of (member_declaration ∷ more) = Trees.and_member_declaration member_declaration.0 member_declaration.1 member_declaration.2 (member_declarations_of more)
+member_declarations_of (member_declaration ∷ more) = Trees.and_member_declaration member_declaration.0 member_declaration.1 member_declaration.2
+    (member_declarations_of more)
 
 abbrev pub member_declarators_of : List OneMemberDeclarator → Trees.MemberDeclarators
 member_declarators_of [] = Trees.no_member_declarators
@@ -145,7 +146,11 @@ abbrev pub enumerator_value_layer : OfExpressions E.EnumeratorValue-F → Trees.
 enumerator_value_layer value = Trees.valued value.equal value.value
 
 abbrev pub member_declaration_layer : OfExpressions E.MemberDeclaration-F → OneMemberDeclaration
-member_declaration_layer member_declaration = (specifiers_of member_declaration.specifiers, member_declarators_of member_declaration.declarators, member_declaration.semicolon)
+member_declaration_layer member_declaration = (
+  specifiers_of member_declaration.specifiers,
+  member_declarators_of member_declaration.declarators,
+  member_declaration.semicolon,
+)
 
 abbrev pub member_declarator_layer : OfExpressions E.MemberDeclarator-F → OneMemberDeclarator
 member_declarator_layer member_declarator = (member_declarator.comma, member_declarator.declarator)
@@ -277,7 +282,8 @@ statement_layer (S.If at left a right one) = Trees.when at left (expression_of a
 statement_layer (S.IfElse at left a right one else other) = Trees.choose at left (expression_of a) right one else other
 statement_layer (S.While at left a right body) = Trees.while at left (expression_of a) right body
 statement_layer (S.DoWhile at body while left a right semicolon) = Trees.do_while at body while left (expression_of a) right semicolon
-statement_layer (S.For at left start test semicolon step right body) = Trees.for at left (for_start_of start) (option_map expression_of test) semicolon (option_map expression_of step) right body
+statement_layer (S.For at left start test semicolon step right body) =
+    Trees.for at left (for_start_of start) (option_map expression_of test) semicolon (option_map expression_of step) right body
 statement_layer (S.Switch at left a right begin switch_items end) = Trees.switch at left (expression_of a) right begin (switch_items_of switch_items) end
 statement_layer (S.Break at semicolon) = Trees.break at semicolon
 statement_layer (S.Continue at semicolon) = Trees.continue at semicolon

@@ -135,21 +135,26 @@ abbrev mutual
   IsSpecifier types (Trees.plain word at) = Unit {0}
   IsSpecifier types (Trees.typename x) = is_typename types x.text ≡ true
   IsSpecifier types (Trees.struct_named at x) = Unit {0}
-  IsSpecifier types (Trees.struct_body at x left member_declarations right) = (member_declarations ≢ Trees.no_member_declarations) × AreMemberDeclarations types member_declarations
+  IsSpecifier types (Trees.struct_body at x left member_declarations right) =
+      (member_declarations ≢ Trees.no_member_declarations) × AreMemberDeclarations types member_declarations
   IsSpecifier types (Trees.enum_named at x) = Unit {0}
   IsSpecifier types (Trees.enum_body at x left all comma right) = (all ≢ Trees.no_enumerators) × AreEnumerators types true all
 
   pub AreMemberDeclarations : List (List ℕ) → Trees.MemberDeclarations → Type 0
   AreMemberDeclarations types Trees.no_member_declarations = Unit {0}
-  AreMemberDeclarations types (Trees.and_member_declaration specs member_declarators semicolon more) = AreSpecifiers types specs × (member_declarators ≢ Trees.no_member_declarators) × AreMemberDeclarators types true member_declarators × AreMemberDeclarations types more
+  AreMemberDeclarations types (Trees.and_member_declaration specs member_declarators semicolon more) =
+      AreSpecifiers types specs × (member_declarators ≢ Trees.no_member_declarators) × AreMemberDeclarators types true member_declarators
+      × AreMemberDeclarations types more
 
   pub AreMemberDeclarators : List (List ℕ) → Bool → Trees.MemberDeclarators → Type 0
   AreMemberDeclarators types first Trees.no_member_declarators = Unit {0}
-  AreMemberDeclarators types first (Trees.and_member_declarator comma d more) = IsComma first comma × IsDeclarator types d × (has_name d ≡ true) × AreMemberDeclarators types false more
+  AreMemberDeclarators types first (Trees.and_member_declarator comma d more) =
+      IsComma first comma × IsDeclarator types d × (has_name d ≡ true) × AreMemberDeclarators types false more
 
   pub AreEnumerators : List (List ℕ) → Bool → Trees.Enumerators → Type 0
   AreEnumerators types first Trees.no_enumerators = Unit {0}
-  AreEnumerators types first (Trees.and_enumerator comma x value more) = IsComma first comma × (is_typename types x.text ≡ false) × IsEnumeratorValue types value × AreEnumerators types false more
+  AreEnumerators types first (Trees.and_enumerator comma x value more) =
+      IsComma first comma × (is_typename types x.text ≡ false) × IsEnumeratorValue types value × AreEnumerators types false more
 
   pub IsEnumeratorValue : List (List ℕ) → Trees.EnumeratorValue → Type 0
   IsEnumeratorValue types Trees.no_value = Unit {0}
@@ -170,7 +175,8 @@ abbrev mutual
 
   pub AreParameters : List (List ℕ) → Bool → Trees.Parameters → Type 0
   AreParameters types first Trees.no_parameters = Unit {0}
-  AreParameters types first (Trees.and_parameter comma specs d more) = IsComma first comma × AreSpecifiers types specs × IsDeclarator types d × AreParameters types false more
+  AreParameters types first (Trees.and_parameter comma specs d more) =
+      IsComma first comma × AreSpecifiers types specs × IsDeclarator types d × AreParameters types false more
 
 -- ---- declarations
 
@@ -190,7 +196,8 @@ IsValue types (Some value) = IsInitializer types value.1
 
 abbrev pub AreInitDeclarators : List (List ℕ) → Bool → List Trees.InitDeclarator → Type 0
 AreInitDeclarators types first [] = Unit {0}
-AreInitDeclarators types first (d ∷ more) = IsComma first d.comma × IsDeclarator types d.declarator × (has_name d.declarator ≡ true) × IsValue types d.value × AreInitDeclarators types false more
+AreInitDeclarators types first (d ∷ more) = IsComma first d.comma × IsDeclarator types d.declarator × (has_name d.declarator ≡ true)
+    × IsValue types d.value × AreInitDeclarators types false more
 
 abbrev pub IsDeclaration : List (List ℕ) → Trees.Declaration → Type 0
 IsDeclaration types d = AreSpecifiers types d.specs × AreInitDeclarators types true d.all
@@ -228,10 +235,12 @@ abbrev mutual
   IsStatement types (Trees.evaluate a semicolon) = IsExpressionIfAny types a
   IsStatement types (Trees.when at left a right one) = IsExpression types a × IsStatement types one
   -- an else stands with the nearest if
-  IsStatement types (Trees.choose at left a right one else other) = (is_open one ≡ false) × IsExpression types a × IsStatement types one × IsStatement types other
+  IsStatement types (Trees.choose at left a right one else other) =
+      (is_open one ≡ false) × IsExpression types a × IsStatement types one × IsStatement types other
   IsStatement types (Trees.while at left a right body) = IsExpression types a × IsStatement types body
   IsStatement types (Trees.do_while at body while left a right semicolon) = IsStatement types body × IsExpression types a
-  IsStatement types (Trees.for at left start test semicolon step right body) = IsForStart types start × IsExpressionIfAny types test × IsExpressionIfAny types step × IsStatement types body
+  IsStatement types (Trees.for at left start test semicolon step right body) =
+      IsForStart types start × IsExpressionIfAny types test × IsExpressionIfAny types step × IsStatement types body
   IsStatement types (Trees.switch at left a right begin switch_items end) = IsExpression types a × AreSwitchItems types switch_items
   IsStatement types (Trees.break at semicolon) = Unit {0}
   IsStatement types (Trees.continue at semicolon) = Unit {0}

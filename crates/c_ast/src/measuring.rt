@@ -2,8 +2,15 @@
 
 ghost use Rattle.std.specs.Prelude.{◌≡◌, map};
 ghost use Rattle.std.specs.Option.{option_map};
-ghost use Rattle.c_ast.specs.Sizes.{IsCountable, as_initializer, size as size_of, size_arguments, size_initializers, size_type_name, size_specifiers, size_specifier, size_member_declarations, size_member_declarators, size_enumerators, size_declarator, size_parameter_list, size_parameters, size_initializer, size_init_declarators, size_declaration, size_if_any, size_labels, size_for_start, size_statement, size_block_items, size_switch_items, size_item, size_items};
-ghost use Rattle.c_ast.specs.Views.{expression_of, argument_of, type_name_of, specifier_of, member_declaration_of, member_declarator_of, enumerator_of, declarator_of, parameter_list_of, parameter_of, arguments_of, specifiers_of, member_declarations_of, member_declarators_of, enumerators_of, parameters_of, init_declarator_of, declaration_of, label_of, for_start_of, block_items_of, switch_items_of, statement_of, block_item_of, switch_item_of, function_of, item_of};
+ghost use Rattle.c_ast.specs.Sizes.{IsCountable, as_initializer, size as size_of, size_arguments, size_initializers, size_type_name, size_specifiers};
+ghost use Rattle.c_ast.specs.Sizes.{size_specifier, size_member_declarations, size_member_declarators, size_enumerators, size_declarator};
+ghost use Rattle.c_ast.specs.Sizes.{size_parameter_list, size_parameters, size_initializer, size_init_declarators, size_declaration, size_if_any};
+ghost use Rattle.c_ast.specs.Sizes.{size_labels, size_for_start, size_statement, size_block_items, size_switch_items, size_item, size_items};
+ghost use Rattle.c_ast.specs.Views.{expression_of, argument_of, type_name_of, specifier_of, member_declaration_of, member_declarator_of};
+ghost use Rattle.c_ast.specs.Views.{enumerator_of, declarator_of, parameter_list_of, parameter_of, arguments_of, specifiers_of};
+ghost use Rattle.c_ast.specs.Views.{member_declarations_of, member_declarators_of, enumerators_of, parameters_of, init_declarator_of, declaration_of};
+ghost use Rattle.c_ast.specs.Views.{label_of, for_start_of, block_items_of, switch_items_of, statement_of, block_item_of, switch_item_of};
+ghost use Rattle.c_ast.specs.Views.{function_of, item_of};
 
 use crate::declaration::{Declaration, InitDeclarator};
 use crate::expression::{

@@ -2,7 +2,8 @@
 
 ghost use Rattle.std.specs.Prelude.{◌≡◌, map};
 ghost use Rattle.std.specs.Option.{option_map};
-ghost use Rattle.c_ast.specs.Places.{first, first_declaration, first_declarator, first_if_any, first_item, first_specifier, first_specifiers, first_statement, first_text};
+ghost use Rattle.c_ast.specs.Places.{first, first_declaration, first_declarator, first_if_any, first_item, first_specifier, first_specifiers};
+ghost use Rattle.c_ast.specs.Places.{first_statement, first_text};
 ghost use Rattle.c_ast.specs.Views.{declaration_of, declarator_if_any, declarator_of, expression_of, item_of, specifier_of, specifiers_of, statement_of};
 
 use crate::declaration::Declaration;

@@ -4,7 +4,9 @@ ghost use Rattle.std.specs.Prelude.{◌≡◌, ◌↔◌, ◌<◌, ◌^◌, [], 
 ghost use Rattle.c_ast.specs.Lexemes.{lexemes_of};
 ghost use Rattle.c_cursor.specs.Gives.{Accepts, Gives};
 ghost use Rattle.c_cursor.specs.declared.failure.Failure.TheVariants.{NoParse};
-ghost use Rattle.c_grammar.specs.Reading.{advance, after, another, any_name, any_word, assign_at, begins_enclosed, begins_specifier, begins_type_name, begins_typename, begins_void, binary_at, comma_before, comma_if_any, deeper, expect, front, fronted, is_keyword, names_type, peek, plain_name, specifier_at, step_at, tag_if_any, unary_at};
+ghost use Rattle.c_grammar.specs.Reading.{advance, after, another, any_name, any_word, assign_at, begins_enclosed, begins_specifier};
+ghost use Rattle.c_grammar.specs.Reading.{begins_type_name, begins_typename, begins_void, binary_at, comma_before, comma_if_any, deeper, expect};
+ghost use Rattle.c_grammar.specs.Reading.{front, fronted, is_keyword, names_type, peek, plain_name, specifier_at, step_at, tag_if_any, unary_at};
 
 use crate::begins;
 use crate::failure::Failure;

@@ -73,10 +73,10 @@ fn assigned(
             if level_of(a.get()) < 14 {
                 return Err(tokens.stop());
             }
-            let mark = tokens.advance();
+            let place = tokens.advance();
             let (b, e) = expression_inside(alloc, types, inside, Level::Assignment, tokens)?;
             let d = deeper_than(inside, d.max(e), tokens)?;
-            Ok((boxed(alloc, Expression::Assign(a, op, mark, b))?, d))
+            Ok((boxed(alloc, Expression::Assign(a, op, place, b))?, d))
         }
         None => Ok((a, d)),
     }
@@ -112,10 +112,10 @@ fn comma(
     ensures { Steps expression_of result tokens.new (comma_step inside (at types.now inside) (expression_of x) d tokens.old) }
 {
     match tokens.accept(Punctuator::Comma) {
-        Some(mark) => {
+        Some(place) => {
             let (b, e) = expression_inside(alloc, types, inside, Level::Assignment, tokens)?;
             let d = deeper_than(inside, d.max(e), tokens)?;
-            Ok((boxed(alloc, Expression::Comma(x, mark, b))?, d, true))
+            Ok((boxed(alloc, Expression::Comma(x, place, b))?, d, true))
         }
         None => Ok((x, d, false)),
     }

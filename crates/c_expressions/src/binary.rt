@@ -32,11 +32,11 @@ fn operator(
             if strength < least {
                 return Ok((x, d, false));
             }
-            let mark = tokens.advance();
+            let place = tokens.advance();
             let level = Level::Operators(strength + 1);
             let (b, e) = expression_inside(alloc, types, inside, level, tokens)?;
             let d = deeper_than(inside, d.max(e), tokens)?;
-            Ok((boxed(alloc, Expression::Binary(x, op, mark, b))?, d, true))
+            Ok((boxed(alloc, Expression::Binary(x, op, place, b))?, d, true))
         }
         None => Ok((x, d, false)),
     }

@@ -4,7 +4,8 @@ ghost use Rattle.std.specs.Prelude.{◌≡◌, ◌+◌, [], false, length, map};
 ghost use Rattle.std.specs.Option.{option_map};
 ghost use Rattle.c_ast.specs.Views.{declarator_if_any, declarator_of, expression_of, optional_of, parameter_list_of, parameter_of};
 ghost use Rattle.c_cursor.specs.Gives.{Gives, Reads, Steps};
-ghost use Rattle.c_grammar.specs.Reading.{array_in, at, chain, const_step, core_in, declarator_in, direct_in, enclosed_in, function_in, is_nothing, length_in, parameter_step, parameters_in, pointer_in, suffix_step};
+ghost use Rattle.c_grammar.specs.Reading.{array_in, at, chain, const_step, core_in, declarator_in, direct_in, enclosed_in, function_in, is_nothing};
+ghost use Rattle.c_grammar.specs.Reading.{length_in, parameter_step, parameters_in, pointer_in, suffix_step};
 
 use crate::level::Level;
 use crate::within::{declarator_inside, expression_inside, specifiers_inside};
@@ -257,7 +258,8 @@ fn function(
     left: At,
     tokens: &mut Cursor,
 ) -> Result<(Boxed<Declarator>, u32), Failure>
-    ensures { Reads declarator_of result tokens.new (function_in inside (at types.now inside) (declarator_if_any (option_map declarator_of x)) d left tokens.old) }
+    ensures { Reads declarator_of result tokens.new (function_in inside (at types.now inside)
+        (declarator_if_any (option_map declarator_of x)) d left tokens.old) }
 {
     let (all, e) = parameters(alloc, types, inside, tokens)?;
     let right = tokens.expect(Punctuator::Close)?;
@@ -276,7 +278,8 @@ fn brackets(
     d: u32,
     tokens: &mut Cursor,
 ) -> Result<(Option<Boxed<Declarator>>, u32, bool), Failure>
-    ensures { Steps (λ d. declarator_if_any (option_map declarator_of d)) result tokens.new (suffix_step inside (at types.now inside) (declarator_if_any (option_map declarator_of x)) d tokens.old) }
+    ensures { Steps (λ d. declarator_if_any (option_map declarator_of d)) result tokens.new
+        (suffix_step inside (at types.now inside) (declarator_if_any (option_map declarator_of x)) d tokens.old) }
 {
     if tokens.peek(Punctuator::OpenSquare) {
         let left = tokens.advance();

@@ -24,7 +24,8 @@ pub fn enumerator(
     inside: u16,
     tokens: &mut Cursor,
 ) -> Result<((Spelling, Option<EnumeratorValue>), u32), Failure>
-    ensures { Reads (λ x. (x.0, enumerator_value_of (option_map one_value_of x.1))) result tokens.new (enumerator_in types.now inside (at types.now inside) tokens.old) }
+    ensures { Reads (λ x. (x.0, enumerator_value_of (option_map one_value_of x.1))) result tokens.new
+        (enumerator_in types.now inside (at types.now inside) tokens.old) }
 {
     let name = tokens.plain_name(alloc, types)?;
     match tokens.accept(Punctuator::Equal) {
@@ -92,18 +93,18 @@ fn enum_body(
     alloc: Global,
     types: &Typenames,
     inside: u16,
-    mark: At,
+    place: At,
     name: Option<Spelling>,
     tokens: &mut Cursor,
 ) -> Result<(Specifier, u32), Failure>
-    ensures { Reads specifier_of result tokens.new (enum_body_in inside (at types.now inside) mark name tokens.old) }
+    ensures { Reads specifier_of result tokens.new (enum_body_in inside (at types.now inside) place name tokens.old) }
 {
     let left = tokens.expect(Punctuator::OpenBrace)?;
     let (all, d) = enumerators(alloc, types, inside, tokens)?;
     let comma = tokens.comma_if_any();
     let right = tokens.expect(Punctuator::CloseBrace)?;
     let d = deeper_than(inside, d, tokens)?;
-    Ok((Specifier::EnumBody(mark, name, left, all, comma, right), d))
+    Ok((Specifier::EnumBody(place, name, left, all, comma, right), d))
 }
 
 /// What stands after `enum`.
@@ -112,19 +113,20 @@ pub fn enumeration(
     alloc: Global,
     types: &Typenames,
     inside: u16,
-    mark: At,
+    place: At,
     tokens: &mut Cursor,
 ) -> Result<(Specifier, u32), Failure>
-    ensures { Reads specifier_of result tokens.new (tagged_in (Trees.enum_named mark) (enum_body_in inside (at types.now inside) mark) (tag_if_any tokens.old)) }
+    ensures { Reads specifier_of result tokens.new (tagged_in (Trees.enum_named place) (enum_body_in inside (at types.now inside) place)
+        (tag_if_any tokens.old)) }
 {
     let tag = tokens.tag_if_any(alloc)?;
     match tag {
-        None => enum_body(alloc, types, inside, mark, None, tokens),
+        None => enum_body(alloc, types, inside, place, None, tokens),
         Some(name) => {
             if tokens.peek(Punctuator::OpenBrace) {
-                return enum_body(alloc, types, inside, mark, Some(name), tokens);
+                return enum_body(alloc, types, inside, place, Some(name), tokens);
             }
-            Ok((Specifier::Enum(mark, name), 1))
+            Ok((Specifier::Enum(place, name), 1))
         }
     }
 }

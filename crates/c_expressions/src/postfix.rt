@@ -130,13 +130,13 @@ fn stepped(
     x: Boxed<Expression>,
     d: u32,
     op: StepOp,
-    mark: At,
+    place: At,
     tokens: &mut Cursor,
 ) -> Result<(Boxed<Expression>, u32), Failure>
-    ensures { Reads expression_of result tokens.new (stepped_in inside (expression_of x) d op mark tokens.old) }
+    ensures { Reads expression_of result tokens.new (stepped_in inside (expression_of x) d op place tokens.old) }
 {
     let d = deeper_than(inside, d, tokens)?;
-    Ok((boxed(alloc, Expression::Post(x, op, mark))?, d))
+    Ok((boxed(alloc, Expression::Post(x, op, place))?, d))
 }
 
 /// What stands after `.`.
@@ -146,14 +146,14 @@ fn dot(
     inside: u16,
     x: Boxed<Expression>,
     d: u32,
-    mark: At,
+    place: At,
     tokens: &mut Cursor,
 ) -> Result<(Boxed<Expression>, u32), Failure>
-    ensures { Reads expression_of result tokens.new (dot_in inside (expression_of x) d mark tokens.old) }
+    ensures { Reads expression_of result tokens.new (dot_in inside (expression_of x) d place tokens.old) }
 {
     let name = tokens.any_name(alloc)?;
     let d = deeper_than(inside, d, tokens)?;
-    Ok((boxed(alloc, Expression::Dot(x, mark, name))?, d))
+    Ok((boxed(alloc, Expression::Dot(x, place, name))?, d))
 }
 
 /// What stands after `->`.
@@ -163,14 +163,14 @@ fn arrow(
     inside: u16,
     x: Boxed<Expression>,
     d: u32,
-    mark: At,
+    place: At,
     tokens: &mut Cursor,
 ) -> Result<(Boxed<Expression>, u32), Failure>
-    ensures { Reads expression_of result tokens.new (arrow_in inside (expression_of x) d mark tokens.old) }
+    ensures { Reads expression_of result tokens.new (arrow_in inside (expression_of x) d place tokens.old) }
 {
     let name = tokens.any_name(alloc)?;
     let d = deeper_than(inside, d, tokens)?;
-    Ok((boxed(alloc, Expression::Arrow(x, mark, name))?, d))
+    Ok((boxed(alloc, Expression::Arrow(x, place, name))?, d))
 }
 
 /// One suffix more, if one stands at the front.
@@ -188,28 +188,28 @@ fn suffix(
 {
     let read = match tokens.front() {
         Some(TokenKind::Punctuator(Punctuator::OpenSquare)) => {
-            let mark = tokens.advance();
-            index(alloc, types, inside, x, d, mark, tokens)
+            let place = tokens.advance();
+            index(alloc, types, inside, x, d, place, tokens)
         }
         Some(TokenKind::Punctuator(Punctuator::Open)) => {
-            let mark = tokens.advance();
-            call(alloc, types, inside, x, d, mark, tokens)
+            let place = tokens.advance();
+            call(alloc, types, inside, x, d, place, tokens)
         }
         Some(TokenKind::Punctuator(Punctuator::Dot)) => {
-            let mark = tokens.advance();
-            dot(alloc, inside, x, d, mark, tokens)
+            let place = tokens.advance();
+            dot(alloc, inside, x, d, place, tokens)
         }
         Some(TokenKind::Punctuator(Punctuator::Arrow)) => {
-            let mark = tokens.advance();
-            arrow(alloc, inside, x, d, mark, tokens)
+            let place = tokens.advance();
+            arrow(alloc, inside, x, d, place, tokens)
         }
         Some(TokenKind::Punctuator(Punctuator::PlusPlus)) => {
-            let mark = tokens.advance();
-            stepped(alloc, inside, x, d, StepOp::Increment, mark, tokens)
+            let place = tokens.advance();
+            stepped(alloc, inside, x, d, StepOp::Increment, place, tokens)
         }
         Some(TokenKind::Punctuator(Punctuator::MinusMinus)) => {
-            let mark = tokens.advance();
-            stepped(alloc, inside, x, d, StepOp::Decrement, mark, tokens)
+            let place = tokens.advance();
+            stepped(alloc, inside, x, d, StepOp::Decrement, place, tokens)
         }
         _ => return Ok((x, d, false)),
     };

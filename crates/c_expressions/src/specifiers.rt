@@ -27,12 +27,12 @@ fn specifier(
         return Ok((Specifier::Keyword(keyword, tokens.advance()), 1));
     }
     if tokens.peek_keyword(Keyword::Struct) {
-        let mark = tokens.advance();
-        return structure(alloc, types, inside, mark, tokens);
+        let place = tokens.advance();
+        return structure(alloc, types, inside, place, tokens);
     }
     if tokens.peek_keyword(Keyword::Enum) {
-        let mark = tokens.advance();
-        return enumeration(alloc, types, inside, mark, tokens);
+        let place = tokens.advance();
+        return enumeration(alloc, types, inside, place, tokens);
     }
     if tokens.begins_typename(types) {
         let name = tokens.word(alloc)?;
@@ -52,7 +52,8 @@ fn next_specifier(
     d: u32,
     tokens: &mut Cursor,
 ) -> Result<(List<Specifier>, u32, bool), Failure>
-    ensures { Steps (λ all. map specifier_of all) result tokens.new (specifier_step types.now inside (at types.now inside) (map specifier_of all) d tokens.old) }
+    ensures { Steps (λ all. map specifier_of all) result tokens.new
+        (specifier_step types.now inside (at types.now inside) (map specifier_of all) d tokens.old) }
 {
     let (one, e) = specifier(alloc, types, inside, tokens)?;
     let mut all = all;
@@ -69,7 +70,8 @@ fn specifier_list(
     inside: u16,
     tokens: &mut Cursor,
 ) -> Result<(List<Specifier>, u32), Failure>
-    ensures { Reads (λ all. map specifier_of all) result tokens.new (chain (specifier_step types.now inside (at types.now inside)) (length tokens.old + 1) [] 0 tokens.old) }
+    ensures { Reads (λ all. map specifier_of all) result tokens.new
+        (chain (specifier_step types.now inside (at types.now inside)) (length tokens.old + 1) [] 0 tokens.old) }
 {
     let mut all = List::new(alloc);
     let mut d = 0;

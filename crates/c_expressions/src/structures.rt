@@ -4,7 +4,8 @@ ghost use Rattle.std.specs.Prelude.{◌+◌, [], length, map};
 ghost use Rattle.c_ast.specs.Trees;
 ghost use Rattle.c_ast.specs.Views.{member_declaration_of, member_declarator_of, specifier_of};
 ghost use Rattle.c_cursor.specs.Gives.{Gives, Reads, Steps};
-ghost use Rattle.c_grammar.specs.Reading.{at, chain, member_declaration_in, member_declaration_step, member_declarator_step, struct_body_in, tag_if_any, tagged_in};
+ghost use Rattle.c_grammar.specs.Reading.{at, chain, member_declaration_in, member_declaration_step, member_declarator_step, struct_body_in};
+ghost use Rattle.c_grammar.specs.Reading.{tag_if_any, tagged_in};
 
 use crate::declarator_names::has_name;
 use crate::within::{declarator_inside, member_declaration_inside, specifiers_inside};
@@ -25,7 +26,8 @@ fn member_declarator(
     d: u32,
     tokens: &mut Cursor,
 ) -> Result<(List<MemberDeclarator>, u32, bool), Failure>
-    ensures { Steps (λ all. map member_declarator_of all) result tokens.new (member_declarator_step (at types.now inside) (map member_declarator_of all) d tokens.old) }
+    ensures { Steps (λ all. map member_declarator_of all) result tokens.new
+        (member_declarator_step (at types.now inside) (map member_declarator_of all) d tokens.old) }
 {
     let comma = tokens.comma_before(&all)?;
     let (declarator, e) = declarator_inside(alloc, types, inside, tokens)?;
@@ -56,7 +58,8 @@ fn member_declarators(
     d: u32,
     tokens: &mut Cursor,
 ) -> Result<(List<MemberDeclarator>, u32), Failure>
-    ensures { Reads (λ all. map member_declarator_of all) result tokens.new (chain (member_declarator_step (at types.now inside)) (length tokens.old + 1) [] d tokens.old) }
+    ensures { Reads (λ all. map member_declarator_of all) result tokens.new
+        (chain (member_declarator_step (at types.now inside)) (length tokens.old + 1) [] d tokens.old) }
 {
     let mut all = List::new(alloc);
     let mut d = d;
@@ -107,7 +110,8 @@ fn next_member_declaration(
     d: u32,
     tokens: &mut Cursor,
 ) -> Result<(List<MemberDeclaration>, u32, bool), Failure>
-    ensures { Steps (λ all. map member_declaration_of all) result tokens.new (member_declaration_step (at types.now inside) (map member_declaration_of all) d tokens.old) }
+    ensures { Steps (λ all. map member_declaration_of all) result tokens.new
+        (member_declaration_step (at types.now inside) (map member_declaration_of all) d tokens.old) }
 {
     let (one, e) = member_declaration_inside(alloc, types, inside, tokens)?;
     let mut all = all;
@@ -124,7 +128,8 @@ fn member_declarations(
     inside: u16,
     tokens: &mut Cursor,
 ) -> Result<(List<MemberDeclaration>, u32), Failure>
-    ensures { Reads (λ all. map member_declaration_of all) result tokens.new (chain (member_declaration_step (at types.now inside)) (length tokens.old + 1) [] 0 tokens.old) }
+    ensures { Reads (λ all. map member_declaration_of all) result tokens.new
+        (chain (member_declaration_step (at types.now inside)) (length tokens.old + 1) [] 0 tokens.old) }
 {
     let mut all = List::new(alloc);
     let mut d = 0;
@@ -148,17 +153,17 @@ fn struct_body(
     alloc: Global,
     types: &Typenames,
     inside: u16,
-    mark: At,
+    place: At,
     name: Option<Spelling>,
     tokens: &mut Cursor,
 ) -> Result<(Specifier, u32), Failure>
-    ensures { Reads specifier_of result tokens.new (struct_body_in inside (at types.now inside) mark name tokens.old) }
+    ensures { Reads specifier_of result tokens.new (struct_body_in inside (at types.now inside) place name tokens.old) }
 {
     let left = tokens.expect(Punctuator::OpenBrace)?;
     let (all, d) = member_declarations(alloc, types, inside, tokens)?;
     let right = tokens.expect(Punctuator::CloseBrace)?;
     let d = deeper_than(inside, d, tokens)?;
-    Ok((Specifier::StructBody(mark, name, left, all, right), d))
+    Ok((Specifier::StructBody(place, name, left, all, right), d))
 }
 
 /// What stands after `struct`.
@@ -167,19 +172,20 @@ pub fn structure(
     alloc: Global,
     types: &Typenames,
     inside: u16,
-    mark: At,
+    place: At,
     tokens: &mut Cursor,
 ) -> Result<(Specifier, u32), Failure>
-    ensures { Reads specifier_of result tokens.new (tagged_in (Trees.struct_named mark) (struct_body_in inside (at types.now inside) mark) (tag_if_any tokens.old)) }
+    ensures { Reads specifier_of result tokens.new (tagged_in (Trees.struct_named place) (struct_body_in inside (at types.now inside) place)
+        (tag_if_any tokens.old)) }
 {
     let tag = tokens.tag_if_any(alloc)?;
     match tag {
-        None => struct_body(alloc, types, inside, mark, None, tokens),
+        None => struct_body(alloc, types, inside, place, None, tokens),
         Some(name) => {
             if tokens.peek(Punctuator::OpenBrace) {
-                return struct_body(alloc, types, inside, mark, Some(name), tokens);
+                return struct_body(alloc, types, inside, place, Some(name), tokens);
             }
-            Ok((Specifier::Struct(mark, name), 1))
+            Ok((Specifier::Struct(place, name), 1))
         }
     }
 }

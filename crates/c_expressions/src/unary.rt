@@ -21,14 +21,14 @@ fn pre(
     types: &Typenames,
     inside: u16,
     op: StepOp,
-    mark: At,
+    place: At,
     tokens: &mut Cursor,
 ) -> Result<(Boxed<Expression>, u32), Failure>
-    ensures { Reads expression_of result tokens.new (pre_in inside (at types.now inside) op mark tokens.old) }
+    ensures { Reads expression_of result tokens.new (pre_in inside (at types.now inside) op place tokens.old) }
 {
     let (a, d) = expression_inside(alloc, types, inside, Level::Unary, tokens)?;
     let d = deeper_than(inside, d, tokens)?;
-    Ok((boxed(alloc, Expression::Pre(op, mark, a))?, d))
+    Ok((boxed(alloc, Expression::Pre(op, place, a))?, d))
 }
 
 /// What stands after a unary operator.
@@ -39,14 +39,14 @@ fn unary(
     types: &Typenames,
     inside: u16,
     op: UnaryOp,
-    mark: At,
+    place: At,
     tokens: &mut Cursor,
 ) -> Result<(Boxed<Expression>, u32), Failure>
-    ensures { Reads expression_of result tokens.new (unary_in inside (at types.now inside) op mark tokens.old) }
+    ensures { Reads expression_of result tokens.new (unary_in inside (at types.now inside) op place tokens.old) }
 {
     let (a, d) = expression_inside(alloc, types, inside, Level::Operand, tokens)?;
     let d = deeper_than(inside, d, tokens)?;
-    Ok((boxed(alloc, Expression::Unary(op, mark, a))?, d))
+    Ok((boxed(alloc, Expression::Unary(op, place, a))?, d))
 }
 
 /// What stands after `sizeof`.
@@ -56,22 +56,22 @@ fn sizeof(
     alloc: Global,
     types: &Typenames,
     inside: u16,
-    mark: At,
+    place: At,
     tokens: &mut Cursor,
 ) -> Result<(Boxed<Expression>, u32), Failure>
-    ensures { Reads expression_of result tokens.new (sizeof_in types.now inside (at types.now inside) mark tokens.old) }
+    ensures { Reads expression_of result tokens.new (sizeof_in types.now inside (at types.now inside) place tokens.old) }
 {
     if tokens.begins_type_name(types) {
         let ((left, name, right), d) = enclosed_type_name(alloc, types, inside, tokens)?;
         let d = deeper_than(inside, d, tokens)?;
         Ok((
-            boxed(alloc, Expression::SizeofType(mark, left, name, right))?,
+            boxed(alloc, Expression::SizeofType(place, left, name, right))?,
             d,
         ))
     } else {
         let (a, d) = expression_inside(alloc, types, inside, Level::Unary, tokens)?;
         let d = deeper_than(inside, d, tokens)?;
-        Ok((boxed(alloc, Expression::SizeofExpression(mark, a))?, d))
+        Ok((boxed(alloc, Expression::SizeofExpression(place, a))?, d))
     }
 }
 
@@ -104,16 +104,16 @@ pub fn unary_expression(
     ensures { Reads expression_of result tokens.new (unary_expression_in types.now inside (at types.now inside) tokens.old) }
 {
     if let Some(op) = tokens.step_at() {
-        let mark = tokens.advance();
-        return pre(alloc, types, inside, op, mark, tokens);
+        let place = tokens.advance();
+        return pre(alloc, types, inside, op, place, tokens);
     }
     if let Some(op) = tokens.unary_at() {
-        let mark = tokens.advance();
-        return unary(alloc, types, inside, op, mark, tokens);
+        let place = tokens.advance();
+        return unary(alloc, types, inside, op, place, tokens);
     }
     if tokens.peek_keyword(Keyword::Sizeof) {
-        let mark = tokens.advance();
-        return sizeof(alloc, types, inside, mark, tokens);
+        let place = tokens.advance();
+        return sizeof(alloc, types, inside, place, tokens);
     }
     postfix(alloc, types, inside, tokens)
 }

@@ -2,7 +2,8 @@
 
 ghost use Rattle.std.specs.Prelude.{map};
 ghost use Rattle.std.specs.Option.{option_map};
-ghost use Rattle.c_ast.specs.Views.{declarator_if_any, declarator_of, enumerator_value_of, expression_of, member_declaration_of, one_value_of, specifier_of, specifiers_of};
+ghost use Rattle.c_ast.specs.Views.{declarator_if_any, declarator_of, enumerator_value_of, expression_of, member_declaration_of, one_value_of};
+ghost use Rattle.c_ast.specs.Views.{specifier_of, specifiers_of};
 ghost use Rattle.c_cursor.specs.Gives.{Reads};
 ghost use Rattle.c_expressions.specs.Levels.{read};
 ghost use Rattle.c_grammar.specs.Reading.{at};

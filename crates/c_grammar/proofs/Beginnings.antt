@@ -11,7 +11,8 @@ use Rattle.c_ast.specs.declared.operators.SpecifierKeyword.TheVariants as S
 use Rattle.c_ast.specs.Trees
 use Rattle.c_ast.specs.Spelling.{Lexeme, punctuator, specifier_keyword, spelled, spelled_specifiers, spelled_specifier, spelled_declarator, spelled_parameters}
 use Rattle.c_ast.specs.WellFormed.{level, is_direct, is_lone_void, IsExpression, IsDeclarator, AreSpecifiers, IsSpecifier, AreParameters}
-use Rattle.c_grammar.specs.Reading.{Inner, after, fronted, is_right, is_right_square, is_left_brace, is_right_brace, is_star, is_const, is_nothing, begins_specifier, begins_type_name, begins_void, postfix_in, unary_expression_in}
+use Rattle.c_grammar.specs.Reading.{Inner, after, fronted, is_right, is_right_square, is_left_brace, is_right_brace, is_star, is_const, is_nothing}
+use Rattle.c_grammar.specs.Reading.{begins_specifier, begins_type_name, begins_void, postfix_in, unary_expression_in}
 use Rattle.c_grammar.proofs.Follow.{strength_most}
 
 module _ (types : List (List ℕ)) where
@@ -74,7 +75,8 @@ module _ (types : List (List ℕ)) where
   no_type_name (Trees.braces left all comma right) w l rest = absurd w
 
   -- a postfix expression begins with no unary operator
-  pub unary_by_postfix : (t : Trees.Expression) → IsExpression types t → 15 ≤ level t → (k : ℕ) (inner : Inner) (rest : List Lexeme) → unary_expression_in types k inner (spelled t rest) ≡ postfix_in types k inner (spelled t rest)
+  pub unary_by_postfix : (t : Trees.Expression) → IsExpression types t → 15 ≤ level t → (k : ℕ) (inner : Inner) (rest : List Lexeme)
+      → unary_expression_in types k inner (spelled t rest) ≡ postfix_in types k inner (spelled t rest)
   unfolding unary_expression_in
   unary_by_postfix (Trees.name x) w l k inner rest = refl
   unary_by_postfix (Trees.number x n kind) w l k inner rest = refl
@@ -109,7 +111,8 @@ module _ (types : List (List ℕ)) where
   specifier_begins (Trees.enum_named at x) w rest = refl
   specifier_begins (Trees.enum_body at x left all comma right) w rest = refl
 
-  pub specifiers_begin : (specs : Trees.Specifiers) → AreSpecifiers types specs → (rest : List Lexeme) → begins_specifier types (spelled_specifiers specs rest) ≡ true
+  pub specifiers_begin : (specs : Trees.Specifiers) → AreSpecifiers types specs → (rest : List Lexeme)
+      → begins_specifier types (spelled_specifiers specs rest) ≡ true
   specifiers_begin Trees.no_specifiers w rest = absurd w
   specifiers_begin (Trees.and_specifier s more) w rest = specifier_begins s w.0 _
 
@@ -137,7 +140,8 @@ module _ (types : List (List ℕ)) where
   pub right_brace_at_specifiers : FailsAtSpecifiers is_right_brace
   right_brace_at_specifiers = record { no_keyword = λ _. refl; no_struct = refl; no_enum = refl; no_name = refl }
 
-  pub specifiers_front : (p : TokenKind → Bool) → FailsAtSpecifiers p → (specs : Trees.Specifiers) → AreSpecifiers types specs → (rest : List Lexeme) → fronted p (spelled_specifiers specs rest) ≡ false
+  pub specifiers_front : (p : TokenKind → Bool) → FailsAtSpecifiers p → (specs : Trees.Specifiers) → AreSpecifiers types specs → (rest : List Lexeme)
+      → fronted p (spelled_specifiers specs rest) ≡ false
   specifiers_front p a Trees.no_specifiers w rest = absurd w
   specifiers_front p a (Trees.and_specifier s more) w rest = specifier_front p a s _
 
@@ -154,7 +158,8 @@ module _ (types : List (List ℕ)) where
     pub no_left : p (K.Punctuator M.Open) ≡ false
     pub no_left_square : p (K.Punctuator M.OpenSquare) ≡ false
 
-  pub declarator_front : (p : TokenKind → Bool) → FailsAtDeclarators p → (d : Trees.Declarator) (rest : List Lexeme) → fronted p rest ≡ false → fronted p (spelled_declarator d rest) ≡ false
+  pub declarator_front : (p : TokenKind → Bool) → FailsAtDeclarators p → (d : Trees.Declarator) (rest : List Lexeme) → fronted p rest ≡ false
+      → fronted p (spelled_declarator d rest) ≡ false
   declarator_front p o Trees.nothing rest h = h
   declarator_front p o (Trees.named x) rest h = o.no_name
   declarator_front p o (Trees.pointer at consts d) rest h = o.no_star
@@ -179,7 +184,8 @@ module _ (types : List (List ℕ)) where
   declarator_no_right (Trees.array d left length right) h rest = declarator_front is_right right_at_declarators d _ refl
   declarator_no_right (Trees.function d left all right) h rest = declarator_front is_right right_at_declarators d _ refl
 
-  pub declarator_no_specifier : (d : Trees.Declarator) → IsDeclarator types d → (rest : List Lexeme) → begins_specifier types rest ≡ false → begins_specifier types (spelled_declarator d rest) ≡ false
+  pub declarator_no_specifier : (d : Trees.Declarator) → IsDeclarator types d → (rest : List Lexeme) → begins_specifier types rest ≡ false
+      → begins_specifier types (spelled_declarator d rest) ≡ false
   declarator_no_specifier Trees.nothing w rest h = h
   declarator_no_specifier (Trees.named x) w rest h = w
   declarator_no_specifier (Trees.pointer at consts d) w rest h = refl
@@ -187,7 +193,8 @@ module _ (types : List (List ℕ)) where
   declarator_no_specifier (Trees.array d left length right) w rest h = declarator_no_specifier d w.1 _ refl
   declarator_no_specifier (Trees.function d left all right) w rest h = declarator_no_specifier d w.1 _ refl
 
-  pub direct_no_star : (d : Trees.Declarator) → is_direct d ≡ true → IsDeclarator types d → (rest : List Lexeme) → after is_star rest ≡ None → after is_star (spelled_declarator d rest) ≡ None
+  pub direct_no_star : (d : Trees.Declarator) → is_direct d ≡ true → IsDeclarator types d → (rest : List Lexeme) → after is_star rest ≡ None
+      → after is_star (spelled_declarator d rest) ≡ None
   direct_no_star Trees.nothing i w rest h = h
   direct_no_star (Trees.named x) i w rest h = refl
   direct_no_star (Trees.pointer at consts d) i w rest h = cc
@@ -209,17 +216,20 @@ module _ (types : List (List ℕ)) where
   void_goes_on (Trees.array d left length i) more at right rest w h = declarator_front is_right right_at_declarators d _ refl
   void_goes_on (Trees.function d left all i) more at right rest w h = declarator_front is_right right_at_declarators d _ refl
 
-  void_first : (specs : Trees.Specifiers) (d : Trees.Declarator) (more : Trees.Parameters) (right : ℕ) (rest : List Lexeme) → AreSpecifiers types specs → AreParameters types false more
+  void_first : (specs : Trees.Specifiers) (d : Trees.Declarator) (more : Trees.Parameters) (right : ℕ) (rest : List Lexeme)
+      → AreSpecifiers types specs → AreParameters types false more
       → is_lone_void (Trees.and_parameter None specs d more) ≡ false
       → begins_void (spelled_specifiers specs (spelled_declarator d (spelled_parameters more (punctuator M.Close right ∷ rest)))) ≡ false
   void_first Trees.no_specifiers d more right rest w v h = absurd w
   void_first (Trees.and_specifier (Trees.plain S.Void at) Trees.no_specifiers) d more right rest w v h = void_goes_on d more at right rest v h
-  void_first (Trees.and_specifier (Trees.plain S.Void at) (Trees.and_specifier s others)) d more right rest w v h = specifier_front is_right right_at_specifiers s _
+  void_first (Trees.and_specifier (Trees.plain S.Void at) (Trees.and_specifier s others)) d more right rest w v h =
+      specifier_front is_right right_at_specifiers s _
   void_first (Trees.and_specifier (Trees.plain op at) others) d more right rest w v h = refl
   void_first (Trees.and_specifier s others) d more right rest w v h = refl
 
   -- `void` alone is not among listed parameters
-  pub no_void : (all : Trees.Parameters) → AreParameters types true all → is_lone_void all ≡ false → (right : ℕ) (rest : List Lexeme) → begins_void (spelled_parameters all (punctuator M.Close right ∷ rest)) ≡ false
+  pub no_void : (all : Trees.Parameters) → AreParameters types true all → is_lone_void all ≡ false → (right : ℕ) (rest : List Lexeme)
+      → begins_void (spelled_parameters all (punctuator M.Close right ∷ rest)) ≡ false
   no_void Trees.no_parameters w h right rest = refl
   no_void (Trees.and_parameter None specs d more) w h right rest = void_first specs d more right rest w.1 w.3 h
   no_void (Trees.and_parameter (Some c) specs d more) w h right rest = refl

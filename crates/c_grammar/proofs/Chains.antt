@@ -1,5 +1,6 @@
 -- What a chain of steps took: a fact that each step keeps, and lists that grow at their end.
-use Rattle.std.proofs.Common.{◌≡◌, ◌≢◌, ℕ, zero, suc, ◌≤◌, List, [], ◌∷◌, ◌++◌, Option, Some, Bool, true, false, max, refl, ap, sym, ◌∙◌, subst, arith, cond, append_assoc, append-nil}
+use Rattle.std.proofs.Common.{◌≡◌, ◌≢◌, ℕ, zero, suc, ◌≤◌, List, [], ◌∷◌, ◌++◌, Option, Some, Bool, true, false, max, refl, ap, sym, ◌∙◌, subst}
+use Rattle.std.proofs.Common.{arith, cond, append_assoc, append-nil}
 use Rattle.c_ast.specs.Spelling.{Lexeme}
 use Rattle.c_grammar.proofs.Wholeness.{AreWhole}
 use Rattle.c_grammar.specs.Reading.{Step, chain}
@@ -10,7 +11,8 @@ abbrev pub Goes : {S : Type 0} → (S → ℕ → List Lexeme → Type 0) → (S
 Goes P Q r true = P r.0 r.1 r.2
 Goes P Q r false = Q (r.0, r.1, r.2)
 
-going : {S : Type 0} (P : S → ℕ → List Lexeme → Type 0) (Q : S × ℕ × List Lexeme → Type 0) (r : S × ℕ × List Lexeme × Bool) (b : Bool) (y : S × ℕ × List Lexeme) (next : Option (S × ℕ × List Lexeme))
+going : {S : Type 0} (P : S → ℕ → List Lexeme → Type 0) (Q : S × ℕ × List Lexeme → Type 0) (r : S × ℕ × List Lexeme × Bool) (b : Bool)
+    (y : S × ℕ × List Lexeme) (next : Option (S × ℕ × List Lexeme))
     → (P r.0 r.1 r.2 → next ≡ Some y → Q y) → Goes P Q r b → cond b next (Some (r.0, r.1, r.2)) ≡ Some y → Q y
 going P Q r true y next f p h = f p h
 going P Q r false y next f p h = given Q (r.0, r.1, r.2) y h p
@@ -60,7 +62,8 @@ IsSome all rest = all ≢ []
 module _ {A : Type 0} (l : Listing A) (n : ℕ) where
   -- a step adds one at the end, or changes nothing and is the last
   pub data Grown (done : List A) (d : ℕ) (tokens : List Lexeme) (r : List A × ℕ × List Lexeme × Bool) : Type 0 where
-    added : (a : A) → r.0 ≡ done ++ a ∷ [] → r.1 ≡ max d (l.depth_one a) → tokens ≡ l.spelled_one a r.2 → l.IsOne (is_first done) a → l.depth_one a ≤ n → AreWhole r.2 → Grown done d tokens r
+    added : (a : A) → r.0 ≡ done ++ a ∷ [] → r.1 ≡ max d (l.depth_one a) → tokens ≡ l.spelled_one a r.2 → l.IsOne (is_first done) a
+        → l.depth_one a ≤ n → AreWhole r.2 → Grown done d tokens r
     ended : r.0 ≡ done → r.1 ≡ d → r.2 ≡ tokens → Grown done d tokens r
 
   -- what is so far a list after `start`, the depth before it
@@ -79,17 +82,21 @@ module _ {A : Type 0} (l : Listing A) (n : ℕ) where
     pub whole : AreWhole y.2
     pub ends : End y.0 y.2
 
-  keeps : (all : List Lexeme) (start : ℕ) (done : List A) (d : ℕ) (tokens : List Lexeme) (r : List A × ℕ × List Lexeme × Bool) → SoFar all start done d tokens → Grown done d tokens r → SoFar all start r.0 r.1 r.2
+  keeps : (all : List Lexeme) (start : ℕ) (done : List A) (d : ℕ) (tokens : List Lexeme) (r : List A × ℕ × List Lexeme × Bool)
+      → SoFar all start done d tokens → Grown done d tokens r → SoFar all start r.0 r.1 r.2
   keeps all start done d tokens r p (added a is deep spelled_so one le whole) = record {
-    spelled_so = λ last tail e. rw (is, append_assoc done (a ∷ []) last) (p.spelled_so (a ∷ last) tail (spelled_so ∙ ap (λ z. l.spelled_one a z) e ∙ sym (l.spelled_more a last tail)));
-    well_formed = λ last w. rw (is, append_assoc done (a ∷ []) last) (p.well_formed (a ∷ last) (l.are_more (is_first done) a last one (subst (λ b. l.AreAll b last) (ap is_first is ∙ first_no_more done a) w)));
+    spelled_so = λ last tail e. rw (is, append_assoc done (a ∷ []) last)
+        (p.spelled_so (a ∷ last) tail (spelled_so ∙ ap (λ z. l.spelled_one a z) e ∙ sym (l.spelled_more a last tail)));
+    well_formed = λ last w. rw (is, append_assoc done (a ∷ []) last)
+        (p.well_formed (a ∷ last) (l.are_more (is_first done) a last one (subst (λ b. l.AreAll b last) (ap is_first is ∙ first_no_more done a) w)));
     deep = λ last. rw (is, append_assoc done (a ∷ []) last) (let f = p.deep (a ∷ last) in let e = l.depth_more a last in omega (arith, f, e, deep));
     within = omega (arith, p.within);
     whole = whole;
   }
   keeps all start done d tokens r p (ended is deep rest) = rw (is, deep, rest) p
 
-  ends : (End : List A → List Lexeme → Type 0) (all : List Lexeme) (start : ℕ) (y : List A × ℕ × List Lexeme) → SoFar all start y.0 y.1 y.2 → End y.0 y.2 → Listed End all start y
+  ends : (End : List A → List Lexeme → Type 0) (all : List Lexeme) (start : ℕ) (y : List A × ℕ × List Lexeme) → SoFar all start y.0 y.1 y.2
+      → End y.0 y.2 → Listed End all start y
   ends End all start y p e = record {
     spelled_so = let q = p.spelled_so [] y.2 (sym (l.spelled_none y.2)) in q ∙ ap (λ z. l.spelled_all z y.2) (append-nil y.0);
     well_formed = subst (λ z. l.AreAll true z) (append-nil y.0) (p.well_formed [] (l.are_none (is_first y.0)));
@@ -99,7 +106,8 @@ module _ {A : Type 0} (l : Listing A) (n : ℕ) where
     ends = e;
   }
 
-  goes : (End : List A → List Lexeme → Type 0) (all : List Lexeme) (start : ℕ) (r : List A × ℕ × List Lexeme × Bool) (b : Bool) → SoFar all start r.0 r.1 r.2 → (b ≡ false → End r.0 r.2) → Goes (SoFar all start) (Listed End all start) r b
+  goes : (End : List A → List Lexeme → Type 0) (all : List Lexeme) (start : ℕ) (r : List A × ℕ × List Lexeme × Bool) (b : Bool)
+      → SoFar all start r.0 r.1 r.2 → (b ≡ false → End r.0 r.2) → Goes (SoFar all start) (Listed End all start) r b
   goes End all start r true p e = p
   goes End all start r false p e = ends End all start (r.0, r.1, r.2) p (e refl)
 
@@ -109,8 +117,10 @@ module _ {A : Type 0} (l : Listing A) (n : ℕ) where
 
   -- a chain of such steps
   pub list_taken : (End : List A → List Lexeme → Type 0) (step : Step (List A))
-      → ((done : List A) (d : ℕ) (tokens : List Lexeme) (r : List A × ℕ × List Lexeme × Bool) → AreWhole tokens → step done d tokens ≡ Some r → Grows End done d tokens r)
-      → (s start : ℕ) → start ≤ n → (tokens : List Lexeme) → AreWhole tokens → (y : List A × ℕ × List Lexeme) → chain step s [] start tokens ≡ Some y → Listed End tokens start y
+      → ((done : List A) (d : ℕ) (tokens : List Lexeme) (r : List A × ℕ × List Lexeme × Bool) → AreWhole tokens → step done d tokens ≡ Some r
+      → Grows End done d tokens r)
+      → (s start : ℕ) → start ≤ n → (tokens : List Lexeme) → AreWhole tokens → (y : List A × ℕ × List Lexeme) → chain step s [] start tokens ≡ Some y
+      → Listed End tokens start y
   list_taken End step f s start le tokens w y h =
       chain_taken step (SoFar tokens start) (Listed End tokens start)
       (λ done d rest r p h. let g = f done d rest r p.whole h in goes End tokens start r r.3 (keeps tokens start done d rest r p g.0) g.1)

@@ -11,7 +11,8 @@ use Rattle.c_ast.specs.declared.operators.UnaryOp.TheVariants as U
 use Rattle.c_ast.specs.declared.operators.SpecifierKeyword.{SpecifierKeyword}
 use Rattle.c_ast.specs.declared.operators.SpecifierKeyword.TheVariants as S
 use Rattle.c_ast.specs.Trees
-use Rattle.c_ast.specs.Spelling.{Lexeme, punctuator, step_punctuator, unary_punctuator, specifier_keyword, spelled, spelled_specifiers, spelled_specifier, spelled_declarator}
+use Rattle.c_ast.specs.Spelling.{Lexeme, punctuator, step_punctuator, unary_punctuator, specifier_keyword, spelled, spelled_specifiers}
+use Rattle.c_ast.specs.Spelling.{spelled_specifier, spelled_declarator}
 use Rattle.c_ast.specs.WellFormed.{IsExpression, IsSpecifier, AreSpecifiers, IsDeclarator, has_name}
 use Rattle.c_grammar.specs.Reading.{after, fronted, is_right_brace, keyword_specifier, begins_specifier}
 
@@ -21,7 +22,8 @@ pub none_after : (p : TokenKind → Bool) (tokens : List Lexeme) → fronted p t
 none_after p [] h = refl
 none_after p (t ∷ rest) h = rw h
 
-pub fronted_not : (q p : TokenKind → Bool) → ((kind : TokenKind) → q kind ≡ true → p kind ≡ false) → (tokens : List Lexeme) → fronted q tokens ≡ true → fronted p tokens ≡ false
+pub fronted_not : (q p : TokenKind → Bool) → ((kind : TokenKind) → q kind ≡ true → p kind ≡ false) → (tokens : List Lexeme) → fronted q tokens ≡ true
+    → fronted p tokens ≡ false
 fronted_not q p f [] h = refl
 fronted_not q p f (t ∷ rest) h = f t.kind h
 
@@ -90,7 +92,8 @@ word_again : (word : SpecifierKeyword) → is_some (keyword_specifier (K.Keyword
 word_again S.Typedef = refl
 word_again word = refl
 
-specifier_start : (types : List (List ℕ)) (s : Trees.Specifier) → IsSpecifier types s → (rest : List Lexeme) → begins_specifier types (spelled_specifier s rest) ≡ true
+specifier_start : (types : List (List ℕ)) (s : Trees.Specifier) → IsSpecifier types s → (rest : List Lexeme)
+    → begins_specifier types (spelled_specifier s rest) ≡ true
 specifier_start types (Trees.plain word place) w rest = rw (word_again word)
 specifier_start types (Trees.typename x) w rest = w
 specifier_start types (Trees.struct_named place x) w rest = refl
@@ -98,7 +101,8 @@ specifier_start types (Trees.struct_body place x left member_declarations right)
 specifier_start types (Trees.enum_named place x) w rest = refl
 specifier_start types (Trees.enum_body place x left all comma right) w rest = refl
 
-pub specifiers_start : (types : List (List ℕ)) (s : Trees.Specifiers) → AreSpecifiers types s → (rest : List Lexeme) → begins_specifier types (spelled_specifiers s rest) ≡ true
+pub specifiers_start : (types : List (List ℕ)) (s : Trees.Specifiers) → AreSpecifiers types s → (rest : List Lexeme)
+    → begins_specifier types (spelled_specifiers s rest) ≡ true
 specifiers_start types Trees.no_specifiers w rest = absurd w
 specifiers_start types (Trees.and_specifier s more) w rest = specifier_start types s w.0 _
 
@@ -115,7 +119,8 @@ pub record IsDeclaratorStart (types : List (List ℕ)) (tokens : List Lexeme) : 
   pub begins : fronted begins_declarator tokens ≡ true
   pub no_specifier : begins_specifier types tokens ≡ false
 
-pub declarator_start : (types : List (List ℕ)) (s : Trees.Declarator) → IsDeclarator types s → has_name s ≡ true → (rest : List Lexeme) → IsDeclaratorStart types (spelled_declarator s rest)
+pub declarator_start : (types : List (List ℕ)) (s : Trees.Declarator) → IsDeclarator types s → has_name s ≡ true → (rest : List Lexeme)
+    → IsDeclaratorStart types (spelled_declarator s rest)
 declarator_start types Trees.nothing w h rest = cc
 declarator_start types (Trees.named x) w h rest = record { begins = refl; no_specifier = w }
 declarator_start types (Trees.pointer place consts d) w h rest = record { begins = refl; no_specifier = refl }

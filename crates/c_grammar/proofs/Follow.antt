@@ -13,7 +13,9 @@ use Rattle.c_ast.specs.declared.operators.AssignOp.TheVariants as A
 use Rattle.c_ast.specs.Trees
 use Rattle.c_ast.specs.Spelling.{Lexeme, binary_punctuator, assign_punctuator}
 use Rattle.c_ast.specs.WellFormed.{strength}
-use Rattle.c_grammar.specs.Reading.{Inner, chain, after, fronted, is_comma, is_equal, is_question, is_star, is_const, plain_name, begins_enclosed, binary_op, assign_op, text_in, postfix_step, operated_in, operator_step, conditional_after, assignment_after, comma_step, suffix_step, const_step}
+use Rattle.c_grammar.specs.Reading.{Inner, chain, after, fronted, is_comma, is_equal, is_question, is_star, is_const, plain_name, begins_enclosed}
+use Rattle.c_grammar.specs.Reading.{binary_op, assign_op, text_in, postfix_step, operated_in, operator_step, conditional_after, assignment_after}
+use Rattle.c_grammar.specs.Reading.{comma_step, suffix_step, const_step}
 
 -- ---- how tightly a token binds to the expression before it: 0 not at all, 1 a comma, 2 an assignment operator,
 -- 3 `?`, 4 to 13 a binary operator, by its strength, 16 a postfix punctuator, 17 a string after a string
@@ -78,12 +80,14 @@ assign_again op = refl
 abbrev lexeme : TokenKind → ℕ → ℕ → List ℕ → Lexeme
 lexeme kind from to text = record { kind = kind; from = from; to = to; text = text }
 
-text_ends : (kind : TokenKind) (from to : ℕ) (text : List ℕ) (all : List Spelling) (d : ℕ) (rest : List Lexeme) → pull_kind kind ≤ 16 → text_in all d (lexeme kind from to text ∷ rest) ≡ Some (all, d, lexeme kind from to text ∷ rest, false)
+text_ends : (kind : TokenKind) (from to : ℕ) (text : List ℕ) (all : List Spelling) (d : ℕ) (rest : List Lexeme) → pull_kind kind ≤ 16
+    → text_in all d (lexeme kind from to text ∷ rest) ≡ Some (all, d, lexeme kind from to text ∷ rest, false)
 unfolding text_in
 text_ends K.Text from to text all d rest h = absurd (omega arith)
 text_ends kind from to text all d rest h = refl
 
-postfix_ends : (kind : TokenKind) (from to : ℕ) (text : List ℕ) (k : ℕ) (inner : Inner) (x : Trees.Expression) (d : ℕ) (rest : List Lexeme) → pull_kind kind ≤ 15 → postfix_step k inner x d (lexeme kind from to text ∷ rest) ≡ Some (x, d, lexeme kind from to text ∷ rest, false)
+postfix_ends : (kind : TokenKind) (from to : ℕ) (text : List ℕ) (k : ℕ) (inner : Inner) (x : Trees.Expression) (d : ℕ) (rest : List Lexeme)
+    → pull_kind kind ≤ 15 → postfix_step k inner x d (lexeme kind from to text ∷ rest) ≡ Some (x, d, lexeme kind from to text ∷ rest, false)
 unfolding postfix_step
 postfix_ends (K.Punctuator M.OpenSquare) from to text k inner x d rest h = absurd (omega arith)
 postfix_ends (K.Punctuator M.Open) from to text k inner x d rest h = absurd (omega arith)
@@ -101,11 +105,13 @@ operator_pull : (kind : TokenKind) → taken (binary_op kind) ≤ pull_kind kind
 operator_pull (K.Punctuator M.BarBar) = omega arith
 operator_pull kind = omega arith
 
-operator_ends : (o : Option BinaryOp) (k : ℕ) (inner : Inner) (least : ℕ) (x : Trees.Expression) (d : ℕ) (t : Lexeme) (rest : List Lexeme) → taken o ≤ least → operated_in k inner least x d (t ∷ rest) o ≡ Some (x, d, t ∷ rest, false)
+operator_ends : (o : Option BinaryOp) (k : ℕ) (inner : Inner) (least : ℕ) (x : Trees.Expression) (d : ℕ) (t : Lexeme) (rest : List Lexeme)
+    → taken o ≤ least → operated_in k inner least x d (t ∷ rest) o ≡ Some (x, d, t ∷ rest, false)
 operator_ends None k inner least x d t rest h = refl
 operator_ends (Some op) k inner least x d t rest h = rw (above least (strength op) (omega arith))
 
-not_question : (kind : TokenKind) (from to : ℕ) (text : List ℕ) (rest : List Lexeme) → pull_kind kind ≤ 2 → after is_question (lexeme kind from to text ∷ rest) ≡ None
+not_question : (kind : TokenKind) (from to : ℕ) (text : List ℕ) (rest : List Lexeme) → pull_kind kind ≤ 2
+    → after is_question (lexeme kind from to text ∷ rest) ≡ None
 not_question (K.Punctuator M.Question) from to text rest h = absurd (omega arith)
 not_question kind from to text rest h = refl
 
@@ -138,26 +144,31 @@ unfolding text_in
 text_stops all d [] h = refl
 text_stops all d (t ∷ rest) h = text_ends t.kind t.from t.to t.text all d rest h
 
-pub postfix_stops : (k s : ℕ) (inner : Inner) (x : Trees.Expression) (d : ℕ) (rest : List Lexeme) → pull rest ≤ 15 → chain (postfix_step k inner) (suc s) x d rest ≡ Some (x, d, rest)
+pub postfix_stops : (k s : ℕ) (inner : Inner) (x : Trees.Expression) (d : ℕ) (rest : List Lexeme) → pull rest ≤ 15
+    → chain (postfix_step k inner) (suc s) x d rest ≡ Some (x, d, rest)
 unfolding chain postfix_step
 postfix_stops k s inner x d [] h = refl
 postfix_stops k s inner x d (t ∷ rest) h = rw (postfix_ends t.kind t.from t.to t.text k inner x d rest h)
 
-pub operators_stops : (k s least : ℕ) (inner : Inner) (x : Trees.Expression) (d : ℕ) (rest : List Lexeme) → pull rest ≤ least → chain (operator_step k inner least) (suc s) x d rest ≡ Some (x, d, rest)
+pub operators_stops : (k s least : ℕ) (inner : Inner) (x : Trees.Expression) (d : ℕ) (rest : List Lexeme) → pull rest ≤ least
+    → chain (operator_step k inner least) (suc s) x d rest ≡ Some (x, d, rest)
 unfolding chain operator_step
 operators_stops k s least inner x d [] h = refl
 operators_stops k s least inner x d (t ∷ rest) h = rw (operator_ends (binary_op t.kind) k inner least x d t rest (omega (arith, operator_pull t.kind)))
 
-pub conditional_stops : (k : ℕ) (inner : Inner) (x : Trees.Expression) (d : ℕ) (rest : List Lexeme) → pull rest ≤ 2 → conditional_after k inner x d rest (after is_question rest) ≡ Some (x, d, rest)
+pub conditional_stops : (k : ℕ) (inner : Inner) (x : Trees.Expression) (d : ℕ) (rest : List Lexeme) → pull rest ≤ 2
+    → conditional_after k inner x d rest (after is_question rest) ≡ Some (x, d, rest)
 conditional_stops k inner x d [] h = refl
 conditional_stops k inner x d (t ∷ rest) h = rw (not_question t.kind t.from t.to t.text rest h)
 
-pub assignment_stops : (k : ℕ) (inner : Inner) (x : Trees.Expression) (d : ℕ) (rest : List Lexeme) → pull rest ≤ 1 → assignment_after k inner x d rest ≡ Some (x, d, rest)
+pub assignment_stops : (k : ℕ) (inner : Inner) (x : Trees.Expression) (d : ℕ) (rest : List Lexeme) → pull rest ≤ 1 → assignment_after k inner x d rest
+    ≡ Some (x, d, rest)
 unfolding assignment_after
 assignment_stops k inner x d [] h = refl
 assignment_stops k inner x d (t ∷ rest) h = rw (not_assign t.kind h)
 
-pub comma_stops : (k s : ℕ) (inner : Inner) (x : Trees.Expression) (d : ℕ) (rest : List Lexeme) → pull rest ≡ 0 → chain (comma_step k inner) (suc s) x d rest ≡ Some (x, d, rest)
+pub comma_stops : (k s : ℕ) (inner : Inner) (x : Trees.Expression) (d : ℕ) (rest : List Lexeme) → pull rest ≡ 0
+    → chain (comma_step k inner) (suc s) x d rest ≡ Some (x, d, rest)
 unfolding chain comma_step
 comma_stops k s inner x d [] h = refl
 comma_stops k s inner x d (t ∷ rest) h = rw (not_comma t.kind t.from t.to t.text rest h)
@@ -187,7 +198,8 @@ pub record IsBare (types : List (List ℕ)) (rest : List Lexeme) : Type 0 where
   pub no_left : begins_enclosed types rest ≡ false
   pub no_star : after is_star rest ≡ None
 
-bare_kind : (types : List (List ℕ)) (kind : TokenKind) (from to : ℕ) (text : List ℕ) (rest : List Lexeme) → declarators_pull_kind kind ≡ false → IsBare types (lexeme kind from to text ∷ rest)
+bare_kind : (types : List (List ℕ)) (kind : TokenKind) (from to : ℕ) (text : List ℕ) (rest : List Lexeme) → declarators_pull_kind kind ≡ false
+    → IsBare types (lexeme kind from to text ∷ rest)
 bare_kind types (K.Punctuator M.Star) from to text rest h = cc
 bare_kind types (K.Punctuator M.Open) from to text rest h = cc
 bare_kind types K.Name from to text rest h = cc
@@ -197,13 +209,15 @@ pub bare : (types : List (List ℕ)) (rest : List Lexeme) → declarators_pull r
 bare types [] h = record { no_name = refl; no_left = refl; no_star = refl }
 bare types (t ∷ rest) h = bare_kind types t.kind t.from t.to t.text rest h
 
-suffix_ends : (kind : TokenKind) (from to : ℕ) (text : List ℕ) (k : ℕ) (inner : Inner) (x : Trees.Declarator) (d : ℕ) (rest : List Lexeme) → declarators_pull_kind kind ≡ false → suffix_step k inner x d (lexeme kind from to text ∷ rest) ≡ Some (x, d, lexeme kind from to text ∷ rest, false)
+suffix_ends : (kind : TokenKind) (from to : ℕ) (text : List ℕ) (k : ℕ) (inner : Inner) (x : Trees.Declarator) (d : ℕ) (rest : List Lexeme)
+    → declarators_pull_kind kind ≡ false → suffix_step k inner x d (lexeme kind from to text ∷ rest) ≡ Some (x, d, lexeme kind from to text ∷ rest, false)
 unfolding suffix_step
 suffix_ends (K.Punctuator M.Open) from to text k inner x d rest h = cc
 suffix_ends (K.Punctuator M.OpenSquare) from to text k inner x d rest h = cc
 suffix_ends kind from to text k inner x d rest h = refl
 
-pub suffix_stops : (k s : ℕ) (inner : Inner) (x : Trees.Declarator) (d : ℕ) (rest : List Lexeme) → declarators_pull rest ≡ false → chain (suffix_step k inner) (suc s) x d rest ≡ Some (x, d, rest)
+pub suffix_stops : (k s : ℕ) (inner : Inner) (x : Trees.Declarator) (d : ℕ) (rest : List Lexeme) → declarators_pull rest ≡ false
+    → chain (suffix_step k inner) (suc s) x d rest ≡ Some (x, d, rest)
 unfolding chain suffix_step
 suffix_stops k s inner x d [] h = refl
 suffix_stops k s inner x d (t ∷ rest) h = rw (suffix_ends t.kind t.from t.to t.text k inner x d rest h)

@@ -1,5 +1,6 @@
 -- What the smallest readers took from the front of the tokens.
-use Rattle.std.proofs.Common.{◌≡◌, ℕ, ◌+◌, ◌≤◌, ◌<◌, List, [], ◌∷◌, Option, Some, None, Bool, true, false, ◌&&◌, not, refl, ap, ◌∙◌, subst, arith, leb, cond, rules}
+use Rattle.std.proofs.Common.{◌≡◌, ℕ, ◌+◌, ◌≤◌, ◌<◌, List, [], ◌∷◌, Option, Some, None, Bool, true, false, ◌&&◌, not, refl, ap, ◌∙◌, subst, arith}
+use Rattle.std.proofs.Common.{leb, cond, rules}
 use Rattle.std.proofs.lemmas.Bool.Decides.{nat_tests}
 use Rattle.std.proofs.lemmas.List.Elements.{All-head, All-tail}
 use Rattle.lay_base.specs.declared.faults.Keyword.{Keyword}
@@ -10,10 +11,14 @@ use Rattle.c_lexer.specs.declared.token.TokenKind.{TokenKind}
 use Rattle.c_lexer.specs.declared.token.TokenKind.TheVariants as K
 use Rattle.c_ast.specs.declared.words.Spelling.{Spelling}
 use Rattle.c_ast.specs.declared.operators.SpecifierKeyword.{SpecifierKeyword}
-use Rattle.c_ast.specs.Spelling.{Lexeme, punctuator, keyword, word, step_punctuator, unary_punctuator, binary_punctuator, assign_punctuator, specifier_keyword, spelled_comma, spelled_tag}
+use Rattle.c_ast.specs.Spelling.{Lexeme, punctuator, keyword, word, step_punctuator, unary_punctuator, binary_punctuator, assign_punctuator}
+use Rattle.c_ast.specs.Spelling.{specifier_keyword, spelled_comma, spelled_tag}
 use Rattle.c_ast.specs.WellFormed.{is_typename, IsComma}
 use Rattle.c_grammar.proofs.Wholeness.{IsWhole, AreWhole}
-use Rattle.c_grammar.specs.Reading.{◌>>=◌, after, deeper, spelling_of, any_name, plain_name, comma_before, comma_if_any, tag_if_any, is_left, is_right, is_left_square, is_right_square, is_left_brace, is_right_brace, is_comma, is_semicolon, is_colon, is_question, is_equal, is_star, is_const, is_void, is_name, is_sizeof, is_struct, is_enum, step_op, unary_op, binary_op, assign_op, keyword_specifier}
+use Rattle.c_grammar.specs.Reading.{◌>>=◌, after, deeper, spelling_of, any_name, plain_name, comma_before, comma_if_any, tag_if_any, is_left}
+use Rattle.c_grammar.specs.Reading.{is_right, is_left_square, is_right_square, is_left_brace, is_right_brace, is_comma, is_semicolon, is_colon}
+use Rattle.c_grammar.specs.Reading.{is_question, is_equal, is_star, is_const, is_void, is_name, is_sizeof, is_struct, is_enum, step_op, unary_op}
+use Rattle.c_grammar.specs.Reading.{binary_op, assign_op, keyword_specifier}
 
 -- ---- options and tests
 
@@ -22,13 +27,15 @@ bind_some None f y h = cc
 bind_some (Some x) f y h = (x, refl, h)
 
 -- the result of o, what holds of each of its results, and what f gave for it
-pub bind_taken : {A B : Type 0} {o : Option A} {P : A → Type 0} (f : A → Option B) {y : B} → ((x : A) → o ≡ Some x → P x) → (o >>= f) ≡ Some y → (x : A) × P x × (f x ≡ Some y)
+pub bind_taken : {A B : Type 0} {o : Option A} {P : A → Type 0} (f : A → Option B) {y : B} → ((x : A) → o ≡ Some x → P x) → (o >>= f) ≡ Some y
+    → (x : A) × P x × (f x ≡ Some y)
 bind_taken {o = o} f {y} p h = let b = bind_some o f y h in (b.0, p b.0 b.1, b.2)
 
 pub given : {A : Type 0} (P : A → Type 0) (y z : A) → Some y ≡ Some z → P y → P z
 given P y z h p = let e : y ≡ z = cc in subst P e p
 
-pub chosen : {A : Type 0} (b : Bool) (x z : Option A) (y : A) (P : Type 0) → cond b x z ≡ Some y → (b ≡ true → x ≡ Some y → P) → (b ≡ false → z ≡ Some y → P) → P
+pub chosen : {A : Type 0} (b : Bool) (x z : Option A) (y : A) (P : Type 0) → cond b x z ≡ Some y → (b ≡ true → x ≡ Some y → P)
+    → (b ≡ false → z ≡ Some y → P) → P
 chosen true x z y P h p q = p refl h
 chosen false x z y P h p q = q refl h
 
@@ -132,7 +139,8 @@ abbrev Punctuators : {O : Type 0} → (O → Punctuator) → TokenKind → Optio
 Punctuators punctuator_of kind None = Unit {0}
 Punctuators punctuator_of kind (Some op) = kind ≡ K.Punctuator (punctuator_of op)
 
-pub punctuators_some : {O : Type 0} (punctuator_of : O → Punctuator) (kind : TokenKind) (o : Option O) (op : O) → Punctuators punctuator_of kind o → o ≡ Some op → kind ≡ K.Punctuator (punctuator_of op)
+pub punctuators_some : {O : Type 0} (punctuator_of : O → Punctuator) (kind : TokenKind) (o : Option O) (op : O) → Punctuators punctuator_of kind o → o
+    ≡ Some op → kind ≡ K.Punctuator (punctuator_of op)
 punctuators_some punctuator_of kind None op m h = cc
 punctuators_some punctuator_of kind (Some x) op m h = given (λ x. kind ≡ K.Punctuator (punctuator_of x)) x op h m
 
@@ -189,50 +197,64 @@ after_taken p front f (t ∷ rest) w r h =
     (λ c h. given (λ r. (t ∷ rest ≡ front r.0 ∷ r.1) × AreWhole r.1) _ r h (ap (λ t. t ∷ rest) (f t (front_whole t rest w) c), rest_whole t rest w))
     (λ c h. cc)
 
-pub left_taken : (tokens : List Lexeme) → AreWhole tokens → (r : ℕ × List Lexeme) → after is_left tokens ≡ Some r → (tokens ≡ punctuator M.Open r.0 ∷ r.1) × AreWhole r.1
+pub left_taken : (tokens : List Lexeme) → AreWhole tokens → (r : ℕ × List Lexeme) → after is_left tokens ≡ Some r
+    → (tokens ≡ punctuator M.Open r.0 ∷ r.1) × AreWhole r.1
 left_taken = after_taken is_left (punctuator M.Open) (λ t w c. punctuator_whole t M.Open w (left_kind t.kind c))
 
-pub right_taken : (tokens : List Lexeme) → AreWhole tokens → (r : ℕ × List Lexeme) → after is_right tokens ≡ Some r → (tokens ≡ punctuator M.Close r.0 ∷ r.1) × AreWhole r.1
+pub right_taken : (tokens : List Lexeme) → AreWhole tokens → (r : ℕ × List Lexeme) → after is_right tokens ≡ Some r
+    → (tokens ≡ punctuator M.Close r.0 ∷ r.1) × AreWhole r.1
 right_taken = after_taken is_right (punctuator M.Close) (λ t w c. punctuator_whole t M.Close w (right_kind t.kind c))
 
-pub right_square_taken : (tokens : List Lexeme) → AreWhole tokens → (r : ℕ × List Lexeme) → after is_right_square tokens ≡ Some r → (tokens ≡ punctuator M.CloseSquare r.0 ∷ r.1) × AreWhole r.1
+pub right_square_taken : (tokens : List Lexeme) → AreWhole tokens → (r : ℕ × List Lexeme) → after is_right_square tokens ≡ Some r
+    → (tokens ≡ punctuator M.CloseSquare r.0 ∷ r.1) × AreWhole r.1
 right_square_taken = after_taken is_right_square (punctuator M.CloseSquare) (λ t w c. punctuator_whole t M.CloseSquare w (right_square_kind t.kind c))
 
-pub left_brace_taken : (tokens : List Lexeme) → AreWhole tokens → (r : ℕ × List Lexeme) → after is_left_brace tokens ≡ Some r → (tokens ≡ punctuator M.OpenBrace r.0 ∷ r.1) × AreWhole r.1
+pub left_brace_taken : (tokens : List Lexeme) → AreWhole tokens → (r : ℕ × List Lexeme) → after is_left_brace tokens ≡ Some r
+    → (tokens ≡ punctuator M.OpenBrace r.0 ∷ r.1) × AreWhole r.1
 left_brace_taken = after_taken is_left_brace (punctuator M.OpenBrace) (λ t w c. punctuator_whole t M.OpenBrace w (left_brace_kind t.kind c))
 
-pub right_brace_taken : (tokens : List Lexeme) → AreWhole tokens → (r : ℕ × List Lexeme) → after is_right_brace tokens ≡ Some r → (tokens ≡ punctuator M.CloseBrace r.0 ∷ r.1) × AreWhole r.1
+pub right_brace_taken : (tokens : List Lexeme) → AreWhole tokens → (r : ℕ × List Lexeme) → after is_right_brace tokens ≡ Some r
+    → (tokens ≡ punctuator M.CloseBrace r.0 ∷ r.1) × AreWhole r.1
 right_brace_taken = after_taken is_right_brace (punctuator M.CloseBrace) (λ t w c. punctuator_whole t M.CloseBrace w (right_brace_kind t.kind c))
 
-pub comma_taken : (tokens : List Lexeme) → AreWhole tokens → (r : ℕ × List Lexeme) → after is_comma tokens ≡ Some r → (tokens ≡ punctuator M.Comma r.0 ∷ r.1) × AreWhole r.1
+pub comma_taken : (tokens : List Lexeme) → AreWhole tokens → (r : ℕ × List Lexeme) → after is_comma tokens ≡ Some r
+    → (tokens ≡ punctuator M.Comma r.0 ∷ r.1) × AreWhole r.1
 comma_taken = after_taken is_comma (punctuator M.Comma) (λ t w c. punctuator_whole t M.Comma w (comma_kind t.kind c))
 
-pub semicolon_taken : (tokens : List Lexeme) → AreWhole tokens → (r : ℕ × List Lexeme) → after is_semicolon tokens ≡ Some r → (tokens ≡ punctuator M.Semicolon r.0 ∷ r.1) × AreWhole r.1
+pub semicolon_taken : (tokens : List Lexeme) → AreWhole tokens → (r : ℕ × List Lexeme) → after is_semicolon tokens ≡ Some r
+    → (tokens ≡ punctuator M.Semicolon r.0 ∷ r.1) × AreWhole r.1
 semicolon_taken = after_taken is_semicolon (punctuator M.Semicolon) (λ t w c. punctuator_whole t M.Semicolon w (semicolon_kind t.kind c))
 
-pub colon_taken : (tokens : List Lexeme) → AreWhole tokens → (r : ℕ × List Lexeme) → after is_colon tokens ≡ Some r → (tokens ≡ punctuator M.Colon r.0 ∷ r.1) × AreWhole r.1
+pub colon_taken : (tokens : List Lexeme) → AreWhole tokens → (r : ℕ × List Lexeme) → after is_colon tokens ≡ Some r
+    → (tokens ≡ punctuator M.Colon r.0 ∷ r.1) × AreWhole r.1
 colon_taken = after_taken is_colon (punctuator M.Colon) (λ t w c. punctuator_whole t M.Colon w (colon_kind t.kind c))
 
-pub question_taken : (tokens : List Lexeme) → AreWhole tokens → (r : ℕ × List Lexeme) → after is_question tokens ≡ Some r → (tokens ≡ punctuator M.Question r.0 ∷ r.1) × AreWhole r.1
+pub question_taken : (tokens : List Lexeme) → AreWhole tokens → (r : ℕ × List Lexeme) → after is_question tokens ≡ Some r
+    → (tokens ≡ punctuator M.Question r.0 ∷ r.1) × AreWhole r.1
 question_taken = after_taken is_question (punctuator M.Question) (λ t w c. punctuator_whole t M.Question w (question_kind t.kind c))
 
-pub equal_taken : (tokens : List Lexeme) → AreWhole tokens → (r : ℕ × List Lexeme) → after is_equal tokens ≡ Some r → (tokens ≡ punctuator M.Equal r.0 ∷ r.1) × AreWhole r.1
+pub equal_taken : (tokens : List Lexeme) → AreWhole tokens → (r : ℕ × List Lexeme) → after is_equal tokens ≡ Some r
+    → (tokens ≡ punctuator M.Equal r.0 ∷ r.1) × AreWhole r.1
 equal_taken = after_taken is_equal (punctuator M.Equal) (λ t w c. punctuator_whole t M.Equal w (equal_kind t.kind c))
 
-pub star_taken : (tokens : List Lexeme) → AreWhole tokens → (r : ℕ × List Lexeme) → after is_star tokens ≡ Some r → (tokens ≡ punctuator M.Star r.0 ∷ r.1) × AreWhole r.1
+pub star_taken : (tokens : List Lexeme) → AreWhole tokens → (r : ℕ × List Lexeme) → after is_star tokens ≡ Some r
+    → (tokens ≡ punctuator M.Star r.0 ∷ r.1) × AreWhole r.1
 star_taken = after_taken is_star (punctuator M.Star) (λ t w c. punctuator_whole t M.Star w (star_kind t.kind c))
 
-pub void_taken : (tokens : List Lexeme) → AreWhole tokens → (r : ℕ × List Lexeme) → after is_void tokens ≡ Some r → (tokens ≡ keyword W.Void r.0 ∷ r.1) × AreWhole r.1
+pub void_taken : (tokens : List Lexeme) → AreWhole tokens → (r : ℕ × List Lexeme) → after is_void tokens ≡ Some r
+    → (tokens ≡ keyword W.Void r.0 ∷ r.1) × AreWhole r.1
 void_taken = after_taken is_void (keyword W.Void) (λ t w c. keyword_whole t W.Void w (void_kind t.kind c))
 
-pub any_name_taken : (tokens : List Lexeme) → AreWhole tokens → (r : Spelling × List Lexeme) → any_name tokens ≡ Some r → (tokens ≡ word K.Name r.0 ∷ r.1) × AreWhole r.1
+pub any_name_taken : (tokens : List Lexeme) → AreWhole tokens → (r : Spelling × List Lexeme) → any_name tokens ≡ Some r
+    → (tokens ≡ word K.Name r.0 ∷ r.1) × AreWhole r.1
 any_name_taken [] w r h = cc
 any_name_taken (t ∷ rest) w r h =
     chosen (is_name t.kind) _ _ r ((t ∷ rest ≡ word K.Name r.0 ∷ r.1) × AreWhole r.1) h
     (λ c h. given (λ r. (t ∷ rest ≡ word K.Name r.0 ∷ r.1) × AreWhole r.1) _ r h (ap (λ t. t ∷ rest) (name_word t c), rest_whole t rest w))
     (λ c h. cc)
 
-pub plain_name_taken : (types : List (List ℕ)) (tokens : List Lexeme) → AreWhole tokens → (r : Spelling × List Lexeme) → plain_name types tokens ≡ Some r → (tokens ≡ word K.Name r.0 ∷ r.1) × AreWhole r.1 × (is_typename types r.0.text ≡ false)
+pub plain_name_taken : (types : List (List ℕ)) (tokens : List Lexeme) → AreWhole tokens → (r : Spelling × List Lexeme) → plain_name types tokens
+    ≡ Some r → (tokens ≡ word K.Name r.0 ∷ r.1) × AreWhole r.1 × (is_typename types r.0.text ≡ false)
 plain_name_taken types [] w r h = cc
 plain_name_taken types (t ∷ rest) w r h =
     chosen (is_name t.kind && not (is_typename types t.text)) _ _ r ((t ∷ rest ≡ word K.Name r.0 ∷ r.1) × AreWhole r.1 × (is_typename types r.0.text ≡ false)) h
@@ -248,7 +270,8 @@ abbrev pub is_first : {A : Type 0} → List A → Bool
 is_first [] = true
 is_first (a ∷ all) = false
 
-pub comma_before_taken : {A : Type 0} (all : List A) (tokens : List Lexeme) → AreWhole tokens → (c : Option ℕ × List Lexeme) → comma_before all tokens ≡ Some c → (tokens ≡ spelled_comma c.0 c.1) × IsComma (is_first all) c.0 × AreWhole c.1
+pub comma_before_taken : {A : Type 0} (all : List A) (tokens : List Lexeme) → AreWhole tokens → (c : Option ℕ × List Lexeme) → comma_before all tokens
+    ≡ Some c → (tokens ≡ spelled_comma c.0 c.1) × IsComma (is_first all) c.0 × AreWhole c.1
 comma_before_taken [] tokens w c h = given (λ c. (tokens ≡ spelled_comma c.0 c.1) × IsComma true c.0 × AreWhole c.1) (None, tokens) c h (refl, refl, w)
 comma_before_taken (a ∷ all) tokens w c h =
     let b = bind_some (after is_comma tokens) _ c h in
@@ -258,19 +281,26 @@ comma_before_taken (a ∷ all) tokens w c h =
 -- ---- what may be missing
 
 comma_of_kind : (kind : TokenKind) (from to : ℕ) (text : List ℕ) (rest : List Lexeme) → AreWhole (lexeme kind from to text ∷ rest)
-    → (lexeme kind from to text ∷ rest ≡ spelled_comma (comma_if_any (lexeme kind from to text ∷ rest)).0 (comma_if_any (lexeme kind from to text ∷ rest)).1) × AreWhole (comma_if_any (lexeme kind from to text ∷ rest)).1
-comma_of_kind (K.Punctuator M.Comma) from to text rest w = (ap (λ t. t ∷ rest) (front_whole (lexeme (K.Punctuator M.Comma) from to text) rest w), rest_whole (lexeme (K.Punctuator M.Comma) from to text) rest w)
+    → (lexeme kind from to text ∷ rest ≡ spelled_comma (comma_if_any (lexeme kind from to text ∷ rest)).0
+    (comma_if_any (lexeme kind from to text ∷ rest)).1) × AreWhole (comma_if_any (lexeme kind from to text ∷ rest)).1
+comma_of_kind (K.Punctuator M.Comma) from to text rest w = (
+  ap (λ t. t ∷ rest) (front_whole (lexeme (K.Punctuator M.Comma) from to text) rest w),
+  rest_whole (lexeme (K.Punctuator M.Comma) from to text) rest w,
+)
 comma_of_kind kind from to text rest w = (refl, w)
 
-pub comma_if_any_taken : (tokens : List Lexeme) → AreWhole tokens → (tokens ≡ spelled_comma (comma_if_any tokens).0 (comma_if_any tokens).1) × AreWhole (comma_if_any tokens).1
+pub comma_if_any_taken : (tokens : List Lexeme) → AreWhole tokens
+    → (tokens ≡ spelled_comma (comma_if_any tokens).0 (comma_if_any tokens).1) × AreWhole (comma_if_any tokens).1
 comma_if_any_taken [] w = (refl, w)
 comma_if_any_taken (t ∷ rest) w = comma_of_kind t.kind t.from t.to t.text rest w
 
 tag_of_kind : (kind : TokenKind) (from to : ℕ) (text : List ℕ) (rest : List Lexeme) → AreWhole (lexeme kind from to text ∷ rest)
-    → (lexeme kind from to text ∷ rest ≡ spelled_tag (tag_if_any (lexeme kind from to text ∷ rest)).0 (tag_if_any (lexeme kind from to text ∷ rest)).1) × AreWhole (tag_if_any (lexeme kind from to text ∷ rest)).1
+    → (lexeme kind from to text ∷ rest ≡ spelled_tag (tag_if_any (lexeme kind from to text ∷ rest)).0
+    (tag_if_any (lexeme kind from to text ∷ rest)).1) × AreWhole (tag_if_any (lexeme kind from to text ∷ rest)).1
 tag_of_kind K.Name from to text rest w = (refl, rest_whole (lexeme K.Name from to text) rest w)
 tag_of_kind kind from to text rest w = (refl, w)
 
-pub tag_if_any_taken : (tokens : List Lexeme) → AreWhole tokens → (tokens ≡ spelled_tag (tag_if_any tokens).0 (tag_if_any tokens).1) × AreWhole (tag_if_any tokens).1
+pub tag_if_any_taken : (tokens : List Lexeme) → AreWhole tokens
+    → (tokens ≡ spelled_tag (tag_if_any tokens).0 (tag_if_any tokens).1) × AreWhole (tag_if_any tokens).1
 tag_if_any_taken [] w = (refl, w)
 tag_if_any_taken (t ∷ rest) w = tag_of_kind t.kind t.from t.to t.text rest w

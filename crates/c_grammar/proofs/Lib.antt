@@ -35,3 +35,7 @@ pub mod Tables
 pub mod Taken
 pub mod WholeTokens
 pub mod Wholeness
+pub mod FewNodes
+pub mod FirstPlaces
+pub mod NodePlaces
+pub mod NodeCounts

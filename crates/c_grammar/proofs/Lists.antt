@@ -17,7 +17,8 @@ specifiers_list (Trees.and_specifier s more) = s ∷ specifiers_list more
 
 abbrev pub member_declarations_list : Trees.MemberDeclarations → List (Trees.Specifiers × Trees.MemberDeclarators × ℕ)
 member_declarations_list Trees.no_member_declarations = []
-member_declarations_list (Trees.and_member_declaration specs member_declarators semicolon more) = (specs, member_declarators, semicolon) ∷ member_declarations_list more
+member_declarations_list (Trees.and_member_declaration specs member_declarators semicolon more) =
+    (specs, member_declarators, semicolon) ∷ member_declarations_list more
 
 abbrev pub member_declarators_list : Trees.MemberDeclarators → List (Option ℕ × Trees.Declarator)
 member_declarators_list Trees.no_member_declarators = []
@@ -39,11 +40,14 @@ pub specifiers_again : (specs : Trees.Specifiers) → specifiers_of (specifiers_
 specifiers_again Trees.no_specifiers = refl
 specifiers_again (Trees.and_specifier s more) = ap (λ r. Trees.and_specifier s r) (specifiers_again more)
 
-pub member_declarations_again : (member_declarations : Trees.MemberDeclarations) → member_declarations_of (member_declarations_list member_declarations) ≡ member_declarations
+pub member_declarations_again : (member_declarations : Trees.MemberDeclarations)
+    → member_declarations_of (member_declarations_list member_declarations) ≡ member_declarations
 member_declarations_again Trees.no_member_declarations = refl
-member_declarations_again (Trees.and_member_declaration specs member_declarators semicolon more) = ap (λ r. Trees.and_member_declaration specs member_declarators semicolon r) (member_declarations_again more)
+member_declarations_again (Trees.and_member_declaration specs member_declarators semicolon more) =
+    ap (λ r. Trees.and_member_declaration specs member_declarators semicolon r) (member_declarations_again more)
 
-pub member_declarators_again : (member_declarators : Trees.MemberDeclarators) → member_declarators_of (member_declarators_list member_declarators) ≡ member_declarators
+pub member_declarators_again : (member_declarators : Trees.MemberDeclarators) → member_declarators_of (member_declarators_list member_declarators)
+    ≡ member_declarators
 member_declarators_again Trees.no_member_declarators = refl
 member_declarators_again (Trees.and_member_declarator comma d more) = ap (λ r. Trees.and_member_declarator comma d r) (member_declarators_again more)
 
@@ -66,7 +70,8 @@ not_new [] a = refl
 not_new (b ∷ done) a = refl
 
 -- none before the first, and one before each other
-pub comma_read : {A : Type 0} (done : List A) (first : Bool) (c : Option ℕ) (rest : List Lexeme) → first ≡ is_new done → IsComma first c → comma_before done (spelled_comma c rest) ≡ Some (c, rest)
+pub comma_read : {A : Type 0} (done : List A) (first : Bool) (c : Option ℕ) (rest : List Lexeme) → first ≡ is_new done → IsComma first c
+    → comma_before done (spelled_comma c rest) ≡ Some (c, rest)
 comma_read [] first None rest e w = refl
 comma_read [] first (Some i) rest e w = let h : first ≡ false = w in cc
 comma_read (a ∷ done) first None rest e w = let h : first ≡ true = w in cc

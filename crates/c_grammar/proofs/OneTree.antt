@@ -26,7 +26,8 @@ pub tree_read : (n : ℕ) (tokens : List Lexeme) (items : List Trees.Item) → A
 tree_read n tokens items w h = let s = items_sound sound 399 n [] tokens items w h in record { spelled = s.0; well_formed = s.1; shallow = s.2 }
 
 -- a tree of the tokens is read
-pub tree_found : (n : ℕ) (tokens : List Lexeme) (items : List Trees.Item) → length tokens ≤ n → IsTreeOfTokens tokens items → items_in 399 n [] tokens ≡ Some items
+pub tree_found : (n : ℕ) (tokens : List Lexeme) (items : List Trees.Item) → length tokens ≤ n → IsTreeOfTokens tokens items → items_in 399 n [] tokens
+    ≡ Some items
 tree_found n tokens items l t =
     let e = t.spelled in
     ap (items_in 399 n []) e ∙ items_complete complete 399 n [] items t.well_formed t.shallow (subst (λ all. length all ≤ n) e l)
@@ -35,4 +36,5 @@ pub no_tree : (n : ℕ) (tokens : List Lexeme) → length tokens ≤ n → items
 no_tree n tokens l h items t = let e : None ≡ Some items = sym h ∙ tree_found n tokens items l t in cc
 
 pub one_tree : TreesAreOne
-one_tree tokens items others t o = same_Some others items (sym (tree_found (length tokens) tokens others (omega arith) o) ∙ tree_found (length tokens) tokens items (omega arith) t)
+one_tree tokens items others t o = same_Some others items (sym (tree_found (length tokens) tokens others (omega arith) o)
+    ∙ tree_found (length tokens) tokens items (omega arith) t)

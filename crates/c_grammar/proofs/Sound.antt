@@ -21,7 +21,8 @@ none_sound types = record {
   specifiers = λ tokens w y h. cc;
   member_declaration = λ tokens w y h. cc;
   enumerator = λ tokens w y h. cc;
-  declarator = λ tokens w y h. given (Took spelled_declarator (IsDeclarator types) depth_declarator 0 tokens) _ y h (record { spelled_so = refl; well_formed = tt; deep = refl; within = omega arith; whole = w });
+  declarator = λ tokens w y h. given (Took spelled_declarator (IsDeclarator types) depth_declarator 0 tokens) _ y h
+      (record { spelled_so = refl; well_formed = tt; deep = refl; within = omega arith; whole = w });
 }
 
 pub around_sound : (types : List (List ℕ)) (k : ℕ) (inner : Inner) → IsSound types k inner → IsSound types (suc k) (around types k inner)

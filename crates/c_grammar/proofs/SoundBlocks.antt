@@ -5,16 +5,20 @@ use Rattle.c_lexer.specs.declared.punctuator.Punctuator.TheVariants as M
 use Rattle.c_lexer.specs.declared.token.TokenKind.{TokenKind}
 use Rattle.c_lexer.specs.declared.token.TokenKind.TheVariants as K
 use Rattle.c_ast.specs.Trees
-use Rattle.c_ast.specs.Spelling.{Lexeme, punctuator, keyword, spelled, spelled_declaration, spelled_if_any, spelled_labels, spelled_statement, spelled_block_item, spelled_block_items, spelled_switch_item, spelled_switch_items}
-use Rattle.c_ast.specs.WellFormed.{IsExpression, IsDeclaration, IsFullDeclaration, IsExpressionIfAny, AreLabels, is_open, IsStatement, IsBlockItem, AreBlockItems, IsSwitchItem, AreSwitchItems}
-use Rattle.c_ast.specs.Sizes.{depth, depth_declaration, depth_if_any, depth_labels, depth_statement, depth_block_item, depth_block_items, depth_switch_item, depth_switch_items}
+use Rattle.c_ast.specs.Spelling.{Lexeme, punctuator, keyword, spelled, spelled_declaration, spelled_if_any, spelled_labels, spelled_statement}
+use Rattle.c_ast.specs.Spelling.{spelled_block_item, spelled_block_items, spelled_switch_item, spelled_switch_items}
+use Rattle.c_ast.specs.WellFormed.{IsExpression, IsDeclaration, IsFullDeclaration, IsExpressionIfAny, AreLabels, is_open, IsStatement, IsBlockItem}
+use Rattle.c_ast.specs.WellFormed.{AreBlockItems, IsSwitchItem, AreSwitchItems}
+use Rattle.c_ast.specs.Sizes.{depth, depth_declaration, depth_if_any, depth_labels, depth_statement, depth_block_item, depth_block_items}
+use Rattle.c_ast.specs.Sizes.{depth_switch_item, depth_switch_items}
 use Rattle.c_ast.specs.Views.{block_items_of, switch_items_of}
 use Rattle.c_grammar.proofs.Wholeness.{AreWhole}
 use Rattle.c_grammar.specs.Reading.{after, fronted, is_left, is_right, is_right_brace, is_colon, begins_specifier, Reader, chain}
 use Rattle.c_grammar.proofs.Fronts.{bind_some, given, chosen, lexeme, front_whole, rest_whole, left_taken, right_taken, right_brace_taken, colon_taken}
 use Rattle.c_grammar.proofs.Chains.{Listing, AnyEnd, added, ended, Grows, list_taken}
 use Rattle.c_grammar.proofs.Taken.{Took, Reads, ReadsExpression}
-use Rattle.c_grammar.specs.StatementReading.{expression_if_any, condition_in, Below, is_else, block_item_in, block_item_step, block_in, label_of_kind, label_step, labelled_in, switch_item_in, switch_item_step}
+use Rattle.c_grammar.specs.StatementReading.{expression_if_any, condition_in, Below, is_else, block_item_in, block_item_step, block_in, label_of_kind}
+use Rattle.c_grammar.specs.StatementReading.{label_step, labelled_in, switch_item_in, switch_item_step}
 use Rattle.c_grammar.proofs.SoundInitializers.{bound}
 
 -- y is such a statement, and no else that it could take is after it
@@ -22,7 +26,8 @@ abbrev pub TookStatement : List (List ℕ) → ℕ → List Lexeme → Trees.Sta
 TookStatement types n tokens y = Took spelled_statement (IsStatement types) depth_statement n tokens y × (is_open y.0 ≡ true → fronted is_else y.2 ≡ false)
 
 abbrev pub ReadsStatement : List (List ℕ) → ℕ → Reader Trees.Statement → Type 0
-ReadsStatement types n reader = (tokens : List Lexeme) → AreWhole tokens → (y : Trees.Statement × ℕ × List Lexeme) → reader tokens ≡ Some y → TookStatement types n tokens y
+ReadsStatement types n reader = (tokens : List Lexeme) → AreWhole tokens → (y : Trees.Statement × ℕ × List Lexeme) → reader tokens ≡ Some y
+    → TookStatement types n tokens y
 
 pub record IsSoundBelow (k : ℕ) (below : Below) : Type 0 where
   pub expression : ReadsExpression below.types 0 k below.expression
@@ -73,7 +78,8 @@ switch_items types = record {
   are_more = λ first switch_item more p q. (p, q);
 }
 
-labels_spelled : (label : Trees.Label) (more : List Trees.Label) (rest : List Lexeme) → spelled_labels (label ∷ more) rest ≡ spelled_labels (label ∷ []) (spelled_labels more rest)
+labels_spelled : (label : Trees.Label) (more : List Trees.Label) (rest : List Lexeme) → spelled_labels (label ∷ more) rest
+    ≡ spelled_labels (label ∷ []) (spelled_labels more rest)
 labels_spelled (Trees.case at a colon) more rest = refl
 labels_spelled (Trees.default at colon) more rest = refl
 
@@ -81,7 +87,8 @@ labels_depth : (label : Trees.Label) (more : List Trees.Label) → depth_labels 
 labels_depth (Trees.case at a colon) more = omega arith
 labels_depth (Trees.default at colon) more = omega arith
 
-labels_fine : (types : List (List ℕ)) (label : Trees.Label) (more : List Trees.Label) → AreLabels types (label ∷ []) → AreLabels types more → AreLabels types (label ∷ more)
+labels_fine : (types : List (List ℕ)) (label : Trees.Label) (more : List Trees.Label) → AreLabels types (label ∷ []) → AreLabels types more
+    → AreLabels types (label ∷ more)
 labels_fine types (Trees.case at a colon) more p q = (p.0, p.1, q)
 labels_fine types (Trees.default at colon) more p q = q
 
@@ -108,11 +115,13 @@ module _ (k : ℕ) (below : Below) (sound : IsSoundBelow k below) where
   unfolding expression_if_any
   if_any_taken p tokens w y h =
       chosen (fronted p tokens) _ _ y (Took spelled_if_any (IsExpressionIfAny below.types) depth_if_any k tokens y) h
-      (λ c h. given (Took spelled_if_any (IsExpressionIfAny below.types) depth_if_any k tokens) _ y h (record { spelled_so = refl; well_formed = tt; deep = refl; within = omega arith; whole = w }))
+      (λ c h. given (Took spelled_if_any (IsExpressionIfAny below.types) depth_if_any k tokens) _ y h
+      (record { spelled_so = refl; well_formed = tt; deep = refl; within = omega arith; whole = w }))
       (λ c h.
       let a = bind_some (below.expression tokens) _ y h in
       let q = sound.expression tokens w a.0 a.1 in
-      given (Took spelled_if_any (IsExpressionIfAny below.types) depth_if_any k tokens) _ y a.2 (record { spelled_so = q.spelled_so; well_formed = q.well_formed.1; deep = q.deep; within = q.within; whole = q.whole }))
+      given (Took spelled_if_any (IsExpressionIfAny below.types) depth_if_any k tokens) _ y a.2
+      (record { spelled_so = q.spelled_so; well_formed = q.well_formed.1; deep = q.deep; within = q.within; whole = q.whole }))
 
   pub condition_taken : Reads spelled_condition (λ c. IsExpression below.types c.1) (λ c. depth c.1) k (condition_in below.expression)
   unfolding condition_in
@@ -141,13 +150,16 @@ module _ (k : ℕ) (below : Below) (sound : IsSoundBelow k below) where
       (λ c h.
       let d = bind_some (below.local tokens) _ y h in
       let p = sound.local tokens w d.0 d.1 in
-      given (Took spelled_block_item (IsBlockItem below.types) depth_block_item k tokens) _ y d.2 (record { spelled_so = p.spelled_so; well_formed = p.well_formed; deep = p.deep; within = p.within; whole = p.whole }))
+      given (Took spelled_block_item (IsBlockItem below.types) depth_block_item k tokens) _ y d.2
+      (record { spelled_so = p.spelled_so; well_formed = p.well_formed; deep = p.deep; within = p.within; whole = p.whole }))
       (λ c h.
       let a = bind_some (below.statement tokens) _ y h in
       let p = (sound.statement tokens w a.0 a.1).0 in
-      given (Took spelled_block_item (IsBlockItem below.types) depth_block_item k tokens) _ y a.2 (record { spelled_so = p.spelled_so; well_formed = p.well_formed; deep = p.deep; within = p.within; whole = p.whole }))
+      given (Took spelled_block_item (IsBlockItem below.types) depth_block_item k tokens) _ y a.2
+      (record { spelled_so = p.spelled_so; well_formed = p.well_formed; deep = p.deep; within = p.within; whole = p.whole }))
 
-  block_item_step_taken : (done : List Trees.BlockItem) (d : ℕ) (tokens : List Lexeme) (r : List Trees.BlockItem × ℕ × List Lexeme × Bool) → AreWhole tokens → block_item_step below done d tokens ≡ Some r → Grows (block_items below.types) k AnyEnd done d tokens r
+  block_item_step_taken : (done : List Trees.BlockItem) (d : ℕ) (tokens : List Lexeme) (r : List Trees.BlockItem × ℕ × List Lexeme × Bool)
+      → AreWhole tokens → block_item_step below done d tokens ≡ Some r → Grows (block_items below.types) k AnyEnd done d tokens r
   unfolding block_item_step
   block_item_step_taken done d tokens r w h =
       chosen (fronted is_right_brace tokens) _ _ r (Grows (block_items below.types) k AnyEnd done d tokens r) h
@@ -163,7 +175,8 @@ module _ (k : ℕ) (below : Below) (sound : IsSoundBelow k below) where
   block_taken tokens w y h =
       let all = bind_some (chain (block_item_step below) (length tokens + 1) [] 0 tokens) _ y h in
       let right = bind_some (after is_right_brace all.0.2) _ y all.2 in
-      let p = list_taken (block_items below.types) k AnyEnd (block_item_step below) block_item_step_taken (length tokens + 1) 0 (omega arith) tokens w all.0 all.1 in
+      let p = list_taken (block_items below.types) k AnyEnd (block_item_step below) block_item_step_taken (length tokens + 1) 0
+      (omega arith) tokens w all.0 all.1 in
       let r = right_brace_taken all.0.2 p.whole right.0 right.1 in
       given (Took spelled_block (λ b. AreBlockItems below.types b.0) (λ b. depth_block_items b.0) k tokens) _ y right.2 (record {
         spelled_so = p.spelled_so ∙ ap (λ z. spelled_block_items (block_items_of all.0.0) z) r.0;
@@ -175,8 +188,10 @@ module _ (k : ℕ) (below : Below) (sound : IsSoundBelow k below) where
 
   -- ---- the body of a switch
 
-  label_kind_taken : (done : List Trees.Label) (d : ℕ) (kind : TokenKind) (from to : ℕ) (text : List ℕ) (rest : List Lexeme) (r : List Trees.Label × ℕ × List Lexeme × Bool)
-      → AreWhole (lexeme kind from to text ∷ rest) → label_of_kind below done d (lexeme kind from to text ∷ rest) (Some kind) ≡ Some r → Grows (labels below.types) k AnyEnd done d (lexeme kind from to text ∷ rest) r
+  label_kind_taken : (done : List Trees.Label) (d : ℕ) (kind : TokenKind) (from to : ℕ) (text : List ℕ) (rest : List Lexeme)
+      (r : List Trees.Label × ℕ × List Lexeme × Bool)
+      → AreWhole (lexeme kind from to text ∷ rest) → label_of_kind below done d (lexeme kind from to text ∷ rest) (Some kind) ≡ Some r
+      → Grows (labels below.types) k AnyEnd done d (lexeme kind from to text ∷ rest) r
   label_kind_taken done d (K.Keyword W.Case) from to text rest r w h =
       let t = lexeme (K.Keyword W.Case) from to text in
       let a = bind_some (below.conditional rest) _ r h in
@@ -198,9 +213,11 @@ module _ (k : ℕ) (below : Below) (sound : IsSoundBelow k below) where
             (ap (λ t. t ∷ rest) (front_whole t rest w) ∙ ap (λ z. keyword W.Default from ∷ z) c.0) tt (omega arith) c.1,
         λ _. tt,
       )
-  label_kind_taken done d kind from to text rest r w h = given (Grows (labels below.types) k AnyEnd done d (lexeme kind from to text ∷ rest)) _ r h (ended refl refl refl, λ _. tt)
+  label_kind_taken done d kind from to text rest r w h = given (Grows (labels below.types) k AnyEnd done d (lexeme kind from to text ∷ rest)) _ r h
+      (ended refl refl refl, λ _. tt)
 
-  label_step_taken : (done : List Trees.Label) (d : ℕ) (tokens : List Lexeme) (r : List Trees.Label × ℕ × List Lexeme × Bool) → AreWhole tokens → label_step below done d tokens ≡ Some r → Grows (labels below.types) k AnyEnd done d tokens r
+  label_step_taken : (done : List Trees.Label) (d : ℕ) (tokens : List Lexeme) (r : List Trees.Label × ℕ × List Lexeme × Bool) → AreWhole tokens
+      → label_step below done d tokens ≡ Some r → Grows (labels below.types) k AnyEnd done d tokens r
   unfolding label_step
   label_step_taken done d [] r w h = given (Grows (labels below.types) k AnyEnd done d []) _ r h (ended refl refl refl, λ _. tt)
   label_step_taken done d (t ∷ rest) r w h = label_kind_taken done d t.kind t.from t.to t.text rest r w h
@@ -227,10 +244,12 @@ module _ (k : ℕ) (below : Below) (sound : IsSoundBelow k below) where
       (λ c h.
       let d = bind_some (below.full tokens) _ y h in
       let p = sound.full tokens w d.0 d.1 in
-      given (Took spelled_switch_item (IsSwitchItem below.types) depth_switch_item k tokens) _ y d.2 (record { spelled_so = p.spelled_so; well_formed = p.well_formed; deep = p.deep; within = p.within; whole = p.whole }))
+      given (Took spelled_switch_item (IsSwitchItem below.types) depth_switch_item k tokens) _ y d.2
+      (record { spelled_so = p.spelled_so; well_formed = p.well_formed; deep = p.deep; within = p.within; whole = p.whole }))
       (λ c h. labelled_taken tokens w y h)
 
-  switch_item_step_taken : (done : List Trees.SwitchItem) (d : ℕ) (tokens : List Lexeme) (r : List Trees.SwitchItem × ℕ × List Lexeme × Bool) → AreWhole tokens → switch_item_step below done d tokens ≡ Some r → Grows (switch_items below.types) k AnyEnd done d tokens r
+  switch_item_step_taken : (done : List Trees.SwitchItem) (d : ℕ) (tokens : List Lexeme) (r : List Trees.SwitchItem × ℕ × List Lexeme × Bool)
+      → AreWhole tokens → switch_item_step below done d tokens ≡ Some r → Grows (switch_items below.types) k AnyEnd done d tokens r
   unfolding switch_item_step
   switch_item_step_taken done d tokens r w h =
       chosen (fronted is_right_brace tokens) _ _ r (Grows (switch_items below.types) k AnyEnd done d tokens r) h
@@ -241,7 +260,9 @@ module _ (k : ℕ) (below : Below) (sound : IsSoundBelow k below) where
       given (Grows (switch_items below.types) k AnyEnd done d tokens) _ r switch_item.2
       (added switch_item.0.0 refl (ap (λ z. max d z) p.deep) p.spelled_so p.well_formed (let f = p.deep in omega (arith, f, p.within)) p.whole, λ _. tt))
 
-  pub switch_items_taken : (n : ℕ) → Reads (λ all rest. spelled_switch_items (switch_items_of all) rest) (λ all. AreSwitchItems below.types (switch_items_of all)) (λ all. depth_switch_items (switch_items_of all)) k (λ tokens. chain (switch_item_step below) n [] 0 tokens)
+  pub switch_items_taken : (n : ℕ) → Reads (λ all rest. spelled_switch_items (switch_items_of all) rest)
+      (λ all. AreSwitchItems below.types (switch_items_of all)) (λ all. depth_switch_items (switch_items_of all)) k
+      (λ tokens. chain (switch_item_step below) n [] 0 tokens)
   switch_items_taken n tokens w y h =
       let p = list_taken (switch_items below.types) k AnyEnd (switch_item_step below) switch_item_step_taken n 0 (omega arith) tokens w y h in
       record { spelled_so = p.spelled_so; well_formed = p.well_formed; deep = (let e = p.deep in omega (arith, e)); within = p.within; whole = p.whole }

@@ -25,11 +25,13 @@ abbrev pub ReadsInitializer : List (List ℕ) → ℕ → Reader Trees.Expressio
 ReadsInitializer types n reader = Reads spelled (IsInitializer types) depth_initializer n reader
 
 -- a well formed expression is no initializer in braces
-expression_initializes : (types : List (List ℕ)) (a : Trees.Expression) → 1 ≤ level a → IsExpression types a → IsInitializer types a × (depth_initializer a ≡ depth a + 1)
+expression_initializes : (types : List (List ℕ)) (a : Trees.Expression) → 1 ≤ level a → IsExpression types a
+    → IsInitializer types a × (depth_initializer a ≡ depth a + 1)
 expression_initializes types (Trees.braces left all comma right) l w = absurd w
 expression_initializes types a l w = ((l, w), refl)
 
-initializers_depth : (comma : Option ℕ) (a : Trees.Expression) (more : Trees.Arguments) → depth_initializers (Trees.and_argument comma a more) ≡ max (depth_initializer a) (depth_initializers more)
+initializers_depth : (comma : Option ℕ) (a : Trees.Expression) (more : Trees.Arguments) → depth_initializers (Trees.and_argument comma a more)
+    ≡ max (depth_initializer a) (depth_initializers more)
 initializers_depth comma (Trees.braces left all last right) more = refl
 initializers_depth comma a more = refl
 
@@ -54,7 +56,8 @@ initializers types = record {
 }
 
 module _ (types : List (List ℕ)) (k : ℕ) (initial : Reader Trees.Expression) (initials : ReadsInitializer types k initial) where
-  initial_step_taken : (done : List (Option ℕ × Trees.Expression)) (d : ℕ) (tokens : List Lexeme) (r : List (Option ℕ × Trees.Expression) × ℕ × List Lexeme × Bool)
+  initial_step_taken : (done : List (Option ℕ × Trees.Expression)) (d : ℕ) (tokens : List Lexeme)
+      (r : List (Option ℕ × Trees.Expression) × ℕ × List Lexeme × Bool)
       → AreWhole tokens → initial_step initial done d tokens ≡ Some r → Grows (initializers types) k IsSome done d tokens r
   unfolding initial_step
   initial_step_taken done d tokens r w h =
@@ -63,11 +66,13 @@ module _ (types : List (List ℕ)) (k : ℕ) (initial : Reader Trees.Expression)
       let p = comma_before_taken done tokens w c.0 c.1 in
       let q = initials c.0.1 p.2 i.0 i.1 in
       given (Grows (initializers types) k IsSome done d tokens) _ r i.2 (
-        added (c.0.0, i.0.0) refl (ap (λ z. max d z) q.deep) (p.0 ∙ ap (λ z. spelled_comma c.0.0 z) q.spelled_so) (p.1, q.well_formed) (omega (arith, q.deep, q.within)) q.whole,
+        added (c.0.0, i.0.0) refl (ap (λ z. max d z) q.deep) (p.0 ∙ ap (λ z. spelled_comma c.0.0 z) q.spelled_so) (p.1, q.well_formed)
+            (omega (arith, q.deep, q.within)) q.whole,
         λ _. some_more done (c.0.0, i.0.0),
       )
 
-  braces_taken : (left : ℕ) (tokens : List Lexeme) → AreWhole tokens → (y : Trees.Expression × ℕ × List Lexeme) → braces_in k initial left tokens ≡ Some y → TookInitializer types (suc k) (punctuator M.OpenBrace left ∷ tokens) y
+  braces_taken : (left : ℕ) (tokens : List Lexeme) → AreWhole tokens → (y : Trees.Expression × ℕ × List Lexeme) → braces_in k initial left tokens
+      ≡ Some y → TookInitializer types (suc k) (punctuator M.OpenBrace left ∷ tokens) y
   unfolding braces_in
   braces_taken left tokens w y h =
       let all = bind_some (chain (initial_step initial) (length tokens + 1) [] 0 tokens) _ y h in
@@ -78,15 +83,18 @@ module _ (types : List (List ℕ)) (k : ℕ) (initial : Reader Trees.Expression)
       let q = right_brace_taken ((comma_if_any all.0.2).1) c.1 right.0 right.1 in
       let n = deeper_taken k all.0.1 d.0 d.1 in
       given (TookInitializer types (suc k) (punctuator M.OpenBrace left ∷ tokens)) _ y d.2 (record {
-        spelled_so = ap (λ z. punctuator M.OpenBrace left ∷ z) (p.spelled_so ∙ ap (λ z. spelled_arguments (arguments_of all.0.0) z) (c.0 ∙ ap (λ z. spelled_comma ((comma_if_any all.0.2).0) z) q.0));
+        spelled_so = ap (λ z. punctuator M.OpenBrace left ∷ z) (p.spelled_so
+            ∙ ap (λ z. spelled_arguments (arguments_of all.0.0) z) (c.0 ∙ ap (λ z. spelled_comma ((comma_if_any all.0.2).0) z) q.0));
         well_formed = (some_arguments all.0.0 p.ends, p.well_formed);
         deep = (let e = p.deep in omega (arith, n.1, e));
         within = omega (arith, n.0, n.1);
         whole = q.1;
       })
 
-  initial_after_taken : (assignment : Reader Trees.Expression) → ReadsExpression types 1 k assignment → (tokens : List Lexeme) → AreWhole tokens → (y : Trees.Expression × ℕ × List Lexeme)
-      → (o : Option (ℕ × List Lexeme)) → after is_left_brace tokens ≡ o → initial_after k assignment initial tokens o ≡ Some y → TookInitializer types (suc k) tokens y
+  initial_after_taken : (assignment : Reader Trees.Expression) → ReadsExpression types 1 k assignment → (tokens : List Lexeme) → AreWhole tokens
+      → (y : Trees.Expression × ℕ × List Lexeme)
+      → (o : Option (ℕ × List Lexeme)) → after is_left_brace tokens ≡ o → initial_after k assignment initial tokens o ≡ Some y
+      → TookInitializer types (suc k) tokens y
   initial_after_taken assignment s tokens w y (Some left) b h =
       let l = left_brace_taken tokens w left b in
       subst (λ z. TookInitializer types (suc k) z y) (sym l.0) (braces_taken left.0 left.1 l.1 y h)
@@ -108,4 +116,5 @@ pub initial_sound : (types : List (List ℕ)) → ((k : ℕ) → IsSound types k
 unfolding initial_in
 initial_sound types s zero tokens w y h = cc
 initial_sound types s (suc k) tokens w y h =
-    initial_after_taken types k (initial_at types k) (initial_sound types s k) ((at types k).assignment) ((s k).assignment) tokens w y (after is_left_brace tokens) refl h
+    initial_after_taken types k (initial_at types k) (initial_sound types s k) ((at types k).assignment) ((s k).assignment) tokens w y
+    (after is_left_brace tokens) refl h

@@ -12,12 +12,16 @@ use Rattle.c_ast.specs.Sizes.{depth, depth_for_start, depth_statement}
 use Rattle.c_ast.specs.Views.{switch_items_of}
 use Rattle.c_grammar.proofs.Wholeness.{AreWhole}
 use Rattle.c_grammar.specs.Reading.{after, fronted, is_left, is_right, is_left_brace, is_right_brace, is_semicolon, begins_specifier, Reader, deeper, chain, at}
-use Rattle.c_grammar.proofs.Fronts.{bind_some, given, chosen, deeper_taken, lexeme, keyword_whole, front_whole, rest_whole, left_taken, right_taken, left_brace_taken, right_brace_taken, semicolon_taken}
+use Rattle.c_grammar.proofs.Fronts.{bind_some, given, chosen, deeper_taken, lexeme, keyword_whole, front_whole, rest_whole, left_taken, right_taken}
+use Rattle.c_grammar.proofs.Fronts.{left_brace_taken, right_brace_taken, semicolon_taken}
 use Rattle.c_grammar.proofs.Taken.{Took, Reads, IsSound}
-use Rattle.c_grammar.specs.StatementReading.{is_else, is_while, expression_if_any, condition_in, Below, block_in, else_after, if_in, while_in, do_in, for_start_in, for_in, switch_item_step, switch_in, jump_in, return_in, evaluate_in, block_statement_in, statement_of_kind, statement_in, below_at, statement_at}
+use Rattle.c_grammar.specs.StatementReading.{is_else, is_while, expression_if_any, condition_in, Below, block_in, else_after, if_in, while_in, do_in}
+use Rattle.c_grammar.specs.StatementReading.{for_start_in, for_in, switch_item_step, switch_in, jump_in, return_in, evaluate_in, block_statement_in}
+use Rattle.c_grammar.specs.StatementReading.{statement_of_kind, statement_in, below_at, statement_at}
 use Rattle.c_grammar.proofs.SoundInitializers.{bound}
 use Rattle.c_grammar.proofs.SoundDeclarations.{declaration_sound}
-use Rattle.c_grammar.proofs.SoundBlocks.{TookStatement, ReadsStatement, IsSoundBelow, spelled_condition, if_any_taken, condition_taken, block_taken, switch_items_taken}
+use Rattle.c_grammar.proofs.SoundBlocks.{TookStatement, ReadsStatement, IsSoundBelow, spelled_condition, if_any_taken, condition_taken, block_taken}
+use Rattle.c_grammar.proofs.SoundBlocks.{switch_items_taken}
 
 -- ---- else, while
 
@@ -26,7 +30,8 @@ keyword_taken : (p : TokenKind → Bool) (which : Keyword) → ((kind : TokenKin
 keyword_taken p which f [] w r h = cc
 keyword_taken p which f (t ∷ rest) w r h =
     chosen (p t.kind) _ _ r ((t ∷ rest ≡ keyword which r.0 ∷ r.1) × AreWhole r.1) h
-    (λ c h. given (λ r. (t ∷ rest ≡ keyword which r.0 ∷ r.1) × AreWhole r.1) _ r h (ap (λ t. t ∷ rest) (keyword_whole t which (front_whole t rest w) (f t.kind c)), rest_whole t rest w))
+    (λ c h. given (λ r. (t ∷ rest ≡ keyword which r.0 ∷ r.1) × AreWhole r.1) _ r h
+    (ap (λ t. t ∷ rest) (keyword_whole t which (front_whole t rest w) (f t.kind c)), rest_whole t rest w))
     (λ c h. cc)
 
 else_kind : (kind : TokenKind) → is_else kind ≡ true → kind ≡ K.Keyword W.Else
@@ -52,14 +57,19 @@ not_open false f = refl
 module _ (k : ℕ) (below : Below) (sound : IsSoundBelow k below) where
   -- ---- if
 
-  else_after_taken : (all : List Lexeme) (place : ℕ) (c : ℕ × Trees.Expression × ℕ) (one : Trees.Statement) (d : ℕ) (tokens : List Lexeme) → all ≡ spelled_statement (Trees.when place c.0 c.1 c.2 one) tokens
-      → IsExpression below.types c.1 → IsStatement below.types one → (is_open one ≡ true → fronted is_else tokens ≡ false) → d ≡ max (depth c.1) (depth_statement one) → AreWhole tokens
-      → (y : Trees.Statement × ℕ × List Lexeme) (o : Option (ℕ × List Lexeme)) → after is_else tokens ≡ o → else_after k below place c one d tokens o ≡ Some y → TookStatement below.types (suc k) all y
+  else_after_taken : (all : List Lexeme) (place : ℕ) (c : ℕ × Trees.Expression × ℕ) (one : Trees.Statement) (d : ℕ) (tokens : List Lexeme) → all
+      ≡ spelled_statement (Trees.when place c.0 c.1 c.2 one) tokens
+      → IsExpression below.types c.1 → IsStatement below.types one → (is_open one ≡ true → fronted is_else tokens ≡ false) → d
+      ≡ max (depth c.1) (depth_statement one) → AreWhole tokens
+      → (y : Trees.Statement × ℕ × List Lexeme) (o : Option (ℕ × List Lexeme)) → after is_else tokens ≡ o → else_after k below place c one d tokens o
+      ≡ Some y → TookStatement below.types (suc k) all y
   else_after_taken all place c one d tokens spelled_so fc fo near deep w y None b h =
       let n = bind_some (deeper k d) _ y h in
       let e = deeper_taken k d n.0 n.1 in
-      given (TookStatement below.types (suc k) all) _ y n.2
-      (record { spelled_so = spelled_so; well_formed = (fc, fo); deep = omega (arith, e.1, deep); within = omega (arith, e.0, e.1); whole = w }, λ _. none_fronted is_else tokens b)
+      given (TookStatement below.types (suc k) all) _ y n.2 (
+        record { spelled_so = spelled_so; well_formed = (fc, fo); deep = omega (arith, e.1, deep); within = omega (arith, e.0, e.1); whole = w },
+        λ _. none_fronted is_else tokens b,
+      )
   else_after_taken all place c one d tokens spelled_so fc fo near deep w y (Some otherwise) b h =
       let l = keyword_taken is_else W.Else else_kind tokens w otherwise b in
       let other = bind_some (below.statement otherwise.1) _ y h in
@@ -69,7 +79,8 @@ module _ (k : ℕ) (below : Below) (sound : IsSoundBelow k below) where
       let closed : is_open one ≡ false = not_open (is_open one) (λ o. sym (ap (λ z. fronted is_else z) l.0) ∙ near o) in
       given (TookStatement below.types (suc k) all) _ y n.2 (
         record {
-          spelled_so = spelled_so ∙ ap (λ z. spelled_statement (Trees.when place c.0 c.1 c.2 one) z) (l.0 ∙ ap (λ z. keyword W.Else otherwise.0 ∷ z) q.0.spelled_so);
+          spelled_so = spelled_so ∙ ap (λ z. spelled_statement (Trees.when place c.0 c.1 c.2 one) z) (l.0
+              ∙ ap (λ z. keyword W.Else otherwise.0 ∷ z) q.0.spelled_so);
           well_formed = (closed, fc, fo, q.0.well_formed);
           deep = (let f = q.0.deep in omega (arith, e.1, deep, f));
           within = omega (arith, e.0, e.1);
@@ -78,7 +89,8 @@ module _ (k : ℕ) (below : Below) (sound : IsSoundBelow k below) where
         q.1,
       )
 
-  if_taken : (place : ℕ) (tokens : List Lexeme) → AreWhole tokens → (y : Trees.Statement × ℕ × List Lexeme) → if_in k below place tokens ≡ Some y → TookStatement below.types (suc k) (keyword W.If place ∷ tokens) y
+  if_taken : (place : ℕ) (tokens : List Lexeme) → AreWhole tokens → (y : Trees.Statement × ℕ × List Lexeme) → if_in k below place tokens ≡ Some y
+      → TookStatement below.types (suc k) (keyword W.If place ∷ tokens) y
   unfolding if_in
   if_taken place tokens w y h =
       let c = bind_some (condition_in below.expression tokens) _ y h in
@@ -91,7 +103,8 @@ module _ (k : ℕ) (below : Below) (sound : IsSoundBelow k below) where
 
   -- ---- loops
 
-  while_taken : (place : ℕ) (tokens : List Lexeme) → AreWhole tokens → (y : Trees.Statement × ℕ × List Lexeme) → while_in k below place tokens ≡ Some y → TookStatement below.types (suc k) (keyword W.While place ∷ tokens) y
+  while_taken : (place : ℕ) (tokens : List Lexeme) → AreWhole tokens → (y : Trees.Statement × ℕ × List Lexeme) → while_in k below place tokens
+      ≡ Some y → TookStatement below.types (suc k) (keyword W.While place ∷ tokens) y
   unfolding while_in
   while_taken place tokens w y h =
       let c = bind_some (condition_in below.expression tokens) _ y h in
@@ -111,7 +124,8 @@ module _ (k : ℕ) (below : Below) (sound : IsSoundBelow k below) where
         q.1,
       )
 
-  do_taken : (place : ℕ) (tokens : List Lexeme) → AreWhole tokens → (y : Trees.Statement × ℕ × List Lexeme) → do_in k below place tokens ≡ Some y → TookStatement below.types (suc k) (keyword W.Do place ∷ tokens) y
+  do_taken : (place : ℕ) (tokens : List Lexeme) → AreWhole tokens → (y : Trees.Statement × ℕ × List Lexeme) → do_in k below place tokens ≡ Some y
+      → TookStatement below.types (suc k) (keyword W.Do place ∷ tokens) y
   unfolding do_in
   do_taken place tokens w y h =
       let body = bind_some (below.statement tokens) _ y h in
@@ -126,7 +140,9 @@ module _ (k : ℕ) (below : Below) (sound : IsSoundBelow k below) where
       let n = deeper_taken k (max body.0.1 c.0.1) d.0 d.1 in
       given (TookStatement below.types (suc k) (keyword W.Do place ∷ tokens)) _ y d.2 (
         record {
-          spelled_so = ap (λ z. keyword W.Do place ∷ z) (q.spelled_so ∙ ap (λ z. spelled_statement body.0.0 z) (l.0 ∙ ap (λ z. keyword W.While while.0.0 ∷ z) (p.spelled_so ∙ ap (λ z. spelled_condition c.0.0 z) s.0)));
+          spelled_so = ap (λ z. keyword W.Do place ∷ z) (q.spelled_so
+              ∙ ap (λ z. spelled_statement body.0.0 z) (l.0 ∙ ap (λ z. keyword W.While while.0.0 ∷ z) (p.spelled_so
+              ∙ ap (λ z. spelled_condition c.0.0 z) s.0)));
           well_formed = (q.well_formed, p.well_formed);
           deep = (let e = p.deep in let f = q.deep in omega (arith, n.1, e, f));
           within = omega (arith, n.0, n.1);
@@ -142,7 +158,8 @@ module _ (k : ℕ) (below : Below) (sound : IsSoundBelow k below) where
       (λ c h.
       let d = bind_some (below.full tokens) _ y h in
       let p = sound.full tokens w d.0 d.1 in
-      given (Took spelled_for_start (IsForStart below.types) depth_for_start k tokens) _ y d.2 (record { spelled_so = p.spelled_so; well_formed = p.well_formed; deep = p.deep; within = p.within; whole = p.whole }))
+      given (Took spelled_for_start (IsForStart below.types) depth_for_start k tokens) _ y d.2
+      (record { spelled_so = p.spelled_so; well_formed = p.well_formed; deep = p.deep; within = p.within; whole = p.whole }))
       (λ c h.
       let a = bind_some (expression_if_any is_semicolon below.expression tokens) _ y h in
       let semicolon = bind_some (after is_semicolon a.0.2) _ y a.2 in
@@ -151,7 +168,8 @@ module _ (k : ℕ) (below : Below) (sound : IsSoundBelow k below) where
       given (Took spelled_for_start (IsForStart below.types) depth_for_start k tokens) _ y semicolon.2
       (record { spelled_so = p.spelled_so ∙ ap (λ z. spelled_if_any a.0.0 z) s.0; well_formed = p.well_formed; deep = p.deep; within = p.within; whole = s.1 }))
 
-  for_taken : (place : ℕ) (tokens : List Lexeme) → AreWhole tokens → (y : Trees.Statement × ℕ × List Lexeme) → for_in k below place tokens ≡ Some y → TookStatement below.types (suc k) (keyword W.For place ∷ tokens) y
+  for_taken : (place : ℕ) (tokens : List Lexeme) → AreWhole tokens → (y : Trees.Statement × ℕ × List Lexeme) → for_in k below place tokens ≡ Some y
+      → TookStatement below.types (suc k) (keyword W.For place ∷ tokens) y
   unfolding for_in
   for_taken place tokens w y h =
       let P = TookStatement below.types (suc k) (keyword W.For place ∷ tokens) y in
@@ -173,8 +191,10 @@ module _ (k : ℕ) (below : Below) (sound : IsSoundBelow k below) where
       let n = deeper_taken k (max (max (max start.1 test.1) step.1) body.1) d d_is in
       given (TookStatement below.types (suc k) (keyword W.For place ∷ tokens)) _ y h (
         record {
-          spelled_so = ap (λ z. keyword W.For place ∷ z) (l.0 ∙ ap (λ z. punctuator M.Open left.0 ∷ z) (p.spelled_so ∙ ap (λ z. spelled_for_start start.0 z) (t.spelled_so ∙ ap (λ z. spelled_if_any test.0 z)
-              (s.0 ∙ ap (λ z. punctuator M.Semicolon semicolon.0 ∷ z) (u.spelled_so ∙ ap (λ z. spelled_if_any step.0 z) (r.0 ∙ ap (λ z. punctuator M.Close right.0 ∷ z) q.0.spelled_so))))));
+          spelled_so = ap (λ z. keyword W.For place ∷ z) (l.0
+              ∙ ap (λ z. punctuator M.Open left.0 ∷ z) (p.spelled_so ∙ ap (λ z. spelled_for_start start.0 z) (t.spelled_so ∙ ap (λ z. spelled_if_any test.0 z)
+              (s.0 ∙ ap (λ z. punctuator M.Semicolon semicolon.0 ∷ z) (u.spelled_so
+              ∙ ap (λ z. spelled_if_any step.0 z) (r.0 ∙ ap (λ z. punctuator M.Close right.0 ∷ z) q.0.spelled_so))))));
           well_formed = (p.well_formed, t.well_formed, u.well_formed, q.0.well_formed);
           deep = (let a = p.deep in let b = t.deep in let e = u.deep in let f = q.0.deep in omega (arith, n.1, a, b, e, f));
           within = omega (arith, n.0, n.1);
@@ -185,7 +205,8 @@ module _ (k : ℕ) (below : Below) (sound : IsSoundBelow k below) where
 
   -- ---- switch
 
-  switch_taken : (place : ℕ) (tokens : List Lexeme) → AreWhole tokens → (y : Trees.Statement × ℕ × List Lexeme) → switch_in k below place tokens ≡ Some y → TookStatement below.types (suc k) (keyword W.Switch place ∷ tokens) y
+  switch_taken : (place : ℕ) (tokens : List Lexeme) → AreWhole tokens → (y : Trees.Statement × ℕ × List Lexeme) → switch_in k below place tokens
+      ≡ Some y → TookStatement below.types (suc k) (keyword W.Switch place ∷ tokens) y
   unfolding switch_in
   switch_taken place tokens w y h =
       let c = bind_some (condition_in below.expression tokens) _ y h in
@@ -200,7 +221,9 @@ module _ (k : ℕ) (below : Below) (sound : IsSoundBelow k below) where
       let n = deeper_taken k (max c.0.1 all.0.1) d.0 d.1 in
       given (TookStatement below.types (suc k) (keyword W.Switch place ∷ tokens)) _ y d.2 (
         record {
-          spelled_so = ap (λ z. keyword W.Switch place ∷ z) (p.spelled_so ∙ ap (λ z. spelled_condition c.0.0 z) (b.0 ∙ ap (λ z. punctuator M.OpenBrace begin.0.0 ∷ z) (q.spelled_so ∙ ap (λ z. spelled_switch_items (switch_items_of all.0.0) z) r.0)));
+          spelled_so = ap (λ z. keyword W.Switch place ∷ z) (p.spelled_so
+              ∙ ap (λ z. spelled_condition c.0.0 z) (b.0 ∙ ap (λ z. punctuator M.OpenBrace begin.0.0 ∷ z) (q.spelled_so
+              ∙ ap (λ z. spelled_switch_items (switch_items_of all.0.0) z) r.0)));
           well_formed = (p.well_formed, q.well_formed);
           deep = (let e = p.deep in let f = q.deep in omega (arith, n.1, e, f));
           within = omega (arith, n.0, n.1);
@@ -212,18 +235,30 @@ module _ (k : ℕ) (below : Below) (sound : IsSoundBelow k below) where
   -- ---- jumps, expressions, blocks
 
   -- `before` stands before the semicolon
-  jump_taken : (before : Lexeme) (made : ℕ → Trees.Statement) → ((semicolon : ℕ) (rest : List Lexeme) → spelled_statement (made semicolon) rest ≡ before ∷ punctuator M.Semicolon semicolon ∷ rest)
+  jump_taken : (before : Lexeme) (made : ℕ → Trees.Statement)
+      → ((semicolon : ℕ) (rest : List Lexeme) → spelled_statement (made semicolon) rest ≡ before ∷ punctuator M.Semicolon semicolon ∷ rest)
       → ((semicolon : ℕ) → IsStatement below.types (made semicolon) × (depth_statement (made semicolon) ≡ 1) × (is_open (made semicolon) ≡ false))
-      → (tokens : List Lexeme) → AreWhole tokens → (y : Trees.Statement × ℕ × List Lexeme) → jump_in made tokens ≡ Some y → TookStatement below.types (suc k) (before ∷ tokens) y
+      → (tokens : List Lexeme) → AreWhole tokens → (y : Trees.Statement × ℕ × List Lexeme) → jump_in made tokens ≡ Some y
+      → TookStatement below.types (suc k) (before ∷ tokens) y
   unfolding jump_in
   jump_taken before made spells f tokens w y h =
       let semicolon = bind_some (after is_semicolon tokens) _ y h in
       let s = semicolon_taken tokens w semicolon.0 semicolon.1 in
       let g = f semicolon.0.0 in
-      given (TookStatement below.types (suc k) (before ∷ tokens)) _ y semicolon.2
-      (record { spelled_so = ap (λ z. before ∷ z) s.0 ∙ sym (spells semicolon.0.0 semicolon.0.1); well_formed = g.0; deep = sym g.1; within = omega arith; whole = s.1 }, λ o. (let e = g.2 in cc))
+      given (TookStatement below.types (suc k) (before ∷ tokens)) _ y semicolon.2 (
+        record {
+          spelled_so = ap (λ z. before ∷ z) s.0 ∙ sym (spells semicolon.0.0 semicolon.0.1);
+          well_formed = g.0;
+          deep = sym g.1;
+          within =
+              omega arith;
+          whole = s.1;
+        },
+        λ o. (let e = g.2 in cc),
+      )
 
-  return_taken : (place : ℕ) (tokens : List Lexeme) → AreWhole tokens → (y : Trees.Statement × ℕ × List Lexeme) → return_in k below place tokens ≡ Some y → TookStatement below.types (suc k) (keyword W.Return place ∷ tokens) y
+  return_taken : (place : ℕ) (tokens : List Lexeme) → AreWhole tokens → (y : Trees.Statement × ℕ × List Lexeme) → return_in k below place tokens
+      ≡ Some y → TookStatement below.types (suc k) (keyword W.Return place ∷ tokens) y
   unfolding return_in
   return_taken place tokens w y h =
       let a = bind_some (expression_if_any is_semicolon below.expression tokens) _ y h in
@@ -243,7 +278,8 @@ module _ (k : ℕ) (below : Below) (sound : IsSoundBelow k below) where
         λ o. cc,
       )
 
-  evaluate_taken : (tokens : List Lexeme) → AreWhole tokens → (y : Trees.Statement × ℕ × List Lexeme) → evaluate_in k below tokens ≡ Some y → TookStatement below.types (suc k) tokens y
+  evaluate_taken : (tokens : List Lexeme) → AreWhole tokens → (y : Trees.Statement × ℕ × List Lexeme) → evaluate_in k below tokens ≡ Some y
+      → TookStatement below.types (suc k) tokens y
   unfolding evaluate_in
   evaluate_taken tokens w y h =
       let a = bind_some (expression_if_any is_semicolon below.expression tokens) _ y h in
@@ -263,7 +299,8 @@ module _ (k : ℕ) (below : Below) (sound : IsSoundBelow k below) where
         λ o. cc,
       )
 
-  block_statement_taken : (left : ℕ) (tokens : List Lexeme) → AreWhole tokens → (y : Trees.Statement × ℕ × List Lexeme) → block_statement_in k below left tokens ≡ Some y → TookStatement below.types (suc k) (punctuator M.OpenBrace left ∷ tokens) y
+  block_statement_taken : (left : ℕ) (tokens : List Lexeme) → AreWhole tokens → (y : Trees.Statement × ℕ × List Lexeme)
+      → block_statement_in k below left tokens ≡ Some y → TookStatement below.types (suc k) (punctuator M.OpenBrace left ∷ tokens) y
   unfolding block_statement_in
   block_statement_taken left tokens w y h =
       let b = bind_some (block_in below tokens) _ y h in
@@ -283,21 +320,27 @@ module _ (k : ℕ) (below : Below) (sound : IsSoundBelow k below) where
 
   -- ---- a statement by its first token
 
-  by_keyword : (which : Keyword) (from to : ℕ) (text : List ℕ) (rest : List Lexeme) → AreWhole (lexeme (K.Keyword which) from to text ∷ rest) → (y : Trees.Statement × ℕ × List Lexeme)
-      → (AreWhole rest → TookStatement below.types (suc k) (keyword which from ∷ rest) y) → TookStatement below.types (suc k) (lexeme (K.Keyword which) from to text ∷ rest) y
+  by_keyword : (which : Keyword) (from to : ℕ) (text : List ℕ) (rest : List Lexeme) → AreWhole (lexeme (K.Keyword which) from to text ∷ rest)
+      → (y : Trees.Statement × ℕ × List Lexeme)
+      → (AreWhole rest → TookStatement below.types (suc k) (keyword which from ∷ rest) y)
+      → TookStatement below.types (suc k) (lexeme (K.Keyword which) from to text ∷ rest) y
   by_keyword which from to text rest w y f =
       let t = lexeme (K.Keyword which) from to text in
       subst (λ t. TookStatement below.types (suc k) (t ∷ rest) y) (sym (front_whole t rest w)) (f (rest_whole t rest w))
 
-  kind_taken : (kind : TokenKind) (from to : ℕ) (text : List ℕ) (rest : List Lexeme) → AreWhole (lexeme kind from to text ∷ rest) → (y : Trees.Statement × ℕ × List Lexeme)
+  kind_taken : (kind : TokenKind) (from to : ℕ) (text : List ℕ) (rest : List Lexeme) → AreWhole (lexeme kind from to text ∷ rest)
+      → (y : Trees.Statement × ℕ × List Lexeme)
       → statement_of_kind k below (lexeme kind from to text ∷ rest) kind ≡ Some y → TookStatement below.types (suc k) (lexeme kind from to text ∷ rest) y
   kind_taken (K.Keyword W.If) from to text rest w y h = by_keyword W.If from to text rest w y (λ v. if_taken from rest v y h)
   kind_taken (K.Keyword W.While) from to text rest w y h = by_keyword W.While from to text rest w y (λ v. while_taken from rest v y h)
   kind_taken (K.Keyword W.Do) from to text rest w y h = by_keyword W.Do from to text rest w y (λ v. do_taken from rest v y h)
   kind_taken (K.Keyword W.For) from to text rest w y h = by_keyword W.For from to text rest w y (λ v. for_taken from rest v y h)
   kind_taken (K.Keyword W.Switch) from to text rest w y h = by_keyword W.Switch from to text rest w y (λ v. switch_taken from rest v y h)
-  kind_taken (K.Keyword W.Break) from to text rest w y h = by_keyword W.Break from to text rest w y (λ v. jump_taken (keyword W.Break from) (Trees.break from) (λ s rest. refl) (λ s. (tt, refl, refl)) rest v y h)
-  kind_taken (K.Keyword W.Continue) from to text rest w y h = by_keyword W.Continue from to text rest w y (λ v. jump_taken (keyword W.Continue from) (Trees.continue from) (λ s rest. refl) (λ s. (tt, refl, refl)) rest v y h)
+  kind_taken (K.Keyword W.Break) from to text rest w y h = by_keyword W.Break from to text rest w y
+      (λ v. jump_taken (keyword W.Break from) (Trees.break from) (λ s rest. refl) (λ s. (tt, refl, refl)) rest v y h)
+  kind_taken (K.Keyword W.Continue) from to text rest w y h =
+      by_keyword W.Continue from to text rest w y (λ v. jump_taken (keyword W.Continue from) (Trees.continue from) (λ s rest. refl)
+      (λ s. (tt, refl, refl)) rest v y h)
   kind_taken (K.Keyword W.Return) from to text rest w y h = by_keyword W.Return from to text rest w y (λ v. return_taken from rest v y h)
   kind_taken (K.Punctuator M.OpenBrace) from to text rest w y h =
       let t = lexeme (K.Punctuator M.OpenBrace) from to text in
@@ -305,12 +348,14 @@ module _ (k : ℕ) (below : Below) (sound : IsSoundBelow k below) where
       subst (λ z. TookStatement below.types (suc k) z y) (sym b.0) (block_statement_taken from rest b.1 y h)
   kind_taken kind from to text rest w y h = evaluate_taken (lexeme kind from to text ∷ rest) w y h
 
-  statement_taken : (tokens : List Lexeme) → AreWhole tokens → (y : Trees.Statement × ℕ × List Lexeme) → statement_in k below tokens ≡ Some y → TookStatement below.types (suc k) tokens y
+  statement_taken : (tokens : List Lexeme) → AreWhole tokens → (y : Trees.Statement × ℕ × List Lexeme) → statement_in k below tokens ≡ Some y
+      → TookStatement below.types (suc k) tokens y
   unfolding statement_in
   statement_taken [] w y h = cc
   statement_taken (t ∷ rest) w y h = kind_taken t.kind t.from t.to t.text rest w y h
 
-pub below_sound : (types : List (List ℕ)) → ((k : ℕ) → IsSound types k (at types k)) → (k : ℕ) (statement : Reader Trees.Statement) → ReadsStatement types k statement → IsSoundBelow k (below_at types k statement)
+pub below_sound : (types : List (List ℕ)) → ((k : ℕ) → IsSound types k (at types k)) → (k : ℕ) (statement : Reader Trees.Statement)
+    → ReadsStatement types k statement → IsSoundBelow k (below_at types k statement)
 below_sound types s k statement a = record {
   expression = (s k).expression;
   conditional = (s k).conditional;
@@ -321,4 +366,5 @@ below_sound types s k statement a = record {
 
 pub statement_sound : (types : List (List ℕ)) → ((k : ℕ) → IsSound types k (at types k)) → (k : ℕ) → ReadsStatement types k (statement_at types k)
 statement_sound types s zero tokens w y h = cc
-statement_sound types s (suc k) tokens w y h = statement_taken k (below_at types k (statement_at types k)) (below_sound types s k (statement_at types k) (statement_sound types s k)) tokens w y h
+statement_sound types s (suc k) tokens w y h = statement_taken k (below_at types k (statement_at types k))
+    (below_sound types s k (statement_at types k) (statement_sound types s k)) tokens w y h

@@ -5,7 +5,8 @@ use Rattle.c_lexer.specs.declared.punctuator.Punctuator.TheVariants as M
 use Rattle.c_lexer.specs.declared.token.TokenKind.{TokenKind}
 use Rattle.c_lexer.specs.declared.token.TokenKind.TheVariants as K
 use Rattle.c_ast.specs.Trees
-use Rattle.c_ast.specs.Spelling.{Lexeme, punctuator, spelled, spelled_init_declarators, spelled_declaration, spelled_labels, spelled_statement, spelled_block_item, spelled_switch_item}
+use Rattle.c_ast.specs.Spelling.{Lexeme, punctuator, spelled, spelled_init_declarators, spelled_declaration, spelled_labels, spelled_statement}
+use Rattle.c_ast.specs.Spelling.{spelled_block_item, spelled_switch_item}
 use Rattle.c_ast.specs.WellFormed.{is_typename, IsDeclaration, IsStatement, IsBlockItem, IsSwitchItem}
 use Rattle.c_grammar.specs.Reading.{fronted, is_right_brace, is_name, is_struct, is_enum, keyword_specifier, begins_specifier}
 use Rattle.c_grammar.specs.StatementReading.{Below, is_else, label_of_kind, label_step, evaluate_in, statement_of_kind, statement_in}
@@ -41,8 +42,10 @@ evaluate_start types tokens s = record {
   not_label = fronted_not begins_expression is_label not_label_word tokens s.begins;
 }
 
-pub statement_start : (types : List (List ℕ)) (a : Trees.Statement) → IsStatement types a → (rest : List Lexeme) → IsStatementStart types (spelled_statement a rest)
-statement_start types (Trees.evaluate (Some a) semicolon) w rest = evaluate_start types (spelled a (punctuator M.Semicolon semicolon ∷ rest)) (expression_start types a w (punctuator M.Semicolon semicolon ∷ rest))
+pub statement_start : (types : List (List ℕ)) (a : Trees.Statement) → IsStatement types a → (rest : List Lexeme)
+    → IsStatementStart types (spelled_statement a rest)
+statement_start types (Trees.evaluate (Some a) semicolon) w rest =
+    evaluate_start types (spelled a (punctuator M.Semicolon semicolon ∷ rest)) (expression_start types a w (punctuator M.Semicolon semicolon ∷ rest))
 statement_start types (Trees.evaluate None semicolon) w rest = record { no_specifier = refl; not_end = refl; not_else = refl; not_label = refl }
 statement_start types a w rest = record { no_specifier = refl; not_end = refl; not_else = refl; not_label = refl }
 
@@ -70,17 +73,20 @@ plain k below (t ∷ rest) h = plain_kind k below t.from t.to t.text rest t.kind
 
 -- ---- labels
 
-label_kind : (below : Below) (all : List Trees.Label) (d : ℕ) (t : Lexeme) (rest : List Lexeme) (kind : TokenKind) → is_label kind ≡ false → label_of_kind below all d (t ∷ rest) (Some kind) ≡ Some (all, d, t ∷ rest, false)
+label_kind : (below : Below) (all : List Trees.Label) (d : ℕ) (t : Lexeme) (rest : List Lexeme) (kind : TokenKind) → is_label kind ≡ false
+    → label_of_kind below all d (t ∷ rest) (Some kind) ≡ Some (all, d, t ∷ rest, false)
 label_kind below all d t rest (K.Keyword W.Case) h = cc
 label_kind below all d t rest (K.Keyword W.Default) h = cc
 label_kind below all d t rest kind h = refl
 
-pub label_stops : (below : Below) (all : List Trees.Label) (d : ℕ) (tokens : List Lexeme) → fronted is_label tokens ≡ false → label_step below all d tokens ≡ Some (all, d, tokens, false)
+pub label_stops : (below : Below) (all : List Trees.Label) (d : ℕ) (tokens : List Lexeme) → fronted is_label tokens ≡ false
+    → label_step below all d tokens ≡ Some (all, d, tokens, false)
 unfolding label_step
 label_stops below all d [] h = refl
 label_stops below all d (t ∷ rest) h = label_kind below all d t rest t.kind h
 
-pub labelled_start : (types : List (List ℕ)) (labels : List Trees.Label) (a : Trees.Statement) → IsStatement types a → (rest : List Lexeme) → begins_specifier types (spelled_labels labels (spelled_statement a rest)) ≡ false
+pub labelled_start : (types : List (List ℕ)) (labels : List Trees.Label) (a : Trees.Statement) → IsStatement types a → (rest : List Lexeme)
+    → begins_specifier types (spelled_labels labels (spelled_statement a rest)) ≡ false
 labelled_start types [] a w rest = (statement_start types a w rest).no_specifier
 labelled_start types (Trees.case place b colon ∷ more) a w rest = refl
 labelled_start types (Trees.default place colon ∷ more) a w rest = refl
@@ -106,7 +112,8 @@ specifier_item : (types : List (List ℕ)) (tokens : List Lexeme) → begins_spe
 specifier_item types [] h = cc
 specifier_item types (t ∷ rest) h = record { not_end = specifier_not_end types t.kind t.text h; not_else = specifier_not_else types t.kind t.text h }
 
-pub declaration_start : (types : List (List ℕ)) (d : Trees.Declaration) → IsDeclaration types d → (rest : List Lexeme) → begins_specifier types (spelled_declaration d rest) ≡ true
+pub declaration_start : (types : List (List ℕ)) (d : Trees.Declaration) → IsDeclaration types d → (rest : List Lexeme)
+    → begins_specifier types (spelled_declaration d rest) ≡ true
 declaration_start types d w rest = specifiers_start types d.specs w.0 (spelled_init_declarators d.all (punctuator M.Semicolon d.semicolon ∷ rest))
 
 statement_item : (types : List (List ℕ)) (tokens : List Lexeme) → IsStatementStart types tokens → IsItemStart tokens
@@ -116,11 +123,13 @@ pub block_item_start : (types : List (List ℕ)) (e : Trees.BlockItem) → IsBlo
 block_item_start types (Trees.local d) w rest = specifier_item types (spelled_declaration d rest) (declaration_start types d w rest)
 block_item_start types (Trees.statement a) w rest = statement_item types (spelled_statement a rest) (statement_start types a w rest)
 
-labels_item : (types : List (List ℕ)) (labels : List Trees.Label) (a : Trees.Statement) → IsStatement types a → (rest : List Lexeme) → IsItemStart (spelled_labels labels (spelled_statement a rest))
+labels_item : (types : List (List ℕ)) (labels : List Trees.Label) (a : Trees.Statement) → IsStatement types a → (rest : List Lexeme)
+    → IsItemStart (spelled_labels labels (spelled_statement a rest))
 labels_item types [] a w rest = statement_item types (spelled_statement a rest) (statement_start types a w rest)
 labels_item types (Trees.case place b colon ∷ more) a w rest = record { not_end = refl; not_else = refl }
 labels_item types (Trees.default place colon ∷ more) a w rest = record { not_end = refl; not_else = refl }
 
-pub switch_item_start : (types : List (List ℕ)) (switch_item : Trees.SwitchItem) → IsSwitchItem types switch_item → (rest : List Lexeme) → IsItemStart (spelled_switch_item switch_item rest)
+pub switch_item_start : (types : List (List ℕ)) (switch_item : Trees.SwitchItem) → IsSwitchItem types switch_item → (rest : List Lexeme)
+    → IsItemStart (spelled_switch_item switch_item rest)
 switch_item_start types (Trees.local_switch_item d) w rest = specifier_item types (spelled_declaration d rest) (declaration_start types d w.1 rest)
 switch_item_start types (Trees.labelled labels a) w rest = labels_item types labels a w.1 rest

@@ -27,10 +27,13 @@ known names name x h =
     list_any-append (bytes_eq x) names (name ∷ []) ∙ same (bytes_eq x name) refl
   where
     same : (b : Bool) → bytes_eq x name ≡ b → (is_typename names x || (b || false)) ≡ is_typename names x
-    same true e = sym (let P : List ℕ → Type 0 = λ y. is_typename names y ≡ (is_typename names y || true) in subst P (sym ((bytes_eq-Decides x name).0 e)) (rw h refl))
+    same true e = sym (let P : List ℕ → Type 0 = λ y. is_typename names y
+        ≡ (is_typename names y || true) in subst P (sym ((bytes_eq-Decides x name).0 e)) (rw h refl))
     same false e = or_false (is_typename names x) false
 
-pub one_more : (old new : Keys) (names : List (List ℕ)) (key : Vec ℕ Global) (added : Bool) → ((x : List ℕ) → has_key old x ≡ is_typename names x) → added ≡ not (has_key old key.items) → MatchBool added (IsPermutation (key ∷ old) new) (new ≡ old) → (x : List ℕ) → has_key new x ≡ is_typename (names ++ key.items ∷ []) x
+pub one_more : (old new : Keys) (names : List (List ℕ)) (key : Vec ℕ Global) (added : Bool) → ((x : List ℕ) → has_key old x ≡ is_typename names x)
+    → added ≡ not (has_key old key.items) → MatchBool added (IsPermutation (key ∷ old) new) (new ≡ old) → (x : List ℕ) → has_key new x
+    ≡ is_typename (names ++ key.items ∷ []) x
 one_more old new names key true same a p x =
     sym (list_any-IsPermutation (λ k. bytes_eq x k.items) (key ∷ old) new p)
     ∙ ap (λ b. bytes_eq x key.items || b) (same x)

@@ -5,14 +5,16 @@ use Rattle.c_lexer.specs.declared.token.TokenKind.TheVariants as K
 use Rattle.c_ast.specs.declared.words.Spelling.{Spelling}
 use Rattle.c_ast.specs.declared.operators.BinaryOp.{BinaryOp}
 use Rattle.c_ast.specs.Trees
-use Rattle.c_ast.specs.Spelling.{Lexeme, punctuator, word, spelled, spelled_specifiers, spelled_member_declarators, spelled_enumerator_value, spelled_declarator}
+use Rattle.c_ast.specs.Spelling.{Lexeme, punctuator, word, spelled, spelled_specifiers, spelled_member_declarators, spelled_enumerator_value}
+use Rattle.c_ast.specs.Spelling.{spelled_declarator}
 use Rattle.c_ast.specs.WellFormed.{strength, level, is_typename, IsExpression, AreSpecifiers, AreMemberDeclarators, IsEnumeratorValue, IsDeclarator}
 use Rattle.c_ast.specs.Sizes.{depth, depth_specifiers, depth_member_declarators, depth_enumerator_value, depth_declarator}
 use Rattle.c_grammar.proofs.Wholeness.{AreWhole}
 use Rattle.c_grammar.specs.Reading.{Reader, Inner, binary_op}
 
 -- y is such a value, of that depth and at most n deep, which spells the tokens up to a rest
-pub record Took {A : Type 0} (spell : A → List Lexeme → List Lexeme) (Ok : A → Type 0) (depth_of : A → ℕ) (n : ℕ) (tokens : List Lexeme) (y : A × ℕ × List Lexeme) : Type 0 where
+pub record Took {A : Type 0} (spell : A → List Lexeme → List Lexeme) (Ok : A → Type 0) (depth_of : A → ℕ) (n : ℕ) (tokens : List Lexeme)
+    (y : A × ℕ × List Lexeme) : Type 0 where
   pub spelled_so : tokens ≡ spell y.0 y.2
   pub well_formed : Ok y.0
   pub deep : y.1 ≡ depth_of y.0
@@ -20,10 +22,12 @@ pub record Took {A : Type 0} (spell : A → List Lexeme → List Lexeme) (Ok : A
   pub whole : AreWhole y.2
 
 abbrev pub Reads : {A : Type 0} → (A → List Lexeme → List Lexeme) → (A → Type 0) → (A → ℕ) → ℕ → Reader A → Type 0
-Reads spell Ok depth_of n reader = (tokens : List Lexeme) → AreWhole tokens → (y : _ × ℕ × List Lexeme) → reader tokens ≡ Some y → Took spell Ok depth_of n tokens y
+Reads spell Ok depth_of n reader = (tokens : List Lexeme) → AreWhole tokens → (y : _ × ℕ × List Lexeme) → reader tokens ≡ Some y
+    → Took spell Ok depth_of n tokens y
 
 -- what follows may be written as any tokens equal to it
-pub took_before : {A : Type 0} {spell : A → List Lexeme → List Lexeme} {Ok : A → Type 0} {depth_of : A → ℕ} {n : ℕ} {tokens : List Lexeme} (x : A) (d : ℕ) (rest other : List Lexeme)
+pub took_before : {A : Type 0} {spell : A → List Lexeme → List Lexeme} {Ok : A → Type 0} {depth_of : A → ℕ} {n : ℕ} {tokens : List Lexeme} (x : A)
+    (d : ℕ) (rest other : List Lexeme)
     → rest ≡ other → Took spell Ok depth_of n tokens (x, d, rest) → Took spell Ok depth_of n tokens (x, d, other)
 took_before {spell = spell} {Ok} {depth_of} {n} {tokens} x d rest other e p = subst (λ z. Took spell Ok depth_of n tokens (x, d, z)) e p
 
@@ -38,8 +42,16 @@ TookExpression types least n tokens y = Took spelled (AtLeast types least) depth
 abbrev pub ReadsExpression : List (List ℕ) → ℕ → ℕ → Reader Trees.Expression → Type 0
 ReadsExpression types least n reader = Reads spelled (AtLeast types least) depth n reader
 
-pub looser : (types : List (List ℕ)) (n least less : ℕ) (tokens : List Lexeme) (y : Trees.Expression × ℕ × List Lexeme) → less ≤ least → TookExpression types least n tokens y → TookExpression types less n tokens y
-looser types n least less tokens y h p = record { spelled_so = p.spelled_so; well_formed = (omega (arith, p.well_formed.0), p.well_formed.1); deep = p.deep; within = p.within; whole = p.whole }
+pub looser : (types : List (List ℕ)) (n least less : ℕ) (tokens : List Lexeme) (y : Trees.Expression × ℕ × List Lexeme) → less ≤ least
+    → TookExpression types least n tokens y → TookExpression types less n tokens y
+looser types n least less tokens y h p = record {
+  spelled_so = p.spelled_so;
+  well_formed = (omega (arith, p.well_formed.0), p.well_formed.1);
+  deep =
+      p.deep;
+  within = p.within;
+  whole = p.whole;
+}
 
 abbrev pub strength_if_any : Option BinaryOp → ℕ
 strength_if_any None = 0
@@ -52,15 +64,18 @@ strength_of_next (t ∷ rest) = strength_if_any (binary_op t.kind)
 
 -- and no operator of that strength follows
 abbrev pub ReadsOperators : List (List ℕ) → ℕ → ℕ → Reader Trees.Expression → Type 0
-ReadsOperators types least n reader = (tokens : List Lexeme) → AreWhole tokens → (y : Trees.Expression × ℕ × List Lexeme) → reader tokens ≡ Some y → TookExpression types least n tokens y × (strength_of_next y.2 < least)
+ReadsOperators types least n reader = (tokens : List Lexeme) → AreWhole tokens → (y : Trees.Expression × ℕ × List Lexeme) → reader tokens ≡ Some y
+    → TookExpression types least n tokens y × (strength_of_next y.2 < least)
 
 -- ---- member declarations, enumerators
 
 abbrev pub spelled_member_declaration : Trees.Specifiers × Trees.MemberDeclarators × ℕ → List Lexeme → List Lexeme
-spelled_member_declaration member_declaration rest = spelled_specifiers member_declaration.0 (spelled_member_declarators member_declaration.1 (punctuator M.Semicolon member_declaration.2 ∷ rest))
+spelled_member_declaration member_declaration rest = spelled_specifiers member_declaration.0
+    (spelled_member_declarators member_declaration.1 (punctuator M.Semicolon member_declaration.2 ∷ rest))
 
 abbrev pub IsMemberDeclaration : List (List ℕ) → Trees.Specifiers × Trees.MemberDeclarators × ℕ → Type 0
-IsMemberDeclaration types member_declaration = AreSpecifiers types member_declaration.0 × (member_declaration.1 ≢ Trees.no_member_declarators) × AreMemberDeclarators types true member_declaration.1
+IsMemberDeclaration types member_declaration = AreSpecifiers types member_declaration.0 × (member_declaration.1 ≢ Trees.no_member_declarators)
+    × AreMemberDeclarators types true member_declaration.1
 
 abbrev pub depth_member_declaration : Trees.Specifiers × Trees.MemberDeclarators × ℕ → ℕ
 depth_member_declaration member_declaration = max (depth_specifiers member_declaration.0) (depth_member_declarators member_declaration.1) + 1

@@ -24,4 +24,5 @@ whole K.Text from to text e h = tt
 
 pub tokens_are_whole : (bytes : List ℕ) (tokens : List Token) → HaveTexts bytes tokens → AreWhole (lexemes_of bytes tokens)
 tokens_are_whole bytes [] h = All-nil IsWhole
-tokens_are_whole bytes (t ∷ tokens) h = All-cons IsWhole (lexeme_of bytes t) (lexemes_of bytes tokens) (whole t.kind t.from t.to (token_text bytes t) h.0 h.1) (tokens_are_whole bytes tokens h.2)
+tokens_are_whole bytes (t ∷ tokens) h = All-cons IsWhole (lexeme_of bytes t) (lexemes_of bytes tokens)
+    (whole t.kind t.from t.to (token_text bytes t) h.0 h.1) (tokens_are_whole bytes tokens h.2)

@@ -1,5 +1,6 @@
 -- Reading an expression, a type name, specifiers or a declarator from the left of a list of tokens.
-use Rattle.std.specs.Prelude.{ℕ, zero, suc, ◌+◌, leb, ◌&&◌, ◌||◌, not, Bool, true, false, List, [], ◌∷◌, ◌++◌, length, Option, Some, None, is_some, max, if◌then◌else◌}
+use Rattle.std.specs.Prelude.{ℕ, zero, suc, ◌+◌, leb, ◌&&◌, ◌||◌, not, Bool, true, false, List, [], ◌∷◌, ◌++◌, length, Option, Some, None, is_some}
+use Rattle.std.specs.Prelude.{max, if◌then◌else◌}
 use Rattle.lay_base.specs.declared.faults.Keyword.{Keyword}
 use Rattle.lay_base.specs.declared.faults.Keyword.TheVariants as W
 use Rattle.lay_base.specs.contracts.faults.KeywordPartialEq.TheImpl as keywords
@@ -439,7 +440,8 @@ abbrev pub operated_in : ℕ → Inner → ℕ → Trees.Expression → ℕ → 
 operated_in k inner least x d tokens None = Some (x, d, tokens, false)
 operated_in k inner least x d tokens (Some op) =
     if leb least (strength op)
-    then (inner.operators (strength op + 1) (advance tokens).1 >>= λ b. deeper k (max d b.1) >>= λ n. Some (Trees.binary x op (advance tokens).0 b.0, n, b.2, true))
+    then (inner.operators (strength op + 1) (advance tokens).1 >>= λ b. deeper k (max d b.1)
+    >>= λ n. Some (Trees.binary x op (advance tokens).0 b.0, n, b.2, true))
     else Some (x, d, tokens, false)
 
 unfoldable pub operator_step : ℕ → Inner → ℕ → Step Trees.Expression
@@ -532,7 +534,8 @@ member_declaration_in k inner tokens = do
 
 unfoldable pub member_declaration_step : Inner → Step (List (Trees.Specifiers × Trees.MemberDeclarators × ℕ))
 member_declaration_step inner all d tokens =
-    inner.member_declaration tokens >>= λ member_declaration. Some (all ++ member_declaration.0 ∷ [], max d member_declaration.1, member_declaration.2, not (peek M.CloseBrace member_declaration.2))
+    inner.member_declaration tokens >>= λ member_declaration. Some
+    (all ++ member_declaration.0 ∷ [], max d member_declaration.1, member_declaration.2, not (peek M.CloseBrace member_declaration.2))
 
 -- the body of a structure, from "{" on
 unfoldable pub struct_body_in : ℕ → Inner → ℕ → Option Spelling → Reader Trees.Specifier
@@ -543,7 +546,8 @@ struct_body_in k inner at x tokens = do
   d ← deeper k all.1
   Some (Trees.struct_body at x left.0 (member_declarations_of all.0) right.0, d, right.1)
 
-abbrev pub enumerator_value_after : ℕ → Inner → Spelling → List Lexeme → Option (ℕ × List Lexeme) → Option ((Spelling × Trees.EnumeratorValue) × ℕ × List Lexeme)
+abbrev pub enumerator_value_after : ℕ → Inner → Spelling → List Lexeme → Option (ℕ × List Lexeme)
+    → Option ((Spelling × Trees.EnumeratorValue) × ℕ × List Lexeme)
 enumerator_value_after k inner x rest None = Some ((x, Trees.no_value), 1, rest)
 enumerator_value_after k inner x rest (Some equal) = inner.conditional equal.1 >>= λ a. deeper k a.1 >>= λ d. Some ((x, Trees.valued equal.0 a.0), d, a.2)
 
@@ -574,7 +578,8 @@ enum_body_in k inner at x tokens = do
 -- ---- specifiers
 
 -- after `struct` or `enum`: a name without a body, or a body with or without a name
-abbrev pub tagged_in : (Spelling → Trees.Specifier) → (Option Spelling → Reader Trees.Specifier) → Option Spelling × List Lexeme → Option (Trees.Specifier × ℕ × List Lexeme)
+abbrev pub tagged_in : (Spelling → Trees.Specifier) → (Option Spelling → Reader Trees.Specifier) → Option Spelling × List Lexeme
+    → Option (Trees.Specifier × ℕ × List Lexeme)
 tagged_in named body (None, rest) = body None rest
 tagged_in named body (Some x, rest) = if peek M.OpenBrace rest then body (Some x) rest else Some (named x, 1, rest)
 
@@ -586,8 +591,10 @@ begins_typename types (t ∷ rest) = is_name t.kind && is_typename types t.text
 abbrev pub specified_in : List (List ℕ) → ℕ → Inner → List Lexeme → Option SpecifierKeyword → Option (Trees.Specifier × ℕ × List Lexeme)
 specified_in types k inner tokens (Some word) = Some (Trees.plain word (advance tokens).0, 1, (advance tokens).1)
 specified_in types k inner tokens None =
-    if fronted is_struct tokens then tagged_in (Trees.struct_named (advance tokens).0) (struct_body_in k inner (advance tokens).0) (tag_if_any (advance tokens).1)
-    else if fronted is_enum tokens then tagged_in (Trees.enum_named (advance tokens).0) (enum_body_in k inner (advance tokens).0) (tag_if_any (advance tokens).1)
+    if fronted is_struct tokens then tagged_in (Trees.struct_named (advance tokens).0) (struct_body_in k inner (advance tokens).0)
+    (tag_if_any (advance tokens).1)
+    else if fronted is_enum tokens then tagged_in (Trees.enum_named (advance tokens).0) (enum_body_in k inner (advance tokens).0)
+    (tag_if_any (advance tokens).1)
     else if begins_typename types tokens then (any_word tokens >>= λ x. Some (Trees.typename x.0, 1, x.1))
     else None
 
@@ -646,7 +653,8 @@ unfoldable pub core_in : List (List ℕ) → ℕ → Inner → Reader Trees.Decl
 core_in types k inner tokens = core_after types k inner tokens (plain_name types tokens)
 
 abbrev pub length_in : Inner → Reader Trees.OptionalExpression
-length_in inner tokens = if peek M.CloseSquare tokens then Some (Trees.no_expression, 0, tokens) else (inner.conditional tokens >>= λ a. Some (Trees.some_expression a.0, a.1, a.2))
+length_in inner tokens = if peek M.CloseSquare tokens then Some
+    (Trees.no_expression, 0, tokens) else (inner.conditional tokens >>= λ a. Some (Trees.some_expression a.0, a.1, a.2))
 
 unfoldable pub array_in : ℕ → Inner → Trees.Declarator → ℕ → ℕ → Reader Trees.Declarator
 array_in k inner x d left tokens = do

@@ -8,7 +8,9 @@ use Rattle.c_ast.specs.Spelling.{Lexeme}
 use Rattle.c_ast.specs.WellFormed.{has_name, types_after}
 use Rattle.c_ast.specs.Views.{arguments_of, block_items_of, switch_items_of}
 use Rattle.c_lexer.specs.declared.punctuator.Punctuator.TheVariants as M
-use Rattle.c_grammar.specs.Reading.{◌>>=◌, advance, after, expect, front, fronted, peek, is_keyword, is_left, is_right, is_left_brace, is_right_brace, is_comma, is_semicolon, is_colon, is_equal, begins_specifier, Reader, Step, deeper, chain, comma_before, another, comma_if_any, at}
+use Rattle.c_grammar.specs.Reading.{◌>>=◌, advance, after, expect, front, fronted, peek, is_keyword, is_left, is_right, is_left_brace, is_right_brace}
+use Rattle.c_grammar.specs.Reading.{is_comma, is_semicolon, is_colon, is_equal, begins_specifier, Reader, Step, deeper, chain, comma_before, another}
+use Rattle.c_grammar.specs.Reading.{comma_if_any, at}
 
 -- ---- initializers
 
@@ -24,7 +26,8 @@ braces_in k initial left tokens = do
   d ← deeper k all.1
   Some (Trees.braces left (arguments_of all.0) ((comma_if_any all.2).0) right.0, d, right.1)
 
-abbrev pub initial_after : ℕ → Reader Trees.Expression → Reader Trees.Expression → List Lexeme → Option (ℕ × List Lexeme) → Option (Trees.Expression × ℕ × List Lexeme)
+abbrev pub initial_after : ℕ → Reader Trees.Expression → Reader Trees.Expression → List Lexeme → Option (ℕ × List Lexeme)
+    → Option (Trees.Expression × ℕ × List Lexeme)
 initial_after k assignment initial tokens (Some left) = braces_in k initial left.0 left.1
 initial_after k assignment initial tokens None = assignment tokens >>= λ a. deeper k a.1 >>= λ d. Some (a.0, d, a.2)
 
@@ -38,7 +41,8 @@ initial_at types (suc k) tokens = initial_in k ((at types k).assignment) (initia
 
 -- ---- declarations
 
-abbrev pub value_after : Reader Trees.Expression → Option ℕ → Trees.Declarator → ℕ → List Lexeme → Option (ℕ × List Lexeme) → Option (Trees.InitDeclarator × ℕ × List Lexeme)
+abbrev pub value_after : Reader Trees.Expression → Option ℕ → Trees.Declarator → ℕ → List Lexeme → Option (ℕ × List Lexeme)
+    → Option (Trees.InitDeclarator × ℕ × List Lexeme)
 value_after initial comma s d tokens None = Some (record { comma = comma; declarator = s; value = None }, d, tokens)
 value_after initial comma s d tokens (Some equal) =
     initial equal.1 >>= λ i. Some (record { comma = comma; declarator = s; value = Some (equal.0, i.0) }, max d i.1, i.2)
@@ -140,7 +144,8 @@ block_in below tokens = do
   right ← expect M.CloseBrace all.2
   Some ((block_items_of all.0, right.0), all.1, right.1)
 
-abbrev pub else_after : ℕ → Below → ℕ → ℕ × Trees.Expression × ℕ → Trees.Statement → ℕ → List Lexeme → Option (ℕ × List Lexeme) → Option (Trees.Statement × ℕ × List Lexeme)
+abbrev pub else_after : ℕ → Below → ℕ → ℕ × Trees.Expression × ℕ → Trees.Statement → ℕ → List Lexeme → Option (ℕ × List Lexeme)
+    → Option (Trees.Statement × ℕ × List Lexeme)
 else_after k below place c one d tokens None = deeper k d >>= λ n. Some (Trees.when place c.0 c.1 c.2 one, n, tokens)
 else_after k below place c one d tokens (Some otherwise) =
     below.statement otherwise.1 >>= λ other. deeper k (max d other.1) >>= λ n. Some (Trees.choose place c.0 c.1 c.2 one otherwise.0 other.0, n, other.2)
@@ -170,7 +175,8 @@ do_in k below place tokens = do
 unfoldable pub for_start_in : Below → Reader Trees.ForStart
 for_start_in below tokens =
     if begins_specifier below.types tokens then (below.full tokens >>= λ d. Some (Trees.declares d.0, d.1, d.2))
-    else (expression_if_any is_semicolon below.expression tokens >>= λ a. expect M.Semicolon a.2 >>= λ semicolon. Some (Trees.starts_with a.0 semicolon.0, a.1, semicolon.1))
+    else (expression_if_any is_semicolon below.expression tokens >>= λ a. expect M.Semicolon a.2
+    >>= λ semicolon. Some (Trees.starts_with a.0 semicolon.0, a.1, semicolon.1))
 
 unfoldable pub for_in : ℕ → Below → ℕ → Reader Trees.Statement
 for_in k below place tokens = do
@@ -297,7 +303,8 @@ rest_of_declaration_in types k specs s d tokens = do
   n ← deeper k (max d all.1)
   Some (Trees.declaration (record { specs = specs; all = all.0; semicolon = semicolon.0 }), n, semicolon.1)
 
-abbrev pub body_after : List (List ℕ) → ℕ → Trees.Specifiers → Trees.Declarator → ℕ → List Lexeme → Option (ℕ × List Lexeme) → Option (Trees.Item × ℕ × List Lexeme)
+abbrev pub body_after : List (List ℕ) → ℕ → Trees.Specifiers → Trees.Declarator → ℕ → List Lexeme → Option (ℕ × List Lexeme)
+    → Option (Trees.Item × ℕ × List Lexeme)
 body_after types k specs s d tokens None = rest_of_declaration_in types k specs s d tokens
 body_after types k specs s d tokens (Some left) = body_in types k specs s d left.0 left.1
 

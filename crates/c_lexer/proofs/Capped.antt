@@ -15,7 +15,8 @@ step_capped base n v most h = ⊎_elim within beyond (cases_lt n most)
     beyond more = let e : min n most ≡ most = omega arith in rw e (omega (arith, le-mul_of_pos_right {m = base} most h, le-mul_of_pos_right {m = base} n h))
 
 -- the number is kept at `most` at each digit, or once at the end
-pub fold_capped : (base n most : ℕ) (digits : List ℕ) → 1 ≤ base → fold (λ n d. min (base * n + digit_value d) most) (min n most) digits ≡ min (fold (λ n d. base * n + digit_value d) n digits) most
+pub fold_capped : (base n most : ℕ) (digits : List ℕ) → 1 ≤ base → fold (λ n d. min (base * n + digit_value d) most) (min n most) digits
+    ≡ min (fold (λ n d. base * n + digit_value d) n digits) most
 fold_capped base n most [] h = refl
 fold_capped base n most (d ∷ digits) h =
     ap (λ m. fold (λ n d. min (base * n + digit_value d) most) m digits) (step_capped base n (digit_value d) most h)

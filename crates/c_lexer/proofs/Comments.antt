@@ -1,5 +1,6 @@
 -- Comments, and the ends of lines, are found exactly.
-use Rattle.std.proofs.Common.{◌≡◌, ℕ, suc, ◌+◌, Bool, true, false, ◌&&◌, ◌⊎◌, inl, inr, List, [], ◌∷◌, ◌++◌, length, Option, Some, None, refl, sym, ap, subst, arith, ⊎_elim}
+use Rattle.std.proofs.Common.{◌≡◌, ℕ, suc, ◌+◌, Bool, true, false, ◌&&◌, ◌⊎◌, inl, inr, List, [], ◌∷◌, ◌++◌, length, Option, Some, None, refl, sym}
+use Rattle.std.proofs.Common.{ap, subst, arith, ⊎_elim}
 use Rattle.std.specs.Prelude.{◌==◌, option_map, not}
 use Rattle.std.proofs.lemmas.Bool.{and_parts, and_right, or_from, or_parts, cond_both, eqb-true, not_from_true, not_from_false, not-true, not-false}
 use Rattle.std.proofs.lemmas.Option.{same_Some}
@@ -18,7 +19,8 @@ one_byte_more : (found : Option ℕ) (n : ℕ) → found ≡ Some (n + 2) → op
 one_byte_more found n h = rw h (ap (λ m. Some m) (omega arith))
 
 -- up to the first end; after a star or not
-comment_read_from : (starred : Bool) (body rest : List ℕ) → has_end body ≡ false → (starred && begins is_slash body) ≡ false → comment_length starred (body ++ 42 ∷ 47 ∷ rest) ≡ Some (length body + 2)
+comment_read_from : (starred : Bool) (body rest : List ℕ) → has_end body ≡ false → (starred && begins is_slash body) ≡ false
+    → comment_length starred (body ++ 42 ∷ 47 ∷ rest) ≡ Some (length body + 2)
 comment_read_from true [] rest h s = refl
 comment_read_from false [] rest h s = refl
 comment_read_from starred (b ∷ body) rest h s =
@@ -46,15 +48,24 @@ abbrev Ends : Bool → List ℕ → ℕ → Type 0
 Ends starred bytes n = ((starred ≡ true) × (rest : List ℕ) × (bytes ≡ 47 ∷ rest) × (n ≡ 1)) ⊎ EndedFrom starred bytes n
 
 -- the star that stands before the slash
-end_here : (starred : Bool) (b : ℕ) (bytes : List ℕ) (n : ℕ) → (b == 42) ≡ true → ((rest : List ℕ) × (bytes ≡ 47 ∷ rest) × (n ≡ 1)) → EndedFrom starred (b ∷ bytes) (suc n)
+end_here : (starred : Bool) (b : ℕ) (bytes : List ℕ) (n : ℕ) → (b == 42) ≡ true → ((rest : List ℕ) × (bytes ≡ 47 ∷ rest) × (n ≡ 1))
+    → EndedFrom starred (b ∷ bytes) (suc n)
 end_here starred b bytes n s (rest, e, one) =
     let first : b ≡ 42 = eqb-true b 42 s in
     record { ended = record { body = []; rest = rest; is = cc (first, e); no_end = refl; size = rw one refl }; no_slash = and_right starred false refl }
 
-end_after : (starred : Bool) (b : ℕ) (bytes : List ℕ) (n : ℕ) → (starred && is_slash b) ≡ false → EndedFrom (b == 42) bytes n → EndedFrom starred (b ∷ bytes) (suc n)
+end_after : (starred : Bool) (b : ℕ) (bytes : List ℕ) (n : ℕ) → (starred && is_slash b) ≡ false → EndedFrom (b == 42) bytes n
+    → EndedFrom starred (b ∷ bytes) (suc n)
 end_after starred b bytes n s e =
     record {
-      ended = record { body = b ∷ e.ended.body; rest = e.ended.rest; is = ap (λ l. b ∷ l) e.ended.is; no_end = or_from _ _ e.no_slash e.ended.no_end; size = let k = e.ended.size in omega (arith, k) };
+      ended = record {
+        body = b ∷ e.ended.body;
+        rest = e.ended.rest;
+        is = ap (λ l. b ∷ l) e.ended.is;
+        no_end =
+            or_from _ _ e.no_slash e.ended.no_end;
+        size = let k = e.ended.size in omega (arith, k);
+      };
       no_slash = s;
     }
 
@@ -65,7 +76,8 @@ ends_taken starred (b ∷ bytes) n h =
     (λ s h. let a = and_parts starred (is_slash b) s in inl (a.0, bytes, ap (λ x. x ∷ bytes) (eqb-true b 47 a.1), sym (same_Some 1 n h)))
     (λ s h.
     let m = counted (comment_length (b == 42) bytes) n h in
-    inr (subst (EndedFrom starred (b ∷ bytes)) m.2 (⊎_elim (λ e. end_here starred b bytes m.0 e.0 (e.1, e.2, e.3)) (end_after starred b bytes m.0 s) (ends_taken (b == 42) bytes m.0 m.1))))
+    inr (subst (EndedFrom starred (b ∷ bytes)) m.2 (⊎_elim (λ e. end_here starred b bytes m.0 e.0 (e.1, e.2, e.3)) (end_after starred b bytes m.0 s)
+    (ends_taken (b == 42) bytes m.0 m.1))))
     h
 
 pub comment_taken : (bytes : List ℕ) (n : ℕ) → comment_length false bytes ≡ Some n → Ended bytes n
@@ -89,7 +101,8 @@ none_counted (Some m) h = cc
 endless_from : (starred : Bool) (bytes : List ℕ) → comment_length starred bytes ≡ None → (has_end bytes ≡ false) × ((starred && begins is_slash bytes) ≡ false)
 endless_from starred [] h = (refl, and_right starred false refl)
 endless_from starred (b ∷ bytes) h =
-    cond_both (starred && is_slash b) (Some 1) (option_map suc (comment_length (b == 42) bytes)) (λ o. o ≡ None → (has_end (b ∷ bytes) ≡ false) × ((starred && is_slash b) ≡ false))
+    cond_both (starred && is_slash b) (Some 1) (option_map suc (comment_length (b == 42) bytes)) (λ o. o ≡ None
+    → (has_end (b ∷ bytes) ≡ false) × ((starred && is_slash b) ≡ false))
     (λ s h. cc)
     (λ s h. let r = endless_from (b == 42) bytes (none_counted _ h) in (or_from _ _ r.1 r.0, s))
     h

@@ -25,7 +25,8 @@ front_passes q (suc n) (suc m) (b ∷ text) l h =
     each (q b) h
 
 pub octal_front_passes : (text : List ℕ) (n : ℕ) → n ≡ min (prefix_len is_octal text) 3 → list_all is_hexadecimal (take n text) ≡ true
-octal_front_passes text n e = front_passes is_hexadecimal (prefix_len is_octal text) n text (omega (arith, e)) (octal_run_passes text (prefix_len is_octal text) refl)
+octal_front_passes text n e = front_passes is_hexadecimal (prefix_len is_octal text) n text (omega (arith, e))
+    (octal_run_passes text (prefix_len is_octal text) refl)
 
 pub decimal_run_passes : (text : List ℕ) (n : ℕ) → n ≡ prefix_len is_digit text → list_all is_hexadecimal (take n text) ≡ true
 decimal_run_passes text n e = rw e (run_passes is_digit is_hexadecimal (λ b h. grind (arith, nat_tests)) text)

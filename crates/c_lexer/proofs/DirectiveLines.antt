@@ -1,5 +1,6 @@
 -- The directive that the bytes after '#' are is read, exactly.
-use Rattle.std.proofs.Common.{◌≡◌, ℕ, ◌+◌, Bool, true, false, List, [], ◌++◌, length, take, drop, codes, Option, Some, None, refl, sym, ap, subst, ◌∙◌, arith, append_assoc, append-nil, add-zero, length-append}
+use Rattle.std.proofs.Common.{◌≡◌, ℕ, ◌+◌, Bool, true, false, List, [], ◌++◌, length, take, drop, codes, Option, Some, None, refl, sym, ap, subst}
+use Rattle.std.proofs.Common.{◌∙◌, arith, append_assoc, append-nil, add-zero, length-append}
 use Rattle.std.specs.List.{prefix_len}
 use Rattle.std.specs.Str.{bytes_eq}
 use Rattle.std.proofs.lemmas.Bool.{cond_both, cond-true}
@@ -10,7 +11,8 @@ use Rattle.std.proofs.Math.Seq.{drop-append_seam}
 use Rattle.c_lexer.specs.declared.directive.Directive.{Directive}
 use Rattle.c_lexer.specs.declared.directive.Directive.TheVariants.{Silent, Renumbers}
 use Rattle.c_lexer.specs.Characters.{is_blank, is_digit, goes_on_in_name, begins, value_of_digits}
-use Rattle.c_lexer.specs.Directives.{AreBlank, AreDigits, IsWordGap, Marker, IsMarker, word_text, name_text, flags_text, name_range, marker_text, directive_of, IsDirective, null, pragma, marker}
+use Rattle.c_lexer.specs.Directives.{AreBlank, AreDigits, IsWordGap, Marker, IsMarker, word_text, name_text, flags_text, name_range, marker_text}
+use Rattle.c_lexer.specs.Directives.{directive_of, IsDirective, null, pragma, marker}
 use Rattle.c_lexer.specs.DirectiveScan.{marker_at, line_at, directive_after, directive_in}
 use Rattle.c_lexer.proofs.RunLengths.{run_read, no_run, run_taken, run_front, run_rest, begins_whole, begins_other}
 use Rattle.c_lexer.proofs.MarkerEnds.{End, digit_no_blank, end_read, end_taken}
@@ -36,7 +38,8 @@ blank_no_name : (b : ℕ) → is_blank b ≡ true → goes_on_in_name b ≡ fals
 blank_no_name b h = grind (arith, nat_tests)
 
 -- the word "line", where it stands, and the blanks after it
-word_read : (worded : Bool) (at : ℕ) (middle digits rest : List ℕ) (flags : List (List ℕ × List ℕ)) → IsWordGap worded middle flags → AreDigits digits → directive_after at (word_text worded middle ++ (digits ++ rest)) ≡ marker_at worded (at + length (word_text worded middle)) (digits ++ rest)
+word_read : (worded : Bool) (at : ℕ) (middle digits rest : List ℕ) (flags : List (List ℕ × List ℕ)) → IsWordGap worded middle flags → AreDigits digits
+    → directive_after at (word_text worded middle ++ (digits ++ rest)) ≡ marker_at worded (at + length (word_text worded middle)) (digits ++ rest)
 word_read false at middle digits rest flags w d =
     cond-true (begins is_digit (digits ++ rest)) _ _ (begins_whole is_digit digits rest d.0) ∙ ap (λ n. marker_at false n (digits ++ rest)) (sym (add-zero at))
 word_read true at middle digits rest flags w d =
@@ -56,7 +59,8 @@ no_flags true middle flags w e = w.1
 no_flags false middle flags w e = cc
 
 -- the pieces of a marker, the first one first
-pieces : (front word digits name flags back : List ℕ) → front ++ word ++ digits ++ name ++ flags ++ back ≡ front ++ (word ++ (digits ++ (name ++ (flags ++ back))))
+pieces : (front word digits name flags back : List ℕ) → front ++ word ++ digits ++ name ++ flags ++ back
+    ≡ front ++ (word ++ (digits ++ (name ++ (flags ++ back))))
 pieces front word digits name flags back = simp append_assoc
 
 -- where the number ends
@@ -96,21 +100,35 @@ abbrev IsMiddle : Bool → List ℕ → Type 0
 IsMiddle worded middle = (flags : List (List ℕ × List ℕ)) → (worded ≡ true → flags ≡ []) → IsWordGap worded middle flags
 
 -- a marker of the pieces that were read
-marker_of_pieces : (front : List ℕ) (worded : Bool) (middle text : List ℕ) (at : ℕ) (d : Directive) → AreBlank front → IsMiddle worded middle → at ≡ length front + length (word_text worded middle) → (n : Numbered worded at text d) (b : After worded (value_of_digits 10 n.digits) (at + length n.digits) n.rest d) → End worded b.tail → IsDirective (front ++ (word_text worded middle ++ text)) d
+marker_of_pieces : (front : List ℕ) (worded : Bool) (middle text : List ℕ) (at : ℕ) (d : Directive) → AreBlank front → IsMiddle worded middle → at
+    ≡ length front + length (word_text worded middle) → (n : Numbered worded at text d)
+    (b : After worded (value_of_digits 10 n.digits) (at + length n.digits) n.rest d) → End worded b.tail
+    → IsDirective (front ++ (word_text worded middle ++ text)) d
 marker_of_pieces front worded middle text at d blank gap place n b e =
     let word = word_text worded middle in
     let m : Marker = record { worded = worded; front = front; middle = middle; digits = n.digits; name = b.name; flags = e.flags.flags; back = e.flags.back } in
-    let is : IsMarker m = record { front = blank; word = gap e.flags.flags e.bare; digits = n.each; small = n.small; name = b.named; flags = e.flags.each; back = e.flags.blank } in
+    let is : IsMarker m = record {
+      front = blank;
+      word = gap e.flags.flags e.bare;
+      digits = n.each;
+      small = n.small;
+      name = b.named;
+      flags =
+          e.flags.each;
+      back = e.flags.blank;
+    } in
     let text_is : marker_text m ≡ front ++ (word ++ text) =
     pieces front word n.digits (name_text b.name) (flags_text e.flags.flags) e.flags.back
     ∙ ap (λ l. front ++ (word ++ (n.digits ++ (name_text b.name ++ l)))) (sym e.flags.is)
     ∙ ap (λ l. front ++ (word ++ (n.digits ++ l))) (sym b.is)
     ∙ ap (λ l. front ++ (word ++ l)) (sym n.is) in
     let size : at + length n.digits ≡ length (front ++ word ++ n.digits) = ap (λ k. k + length n.digits) place ∙ number_end front word n.digits in
-    same_line (marker_text m) (front ++ (word ++ text)) (directive_of m) d text_is (b.says ∙ ap (λ k. Renumbers (value_of_digits 10 n.digits) (name_range k b.name)) size) (marker m is)
+    same_line (marker_text m) (front ++ (word ++ text)) (directive_of m) d text_is (b.says
+    ∙ ap (λ k. Renumbers (value_of_digits 10 n.digits) (name_range k b.name)) size) (marker m is)
 
 -- what is read from the number on is a marker
-marker_taken : (front : List ℕ) (worded : Bool) (middle text : List ℕ) (at : ℕ) (d : Directive) → AreBlank front → IsMiddle worded middle → at ≡ length front + length (word_text worded middle) → marker_at worded at text ≡ Some d → IsDirective (front ++ (word_text worded middle ++ text)) d
+marker_taken : (front : List ℕ) (worded : Bool) (middle text : List ℕ) (at : ℕ) (d : Directive) → AreBlank front → IsMiddle worded middle → at
+    ≡ length front + length (word_text worded middle) → marker_at worded at text ≡ Some d → IsDirective (front ++ (word_text worded middle ++ text)) d
 marker_taken front worded middle text at d blank gap place h =
     let n = at_taken worded at text d h in
     let b = after_taken worded (value_of_digits 10 n.digits) (at + length n.digits) n.rest d n.after in
@@ -133,13 +151,16 @@ word_taken word text h =
 -- `#` alone
 null_taken : (front text : List ℕ) (d : Directive) → AreBlank front → bytes_eq text [] ≡ true → Some Silent ≡ Some d → IsDirective (front ++ text) d
 null_taken front text d blank e h =
-    same_line front (front ++ text) Silent d (sym (append-nil front) ∙ ap (λ l. front ++ l) (sym ((bytes_eq-Decides text []).0 e))) (sym (same_Some Silent d h)) (null blank)
+    same_line front (front ++ text) Silent d (sym (append-nil front) ∙ ap (λ l. front ++ l) (sym ((bytes_eq-Decides text []).0 e)))
+    (sym (same_Some Silent d h)) (null blank)
 
 pragma_taken : (front text : List ℕ) (d : Directive) → AreBlank front → Word (codes "pragma") text → Some Silent ≡ Some d → IsDirective (front ++ text) d
 pragma_taken front text d blank w h =
-    same_line (front ++ codes "pragma" ++ w.rest) (front ++ text) Silent d (append_assoc front (codes "pragma") w.rest ∙ ap (λ l. front ++ l) (sym w.is)) (sym (same_Some Silent d h)) (pragma front w.rest blank w.stops)
+    same_line (front ++ codes "pragma" ++ w.rest) (front ++ text) Silent d (append_assoc front (codes "pragma") w.rest
+    ∙ ap (λ l. front ++ l) (sym w.is)) (sym (same_Some Silent d h)) (pragma front w.rest blank w.stops)
 
-line_word_taken : (front text : List ℕ) (d : Directive) → AreBlank front → (w : Word (codes "line") text) → line_at (length front + 4) w.rest ≡ Some d → IsDirective (front ++ text) d
+line_word_taken : (front text : List ℕ) (d : Directive) → AreBlank front → (w : Word (codes "line") text) → line_at (length front + 4) w.rest ≡ Some d
+    → IsDirective (front ++ text) d
 line_word_taken front text d blank w h =
     let s = line_taken (length front + 4) w.rest d h in
     subst (λ l. IsDirective (front ++ l) d) (ap (λ l. codes "line" ++ l) (sym s.is) ∙ sym w.is)

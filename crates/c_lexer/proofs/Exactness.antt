@@ -14,10 +14,13 @@ use Rattle.c_lexer.proofs.TokenSays.{Says}
 use Rattle.c_lexer.proofs.TokenWords.{token_read, malformed_read, wide_read, token_taken}
 
 pub record PartsAreExact : Type 0 where
-  pub part_read : (begins_line : Bool) (kind : PartKind) (text rest : List ℕ) → Stands begins_line kind text rest → part_at begins_line (text ++ rest) ≡ Ok (kind, length text)
-  pub part_taken : (begins_line : Bool) (bytes : List ℕ) (kind : PartKind) (size : ℕ) → part_at begins_line bytes ≡ Ok (kind, size) → (text rest : List ℕ) × (bytes ≡ text ++ rest) × (size ≡ length text) × (0 < size) × Stands begins_line kind text rest
+  pub part_read : (begins_line : Bool) (kind : PartKind) (text rest : List ℕ) → Stands begins_line kind text rest → part_at begins_line (text ++ rest)
+      ≡ Ok (kind, length text)
+  pub part_taken : (begins_line : Bool) (bytes : List ℕ) (kind : PartKind) (size : ℕ) → part_at begins_line bytes ≡ Ok (kind, size)
+      → (text rest : List ℕ) × (bytes ≡ text ++ rest) × (size ≡ length text) × (0 < size) × Stands begins_line kind text rest
   pub unclosed_read : (begins_line : Bool) (bytes : List ℕ) → IsUnclosed bytes → part_at begins_line bytes ≡ Err F.Unclosed
-  pub fault_taken : (begins_line : Bool) (bytes : List ℕ) (fault : FaultKind) → (bytes ≡ [] → ⊥) → part_at begins_line bytes ≡ Err fault → HasFault fault begins_line bytes
+  pub fault_taken : (begins_line : Bool) (bytes : List ℕ) (fault : FaultKind) → (bytes ≡ [] → ⊥) → part_at begins_line bytes ≡ Err fault
+      → HasFault fault begins_line bytes
   pub bad_byte_read : (begins_line : Bool) (bytes : List ℕ) → HasFault F.BadByte begins_line bytes → part_at begins_line bytes ≡ Err F.BadByte
 
 -- what a word that is no token has

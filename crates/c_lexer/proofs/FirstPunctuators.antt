@@ -59,28 +59,41 @@ pub found_taken : (m : Punctuator) (bytes : List ℕ) → first_punctuator punct
 found_taken m bytes h = front_taken (punctuator_text m) bytes (found_front punctuators m bytes h)
 
 -- the first punctuator that is a front is the first that is a front of a longer front
-first_of_front : (table : List Punctuator) (m : Punctuator) (v after : List ℕ) → first_punctuator table (v ++ after) ≡ Some m → is_front (punctuator_text m) v ≡ true → first_punctuator table v ≡ Some m
+first_of_front : (table : List Punctuator) (m : Punctuator) (v after : List ℕ) → first_punctuator table (v ++ after) ≡ Some m
+    → is_front (punctuator_text m) v ≡ true → first_punctuator table v ≡ Some m
 first_of_front [] m v after h f = cc
 first_of_front (n ∷ table) m v after h f =
-    let P : Bool → Bool → Type 0 = λ c d. (d ≡ true → c ≡ true) → (first_punctuator table (v ++ after) ≡ Some m → first_punctuator table v ≡ Some m) → (n ≡ m → d ≡ true) → cond c (Some n) (first_punctuator table (v ++ after)) ≡ Some m → cond d (Some n) (first_punctuator table v) ≡ Some m in
+    let P : Bool → Bool → Type 0 = λ c d. (d ≡ true → c ≡ true) → (first_punctuator table (v ++ after) ≡ Some m → first_punctuator table v ≡ Some m)
+    → (n ≡ m → d ≡ true) → cond c (Some n) (first_punctuator table (v ++ after)) ≡ Some m → cond d (Some n) (first_punctuator table v) ≡ Some m in
     let both : P true true = λ i g k h. h in
     let whole : P true false = λ i g k h. let e : false ≡ true = k (same_Some n m h) in cc in
     let part : P false true = λ i g k h. let e : false ≡ true = i refl in cc in
     let neither : P false false = λ i g k h. g h in
-    let each : (c d : Bool) → P c d = λ c d. elim c as (λ x. P x d) [ true ↦ elim d as (λ y. P true y) [ true ↦ both | false ↦ whole ] | false ↦ elim d as (λ y. P false y) [ true ↦ part | false ↦ neither ] ] in
-    each (is_front (punctuator_text n) (v ++ after)) (is_front (punctuator_text n) v) (front_of (punctuator_text n) v after) (λ q. first_of_front table m v after q f) (λ e. subst (λ x. is_front (punctuator_text x) v ≡ true) (sym e) f) h
+    let each : (c d : Bool) → P c d = λ c d. elim c as (λ x. P x d) [
+      | true ↦ elim d as
+          (λ y. P true y) [ true ↦ both | false ↦ whole ]
+      | false ↦ elim d as (λ y. P false y) [ true ↦ part | false ↦ neither ]
+    ] in
+    each (is_front (punctuator_text n) (v ++ after)) (is_front (punctuator_text n) v) (front_of (punctuator_text n) v after)
+    (λ q. first_of_front table m v after q f) (λ e. subst (λ x. is_front (punctuator_text x) v ≡ true) (sym e) f) h
 
 -- each punctuator is the first that is a front of it
 first_itself : (m : Punctuator) → first_punctuator punctuators (punctuator_text m) ≡ Some m
 first_itself M.OpenSquare = refl
 first_itself _ = refl
 
-same_first : (table : List Punctuator) (m : Punctuator) (rest : List ℕ) → ((n : Punctuator) (more after : List ℕ) → rest ≡ more ++ after → punctuator_text m ++ more ≡ punctuator_text n → more ≡ []) → first_punctuator table (punctuator_text m ++ rest) ≡ first_punctuator table (punctuator_text m)
+same_first : (table : List Punctuator) (m : Punctuator) (rest : List ℕ)
+    → ((n : Punctuator) (more after : List ℕ) → rest ≡ more ++ after → punctuator_text m ++ more ≡ punctuator_text n → more ≡ [])
+    → first_punctuator table (punctuator_text m ++ rest) ≡ first_punctuator table (punctuator_text m)
 same_first [] m rest l = refl
-same_first (n ∷ table) m rest l = rw (same_fronts (punctuator_text n) (punctuator_text m) rest (λ more after p q. l n more after p (sym q)), same_first table m rest l) refl
+same_first (n ∷ table) m rest l = rw (
+  same_fronts (punctuator_text n) (punctuator_text m) rest (λ more after p q. l n more after p (sym q)),
+  same_first table m rest l,
+) refl
 
 -- a punctuator that no front of the rest makes longer is found
-pub punctuator_found : (m : Punctuator) (rest : List ℕ) → ((n : Punctuator) (more after : List ℕ) → rest ≡ more ++ after → punctuator_text m ++ more ≡ punctuator_text n → more ≡ []) → first_punctuator punctuators (punctuator_text m ++ rest) ≡ Some m
+pub punctuator_found : (m : Punctuator) (rest : List ℕ) → ((n : Punctuator) (more after : List ℕ) → rest ≡ more ++ after → punctuator_text m ++ more
+    ≡ punctuator_text n → more ≡ []) → first_punctuator punctuators (punctuator_text m ++ rest) ≡ Some m
 punctuator_found m rest l = same_first punctuators m rest l ∙ first_itself m
 
 no_more : (u more : List ℕ) → u ++ more ≡ u → more ≡ []
@@ -88,10 +101,14 @@ no_more [] more h = h
 no_more (b ∷ u) more h = no_more u more (let e : u ++ more ≡ u = cc in e)
 
 -- no front of the rest makes the punctuator that is found longer
-pub found_longest : (m n : Punctuator) (rest more after : List ℕ) → first_punctuator punctuators (punctuator_text m ++ rest) ≡ Some m → rest ≡ more ++ after → punctuator_text m ++ more ≡ punctuator_text n → more ≡ []
+pub found_longest : (m n : Punctuator) (rest more after : List ℕ) → first_punctuator punctuators (punctuator_text m ++ rest) ≡ Some m → rest
+    ≡ more ++ after → punctuator_text m ++ more ≡ punctuator_text n → more ≡ []
 found_longest m n rest more after h e w =
-    let whole : punctuator_text m ++ rest ≡ punctuator_text n ++ after = ap (λ l. punctuator_text m ++ l) e ∙ sym (append_assoc (punctuator_text m) more after) ∙ ap (λ l. l ++ after) w in
-    let first : first_punctuator punctuators (punctuator_text n) ≡ Some m = first_of_front punctuators m (punctuator_text n) after (subst (λ l. first_punctuator punctuators l ≡ Some m) whole h) (subst (λ l. is_front (punctuator_text m) l ≡ true) w (front_itself (punctuator_text m) more)) in
+    let whole : punctuator_text m ++ rest ≡ punctuator_text n ++ after = ap (λ l. punctuator_text m ++ l) e
+    ∙ sym (append_assoc (punctuator_text m) more after) ∙ ap (λ l. l ++ after) w in
+    let first : first_punctuator punctuators (punctuator_text n) ≡ Some m =
+    first_of_front punctuators m (punctuator_text n) after (subst (λ l. first_punctuator punctuators l ≡ Some m) whole h)
+    (subst (λ l. is_front (punctuator_text m) l ≡ true) w (front_itself (punctuator_text m) more)) in
     let same : n ≡ m = same_Some n m (sym (first_itself n) ∙ first) in
     no_more (punctuator_text m) more (w ∙ ap punctuator_text same)
 

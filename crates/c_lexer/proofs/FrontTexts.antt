@@ -24,7 +24,8 @@ no_comment_before (b ∷ c ∷ bytes) rest h = h
 longest_before : (word front rest : List ℕ) → IsLongest word (front ++ rest) → IsLongest word front
 longest_before word front rest h shape more after e w = h shape more (after ++ rest) (ap (λ l. l ++ rest) e ∙ append_assoc more after rest) w
 
-pub stands_before : (begins_line : Bool) (kind : PartKind) (text front rest : List ℕ) → Stands begins_line kind text (front ++ rest) → Stands begins_line kind text front
+pub stands_before : (begins_line : Bool) (kind : PartKind) (text front rest : List ℕ) → Stands begins_line kind text (front ++ rest)
+    → Stands begins_line kind text front
 stands_before begins_line P.White text front rest s = s
 stands_before begins_line P.Comment text front rest s = s
 stands_before begins_line P.LineComment text front rest s = (s.0, s.1, s.2, end_before front rest s.3)
@@ -32,8 +33,11 @@ stands_before begins_line P.Directive text front rest s = (s.0, s.1, s.2, s.3, s
 stands_before begins_line (P.Word shape) text front rest s =
     (s.0, longest_before text front rest s.1, no_comment_before (text ++ front) rest (ap begins_comment (append_assoc text front rest) ∙ s.2))
 
-pub parts_before : (begins_line : Bool) (parts : List Part) (front rest : List ℕ) → AreParts begins_line parts (front ++ rest) → AreParts begins_line parts front
+pub parts_before : (begins_line : Bool) (parts : List Part) (front rest : List ℕ) → AreParts begins_line parts (front ++ rest)
+    → AreParts begins_line parts front
 parts_before begins_line [] front rest a = tt
 parts_before begins_line (part ∷ parts) front rest a =
-    let whole = subst (Stands begins_line part.kind part.text) (sym (append_assoc (text_of parts) front rest)) a.0 in
-    (stands_before begins_line part.kind part.text (text_of parts ++ front) rest whole, parts_before (begins_line_after_part begins_line part) parts front rest a.1)
+    let whole = subst (Stands begins_line part.kind part.text) (sym (append_assoc (text_of parts) front rest)) a.0 in (
+      stands_before begins_line part.kind part.text (text_of parts ++ front) rest whole,
+      parts_before (begins_line_after_part begins_line part) parts front rest a.1,
+    )

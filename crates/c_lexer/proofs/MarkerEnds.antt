@@ -1,5 +1,6 @@
 -- What stands after the number and the name of a line marker: flags and blanks, exactly.
-use Rattle.std.proofs.Common.{◌≡◌, ℕ, ◌+◌, Bool, true, false, cond, IsTrue, ◌&&◌, List, [], ◌∷◌, ◌++◌, drop, refl, sym, ap, subst, ◌∙◌, one-add, arith, append_assoc}
+use Rattle.std.proofs.Common.{◌≡◌, ℕ, ◌+◌, Bool, true, false, cond, IsTrue, ◌&&◌, List, [], ◌∷◌, ◌++◌, drop, refl, sym, ap, subst, ◌∙◌, one-add}
+use Rattle.std.proofs.Common.{arith, append_assoc}
 use Rattle.std.specs.List.{All, list_all, prefix_len}
 use Rattle.std.specs.Prelude.{◌==◌}
 use Rattle.std.proofs.lemmas.Bool.{and_parts, cond_both}
@@ -60,7 +61,8 @@ flags_read may (flag ∷ flags) back each blank =
     ∙ flags_read true flags back (All-tail IsFlag flag flags each) blank
 
 -- flags, or blanks alone after the word "line"
-pub end_read : (worded : Bool) (flags : List (List ℕ × List ℕ)) (back : List ℕ) → (worded ≡ true → flags ≡ []) → All IsFlag flags → AreBlank back → is_marker_end worded (flags_text flags ++ back) ≡ true
+pub end_read : (worded : Bool) (flags : List (List ℕ × List ℕ)) (back : List ℕ) → (worded ≡ true → flags ≡ []) → All IsFlag flags → AreBlank back
+    → is_marker_end worded (flags_text flags ++ back) ≡ true
 end_read true flags back bare each blank = rw (bare refl) (list_all-from_AllPass is_blank back blank)
 end_read false flags back bare each blank = flags_read false flags back each blank
 
@@ -87,7 +89,8 @@ back_alone : (back : List ℕ) → AreBlank back → Flags back
 back_alone back blank = record { flags = []; back = back; is = refl; each = All-nil IsFlag; blank = blank }
 
 -- a blank before flags
-blank_first : (b : ℕ) (flags : List (List ℕ × List ℕ)) (back : List ℕ) → is_blank b ≡ true → All IsFlag flags → AreBlank back → Flags (b ∷ (flags_text flags ++ back))
+blank_first : (b : ℕ) (flags : List (List ℕ × List ℕ)) (back : List ℕ) → is_blank b ≡ true → All IsFlag flags → AreBlank back
+    → Flags (b ∷ (flags_text flags ++ back))
 blank_first b [] back h each blank = back_alone (b ∷ back) (All-cons IsBlank b back h blank)
 blank_first b (flag ∷ flags) back h each blank =
     let f = All-head IsFlag flag flags each in
@@ -117,7 +120,14 @@ blank_more : (b : ℕ) (bytes : List ℕ) → is_blank b ≡ true → InFlag byt
 blank_more b bytes h i = subst (λ l. Flags (b ∷ l)) (sym i.is) (blank_before b i.digits i.rest h i.each i.flags)
 
 digit_more : (b : ℕ) (bytes : List ℕ) → is_digit b ≡ true → InFlag bytes → InFlag (b ∷ bytes)
-digit_more b bytes h i = record { digits = b ∷ i.digits; rest = i.rest; is = ap (λ l. b ∷ l) i.is; each = All-cons IsDigit b i.digits h i.each; flags = i.flags }
+digit_more b bytes h i = record {
+  digits = b ∷ i.digits;
+  rest = i.rest;
+  is = ap (λ l. b ∷ l) i.is;
+  each =
+      All-cons IsDigit b i.digits h i.each;
+  flags = i.flags;
+}
 
 between : (bytes : List ℕ) → Flags bytes → InFlag bytes
 between bytes f = record { digits = []; rest = bytes; is = refl; each = All-nil IsDigit; flags = f }
@@ -159,7 +169,8 @@ digit_no_quote b h = grind (arith, nat_tests)
 flags_no_name : (may : Bool) (bytes : List ℕ) → are_flags may bytes ≡ true → begins (λ b. b == 34) (drop (prefix_len is_blank bytes) bytes) ≡ false
 flags_no_name may [] h = refl
 flags_no_name may (b ∷ bytes) h =
-    let P : Bool → Type 0 = λ c. is_blank b ≡ c → cond c (are_flags true bytes) (may && is_digit b && are_flags true bytes) ≡ true → begins (λ b. b == 34) (drop (cond c (1 + prefix_len is_blank bytes) 0) (b ∷ bytes)) ≡ false in
+    let P : Bool → Type 0 = λ c. is_blank b ≡ c → cond c (are_flags true bytes) (may && is_digit b && are_flags true bytes) ≡ true
+    → begins (λ b. b == 34) (drop (cond c (1 + prefix_len is_blank bytes) 0) (b ∷ bytes)) ≡ false in
     let at_blank : P true = λ e h. rw one-add (flags_no_name true bytes h) in
     let at_digit : P false = λ e h. digit_no_quote b (and_parts _ _ (and_parts _ _ h).0).1 in
     let each : (c : Bool) → P c = λ c. elim c as P [ true ↦ at_blank | false ↦ at_digit ] in

@@ -1,5 +1,6 @@
 -- Numbers: reading a word from the left finds the integer constant that it is.
-use Rattle.std.proofs.Common.{◌≡◌, ℕ, ◌<◌, ◌^◌, min, Bool, true, false, cond, eqb, leb, List, [], ◌∷◌, ◌++◌, ◌⊎◌, inl, inr, length, take, drop, Option, Some, None, Result, Ok, Err, refl, sym, ap, subst, ◌∙◌, arith, IsTrue, append_assoc}
+use Rattle.std.proofs.Common.{◌≡◌, ℕ, ◌<◌, ◌^◌, min, Bool, true, false, cond, eqb, leb, List, [], ◌∷◌, ◌++◌, ◌⊎◌, inl, inr, length, take, drop}
+use Rattle.std.proofs.Common.{Option, Some, None, Result, Ok, Err, refl, sym, ap, subst, ◌∙◌, arith, IsTrue, append_assoc}
 use Rattle.std.specs.Prelude.{◌&&◌, ◌||◌, ◌==◌}
 use Rattle.std.specs.List.{All, prefix_len}
 use Rattle.std.proofs.lemmas.Bool.{and_parts, cond_both, or_cases, false_from_ne_true, true≢false, leb-true, eqb-true}
@@ -21,7 +22,8 @@ use Rattle.c_lexer.specs.declared.radix.Suffix.{Suffix}
 use Rattle.c_lexer.specs.declared.radix.Suffix.TheVariants.{Plain, Unsigned, UnsignedLong, LongLong, Long}
 use Rattle.c_lexer.specs.Characters.{is_digit, is_octal, is_hexadecimal, begins}
 use Rattle.c_lexer.specs.Numbers.{base, IsConstant, suffix_texts, IsOneOf, IsInteger, kinds, first_holding, value, type_of}
-use Rattle.c_lexer.specs.NumberScan.{capped_value, is_radix_letter, begins_hexadecimal, radix_at, is_digit_in, is_u, is_l, suffix_of_one, suffix_of_two, suffix_of_three, suffix_at, typed_number, suffixed_number, number_after, number_from, number_of}
+use Rattle.c_lexer.specs.NumberScan.{capped_value, is_radix_letter, begins_hexadecimal, radix_at, is_digit_in, is_u, is_l, suffix_of_one}
+use Rattle.c_lexer.specs.NumberScan.{suffix_of_two, suffix_of_three, suffix_at, typed_number, suffixed_number, number_after, number_from, number_of}
 use Rattle.c_lexer.specs.Words.{IsMalformed}
 use Rattle.c_lexer.proofs.Capped.{capped_value_is}
 use Rattle.c_lexer.proofs.RunLengths.{run_read, run_each, run_begins}
@@ -53,10 +55,12 @@ typed_capped : (n : ℕ) (among : List IntKind) → typed_number (min n (2 ^ 32)
 typed_capped n [] = refl
 typed_capped n (kind ∷ more) =
     let m = min n (2 ^ 32) in
-    let P : Bool → Type 0 = λ b. leb n (greatest kind) ≡ b → typed_number m (cond b (Some kind) (first_holding m more)) ≡ typed_number n (cond b (Some kind) (first_holding n more)) in
+    let P : Bool → Type 0 = λ b. leb n (greatest kind) ≡ b → typed_number m (cond b (Some kind) (first_holding m more))
+    ≡ typed_number n (cond b (Some kind) (first_holding n more)) in
     let held : P true = λ h. ap (λ v. Ok (K.Number v kind)) (let l = leb-true n (greatest kind) h in omega (arith, l, greatest_small kind)) in
     let each : (b : Bool) → P b = λ b. elim b as P [ true ↦ held | false ↦ λ _. typed_capped n more ] in
-    ap (λ b. typed_number m (cond b (Some kind) (first_holding m more))) (capped_holds n (greatest kind) (greatest_small kind)) ∙ each (leb n (greatest kind)) refl
+    ap (λ b. typed_number m (cond b (Some kind) (first_holding m more))) (capped_holds n (greatest kind) (greatest_small kind))
+    ∙ each (leb n (greatest kind)) refl
 
 -- ---- an integer constant is read
 
@@ -77,8 +81,35 @@ suffix_ends : (suffix : Suffix) (tail : List ℕ) → IsOneOf (suffix_texts suff
 suffix_ends Plain tail h = one_of (IsEnd Plain) (suffix_texts Plain) tail h ((refl, refl, refl), tt)
 suffix_ends Unsigned tail h = one_of (IsEnd Unsigned) (suffix_texts Unsigned) tail h ((refl, refl, refl), ((refl, refl, refl), tt))
 suffix_ends Long tail h = one_of (IsEnd Long) (suffix_texts Long) tail h ((refl, refl, refl), ((refl, refl, refl), tt))
-suffix_ends UnsignedLong tail h = one_of (IsEnd UnsignedLong) (suffix_texts UnsignedLong) tail h ((refl, refl, refl), ((refl, refl, refl), ((refl, refl, refl), ((refl, refl, refl), ((refl, refl, refl), ((refl, refl, refl), ((refl, refl, refl), ((refl, refl, refl), tt))))))))
-suffix_ends LongLong tail h = one_of (IsEnd LongLong) (suffix_texts LongLong) tail h ((refl, refl, refl), ((refl, refl, refl), ((refl, refl, refl), ((refl, refl, refl), ((refl, refl, refl), ((refl, refl, refl), ((refl, refl, refl), ((refl, refl, refl), ((refl, refl, refl), ((refl, refl, refl), tt))))))))))
+suffix_ends UnsignedLong tail h = one_of (IsEnd UnsignedLong) (suffix_texts UnsignedLong) tail h (
+  (refl, refl, refl),
+  (
+    (refl, refl, refl),
+    (
+      (refl, refl, refl),
+      ((refl, refl, refl), ((refl, refl, refl), ((refl, refl, refl), ((refl, refl, refl), ((refl, refl, refl), tt))))),
+    ),
+  ),
+)
+suffix_ends LongLong tail h = one_of (IsEnd LongLong) (suffix_texts LongLong) tail h (
+  (refl, refl, refl),
+  (
+    (refl, refl, refl),
+    (
+      (refl, refl, refl),
+      (
+        (refl, refl, refl),
+        (
+          (refl, refl, refl),
+          (
+            (refl, refl, refl),
+            ((refl, refl, refl), ((refl, refl, refl), ((refl, refl, refl), ((refl, refl, refl), tt)))),
+          ),
+        ),
+      ),
+    ),
+  ),
+)
 
 digit_in_hexadecimal : (radix : Radix) (b : ℕ) → is_digit_in radix b ≡ true → is_hexadecimal b ≡ true
 digit_in_hexadecimal Decimal b h = rw h refl
@@ -93,7 +124,8 @@ no_digit radix (b ∷ tail) h = false_from_ne_true (is_digit_in radix b) (λ d. 
 octal_no_letter : (b : ℕ) → is_octal b ≡ true → is_radix_letter b ≡ false
 octal_no_letter b h = grind (arith, nat_tests)
 
-no_hexadecimal : (digits tail : List ℕ) → All (λ d. IsTrue (is_octal d)) digits → begins is_radix_letter tail ≡ false → begins_hexadecimal (digits ++ tail) ≡ false
+no_hexadecimal : (digits tail : List ℕ) → All (λ d. IsTrue (is_octal d)) digits → begins is_radix_letter tail ≡ false
+    → begins_hexadecimal (digits ++ tail) ≡ false
 no_hexadecimal [] [] each h = refl
 no_hexadecimal [] (b ∷ tail) each h = rw h refl
 no_hexadecimal (d ∷ digits) tail each h = rw (octal_no_letter d (All-head (λ d. IsTrue (is_octal d)) d digits each)) refl
@@ -115,12 +147,17 @@ decimal_start (d ∷ digits) tail h each =
     let other : eqb d 48 ≡ false = grind (arith, nat_tests) in
     rw (other, All-head (λ d. IsTrue (is_digit d)) d digits each) refl
 
-constant_read : (radix : Radix) (digits text tail : List ℕ) → IsConstant radix digits text → begins is_radix_letter tail ≡ false → StartsAt (text ++ tail) radix digits tail
-constant_read Decimal digits text tail c h = subst (λ l. StartsAt (l ++ tail) Decimal digits tail) (sym c.0) (record { front = 0; radix_is = decimal_start digits tail c.1 c.2; after = refl; each = c.2 })
-constant_read Octal digits text tail c h = subst (λ l. StartsAt (l ++ tail) Octal digits tail) (sym c.0) (record { front = 1; radix_is = rw (no_hexadecimal digits tail c.1 h) refl; after = refl; each = c.1 })
-constant_read Hexadecimal digits text tail c h = subst (λ l. StartsAt (l ++ tail) Hexadecimal digits tail) (sym c.1) (record { front = 2; radix_is = rw (c.2, begins_append is_hexadecimal digits tail c.3) refl; after = refl; each = c.4 })
+constant_read : (radix : Radix) (digits text tail : List ℕ) → IsConstant radix digits text → begins is_radix_letter tail ≡ false
+    → StartsAt (text ++ tail) radix digits tail
+constant_read Decimal digits text tail c h = subst (λ l. StartsAt (l ++ tail) Decimal digits tail) (sym c.0)
+    (record { front = 0; radix_is = decimal_start digits tail c.1 c.2; after = refl; each = c.2 })
+constant_read Octal digits text tail c h = subst (λ l. StartsAt (l ++ tail) Octal digits tail) (sym c.0)
+    (record { front = 1; radix_is = rw (no_hexadecimal digits tail c.1 h) refl; after = refl; each = c.1 })
+constant_read Hexadecimal digits text tail c h = subst (λ l. StartsAt (l ++ tail) Hexadecimal digits tail) (sym c.1)
+    (record { front = 2; radix_is = rw (c.2, begins_append is_hexadecimal digits tail c.3) refl; after = refl; each = c.4 })
 
-after_read : (radix : Radix) (digits tail : List ℕ) (suffix : Suffix) → All (λ d. IsTrue (is_digit_in radix d)) digits → IsEnd suffix tail → number_after radix (digits ++ tail) ≡ typed_number (value radix digits) (type_of radix digits suffix)
+after_read : (radix : Radix) (digits tail : List ℕ) (suffix : Suffix) → All (λ d. IsTrue (is_digit_in radix d)) digits → IsEnd suffix tail
+    → number_after radix (digits ++ tail) ≡ typed_number (value radix digits) (type_of radix digits suffix)
 after_read radix digits tail suffix each ends =
     let text = digits ++ tail in
     let read : List ℕ → List ℕ → Result TokenKind FaultKind = λ d t. suffixed_number radix (capped_value (base radix) d) (suffix_at t) in
@@ -132,7 +169,8 @@ after_read radix digits tail suffix each ends =
     ∙ typed_capped (value radix digits) (kinds radix suffix)
 
 -- an integer constant is read with its value, and with its type where one holds it
-pub integer_read : (word : List ℕ) (radix : Radix) (digits : List ℕ) (suffix : Suffix) → IsInteger word radix digits suffix → number_of word ≡ typed_number (value radix digits) (type_of radix digits suffix)
+pub integer_read : (word : List ℕ) (radix : Radix) (digits : List ℕ) (suffix : Suffix) → IsInteger word radix digits suffix → number_of word
+    ≡ typed_number (value radix digits) (type_of radix digits suffix)
 unfolding number_of
 integer_read word radix digits suffix i =
     let ends = suffix_ends suffix i.tail i.suffixed in
@@ -143,22 +181,27 @@ integer_read word radix digits suffix i =
     ∙ ap (number_after radix) start.after
     ∙ after_read radix digits i.tail suffix start.each ends
 
-pub number_read : (word : List ℕ) (radix : Radix) (digits : List ℕ) (suffix : Suffix) (n : ℕ) (kind : IntKind) → IsInteger word radix digits suffix → value radix digits ≡ n → type_of radix digits suffix ≡ Some kind → number_of word ≡ Ok (K.Number n kind)
-number_read word radix digits suffix n kind i v t = integer_read word radix digits suffix i ∙ ap (typed_number (value radix digits)) t ∙ ap (λ m. Ok (K.Number m kind)) v
+pub number_read : (word : List ℕ) (radix : Radix) (digits : List ℕ) (suffix : Suffix) (n : ℕ) (kind : IntKind) → IsInteger word radix digits suffix
+    → value radix digits ≡ n → type_of radix digits suffix ≡ Some kind → number_of word ≡ Ok (K.Number n kind)
+number_read word radix digits suffix n kind i v t = integer_read word radix digits suffix i ∙ ap (typed_number (value radix digits)) t
+    ∙ ap (λ m. Ok (K.Number m kind)) v
 
-pub wide_number_read : (word : List ℕ) (radix : Radix) (digits : List ℕ) (suffix : Suffix) → IsInteger word radix digits suffix → type_of radix digits suffix ≡ None → number_of word ≡ Err TooWide
+pub wide_number_read : (word : List ℕ) (radix : Radix) (digits : List ℕ) (suffix : Suffix) → IsInteger word radix digits suffix
+    → type_of radix digits suffix ≡ None → number_of word ≡ Err TooWide
 wide_number_read word radix digits suffix i t = integer_read word radix digits suffix i ∙ ap (typed_number (value radix digits)) t
 
 -- ---- what is read is an integer constant
 
 u_cases : (P : ℕ → Type 0) (a : ℕ) → is_u a ≡ true → P 117 → P 85 → P a
 u_cases P a h small large =
-    let one : ((a == 117) ≡ true) ⊎ ((a == 85) ≡ true) → P a = elim [ inl e ↦ subst P (sym (eqb-true a 117 e)) small | inr e ↦ subst P (sym (eqb-true a 85 e)) large ] in
+    let one : ((a == 117) ≡ true) ⊎ ((a == 85) ≡ true) → P a =
+    elim [ inl e ↦ subst P (sym (eqb-true a 117 e)) small | inr e ↦ subst P (sym (eqb-true a 85 e)) large ] in
     one (or_cases (a == 117) (a == 85) h)
 
 l_cases : (P : ℕ → Type 0) (a : ℕ) → is_l a ≡ true → P 108 → P 76 → P a
 l_cases P a h small large =
-    let one : ((a == 108) ≡ true) ⊎ ((a == 76) ≡ true) → P a = elim [ inl e ↦ subst P (sym (eqb-true a 108 e)) small | inr e ↦ subst P (sym (eqb-true a 76 e)) large ] in
+    let one : ((a == 108) ≡ true) ⊎ ((a == 76) ≡ true) → P a =
+    elim [ inl e ↦ subst P (sym (eqb-true a 108 e)) small | inr e ↦ subst P (sym (eqb-true a 76 e)) large ] in
     one (or_cases (a == 108) (a == 76) h)
 
 -- the text is a suffix, and the answer names it
@@ -184,7 +227,8 @@ mixed a b h =
     u_cases (λ a. P a b) a p.0 (l_cases (P 117) b p.1 (inl refl) (inr (inl refl))) (l_cases (P 85) b p.1 (inr (inr (inl refl))) (inr (inr (inr (inl refl))))) in
     let lu : (is_l a && is_u b) ≡ true → P a b = λ e.
     let p = and_parts (is_l a) (is_u b) e in
-    l_cases (λ a. P a b) a p.0 (u_cases (P 108) b p.1 (inr (inr (inr (inr (inl refl))))) (inr (inr (inr (inr (inr (inl refl))))))) (u_cases (P 76) b p.1 (inr (inr (inr (inr (inr (inr (inl refl))))))) (inr (inr (inr (inr (inr (inr (inr (inl refl))))))))) in
+    l_cases (λ a. P a b) a p.0 (u_cases (P 108) b p.1 (inr (inr (inr (inr (inl refl))))) (inr (inr (inr (inr (inr (inl refl)))))))
+    (u_cases (P 76) b p.1 (inr (inr (inr (inr (inr (inr (inl refl))))))) (inr (inr (inr (inr (inr (inr (inr (inl refl))))))))) in
     let either : ((is_u a && is_l b) ≡ true) ⊎ ((is_l a && is_u b) ≡ true) → P a b = elim [ inl e ↦ ul e | inr e ↦ lu e ] in
     either (or_cases _ _ h)
 
@@ -216,7 +260,8 @@ three_taken a b c suffix h =
     let p = and_parts (is_l a && a == b) (is_u c) e in
     let q = and_parts (is_l a) (a == b) p.0 in
     subst (λ b. P a b c) (eqb-true a b q.1)
-    (l_cases (λ a. P a a c) a q.0 (u_cases (P 108 108) c p.1 (inr (inr (inr (inr (inr (inr (inl refl))))))) (inr (inr (inr (inr (inr (inr (inr (inl refl)))))))))
+    (l_cases (λ a. P a a c) a q.0 (u_cases (P 108 108) c p.1 (inr (inr (inr (inr (inr (inr (inl refl)))))))
+    (inr (inr (inr (inr (inr (inr (inr (inl refl)))))))))
     (u_cases (P 76 76) c p.1 (inr (inr (inr (inr (inr (inr (inr (inr (inl refl))))))))) (inr (inr (inr (inr (inr (inr (inr (inr (inr (inl refl)))))))))))) in
     let either : ((is_u a && is_l b && b == c) ≡ true) ⊎ ((is_l a && a == b && is_u c) ≡ true) → P a b c = elim [ inl e ↦ ull e | inr e ↦ llu e ] in
     cond_both (is_u a && is_l b && b == c || is_l a && a == b && is_u c) _ _ (λ o. o ≡ Some suffix → IsOneOf (suffix_texts suffix) (a ∷ b ∷ c ∷ []))
@@ -239,8 +284,13 @@ IsConstantFrom word start = IsConstant start.0 (digits_in word start) (take star
 hexadecimal_taken : (b : ℕ) (bytes : List ℕ) → b ≡ 48 → begins_hexadecimal bytes ≡ true → IsConstantFrom (b ∷ bytes) (Hexadecimal, 2)
 hexadecimal_taken b [] e h = cc
 hexadecimal_taken b (x ∷ bytes) e h =
-    let p = and_parts (is_radix_letter x) (begins is_hexadecimal bytes) h in
-    (x, ap (λ c. c ∷ x ∷ digits_in (b ∷ x ∷ bytes) (Hexadecimal, 2)) e, p.0, run_begins is_hexadecimal is_hexadecimal bytes p.1 p.1, run_each is_hexadecimal (prefix_len is_hexadecimal bytes) bytes (omega arith))
+    let p = and_parts (is_radix_letter x) (begins is_hexadecimal bytes) h in (
+      x,
+      ap (λ c. c ∷ x ∷ digits_in (b ∷ x ∷ bytes) (Hexadecimal, 2)) e,
+      p.0,
+      run_begins is_hexadecimal is_hexadecimal bytes p.1 p.1,
+      run_each is_hexadecimal (prefix_len is_hexadecimal bytes) bytes (omega arith),
+    )
 
 constant_taken : (word : List ℕ) (start : Radix × ℕ) → radix_at word ≡ Some start → IsConstantFrom word start
 constant_taken [] start h = cc
@@ -258,14 +308,17 @@ constant_taken (b ∷ bytes) start h =
     found (Decimal, 0) (refl, run_begins is_digit (leb 49) word d above, run_each is_digit (prefix_len is_digit word) word (omega arith)))
     (λ _ e. cc)) h
 
-integer_taken : (word : List ℕ) (start : Radix × ℕ) (suffix : Suffix) → radix_at word ≡ Some start → suffix_at (drop (prefix_len (is_digit_in start.0) (drop start.1 word)) (drop start.1 word)) ≡ Some suffix → IsInteger word start.0 (digits_in word start) suffix
+integer_taken : (word : List ℕ) (start : Radix × ℕ) (suffix : Suffix) → radix_at word ≡ Some start
+    → suffix_at (drop (prefix_len (is_digit_in start.0) (drop start.1 word)) (drop start.1 word)) ≡ Some suffix
+    → IsInteger word start.0 (digits_in word start) suffix
 integer_taken word start suffix h s =
     let after = drop start.1 word in
     let n = prefix_len (is_digit_in start.0) after in
     record {
       text = take start.1 word ++ digits_in word start;
       tail = drop n after;
-      word_is = sym (append_assoc (take start.1 word) (take n after) (drop n after) ∙ ap (λ l. take start.1 word ++ l) (take-append-drop n after) ∙ take-append-drop start.1 word);
+      word_is = sym (append_assoc (take start.1 word) (take n after) (drop n after) ∙ ap (λ l. take start.1 word ++ l) (take-append-drop n after)
+          ∙ take-append-drop start.1 word);
       constant = constant_taken word start h;
       suffixed = suffix_taken (drop n after) suffix s;
     }
@@ -279,8 +332,10 @@ unfolding number_of
 read_or_not word =
     let after : Radix × ℕ → List ℕ = λ start. drop start.1 word in
     let run : Radix × ℕ → ℕ = λ start. prefix_len (is_digit_in start.0) (after start) in
-    let number : Radix × ℕ → Option Suffix → Result TokenKind FaultKind = λ start o. suffixed_number start.0 (capped_value (base start.0) (digits_in word start)) o in
-    let ended : (start : Radix × ℕ) → radix_at word ≡ Some start → (o : Option Suffix) → suffix_at (drop (run start) (after start)) ≡ o → IsReadOrNot word = λ start h o. elim o as (λ o. suffix_at (drop (run start) (after start)) ≡ o → IsReadOrNot word) [
+    let number : Radix × ℕ → Option Suffix → Result TokenKind FaultKind =
+    λ start o. suffixed_number start.0 (capped_value (base start.0) (digits_in word start)) o in
+    let ended : (start : Radix × ℕ) → radix_at word ≡ Some start → (o : Option Suffix) → suffix_at (drop (run start) (after start)) ≡ o
+    → IsReadOrNot word = λ start h o. elim o as (λ o. suffix_at (drop (run start) (after start)) ≡ o → IsReadOrNot word) [
       | None ↦ λ s. inr (ap (number_from word) h ∙ ap (number start) s)
       | Some suffix ↦ λ s. inl (start.0, digits_in word start, suffix, integer_taken word start suffix h s)
     ] in
@@ -290,7 +345,8 @@ read_or_not word =
     ] in
     started (radix_at word) refl
 
-typed_says : (word : List ℕ) (radix : Radix) (digits : List ℕ) (suffix : Suffix) → IsInteger word radix digits suffix → (o : Option IntKind) → type_of radix digits suffix ≡ o → Says S.Number word (typed_number (value radix digits) o)
+typed_says : (word : List ℕ) (radix : Radix) (digits : List ℕ) (suffix : Suffix) → IsInteger word radix digits suffix → (o : Option IntKind)
+    → type_of radix digits suffix ≡ o → Says S.Number word (typed_number (value radix digits) o)
 typed_says word radix digits suffix i None t = (radix, digits, suffix, i, t)
 typed_says word radix digits suffix i (Some kind) t = (radix, digits, suffix, i, refl, t)
 
@@ -304,7 +360,8 @@ number_taken word =
     let read : (radix : Radix) × (digits : List ℕ) × (suffix : Suffix) × IsInteger word radix digits suffix → Says S.Number word (number_of word) = λ i.
     subst (Says S.Number word) (sym (integer_read word i.0 i.1 i.2 i.3)) (typed_says word i.0 i.1 i.2 i.3 (type_of i.0 i.1 i.2) refl) in
     let unread : number_of word ≡ Err BadLiteral → Says S.Number word (number_of word) = λ e.
-    let never : IsMalformed S.Number word = λ radix digits suffix i. typed_not_malformed (value radix digits) (type_of radix digits suffix) (sym (integer_read word radix digits suffix i) ∙ e) in
+    let never : IsMalformed S.Number word = λ radix digits suffix i. typed_not_malformed (value radix digits) (type_of radix digits suffix)
+    (sym (integer_read word radix digits suffix i) ∙ e) in
     subst (Says S.Number word) (sym e) never in
     let each : IsReadOrNot word → Says S.Number word (number_of word) = elim [ inl i ↦ read i | inr e ↦ unread e ] in
     each (read_or_not word)

@@ -28,9 +28,13 @@ tokens_or_fault scanned tokens fault a b = cc
 
 pub have_one_reading : PartsAreExact → TokensAreExact → HaveOneReading
 have_one_reading p t = record {
-  one_list = λ bytes tokens others a b. same_tokens (scan (length bytes) 0 true bytes) tokens others (lexes_read p t (length bytes) bytes tokens a (omega arith)) (lexes_read p t (length bytes) bytes others b (omega arith));
-  one_fault = λ bytes kind other at place a b. both_parts (kind, at) (other, place) (same_fault (scan (length bytes) 0 true bytes) (kind, at) (other, place) (fault_read p t (length bytes) bytes kind at a (omega arith)) (fault_read p t (length bytes) bytes other place b (omega arith)));
-  not_both = λ bytes tokens kind at a b. tokens_or_fault (scan (length bytes) 0 true bytes) tokens (kind, at) (lexes_read p t (length bytes) bytes tokens a (omega arith)) (fault_read p t (length bytes) bytes kind at b (omega arith));
+  one_list = λ bytes tokens others a b. same_tokens (scan (length bytes) 0 true bytes) tokens others
+      (lexes_read p t (length bytes) bytes tokens a (omega arith)) (lexes_read p t (length bytes) bytes others b (omega arith));
+  one_fault = λ bytes kind other at place a b. both_parts (kind, at) (other, place)
+      (same_fault (scan (length bytes) 0 true bytes) (kind, at) (other, place) (fault_read p t (length bytes) bytes kind at a (omega arith))
+      (fault_read p t (length bytes) bytes other place b (omega arith)));
+  not_both = λ bytes tokens kind at a b. tokens_or_fault (scan (length bytes) 0 true bytes) tokens (kind, at)
+      (lexes_read p t (length bytes) bytes tokens a (omega arith)) (fault_read p t (length bytes) bytes kind at b (omega arith));
 }
 
 -- ---- what the scan of a text answers
@@ -41,7 +45,8 @@ answer_says p t bytes scanned e = subst (TextSays bytes) e (scan_taken p t (leng
 pub scanned_lexes : PartsAreExact → TokensAreExact → (bytes : List ℕ) (tokens : List Token) → scan (length bytes) 0 true bytes ≡ Ok tokens → Lexes bytes tokens
 scanned_lexes p t bytes tokens e = answer_says p t bytes (Ok tokens) e
 
-pub scanned_fault : PartsAreExact → TokensAreExact → (bytes : List ℕ) (fault : LexFault) → OnFault fault (λ kind at. scan (length bytes) 0 true bytes ≡ Err (kind, at)) → OnFault fault (LexFaultAt bytes)
+pub scanned_fault : PartsAreExact → TokensAreExact → (bytes : List ℕ) (fault : LexFault)
+    → OnFault fault (λ kind at. scan (length bytes) 0 true bytes ≡ Err (kind, at)) → OnFault fault (LexFaultAt bytes)
 scanned_fault p t bytes (L.BadByte at) e = answer_says p t bytes (Err _) e
 scanned_fault p t bytes (L.BadLiteral at) e = answer_says p t bytes (Err _) e
 scanned_fault p t bytes (L.Unclosed at) e = answer_says p t bytes (Err _) e

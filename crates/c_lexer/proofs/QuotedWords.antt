@@ -1,5 +1,6 @@
 -- Character constants and string literals: reading a word from the left finds its characters.
-use Rattle.std.proofs.Common.{◌≡◌, ℕ, zero, suc, ◌+◌, ◌-◌, ◌≤◌, ◌<◌, Bool, true, false, cond, List, [], ◌∷◌, ◌++◌, length, take, drop, map, Option, Some, None, Ok, Err, refl, sym, ap, subst, ◌∙◌, arith, inl, inr, ◌⊎◌, length-append}
+use Rattle.std.proofs.Common.{◌≡◌, ℕ, zero, suc, ◌+◌, ◌-◌, ◌≤◌, ◌<◌, Bool, true, false, cond, List, [], ◌∷◌, ◌++◌, length, take, drop, map, Option}
+use Rattle.std.proofs.Common.{Some, None, Ok, Err, refl, sym, ap, subst, ◌∙◌, arith, inl, inr, ◌⊎◌, length-append}
 use Rattle.std.specs.Prelude.{◌==◌, option_map}
 use Rattle.std.specs.List.{All, Any, list_any}
 use Rattle.std.proofs.lemmas.Bool.{cond-true, cond-false, or_parts, eqb-true, eq-eqb, leb-true, leb-false, le-leb, lt-leb}
@@ -73,7 +74,8 @@ item_after bytes found it =
     ∙ drop_at (item_text it.item) it.rest (length (item_text it.item)) refl
 
 -- what is read is the items of the body
-pub items_taken : (n : ℕ) (body values : List ℕ) → length body ≤ n → values_in n body ≡ Some values → (items : List Item) × AreItems items body × (values ≡ map read_value items)
+pub items_taken : (n : ℕ) (body values : List ℕ) → length body ≤ n → values_in n body ≡ Some values
+    → (items : List Item) × AreItems items body × (values ≡ map read_value items)
 items_taken zero [] values h e = ([], refl, sym (same_Some [] values e))
 items_taken (suc n) [] values h e = ([], refl, sym (same_Some [] values e))
 items_taken zero (b ∷ body) values h e = absurd (omega (arith, h))
@@ -94,7 +96,8 @@ body_read quote body word e =
     ap (λ n. take n (drop 1 word)) size ∙ ap (λ l. take (length body) (drop 1 l)) e ∙ take_at body (quote ∷ []) (length body) refl
 
 -- what is read for the word that is one item
-one_item : (item : Item) (word : List ℕ) → HasItems 39 (item ∷ []) word → character_of word ≡ cond (is_too_great (read_value item)) (Err TooWide) (Ok (K.Character (read_value item)))
+one_item : (item : Item) (word : List ℕ) → HasItems 39 (item ∷ []) word → character_of word
+    ≡ cond (is_too_great (read_value item)) (Err TooWide) (Ok (K.Character (read_value item)))
 unfolding character_of
 one_item item word has =
     let are = has.2 in
@@ -132,10 +135,12 @@ character_or_not word q =
     let body = q.0 in
     let size = length body in
     let inner : character_of word ≡ character_with size (item_at body) = ap (λ b. character_with (length b) (item_at b)) (body_read 39 body word q.1) in
-    let measured : (found : ℕ × ℕ) → IsItemAt body found → (c : Bool) → (found.1 == size) ≡ c → item_at body ≡ Some found → IsCharacterOrNot word = λ found it c. elim c as (λ c. (found.1 == size) ≡ c → item_at body ≡ Some found → IsCharacterOrNot word) [
+    let measured : (found : ℕ × ℕ) → IsItemAt body found → (c : Bool) → (found.1 == size) ≡ c → item_at body ≡ Some found → IsCharacterOrNot word =
+    λ found it c. elim c as (λ c. (found.1 == size) ≡ c → item_at body ≡ Some found → IsCharacterOrNot word) [
       | true ↦ λ e h.
           let n : length (item_text it.item) ≡ size = ap (λ f. f.1) (sym it.found_is) ∙ eqb-true found.1 size e in
-          let none : it.rest ≡ [] = nil_from_length it.rest (let m = ap length it.bytes_are in omega (arith, m, n, length-append (item_text it.item) it.rest)) in
+          let none : it.rest ≡ [] = nil_from_length it.rest (let m =
+          ap length it.bytes_are in omega (arith, m, n, length-append (item_text it.item) it.rest)) in
           inl (it.item, (body, q.1, (it.rest, it.bytes_are, it.is_item, none)))
       | false ↦ λ e h. inr (inner ∙ ap (character_with size) h ∙ cond-false (found.1 == size) _ _ e)
     ] in
@@ -145,7 +150,8 @@ character_or_not word q =
     ] in
     started (item_at body) refl
 
-one_item_says : (item : Item) (word : List ℕ) → HasItems 39 (item ∷ []) word → (b : Bool) → is_too_great (item_value item) ≡ b → Says S.Character word (cond b (Err TooWide) (Ok (K.Character (read_value item))))
+one_item_says : (item : Item) (word : List ℕ) → HasItems 39 (item ∷ []) word → (b : Bool) → is_too_great (item_value item) ≡ b
+    → Says S.Character word (cond b (Err TooWide) (Ok (K.Character (read_value item))))
 one_item_says item word has true h = (item, has, leb-true 256 (item_value item) h)
 one_item_says item word has false h =
     let small : item_value item ≤ 255 = let l = leb-false 256 (item_value item) h in omega (arith, l) in
@@ -157,7 +163,8 @@ character_taken word q =
     let one : (item : Item) × HasItems 39 (item ∷ []) word → Says S.Character word (character_of word) = λ i.
     subst (Says S.Character word) (sym (one_item i.0 word i.1)) (one_item_says i.0 word i.1 (is_too_great (read_value i.0)) (sym (read_great i.0))) in
     let none : character_of word ≡ Err BadLiteral → Says S.Character word (character_of word) = λ e.
-    let never : IsMalformed S.Character word = λ item has. not_malformed (is_too_great (read_value item)) (K.Character (read_value item)) (sym (one_item item word has) ∙ e) in
+    let never : IsMalformed S.Character word = λ item has. not_malformed (is_too_great (read_value item)) (K.Character (read_value item))
+    (sym (one_item item word has) ∙ e) in
     subst (Says S.Character word) (sym e) never in
     let each : IsCharacterOrNot word → Says S.Character word (character_of word) = elim [ inl i ↦ one i | inr e ↦ none e ] in
     each (character_or_not word q)
@@ -174,7 +181,8 @@ great_items [] = refl
 great_items (item ∷ items) = rw (read_great item, great_items items) refl
 
 -- what is read for the word that is these items
-all_items : (items : List Item) (word : List ℕ) → HasItems 34 items word → string_of word ≡ cond (list_any (λ item. is_too_great (item_value item)) items) (Err TooWide) (Ok K.Text)
+all_items : (items : List Item) (word : List ℕ) → HasItems 34 items word → string_of word
+    ≡ cond (list_any (λ item. is_too_great (item_value item)) items) (Err TooWide) (Ok K.Text)
 unfolding string_of
 all_items items word has =
     let body = has.0 in
@@ -186,7 +194,8 @@ pub text_read : (word : List ℕ) → IsToken S.Text word K.Text → string_of w
 text_read word t =
     all_items t.0 word t.1
     ∙ ap (λ b. cond b (Err TooWide) (Ok K.Text)) (list_any_none (λ item. is_too_great (item_value item)) t.0
-    (All-weaker (λ item. item_value item ≤ 255) (λ item. is_too_great (item_value item) ≡ false) (λ item small. lt-leb 256 (item_value item) (omega (arith, small))) t.0 t.2))
+    (All-weaker (λ item. item_value item ≤ 255) (λ item. is_too_great (item_value item) ≡ false)
+    (λ item small. lt-leb 256 (item_value item) (omega (arith, small))) t.0 t.2))
 
 pub wide_text_read : (word : List ℕ) → IsTooWide S.Text word → string_of word ≡ Err TooWide
 wide_text_read word t =
@@ -202,7 +211,8 @@ unfolding string_of
 text_or_not word q =
     let body = q.0 in
     let inner : string_of word ≡ text_with (values_in (length body) body) = ap (λ b. text_with (values_in (length b) b)) (body_read 34 body word q.1) in
-    let started : (o : Option (List ℕ)) → values_in (length body) body ≡ o → IsTextOrNot word = λ o. elim o as (λ o. values_in (length body) body ≡ o → IsTextOrNot word) [
+    let started : (o : Option (List ℕ)) → values_in (length body) body ≡ o → IsTextOrNot word =
+    λ o. elim o as (λ o. values_in (length body) body ≡ o → IsTextOrNot word) [
       | None ↦ λ h. inr (inner ∙ ap text_with h)
       | Some values ↦ λ h. let t = items_taken (length body) body values (omega arith) h in inl (t.0, (body, q.1, t.1))
     ] in
@@ -215,7 +225,8 @@ each_small (item ∷ items) h =
     let small : item_value item ≤ 255 = let l = leb-false 256 (item_value item) p.0 in omega (arith, l) in
     All-cons (λ item. item_value item ≤ 255) item items small (each_small items p.1)
 
-all_items_say : (items : List Item) (word : List ℕ) → HasItems 34 items word → (b : Bool) → list_any (λ item. is_too_great (item_value item)) items ≡ b → Says S.Text word (cond b (Err TooWide) (Ok K.Text))
+all_items_say : (items : List Item) (word : List ℕ) → HasItems 34 items word → (b : Bool) → list_any (λ item. is_too_great (item_value item)) items
+    ≡ b → Says S.Text word (cond b (Err TooWide) (Ok K.Text))
 all_items_say items word has true h =
     let great = Any-from_list_any (λ item. is_too_great (item_value item)) items h in
     (items, has, (great.0, great.1, great.2, great.3, leb-true 256 (item_value great.1) great.4))
@@ -227,7 +238,8 @@ text_taken word q =
     let all : (items : List Item) × HasItems 34 items word → Says S.Text word (string_of word) = λ i.
     subst (Says S.Text word) (sym (all_items i.0 word i.1)) (all_items_say i.0 word i.1 (list_any (λ item. is_too_great (item_value item)) i.0) refl) in
     let none : string_of word ≡ Err BadLiteral → Says S.Text word (string_of word) = λ e.
-    let never : IsMalformed S.Text word = λ items has. not_malformed (list_any (λ item. is_too_great (item_value item)) items) K.Text (sym (all_items items word has) ∙ e) in
+    let never : IsMalformed S.Text word = λ items has. not_malformed (list_any (λ item. is_too_great (item_value item)) items) K.Text
+    (sym (all_items items word has) ∙ e) in
     subst (Says S.Text word) (sym e) never in
     let each : IsTextOrNot word → Says S.Text word (string_of word) = elim [ inl i ↦ all i | inr e ↦ none e ] in
     each (text_or_not word q)

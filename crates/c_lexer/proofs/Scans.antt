@@ -1,5 +1,6 @@
 -- Steps of the loop over the parts of a text.
-use Rattle.std.proofs.Common.{◌≡◌, ◌≤◌, ◌<◌, ℕ, zero, suc, ◌+◌, Bool, List, [], ◌∷◌, ◌++◌, drop, length, Option, Some, None, Ok, Err, refl, ap, sym, subst, ◌∙◌, arith, append-nil, append_assoc}
+use Rattle.std.proofs.Common.{◌≡◌, ◌≤◌, ◌<◌, ℕ, zero, suc, ◌+◌, Bool, List, [], ◌∷◌, ◌++◌, drop, length, Option, Some, None, Ok, Err, refl, ap, sym}
+use Rattle.std.proofs.Common.{subst, ◌∙◌, arith, append-nil, append_assoc}
 use Rattle.std.specs.Option.{option_to_list}
 use Rattle.c_lexer.specs.declared.fault.FaultKind.{FaultKind}
 use Rattle.c_lexer.specs.declared.fault.FaultKind.TheVariants as F
@@ -23,7 +24,8 @@ pub front_nothing : (scanned : Scanned) → with_front [] scanned ≡ scanned
 front_nothing (Ok more) = refl
 front_nothing (Err fault) = refl
 
-front_added : (done : List Token) (found : Option Token) (scanned : Scanned) → with_front done (with_token found scanned) ≡ with_front (done ++ option_to_list found) scanned
+front_added : (done : List Token) (found : Option Token) (scanned : Scanned) → with_front done (with_token found scanned)
+    ≡ with_front (done ++ option_to_list found) scanned
 front_added done None scanned = ap (λ tokens. with_front tokens scanned) (sym (append-nil done))
 front_added done (Some token) (Ok more) = ap Ok (sym (append_assoc done (token ∷ []) more))
 front_added done (Some token) (Err fault) = refl
@@ -31,12 +33,15 @@ front_added done (Some token) (Err fault) = refl
 pub begins : (text : List ℕ) (at : ℕ) (begins_line : Bool) → Goes [] at begins_line text (scan (length text) at begins_line text)
 begins text at begins_line = (length text, omega arith, front_nothing (scan (length text) at begins_line text))
 
-pub goes_on : (done : List Token) (at : ℕ) (begins_line : Bool) (text rest : List ℕ) (step : Step) (whole : Scanned) → 0 < length text → step_at at begins_line text ≡ Ok step → 0 < step.size → rest ≡ drop step.size text → Goes done at begins_line text whole → Goes (done ++ option_to_list step.found) (at + step.size) step.begins_line rest whole
+pub goes_on : (done : List Token) (at : ℕ) (begins_line : Bool) (text rest : List ℕ) (step : Step) (whole : Scanned) → 0 < length text
+    → step_at at begins_line text ≡ Ok step → 0 < step.size → rest ≡ drop step.size text → Goes done at begins_line text whole
+    → Goes (done ++ option_to_list step.found) (at + step.size) step.begins_line rest whole
 unfolding scan
 goes_on done at begins_line [] rest step whole h t s d g = absurd (omega (arith, h))
 goes_on done at begins_line (b ∷ text) rest step whole h t s d (zero, l, e) = absurd (omega (arith, l))
 goes_on done at begins_line (b ∷ text) rest step whole h t s d (suc n, l, e) =
-    let one : scan (suc n) at begins_line (b ∷ text) ≡ with_token step.found (scan n (at + step.size) step.begins_line (drop step.size (b ∷ text))) = ap (λ r. with_step at r (λ step. scan n (at + step.size) step.begins_line (drop step.size (b ∷ text)))) t in
+    let one : scan (suc n) at begins_line (b ∷ text) ≡ with_token step.found (scan n (at + step.size) step.begins_line (drop step.size (b ∷ text))) =
+    ap (λ r. with_step at r (λ step. scan n (at + step.size) step.begins_line (drop step.size (b ∷ text)))) t in
     rw d (n, omega (arith, l, drop_shorter step.size b text s), sym (front_added done step.found _) ∙ sym (ap (with_front done) one) ∙ e)
 
 at_fault : (kind : FaultKind) (at : ℕ) (Says : FaultKind → ℕ → Type 0) → Says kind at → OnFault (fault_at kind at) Says
@@ -45,17 +50,23 @@ at_fault F.BadLiteral at Says h = h
 at_fault F.Unclosed at Says h = h
 at_fault F.TooWide at Says h = h
 
-stops : (done : List Token) (at : ℕ) (begins_line : Bool) (text : List ℕ) (kind : FaultKind) (whole : Scanned) → 0 < length text → step_at at begins_line text ≡ Err kind → Goes done at begins_line text whole → whole ≡ Err (kind, at)
+stops : (done : List Token) (at : ℕ) (begins_line : Bool) (text : List ℕ) (kind : FaultKind) (whole : Scanned) → 0 < length text
+    → step_at at begins_line text ≡ Err kind → Goes done at begins_line text whole → whole ≡ Err (kind, at)
 unfolding scan
 stops done at begins_line [] kind whole h t g = absurd (omega (arith, h))
 stops done at begins_line (b ∷ text) kind whole h t (zero, l, e) = absurd (omega (arith, l))
 stops done at begins_line (b ∷ text) kind whole h t (suc n, l, e) =
     sym e ∙ ap (λ r. with_front done (with_step at r (λ step. scan n (at + step.size) step.begins_line (drop step.size (b ∷ text))))) t
 
-pub stops_with : (fault : LexFault) (done : List Token) (at : ℕ) (begins_line : Bool) (text : List ℕ) (kind : FaultKind) (whole : Scanned) → fault ≡ fault_at kind at → 0 < length text → step_at at begins_line text ≡ Err kind → Goes done at begins_line text whole → OnFault fault (λ kind at. whole ≡ Err (kind, at))
-stops_with fault done at begins_line text kind whole f h t g = subst (λ x. OnFault x (λ kind at. whole ≡ Err (kind, at))) (sym f) (at_fault kind at (λ kind at. whole ≡ Err (kind, at)) (stops done at begins_line text kind whole h t g))
+pub stops_with : (fault : LexFault) (done : List Token) (at : ℕ) (begins_line : Bool) (text : List ℕ) (kind : FaultKind) (whole : Scanned) → fault
+    ≡ fault_at kind at → 0 < length text → step_at at begins_line text ≡ Err kind → Goes done at begins_line text whole
+    → OnFault fault (λ kind at. whole ≡ Err (kind, at))
+stops_with fault done at begins_line text kind whole f h t g =
+    subst (λ x. OnFault x (λ kind at. whole ≡ Err (kind, at))) (sym f)
+    (at_fault kind at (λ kind at. whole ≡ Err (kind, at)) (stops done at begins_line text kind whole h t g))
 
-pub ends : (done : List Token) (at : ℕ) (begins_line : Bool) (text : List ℕ) (whole : Scanned) → length text ≡ 0 → Goes done at begins_line text whole → whole ≡ Ok done
+pub ends : (done : List Token) (at : ℕ) (begins_line : Bool) (text : List ℕ) (whole : Scanned) → length text ≡ 0 → Goes done at begins_line text whole
+    → whole ≡ Ok done
 unfolding scan
 ends done at begins_line [] whole h (zero, l, e) = sym e ∙ ap Ok (append-nil done)
 ends done at begins_line [] whole h (suc n, l, e) = sym e ∙ ap Ok (append-nil done)

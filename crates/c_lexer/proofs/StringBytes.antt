@@ -1,5 +1,6 @@
 -- The bytes of string literals, read from the left.
-use Rattle.std.proofs.Common.{◌≡◌, ◌≤◌, ◌<◌, ℕ, ◌+◌, Bool, true, false, List, [], ◌∷◌, ◌++◌, length, drop, map, flat_map, Option, Some, None, refl, ap, sym, ◌∙◌, arith, append-nil, append_assoc}
+use Rattle.std.proofs.Common.{◌≡◌, ◌≤◌, ◌<◌, ℕ, ◌+◌, Bool, true, false, List, [], ◌∷◌, ◌++◌, length, drop, map, flat_map, Option, Some, None, refl}
+use Rattle.std.proofs.Common.{ap, sym, ◌∙◌, arith, append-nil, append_assoc}
 use Rattle.std.specs.Prelude.{option_map, unwrap_or}
 use Rattle.std.specs.List.{All, list_any}
 use Rattle.std.proofs.lemmas.Bool.{or_parts, leb-false, lt-leb}
@@ -24,10 +25,14 @@ small_values (item ∷ items) a = rw (read_small item (All-head Small item items
 
 no_great : (items : List Item) → All Small items → list_any is_too_great (map item_value items) ≡ false
 no_great [] a = refl
-no_great (item ∷ items) a = rw (lt-leb 256 (item_value item) (let small = All-head Small item items a in omega (arith, small)), no_great items (All-tail Small item items a)) refl
+no_great (item ∷ items) a = rw (
+  lt-leb 256 (item_value item) (let small = All-head Small item items a in omega (arith, small)),
+  no_great items (All-tail Small item items a),
+) refl
 
 -- what is read in the body of a literal
-literal_read : (text : List ℕ) (items : List Item) (has : HasItems 34 items text) → All Small items → values_in (length (body_of text)) (body_of text) ≡ Some (map item_value items)
+literal_read : (text : List ℕ) (items : List Item) (has : HasItems 34 items text) → All Small items → values_in (length (body_of text)) (body_of text)
+    ≡ Some (map item_value items)
 literal_read text items has a =
     ap (λ b. values_in (length b) b) (body_read 34 has.0 text has.1)
     ∙ items_read items (length has.0) has.0 has.2 (omega arith)
@@ -42,8 +47,13 @@ of_one text t = (t.0, t.1, t.2, bytes_read text t.0 t.1 t.2)
 
 of_all : (texts : List (List ℕ)) → All IsStringLiteral texts → AreBytesOfAll texts (flat_map string_bytes texts)
 of_all [] a = refl
-of_all (text ∷ texts) a =
-    (string_bytes text, flat_map string_bytes texts, of_one text (All-head IsStringLiteral text texts a), of_all texts (All-tail IsStringLiteral text texts a), refl)
+of_all (text ∷ texts) a = (
+  string_bytes text,
+  flat_map string_bytes texts,
+  of_one text (All-head IsStringLiteral text texts a),
+  of_all texts (All-tail IsStringLiteral text texts a),
+  refl,
+)
 
 no_others : (text bytes others : List ℕ) → AreBytesOf text bytes → AreBytesOf text others → others ≡ bytes
 no_others text bytes others a b = b.3 ∙ sym (bytes_read text b.0 b.1 b.2) ∙ bytes_read text a.0 a.1 a.2 ∙ sym a.3
@@ -78,10 +88,12 @@ first_of : (value : ℕ) (more : Option (List ℕ)) (values : List ℕ) → opti
 first_of value None values h = cc
 first_of value (Some rest) values h = record { rest = rest; more_is = refl; values_are = sym (same_Some (value ∷ rest) values h) }
 
-reads_first : (done rest whole : List ℕ) (value size : ℕ) (r : ReadsOn done rest whole) → item_at rest ≡ Some (value, size) → FirstOf value (values_in (length (drop size rest)) (drop size rest)) r.values
+reads_first : (done rest whole : List ℕ) (value size : ℕ) (r : ReadsOn done rest whole) → item_at rest ≡ Some (value, size)
+    → FirstOf value (values_in (length (drop size rest)) (drop size rest)) r.values
 reads_first done rest whole value size r h = first_of value _ r.values (sym (values_step rest (value, size) h) ∙ r.read)
 
-small_parts : (value : ℕ) (rest values : List ℕ) → values ≡ value ∷ rest → list_any is_too_great values ≡ false → (is_too_great value ≡ false) × (list_any is_too_great rest ≡ false)
+small_parts : (value : ℕ) (rest values : List ℕ) → values ≡ value ∷ rest → list_any is_too_great values ≡ false
+    → (is_too_great value ≡ false) × (list_any is_too_great rest ≡ false)
 small_parts value rest values e h = or_parts (is_too_great value) (list_any is_too_great rest) (ap (list_any is_too_great) (sym e) ∙ h)
 
 pub reads_small : (done rest whole : List ℕ) (value size : ℕ) → item_at rest ≡ Some (value, size) → ReadsOn done rest whole → value ≤ 255
@@ -89,7 +101,8 @@ reads_small done rest whole value size h r =
     let f = reads_first done rest whole value size r h in
     let l = leb-false 256 value (small_parts value f.rest r.values f.values_are r.small).0 in omega (arith, l)
 
-pub reads_more : (done rest whole : List ℕ) (value size : ℕ) → item_at rest ≡ Some (value, size) → ReadsOn done rest whole → ReadsOn (done ++ value ∷ []) (drop size rest) whole
+pub reads_more : (done rest whole : List ℕ) (value size : ℕ) → item_at rest ≡ Some (value, size) → ReadsOn done rest whole
+    → ReadsOn (done ++ value ∷ []) (drop size rest) whole
 reads_more done rest whole value size h r =
     let f = reads_first done rest whole value size r h in
     record {

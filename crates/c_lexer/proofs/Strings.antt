@@ -1,5 +1,6 @@
 -- Steps of the loop over the characters of a string.
-use Rattle.std.proofs.Common.{◌≡◌, ◌≤◌, ◌<◌, ℕ, zero, suc, ◌+◌, Bool, true, false, ◌||◌, List, [], ◌∷◌, drop, length, Option, Some, None, ◌==◌, Result, Ok, Err, refl, ap, sym, ◌∙◌, arith, cond}
+use Rattle.std.proofs.Common.{◌≡◌, ◌≤◌, ◌<◌, ℕ, zero, suc, ◌+◌, Bool, true, false, ◌||◌, List, [], ◌∷◌, drop, length, Option, Some, None, ◌==◌}
+use Rattle.std.proofs.Common.{Result, Ok, Err, refl, ap, sym, ◌∙◌, arith, cond}
 use Rattle.std.proofs.lemmas.Option.{same_Some}
 use Rattle.std.specs.List.{list_any}
 use Rattle.std.specs.Option.{option_map}
@@ -46,7 +47,8 @@ values_enough n m [] h k = refl
 values_enough zero m (b ∷ text) h k = absurd (omega (arith, h))
 values_enough (suc n) zero (b ∷ text) h k = absurd (omega (arith, k))
 values_enough (suc n) (suc m) (b ∷ text) h k =
-    let P : Option (ℕ × ℕ) → Type 0 = λ o. item_at (b ∷ text) ≡ o → with_item o (λ size. values_in n (drop size (b ∷ text))) ≡ with_item o (λ size. values_in m (drop size (b ∷ text))) in
+    let P : Option (ℕ × ℕ) → Type 0 = λ o. item_at (b ∷ text) ≡ o → with_item o (λ size. values_in n (drop size (b ∷ text)))
+    ≡ with_item o (λ size. values_in m (drop size (b ∷ text))) in
     let some : (y : ℕ × ℕ) → P (Some y) = λ y e.
     let short = drop_shorter y.1 b text (item_takes (b ∷ text) y e) in
     ap (option_map (λ values. y.0 ∷ values)) (values_enough n m (drop y.1 (b ∷ text)) (omega (arith, short, h)) (omega (arith, short, k))) in
@@ -54,21 +56,27 @@ values_enough (suc n) (suc m) (b ∷ text) h k =
     each (item_at (b ∷ text)) refl
 
 -- the values of a body are those of its first character and of its rest
-pub values_step : (text : List ℕ) (y : ℕ × ℕ) → item_at text ≡ Some y → values_in (length text) text ≡ option_map (λ values. y.0 ∷ values) (values_in (length (drop y.1 text)) (drop y.1 text))
+pub values_step : (text : List ℕ) (y : ℕ × ℕ) → item_at text ≡ Some y → values_in (length text) text
+    ≡ option_map (λ values. y.0 ∷ values) (values_in (length (drop y.1 text)) (drop y.1 text))
 values_step [] y h = cc
 values_step (b ∷ text) y h =
-    rw h (ap (option_map (λ values. y.0 ∷ values)) (values_enough (length text) (length (drop y.1 (b ∷ text))) (drop y.1 (b ∷ text)) (drop_shorter y.1 b text (item_takes (b ∷ text) y h)) (omega arith)))
+    rw h (ap (option_map (λ values. y.0 ∷ values)) (values_enough (length text) (length (drop y.1 (b ∷ text))) (drop y.1 (b ∷ text))
+    (drop_shorter y.1 b text (item_takes (b ∷ text) y h)) (omega arith)))
 
 or_apart : (a b c : Bool) → (a || (b || c)) ≡ ((a || b) || c)
 or_apart true b c = refl
 or_apart false b c = refl
 
-after_one : (wide : Bool) (value : ℕ) (o : Option (List ℕ)) → text_after wide (option_map (λ values. value ∷ values) o) ≡ text_after (wide || is_too_great value) o
+after_one : (wide : Bool) (value : ℕ) (o : Option (List ℕ)) → text_after wide (option_map (λ values. value ∷ values) o)
+    ≡ text_after (wide || is_too_great value) o
 after_one wide value None = refl
 after_one wide value (Some values) = rw (or_apart wide (is_too_great value) (list_any is_too_great values)) refl
 
-pub text_kept : (wide now : Bool) (text rest : List ℕ) (value size : ℕ) (found : Result TokenKind FaultKind) → now ≡ (wide || is_too_great value) → rest ≡ drop size text → item_at text ≡ Some (value, size) → text_after wide (values_in (length text) text) ≡ found → text_after now (values_in (length rest) rest) ≡ found
-text_kept wide now text rest value size found w r h e = rw (w, r) (sym (after_one wide value (values_in (length (drop size text)) (drop size text))) ∙ sym (ap (text_after wide) (values_step text (value, size) h)) ∙ e)
+pub text_kept : (wide now : Bool) (text rest : List ℕ) (value size : ℕ) (found : Result TokenKind FaultKind) → now ≡ (wide || is_too_great value)
+    → rest ≡ drop size text → item_at text ≡ Some (value, size) → text_after wide (values_in (length text) text) ≡ found
+    → text_after now (values_in (length rest) rest) ≡ found
+text_kept wide now text rest value size found w r h e = rw (w, r) (sym (after_one wide value (values_in (length (drop size text)) (drop size text)))
+    ∙ sym (ap (text_after wide) (values_step text (value, size) h)) ∙ e)
 
 pub text_stops : (wide : Bool) (text : List ℕ) → item_at text ≡ None → 0 < length text → text_after wide (values_in (length text) text) ≡ Err BadLiteral
 text_stops wide [] h k = absurd (omega (arith, k))

@@ -16,7 +16,8 @@ use Rattle.c_lexer.specs.Scanning.{first_keyword, keywords, name_with, token_of}
 use Rattle.c_lexer.specs.Words.{IsWord, IsToken, IsMalformed, IsTooWide}
 use Rattle.c_lexer.proofs.TokenSays.{Says}
 use Rattle.c_lexer.proofs.NumberWords.{number_read, wide_number_read, malformed_number_read, number_taken}
-use Rattle.c_lexer.proofs.QuotedWords.{character_read, wide_character_read, malformed_character_read, character_taken, text_read, wide_text_read, malformed_text_read, text_taken}
+use Rattle.c_lexer.proofs.QuotedWords.{character_read, wide_character_read, malformed_character_read, character_taken, text_read, wide_text_read}
+use Rattle.c_lexer.proofs.QuotedWords.{malformed_text_read, text_taken}
 
 -- ---- names and keywords
 
@@ -112,7 +113,8 @@ keyword_read word keyword e = ap (first_keyword keywords) e ∙ keyword_first ke
 
 name_read : (word : List ℕ) → IsToken S.Name word K.Name → token_of S.Name word ≡ Ok K.Name
 name_read word t =
-    let started : (o : Option Keyword) → first_keyword keywords word ≡ o → name_with (length word) o ≡ Ok K.Name = λ o. elim o as (λ o. first_keyword keywords word ≡ o → name_with (length word) o ≡ Ok K.Name) [
+    let started : (o : Option Keyword) → first_keyword keywords word ≡ o → name_with (length word) o ≡ Ok K.Name =
+    λ o. elim o as (λ o. first_keyword keywords word ≡ o → name_with (length word) o ≡ Ok K.Name) [
       | None ↦ λ _. cond-true (leb (length word) 255) _ _ (le-leb (length word) 255 t.0)
       | Some keyword ↦ λ h. absurd (t.1 keyword (keyword_taken keywords word keyword h))
     ] in
@@ -120,7 +122,8 @@ name_read word t =
 
 wide_name_read : (word : List ℕ) → IsTooWide S.Name word → token_of S.Name word ≡ Err TooWide
 wide_name_read word t =
-    let started : (o : Option Keyword) → first_keyword keywords word ≡ o → name_with (length word) o ≡ Err TooWide = λ o. elim o as (λ o. first_keyword keywords word ≡ o → name_with (length word) o ≡ Err TooWide) [
+    let started : (o : Option Keyword) → first_keyword keywords word ≡ o → name_with (length word) o ≡ Err TooWide =
+    λ o. elim o as (λ o. first_keyword keywords word ≡ o → name_with (length word) o ≡ Err TooWide) [
       | None ↦ λ _. cond-false (leb (length word) 255) _ _ (lt-leb (length word) 255 t)
       | Some keyword ↦ λ h. absurd (let e = ap length (keyword_taken keywords word keyword h) in omega (arith, e, t, keyword_short keyword))
     ] in

@@ -37,11 +37,13 @@ IsUnclosed (b ∷ bytes) =
 
 -- a word that has such a fault stands here
 abbrev pub BeginsFaultyWord : (Shape → List ℕ → Type 0) → Bool → List ℕ → Type 0
-BeginsFaultyWord IsFaulty begins_line bytes = (shape : Shape) × (word rest : List ℕ) × (bytes ≡ word ++ rest) × Stands begins_line (P.Word shape) word rest × IsFaulty shape word
+BeginsFaultyWord IsFaulty begins_line bytes = (shape : Shape) × (word rest : List ℕ) × (bytes ≡ word ++ rest)
+    × Stands begins_line (P.Word shape) word rest × IsFaulty shape word
 
 -- what begins here, at the beginning of a line or not, has that fault
 abbrev pub HasFault : FaultKind → Bool → List ℕ → Type 0
-HasFault F.BadByte begins_line bytes = (bytes ≡ [] → ⊥) × (IsUnclosed bytes → ⊥) × ((kind : PartKind) (text rest : List ℕ) → bytes ≡ text ++ rest → Stands begins_line kind text rest → ⊥)
+HasFault F.BadByte begins_line bytes = (bytes ≡ [] → ⊥) × (IsUnclosed bytes → ⊥)
+    × ((kind : PartKind) (text rest : List ℕ) → bytes ≡ text ++ rest → Stands begins_line kind text rest → ⊥)
 HasFault F.BadLiteral begins_line bytes = BeginsFaultyWord IsMalformed begins_line bytes
 HasFault F.Unclosed begins_line bytes = IsUnclosed bytes
 HasFault F.TooWide begins_line bytes = BeginsFaultyWord IsTooWide begins_line bytes

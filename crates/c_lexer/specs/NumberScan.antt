@@ -1,5 +1,6 @@
 -- Reading integer constants from the left: what the private functions compute. No public clause cites it.
-use Rattle.std.specs.Prelude.{ℕ, ◌+◌, ◌*◌, ◌^◌, min, ◌==◌, ◌&&◌, ◌||◌, Bool, false, List, [], ◌∷◌, take, drop, fold, Option, Some, None, Result, Ok, Err, if◌then◌else◌}
+use Rattle.std.specs.Prelude.{ℕ, ◌+◌, ◌*◌, ◌^◌, min, ◌==◌, ◌&&◌, ◌||◌, Bool, false, List, [], ◌∷◌, take, drop, fold, Option, Some, None, Result, Ok}
+use Rattle.std.specs.Prelude.{Err, if◌then◌else◌}
 use Rattle.std.specs.List.{prefix_len}
 use Rattle.c_types.specs.declared.ty.IntKind.{IntKind}
 use Rattle.c_lexer.specs.declared.fault.FaultKind.{FaultKind}

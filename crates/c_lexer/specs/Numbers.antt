@@ -39,14 +39,16 @@ base Hexadecimal = 16
 abbrev pub IsConstant : Radix → List ℕ → List ℕ → Type 0
 IsConstant Decimal digits text = (text ≡ digits) × IsTrue (begins (nat_le 49) digits) × All (λ d. IsTrue (is_digit d)) digits
 IsConstant Octal digits text = (text ≡ 48 ∷ digits) × All (λ d. IsTrue (is_octal d)) digits
-IsConstant Hexadecimal digits text = (x : ℕ) × (text ≡ 48 ∷ x ∷ digits) × IsTrue (x == 120 || x == 88) × IsTrue (begins is_hexadecimal digits) × All (λ d. IsTrue (is_hexadecimal d)) digits
+IsConstant Hexadecimal digits text = (x : ℕ) × (text ≡ 48 ∷ x ∷ digits) × IsTrue (x == 120 || x == 88) × IsTrue (begins is_hexadecimal digits)
+    × All (λ d. IsTrue (is_hexadecimal d)) digits
 
 abbrev pub suffix_texts : Suffix → List (List ℕ)
 suffix_texts Plain = [] ∷ []
 suffix_texts Unsigned = codes "u" ∷ codes "U" ∷ []
 suffix_texts LongSuffix = codes "l" ∷ codes "L" ∷ []
 suffix_texts UnsignedLong = codes "ul" ∷ codes "uL" ∷ codes "Ul" ∷ codes "UL" ∷ codes "lu" ∷ codes "lU" ∷ codes "Lu" ∷ codes "LU" ∷ []
-suffix_texts LongLong = codes "ll" ∷ codes "LL" ∷ codes "ull" ∷ codes "uLL" ∷ codes "Ull" ∷ codes "ULL" ∷ codes "llu" ∷ codes "llU" ∷ codes "LLu" ∷ codes "LLU" ∷ []
+suffix_texts LongLong = codes "ll" ∷ codes "LL" ∷ codes "ull" ∷ codes "uLL" ∷ codes "Ull" ∷ codes "ULL" ∷ codes "llu" ∷ codes "llU" ∷ codes "LLu"
+    ∷ codes "LLU" ∷ []
 
 -- is it one of these texts?
 abbrev pub IsOneOf : List (List ℕ) → List ℕ → Type 0

@@ -46,13 +46,15 @@ abbrev pub Stands : Bool → PartKind → List ℕ → List ℕ → Type 0
 Stands begins_line P.White text rest = (b : ℕ) × (text ≡ b ∷ []) × IsTrue (is_white b)
 Stands begins_line P.Comment text rest = (body : List ℕ) × (text ≡ 47 ∷ 42 ∷ body ++ 42 ∷ 47 ∷ []) × (has_end body ≡ false)
 Stands begins_line P.LineComment text rest = (body : List ℕ) × (text ≡ 47 ∷ 47 ∷ body) × HasNoLineFeed body × IsLineEnd rest
-Stands begins_line P.Directive text rest = (content : List ℕ) × (directive : Directive) × (text ≡ 35 ∷ content) × IsTrue begins_line × HasNoLineFeed content × IsLineEnd rest × IsDirective content directive
+Stands begins_line P.Directive text rest = (content : List ℕ) × (directive : Directive) × (text ≡ 35 ∷ content) × IsTrue begins_line
+    × HasNoLineFeed content × IsLineEnd rest × IsDirective content directive
 Stands begins_line (P.Word shape) text rest = IsWord shape text × IsLongest text rest × (begins_comment (text ++ rest) ≡ false)
 
 -- parts, one after the other, before what follows
 abbrev pub AreParts : Bool → List Part → List ℕ → Type 0
 AreParts begins_line [] rest = Unit {0}
-AreParts begins_line (part ∷ parts) rest = Stands begins_line part.kind part.text (text_of parts ++ rest) × AreParts (begins_line_after_part begins_line part) parts rest
+AreParts begins_line (part ∷ parts) rest = Stands begins_line part.kind part.text (text_of parts ++ rest)
+    × AreParts (begins_line_after_part begins_line part) parts rest
 
 -- is there only white space before what stands after the parts on its line?
 abbrev pub begins_line_after_parts : Bool → List Part → Bool

@@ -28,7 +28,8 @@ after_directive at (Renumbers number (Some name)) lines = record lines { next = 
 
 -- after one more part, which begins at a byte of the file
 abbrev pub Moves : ℕ → PartKind → List ℕ → Lines → Lines → Type 0
-Moves at P.Directive text before after = (content : List ℕ) × (directive : Directive) × (text ≡ 35 ∷ content) × IsDirective content directive × (after ≡ after_directive at directive before)
+Moves at P.Directive text before after = (content : List ℕ) × (directive : Directive) × (text ≡ 35 ∷ content) × IsDirective content directive
+    × (after ≡ after_directive at directive before)
 Moves at _ text before after = after ≡ fold after_byte before text
 
 -- after parts that begin at a byte of the file

@@ -50,4 +50,5 @@ last_line bytes tokens l = (after_parts 0 l.parts first_lines).here
 abbrev pub IsRead : List ℕ → Reached → Type 0
 IsRead bytes reached =
     (at : ℕ) → reached.from ≤ at → at ≤ length bytes → (t : AreTokensBefore at bytes)
-    → ∥ LeadsOn (λ line. line ≡ last_line (take at bytes) t.0 t.1) reached.from reached.begins_line (take (at - reached.from) (drop reached.from bytes)) reached.lines ∥₁
+    → ∥ LeadsOn (λ line. line ≡ last_line (take at bytes) t.0 t.1) reached.from reached.begins_line
+    (take (at - reached.from) (drop reached.from bytes)) reached.lines ∥₁

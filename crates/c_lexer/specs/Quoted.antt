@@ -45,7 +45,8 @@ simple_value b = lookup (λ letter. letter == b) simple_escapes
 abbrev pub IsItem : Item → List ℕ → Type 0
 IsItem (plain b) rest = b ≢ 92
 IsItem (simple b) rest = IsSome (simple_value b)
-IsItem (octal digits) rest = IsTrue (begins is_octal digits) × All (λ d. IsTrue (is_octal d)) digits × (length digits ≤ 3) × (length digits < 3 → begins is_octal rest ≡ false)
+IsItem (octal digits) rest = IsTrue (begins is_octal digits) × All (λ d. IsTrue (is_octal d)) digits × (length digits ≤ 3)
+    × (length digits < 3 → begins is_octal rest ≡ false)
 IsItem (hexadecimal digits) rest = IsTrue (begins is_hexadecimal digits) × All (λ d. IsTrue (is_hexadecimal d)) digits × (begins is_hexadecimal rest ≡ false)
 
 abbrev pub item_value : Item → ℕ

@@ -1,6 +1,7 @@
 -- Reading character constants and string literals from the left: what the private functions compute. No public clause
 -- cites it.
-use Rattle.std.specs.Prelude.{ℕ, zero, suc, ◌+◌, ◌*◌, min, nat_le, ◌==◌, Bool, true, false, List, [], ◌∷◌, take, drop, fold, length, Option, Some, None, option_map, unwrap_or, ◌-◌, Result, Ok, Err, if◌then◌else◌}
+use Rattle.std.specs.Prelude.{ℕ, zero, suc, ◌+◌, ◌*◌, min, nat_le, ◌==◌, Bool, true, false, List, [], ◌∷◌, take, drop, fold, length, Option, Some}
+use Rattle.std.specs.Prelude.{None, option_map, unwrap_or, ◌-◌, Result, Ok, Err, if◌then◌else◌}
 use Rattle.std.specs.List.{prefix_len, list_any}
 use Rattle.c_lexer.specs.declared.fault.FaultKind.{FaultKind}
 use Rattle.c_lexer.specs.declared.fault.FaultKind.TheVariants.{BadLiteral, TooWide}

@@ -42,7 +42,8 @@ longest_name = 255
 abbrev pub IsToken : Shape → List ℕ → TokenKind → Type 0
 IsToken S.Name word (K.Keyword keyword) = word ≡ keyword_text keyword
 IsToken S.Name word K.Name = (length word ≤ longest_name) × ((keyword : Keyword) → word ≡ keyword_text keyword → ⊥)
-IsToken S.Number word (K.Number n kind) = (radix : Radix) × (digits : List ℕ) × (suffix : Suffix) × IsInteger word radix digits suffix × (value radix digits ≡ n) × (type_of radix digits suffix ≡ Some kind)
+IsToken S.Number word (K.Number n kind) = (radix : Radix) × (digits : List ℕ) × (suffix : Suffix) × IsInteger word radix digits suffix
+    × (value radix digits ≡ n) × (type_of radix digits suffix ≡ Some kind)
 IsToken S.Character word (K.Character n) = (item : Item) × HasItems 39 (item ∷ []) word × (item_value item ≡ n) × (n ≤ greatest_character)
 IsToken S.Text word K.Text = (items : List Item) × HasItems 34 items word × All (λ item. item_value item ≤ greatest_character) items
 IsToken (S.Punctuator punctuator) word (K.Punctuator m) = m ≡ punctuator

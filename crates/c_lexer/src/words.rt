@@ -2,7 +2,9 @@
 
 ghost use Rattle.std.specs.Prelude.{◌≡◌, ◌≤◌, ◌<◌, length, IfSome};
 ghost use Rattle.c_lexer.specs.Punctuators.{punctuator_text};
-ghost use Rattle.c_lexer.specs.Scanning.{first_punctuator, punctuators, punctuators_after_plus, punctuators_after_percent, word_at, first_keyword, keywords, keywords_after_double, keywords_after_int, keywords_after_static, keywords_after_while, name_with, token_of};
+ghost use Rattle.c_lexer.specs.Scanning.{first_punctuator, punctuators, punctuators_after_plus, punctuators_after_percent, word_at, first_keyword};
+ghost use Rattle.c_lexer.specs.Scanning.{keywords, keywords_after_double, keywords_after_int, keywords_after_static, keywords_after_while, name_with};
+ghost use Rattle.c_lexer.specs.Scanning.{token_of};
 
 use crate::characters::letter;
 use crate::fault::FaultKind;

@@ -18,6 +18,7 @@ pub body_round : (types : List (List ℕ)) (k : ℕ) (specs : Trees.Specifiers) 
 body_round types zero specs s d left rest h = absurd (omega (arith, h))
 body_round types (suc k) specs s d left rest h = body_with types k (suc k - 1) specs s d left rest (omega arith)
 
-pub body_out : (types : List (List ℕ)) (k : ℕ) (specs : Trees.Specifiers) (s : Trees.Declarator) (d left : ℕ) (rest : List Lexeme) → k ≡ 0 → body_in types k specs s d left rest ≡ None
+pub body_out : (types : List (List ℕ)) (k : ℕ) (specs : Trees.Specifiers) (s : Trees.Declarator) (d left : ℕ) (rest : List Lexeme) → k ≡ 0
+    → body_in types k specs s d left rest ≡ None
 body_out types zero specs s d left rest h = refl
 body_out types (suc k) specs s d left rest h = absurd (omega arith)

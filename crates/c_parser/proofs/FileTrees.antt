@@ -11,7 +11,8 @@ abbrev OneList : Type 0
 OneList = (bytes : List ℕ) (tokens others : List Token) → Lexes bytes tokens → Lexes bytes others → others ≡ tokens
 
 -- the tree of a file is one of any list of its tokens
-pub of_tokens : OneList → (bytes : List ℕ) (tokens : List Token) (items : List Trees.Item) → Lexes bytes tokens → IsTreeOf bytes items → IsTreeOfTokens (lexemes_of bytes tokens) items
+pub of_tokens : OneList → (bytes : List ℕ) (tokens : List Token) (items : List Trees.Item) → Lexes bytes tokens → IsTreeOf bytes items
+    → IsTreeOfTokens (lexemes_of bytes tokens) items
 of_tokens one bytes tokens items l t = subst (λ all. IsTreeOfTokens (lexemes_of bytes all) items) (one bytes tokens t.0 l t.1) t.3
 
 pub one_file_tree : OneList → FilesHaveOneTree

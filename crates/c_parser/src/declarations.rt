@@ -4,7 +4,8 @@ ghost use Rattle.std.specs.Prelude.{◌≡◌, ◌++◌, ◌∷◌, [], IfOk, ma
 ghost use Rattle.c_ast.specs.Views.{declaration_of, declarator_of, init_declarator_of};
 ghost use Rattle.c_cursor.specs.Gives.{Gives, Reads, Steps};
 ghost use Rattle.c_grammar.specs.Reading.{at};
-ghost use Rattle.c_grammar.specs.StatementReading.{declaration_in, declarators_after, declarators_if_any, init_declarator_step, initial_at, more_init_declarators, one_in};
+ghost use Rattle.c_grammar.specs.StatementReading.{declaration_in, declarators_after, declarators_if_any, init_declarator_step, initial_at};
+ghost use Rattle.c_grammar.specs.StatementReading.{more_init_declarators, one_in};
 
 use crate::declarators::{named, valued};
 use c_ast::{At, Declaration, Declarator, InitDeclarator};
@@ -52,7 +53,8 @@ fn next_declarator(
     d: u32,
     tokens: &mut Cursor,
 ) -> Result<(List<InitDeclarator>, u32, bool), Failure>
-    ensures { Steps (λ all. map init_declarator_of all) result tokens.new (init_declarator_step ((at types.now inside).declarator) (initial_at types.now inside) (map init_declarator_of all) d tokens.old) }
+    ensures { Steps (λ all. map init_declarator_of all) result tokens.new
+        (init_declarator_step ((at types.now inside).declarator) (initial_at types.now inside) (map init_declarator_of all) d tokens.old) }
 {
     let comma = tokens.comma_before(&all)?;
     let (one, e) = init_declarator(alloc, types, inside, comma, tokens)?;
@@ -70,7 +72,8 @@ fn more_declarators(
     depth: u32,
     tokens: &mut Cursor,
 ) -> Result<(List<InitDeclarator>, u32), Failure>
-    ensures { Reads (λ all. map init_declarator_of all) result tokens.new (more_init_declarators ((at types.now inside).declarator) (initial_at types.now inside) (init_declarator_of first) depth tokens.old) }
+    ensures { Reads (λ all. map init_declarator_of all) result tokens.new
+        (more_init_declarators ((at types.now inside).declarator) (initial_at types.now inside) (init_declarator_of first) depth tokens.old) }
 {
     let mut all = List::new(alloc);
     add(&mut all, first)?;
@@ -101,7 +104,8 @@ pub fn declarators_after(
     d: u32,
     tokens: &mut Cursor,
 ) -> Result<(List<InitDeclarator>, u32), Failure>
-    ensures { Reads (λ all. map init_declarator_of all) result tokens.new (declarators_after ((at types.now inside).declarator) (initial_at types.now inside) (declarator_of declarator) d tokens.old) }
+    ensures { Reads (λ all. map init_declarator_of all) result tokens.new
+        (declarators_after ((at types.now inside).declarator) (initial_at types.now inside) (declarator_of declarator) d tokens.old) }
 {
     let (first, d) = valued(alloc, types, inside, None, declarator, d, tokens)?;
     let (all, d) = more_declarators(alloc, types, inside, first, d, tokens)?;
@@ -117,7 +121,8 @@ fn declarators(
     inside: u16,
     tokens: &mut Cursor,
 ) -> Result<(List<InitDeclarator>, u32), Failure>
-    ensures { Reads (λ all. map init_declarator_of all) result tokens.new (declarators_if_any full ((at types.now inside).declarator) (initial_at types.now inside) tokens.old) }
+    ensures { Reads (λ all. map init_declarator_of all) result tokens.new
+        (declarators_if_any full ((at types.now inside).declarator) (initial_at types.now inside) tokens.old) }
 {
     if !full && tokens.peek(Punctuator::Semicolon) {
         return Ok((List::new(alloc), 0));

@@ -46,7 +46,8 @@ fn initializers(
     inside: u16,
     tokens: &mut Cursor,
 ) -> Result<(List<Argument>, u32), Failure>
-    ensures { Reads (λ all. map argument_of all) result tokens.new (chain (initial_step (initial_at types.now inside)) (length tokens.old + 1) [] 0 tokens.old) }
+    ensures { Reads (λ all. map argument_of all) result tokens.new
+        (chain (initial_step (initial_at types.now inside)) (length tokens.old + 1) [] 0 tokens.old) }
 {
     let mut all = List::new(alloc);
     let mut d = 0;

@@ -27,7 +27,8 @@ fn function(
     left: At,
     tokens: &mut Cursor,
 ) -> Result<(Item, u32), Failure>
-    ensures { Reads item_of result tokens.new (body_in types.now inside (specifiers_of (map specifier_of specifiers)) (declarator_of declarator) d left tokens.old) }
+    ensures { Reads item_of result tokens.new (body_in types.now inside (specifiers_of (map specifier_of specifiers))
+        (declarator_of declarator) d left tokens.old) }
 {
     if inside == 0 {
         return Err(tokens.stop());
@@ -55,7 +56,8 @@ fn rest_of_declaration(
     d: u32,
     tokens: &mut Cursor,
 ) -> Result<(Item, u32), Failure>
-    ensures { Reads item_of result tokens.new (rest_of_declaration_in types.now inside (specifiers_of (map specifier_of specifiers)) (declarator_of declarator) d tokens.old) }
+    ensures { Reads item_of result tokens.new (rest_of_declaration_in types.now inside (specifiers_of (map specifier_of specifiers))
+        (declarator_of declarator) d tokens.old) }
 {
     let (declarators, e) = declarators_after(alloc, types, inside, declarator, 0, tokens)?;
     let semicolon = tokens.expect(Punctuator::Semicolon)?;

@@ -20,16 +20,16 @@ pub fn while_loop(
     alloc: Global,
     types: &Typenames,
     inside: u16,
-    mark: At,
+    place: At,
     tokens: &mut Cursor,
 ) -> Result<(Statement, u32), Failure>
-    ensures { Reads statement_of result tokens.new (while_in inside (below_at types.now inside (statement_at types.now inside)) mark tokens.old) }
+    ensures { Reads statement_of result tokens.new (while_in inside (below_at types.now inside (statement_at types.now inside)) place tokens.old) }
 {
     let ((left, value, right), d) = condition(alloc, types, inside, tokens)?;
     let (body, e) = statement_inside(alloc, types, inside, tokens)?;
     let body = boxed(alloc, body)?;
     let d = deeper_than(inside, d.max(e), tokens)?;
-    Ok((Statement::While(mark, left, value, right, body), d))
+    Ok((Statement::While(place, left, value, right, body), d))
 }
 
 /// What stands after `do`.
@@ -39,10 +39,10 @@ pub fn do_loop(
     alloc: Global,
     types: &Typenames,
     inside: u16,
-    mark: At,
+    place: At,
     tokens: &mut Cursor,
 ) -> Result<(Statement, u32), Failure>
-    ensures { Reads statement_of result tokens.new (do_in inside (below_at types.now inside (statement_at types.now inside)) mark tokens.old) }
+    ensures { Reads statement_of result tokens.new (do_in inside (below_at types.now inside (statement_at types.now inside)) place tokens.old) }
 {
     let (body, d) = statement_inside(alloc, types, inside, tokens)?;
     let body = boxed(alloc, body)?;
@@ -51,7 +51,7 @@ pub fn do_loop(
     let semicolon = tokens.expect(Punctuator::Semicolon)?;
     let d = deeper_than(inside, d.max(e), tokens)?;
     Ok((
-        Statement::DoWhile(mark, body, test, left, value, right, semicolon),
+        Statement::DoWhile(place, body, test, left, value, right, semicolon),
         d,
     ))
 }
@@ -83,10 +83,10 @@ pub fn for_loop(
     alloc: Global,
     types: &Typenames,
     inside: u16,
-    mark: At,
+    place: At,
     tokens: &mut Cursor,
 ) -> Result<(Statement, u32), Failure>
-    ensures { Reads statement_of result tokens.new (for_in inside (below_at types.now inside (statement_at types.now inside)) mark tokens.old) }
+    ensures { Reads statement_of result tokens.new (for_in inside (below_at types.now inside (statement_at types.now inside)) place tokens.old) }
 {
     let left = tokens.expect(Punctuator::Open)?;
     let (start, d) = start(alloc, types, inside, tokens)?;
@@ -98,7 +98,7 @@ pub fn for_loop(
     let body = boxed(alloc, body)?;
     let d = deeper_than(inside, d.max(e).max(f).max(g), tokens)?;
     Ok((
-        Statement::For(mark, left, start, test, semicolon, step, right, body),
+        Statement::For(place, left, start, test, semicolon, step, right, body),
         d,
     ))
 }

@@ -18,13 +18,14 @@ fn branches(
     alloc: Global,
     types: &Typenames,
     inside: u16,
-    mark: At,
+    place: At,
     test: (At, Boxed<Expression>, At),
     one: Boxed<Statement>,
     d: u32,
     tokens: &mut Cursor,
 ) -> Result<(Statement, u32), Failure>
-    ensures { Reads statement_of result tokens.new (else_after inside (below_at types.now inside (statement_at types.now inside)) mark (test.0, expression_of test.1, test.2) (statement_of one) d tokens.old (after is_else tokens.old)) }
+    ensures { Reads statement_of result tokens.new (else_after inside (below_at types.now inside (statement_at types.now inside)) place
+        (test.0, expression_of test.1, test.2) (statement_of one) d tokens.old (after is_else tokens.old)) }
 {
     let (left, value, right) = test;
     match tokens.accept_keyword(Keyword::Else) {
@@ -33,13 +34,13 @@ fn branches(
             let other = boxed(alloc, other)?;
             let d = deeper_than(inside, d.max(e), tokens)?;
             Ok((
-                Statement::IfElse(mark, left, value, right, one, otherwise, other),
+                Statement::IfElse(place, left, value, right, one, otherwise, other),
                 d,
             ))
         }
         None => {
             let d = deeper_than(inside, d, tokens)?;
-            Ok((Statement::If(mark, left, value, right, one), d))
+            Ok((Statement::If(place, left, value, right, one), d))
         }
     }
 }
@@ -51,14 +52,14 @@ pub fn selection(
     alloc: Global,
     types: &Typenames,
     inside: u16,
-    mark: At,
+    place: At,
     tokens: &mut Cursor,
 ) -> Result<(Statement, u32), Failure>
-    ensures { Reads statement_of result tokens.new (if_in inside (below_at types.now inside (statement_at types.now inside)) mark tokens.old) }
+    ensures { Reads statement_of result tokens.new (if_in inside (below_at types.now inside (statement_at types.now inside)) place tokens.old) }
 {
     let (test, d) = condition(alloc, types, inside, tokens)?;
     let (one, e) = statement_inside(alloc, types, inside, tokens)?;
     let one = boxed(alloc, one)?;
-    let (whole, d) = branches(alloc, types, inside, mark, test, one, d.max(e), tokens)?;
+    let (whole, d) = branches(alloc, types, inside, place, test, one, d.max(e), tokens)?;
     Ok((whole, d))
 }

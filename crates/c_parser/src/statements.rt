@@ -5,7 +5,8 @@ ghost use Rattle.c_ast.specs.Trees;
 ghost use Rattle.c_ast.specs.Views.{block_item_of, block_items_of, statement_of};
 ghost use Rattle.c_cursor.specs.Gives.{Gives, Reads, Steps};
 ghost use Rattle.c_grammar.specs.Reading.{chain};
-ghost use Rattle.c_grammar.specs.StatementReading.{below_at, block_in, block_item_in, block_item_step, block_statement_in, evaluate_in, jump_in, return_in, statement_at, statement_in};
+ghost use Rattle.c_grammar.specs.StatementReading.{below_at, block_in, block_item_in, block_item_step, block_statement_in, evaluate_in, jump_in};
+ghost use Rattle.c_grammar.specs.StatementReading.{return_in, statement_at, statement_in};
 
 use crate::conditions::expression_before;
 use crate::declarations::declaration;
@@ -50,7 +51,8 @@ fn next_block_item(
     d: u32,
     tokens: &mut Cursor,
 ) -> Result<(List<BlockItem>, u32, bool), Failure>
-    ensures { Steps (λ all. map block_item_of all) result tokens.new (block_item_step (below_at types.now inside (statement_at types.now inside)) (map block_item_of all) d tokens.old) }
+    ensures { Steps (λ all. map block_item_of all) result tokens.new
+        (block_item_step (below_at types.now inside (statement_at types.now inside)) (map block_item_of all) d tokens.old) }
 {
     if tokens.peek(Punctuator::CloseBrace) {
         return Ok((all, d, false));
@@ -70,7 +72,8 @@ fn block_items(
     inside: u16,
     tokens: &mut Cursor,
 ) -> Result<(List<BlockItem>, u32), Failure>
-    ensures { Reads (λ all. map block_item_of all) result tokens.new (chain (block_item_step (below_at types.now inside (statement_at types.now inside))) (length tokens.old + 1) [] 0 tokens.old) }
+    ensures { Reads (λ all. map block_item_of all) result tokens.new
+        (chain (block_item_step (below_at types.now inside (statement_at types.now inside))) (length tokens.old + 1) [] 0 tokens.old) }
 {
     let mut all = List::new(alloc);
     let mut d = 0;
@@ -96,7 +99,8 @@ pub fn block(
     inside: u16,
     tokens: &mut Cursor,
 ) -> Result<((List<BlockItem>, At), u32), Failure>
-    ensures { Reads (λ x. (block_items_of (map block_item_of x.0), x.1)) result tokens.new (block_in (below_at types.now inside (statement_at types.now inside)) tokens.old) }
+    ensures { Reads (λ x. (block_items_of (map block_item_of x.0), x.1)) result tokens.new
+        (block_in (below_at types.now inside (statement_at types.now inside)) tokens.old) }
 {
     let (items, d) = block_items(alloc, types, inside, tokens)?;
     let right = tokens.expect(Punctuator::CloseBrace)?;
@@ -105,20 +109,20 @@ pub fn block(
 
 /// `;` after `break`.
 #[tactic(auto, unfolding(c_grammar::specs::StatementReading::jump_in))]
-fn break_statement(mark: At, tokens: &mut Cursor) -> Result<(Statement, u32), Failure>
-    ensures { Reads statement_of result tokens.new (jump_in (Trees.break mark) tokens.old) }
+fn break_statement(place: At, tokens: &mut Cursor) -> Result<(Statement, u32), Failure>
+    ensures { Reads statement_of result tokens.new (jump_in (Trees.break place) tokens.old) }
 {
     let semicolon = tokens.expect(Punctuator::Semicolon)?;
-    Ok((Statement::Break(mark, semicolon), 1))
+    Ok((Statement::Break(place, semicolon), 1))
 }
 
 /// `;` after `continue`.
 #[tactic(auto, unfolding(c_grammar::specs::StatementReading::jump_in))]
-fn continue_statement(mark: At, tokens: &mut Cursor) -> Result<(Statement, u32), Failure>
-    ensures { Reads statement_of result tokens.new (jump_in (Trees.continue mark) tokens.old) }
+fn continue_statement(place: At, tokens: &mut Cursor) -> Result<(Statement, u32), Failure>
+    ensures { Reads statement_of result tokens.new (jump_in (Trees.continue place) tokens.old) }
 {
     let semicolon = tokens.expect(Punctuator::Semicolon)?;
-    Ok((Statement::Continue(mark, semicolon), 1))
+    Ok((Statement::Continue(place, semicolon), 1))
 }
 
 /// What stands after `return`.
@@ -127,15 +131,15 @@ fn return_statement(
     alloc: Global,
     types: &Typenames,
     inside: u16,
-    mark: At,
+    place: At,
     tokens: &mut Cursor,
 ) -> Result<(Statement, u32), Failure>
-    ensures { Reads statement_of result tokens.new (return_in inside (below_at types.now inside (statement_at types.now inside)) mark tokens.old) }
+    ensures { Reads statement_of result tokens.new (return_in inside (below_at types.now inside (statement_at types.now inside)) place tokens.old) }
 {
     let (value, d) = expression_before(alloc, types, inside, Punctuator::Semicolon, tokens)?;
     let semicolon = tokens.expect(Punctuator::Semicolon)?;
     let d = deeper_than(inside, d, tokens)?;
-    Ok((Statement::Return(mark, value, semicolon), d))
+    Ok((Statement::Return(place, value, semicolon), d))
 }
 
 /// An expression or none, before `;`.
@@ -187,40 +191,40 @@ fn statement(
     };
     match opening_of(kind) {
         Opening::If => {
-            let mark = tokens.advance();
-            selection(alloc, types, inside, mark, tokens)
+            let place = tokens.advance();
+            selection(alloc, types, inside, place, tokens)
         }
         Opening::While => {
-            let mark = tokens.advance();
-            while_loop(alloc, types, inside, mark, tokens)
+            let place = tokens.advance();
+            while_loop(alloc, types, inside, place, tokens)
         }
         Opening::Do => {
-            let mark = tokens.advance();
-            do_loop(alloc, types, inside, mark, tokens)
+            let place = tokens.advance();
+            do_loop(alloc, types, inside, place, tokens)
         }
         Opening::For => {
-            let mark = tokens.advance();
-            for_loop(alloc, types, inside, mark, tokens)
+            let place = tokens.advance();
+            for_loop(alloc, types, inside, place, tokens)
         }
         Opening::Switch => {
-            let mark = tokens.advance();
-            switch(alloc, types, inside, mark, tokens)
+            let place = tokens.advance();
+            switch(alloc, types, inside, place, tokens)
         }
         Opening::Break => {
-            let mark = tokens.advance();
-            break_statement(mark, tokens)
+            let place = tokens.advance();
+            break_statement(place, tokens)
         }
         Opening::Continue => {
-            let mark = tokens.advance();
-            continue_statement(mark, tokens)
+            let place = tokens.advance();
+            continue_statement(place, tokens)
         }
         Opening::Return => {
-            let mark = tokens.advance();
-            return_statement(alloc, types, inside, mark, tokens)
+            let place = tokens.advance();
+            return_statement(alloc, types, inside, place, tokens)
         }
         Opening::Block => {
-            let mark = tokens.advance();
-            block_statement(alloc, types, inside, mark, tokens)
+            let place = tokens.advance();
+            block_statement(alloc, types, inside, place, tokens)
         }
         Opening::Expression => expression_statement(alloc, types, inside, tokens),
     }

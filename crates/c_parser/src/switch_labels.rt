@@ -23,21 +23,22 @@ fn next_label(
     d: u32,
     tokens: &mut Cursor,
 ) -> Result<(List<Label>, u32, bool), Failure>
-    ensures { Steps (λ all. map label_of all) result tokens.new (label_step (below_at types.now inside (statement_at types.now inside)) (map label_of all) d tokens.old) }
+    ensures { Steps (λ all. map label_of all) result tokens.new
+        (label_step (below_at types.now inside (statement_at types.now inside)) (map label_of all) d tokens.old) }
 {
     let mut all = all;
     match tokens.front() {
         Some(TokenKind::Keyword(Keyword::Case)) => {
-            let mark = tokens.advance();
+            let place = tokens.advance();
             let (value, e) = expression_inside(alloc, types, inside, Level::Conditional, tokens)?;
             let colon = tokens.expect(Punctuator::Colon)?;
-            add(&mut all, Label::Case(mark, value.into_inner(), colon))?;
+            add(&mut all, Label::Case(place, value.into_inner(), colon))?;
             Ok((all, d.max(e), true))
         }
         Some(TokenKind::Keyword(Keyword::Default)) => {
-            let mark = tokens.advance();
+            let place = tokens.advance();
             let colon = tokens.expect(Punctuator::Colon)?;
-            add(&mut all, Label::Default(mark, colon))?;
+            add(&mut all, Label::Default(place, colon))?;
             Ok((all, d, true))
         }
         _ => Ok((all, d, false)),
@@ -52,7 +53,8 @@ pub fn labels(
     inside: u16,
     tokens: &mut Cursor,
 ) -> Result<(List<Label>, u32), Failure>
-    ensures { Reads (λ all. map label_of all) result tokens.new (chain (label_step (below_at types.now inside (statement_at types.now inside))) (length tokens.old + 1) [] 0 tokens.old) }
+    ensures { Reads (λ all. map label_of all) result tokens.new
+        (chain (label_step (below_at types.now inside (statement_at types.now inside))) (length tokens.old + 1) [] 0 tokens.old) }
 {
     let mut all = List::new(alloc);
     let mut d = 0;

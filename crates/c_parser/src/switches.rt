@@ -63,7 +63,8 @@ fn next_switch_item(
     d: u32,
     tokens: &mut Cursor,
 ) -> Result<(List<SwitchItem>, u32, bool), Failure>
-    ensures { Steps (λ all. map switch_item_of all) result tokens.new (switch_item_step (below_at types.now inside (statement_at types.now inside)) (map switch_item_of all) d tokens.old) }
+    ensures { Steps (λ all. map switch_item_of all) result tokens.new
+        (switch_item_step (below_at types.now inside (statement_at types.now inside)) (map switch_item_of all) d tokens.old) }
 {
     if tokens.peek(Punctuator::CloseBrace) {
         return Ok((all, d, false));
@@ -83,7 +84,8 @@ fn switch_items(
     inside: u16,
     tokens: &mut Cursor,
 ) -> Result<(List<SwitchItem>, u32), Failure>
-    ensures { Reads (λ all. map switch_item_of all) result tokens.new (chain (switch_item_step (below_at types.now inside (statement_at types.now inside))) (length tokens.old + 1) [] 0 tokens.old) }
+    ensures { Reads (λ all. map switch_item_of all) result tokens.new
+        (chain (switch_item_step (below_at types.now inside (statement_at types.now inside))) (length tokens.old + 1) [] 0 tokens.old) }
 {
     let mut all = List::new(alloc);
     let mut d = 0;
@@ -107,10 +109,10 @@ pub fn switch(
     alloc: Global,
     types: &Typenames,
     inside: u16,
-    mark: At,
+    place: At,
     tokens: &mut Cursor,
 ) -> Result<(Statement, u32), Failure>
-    ensures { Reads statement_of result tokens.new (switch_in inside (below_at types.now inside (statement_at types.now inside)) mark tokens.old) }
+    ensures { Reads statement_of result tokens.new (switch_in inside (below_at types.now inside (statement_at types.now inside)) place tokens.old) }
 {
     let ((left, value, right), d) = condition(alloc, types, inside, tokens)?;
     let begin = tokens.expect(Punctuator::OpenBrace)?;
@@ -118,7 +120,7 @@ pub fn switch(
     let end = tokens.expect(Punctuator::CloseBrace)?;
     let d = deeper_than(inside, d.max(e), tokens)?;
     Ok((
-        Statement::Switch(mark, left, value, right, begin, all, end),
+        Statement::Switch(place, left, value, right, begin, all, end),
         d,
     ))
 }

@@ -2,8 +2,11 @@
 -- reader `.._inside` has rank 0, and each other one more than the highest rank that it calls at its own depth.
 use Rattle.std.proofs.Common.{ℕ, ◌≡◌, ◌+◌, ◌*◌, map, length, []}
 use Rattle.std.specs.Option.{option_map}
-use Rattle.c_ast.specs.Views.{argument_of, declarator_if_any, declarator_of, enumerator_of, expression_of, member_declaration_of, member_declarator_of, parameter_of, specifier_of}
-use Rattle.c_grammar.specs.Reading.{argument_in, at, chain, comma_step, direct_in, enumerator_step, expression_in, member_declaration_step, member_declarator_step, operator_step, operators_in, parameter_step, postfix_in, postfix_step, specifier_step, suffix_step}
+use Rattle.c_ast.specs.Views.{argument_of, declarator_if_any, declarator_of, enumerator_of, expression_of, member_declaration_of}
+use Rattle.c_ast.specs.Views.{member_declarator_of, parameter_of, specifier_of}
+use Rattle.c_grammar.specs.Reading.{argument_in, at, chain, comma_step, direct_in, enumerator_step, expression_in, member_declaration_step}
+use Rattle.c_grammar.specs.Reading.{member_declarator_step, operator_step, operators_in, parameter_step, postfix_in, postfix_step, specifier_step}
+use Rattle.c_grammar.specs.Reading.{suffix_step}
 use Rattle.c_expressions.proofs.+expression.Given as goal
 
 abbrev measure : ℕ → ℕ → ℕ
@@ -185,70 +188,80 @@ decreases-within::declarator_inside l = measure l.inside 0
 
 abbrev pub invariant-postfix::argument_list-more : goal.invariant-postfix::argument_list-more
 invariant-postfix::argument_list-more l =
-    chain (argument_in (at l.types l.inside)) l.rounds (map argument_of l.all) l.d l.tokens ≡ chain (argument_in (at l.types l.inside)) (length l.fn.tokens + 1) [] 0 l.fn.tokens
+    chain (argument_in (at l.types l.inside)) l.rounds (map argument_of l.all) l.d l.tokens
+    ≡ chain (argument_in (at l.types l.inside)) (length l.fn.tokens + 1) [] 0 l.fn.tokens
 
 abbrev pub decreases-postfix::argument_list-more : goal.decreases-postfix::argument_list-more
 decreases-postfix::argument_list-more l = l.rounds
 
 abbrev pub invariant-structures::member_declarators-more : goal.invariant-structures::member_declarators-more
 invariant-structures::member_declarators-more l =
-    chain (member_declarator_step (at l.types l.inside)) l.rounds (map member_declarator_of l.all) l.d l.tokens ≡ chain (member_declarator_step (at l.types l.inside)) (length l.fn.tokens + 1) [] l.fn.d l.fn.tokens
+    chain (member_declarator_step (at l.types l.inside)) l.rounds (map member_declarator_of l.all) l.d l.tokens
+    ≡ chain (member_declarator_step (at l.types l.inside)) (length l.fn.tokens + 1) [] l.fn.d l.fn.tokens
 
 abbrev pub decreases-structures::member_declarators-more : goal.decreases-structures::member_declarators-more
 decreases-structures::member_declarators-more l = l.rounds
 
 abbrev pub invariant-structures::member_declarations-more : goal.invariant-structures::member_declarations-more
 invariant-structures::member_declarations-more l =
-    chain (member_declaration_step (at l.types l.inside)) l.rounds (map member_declaration_of l.all) l.d l.tokens ≡ chain (member_declaration_step (at l.types l.inside)) (length l.fn.tokens + 1) [] 0 l.fn.tokens
+    chain (member_declaration_step (at l.types l.inside)) l.rounds (map member_declaration_of l.all) l.d l.tokens
+    ≡ chain (member_declaration_step (at l.types l.inside)) (length l.fn.tokens + 1) [] 0 l.fn.tokens
 
 abbrev pub decreases-structures::member_declarations-more : goal.decreases-structures::member_declarations-more
 decreases-structures::member_declarations-more l = l.rounds
 
 abbrev pub invariant-enumerations::enumerators-more : goal.invariant-enumerations::enumerators-more
 invariant-enumerations::enumerators-more l =
-    chain (enumerator_step (at l.types l.inside)) l.rounds (map enumerator_of l.all) l.d l.tokens ≡ chain (enumerator_step (at l.types l.inside)) (length l.fn.tokens + 1) [] 0 l.fn.tokens
+    chain (enumerator_step (at l.types l.inside)) l.rounds (map enumerator_of l.all) l.d l.tokens
+    ≡ chain (enumerator_step (at l.types l.inside)) (length l.fn.tokens + 1) [] 0 l.fn.tokens
 
 abbrev pub decreases-enumerations::enumerators-more : goal.decreases-enumerations::enumerators-more
 decreases-enumerations::enumerators-more l = l.rounds
 
 abbrev pub invariant-specifiers::specifier_list-more : goal.invariant-specifiers::specifier_list-more
 invariant-specifiers::specifier_list-more l =
-    chain (specifier_step l.types l.inside (at l.types l.inside)) l.rounds (map specifier_of l.all) l.d l.tokens ≡ chain (specifier_step l.types l.inside (at l.types l.inside)) (length l.fn.tokens + 1) [] 0 l.fn.tokens
+    chain (specifier_step l.types l.inside (at l.types l.inside)) l.rounds (map specifier_of l.all) l.d l.tokens
+    ≡ chain (specifier_step l.types l.inside (at l.types l.inside)) (length l.fn.tokens + 1) [] 0 l.fn.tokens
 
 abbrev pub decreases-specifiers::specifier_list-more : goal.decreases-specifiers::specifier_list-more
 decreases-specifiers::specifier_list-more l = l.rounds
 
 abbrev pub invariant-declarators::parameter_list-more : goal.invariant-declarators::parameter_list-more
 invariant-declarators::parameter_list-more l =
-    chain (parameter_step (at l.types l.inside)) l.rounds (map parameter_of l.all) l.d l.tokens ≡ chain (parameter_step (at l.types l.inside)) (length l.fn.tokens + 1) [] 0 l.fn.tokens
+    chain (parameter_step (at l.types l.inside)) l.rounds (map parameter_of l.all) l.d l.tokens
+    ≡ chain (parameter_step (at l.types l.inside)) (length l.fn.tokens + 1) [] 0 l.fn.tokens
 
 abbrev pub decreases-declarators::parameter_list-more : goal.decreases-declarators::parameter_list-more
 decreases-declarators::parameter_list-more l = l.rounds
 
 abbrev pub invariant-postfix::postfix-more : goal.invariant-postfix::postfix-more
 invariant-postfix::postfix-more l =
-    chain (postfix_step l.inside (at l.types l.inside)) l.rounds (expression_of l.x) l.d l.tokens ≡ postfix_in l.types l.inside (at l.types l.inside) l.fn.tokens
+    chain (postfix_step l.inside (at l.types l.inside)) l.rounds (expression_of l.x) l.d l.tokens
+    ≡ postfix_in l.types l.inside (at l.types l.inside) l.fn.tokens
 
 abbrev pub decreases-postfix::postfix-more : goal.decreases-postfix::postfix-more
 decreases-postfix::postfix-more l = l.rounds
 
 abbrev pub invariant-binary::operators-more : goal.invariant-binary::operators-more
 invariant-binary::operators-more l =
-    chain (operator_step l.inside (at l.types l.inside) l.least) l.rounds (expression_of l.x) l.d l.tokens ≡ operators_in l.types l.inside (at l.types l.inside) l.least l.fn.tokens
+    chain (operator_step l.inside (at l.types l.inside) l.least) l.rounds (expression_of l.x) l.d l.tokens
+    ≡ operators_in l.types l.inside (at l.types l.inside) l.least l.fn.tokens
 
 abbrev pub decreases-binary::operators-more : goal.decreases-binary::operators-more
 decreases-binary::operators-more l = l.rounds
 
 abbrev pub invariant-assignment::expression-more : goal.invariant-assignment::expression-more
 invariant-assignment::expression-more l =
-    chain (comma_step l.inside (at l.types l.inside)) l.rounds (expression_of l.x) l.d l.tokens ≡ expression_in l.types l.inside (at l.types l.inside) l.fn.tokens
+    chain (comma_step l.inside (at l.types l.inside)) l.rounds (expression_of l.x) l.d l.tokens
+    ≡ expression_in l.types l.inside (at l.types l.inside) l.fn.tokens
 
 abbrev pub decreases-assignment::expression-more : goal.decreases-assignment::expression-more
 decreases-assignment::expression-more l = l.rounds
 
 abbrev pub invariant-declarators::direct-more : goal.invariant-declarators::direct-more
 invariant-declarators::direct-more l =
-    chain (suffix_step l.inside (at l.types l.inside)) l.rounds (declarator_if_any (option_map declarator_of l.x)) l.d l.tokens ≡ direct_in l.types l.inside (at l.types l.inside) l.fn.tokens
+    chain (suffix_step l.inside (at l.types l.inside)) l.rounds (declarator_if_any (option_map declarator_of l.x)) l.d l.tokens
+    ≡ direct_in l.types l.inside (at l.types l.inside) l.fn.tokens
 
 abbrev pub decreases-declarators::direct-more : goal.decreases-declarators::direct-more
 decreases-declarators::direct-more l = l.rounds

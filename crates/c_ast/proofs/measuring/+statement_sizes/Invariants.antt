@@ -6,10 +6,14 @@ use Rattle.c_ast.proofs.measuring.+statement_sizes.Given as goal
 
 abbrev pub invariant-block_items_size-loop-block_item : goal.invariant-block_items_size-loop-block_item
 invariant-block_items_size-loop-block_item l =
-    (max l.size.depth (size_block_items (block_items_of (map block_item_of (drop l.block_item-index l.all)))).depth ≡ (size_block_items (block_items_of (map block_item_of l.all))).depth)
-    × (l.size.nodes + (size_block_items (block_items_of (map block_item_of (drop l.block_item-index l.all)))).nodes ≡ (size_block_items (block_items_of (map block_item_of l.all))).nodes)
+    (max l.size.depth (size_block_items (block_items_of (map block_item_of (drop l.block_item-index l.all)))).depth
+    ≡ (size_block_items (block_items_of (map block_item_of l.all))).depth)
+    × (l.size.nodes + (size_block_items (block_items_of (map block_item_of (drop l.block_item-index l.all)))).nodes
+    ≡ (size_block_items (block_items_of (map block_item_of l.all))).nodes)
 
 abbrev pub invariant-switch_items_size-loop-switch_item : goal.invariant-switch_items_size-loop-switch_item
 invariant-switch_items_size-loop-switch_item l =
-    (max l.size.depth (size_switch_items (switch_items_of (map switch_item_of (drop l.switch_item-index l.all)))).depth ≡ (size_switch_items (switch_items_of (map switch_item_of l.all))).depth)
-    × (l.size.nodes + (size_switch_items (switch_items_of (map switch_item_of (drop l.switch_item-index l.all)))).nodes ≡ (size_switch_items (switch_items_of (map switch_item_of l.all))).nodes)
+    (max l.size.depth (size_switch_items (switch_items_of (map switch_item_of (drop l.switch_item-index l.all)))).depth
+    ≡ (size_switch_items (switch_items_of (map switch_item_of l.all))).depth)
+    × (l.size.nodes + (size_switch_items (switch_items_of (map switch_item_of (drop l.switch_item-index l.all)))).nodes
+    ≡ (size_switch_items (switch_items_of (map switch_item_of l.all))).nodes)

@@ -6,5 +6,7 @@ use Rattle.c_ast.proofs.measuring.init_declarators_size.Given as goal
 
 abbrev pub invariant-loop-d : goal.invariant-loop-d
 invariant-loop-d l =
-    (max l.size.depth (size_init_declarators (map init_declarator_of (drop l.d-index l.all))).depth ≡ (size_init_declarators (map init_declarator_of l.all)).depth)
-    × (l.size.nodes + (size_init_declarators (map init_declarator_of (drop l.d-index l.all))).nodes ≡ (size_init_declarators (map init_declarator_of l.all)).nodes)
+    (max l.size.depth (size_init_declarators (map init_declarator_of (drop l.d-index l.all))).depth
+    ≡ (size_init_declarators (map init_declarator_of l.all)).depth)
+    × (l.size.nodes + (size_init_declarators (map init_declarator_of (drop l.d-index l.all))).nodes
+    ≡ (size_init_declarators (map init_declarator_of l.all)).nodes)

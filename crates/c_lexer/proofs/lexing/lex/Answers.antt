@@ -10,4 +10,9 @@ returns-in_err-list c =
     rw (is_err.1, is_err.2) (scanned_fault parts_are_exact tokens_are_exact c.args.bytes.now c.in_err-list.field-0.0 c.in_err-list.ensures)
 
 pub returns-in-Ok : goal.returns-in-Ok
-returns-in-Ok c = (refl, search rules, rw c.of-in-Ok.ensures (scanned_lexes parts_are_exact tokens_are_exact c.args.bytes.now c.in_ok-list.list.items c.in_ok-list.ensures))
+returns-in-Ok c = (
+  refl,
+  search rules,
+  rw c.of-in-Ok.ensures
+      (scanned_lexes parts_are_exact tokens_are_exact c.args.bytes.now c.in_ok-list.list.items c.in_ok-list.ensures),
+)

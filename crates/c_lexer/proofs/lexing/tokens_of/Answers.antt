@@ -3,11 +3,14 @@ use Rattle.c_lexer.proofs.Scans.{goes_on, stops_with, ends}
 use Rattle.c_lexer.proofs.lexing.tokens_of.Goals as goal
 
 pub returns-in-Err : goal.returns-in-Err
-returns-in-Err c = stops_with c.fault_at.result c.loop-rest.tokens.items c.loop-rest.at c.loop-rest.begins_line c.loop-rest.rest.now c.in-Err.kind _ c.fault_at.ensures (search rules) (sym c.step_at.ensures.is ∙ c.in-Err.is) c.loop-rest.invariant.goes
+returns-in-Err c = stops_with c.fault_at.result c.loop-rest.tokens.items c.loop-rest.at c.loop-rest.begins_line c.loop-rest.rest.now c.in-Err.kind _
+    c.fault_at.ensures (search rules) (sym c.step_at.ensures.is ∙ c.in-Err.is) c.loop-rest.invariant.goes
 
 pub loop-rest-preserved : goal.loop-rest-preserved
 loop-rest-preserved c = record {
-  goes = rw c.in_ok-add.ensures.added (goes_on c.loop-rest.tokens.items c.loop-rest.at c.loop-rest.begins_line c.loop-rest.rest.now c.split_at.result.1.now c.in-Ok.step _ (search rules) (sym c.step_at.ensures.is ∙ c.in-Ok.is) (search rules) c.split_at.ensures.back c.loop-rest.invariant.goes);
+  goes = rw c.in_ok-add.ensures.added (goes_on c.loop-rest.tokens.items c.loop-rest.at c.loop-rest.begins_line c.loop-rest.rest.now
+      c.split_at.result.1.now c.in-Ok.step _ (search rules) (sym c.step_at.ensures.is ∙ c.in-Ok.is)
+      (search rules) c.split_at.ensures.back c.loop-rest.invariant.goes);
   place = search rules;
 }
 

@@ -4,7 +4,10 @@ use Rattle.c_lexer.proofs.LinesOfParts.{read_more, cut_small}
 use Rattle.c_lexer.proofs.presuming.after_next.Goals as goal
 
 pub returns-clause-read : goal.returns-clause-read
-returns-clause-read c = rw (c.begins_line_after_part.ensures, c.after_part.ensures, c.split_at-2.ensures.front, c.split_at.ensures.back) (read_more parts_are_exact c.args.bytes.now c.args.reached.from c.args.reached.begins_line c.args.reached.lines c.in-Ok.kind c.in-Ok.size (rw (← c.split_at.ensures.back) (sym c.part_at.ensures.is ∙ c.in-Ok.is)) c.requires.read)
+returns-clause-read c = rw (c.begins_line_after_part.ensures, c.after_part.ensures, c.split_at-2.ensures.front, c.split_at.ensures.back)
+    (read_more parts_are_exact c.args.bytes.now c.args.reached.from c.args.reached.begins_line c.args.reached.lines c.in-Ok.kind c.in-Ok.size
+    (rw (← c.split_at.ensures.back) (sym c.part_at.ensures.is ∙ c.in-Ok.is)) c.requires.read)
 
 pub after_part-requires-clause-small : goal.after_part-requires-clause-small
-after_part-requires-clause-small c = cut_small _ c.args.reached.from _ _ c.args.reached.lines (c.requires.read c.args.at c.requires.before c.requires.within c.requires.tokens)
+after_part-requires-clause-small c = cut_small _ c.args.reached.from _ _ c.args.reached.lines
+    (c.requires.read c.args.at c.requires.before c.requires.within c.requires.tokens)

@@ -5,7 +5,8 @@ use Rattle.c_lexer.proofs.presuming.presumed_after.Given as goal
 
 abbrev pub invariant-loop-rest : goal.invariant-loop-rest
 invariant-loop-rest l = record {
-  leads : (t : AreTokensBefore l.at l.bytes) → ∥ LeadsOn (λ line. line ≡ last_line (take l.at l.bytes) t.0 t.1) l.reached.from l.reached.begins_line l.rest l.reached.lines ∥₁;
+  leads : (t : AreTokensBefore l.at l.bytes) → ∥ LeadsOn (λ line. line
+      ≡ last_line (take l.at l.bytes) t.0 t.1) l.reached.from l.reached.begins_line l.rest l.reached.lines ∥₁;
   place : l.reached.from + length l.rest ≡ l.at;
 }
 

@@ -12,14 +12,16 @@ returns-then-rounds-eq0 c =
 pub returns-in_err-one : goal.returns-in_err-one
 returns-in_err-one c =
     let some = some_tokens _ c.items.tokens c.is_empty.ensures (search (rules, c.items-test.true)) in
-    let stops = items_fail c.in_err-one.field-0.0 (map item_of c.items.all) c.items.rounds c.items.types c.items.tokens _ some (search rules) c.in_err-one.ensures c.items.invariant in
+    let stops = items_fail c.in_err-one.field-0.0 (map item_of c.items.all) c.items.rounds c.items.types c.items.tokens _ some
+    (search rules) c.in_err-one.ensures c.items.invariant in
     search (rules, stops, c.from_residual.ensures)
 
 pub items-preserved : goal.items-preserved
 items-preserved c =
     let some = some_tokens _ c.items.tokens c.is_empty.ensures (search (rules, c.items-test.true)) in
     rw c.in_ok-all.ensures.items
-    (items_go (map item_of c.items.all) c.items.rounds _ c.items.types c.kept.new.types c.items.tokens c.item.new.tokens (item_of c.in_ok-one.one) _ _ some refl (search rules) c.in_ok-one.ensures c.in_ok-all.ensures.types c.items.invariant)
+    (items_go (map item_of c.items.all) c.items.rounds _ c.items.types c.kept.new.types c.items.tokens c.item.new.tokens
+    (item_of c.in_ok-one.one) _ _ some refl (search rules) c.in_ok-one.ensures c.in_ok-all.ensures.types c.items.invariant)
 
 pub returns : goal.returns
 returns c =

@@ -11,8 +11,16 @@ pub returns-in-Ok : goal.returns-in-Ok
 returns-in-Ok c =
     let list = c.args.tokens.now.list in
     let lexemes = lexemes_of c.args.tokens.now.bytes list in
-    let whole = tokens_are_whole _ _ (tokens_have_texts _ _ c.requires.tokens) in
-    (search rules, (list, c.requires.tokens, search rules, tree_read (length lexemes) lexemes (map item_of c.in-Ok.items) whole (search (rules, c.in-Ok.ensures))))
+    let whole = tokens_are_whole _ _ (tokens_have_texts _ _ c.requires.tokens) in (
+      search rules,
+      (
+        list,
+        c.requires.tokens,
+        search rules,
+        tree_read (length lexemes) lexemes (map item_of c.in-Ok.items) whole
+            (search (rules, c.in-Ok.ensures)),
+      ),
+    )
 
 pub returns-in-Err-NoParse : goal.returns-in-Err-NoParse
 returns-in-Err-NoParse c =
