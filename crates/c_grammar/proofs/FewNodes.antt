@@ -114,7 +114,8 @@ module _ (types : List (List ℕ)) where
           member_declarators_few true all w.2 (punctuator M.Semicolon semicolon ∷ spelled_member_declarations more rest),
           member_declarations_few more w.3 rest)
 
-    member_declarators_few : (first : Bool) (t : Trees.MemberDeclarators) → AreMemberDeclarators types first t → Few size_member_declarators spelled_member_declarators t
+    member_declarators_few : (first : Bool) (t : Trees.MemberDeclarators) → AreMemberDeclarators types first t
+        → Few size_member_declarators spelled_member_declarators t
     member_declarators_few first Trees.no_member_declarators w rest = omega arith
     member_declarators_few first (Trees.and_member_declarator comma d more) w rest =
         omega (arith, longer_comma comma (spelled_declarator d (spelled_member_declarators more rest)),
@@ -135,9 +136,9 @@ module _ (types : List (List ℕ)) where
     declarator_few (Trees.named x) w rest = omega arith
     declarator_few (Trees.pointer at consts d) w rest = omega (arith, consts_count consts (spelled_declarator d rest), declarator_few d w rest)
     declarator_few (Trees.enclosed left d right) w rest = omega (arith, declarator_few d w.1 (punctuator M.Close right ∷ rest))
-    declarator_few (Trees.array d left length right) w rest =
-        omega (arith, declarator_few d w.1 (punctuator M.OpenSquare left ∷ spelled_optional length (punctuator M.CloseSquare right ∷ rest)),
-          optional_few length w.2 (punctuator M.CloseSquare right ∷ rest))
+    declarator_few (Trees.array d left bound right) w rest =
+        omega (arith, declarator_few d w.1 (punctuator M.OpenSquare left ∷ spelled_optional bound (punctuator M.CloseSquare right ∷ rest)),
+          optional_few bound w.2 (punctuator M.CloseSquare right ∷ rest))
     declarator_few (Trees.function d left all right) w rest =
         omega (arith, declarator_few d w.1 (punctuator M.Open left ∷ spelled_parameter_list all (punctuator M.Close right ∷ rest)),
           parameter_list_few all w.2 (punctuator M.Close right ∷ rest))
@@ -177,7 +178,8 @@ module _ (types : List (List ℕ)) where
   value_few None w rest = omega arith
   value_few (Some value) w rest = omega (arith, initializer_few value.1 w rest)
 
-  init_declarators_few : (first : Bool) (t : List Trees.InitDeclarator) → AreInitDeclarators types first t → Few size_init_declarators spelled_init_declarators t
+  init_declarators_few : (first : Bool) (t : List Trees.InitDeclarator) → AreInitDeclarators types first t
+      → Few size_init_declarators spelled_init_declarators t
   init_declarators_few first [] w rest = omega arith
   init_declarators_few first (d ∷ more) w rest =
       omega (arith, longer_comma d.comma (spelled_declarator d.declarator (spelled_value d.value (spelled_init_declarators more rest))),
@@ -216,14 +218,19 @@ module _ (types : List (List ℕ)) where
         omega (arith, few a w.0 (punctuator M.Close right ∷ spelled_statement body rest), statement_few body w.1 rest)
     statement_few (Trees.do_while at body while left a right semicolon) w rest =
         omega (arith,
-          statement_few body w.0 (keyword W.While while ∷ punctuator M.Open left ∷ spelled a (punctuator M.Close right ∷ punctuator M.Semicolon semicolon ∷ rest)), few a w.1 (punctuator M.Close right ∷ punctuator M.Semicolon semicolon ∷ rest))
+          statement_few body w.0 (keyword W.While while ∷
+            punctuator M.Open left ∷ spelled a (punctuator M.Close right ∷ punctuator M.Semicolon semicolon ∷ rest)),
+          few a w.1 (punctuator M.Close right ∷ punctuator M.Semicolon semicolon ∷ rest))
     statement_few (Trees.for at left start test semicolon step right body) w rest =
         omega (arith,
-          for_start_few start w.0 (spelled_if_any test (punctuator M.Semicolon semicolon ∷ spelled_if_any step (punctuator M.Close right ∷ spelled_statement body rest))), if_any_few test w.1 (punctuator M.Semicolon semicolon ∷ spelled_if_any step (punctuator M.Close right ∷ spelled_statement body rest)), if_any_few step w.2 (punctuator M.Close right ∷ spelled_statement body rest), statement_few body w.3 rest)
-    statement_few (Trees.switch at left a right begin switch_items end) w rest =
-        omega (arith,
-          few a w.0 (punctuator M.Close right ∷ punctuator M.OpenBrace begin ∷ spelled_switch_items switch_items (punctuator M.CloseBrace end ∷ rest)),
-          switch_items_few switch_items w.1 (punctuator M.CloseBrace end ∷ rest))
+          for_start_few start w.0 (spelled_if_any test (punctuator M.Semicolon semicolon ∷
+            spelled_if_any step (punctuator M.Close right ∷ spelled_statement body rest))),
+          if_any_few test w.1 (punctuator M.Semicolon semicolon ∷ spelled_if_any step (punctuator M.Close right ∷ spelled_statement body rest)),
+          if_any_few step w.2 (punctuator M.Close right ∷ spelled_statement body rest),
+          statement_few body w.3 rest)
+    statement_few (Trees.switch at left a right begin all end) w rest =
+        omega (arith, few a w.0 (punctuator M.Close right ∷ punctuator M.OpenBrace begin ∷ spelled_switch_items all (punctuator M.CloseBrace end ∷ rest)),
+          switch_items_few all w.1 (punctuator M.CloseBrace end ∷ rest))
     statement_few (Trees.break at semicolon) w rest = omega arith
     statement_few (Trees.continue at semicolon) w rest = omega arith
     statement_few (Trees.return at a semicolon) w rest = omega (arith, if_any_few a w (punctuator M.Semicolon semicolon ∷ rest))
@@ -243,8 +250,8 @@ module _ (types : List (List ℕ)) where
 
     switch_items_few : (t : Trees.SwitchItems) → AreSwitchItems types t → Few size_switch_items spelled_switch_items t
     switch_items_few Trees.no_switch_items w rest = omega arith
-    switch_items_few (Trees.and_switch_item switch_item more) w rest =
-        omega (arith, switch_item_few switch_item w.0 (spelled_switch_items more rest), switch_items_few more w.1 rest)
+    switch_items_few (Trees.and_switch_item e more) w rest =
+        omega (arith, switch_item_few e w.0 (spelled_switch_items more rest), switch_items_few more w.1 rest)
 
 item_few : (types : List (List ℕ)) (t : Trees.Item) → IsItem types t → Few size_item spelled_item t
 item_few types (Trees.defines specs d left items right) w rest =

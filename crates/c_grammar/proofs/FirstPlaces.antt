@@ -1,8 +1,9 @@
 -- A well formed tree begins where `first` says: at the first token of its spelling.
-use Rattle.std.proofs.Common.{◌≡◌, ℕ, List, [], ◌∷◌, Option, Some, None, true, refl}
+use Rattle.std.proofs.Common.{◌≡◌, ℕ, List, [], ◌∷◌, Some, None, refl}
 use Rattle.c_ast.specs.Trees
-use Rattle.c_ast.specs.Spelling.{Lexeme, spelled, spelled_specifiers, spelled_specifier, spelled_declarator, spelled_declaration, spelled_statement, spelled_item}
-use Rattle.c_ast.specs.WellFormed.{IsExpression, IsInitializer, AreSpecifiers, IsSpecifier, IsDeclaration, IsStatement, IsItem}
+use Rattle.c_ast.specs.Spelling.{Lexeme, spelled, spelled_specifiers, spelled_specifier, spelled_declarator, spelled_declaration, spelled_statement}
+use Rattle.c_ast.specs.Spelling.{spelled_item}
+use Rattle.c_ast.specs.WellFormed.{IsExpression, IsInitializer, AreSpecifiers, IsDeclaration, IsStatement, IsItem}
 use Rattle.c_ast.specs.Places.{begins_at, first, first_specifier, first_specifiers, first_declarator, first_declaration, first_statement, first_item}
 use Rattle.c_ast.specs.Laws.{TreesBeginFirst}
 
@@ -51,14 +52,15 @@ declarator_first Trees.nothing rest = refl
 declarator_first (Trees.named x) rest = refl
 declarator_first (Trees.pointer at consts d) rest = refl
 declarator_first (Trees.enclosed left d right) rest = refl
-declarator_first (Trees.array d left length right) rest = declarator_first d _
+declarator_first (Trees.array d left bound right) rest = declarator_first d _
 declarator_first (Trees.function d left all right) rest = declarator_first d _
 
 declaration_first : (types : List (List ℕ)) (d : Trees.Declaration) → IsDeclaration types d → (rest : List Lexeme)
     → begins_at (spelled_declaration d rest) ≡ first_declaration d
 declaration_first types d w rest = specifiers_first types d.specs w.0 _
 
-statement_first : (types : List (List ℕ)) (t : Trees.Statement) → IsStatement types t → (rest : List Lexeme) → begins_at (spelled_statement t rest) ≡ first_statement t
+statement_first : (types : List (List ℕ)) (t : Trees.Statement) → IsStatement types t → (rest : List Lexeme)
+    → begins_at (spelled_statement t rest) ≡ first_statement t
 statement_first types (Trees.block left items right) w rest = refl
 statement_first types (Trees.evaluate None semicolon) w rest = refl
 statement_first types (Trees.evaluate (Some a) semicolon) w rest = expression_first types a w _
@@ -67,7 +69,7 @@ statement_first types (Trees.choose at left a right one else other) w rest = ref
 statement_first types (Trees.while at left a right body) w rest = refl
 statement_first types (Trees.do_while at body while left a right semicolon) w rest = refl
 statement_first types (Trees.for at left start test semicolon step right body) w rest = refl
-statement_first types (Trees.switch at left a right begin switch_items end) w rest = refl
+statement_first types (Trees.switch at left a right begin all end) w rest = refl
 statement_first types (Trees.break at semicolon) w rest = refl
 statement_first types (Trees.continue at semicolon) w rest = refl
 statement_first types (Trees.return at a semicolon) w rest = refl

@@ -39,3 +39,4 @@ pub mod FewNodes
 pub mod FirstPlaces
 pub mod NodePlaces
 pub mod NodeCounts
+pub mod FileTrees

@@ -1,5 +1,5 @@
 -- A tree has as many places of nodes as it has nodes.
-use Rattle.std.proofs.Common.{◌≡◌, ℕ, ◌+◌, List, [], ◌∷◌, ◌++◌, length, Option, Some, None, refl, arith}
+use Rattle.std.proofs.Common.{◌≡◌, ℕ, List, [], ◌∷◌, ◌++◌, length, Option, Some, None, refl, arith}
 use Rattle.std.proofs.lemmas.List.{length-append}
 use Rattle.c_ast.specs.declared.size.Size.{Size}
 use Rattle.c_ast.specs.Trees
@@ -13,7 +13,8 @@ use Rattle.c_ast.specs.Places.{places_parameter_list, places_parameters, places_
 use Rattle.c_ast.specs.Places.{places_declaration, places_if_any, places_labels, places_for_start, places_statement, places_block_item, places_block_items}
 use Rattle.c_ast.specs.Places.{places_switch_item, places_switch_items, places_item, places_items}
 
-as_initializer_count : (a : Trees.Expression) (own : List ℕ) (n : Size) → length own ≡ n.nodes → length (places_as_initializer a own) ≡ (as_initializer a n).nodes
+as_initializer_count : (a : Trees.Expression) (own : List ℕ) (n : Size) → length own ≡ n.nodes
+    → length (places_as_initializer a own) ≡ (as_initializer a n).nodes
 as_initializer_count (Trees.braces left all comma right) own n h = h
 as_initializer_count a own n h = omega (arith, h)
 
@@ -56,7 +57,7 @@ mutual
   specifiers_count : (t : Trees.Specifiers) → length (places_specifiers t) ≡ (size_specifiers t).nodes
   specifiers_count Trees.no_specifiers = refl
   specifiers_count (Trees.and_specifier s more) =
-      omega (arith, length-append (places_specifier s) (places_specifiers more), specifier_count s, more_specifiers_count more)
+      omega (arith, length-append (places_specifier s) (places_specifiers more), specifier_count s, specifiers_count more)
 
   specifier_count : (t : Trees.Specifier) → length (places_specifier t) ≡ (size_specifier t).nodes
   specifier_count (Trees.plain word at) = refl
@@ -92,8 +93,8 @@ mutual
   declarator_count (Trees.named x) = refl
   declarator_count (Trees.pointer at consts d) = omega (arith, declarator_count d)
   declarator_count (Trees.enclosed left d right) = omega (arith, declarator_count d)
-  declarator_count (Trees.array d left length right) =
-      omega (arith, length-append (places_declarator d) (places_optional length), declarator_count d, optional_count length)
+  declarator_count (Trees.array d left bound right) =
+      omega (arith, length-append (places_declarator d) (places_optional bound), declarator_count d, optional_count bound)
   declarator_count (Trees.function d left all right) =
       omega (arith, length-append (places_declarator d) (places_parameter_list all), declarator_count d, parameter_list_count all)
 
@@ -108,13 +109,14 @@ mutual
         length-append (places_specifiers specs ++ places_declarator d) (places_parameters more), specifiers_count specs, declarator_count d,
         parameters_count more)
 
-  initializer_count : (t : Trees.Expression) → length (places_initializer t) ≡ (size_initializer t).nodes
-  initializer_count a = as_initializer_count a (places a) (size a) (count a)
-
   initializers_count : (t : Trees.Arguments) → length (places_initializers t) ≡ (size_initializers t).nodes
   initializers_count Trees.no_arguments = refl
   initializers_count (Trees.and_argument comma a more) =
-      omega (arith, length-append (places_initializer a) (places_initializers more), initializer_count a, initializers_count more)
+      omega (arith, length-append (places_initializer a) (places_initializers more), as_initializer_count a (places a) (size a) (count a),
+        initializers_count more)
+
+initializer_count : (t : Trees.Expression) → length (places_initializer t) ≡ (size_initializer t).nodes
+initializer_count a = as_initializer_count a (places a) (size a) (count a)
 
 value_count : (t : Option (ℕ × Trees.Expression)) → length (places_value t) ≡ (size_value t).nodes
 value_count None = refl
@@ -160,8 +162,8 @@ mutual
         length-append (places_for_start start ++ places_if_any test) (places_if_any step),
         length-append (places_for_start start ++ places_if_any test ++ places_if_any step) (places_statement body), for_start_count start, if_any_count test,
         if_any_count step, statement_count body)
-  statement_count (Trees.switch at left a right begin switch_items end) =
-      omega (arith, length-append (places a) (places_switch_items switch_items), count a, switch_items_count switch_items)
+  statement_count (Trees.switch at left a right begin all end) =
+      omega (arith, length-append (places a) (places_switch_items all), count a, switch_items_count all)
   statement_count (Trees.break at semicolon) = refl
   statement_count (Trees.continue at semicolon) = refl
   statement_count (Trees.return at a semicolon) = omega (arith, if_any_count a)
@@ -182,8 +184,8 @@ mutual
 
   switch_items_count : (t : Trees.SwitchItems) → length (places_switch_items t) ≡ (size_switch_items t).nodes
   switch_items_count Trees.no_switch_items = refl
-  switch_items_count (Trees.and_switch_item switch_item more) =
-      omega (arith, length-append (places_switch_item switch_item) (places_switch_items more), switch_item_count switch_item, switch_items_count more)
+  switch_items_count (Trees.and_switch_item e more) =
+      omega (arith, length-append (places_switch_item e) (places_switch_items more), switch_item_count e, switch_items_count more)
 
 pub item_count : (t : Trees.Item) → length (places_item t) ≡ (size_item t).nodes
 item_count (Trees.defines specs d left items right) =

@@ -96,7 +96,7 @@ declarator_begins P Trees.nothing token rest h = front h
 declarator_begins P (Trees.named x) token rest h = front h
 declarator_begins P (Trees.pointer at consts d) token rest h = front h
 declarator_begins P (Trees.enclosed left d right) token rest h = front h
-declarator_begins P (Trees.array d left length right) token rest h = declarator_begins P d _ _ h
+declarator_begins P (Trees.array d left bound right) token rest h = declarator_begins P d _ _ h
 declarator_begins P (Trees.function d left all right) token rest h = declarator_begins P d _ _ h
 
 -- ---- the nodes of a tree, and the tokens after it
@@ -147,7 +147,10 @@ module _ (P : ℕ → Type 0) (types : List (List ℕ)) where
         let p = stand a w.2 h in
         let q = stand b w.3 (back p.others) in
         let r = stand c w.4 (back q.others) in
-        record { nodes = and (expression_begins P types a w.2 _ h) (both (places a ++ places b) (both (places a) p.nodes q.nodes) r.nodes); others = r.others }
+        record {
+          nodes = and (expression_begins P types a w.2 _ h) (both (places a ++ places b) (both (places a) p.nodes q.nodes) r.nodes);
+          others = r.others;
+        }
     stand (Trees.assign a op at b) w h =
         let p = stand a w.2 h in
         let q = stand b w.3 (back p.others) in
@@ -214,7 +217,11 @@ module _ (P : ℕ → Type 0) (types : List (List ℕ)) where
         let p = specifiers_stand specs w.0 h in
         let q = member_declarators_stand true all w.2 p.others in
         let r = member_declarations_stand more w.3 (back q.others) in
-        record { nodes = and (specifiers_begin P types specs w.0 _ h) (both (places_specifiers specs ++ places_member_declarators all) (both (places_specifiers specs) p.nodes q.nodes) r.nodes); others = r.others }
+        record {
+          nodes = and (specifiers_begin P types specs w.0 _ h)
+              (both (places_specifiers specs ++ places_member_declarators all) (both (places_specifiers specs) p.nodes q.nodes) r.nodes);
+          others = r.others;
+        }
 
     member_declarators_stand : (first : Bool) (t : Trees.MemberDeclarators) → AreMemberDeclarators types first t → {rest : List Lexeme}
         → EachToken P (spelled_member_declarators t rest) → Stand P (places_member_declarators t) rest
@@ -247,9 +254,9 @@ module _ (P : ℕ → Type 0) (types : List (List ℕ)) where
     declarator_stand (Trees.enclosed left d right) w h =
         let p = declarator_stand d w.1 (back h) in
         record { nodes = and (front h) p.nodes; others = back p.others }
-    declarator_stand (Trees.array d left length right) w h =
+    declarator_stand (Trees.array d left bound right) w h =
         let p = declarator_stand d w.1 h in
-        let q = optional_stand length w.2 (back p.others) in
+        let q = optional_stand bound w.2 (back p.others) in
         record { nodes = and (declarator_begins P d _ _ h) (both (places_declarator d) p.nodes q.nodes); others = back q.others }
     declarator_stand (Trees.function d left all right) w h =
         let p = declarator_stand d w.1 h in
@@ -298,7 +305,10 @@ module _ (P : ℕ → Type 0) (types : List (List ℕ)) where
       let p = declarator_stand d.declarator w.1 (comma_after d.comma h) in
       let q = value_stand d.value w.3 p.others in
       let r = init_declarators_stand false more w.4 q.others in
-      record { nodes = both (places_declarator d.declarator ++ places_value d.value) (both (places_declarator d.declarator) p.nodes q.nodes) r.nodes; others = r.others }
+      record {
+        nodes = both (places_declarator d.declarator ++ places_value d.value) (both (places_declarator d.declarator) p.nodes q.nodes) r.nodes;
+        others = r.others;
+      }
 
   declaration_stand : (t : Trees.Declaration) → IsDeclaration types t → {rest : List Lexeme}
       → EachToken P (spelled_declaration t rest) → Stand P (places_declaration t) rest
@@ -356,10 +366,15 @@ module _ (P : ℕ → Type 0) (types : List (List ℕ)) where
         let q = if_any_stand test w.1 p.others in
         let r = if_any_stand step w.2 (back q.others) in
         let s = statement_stand body w.3 (back r.others) in
-        record { nodes = and (front h) (both (places_for_start start ++ places_if_any test ++ places_if_any step) (both (places_for_start start ++ places_if_any test) (both (places_for_start start) p.nodes q.nodes) r.nodes) s.nodes); others = s.others }
-    statement_stand (Trees.switch at left a right begin switch_items end) w h =
+        record {
+          nodes = and (front h)
+              (both (places_for_start start ++ places_if_any test ++ places_if_any step) (both (places_for_start start ++ places_if_any test)
+                (both (places_for_start start) p.nodes q.nodes) r.nodes) s.nodes);
+          others = s.others;
+        }
+    statement_stand (Trees.switch at left a right begin all end) w h =
         let p = stand a w.0 (back (back h)) in
-        let q = switch_items_stand switch_items w.1 (back (back p.others)) in
+        let q = switch_items_stand all w.1 (back (back p.others)) in
         record { nodes = and (front h) (both (places a) p.nodes q.nodes); others = back q.others }
     statement_stand (Trees.break at semicolon) w h = record { nodes = and (front h) none; others = back (back h) }
     statement_stand (Trees.continue at semicolon) w h = record { nodes = and (front h) none; others = back (back h) }
@@ -389,10 +404,10 @@ module _ (P : ℕ → Type 0) (types : List (List ℕ)) where
     switch_items_stand : (t : Trees.SwitchItems) → AreSwitchItems types t → {rest : List Lexeme}
         → EachToken P (spelled_switch_items t rest) → Stand P (places_switch_items t) rest
     switch_items_stand Trees.no_switch_items w h = record { nodes = none; others = h }
-    switch_items_stand (Trees.and_switch_item switch_item more) w h =
-        let p = switch_item_stand switch_item w.0 h in
+    switch_items_stand (Trees.and_switch_item e more) w h =
+        let p = switch_item_stand e w.0 h in
         let q = switch_items_stand more w.1 p.others in
-        record { nodes = both (places_switch_item switch_item) p.nodes q.nodes; others = q.others }
+        record { nodes = both (places_switch_item e) p.nodes q.nodes; others = q.others }
 
 item_stand : (P : ℕ → Type 0) (types : List (List ℕ)) (t : Trees.Item) → IsItem types t → {rest : List Lexeme}
     → EachToken P (spelled_item t rest) → Stand P (places_item t) rest
@@ -400,7 +415,11 @@ item_stand P types (Trees.defines specs d left items right) w h =
     let p = specifiers_stand P types specs w.0 h in
     let q = declarator_stand P types d w.1 p.others in
     let r = block_items_stand P types items w.3 (back q.others) in
-    record { nodes = and (specifiers_begin P types specs w.0 _ h) (both (places_specifiers specs ++ places_declarator d) (both (places_specifiers specs) p.nodes q.nodes) (and (front q.others) r.nodes)); others = back r.others }
+    record {
+      nodes = and (specifiers_begin P types specs w.0 _ h)
+          (both (places_specifiers specs ++ places_declarator d) (both (places_specifiers specs) p.nodes q.nodes) (and (front q.others) r.nodes));
+      others = back r.others;
+    }
 item_stand P types (Trees.declaration d) w h =
     let p = declaration_stand P types d w h in
     record { nodes = and (specifiers_begin P types d.specs w.0 _ h) p.nodes; others = p.others }

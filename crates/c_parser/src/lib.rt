@@ -22,5 +22,8 @@ mod switches;
 mod typenames;
 
 pub use faults::ParseFault;
-pub use laws::{files_have_one_tree, tokens_have_one_tree};
+pub use laws::{
+    files_have_one_tree, nodes_have_places, tokens_have_one_tree, trees_are_small,
+    trees_begin_first,
+};
 pub use parsing::parse;
