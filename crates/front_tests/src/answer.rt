@@ -7,7 +7,7 @@ ghost use Rattle.c_lexer.specs.Lexes.{Lexes};
 
 use c_ast::Tree;
 use c_lexer::{Tokens, lex};
-use c_parser::{ParseFault, parse};
+use c_parser::{ParseFault, parse, trees_are_small};
 use lay_base::Keyword;
 use std::alloc::Global;
 
@@ -29,6 +29,7 @@ fn tree_of_tokens(alloc: Global, tokens: &Tokens) -> Result<Tree, Answer>
     requires tokens { Lexes tokens.now.bytes tokens.now.list }
     ensures { IfOk result (λ tree. IsCountable (size_items (items_of tree))) }
 {
+    trees_are_small();
     match parse(alloc, tokens) {
         Ok(tree) => Ok(tree),
         Err(ParseFault::NoParse(_)) => Err(Answer::NoParse),

@@ -360,6 +360,9 @@ fn each_expression_has_its_tree(rt: HostRuntime) -> Result<(), Fail> {
 
 #[test]
 fn what_is_no_expression_has_no_tree(rt: HostRuntime) -> Result<(), Fail> {
-    assert_eq!(rt; first_with_tree(rt.alloc(), &RETURNED, NO_EXPRESSIONS)?, None);
+    assert_eq!(rt;
+        first_with_tree(rt.alloc(), &RETURNED, NO_EXPRESSIONS)?,
+        None
+    );
     Ok(())
 }

@@ -29,7 +29,11 @@ fn between(alloc: Global, ends: (&str, &str), text: &str) -> Result<String, Allo
 
 /// What is written for a text in its frame.
 fn written_in(alloc: Global, frame: &Frame, text: &str) -> Result<String, AllocError> {
-    written_with(alloc, frame.places, between(alloc, frame.text, text)?.as_str())
+    written_with(
+        alloc,
+        frame.places,
+        between(alloc, frame.text, text)?.as_str(),
+    )
 }
 
 /// The first text of a table that has another tree than that of its row, with what is written for it.

@@ -15,7 +15,10 @@ static LITERALS: [(&[u8], &[u8]); 16] = [
     (b"\"a\\n\"", b"a\x0a"),
     (b"\"\\x41\\102\"", b"AB"),
     (b"\"\\'\\\"\\?\\\\\"", b"'\"?\\"),
-    (b"\"\\a\\b\\f\\n\\r\\t\\v\"", b"\x07\x08\x0c\x0a\x0d\x09\x0b"),
+    (
+        b"\"\\a\\b\\f\\n\\r\\t\\v\"",
+        b"\x07\x08\x0c\x0a\x0d\x09\x0b",
+    ),
     (b"\"\\0\"", b"\x00"),
     // An octal escape has at most three digits, a hexadecimal one as many as there are.
     (b"\"\\1011\"", b"A1"),

@@ -1,7 +1,7 @@
 //! Whole texts with their tokens or their fault, and places with what is presumed of them. What is
 //! wanted was written by hand from C99: 6.4 for tokens, 6.10.4 for lines.
 
-use c_lexer::{LexFault, Punctuator, Presumed, Token, TokenKind, Tokens, lex, presumed_at};
+use c_lexer::{LexFault, Presumed, Punctuator, Token, TokenKind, Tokens, lex, presumed_at};
 use lay_base::Keyword;
 use std::alloc::{AllocError, Global};
 use std::test::Fail;
