@@ -2,8 +2,7 @@
 
 use crate::answer::{Answer, tree_of};
 use lay_base::Keyword;
-use std::alloc::Global;
-use std::test::Fail;
+use std::alloc::{AllocError, Global};
 
 fn what_becomes_of(alloc: Global, text: &[u8]) -> Answer {
     match tree_of(alloc, text) {
@@ -135,37 +134,46 @@ fn other_texts_have_none(rt: HostRuntime) {
     assert_eq!(rt; first_otherwise(rt.alloc(), REFUSED, Answer::NoParse), None);
 }
 
-/// An initializer with so many pairs of parentheses around it, between two texts.
-fn nested(alloc: Global, ends: (&[u8], &[u8]), count: usize) -> Result<Vec<u8>, Fail> {
-    let (before, after) = ends;
-    let mut text = Vec::from_slice(alloc, before)?;
+/// A byte so many times.
+fn add_times(text: &mut Vec<u8>, byte: u8, count: usize) -> Result<(), AllocError> {
     for _ in 0..count {
-        text.push(b'(')?;
+        text.push(byte)?;
     }
-    text.push(b'1')?;
-    for _ in 0..count {
-        text.push(b')')?;
-    }
-    text.extend_from_slice(after)?;
-    Ok(text)
+    Ok(())
 }
 
-/// Texts before and after an initializer, and how many pairs of parentheses there may be around it. Of
-/// the 400 nodes one below another, one is the item, one the body of a function, one the initializer
-/// and one its number.
-static DEEPEST: &[((&[u8], &[u8]), usize)] = &[
-    ((b"int x=", b";"), 397),
-    ((b"int f(void){int x=", b";return x;}"), 396),
+/// A number with so many pairs of parentheses around it, between two texts.
+fn add_nested(text: &mut Vec<u8>, ends: (&[u8], &[u8]), count: usize) -> Result<(), AllocError> {
+    let (before, after) = ends;
+    text.extend_from_slice(before)?;
+    add_times(text, b'(', count)?;
+    text.push(b'1')?;
+    add_times(text, b')', count)?;
+    text.extend_from_slice(after)
+}
+
+/// What becomes of such a text.
+fn nested(alloc: Global, ends: (&[u8], &[u8]), count: usize) -> Answer {
+    let mut text = Vec::new(alloc);
+    match add_nested(&mut text, ends, count) {
+        Ok(()) => what_becomes_of(alloc, &text),
+        Err(_) => Answer::Other,
+    }
+}
+
+/// Texts before and after a number that is an initializer, how many pairs of parentheses there may be
+/// around it, and one more. Of the 400 nodes one below another, one is the item, one the body of a
+/// function, one the initializer and one the number.
+static DEEPEST: &[((&[u8], &[u8]), usize, usize)] = &[
+    ((b"int x=", b";"), 397, 398),
+    ((b"int f(void){int x=", b";return x;}"), 396, 397),
 ];
 
 #[test]
-fn a_tree_is_400_deep_at_most(rt: HostRuntime) -> Result<(), Fail> {
+fn a_tree_is_400_deep_at_most(rt: HostRuntime) {
     let alloc = rt.alloc();
-    for (ends, most) in DEEPEST {
-        let text = nested(alloc, *ends, *most)?;
-        assert_eq!(rt; what_becomes_of(alloc, &text), Answer::Tree);
-        let text = nested(alloc, *ends, *most + 1)?;
-        assert_eq!(rt; what_becomes_of(alloc, &text), Answer::NoParse);
+    for (ends, most, one_more) in DEEPEST {
+        assert_eq!(rt; nested(alloc, *ends, *most), Answer::Tree);
+        assert_eq!(rt; nested(alloc, *ends, *one_more), Answer::NoParse);
     }
-    Ok(())
 }

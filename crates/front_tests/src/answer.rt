@@ -1,8 +1,13 @@
 //! The tree of a text, by `parse` after `lex`, or what the text comes to.
 
+ghost use Rattle.std.specs.Prelude.{◌≤◌, IfOk, length};
+ghost use Rattle.c_ast.specs.Sizes.{IsCountable, size_items};
+ghost use Rattle.c_ast.specs.Views.{items_of};
+ghost use Rattle.c_lexer.specs.Lexes.{Lexes};
+
 use c_ast::Tree;
-use c_lexer::lex;
-use c_parser::{ParseFault, parse};
+use c_lexer::{Tokens, lex};
+use c_parser::{ParseFault, parse, trees_are_small};
 use lay_base::Keyword;
 use std::alloc::Global;
 
@@ -18,18 +23,30 @@ pub enum Answer {
     Other,
 }
 
-/// The tree of a text, or what it comes to.
-pub fn tree_of(alloc: Global, text: &[u8]) -> Result<Tree, Answer> {
-    if text.len() > 4_194_304 {
-        return Err(Answer::Other);
-    }
-    let Ok(tokens) = lex(alloc, text, FILE) else {
-        return Err(Answer::Other);
-    };
-    match parse(alloc, &tokens) {
+/// The tree of a text's tokens, or what they come to.
+fn tree_of_tokens(alloc: Global, tokens: &Tokens) -> Result<Tree, Answer>
+    requires short { length tokens.now.bytes ≤ 4194304 }
+    requires tokens { Lexes tokens.now.bytes tokens.now.list }
+    ensures { IfOk result (λ tree. IsCountable (size_items (items_of tree))) }
+{
+    trees_are_small();
+    match parse(alloc, tokens) {
         Ok(tree) => Ok(tree),
         Err(ParseFault::NoParse(_)) => Err(Answer::NoParse),
         Err(ParseFault::Unsupported(keyword, place)) => Err(Answer::Unsupported(keyword, place.at)),
         Err(ParseFault::Memory) => Err(Answer::Other),
+    }
+}
+
+/// The tree of a text, or what it comes to.
+pub fn tree_of(alloc: Global, text: &[u8]) -> Result<Tree, Answer>
+    ensures { IfOk result (λ tree. IsCountable (size_items (items_of tree))) }
+{
+    if text.len() > 4_194_304 {
+        return Err(Answer::Other);
+    }
+    match lex(alloc, text, FILE) {
+        Ok(tokens) => tree_of_tokens(alloc, &tokens),
+        Err(_) => Err(Answer::Other),
     }
 }

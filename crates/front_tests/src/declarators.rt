@@ -8,12 +8,14 @@ use std::test::Fail;
 static FILE_ITEMS: Frame = Frame {
     text: ("", ""),
     tree: ("", ""),
+    places: false,
 };
 
 /// A declaration whose initializer is the expression.
 static INITIALIZER: Frame = Frame {
     text: ("int x=", ";"),
     tree: ("(declare int (= x ", "))"),
+    places: false,
 };
 
 /// Declarators with a name.
@@ -391,14 +393,12 @@ fn each_declaration_has_its_tree(rt: HostRuntime) -> Result<(), Fail> {
         INITIALIZERS,
         DEFINITIONS,
     ];
-    for rows in tables {
-        assert_eq!(rt; first_otherwise(rt.alloc(), &FILE_ITEMS, rows)?, None);
-    }
+    assert_eq!(rt; first_otherwise(rt.alloc(), &FILE_ITEMS, &tables)?, None);
     Ok(())
 }
 
 #[test]
 fn each_type_name_has_its_tree(rt: HostRuntime) -> Result<(), Fail> {
-    assert_eq!(rt; first_otherwise(rt.alloc(), &INITIALIZER, FORMS)?, None);
+    assert_eq!(rt; first_otherwise(rt.alloc(), &INITIALIZER, &[FORMS])?, None);
     Ok(())
 }

@@ -11,10 +11,19 @@ use std::alloc::Global;
 static TEXTS: [(&str, &[u32]); 7] = [
     ("", &[1]),
     ("a\nb c\n\nd", &[1, 2, 2, 4, 4]),
-    ("# 1 \"a.c\"\na\n# 7 \"a.h\" 1\nb\nc\n# 3 \"a.c\" 2\nd\n", &[1, 7, 8, 3, 4]),
-    ("#line 40\na\n#line 9 \"b.c\"\nb /*\n\n*/ c", &[40, 9, 11, 11]),
+    (
+        "# 1 \"a.c\"\na\n# 7 \"a.h\" 1\nb\nc\n# 3 \"a.c\" 2\nd\n",
+        &[1, 7, 8, 3, 4],
+    ),
+    (
+        "#line 40\na\n#line 9 \"b.c\"\nb /*\n\n*/ c",
+        &[40, 9, 11, 11],
+    ),
     ("/*\n# 5\n*/ a // b\nc", &[3, 4, 4]),
-    ("# 0 \"<built-in>\"\n# 0 \"<command-line>\"\n# 1 \"a.c\"\nint\nx\n;", &[1, 2, 3, 3]),
+    (
+        "# 0 \"<built-in>\"\n# 0 \"<command-line>\"\n# 1 \"a.c\"\nint\nx\n;",
+        &[1, 2, 3, 3],
+    ),
     ("a\n#pragma once\nb", &[1, 3, 3]),
 ];
 
@@ -77,6 +86,9 @@ fn has_lines(alloc: Global, text: &[u8], wanted: &[u32]) -> bool {
 #[test]
 fn lines_asked_in_order_are_those_asked_one_by_one(rt: HostRuntime) {
     for (text, wanted) in &TEXTS {
-        assert!(rt; has_lines(rt.alloc(), text.as_bytes(), *wanted), "at {text}");
+        assert!(rt;
+            has_lines(rt.alloc(), text.as_bytes(), *wanted),
+            "at {text}"
+        );
     }
 }

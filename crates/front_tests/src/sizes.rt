@@ -1,8 +1,11 @@
 //! The number of nodes and the depth of trees. They were counted by hand. A node is each item, specifier,
 //! member declaration, enumerator, declarator, initializer, statement and expression.
 
+ghost use Rattle.c_ast.specs.Sizes.{IsCountable, size_items};
+ghost use Rattle.c_ast.specs.Views.{items_of};
+
 use crate::answer::tree_of;
-use c_ast::{depth, nodes, nodes_of_item};
+use c_ast::{Tree, depth, nodes, nodes_of_item};
 use std::alloc::Global;
 
 /// Texts, how many nodes their trees have, and how many of these, at most, stand one below another.
@@ -40,10 +43,16 @@ static SIZES: &[(&str, u64, u32)] = &[
     ("void f(void){!++x,-(y);}", 13, 7),
 ];
 
+fn size_of_tree(tree: &Tree) -> (u64, u32)
+    requires { IsCountable (size_items (items_of tree.now)) }
+{
+    (nodes(tree), depth(tree))
+}
+
 /// The number of nodes and the depth of a text's tree.
 fn size_of(alloc: Global, text: &[u8]) -> Option<(u64, u32)> {
     match tree_of(alloc, text) {
-        Ok(tree) => Some((nodes(&tree), depth(&tree))),
+        Ok(tree) => Some(size_of_tree(&tree)),
         Err(_) => None,
     }
 }
@@ -56,13 +65,20 @@ fn each_tree_has_its_nodes_and_its_depth(rt: HostRuntime) {
     }
 }
 
+/// The numbers of nodes of a tree's two items.
+fn nodes_of_two(tree: &Tree) -> Option<(u64, u64)>
+    requires { IsCountable (size_items (items_of tree.now)) }
+{
+    match tree.items.as_slice() {
+        [first, second] => Some((nodes_of_item(first), nodes_of_item(second))),
+        _ => None,
+    }
+}
+
 /// The numbers of nodes of a text's two items.
 fn nodes_of_items(alloc: Global, text: &[u8]) -> Option<(u64, u64)> {
     match tree_of(alloc, text) {
-        Ok(tree) => match tree.items.as_slice() {
-            [first, second] => Some((nodes_of_item(first), nodes_of_item(second))),
-            _ => None,
-        },
+        Ok(tree) => nodes_of_two(&tree),
         Err(_) => None,
     }
 }

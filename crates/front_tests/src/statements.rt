@@ -10,6 +10,7 @@ static BODY: Frame = Frame {
         "(declare typedef int T) (define int (function f void) (block ",
         "))",
     ),
+    places: false,
 };
 
 static SELECTIONS: &[Row] = &[
@@ -114,8 +115,7 @@ static BLOCKS: &[Row] = &[
 
 #[test]
 fn each_statement_has_its_tree(rt: HostRuntime) -> Result<(), Fail> {
-    for rows in [SELECTIONS, ITERATIONS, BLOCKS] {
-        assert_eq!(rt; first_otherwise(rt.alloc(), &BODY, rows)?, None);
-    }
+    let tables = [SELECTIONS, ITERATIONS, BLOCKS];
+    assert_eq!(rt; first_otherwise(rt.alloc(), &BODY, &tables)?, None);
     Ok(())
 }

@@ -1,8 +1,11 @@
 //! Where reading stops: the first token that cannot stand where it does, or the end of the file. The
 //! bytes were counted by hand.
 
+ghost use Rattle.std.specs.Prelude.{◌≤◌, length};
+ghost use Rattle.c_lexer.specs.Lexes.{Lexes};
+
 use crate::answer::FILE;
-use c_lexer::lex;
+use c_lexer::{Tokens, lex};
 use c_parser::{ParseFault, parse};
 use std::alloc::Global;
 use std::test::Fail;
@@ -25,17 +28,33 @@ static STOPS: &[(&str, u32)] = &[
     ("typedef int T; int f(void) { return T; }", 36),
 ];
 
+/// The byte of the place of the file that a fault names.
+fn stop_in(fault: ParseFault) -> Option<u32> {
+    match fault {
+        ParseFault::NoParse(place) if place.file == FILE => Some(place.at),
+        _ => None,
+    }
+}
+
+/// The byte of the place that is named where tokens have no tree.
+fn stop_of_tokens(alloc: Global, tokens: &Tokens) -> Option<u32>
+    requires short { length tokens.now.bytes ≤ 4194304 }
+    requires tokens { Lexes tokens.now.bytes tokens.now.list }
+{
+    match parse(alloc, tokens) {
+        Ok(_) => None,
+        Err(fault) => stop_in(fault),
+    }
+}
+
 /// The byte of the place that is named where a text has no tree.
 fn stop_of(alloc: Global, text: &[u8]) -> Option<u32> {
     if text.len() > 4_194_304 {
         return None;
     }
-    let Ok(tokens) = lex(alloc, text, FILE) else {
-        return None;
-    };
-    match parse(alloc, &tokens) {
-        Err(ParseFault::NoParse(place)) if place.file == FILE => Some(place.at),
-        _ => None,
+    match lex(alloc, text, FILE) {
+        Ok(tokens) => stop_of_tokens(alloc, &tokens),
+        Err(_) => None,
     }
 }
 

@@ -22,8 +22,3 @@ pub fn written_with(alloc: Global, places: bool, text: &str) -> Result<String, A
     put_answer(&mut out, alloc, text)?;
     String::from_utf8_lossy(alloc, out.as_slice())
 }
-
-/// The tree of a text.
-pub fn written(alloc: Global, text: &str) -> Result<String, AllocError> {
-    written_with(alloc, false, text)
-}
