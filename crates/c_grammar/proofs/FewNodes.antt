@@ -50,11 +50,17 @@ module _ (types : List (List ℕ)) where
     few (Trees.texts (x ∷ more)) w rest = omega (arith, texts_count more rest)
     few (Trees.paren left a right) w rest = omega (arith, few a w (punctuator M.Close right ∷ rest))
     few (Trees.index a left b right) w rest =
-        omega (arith, few a w.1 (punctuator M.OpenSquare left ∷ spelled b (punctuator M.CloseSquare right ∷ rest)),
-          few b w.2 (punctuator M.CloseSquare right ∷ rest))
+        omega (
+          arith,
+          few a w.1 (punctuator M.OpenSquare left ∷ spelled b (punctuator M.CloseSquare right ∷ rest)),
+          few b w.2 (punctuator M.CloseSquare right ∷ rest),
+        )
     few (Trees.call f left all right) w rest =
-        omega (arith, few f w.1 (punctuator M.Open left ∷ spelled_arguments all (punctuator M.Close right ∷ rest)),
-          arguments_few true all w.2 (punctuator M.Close right ∷ rest))
+        omega (
+          arith,
+          few f w.1 (punctuator M.Open left ∷ spelled_arguments all (punctuator M.Close right ∷ rest)),
+          arguments_few true all w.2 (punctuator M.Close right ∷ rest),
+        )
     few (Trees.dot a at x) w rest = omega (arith, few a w.1 (punctuator M.Dot at ∷ word K.Name x ∷ rest))
     few (Trees.arrow a at x) w rest = omega (arith, few a w.1 (punctuator M.Arrow at ∷ word K.Name x ∷ rest))
     few (Trees.post a op at) w rest = omega (arith, few a w.1 (punctuator (step_punctuator op) at ∷ rest))
@@ -65,8 +71,12 @@ module _ (types : List (List ℕ)) where
     few (Trees.cast left t right a) w rest = omega (arith, type_name_few t w.1 (punctuator M.Close right ∷ spelled a rest), few a w.2 rest)
     few (Trees.binary a op at b) w rest = omega (arith, few a w.2 (punctuator (binary_punctuator op) at ∷ spelled b rest), few b w.3 rest)
     few (Trees.cond a question b colon c) w rest =
-        omega (arith, few a w.2 (punctuator M.Question question ∷ spelled b (punctuator M.Colon colon ∷ spelled c rest)),
-          few b w.3 (punctuator M.Colon colon ∷ spelled c rest), few c w.4 rest)
+        omega (
+          arith,
+          few a w.2 (punctuator M.Question question ∷ spelled b (punctuator M.Colon colon ∷ spelled c rest)),
+          few b w.3 (punctuator M.Colon colon ∷ spelled c rest),
+          few c w.4 rest,
+        )
     few (Trees.assign a op at b) w rest = omega (arith, few a w.2 (punctuator (assign_punctuator op) at ∷ spelled b rest), few b w.3 rest)
     few (Trees.comma a at b) w rest = omega (arith, few a w.1 (punctuator M.Comma at ∷ spelled b rest), few b w.2 rest)
     few (Trees.braces left all comma right) w rest = absurd w
@@ -74,8 +84,12 @@ module _ (types : List (List ℕ)) where
     arguments_few : (first : Bool) (t : Trees.Arguments) → AreArguments types first t → Few size_arguments spelled_arguments t
     arguments_few first Trees.no_arguments w rest = omega arith
     arguments_few first (Trees.and_argument comma a more) w rest =
-        omega (arith, longer_comma comma (spelled a (spelled_arguments more rest)), few a w.2 (spelled_arguments more rest),
-          arguments_few false more w.3 rest)
+        omega (
+          arith,
+          longer_comma comma (spelled a (spelled_arguments more rest)),
+          few a w.2 (spelled_arguments more rest),
+          arguments_few false more w.3 rest,
+        )
 
     optional_few : (t : Trees.OptionalExpression) → IsOptional types t → Few size_optional spelled_optional t
     optional_few Trees.no_expression w rest = omega arith
@@ -99,33 +113,50 @@ module _ (types : List (List ℕ)) where
     specifier_few (Trees.typename x) w rest = omega arith
     specifier_few (Trees.struct_named at x) w rest = omega arith
     specifier_few (Trees.struct_body at x left all right) w rest =
-        omega (arith, longer_tag x (punctuator M.OpenBrace left ∷ spelled_member_declarations all (punctuator M.CloseBrace right ∷ rest)),
-          member_declarations_few all w.1 (punctuator M.CloseBrace right ∷ rest))
+        omega (
+          arith,
+          longer_tag x (punctuator M.OpenBrace left ∷ spelled_member_declarations all (punctuator M.CloseBrace right ∷ rest)),
+          member_declarations_few all w.1 (punctuator M.CloseBrace right ∷ rest),
+        )
     specifier_few (Trees.enum_named at x) w rest = omega arith
     specifier_few (Trees.enum_body at x left all comma right) w rest =
-        omega (arith, longer_tag x (punctuator M.OpenBrace left ∷ spelled_enumerators all (spelled_comma comma (punctuator M.CloseBrace right ∷ rest))),
+        omega (
+          arith,
+          longer_tag x (punctuator M.OpenBrace left ∷ spelled_enumerators all (spelled_comma comma (punctuator M.CloseBrace right ∷ rest))),
           enumerators_few true all w.1 (spelled_comma comma (punctuator M.CloseBrace right ∷ rest)),
-          longer_comma comma (punctuator M.CloseBrace right ∷ rest))
+          longer_comma comma (punctuator M.CloseBrace right ∷ rest),
+        )
 
     member_declarations_few : (t : Trees.MemberDeclarations) → AreMemberDeclarations types t → Few size_member_declarations spelled_member_declarations t
     member_declarations_few Trees.no_member_declarations w rest = omega arith
     member_declarations_few (Trees.and_member_declaration specs all semicolon more) w rest =
-        omega (arith, specifiers_few specs w.0 (spelled_member_declarators all (punctuator M.Semicolon semicolon ∷ spelled_member_declarations more rest)),
+        omega (
+          arith,
+          specifiers_few specs w.0 (spelled_member_declarators all (punctuator M.Semicolon semicolon ∷ spelled_member_declarations more rest)),
           member_declarators_few true all w.2 (punctuator M.Semicolon semicolon ∷ spelled_member_declarations more rest),
-          member_declarations_few more w.3 rest)
+          member_declarations_few more w.3 rest,
+        )
 
     member_declarators_few : (first : Bool) (t : Trees.MemberDeclarators) → AreMemberDeclarators types first t
         → Few size_member_declarators spelled_member_declarators t
     member_declarators_few first Trees.no_member_declarators w rest = omega arith
     member_declarators_few first (Trees.and_member_declarator comma d more) w rest =
-        omega (arith, longer_comma comma (spelled_declarator d (spelled_member_declarators more rest)),
-          declarator_few d w.1 (spelled_member_declarators more rest), member_declarators_few false more w.3 rest)
+        omega (
+          arith,
+          longer_comma comma (spelled_declarator d (spelled_member_declarators more rest)),
+          declarator_few d w.1 (spelled_member_declarators more rest),
+          member_declarators_few false more w.3 rest,
+        )
 
     enumerators_few : (first : Bool) (t : Trees.Enumerators) → AreEnumerators types first t → Few size_enumerators spelled_enumerators t
     enumerators_few first Trees.no_enumerators w rest = omega arith
     enumerators_few first (Trees.and_enumerator comma x value more) w rest =
-        omega (arith, longer_comma comma (word K.Name x ∷ spelled_enumerator_value value (spelled_enumerators more rest)),
-          enumerator_value_few value w.2 (spelled_enumerators more rest), enumerators_few false more w.3 rest)
+        omega (
+          arith,
+          longer_comma comma (word K.Name x ∷ spelled_enumerator_value value (spelled_enumerators more rest)),
+          enumerator_value_few value w.2 (spelled_enumerators more rest),
+          enumerators_few false more w.3 rest,
+        )
 
     enumerator_value_few : (t : Trees.EnumeratorValue) → IsEnumeratorValue types t → Few size_enumerator_value spelled_enumerator_value t
     enumerator_value_few Trees.no_value w rest = omega arith
@@ -137,11 +168,17 @@ module _ (types : List (List ℕ)) where
     declarator_few (Trees.pointer at consts d) w rest = omega (arith, consts_count consts (spelled_declarator d rest), declarator_few d w rest)
     declarator_few (Trees.enclosed left d right) w rest = omega (arith, declarator_few d w.1 (punctuator M.Close right ∷ rest))
     declarator_few (Trees.array d left bound right) w rest =
-        omega (arith, declarator_few d w.1 (punctuator M.OpenSquare left ∷ spelled_optional bound (punctuator M.CloseSquare right ∷ rest)),
-          optional_few bound w.2 (punctuator M.CloseSquare right ∷ rest))
+        omega (
+          arith,
+          declarator_few d w.1 (punctuator M.OpenSquare left ∷ spelled_optional bound (punctuator M.CloseSquare right ∷ rest)),
+          optional_few bound w.2 (punctuator M.CloseSquare right ∷ rest),
+        )
     declarator_few (Trees.function d left all right) w rest =
-        omega (arith, declarator_few d w.1 (punctuator M.Open left ∷ spelled_parameter_list all (punctuator M.Close right ∷ rest)),
-          parameter_list_few all w.2 (punctuator M.Close right ∷ rest))
+        omega (
+          arith,
+          declarator_few d w.1 (punctuator M.Open left ∷ spelled_parameter_list all (punctuator M.Close right ∷ rest)),
+          parameter_list_few all w.2 (punctuator M.Close right ∷ rest),
+        )
 
     parameter_list_few : (t : Trees.ParameterList) → IsParameterList types t → Few size_parameter_list spelled_parameter_list t
     parameter_list_few (Trees.void_alone at) w rest = omega arith
@@ -150,15 +187,22 @@ module _ (types : List (List ℕ)) where
     parameters_few : (first : Bool) (t : Trees.Parameters) → AreParameters types first t → Few size_parameters spelled_parameters t
     parameters_few first Trees.no_parameters w rest = omega arith
     parameters_few first (Trees.and_parameter comma specs d more) w rest =
-        omega (arith, longer_comma comma (spelled_specifiers specs (spelled_declarator d (spelled_parameters more rest))),
-          specifiers_few specs w.1 (spelled_declarator d (spelled_parameters more rest)), declarator_few d w.2 (spelled_parameters more rest),
-          parameters_few false more w.3 rest)
+        omega (
+          arith,
+          longer_comma comma (spelled_specifiers specs (spelled_declarator d (spelled_parameters more rest))),
+          specifiers_few specs w.1 (spelled_declarator d (spelled_parameters more rest)),
+          declarator_few d w.2 (spelled_parameters more rest),
+          parameters_few false more w.3 rest,
+        )
 
   mutual
     initializer_few : (t : Trees.Expression) → IsInitializer types t → FewAfterOne size_initializer spelled t
     initializer_few (Trees.braces left all comma right) w rest =
-        omega (arith, first_initializers_few all w.1 (spelled_comma comma (punctuator M.CloseBrace right ∷ rest)),
-          longer_comma comma (punctuator M.CloseBrace right ∷ rest))
+        omega (
+          arith,
+          first_initializers_few all w.1 (spelled_comma comma (punctuator M.CloseBrace right ∷ rest)),
+          longer_comma comma (punctuator M.CloseBrace right ∷ rest),
+        )
     initializer_few a w rest = omega (arith, few a w.1 rest)
 
     -- each has a comma before it
@@ -171,8 +215,12 @@ module _ (types : List (List ℕ)) where
     first_initializers_few : (t : Trees.Arguments) → AreInitializers types true t → FewAfterOne size_initializers spelled_arguments t
     first_initializers_few Trees.no_arguments w rest = omega arith
     first_initializers_few (Trees.and_argument comma a more) w rest =
-        omega (arith, longer_comma comma (spelled a (spelled_arguments more rest)),
-          initializer_few a w.1 (spelled_arguments more rest), initializers_few more w.2 rest)
+        omega (
+          arith,
+          longer_comma comma (spelled a (spelled_arguments more rest)),
+          initializer_few a w.1 (spelled_arguments more rest),
+          initializers_few more w.2 rest,
+        )
 
   value_few : (t : Option (ℕ × Trees.Expression)) → IsValue types t → Few size_value spelled_value t
   value_few None w rest = omega arith
@@ -182,14 +230,21 @@ module _ (types : List (List ℕ)) where
       → Few size_init_declarators spelled_init_declarators t
   init_declarators_few first [] w rest = omega arith
   init_declarators_few first (d ∷ more) w rest =
-      omega (arith, longer_comma d.comma (spelled_declarator d.declarator (spelled_value d.value (spelled_init_declarators more rest))),
+      omega (
+        arith,
+        longer_comma d.comma (spelled_declarator d.declarator (spelled_value d.value (spelled_init_declarators more rest))),
         declarator_few d.declarator w.1 (spelled_value d.value (spelled_init_declarators more rest)),
-        value_few d.value w.3 (spelled_init_declarators more rest), init_declarators_few false more w.4 rest)
+        value_few d.value w.3 (spelled_init_declarators more rest),
+        init_declarators_few false more w.4 rest,
+      )
 
   declaration_few : (t : Trees.Declaration) → IsDeclaration types t → Fewer size_declaration spelled_declaration t
   declaration_few d w rest =
-      omega (arith, specifiers_few d.specs w.0 (spelled_init_declarators d.all (punctuator M.Semicolon d.semicolon ∷ rest)),
-        init_declarators_few true d.all w.1 (punctuator M.Semicolon d.semicolon ∷ rest))
+      omega (
+        arith,
+        specifiers_few d.specs w.0 (spelled_init_declarators d.all (punctuator M.Semicolon d.semicolon ∷ rest)),
+        init_declarators_few true d.all w.1 (punctuator M.Semicolon d.semicolon ∷ rest),
+      )
 
   if_any_few : (t : Option Trees.Expression) → IsExpressionIfAny types t → Few size_if_any spelled_if_any t
   if_any_few None w rest = omega arith
@@ -212,25 +267,36 @@ module _ (types : List (List ℕ)) where
     statement_few (Trees.when at left a right one) w rest =
         omega (arith, few a w.0 (punctuator M.Close right ∷ spelled_statement one rest), statement_few one w.1 rest)
     statement_few (Trees.choose at left a right one else other) w rest =
-        omega (arith, few a w.1 (punctuator M.Close right ∷ spelled_statement one (keyword W.Else else ∷ spelled_statement other rest)),
-          statement_few one w.2 (keyword W.Else else ∷ spelled_statement other rest), statement_few other w.3 rest)
+        omega (
+          arith,
+          few a w.1 (punctuator M.Close right ∷ spelled_statement one (keyword W.Else else ∷ spelled_statement other rest)),
+          statement_few one w.2 (keyword W.Else else ∷ spelled_statement other rest),
+          statement_few other w.3 rest,
+        )
     statement_few (Trees.while at left a right body) w rest =
         omega (arith, few a w.0 (punctuator M.Close right ∷ spelled_statement body rest), statement_few body w.1 rest)
     statement_few (Trees.do_while at body while left a right semicolon) w rest =
-        omega (arith,
+        omega (
+          arith,
           statement_few body w.0 (keyword W.While while ∷
-            punctuator M.Open left ∷ spelled a (punctuator M.Close right ∷ punctuator M.Semicolon semicolon ∷ rest)),
-          few a w.1 (punctuator M.Close right ∷ punctuator M.Semicolon semicolon ∷ rest))
+              punctuator M.Open left ∷ spelled a (punctuator M.Close right ∷ punctuator M.Semicolon semicolon ∷ rest)),
+          few a w.1 (punctuator M.Close right ∷ punctuator M.Semicolon semicolon ∷ rest),
+        )
     statement_few (Trees.for at left start test semicolon step right body) w rest =
-        omega (arith,
+        omega (
+          arith,
           for_start_few start w.0 (spelled_if_any test (punctuator M.Semicolon semicolon ∷
-            spelled_if_any step (punctuator M.Close right ∷ spelled_statement body rest))),
+              spelled_if_any step (punctuator M.Close right ∷ spelled_statement body rest))),
           if_any_few test w.1 (punctuator M.Semicolon semicolon ∷ spelled_if_any step (punctuator M.Close right ∷ spelled_statement body rest)),
           if_any_few step w.2 (punctuator M.Close right ∷ spelled_statement body rest),
-          statement_few body w.3 rest)
+          statement_few body w.3 rest,
+        )
     statement_few (Trees.switch at left a right begin all end) w rest =
-        omega (arith, few a w.0 (punctuator M.Close right ∷ punctuator M.OpenBrace begin ∷ spelled_switch_items all (punctuator M.CloseBrace end ∷ rest)),
-          switch_items_few all w.1 (punctuator M.CloseBrace end ∷ rest))
+        omega (
+          arith,
+          few a w.0 (punctuator M.Close right ∷ punctuator M.OpenBrace begin ∷ spelled_switch_items all (punctuator M.CloseBrace end ∷ rest)),
+          switch_items_few all w.1 (punctuator M.CloseBrace end ∷ rest),
+        )
     statement_few (Trees.break at semicolon) w rest = omega arith
     statement_few (Trees.continue at semicolon) w rest = omega arith
     statement_few (Trees.return at a semicolon) w rest = omega (arith, if_any_few a w (punctuator M.Semicolon semicolon ∷ rest))
@@ -255,10 +321,12 @@ module _ (types : List (List ℕ)) where
 
 item_few : (types : List (List ℕ)) (t : Trees.Item) → IsItem types t → Few size_item spelled_item t
 item_few types (Trees.defines specs d left items right) w rest =
-    omega (arith,
+    omega (
+      arith,
       specifiers_few types specs w.0 (spelled_declarator d (punctuator M.OpenBrace left ∷ spelled_block_items items (punctuator M.CloseBrace right ∷ rest))),
       declarator_few types d w.1 (punctuator M.OpenBrace left ∷ spelled_block_items items (punctuator M.CloseBrace right ∷ rest)),
-      block_items_few types items w.3 (punctuator M.CloseBrace right ∷ rest))
+      block_items_few types items w.3 (punctuator M.CloseBrace right ∷ rest),
+    )
 item_few types (Trees.declaration d) w rest =
     omega (arith, declaration_few types d w rest)
 

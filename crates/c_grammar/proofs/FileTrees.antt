@@ -79,15 +79,16 @@ of_back P (x ∷ a) b h = of_back P a b h.1
 
 of_each : (P : ℕ → Type 0) (items : List Trees.Item) → AllByRecursion P (places_items items) → AllByRecursion (λ item. All P (places_item item)) items
 of_each P [] h = tt
-of_each P (item ∷ items) h =
-    (All-from_recursion P (places_item item) (of_front P (places_item item) (places_items items) h),
-      of_each P items (of_back P (places_item item) (places_items items) h))
+of_each P (item ∷ items) h = (
+  All-from_recursion P (places_item item) (of_front P (places_item item) (places_items items) h),
+  of_each P items (of_back P (places_item item) (places_items items) h),
+)
 
 pub nodes_have_places : TokensHavePlaces → NodesHavePlaces
 nodes_have_places p = record {
   of_tree = λ items w.
       All-from_recursion (IsPlaceOf (spell items)) (places_items items)
-        (placed (IsPlaceOf (spell items)) items w (own_places (spell items) [] (spell items) refl));
+      (placed (IsPlaceOf (spell items)) items w (own_places (spell items) [] (spell items) refl));
   of_file = λ bytes items t. All-from_recursion (IsPlaceIn bytes) (places_items items) (placed_in p bytes items t);
   of_item = λ bytes items t.
       All-from_recursion (λ item. All (IsPlaceIn bytes) (places_item item)) items (of_each (IsPlaceIn bytes) items (placed_in p bytes items t));

@@ -70,9 +70,14 @@ mutual
   member_declarations_count : (t : Trees.MemberDeclarations) → length (places_member_declarations t) ≡ (size_member_declarations t).nodes
   member_declarations_count Trees.no_member_declarations = refl
   member_declarations_count (Trees.and_member_declaration specs all semicolon more) =
-      omega (arith, length-append (places_specifiers specs) (places_member_declarators all),
-        length-append (places_specifiers specs ++ places_member_declarators all) (places_member_declarations more), specifiers_count specs,
-        member_declarators_count all, member_declarations_count more)
+      omega (
+        arith,
+        length-append (places_specifiers specs) (places_member_declarators all),
+        length-append (places_specifiers specs ++ places_member_declarators all) (places_member_declarations more),
+        specifiers_count specs,
+        member_declarators_count all,
+        member_declarations_count more,
+      )
 
   member_declarators_count : (t : Trees.MemberDeclarators) → length (places_member_declarators t) ≡ (size_member_declarators t).nodes
   member_declarators_count Trees.no_member_declarators = refl
@@ -105,15 +110,24 @@ mutual
   parameters_count : (t : Trees.Parameters) → length (places_parameters t) ≡ (size_parameters t).nodes
   parameters_count Trees.no_parameters = refl
   parameters_count (Trees.and_parameter comma specs d more) =
-      omega (arith, length-append (places_specifiers specs) (places_declarator d),
-        length-append (places_specifiers specs ++ places_declarator d) (places_parameters more), specifiers_count specs, declarator_count d,
-        parameters_count more)
+      omega (
+        arith,
+        length-append (places_specifiers specs) (places_declarator d),
+        length-append (places_specifiers specs ++ places_declarator d) (places_parameters more),
+        specifiers_count specs,
+        declarator_count d,
+        parameters_count more,
+      )
 
   initializers_count : (t : Trees.Arguments) → length (places_initializers t) ≡ (size_initializers t).nodes
   initializers_count Trees.no_arguments = refl
   initializers_count (Trees.and_argument comma a more) =
-      omega (arith, length-append (places_initializer a) (places_initializers more), as_initializer_count a (places a) (size a) (count a),
-        initializers_count more)
+      omega (
+        arith,
+        length-append (places_initializer a) (places_initializers more),
+        as_initializer_count a (places a) (size a) (count a),
+        initializers_count more,
+      )
 
 initializer_count : (t : Trees.Expression) → length (places_initializer t) ≡ (size_initializer t).nodes
 initializer_count a = as_initializer_count a (places a) (size a) (count a)
@@ -125,9 +139,14 @@ value_count (Some value) = omega (arith, initializer_count value.1)
 init_declarators_count : (t : List Trees.InitDeclarator) → length (places_init_declarators t) ≡ (size_init_declarators t).nodes
 init_declarators_count [] = refl
 init_declarators_count (d ∷ more) =
-    omega (arith, length-append (places_declarator d.declarator) (places_value d.value),
-      length-append (places_declarator d.declarator ++ places_value d.value) (places_init_declarators more), declarator_count d.declarator,
-      value_count d.value, init_declarators_count more)
+    omega (
+      arith,
+      length-append (places_declarator d.declarator) (places_value d.value),
+      length-append (places_declarator d.declarator ++ places_value d.value) (places_init_declarators more),
+      declarator_count d.declarator,
+      value_count d.value,
+      init_declarators_count more,
+    )
 
 declaration_count : (t : Trees.Declaration) → length (places_declaration t) ≡ (size_declaration t).nodes
 declaration_count d =
@@ -152,16 +171,28 @@ mutual
   statement_count (Trees.evaluate a semicolon) = omega (arith, if_any_count a)
   statement_count (Trees.when at left a right one) = omega (arith, length-append (places a) (places_statement one), count a, statement_count one)
   statement_count (Trees.choose at left a right one else other) =
-      omega (arith, length-append (places a) (places_statement one), length-append (places a ++ places_statement one) (places_statement other), count a,
-        statement_count one, statement_count other)
+      omega (
+        arith,
+        length-append (places a) (places_statement one),
+        length-append (places a ++ places_statement one) (places_statement other),
+        count a,
+        statement_count one,
+        statement_count other,
+      )
   statement_count (Trees.while at left a right body) = omega (arith, length-append (places a) (places_statement body), count a, statement_count body)
   statement_count (Trees.do_while at body while left a right semicolon) =
       omega (arith, length-append (places_statement body) (places a), statement_count body, count a)
   statement_count (Trees.for at left start test semicolon step right body) =
-      omega (arith, length-append (places_for_start start) (places_if_any test),
+      omega (
+        arith,
+        length-append (places_for_start start) (places_if_any test),
         length-append (places_for_start start ++ places_if_any test) (places_if_any step),
-        length-append (places_for_start start ++ places_if_any test ++ places_if_any step) (places_statement body), for_start_count start, if_any_count test,
-        if_any_count step, statement_count body)
+        length-append (places_for_start start ++ places_if_any test ++ places_if_any step) (places_statement body),
+        for_start_count start,
+        if_any_count test,
+        if_any_count step,
+        statement_count body,
+      )
   statement_count (Trees.switch at left a right begin all end) =
       omega (arith, length-append (places a) (places_switch_items all), count a, switch_items_count all)
   statement_count (Trees.break at semicolon) = refl
@@ -189,9 +220,14 @@ mutual
 
 pub item_count : (t : Trees.Item) → length (places_item t) ≡ (size_item t).nodes
 item_count (Trees.defines specs d left items right) =
-    omega (arith, length-append (places_specifiers specs) (places_declarator d),
-      length-append (places_specifiers specs ++ places_declarator d) (left ∷ places_block_items items), specifiers_count specs, declarator_count d,
-      block_items_count items)
+    omega (
+      arith,
+      length-append (places_specifiers specs) (places_declarator d),
+      length-append (places_specifiers specs ++ places_declarator d) (left ∷ places_block_items items),
+      specifiers_count specs,
+      declarator_count d,
+      block_items_count items,
+    )
 item_count (Trees.declaration d) = omega (arith, declaration_count d)
 
 pub items_count : (t : List Trees.Item) → length (places_items t) ≡ (size_items t).nodes

@@ -369,7 +369,7 @@ module _ (P : ℕ → Type 0) (types : List (List ℕ)) where
         record {
           nodes = and (front h)
               (both (places_for_start start ++ places_if_any test ++ places_if_any step) (both (places_for_start start ++ places_if_any test)
-                (both (places_for_start start) p.nodes q.nodes) r.nodes) s.nodes);
+              (both (places_for_start start) p.nodes q.nodes) r.nodes) s.nodes);
           others = s.others;
         }
     statement_stand (Trees.switch at left a right begin all end) w h =
