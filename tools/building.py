@@ -64,14 +64,30 @@ def crates_for(crate, uses):
 # ---- whether there is something to do
 
 
+def sources_of(order):
+    parts = [os.path.join("crates", name, part) for name in order for part in PARTS]
+    return [part for part in parts if os.path.isdir(os.path.join(HERE, part))]
+
+
+def are_older(parts, moment):
+    return not any(is_newer(os.path.join(HERE, part), moment) for part in ["crates.txt", *parts])
+
+
 def is_built(crate):
     """Whether the program is there and no source is newer."""
     stamp = stamp_of(crate)
     if not os.path.exists(program_of(crate)) or not os.path.exists(stamp):
         return False
     with open(stamp) as lines:
-        parts = lines.read().splitlines()
-    return not any(is_newer(os.path.join(HERE, part), os.path.getmtime(stamp)) for part in ["crates.txt", *parts])
+        return are_older(lines.read().splitlines(), os.path.getmtime(stamp))
+
+
+def is_left_by_the_gate(crate, order):
+    """Whether the program is there without a stamp, as `rt ci` leaves it once it is proved, and no source is newer."""
+    program = program_of(crate)
+    if not os.path.exists(program) or os.path.exists(stamp_of(crate)):
+        return False
+    return are_older(sources_of(order), os.path.getmtime(program))
 
 
 def is_newer(path, moment):
@@ -180,9 +196,8 @@ def link(crate):
 
 
 def write_stamp(crate, order, moment):
-    parts = [os.path.join("crates", name, part) for name in order for part in PARTS]
     with open(stamp_of(crate), "w") as stamp:
-        stamp.writelines(part + "\n" for part in parts if os.path.isdir(os.path.join(HERE, part)))
+        stamp.writelines(part + "\n" for part in sources_of(order))
     os.utime(stamp_of(crate), (moment, moment))
 
 
@@ -193,6 +208,9 @@ def build(crate, say):
         return False
     moment = time.time()
     work = Build(crate, say)
+    if is_left_by_the_gate(crate, work.order):
+        write_stamp(crate, work.order, os.path.getmtime(program_of(crate)))
+        return True
     say(f"proving and building {len(work.order)} crates, {AT_ONCE} at a time; the first time takes several minutes")
     try:
         failed = work.prove()
