@@ -1,4 +1,4 @@
-//! Tests of the tokens, places and trees of C texts, by the public calls of the layers that make them.
+//! Tests of the trees of C texts and of the places in them, by the public calls of the layers that make them.
 //!
 //! It stands on the crates that it tests, and has no call of its own. What is wanted was written by
 //! hand from C99.
@@ -19,8 +19,6 @@ mod operator_text;
 #[cfg(test)]
 mod places;
 #[cfg(test)]
-mod presumed_lines;
-#[cfg(test)]
 mod rows;
 #[cfg(test)]
 mod sizes;
@@ -28,10 +26,6 @@ mod sizes;
 mod statements;
 #[cfg(test)]
 mod stops;
-#[cfg(test)]
-mod string_bytes;
-#[cfg(test)]
-mod tokens;
 #[cfg(test)]
 mod tree_text;
 #[cfg(test)]

@@ -1,5 +1,5 @@
 use Rattle.std.proofs.Common.{◌≡◌}
-use Rattle.front_tests.proofs.presumed_lines.has_lines.Goals as goal
+use Rattle.token_tests.proofs.presumed_lines.has_lines.Goals as goal
 
 -- src/presumed_lines.rt:71:23
 pub are_lines-requires-clause-places : goal.are_lines-requires-clause-places

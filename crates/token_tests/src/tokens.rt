@@ -1,7 +1,6 @@
 //! Whole texts with their tokens or their fault, and places with what is presumed of them. What is
 //! wanted was written by hand from C99: 6.4 for tokens, 6.10.4 for lines.
 
-use crate::rows::Row;
 use c_lexer::{LexFault, Presumed, Punctuator, Token, TokenKind, Tokens, lex, presumed_at};
 use lay_base::Keyword;
 use std::alloc::{AllocError, Global};
@@ -9,6 +8,9 @@ use std::test::Fail;
 
 /// The most bytes that a text may have.
 const LIMIT: usize = 4_194_304;
+
+/// A text, and what is written of its tokens or of its fault.
+type Row = (&'static str, &'static str);
 
 /// Texts, and the kinds of their tokens, or their fault.
 static TEXTS: [Row; 118] = [

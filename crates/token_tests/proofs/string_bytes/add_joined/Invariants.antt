@@ -1,6 +1,6 @@
 use Rattle.std.proofs.Common.{◌≡◌, ℕ, length}
 use Rattle.c_lexer.specs.TokenTexts.{HaveTexts}
-use Rattle.front_tests.proofs.string_bytes.add_joined.Given as goal
+use Rattle.token_tests.proofs.string_bytes.add_joined.Given as goal
 
 abbrev pub invariant-loop-rest : goal.invariant-loop-rest
 invariant-loop-rest l = HaveTexts l.text l.rest × (l.text ≡ l.fn.text)
