@@ -1,1 +1,4 @@
 pub mod IntKinds
+pub mod Types
+pub mod Objects
+pub mod Sameness
