@@ -1,5 +1,6 @@
 pub mod Trees
 pub mod Views
+pub mod Mapped
 pub mod Conversions
 pub mod Arithmetic
 pub mod Constants

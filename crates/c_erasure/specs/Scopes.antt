@@ -1,0 +1,168 @@
+-- What names stand for, and where (C99 6.2.1 to 6.2.3).
+use Rattle.std.specs.Prelude.{◌≡◌, ℕ, ◌+◌, ◌≤◌, ◌<◌, Bool, true, false, ◌&&◌, nat_le, nat_lt, List, [], ◌∷◌, ◌++◌, map, length, if◌then◌else◌}
+use Rattle.std.specs.Prelude.{Option, Some, None, slice_get}
+use Rattle.std.specs.Option.{option_map}
+use Rattle.std.specs.Str.{bytes_eq}
+use Rattle.c_types.specs.Types.{CType, Record}
+use Rattle.c_typed.specs.declared.operators.LibraryFunction.{LibraryFunction}
+use Rattle.c_typed.specs.Typed.{Declared}
+
+-- ---- ordinary identifiers (6.2.3)
+
+pub data Entity : Type 0 where
+  typedef : (t : CType) → Entity
+  enumerator : (v : ℕ) → Entity
+  an_object : (n : ℕ) → (t : CType) → Entity
+  a_function : (n : ℕ) → (t : CType) → Entity
+  a_library_function : (which : LibraryFunction) → Entity
+  a_local : (n : ℕ) → (t : CType) → Entity
+
+-- a name, where its declarator or enumerator stands, and the byte from which on it is in scope
+pub record Bound : Type 0 where
+  pub name : List ℕ
+  pub place : ℕ
+  pub from : ℕ
+  pub entity : Entity
+
+-- ---- tags
+
+pub record Tag : Type 0 where
+  pub name : List ℕ
+  pub place : ℕ
+  pub from : ℕ
+  pub is_enumeration : Bool
+
+-- ---- objects of the file: those of file scope, `static` locals and string literals
+
+pub record AnObject : Type 0 where
+  pub ty : CType
+  -- the bytes of a string literal, with its last zero, and where it stands
+  pub literal : Option (ℕ × List ℕ)
+
+-- ---- a file: what it declares at file scope, whose scope ends with the file
+
+pub record FileScope : Type 0 where
+  -- the number of the file
+  pub file : ℕ
+  pub names : List Bound
+  pub tags : List Tag
+  -- the complete records, in the order in which their definitions end, with the byte of each end
+  pub records : List Record
+  pub ends : List ℕ
+  -- the tags of all records: of the complete ones in their order, then of the others
+  pub numbered : List (List ℕ)
+  pub objects : List AnObject
+  pub functions : List CType
+  -- the tag of a record without one, by the byte of its `struct`
+  pub untagged : ℕ → List ℕ
+
+-- Where an expression stands: the file; the names that the blocks around it declare up to there, the innermost block first; whether it
+-- is inside a function or a parameter list; and the types of the parameters and locals.
+pub record Scope : Type 0 where
+  pub file : FileScope
+  pub blocks : List (List Bound)
+  pub is_inside : Bool
+  pub local_types : List CType
+
+-- at file scope
+abbrev pub at_file_scope : FileScope → Scope
+at_file_scope f = record { file = f; blocks = []; is_inside = false; local_types = [] }
+
+-- inside a block, or a parameter list
+abbrev pub inside : Scope → Scope
+inside s = record { file = s.file; blocks = [] ∷ s.blocks; is_inside = true; local_types = s.local_types }
+
+-- what a declaration of the innermost block adds
+abbrev pub with_name : List (List Bound) → Bound → List (List Bound)
+with_name [] b = (b ∷ []) ∷ []
+with_name (block ∷ outer) b = (block ++ b ∷ []) ∷ outer
+
+abbrev pub with_local : Scope → Bound → Scope
+with_local s b = record { file = s.file; blocks = with_name s.blocks b; is_inside = true; local_types = s.local_types }
+
+-- a parameter, whose number is the next one
+abbrev pub with_parameter : Scope → (name : List ℕ) → (place : ℕ) → CType → Scope
+with_parameter s x at t = record {
+  file = s.file;
+  blocks = with_name s.blocks (record { name = x; place = at; from = at; entity = a_local (length s.local_types) t });
+  is_inside = true;
+  local_types = s.local_types ++ t ∷ [];
+}
+
+-- ---- what a name stands for at a byte
+
+abbrev pub or_else : {A : Type 0} → Option A → Option A → Option A
+or_else None o = o
+or_else (Some x) o = Some x
+
+-- what a block declares under a name
+abbrev pub declared_in : List Bound → List ℕ → Option Bound
+declared_in [] x = None
+declared_in (b ∷ more) x = if bytes_eq b.name x then Some b else declared_in more x
+
+-- the innermost block that declares a name hides what it stands for outside (6.2.1)
+abbrev pub innermost : List (List Bound) → List ℕ → Option Entity
+innermost [] x = None
+innermost (block ∷ outer) x = or_else (option_map (λ b. b.entity) (declared_in block x)) (innermost outer x)
+
+abbrev pub in_first : List (List Bound) → List ℕ → Option Bound
+in_first [] x = None
+in_first (block ∷ outer) x = declared_in block x
+
+-- what the innermost block has declared under a name
+abbrev pub here : Scope → List ℕ → Option Bound
+here s x = in_first s.blocks x
+
+-- one whose scope began before
+abbrev pub visible : List Bound → List ℕ → (at : ℕ) → Option Entity
+visible [] x at = None
+visible (b ∷ more) x at = or_else (if bytes_eq b.name x && nat_le b.from at then Some b.entity else None) (visible more x at)
+
+abbrev pub named : Scope → List ℕ → (at : ℕ) → Option Entity
+named s x at = or_else (innermost s.blocks x) (visible s.file.names x at)
+
+-- a tag that was declared before, and whether it is one of an enumeration
+abbrev pub tag_at : List Tag → List ℕ → (at : ℕ) → Option Bool
+tag_at [] x at = None
+tag_at (t ∷ more) x at = or_else (if bytes_eq t.name x && nat_lt t.from at then Some t.is_enumeration else None) (tag_at more x at)
+
+-- ---- complete records
+
+-- how many definitions ended before a byte
+abbrev pub ended : List ℕ → (at : ℕ) → ℕ
+ended [] at = 0
+ended (end ∷ more) at = (if nat_lt end at then 1 else 0) + ended more at
+
+-- the number of a record by its tag
+abbrev pub IsNumbered : FileScope → List ℕ → ℕ → Type 0
+IsNumbered f tag r = slice_get f.numbered r ≡ Some tag
+
+-- ---- what is declared where an expression stands
+
+abbrev pub declared : Scope → Declared
+declared s = record {
+  records = s.file.records;
+  complete = ended s.file.ends;
+  locals = s.local_types;
+  objects = map (λ o. o.ty) s.file.objects;
+  functions = s.file.functions;
+}
+
+-- the scope with some more objects: those of string literals in an operand that is not evaluated
+abbrev pub with_objects : Scope → List AnObject → Scope
+with_objects s more = record {
+  file = record {
+    file = s.file.file;
+    names = s.file.names;
+    tags = s.file.tags;
+    records = s.file.records;
+    ends = s.file.ends;
+    numbered = s.file.numbered;
+    objects = s.file.objects ++ more;
+    functions = s.file.functions;
+    untagged = s.file.untagged;
+  };
+  blocks = s.blocks;
+  is_inside = s.is_inside;
+  local_types = s.local_types;
+}
