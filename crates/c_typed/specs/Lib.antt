@@ -7,3 +7,5 @@ pub mod Constants
 pub mod Fits
 pub mod Rules
 pub mod Typed
+pub mod Parts
+pub mod TypedStatements
