@@ -1,4 +1,10 @@
+pub mod Adding
+pub mod Examples
 pub mod IntKinds
-pub mod Types
+pub mod Laying
+pub mod Layouts
+pub mod Limits
 pub mod Objects
 pub mod Sameness
+pub mod Types
+pub mod Views

@@ -1,0 +1,9 @@
+pub mod Alignments
+pub mod Before
+pub mod Ends
+pub mod Fields
+pub mod Lists
+pub mod Longer
+pub mod Offsets
+pub mod SameTypes
+pub mod TypeLists

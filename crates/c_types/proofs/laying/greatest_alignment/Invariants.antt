@@ -1,0 +1,11 @@
+use Rattle.std.proofs.Common.{◌≡◌, ◌<◌, drop}
+use Rattle.std.specs.Prelude.{max}
+use Rattle.c_types.specs.Layouts.{greatest_alignment}
+use Rattle.c_types.specs.Views.{field_types}
+use Rattle.c_types.proofs.laying.greatest_alignment.Given as goal
+
+abbrev pub invariant-loop-field : goal.invariant-loop-field
+invariant-loop-field l = record {
+  greatest : max l.greatest (greatest_alignment l.known (field_types (drop l.field-index l.fields))) ≡ greatest_alignment l.known (field_types l.fields);
+  positive : 0 < l.greatest;
+}

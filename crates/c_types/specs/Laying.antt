@@ -1,0 +1,33 @@
+-- What private functions ask and answer, and what a list of records keeps beside it.
+use Rattle.std.specs.Prelude.{◌≡◌, ℕ, ◌<◌, ◌≤◌, ◌-◌, ◌^◌, min, List, length, All, IsTrue, Result, Ok, Err}
+use Rattle.c_types.specs.declared.layout.Layout.{Layout}
+use Rattle.c_types.specs.declared.fault.RecordFault.{RecordFault}
+use Rattle.c_types.specs.declared.fault.RecordFault.TheVariants.{TooBig, Memory}
+use Rattle.c_types.specs.declared.record.Record.{Record}
+use Rattle.c_types.specs.Layouts.{layouts, size_in}
+use Rattle.c_types.specs.Limits.{AreComplete, AreSmall, greatest_size}
+use Rattle.c_types.specs.Objects.{is_object}
+use Rattle.c_types.specs.Types.{CType}
+use Rattle.c_types.specs.Views.{records_of}
+
+abbrev pub AreAligned : List Layout → Type 0
+AreAligned known = All (λ it. 0 < it.alignment) known
+
+abbrev pub AreObjects : (count : ℕ) → List CType → Type 0
+AreObjects count types = All (λ t. IsTrue (is_object count t)) types
+
+abbrev pub AreBounded : List Layout → List CType → Type 0
+AreBounded known types = All (λ t. size_in known t ≤ greatest_size) types
+
+-- the layout of one more record
+abbrev pub LayoutGives : Layout → Result Layout RecordFault → Type 0
+LayoutGives it (Ok layout) = (layout ≡ it) × (it.size ≤ greatest_size)
+LayoutGives it (Err (TooBig size)) = (greatest_size < it.size) × (size ≡ min it.size (2 ^ 64 - 1))
+LayoutGives it (Err Memory) = it.size ≤ greatest_size
+
+-- a list of records with the layouts that are kept for it
+pub record AreLaid (records : List Record) (known : List Layout) : Type 0 where
+  pub laid : known ≡ layouts (records_of records)
+  pub complete : AreComplete (records_of records)
+  pub small : AreSmall (records_of records)
+  pub few : length records < 2 ^ 32

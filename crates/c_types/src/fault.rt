@@ -1,0 +1,10 @@
+//! Why a record is refused.
+
+/// Why a record is not added.
+#[derive(Clone, Copy, Debug, PartialEq, Eq)]
+pub enum RecordFault {
+    /// Its size passes 16,777,216 bytes: the size, or `u64::MAX` where it passes that too.
+    TooBig(u64),
+    /// No memory was left.
+    Memory,
+}

@@ -1,0 +1,36 @@
+//! Sizes, alignments and offsets over a list of records, in bytes.
+
+ghost use Rattle.std.specs.Prelude.{◌≡◌, ◌≤◌, ◌<◌, IsSomeAnd, IsTrue, length, slice_get};
+ghost use Rattle.c_types.specs.Layouts.{align_of, offset_of, size_of};
+ghost use Rattle.c_types.specs.Limits.{greatest_size};
+ghost use Rattle.c_types.specs.Objects.{is_object};
+ghost use Rattle.c_types.specs.Views.{records_of, type_of};
+
+use crate::layout::{alignment_in, layout_at, size_in};
+use crate::records::Records;
+use crate::ty::Ty;
+
+/// The size of an object type (C99 6.5.3.4) of at most 16,777,216 bytes.
+pub fn size_of(r: &Records, t: &Ty) -> u32
+    requires object { IsTrue (is_object (length r.now) (type_of t.now)) }
+    requires bounded { size_of (records_of r.now) (type_of t.now) ≤ greatest_size }
+    ensures { result ≡ size_of (records_of r.now) (type_of t.now) }
+{
+    size_in(r.layouts(), t)
+}
+
+/// The alignment of an object type: an object of it begins at a multiple.
+pub fn align_of(r: &Records, t: &Ty) -> u32
+    requires { IsTrue (is_object (length r.now) (type_of t.now)) }
+    ensures { result ≡ align_of (records_of r.now) (type_of t.now) }
+{
+    alignment_in(r.layouts(), t)
+}
+
+/// Where a field of the record with a number begins, both counted from 0 (C99 6.7.2.1).
+pub fn offset_of(r: &Records, number: u32, field: u32) -> u32
+    requires { IsSomeAnd (slice_get r.now number) (λ it. field < length it.fields) }
+    ensures { result ≡ offset_of (records_of r.now) number field }
+{
+    layout_at(r.layouts(), number).offsets.as_slice()[field as usize]
+}

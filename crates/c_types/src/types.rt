@@ -1,0 +1,62 @@
+//! Copies of types, the number of their parts, and which of them fully describe objects.
+
+ghost use Rattle.std.specs.Prelude.{◌≡◌, ◌-◌, ◌^◌, IfOk, min};
+ghost use Rattle.c_types.specs.Objects.{is_object, parts};
+ghost use Rattle.c_types.specs.Views.{type_of};
+
+use crate::ty::Ty;
+use lay_base::{List, NoMemory, add, boxed};
+use std::alloc::Global;
+
+/// A copy of a type.
+pub fn copy(alloc: Global, t: &Ty) -> Result<Ty, NoMemory>
+    ensures { IfOk result (λ copy. copy ≡ t.now) }
+{
+    match t {
+        Ty::Void => Ok(Ty::Void),
+        Ty::Int(kind) => Ok(Ty::Int(*kind)),
+        Ty::Pointer(to) => Ok(Ty::Pointer(boxed(alloc, copy(alloc, to.get())?)?)),
+        Ty::Array(element, length) => Ok(Ty::Array(
+            boxed(alloc, copy(alloc, element.get())?)?,
+            *length,
+        )),
+        Ty::Function(result, parameters) => {
+            let result = boxed(alloc, copy(alloc, result.get())?)?;
+            let mut copies = List::new(alloc);
+            for parameter in parameters.as_slice() {
+                add(&mut copies, copy(alloc, parameter)?)?;
+            }
+            Ok(Ty::Function(result, copies))
+        }
+        Ty::Record(number) => Ok(Ty::Record(*number)),
+    }
+}
+
+/// How many types a type is built of, itself among them, or `u32::MAX` where they are more. A record is one.
+pub fn parts(t: &Ty) -> u32
+    ensures { result ≡ min (parts (type_of t.now)) (2 ^ 32 - 1) }
+{
+    match t {
+        Ty::Void | Ty::Int(_) | Ty::Record(_) => 1,
+        Ty::Pointer(t) | Ty::Array(t, _) => parts(t.get()).saturating_add(1),
+        Ty::Function(result, parameters) => {
+            let mut count = parts(result.get());
+            for parameter in parameters.as_slice() {
+                count = count.saturating_add(parts(parameter));
+            }
+            count.saturating_add(1)
+        }
+    }
+}
+
+/// Whether a type fully describes an object (C99 6.2.5), where so many records are complete.
+pub fn is_object(records: u32, t: &Ty) -> bool
+    ensures { result ≡ is_object records (type_of t.now) }
+{
+    match t {
+        Ty::Void | Ty::Function(_, _) => false,
+        Ty::Int(_) | Ty::Pointer(_) => true,
+        Ty::Array(element, length) => *length > 0 && is_object(records, element.get()),
+        Ty::Record(number) => *number < records,
+    }
+}
