@@ -41,7 +41,7 @@ typed = mapped (λ t. t.ty)
 abbrev pub IsTypedThing : Scope → Thing → Type 0
 IsTypedThing s (an_object p) = IsTypedPath (declared s) (mapped_path (λ t. t.ty) p)
 IsTypedThing s (a_value e) = IsTyped (declared s) (typed e)
-IsTypedThing s (a_function at f t) = slice_get s.file.functions f ≡ Some t
+IsTypedThing s (a_function at f t) = slice_get (declared s).functions f ≡ Some t
 IsTypedThing s (a_function_at e) = IsTyped (declared s) (typed e) × ((t : CType) × (type_of e ≡ pointer t) × (is_function t ≡ true))
 IsTypedThing s (a_library_function at which) = Unit {0}
 
@@ -70,9 +70,20 @@ abbrev pub literal_of : List Spelling → List ℕ
 literal_of [] = 0 ∷ []
 literal_of (x ∷ more) = string_bytes x.text ++ literal_of more
 
-abbrev pub IsLiteral : Scope → Place → List Spelling → Thing → Type 0
-IsLiteral s at all th = (n : ℕ) × (th ≡ an_object (way (array (integer Char) (length (literal_of all))) at (Typed.object n)))
-    × (slice_get s.file.objects n ≡ Some (record { ty = array (integer Char) (length (literal_of all)); literal = Some (at.at, literal_of all) }))
+-- an object for itself, of an array type, which no other file can name
+abbrev pub literal_object : Place → List ℕ → AnObject
+literal_object at bytes = record {
+  name = [];
+  place = at;
+  ty = array (integer Char) (length bytes);
+  is_linked = false;
+  literal = Some bytes;
+  initial = Some (Typed.parts (record { offset = 0; value = Typed.text bytes } ∷ []));
+}
+
+abbrev pub IsLiteral : Scope → Place → List ℕ → Thing → Type 0
+IsLiteral s at bytes th = (n : ℕ) × (th ≡ an_object (way (array (integer Char) (length bytes)) at (Typed.object n)))
+    × (slice_get s.file.objects n ≡ Some (literal_object at bytes))
 
 -- what a binary operator makes of its operands
 abbrev pub IsSum : BinaryOp → Expression → Expression → Node → Type 0
@@ -180,7 +191,7 @@ abbrev mutual
   Erases (Trees.name x) s th = (e : Entity) × (named s x.text x.from ≡ Some e) × IsNamed (place_in s x.from) e th
   Erases (Trees.number x n kind) s th = th ≡ a_value (value (integer kind) (place_in s x.from) (Typed.constant n))
   Erases (Trees.character x n) s th = th ≡ a_value (value (integer Int) (place_in s x.from) (Typed.constant n))
-  Erases (Trees.texts all) s th = IsLiteral s (place_in s (first (Trees.texts all))) all th
+  Erases (Trees.texts all) s th = IsLiteral s (place_in s (first (Trees.texts all))) (literal_of all) th
   Erases (Trees.paren left a right) s th = Erases a s th
   -- an array's own element, what lies so far behind a pointer, or with the number first
   Erases (Trees.index a left b right) s th = ((t : CType) × (p : Notes.Path) × (i : Expression) × (is_array (type_of_path p) ≡ true)

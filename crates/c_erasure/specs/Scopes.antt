@@ -3,9 +3,12 @@ use Rattle.std.specs.Prelude.{◌≡◌, ℕ, ◌+◌, ◌≤◌, ◌<◌, Bool,
 use Rattle.std.specs.Prelude.{Option, Some, None, slice_get}
 use Rattle.std.specs.Option.{option_map}
 use Rattle.std.specs.Str.{bytes_eq}
+use Rattle.lay_base.specs.declared.place.Place.{Place}
 use Rattle.c_types.specs.Types.{CType, Record}
 use Rattle.c_typed.specs.declared.operators.LibraryFunction.{LibraryFunction}
+use Rattle.c_typed.specs.Trees
 use Rattle.c_typed.specs.Typed.{Declared}
+use Rattle.c_erasure.specs.Noted.{Noted}
 
 -- ---- ordinary identifiers (6.2.3)
 
@@ -35,9 +38,33 @@ pub record Tag : Type 0 where
 -- ---- objects of the file: those of file scope, `static` locals and string literals
 
 pub record AnObject : Type 0 where
+  pub name : List ℕ
+  pub place : Place
   pub ty : CType
-  -- the bytes of a string literal, with its last zero, and where it stands
-  pub literal : Option (ℕ × List ℕ)
+  pub is_linked : Bool
+  -- the bytes of a string literal, with its last zero
+  pub literal : Option (List ℕ)
+  -- what it holds at first, all else being zero; none where it is only declared
+  pub initial : Option (Trees.Initializer Noted)
+
+-- ---- functions of the file
+
+pub record ALocal : Type 0 where
+  pub name : List ℕ
+  pub ty : CType
+
+pub record AFunction : Type 0 where
+  pub name : List ℕ
+  pub place : Place
+  pub ty : CType
+  pub is_linked : Bool
+  pub parameters : List ALocal
+  -- the locals that are no parameters
+  pub locals : List ALocal
+  -- none where it is only declared
+  pub body : Option (Trees.Statement Noted)
+  -- how many nodes its definition has, or its first declaration
+  pub nodes : ℕ
 
 -- ---- a file: what it declares at file scope, whose scope ends with the file
 
@@ -52,25 +79,25 @@ pub record FileScope : Type 0 where
   -- the tags of all records: of the complete ones in their order, then of the others
   pub numbered : List (List ℕ)
   pub objects : List AnObject
-  pub functions : List CType
+  pub functions : List AFunction
   -- the tag of a record without one, by the byte of its `struct`
   pub untagged : ℕ → List ℕ
 
 -- Where an expression stands: the file; the names that the blocks around it declare up to there, the innermost block first; whether it
--- is inside a function or a parameter list; and the types of the parameters and locals.
+-- is inside a function or a parameter list; and the parameters and locals of the function.
 pub record Scope : Type 0 where
   pub file : FileScope
   pub blocks : List (List Bound)
   pub is_inside : Bool
-  pub local_types : List CType
+  pub locals : List ALocal
 
 -- at file scope
 abbrev pub at_file_scope : FileScope → Scope
-at_file_scope f = record { file = f; blocks = []; is_inside = false; local_types = [] }
+at_file_scope f = record { file = f; blocks = []; is_inside = false; locals = [] }
 
 -- inside a block, or a parameter list
 abbrev pub inside : Scope → Scope
-inside s = record { file = s.file; blocks = [] ∷ s.blocks; is_inside = true; local_types = s.local_types }
+inside s = record { file = s.file; blocks = [] ∷ s.blocks; is_inside = true; locals = s.locals }
 
 -- what a declaration of the innermost block adds
 abbrev pub with_name : List (List Bound) → Bound → List (List Bound)
@@ -78,15 +105,15 @@ with_name [] b = (b ∷ []) ∷ []
 with_name (block ∷ outer) b = (block ++ b ∷ []) ∷ outer
 
 abbrev pub with_local : Scope → Bound → Scope
-with_local s b = record { file = s.file; blocks = with_name s.blocks b; is_inside = true; local_types = s.local_types }
+with_local s b = record { file = s.file; blocks = with_name s.blocks b; is_inside = true; locals = s.locals }
 
 -- a parameter, whose number is the next one
 abbrev pub with_parameter : Scope → (name : List ℕ) → (place : ℕ) → CType → Scope
 with_parameter s x at t = record {
   file = s.file;
-  blocks = with_name s.blocks (record { name = x; place = at; from = at; entity = a_local (length s.local_types) t });
+  blocks = with_name s.blocks (record { name = x; place = at; from = at; entity = a_local (length s.locals) t });
   is_inside = true;
-  local_types = s.local_types ++ t ∷ [];
+  locals = s.locals ++ record { name = x; ty = t } ∷ [];
 }
 
 -- ---- what a name stands for at a byte
@@ -143,9 +170,9 @@ abbrev pub declared : Scope → Declared
 declared s = record {
   records = s.file.records;
   complete = ended s.file.ends;
-  locals = s.local_types;
+  locals = map (λ l. l.ty) s.locals;
   objects = map (λ o. o.ty) s.file.objects;
-  functions = s.file.functions;
+  functions = map (λ f. f.ty) s.file.functions;
 }
 
 -- the scope with some more objects: those of string literals in an operand that is not evaluated
@@ -164,5 +191,5 @@ with_objects s more = record {
   };
   blocks = s.blocks;
   is_inside = s.is_inside;
-  local_types = s.local_types;
+  locals = s.locals;
 }

@@ -1,6 +1,7 @@
 pub mod Trees
 pub mod Views
 pub mod Mapped
+pub mod Walk
 pub mod Conversions
 pub mod Arithmetic
 pub mod Constants
@@ -8,4 +9,5 @@ pub mod Fits
 pub mod Rules
 pub mod Typed
 pub mod Parts
+pub mod InitialValues
 pub mod TypedStatements
