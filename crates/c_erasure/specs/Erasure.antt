@@ -26,6 +26,7 @@ use Rattle.c_typed.specs.Typed.{IsTyped, IsTypedPath}
 use Rattle.c_erasure.specs.Scopes.{Entity, typedef, enumerator, a_local, Bound, FileScope, AnObject, Scope, inside, with_parameter, here, named, tag_at}
 use Rattle.c_erasure.specs.Scopes.{IsNumbered, ended, declared, with_objects}
 use Rattle.c_erasure.specs.Scopes as Scopes
+use Rattle.c_erasure.specs.Scopes.{defines}
 use Rattle.c_erasure.specs.Noted as Notes
 use Rattle.c_erasure.specs.Noted.{Noted, Note, size_of as sized, cast_to, Expression, Node, Thing, an_object, a_value, a_function, a_function_at}
 use Rattle.c_erasure.specs.Noted.{a_library_function, value, way, type_of, type_of_path, value_of, unconverted}
@@ -75,6 +76,7 @@ abbrev pub literal_object : Place → List ℕ → AnObject
 literal_object at bytes = record {
   name = [];
   place = at;
+  first = at.at;
   ty = array (integer Char) (length bytes);
   is_linked = false;
   literal = Some bytes;
@@ -307,7 +309,7 @@ abbrev mutual
   pub AreEnumerators : Scope → ℕ → Trees.Enumerators → ℕ → Type 0
   AreEnumerators s next Trees.no_enumerators after = Unit {0}
   AreEnumerators s next (Trees.and_enumerator comma x value more) after = (v : ℕ) × IsEnumeratorValue s next value v
-      × IsBound s (record { name = x.text; place = x.from; from = comma_or more after; entity = enumerator v })
+      × IsBound s (record { name = x.text; place = x.from; from = comma_or more after; how = defines; entity = enumerator v })
       × AreEnumerators s ((v + 1) % 2 ^ 32) more after
 
   -- the value is an int's: one past the greatest int is none

@@ -1,12 +1,13 @@
 -- Which typed initializers are those of an initializer (C99 6.7.8). Braces stand round the items of every array and structure (own), and
 -- there may be fewer items than elements or fields.
-use Rattle.std.specs.Prelude.{◌≡◌, ℕ, ◌+◌, ◌≤◌, ◌==◌, Bool, true, false, if◌then◌else◌, List, [], ◌∷◌, ◌++◌, All, length, Option, Some, None, slice_get}
+use Rattle.std.specs.Prelude.{◌≡◌, ◌≢◌, ℕ, ◌+◌, ◌≤◌, ◌==◌, Bool, true, false, if◌then◌else◌, List, [], ◌∷◌, ◌++◌, All, length, Option, Some, None, slice_get}
 use Rattle.std.specs.Prelude.{◌⊎◌}
 use Rattle.c_types.specs.declared.ty.IntKind.{IntKind}
 use Rattle.c_types.specs.Types.{CType, integer, array, structure, Field, Record}
 use Rattle.c_types.specs.Layouts.{width, size_of, offset_of}
 use Rattle.c_ast.specs.declared.words.Spelling.{Spelling}
 use Rattle.c_ast.specs.Trees
+use Rattle.c_ast.specs.Places.{first_text}
 use Rattle.c_typed.specs.Trees as Typed
 use Rattle.c_typed.specs.Conversions.{is_scalar, is_array, is_record}
 use Rattle.c_typed.specs.InitialValues.{InitialValue, initial_value}
@@ -41,9 +42,13 @@ abbrev pub IsNoText : CType → Option (List Spelling) → Type 0
 IsNoText u None = Unit {0}
 IsNoText u (Some all) = is_character u ≡ false
 
-abbrev pub IsText : Option (List Spelling) → CType → ℕ → List Part → Type 0
-IsText None t at parts = ⊥
-IsText (Some all) t at parts = (bytes : List ℕ) × IsTextOf t all bytes × (parts ≡ part_at at (Typed.text bytes))
+-- its bytes are those of the array, and no object of their own
+abbrev pub IsNoObject : Scope → List Spelling → Type 0
+IsNoObject s all = All (λ o. o.first ≢ first_text all) s.file.objects
+
+abbrev pub IsText : Option (List Spelling) → Scope → CType → ℕ → List Part → Type 0
+IsText None s t at parts = ⊥
+IsText (Some all) s t at parts = (bytes : List ℕ) × IsTextOf t all bytes × IsNoObject s all × (parts ≡ part_at at (Typed.text bytes))
 
 -- the parts of an object of that type which begins at that byte of the whole
 abbrev mutual
@@ -53,11 +58,11 @@ abbrev mutual
       ((x : Expression) × (is_scalar t ≡ true) × (parts ≡ part_at at (Typed.value x)) × IsOneValue all s x)
       ⊎ ((n : ℕ) × (u : CType) × (t ≡ array u n) × IsNoText u (texts_of (Trees.braces left all last right)) × InitializeElements all s u n at parts)
       ⊎ ((r : ℕ) × (rec : Record) × (t ≡ structure r) × (slice_get s.file.records r ≡ Some rec) × InitializeFields all s r 0 rec.fields at parts)
-      ⊎ IsText (texts_of (Trees.braces left all last right)) t at parts
+      ⊎ IsText (texts_of (Trees.braces left all last right)) s t at parts
   Initializes a s t at parts =
       ((x : Expression) × (is_scalar t ≡ true) × (parts ≡ part_at at (Typed.value x)) × Values (Erases a s) x)
       ⊎ ((r : ℕ) × (p : Typed.Path Noted) × (t ≡ structure r) × (parts ≡ part_at at (Typed.record_of p)) × Erases a s (an_object p))
-      ⊎ IsText (texts_of a) t at parts
+      ⊎ IsText (texts_of a) s t at parts
 
   -- one expression, which is no initializer in braces
   pub IsOneValue : Trees.Arguments → Scope → Expression → Type 0

@@ -6,3 +6,6 @@ pub mod Declarators
 pub mod Erasure
 pub mod Initializers
 pub mod Statements
+pub mod Marks
+pub mod Literals
+pub mod Files

@@ -20,11 +20,18 @@ pub data Entity : Type 0 where
   a_library_function : (which : LibraryFunction) → Entity
   a_local : (n : ℕ) → (t : CType) → Entity
 
--- a name, where its declarator or enumerator stands, and the byte from which on it is in scope
+-- how a declaration declares (6.9.2): it may leave the definition to others, or define where no other does
+pub data How : Type 0 where
+  declares : How
+  tentative : How
+  defines : How
+
+-- a name, where it stands, the byte from which on it is in scope, and what it stands for
 pub record Bound : Type 0 where
   pub name : List ℕ
   pub place : ℕ
   pub from : ℕ
+  pub how : How
   pub entity : Entity
 
 -- ---- tags
@@ -39,7 +46,9 @@ pub record Tag : Type 0 where
 
 pub record AnObject : Type 0 where
   pub name : List ℕ
+  -- where it is defined, or else declared first, and where it is declared first
   pub place : Place
+  pub first : ℕ
   pub ty : CType
   pub is_linked : Bool
   -- the bytes of a string literal, with its last zero
@@ -55,7 +64,9 @@ pub record ALocal : Type 0 where
 
 pub record AFunction : Type 0 where
   pub name : List ℕ
+  -- where it is defined, or else declared first, and where it is declared first
   pub place : Place
+  pub first : ℕ
   pub ty : CType
   pub is_linked : Bool
   pub parameters : List ALocal
@@ -111,7 +122,7 @@ with_local s b = record { file = s.file; blocks = with_name s.blocks b; is_insid
 abbrev pub with_parameter : Scope → (name : List ℕ) → (place : ℕ) → CType → Scope
 with_parameter s x at t = record {
   file = s.file;
-  blocks = with_name s.blocks (record { name = x; place = at; from = at; entity = a_local (length s.locals) t });
+  blocks = with_name s.blocks (record { name = x; place = at; from = at; how = defines; entity = a_local (length s.locals) t });
   is_inside = true;
   locals = s.locals ++ record { name = x; ty = t } ∷ [];
 }

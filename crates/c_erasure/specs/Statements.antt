@@ -10,7 +10,7 @@ use Rattle.c_typed.specs.Trees as Typed
 use Rattle.c_typed.specs.Conversions.{as_kind}
 use Rattle.c_typed.specs.TypedStatements.{declared_by, declared_by_arms}
 use Rattle.c_erasure.specs.Noted.{Noted, Expression, type_of, unconverted}
-use Rattle.c_erasure.specs.Scopes.{a_local, an_object, Bound, Scope, inside, with_local, ended, declared}
+use Rattle.c_erasure.specs.Scopes.{a_local, an_object, defines, Bound, Scope, inside, with_local, ended, declared}
 use Rattle.c_erasure.specs.Specifiers.{storage_of, no_storage, is_auto, is_register, is_static}
 use Rattle.c_erasure.specs.Declarators.{declared_name, Shape, closed, open_array, IsSmall}
 use Rattle.c_erasure.specs.Erasure.{place_in, IsNew, IsBase, IsConstant, Values, Erases, IsOne, Declares}
@@ -49,10 +49,10 @@ HasConstants s t (Some value) initial = IsInitializer value.1 s t initial × Are
 
 -- the scope after a local: it begins at the end of the declarator, so the initializer is in it
 abbrev pub with_object : Scope → Spelling → ℕ → CType → Scope
-with_object s x n t = with_local s (record { name = x.text; place = x.from; from = x.to; entity = an_object n t })
+with_object s x n t = with_local s (record { name = x.text; place = x.from; from = x.to; how = defines; entity = an_object n t })
 
 abbrev pub with_variable : Scope → Spelling → ℕ → CType → Scope
-with_variable s x n t = with_local s (record { name = x.text; place = x.from; from = x.to; entity = a_local n t })
+with_variable s x n t = with_local s (record { name = x.text; place = x.from; from = x.to; how = defines; entity = a_local n t })
 
 -- the object that a `static` local is
 abbrev pub IsStaticLocal : Scope → Trees.InitDeclarator → Spelling → CType → ℕ → Type 0
@@ -60,6 +60,7 @@ IsStaticLocal s d x t n = (initial : Typed.Initializer Noted) × HasConstants (w
     × (slice_get s.file.objects n ≡ Some (record {
         name = x.text;
         place = place_in s (first_declarator d.declarator x.from);
+        first = first_declarator d.declarator x.from;
         ty = t;
         is_linked = false;
         literal = None;
