@@ -15,6 +15,7 @@ use Rattle.c_ast.specs.declared.operators.UnaryOp.TheVariants as U
 use Rattle.c_ast.specs.Trees
 use Rattle.c_ast.specs.Places.{first, first_specifiers, first_declarator}
 use Rattle.c_typed.specs.declared.operators.UnaryOp.TheVariants as TU
+use Rattle.c_typed.specs.declared.program.MentionKind.TheVariants.{Named, Sizeof}
 use Rattle.c_typed.specs.declared.operators.BinaryOp.{BinaryOp}
 use Rattle.c_typed.specs.declared.operators.BinaryOp.TheVariants as B
 use Rattle.c_typed.specs.declared.operators.PointerOp.TheVariants as P
@@ -24,7 +25,7 @@ use Rattle.c_typed.specs.Conversions.{is_array, is_function, is_scalar, pointed,
 use Rattle.c_typed.specs.Constants.{Constant, valued, constant_of}
 use Rattle.c_typed.specs.Typed.{IsTyped, IsTypedPath}
 use Rattle.c_erasure.specs.Scopes.{Entity, typedef, enumerator, a_local, Bound, FileScope, AnObject, Scope, inside, with_parameter, here, named, tag_at}
-use Rattle.c_erasure.specs.Scopes.{IsNumbered, ended, declared, with_objects}
+use Rattle.c_erasure.specs.Scopes.{IsNumbered, ended, declared, with_objects, measured, IsMentioned}
 use Rattle.c_erasure.specs.Scopes as Scopes
 use Rattle.c_erasure.specs.Scopes.{defines}
 use Rattle.c_erasure.specs.Noted as Notes
@@ -155,7 +156,7 @@ with_parameter_if_named s (Some x) t = with_parameter s x.text x.from t
 
 -- `sizeof` a complete object type (6.5.3.4)
 abbrev pub IsSize : Scope → ℕ → CType → Option ℕ → Thing → Type 0
-IsSize s at t where_named th = (is_object (ended s.file.ends at) t ≡ true)
+IsSize s at t where_named th = (is_object (ended s.file.ends at) t ≡ true) × IsMentioned s Sizeof t at
     × (th ≡ a_value (Typed.expression (record { ty = integer UInt; note = sized t where_named }) (place_in s at)
           (Typed.constant (size_of s.file.records t))))
 
@@ -174,8 +175,8 @@ IsConstant Stands s kind v = (own : List AnObject) × (x : Expression) × Values
 
 -- the operand of `sizeof` is not evaluated: it is typed, and leaves nothing but its type
 abbrev pub IsMeasured : (Scope → Thing → Type 0) → Scope → CType → Type 0
-IsMeasured Stands s t = (own : List AnObject) × (operand : Thing) × Stands (with_objects s own) operand × IsTypedThing (with_objects s own) operand
-    × IsOfType operand t
+IsMeasured Stands s t = (own : List AnObject) × (operand : Thing) × Stands (measured (with_objects s own)) operand
+    × IsTypedThing (with_objects s own) operand × IsOfType operand t
 
 -- the type that specifiers name (6.7.2): by their words, or by one typedef's name, structure or enumeration
 abbrev pub IsBase : (CType → Type 0) → Trees.Specifiers → CType → Type 0
@@ -220,8 +221,10 @@ abbrev mutual
       × (th ≡ a_value (value t (place_in s at) (Typed.unary TU.Complement x))) × Values (Erases a s) x
   Erases (Trees.unary U.Not at a) s th = (t : CType) × (x : Expression) × (th ≡ a_value (value t (place_in s at) (Typed.not x))) × Values (Erases a s) x
   Erases (Trees.sizeof_expression at a) s th = (t : CType) × IsMeasured (Erases a) s t × IsSize s at t None th
-  Erases (Trees.sizeof_type at left n right) s th = (t : CType) × IsTypeName s n t × IsSize s at t (Some (place_of_name n)) th
-  Erases (Trees.cast left n right a) s th = (t : CType) × (x : Expression) × IsTypeName s n t × Values (Erases a s) x
+  Erases (Trees.sizeof_type at left n right) s th = (t : CType) × IsTypeName s n t × IsMentioned s Named t (place_of_name n)
+      × IsSize s at t (Some (place_of_name n)) th
+  Erases (Trees.cast left n right a) s th = (t : CType) × (x : Expression) × IsTypeName s n t × IsMentioned s Named t (place_of_name n)
+      × Values (Erases a s) x
       × (th ≡ a_value (Typed.expression (record { ty = t; note = cast_to (place_of_name n) }) (place_in s left) (Typed.convert x true)))
   Erases (Trees.binary a op at b) s th = (t : CType) × (x y : Expression) × (node : Node) × Values (Erases a s) x × Values (Erases b s) y × IsJoined (kind_of op) x y node
       × (th ≡ a_value (value t (place_in s (first a)) node))
@@ -291,6 +294,7 @@ abbrev mutual
   AreListed s (Trees.and_parameter comma specs d more) types = (base : CType) × (shape : Shape) × (rest : CTypes)
       × (types ≡ and_type (parameter_type shape) rest) × ((storage_of specs ≡ no_storage) ⊎ (storage_of specs ≡ is_register))
       × IsBase (IsOne s specs) specs base × Declares s d base shape × (is_scalar (parameter_type shape) ≡ true) × IsNew s (declared_name d)
+      × IsMentioned s Named (parameter_type shape) (first_declarator d (first_specifiers specs))
       × AreListed (with_parameter_if_named s (declared_name d) (parameter_type shape)) more rest
 
   -- the members of a structure, in declared order (6.7.2.1)
@@ -303,6 +307,7 @@ abbrev mutual
   AreMembers s base Trees.no_member_declarators semicolon fields = fields ≡ []
   AreMembers s base (Trees.and_member_declarator comma d more) semicolon fields = (x : Spelling) × (t : CType) × (rest : List Field)
       × (declared_name d ≡ Some x) × Declares s d base (closed t) × (is_object (ended s.file.ends (first_declarator d semicolon)) t ≡ true)
+      × IsMentioned s Named t (first_declarator d semicolon)
       × (fields ≡ record { name = x.text; ty = t; place = place_in s (first_declarator d semicolon) } ∷ rest) × AreMembers s base more semicolon rest
 
   -- enumerators, whose values follow one another where none is written (6.7.2.2)

@@ -15,6 +15,7 @@ use Rattle.c_ast.specs.Places.{first_declarator, first_item}
 use Rattle.c_ast.specs.Sizes.{size_item}
 use Rattle.c_typed.specs.declared.operators.LibraryFunction.{LibraryFunction}
 use Rattle.c_typed.specs.declared.operators.LibraryFunction.TheVariants as L
+use Rattle.c_typed.specs.declared.program.MentionKind.TheVariants.{Object, Named}
 use Rattle.c_typed.specs.Trees as Typed
 use Rattle.c_typed.specs.Mapped.{mapped_statement, mapped_initializer}
 use Rattle.c_typed.specs.Conversions.{is_function}
@@ -23,13 +24,14 @@ use Rattle.c_typed.specs.TypedStatements.{declared_by, all_declared_by, IsTypedI
 use Rattle.c_erasure.specs.Noted.{Noted}
 use Rattle.c_erasure.specs.Scopes as Scopes
 use Rattle.c_erasure.specs.Scopes.{How, declares, tentative, defines, Entity, typedef, an_object, a_function, a_library_function, a_local, Bound, Tag}
-use Rattle.c_erasure.specs.Scopes.{AnObject, ALocal, AFunction, FileScope, Scope, at_file_scope, visible, ended, declared}
+use Rattle.c_erasure.specs.Scopes.{AnObject, ALocal, AFunction, FileScope, Scope, at_file_scope, visible, ended, declared, IsMentioned}
 use Rattle.c_erasure.specs.Specifiers.{storage_of, Storage, no_storage, a_typedef, is_extern, is_static}
 use Rattle.c_erasure.specs.Declarators.{declared_name, is_name, Shape, closed}
 use Rattle.c_erasure.specs.Erasure.{place_in, IsBound, IsBase, IsOne, Declares}
 use Rattle.c_erasure.specs.Statements.{Statements, IsSized, HasConstants, EraseItems}
 use Rattle.c_erasure.specs.Marks.{Mark, marks_of_file, name_from, after_declarator, scope_beginnings, ends_in, defined_in, tags_in, undefined_in, firsts}
 use Rattle.c_erasure.specs.Literals.{made_by_file}
+use Rattle.c_erasure.specs.MentionPlaces.{mentions_of_file}
 
 -- ---- the names of the library's functions
 
@@ -86,13 +88,14 @@ abbrev pub IsDefinition : Scope → ℕ → CType → Option (ℕ × Trees.Expre
 IsDefinition s place t None o = Unit {0}
 IsDefinition s place t (Some value) o = (i : Typed.Initializer Noted) × HasConstants s t (Some value) i × (o.initial ≡ Some i) × (o.place ≡ place_in s place)
 
-abbrev pub IsTypedef : FileScope → CType → Trees.InitDeclarator → Spelling → ℕ → Type 0
-IsTypedef f base d x from = (t : CType) × (d.value ≡ None) × Declares (at_file_scope f) d.declarator base (closed t) × IsOwnName x.text
+abbrev pub IsTypedef : FileScope → CType → Trees.InitDeclarator → Spelling → ℕ → ℕ → Type 0
+IsTypedef f base d x place from = (t : CType) × (d.value ≡ None) × IsMentioned (at_file_scope f) Named t place × Declares (at_file_scope f) d.declarator base (closed t) × IsOwnName x.text
     × IsBound (at_file_scope f) (bound x from defines (typedef t))
 
 abbrev pub IsObject : FileScope → Storage → CType → Trees.InitDeclarator → Spelling → ℕ → ℕ → Type 0
 IsObject f words base d x place from = (shape : Shape) × (t : CType) × (n : ℕ) × (o : AnObject) × Declares (at_file_scope f) d.declarator base shape
     × IsSized (at_file_scope f) shape d.value t × (is_object (ended f.ends x.from) t ≡ true) × IsOwnName x.text
+    × IsMentioned (at_file_scope f) Object t place
     × (slice_get f.objects n ≡ Some o) × (o.name ≡ x.text) × (o.ty ≡ t) × (o.literal ≡ None)
     × IsLinkage words (is_first f x) o.is_linked × IsFirst (is_first f x) o.first place
     × IsBound (at_file_scope f) (bound x from (object_how words d.value) (an_object n t)) × IsDefinition (at_file_scope f) place t d.value o
@@ -100,6 +103,7 @@ IsObject f words base d x place from = (shape : Shape) × (t : CType) × (n : �
 -- a function is declared, or one of the library
 abbrev pub IsFunction : FileScope → Storage → CType → Trees.InitDeclarator → Spelling → ℕ → ℕ → Type 0
 IsFunction f words base d x place from = (t : CType) × (d.value ≡ None) × Declares (at_file_scope f) d.declarator base (closed t) × (is_function t ≡ true)
+    × IsMentioned (at_file_scope f) Named t place
     × (((which : LibraryFunction) × (x.text ≡ library_name which) × (t ≡ library_type which) × (words ≢ is_static)
         × IsBound (at_file_scope f) (bound x from declares (a_library_function which)))
       ⊎ ((n : ℕ) × (g : AFunction) × IsOwnName x.text × (slice_get f.functions n ≡ Some g) × (g.name ≡ x.text) × (g.ty ≡ t)
@@ -107,7 +111,7 @@ IsFunction f words base d x place from = (t : CType) × (d.value ≡ None) × De
         × IsBound (at_file_scope f) (bound x from declares (a_function n t))))
 
 abbrev pub IsFileDeclarator : FileScope → Storage → CType → Trees.InitDeclarator → Spelling → ℕ → ℕ → Type 0
-IsFileDeclarator f a_typedef base d x place from = IsTypedef f base d x from
+IsFileDeclarator f a_typedef base d x place from = IsTypedef f base d x place from
 IsFileDeclarator f no_storage base d x place from = IsFunction f no_storage base d x place from ⊎ IsObject f no_storage base d x place from
 IsFileDeclarator f is_extern base d x place from = IsFunction f is_extern base d x place from ⊎ IsObject f is_extern base d x place from
 IsFileDeclarator f is_static base d x place from = IsFunction f is_static base d x place from ⊎ IsObject f is_static base d x place from
@@ -163,7 +167,7 @@ without_notes (Typed.and_statement s more) = Typed.and_statement (mapped_stateme
 
 -- inside the body, whose block is that of the parameters too (6.2.1)
 abbrev pub in_body : FileScope → List Bound → List ALocal → Scope
-in_body f bounds locals = record { file = f; blocks = bounds ∷ []; is_inside = true; locals = locals }
+in_body f bounds locals = record { file = f; blocks = bounds ∷ []; is_inside = true; is_measured = false; locals = locals }
 
 -- the locals are numbered in the order of the text, the parameters first
 abbrev pub IsBody : FileScope → CType → List Bound → AFunction → Trees.BlockItems → Type 0
@@ -181,6 +185,7 @@ IsDefined f specs d left items nodes = (base result : CType) × (types : CTypes)
     × IsBase (IsOne (at_file_scope f) specs) specs base × (declared_name d ≡ Some x)
     × ((storage_of specs ≡ no_storage) ⊎ (storage_of specs ≡ is_extern) ⊎ (storage_of specs ≡ is_static))
     × Declares (at_file_scope f) d base (closed (function result types)) × IsOwnName x.text
+    × IsMentioned (at_file_scope f) Named (function result types) (first_declarator d x.from)
     × (slice_get f.functions n ≡ Some g) × (g.name ≡ x.text) × (g.ty ≡ function result types) × (g.nodes ≡ nodes)
     × (g.place ≡ place_in (at_file_scope f) (first_declarator d x.from))
     × IsLinkage (function_storage (storage_of specs)) (is_first f x) g.is_linked × IsFirst (is_first f x) g.first (first_declarator d x.from)
@@ -287,6 +292,7 @@ pub record IsFileOf (items : List Trees.Item) (f : FileScope) : Type 0 where
   pub numbered : f.numbered ≡ defined_in (marks_of_file f.untagged items) ++ undefined_in (marks_of_file f.untagged items)
   pub records : map (λ r. r.tag) f.records ≡ defined_in (marks_of_file f.untagged items)
   pub names : map (λ b. b.from) f.names ≡ scope_beginnings (marks_of_file f.untagged items)
+  pub mentions : map (λ m. m.at) f.mentions ≡ mentions_of_file items
   pub each_item : All (ErasesItem f) items
   pub consistent : AreConsistent f.names
   pub consistent_tags : AreConsistentTags (tags_in (marks_of_file f.untagged items))

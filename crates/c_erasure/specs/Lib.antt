@@ -8,4 +8,5 @@ pub mod Initializers
 pub mod Statements
 pub mod Marks
 pub mod Literals
+pub mod MentionPlaces
 pub mod Files

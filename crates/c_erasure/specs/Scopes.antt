@@ -1,11 +1,12 @@
 -- What names stand for, and where (C99 6.2.1 to 6.2.3).
 use Rattle.std.specs.Prelude.{◌≡◌, ℕ, ◌+◌, ◌≤◌, ◌<◌, Bool, true, false, ◌&&◌, nat_le, nat_lt, List, [], ◌∷◌, ◌++◌, map, length, if◌then◌else◌}
-use Rattle.std.specs.Prelude.{Option, Some, None, slice_get}
+use Rattle.std.specs.Prelude.{Option, Some, None, slice_get, ◌⊎◌}
 use Rattle.std.specs.Option.{option_map}
 use Rattle.std.specs.Str.{bytes_eq}
 use Rattle.lay_base.specs.declared.place.Place.{Place}
 use Rattle.c_types.specs.Types.{CType, Record}
 use Rattle.c_typed.specs.declared.operators.LibraryFunction.{LibraryFunction}
+use Rattle.c_typed.specs.declared.program.MentionKind.{MentionKind}
 use Rattle.c_typed.specs.Trees
 use Rattle.c_typed.specs.Typed.{Declared}
 use Rattle.c_erasure.specs.Noted.{Noted}
@@ -77,6 +78,13 @@ pub record AFunction : Type 0 where
   -- how many nodes its definition has, or its first declaration
   pub nodes : ℕ
 
+-- ---- types of which the file speaks outside of its expressions, and where; they serve the legality tests alone
+
+pub record AMention : Type 0 where
+  pub kind : MentionKind
+  pub ty : CType
+  pub at : ℕ
+
 -- ---- a file: what it declares at file scope, whose scope ends with the file
 
 pub record FileScope : Type 0 where
@@ -91,24 +99,27 @@ pub record FileScope : Type 0 where
   pub numbered : List (List ℕ)
   pub objects : List AnObject
   pub functions : List AFunction
+  pub mentions : List AMention
   -- the tag of a record without one, by the byte of its `struct`
   pub untagged : ℕ → List ℕ
 
 -- Where an expression stands: the file; the names that the blocks around it declare up to there, the innermost block first; whether it
--- is inside a function or a parameter list; and the parameters and locals of the function.
+-- is inside a function or a parameter list; whether it is inside an expression that is the operand of a `sizeof`; and the parameters and
+-- locals of the function.
 pub record Scope : Type 0 where
   pub file : FileScope
   pub blocks : List (List Bound)
   pub is_inside : Bool
+  pub is_measured : Bool
   pub locals : List ALocal
 
 -- at file scope
 abbrev pub at_file_scope : FileScope → Scope
-at_file_scope f = record { file = f; blocks = []; is_inside = false; locals = [] }
+at_file_scope f = record { file = f; blocks = []; is_inside = false; is_measured = false; locals = [] }
 
 -- inside a block, or a parameter list
 abbrev pub inside : Scope → Scope
-inside s = record { file = s.file; blocks = [] ∷ s.blocks; is_inside = true; locals = s.locals }
+inside s = record { file = s.file; blocks = [] ∷ s.blocks; is_inside = true; is_measured = s.is_measured; locals = s.locals }
 
 -- what a declaration of the innermost block adds
 abbrev pub with_name : List (List Bound) → Bound → List (List Bound)
@@ -116,7 +127,7 @@ with_name [] b = (b ∷ []) ∷ []
 with_name (block ∷ outer) b = (block ++ b ∷ []) ∷ outer
 
 abbrev pub with_local : Scope → Bound → Scope
-with_local s b = record { file = s.file; blocks = with_name s.blocks b; is_inside = true; locals = s.locals }
+with_local s b = record { file = s.file; blocks = with_name s.blocks b; is_inside = true; is_measured = s.is_measured; locals = s.locals }
 
 -- a parameter, whose number is the next one
 abbrev pub with_parameter : Scope → (name : List ℕ) → (place : ℕ) → CType → Scope
@@ -124,6 +135,7 @@ with_parameter s x at t = record {
   file = s.file;
   blocks = with_name s.blocks (record { name = x; place = at; from = at; how = defines; entity = a_local (length s.locals) t });
   is_inside = true;
+  is_measured = s.is_measured;
   locals = s.locals ++ record { name = x; ty = t } ∷ [];
 }
 
@@ -198,9 +210,23 @@ with_objects s more = record {
     numbered = s.file.numbered;
     objects = s.file.objects ++ more;
     functions = s.file.functions;
+    mentions = s.file.mentions;
     untagged = s.file.untagged;
   };
   blocks = s.blocks;
   is_inside = s.is_inside;
+  is_measured = s.is_measured;
   locals = s.locals;
 }
+
+-- in the operand of a `sizeof`
+abbrev pub measured : Scope → Scope
+measured s = record { file = s.file; blocks = s.blocks; is_inside = s.is_inside; is_measured = true; locals = s.locals }
+
+-- ---- the file speaks of a type there; what is said in the operand of a `sizeof` is left out
+
+abbrev pub IsListedAt : List AMention → MentionKind → CType → ℕ → Type 0
+IsListedAt all kind t at = (k : ℕ) × (slice_get all k ≡ Some (record { kind = kind; ty = t; at = at }))
+
+abbrev pub IsMentioned : Scope → MentionKind → CType → ℕ → Type 0
+IsMentioned s kind t at = (s.is_measured ≡ true) ⊎ IsListedAt s.file.mentions kind t at

@@ -6,11 +6,12 @@ use Rattle.c_types.specs.Objects.{is_object}
 use Rattle.c_ast.specs.declared.words.Spelling.{Spelling}
 use Rattle.c_ast.specs.Trees
 use Rattle.c_ast.specs.Places.{first_declarator}
+use Rattle.c_typed.specs.declared.program.MentionKind.TheVariants.{Object}
 use Rattle.c_typed.specs.Trees as Typed
 use Rattle.c_typed.specs.Conversions.{as_kind}
 use Rattle.c_typed.specs.TypedStatements.{declared_by, declared_by_arms}
 use Rattle.c_erasure.specs.Noted.{Noted, Expression, type_of, unconverted}
-use Rattle.c_erasure.specs.Scopes.{a_local, an_object, defines, Bound, Scope, inside, with_local, ended, declared}
+use Rattle.c_erasure.specs.Scopes.{a_local, an_object, defines, Bound, Scope, inside, with_local, ended, declared, IsMentioned}
 use Rattle.c_erasure.specs.Specifiers.{storage_of, no_storage, is_auto, is_register, is_static}
 use Rattle.c_erasure.specs.Declarators.{declared_name, Shape, closed, open_array, IsSmall}
 use Rattle.c_erasure.specs.Erasure.{place_in, IsNew, IsBase, IsConstant, Values, Erases, IsOne, Declares}
@@ -70,7 +71,7 @@ IsStaticLocal s d x t n = (initial : Typed.Initializer Noted) × HasConstants (w
 -- a name of a complete object type, which the block has not declared yet
 abbrev pub IsVariable : Scope → CType → Trees.InitDeclarator → Spelling → CType → Type 0
 IsVariable s base d x t = (shape : Shape) × (declared_name d.declarator ≡ Some x) × Declares s d.declarator base shape × IsSized s shape d.value t
-    × (is_object (ended s.file.ends x.from) t ≡ true) × IsNew s (Some x)
+    × (is_object (ended s.file.ends x.from) t ≡ true) × IsNew s (Some x) × IsMentioned s Object t (first_declarator d.declarator x.from)
 
 -- the statements of the declarators of a declaration, and the scope after them
 abbrev pub DeclareAll : List Trees.InitDeclarator → Scope → (static : Bool) → CType → Statements → Scope → Type 0
