@@ -29,7 +29,7 @@ use Rattle.c_erasure.specs.Scopes.{IsNumbered, ended, declared, with_objects, me
 use Rattle.c_erasure.specs.Scopes as Scopes
 use Rattle.c_erasure.specs.Scopes.{defines}
 use Rattle.c_erasure.specs.Noted as Notes
-use Rattle.c_erasure.specs.Noted.{Noted, Note, size_of as sized, cast_to, Expression, Node, Thing, an_object, a_value, a_function, a_function_at}
+use Rattle.c_erasure.specs.Noted.{Noted, Note, size_of as sized, Expression, Node, Thing, an_object, a_value, a_function, a_function_at}
 use Rattle.c_erasure.specs.Noted.{a_library_function, value, way, type_of, type_of_path, value_of, unconverted}
 use Rattle.c_erasure.specs.Operators.{Kind, computes, compares, all_of, any_of, kind_of, update_of, step_of}
 use Rattle.c_erasure.specs.Specifiers.{named_by, words_of, no_words, types_among, storage_of, Storage, no_storage, is_register}
@@ -155,9 +155,9 @@ with_parameter_if_named s None t = s
 with_parameter_if_named s (Some x) t = with_parameter s x.text x.from t
 
 -- `sizeof` a complete object type (6.5.3.4)
-abbrev pub IsSize : Scope → ℕ → CType → Option ℕ → Thing → Type 0
-IsSize s at t where_named th = (is_object (ended s.file.ends at) t ≡ true) × IsMentioned s Sizeof t at
-    × (th ≡ a_value (Typed.expression (record { ty = integer UInt; note = sized t where_named }) (place_in s at)
+abbrev pub IsSize : Scope → ℕ → CType → Thing → Type 0
+IsSize s at t th = (is_object (ended s.file.ends at) t ≡ true) × IsMentioned s Sizeof t at
+    × (th ≡ a_value (Typed.expression (record { ty = integer UInt; note = sized t at }) (place_in s at)
           (Typed.constant (size_of s.file.records t))))
 
 abbrev pub IsInt : ℤ → Type 0
@@ -220,12 +220,12 @@ abbrev mutual
   Erases (Trees.unary U.Complement at a) s th = (t : CType) × (x : Expression)
       × (th ≡ a_value (value t (place_in s at) (Typed.unary TU.Complement x))) × Values (Erases a s) x
   Erases (Trees.unary U.Not at a) s th = (t : CType) × (x : Expression) × (th ≡ a_value (value t (place_in s at) (Typed.not x))) × Values (Erases a s) x
-  Erases (Trees.sizeof_expression at a) s th = (t : CType) × IsMeasured (Erases a) s t × IsSize s at t None th
+  Erases (Trees.sizeof_expression at a) s th = (t : CType) × IsMeasured (Erases a) s t × IsSize s at t th
   Erases (Trees.sizeof_type at left n right) s th = (t : CType) × IsTypeName s n t × IsMentioned s Named t (place_of_name n)
-      × IsSize s at t (Some (place_of_name n)) th
+      × IsSize s at t th
   Erases (Trees.cast left n right a) s th = (t : CType) × (x : Expression) × IsTypeName s n t × IsMentioned s Named t (place_of_name n)
       × Values (Erases a s) x
-      × (th ≡ a_value (Typed.expression (record { ty = t; note = cast_to (place_of_name n) }) (place_in s left) (Typed.convert x true)))
+      × (th ≡ a_value (value t (place_in s left) (Typed.convert x true)))
   Erases (Trees.binary a op at b) s th = (t : CType) × (x y : Expression) × (node : Node) × Values (Erases a s) x × Values (Erases b s) y × IsJoined (kind_of op) x y node
       × (th ≡ a_value (value t (place_in s (first a)) node))
   Erases (Trees.cond a question b colon c) s th = (t : CType) × (x y z : Expression)

@@ -10,3 +10,6 @@ pub mod Marks
 pub mod Literals
 pub mod MentionPlaces
 pub mod Files
+pub mod Recognised
+pub mod InitialMentions
+pub mod Units

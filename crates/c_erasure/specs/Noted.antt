@@ -5,11 +5,10 @@ use Rattle.c_types.specs.Types.{CType, void, integer, pointer, array, function, 
 use Rattle.c_typed.specs.declared.operators.LibraryFunction.{LibraryFunction}
 use Rattle.c_typed.specs.Trees
 
--- of a constant: it is the size of that type, and where the type is named, if it is; of a cast: where its type is named
+-- of a constant: it is the size of that type, by the `sizeof` that stands there
 pub data Note : Type 0 where
   nothing : Note
-  size_of : (t : CType) → (named : Option ℕ) → Note
-  cast_to : (named : ℕ) → Note
+  size_of : (t : CType) → (at : ℕ) → Note
 
 pub record Noted : Type 0 where
   pub ty : CType

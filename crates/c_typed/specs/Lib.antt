@@ -2,6 +2,7 @@ pub mod Trees
 pub mod Views
 pub mod Mapped
 pub mod Walk
+pub mod Addressed
 pub mod Conversions
 pub mod Arithmetic
 pub mod Constants

@@ -2,7 +2,7 @@
 
 use crate::expression::TypeId;
 use crate::statement::Statement;
-use c_types::{IntKind, Ty};
+use c_types::{IntKind, Records, Ty};
 use lay_base::{List, Name, Place};
 
 /// An object: one of file scope, a `static` local, or a string literal.
@@ -89,7 +89,7 @@ pub enum MentionKind {
 /// What one file gives to its program. Its types may name incomplete records, which are numbered after the complete ones.
 #[derive(Drop)]
 pub struct Unit {
-    pub records: List<Ty>,
+    pub records: Records,
     /// The tags of the incomplete records.
     pub incomplete: List<Name>,
     pub types: List<Ty>,
@@ -103,7 +103,7 @@ pub struct Unit {
 /// A program.
 #[derive(Drop)]
 pub struct Typed {
-    pub records: List<Ty>,
+    pub records: Records,
     pub types: List<Ty>,
     pub objects: List<Object>,
     pub functions: List<Function>,

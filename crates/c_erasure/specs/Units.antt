@@ -1,0 +1,254 @@
+-- What a file gives to its program: a function of the annotated file. Allocations are recognised, types are numbered in the order of one walk,
+-- and the values of objects are computed.
+use Rattle.std.specs.Prelude.{◌≡◌, ℕ, ◌+◌, ◌*◌, ◌==◌, Bool, true, false, not, ◌&&◌, ◌||◌, if◌then◌else◌, List, [], ◌∷◌, ◌++◌, map, flat_map, filter, drop}
+use Rattle.std.specs.Prelude.{length, Option, Some, None, is_some}
+use Rattle.std.specs.List.{list_any}
+use Rattle.std.specs.Option.{option_map}
+use Rattle.lay_base.specs.declared.place.Place.{Place}
+use Rattle.c_types.specs.declared.ty.IntKind.TheVariants.{Char, UInt}
+use Rattle.c_types.specs.Types.{CType, integer, array, Record}
+use Rattle.c_types.specs.Sameness.{same_type}
+use Rattle.c_types.specs.Views.{type_of, records_of}
+use Rattle.c_ast.specs.Trees as Syntax
+use Rattle.c_ast.specs.Sizes.{size_items}
+use Rattle.c_typed.specs.declared.program.Unit.{Unit}
+use Rattle.c_typed.specs.declared.program.Object.{Object}
+use Rattle.c_typed.specs.declared.program.Initial.{Initial}
+use Rattle.c_typed.specs.declared.program.InitialValue as Stored
+use Rattle.c_typed.specs.declared.program.InitialValue.TheVariants as V
+use Rattle.c_typed.specs.declared.program.Function.{Function}
+use Rattle.c_typed.specs.declared.program.Local.{Local}
+use Rattle.c_typed.specs.declared.program.Mention.{Mention}
+use Rattle.c_typed.specs.declared.program.MentionKind.{MentionKind}
+use Rattle.c_typed.specs.declared.program.MentionKind.TheVariants.{Sizeof}
+use Rattle.c_typed.specs.Trees as Trees
+use Rattle.c_typed.specs.Mapped.{mapped, mapped_path, mapped_statement, mapped_initializer}
+use Rattle.c_typed.specs.Views.{statement_of}
+use Rattle.c_typed.specs.Walk.{types_in_statement, types_in_initializer}
+use Rattle.c_typed.specs.Addressed.{addressed_by_statement}
+use Rattle.c_typed.specs.Constants.{ty}
+use Rattle.c_typed.specs.Conversions.{is_scalar, is_pointer}
+use Rattle.c_typed.specs.InitialValues.{InitialValue, a_number, a_null, an_address, a_function, initial_value}
+use Rattle.c_erasure.specs.Noted.{Noted, Note, nothing, size_of}
+use Rattle.c_erasure.specs.Scopes.{AnObject, ALocal, AFunction, AMention, FileScope, at_file_scope, declared}
+use Rattle.c_erasure.specs.Recognised.{recognised, recognised_path}
+use Rattle.c_erasure.specs.InitialMentions.{told_by_initial}
+
+-- ---- trees with allocations recognised
+
+abbrev pub recognised_value : Trees.PartValue Noted → Trees.PartValue Noted
+recognised_value (Trees.value e) = Trees.value (recognised e)
+recognised_value (Trees.record_of p) = Trees.record_of (recognised_path p)
+recognised_value (Trees.text bytes) = Trees.text bytes
+
+abbrev pub recognised_part : Trees.Part Noted → Trees.Part Noted
+recognised_part part = record { offset = part.offset; value = recognised_value part.value }
+
+abbrev pub recognised_initializer : Trees.Initializer Noted → Trees.Initializer Noted
+recognised_initializer (Trees.whole e) = Trees.whole (recognised e)
+recognised_initializer (Trees.whole_record p) = Trees.whole_record (recognised_path p)
+recognised_initializer (Trees.parts all) = Trees.parts (map recognised_part all)
+
+abbrev mutual
+  pub recognised_statement : Trees.Statement Noted → Trees.Statement Noted
+  recognised_statement (Trees.evaluate e) = Trees.evaluate (recognised e)
+  recognised_statement (Trees.block locals all) = Trees.block locals (recognised_statements all)
+  recognised_statement (Trees.declare n initial) = Trees.declare n (option_map recognised_initializer initial)
+  recognised_statement (Trees.when e one) = Trees.when (recognised e) (recognised_statement one)
+  recognised_statement (Trees.when_else e one other) = Trees.when_else (recognised e) (recognised_statement one) (recognised_statement other)
+  recognised_statement (Trees.while e body) = Trees.while (recognised e) (recognised_statement body)
+  recognised_statement (Trees.do_while body e) = Trees.do_while (recognised_statement body) (recognised e)
+  recognised_statement (Trees.for locals start test step body) =
+      Trees.for locals (recognised_statements start) (option_map recognised test) (option_map recognised step) (recognised_statement body)
+  recognised_statement (Trees.switch e locals arms) = Trees.switch (recognised e) locals (recognised_arms arms)
+  recognised_statement Trees.break = Trees.break
+  recognised_statement Trees.continue = Trees.continue
+  recognised_statement (Trees.return e) = Trees.return (option_map recognised e)
+
+  pub recognised_statements : Trees.Statements Noted → Trees.Statements Noted
+  recognised_statements Trees.no_statements = Trees.no_statements
+  recognised_statements (Trees.and_statement s more) = Trees.and_statement (recognised_statement s) (recognised_statements more)
+
+  pub recognised_arms : Trees.Arms Noted → Trees.Arms Noted
+  recognised_arms Trees.no_arms = Trees.no_arms
+  recognised_arms (Trees.and_arm cases is_default all more) = Trees.and_arm cases is_default (recognised_statements all) (recognised_arms more)
+
+-- ---- mentions: a `sizeof` that is the size operand of an allocation is none
+
+abbrev pub place_of_size : Note → List ℕ
+place_of_size nothing = []
+place_of_size (size_of t at) = at ∷ []
+
+abbrev pub if_any : {A : Type 0} → Option A → List A
+if_any None = []
+if_any (Some x) = x ∷ []
+
+abbrev pub size_places : List Noted → List ℕ
+size_places [] = []
+size_places (t ∷ more) = place_of_size t.note ++ size_places more
+
+abbrev pub bodies : FileScope → List (Trees.Statement Noted)
+bodies f = flat_map (λ g. if_any g.body) f.functions
+
+abbrev pub initials : FileScope → List (Trees.Initializer Noted)
+initials f = flat_map (λ o. if_any o.initial) f.objects
+
+-- the types at the nodes of all bodies and initializers, before allocations are recognised and after
+abbrev pub noted_in : FileScope → List Noted
+noted_in f = flat_map types_in_statement (bodies f) ++ flat_map types_in_initializer (initials f)
+
+abbrev pub left_in : FileScope → List Noted
+left_in f = flat_map (λ s. types_in_statement (recognised_statement s)) (bodies f)
+    ++ flat_map (λ i. types_in_initializer (recognised_initializer i)) (initials f)
+
+abbrev pub is_among : List ℕ → ℕ → Bool
+is_among places at = list_any (λ place. place == at) places
+
+abbrev pub is_sizeof : MentionKind → Bool
+is_sizeof Sizeof = true
+is_sizeof kind = false
+
+abbrev pub is_size_operand : FileScope → AMention → Bool
+is_size_operand f m = is_sizeof m.kind && is_among (size_places (noted_in f)) m.at && not (is_among (size_places (left_in f)) m.at)
+
+abbrev pub typed_initializer : Trees.Initializer Noted → Trees.Initializer CType
+typed_initializer i = mapped_initializer (λ t. t.ty) (recognised_initializer i)
+
+abbrev pub mentions : FileScope → List AMention
+mentions f = filter (λ m. not (is_size_operand f m)) f.mentions ++ flat_map (λ o. told_by_initial (option_map typed_initializer o.initial)) f.objects
+
+-- ---- what an object holds at first: a null pointer is what lies there without a value
+
+abbrev pub Stores : Type 0
+Stores = ℕ × CType × InitialValue
+
+abbrev pub of_text : ℕ → List ℕ → List Stores
+of_text at [] = []
+of_text at (v ∷ more) = (at, integer Char, a_number Char v) ∷ of_text (at + 1) more
+
+abbrev pub stored : CType → ℕ → Option InitialValue → List Stores
+stored t at None = []
+stored t at (Some a_null) = []
+stored t at (Some v) = (at, t, v) ∷ []
+
+abbrev pub of_expression : FileScope → ℕ → Trees.Expression CType → List Stores
+of_expression f at e = stored (ty e) at (initial_value (declared (at_file_scope f)) e)
+
+abbrev pub of_value : FileScope → ℕ → Trees.PartValue CType → List Stores
+of_value f at (Trees.value e) = of_expression f at e
+of_value f at (Trees.record_of p) = []
+of_value f at (Trees.text bytes) = of_text at bytes
+
+abbrev pub of_part : FileScope → Trees.Part CType → List Stores
+of_part f part = of_value f part.offset part.value
+
+abbrev pub of_initializer : FileScope → Trees.Initializer CType → List Stores
+of_initializer f (Trees.whole e) = of_expression f 0 e
+of_initializer f (Trees.whole_record p) = []
+of_initializer f (Trees.parts all) = flat_map (of_part f) all
+
+abbrev pub stored_in : FileScope → AnObject → List Stores
+stored_in f o = flat_map (λ i. of_initializer f (typed_initializer i)) (if_any o.initial)
+
+-- ---- types, each once, in the order in which they stand first: in objects, functions and mentions
+
+abbrev pub type_if_pointer : Stores → List CType
+type_if_pointer (at, t, v) = if is_pointer t then t ∷ [] else []
+
+abbrev pub object_types : FileScope → AnObject → List CType
+object_types f o = o.ty ∷ flat_map type_if_pointer (stored_in f o)
+
+abbrev pub function_types : AFunction → List CType
+function_types g = g.ty ∷ map (λ l. l.ty) (g.parameters ++ g.locals)
+    ++ flat_map (λ s. map (λ t. t.ty) (types_in_statement (recognised_statement s))) (if_any g.body)
+
+abbrev pub all_types : FileScope → List CType
+all_types f = flat_map (object_types f) f.objects ++ flat_map function_types f.functions ++ map (λ m. m.ty) (mentions f)
+
+abbrev pub new_among : List CType → List CType → List CType
+new_among known [] = []
+new_among known (t ∷ more) = if list_any (same_type t) known then new_among known more else t ∷ new_among (t ∷ known) more
+
+abbrev pub types : FileScope → List CType
+types f = new_among [] (all_types f)
+
+-- the place of a type in a list
+abbrev pub number_in : List CType → CType → ℕ
+number_in [] t = 0
+number_in (s ∷ more) t = if same_type s t then 0 else number_in more t + 1
+
+-- ---- the unit
+
+abbrev pub initial : FileScope → Stores → Initial
+initial f (at, t, a_number kind v) = record { offset = at; value = V.Number kind v }
+initial f (at, t, a_null) = record { offset = at; value = V.Number UInt 0 }
+initial f (at, t, an_address a) = record { offset = at; value = V.Address (number_in (types f) t) a.object a.offset }
+initial f (at, t, a_function g) = record { offset = at; value = V.Function (number_in (types f) t) g }
+
+abbrev pub object : FileScope → AnObject → Object
+object f o = record {
+  name = o.name;
+  place = o.place;
+  ty = number_in (types f) o.ty;
+  linked = o.is_linked;
+  text = is_some o.literal;
+  initial = option_map (λ i. map (initial f) (of_initializer f (typed_initializer i))) o.initial;
+}
+
+-- a local is kept by name where it is a number or a pointer and its address is never taken
+abbrev pub is_block : List ℕ → ℕ → CType → Bool
+is_block taken n t = not (is_scalar t) || is_among taken n
+
+abbrev pub locals : FileScope → List ℕ → ℕ → List ALocal → List Local
+locals f taken n [] = []
+locals f taken n (l ∷ more) = record { name = l.name; ty = number_in (types f) l.ty; block = is_block taken n l.ty } ∷ locals f taken (n + 1) more
+
+abbrev pub taken_in : AFunction → List ℕ
+taken_in g = flat_map (λ s. addressed_by_statement (recognised_statement s)) (if_any g.body)
+
+-- a function's data, with its body as a plain tree
+pub record FunctionData : Type 0 where
+  pub name : List ℕ
+  pub place : Place
+  pub ty : ℕ
+  pub is_linked : Bool
+  pub parameters : List Local
+  pub locals : List Local
+  pub body : Option (Trees.Statement ℕ)
+  pub nodes : ℕ
+
+abbrev pub data_of : Function → FunctionData
+data_of g = record {
+  name = g.name;
+  place = g.place;
+  ty = g.ty;
+  is_linked = g.linked;
+  parameters = g.parameters;
+  locals = g.locals;
+  body = option_map statement_of g.body;
+  nodes = g.nodes;
+}
+
+abbrev pub function : FileScope → AFunction → FunctionData
+function f g = record {
+  name = g.name;
+  place = g.place;
+  ty = number_in (types f) g.ty;
+  is_linked = g.is_linked;
+  parameters = locals f (taken_in g) 0 g.parameters;
+  locals = locals f (taken_in g) (length g.parameters) g.locals;
+  body = option_map (λ s. mapped_statement (λ t. number_in (types f) t.ty) (recognised_statement s)) g.body;
+  nodes = g.nodes;
+}
+
+abbrev pub mention : FileScope → AMention → Mention
+mention f m = record { kind = m.kind; ty = number_in (types f) m.ty; place = record { file = f.file; at = m.at } }
+
+pub record IsUnitOf (items : List Syntax.Item) (f : FileScope) (u : Unit) : Type 0 where
+  pub records : records_of u.records ≡ f.records
+  pub incomplete : u.incomplete ≡ drop (length f.records) f.numbered
+  pub types : map type_of u.types ≡ types f
+  pub objects : u.objects ≡ map (object f) f.objects
+  pub functions : map data_of u.functions ≡ map (function f) f.functions
+  pub mentions : u.mentions ≡ map (mention f) (mentions f)
+  pub nodes : u.nodes ≡ (size_items items).nodes
