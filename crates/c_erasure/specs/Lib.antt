@@ -13,3 +13,5 @@ pub mod Files
 pub mod Recognised
 pub mod InitialMentions
 pub mod Units
+pub mod Untagged
+pub mod Erasing

@@ -244,11 +244,35 @@ function f g = record {
 abbrev pub mention : FileScope → AMention → Mention
 mention f m = record { kind = m.kind; ty = number_in (types f) m.ty; place = record { file = f.file; at = m.at } }
 
-pub record IsUnitOf (items : List Syntax.Item) (f : FileScope) (u : Unit) : Type 0 where
-  pub records : records_of u.records ≡ f.records
-  pub incomplete : u.incomplete ≡ drop (length f.records) f.numbered
-  pub types : map type_of u.types ≡ types f
-  pub objects : u.objects ≡ map (object f) f.objects
-  pub functions : map data_of u.functions ≡ map (function f) f.functions
-  pub mentions : u.mentions ≡ map (mention f) (mentions f)
-  pub nodes : u.nodes ≡ (size_items items).nodes
+-- a unit's data
+pub record UnitData : Type 0 where
+  pub records : List Record
+  pub incomplete : List (List ℕ)
+  pub types : List CType
+  pub objects : List Object
+  pub functions : List FunctionData
+  pub mentions : List Mention
+  pub nodes : ℕ
+
+abbrev pub unit_data : Unit → UnitData
+unit_data u = record {
+  records = records_of u.records;
+  incomplete = u.incomplete;
+  types = map type_of u.types;
+  objects = u.objects;
+  functions = map data_of u.functions;
+  mentions = u.mentions;
+  nodes = u.nodes;
+}
+
+-- the unit of an annotated file, and of its tree
+abbrev pub unit_of : List Syntax.Item → FileScope → UnitData
+unit_of items f = record {
+  records = f.records;
+  incomplete = drop (length f.records) f.numbered;
+  types = types f;
+  objects = map (object f) f.objects;
+  functions = map (function f) f.functions;
+  mentions = map (mention f) (mentions f);
+  nodes = (size_items items).nodes;
+}
