@@ -20,7 +20,7 @@ use Rattle.c_typed.specs.declared.operators.BinaryOp.{BinaryOp}
 use Rattle.c_typed.specs.declared.operators.BinaryOp.TheVariants as B
 use Rattle.c_typed.specs.declared.operators.PointerOp.TheVariants as P
 use Rattle.c_typed.specs.Trees as Typed
-use Rattle.c_typed.specs.Mapped.{mapped, mapped_path}
+use Rattle.c_typed.specs.Mapped.{of_types, mapped, mapped_path}
 use Rattle.c_typed.specs.Conversions.{is_array, is_function, is_scalar, pointed, number_of}
 use Rattle.c_typed.specs.Constants.{Constant, valued, constant_of}
 use Rattle.c_typed.specs.Typed.{IsTyped, IsTypedPath}
@@ -38,10 +38,10 @@ use Rattle.c_erasure.specs.Declarators.{declared_name, is_name, Shape, closed, o
 -- ---- the typed tree without its notes
 
 abbrev pub typed : Expression → Typed.Expression CType
-typed = mapped (λ t. t.ty)
+typed = mapped (of_types (λ t. t.ty))
 
 abbrev pub IsTypedThing : Scope → Thing → Type 0
-IsTypedThing s (an_object p) = IsTypedPath (declared s) (mapped_path (λ t. t.ty) p)
+IsTypedThing s (an_object p) = IsTypedPath (declared s) (mapped_path (of_types (λ t. t.ty)) p)
 IsTypedThing s (a_value e) = IsTyped (declared s) (typed e)
 IsTypedThing s (a_function at f t) = slice_get (declared s).functions f ≡ Some t
 IsTypedThing s (a_function_at e) = IsTyped (declared s) (typed e) × ((t : CType) × (type_of e ≡ pointer t) × (is_function t ≡ true))

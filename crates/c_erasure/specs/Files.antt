@@ -17,7 +17,7 @@ use Rattle.c_typed.specs.declared.operators.LibraryFunction.{LibraryFunction}
 use Rattle.c_typed.specs.declared.operators.LibraryFunction.TheVariants as L
 use Rattle.c_typed.specs.declared.program.MentionKind.TheVariants.{Object, Named}
 use Rattle.c_typed.specs.Trees as Typed
-use Rattle.c_typed.specs.Mapped.{mapped_statement, mapped_initializer}
+use Rattle.c_typed.specs.Mapped.{of_types, mapped_statement, mapped_initializer}
 use Rattle.c_typed.specs.Conversions.{is_function}
 use Rattle.c_typed.specs.Fits.{library_type}
 use Rattle.c_typed.specs.TypedStatements.{declared_by, all_declared_by, IsTypedInitializer, AreTyped}
@@ -163,7 +163,7 @@ count_up from (suc count) = from ∷ count_up (from + 1) count
 
 abbrev pub without_notes : Statements → Typed.Statements CType
 without_notes Typed.no_statements = Typed.no_statements
-without_notes (Typed.and_statement s more) = Typed.and_statement (mapped_statement (λ t. t.ty) s) (without_notes more)
+without_notes (Typed.and_statement s more) = Typed.and_statement (mapped_statement (of_types (λ t. t.ty)) s) (without_notes more)
 
 -- inside the body, whose block is that of the parameters too (6.2.1)
 abbrev pub in_body : FileScope → List Bound → List ALocal → Scope
@@ -216,7 +216,7 @@ nodes_at items at = nodes_up_to items at 0
 -- an object of which nothing is named is zero, whatever its type is
 abbrev pub IsTypedObject : FileScope → CType → Typed.Initializer Noted → Type 0
 IsTypedObject f t (Typed.parts []) = Unit {0}
-IsTypedObject f t i = IsTypedInitializer (declared (at_file_scope f)) t (mapped_initializer (λ t. t.ty) i)
+IsTypedObject f t i = IsTypedInitializer (declared (at_file_scope f)) t (mapped_initializer (of_types (λ t. t.ty)) i)
 
 abbrev pub MayBeDeclaredAgain : Entity → Type 0
 MayBeDeclaredAgain (an_object n t) = Unit {0}

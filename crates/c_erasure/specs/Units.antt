@@ -22,7 +22,7 @@ use Rattle.c_typed.specs.declared.program.Mention.{Mention}
 use Rattle.c_typed.specs.declared.program.MentionKind.{MentionKind}
 use Rattle.c_typed.specs.declared.program.MentionKind.TheVariants.{Sizeof}
 use Rattle.c_typed.specs.Trees as Trees
-use Rattle.c_typed.specs.Mapped.{mapped, mapped_path, mapped_statement, mapped_initializer}
+use Rattle.c_typed.specs.Mapped.{of_types, mapped, mapped_path, mapped_statement, mapped_initializer}
 use Rattle.c_typed.specs.Views.{statement_of}
 use Rattle.c_typed.specs.Walk.{types_in_statement, types_in_initializer}
 use Rattle.c_typed.specs.Addressed.{addressed_by_statement}
@@ -112,7 +112,7 @@ abbrev pub is_size_operand : FileScope → AMention → Bool
 is_size_operand f m = is_sizeof m.kind && is_among (size_places (noted_in f)) m.at && not (is_among (size_places (left_in f)) m.at)
 
 abbrev pub typed_initializer : Trees.Initializer Noted → Trees.Initializer CType
-typed_initializer i = mapped_initializer (λ t. t.ty) (recognised_initializer i)
+typed_initializer i = mapped_initializer (of_types (λ t. t.ty)) (recognised_initializer i)
 
 abbrev pub mentions : FileScope → List AMention
 mentions f = filter (λ m. not (is_size_operand f m)) f.mentions ++ flat_map (λ o. told_by_initial (option_map typed_initializer o.initial)) f.objects
@@ -237,7 +237,7 @@ function f g = record {
   is_linked = g.is_linked;
   parameters = locals f (taken_in g) 0 g.parameters;
   locals = locals f (taken_in g) (length g.parameters) g.locals;
-  body = option_map (λ s. mapped_statement (λ t. number_in (types f) t.ty) (recognised_statement s)) g.body;
+  body = option_map (λ s. mapped_statement (of_types (λ t. number_in (types f) t.ty)) (recognised_statement s)) g.body;
   nodes = g.nodes;
 }
 

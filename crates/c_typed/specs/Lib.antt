@@ -3,6 +3,7 @@ pub mod Views
 pub mod Mapped
 pub mod Walk
 pub mod Addressed
+pub mod References
 pub mod Conversions
 pub mod Arithmetic
 pub mod Constants

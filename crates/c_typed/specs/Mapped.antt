@@ -1,18 +1,28 @@
--- A typed tree with something else standing for each type.
+-- A typed tree with something else for each type, and other numbers for objects, functions and records.
 use Rattle.std.specs.Prelude.{ℕ, List, map, Option}
 use Rattle.std.specs.Option.{option_map}
 use Rattle.lay_base.specs.declared.place.Place.{Place}
 use Rattle.c_typed.specs.Trees
 
-module _ {T S : Type 0} (f : T → S) where
+pub record Renaming (T S : Type 0) : Type 0 where
+  pub ty : T → S
+  pub object : ℕ → ℕ
+  pub function : ℕ → ℕ
+  pub structure : ℕ → ℕ
+
+-- types alone
+abbrev pub of_types : {T S : Type 0} → (T → S) → Renaming T S
+of_types f = record { ty = f; object = λ n. n; function = λ n. n; structure = λ n. n }
+
+module _ {T S : Type 0} (m : Renaming T S) where
   abbrev mutual
     pub mapped : Trees.Expression T → Trees.Expression S
-    mapped (Trees.expression t at node) = Trees.expression (f t) at (mapped_node node)
+    mapped (Trees.expression t at node) = Trees.expression (m.ty t) at (mapped_node node)
 
     pub mapped_node : Trees.Node T → Trees.Node S
     mapped_node (Trees.constant v) = Trees.constant v
     mapped_node Trees.null = Trees.null
-    mapped_node (Trees.function_name g) = Trees.function_name g
+    mapped_node (Trees.function_name g) = Trees.function_name (m.function g)
     mapped_node (Trees.load p) = Trees.load (mapped_path p)
     mapped_node (Trees.address_of p) = Trees.address_of (mapped_path p)
     mapped_node (Trees.decay p) = Trees.decay (mapped_path p)
@@ -31,20 +41,20 @@ module _ {T S : Type 0} (f : T → S) where
     mapped_node (Trees.assign_op op p x) = Trees.assign_op op (mapped_path p) (mapped x)
     mapped_node (Trees.step op before p) = Trees.step op before (mapped_path p)
     mapped_node (Trees.copy_record to from) = Trees.copy_record (mapped_path to) (mapped_path from)
-    mapped_node (Trees.call g all) = Trees.call g (mapped_all all)
+    mapped_node (Trees.call g all) = Trees.call (m.function g) (mapped_all all)
     mapped_node (Trees.call_through e all) = Trees.call_through (mapped e) (mapped_all all)
     mapped_node (Trees.library which all) = Trees.library which (mapped_all all)
-    mapped_node (Trees.allocate r count zeroed) = Trees.allocate r (mapped_if_any count) zeroed
+    mapped_node (Trees.allocate r count zeroed) = Trees.allocate (m.structure r) (mapped_if_any count) zeroed
 
     pub mapped_path : Trees.Path T → Trees.Path S
-    mapped_path (Trees.path t at step) = Trees.path (f t) at (mapped_step step)
+    mapped_path (Trees.path t at step) = Trees.path (m.ty t) at (mapped_step step)
 
     pub mapped_step : Trees.PathNode T → Trees.PathNode S
     mapped_step (Trees.local n) = Trees.local n
-    mapped_step (Trees.object n) = Trees.object n
+    mapped_step (Trees.object n) = Trees.object (m.object n)
     mapped_step (Trees.deref e) = Trees.deref (mapped e)
     mapped_step (Trees.index e i) = Trees.index (mapped e) (mapped i)
-    mapped_step (Trees.member p r field) = Trees.member (mapped_path p) r field
+    mapped_step (Trees.member p r field) = Trees.member (mapped_path p) (m.structure r) field
     mapped_step (Trees.element p i) = Trees.element (mapped_path p) (mapped i)
 
     pub mapped_all : Trees.Expressions T → Trees.Expressions S
