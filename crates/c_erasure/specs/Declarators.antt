@@ -1,5 +1,5 @@
 -- Parts of declarators and member declarations (C99 6.7.2.1, 6.7.5).
-use Rattle.std.specs.Prelude.{◌≡◌, ℕ, ◌≤◌, Bool, true, false, List, [], ◌∷◌, Option, Some, None}
+use Rattle.std.specs.Prelude.{◌≢◌, ℕ, ◌≤◌, Bool, true, false, List, [], ◌∷◌, All, Option, Some, None}
 use Rattle.c_types.specs.Types.{CType, pointer}
 use Rattle.c_types.specs.Layouts.{size_of}
 use Rattle.c_types.specs.Objects.{parts}
@@ -38,3 +38,8 @@ parameter_type (open_array t) = pointer t
 pub record IsSmall (records : List Record) (t : CType) : Type 0 where
   pub bytes : size_of records t ≤ 16777216
   pub parts : parts t ≤ 1024
+
+-- no two names are the same
+abbrev pub AreDifferent : List (List ℕ) → Type 0
+AreDifferent [] = Unit {0}
+AreDifferent (x ∷ more) = All (λ y. x ≢ y) more × AreDifferent more

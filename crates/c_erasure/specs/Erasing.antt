@@ -1,6 +1,5 @@
 -- The relation that the checker is about: a unit is well typed, and erases to the tree of a file.
-use Rattle.std.specs.Prelude.{◌≡◌, ℕ, ◌≤◌, List, All}
-use Rattle.c_types.specs.Types.{CType}
+use Rattle.std.specs.Prelude.{◌≡◌, ℕ, List, All}
 use Rattle.c_ast.specs.Trees
 use Rattle.c_ast.specs.Spelling.{spell}
 use Rattle.c_erasure.specs.Scopes.{FileScope}

@@ -1,7 +1,7 @@
 -- Which typed trees are those of an expression, and which types those of a type name: one rule for each alternative of the grammar
 -- (C99 6.5, 6.7.2 to 6.7.6). Conversions and parentheses are stepped over; a typedef's name stands for its type, and `sizeof` and an
 -- enumerator for their constants.
-use Rattle.std.specs.Prelude.{◌≡◌, ◌≢◌, ℕ, ◌+◌, ◌≤◌, ◌<◌, ◌%◌, ◌^◌, Bool, true, false, List, [], ◌∷◌, ◌++◌, length, ℤ, pos, negsuc}
+use Rattle.std.specs.Prelude.{◌≡◌, ◌≢◌, ℕ, ◌+◌, ◌≤◌, ◌<◌, ◌%◌, ◌^◌, true, false, List, [], ◌∷◌, ◌++◌, map, length, ℤ, pos, negsuc}
 use Rattle.std.specs.Prelude.{Option, Some, None, slice_get, ◌⊎◌}
 use Rattle.lay_base.specs.declared.place.Place.{Place}
 use Rattle.c_types.specs.declared.ty.IntKind.{IntKind}
@@ -21,8 +21,8 @@ use Rattle.c_typed.specs.declared.operators.BinaryOp.TheVariants as B
 use Rattle.c_typed.specs.declared.operators.PointerOp.TheVariants as P
 use Rattle.c_typed.specs.Trees as Typed
 use Rattle.c_typed.specs.Mapped.{of_types, mapped, mapped_path}
-use Rattle.c_typed.specs.Conversions.{is_array, is_function, is_scalar, pointed, number_of}
-use Rattle.c_typed.specs.Constants.{Constant, valued, constant_of}
+use Rattle.c_typed.specs.Conversions.{is_array, is_function, is_scalar, number_of}
+use Rattle.c_typed.specs.Constants.{valued, constant_of}
 use Rattle.c_typed.specs.Typed.{IsTyped, IsTypedPath}
 use Rattle.c_erasure.specs.Scopes.{Entity, typedef, enumerator, a_local, Bound, FileScope, AnObject, Scope, inside, with_parameter, here, named, tag_at}
 use Rattle.c_erasure.specs.Scopes.{IsNumbered, ended, declared, with_objects, measured, IsMentioned}
@@ -32,8 +32,8 @@ use Rattle.c_erasure.specs.Noted as Notes
 use Rattle.c_erasure.specs.Noted.{Noted, Note, size_of as sized, Expression, Node, Thing, an_object, a_value, a_function, a_function_at}
 use Rattle.c_erasure.specs.Noted.{a_library_function, value, way, type_of, type_of_path, value_of, unconverted}
 use Rattle.c_erasure.specs.Operators.{Kind, computes, compares, all_of, any_of, kind_of, update_of, step_of}
-use Rattle.c_erasure.specs.Specifiers.{named_by, words_of, no_words, types_among, storage_of, Storage, no_storage, is_register}
-use Rattle.c_erasure.specs.Declarators.{declared_name, is_name, Shape, closed, open_array, parameter_type, IsSmall}
+use Rattle.c_erasure.specs.Specifiers.{named_by, words_of, no_words, types_among, storage_of, no_storage, is_register}
+use Rattle.c_erasure.specs.Declarators.{declared_name, is_name, Shape, closed, open_array, parameter_type, IsSmall, AreDifferent}
 
 -- ---- the typed tree without its notes
 
@@ -118,7 +118,7 @@ IsAddress at operand th = ⊥
 -- what a pointer points to: an object, or a function
 abbrev pub IsPointed : Place → Expression → Thing → Type 0
 IsPointed at e th = ((t : CType) × (is_function t ≡ false) × (th ≡ an_object (way t at (Typed.deref e))))
-    ⊎ ((t : CType) × (type_of e ≡ pointer t) × (is_function t ≡ true) × (th ≡ a_function_at e))
+    ⊎ ((t : CType) × (unconverted e ≡ e) × (type_of e ≡ pointer t) × (is_function t ≡ true) × (th ≡ a_function_at e))
 
 -- a field by its name
 abbrev pub IsField : Scope → ℕ → List ℕ → ℕ → CType → Type 0
@@ -265,6 +265,7 @@ abbrev mutual
   Specifies s (Trees.struct_body at x left member_declarations right) t = (r : ℕ) × (rec : Record) × (s.is_inside ≡ false) × (t ≡ structure r)
       × IsNumbered s.file (tag_text s at x) r × (slice_get s.file.records r ≡ Some rec) × (slice_get s.file.ends r ≡ Some right)
       × (rec.tag ≡ tag_text s at x) × (rec.place ≡ place_in s at) × AreFields s member_declarations rec.fields
+      × AreDifferent (map (λ f. f.name) rec.fields)
   -- an enumeration is an int (own), and is named after its definition (6.7.2.3)
   Specifies s (Trees.enum_named at x) t = (t ≡ integer Int) × (tag_at s.file.tags x.text x.from ≡ Some true)
   Specifies s (Trees.enum_body at x left all comma right) t = (s.is_inside ≡ false) × (t ≡ integer Int) × AreEnumerators s 0 all (after_all comma right)

@@ -1,14 +1,11 @@
 -- Which annotated file is that of a syntax tree: what its items declare (C99 6.7, 6.9), and that nothing else is declared.
-use Rattle.std.specs.Prelude.{◌≡◌, ◌≢◌, ℕ, zero, suc, ◌+◌, ◌≤◌, ◌<◌, Bool, true, false, if◌then◌else◌, List, [], ◌∷◌, ◌++◌, map, All, length, Option, Some}
+use Rattle.std.specs.Prelude.{◌≡◌, ◌≢◌, ℕ, zero, suc, ◌+◌, ◌<◌, Bool, true, false, if◌then◌else◌, List, [], ◌∷◌, ◌++◌, map, All, length, Option, Some}
 use Rattle.std.specs.Prelude.{None, codes, is_none, nat_le, slice_get, ◌⊎◌}
 
-use Rattle.lay_base.specs.declared.place.Place.{Place}
 use Rattle.c_types.specs.declared.ty.IntKind.TheVariants.{Int}
-use Rattle.c_types.specs.Types.{CType, CTypes, integer, function, no_types, and_type, Record}
+use Rattle.c_types.specs.Types.{CType, CTypes, integer, function, no_types, and_type}
 use Rattle.c_types.specs.Objects.{is_object}
-use Rattle.c_types.specs.Layouts.{layouts}
 use Rattle.c_types.specs.Limits.{AreSmall}
-use Rattle.c_types.specs.Views.{listed}
 use Rattle.c_ast.specs.declared.words.Spelling.{Spelling}
 use Rattle.c_ast.specs.Trees
 use Rattle.c_ast.specs.Places.{first_declarator, first_item}
@@ -22,14 +19,13 @@ use Rattle.c_typed.specs.Conversions.{is_function}
 use Rattle.c_typed.specs.Fits.{library_type}
 use Rattle.c_typed.specs.TypedStatements.{declared_by, all_declared_by, IsTypedInitializer, AreTyped}
 use Rattle.c_erasure.specs.Noted.{Noted}
-use Rattle.c_erasure.specs.Scopes as Scopes
 use Rattle.c_erasure.specs.Scopes.{How, declares, tentative, defines, Entity, typedef, an_object, a_function, a_library_function, a_local, Bound, Tag}
 use Rattle.c_erasure.specs.Scopes.{AnObject, ALocal, AFunction, FileScope, Scope, at_file_scope, visible, ended, declared, IsMentioned}
 use Rattle.c_erasure.specs.Specifiers.{storage_of, Storage, no_storage, a_typedef, is_extern, is_static}
-use Rattle.c_erasure.specs.Declarators.{declared_name, is_name, Shape, closed}
+use Rattle.c_erasure.specs.Declarators.{declared_name, is_name, Shape, closed, AreDifferent}
 use Rattle.c_erasure.specs.Erasure.{place_in, IsBound, IsBase, IsOne, Declares}
 use Rattle.c_erasure.specs.Statements.{Statements, IsSized, HasConstants, EraseItems}
-use Rattle.c_erasure.specs.Marks.{Mark, marks_of_file, name_from, after_declarator, scope_beginnings, ends_in, defined_in, tags_in, undefined_in, firsts}
+use Rattle.c_erasure.specs.Marks.{marks_of_file, name_from, after_declarator, scope_beginnings, ends_in, defined_in, tags_in, undefined_in, firsts}
 use Rattle.c_erasure.specs.Literals.{made_by_file}
 use Rattle.c_erasure.specs.MentionPlaces.{mentions_of_file}
 
@@ -123,6 +119,14 @@ AreFileDeclarators f words base (d ∷ more) semicolon = (x : Spelling) × (decl
     × IsFileDeclarator f words base d x (first_declarator d.declarator x.from) (name_from d.value (after_declarator more semicolon))
     × AreFileDeclarators f words base more semicolon
 
+-- the storage classes of file scope (6.9)
+abbrev pub IsFileStorage : Storage → Type 0
+IsFileStorage no_storage = Unit {0}
+IsFileStorage a_typedef = Unit {0}
+IsFileStorage is_extern = Unit {0}
+IsFileStorage is_static = Unit {0}
+IsFileStorage words = ⊥
+
 -- a declaration without a declarator declares a tag or enumerators (6.7)
 abbrev pub declares_tag : Trees.Specifiers → Bool
 declares_tag Trees.no_specifiers = false
@@ -197,6 +201,7 @@ IsDefined f specs d left items nodes = (base result : CType) × (types : CTypes)
 abbrev pub ErasesItem : FileScope → Trees.Item → Type 0
 ErasesItem f (Trees.defines specs d left items right) = IsDefined f specs d left items (size_item (Trees.defines specs d left items right)).nodes
 ErasesItem f (Trees.declaration d) = (base : CType) × IsBase (IsOne (at_file_scope f) d.specs) d.specs base × DeclaresSomething d
+    × IsFileStorage (storage_of d.specs)
     × AreFileDeclarators f (storage_of d.specs) base d.all d.semicolon
 
 -- ---- what is declared, and nothing else
@@ -238,10 +243,6 @@ AreConsistent (b ∷ more) = All (λ c. c.name ≡ b.name → MayStandTogether b
 abbrev pub AreConsistentTags : List Tag → Type 0
 AreConsistentTags [] = Unit {0}
 AreConsistentTags (t ∷ more) = All (λ u. u.name ≡ t.name → (u.is_enumeration ≡ false) × (t.is_enumeration ≡ false)) more × AreConsistentTags more
-
-abbrev pub AreDifferent : List (List ℕ) → Type 0
-AreDifferent [] = Unit {0}
-AreDifferent (x ∷ more) = All (λ y. x ≢ y) more × AreDifferent more
 
 -- each stands after those before it
 abbrev pub AreAscending : List ℕ → Type 0
@@ -305,4 +306,5 @@ pub record IsFileOf (items : List Trees.Item) (f : FileScope) : Type 0 where
   -- what objects hold at first is well typed
   pub initialized : (n : ℕ) (o : AnObject) (i : Typed.Initializer Noted) → slice_get f.objects n ≡ Some o → o.initial ≡ Some i
       → IsTypedObject f o.ty i
+  pub main_is_no_object : All (λ o. o.is_linked ≡ true → o.name ≢ codes "main") f.objects
   pub main : (n : ℕ) (g : AFunction) → slice_get f.functions n ≡ Some g → IsMainType g.name g.ty

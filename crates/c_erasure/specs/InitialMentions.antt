@@ -1,8 +1,8 @@
 -- Of which types the initializer of an object speaks that is made before the program starts: those of functions whose names stand there, those
 -- before and after conversions of pointers, and records of which a path takes a field.
-use Rattle.std.specs.Prelude.{ℕ, Bool, true, false, not, ◌&&◌, if◌then◌else◌, List, [], ◌∷◌, ◌++◌, flat_map, Option, Some, None}
+use Rattle.std.specs.Prelude.{Bool, true, false, not, ◌&&◌, if◌then◌else◌, List, [], ◌∷◌, ◌++◌, flat_map, Option, Some, None}
 use Rattle.lay_base.specs.declared.place.Place.{Place}
-use Rattle.c_types.specs.Types.{CType, pointer, structure}
+use Rattle.c_types.specs.Types.{CType, structure}
 use Rattle.c_types.specs.Sameness.{same_type}
 use Rattle.c_typed.specs.declared.program.MentionKind.{MentionKind}
 use Rattle.c_typed.specs.declared.program.MentionKind.TheVariants.{Used, From, To, Field}

@@ -1,6 +1,6 @@
 -- Where a file may make objects that no file-scope declarator declares: at string literals and at `static` locals (C99 6.4.5, 6.7.1). The
 -- operand of `sizeof`, lengths and labels are not evaluated, and make none.
-use Rattle.std.specs.Prelude.{◌≡◌, ℕ, Bool, true, false, List, [], ◌∷◌, ◌++◌, Option, Some, None}
+use Rattle.std.specs.Prelude.{ℕ, List, [], ◌∷◌, ◌++◌, Option, Some, None}
 use Rattle.c_ast.specs.Trees
 use Rattle.c_ast.specs.Places.{first_text, first_declarator}
 use Rattle.c_erasure.specs.Specifiers.{Storage, is_static, storage_of}

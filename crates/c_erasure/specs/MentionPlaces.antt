@@ -3,7 +3,6 @@
 use Rattle.std.specs.Prelude.{ℕ, List, [], ◌∷◌, ◌++◌, Option, Some, None}
 use Rattle.c_ast.specs.Trees
 use Rattle.c_ast.specs.Places.{first_specifiers, first_declarator}
-use Rattle.c_erasure.specs.Erasure.{place_of_name}
 
 abbrev mutual
   pub spoken : Trees.Expression → List ℕ

@@ -1,6 +1,5 @@
 -- The operators of the grammar, and those of typed trees (C99 6.5).
 use Rattle.std.specs.Prelude.{Option, Some, None}
-use Rattle.c_ast.specs.declared.operators.UnaryOp.TheVariants as U
 use Rattle.c_ast.specs.declared.operators.BinaryOp.{BinaryOp}
 use Rattle.c_ast.specs.declared.operators.BinaryOp.TheVariants as B
 use Rattle.c_ast.specs.declared.operators.AssignOp.{AssignOp}

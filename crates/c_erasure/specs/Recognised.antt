@@ -1,7 +1,6 @@
 -- The typed tree of the program from that of the checker: allocations of records are recognised, a converted zero is a null pointer, and
 -- notes are left out.
-use Rattle.std.specs.Prelude.{ℕ, ◌==◌, Bool, true, false, if◌then◌else◌, List, [], ◌∷◌, ◌++◌, Option, Some, None}
-use Rattle.lay_base.specs.declared.place.Place.{Place}
+use Rattle.std.specs.Prelude.{ℕ, Bool, true, false, if◌then◌else◌, Option, Some, None}
 use Rattle.c_types.specs.declared.ty.IntKind.TheVariants.{UInt}
 use Rattle.c_types.specs.Types.{CType, integer, pointer, structure}
 use Rattle.c_types.specs.Sameness.{same_type}
@@ -9,7 +8,7 @@ use Rattle.c_typed.specs.declared.operators.BinaryOp.TheVariants.{Multiply}
 use Rattle.c_typed.specs.declared.operators.LibraryFunction.TheVariants.{Malloc, Calloc}
 use Rattle.c_typed.specs.Trees as Trees
 use Rattle.c_typed.specs.Conversions.{is_integer}
-use Rattle.c_erasure.specs.Noted.{Noted, Note, nothing, size_of, plain, Expression, Path, Node, PathNode, value, type_of, unconverted}
+use Rattle.c_erasure.specs.Noted.{Noted, Note, size_of, Expression, Path, Node, PathNode, value, type_of, unconverted}
 
 -- ---- what is an allocation of records with that number: `malloc(sizeof(T))`, `malloc(e * sizeof(T))`, `malloc(sizeof(T) * e)` or
 -- `calloc(e, sizeof(T))` (own)

@@ -1,6 +1,5 @@
 -- Which type the words of a declaration name (C99 6.7.1 to 6.7.3).
-use Rattle.std.specs.Prelude.{◌≡◌, ℕ, ◌+◌, ◌≤◌, ◌==◌, ◌&&◌, ◌||◌, Bool, true, false, List, [], ◌∷◌, if◌then◌else◌, Option, Some, None}
-use Rattle.c_types.specs.declared.ty.IntKind.{IntKind}
+use Rattle.std.specs.Prelude.{ℕ, ◌+◌, ◌==◌, ◌&&◌, Bool, true, false, List, [], ◌∷◌, if◌then◌else◌, Option, Some, None}
 use Rattle.c_types.specs.declared.ty.IntKind.TheVariants.{Char, SChar, UChar, Short, UShort, Int, UInt, Long, ULong}
 use Rattle.c_types.specs.Types.{CType, void, integer}
 use Rattle.c_ast.specs.declared.operators.SpecifierKeyword.{SpecifierKeyword}

@@ -11,7 +11,7 @@ use Rattle.c_typed.specs.Trees as Typed
 use Rattle.c_typed.specs.Conversions.{as_kind}
 use Rattle.c_typed.specs.TypedStatements.{declared_by, declared_by_arms}
 use Rattle.c_erasure.specs.Noted.{Noted, Expression, type_of, unconverted}
-use Rattle.c_erasure.specs.Scopes.{a_local, an_object, defines, Bound, Scope, inside, with_local, ended, declared, IsMentioned}
+use Rattle.c_erasure.specs.Scopes.{a_local, an_object, defines, Scope, inside, with_local, ended, declared, IsMentioned}
 use Rattle.c_erasure.specs.Specifiers.{storage_of, no_storage, is_auto, is_register, is_static}
 use Rattle.c_erasure.specs.Declarators.{declared_name, Shape, closed, open_array, IsSmall}
 use Rattle.c_erasure.specs.Erasure.{place_in, IsNew, IsBase, IsConstant, Values, Erases, IsOne, Declares}

@@ -1,14 +1,12 @@
 -- The tag of a structure that has none: `@FILE:LINE:K`, for the K-th `struct` of its file on that presumed line (own).
-use Rattle.std.specs.Prelude.{◌≡◌, ◌≢◌, ℕ, ◌+◌, Bool, true, false, if◌then◌else◌, nat_le, List, [], ◌∷◌, ◌++◌, take, drop, ◌-◌, All, filter, flat_map, decimal, ◌⊎◌}
+use Rattle.std.specs.Prelude.{◌≡◌, ◌≢◌, ℕ, ◌+◌, if◌then◌else◌, nat_le, List, [], ◌∷◌, ◌++◌, take, drop, ◌-◌, All, filter, flat_map, decimal, ◌⊎◌}
 
 use Rattle.lay_base.specs.declared.faults.Keyword.TheVariants as W
 use Rattle.c_lexer.specs.declared.presumed.Presumed.{Presumed}
 use Rattle.c_lexer.specs.declared.token.TokenKind.{TokenKind}
 use Rattle.c_lexer.specs.declared.token.TokenKind.TheVariants as K
 use Rattle.c_lexer.specs.Presuming.{IsPresumed}
-use Rattle.c_ast.specs.Trees
-use Rattle.c_ast.specs.Spelling.{Lexeme, spell}
-use Rattle.c_erasure.specs.Scopes.{FileScope}
+use Rattle.c_ast.specs.Spelling.{Lexeme}
 
 -- a presumed file and line
 abbrev pub Line : Type 0

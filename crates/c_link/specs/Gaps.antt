@@ -9,13 +9,11 @@ use Rattle.lay_base.specs.declared.place.Place.{Place}
 use Rattle.lay_base.specs.declared.faults.LimitKind.{LimitKind}
 use Rattle.lay_base.specs.declared.faults.LimitKind.TheVariants.{Nodes, Fields, Frame, Globals}
 use Rattle.c_types.specs.Types.{CType, CTypes, void, integer, pointer, array, function, structure, no_types, and_type, Record}
-use Rattle.c_types.specs.Sameness.{same_type}
 use Rattle.c_types.specs.Layouts.{size_of}
 use Rattle.c_typed.specs.declared.program.Object.{Object}
 use Rattle.c_typed.specs.declared.program.Initial.{Initial}
 use Rattle.c_typed.specs.declared.program.InitialValue as Stored
 use Rattle.c_typed.specs.declared.program.InitialValue.TheVariants as V
-use Rattle.c_typed.specs.declared.program.Local.{Local}
 use Rattle.c_typed.specs.References.{Reference, an_object, a_function, references_by_statement}
 use Rattle.c_typed.specs.Walk.{types_in_statement}
 use Rattle.c_erasure.specs.Units.{UnitData, FunctionData}

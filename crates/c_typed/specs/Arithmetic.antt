@@ -1,7 +1,7 @@
 -- What operators make of numbers (C99 6.5.3.3, 6.5.5 to 6.5.12). A number is kept as the 32 bits that stand for it in two's complement;
 -- the kind is that of the operands after their conversions.
 use Rattle.std.specs.Prelude.{ℕ, ◌+◌, ◌-◌, ◌*◌, ◌/◌, ◌%◌, ◌^◌, ◌==◌, Bool, true, false, not, if◌then◌else◌, int_lt, bit_and, bit_or, bit_xor, Option}
-use Rattle.std.specs.Prelude.{Some, None}
+use Rattle.std.specs.Prelude.{Some}
 use Rattle.std.specs.Bool.{then_some}
 use Rattle.std.specs.Option.{option_map}
 use Rattle.std.specs.Int.{w32, cast_signed, cast_unsigned}

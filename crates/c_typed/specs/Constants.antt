@@ -5,8 +5,6 @@ use Rattle.c_types.specs.declared.ty.IntKind.{IntKind}
 use Rattle.c_types.specs.declared.ty.IntKind.TheVariants.{Int}
 use Rattle.c_types.specs.Types.{CType, void, integer, pointer}
 use Rattle.c_typed.specs.declared.operators.UnaryOp.{UnaryOp}
-use Rattle.c_typed.specs.declared.operators.BinaryOp.{BinaryOp}
-use Rattle.c_typed.specs.declared.operators.CompareOp.{CompareOp}
 use Rattle.c_typed.specs.Trees.{Expression, expression, Node, constant, convert, unary, binary, compare, both, either, not, choose}
 use Rattle.c_typed.specs.Conversions.{as_kind}
 use Rattle.c_typed.specs.Arithmetic.{truth, unary_value, binary_value, holds}

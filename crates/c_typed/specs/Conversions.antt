@@ -3,7 +3,7 @@ use Rattle.std.specs.Prelude.{ℕ, ◌+◌, ◌-◌, ◌%◌, ◌^◌, Bool, tru
 use Rattle.std.specs.Int.{w32, cast_signed}
 use Rattle.c_types.specs.declared.ty.IntKind.{IntKind}
 use Rattle.c_types.specs.declared.ty.IntKind.TheVariants.{Char, SChar, UChar, Short, UShort, Int, UInt, Long, ULong}
-use Rattle.c_types.specs.Types.{CType, void, integer, pointer, array, function, structure}
+use Rattle.c_types.specs.Types.{CType, integer, pointer, array, function, structure}
 
 -- ---- sorts of types (6.2.5)
 

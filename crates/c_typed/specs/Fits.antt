@@ -1,11 +1,11 @@
 -- Which types fit where: in assignments, casts, comparisons and conditional expressions, and of the library's functions (C99 6.3.2.3, 6.5.4,
 -- 6.5.8, 6.5.9, 6.5.15, 6.5.16.1, 7.19.7, 7.20.3, 7.20.4, 7.21).
-use Rattle.std.specs.Prelude.{◌≡◌, ℕ, Bool, true, false, ◌&&◌, ◌||◌, not, if◌then◌else◌, List, [], ◌∷◌, Option, Some, None}
+use Rattle.std.specs.Prelude.{Bool, true, false, ◌&&◌, ◌||◌, not, if◌then◌else◌, Option, Some, None}
 use Rattle.c_types.specs.declared.ty.IntKind.TheVariants.{Int, UInt}
-use Rattle.c_types.specs.Types.{CType, CTypes, void, integer, pointer, array, function, structure, no_types, and_type}
+use Rattle.c_types.specs.Types.{CType, void, integer, pointer, function, no_types, and_type}
 use Rattle.c_types.specs.Sameness.{same_type}
 use Rattle.c_typed.specs.declared.operators.CompareOp.{CompareOp}
-use Rattle.c_typed.specs.declared.operators.CompareOp.TheVariants.{Equal, NotEqual, Less, Greater, LessEqual, GreaterEqual}
+use Rattle.c_typed.specs.declared.operators.CompareOp.TheVariants.{Equal, NotEqual}
 use Rattle.c_typed.specs.declared.operators.LibraryFunction.{LibraryFunction}
 use Rattle.c_typed.specs.declared.operators.LibraryFunction.TheVariants.{Malloc, Calloc, Free, Memcpy, Memmove, Memset, Memcmp, Putchar, Getchar, Exit}
 use Rattle.c_typed.specs.Conversions.{is_function}

@@ -1,17 +1,16 @@
 -- The values that an object may hold before the program starts (C99 6.6, 6.7.8): numbers, null pointers, and addresses of functions and of
 -- objects that live as long as the program, with a number of bytes.
-use Rattle.std.specs.Prelude.{ℕ, ◌*◌, Bool, true, false, ◌&&◌, if◌then◌else◌, nat_lt, nat_le, ℤ, pos, negsuc, ◌+ℤ◌, ◌*ℤ◌, List, [], Option, Some, None}
-use Rattle.std.specs.Prelude.{slice_get, unwrap_or, get_or}
-use Rattle.std.specs.Int.{w32, cast_signed}
+use Rattle.std.specs.Prelude.{ℕ, Bool, true, false, ◌&&◌, if◌then◌else◌, nat_le, ℤ, pos, negsuc, ◌+ℤ◌, ◌*ℤ◌, List, Option, Some, None}
+use Rattle.std.specs.Prelude.{get_or}
 use Rattle.c_types.specs.declared.ty.IntKind.{IntKind}
-use Rattle.c_types.specs.Types.{CType, void, integer, pointer, array, structure, Record}
+use Rattle.c_types.specs.Types.{CType, void, integer, pointer, array, Record}
 use Rattle.c_types.specs.Layouts.{size_of, offset_of}
 use Rattle.c_typed.specs.declared.operators.PointerOp.{PointerOp}
 use Rattle.c_typed.specs.declared.operators.PointerOp.TheVariants as P
 use Rattle.c_typed.specs.Trees as Trees
 use Rattle.c_typed.specs.Trees.{Expression, expression, Node, Path, path, PathNode}
 use Rattle.c_typed.specs.Conversions.{is_pointer, number_of}
-use Rattle.c_typed.specs.Constants.{Constant, none, undefined, valued, kind_of, ty, constant_of, is_null}
+use Rattle.c_typed.specs.Constants.{Constant, valued, kind_of, ty, constant_of, is_null}
 use Rattle.c_typed.specs.Typed.{Declared}
 
 -- a byte of an object, or the end of it

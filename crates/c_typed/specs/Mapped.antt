@@ -1,7 +1,6 @@
 -- A typed tree with something else for each type, and other numbers for objects, functions and records.
-use Rattle.std.specs.Prelude.{ℕ, List, map, Option}
+use Rattle.std.specs.Prelude.{ℕ, map}
 use Rattle.std.specs.Option.{option_map}
-use Rattle.lay_base.specs.declared.place.Place.{Place}
 use Rattle.c_typed.specs.Trees
 
 pub record Renaming (T S : Type 0) : Type 0 where

@@ -1,5 +1,5 @@
 -- The parts of objects: elements of arrays and fields of records, by their first byte (C99 6.2.5, 6.7.2.1).
-use Rattle.std.specs.Prelude.{◌≡◌, ℕ, ◌+◌, ◌*◌, ◌<◌, List, Option, Some}
+use Rattle.std.specs.Prelude.{◌≡◌, ℕ, ◌+◌, ◌*◌, ◌<◌, List, Some}
 use Rattle.c_types.specs.Types.{CType, array, structure, Record}
 use Rattle.c_types.specs.Layouts.{size_of, offset_of}
 use Rattle.c_typed.specs.Typed.{field_type}

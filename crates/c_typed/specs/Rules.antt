@@ -1,16 +1,12 @@
 -- What each operator asks of the types of its operands, and what it makes of them (C99 6.5). A rule gives the types to which the operands
 -- are converted and the type of the result, or none where it is broken. `null` tells that an operand is a null pointer constant.
-use Rattle.std.specs.Prelude.{ℕ, Bool, true, false, not, ◌&&◌, if◌then◌else◌, Option, Some, None}
-use Rattle.std.specs.Bool.{then_some}
-use Rattle.c_types.specs.declared.ty.IntKind.TheVariants.{Int}
+use Rattle.std.specs.Prelude.{ℕ, Bool, true, false, ◌&&◌, if◌then◌else◌, Option, Some, None}
 use Rattle.c_types.specs.Types.{CType, void, integer, pointer}
 use Rattle.c_types.specs.Objects.{is_object}
 use Rattle.c_types.specs.Sameness.{same_type}
 use Rattle.c_typed.specs.declared.operators.BinaryOp.{BinaryOp}
 use Rattle.c_typed.specs.declared.operators.BinaryOp.TheVariants.{Add, Subtract, ShiftLeft, ShiftRight}
 use Rattle.c_typed.specs.declared.operators.CompareOp.{CompareOp}
-use Rattle.c_typed.specs.declared.operators.PointerOp.{PointerOp}
-use Rattle.c_typed.specs.declared.operators.PointerOp.TheVariants as P
 use Rattle.c_typed.specs.Conversions.{is_integer, promoted, common}
 use Rattle.c_typed.specs.Fits.{meeting, compared}
 

@@ -1,5 +1,5 @@
 -- Well typed: the rule of each node of a typed tree (C99 6.5). Types stand at its nodes.
-use Rattle.std.specs.Prelude.{◌≡◌, ◌≢◌, ℕ, ◌<◌, Bool, true, false, List, length, Option, Some, None, slice_get, ◌⊎◌}
+use Rattle.std.specs.Prelude.{◌≡◌, ◌≢◌, ℕ, ◌<◌, Bool, true, false, List, Option, Some, None, slice_get, ◌⊎◌}
 use Rattle.std.specs.Option.{option_map}
 use Rattle.lay_base.specs.declared.place.Place.{Place}
 use Rattle.c_types.specs.declared.ty.IntKind.{IntKind}

@@ -1,7 +1,6 @@
 -- Well typed statements and initializers: the rule of each (C99 6.7.8, 6.8).
-use Rattle.std.specs.Prelude.{◌≡◌, ◌≢◌, ℕ, ◌+◌, ◌≤◌, ◌<◌, Bool, true, false, ◌||◌, List, [], ◌∷◌, ◌++◌, length, All, Option, Some, None, slice_get, ◌⊎◌}
+use Rattle.std.specs.Prelude.{◌≡◌, ◌≢◌, ℕ, ◌+◌, ◌≤◌, ◌<◌, Bool, true, false, ◌||◌, List, [], ◌∷◌, ◌++◌, length, All, Option, Some, None, slice_get}
 use Rattle.c_types.specs.declared.ty.IntKind.{IntKind}
-use Rattle.c_types.specs.declared.ty.IntKind.TheVariants.{Char}
 use Rattle.c_types.specs.Types.{CType, void, integer, array, structure}
 use Rattle.c_types.specs.Objects.{is_object}
 use Rattle.c_types.specs.Layouts.{size_of}

@@ -10,7 +10,6 @@ use Rattle.c_typed.specs.declared.statement.InitializerPart.{InitializerPart}
 use Rattle.c_typed.specs.declared.statement.PartValue.{PartValue}
 use Rattle.c_typed.specs.declared.statement.PartValue.TheVariants as V
 use Rattle.c_typed.specs.declared.statement.Statement.{Statement, fold-Statement}
-use Rattle.c_typed.specs.declared.statement.Arm.{Arm, fold-Arm}
 use Rattle.c_typed.specs.declared.statement.Statement.TheOpen as S
 use Rattle.c_typed.specs.Trees
 
