@@ -5,7 +5,8 @@ use Rattle.c_ast.specs.Spelling.{spell}
 use Rattle.c_erasure.specs.Scopes.{FileScope}
 use Rattle.c_erasure.specs.Declarators.{IsSmall}
 use Rattle.c_erasure.specs.Files.{IsFileOf}
-use Rattle.c_erasure.specs.Units.{UnitData, unit_of, types}
+use Rattle.c_typed.specs.Programs.{UnitData}
+use Rattle.c_erasure.specs.Units.{unit_of, types}
 use Rattle.c_erasure.specs.Untagged.{AreTags, structs_in}
 
 -- of the file with that number, name and bytes

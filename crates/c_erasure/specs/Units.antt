@@ -21,6 +21,7 @@ use Rattle.c_typed.specs.declared.program.Mention.{Mention}
 use Rattle.c_typed.specs.declared.program.MentionKind.{MentionKind}
 use Rattle.c_typed.specs.declared.program.MentionKind.TheVariants.{Sizeof}
 use Rattle.c_typed.specs.Trees as Trees
+use Rattle.c_typed.specs.Programs.{FunctionData, UnitData}
 use Rattle.c_typed.specs.Mapped.{of_types, mapped_statement, mapped_initializer}
 use Rattle.c_typed.specs.Views.{statement_of}
 use Rattle.c_typed.specs.Walk.{types_in_statement, types_in_initializer}
@@ -205,29 +206,6 @@ locals f taken n (l ∷ more) = record { name = l.name; ty = number_in (types f)
 abbrev pub taken_in : AFunction → List ℕ
 taken_in g = flat_map (λ s. addressed_by_statement (recognised_statement s)) (if_any g.body)
 
--- a function's data, with its body as a plain tree
-pub record FunctionData : Type 0 where
-  pub name : List ℕ
-  pub place : Place
-  pub ty : ℕ
-  pub is_linked : Bool
-  pub parameters : List Local
-  pub locals : List Local
-  pub body : Option (Trees.Statement ℕ)
-  pub nodes : ℕ
-
-abbrev pub data_of : Function → FunctionData
-data_of g = record {
-  name = g.name;
-  place = g.place;
-  ty = g.ty;
-  is_linked = g.linked;
-  parameters = g.parameters;
-  locals = g.locals;
-  body = option_map statement_of g.body;
-  nodes = g.nodes;
-}
-
 abbrev pub function : FileScope → AFunction → FunctionData
 function f g = record {
   name = g.name;
@@ -242,27 +220,6 @@ function f g = record {
 
 abbrev pub mention : FileScope → AMention → Mention
 mention f m = record { kind = m.kind; ty = number_in (types f) m.ty; place = record { file = f.file; at = m.at } }
-
--- a unit's data
-pub record UnitData : Type 0 where
-  pub records : List Record
-  pub incomplete : List (List ℕ)
-  pub types : List CType
-  pub objects : List Object
-  pub functions : List FunctionData
-  pub mentions : List Mention
-  pub nodes : ℕ
-
-abbrev pub unit_data : Unit → UnitData
-unit_data u = record {
-  records = records_of u.records;
-  incomplete = u.incomplete;
-  types = map type_of u.types;
-  objects = u.objects;
-  functions = map data_of u.functions;
-  mentions = u.mentions;
-  nodes = u.nodes;
-}
 
 -- the unit of an annotated file, and of its tree
 abbrev pub unit_of : List Syntax.Item → FileScope → UnitData

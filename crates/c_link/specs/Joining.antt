@@ -13,7 +13,8 @@ use Rattle.c_typed.specs.declared.program.InitialValue.TheVariants as V
 use Rattle.c_typed.specs.declared.program.Local.{Local}
 use Rattle.c_typed.specs.declared.program.Mention.{Mention}
 use Rattle.c_typed.specs.Mapped.{Renaming, mapped_statement}
-use Rattle.c_erasure.specs.Units.{UnitData, FunctionData, new_among, number_in}
+use Rattle.c_typed.specs.Programs.{FunctionData, UnitData, ProgramData}
+use Rattle.c_erasure.specs.Units.{new_among, number_in}
 
 -- ---- the units with their numbers, from 0
 
@@ -234,15 +235,6 @@ abbrev pub records : List UnitData → List Record
 records units = flat_map (λ tag. with_tag tag (all_records_in units)) (complete_tags units)
 
 -- ---- the program
-
-pub record ProgramData : Type 0 where
-  pub records : List Record
-  pub types : List CType
-  pub objects : List Object
-  pub functions : List FunctionData
-  pub mentions : List Mention
-  pub main : ℕ
-  pub nodes : ℕ
 
 abbrev pub joined : List UnitData → ProgramData
 joined units = record {

@@ -3,9 +3,8 @@ use Rattle.std.specs.Prelude.{◌≡◌, ℕ, ◌+◌, List, [], ◌∷◌}
 use Rattle.lay_base.specs.declared.place.File.{File}
 use Rattle.c_ast.specs.Trees
 use Rattle.c_ast.specs.TreesOfFiles.{IsTreeOf}
-use Rattle.c_erasure.specs.Units.{UnitData}
+use Rattle.c_typed.specs.Programs.{UnitData, ProgramData}
 use Rattle.c_erasure.specs.Erasing.{ErasesTo}
-use Rattle.c_link.specs.Joining.{ProgramData}
 use Rattle.c_link.specs.Gaps.{IsProgramOfUnits}
 
 -- the unit of a file by its number

@@ -13,3 +13,5 @@ pub mod Typed
 pub mod Parts
 pub mod InitialValues
 pub mod TypedStatements
+pub mod Programs
+pub mod WellTyped
