@@ -1,0 +1,2 @@
+mod ExamplesOfValues
+mod ExamplesOfFits
