@@ -1,2 +1,3 @@
 mod ExamplesOfValues
 mod ExamplesOfFits
+mod ExamplesOfTyped
