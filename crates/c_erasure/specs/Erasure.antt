@@ -20,7 +20,7 @@ use Rattle.c_typed.specs.declared.operators.BinaryOp.TheVariants as B
 use Rattle.c_typed.specs.declared.operators.PointerOp.TheVariants as P
 use Rattle.c_typed.specs.Trees as Typed
 use Rattle.c_typed.specs.Mapped.{mapped, mapped_path}
-use Rattle.c_typed.specs.Conversions.{is_array, is_function, is_scalar, pointed, number_of}
+use Rattle.c_typed.specs.Conversions.{is_integer, is_array, is_function, is_scalar, pointed, number_of}
 use Rattle.c_typed.specs.Constants.{Constant, valued, constant_of}
 use Rattle.c_typed.specs.Typed.{IsTyped, IsTypedPath}
 use Rattle.c_erasure.specs.Scopes.{Entity, typedef, enumerator, a_local, Bound, FileScope, AnObject, Scope, inside, with_parameter, here, named, tag_at}
@@ -199,7 +199,7 @@ abbrev mutual
   Erases (Trees.index a left b right) s th = ((t : CType) × (p : Notes.Path) × (i : Expression) × (is_array (type_of_path p) ≡ true)
           × (th ≡ an_object (way t (place_in s (first a)) (Typed.element p i))) × Erases a s (an_object p) × Values (Erases b s) i)
       ⊎ ((t : CType) × (e i : Expression) × (th ≡ an_object (way t (place_in s (first a)) (Typed.index e i))) × Values (Erases a s) e × Values (Erases b s) i)
-      ⊎ ((t u : CType) × (i e : Expression) × Values (Erases a s) i × Values (Erases b s) e
+      ⊎ ((t u : CType) × (i e : Expression) × (is_integer (type_of i) ≡ true) × Values (Erases a s) i × Values (Erases b s) e
           × (th ≡ an_object (way t (place_in s (first a)) (Typed.deref (value u (place_in s (first a)) (Typed.pointer_add P.Add i e))))))
   Erases (Trees.call f left all right) s th = (t : CType) × (g : Thing) × (xs : Typed.Expressions Noted) × (node : Node) × Erases f s g
       × AreValues s xs all × IsCall g xs node × (th ≡ a_value (value t (place_in s (first f)) node))
