@@ -2,8 +2,8 @@
 --     struct S { int x; struct S *next; };
 --     void f(struct S *p, int a[3], int i, long l, void *v, char c, int *q)
 -- with `a` an array object.
-use Rattle.std.proofs.Common.{refl, ap, inl, inr}
-use Rattle.std.specs.Prelude.{◌≡◌, ℕ, List, [], ◌∷◌, Bool, true, false, Option, Some, None, codes}
+use Rattle.std.proofs.Common.{refl, ap, sym, subst, inl, inr}
+use Rattle.std.specs.Prelude.{◌≡◌, ℕ, ◌+◌, List, [], ◌∷◌, Bool, true, false, Option, Some, None, codes}
 use Rattle.lay_base.specs.declared.place.Place.{Place}
 use Rattle.c_types.specs.declared.ty.IntKind.TheVariants.{Char, Int, UInt, Long}
 use Rattle.c_types.specs.Types.{CType, void, integer, pointer, array, function, structure, no_types, and_type, Field, Record}
@@ -16,7 +16,8 @@ use Rattle.c_typed.specs.declared.operators.CompareOp.TheVariants.{Equal, Less}
 use Rattle.c_typed.specs.declared.operators.PointerOp.TheVariants as P
 use Rattle.c_typed.specs.Trees as Typed
 use Rattle.c_typed.specs.Typed.{IsTyped, IsTypedPath}
-use Rattle.c_erasure.specs.Noted.{Noted, plain, value, way, Thing, an_object, a_value, a_function, Expression, Path}
+use Rattle.c_typed.specs.Conversions.{is_integer}
+use Rattle.c_erasure.specs.Noted.{Noted, plain, value, way, type_of, Thing, an_object, a_value, a_function, Expression, Path}
 use Rattle.c_erasure.specs.Scopes as Scopes
 use Rattle.c_erasure.specs.Scopes.{Bound, defines, a_local, FileScope, Scope, ALocal, declared}
 use Rattle.c_erasure.specs.Erasure.{Erases, Values, IsTypedThing, typed}
@@ -79,21 +80,32 @@ q_stands at = (an_object (way (pointer int) (place at) (Typed.local 6)), refl, (
 abbrev i_stands : (at : ℕ) → Values (Erases (name (codes "i") at) here) (the_i at)
 i_stands at = (an_object (way int (place at) (Typed.local 2)), refl, (a_local 2 int, refl, refl))
 
--- q[i]
+-- ---- subscripts
+
+-- q[i] has one typed tree: it is not read as *(q + i), which is well typed too
 abbrev subscript : Trees.Expression
 subscript = Trees.index (name (codes "q") 100) 101 (name (codes "i") 102) 103
 
-abbrev as_index : Thing
-as_index = an_object (way int (place 100) (Typed.index (the_q 100) (the_i 102)))
+abbrev sum_target : ℕ → Expression → Expression → Thing
+sum_target at x y = an_object (way int (place at) (Typed.deref (value (pointer int) (place at) (Typed.pointer_add P.Add x y))))
 
-abbrev as_sum : Thing
-as_sum = an_object (way int (place 100) (Typed.deref (value (pointer int) (place 100) (Typed.pointer_add P.Add (the_q 100) (the_i 102)))))
-
-subscript_as_index : Erases subscript here as_index
+subscript_as_index : Erases subscript here (an_object (way int (place 100) (Typed.index (the_q 100) (the_i 102))))
 subscript_as_index = inr (inl (int, the_q 100, the_i 102, refl, q_stands 100, i_stands 102))
 
-subscript_as_sum : Erases subscript here as_sum
-subscript_as_sum = inr (inr (int, pointer int, the_q 100, the_i 102, q_stands 100, i_stands 102, refl))
+index_typed : IsTypedThing here (an_object (way int (place 100) (Typed.index (the_q 100) (the_i 102))))
+index_typed = ((refl, refl, refl, refl), (refl, refl, refl, refl), refl, refl, refl, refl, refl)
 
-sum_typed : IsTypedThing here as_sum
+subscript_no_sum : Erases subscript here (sum_target 100 (the_q 100) (the_i 102)) → ⊥
+subscript_no_sum (inl (t, p, i, is, e, x, y)) = cc
+subscript_no_sum (inr (inl (t, e, i, r, x, y))) = cc
+subscript_no_sum (inr (inr (t, u, i, e, n, x, y, r))) = let z : the_q 100 ≡ i = cc in let f : false ≡ true = subst (λ x. is_integer (type_of x) ≡ true) (sym z) n in cc
+
+sum_typed : IsTypedThing here (sum_target 100 (the_q 100) (the_i 102))
 sum_typed = (((refl, refl, refl, refl), (refl, refl, refl, refl), inl (refl, refl, refl)), refl, refl, refl)
+
+-- i[q] is *(i + q)
+turned : Erases (Trees.index (name (codes "i") 100) 101 (name (codes "q") 102) 103) here (sum_target 100 (the_i 100) (the_q 102))
+turned = inr (inr (int, pointer int, the_i 100, the_q 102, refl, i_stands 100, q_stands 102, refl))
+
+turned_typed : IsTypedThing here (sum_target 100 (the_i 100) (the_q 102))
+turned_typed = (((refl, refl, refl, refl), (refl, refl, refl, refl), inr (refl, refl, refl)), refl, refl, refl)
