@@ -117,7 +117,7 @@ IsAddress at operand th = ⊥
 -- what a pointer points to: an object, or a function
 abbrev pub IsPointed : Place → Expression → Thing → Type 0
 IsPointed at e th = ((t : CType) × (is_function t ≡ false) × (th ≡ an_object (way t at (Typed.deref e))))
-    ⊎ ((t : CType) × (type_of e ≡ pointer t) × (is_function t ≡ true) × (th ≡ a_function_at e))
+    ⊎ ((t : CType) × (type_of e ≡ pointer t) × (is_function t ≡ true) × (unconverted e ≡ e) × (th ≡ a_function_at e))
 
 -- a field by its name
 abbrev pub IsField : Scope → ℕ → List ℕ → ℕ → CType → Type 0
