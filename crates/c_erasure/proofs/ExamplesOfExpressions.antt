@@ -17,7 +17,7 @@ use Rattle.c_typed.specs.declared.operators.PointerOp.TheVariants as P
 use Rattle.c_typed.specs.Trees as Typed
 use Rattle.c_typed.specs.Typed.{IsTyped, IsTypedPath}
 use Rattle.c_typed.specs.Conversions.{is_integer}
-use Rattle.c_erasure.specs.Noted.{Noted, plain, value, way, type_of, Thing, an_object, a_value, a_function, Expression, Path}
+use Rattle.c_erasure.specs.Noted.{Noted, plain, value, way, type_of, unconverted, Thing, an_object, a_value, a_function, a_function_at, a_library_function, Expression, Path}
 use Rattle.c_erasure.specs.Scopes as Scopes
 use Rattle.c_erasure.specs.Scopes.{Bound, defines, a_local, FileScope, Scope, ALocal, declared}
 use Rattle.c_erasure.specs.Erasure.{Erases, Values, IsTypedThing, typed}
@@ -109,3 +109,24 @@ turned = inr (inr (int, pointer int, the_i 100, the_q 102, refl, i_stands 100, q
 
 turned_typed : IsTypedThing here (sum_target 100 (the_i 100) (the_q 102))
 turned_typed = (((refl, refl, refl, refl), (refl, refl, refl, refl), inr (refl, refl, refl)), refl, refl, refl)
+
+-- ---- `*` and `&`
+
+-- sizeof &*i: what is no pointer points to nothing, not even to a function after a conversion
+abbrev address_of_target : Trees.Expression
+address_of_target = Trees.unary U.Address 100 (Trees.unary U.Deref 101 (name (codes "i") 102))
+
+abbrev as_function : Expression
+as_function = value (pointer (function void no_types)) (place 102) (Typed.convert (the_i 102) false)
+
+as_function_typed : IsTyped (declared here) (typed as_function)
+as_function_typed = ((refl, refl, refl, refl), refl, (λ e. cc), refl)
+
+no_function : Erases address_of_target here (a_value as_function) → ⊥
+no_function (an_object p, (t, r), w) = cc
+no_function (a_value e, r, w) = r
+no_function (a_function at f t, r, w) = cc
+no_function (a_library_function at which, r, w) = r
+no_function (a_function_at f, r, (e, inl (t, is, p), v)) = cc
+no_function (a_function_at f, r, (e, inr (t, of, is, bare, p), v)) =
+    let z : e ≡ as_function = cc in let b : the_i 102 ≡ as_function = subst (λ e. unconverted e ≡ e) z bare in cc
