@@ -291,6 +291,8 @@ pub record IsFileOf (items : List Trees.Item) (f : FileScope) : Type 0 where
   pub consistent : AreConsistent f.names
   pub consistent_tags : AreConsistentTags (tags_in (marks_of_file f.untagged items))
   pub defined_once : AreDifferent (defined_in (marks_of_file f.untagged items))
+  -- the members of a structure have different names (6.2.3, 6.7)
+  pub members_once : All (λ r. AreDifferent (map (λ m. m.name) r.fields)) f.records
   pub small : AreSmall f.records
   pub objects_in_order : AreAscending (map (λ o. o.first) f.objects)
   pub functions_in_order : AreAscending (map (λ g. g.first) f.functions)
