@@ -153,9 +153,9 @@ abbrev pub with_parameter_if_named : Scope → Option Spelling → CType → Sco
 with_parameter_if_named s None t = s
 with_parameter_if_named s (Some x) t = with_parameter s x.text x.from t
 
--- `sizeof` a complete object type (6.5.3.4)
-abbrev pub IsSize : Scope → ℕ → CType → Option ℕ → Thing → Type 0
-IsSize s at t where_named th = (is_object (ended s.file.ends at) t ≡ true)
+-- `sizeof` a type that is a complete object type by that byte (6.5.3.4)
+abbrev pub IsSize : Scope → (at by : ℕ) → CType → Option ℕ → Thing → Type 0
+IsSize s at by t where_named th = (is_object (ended s.file.ends by) t ≡ true)
     × (th ≡ a_value (Typed.expression (record { ty = integer UInt; note = sized t where_named }) (place_in s at)
           (Typed.constant (size_of s.file.records t))))
 
@@ -219,8 +219,8 @@ abbrev mutual
   Erases (Trees.unary U.Complement at a) s th = (t : CType) × (x : Expression)
       × (th ≡ a_value (value t (place_in s at) (Typed.unary TU.Complement x))) × Values (Erases a s) x
   Erases (Trees.unary U.Not at a) s th = (t : CType) × (x : Expression) × (th ≡ a_value (value t (place_in s at) (Typed.not x))) × Values (Erases a s) x
-  Erases (Trees.sizeof_expression at a) s th = (t : CType) × IsMeasured (Erases a) s t × IsSize s at t None th
-  Erases (Trees.sizeof_type at left n right) s th = (t : CType) × IsTypeName s n t × IsSize s at t (Some (place_of_name n)) th
+  Erases (Trees.sizeof_expression at a) s th = (t : CType) × IsMeasured (Erases a) s t × IsSize s at at t None th
+  Erases (Trees.sizeof_type at left n right) s th = (t : CType) × IsTypeName s n t × IsSize s at right t (Some (place_of_name n)) th
   Erases (Trees.cast left n right a) s th = (t : CType) × (x : Expression) × IsTypeName s n t × Values (Erases a s) x
       × (th ≡ a_value (Typed.expression (record { ty = t; note = cast_to (place_of_name n) }) (place_in s left) (Typed.convert x true)))
   Erases (Trees.binary a op at b) s th = (t : CType) × (x y : Expression) × (node : Node) × Values (Erases a s) x × Values (Erases b s) y × IsJoined (kind_of op) x y node
