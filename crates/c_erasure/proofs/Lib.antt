@@ -1,1 +1,2 @@
 mod ExamplesOfExpressions
+mod ExamplesOfFiles
