@@ -1,0 +1,2 @@
+mod ExamplesOfExpressions
+mod ExamplesOfFiles

@@ -21,7 +21,7 @@ use Rattle.c_typed.specs.declared.operators.BinaryOp.TheVariants as B
 use Rattle.c_typed.specs.declared.operators.PointerOp.TheVariants as P
 use Rattle.c_typed.specs.Trees as Typed
 use Rattle.c_typed.specs.Mapped.{of_types, mapped, mapped_path}
-use Rattle.c_typed.specs.Conversions.{is_array, is_function, is_scalar, number_of}
+use Rattle.c_typed.specs.Conversions.{is_integer, is_array, is_function, is_scalar, number_of}
 use Rattle.c_typed.specs.Constants.{valued, constant_of}
 use Rattle.c_typed.specs.Typed.{IsTyped, IsTypedPath}
 use Rattle.c_erasure.specs.Scopes.{Entity, typedef, enumerator, a_local, Bound, FileScope, AnObject, Scope, inside, with_parameter, here, named, tag_at}
@@ -118,7 +118,7 @@ IsAddress at operand th = ⊥
 -- what a pointer points to: an object, or a function
 abbrev pub IsPointed : Place → Expression → Thing → Type 0
 IsPointed at e th = ((t : CType) × (is_function t ≡ false) × (th ≡ an_object (way t at (Typed.deref e))))
-    ⊎ ((t : CType) × (unconverted e ≡ e) × (type_of e ≡ pointer t) × (is_function t ≡ true) × (th ≡ a_function_at e))
+    ⊎ ((t : CType) × (type_of e ≡ pointer t) × (is_function t ≡ true) × (unconverted e ≡ e) × (th ≡ a_function_at e))
 
 -- a field by its name
 abbrev pub IsField : Scope → ℕ → List ℕ → ℕ → CType → Type 0
@@ -154,9 +154,9 @@ abbrev pub with_parameter_if_named : Scope → Option Spelling → CType → Sco
 with_parameter_if_named s None t = s
 with_parameter_if_named s (Some x) t = with_parameter s x.text x.from t
 
--- `sizeof` a complete object type (6.5.3.4)
-abbrev pub IsSize : Scope → ℕ → CType → Thing → Type 0
-IsSize s at t th = (is_object (ended s.file.ends at) t ≡ true) × IsMentioned s Sizeof t at
+-- `sizeof` a type that is a complete object type by that byte (6.5.3.4)
+abbrev pub IsSize : Scope → (at by : ℕ) → CType → Thing → Type 0
+IsSize s at by t th = (is_object (ended s.file.ends by) t ≡ true) × IsMentioned s Sizeof t at
     × (th ≡ a_value (Typed.expression (record { ty = integer UInt; note = sized t at }) (place_in s at)
           (Typed.constant (size_of s.file.records t))))
 
@@ -200,7 +200,7 @@ abbrev mutual
   Erases (Trees.index a left b right) s th = ((t : CType) × (p : Notes.Path) × (i : Expression) × (is_array (type_of_path p) ≡ true)
           × (th ≡ an_object (way t (place_in s (first a)) (Typed.element p i))) × Erases a s (an_object p) × Values (Erases b s) i)
       ⊎ ((t : CType) × (e i : Expression) × (th ≡ an_object (way t (place_in s (first a)) (Typed.index e i))) × Values (Erases a s) e × Values (Erases b s) i)
-      ⊎ ((t u : CType) × (i e : Expression) × Values (Erases a s) i × Values (Erases b s) e
+      ⊎ ((t u : CType) × (i e : Expression) × (is_integer (type_of i) ≡ true) × Values (Erases a s) i × Values (Erases b s) e
           × (th ≡ an_object (way t (place_in s (first a)) (Typed.deref (value u (place_in s (first a)) (Typed.pointer_add P.Add i e))))))
   Erases (Trees.call f left all right) s th = (t : CType) × (g : Thing) × (xs : Typed.Expressions Noted) × (node : Node) × Erases f s g
       × AreValues s xs all × IsCall g xs node × (th ≡ a_value (value t (place_in s (first f)) node))
@@ -220,9 +220,9 @@ abbrev mutual
   Erases (Trees.unary U.Complement at a) s th = (t : CType) × (x : Expression)
       × (th ≡ a_value (value t (place_in s at) (Typed.unary TU.Complement x))) × Values (Erases a s) x
   Erases (Trees.unary U.Not at a) s th = (t : CType) × (x : Expression) × (th ≡ a_value (value t (place_in s at) (Typed.not x))) × Values (Erases a s) x
-  Erases (Trees.sizeof_expression at a) s th = (t : CType) × IsMeasured (Erases a) s t × IsSize s at t th
+  Erases (Trees.sizeof_expression at a) s th = (t : CType) × IsMeasured (Erases a) s t × IsSize s at at t th
   Erases (Trees.sizeof_type at left n right) s th = (t : CType) × IsTypeName s n t × IsMentioned s Named t (place_of_name n)
-      × IsSize s at t th
+      × IsSize s at right t th
   Erases (Trees.cast left n right a) s th = (t : CType) × (x : Expression) × IsTypeName s n t × IsMentioned s Named t (place_of_name n)
       × Values (Erases a s) x
       × (th ≡ a_value (value t (place_in s left) (Typed.convert x true)))

@@ -119,14 +119,6 @@ AreFileDeclarators f words base (d ∷ more) semicolon = (x : Spelling) × (decl
     × IsFileDeclarator f words base d x (first_declarator d.declarator x.from) (name_from d.value (after_declarator more semicolon))
     × AreFileDeclarators f words base more semicolon
 
--- the storage classes of file scope (6.9)
-abbrev pub IsFileStorage : Storage → Type 0
-IsFileStorage no_storage = Unit {0}
-IsFileStorage a_typedef = Unit {0}
-IsFileStorage is_extern = Unit {0}
-IsFileStorage is_static = Unit {0}
-IsFileStorage words = ⊥
-
 -- a declaration without a declarator declares a tag or enumerators (6.7)
 abbrev pub declares_tag : Trees.Specifiers → Bool
 declares_tag Trees.no_specifiers = false
@@ -198,10 +190,18 @@ IsDefined f specs d left items nodes = (base result : CType) × (types : CTypes)
 
 -- ---- items
 
+-- the storage classes that may stand at file scope (6.9), also where nothing but a tag is declared
+abbrev pub may_stand_in_file : Storage → Bool
+may_stand_in_file no_storage = true
+may_stand_in_file a_typedef = true
+may_stand_in_file is_extern = true
+may_stand_in_file is_static = true
+may_stand_in_file words = false
+
 abbrev pub ErasesItem : FileScope → Trees.Item → Type 0
 ErasesItem f (Trees.defines specs d left items right) = IsDefined f specs d left items (size_item (Trees.defines specs d left items right)).nodes
-ErasesItem f (Trees.declaration d) = (base : CType) × IsBase (IsOne (at_file_scope f) d.specs) d.specs base × DeclaresSomething d
-    × IsFileStorage (storage_of d.specs)
+ErasesItem f (Trees.declaration d) = (base : CType) × (may_stand_in_file (storage_of d.specs) ≡ true)
+    × IsBase (IsOne (at_file_scope f) d.specs) d.specs base × DeclaresSomething d
     × AreFileDeclarators f (storage_of d.specs) base d.all d.semicolon
 
 -- ---- what is declared, and nothing else

@@ -98,12 +98,12 @@ abbrev pub IsPlainIfAny : Option Trees.Expression → Scope → Option Expressio
 IsPlainIfAny None s x = x ≡ None
 IsPlainIfAny (Some a) s x = (e : Expression) × (x ≡ Some e) × IsPlain a s e
 
--- what stands first in a `for`, and the scope after it
+-- what stands first in a `for`, and the scope after it; no object that outlives it is declared there (6.8.5)
 abbrev pub IsStart : Trees.ForStart → Scope → Statements → Scope → Type 0
 IsStart (Trees.starts_with None semicolon) s all after = (all ≡ Typed.no_statements) × (after ≡ s)
 IsStart (Trees.starts_with (Some a) semicolon) s all after = (x : Expression) × (all ≡ Typed.and_statement (Typed.evaluate x) Typed.no_statements)
     × IsPlain a s x × (after ≡ s)
-IsStart (Trees.declares d) s all after = IsLocalDeclaration d s all after
+IsStart (Trees.declares d) s all after = IsLocalDeclaration d s all after × (storage_of d.specs ≢ is_static)
 
 -- the values of `case` labels, converted to the type of the controlling expression (6.8.4.2), and whether `default` is among the labels
 abbrev pub AreLabels : List Trees.Label → Scope → IntKind → List ℕ → ℕ → Type 0

@@ -1,0 +1,3 @@
+mod ExamplesOfValues
+mod ExamplesOfFits
+mod ExamplesOfTyped
