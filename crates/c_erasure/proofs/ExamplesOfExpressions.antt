@@ -17,7 +17,8 @@ use Rattle.c_typed.specs.declared.operators.PointerOp.TheVariants as P
 use Rattle.c_typed.specs.Trees as Typed
 use Rattle.c_typed.specs.Typed.{IsTyped, IsTypedPath}
 use Rattle.c_typed.specs.Conversions.{is_integer}
-use Rattle.c_erasure.specs.Noted.{Noted, plain, value, way, type_of, unconverted, Thing, an_object, a_value, a_function, a_function_at, a_library_function, Expression, Path}
+use Rattle.c_erasure.specs.Noted.{Noted, plain, value, way, type_of, unconverted, Thing, an_object, a_value, a_function, a_function_at, a_library_function}
+use Rattle.c_erasure.specs.Noted.{Expression, Path}
 use Rattle.c_erasure.specs.Scopes as Scopes
 use Rattle.c_erasure.specs.Scopes.{Bound, defines, a_local, FileScope, Scope, ALocal, declared}
 use Rattle.c_erasure.specs.Erasure.{Erases, Values, IsTypedThing, typed}
@@ -100,7 +101,8 @@ index_typed = ((refl, refl, refl, refl), (refl, refl, refl, refl), refl, refl, r
 subscript_no_sum : Erases subscript here (sum_target 100 (the_q 100) (the_i 102)) → ⊥
 subscript_no_sum (inl (t, p, i, is, e, x, y)) = cc
 subscript_no_sum (inr (inl (t, e, i, r, x, y))) = cc
-subscript_no_sum (inr (inr (t, u, i, e, n, x, y, r))) = let z : the_q 100 ≡ i = cc in let f : false ≡ true = subst (λ x. is_integer (type_of x) ≡ true) (sym z) n in cc
+subscript_no_sum (inr (inr (t, u, i, e, n, x, y, r))) =
+    let z : the_q 100 ≡ i = cc in let f : false ≡ true = subst (λ x. is_integer (type_of x) ≡ true) (sym z) n in cc
 
 sum_typed : IsTypedThing here (sum_target 100 (the_q 100) (the_i 102))
 sum_typed = (((refl, refl, refl, refl), (refl, refl, refl, refl), inl (refl, refl, refl)), refl, refl, refl)

@@ -214,7 +214,8 @@ abbrev mutual
       × Erases a s (an_object p)
   Erases (Trees.unary U.Address at a) s th = (operand : Thing) × IsAddress (place_in s at) operand th × Erases a s operand
   Erases (Trees.unary U.Deref at a) s th = (e : Expression) × IsPointed (place_in s at) e th × Values (Erases a s) e
-  Erases (Trees.unary U.Plus at a) s th = (t : CType) × (x : Expression) × (th ≡ a_value (value t (place_in s at) (Typed.unary TU.Plus x))) × Values (Erases a s) x
+  Erases (Trees.unary U.Plus at a) s th = (t : CType) × (x : Expression) × (th ≡ a_value (value t (place_in s at) (Typed.unary TU.Plus x)))
+      × Values (Erases a s) x
   Erases (Trees.unary U.Minus at a) s th = (t : CType) × (x : Expression) × (th ≡ a_value (value t (place_in s at) (Typed.unary TU.Minus x)))
       × Values (Erases a s) x
   Erases (Trees.unary U.Complement at a) s th = (t : CType) × (x : Expression)
@@ -226,7 +227,8 @@ abbrev mutual
   Erases (Trees.cast left n right a) s th = (t : CType) × (x : Expression) × IsTypeName s n t × IsMentioned s Named t (place_of_name n)
       × Values (Erases a s) x
       × (th ≡ a_value (value t (place_in s left) (Typed.convert x true)))
-  Erases (Trees.binary a op at b) s th = (t : CType) × (x y : Expression) × (node : Node) × Values (Erases a s) x × Values (Erases b s) y × IsJoined (kind_of op) x y node
+  Erases (Trees.binary a op at b) s th = (t : CType) × (x y : Expression) × (node : Node) × Values (Erases a s) x × Values (Erases b s) y
+      × IsJoined (kind_of op) x y node
       × (th ≡ a_value (value t (place_in s (first a)) node))
   Erases (Trees.cond a question b colon c) s th = (t : CType) × (x y z : Expression)
       × (th ≡ a_value (value t (place_in s (first a)) (Typed.choose x y z))) × Values (Erases a s) x × Values (Erases b s) y × Values (Erases c s) z
@@ -277,7 +279,8 @@ abbrev mutual
   Declares s (Trees.pointer at consts d) t shape = IsSmall s.file.records (pointer t) × Declares s d (pointer t) shape
   Declares s (Trees.enclosed left d right) t shape = Declares s d t shape
   -- an array has elements of a complete object type, and at least one
-  Declares s (Trees.array d left (Trees.some_expression a) right) t shape = (kind : IntKind) × (v n : ℕ) × IsConstant (Erases a) s kind v × (number_of kind v ≡ pos n)
+  Declares s (Trees.array d left (Trees.some_expression a) right) t shape = (kind : IntKind) × (v n : ℕ) × IsConstant (Erases a) s kind v
+      × (number_of kind v ≡ pos n)
       × (1 ≤ n) × (is_object (ended s.file.ends left) t ≡ true) × IsSmall s.file.records (array t n) × Declares s d (array t n) shape
   Declares s (Trees.array d left Trees.no_expression right) t shape = (is_object (ended s.file.ends left) t ≡ true) × (is_name d ≡ true)
       × (shape ≡ open_array t)

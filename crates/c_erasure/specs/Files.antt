@@ -85,7 +85,8 @@ IsDefinition s place t None o = Unit {0}
 IsDefinition s place t (Some value) o = (i : Typed.Initializer Noted) × HasConstants s t (Some value) i × (o.initial ≡ Some i) × (o.place ≡ place_in s place)
 
 abbrev pub IsTypedef : FileScope → CType → Trees.InitDeclarator → Spelling → ℕ → ℕ → Type 0
-IsTypedef f base d x place from = (t : CType) × (d.value ≡ None) × IsMentioned (at_file_scope f) Named t place × Declares (at_file_scope f) d.declarator base (closed t) × IsOwnName x.text
+IsTypedef f base d x place from = (t : CType) × (d.value ≡ None) × IsMentioned (at_file_scope f) Named t place
+    × Declares (at_file_scope f) d.declarator base (closed t) × IsOwnName x.text
     × IsBound (at_file_scope f) (bound x from defines (typedef t))
 
 abbrev pub IsObject : FileScope → Storage → CType → Trees.InitDeclarator → Spelling → ℕ → ℕ → Type 0

@@ -85,7 +85,8 @@ abbrev mutual
   addressed_by_statement (Trees.when_else e one other) = addressed e ++ addressed_by_statement one ++ addressed_by_statement other
   addressed_by_statement (Trees.while e body) = addressed e ++ addressed_by_statement body
   addressed_by_statement (Trees.do_while body e) = addressed_by_statement body ++ addressed e
-  addressed_by_statement (Trees.for locals start test step body) = addressed_by_statements start ++ addressed_if_any test ++ addressed_if_any step ++ addressed_by_statement body
+  addressed_by_statement (Trees.for locals start test step body) = addressed_by_statements start ++ addressed_if_any test ++ addressed_if_any step
+      ++ addressed_by_statement body
   addressed_by_statement (Trees.switch e locals arms) = addressed e ++ addressed_by_arms arms
   addressed_by_statement Trees.break = []
   addressed_by_statement Trees.continue = []

@@ -85,7 +85,8 @@ abbrev mutual
   references_by_statement (Trees.when_else e one other) = references e ++ references_by_statement one ++ references_by_statement other
   references_by_statement (Trees.while e body) = references e ++ references_by_statement body
   references_by_statement (Trees.do_while body e) = references_by_statement body ++ references e
-  references_by_statement (Trees.for locals start test step body) = references_by_statements start ++ references_if_any test ++ references_if_any step ++ references_by_statement body
+  references_by_statement (Trees.for locals start test step body) = references_by_statements start ++ references_if_any test ++ references_if_any step
+      ++ references_by_statement body
   references_by_statement (Trees.switch e locals arms) = references e ++ references_by_arms arms
   references_by_statement Trees.break = []
   references_by_statement Trees.continue = []
