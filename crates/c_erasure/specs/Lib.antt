@@ -15,3 +15,4 @@ pub mod InitialMentions
 pub mod Units
 pub mod Untagged
 pub mod Erasing
+pub mod Broken
