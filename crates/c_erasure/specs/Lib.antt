@@ -16,3 +16,4 @@ pub mod Units
 pub mod Untagged
 pub mod Erasing
 pub mod Broken
+pub mod BrokenStatements
