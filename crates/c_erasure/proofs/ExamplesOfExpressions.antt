@@ -2,25 +2,20 @@
 --     struct S { int x; struct S *next; };
 --     void f(struct S *p, int a[3], int i, long l, void *v, char c, int *q)
 -- with `a` an array object.
-use Rattle.std.proofs.Common.{refl, ap, sym, subst, inl, inr}
-use Rattle.std.specs.Prelude.{◌≡◌, ℕ, ◌+◌, List, [], ◌∷◌, Bool, true, false, Option, Some, None, codes}
+use Rattle.std.proofs.Common.{refl, sym, subst, inl, inr}
+use Rattle.std.specs.Prelude.{◌≡◌, ℕ, ◌+◌, List, [], ◌∷◌, true, false, codes}
 use Rattle.lay_base.specs.declared.place.Place.{Place}
-use Rattle.c_types.specs.declared.ty.IntKind.TheVariants.{Char, Int, UInt, Long}
-use Rattle.c_types.specs.Types.{CType, void, integer, pointer, array, function, structure, no_types, and_type, Field, Record}
-use Rattle.c_ast.specs.declared.words.Spelling.{Spelling}
-use Rattle.c_ast.specs.declared.operators.BinaryOp.TheVariants as O
+use Rattle.c_types.specs.declared.ty.IntKind.TheVariants.{Char, Int, Long}
+use Rattle.c_types.specs.Types.{CType, void, integer, pointer, array, function, structure, no_types, Field, Record}
 use Rattle.c_ast.specs.declared.operators.UnaryOp.TheVariants as U
 use Rattle.c_ast.specs.Trees
-use Rattle.c_typed.specs.declared.operators.BinaryOp.TheVariants.{Add, Subtract, ShiftLeft}
-use Rattle.c_typed.specs.declared.operators.CompareOp.TheVariants.{Equal, Less}
 use Rattle.c_typed.specs.declared.operators.PointerOp.TheVariants as P
 use Rattle.c_typed.specs.Trees as Typed
-use Rattle.c_typed.specs.Typed.{IsTyped, IsTypedPath}
+use Rattle.c_typed.specs.Typed.{IsTyped}
 use Rattle.c_typed.specs.Conversions.{is_integer}
-use Rattle.c_erasure.specs.Noted.{Noted, plain, value, way, type_of, unconverted, Thing, an_object, a_value, a_function, a_function_at, a_library_function}
-use Rattle.c_erasure.specs.Noted.{Expression, Path}
-use Rattle.c_erasure.specs.Scopes as Scopes
-use Rattle.c_erasure.specs.Scopes.{Bound, defines, a_local, FileScope, Scope, ALocal, declared}
+use Rattle.c_erasure.specs.Noted.{value, way, type_of, unconverted, Thing, an_object, a_value, a_function, a_function_at, a_library_function}
+use Rattle.c_erasure.specs.Noted.{Expression}
+use Rattle.c_erasure.specs.Scopes.{Bound, defines, a_local, FileScope, Scope, declared}
 use Rattle.c_erasure.specs.Erasure.{Erases, Values, IsTypedThing, typed}
 
 abbrev int : CType

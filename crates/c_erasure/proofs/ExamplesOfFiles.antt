@@ -1,24 +1,22 @@
 -- Annotated files of whole files (C99 6.7 to 6.9).
-use Rattle.std.proofs.Common.{refl, ap, sym, subst, inl, inr, zero, suc, ◌<◌, arith}
+use Rattle.std.proofs.Common.{refl, ap, subst, inl, inr, zero, suc, arith}
 use Rattle.std.proofs.lemmas.List.Elements.{All-nil, All-cons}
 use Rattle.std.specs.Str.{bytes_eq}
-use Rattle.std.specs.Prelude.{◌≡◌, ◌≢◌, unwrap_or, ℕ, ◌+◌, List, [], ◌∷◌, Bool, true, false, Option, Some, None, codes, All, slice_get}
+use Rattle.std.specs.Prelude.{◌≡◌, ◌≢◌, unwrap_or, ℕ, List, [], ◌∷◌, true, false, Some, codes, slice_get}
 use Rattle.lay_base.specs.declared.place.Place.{Place}
-use Rattle.c_types.specs.declared.ty.IntKind.TheVariants.{Char, Int, UInt, Long}
-use Rattle.c_types.specs.Types.{CType, void, integer, pointer, array, function, structure, no_types, and_type, Field, Record}
+use Rattle.c_types.specs.declared.ty.IntKind.TheVariants.{Int}
+use Rattle.c_types.specs.Types.{CType, integer, function, no_types}
 use Rattle.c_ast.specs.declared.words.Spelling.{Spelling}
 use Rattle.c_ast.specs.declared.operators.BinaryOp.TheVariants as O
 use Rattle.c_ast.specs.declared.operators.SpecifierKeyword.TheVariants as S
 use Rattle.c_ast.specs.Trees
-use Rattle.c_ast.specs.Sizes.{size_item}
 use Rattle.c_typed.specs.declared.operators.BinaryOp.TheVariants.{Add}
 use Rattle.c_typed.specs.declared.operators.LibraryFunction.TheVariants as L
 use Rattle.c_typed.specs.declared.program.MentionKind.TheVariants.{Named}
 use Rattle.c_typed.specs.Trees as Typed
-use Rattle.c_erasure.specs.Noted.{Noted, plain, value, way, Thing, an_object, a_value, a_function, Expression}
+use Rattle.c_erasure.specs.Noted.{Noted, value, a_value, Expression}
 use Rattle.c_erasure.specs.Scopes as Scopes
 use Rattle.c_erasure.specs.Scopes.{Bound, defines, FileScope, AnObject, AFunction, ALocal}
-use Rattle.c_erasure.specs.Specifiers.{no_storage, is_extern}
 use Rattle.c_erasure.specs.Files.{IsOwnName, IsMainType, IsDeclaredFunction, IsFileOf, ErasesItem, in_body}
 
 -- names that differ

@@ -1,29 +1,29 @@
 -- Which rule is broken where, in an expression, a type name, specifiers or a declarator: the parts of some node are well typed in the scope that
 -- the tree gives it, and the rule of the node is false of them (C99 6.5, 6.7). Several rules may be broken in one tree.
-use Rattle.std.specs.Prelude.{◌≡◌, ◌≢◌, ℕ, ◌+◌, ◌≤◌, ◌<◌, ◌%◌, ◌^◌, Bool, true, false, not, ◌&&◌, ◌||◌, List, [], ◌∷◌, ◌++◌, ℤ, pos, Option, Some, None}
+use Rattle.std.specs.Prelude.{◌≡◌, ◌≢◌, ℕ, ◌+◌, ◌≤◌, ◌<◌, ◌%◌, ◌^◌, Bool, true, false, ◌&&◌, ◌||◌, List, [], ◌∷◌, ◌++◌, ℤ, pos, Option, Some, None}
 use Rattle.std.specs.Prelude.{slice_get, ◌⊎◌}
 use Rattle.std.specs.Str.{bytes_eq}
 use Rattle.lay_base.specs.declared.faults.Rule.{Rule}
 use Rattle.lay_base.specs.declared.faults.Rule.TheVariants as R
 use Rattle.c_types.specs.declared.ty.IntKind.{IntKind}
-use Rattle.c_types.specs.Types.{CType, CTypes, void, integer, pointer, array, function, structure, no_types, and_type, Field, Record}
+use Rattle.c_types.specs.Types.{CType, CTypes, void, pointer, array, function, structure, no_types, and_type, Field, Record}
 use Rattle.c_types.specs.Layouts.{size_of_record}
 use Rattle.c_types.specs.Objects.{is_object}
 use Rattle.c_ast.specs.declared.words.Spelling.{Spelling}
 use Rattle.c_ast.specs.declared.operators.UnaryOp.{UnaryOp}
 use Rattle.c_ast.specs.declared.operators.UnaryOp.TheVariants as U
 use Rattle.c_ast.specs.Trees
-use Rattle.c_ast.specs.Places.{first, first_specifier, first_specifiers, first_declarator}
+use Rattle.c_ast.specs.Places.{first, first_specifiers, first_declarator}
 use Rattle.c_typed.specs.declared.operators.BinaryOp.{BinaryOp}
 use Rattle.c_typed.specs.declared.operators.BinaryOp.TheVariants as B
 use Rattle.c_typed.specs.Conversions.{is_integer, is_scalar, is_array, is_function, is_record, number_of}
 use Rattle.c_typed.specs.Constants.{is_null, valued, constant_of}
 use Rattle.c_typed.specs.Fits.{assigns, casts, library_type}
-use Rattle.c_typed.specs.Rules.{promoting, on_numbers, comparing, choosing, moving, differing, updating, is_stepped, points_to_object}
+use Rattle.c_typed.specs.Rules.{on_numbers, comparing, choosing, moving, differing, updating, is_stepped, points_to_object}
 use Rattle.c_typed.specs.Typed.{IsTyped}
-use Rattle.c_erasure.specs.Noted.{Expression, Path, Thing, an_object, a_value, a_function, a_function_at, a_library_function, type_of, type_of_path}
-use Rattle.c_erasure.specs.Noted.{value_of, unconverted}
-use Rattle.c_erasure.specs.Scopes.{Bound, Tag, AnObject, Scope, inside, measured, with_objects, named, tag_at, ended, declared, here, visible}
+use Rattle.c_erasure.specs.Noted.{Expression, Thing, an_object, a_value, a_function, a_function_at, a_library_function, type_of, type_of_path}
+use Rattle.c_erasure.specs.Noted.{unconverted}
+use Rattle.c_erasure.specs.Scopes.{Bound, Tag, AnObject, Scope, inside, measured, with_objects, named, tag_at, ended, declared, here}
 use Rattle.c_erasure.specs.Operators.{Kind, computes, compares, all_of, any_of, kind_of, update_of}
 use Rattle.c_erasure.specs.Specifiers.{named_by, words_of, no_words, types_among, storage_of, no_storage, is_register}
 use Rattle.c_erasure.specs.Declarators.{declared_name, is_name, Shape, closed, open_array, parameter_type, IsSmall}

@@ -1,25 +1,24 @@
 -- Which rule is broken where, in an initializer, a declaration of a block, or a statement (C99 6.7.8, 6.8): what stands before is well typed in
 -- the scope that the tree gives it, and the rule there is false.
-use Rattle.std.specs.Prelude.{◌≡◌, ◌≢◌, ℕ, ◌+◌, ◌≤◌, Bool, true, false, ◌||◌, List, [], ◌∷◌, ◌++◌, length, Option, Some, None, slice_get, ◌⊎◌}
+use Rattle.std.specs.Prelude.{◌≡◌, ◌≢◌, ℕ, ◌+◌, ◌≤◌, Bool, true, false, ◌||◌, List, [], ◌∷◌, ◌++◌, Option, Some, None, slice_get, ◌⊎◌}
 use Rattle.lay_base.specs.declared.faults.Rule.TheVariants as R
 use Rattle.c_types.specs.declared.ty.IntKind.{IntKind}
 use Rattle.c_types.specs.Types.{CType, void, integer, array, structure, Field, Record}
 use Rattle.c_types.specs.Objects.{is_object}
 use Rattle.c_ast.specs.declared.words.Spelling.{Spelling}
 use Rattle.c_ast.specs.Trees
-use Rattle.c_ast.specs.Places.{first, first_text, first_specifiers, first_declarator}
+use Rattle.c_ast.specs.Places.{first, first_specifiers}
 use Rattle.c_typed.specs.Trees as Typed
 use Rattle.c_typed.specs.Conversions.{as_kind, is_integer, is_scalar, is_array, is_function, is_record}
-use Rattle.c_typed.specs.Constants.{kind_of}
 use Rattle.c_typed.specs.Fits.{assigns}
 use Rattle.c_typed.specs.Rules.{promoting}
 use Rattle.c_erasure.specs.Noted.{Noted, type_of}
 use Rattle.c_erasure.specs.Scopes.{Scope, inside, ended, AnObject, declared, with_objects}
-use Rattle.c_erasure.specs.Specifiers.{storage_of, Storage, no_storage, a_typedef, is_extern, is_static, is_auto, is_register, several}
+use Rattle.c_erasure.specs.Specifiers.{storage_of, Storage, a_typedef, is_extern, is_static, several}
 use Rattle.c_erasure.specs.Declarators.{declared_name, Shape, closed, open_array}
 use Rattle.c_erasure.specs.Erasure.{IsBase, IsConstant, Erases, IsOne, Declares}
 use Rattle.c_erasure.specs.Initializers.{texts_of, is_character, IsTextOf, count_of, IsInitializer, AreConstants}
-use Rattle.c_erasure.specs.Statements.{Statements, IsSized, with_variable, IsLocalDeclaration, DeclareAll, IsStart, ErasesItem, ErasesSwitchItem}
+use Rattle.c_erasure.specs.Statements.{Statements, IsSized, with_variable, DeclareAll, IsStart, ErasesItem, ErasesSwitchItem}
 use Rattle.c_erasure.specs.Broken.{Fault, ill_typed, One, AThing, IsNoRecord, null, HasNoValue, IsNoConstant, IsOldName, AreNoType, IsBroken, AreBroken}
 use Rattle.c_erasure.specs.Broken.{IsBrokenDeclarator}
 
@@ -44,7 +43,8 @@ abbrev mutual
   IsBrokenInitializer (Trees.braces left all last right) s t f =
       ((is_scalar t ≡ true) × (f ≡ ill_typed R.Init left) × (count_of all ≢ 1))
       ⊎ ((is_scalar t ≡ true) × IsBrokenOnly all s t f)
-      ⊎ ((is_text t (texts_of (Trees.braces left all last right)) ≡ true) × (f ≡ ill_typed R.Init left) × IsNoArray (texts_of (Trees.braces left all last right)) t)
+      ⊎ ((is_text t (texts_of (Trees.braces left all last right)) ≡ true) × (f ≡ ill_typed R.Init left)
+      × IsNoArray (texts_of (Trees.braces left all last right)) t)
       ⊎ ((u : CType) × (n : ℕ) × (t ≡ array u n) × (is_text t (texts_of (Trees.braces left all last right)) ≡ false) × AreBrokenElements all s u n f)
       ⊎ ((r : ℕ) × (rec : Record) × (t ≡ structure r) × (slice_get s.file.records r ≡ Some rec) × AreBrokenFields all s rec.fields f)
   IsBrokenInitializer a s t f =

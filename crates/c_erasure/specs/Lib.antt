@@ -17,3 +17,4 @@ pub mod Untagged
 pub mod Erasing
 pub mod Broken
 pub mod BrokenStatements
+pub mod BrokenFiles

@@ -4,18 +4,14 @@ use Rattle.std.specs.Prelude.{ℕ, ◌+◌, ◌==◌, Bool, true, false, not, �
 use Rattle.std.specs.Prelude.{length, Option, Some, None, is_some}
 use Rattle.std.specs.List.{list_any}
 use Rattle.std.specs.Option.{option_map}
-use Rattle.lay_base.specs.declared.place.Place.{Place}
 use Rattle.c_types.specs.declared.ty.IntKind.TheVariants.{Char, UInt}
-use Rattle.c_types.specs.Types.{CType, integer, Record}
+use Rattle.c_types.specs.Types.{CType, integer}
 use Rattle.c_types.specs.Sameness.{same_type}
-use Rattle.c_types.specs.Views.{type_of, records_of}
 use Rattle.c_ast.specs.Trees as Syntax
 use Rattle.c_ast.specs.Sizes.{size_items}
-use Rattle.c_typed.specs.declared.program.Unit.{Unit}
 use Rattle.c_typed.specs.declared.program.Object.{Object}
 use Rattle.c_typed.specs.declared.program.Initial.{Initial}
 use Rattle.c_typed.specs.declared.program.InitialValue.TheVariants as V
-use Rattle.c_typed.specs.declared.program.Function.{Function}
 use Rattle.c_typed.specs.declared.program.Local.{Local}
 use Rattle.c_typed.specs.declared.program.Mention.{Mention}
 use Rattle.c_typed.specs.declared.program.MentionKind.{MentionKind}
@@ -23,7 +19,6 @@ use Rattle.c_typed.specs.declared.program.MentionKind.TheVariants.{Sizeof}
 use Rattle.c_typed.specs.Trees as Trees
 use Rattle.c_typed.specs.Programs.{FunctionData, UnitData}
 use Rattle.c_typed.specs.Mapped.{of_types, mapped_statement, mapped_initializer}
-use Rattle.c_typed.specs.Views.{statement_of}
 use Rattle.c_typed.specs.Walk.{types_in_statement, types_in_initializer}
 use Rattle.c_typed.specs.Addressed.{addressed_by_statement}
 use Rattle.c_typed.specs.Constants.{ty}

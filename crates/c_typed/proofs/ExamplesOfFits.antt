@@ -1,13 +1,12 @@
 -- Which types fit where, by computation: the cases that C99 6.5.4, 6.5.6, 6.5.8, 6.5.9, 6.5.15 and 6.5.16 name.
 use Rattle.std.proofs.Common.{refl}
-use Rattle.std.specs.Prelude.{◌≡◌, ℕ, List, [], ◌∷◌, map, Bool, true, false, Option, Some, None}
+use Rattle.std.specs.Prelude.{◌≡◌, List, [], ◌∷◌, map, Bool, true, false, Option, Some, None}
 use Rattle.c_types.specs.declared.ty.IntKind.TheVariants.{Char, Short, Int, UInt, Long, ULong}
 use Rattle.c_types.specs.Types.{CType, void, integer, pointer, array, function, structure, no_types, and_type}
-use Rattle.c_typed.specs.declared.operators.BinaryOp.{BinaryOp}
 use Rattle.c_typed.specs.declared.operators.BinaryOp.TheVariants.{Multiply, Add, Subtract, ShiftLeft, BitAnd}
 use Rattle.c_typed.specs.declared.operators.CompareOp.{CompareOp}
 use Rattle.c_typed.specs.declared.operators.CompareOp.TheVariants.{Equal, NotEqual, Less, GreaterEqual}
-use Rattle.c_typed.specs.Fits.{assigns, casts, meeting, compared}
+use Rattle.c_typed.specs.Fits.{assigns, casts}
 use Rattle.c_typed.specs.Rules.{on_numbers, comparing, choosing, moving, differing, updating, is_stepped}
 
 abbrev char : CType

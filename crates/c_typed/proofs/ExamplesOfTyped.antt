@@ -2,15 +2,14 @@
 --     struct S { int x; struct S *next; };
 --     void f(struct S *p, int a[3], int i, long l, void *v, char c) with `a` an array object
 use Rattle.std.proofs.Common.{refl, ap, inl, inr}
-use Rattle.std.specs.Prelude.{◌≡◌, ℕ, List, [], ◌∷◌, Bool, true, false, Option, Some, None}
+use Rattle.std.specs.Prelude.{◌≡◌, ℕ, List, [], ◌∷◌, true, false, Option, Some, None}
 use Rattle.lay_base.specs.declared.place.Place.{Place}
 use Rattle.c_types.specs.declared.ty.IntKind.TheVariants.{Char, Int, UInt, Long}
 use Rattle.c_types.specs.Types.{CType, void, integer, pointer, array, function, structure, no_types, and_type, Field, Record}
 use Rattle.c_typed.specs.declared.operators.BinaryOp.TheVariants.{Add, Subtract, ShiftLeft}
 use Rattle.c_typed.specs.declared.operators.CompareOp.TheVariants.{Equal, Less}
 use Rattle.c_typed.specs.declared.operators.PointerOp.TheVariants as P
-use Rattle.c_typed.specs.declared.operators.StepOp.TheVariants.{Increment}
-use Rattle.c_typed.specs.declared.operators.LibraryFunction.TheVariants.{Malloc, Putchar}
+use Rattle.c_typed.specs.declared.operators.LibraryFunction.TheVariants.{Malloc}
 use Rattle.c_typed.specs.Trees
 use Rattle.c_typed.specs.Typed.{Declared, IsTyped, IsTypedPath}
 

@@ -1,8 +1,8 @@
 -- Well typed programs: every node keeps its rule over the lists of the program, and every number names something there.
-use Rattle.std.specs.Prelude.{◌≡◌, ◌≢◌, ℕ, zero, suc, ◌+◌, ◌≤◌, ◌<◌, ◌^◌, Bool, true, false, List, [], ◌∷◌, ◌++◌, map, length, All, get_or, slice_get}
-use Rattle.std.specs.Prelude.{Option, Some, None, ◌⊎◌, codes}
+use Rattle.std.specs.Prelude.{◌≡◌, ◌≢◌, ℕ, zero, suc, ◌+◌, ◌≤◌, ◌<◌, true, false, List, [], ◌∷◌, ◌++◌, map, length, All, get_or, slice_get}
+use Rattle.std.specs.Prelude.{Option, Some, None, codes}
 use Rattle.c_types.specs.declared.ty.IntKind.TheVariants.{Int}
-use Rattle.c_types.specs.Types.{CType, CTypes, void, integer, pointer, array, function, structure, no_types, and_type, Record}
+use Rattle.c_types.specs.Types.{CType, CTypes, void, integer, pointer, function, no_types}
 use Rattle.c_types.specs.Layouts.{size_of}
 use Rattle.c_types.specs.Limits.{AreComplete, AreSmall, greatest_size}
 use Rattle.c_types.specs.Objects.{is_object, parts}
@@ -13,7 +13,7 @@ use Rattle.c_typed.specs.declared.program.InitialValue.TheVariants as V
 use Rattle.c_typed.specs.declared.program.Local.{Local}
 use Rattle.c_typed.specs.declared.program.Object.{Object}
 use Rattle.c_typed.specs.Trees as Trees
-use Rattle.c_typed.specs.Conversions.{is_scalar, is_function, as_kind}
+use Rattle.c_typed.specs.Conversions.{is_function, as_kind}
 use Rattle.c_typed.specs.Mapped.{of_types, mapped_statement}
 use Rattle.c_typed.specs.Parts.{IsPart}
 use Rattle.c_typed.specs.Programs.{FunctionData, ProgramData}
