@@ -4,7 +4,8 @@ use Rattle.c_types.specs.declared.ty.IntKind.{IntKind}
 use Rattle.c_types.specs.declared.ty.IntKind.TheVariants as I
 use Rattle.c_types.specs.declared.layout.Layout.{Layout}
 use Rattle.c_types.specs.Laying.{AreAligned}
-use Rattle.c_types.specs.Layouts.{width, layout_at, alignment_in, greatest_alignment}
+use Rattle.c_types.specs.IntKinds.{width}
+use Rattle.c_types.specs.Layouts.{layout_at, alignment_in, greatest_alignment}
 use Rattle.c_types.specs.Types.{CType, void, integer, pointer, array, function, structure}
 
 pub width_positive : (kind : IntKind) → 0 < width kind

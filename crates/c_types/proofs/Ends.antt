@@ -7,7 +7,7 @@ use Rattle.c_types.specs.declared.layout.Layout.{Layout}
 use Rattle.c_types.specs.declared.record.Field.{Field}
 use Rattle.c_types.specs.Layouts.{alignment_in, begin_after, end_after, offsets_after}
 use Rattle.c_types.specs.Types.{CType}
-use Rattle.c_types.specs.Views.{field_types, type_of}
+use Rattle.c_types.specs.Views.{types_of_fields, type_of}
 
 -- a list from a place on has the item there first
 pub here : (fields : List Field) (i : ℕ) (f : Field) → i < length fields → f ≡ slice_index_or fields i f → drop i fields ≡ f ∷ drop (i + 1) fields
@@ -41,38 +41,38 @@ end_from known n (t ∷ more) =
 -- one field more, in numbers that stop at a greatest one
 pub capped_more : (known : List Layout) (fields : List Field) (i : ℕ) (f : Field) (n m most total : ℕ) → i < length fields → f ≡ slice_index_or fields i f
     → m ≡ min (end_after known n (type_of f.ty)) most
-    → min (fold (end_after known) n (field_types (drop i fields))) most ≡ total
-    → min (fold (end_after known) m (field_types (drop (i + 1) fields))) most ≡ total
+    → min (fold (end_after known) n (types_of_fields (drop i fields))) most ≡ total
+    → min (fold (end_after known) m (types_of_fields (drop (i + 1) fields))) most ≡ total
 capped_more known fields i f n m most total h is e far =
-    ap (λ k. min (fold (end_after known) k (field_types (drop (i + 1) fields))) most) e
-    ∙ capped_ends known (end_after known n (type_of f.ty)) most (field_types (drop (i + 1) fields))
-    ∙ sym (ap (λ all. min (fold (end_after known) n (field_types all)) most) (here fields i f h is))
+    ap (λ k. min (fold (end_after known) k (types_of_fields (drop (i + 1) fields))) most) e
+    ∙ capped_ends known (end_after known n (type_of f.ty)) most (types_of_fields (drop (i + 1) fields))
+    ∙ sym (ap (λ all. min (fold (end_after known) n (types_of_fields all)) most) (here fields i f h is))
     ∙ far
 
 -- fields that end within a limit, from one of them on: that one and those after it do
 pub record Within (known : List Layout) (fields : List Field) (i : ℕ) (f : Field) (n limit : ℕ) : Type 0 where
   pub this : end_after known n (type_of f.ty) ≤ limit
-  pub more : fold (end_after known) (end_after known n (type_of f.ty)) (field_types (drop (i + 1) fields)) ≤ limit
+  pub more : fold (end_after known) (end_after known n (type_of f.ty)) (types_of_fields (drop (i + 1) fields)) ≤ limit
 
 pub within : (known : List Layout) (fields : List Field) (i : ℕ) (f : Field) (n limit : ℕ) → i < length fields → f ≡ slice_index_or fields i f
-    → fold (end_after known) n (field_types (drop i fields)) ≤ limit → Within known fields i f n limit
+    → fold (end_after known) n (types_of_fields (drop i fields)) ≤ limit → Within known fields i f n limit
 within known fields i f n limit h is far =
-    let P : List Field → Type 0 = λ all. fold (end_after known) n (field_types all) ≤ limit in
-    let more : fold (end_after known) (end_after known n (type_of f.ty)) (field_types (drop (i + 1) fields)) ≤ limit = subst P (here fields i f h is) far in
+    let P : List Field → Type 0 = λ all. fold (end_after known) n (types_of_fields all) ≤ limit in
+    let more : fold (end_after known) (end_after known n (type_of f.ty)) (types_of_fields (drop (i + 1) fields)) ≤ limit = subst P (here fields i f h is) far in
     record {
-      this = omega (arith, end_from known (end_after known n (type_of f.ty)) (field_types (drop (i + 1) fields)));
+      this = omega (arith, end_from known (end_after known n (type_of f.ty)) (types_of_fields (drop (i + 1) fields)));
       more = more;
     }
 
 -- one offset more
 pub offset_more : (known : List Layout) (fields : List Field) (i : ℕ) (f : Field) (n begin end : ℕ) (done new all : List ℕ) → i < length fields
     → f ≡ slice_index_or fields i f → begin ≡ begin_after known n (type_of f.ty) → end ≡ end_after known n (type_of f.ty)
-    → new ≡ done ++ begin ∷ [] → done ++ offsets_after known n (field_types (drop i fields)) ≡ all
-    → new ++ offsets_after known end (field_types (drop (i + 1) fields)) ≡ all
+    → new ≡ done ++ begin ∷ [] → done ++ offsets_after known n (types_of_fields (drop i fields)) ≡ all
+    → new ++ offsets_after known end (types_of_fields (drop (i + 1) fields)) ≡ all
 offset_more known fields i f n begin end done new all h is b e added far =
-    ap (λ some. some ++ offsets_after known end (field_types (drop (i + 1) fields))) added
-    ∙ append_assoc done (begin ∷ []) (offsets_after known end (field_types (drop (i + 1) fields)))
-    ∙ ap (λ k. done ++ begin ∷ offsets_after known k (field_types (drop (i + 1) fields))) e
-    ∙ ap (λ k. done ++ k ∷ offsets_after known (end_after known n (type_of f.ty)) (field_types (drop (i + 1) fields))) b
-    ∙ sym (ap (λ some. done ++ offsets_after known n (field_types some)) (here fields i f h is))
+    ap (λ some. some ++ offsets_after known end (types_of_fields (drop (i + 1) fields))) added
+    ∙ append_assoc done (begin ∷ []) (offsets_after known end (types_of_fields (drop (i + 1) fields)))
+    ∙ ap (λ k. done ++ begin ∷ offsets_after known k (types_of_fields (drop (i + 1) fields))) e
+    ∙ ap (λ k. done ++ k ∷ offsets_after known (end_after known n (type_of f.ty)) (types_of_fields (drop (i + 1) fields))) b
+    ∙ sym (ap (λ some. done ++ offsets_after known n (types_of_fields some)) (here fields i f h is))
     ∙ far

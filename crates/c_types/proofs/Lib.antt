@@ -1,9 +1,13 @@
 pub mod Alignments
+pub mod Apart
 pub mod Before
+pub mod Checked
 pub mod Ends
-pub mod Fields
+pub mod Growing
 pub mod Lists
 pub mod Longer
+pub mod Multiples
 pub mod Offsets
+pub mod Refusals
 pub mod SameTypes
 pub mod TypeLists

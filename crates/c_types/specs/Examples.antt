@@ -41,8 +41,8 @@ mixed = refl
 with_array : layout [] (char ∷ pointer void ∷ array char 5 ∷ []) ≡ record { offsets = 0 ∷ 4 ∷ 8 ∷ []; size = 16; alignment = 4 }
 with_array = refl
 
-no_members : layout [] [] ≡ record { offsets = []; size = 0; alignment = 1 }
-no_members = refl
+no_field : layout [] [] ≡ record { offsets = []; size = 0; alignment = 1 }
+no_field = refl
 
 -- struct A { char a; short b; }; struct B { char a; struct A b; struct A c[3]; char d; };
 nested : layouts (of (char ∷ short ∷ []) ∷ of (char ∷ structure 0 ∷ array (structure 0) 3 ∷ char ∷ []) ∷ [])

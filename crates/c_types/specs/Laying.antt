@@ -3,21 +3,21 @@ use Rattle.std.specs.Prelude.{◌≡◌, ℕ, ◌<◌, ◌≤◌, ◌-◌, ◌^�
 use Rattle.c_types.specs.declared.layout.Layout.{Layout}
 use Rattle.c_types.specs.declared.fault.RecordFault.{RecordFault}
 use Rattle.c_types.specs.declared.fault.RecordFault.TheVariants.{TooBig, Memory}
+use Rattle.c_types.specs.declared.record.Field.{Field}
 use Rattle.c_types.specs.declared.record.Record.{Record}
 use Rattle.c_types.specs.Layouts.{layouts, size_in}
-use Rattle.c_types.specs.Limits.{AreComplete, AreSmall, greatest_size}
+use Rattle.c_types.specs.Limits.{AreComplete, greatest_size}
 use Rattle.c_types.specs.Objects.{is_object}
-use Rattle.c_types.specs.Types.{CType}
-use Rattle.c_types.specs.Views.{records_of}
+use Rattle.c_types.specs.Views.{records_of, type_of}
 
 abbrev pub AreAligned : List Layout → Type 0
 AreAligned known = All (λ it. 0 < it.alignment) known
 
-abbrev pub AreObjects : (count : ℕ) → List CType → Type 0
-AreObjects count types = All (λ t. IsTrue (is_object count t)) types
+abbrev pub AreObjects : (count : ℕ) → List Field → Type 0
+AreObjects count fields = All (λ f. IsTrue (is_object count (type_of f.ty))) fields
 
-abbrev pub AreBounded : List Layout → List CType → Type 0
-AreBounded known types = All (λ t. size_in known t ≤ greatest_size) types
+abbrev pub AreBounded : List Layout → List Field → Type 0
+AreBounded known fields = All (λ f. size_in known (type_of f.ty) ≤ greatest_size) fields
 
 -- the layout of one more record
 abbrev pub LayoutGives : Layout → Result Layout RecordFault → Type 0
@@ -29,5 +29,5 @@ LayoutGives it (Err Memory) = it.size ≤ greatest_size
 pub record AreLaid (records : List Record) (known : List Layout) : Type 0 where
   pub laid : known ≡ layouts (records_of records)
   pub complete : AreComplete (records_of records)
-  pub small : AreSmall (records_of records)
+  pub small : All (λ it. it.size ≤ greatest_size) known
   pub few : length records < 2 ^ 32

@@ -1,6 +1,7 @@
 pub mod Adding
 pub mod Examples
 pub mod IntKinds
+pub mod Laws
 pub mod Laying
 pub mod Layouts
 pub mod Limits

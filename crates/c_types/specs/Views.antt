@@ -28,8 +28,8 @@ types_of all = listed (map type_of all)
 abbrev pub field_of : Field → Types.Field
 field_of f = record { name = f.name; ty = type_of f.ty; place = f.place }
 
-abbrev pub field_types : List Field → List CType
-field_types fields = map (λ f. f.ty) (map field_of fields)
+abbrev pub types_of_fields : List Field → List CType
+types_of_fields fields = map (λ f. f.ty) (map field_of fields)
 
 abbrev pub record_of : Record → Types.Record
 record_of r = record { tag = r.tag; place = r.place; fields = map field_of r.fields }

@@ -4,18 +4,16 @@ ghost use Rattle.std.specs.Prelude.{◌≡◌, ◌≤◌, ◌<◌, ◌-◌, ◌^
 ghost use Rattle.std.specs.Int.{next_multiple_of};
 ghost use Rattle.c_types.specs.Laying.{AreAligned, AreBounded, AreObjects, LayoutGives};
 ghost use Rattle.c_types.specs.Layouts.{begin_after, end_after, greatest_alignment, layout, offsets_after, size_in};
+ghost use Rattle.c_types.specs.Limits.{greatest_size};
 ghost use Rattle.c_types.specs.Objects.{is_object};
-ghost use Rattle.c_types.specs.Views.{field_types, type_of};
+ghost use Rattle.c_types.specs.Views.{types_of_fields, type_of};
 
 use crate::fault::RecordFault;
-use crate::layout::{Layout, alignment_in, size_in};
+use crate::layout::{GREATEST_SIZE, Layout, alignment_in, size_in};
 use crate::record::Field;
 use crate::ty::Ty;
 use lay_base::{List, NoMemory, add};
 use std::alloc::Global;
-
-/// The greatest size of a type, in bytes.
-const GREATEST_SIZE: u64 = 16_777_216;
 
 /// The least multiple of a unit from a number on, or `u64::MAX` where it passes that.
 fn next_multiple(n: u64, unit: u32) -> u64
@@ -26,7 +24,7 @@ fn next_multiple(n: u64, unit: u32) -> u64
     n.saturating_add((unit - n % unit) % unit)
 }
 
-/// Where an object lies that follows other bytes: each number is `u64::MAX` where it passes that.
+/// Where an object begins and ends that follows other bytes. A number is `u64::MAX` where it passes that.
 #[derive(Drop)]
 struct Span {
     begin: u64,
@@ -38,7 +36,7 @@ struct Span {
 fn span_after(known: &[Layout], before: u64, t: &Ty) -> Span
     requires aligned { AreAligned known.now }
     requires object { IsTrue (is_object (length known.now) (type_of t.now)) }
-    requires bounded { size_in known.now (type_of t.now) ≤ 2 ^ 24 }
+    requires bounded { size_in known.now (type_of t.now) ≤ greatest_size }
     ensures begin { result.begin ≡ min (begin_after known.now before (type_of t.now)) (2 ^ 64 - 1) }
     ensures end { result.end ≡ min (end_after known.now before (type_of t.now)) (2 ^ 64 - 1) }
 {
@@ -49,13 +47,12 @@ fn span_after(known: &[Layout], before: u64, t: &Ty) -> Span
     }
 }
 
-#[tactic(auto, using(crate::proofs::Fields::object_of_field, crate::proofs::Fields::bounded_of_field))]
 /// Where the fields end, or `u64::MAX` where that is past it.
 fn end(known: &[Layout], fields: &[Field]) -> u64
     requires aligned { AreAligned known.now }
-    requires objects { AreObjects (length known.now) (field_types fields.now) }
-    requires bounded { AreBounded known.now (field_types fields.now) }
-    ensures { result ≡ min (fold (end_after known.now) 0 (field_types fields.now)) (2 ^ 64 - 1) }
+    requires objects { AreObjects (length known.now) fields.now }
+    requires bounded { AreBounded known.now fields.now }
+    ensures { result ≡ min (fold (end_after known.now) 0 (types_of_fields fields.now)) (2 ^ 64 - 1) }
 {
     let mut end = 0;
     for field in fields {
@@ -64,11 +61,11 @@ fn end(known: &[Layout], fields: &[Field]) -> u64
     end
 }
 
-#[tactic(auto, using(crate::proofs::Fields::object_of_field, crate::proofs::Alignments::greatest_positive))]
 /// The greatest alignment of the fields, and 1 of none.
+#[tactic(auto, using(crate::proofs::Alignments::greatest_positive))]
 fn greatest_alignment(known: &[Layout], fields: &[Field]) -> u32
-    requires { AreObjects (length known.now) (field_types fields.now) }
-    ensures { result ≡ greatest_alignment known.now (field_types fields.now) }
+    requires { AreObjects (length known.now) fields.now }
+    ensures { result ≡ greatest_alignment known.now (types_of_fields fields.now) }
 {
     let mut greatest = 1;
     for field in fields {
@@ -77,14 +74,13 @@ fn greatest_alignment(known: &[Layout], fields: &[Field]) -> u32
     greatest
 }
 
-#[tactic(auto, using(crate::proofs::Fields::object_of_field, crate::proofs::Fields::bounded_of_field))]
 /// Where each field begins.
 fn offsets(alloc: Global, known: &[Layout], fields: &[Field]) -> Result<List<u32>, NoMemory>
     requires aligned { AreAligned known.now }
-    requires objects { AreObjects (length known.now) (field_types fields.now) }
-    requires bounded { AreBounded known.now (field_types fields.now) }
-    requires ends { fold (end_after known.now) 0 (field_types fields.now) ≤ 2 ^ 24 }
-    ensures { IfOk result (λ offsets. offsets ≡ offsets_after known.now 0 (field_types fields.now)) }
+    requires objects { AreObjects (length known.now) fields.now }
+    requires bounded { AreBounded known.now fields.now }
+    requires ends { fold (end_after known.now) 0 (types_of_fields fields.now) ≤ greatest_size }
+    ensures { IfOk result (λ offsets. offsets ≡ offsets_after known.now 0 (types_of_fields fields.now)) }
 {
     let mut offsets = List::new(alloc);
     let mut end = 0;
@@ -96,17 +92,17 @@ fn offsets(alloc: Global, known: &[Layout], fields: &[Field]) -> Result<List<u32
     Ok(offsets)
 }
 
-#[tactic(auto, using(crate::proofs::Alignments::greatest_positive, crate::proofs::Ends::capped_multiple, crate::proofs::Ends::next_multiple_from))]
 /// The layout of one more record, from its fields.
+#[tactic(auto, using(crate::proofs::Alignments::greatest_positive, crate::proofs::Ends::capped_multiple, crate::proofs::Ends::next_multiple_from))]
 pub fn layout_after(
     alloc: Global,
     known: &[Layout],
     fields: &[Field],
 ) -> Result<Layout, RecordFault>
     requires aligned { AreAligned known.now }
-    requires objects { AreObjects (length known.now) (field_types fields.now) }
-    requires bounded { AreBounded known.now (field_types fields.now) }
-    ensures { LayoutGives (layout known.now (field_types fields.now)) result }
+    requires objects { AreObjects (length known.now) fields.now }
+    requires bounded { AreBounded known.now fields.now }
+    ensures { LayoutGives (layout known.now (types_of_fields fields.now)) result }
 {
     let alignment = greatest_alignment(known, fields);
     let size = next_multiple(end(known, fields), alignment);

@@ -1,30 +1,24 @@
 //! Sizes and alignments of types, and where the fields of a record lie.
 
-ghost use Rattle.std.specs.Prelude.{◌≡◌, ◌≤◌, ◌<◌, ◌^◌, IsTrue, length};
-ghost use Rattle.c_types.specs.Layouts.{alignment_in, layout_at, size_in, width};
+ghost use Rattle.std.specs.Prelude.{◌≡◌, ◌≤◌, ◌<◌, ◌*◌, ℕ, IsTrue, length};
+ghost use Rattle.c_types.specs.Layouts.{alignment_in, layout_at, size_in};
+ghost use Rattle.c_types.specs.Limits.{greatest_size, size_if_small};
 ghost use Rattle.c_types.specs.Objects.{is_object};
 ghost use Rattle.c_types.specs.Views.{type_of};
 
-use crate::ty::{IntKind, Ty};
+use crate::kinds::width;
+use crate::ty::Ty;
 use lay_base::List;
 
-/// Where the fields of a record begin, its size and its alignment, in bytes.
-#[derive(Debug, Drop)]
+/// The greatest size of a type, in bytes.
+pub const GREATEST_SIZE: u64 = 16_777_216;
+
+/// Where the fields of a record begin, the size of the record and its alignment, in bytes.
+#[derive(Drop)]
 pub struct Layout {
     pub offsets: List<u32>,
     pub size: u32,
     pub alignment: u32,
-}
-
-/// The size of an integer type in bytes.
-fn width(kind: IntKind) -> u32
-    ensures { result ≡ width kind }
-{
-    match kind {
-        IntKind::Char | IntKind::SChar | IntKind::UChar => 1,
-        IntKind::Short | IntKind::UShort => 2,
-        IntKind::Int | IntKind::UInt | IntKind::Long | IntKind::ULong => 4,
-    }
 }
 
 /// The layout of the record with that number.
@@ -53,7 +47,7 @@ pub fn alignment_in(known: &[Layout], t: &Ty) -> u32
 /// The size of an object type, by the layouts of the records.
 pub fn size_in(known: &[Layout], t: &Ty) -> u32
     requires object { IsTrue (is_object (length known.now) (type_of t.now)) }
-    requires bounded { size_in known.now (type_of t.now) ≤ 2 ^ 24 }
+    requires bounded { size_in known.now (type_of t.now) ≤ greatest_size }
     ensures { result ≡ size_in known.now (type_of t.now) }
 {
     match t {
@@ -62,5 +56,42 @@ pub fn size_in(known: &[Layout], t: &Ty) -> u32
         Ty::Pointer(_) => 4,
         Ty::Array(element, length) => size_in(known, element.get()) * *length,
         Ty::Record(number) => layout_at(known, *number).size,
+    }
+}
+
+/// A size, or `None` where it passes the greatest.
+fn size_if_small(size: u64) -> Option<u32>
+    ensures { result ≡ size_if_small size }
+{
+    if size <= GREATEST_SIZE {
+        Some(size as u32)
+    } else {
+        None
+    }
+}
+
+/// The size of an array, from that of its element.
+#[tactic(auto, using(crate::proofs::Checked::none_of_more))]
+fn array_size(element: Option<u32>, length: u32) -> Option<u32>
+    requires { 0 < length }
+    ensures { (size : ℕ) → element ≡ size_if_small size → result ≡ size_if_small (size * length) }
+{
+    match element {
+        Some(size) => size_if_small(u64::from(size) * u64::from(length)),
+        None => None,
+    }
+}
+
+/// The size of an object type by the layouts of the records, or `None` where it passes the greatest.
+pub fn checked_size_in(known: &[Layout], t: &Ty) -> Option<u32>
+    requires { IsTrue (is_object (length known.now) (type_of t.now)) }
+    ensures { result ≡ size_if_small (size_in known.now (type_of t.now)) }
+{
+    match t {
+        Ty::Void | Ty::Function(_, _) => Some(0),
+        Ty::Int(kind) => Some(width(*kind)),
+        Ty::Pointer(_) => Some(4),
+        Ty::Array(element, length) => array_size(checked_size_in(known, element.get()), *length),
+        Ty::Record(number) => size_if_small(u64::from(layout_at(known, *number).size)),
     }
 }

@@ -1,10 +1,10 @@
-//! Records and their fields.
+//! Records and their fields: structures and their members, as C99 calls them.
 
 use crate::ty::Ty;
 use lay_base::{List, Name, Place};
 
 /// A member of a structure (C99 6.7.2.1), with the place of its declarator.
-#[derive(Debug, Drop)]
+#[derive(Drop)]
 pub struct Field {
     pub name: Name,
     pub ty: Ty,
@@ -12,7 +12,7 @@ pub struct Field {
 }
 
 /// A structure (C99 6.7.2.1), with its members in declared order.
-#[derive(Debug, Drop)]
+#[derive(Drop)]
 pub struct Record {
     pub tag: Name,
     pub place: Place,

@@ -4,17 +4,18 @@ ghost use Rattle.std.specs.Prelude.{◌≡◌, ◌≤◌, ◌<◌, ◌-◌, ◌^
 ghost use Rattle.c_types.specs.Layouts.{layouts, size_of, size_of_record};
 ghost use Rattle.c_types.specs.Limits.{AreComplete, AreSmall, greatest_size};
 ghost use Rattle.c_types.specs.Objects.{is_object};
-ghost use Rattle.c_types.specs.Types.{members};
-ghost use Rattle.c_types.specs.Views.{record_of, records_of};
+ghost use Rattle.c_types.specs.Views.{record_of, records_of, type_of};
 
 use crate::fault::RecordFault;
 use crate::laying::layout_after;
 use crate::layout::Layout;
 use crate::record::Record;
+use lay_base::List;
 use std::alloc::Global;
 use std::marker::Model;
 
-/// A list of records. Each is complete, at most 16,777,216 bytes great, and holds by value only records before it.
+/// A list of records. Each is complete and of at most 16,777,216 bytes, and holds by value only
+/// records before it.
 #[derive(Drop)]
 pub struct Records {
     alloc: Global,
@@ -61,7 +62,7 @@ impl Records {
         self.records.len() as u32
     }
 
-    /// The record with that number.
+    /// The record with that number, the first of which is 0.
     pub fn get(&self, number: u32) -> &Record
         requires { number < length self.now }
         ensures { slice_get self.now number ≡ Some result.now }
@@ -76,16 +77,32 @@ impl Records {
         &self.records
     }
 
-    /// Adds a record, which gets the number of records before it.
+    /// The records, without their layouts.
+    pub fn into_list(self) -> List<Record>
+        ensures { result ≡ self }
+    {
+        let Records { records, .. } = self;
+        List::of(records)
+    }
+
+    /// Adds a record at the end, and answers its number, which is how many there were.
+    ///
+    /// Each field's type is an object type, of at most 16,777,216 bytes, over the records that are
+    /// there; behind a pointer any number may stand. `TooBig` comes exactly where the size of the
+    /// record passes 16,777,216 bytes. After a refusal the list is as it was, and the record is let go.
     pub fn add(&mut self, r: Record) -> Result<u32, RecordFault>
         requires room { length self.old < 2 ^ 32 - 1 }
-        requires objects { All (λ t. IsTrue (is_object (length self.old) t)) (members (record_of r)) }
-        requires bounded { All (λ t. size_of (records_of self.old) t ≤ greatest_size) (members (record_of r)) }
+        requires objects { All (λ f. IsTrue (is_object (length self.old) (type_of f.ty))) r.fields }
+        requires bounded { All (λ f. size_of (records_of self.old) (type_of f.ty) ≤ greatest_size) r.fields }
         ensures { AddGives (size_of_record (records_of self.old) (record_of r)) self.old r self.new result }
     {
-        let layout = layout_after(self.alloc, &self.layouts, r.fields.as_slice())?;
-        self.records.reserve(1).map_err(|_| RecordFault::Memory)?;
-        self.layouts.reserve(1).map_err(|_| RecordFault::Memory)?;
+        let layout = match layout_after(self.alloc, &self.layouts, r.fields.as_slice()) {
+            Ok(layout) => layout,
+            Err(fault) => return Err(fault),
+        };
+        if self.records.reserve(1).is_err() || self.layouts.reserve(1).is_err() {
+            return Err(RecordFault::Memory);
+        }
         let number = self.records.len() as u32;
         self.records.push_reserved(r);
         self.layouts.push_reserved(layout);
@@ -101,7 +118,7 @@ impl Records {
     }
 }
 
-/// Each record is complete, and at most 16,777,216 bytes great. It does nothing: who calls it learns that.
+/// Each record is complete, and of at most 16,777,216 bytes. This does nothing, as every law.
 pub fn records_are_complete(r: &Records)
     ensures complete { AreComplete (records_of r.now) }
     ensures small { AreSmall (records_of r.now) }

@@ -2,15 +2,15 @@
 
 ghost use Rattle.std.specs.Prelude.{◌≡◌, ◌≤◌, ◌<◌, IsSomeAnd, IsTrue, length, slice_get};
 ghost use Rattle.c_types.specs.Layouts.{align_of, offset_of, size_of};
-ghost use Rattle.c_types.specs.Limits.{greatest_size};
+ghost use Rattle.c_types.specs.Limits.{greatest_size, size_if_small};
 ghost use Rattle.c_types.specs.Objects.{is_object};
 ghost use Rattle.c_types.specs.Views.{records_of, type_of};
 
-use crate::layout::{alignment_in, layout_at, size_in};
+use crate::layout::{alignment_in, checked_size_in, layout_at, size_in};
 use crate::records::Records;
 use crate::ty::Ty;
 
-/// The size of an object type (C99 6.5.3.4) of at most 16,777,216 bytes.
+/// The size of an object type (C99 6.5.3.4), in bytes, where it is at most 16,777,216.
 pub fn size_of(r: &Records, t: &Ty) -> u32
     requires object { IsTrue (is_object (length r.now) (type_of t.now)) }
     requires bounded { size_of (records_of r.now) (type_of t.now) ≤ greatest_size }
@@ -19,7 +19,15 @@ pub fn size_of(r: &Records, t: &Ty) -> u32
     size_in(r.layouts(), t)
 }
 
-/// The alignment of an object type: an object of it begins at a multiple.
+/// The size of an object type, or `None` where it passes 16,777,216 bytes.
+pub fn checked_size_of(r: &Records, t: &Ty) -> Option<u32>
+    requires { IsTrue (is_object (length r.now) (type_of t.now)) }
+    ensures { result ≡ size_if_small (size_of (records_of r.now) (type_of t.now)) }
+{
+    checked_size_in(r.layouts(), t)
+}
+
+/// The alignment of an object type (C99 3.2), in bytes: 1, 2 or 4.
 pub fn align_of(r: &Records, t: &Ty) -> u32
     requires { IsTrue (is_object (length r.now) (type_of t.now)) }
     ensures { result ≡ align_of (records_of r.now) (type_of t.now) }
@@ -27,7 +35,8 @@ pub fn align_of(r: &Records, t: &Ty) -> u32
     alignment_in(r.layouts(), t)
 }
 
-/// Where a field of the record with a number begins, both counted from 0 (C99 6.7.2.1).
+/// Where a field of a record begins (C99 6.7.2.1), in bytes from the start of the record. Both have
+/// their numbers, which are counted from 0.
 pub fn offset_of(r: &Records, number: u32, field: u32) -> u32
     requires { IsSomeAnd (slice_get r.now number) (λ it. field < length it.fields) }
     ensures { result ≡ offset_of (records_of r.now) number field }

@@ -8,7 +8,7 @@ use crate::ty::Ty;
 use lay_base::{List, NoMemory, add, boxed};
 use std::alloc::Global;
 
-/// A copy of a type.
+/// A copy of a type. Its one refusal is want of memory.
 pub fn copy(alloc: Global, t: &Ty) -> Result<Ty, NoMemory>
     ensures { IfOk result (λ copy. copy ≡ t.now) }
 {
@@ -32,7 +32,8 @@ pub fn copy(alloc: Global, t: &Ty) -> Result<Ty, NoMemory>
     }
 }
 
-/// How many types a type is built of, itself among them, or `u32::MAX` where they are more. A record is one.
+/// How many types a type is built of, itself among them, or `u32::MAX` where they are more. A record
+/// is one, whatever its fields are.
 pub fn parts(t: &Ty) -> u32
     ensures { result ≡ min (parts (type_of t.now)) (2 ^ 32 - 1) }
 {
