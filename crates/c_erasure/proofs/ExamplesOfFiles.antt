@@ -100,20 +100,65 @@ file = record {
 
 main_defined : ErasesItem file main_item
 main_defined = (
-  int, int, no_types, word (codes "main") 4 8, 0, main_function, [],
-  inl (refl, refl), refl, inl refl,
+  int,
+  int,
+  no_types,
+  word (codes "main") 4 8,
+  0,
+  main_function,
+  [],
+  inl (refl, refl),
+  refl,
+  inl refl,
   (no_types, refl, inl refl, record { bytes = omega arith; parts = omega arith }, refl),
-  main_is_own, inr (0, refl), refl, refl, refl, refl, refl, refl, refl, (0, refl), (refl, refl, refl),
-  (main_body, refl,
-    (main_body, Typed.no_statements, in_body file [] [], refl,
-      (Typed.return (Some typed_sum), refl,
-        (typed_sum, refl, (a_value typed_sum, refl,
-          (int, number 22 256, number 28 3, Typed.binary Add (number 22 256) (number 28 3),
-            (a_value (number 22 256), refl, refl), (a_value (number 28 3), refl, refl), inl refl, refl))),
-        refl),
-      refl),
+  main_is_own,
+  inr (0, refl),
+  refl,
+  refl,
+  refl,
+  refl,
+  refl,
+  refl,
+  refl,
+  (0, refl),
+  (refl, refl, refl),
+  (
+    main_body,
+    refl,
+    (
+      main_body,
+      Typed.no_statements,
+      in_body file [] [],
+      refl,
+      (
+        Typed.return (Some typed_sum),
+        refl,
+        (
+          typed_sum,
+          refl,
+          (
+            a_value typed_sum,
+            refl,
+            (
+              int,
+              number 22 256,
+              number 28 3,
+              Typed.binary Add (number 22 256) (number 28 3),
+              (a_value (number 22 256), refl, refl),
+              (a_value (number 28 3), refl, refl),
+              inl refl,
+              refl,
+            ),
+          ),
+        ),
+        refl,
+      ),
+      refl,
+    ),
     ((((Int, refl, refl), (Int, refl, refl), refl, refl), (refl, refl)), tt),
-    refl))
+    refl,
+  ),
+)
 
 -- the only element of a list
 only : {X : Type 0} (P : ℕ → X → Type 0) (x : X) (n : ℕ) (y : X) → slice_get (x ∷ []) n ≡ Some y → P 0 x → P n y

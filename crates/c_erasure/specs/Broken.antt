@@ -195,7 +195,7 @@ IsNoRecord th t = Unit {0}
 
 abbrev pub IsBrokenAssignment : Option BinaryOp → Trees.Expression → ℕ → Trees.Expression → Scope → Fault → Type 0
 IsBrokenAssignment None a at b s f = ((t : CType) × AThing a s (λ th. IsOfScalar th t)
-      × (HasNoValue b s f ⊎ ((f ≡ ill_typed R.Assign at) × One b s (λ x. assigns (type_of x) (null x) t ≡ false))))
+    × (HasNoValue b s f ⊎ ((f ≡ ill_typed R.Assign at) × One b s (λ x. assigns (type_of x) (null x) t ≡ false))))
     ⊎ ((t : CType) × (f ≡ ill_typed R.Assign at) × AThing a s (λ th. IsOfRecord th t) × AThing b s (λ th. IsNoRecord th t))
 IsBrokenAssignment (Some op) a at b s f = HasNoValue b s f ⊎ ((t : CType) × (f ≡ ill_typed R.Operands at) × AThing a s (λ th. IsObjectOf th t)
     × One b s (λ x. updating (ended s.file.ends at) op t (type_of x) ≡ None))
@@ -329,7 +329,7 @@ abbrev mutual
       ⊎ ((f ≡ ill_typed R.Specifiers (first_specifiers specs)) × AreNoType specs) ⊎ AreBroken specs s f
       ⊎ ((base : CType) × IsBase (IsOne s specs) specs base × IsBrokenDeclarator d s base f)
       ⊎ ((base u : CType) × IsBase (IsOne s specs) specs base × Declares s d base (open_array u)
-        × (f ≡ ill_typed R.Length (first_declarator d (first_specifiers specs))))
+      × (f ≡ ill_typed R.Length (first_declarator d (first_specifiers specs))))
 
   pub AreBroken : Trees.Specifiers → Scope → Fault → Type 0
   AreBroken Trees.no_specifiers s f = ⊥
@@ -344,10 +344,10 @@ abbrev mutual
       ⊎ AreBrokenMembers all s f ⊎ IsRepeated (member_names all) f ⊎ IsDefinedBefore s x right f
       ⊎ ((y : Spelling) × (x ≡ Some y) × IsOtherTag s y true f)
       ⊎ ((fields : List Field) × AreFields s all fields × (f ≡ too_big at) × (16777216 < size_of_record s.file.records (record {
-          tag = [];
-          place = record { file = s.file.file; at = at };
-          fields = fields;
-        })))
+        tag = [];
+        place = record { file = s.file.file; at = at };
+        fields = fields;
+      })))
   IsBrokenSpecifier (Trees.enum_named at x) s f = IsOtherTag s x false f
       ⊎ ((f ≡ undeclared x.text x.from) × (tag_at s.file.tags x.text x.from ≡ None))
   IsBrokenSpecifier (Trees.enum_body at x left all comma right) s f = ((f ≡ ill_typed R.Scope at) × (s.is_inside ≡ true))
@@ -378,7 +378,7 @@ abbrev mutual
   AreBrokenFields (Trees.and_member_declarator comma d more) s base semicolon f = IsBrokenDeclarator d s base f
       ⊎ ((u : CType) × Declares s d base (open_array u) × (f ≡ ill_typed R.Length (first_declarator d semicolon)))
       ⊎ ((t : CType) × Declares s d base (closed t) × (is_object (ended s.file.ends (first_declarator d semicolon)) t ≡ false)
-        × (f ≡ ill_typed R.Incomplete (first_declarator d semicolon)))
+      × (f ≡ ill_typed R.Incomplete (first_declarator d semicolon)))
       ⊎ AreBrokenFields more s base semicolon f
 
   pub IsBrokenDeclarator : Trees.Declarator → Scope → CType → Fault → Type 0
@@ -393,7 +393,7 @@ abbrev mutual
   IsBrokenDeclarator (Trees.function d left all right) s t f = AreBrokenParameters all (inside s) f
       ⊎ ((f ≡ ill_typed R.ByValue left) × IsNoResult t)
       ⊎ ((parameters : CTypes) × AreParameters (inside s) all parameters
-        × (IsTooBig s (function t parameters) left f ⊎ IsBrokenDeclarator d s (function t parameters) f))
+      × (IsTooBig s (function t parameters) left f ⊎ IsBrokenDeclarator d s (function t parameters) f))
 
   pub IsBrokenLength : Trees.OptionalExpression → Scope → Fault → Type 0
   IsBrokenLength Trees.no_expression s f = ⊥
@@ -411,5 +411,5 @@ abbrev mutual
       ⊎ ((f ≡ ill_typed R.Specifiers (first_specifiers specs)) × AreNoType specs) ⊎ AreBroken specs s f ⊎ IsOldName s (declared_name d) f
       ⊎ ((base : CType) × IsBase (IsOne s specs) specs base × IsBrokenDeclarator d s base f)
       ⊎ ((base : CType) × (shape : Shape) × IsBase (IsOne s specs) specs base × Declares s d base shape
-        × (((rule : Rule) × IsNoParameter (parameter_type shape) rule × (f ≡ ill_typed rule (first_declarator d (first_specifiers specs))))
-          ⊎ IsBrokenAmong more (with_parameter_if_named s (declared_name d) (parameter_type shape)) f))
+      × (((rule : Rule) × IsNoParameter (parameter_type shape) rule × (f ≡ ill_typed rule (first_declarator d (first_specifiers specs))))
+      ⊎ IsBrokenAmong more (with_parameter_if_named s (declared_name d) (parameter_type shape)) f))

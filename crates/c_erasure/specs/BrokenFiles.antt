@@ -81,28 +81,28 @@ IsOtherwise f words t x fault = ((is_function t ≡ true) × IsOld f x (IsNoFunc
 abbrev pub IsBrokenFileDeclarator : FileScope → Storage → CType → Trees.InitDeclarator → Fault → Type 0
 IsBrokenFileDeclarator f words base d fault = IsBrokenDeclarator d.declarator (at_file_scope f) base fault
     ⊎ ((x : Spelling) × (shape : Shape) × (declared_name d.declarator ≡ Some x) × Declares (at_file_scope f) d.declarator base shape
-      × (((fault ≡ ill_typed R.Length x.from) × IsEndless shape d.value)
-        ⊎ ((t : CType) × IsSized (at_file_scope f) shape d.value t
-          × (((fault ≡ ill_typed R.Library x.from) × IsBrokenLibrary words t x.text)
-            ⊎ ((fault ≡ ill_typed R.Main x.from) × IsBrokenMain words t x.text)
-            ⊎ ((fault ≡ ill_typed R.Incomplete x.from) × (words ≢ a_typedef) × (is_function t ≡ false) × (is_object (ended f.ends x.from) t ≡ false))
-            ⊎ ((fault ≡ ill_typed R.Init x.from) × (d.value ≢ None) × ((words ≡ a_typedef) ⊎ (is_function t ≡ true)))
-            ⊎ IsOtherwise f words t x fault
-            ⊎ ((d.value ≢ None) × IsOld f x IsDefinition fault)
-            ⊎ IsBrokenInitial d.value (at_file_scope f) t fault
-            ⊎ HasNoConstants d.value (at_file_scope f) t fault))))
+    × (((fault ≡ ill_typed R.Length x.from) × IsEndless shape d.value)
+    ⊎ ((t : CType) × IsSized (at_file_scope f) shape d.value t
+    × (((fault ≡ ill_typed R.Library x.from) × IsBrokenLibrary words t x.text)
+    ⊎ ((fault ≡ ill_typed R.Main x.from) × IsBrokenMain words t x.text)
+    ⊎ ((fault ≡ ill_typed R.Incomplete x.from) × (words ≢ a_typedef) × (is_function t ≡ false) × (is_object (ended f.ends x.from) t ≡ false))
+    ⊎ ((fault ≡ ill_typed R.Init x.from) × (d.value ≢ None) × ((words ≡ a_typedef) ⊎ (is_function t ≡ true)))
+    ⊎ IsOtherwise f words t x fault
+    ⊎ ((d.value ≢ None) × IsOld f x IsDefinition fault)
+    ⊎ IsBrokenInitial d.value (at_file_scope f) t fault
+    ⊎ HasNoConstants d.value (at_file_scope f) t fault))))
 
 -- the declarators before are as their rules say
 abbrev pub AreBrokenDeclarators : FileScope → Storage → CType → List Trees.InitDeclarator → ℕ → Fault → Type 0
 AreBrokenDeclarators f words base [] semicolon fault = ⊥
 AreBrokenDeclarators f words base (d ∷ more) semicolon fault = IsBrokenFileDeclarator f words base d fault
     ⊎ ((x : Spelling) × (declared_name d.declarator ≡ Some x)
-      × IsFileDeclarator f words base d x (first_declarator d.declarator x.from) (name_from d.value (after_declarator more semicolon))
-      × AreBrokenDeclarators f words base more semicolon fault)
+    × IsFileDeclarator f words base d x (first_declarator d.declarator x.from) (name_from d.value (after_declarator more semicolon))
+    × AreBrokenDeclarators f words base more semicolon fault)
 
 abbrev pub IsBrokenFileDeclaration : FileScope → Trees.Declaration → Fault → Type 0
 IsBrokenFileDeclaration f d fault = ((fault ≡ ill_typed R.Specifiers (first_specifiers d.specs))
-        × ((may_stand_in_file (storage_of d.specs) ≡ false) ⊎ AreNoType d.specs ⊎ (DeclaresSomething d → ⊥)))
+    × ((may_stand_in_file (storage_of d.specs) ≡ false) ⊎ AreNoType d.specs ⊎ (DeclaresSomething d → ⊥)))
     ⊎ AreBroken d.specs (at_file_scope f) fault
     ⊎ ((base : CType) × IsBase (IsOne (at_file_scope f) d.specs) d.specs base × AreBrokenDeclarators f (storage_of d.specs) base d.all d.semicolon fault)
 
@@ -133,16 +133,16 @@ IsBrokenBody f t d items fault = ⊥
 
 abbrev pub IsBrokenDefinition : FileScope → Trees.Specifiers → Trees.Declarator → Trees.BlockItems → Fault → Type 0
 IsBrokenDefinition f specs d items fault = ((fault ≡ ill_typed R.Specifiers (first_specifiers specs))
-        × ((IsFunctionStorage (storage_of specs) → ⊥) ⊎ AreNoType specs ⊎ HasNameless (parameters_of d)))
+    × ((IsFunctionStorage (storage_of specs) → ⊥) ⊎ AreNoType specs ⊎ HasNameless (parameters_of d)))
     ⊎ AreBroken specs (at_file_scope f) fault
     ⊎ ((base : CType) × IsBase (IsOne (at_file_scope f) specs) specs base × (IsBrokenDeclarator d (at_file_scope f) base fault
-      ⊎ ((x : Spelling) × (t : CType) × (declared_name d ≡ Some x) × Declares (at_file_scope f) d base (closed t)
-        × (((fault ≡ ill_typed R.Specifiers (first_specifiers specs)) × (is_function t ≡ false))
-          ⊎ ((which : LibraryFunction) × (x.text ≡ library_name which) × (fault ≡ ill_typed R.Library x.from))
-          ⊎ ((fault ≡ ill_typed R.Main x.from) × IsBrokenMain (storage_of specs) t x.text)
-          ⊎ IsOtherwise f (storage_of specs) t x fault
-          ⊎ IsOld f x IsDefinition fault
-          ⊎ IsBrokenBody f t d items fault))))
+    ⊎ ((x : Spelling) × (t : CType) × (declared_name d ≡ Some x) × Declares (at_file_scope f) d base (closed t)
+    × (((fault ≡ ill_typed R.Specifiers (first_specifiers specs)) × (is_function t ≡ false))
+    ⊎ ((which : LibraryFunction) × (x.text ≡ library_name which) × (fault ≡ ill_typed R.Library x.from))
+    ⊎ ((fault ≡ ill_typed R.Main x.from) × IsBrokenMain (storage_of specs) t x.text)
+    ⊎ IsOtherwise f (storage_of specs) t x fault
+    ⊎ IsOld f x IsDefinition fault
+    ⊎ IsBrokenBody f t d items fault))))
 
 -- ---- items
 

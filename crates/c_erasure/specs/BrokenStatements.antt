@@ -93,12 +93,12 @@ IsEndless shape value = ⊥
 abbrev pub IsBrokenLocal : Scope → (static : Bool) → CType → Trees.InitDeclarator → Fault → Type 0
 IsBrokenLocal s static base d f = IsBrokenDeclarator d.declarator s base f ⊎ IsOldName s (declared_name d.declarator) f
     ⊎ ((x : Spelling) × (shape : Shape) × (declared_name d.declarator ≡ Some x) × Declares s d.declarator base shape
-      × (((f ≡ ill_typed R.Length x.from) × IsEndless shape d.value)
-        ⊎ ((t : CType) × (shape ≡ closed t) × (is_function t ≡ true) × (f ≡ ill_typed R.Scope x.from))
-        ⊎ ((t : CType) × IsSized s shape d.value t × (is_function t ≡ false) × (is_object (ended s.file.ends x.from) t ≡ false)
-          × (f ≡ ill_typed R.Incomplete x.from))
-        ⊎ ((t : CType) × (n : ℕ) × IsSized s shape d.value t × IsBrokenInitial d.value (with_variable s x n t) t f)
-        ⊎ ((t : CType) × (n : ℕ) × (static ≡ true) × IsSized s shape d.value t × HasNoConstants d.value (with_variable s x n t) t f)))
+    × (((f ≡ ill_typed R.Length x.from) × IsEndless shape d.value)
+    ⊎ ((t : CType) × (shape ≡ closed t) × (is_function t ≡ true) × (f ≡ ill_typed R.Scope x.from))
+    ⊎ ((t : CType) × IsSized s shape d.value t × (is_function t ≡ false) × (is_object (ended s.file.ends x.from) t ≡ false)
+    × (f ≡ ill_typed R.Incomplete x.from))
+    ⊎ ((t : CType) × (n : ℕ) × IsSized s shape d.value t × IsBrokenInitial d.value (with_variable s x n t) t f)
+    ⊎ ((t : CType) × (n : ℕ) × (static ≡ true) × IsSized s shape d.value t × HasNoConstants d.value (with_variable s x n t) t f)))
 
 -- what stands before is declared, and then the scope is another
 abbrev pub AreBrokenLocals : List Trees.InitDeclarator → Scope → (static : Bool) → CType → Fault → Type 0
@@ -158,8 +158,8 @@ AreBrokenLabels [] s kind before f = ⊥
 AreBrokenLabels (Trees.case at a colon ∷ more) s kind before f = ((own : List AnObject) × IsBroken a (with_objects s own) f) ⊎ HasNoValue a s f
     ⊎ IsNoConstant a s f
     ⊎ ((k : IntKind) × (v : ℕ) × IsConstant (Erases a) s k v
-      × (((f ≡ ill_typed R.Label at) × IsAmong before.cases (as_kind kind v))
-        ⊎ AreBrokenLabels more s kind (record before { cases = as_kind kind v ∷ before.cases }) f))
+    × (((f ≡ ill_typed R.Label at) × IsAmong before.cases (as_kind kind v))
+    ⊎ AreBrokenLabels more s kind (record before { cases = as_kind kind v ∷ before.cases }) f))
 AreBrokenLabels (Trees.default at colon ∷ more) s kind before f = ((f ≡ ill_typed R.Label at) × (1 ≤ before.defaults))
     ⊎ AreBrokenLabels more s kind (record before { defaults = before.defaults + 1 }) f
 
@@ -177,7 +177,7 @@ module _ (result : CType) where
     IsBrokenStatement (Trees.do_while at body while left a right semicolon) s loop switch f = IsBrokenStatement body s true switch f ⊎ IsNoCondition a s f
     IsBrokenStatement (Trees.for at left start test semicolon step right body) s loop switch f = IsBrokenStart start (inside s) f
         ⊎ ((all : Statements) × (after : Scope) × IsStart start (inside s) all after
-          × (IsNoTest test after f ⊎ IsBrokenIfAny step after f ⊎ IsBrokenStatement body after true switch f))
+        × (IsNoTest test after f ⊎ IsBrokenIfAny step after f ⊎ IsBrokenStatement body after true switch f))
     IsBrokenStatement (Trees.switch at left a right begin items end) s loop switch f = IsBroken a s f ⊎ HasNoValue a s f
         ⊎ ((f ≡ ill_typed R.Condition (first a)) × One a s (λ x. is_integer (type_of x) ≡ false))
         ⊎ ((kind : IntKind) × One a s (λ x. promoting (type_of x) ≡ Some (integer kind)) × AreBrokenSwitchItems items (inside s) loop kind no_labels f)
@@ -202,4 +202,4 @@ module _ (result : CType) where
     AreBrokenSwitchItems Trees.no_switch_items s loop kind before f = ⊥
     AreBrokenSwitchItems (Trees.and_switch_item item more) s loop kind before f = IsBrokenSwitchItem item s loop kind before f
         ⊎ ((cases : List ℕ) × (defaults : ℕ) × (own : Statements) × (after : Scope) × ErasesSwitchItem item s kind cases defaults own after
-          × AreBrokenSwitchItems more after loop kind (record { cases = cases ++ before.cases; defaults = defaults + before.defaults }) f)
+        × AreBrokenSwitchItems more after loop kind (record { cases = cases ++ before.cases; defaults = defaults + before.defaults }) f)

@@ -158,7 +158,7 @@ with_parameter_if_named s (Some x) t = with_parameter s x.text x.from t
 abbrev pub IsSize : Scope → (at by : ℕ) → CType → Thing → Type 0
 IsSize s at by t th = (is_object (ended s.file.ends by) t ≡ true) × IsMentioned s Sizeof t at
     × (th ≡ a_value (Typed.expression (record { ty = integer UInt; note = sized t at }) (place_in s at)
-          (Typed.constant (size_of s.file.records t))))
+    (Typed.constant (size_of s.file.records t))))
 
 abbrev pub IsInt : ℤ → Type 0
 IsInt (pos n) = n < 2 ^ 31
@@ -198,10 +198,10 @@ abbrev mutual
   Erases (Trees.paren left a right) s th = Erases a s th
   -- an array's own element, what lies so far behind a pointer, or with the number first
   Erases (Trees.index a left b right) s th = ((t : CType) × (p : Notes.Path) × (i : Expression) × (is_array (type_of_path p) ≡ true)
-          × (th ≡ an_object (way t (place_in s (first a)) (Typed.element p i))) × Erases a s (an_object p) × Values (Erases b s) i)
+      × (th ≡ an_object (way t (place_in s (first a)) (Typed.element p i))) × Erases a s (an_object p) × Values (Erases b s) i)
       ⊎ ((t : CType) × (e i : Expression) × (th ≡ an_object (way t (place_in s (first a)) (Typed.index e i))) × Values (Erases a s) e × Values (Erases b s) i)
       ⊎ ((t u : CType) × (i e : Expression) × (is_integer (type_of i) ≡ true) × Values (Erases a s) i × Values (Erases b s) e
-          × (th ≡ an_object (way t (place_in s (first a)) (Typed.deref (value u (place_in s (first a)) (Typed.pointer_add P.Add i e))))))
+      × (th ≡ an_object (way t (place_in s (first a)) (Typed.deref (value u (place_in s (first a)) (Typed.pointer_add P.Add i e))))))
   Erases (Trees.call f left all right) s th = (t : CType) × (g : Thing) × (xs : Typed.Expressions Noted) × (node : Node) × Erases f s g
       × AreValues s xs all × IsCall g xs node × (th ≡ a_value (value t (place_in s (first f)) node))
   Erases (Trees.dot a at x) s th = (t : CType) × (p : Notes.Path) × (r k : ℕ) × (th ≡ an_object (way t (place_in s (first a)) (Typed.member p r k)))
@@ -233,11 +233,11 @@ abbrev mutual
   Erases (Trees.cond a question b colon c) s th = (t : CType) × (x y z : Expression)
       × (th ≡ a_value (value t (place_in s (first a)) (Typed.choose x y z))) × Values (Erases a s) x × Values (Erases b s) y × Values (Erases c s) z
   Erases (Trees.assign a op at b) s th = ((t : CType) × (p : Notes.Path) × (x : Expression) × (update_of op ≡ None)
-          × (th ≡ a_value (value t (place_in s (first a)) (Typed.assign p x))) × Erases a s (an_object p) × Values (Erases b s) x)
+      × (th ≡ a_value (value t (place_in s (first a)) (Typed.assign p x))) × Erases a s (an_object p) × Values (Erases b s) x)
       ⊎ ((t : CType) × (p q : Notes.Path) × (update_of op ≡ None)
-          × (th ≡ a_value (value t (place_in s (first a)) (Typed.copy_record p q))) × Erases a s (an_object p) × Erases b s (an_object q))
+      × (th ≡ a_value (value t (place_in s (first a)) (Typed.copy_record p q))) × Erases a s (an_object p) × Erases b s (an_object q))
       ⊎ ((t : CType) × (p : Notes.Path) × (x : Expression) × (update : BinaryOp) × (update_of op ≡ Some update)
-          × (th ≡ a_value (value t (place_in s (first a)) (Typed.assign_op update p x))) × Erases a s (an_object p) × Values (Erases b s) x)
+      × (th ≡ a_value (value t (place_in s (first a)) (Typed.assign_op update p x))) × Erases a s (an_object p) × Values (Erases b s) x)
   Erases (Trees.comma a at b) s th = (t : CType) × (x y : Expression) × (th ≡ a_value (value t (place_in s (first a)) (Typed.comma x y)))
       × Values (Erases a s) x × Values (Erases b s) y
   -- braces stand in initializers alone

@@ -1,7 +1,6 @@
 -- Which annotated file is that of a syntax tree: what its items declare (C99 6.7, 6.9), and that nothing else is declared.
 use Rattle.std.specs.Prelude.{◌≡◌, ◌≢◌, ℕ, zero, suc, ◌+◌, ◌<◌, Bool, true, false, if◌then◌else◌, List, [], ◌∷◌, ◌++◌, map, All, length, Option, Some}
 use Rattle.std.specs.Prelude.{None, codes, is_none, nat_le, slice_get, ◌⊎◌}
-
 use Rattle.c_types.specs.declared.ty.IntKind.TheVariants.{Int}
 use Rattle.c_types.specs.Types.{CType, CTypes, integer, function, no_types, and_type}
 use Rattle.c_types.specs.Objects.{is_object}
@@ -102,10 +101,10 @@ abbrev pub IsFunction : FileScope → Storage → CType → Trees.InitDeclarator
 IsFunction f words base d x place from = (t : CType) × (d.value ≡ None) × Declares (at_file_scope f) d.declarator base (closed t) × (is_function t ≡ true)
     × IsMentioned (at_file_scope f) Named t place
     × (((which : LibraryFunction) × (x.text ≡ library_name which) × (t ≡ library_type which) × (words ≢ is_static)
-        × IsBound (at_file_scope f) (bound x from declares (a_library_function which)))
-      ⊎ ((n : ℕ) × (g : AFunction) × IsOwnName x.text × (slice_get f.functions n ≡ Some g) × (g.name ≡ x.text) × (g.ty ≡ t)
-        × IsLinkage (function_storage words) (is_first f x) g.is_linked × IsFirst (is_first f x) g.first place
-        × IsBound (at_file_scope f) (bound x from declares (a_function n t))))
+    × IsBound (at_file_scope f) (bound x from declares (a_library_function which)))
+    ⊎ ((n : ℕ) × (g : AFunction) × IsOwnName x.text × (slice_get f.functions n ≡ Some g) × (g.name ≡ x.text) × (g.ty ≡ t)
+    × IsLinkage (function_storage words) (is_first f x) g.is_linked × IsFirst (is_first f x) g.first place
+    × IsBound (at_file_scope f) (bound x from declares (a_function n t))))
 
 abbrev pub IsFileDeclarator : FileScope → Storage → CType → Trees.InitDeclarator → Spelling → ℕ → ℕ → Type 0
 IsFileDeclarator f a_typedef base d x place from = IsTypedef f base d x place from

@@ -23,8 +23,8 @@ ty (Trees.expression t at node) = t
 -- a conversion between two pointer types, other than one from null
 abbrev pub of_conversion : CType → Place → Trees.Expression CType → List AMention
 of_conversion t at e = if is_pointer t && is_pointer (ty e) && not (same_type t (ty e)) && not (is_null_node e)
-  then mention From (ty e) at ∷ mention To t at ∷ []
-  else []
+    then mention From (ty e) at ∷ mention To t at ∷ []
+    else []
 
 -- over a tree in which allocations and null pointers are recognised
 abbrev mutual

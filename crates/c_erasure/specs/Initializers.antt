@@ -108,9 +108,9 @@ abbrev pub IsInitializer : Trees.Expression → Scope → CType → Typed.Initia
 IsInitializer a s t initial =
     ((x : Expression) × (initial ≡ Typed.whole x) × (is_scalar t ≡ true) × Initializes a s t 0 (part_at 0 (Typed.value x)))
     ⊎ ((p : Typed.Path Noted) × (initial ≡ Typed.whole_record p) × (is_record t ≡ true) × (is_braces a ≡ false)
-        × Initializes a s t 0 (part_at 0 (Typed.record_of p)))
+    × Initializes a s t 0 (part_at 0 (Typed.record_of p)))
     ⊎ ((parts : List Part) × (initial ≡ Typed.parts parts) × ((is_array t ≡ true) ⊎ ((is_record t ≡ true) × (is_braces a ≡ true)))
-        × Initializes a s t 0 parts)
+    × Initializes a s t 0 parts)
 
 -- ---- of an object that is made before the program starts: each value is a constant, and a record is initialized by its parts alone (6.7.8)
 

@@ -59,14 +59,14 @@ with_variable s x n t = with_local s (record { name = x.text; place = x.from; fr
 abbrev pub IsStaticLocal : Scope → Trees.InitDeclarator → Spelling → CType → ℕ → Type 0
 IsStaticLocal s d x t n = (initial : Typed.Initializer Noted) × HasConstants (with_object s x n t) t d.value initial
     × (slice_get s.file.objects n ≡ Some (record {
-        name = x.text;
-        place = place_in s (first_declarator d.declarator x.from);
-        first = first_declarator d.declarator x.from;
-        ty = t;
-        is_linked = false;
-        literal = None;
-        initial = Some initial;
-      }))
+      name = x.text;
+      place = place_in s (first_declarator d.declarator x.from);
+      first = first_declarator d.declarator x.from;
+      ty = t;
+      is_linked = false;
+      literal = None;
+      initial = Some initial;
+    }))
 
 -- a name of a complete object type, which the block has not declared yet
 abbrev pub IsVariable : Scope → CType → Trees.InitDeclarator → Spelling → CType → Type 0
@@ -86,7 +86,7 @@ DeclareAll (d ∷ more) s false base all after = (x : Spelling) × (t : CType) �
 abbrev pub IsLocalDeclaration : Trees.Declaration → Scope → Statements → Scope → Type 0
 IsLocalDeclaration d s all after = (base : CType) × IsBase (IsOne s d.specs) d.specs base × (d.all ≢ [])
     × (((storage_of d.specs ≡ is_static) × DeclareAll d.all s true base all after)
-      ⊎ (((storage_of d.specs ≡ no_storage) ⊎ (storage_of d.specs ≡ is_auto) ⊎ (storage_of d.specs ≡ is_register)) × DeclareAll d.all s false base all after))
+    ⊎ (((storage_of d.specs ≡ no_storage) ⊎ (storage_of d.specs ≡ is_auto) ⊎ (storage_of d.specs ≡ is_register)) × DeclareAll d.all s false base all after))
 
 -- ---- parts of statements
 

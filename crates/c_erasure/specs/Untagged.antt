@@ -1,6 +1,5 @@
 -- The tag of a structure that has none: `@FILE:LINE:K`, for the K-th `struct` of its file on that presumed line (own).
 use Rattle.std.specs.Prelude.{◌≡◌, ◌≢◌, ℕ, ◌+◌, if◌then◌else◌, nat_le, List, [], ◌∷◌, ◌++◌, take, drop, ◌-◌, All, filter, flat_map, decimal, ◌⊎◌}
-
 use Rattle.lay_base.specs.declared.faults.Keyword.TheVariants as W
 use Rattle.c_lexer.specs.declared.presumed.Presumed.{Presumed}
 use Rattle.c_lexer.specs.declared.token.TokenKind.{TokenKind}

@@ -58,13 +58,13 @@ pub record Linked : Type 0 where
 
 abbrev pub linked_object : List UnitData → UnitData → Object → List Linked
 linked_object units u o = if o.linked
-  then record { name = o.name; place = o.place; ty = type_in units u (get_or u.types o.ty void); is_defined = is_some o.initial } ∷ []
-  else []
+    then record { name = o.name; place = o.place; ty = type_in units u (get_or u.types o.ty void); is_defined = is_some o.initial } ∷ []
+    else []
 
 abbrev pub linked_function : List UnitData → UnitData → FunctionData → List Linked
 linked_function units u f = if f.is_linked
-  then record { name = f.name; place = f.place; ty = type_in units u (get_or u.types f.ty void); is_defined = is_some f.body } ∷ []
-  else []
+    then record { name = f.name; place = f.place; ty = type_in units u (get_or u.types f.ty void); is_defined = is_some f.body } ∷ []
+    else []
 
 abbrev pub linked_in : List UnitData → List Linked
 linked_in units = flat_map (λ u. flat_map (linked_object units u) u.objects ++ flat_map (linked_function units u) u.functions) units
@@ -112,13 +112,13 @@ is_used is p = list_any is (all_references p)
 
 abbrev pub missing_object : ProgramData → ℕ → Object → List Trouble
 missing_object p n o = if is_used (is_object n) p && not (is_some o.initial)
-  then record { name = o.name; place = o.place; first = o.place } ∷ []
-  else []
+    then record { name = o.name; place = o.place; first = o.place } ∷ []
+    else []
 
 abbrev pub missing_function : ProgramData → ℕ → FunctionData → List Trouble
 missing_function p n f = if is_used (is_function n) p && not (is_some f.body)
-  then record { name = f.name; place = f.place; first = f.place } ∷ []
-  else []
+    then record { name = f.name; place = f.place; first = f.place } ∷ []
+    else []
 
 abbrev pub missing_objects : ProgramData → ℕ → List Object → List Trouble
 missing_objects p n [] = []
@@ -155,8 +155,8 @@ type_at p i = get_or p.types i void
 
 abbrev pub held_by_function : ProgramData → FunctionData → List CType
 held_by_function p f = if is_some f.body
-  then map (type_at p) (f.ty ∷ map (λ l. l.ty) (f.parameters ++ f.locals) ++ flat_map types_in_statement (if_any f.body))
-  else []
+    then map (type_at p) (f.ty ∷ map (λ l. l.ty) (f.parameters ++ f.locals) ++ flat_map types_in_statement (if_any f.body))
+    else []
 
 abbrev pub held_by_object : ProgramData → Object → List CType
 held_by_object p o = if is_some o.initial then type_at p o.ty ∷ [] else []
