@@ -4,7 +4,8 @@ use Rattle.std.specs.Prelude.{◌≡◌, ◌≢◌, ℕ, ◌+◌, ◌≤◌, ◌
 use Rattle.std.specs.Prelude.{◌⊎◌}
 use Rattle.c_types.specs.declared.ty.IntKind.{IntKind}
 use Rattle.c_types.specs.Types.{CType, integer, array, structure, Field, Record}
-use Rattle.c_types.specs.Layouts.{width, size_of, offset_of}
+use Rattle.c_types.specs.IntKinds.{width}
+use Rattle.c_types.specs.Layouts.{size_of, offset_of}
 use Rattle.c_ast.specs.declared.words.Spelling.{Spelling}
 use Rattle.c_ast.specs.Trees
 use Rattle.c_ast.specs.Places.{first_text}
