@@ -5,7 +5,7 @@ use crate::operator_text::{
 };
 use crate::writer::Writer;
 use c_ast::{
-    Argument, At, Declarator, Enumerator, Expression, MemberDeclaration, Parameter, Parameters,
+    Argument, Declarator, Enumerator, Expression, MemberDeclaration, Parameter, Parameters,
     Specifier, Spelling, TypeName, first_of_declarator, first_of_expression, first_of_specifier,
     first_of_specifiers,
 };
@@ -275,20 +275,9 @@ fn open_pointer(out: &mut Writer, times: usize) -> Result<(), AllocError> {
     Ok(())
 }
 
-/// Where a declarator that has a token begins.
-fn place_of_declarator(declarator: &Declarator) -> At {
-    match declarator {
-        Declarator::Identifier(name) => name.from,
-        Declarator::Pointer(at, _, _) | Declarator::Enclosed(at, _, _) => *at,
-        Declarator::Array(inner, left, _, _) | Declarator::Function(inner, left, _, _) => {
-            first_of_declarator(inner, *left)
-        }
-    }
-}
-
 #[cycle(expression_text)]
 pub fn put_declarator(out: &mut Writer, declarator: &Declarator) -> Result<(), AllocError> {
-    out.place(place_of_declarator(declarator))?;
+    out.place(first_of_declarator(declarator))?;
     match declarator {
         Declarator::Identifier(name) => return put_word(out, name),
         Declarator::Enclosed(_, inner, _) => {
