@@ -1,10 +1,10 @@
 //! Where nodes begin: the byte of the first token of their spelling, which is their place.
 
-ghost use Rattle.std.specs.Prelude.{◌≡◌, map};
+ghost use Rattle.std.specs.Prelude.{◌≡◌, ℕ, map};
 ghost use Rattle.std.specs.Option.{option_map};
 ghost use Rattle.c_ast.specs.Places.{first, first_declaration, first_declarator, first_if_any, first_item, first_specifier, first_specifiers};
 ghost use Rattle.c_ast.specs.Places.{first_statement, first_text};
-ghost use Rattle.c_ast.specs.Views.{declaration_of, declarator_if_any, declarator_of, expression_of, item_of, specifier_of, specifiers_of, statement_of};
+ghost use Rattle.c_ast.specs.Views.{declaration_of, declarator_of, expression_of, item_of, specifier_of, specifiers_of, statement_of};
 
 use crate::declaration::Declaration;
 use crate::expression::{Declarator, Expression, Specifier};
@@ -83,18 +83,16 @@ pub fn first_of_specifiers(all: &[Specifier]) -> At
     }
 }
 
-/// Where a declarator begins, or what stands after it where it has no token.
-pub fn first_of_declarator(declarator: &Option<Boxed<Declarator>>, after: At) -> At
-    ensures { result ≡ first_declarator (declarator_if_any (option_map declarator_of declarator.now)) after }
+/// Where a declarator begins.
+pub fn first_of_declarator(declarator: &Declarator) -> At
+    ensures { (after : ℕ) → result ≡ first_declarator (declarator_of declarator.now) after }
 {
     match declarator {
-        None => after,
-        Some(declarator) => match declarator.get() {
-            Declarator::Identifier(x) => x.from,
-            Declarator::Pointer(at, _, _) | Declarator::Enclosed(at, _, _) => *at,
-            Declarator::Array(d, left, _, _) | Declarator::Function(d, left, _, _) => {
-                first_of_declarator(d, *left)
-            }
+        Declarator::Identifier(x) => x.from,
+        Declarator::Pointer(at, _, _) | Declarator::Enclosed(at, _, _) => *at,
+        Declarator::Array(d, left, _, _) | Declarator::Function(d, left, _, _) => match d {
+            None => *left,
+            Some(d) => first_of_declarator(d.get()),
         },
     }
 }

@@ -1,5 +1,4 @@
 -- The reader of expressions of a level.
-use Rattle.std.specs.Prelude.{ℕ}
 use Rattle.c_ast.specs.Trees
 use Rattle.c_expressions.specs.declared.level.Level.{Level}
 use Rattle.c_expressions.specs.declared.level.Level.TheVariants as L

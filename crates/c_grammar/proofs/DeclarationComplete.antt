@@ -10,7 +10,7 @@ use Rattle.c_ast.specs.Spelling.{spelled_declaration}
 use Rattle.c_ast.specs.WellFormed.{IsComma, has_name, IsDeclarator, AreSpecifiers, IsValue, AreInitDeclarators, IsDeclaration}
 use Rattle.c_ast.specs.Sizes.{depth_declarator, depth_specifiers, depth_value, depth_init_declarators, depth_declaration}
 use Rattle.c_grammar.specs.Reading.{fronted, is_left_brace, is_comma, is_semicolon, begins_specifier, chain, at}
-use Rattle.c_grammar.proofs.Follow.{pull, declarators_pull, no_equal, within}
+use Rattle.c_grammar.proofs.Follow.{pull, declarators_pull, no_equal}
 use Rattle.c_grammar.proofs.Lists.{is_new, not_new, comma_read}
 use Rattle.c_grammar.specs.StatementReading.{initial_at, valued_in, named_in, one_in, init_declarator_step, more_init_declarators, declarators_after}
 use Rattle.c_grammar.specs.StatementReading.{declarators_in, declarators_if_any, declaration_in}

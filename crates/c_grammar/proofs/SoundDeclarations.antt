@@ -1,5 +1,5 @@
 -- What is read as a declaration is spelled so, is well formed, and has that depth.
-use Rattle.std.proofs.Common.{◌≡◌, ◌≢◌, ℕ, zero, suc, ◌+◌, ◌≤◌, max, ◌&&◌, not, List, [], ◌∷◌, ◌++◌, length, Option, Some, None, Bool, true, false}
+use Rattle.std.proofs.Common.{◌≡◌, ◌≢◌, ℕ, ◌+◌, ◌≤◌, max, ◌&&◌, not, List, [], ◌∷◌, ◌++◌, length, Option, Some, None, Bool, true, false}
 use Rattle.std.proofs.Common.{refl, ap, ◌∙◌, subst, arith, append_assoc, append-nil}
 use Rattle.c_lexer.specs.declared.punctuator.Punctuator.TheVariants as M
 use Rattle.c_ast.specs.Trees
@@ -8,8 +8,8 @@ use Rattle.c_ast.specs.Spelling.{spelled_declaration}
 use Rattle.c_ast.specs.WellFormed.{has_name, IsComma, IsDeclarator, IsValue, AreInitDeclarators, IsDeclaration, IsFullDeclaration}
 use Rattle.c_ast.specs.Sizes.{depth_declarator, depth_value, depth_init_declarators, depth_declaration}
 use Rattle.c_grammar.proofs.Wholeness.{AreWhole}
-use Rattle.c_grammar.specs.Reading.{after, fronted, is_comma, is_semicolon, is_equal, Reader, deeper, comma_before, at}
-use Rattle.c_grammar.proofs.Fronts.{bind_some, given, chosen, both, negated, deeper_taken, semicolon_taken, equal_taken, comma_before_taken, is_first}
+use Rattle.c_grammar.specs.Reading.{after, fronted, is_comma, is_semicolon, is_equal, Reader, comma_before, at}
+use Rattle.c_grammar.proofs.Fronts.{bind_some, given, chosen, both, negated, semicolon_taken, equal_taken, comma_before_taken, is_first}
 use Rattle.c_grammar.proofs.Chains.{Goes, chain_taken}
 use Rattle.c_grammar.proofs.Taken.{Took, Reads, IsSound}
 use Rattle.c_grammar.specs.StatementReading.{value_after, valued_in, named_in, one_in, init_declarator_step, more_init_declarators, declarators_after}

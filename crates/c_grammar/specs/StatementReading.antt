@@ -8,8 +8,8 @@ use Rattle.c_ast.specs.Spelling.{Lexeme}
 use Rattle.c_ast.specs.WellFormed.{has_name, types_after}
 use Rattle.c_ast.specs.Views.{arguments_of, block_items_of, switch_items_of}
 use Rattle.c_lexer.specs.declared.punctuator.Punctuator.TheVariants as M
-use Rattle.c_grammar.specs.Reading.{◌>>=◌, advance, after, expect, front, fronted, peek, is_keyword, is_left, is_right, is_left_brace, is_right_brace}
-use Rattle.c_grammar.specs.Reading.{is_comma, is_semicolon, is_colon, is_equal, begins_specifier, Reader, Step, deeper, chain, comma_before, another}
+use Rattle.c_grammar.specs.Reading.{◌>>=◌, advance, after, expect, front, fronted, peek, is_keyword, is_right}
+use Rattle.c_grammar.specs.Reading.{is_semicolon, begins_specifier, Reader, Step, deeper, chain, comma_before, another}
 use Rattle.c_grammar.specs.Reading.{comma_if_any, at}
 
 -- ---- initializers

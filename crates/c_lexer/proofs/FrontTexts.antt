@@ -3,8 +3,7 @@ use Rattle.std.proofs.Common.{◌≡◌, ℕ, Bool, true, false, List, [], ◌�
 use Rattle.std.specs.Prelude.{◌&&◌, ◌==◌}
 use Rattle.c_lexer.specs.declared.part.PartKind.{PartKind}
 use Rattle.c_lexer.specs.declared.part.PartKind.TheVariants as P
-use Rattle.c_lexer.specs.declared.part.Shape.{Shape}
-use Rattle.c_lexer.specs.Words.{IsWord, IsLongest}
+use Rattle.c_lexer.specs.Words.{IsLongest}
 use Rattle.c_lexer.specs.Parts.{Part, text_of, begins_comment, IsLineEnd, Stands, AreParts, begins_line_after_part}
 
 -- before a front of what follows

@@ -10,7 +10,6 @@ use Rattle.c_lexer.specs.declared.part.PartKind.TheVariants as P
 use Rattle.c_lexer.specs.declared.token.Token.{Token}
 use Rattle.c_lexer.specs.Parts.{Part, text_of, Stands, AreParts, begins_line_after_part}
 use Rattle.c_lexer.specs.Lexes.{AreTokens, AreTokensFrom, Lexes, LexFaultAt}
-use Rattle.c_lexer.specs.Presuming.{AreTokensBefore}
 use Rattle.c_lexer.specs.TokenPlaces.{IsPlaceIn, AreInOrder, TokensHavePlaces}
 use Rattle.c_lexer.proofs.Exactness.{PartsAreExact}
 use Rattle.c_lexer.proofs.WholeTexts.{part_long}

@@ -1,12 +1,12 @@
 -- The bytes of string literals, read from the left.
-use Rattle.std.proofs.Common.{◌≡◌, ◌≤◌, ◌<◌, ℕ, ◌+◌, Bool, true, false, List, [], ◌∷◌, ◌++◌, length, drop, map, flat_map, Option, Some, None, refl}
+use Rattle.std.proofs.Common.{◌≡◌, ◌≤◌, ◌<◌, ℕ, ◌+◌, false, List, [], ◌∷◌, ◌++◌, length, drop, map, flat_map, Option, Some, None, refl}
 use Rattle.std.proofs.Common.{ap, sym, ◌∙◌, arith, append-nil, append_assoc}
 use Rattle.std.specs.Prelude.{option_map, unwrap_or}
 use Rattle.std.specs.List.{All, list_any}
 use Rattle.std.proofs.lemmas.Bool.{or_parts, leb-false, lt-leb}
 use Rattle.std.proofs.lemmas.List.Elements.{All-head, All-tail}
 use Rattle.std.proofs.lemmas.Option.{same_Some}
-use Rattle.c_lexer.specs.Quoted.{Item, item_value, AreItems, HasItems}
+use Rattle.c_lexer.specs.Quoted.{Item, item_value, HasItems}
 use Rattle.c_lexer.specs.QuotedScan.{item_at, values_in, is_too_great, body_of, string_bytes}
 use Rattle.c_lexer.specs.Strings.{IsStringLiteral, AreBytesOf, AreBytesOfAll}
 use Rattle.c_lexer.specs.StringBytes.{StringsHaveBytes}

@@ -12,7 +12,7 @@ use Rattle.c_lexer.specs.declared.token.TokenKind.TheVariants as K
 use Rattle.c_lexer.specs.Punctuators.{punctuator_text}
 use Rattle.c_lexer.specs.Words.{IsWord, IsToken}
 use Rattle.c_lexer.specs.Parts.{Part, text_of, Stands, AreParts, begins_line_after_part}
-use Rattle.c_lexer.specs.Lexes.{AreTokens, AreTokensFrom, Lexes}
+use Rattle.c_lexer.specs.Lexes.{AreTokens, AreTokensFrom}
 use Rattle.c_lexer.specs.TokenTexts.{token_text, IsTextOf, HaveTexts, TokensHaveTexts}
 
 its_text : (shape : Shape) (text : List ℕ) (kind : TokenKind) → IsWord shape text → IsToken shape text kind → IsTextOf kind text

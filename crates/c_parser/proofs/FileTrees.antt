@@ -1,5 +1,5 @@
 -- A file has one tree, since its bytes have one list of tokens.
-use Rattle.std.proofs.Common.{◌≡◌, ℕ, List, subst, sym}
+use Rattle.std.proofs.Common.{◌≡◌, ℕ, List, subst}
 use Rattle.c_lexer.specs.declared.token.Token.{Token}
 use Rattle.c_lexer.specs.Lexes.{Lexes}
 use Rattle.c_ast.specs.Lexemes.{lexemes_of}

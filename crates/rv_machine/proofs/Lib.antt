@@ -4,6 +4,7 @@ pub mod Segments
 pub mod Stores
 pub mod Pieces
 pub mod Accesses
+pub mod Performing
 pub mod Lifting
 pub mod Reaching
 pub mod Ending

@@ -1,8 +1,9 @@
 -- A hart as contracts see it, and what an instruction does to it.
-use Rattle.std.specs.Prelude.{◌≡◌, List, []}
+use Rattle.std.specs.Prelude.{◌≡◌, ℕ, List, []}
 use Rattle.rv_isa.specs.declared.image.Segment.{Segment}
 use Rattle.rv_isa.specs.declared.instruction.Inst.{Inst}
 use Rattle.rv_isa.specs.declared.instruction.Inst.TheVariants.{Ecall}
+use Rattle.rv_isa.specs.Encoding.{row}
 use Rattle.rv_isa.specs.Step.{State, Stepped, Goes, Ends, Exits, Trap, Break, executed, next_pc}
 use Rattle.rv_machine.specs.declared.hart.Hart.{Hart}
 use Rattle.rv_machine.specs.declared.hart.Moved.{Moved}
@@ -32,6 +33,14 @@ Executes old new stepped M.Calls = ⊥
 -- an instruction that calls nothing, on a hart
 abbrev pub Does : (old new : Hart) → Inst → Moved → Type 0
 Does old new i moved = Executes (state_of old) (state_of new) (executed (places_of old) (state_of old) i) moved
+
+-- the opcode of an instruction's word
+abbrev pub HasOpcode : ℕ → Inst → Type 0
+HasOpcode opcode i = (row i).opcode ≡ opcode
+
+-- an instruction of the extension M, by its word
+abbrev pub IsOfM : Inst → Type 0
+IsOfM i = ((row i).opcode ≡ 0x33) × ((row i).funct7 ≡ 1)
 
 -- each instruction; a call of the environment is left to the caller
 abbrev pub Performs : List Segment → (old new : State) → Inst → Moved → Type 0

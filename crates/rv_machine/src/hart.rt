@@ -36,8 +36,9 @@ impl Hart {
     ghost use Rattle.rv_isa.specs.Step.{branches, jumps, writes};
     ghost use Rattle.rv_machine.specs.Harts.{Does, Executes, passes, places_of, state_of};
 
+    /// What a register holds.
     #[inline(always)]
-    pub(crate) fn register(&self, r: u8) -> u32
+    pub(crate) fn get(&self, r: u8) -> u32
         requires { r < 32 }
         ensures { result ≡ slice_index self.now.registers r }
     {
@@ -105,7 +106,7 @@ impl Hart {
         requires { rs1 < 32 }
         ensures { result ≡ plus_word (slice_index self.now.registers rs1) imm }
     {
-        plus(self.register(rs1), imm)
+        plus(self.get(rs1), imm)
     }
 
     /// A byte with its sign extended.
@@ -201,7 +202,7 @@ impl Hart {
         ensures moved { Does self.old self.new (I.Sb rs1 rs2 imm) result }
     {
         let address = self.address(rs1, imm);
-        let value = self.register(rs2);
+        let value = self.get(rs2);
         if self.memory.store_byte(address, value) {
             self.pc = self.pc.wrapping_add(4);
             Moved::Goes
@@ -222,7 +223,7 @@ impl Hart {
         if address % 2 != 0 {
             return Moved::Traps(TrapKind::Misaligned);
         }
-        let value = self.register(rs2);
+        let value = self.get(rs2);
         if self.memory.store_half(address, value) {
             self.pc = self.pc.wrapping_add(4);
             Moved::Goes
@@ -243,7 +244,7 @@ impl Hart {
         if address % 4 != 0 {
             return Moved::Traps(TrapKind::Misaligned);
         }
-        let value = self.register(rs2);
+        let value = self.get(rs2);
         if self.memory.store_word(address, value) {
             self.pc = self.pc.wrapping_add(4);
             Moved::Goes
@@ -261,7 +262,7 @@ impl Hart {
         ensures places { places_of self.new ≡ places_of self.old }
         ensures moved { Does self.old self.new (I.Div rd rs1 rs2) result }
     {
-        let divisor = self.register(rs2);
-        self.write(rd, quotient(self.register(rs1), divisor))
+        let divisor = self.get(rs2);
+        self.write(rd, quotient(self.get(rs1), divisor))
     }
 }

@@ -1,24 +1,32 @@
 //! Which texts have a tree, by `parse` after `lex`.
 
-use crate::answer::{Answer, tree_of};
-use lay_base::Keyword;
+use crate::answer::{Answer, FILE, what_becomes_of};
+use c_parser::ParseFault;
+use lay_base::{Keyword, Place};
 use std::alloc::{AllocError, Global};
 
-fn what_becomes_of(alloc: Global, text: &[u8]) -> Answer {
-    match tree_of(alloc, text) {
-        Ok(_) => Answer::Tree,
-        Err(answer) => answer,
+/// Whether a text has a tree or is no file's, if it is one of the two.
+fn has_tree(alloc: Global, text: &[u8]) -> Option<bool> {
+    match what_becomes_of(alloc, text) {
+        Answer::Tree => Some(true),
+        Answer::Fault(ParseFault::NoParse(_)) => Some(false),
+        _ => None,
     }
 }
 
 /// The number of the first text, from 0 on, that is not answered so.
-fn first_otherwise(alloc: Global, texts: &[&[u8]], wanted: Answer) -> Option<usize> {
+fn first_otherwise(alloc: Global, texts: &[&[u8]], wanted: bool) -> Option<usize> {
     for (i, text) in texts.iter().enumerate() {
-        if what_becomes_of(alloc, text) != wanted {
+        if has_tree(alloc, text) != Some(wanted) {
             return Some(i);
         }
     }
     None
+}
+
+/// The answer that a keyword is not supported, which begins at that byte.
+fn unsupported(keyword: Keyword, at: u32) -> Answer {
+    Answer::Fault(ParseFault::Unsupported(keyword, Place { file: FILE, at }))
 }
 
 #[test]
@@ -26,11 +34,11 @@ fn keywords_that_are_left_out_are_named(rt: HostRuntime) {
     let alloc = rt.alloc();
     assert_eq!(rt;
         what_becomes_of(alloc, b"int f(void){goto x;}"),
-        Answer::Unsupported(Keyword::Goto, 12)
+        unsupported(Keyword::Goto, 12)
     );
     assert_eq!(rt;
         what_becomes_of(alloc, b"int f(;double union"),
-        Answer::Unsupported(Keyword::Double, 7)
+        unsupported(Keyword::Double, 7)
     );
 }
 
@@ -126,12 +134,12 @@ static REFUSED: &[&[u8]] = &[
 
 #[test]
 fn texts_of_the_grammar_have_a_tree(rt: HostRuntime) {
-    assert_eq!(rt; first_otherwise(rt.alloc(), ACCEPTED, Answer::Tree), None);
+    assert_eq!(rt; first_otherwise(rt.alloc(), ACCEPTED, true), None);
 }
 
 #[test]
 fn other_texts_have_none(rt: HostRuntime) {
-    assert_eq!(rt; first_otherwise(rt.alloc(), REFUSED, Answer::NoParse), None);
+    assert_eq!(rt; first_otherwise(rt.alloc(), REFUSED, false), None);
 }
 
 /// A byte so many times.
@@ -152,12 +160,12 @@ fn add_nested(text: &mut Vec<u8>, ends: (&[u8], &[u8]), count: usize) -> Result<
     text.extend_from_slice(after)
 }
 
-/// What becomes of such a text.
-fn nested(alloc: Global, ends: (&[u8], &[u8]), count: usize) -> Answer {
+/// Whether such a text has a tree or is no file's.
+fn nested_has_tree(alloc: Global, ends: (&[u8], &[u8]), count: usize) -> Option<bool> {
     let mut text = Vec::new(alloc);
     match add_nested(&mut text, ends, count) {
-        Ok(()) => what_becomes_of(alloc, &text),
-        Err(_) => Answer::Other,
+        Ok(()) => has_tree(alloc, &text),
+        Err(_) => None,
     }
 }
 
@@ -173,7 +181,7 @@ static DEEPEST: &[((&[u8], &[u8]), usize, usize)] = &[
 fn a_tree_is_400_deep_at_most(rt: HostRuntime) {
     let alloc = rt.alloc();
     for (ends, most, one_more) in DEEPEST {
-        assert_eq!(rt; nested(alloc, *ends, *most), Answer::Tree);
-        assert_eq!(rt; nested(alloc, *ends, *one_more), Answer::NoParse);
+        assert_eq!(rt; nested_has_tree(alloc, *ends, *most), Some(true));
+        assert_eq!(rt; nested_has_tree(alloc, *ends, *one_more), Some(false));
     }
 }

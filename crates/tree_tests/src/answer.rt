@@ -8,7 +8,6 @@ ghost use Rattle.c_lexer.specs.Lexes.{Lexes};
 use c_ast::Tree;
 use c_lexer::{Tokens, lex};
 use c_parser::{ParseFault, parse, trees_are_small};
-use lay_base::Keyword;
 use std::alloc::Global;
 
 /// The number of the file whose tokens are read.
@@ -18,9 +17,9 @@ pub const FILE: u16 = 7;
 #[derive(Clone, Copy, Debug, PartialEq, Eq)]
 pub enum Answer {
     Tree,
-    NoParse,
-    Unsupported(Keyword, u32),
-    Other,
+    Fault(ParseFault),
+    /// It has no tokens, or is too long.
+    NoTokens,
 }
 
 /// The tree of a text's tokens, or what they come to.
@@ -32,9 +31,7 @@ fn tree_of_tokens(alloc: Global, tokens: &Tokens) -> Result<Tree, Answer>
     trees_are_small();
     match parse(alloc, tokens) {
         Ok(tree) => Ok(tree),
-        Err(ParseFault::NoParse(_)) => Err(Answer::NoParse),
-        Err(ParseFault::Unsupported(keyword, place)) => Err(Answer::Unsupported(keyword, place.at)),
-        Err(ParseFault::Memory) => Err(Answer::Other),
+        Err(fault) => Err(Answer::Fault(fault)),
     }
 }
 
@@ -43,10 +40,17 @@ pub fn tree_of(alloc: Global, text: &[u8]) -> Result<Tree, Answer>
     ensures { IfOk result (λ tree. IsCountable (size_items (items_of tree))) }
 {
     if text.len() > 4_194_304 {
-        return Err(Answer::Other);
+        return Err(Answer::NoTokens);
     }
     match lex(alloc, text, FILE) {
         Ok(tokens) => tree_of_tokens(alloc, &tokens),
-        Err(_) => Err(Answer::Other),
+        Err(_) => Err(Answer::NoTokens),
+    }
+}
+
+pub fn what_becomes_of(alloc: Global, text: &[u8]) -> Answer {
+    match tree_of(alloc, text) {
+        Ok(_) => Answer::Tree,
+        Err(answer) => answer,
     }
 }

@@ -5,24 +5,23 @@ use crate::operator_text::{
 };
 use crate::writer::Writer;
 use c_ast::{
-    Argument, At, Declarator, Enumerator, Expression, MemberDeclaration, Parameter, Parameters,
+    Argument, Declarator, Enumerator, Expression, MemberDeclaration, Parameter, Parameters,
     Specifier, Spelling, TypeName, first_of_declarator, first_of_expression, first_of_specifier,
     first_of_specifiers,
 };
 use c_types::IntKind;
 use lay_base::Boxed;
-use std::alloc::AllocError;
 
 /// What stands where a part is left out.
 const NOTHING: &str = "()";
 
 /// A name or a literal as it is spelled.
-fn put_word(out: &mut Writer, name: &Spelling) -> Result<(), AllocError> {
-    out.bytes(name.text.as_slice())
+fn put_word(out: &mut Writer, name: &Spelling) {
+    out.bytes(name.text.as_slice());
 }
 
 /// A number in decimal, with the suffix of its type.
-fn put_number(out: &mut Writer, value: u32, kind: IntKind) -> Result<(), AllocError> {
+fn put_number(out: &mut Writer, value: u32, kind: IntKind) {
     let suffix = match kind {
         IntKind::Int => "",
         IntKind::UInt => "u",
@@ -30,29 +29,29 @@ fn put_number(out: &mut Writer, value: u32, kind: IntKind) -> Result<(), AllocEr
         IntKind::ULong => "ul",
         _ => "?",
     };
-    out.number(value, suffix)
+    out.number(value, suffix);
 }
 
-fn put_strings(out: &mut Writer, all: &[Spelling]) -> Result<(), AllocError> {
-    out.open("strings")?;
+fn put_strings(out: &mut Writer, all: &[Spelling]) {
+    out.open("strings");
     for text in all {
-        put_word(out, text)?;
+        put_word(out, text);
     }
-    out.close()
+    out.close();
 }
 
 /// A name or a constant.
-fn put_leaf(out: &mut Writer, node: &Expression) -> Result<(), AllocError> {
+fn put_leaf(out: &mut Writer, node: &Expression) {
     match node {
         Expression::Name(name) => put_word(out, name),
         Expression::Number(_, value, kind) => put_number(out, *value, *kind),
         Expression::Character(_, value) => {
-            out.open("character")?;
-            put_number(out, *value, IntKind::Int)?;
-            out.close()
+            out.open("character");
+            put_number(out, *value, IntKind::Int);
+            out.close();
         }
         Expression::Texts(all) => put_strings(out, all.as_slice()),
-        _ => Ok(()),
+        _ => {}
     }
 }
 
@@ -84,21 +83,21 @@ fn head_of(node: &Expression) -> Option<&'static str> {
 }
 
 #[cycle(expression_text)]
-pub fn put_expression(out: &mut Writer, expression: &Expression) -> Result<(), AllocError> {
-    out.place(first_of_expression(expression))?;
+pub fn put_expression(out: &mut Writer, expression: &Expression) {
+    out.place(first_of_expression(expression));
     match head_of(expression) {
         None => put_leaf(out, expression),
         Some(head) => {
-            out.open(head)?;
-            put_parts(out, expression)?;
-            out.close()
+            out.open(head);
+            put_parts(out, expression);
+            out.close();
         }
     }
 }
 
 /// The parts of an expression that has parts.
 #[cycle(expression_text)]
-fn put_parts(out: &mut Writer, node: &Expression) -> Result<(), AllocError> {
+fn put_parts(out: &mut Writer, node: &Expression) {
     match node {
         Expression::Name(_)
         | Expression::Number(_, _, _)
@@ -108,62 +107,58 @@ fn put_parts(out: &mut Writer, node: &Expression) -> Result<(), AllocError> {
         | Expression::Post(a, _, _)
         | Expression::Pre(_, _, a)
         | Expression::Unary(_, _, a)
-        | Expression::SizeofExpression(_, a) => put_expression(out, a.get())?,
+        | Expression::SizeofExpression(_, a) => put_expression(out, a.get()),
         Expression::Dot(a, _, name) | Expression::Arrow(a, _, name) => {
-            put_expression(out, a.get())?;
-            put_word(out, name)?;
+            put_expression(out, a.get());
+            put_word(out, name);
         }
-        Expression::SizeofType(_, _, type_name, _) => put_type_name(out, type_name)?,
+        Expression::SizeofType(_, _, type_name, _) => put_type_name(out, type_name),
         Expression::Cast(_, type_name, _, a) => {
-            put_type_name(out, type_name)?;
-            put_expression(out, a.get())?;
+            put_type_name(out, type_name);
+            put_expression(out, a.get());
         }
         Expression::Index(a, _, b, _)
         | Expression::Binary(a, _, _, b)
         | Expression::Assign(a, _, _, b)
         | Expression::Comma(a, _, b) => {
-            put_expression(out, a.get())?;
-            put_expression(out, b.get())?;
+            put_expression(out, a.get());
+            put_expression(out, b.get());
         }
         Expression::Cond(a, _, b, _, c) => {
-            put_expression(out, a.get())?;
-            put_expression(out, b.get())?;
-            put_expression(out, c.get())?;
+            put_expression(out, a.get());
+            put_expression(out, b.get());
+            put_expression(out, c.get());
         }
         Expression::Call(callee, _, all, _) => {
-            put_expression(out, callee.get())?;
-            put_list(out, all.as_slice())?;
+            put_expression(out, callee.get());
+            put_list(out, all.as_slice());
         }
         Expression::Braces(_, all, last, _) => {
-            put_list(out, all.as_slice())?;
-            put_last_comma(out, *last)?;
+            put_list(out, all.as_slice());
+            put_last_comma(out, *last);
         }
     }
-    Ok(())
 }
 
 /// A comma, where one stands after the last of a list.
-fn put_last_comma(out: &mut Writer, comma: Option<u32>) -> Result<(), AllocError> {
+fn put_last_comma(out: &mut Writer, comma: Option<u32>) {
     match comma {
-        None => Ok(()),
+        None => {}
         Some(_) => out.word(","),
     }
 }
 
 /// Arguments, or initializers in braces.
 #[cycle(expression_text)]
-fn put_list(out: &mut Writer, all: &[Argument]) -> Result<(), AllocError> {
+fn put_list(out: &mut Writer, all: &[Argument]) {
     for item in all {
-        put_expression(out, &item.value)?;
+        put_expression(out, &item.value);
     }
-    Ok(())
 }
 
 /// An expression, where there is one.
-pub fn put_optional_expression(
-    out: &mut Writer,
-    expression: &Option<Boxed<Expression>>,
-) -> Result<(), AllocError> {
+#[cycle(expression_text)]
+pub fn put_optional_expression(out: &mut Writer, expression: &Option<Boxed<Expression>>) {
     match expression {
         None => out.word(NOTHING),
         Some(expression) => put_expression(out, expression.get()),
@@ -172,155 +167,140 @@ pub fn put_optional_expression(
 
 /// A type name: specifiers and an abstract declarator or none.
 #[cycle(expression_text)]
-fn put_type_name(out: &mut Writer, type_name: &TypeName) -> Result<(), AllocError> {
-    out.open("")?;
-    put_specifiers(out, type_name.specifiers.as_slice())?;
+fn put_type_name(out: &mut Writer, type_name: &TypeName) {
+    out.open("");
+    put_specifiers(out, type_name.specifiers.as_slice());
     if let Some(declarator) = &type_name.declarator {
-        put_declarator(out, declarator.get())?;
+        put_declarator(out, declarator.get());
     }
-    out.close()
+    out.close();
 }
 
 #[cycle(expression_text)]
-pub fn put_specifiers(out: &mut Writer, all: &[Specifier]) -> Result<(), AllocError> {
+pub fn put_specifiers(out: &mut Writer, all: &[Specifier]) {
     for specifier in all {
-        put_specifier(out, specifier)?;
+        put_specifier(out, specifier);
     }
-    Ok(())
 }
 
 /// The keyword and the tag or none of a `struct` or an `enum`.
-fn open_tagged(out: &mut Writer, keyword: &str, tag: &Option<Spelling>) -> Result<(), AllocError> {
-    out.open(keyword)?;
+fn open_tagged(out: &mut Writer, keyword: &str, tag: &Option<Spelling>) {
+    out.open(keyword);
     match tag {
-        None => Ok(()),
+        None => {}
         Some(tag) => put_word(out, tag),
     }
 }
 
 #[cycle(expression_text)]
-fn put_specifier(out: &mut Writer, specifier: &Specifier) -> Result<(), AllocError> {
-    out.place(first_of_specifier(specifier))?;
+fn put_specifier(out: &mut Writer, specifier: &Specifier) {
+    out.place(first_of_specifier(specifier));
     match specifier {
         Specifier::Keyword(of, _) => out.word(specifier_text(*of)),
         Specifier::Typename(name) => out.type_name(name.text.as_slice()),
         Specifier::Struct(_, tag) => {
-            out.open("struct")?;
-            put_word(out, tag)?;
-            out.close()
+            out.open("struct");
+            put_word(out, tag);
+            out.close();
         }
         Specifier::Enum(_, tag) => {
-            out.open("enum")?;
-            put_word(out, tag)?;
-            out.close()
+            out.open("enum");
+            put_word(out, tag);
+            out.close();
         }
         Specifier::StructBody(_, tag, _, all, _) => {
-            open_tagged(out, "struct", tag)?;
-            out.word("{")?;
-            put_member_declarations(out, all.as_slice())?;
-            out.word("}")?;
-            out.close()
+            open_tagged(out, "struct", tag);
+            out.word("{");
+            put_member_declarations(out, all.as_slice());
+            out.word("}");
+            out.close();
         }
         Specifier::EnumBody(_, tag, _, all, last, _) => {
-            open_tagged(out, "enum", tag)?;
-            out.word("{")?;
-            put_enumerators(out, all.as_slice())?;
-            put_last_comma(out, *last)?;
-            out.word("}")?;
-            out.close()
+            open_tagged(out, "enum", tag);
+            out.word("{");
+            put_enumerators(out, all.as_slice());
+            put_last_comma(out, *last);
+            out.word("}");
+            out.close();
         }
     }
 }
 
 /// The member declarations of a struct, each with its specifiers and its declarators.
 #[cycle(expression_text)]
-fn put_member_declarations(out: &mut Writer, all: &[MemberDeclaration]) -> Result<(), AllocError> {
+fn put_member_declarations(out: &mut Writer, all: &[MemberDeclaration]) {
     for member in all {
         let specifiers = member.specifiers.as_slice();
-        out.place(first_of_specifiers(specifiers))?;
-        out.open("")?;
-        put_specifiers(out, specifiers)?;
+        out.place(first_of_specifiers(specifiers));
+        out.open("");
+        put_specifiers(out, specifiers);
         for one in member.declarators.as_slice() {
-            put_declarator(out, &one.declarator)?;
+            put_declarator(out, &one.declarator);
         }
-        out.close()?;
+        out.close();
     }
-    Ok(())
 }
 
 /// Names, or `=`, a name and its value.
 #[cycle(expression_text)]
-fn put_enumerators(out: &mut Writer, all: &[Enumerator]) -> Result<(), AllocError> {
+fn put_enumerators(out: &mut Writer, all: &[Enumerator]) {
     for enumerator in all {
-        out.place(enumerator.name.from)?;
+        out.place(enumerator.name.from);
         match &enumerator.value {
-            None => put_word(out, &enumerator.name)?,
+            None => put_word(out, &enumerator.name),
             Some(value) => {
-                out.open("=")?;
-                put_word(out, &enumerator.name)?;
-                put_expression(out, value.value.get())?;
-                out.close()?;
+                out.open("=");
+                put_word(out, &enumerator.name);
+                put_expression(out, value.value.get());
+                out.close();
             }
         }
     }
-    Ok(())
 }
 
 /// `*`, and `const` as often as it stands there.
-fn open_pointer(out: &mut Writer, times: usize) -> Result<(), AllocError> {
-    out.open("*")?;
+fn open_pointer(out: &mut Writer, times: usize) {
+    out.open("*");
     for _ in 0..times {
-        out.word("const")?;
-    }
-    Ok(())
-}
-
-/// Where a declarator that has a token begins.
-fn place_of_declarator(declarator: &Declarator) -> At {
-    match declarator {
-        Declarator::Identifier(name) => name.from,
-        Declarator::Pointer(at, _, _) | Declarator::Enclosed(at, _, _) => *at,
-        Declarator::Array(inner, left, _, _) | Declarator::Function(inner, left, _, _) => {
-            first_of_declarator(inner, *left)
-        }
+        out.word("const");
     }
 }
 
 #[cycle(expression_text)]
-pub fn put_declarator(out: &mut Writer, declarator: &Declarator) -> Result<(), AllocError> {
-    out.place(place_of_declarator(declarator))?;
+pub fn put_declarator(out: &mut Writer, declarator: &Declarator) {
+    out.place(first_of_declarator(declarator));
     match declarator {
-        Declarator::Identifier(name) => return put_word(out, name),
+        Declarator::Identifier(name) => put_word(out, name),
         Declarator::Enclosed(_, inner, _) => {
-            out.open("paren")?;
-            put_declarator(out, inner.get())?;
+            out.open("paren");
+            put_declarator(out, inner.get());
+            out.close();
         }
         Declarator::Pointer(_, consts, inner) => {
-            open_pointer(out, consts.len())?;
+            open_pointer(out, consts.len());
             if let Some(inner) = inner {
-                put_declarator(out, inner.get())?;
+                put_declarator(out, inner.get());
             }
+            out.close();
         }
         Declarator::Array(inner, _, length, _) => {
-            out.open("array")?;
-            put_inner(out, inner)?;
-            match length {
-                None => out.word(NOTHING)?,
-                Some(length) => put_expression(out, length.get())?,
-            }
+            out.open("array");
+            put_inner(out, inner);
+            put_optional_expression(out, length);
+            out.close();
         }
         Declarator::Function(inner, _, parameters, _) => {
-            out.open("function")?;
-            put_inner(out, inner)?;
-            put_parameters(out, parameters)?;
+            out.open("function");
+            put_inner(out, inner);
+            put_parameters(out, parameters);
+            out.close();
         }
     }
-    out.close()
 }
 
 /// What an array or a function is of, where it has a declarator.
 #[cycle(expression_text)]
-fn put_inner(out: &mut Writer, declarator: &Option<Boxed<Declarator>>) -> Result<(), AllocError> {
+fn put_inner(out: &mut Writer, declarator: &Option<Boxed<Declarator>>) {
     match declarator {
         None => out.word(NOTHING),
         Some(declarator) => put_declarator(out, declarator.get()),
@@ -329,7 +309,7 @@ fn put_inner(out: &mut Writer, declarator: &Option<Boxed<Declarator>>) -> Result
 
 /// `void`, or each parameter with its specifiers and its declarator or none.
 #[cycle(expression_text)]
-fn put_parameters(out: &mut Writer, parameters: &Parameters) -> Result<(), AllocError> {
+fn put_parameters(out: &mut Writer, parameters: &Parameters) {
     match parameters {
         Parameters::Void(_) => out.word("void"),
         Parameters::Listed(all) => put_listed(out, all.as_slice()),
@@ -337,14 +317,13 @@ fn put_parameters(out: &mut Writer, parameters: &Parameters) -> Result<(), Alloc
 }
 
 #[cycle(expression_text)]
-fn put_listed(out: &mut Writer, all: &[Parameter]) -> Result<(), AllocError> {
+fn put_listed(out: &mut Writer, all: &[Parameter]) {
     for parameter in all {
-        out.open("")?;
-        put_specifiers(out, parameter.specifiers.as_slice())?;
+        out.open("");
+        put_specifiers(out, parameter.specifiers.as_slice());
         if let Some(declarator) = &parameter.declarator {
-            put_declarator(out, declarator.get())?;
+            put_declarator(out, declarator.get());
         }
-        out.close()?;
+        out.close();
     }
-    Ok(())
 }

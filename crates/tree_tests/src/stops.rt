@@ -1,14 +1,9 @@
 //! Where reading stops: the first token that cannot stand where it does, or the end of the file. The
 //! bytes were counted by hand.
 
-ghost use Rattle.std.specs.Prelude.{◌≤◌, length};
-ghost use Rattle.c_lexer.specs.Lexes.{Lexes};
-
-use crate::answer::FILE;
-use c_lexer::{Tokens, lex};
-use c_parser::{ParseFault, parse};
-use std::alloc::Global;
-use std::test::Fail;
+use crate::answer::{Answer, FILE, what_becomes_of};
+use c_parser::ParseFault;
+use lay_base::Place;
 
 /// Texts that have no tree, and the byte of the token that is named.
 static STOPS: &[(&str, u32)] = &[
@@ -28,44 +23,18 @@ static STOPS: &[(&str, u32)] = &[
     ("typedef int T; int f(void) { return T; }", 36),
 ];
 
-/// The byte of the place of the file that a fault names.
-fn stop_in(fault: ParseFault) -> Option<u32> {
-    match fault {
-        ParseFault::NoParse(place) if place.file == FILE => Some(place.at),
-        _ => None,
-    }
-}
-
-/// The byte of the place that is named where tokens have no tree.
-fn stop_of_tokens(alloc: Global, tokens: &Tokens) -> Option<u32>
-    requires short { length tokens.now.bytes ≤ 4194304 }
-    requires tokens { Lexes tokens.now.bytes tokens.now.list }
-{
-    match parse(alloc, tokens) {
-        Ok(_) => None,
-        Err(fault) => stop_in(fault),
-    }
-}
-
-/// The byte of the place that is named where a text has no tree.
-fn stop_of(alloc: Global, text: &[u8]) -> Option<u32> {
-    if text.len() > 4_194_304 {
-        return None;
-    }
-    match lex(alloc, text, FILE) {
-        Ok(tokens) => stop_of_tokens(alloc, &tokens),
-        Err(_) => None,
-    }
+/// The answer that a text is no file's, with the token at that byte.
+fn stops_at(at: u32) -> Answer {
+    Answer::Fault(ParseFault::NoParse(Place { file: FILE, at }))
 }
 
 #[test]
-fn no_parse_names_the_token_that_cannot_stand_there(rt: HostRuntime) -> Result<(), Fail> {
+fn no_parse_names_the_token_that_cannot_stand_there(rt: HostRuntime) {
     for (text, at) in STOPS {
         assert_eq!(rt;
-            stop_of(rt.alloc(), text.as_bytes()),
-            Some(*at),
+            what_becomes_of(rt.alloc(), text.as_bytes()),
+            stops_at(*at),
             "at {text}"
         );
     }
-    Ok(())
 }

@@ -1,19 +1,16 @@
-use Rattle.std.proofs.Common.{◌≡◌, ◌+◌, drop}
-use Rattle.std.specs.Prelude.{map, max}
+use Rattle.std.proofs.Common.{drop}
+use Rattle.std.specs.Prelude.{map}
 use Rattle.c_ast.specs.Sizes.{size_block_items, size_switch_items}
 use Rattle.c_ast.specs.Views.{block_item_of, block_items_of, switch_item_of, switch_items_of}
+use Rattle.c_ast.proofs.Joining.{Joins}
 use Rattle.c_ast.proofs.measuring.+statement_sizes.Given as goal
 
 abbrev pub invariant-block_items_size-loop-block_item : goal.invariant-block_items_size-loop-block_item
 invariant-block_items_size-loop-block_item l =
-    (max l.size.depth (size_block_items (block_items_of (map block_item_of (drop l.block_item-index l.all)))).depth
-    ≡ (size_block_items (block_items_of (map block_item_of l.all))).depth)
-    × (l.size.nodes + (size_block_items (block_items_of (map block_item_of (drop l.block_item-index l.all)))).nodes
-    ≡ (size_block_items (block_items_of (map block_item_of l.all))).nodes)
+    Joins l.size (size_block_items (block_items_of (map block_item_of (drop l.block_item-index l.all))))
+    (size_block_items (block_items_of (map block_item_of l.all)))
 
 abbrev pub invariant-switch_items_size-loop-switch_item : goal.invariant-switch_items_size-loop-switch_item
 invariant-switch_items_size-loop-switch_item l =
-    (max l.size.depth (size_switch_items (switch_items_of (map switch_item_of (drop l.switch_item-index l.all)))).depth
-    ≡ (size_switch_items (switch_items_of (map switch_item_of l.all))).depth)
-    × (l.size.nodes + (size_switch_items (switch_items_of (map switch_item_of (drop l.switch_item-index l.all)))).nodes
-    ≡ (size_switch_items (switch_items_of (map switch_item_of l.all))).nodes)
+    Joins l.size (size_switch_items (switch_items_of (map switch_item_of (drop l.switch_item-index l.all))))
+    (size_switch_items (switch_items_of (map switch_item_of l.all)))

@@ -1,10 +1,9 @@
-use Rattle.std.proofs.Common.{◌≡◌, ◌+◌, drop}
-use Rattle.std.specs.Prelude.{map, max}
+use Rattle.std.proofs.Common.{drop}
+use Rattle.std.specs.Prelude.{map}
 use Rattle.c_ast.specs.Sizes.{size_labels}
 use Rattle.c_ast.specs.Views.{label_of}
+use Rattle.c_ast.proofs.Joining.{Joins}
 use Rattle.c_ast.proofs.measuring.labels_size.Given as goal
 
 abbrev pub invariant-loop-label : goal.invariant-loop-label
-invariant-loop-label l =
-    (max l.size.depth (size_labels (map label_of (drop l.label-index l.all))).depth ≡ (size_labels (map label_of l.all)).depth)
-    × (l.size.nodes + (size_labels (map label_of (drop l.label-index l.all))).nodes ≡ (size_labels (map label_of l.all)).nodes)
+invariant-loop-label l = Joins l.size (size_labels (map label_of (drop l.label-index l.all))) (size_labels (map label_of l.all))

@@ -1,4 +1,4 @@
-use Rattle.std.proofs.Common.{rules, sym, ◌∙◌}
+use Rattle.std.proofs.Common.{sym, ◌∙◌}
 use Rattle.c_lexer.proofs.Exactness.{parts_are_exact}
 use Rattle.c_lexer.proofs.LinesOfParts.{read_more, cut_small}
 use Rattle.c_lexer.proofs.presuming.after_next.Goals as goal

@@ -1,4 +1,3 @@
-use Rattle.c_grammar.proofs.OneTree.{one_tree}
 use Rattle.c_parser.proofs.FileTrees.{one_file_tree}
 use Rattle.c_parser.proofs.laws.files_have_one_tree.Goals as goal
 

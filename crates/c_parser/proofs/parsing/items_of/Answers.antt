@@ -1,4 +1,4 @@
-use Rattle.std.proofs.Common.{rules, map, length, refl}
+use Rattle.std.proofs.Common.{rules, map, refl}
 use Rattle.c_ast.specs.Views.{item_of}
 use Rattle.c_parser.proofs.ItemRounds.{items_end, items_out, items_fail, items_go, some_tokens, no_tokens}
 use Rattle.c_parser.proofs.parsing.items_of.Goals as goal

@@ -1,4 +1,3 @@
-use Rattle.std.proofs.Common.{◌≡◌}
 use Rattle.token_tests.proofs.presumed_lines.has_lines.Goals as goal
 
 -- src/presumed_lines.rt:71:23

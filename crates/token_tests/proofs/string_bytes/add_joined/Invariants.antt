@@ -1,4 +1,4 @@
-use Rattle.std.proofs.Common.{◌≡◌, ℕ, length}
+use Rattle.std.proofs.Common.{◌≡◌, length}
 use Rattle.c_lexer.specs.TokenTexts.{HaveTexts}
 use Rattle.token_tests.proofs.string_bytes.add_joined.Given as goal
 

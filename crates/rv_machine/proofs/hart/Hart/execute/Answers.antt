@@ -1,7 +1,9 @@
-use Rattle.std.proofs.Common.{rules}
-use Rattle.rv_isa.specs.declared.instruction.Inst.TheVariants.{Sh, Sw}
+use Rattle.std.proofs.Common.{◌≡◌, refl, rules}
+use Rattle.rv_isa.specs.declared.instruction.Inst.TheVariants.{Lui, Auipc, Jal, Jalr, Beq, Bne, Blt, Bge, Bltu, Bgeu, Lb, Lh, Lw, Lbu, Lhu, Sb, Sh}
+use Rattle.rv_isa.specs.declared.instruction.Inst.TheVariants.{Sw, Addi, Slti, Sltiu, Xori, Ori, Andi, Slli, Srli, Srai, Fence, Ecall, Ebreak}
 use Rattle.rv_isa.specs.Step.{executed}
-use Rattle.rv_machine.specs.Harts.{Executes, places_of, state_of}
+use Rattle.rv_machine.specs.Harts.{Executes, HasOpcode, places_of, state_of}
+use Rattle.rv_machine.proofs.Performing.{performs}
 use Rattle.rv_machine.proofs.hart.Hart.execute.Goals as goal
 
 pub returns-in-Sh-clause-moved : goal.returns-in-Sh-clause-moved
@@ -17,3 +19,46 @@ returns-in-Sw-clause-moved c =
     (executed (places_of c.args.self.now) (state_of c.args.self.now) (Sw c.in-Sw.rs1 c.in-Sw.rs2 c.in-Sw.imm)) c.store_word.result =
     search rules in
     rw c.in-Sw.is moved
+
+-- what no arm above takes has two registers
+pub compute-requires-clause-opcode : goal.compute-requires-clause-opcode
+compute-requires-clause-opcode c =
+    let other = c.in_default in
+    elim c.args.inst as (λ i. c.args.inst ≡ i → HasOpcode 0x33 i) [
+      | Lui rd imm ↦ λ e. absurd (other.not-Lui rd imm e)
+      | Auipc rd imm ↦ λ e. absurd (other.not-Auipc rd imm e)
+      | Jal rd imm ↦ λ e. absurd (other.not-Jal rd imm e)
+      | Jalr rd rs1 imm ↦ λ e. absurd (other.not-Jalr rd rs1 imm e)
+      | Beq rs1 rs2 imm ↦ λ e. absurd (other.not-Beq rs1 rs2 imm e)
+      | Bne rs1 rs2 imm ↦ λ e. absurd (other.not-Bne rs1 rs2 imm e)
+      | Blt rs1 rs2 imm ↦ λ e. absurd (other.not-Blt rs1 rs2 imm e)
+      | Bge rs1 rs2 imm ↦ λ e. absurd (other.not-Bge rs1 rs2 imm e)
+      | Bltu rs1 rs2 imm ↦ λ e. absurd (other.not-Bltu rs1 rs2 imm e)
+      | Bgeu rs1 rs2 imm ↦ λ e. absurd (other.not-Bgeu rs1 rs2 imm e)
+      | Lb rd rs1 imm ↦ λ e. absurd (other.not-Lb rd rs1 imm e)
+      | Lh rd rs1 imm ↦ λ e. absurd (other.not-Lh rd rs1 imm e)
+      | Lw rd rs1 imm ↦ λ e. absurd (other.not-Lw rd rs1 imm e)
+      | Lbu rd rs1 imm ↦ λ e. absurd (other.not-Lbu rd rs1 imm e)
+      | Lhu rd rs1 imm ↦ λ e. absurd (other.not-Lhu rd rs1 imm e)
+      | Sb rs1 rs2 imm ↦ λ e. absurd (other.not-Sb rs1 rs2 imm e)
+      | Sh rs1 rs2 imm ↦ λ e. absurd (other.not-Sh rs1 rs2 imm e)
+      | Sw rs1 rs2 imm ↦ λ e. absurd (other.not-Sw rs1 rs2 imm e)
+      | Addi rd rs1 imm ↦ λ e. absurd (other.not-Addi rd rs1 imm e)
+      | Slti rd rs1 imm ↦ λ e. absurd (other.not-Slti rd rs1 imm e)
+      | Sltiu rd rs1 imm ↦ λ e. absurd (other.not-Sltiu rd rs1 imm e)
+      | Xori rd rs1 imm ↦ λ e. absurd (other.not-Xori rd rs1 imm e)
+      | Ori rd rs1 imm ↦ λ e. absurd (other.not-Ori rd rs1 imm e)
+      | Andi rd rs1 imm ↦ λ e. absurd (other.not-Andi rd rs1 imm e)
+      | Slli rd rs1 imm ↦ λ e. absurd (other.not-Slli rd rs1 imm e)
+      | Srli rd rs1 imm ↦ λ e. absurd (other.not-Srli rd rs1 imm e)
+      | Srai rd rs1 imm ↦ λ e. absurd (other.not-Srai rd rs1 imm e)
+      | Fence rd rs1 imm ↦ λ e. absurd (other.not-Fence rd rs1 imm e)
+      | Ecall ↦ λ e. absurd (other.not-Ecall e)
+      | Ebreak ↦ λ e. absurd (other.not-Ebreak e)
+      | _ ↦ λ e. refl
+    ] refl
+
+pub returns-in_default-clause-moved : goal.returns-in_default-clause-moved
+returns-in_default-clause-moved c =
+    performs (places_of c.args.self.now) (state_of c.args.self.now) (state_of c.compute.new.self) c.args.inst c.compute.result c.in_default.not-Ecall
+    c.compute.ensures.moved

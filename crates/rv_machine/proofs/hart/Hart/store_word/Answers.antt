@@ -9,7 +9,7 @@ use Rattle.rv_machine.proofs.hart.Hart.store_word.Goals as goal
 pub returns-then-store_word-clause-moved : goal.returns-then-store_word-clause-moved
 returns-then-store_word-clause-moved c =
     let a : c.address-address.result ≡ plus (slice_index c.args.self.now.registers c.args.rs1) c.args.imm = search rules in
-    let v : c.register-value.result ≡ slice_index c.args.self.now.registers c.args.rs2 = c.register-value.ensures in
+    let v : c.get-value.result ≡ slice_index c.args.self.now.registers c.args.rs2 = c.get-value.ensures in
     rw (← a, ← v)
-    (store_moves (places_of c.args.self.now) (state_of c.args.self.now) with_word c.address-address.result c.register-value.result 4 _
+    (store_moves (places_of c.args.self.now) (state_of c.args.self.now) with_word c.address-address.result c.get-value.result 4 _
     c.if-address-ne0.false c.if-store_word.ensures.mapped c.if-store_word.ensures.content)
