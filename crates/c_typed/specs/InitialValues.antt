@@ -81,8 +81,8 @@ module _ (d : Declared) where
     address_in_node t (Trees.decay p) = address_of_path p
     address_in_node t (Trees.convert e written) = if is_pointer t then address_in e else None
     address_in_node t (Trees.pointer_add op x y) = if is_pointer (ty x)
-      then moved (address_in x) (or_negated op (number_in (ty y) (constant_of y))) (element_size d.records t)
-      else moved (address_in y) (number_in (ty x) (constant_of x)) (element_size d.records t)
+        then moved (address_in x) (or_negated op (number_in (ty y) (constant_of y))) (element_size d.records t)
+        else moved (address_in y) (number_in (ty x) (constant_of x)) (element_size d.records t)
     address_in_node t node = None
 
   -- a function's address, converted or not

@@ -4,11 +4,18 @@
 //! checker is said of these programs.
 #![tactic(auto)]
 
+mod arithmetic;
+mod conversions;
 mod expression;
 mod operators;
 mod program;
 mod statement;
 
+pub use arithmetic::{binary_value, holds, unary_value};
+pub use conversions::{
+    adjusted, as_kind, common_kind, is_array, is_function, is_integer, is_pointer, is_record,
+    is_scalar, is_signed, promoted_kind,
+};
 pub use expression::{Expression, ExpressionNode, Path, PathNode, TypeId};
 pub use operators::{BinaryOp, CompareOp, LibraryFunction, PointerOp, StepOp, UnaryOp};
 pub use program::{
