@@ -13,3 +13,4 @@ pub mod Typed
 pub mod Parts
 pub mod InitialValues
 pub mod TypedStatements
+pub mod Answers

@@ -1,6 +1,6 @@
 //! Sorts of types, and what conversions make of types and values.
 
-ghost use Rattle.std.specs.Prelude.{◌≡◌, IfOk};
+ghost use Rattle.std.specs.Prelude.{◌≡◌, IfOk, IsTrue, OnErr};
 ghost use Rattle.c_types.specs.Views.{type_of};
 ghost use Rattle.c_typed.specs.Conversions.{adjusted, as_kind, common_kind, common_promoted, is_signed, promoted_kind, sign_extended};
 ghost use Rattle.c_typed.specs.Conversions.{is_array, is_function, is_integer, is_pointer, is_record, is_scalar};
@@ -124,7 +124,8 @@ pub fn as_kind(kind: IntKind, v: u32) -> u32
 /// What a type becomes as that of a value or a parameter (C99 6.3.2.1, 6.7.5.3): an array becomes a pointer to its first element, and
 /// a function a pointer to it. `NoMemory` comes for functions alone.
 pub fn adjusted(alloc: Global, t: Ty) -> Result<Ty, NoMemory>
-    ensures { IfOk result (λ it. type_of it ≡ adjusted (type_of t)) }
+    ensures value { IfOk result (λ it. type_of it ≡ adjusted (type_of t)) }
+    ensures refusal { OnErr result (IsTrue (is_function (type_of t))) }
 {
     match t {
         Ty::Array(element, _) => Ok(Ty::Pointer(element)),
