@@ -1,1 +1,2 @@
 pub mod TypeLists
+pub mod Nulls

@@ -6,7 +6,7 @@ use Rattle.c_types.specs.declared.ty.Ty.{Ty}
 use Rattle.c_types.specs.Types.{CType, void}
 use Rattle.c_types.specs.Views.{type_of}
 use Rattle.c_typed.specs.declared.expression.Expression.{Expression, the_lemmas}
-use Rattle.c_typed.specs.Answers.{or_void, type_at, with_types}
+use Rattle.c_typed.specs.TypeNumbers.{or_void, type_at, with_types}
 use Rattle.c_typed.specs.Constants.{ty}
 
 type_of_expression : (types : List Ty) (e : Expression) → ty (with_types types e) ≡ type_at (map type_of types) e.ty

@@ -13,4 +13,5 @@ pub mod Typed
 pub mod Parts
 pub mod InitialValues
 pub mod TypedStatements
-pub mod Answers
+pub mod AnswerViews
+pub mod TypeNumbers

@@ -1,11 +1,13 @@
 //! Integer constant expressions (C99 6.6), and null pointer constants (6.3.2.3), among typed expressions.
 
 ghost use Rattle.std.specs.Prelude.{◌≡◌, slice_get};
-ghost use Rattle.std.specs.Option.{option_copied};
-ghost use Rattle.c_typed.specs.Answers.{constant_view, is_void_pointer, or_void, with_types};
+ghost use Rattle.std.specs.Option.{option_copied, option_map};
+ghost use Rattle.c_typed.specs.AnswerViews.{constant_view};
 ghost use Rattle.c_typed.specs.Arithmetic.{binary_value, holds, truth};
 ghost use Rattle.c_typed.specs.Constants.{chosen, constant_of, converted_constant, decided_by, is_null, is_zero, kind_of, negated, of_value};
 ghost use Rattle.c_typed.specs.Constants.{ty, unary_constant, valued, with_both};
+ghost use Rattle.c_typed.specs.TypeNumbers.{is_void_pointer, or_void, with_types, written_cast};
+ghost use Rattle.c_typed.specs.Views.{expression_of};
 
 use crate::conversions::as_kind;
 use crate::expression::{Expression, ExpressionNode, TypeId};
@@ -125,7 +127,7 @@ fn chosen(c: Constant, d: Constant, e: Constant) -> Constant
     }
 }
 
-/// The kind of an integer type, and `int` of any other. No type is `void`.
+/// The kind of an integer type, and `int` of any other, or of none.
 fn kind_of(t: Option<&Ty>) -> IntKind
     ensures { result ≡ kind_of (or_void (option_copied t.entry)) }
 {
@@ -135,7 +137,7 @@ fn kind_of(t: Option<&Ty>) -> IntKind
     }
 }
 
-/// A constant converted to a type (C99 6.3.1.3): none where it is no integer type.
+/// A constant converted to a type (C99 6.3.1.3): it is none where that is no integer type.
 fn converted_constant(t: Option<&Ty>, c: Constant) -> Constant
     ensures { constant_view result ≡ converted_constant (or_void (option_copied t.entry)) (constant_view c) }
 {
@@ -223,15 +225,29 @@ pub fn constant_of(types: &[Ty], e: &Expression) -> Constant
     }
 }
 
+/// The operand of a cast that is written; none of any other expression.
+fn written_cast(e: &Expression) -> Option<&Expression>
+    ensures { option_map expression_of (option_copied result) ≡ written_cast (expression_of e.now) }
+{
+    match &e.node {
+        ExpressionNode::Convert(x, true) => Some(x.get()),
+        _ => None,
+    }
+}
+
 /// Whether an expression, whose types are numbered in a list, is a null pointer constant (C99 6.3.2.3): an integer constant expression
 /// of value 0, or one that is cast to `void *`.
 pub fn is_null(types: &[Ty], e: &Expression) -> bool
     ensures { result ≡ is_null (with_types types.now e.now) }
 {
-    match &e.node {
-        ExpressionNode::Convert(x, true) if is_void_pointer(ty(types, e)) => {
-            is_zero(constant_of(types, x.get()))
+    match written_cast(e) {
+        Some(operand) => {
+            if is_void_pointer(ty(types, e)) {
+                is_zero(constant_of(types, operand))
+            } else {
+                is_zero(constant_of(types, e))
+            }
         }
-        _ => is_zero(constant_of(types, e)),
+        None => is_zero(constant_of(types, e)),
     }
 }

@@ -4,7 +4,7 @@ ghost use Rattle.std.specs.Prelude.{◌≡◌};
 ghost use Rattle.std.specs.Option.{option_map};
 ghost use Rattle.c_types.specs.Types.{pointer};
 ghost use Rattle.c_types.specs.Views.{type_of};
-ghost use Rattle.c_typed.specs.Answers.{met_type};
+ghost use Rattle.c_typed.specs.AnswerViews.{met_type};
 ghost use Rattle.c_typed.specs.Fits.{assigns, casts, compared, is_void, is_void_and_object, meeting, met, ordered};
 
 use crate::conversions::is_function;

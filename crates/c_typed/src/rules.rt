@@ -5,7 +5,7 @@ ghost use Rattle.std.specs.Prelude.{◌≡◌};
 ghost use Rattle.std.specs.Option.{option_map};
 ghost use Rattle.c_types.specs.Types.{integer};
 ghost use Rattle.c_types.specs.Views.{type_of};
-ghost use Rattle.c_typed.specs.Answers.{common_type, kinds_type};
+ghost use Rattle.c_typed.specs.AnswerViews.{common_type, operand_types};
 ghost use Rattle.c_typed.specs.Rules.{arithmetic, choosing, comparing, differing, is_move, is_shift, is_stepped, moving, on_numbers};
 ghost use Rattle.c_typed.specs.Rules.{points_to_object, promoting, updating};
 
@@ -62,7 +62,7 @@ pub fn is_shift(op: BinaryOp) -> bool
 /// The types to which the operands of a binary operator on numbers are converted (C99 6.5.5 to 6.5.7, 6.5.10 to 6.5.12): those of a
 /// shift are promoted each for itself. None where one is no number.
 pub fn on_numbers(op: BinaryOp, s: &Ty, t: &Ty) -> Option<OperandKinds>
-    ensures { option_map kinds_type result ≡ on_numbers op (type_of s.now) (type_of t.now) }
+    ensures { option_map operand_types result ≡ on_numbers op (type_of s.now) (type_of t.now) }
 {
     if is_shift(op) {
         let left = promoting(s)?;
