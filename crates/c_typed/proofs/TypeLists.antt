@@ -1,9 +1,9 @@
 -- The type of an expression, by its number.
-use Rattle.std.proofs.Common.{◌≡◌, ◌∙◌, ℕ, List, Option, map, ap, sym, rules}
+use Rattle.std.proofs.Common.{◌≡◌, ◌∙◌, List, Option, map, ap, sym, rules}
 use Rattle.std.specs.Prelude.{slice_get, unwrap_or}
 use Rattle.std.proofs.lemmas.Option.{slice_get-map}
 use Rattle.c_types.specs.declared.ty.Ty.{Ty}
-use Rattle.c_types.specs.Types.{CType, void}
+use Rattle.c_types.specs.Types.{void}
 use Rattle.c_types.specs.Views.{type_of}
 use Rattle.c_typed.specs.declared.expression.Expression.{Expression, the_lemmas}
 use Rattle.c_typed.specs.TypeNumbers.{or_void, type_at, with_types}
