@@ -133,7 +133,7 @@ IsNoTest (Some a) s f = IsNoCondition a s f
 
 abbrev pub IsBrokenStart : Trees.ForStart → Scope → Fault → Type 0
 IsBrokenStart (Trees.starts_with a semicolon) s f = IsBrokenIfAny a s f
-IsBrokenStart (Trees.declares d) s f = IsBrokenDeclaration d s f ⊎ ((f ≡ ill_typed R.Scope (first_specifiers d.specs)) × (storage_of d.specs ≡ is_static))
+IsBrokenStart (Trees.declares d) s f = IsBrokenDeclaration d s f ⊎ ((f ≡ ill_typed R.Specifiers (first_specifiers d.specs)) × (storage_of d.specs ≡ is_static))
 
 abbrev pub IsBrokenReturn : Option Trees.Expression → ℕ → Scope → (result : CType) → Fault → Type 0
 IsBrokenReturn None at s result f = (f ≡ ill_typed R.Return at) × (result ≢ void)

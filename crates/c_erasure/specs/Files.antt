@@ -122,9 +122,10 @@ AreFileDeclarators f words base (d ∷ more) semicolon = (x : Spelling) × (decl
 -- a declaration without a declarator declares a tag or enumerators (6.7)
 abbrev pub declares_tag : Trees.Specifiers → Bool
 declares_tag Trees.no_specifiers = false
-declares_tag (Trees.and_specifier (Trees.plain word at) more) = declares_tag more
-declares_tag (Trees.and_specifier (Trees.typename x) more) = false
-declares_tag (Trees.and_specifier s more) = true
+declares_tag (Trees.and_specifier (Trees.struct_named at x) more) = true
+declares_tag (Trees.and_specifier (Trees.struct_body at (Some x) left all right) more) = true
+declares_tag (Trees.and_specifier (Trees.enum_body at x left all comma right) more) = true
+declares_tag (Trees.and_specifier s more) = declares_tag more
 
 abbrev pub DeclaresSomething : Trees.Declaration → Type 0
 DeclaresSomething d = (d.all ≢ []) ⊎ (declares_tag d.specs ≡ true)

@@ -2,7 +2,7 @@
 -- notes are left out.
 use Rattle.std.specs.Prelude.{ℕ, Bool, true, false, if◌then◌else◌, Option, Some, None}
 use Rattle.c_types.specs.declared.ty.IntKind.TheVariants.{UInt}
-use Rattle.c_types.specs.Types.{CType, integer, pointer, structure}
+use Rattle.c_types.specs.Types.{CType, void, integer, pointer, structure}
 use Rattle.c_types.specs.Sameness.{same_type}
 use Rattle.c_typed.specs.declared.operators.BinaryOp.TheVariants.{Multiply}
 use Rattle.c_typed.specs.declared.operators.LibraryFunction.TheVariants.{Malloc, Calloc}
@@ -59,9 +59,14 @@ abbrev pub or_converted : ℕ → Option (Trees.OptionalExpression Noted × Bool
 or_converted r None e written = Trees.convert e written
 or_converted r (Some a) e written = Trees.allocate r a.0 a.1
 
+-- a null pointer constant: an integer that is converted to a pointer, or `(void *)0`
+abbrev pub is_null_constant : Expression → Bool
+is_null_constant (Trees.expression t at Trees.null) = same_type t.ty (pointer void)
+is_null_constant e = is_integer (type_of e)
+
 abbrev pub converted : CType → Expression → Bool → Node
-converted (pointer (structure r)) e written = if is_integer (type_of e) then Trees.null else or_converted r (allocation r e) e written
-converted (pointer t) e written = if is_integer (type_of e) then Trees.null else Trees.convert e written
+converted (pointer (structure r)) e written = if is_null_constant e then Trees.null else or_converted r (allocation r e) e written
+converted (pointer t) e written = if is_null_constant e then Trees.null else Trees.convert e written
 converted t e written = Trees.convert e written
 
 abbrev mutual

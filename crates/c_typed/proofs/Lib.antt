@@ -1,3 +1,5 @@
 mod ExamplesOfValues
 mod ExamplesOfFits
 mod ExamplesOfTyped
+pub mod TypeLists
+pub mod Nulls

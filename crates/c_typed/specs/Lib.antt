@@ -15,3 +15,5 @@ pub mod InitialValues
 pub mod TypedStatements
 pub mod Programs
 pub mod WellTyped
+pub mod AnswerViews
+pub mod TypeNumbers

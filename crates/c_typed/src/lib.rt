@@ -4,14 +4,30 @@
 //! checker is said of these programs.
 #![tactic(auto)]
 
+mod constants;
+mod conversions;
 mod expression;
+mod fits;
 mod operators;
 mod program;
+mod rules;
 mod statement;
+mod values;
 
+pub use constants::{Constant, constant_of, is_null};
+pub use conversions::{
+    adjusted, as_kind, common_kind, is_array, is_function, is_integer, is_pointer, is_record,
+    is_scalar, is_signed, promoted_kind,
+};
 pub use expression::{Expression, ExpressionNode, Path, PathNode, TypeId};
+pub use fits::{Met, assigns, casts, compared, is_void, meeting, ordered};
 pub use operators::{BinaryOp, CompareOp, LibraryFunction, PointerOp, StepOp, UnaryOp};
 pub use program::{
     Function, Initial, InitialValue, Local, Mention, MentionKind, Object, Typed, Unit,
 };
+pub use rules::{
+    CommonType, OperandKinds, arithmetic, choosing, comparing, differing, is_move, is_shift,
+    is_stepped, moving, on_numbers, points_to_object, promoting, updating,
+};
 pub use statement::{Arm, Initializer, InitializerPart, PartValue, Statement};
+pub use values::{binary_value, holds, unary_value};
