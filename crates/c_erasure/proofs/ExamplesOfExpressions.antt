@@ -2,21 +2,26 @@
 --     struct S { int x; struct S *next; };
 --     void f(struct S *p, int a[3], int i, long l, void *v, char c, int *q)
 -- with `a` an array object.
-use Rattle.std.proofs.Common.{refl, sym, subst, inl, inr}
-use Rattle.std.specs.Prelude.{◌≡◌, ℕ, ◌+◌, List, [], ◌∷◌, true, false, codes}
+use Rattle.std.proofs.Common.{refl, sym, subst, inl, inr, arith}
+use Rattle.std.specs.Prelude.{◌≡◌, ℕ, ◌+◌, List, [], ◌∷◌, true, false, Some, codes}
 use Rattle.lay_base.specs.declared.place.Place.{Place}
-use Rattle.c_types.specs.declared.ty.IntKind.TheVariants.{Char, Int, Long}
+use Rattle.c_types.specs.declared.ty.IntKind.TheVariants.{Char, Int, UInt, Long}
 use Rattle.c_types.specs.Types.{CType, void, integer, pointer, array, function, structure, no_types, Field, Record}
+use Rattle.c_lexer.specs.QuotedScan.{string_bytes}
+use Rattle.c_ast.specs.declared.operators.BinaryOp.TheVariants as O
 use Rattle.c_ast.specs.declared.operators.UnaryOp.TheVariants as U
 use Rattle.c_ast.specs.Trees
+use Rattle.c_typed.specs.declared.operators.BinaryOp.TheVariants.{Add, Subtract}
 use Rattle.c_typed.specs.declared.operators.PointerOp.TheVariants as P
 use Rattle.c_typed.specs.Trees as Typed
 use Rattle.c_typed.specs.Typed.{IsTyped}
 use Rattle.c_typed.specs.Conversions.{is_integer}
-use Rattle.c_erasure.specs.Noted.{value, way, type_of, unconverted, Thing, an_object, a_value, a_function, a_function_at, a_library_function}
-use Rattle.c_erasure.specs.Noted.{Expression}
+use Rattle.c_typed.specs.declared.program.MentionKind.TheVariants.{Named, Sizeof}
+use Rattle.c_erasure.specs.Noted.{size_of, value, way, value_of, type_of, unconverted, Thing, an_object, a_value, a_function, a_function_at}
+use Rattle.c_erasure.specs.Noted.{a_library_function, Expression, Path}
 use Rattle.c_erasure.specs.Scopes.{Bound, defines, a_local, FileScope, Scope, declared}
-use Rattle.c_erasure.specs.Erasure.{Erases, Values, IsTypedThing, typed}
+use Rattle.c_erasure.specs.Erasure.{Erases, Values, IsTypedThing, IsNamed, literal_object, typed}
+use Rattle.c_erasure.proofs.ExampleParts.{mention, value_of_some}
 
 abbrev int : CType
 int = integer Int
@@ -43,7 +48,8 @@ file = record {
   numbered = codes "S" ∷ [];
   objects = [];
   functions = [];
-  mentions = [];
+  mentions = mention Named (structure 0) 107 ∷ mention Sizeof (structure 0) 100 ∷ mention Sizeof (array int 3) 100
+      ∷ mention Sizeof (array (integer Char) 3) 100 ∷ mention Named (pointer (structure 0)) 110 ∷ [];
   untagged = λ at. [];
 }
 
@@ -129,3 +135,155 @@ no_function (a_library_function at which, r, w) = r
 no_function (a_function_at f, r, (e, inl (t, is, p), v)) = cc
 no_function (a_function_at f, r, (e, inr (t, of, is, bare, p), v)) =
     let z : e ≡ as_function = cc in let b : the_i 102 ≡ as_function = subst (λ e. unconverted e ≡ e) z bare in cc
+
+-- ---- operators group from the left, and each operand is read as what it is
+
+abbrev digit : List ℕ → ℕ → ℕ → Trees.Expression
+digit x n at = Trees.number (record { from = at; to = at + 1; text = x }) n Int
+
+abbrev number : ℕ → ℕ → Expression
+number at n = value int (place at) (Typed.constant n)
+
+abbrev minus : ℕ → Expression → Expression → Expression
+minus at x y = value int (place at) (Typed.binary Subtract x y)
+
+-- i - 3 - 4
+abbrev differences : Trees.Expression
+differences = Trees.binary (Trees.binary (name (codes "i") 100) O.Subtract 102 (digit (codes "3") 3 104)) O.Subtract 106 (digit (codes "4") 4 108)
+
+grouped_left : Erases differences here (a_value (minus 100 (minus 100 (the_i 100) (number 104 3)) (number 108 4)))
+grouped_left = (
+  int,
+  minus 100 (the_i 100) (number 104 3),
+  number 108 4,
+  Typed.binary Subtract (minus 100 (the_i 100) (number 104 3)) (number 108 4),
+  (
+    a_value (minus 100 (the_i 100) (number 104 3)),
+    refl,
+    (
+      int,
+      the_i 100,
+      number 104 3,
+      Typed.binary Subtract (the_i 100) (number 104 3),
+      i_stands 100,
+      (a_value (number 104 3), refl, refl),
+      inl refl,
+      refl,
+    ),
+  ),
+  (a_value (number 108 4), refl, refl),
+  inl refl,
+  refl,
+)
+
+grouped_right : Erases differences here (a_value (minus 100 (the_i 100) (minus 104 (number 104 3) (number 108 4)))) → ⊥
+grouped_right (t, x, y, node, vx, (th, v, four), inl j, r) =
+    let z : minus 104 (number 104 3) (number 108 4) ≡ y = cc in
+    let w : Some (number 108 4) ≡ Some (minus 104 (number 104 3) (number 108 4))
+    = subst (λ y. Some (number 108 4) ≡ Some (unconverted y)) (sym z) (subst (λ th. value_of th ≡ Some (unconverted y)) four v) in
+    cc
+grouped_right (t, x, y, node, vx, vy, inr (inl j), r) = cc
+grouped_right (t, x, y, node, vx, vy, inr (inr j), r) = cc
+
+-- a as a value is no load
+abbrev a_path : ℕ → Path
+a_path at = way (array int 3) (place at) (Typed.local 1)
+
+decays : Values (Erases (name (codes "a") 100) here) (value (pointer int) (place 100) (Typed.decay (a_path 100)))
+decays = (an_object (a_path 100), refl, (a_local 1 (array int 3), refl, refl))
+
+no_load : (t : CType) → Values (Erases (name (codes "a") 100) here) (value t (place 100) (Typed.load (a_path 100))) → ⊥
+no_load t (th, v, (e, named, is)) =
+    let z : a_local 1 (array int 3) ≡ e = value_of_some (a_local 1 (array int 3)) e named in
+    let o : th ≡ an_object (a_path 100) = subst (λ e. IsNamed (place 100) e th) (sym z) is in
+    let w : Some (value (pointer int) (place 100) (Typed.decay (a_path 100))) ≡ Some (value t (place 100) (Typed.load (a_path 100)))
+    = subst (λ th. value_of th ≡ Some (value t (place 100) (Typed.load (a_path 100)))) o v in
+    cc
+
+-- c + i: a conversion stands over c, and where it is missing the tree is ill typed
+abbrev the_c : Expression
+the_c = value (integer Char) (place 100) (Typed.load (way (integer Char) (place 100) (Typed.local 5)))
+
+abbrev promoted_c : Expression
+promoted_c = value int (place 100) (Typed.convert the_c false)
+
+abbrev character_sum : Expression → Expression
+character_sum x = value int (place 100) (Typed.binary Add x (the_i 104))
+
+abbrev c_plus_i : Trees.Expression
+c_plus_i = Trees.binary (name (codes "c") 100) O.Add 102 (name (codes "i") 104)
+
+promoted : Erases c_plus_i here (a_value (character_sum promoted_c))
+promoted = (
+  int,
+  promoted_c,
+  the_i 104,
+  Typed.binary Add promoted_c (the_i 104),
+  (an_object (way (integer Char) (place 100) (Typed.local 5)), refl, (a_local 5 (integer Char), refl, refl)),
+  i_stands 104,
+  inl refl,
+  refl,
+)
+
+promoted_typed : IsTyped (declared here) (typed (character_sum promoted_c))
+promoted_typed = (((refl, refl, refl, refl), refl, (λ e. cc), refl), (refl, refl, refl, refl), refl, refl)
+
+unpromoted : Erases c_plus_i here (a_value (character_sum the_c))
+unpromoted = (
+  int,
+  the_c,
+  the_i 104,
+  Typed.binary Add the_c (the_i 104),
+  (an_object (way (integer Char) (place 100) (Typed.local 5)), refl, (a_local 5 (integer Char), refl, refl)),
+  i_stands 104,
+  inl refl,
+  refl,
+)
+
+unpromoted_ill_typed : IsTyped (declared here) (typed (character_sum the_c)) → ⊥
+unpromoted_ill_typed w = cc (w.3)
+
+-- ---- sizeof a type name, sizeof an array, a cast
+
+abbrev size : ℕ → CType → ℕ → Expression
+size at t n = Typed.expression (record { ty = integer UInt; note = size_of t at }) (place at) (Typed.constant n)
+
+abbrev struct_name : ℕ → Trees.Specifiers
+struct_name at = Trees.and_specifier (Trees.struct_named at (record { from = at + 7; to = at + 8; text = codes "S" })) Trees.no_specifiers
+
+-- sizeof(struct S)
+record_size : Erases (Trees.sizeof_type 100 106 (Trees.type_name (struct_name 107) Trees.nothing) 115) here (a_value (size 100 (structure 0) 8))
+record_size = (structure 0, (structure 0, refl, inr (refl, ((0, refl, refl, inl refl), refl)), refl), inr (0, refl), (refl, inr (1, refl), refl))
+
+-- sizeof a, with no decay
+array_size : Erases (Trees.sizeof_expression 100 (name (codes "a") 107)) here (a_value (size 100 (array int 3) 12))
+array_size = (array int 3, ([], an_object (a_path 107), (a_local 1 (array int 3), refl, refl), refl, refl), (refl, inr (2, refl), refl))
+
+-- sizeof "ab": the object of the literal stands in no file
+literal_size : Erases (Trees.sizeof_expression 100 (Trees.texts (record { from = 107; to = 111; text = codes "\"ab\"" } ∷ []))) here
+    (a_value (size 100 (array (integer Char) 3) 3))
+unfolding string_bytes
+literal_size = (
+  array (integer Char) 3,
+  (
+    literal_object (place 107) (97 ∷ 98 ∷ 0 ∷ []) ∷ [],
+    an_object (way (array (integer Char) 3) (place 107) (Typed.object 0)),
+    (0, refl, refl),
+    refl,
+    refl,
+  ),
+  (refl, inr (3, refl), refl),
+)
+
+-- (struct S *)v
+cast : Erases (Trees.cast 100 (Trees.type_name (struct_name 101) (Trees.pointer 110 [] Trees.nothing)) 111 (name (codes "v") 112)) here
+    (a_value (value (pointer (structure 0)) (place 100)
+    (Typed.convert (value (pointer void) (place 112) (Typed.load (way (pointer void) (place 112) (Typed.local 4)))) true)))
+cast = (
+  pointer (structure 0),
+  value (pointer void) (place 112) (Typed.load (way (pointer void) (place 112) (Typed.local 4))),
+  (structure 0, refl, inr (refl, ((0, refl, refl, inl refl), refl)), (record { bytes = omega arith; parts = omega arith }, refl)),
+  inr (4, refl),
+  (an_object (way (pointer void) (place 112) (Typed.local 4)), refl, (a_local 4 (pointer void), refl, refl)),
+  refl,
+)

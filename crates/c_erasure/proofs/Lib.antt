@@ -1,2 +1,3 @@
+mod ExampleParts
 mod ExamplesOfExpressions
 mod ExamplesOfFiles
