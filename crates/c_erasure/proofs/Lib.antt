@@ -1,3 +1,4 @@
 mod ExampleParts
 mod ExamplesOfExpressions
 mod ExamplesOfFiles
+mod ExamplesOfRecords
