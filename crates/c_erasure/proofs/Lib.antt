@@ -2,3 +2,4 @@ mod ExampleParts
 mod ExamplesOfExpressions
 mod ExamplesOfFiles
 mod ExamplesOfRecords
+mod ExamplesOfLoops
