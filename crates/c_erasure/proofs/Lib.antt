@@ -3,3 +3,4 @@ mod ExamplesOfExpressions
 mod ExamplesOfFiles
 mod ExamplesOfRecords
 mod ExamplesOfLoops
+mod ExamplesOfRefusals
