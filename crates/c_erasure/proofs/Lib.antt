@@ -4,3 +4,4 @@ mod ExamplesOfFiles
 mod ExamplesOfRecords
 mod ExamplesOfLoops
 mod ExamplesOfRefusals
+mod ExamplesOfSizes
