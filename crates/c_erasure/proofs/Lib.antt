@@ -5,3 +5,5 @@ mod ExamplesOfRecords
 mod ExamplesOfLoops
 mod ExamplesOfRefusals
 mod ExamplesOfSizes
+mod ManyItems
+mod ExamplesOfManyItems
