@@ -19,7 +19,7 @@ abbrev pub is_void_and_object : CType → CType → Bool
 is_void_and_object s t = (is_void s && not (is_function t)) || (is_void t && not (is_function s))
 
 -- May a value of the first type be assigned to the second, or passed, returned or stored as one? `null` tells that it is a null pointer
--- constant. Records are of the same type.
+-- constant. Records are assigned whole, and have a rule of their own.
 abbrev pub assigns : CType → (null : Bool) → CType → Bool
 assigns (integer k) null (integer l) = true
 assigns (integer k) null (pointer t) = null

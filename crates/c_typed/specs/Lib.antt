@@ -13,7 +13,7 @@ pub mod Typed
 pub mod Parts
 pub mod InitialValues
 pub mod TypedStatements
+pub mod TypeNumbers
 pub mod Programs
 pub mod WellTyped
 pub mod AnswerViews
-pub mod TypeNumbers

@@ -48,7 +48,7 @@ or_else (Some t) o = Some t
 abbrev pub comparing : CompareOp → CType → (s_null : Bool) → CType → (t_null : Bool) → Option CType
 comparing op s s_null t t_null = or_else (arithmetic s t) (compared op s s_null t t_null)
 
--- ---- `?:` (6.5.15): the type of the second and third operand, and of the result
+-- ---- `?:` (6.5.15): the type of the second and third operand, and of the result; no records (own)
 
 abbrev pub both_void : CType → CType → Option CType
 both_void void void = Some void

@@ -1,8 +1,8 @@
 -- Well typed programs: every node keeps its rule over the lists of the program, and every number names something there.
-use Rattle.std.specs.Prelude.{◌≡◌, ◌≢◌, ℕ, zero, suc, ◌+◌, ◌≤◌, ◌<◌, true, false, List, [], ◌∷◌, ◌++◌, map, length, All, get_or, slice_get}
+use Rattle.std.specs.Prelude.{◌≡◌, ◌≢◌, ℕ, zero, suc, ◌+◌, ◌≤◌, ◌<◌, true, false, List, [], ◌∷◌, ◌++◌, map, length, All, slice_get}
 use Rattle.std.specs.Prelude.{Option, Some, None, codes}
 use Rattle.c_types.specs.declared.ty.IntKind.TheVariants.{Int}
-use Rattle.c_types.specs.Types.{CType, CTypes, void, integer, pointer, function, no_types}
+use Rattle.c_types.specs.Types.{CType, CTypes, integer, pointer, function, no_types}
 use Rattle.c_types.specs.Layouts.{size_of}
 use Rattle.c_types.specs.Limits.{AreComplete, AreSmall, greatest_size}
 use Rattle.c_types.specs.Objects.{is_object, parts}
@@ -19,10 +19,8 @@ use Rattle.c_typed.specs.Parts.{IsPart}
 use Rattle.c_typed.specs.Programs.{FunctionData, ProgramData}
 use Rattle.c_typed.specs.Typed.{Declared}
 use Rattle.c_typed.specs.TypedStatements.{all_declared, IsTypedStatement}
+use Rattle.c_typed.specs.TypeNumbers.{type_at}
 use Rattle.c_typed.specs.Walk.{types_in_statement}
-
-abbrev pub type_at : List CType → ℕ → CType
-type_at types i = get_or types i void
 
 -- the numbers from one on, so many
 abbrev pub count_up : (from count : ℕ) → List ℕ
