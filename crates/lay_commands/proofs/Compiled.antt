@@ -34,8 +34,8 @@ no_text (Some files) read names named all none file one =
     let known = All-head (IsRead (Some files)) only.0 [] (subst (All (IsRead (Some files))) only.1 all) in
     (only.0.bytes, subst (λ (name : List ℕ). files name ≡ Some only.0.bytes) only.2 known.0, λ p thin. none p (only.0, only.1, thin))
 
-abbrev told : Bor (List ℕ) → List ℕ
-told name = name.now
+abbrev name_of : Bor (List ℕ) → List ℕ
+name_of name = name.now
 
 -- the files are read, and spell no program, or memory is out
 pub program_refused : (c : Compilation) (f0 f1 : Option Contents) (reads0 reads1 writes0 writes1 : List ℕ → ℕ) (input reported : Stream)
@@ -46,7 +46,7 @@ pub program_refused : (c : Compilation) (f0 f1 : Option Contents) (reads0 reads1
 program_refused c f0 f1 reads0 reads1 writes0 writes1 input reported names read (R.NotBuilt name) files some few kept named all gives = (
   record {
     few = rw (files, length-map) few;
-    first = rw (files, gives.0) (slice_get-map told names 0 ∙ ap (option_map told) (slice_get-get_or names 0 no_name (rw (files, length-map) at some)));
+    first = rw (files, gives.0) (slice_get-map name_of names 0 ∙ ap (option_map name_of) (slice_get-get_or names 0 no_name (rw (files, length-map) at some)));
     read = rw (files, ← named) (all_readable f0 read all);
     cause = no_text f0 read c.files (named ∙ sym files) all gives.1;
   },
@@ -102,7 +102,11 @@ module _ (c : Compilation) (f0 f1 f2 : Option Contents) (reads0 reads2 writes0 w
 
   compiled_to : (was now : Stream) → IfKnown f2 c.out (λ file. file ≡ Some elf)
       → IsCompiledTo c (outside f0 reads0 writes0 input was) (outside f2 reads2 writes2 input now)
-  compiled_to was now written = record { program = text_of _ (left_whole c p elf f2 agrees written); others = keep_then_but c.out f0 f1 f2 kept but; unread = refl }
+  compiled_to was now written = record {
+    program = text_of _ (left_whole c p elf f2 agrees written);
+    others = keep_then_but c.out f0 f1 f2 kept but;
+    unread = refl;
+  }
 
   pub report_gives : (was now : Stream) (r : Result (Unit {0}) Refusal) → ((name : List ℕ) → writes2 name ≡ writes0 name)
       → IfKnown f2 c.out (λ file. file ≡ Some elf) → ReportGives was.faults now.faults was.bytes now.bytes r

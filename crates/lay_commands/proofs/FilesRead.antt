@@ -56,35 +56,35 @@ no_name = record { ref_ptr = (0, 0); now = [] }
 
 module _ (reads0 reads1 reads2 writes0 writes1 writes2 : List ℕ → ℕ) (f0 f1 f2 : Option Contents) (names : List (Bor (List ℕ))) (i : ℕ) (files : List File)
     (before : AreRead reads0 reads1 writes0 writes1 f0 f1 names i files) (within : i < length names) where
-  abbrev told : Bor (List ℕ) → List ℕ
-  told name = name.now
+  abbrev name_of : Bor (List ℕ) → List ℕ
+  name_of name = name.now
 
   abbrev name : List ℕ
-  name = told (get_or names i no_name)
+  name = name_of (get_or names i no_name)
 
   pub one_more_read : (bytes : Vec ℕ) → FilesKeep f1 f2 → ((other : List ℕ) → reads2 other ≡ reads1 other) → ((other : List ℕ) → writes2 other ≡ writes1 other)
       → BytesGive file_limit (reads1 name) (reads2 name) f1 name (Ok bytes)
       → AreRead reads0 reads2 writes0 writes2 f0 f2 names (i + 1) (files ++ record { name = name; bytes = bytes.items } ∷ [])
   one_more_read bytes k same_reads same_writes gives = record {
-    named = map-append (λ (file : File). file.name) files _ ∙ ap (λ l. l ++ name ∷ []) before.named ∙ sym (map_more told names i no_name within);
+    named = map-append (λ (file : File). file.name) files _ ∙ ap (λ l. l ++ name ∷ []) before.named ∙ sym (map_more name_of names i no_name within);
     read = All-push (IsRead f0) files _ before.read (known_before f0 f1 name _ before.kept gives.0, gives.1);
     reads_same = λ other. same_reads other ∙ before.reads_same other;
     writes_same = λ other. same_writes other ∙ before.writes_same other;
     kept = keep_twice f0 f1 f2 before.kept k;
   }
 
-  comes_to : length names ≤ most_files → ComesTo f0 (map told names) name
+  comes_to : length names ≤ most_files → ComesTo f0 (map name_of names) name
   comes_to few = record {
     few = rw length-map few;
     place = (
       i,
-      slice_get-map told names i ∙ ap (option_map told) (slice_get-get_or names i no_name within),
+      slice_get-map name_of names i ∙ ap (option_map name_of) (slice_get-get_or names i no_name within),
       rw (take-map, ← before.named) (all_readable f0 files before.read),
     );
   }
 
   pub stops : length names ≤ most_files → (refusal : Refusal) → BytesGive file_limit (reads1 name) (reads2 name) f1 name (Err refusal)
-      → FilesGive reads0 reads2 f0 (map told names) (Err refusal)
+      → FilesGive reads0 reads2 f0 (map name_of names) (Err refusal)
   stops few (R.FileFault other) gives = rw gives.0 (comes_to few, rw (← before.reads_same name) gives.1)
   stops few (R.TooLong other) gives = rw gives.0 (comes_to few, known_before f0 f1 name _ before.kept (rw (← before.reads_same name) gives.1))
   stops few R.Memory gives = tt

@@ -17,6 +17,7 @@ one_by_rows f id = one_text-rows f id
 pub all_by_rows : (f : Found) (id : Text) → option_map raw_values (matched_of f id) ≡ all_of id (rows_of f)
 all_by_rows f id = raw_values-rows f id
 
-pub files_kept : (files : List (Bor Text)) → some_files (map (λ file. file.now) files) ≡ (if length files == 0 then None else Some (map (λ file. file.now) files))
+pub files_kept : (files : List (Bor Text))
+    → some_files (map (λ file. file.now) files) ≡ (if length files == 0 then None else Some (map (λ file. file.now) files))
 files_kept [] = refl
 files_kept (file ∷ more) = grind arith

@@ -45,7 +45,7 @@ abbrev pub WasNoText : Option Contents → (names : List (List ℕ)) → Type 0
 WasNoText files names = (file : List ℕ) → names ≡ file ∷ []
     → IfKnown files file (λ was. (text : List ℕ) × (was ≡ Some text) × ((p : Program) → IsThinText text p → ⊥))
 
--- There are no more names than a program has files, and all can be read. They are several, or one that is no thin text. The first is told.
+-- There are no more names than a program has files, and all can be read. They are several, or one that is no thin text. The first is named.
 pub record AreNotThin (files : Option Contents) (names : List (List ℕ)) (name : List ℕ) : Type 0 where
   pub few : length names ≤ most_files
   pub first : slice_get names 0 ≡ Some name

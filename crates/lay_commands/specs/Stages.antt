@@ -24,9 +24,9 @@ use Rattle.lay_commands.specs.Running.{elf_limit, HoldsElf, Ended, WouldGoOn, St
 -- the bytes under the name, at most so many, are read
 abbrev pub BytesGive : (limit reads_before reads_now : ℕ) → Option Contents → (name : List ℕ) → Result (Vec ℕ) Refusal → Type 0
 BytesGive limit before now files name (Ok bytes) = IfKnown files name (λ file. file ≡ Some bytes.items) × (length bytes.items ≤ limit)
-BytesGive limit before now files name (Err (R.FileFault told)) = (told ≡ name) × Rose before now
-BytesGive limit before now files name (Err (R.TooLong told)) =
-    (told ≡ name) × IfKnown files name (λ file. (now ≡ before) × ((bytes : List ℕ) × (file ≡ Some bytes) × (limit < length bytes)))
+BytesGive limit before now files name (Err (R.FileFault named)) = (named ≡ name) × Rose before now
+BytesGive limit before now files name (Err (R.TooLong named)) =
+    (named ≡ name) × IfKnown files name (λ file. (now ≡ before) × ((bytes : List ℕ) × (file ≡ Some bytes) × (limit < length bytes)))
 BytesGive limit before now files name (Err R.Memory) = Unit {0}
 BytesGive limit before now files name (Err _) = ⊥
 
@@ -55,12 +55,12 @@ FilesGive before now files names (Err _) = ⊥
 abbrev pub SpellThin : List File → Program → Type 0
 SpellThin files p = (file : File) × (files ≡ file ∷ []) × IsThinText file.bytes p
 
--- their program is found; else this name is told
-abbrev pub ProgramGives : (told : List ℕ) (files : List File) → Result Thin Refusal → Type 0
-ProgramGives told files (Ok t) = SpellThin files (program_of t)
-ProgramGives told files (Err (R.NotBuilt name)) = (name ≡ told) × ((p : Program) → SpellThin files p → ⊥)
-ProgramGives told files (Err R.Memory) = Unit {0}
-ProgramGives told files (Err _) = ⊥
+-- their program is found; a refusal has the name that is given
+abbrev pub ProgramGives : (given : List ℕ) (files : List File) → Result Thin Refusal → Type 0
+ProgramGives given files (Ok t) = SpellThin files (program_of t)
+ProgramGives given files (Err (R.NotBuilt name)) = (name ≡ given) × ((p : Program) → SpellThin files p → ⊥)
+ProgramGives given files (Err R.Memory) = Unit {0}
+ProgramGives given files (Err _) = ⊥
 
 -- the ELF file is written under OUT
 abbrev pub ElfGives : (writes_before writes_now : ℕ) → (before now : Option Contents) → (out elf : List ℕ) → Result (Unit {0}) Refusal → Type 0

@@ -1,6 +1,6 @@
 -- What the words on the command line ask for.
 use Rattle.std.specs.Prelude.{ℕ, ◌^◌, ◌≤◌, ◌&&◌, nat_le, Bool, false, List, [], ◌∷◌, map, length, codes, Option, Some, None, ⊤}
-use Rattle.std.specs.Prelude.{option_map, option_and_then, if◌then◌else◌}
+use Rattle.std.specs.Prelude.{option_and_then, if◌then◌else◌}
 use Rattle.std.specs.List.{list_all}
 use Rattle.std.specs.Option.{option_map_or}
 use Rattle.std.specs.Char.{is_ascii_digit}
@@ -9,9 +9,36 @@ use Rattle.std.specs.Str.Parse.{digits_value}
 use Rattle.clap.specs.Walk.{Text, Row, first_of, one_of, all_of}
 use Rattle.lay_commands.specs.CommandLine.{matches_in}
 use Rattle.lay_commands.specs.declared.words.CompileRequest.{CompileRequest}
-use Rattle.lay_commands.specs.declared.words.RunRequest.{RunRequest}
 use Rattle.lay_commands.specs.declared.words.Request.{Request}
 use Rattle.lay_commands.specs.declared.words.Request.TheVariants as Q
+
+-- ---- numbers, where an option is not given, and the greatest
+
+abbrev pub default_heap : ℕ
+default_heap = 256
+
+abbrev pub most_heap : ℕ
+most_heap = 1024
+
+abbrev pub default_stack : ℕ
+default_stack = 64
+
+abbrev pub most_stack : ℕ
+most_stack = 128
+
+abbrev pub default_steps : ℕ
+default_steps = 10000000000
+
+abbrev pub most_steps : ℕ
+most_steps = 10 ^ 18
+
+-- the value of a word of one to twenty decimal digits, which may begin with zeros, from 1 to the greatest
+abbrev pub number_in : (most : ℕ) (word : List ℕ) → Option ℕ
+number_in most word =
+    if list_all is_ascii_digit word && nat_le (length word) 20 && nat_le 1 (digits_value 10 word) && nat_le (digits_value 10 word) most
+    then Some (digits_value 10 word) else None
+
+-- ---- commands
 
 -- what `compile` is asked for: the name OUT, MiB of heap and of stack, and the names of the files
 pub record Compilation : Type 0 where
@@ -24,26 +51,18 @@ pub record Compilation : Type 0 where
 -- there is a file, and heap and stack are within their limits
 pub record IsInRange (c : Compilation) : Type 0 where
   pub some : 1 ≤ length c.files
-  pub heap : (1 ≤ c.heap) × (c.heap ≤ 1024)
-  pub stack : (1 ≤ c.stack) × (c.stack ≤ 128)
+  pub heap : (1 ≤ c.heap) × (c.heap ≤ most_heap)
+  pub stack : (1 ≤ c.stack) × (c.stack ≤ most_stack)
 
 pub data Command : Type 0 where
   Compile : Compilation → Command
   Run : (steps : ℕ) (elf : List ℕ) → Command
 
--- ---- numbers
-
--- the value of a word of one to twenty decimal digits, which may begin with zeros, from 1 to the greatest
-abbrev pub number_in : (most : ℕ) (word : List ℕ) → Option ℕ
-number_in most word =
-    if list_all is_ascii_digit word && nat_le (length word) 20 && nat_le 1 (digits_value 10 word) && nat_le (digits_value 10 word) most
-    then Some (digits_value 10 word) else None
+-- ---- by what is found for the arguments of a command
 
 -- the number that an option has; where it is not given, the default
 abbrev pub number_of : (name : Text) (default most : ℕ) → List Row → Option ℕ
 number_of name default most rows = option_map_or (number_in most) (first_of name rows) (Some default)
-
--- ---- commands, by what is found for their arguments
 
 -- the flag is given
 abbrev pub is_given : (name : Text) → List Row → Bool
@@ -57,33 +76,35 @@ some_files (file ∷ more) = Some (file ∷ more)
 abbrev pub files_of : List Row → Option (List Text)
 files_of rows = option_and_then some_files (all_of (codes "FILE") rows)
 
+-- all of these have to be there
+abbrev pub compile_with : (out : Option Text) (files : Option (List Text)) (heap stack : Option ℕ) (is_plain : Bool) → Option Command
+compile_with (Some out) (Some files) (Some heap) (Some stack) is_plain =
+    Some (Compile (record { out = out; is_plain = is_plain; heap = heap; stack = stack; files = files }))
+compile_with _ _ _ _ is_plain = None
+
 abbrev pub compile_of : List Row → Option Command
-compile_of rows =
-    option_and_then (λ out. option_and_then (λ files. option_and_then (λ heap. option_map (λ stack. Compile (record {
-      out = out;
-      is_plain = is_given (codes "plain") rows;
-      heap = heap;
-      stack = stack;
-      files = files;
-    })) (number_of (codes "stack") 64 128 rows)) (number_of (codes "heap") 256 1024 rows)) (files_of rows)) (first_of (codes "OUT") rows)
+compile_of rows = compile_with (first_of (codes "OUT") rows) (files_of rows) (number_of (codes "heap") default_heap most_heap rows)
+    (number_of (codes "stack") default_stack most_stack rows) (is_given (codes "plain") rows)
+
+abbrev pub run_with : (elf : Option Text) (steps : Option ℕ) → Option Command
+run_with (Some elf) (Some steps) = Some (Run steps elf)
+run_with _ _ = None
 
 abbrev pub run_of : List Row → Option Command
-run_of rows =
-    option_and_then (λ elf. option_map (λ steps. Run steps elf) (number_of (codes "steps") 10000000000 (10 ^ 18) rows))
-    (first_of (codes "ELF") rows)
+run_of rows = run_with (first_of (codes "ELF") rows) (number_of (codes "steps") default_steps most_steps rows)
 
-abbrev pub command_in : Text × List Row → Option Command
-command_in found = if bytes_eq found.0 (codes "compile") then compile_of found.1 else run_of found.1
+-- the command that was found under this name
+abbrev pub command_found : Text × List Row → Option Command
+command_found found = if bytes_eq found.0 (codes "compile") then compile_of found.1 else run_of found.1
 
 -- the command that the words ask for, if they ask for one
 abbrev pub command_of : List (List ℕ) → Option Command
-command_of words = option_and_then command_in (matches_in words)
+command_of words = option_and_then command_found (matches_in words)
 
 -- ---- requests
 
--- the command of a request
-abbrev pub compilation_in : CompileRequest → Compilation
-compilation_in request = record {
+abbrev pub compilation_of : CompileRequest → Compilation
+compilation_of request = record {
   out = request.out.now;
   is_plain = request.plain;
   heap = request.heap;
@@ -91,14 +112,12 @@ compilation_in request = record {
   files = map (λ file. file.now) request.files.now;
 }
 
-abbrev pub run_in : RunRequest → Command
-run_in request = Run request.steps request.elf.now
-
-abbrev pub command_asked : Request → Command
-command_asked (Q.Compile request) = Compile (compilation_in request)
-command_asked (Q.Run request) = run_in request
+-- the command of a request
+abbrev pub requested : Request → Command
+requested (Q.Compile request) = Compile (compilation_of request)
+requested (Q.Run request) = Run request.steps request.elf.now
 
 -- what a request asks for is in range
 abbrev pub IsPossible : Request → Type 0
-IsPossible (Q.Compile request) = IsInRange (compilation_in request)
+IsPossible (Q.Compile request) = IsInRange (compilation_of request)
 IsPossible (Q.Run request) = ⊤

@@ -54,20 +54,21 @@ fn elf_argument<'a>(alloc: Global) -> Arg<'a>
 fn compile_command<'a>(alloc: Global) -> Result<Command<'a>, AllocError>
     ensures { IfOk result (λ c. app_of c ≡ compile_command) }
 {
-    Command::new(alloc, "compile")
-        .arg(out_option(alloc))?
-        .arg(plain_flag(alloc))?
-        .arg(long_option(alloc, "heap"))?
-        .arg(long_option(alloc, "stack"))?
-        .arg(files_argument(alloc))
+    let args = vec![in alloc;
+        out_option(alloc),
+        plain_flag(alloc),
+        long_option(alloc, "heap"),
+        long_option(alloc, "stack"),
+        files_argument(alloc),
+    ]?;
+    Command::new(alloc, "compile").args(args)
 }
 
 fn run_command<'a>(alloc: Global) -> Result<Command<'a>, AllocError>
     ensures { IfOk result (λ c. app_of c ≡ run_command) }
 {
-    Command::new(alloc, "run")
-        .arg(long_option(alloc, "steps"))?
-        .arg(elf_argument(alloc))
+    let args = vec![in alloc; long_option(alloc, "steps"), elf_argument(alloc)]?;
+    Command::new(alloc, "run").args(args)
 }
 
 /// The command line.

@@ -4,7 +4,7 @@ ghost use Rattle.std.specs.Prelude.{◌≡◌, ◌<◌, ◌≤◌, ℕ, List, If
 ghost use Rattle.lay_base.specs.Known.{FilesKeep, FilesKeepBut};
 ghost use Rattle.thin_parser.specs.ThinTree.{program_of};
 ghost use Rattle.thin_parser.specs.ThinText.{punctuators, whole_sums, spelled_program};
-ghost use Rattle.lay_commands.specs.Words.{IsInRange, compilation_in};
+ghost use Rattle.lay_commands.specs.Words.{IsInRange, compilation_of};
 ghost use Rattle.lay_commands.specs.Outside.{Stream, outside, stream};
 ghost use Rattle.lay_commands.specs.Compiling.{AgreesWith, most_files};
 ghost use Rattle.lay_commands.specs.Stages.{NumberGives, FilesGive, ProgramGives, ElfGives, ReportGives, CompileGives};
@@ -49,9 +49,10 @@ fn read_files<H: Host>(alloc: Global, host: &mut H, names: &[&str]) -> Result<Fi
     Ok(files)
 }
 
-/// The program that the files spell. Where they spell none, the name is told.
-fn program_in(alloc: Global, name: &str, files: &Files) -> Result<Thin, Refusal>
-    ensures { ProgramGives name.now files.now result }
+/// The program that the files spell. A refusal has the name that is given. It takes the files, so that their
+/// memory is free after it.
+fn program_in(alloc: Global, name: &str, files: Files) -> Result<Thin, Refusal>
+    ensures { ProgramGives name.now files result }
 {
     if let [file] = files.as_slice() {
         if let Some(program) = thin(alloc, file.bytes.as_slice())? {
@@ -104,18 +105,18 @@ pub fn compile<H: Host, O: Sink>(
     host: &mut H,
     out: &mut O,
 ) -> Result<(), Refusal>
-    requires { IsInRange (compilation_in request) }
+    requires { IsInRange (compilation_of request) }
     // Whatever the input is, it stays.
     ensures { (input : Stream) →
         let before = outside (H.files host.old) (H.failed_reads host.old) (H.failed_writes host.old)
         input (stream (O.written out.old) (O.faults out.old)) in
         let now = outside (H.files host.new) (H.failed_reads host.new) (H.failed_writes host.new)
         input (stream (O.written out.new) (O.faults out.new)) in
-        CompileGives (compilation_in request.entry) before now result }
+        CompileGives (compilation_of request.entry) before now result }
 {
     check_number(request.files)?;
     let files = read_files(alloc, host, request.files)?;
-    let program = program_in(alloc, request.files[0], &files)?;
+    let program = program_in(alloc, request.files[0], files)?;
     let elf = elf_of(alloc, &program, request.heap, request.stack)?;
     write_elf(host, request.out, &elf)?;
     write_report(out)

@@ -3,7 +3,7 @@
 ghost use Rattle.std.specs.Prelude.{◌≡◌, ◌⊎◌, map, option_and_then};
 ghost use Rattle.std.specs.String.{string_bytes};
 ghost use Rattle.clap.specs.Simple.{subcommand_rows_of};
-ghost use Rattle.lay_commands.specs.Words.{command_in, command_of};
+ghost use Rattle.lay_commands.specs.Words.{command_found, command_of};
 ghost use Rattle.lay_commands.specs.Outside.{outside, stream};
 ghost use Rattle.lay_commands.specs.Answers.{ErrGives, MayRead, OutcomeGives};
 
@@ -25,12 +25,12 @@ fn outcome_for<H: Host, I: Source, O: Sink>(
     input: &mut I,
     out: &mut O,
 ) -> Outcome
-    ensures input { (input.new ≡ input.old) ⊎ MayRead (option_and_then command_in (subcommand_rows_of matches.now)) result }
+    ensures input { (input.new ≡ input.old) ⊎ MayRead (option_and_then command_found (subcommand_rows_of matches.now)) result }
     ensures gives { let before = outside (H.files host.old) (H.failed_reads host.old) (H.failed_writes host.old)
         (stream (I.left input.old) (I.faults input.old)) (stream (O.written out.old) (O.faults out.old)) in
         let now = outside (H.files host.new) (H.failed_reads host.new) (H.failed_writes host.new)
         (stream (I.left input.new) (I.faults input.new)) (stream (O.written out.new) (O.faults out.new)) in
-        OutcomeGives (option_and_then command_in (subcommand_rows_of matches.now)) before now result }
+        OutcomeGives (option_and_then command_found (subcommand_rows_of matches.now)) before now result }
 {
     match request_in(matches) {
         Some(Request::Compile(request)) => match compile(alloc, request, host, out) {

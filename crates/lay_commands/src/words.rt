@@ -6,7 +6,8 @@ ghost use Rattle.clap.specs.Walk.{rows_of};
 ghost use Rattle.clap.specs.Matches.{found_of};
 ghost use Rattle.clap.specs.Simple.{subcommand_rows_of};
 ghost use Rattle.lay_commands.specs.CommandLine.{matches_in};
-ghost use Rattle.lay_commands.specs.Words.{Compile, IsInRange, IsPossible, number_of, is_given, files_of, compile_of, run_of, command_in, compilation_in, run_in, command_asked};
+ghost use Rattle.lay_commands.specs.Words.{Compile, Run, IsInRange, IsPossible, number_of, is_given, files_of};
+ghost use Rattle.lay_commands.specs.Words.{compile_of, run_of, command_found, compilation_of, requested};
 
 use crate::command_line::command_line;
 use crate::numbers::number_in;
@@ -92,8 +93,8 @@ fn files_of<'b, 'a>(found: &'b ArgMatches<'a>) -> Option<&'b [&'a str]>
 /// The request to compile that was found, where its numbers are in range.
 #[tactic(auto, using(crate::proofs::Found::first_by_rows))]
 fn compile_request<'b, 'a>(found: &'b ArgMatches<'a>) -> Option<CompileRequest<'b, 'a>>
-    ensures command { option_map (λ request. Compile (compilation_in request)) result ≡ compile_of (rows_of (found_of found.now)) }
-    ensures range { IfSome result (λ request. IsInRange (compilation_in request)) }
+    ensures command { option_map (λ request. Compile (compilation_of request)) result ≡ compile_of (rows_of (found_of found.now)) }
+    ensures range { IfSome result (λ request. IsInRange (compilation_of request)) }
 {
     let out = found.get_str("OUT")?;
     let files = files_of(found)?;
@@ -111,7 +112,7 @@ fn compile_request<'b, 'a>(found: &'b ArgMatches<'a>) -> Option<CompileRequest<'
 /// The request to run that was found, where its number is in range.
 #[tactic(auto, using(crate::proofs::Found::first_by_rows))]
 fn run_request<'a>(found: &ArgMatches<'a>) -> Option<RunRequest<'a>>
-    ensures { option_map run_in result ≡ run_of (rows_of (found_of found.now)) }
+    ensures { option_map (λ request. Run request.steps request.elf.now) result ≡ run_of (rows_of (found_of found.now)) }
 {
     let elf = found.get_str("ELF")?;
     let steps = number_of(found, "steps", DEFAULT_STEPS, MOST_STEPS)?;
@@ -120,7 +121,7 @@ fn run_request<'a>(found: &ArgMatches<'a>) -> Option<RunRequest<'a>>
 
 /// What was found asks for, where it asks for something.
 pub fn request_in<'b, 'a>(matches: &'b ArgMatches<'a>) -> Option<Request<'b, 'a>>
-    ensures command { option_map command_asked result ≡ option_and_then command_in (subcommand_rows_of matches.now) }
+    ensures command { option_map requested result ≡ option_and_then command_found (subcommand_rows_of matches.now) }
     ensures range { IfSome result IsPossible }
 {
     let (name, found) = matches.subcommand()?;

@@ -14,7 +14,8 @@ returns-in_err-bytes_of-clause-gives g c =
     (stops (reads c.args.host.now) (reads c.loop-name.host) (reads c.bytes_of.new.host)
     (writes c.args.host.now) (writes c.loop-name.host) (writes c.bytes_of.new.host)
     (files c.args.host.now) (files c.loop-name.host) (files c.bytes_of.new.host)
-    c.args.names.now c.loop-name.name-index c.loop-name.files c.loop-name.invariant within c.requires c.in_err-bytes_of.field-0.0 c.in_err-bytes_of.ensures.gives)
+    c.args.names.now c.loop-name.name-index c.loop-name.files c.loop-name.invariant within c.requires
+    c.in_err-bytes_of.field-0.0 c.in_err-bytes_of.ensures.gives)
 
 pub loop-name-preserved : goal.loop-name-preserved
 loop-name-preserved g c =
