@@ -268,10 +268,13 @@ ASK_FOR_NOTHING = [
     ["compile"],
     ["compile", "t.c"],
     ["compile", "-o", "o"],
-    ["compile", "-o", "", "t.c"],
-    ["compile", "-o", "o", "-"],
-    ["compile", "-o", "o", "t.c", "u.c"],
+    ["compile", "t.c", "-o"],
+    ["compile", "-o", "o", "-o", "o", "t.c"],
+    ["compile", "-o", "o", "-t.c"],
+    ["compile", "-o", "o", "--heap", "1025", "t.c"],
+    ["compile", "-o", "o", "--stack=0", "t.c"],
     ["--help"],
+    ["compile", "--help"],
     ["compile", "-o", "o", b"\xff\xfe"],
     [b"\xff"],
 ]
@@ -293,6 +296,10 @@ def check_outside(folder):
     answers(["compile", "-o", "o", "missing.c"], OUTSIDE_STATUS, b"layc: cannot read missing.c\n", "a missing file")
     answers(["compile", "-o", "o", "."], OUTSIDE_STATUS, b"layc: cannot read .\n", "a directory as FILE")
     check(not os.path.exists(os.path.join(folder, "o")), "no file is made where FILE cannot be read")
+    answers(["compile", "-o", "o", "t.c", "-"], OUTSIDE_STATUS, b"layc: cannot read -\n", "a hyphen as FILE")
+    answers(["compile", "-o", "o", "t.c", "t.c"], PROGRAM_STATUS, b"layc: t.c: form not built yet\n", "two files")
+    answers(["compile", "-o", "o"] + ["t.c"] * 65, PROGRAM_STATUS, b"layc: limit Files passed: 65\n", "65 files")
+    answers(["compile", "-o", "", "t.c"], OUTSIDE_STATUS, b"layc: write failed\n", "an empty name as OUT")
     answers(["compile", "-o", ".", "t.c"], OUTSIDE_STATUS, b"layc: write failed\n", "a directory as OUT")
     answers(["compile", "-o", "no/o", "t.c"], OUTSIDE_STATUS, b"layc: write failed\n", "OUT in a folder that is not there")
     if os.path.exists("/dev/full"):

@@ -1,25 +1,18 @@
-//! Worked examples of `compile`, and of words that ask for nothing.
+//! Worked examples of `compile`.
 
 use crate::world::{PRINTS_A, World, calls, fail_on, file, status, streams_with};
 use lay_base::{List, MemHost};
 use std::test::Fail;
 
-const USAGE: &[u8] = b"\
-    usage: layc compile -o OUT [--profile P] [--plain] [--heap MIB] [--stack MIB] FILE...\n       \
-    layc profile -o P [--turns N] FILE...\n       \
-    layc interp [--turns N] FILE...\n       \
-    layc run [--steps N] ELF\n       \
-    layc bench N\n";
-
 /// Which calls fail, numbered from 1.
 #[derive(Clone, Copy)]
-struct Fails<'a> {
-    host: &'a [u64],
-    out: &'a [u64],
-    err: &'a [u64],
+pub struct Fails<'a> {
+    pub host: &'a [u64],
+    pub out: &'a [u64],
+    pub err: &'a [u64],
 }
 
-const NONE: Fails<'static> = Fails {
+pub const NONE: Fails<'static> = Fails {
     host: &[],
     out: &[],
     err: &[],
@@ -27,22 +20,22 @@ const NONE: Fails<'static> = Fails {
 
 /// A call on `o` that holds `before` and `t.c` that holds the text, and what it is to leave.
 #[derive(Clone, Copy)]
-struct Row<'a> {
-    words: &'a [&'a str],
-    text: &'a [u8],
-    fails: Fails<'a>,
-    status: u8,
-    out: &'a [u8],
-    err: &'a [u8],
+pub struct Row<'a> {
+    pub words: &'a [&'a str],
+    pub text: &'a [u8],
+    pub fails: Fails<'a>,
+    pub status: u8,
+    pub out: &'a [u8],
+    pub err: &'a [u8],
     /// What the file `o` begins with, and how many bytes it has.
-    file: &'a [u8],
-    length: usize,
+    pub file: &'a [u8],
+    pub length: usize,
 }
 
 const WORDS: [&str; 4] = ["compile", "-o", "o", "t.c"];
 
 /// A refusal that leaves the files and `out` as they were.
-fn refused<'a>(
+pub fn refused<'a>(
     words: &'a [&'a str],
     text: &'a [u8],
     fails: Fails<'a>,
@@ -103,13 +96,13 @@ fn check_in(rt: &HostRuntime, row: &Row, world: &mut World) -> Result<(), Fail> 
     fail_on(difference(row, status, world))
 }
 
-fn check(rt: &HostRuntime, row: &Row) -> Result<(), Fail> {
+pub fn check(rt: &HostRuntime, row: &Row) -> Result<(), Fail> {
     check_in(rt, row, &mut world_of(rt, row)?)
 }
 
-/// The headers of the file that is written for so many bytes of code, byte by byte by the tables of
-/// ELF32: the file header, then text, data, stack and heap.
-fn headers(rt: &HostRuntime, code: u16) -> Result<Vec<u8>, Fail> {
+/// The headers of the file that is written for so many bytes of code, and MiB of stack and of heap, byte
+/// by byte by the tables of ELF32: the file header, then text, data, stack and heap.
+fn headers(rt: &HostRuntime, code: u16, room: [u16; 2]) -> Result<Vec<u8>, Fail> {
     let text = 0x1000 + code as u32;
     let mut bytes =
         b"\x7FELF\x01\x01\x01\0\0\0\0\0\0\0\0\0\x02\0\xF3\0\x01\0\0\0\0\0\x01\0\x34\0\0\0\0\0\0\0\0\0\0\0\x34\0\x20\0\x04\0\0\0\0\0\0\0".to_vec(
@@ -118,8 +111,26 @@ fn headers(rt: &HostRuntime, code: u16) -> Result<Vec<u8>, Fail> {
     let rows: [[u32; 8]; 4] = [
         [1, 0x1000, 0x0001_0000, 0x0001_0000, text, text, 5, 0x1000],
         [1, 0x3000, 0x0800_0000, 0x0800_0000, 256, 256, 6, 0x1000],
-        [1, 0, 0x1000_0000, 0x1000_0000, 0, 64 << 20, 6, 0x1000],
-        [1, 0, 0x2000_0000, 0x2000_0000, 0, 256 << 20, 6, 0x1000],
+        [
+            1,
+            0,
+            0x1000_0000,
+            0x1000_0000,
+            0,
+            (room[0] as u32) << 20,
+            6,
+            0x1000,
+        ],
+        [
+            1,
+            0,
+            0x2000_0000,
+            0x2000_0000,
+            0,
+            (room[1] as u32) << 20,
+            6,
+            0x1000,
+        ],
     ];
     for row in rows {
         for word in row {
@@ -129,13 +140,19 @@ fn headers(rt: &HostRuntime, code: u16) -> Result<Vec<u8>, Fail> {
     Ok(bytes)
 }
 
-/// A text that is compiled, and how many instructions it has.
-fn check_compiled(rt: &HostRuntime, text: &[u8], instructions: u8) -> Result<(), Fail> {
-    let headers = headers(rt, 4 * instructions as u16)?;
+/// Words that compile a text, how many instructions it has, and MiB of stack and of heap.
+pub fn check_compiled(
+    rt: &HostRuntime,
+    words: &[&str],
+    text: &[u8],
+    instructions: u8,
+    room: [u16; 2],
+) -> Result<(), Fail> {
+    let headers = headers(rt, 4 * instructions as u16, room)?;
     check(
         rt,
         &Row {
-            words: &WORDS,
+            words,
             text,
             fails: NONE,
             status: 0,
@@ -147,56 +164,50 @@ fn check_compiled(rt: &HostRuntime, text: &[u8], instructions: u8) -> Result<(),
     )
 }
 
-#[test]
-fn a_thin_program_is_compiled_and_reported(rt: HostRuntime) -> Result<(), Fail> {
-    // Instructions by hand: one for the stack pointer, two for a number, six beside the operands
-    // of an operator, six beside the sum of a call of putchar, two for the exit.
-    check_compiled(&rt, PRINTS_A, 1 + (3 * 2 + 2 * 6 + 6) + 2 + 2)?;
-    check_compiled(&rt, b"int main(void){return 256 + 3;}", 1 + (2 * 2 + 6) + 2)?;
-    check_compiled(
-        &rt,
+/// Texts, and their instructions by hand: one for the stack pointer, two for a number, six beside the
+/// operands of an operator, six beside the sum of a call of putchar, two for the exit.
+static COMPILED: [(&[u8], u8); 4] = [
+    (PRINTS_A, 1 + (3 * 2 + 2 * 6 + 6) + 2 + 2),
+    (b"int main(void){return 256 + 3;}", 1 + (2 * 2 + 6) + 2),
+    (
         b"int main(void){return 2*(3+4)-1;}",
         1 + (4 * 2 + 3 * 6) + 2,
-    )?;
-    check_compiled(&rt, b"int main(void){}", 1 + 1 + 2)
-}
-
-const ASK_FOR_NOTHING: [&[&str]; 14] = [
-    &[],
-    &["compile", "t.c"],
-    &["compile", "-o", "", "t.c"],
-    &["compile", "-o", "o", "-t.c"],
-    &["compile", "-o", "o", "t.c", "t.c"],
-    &["run"],
-    &["run", "-o"],
-    &["run", "o", "o"],
-    &["run", "--steps", "o"],
-    &["run", "--steps", "0", "o"],
-    &["run", "--steps", "1000000000000000001", "o"],
-    &["run", "--steps", "000000000000000000001", "o"],
-    &["run", "--steps", "x", "o"],
-    &["run", "--steps", "+1", "o"],
+    ),
+    (b"int main(void){}", 1 + 1 + 2),
 ];
 
 #[test]
-fn words_that_ask_for_nothing_get_the_usage_text(rt: HostRuntime) -> Result<(), Fail> {
-    for words in ASK_FOR_NOTHING {
-        let row = refused(words, PRINTS_A, NONE, 120, USAGE);
-        check(&rt, &row)?;
+fn a_thin_program_is_compiled_and_reported(rt: HostRuntime) -> Result<(), Fail> {
+    for &(text, instructions) in &COMPILED {
+        check_compiled(&rt, &WORDS, text, instructions, [64, 256])?;
     }
     Ok(())
 }
 
 #[test]
 fn a_text_that_is_not_thin_is_not_built(rt: HostRuntime) -> Result<(), Fail> {
-    let long = vec![in rt.alloc(); b' '; 65_537]?;
-    for text in [b"int main(void){int x;}".as_slice(), b"".as_slice(), &long] {
+    let long = vec![in rt.alloc(); b' '; 4_194_304]?;
+    for text in [
+        b"int main(void){int x;}".as_slice(),
+        b"",
+        &long[..65_537],
+        &long,
+    ] {
         check(
             &rt,
             &refused(&WORDS, text, NONE, 122, b"layc: t.c: form not built yet\n"),
         )?;
     }
     Ok(())
+}
+
+#[test]
+fn a_file_of_too_many_bytes_is_named(rt: HostRuntime) -> Result<(), Fail> {
+    let long = vec![in rt.alloc(); b' '; 4_194_305]?;
+    check(
+        &rt,
+        &refused(&WORDS, &long, NONE, 121, b"layc: t.c is too long\n"),
+    )
 }
 
 #[test]

@@ -7,4 +7,6 @@ mod compiling;
 #[cfg(test)]
 mod running;
 #[cfg(test)]
+mod words;
+#[cfg(test)]
 mod world;

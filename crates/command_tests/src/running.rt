@@ -134,14 +134,14 @@ fn the_example_traps_at_its_last_word(rt: HostRuntime) -> Result<(), Fail> {
     check(&rt, &EXAMPLE, &refused(&WORDS, 125, trap))?;
     // It traps in the sixth step.
     for steps in ["6", "100000000000000000", "1000000000000000000"] {
-        let words = ["run", "--steps", steps, "e"];
+        let words = ["run", "e", "--steps", steps];
         check(&rt, &EXAMPLE, &refused(&words, 125, trap))?;
     }
     check(
         &rt,
         &EXAMPLE,
         &refused(
-            &["run", "--steps", "5", "e"],
+            &["run", "--steps=5", "e"],
             126,
             b"layc: step limit 5 reached\n",
         ),
@@ -280,9 +280,11 @@ fn a_stream_that_fails_in_a_call_ends_the_run(rt: HostRuntime) -> Result<(), Fai
     check(&rt, &elf, &second)
 }
 
-/// The status of a text that is compiled and then run, where `out` has gained the report and this.
+/// The status of a text that is compiled, with little room, and then run, where `out` has gained the report
+/// and this.
 fn ran_in(rt: &HostRuntime, prints: &[u8], world: &mut World) -> Result<Option<u8>, Fail> {
-    let first = status(rt, &["compile", "-o", "e", "t.c"], world)?;
+    let words = ["compile", "-o", "e", "--heap", "1", "--stack", "1", "t.c"];
+    let first = status(rt, &words, world)?;
     let second = status(rt, &WORDS, world)?;
     let written = world
         .streams

@@ -1,65 +1,89 @@
 -- The outside after `compile`.
-use Rattle.std.specs.Prelude.{◌≡◌, ℕ, List, [], ◌∷◌, ◌++◌, take, codes, Option, Some, ◌⊎◌}
+use Rattle.std.specs.Prelude.{◌≡◌, ℕ, ◌≤◌, List, [], ◌∷◌, ◌++◌, length, take, slice_get, codes, All, Option, Some, ◌⊎◌, ⊤}
 use Rattle.lay_base.specs.Known.{Contents, Rose, IfKnown, Appends, FilesKeepBut}
 use Rattle.thin_parser.specs.ThinTree.{Program}
 use Rattle.thin_parser.specs.ThinText.{IsThinText}
 use Rattle.thin_code.specs.Meaning.{thin_run, IsLight}
 use Rattle.agreement.specs.Agreement.{Agrees}
-use Rattle.lay_commands.specs.Outside.{Outside}
+use Rattle.lay_commands.specs.Words.{Compilation}
+use Rattle.lay_commands.specs.Outside.{Outside, HoldsWithin}
 
--- MiB of heap and of stack that a compiled program has
-abbrev pub heap_mib : ℕ
-heap_mib = 256
+-- the greatest number of files that a program has
+abbrev pub most_files : ℕ
+most_files = 64
 
-abbrev pub stack_mib : ℕ
-stack_mib = 64
+-- the greatest number of bytes of a file
+abbrev pub file_limit : ℕ
+file_limit = 4194304
 
 -- the report's first line
 abbrev pub report : List ℕ
 report = codes "layc report 1" ++ 10 ∷ []
 
--- the machine on the file does what the program does
-abbrev pub AgreesWith : Program → (elf : List ℕ) → Type 0
-AgreesWith p elf = Agrees (thin_run p) IsLight elf heap_mib stack_mib
+-- the machine on the file does what the program does, with so many MiB of heap and of stack
+abbrev pub AgreesWith : (heap stack : ℕ) → Program → (elf : List ℕ) → Type 0
+AgreesWith heap stack p elf = Agrees (thin_run p) IsLight elf heap stack
 
--- where the files are known: the file was the text of a program with that fact
-abbrev pub WasTextOf : Option Contents → (file : List ℕ) → (Program → Type 0) → Type 0
-WasTextOf files file P = IfKnown files file (λ was. (text : List ℕ) × (was ≡ Some text) × ((p : Program) × IsThinText text p × P p))
+-- ---- the files at entry
 
--- ... was the text of no program
-abbrev pub WasNoText : Option Contents → (file : List ℕ) → Type 0
-WasNoText files file = IfKnown files file (λ was. (text : List ℕ) × (was ≡ Some text) × ((p : Program) → IsThinText text p → ⊥))
+-- where the files are known: the name has bytes within the limit of a file
+abbrev pub IsReadable : Option Contents → (name : List ℕ) → Type 0
+IsReadable files name = HoldsWithin file_limit files name (λ bytes. ⊤)
+
+-- There are no more names than a program has files, and reading them in their order comes to this one: those before it can be read.
+pub record ComesTo (files : Option Contents) (names : List (List ℕ)) (name : List ℕ) : Type 0 where
+  pub few : length names ≤ most_files
+  pub place : (k : ℕ) × (slice_get names k ≡ Some name) × All (IsReadable files) (take k names)
+
+-- There is one name. Where the files are known, it had the text of a program with that fact.
+abbrev pub WasTextOf : Option Contents → (names : List (List ℕ)) → (Program → Type 0) → Type 0
+WasTextOf files names P = (file : List ℕ) × (names ≡ file ∷ [])
+    × IfKnown files file (λ was. (text : List ℕ) × (was ≡ Some text) × ((p : Program) × IsThinText text p × P p))
+
+-- If there is one name, and the files are known, it had the text of no program.
+abbrev pub WasNoText : Option Contents → (names : List (List ℕ)) → Type 0
+WasNoText files names = (file : List ℕ) → names ≡ file ∷ []
+    → IfKnown files file (λ was. (text : List ℕ) × (was ≡ Some text) × ((p : Program) → IsThinText text p → ⊥))
+
+-- There are no more names than a program has files, and all can be read. They are several, or one that is no thin text. The first is named.
+pub record AreNotThin (files : Option Contents) (names : List (List ℕ)) (name : List ℕ) : Type 0 where
+  pub few : length names ≤ most_files
+  pub first : slice_get names 0 ≡ Some name
+  pub read : All (IsReadable files) names
+  pub cause : WasNoText files names
+
+-- ---- what is left
 
 -- the file is an ELF file that agrees with the program
-abbrev pub IsCompiled : Program → Option (List ℕ) → Type 0
-IsCompiled p file = (elf : List ℕ) × (file ≡ Some elf) × AgreesWith p elf
+abbrev pub IsCompiled : Compilation → Program → Option (List ℕ) → Type 0
+IsCompiled c p file = (elf : List ℕ) × (file ≡ Some elf) × AgreesWith c.heap c.stack p elf
 
 -- the file is as it was, or a first part of such a file
-abbrev pub IsPartlyCompiled : Program → (was file : Option (List ℕ)) → Type 0
-IsPartlyCompiled p was file = (file ≡ was) ⊎ ((elf : List ℕ) × AgreesWith p elf × ((k : ℕ) × (file ≡ Some (take k elf))))
+abbrev pub IsPartlyCompiled : Compilation → Program → (was file : Option (List ℕ)) → Type 0
+IsPartlyCompiled c p was file = (file ≡ was) ⊎ ((elf : List ℕ) × AgreesWith c.heap c.stack p elf × ((k : ℕ) × (file ≡ Some (take k elf))))
 
 -- The program of FILE, as it was at entry, is compiled to OUT. No other file changed, and the input was not read.
-pub record IsCompiledTo (out file : List ℕ) (before now : Outside) : Type 0 where
-  pub program : WasTextOf before.files file (λ p. IfKnown now.files out (IsCompiled p))
-  pub others : FilesKeepBut out before.files now.files
+pub record IsCompiledTo (c : Compilation) (before now : Outside) : Type 0 where
+  pub program : WasTextOf before.files c.files (λ p. IfKnown now.files c.out (IsCompiled c p))
+  pub others : FilesKeepBut c.out before.files now.files
   pub unread : now.input ≡ before.input
 
 -- and the report was written
-pub record IsDone (out file : List ℕ) (before now : Outside) : Type 0 where
-  pub compiled : IsCompiledTo out file before now
+pub record IsDone (c : Compilation) (before now : Outside) : Type 0 where
+  pub compiled : IsCompiledTo c before now
   pub reported : Appends before.out.bytes now.out.bytes report
 
 -- The host failed to write OUT: nothing is reported.
-pub record HostFailed (out file : List ℕ) (before now : Outside) : Type 0 where
-  pub cause : Rose (before.failed_writes out) (now.failed_writes out)
-  pub partly : WasTextOf before.files file (λ p. IfKnown before.files out (λ was. IfKnown now.files out (IsPartlyCompiled p was)))
-  pub others : FilesKeepBut out before.files now.files
+pub record HostFailed (c : Compilation) (before now : Outside) : Type 0 where
+  pub cause : Rose (before.failed_writes c.out) (now.failed_writes c.out)
+  pub partly : WasTextOf before.files c.files (λ p. IfKnown before.files c.out (λ was. IfKnown now.files c.out (IsPartlyCompiled c p was)))
+  pub others : FilesKeepBut c.out before.files now.files
   pub unreported : now.out ≡ before.out
   pub unread : now.input ≡ before.input
 
 -- The report could not be written, or only a first part: the file is whole, and no write of the host failed.
-pub record OutFailed (out file : List ℕ) (before now : Outside) : Type 0 where
+pub record OutFailed (c : Compilation) (before now : Outside) : Type 0 where
   pub cause : Rose before.out.faults now.out.faults
-  pub compiled : IsCompiledTo out file before now
+  pub compiled : IsCompiledTo c before now
   pub written : (name : List ℕ) → now.failed_writes name ≡ before.failed_writes name
   pub partly : (k : ℕ) × Appends before.out.bytes now.out.bytes (take k report)

@@ -1,3 +1,4 @@
+pub mod CommandLine
 pub mod Words
 pub mod Outside
 pub mod Compiling

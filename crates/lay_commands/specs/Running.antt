@@ -1,12 +1,12 @@
 -- The outside after `run`.
-use Rattle.std.specs.Prelude.{◌≡◌, ℕ, ◌+◌, ◌<◌, ◌≤◌, List, ◌++◌, length, take, drop, Option, Some, Ok}
-use Rattle.lay_base.specs.Known.{Contents, IfKnown, Appends, FilesKeep}
+use Rattle.std.specs.Prelude.{◌≡◌, ℕ, ◌+◌, ◌<◌, ◌≤◌, List, ◌++◌, take, drop, Option, Some, Ok}
+use Rattle.lay_base.specs.Known.{Contents, Appends, FilesKeep}
 use Rattle.rv_isa.specs.declared.image.Image.{Image}
 use Rattle.rv_isa.specs.Memory.{bytes_at}
 use Rattle.rv_isa.specs.Step.{State, Standing, Running, register, IsAtCall}
 use Rattle.rv_isa.specs.Run.{start, state_after, machine_run}
 use Rattle.elf32.specs.Loaded.{loaded}
-use Rattle.lay_commands.specs.Outside.{Outside}
+use Rattle.lay_commands.specs.Outside.{Outside, HoldsWithin}
 
 -- the greatest number of bytes of an ELF file
 abbrev pub elf_limit : ℕ
@@ -14,12 +14,7 @@ elf_limit = 201326592
 
 -- where the files are known: ELF has bytes within the limit, and this holds of them
 abbrev pub HoldsElf : Option Contents → (elf : List ℕ) → (List ℕ → Type 0) → Type 0
-HoldsElf files elf P = IfKnown files elf (λ file. (bytes : List ℕ) × (file ≡ Some bytes) × (length bytes ≤ elf_limit) × P bytes)
-
--- ... ELF has more bytes, and its reading did not fail
-abbrev pub HoldsLonger : (elf : List ℕ) → (before now : Outside) → Type 0
-HoldsLonger elf before now = IfKnown before.files elf (λ file.
-    (now.failed_reads elf ≡ before.failed_reads elf) × ((bytes : List ℕ) × (file ≡ Some bytes) × (elf_limit < length bytes)))
+HoldsElf files elf P = HoldsWithin elf_limit files elf P
 
 -- The bytes of ELF load as an image. Where the input is known too, this holds of the image with that input. No
 -- file changed.

@@ -1,7 +1,9 @@
 -- What each stage of `compile` and of `run` gives, by its answer. Want of memory says nothing.
-use Rattle.std.specs.Prelude.{◌≡◌, ℕ, ◌<◌, ◌≤◌, List, length, take, Option, Some, Result, Ok, Err, ◌⊎◌}
+use Rattle.std.specs.Prelude.{◌≡◌, ℕ, ◌<◌, ◌≤◌, List, [], ◌∷◌, length, map, take, All, Option, Some, Result, Ok, Err, ◌⊎◌}
 use Rattle.std.specs.Global.{Vec}
 use Rattle.lay_base.specs.Known.{Contents, Rose, IfKnown, Appends}
+use Rattle.lay_base.specs.declared.place.File.{File}
+use Rattle.lay_base.specs.declared.faults.LimitKind.TheVariants as L
 use Rattle.refusals.specs.declared.refusal.Refusal.{Refusal}
 use Rattle.refusals.specs.declared.refusal.Refusal.TheVariants as R
 use Rattle.thin_parser.specs.declared.thin_tree.Thin.{Thin}
@@ -12,26 +14,53 @@ use Rattle.rv_isa.specs.Step.{Exits, Trap, Break}
 use Rattle.elf32.specs.Loaded.{loaded}
 use Rattle.rv_machine.specs.declared.machine.MachineEnd.{MachineEnd}
 use Rattle.rv_machine.specs.declared.machine.MachineEnd.TheVariants as E
-use Rattle.lay_commands.specs.Outside.{Outside, IsUntouched}
-use Rattle.lay_commands.specs.Compiling.{WasNoText, IsDone, HostFailed, OutFailed, report}
-use Rattle.lay_commands.specs.Running.{elf_limit, HoldsElf, HoldsLonger, Ended, WouldGoOn, Stopped, StoppedInRead, StoppedInWrite}
+use Rattle.lay_commands.specs.Words.{Compilation}
+use Rattle.lay_commands.specs.Outside.{Outside, IsUntouched, HoldsLonger}
+use Rattle.lay_commands.specs.Compiling.{most_files, file_limit, ComesTo, AreNotThin, IsDone, HostFailed, OutFailed, report}
+use Rattle.lay_commands.specs.Running.{elf_limit, HoldsElf, Ended, WouldGoOn, Stopped, StoppedInRead, StoppedInWrite}
+
+-- ---- a file, of either command
+
+-- the bytes under the name, at most so many, are read
+abbrev pub BytesGive : (limit reads_before reads_now : ℕ) → Option Contents → (name : List ℕ) → Result (Vec ℕ) Refusal → Type 0
+BytesGive limit before now files name (Ok bytes) = IfKnown files name (λ file. file ≡ Some bytes.items) × (length bytes.items ≤ limit)
+BytesGive limit before now files name (Err (R.FileFault named)) = (named ≡ name) × Rose before now
+BytesGive limit before now files name (Err (R.TooLong named)) =
+    (named ≡ name) × IfKnown files name (λ file. (now ≡ before) × ((bytes : List ℕ) × (file ≡ Some bytes) × (limit < length bytes)))
+BytesGive limit before now files name (Err R.Memory) = Unit {0}
+BytesGive limit before now files name (Err _) = ⊥
 
 -- ---- compile
 
--- the text of FILE is read
-abbrev pub TextGives : (reads_before reads_now : ℕ) → Option Contents → (file : List ℕ) → Result (Vec ℕ) Refusal → Type 0
-TextGives before now files file (Ok text) = IfKnown files file (λ was. was ≡ Some text.items)
-TextGives before now files file (Err (R.FileFault name)) = (name ≡ file) × Rose before now
-TextGives before now files file (Err (R.NotBuilt name)) = (name ≡ file) × WasNoText files file
-TextGives before now files file (Err R.Memory) = Unit {0}
-TextGives before now files file (Err _) = ⊥
+-- there are no more files than a program has
+abbrev pub NumberGives : (files : ℕ) → Result (Unit {0}) Refusal → Type 0
+NumberGives files (Ok done) = files ≤ most_files
+NumberGives files (Err (R.Limit L.Files counted)) = (counted ≡ files) × (most_files < files)
+NumberGives files (Err _) = ⊥
 
--- its program is found
-abbrev pub ProgramGives : (file text : List ℕ) → Result Thin Refusal → Type 0
-ProgramGives file text (Ok t) = IsThinText text (program_of t)
-ProgramGives file text (Err (R.NotBuilt name)) = (name ≡ file) × ((p : Program) → IsThinText text p → ⊥)
-ProgramGives file text (Err R.Memory) = Unit {0}
-ProgramGives file text (Err _) = ⊥
+-- the file has the bytes under its name, where these are known, and is within the limit
+abbrev pub IsRead : Option Contents → File → Type 0
+IsRead files file = IfKnown files file.name (λ was. was ≡ Some file.bytes) × (length file.bytes ≤ file_limit)
+
+-- the files are read, in the order of their names
+abbrev pub FilesGive : (reads_before reads_now : List ℕ → ℕ) → Option Contents → (names : List (List ℕ)) → Result (List File) Refusal → Type 0
+FilesGive before now files names (Ok read) = (map (λ file. file.name) read ≡ names) × All (IsRead files) read
+FilesGive before now files names (Err (R.FileFault name)) = ComesTo files names name × Rose (before name) (now name)
+FilesGive before now files names (Err (R.TooLong name)) = ComesTo files names name
+    × IfKnown files name (λ file. (now name ≡ before name) × ((bytes : List ℕ) × (file ≡ Some bytes) × (file_limit < length bytes)))
+FilesGive before now files names (Err R.Memory) = Unit {0}
+FilesGive before now files names (Err _) = ⊥
+
+-- the files are one, whose bytes are the text of the program
+abbrev pub SpellThin : List File → Program → Type 0
+SpellThin files p = (file : File) × (files ≡ file ∷ []) × IsThinText file.bytes p
+
+-- their program is found; a refusal has the name that is given
+abbrev pub ProgramGives : (given : List ℕ) (files : List File) → Result Thin Refusal → Type 0
+ProgramGives given files (Ok t) = SpellThin files (program_of t)
+ProgramGives given files (Err (R.NotBuilt name)) = (name ≡ given) × ((p : Program) → SpellThin files p → ⊥)
+ProgramGives given files (Err R.Memory) = Unit {0}
+ProgramGives given files (Err _) = ⊥
 
 -- the ELF file is written under OUT
 abbrev pub ElfGives : (writes_before writes_now : ℕ) → (before now : Option Contents) → (out elf : List ℕ) → Result (Unit {0}) Refusal → Type 0
@@ -48,24 +77,18 @@ ReportGives faults_before faults_now before now (Err R.WriteFault) = Rose faults
 ReportGives faults_before faults_now before now (Err _) = ⊥
 
 -- all stages, one after the other
-abbrev pub CompileGives : (out file : List ℕ) → (before now : Outside) → Result (Unit {0}) Refusal → Type 0
-CompileGives out file before now (Ok done) = IsDone out file before now
-CompileGives out file before now (Err (R.FileFault name)) = (name ≡ file) × Rose (before.failed_reads file) (now.failed_reads file) × IsUntouched before now
-CompileGives out file before now (Err (R.NotBuilt name)) = (name ≡ file) × WasNoText before.files file × IsUntouched before now
-CompileGives out file before now (Err R.WriteFault) = HostFailed out file before now ⊎ OutFailed out file before now
-CompileGives out file before now (Err R.Memory) = IsUntouched before now
-CompileGives out file before now (Err _) = ⊥
+abbrev pub CompileGives : Compilation → (before now : Outside) → Result (Unit {0}) Refusal → Type 0
+CompileGives c before now (Ok done) = IsDone c before now
+CompileGives c before now (Err (R.Limit L.Files counted)) = (counted ≡ length c.files) × (most_files < length c.files) × (now ≡ before)
+CompileGives c before now (Err (R.FileFault name)) =
+    ComesTo before.files c.files name × Rose (before.failed_reads name) (now.failed_reads name) × IsUntouched before now
+CompileGives c before now (Err (R.TooLong name)) = ComesTo before.files c.files name × HoldsLonger file_limit name before now × IsUntouched before now
+CompileGives c before now (Err (R.NotBuilt name)) = AreNotThin before.files c.files name × IsUntouched before now
+CompileGives c before now (Err R.WriteFault) = HostFailed c before now ⊎ OutFailed c before now
+CompileGives c before now (Err R.Memory) = IsUntouched before now
+CompileGives c before now (Err _) = ⊥
 
 -- ---- run
-
--- the bytes of ELF are read
-abbrev pub BytesGive : (reads_before reads_now : ℕ) → Option Contents → (elf : List ℕ) → Result (Vec ℕ) Refusal → Type 0
-BytesGive before now files elf (Ok bytes) = IfKnown files elf (λ file. file ≡ Some bytes.items) × (length bytes.items ≤ elf_limit)
-BytesGive before now files elf (Err (R.FileFault name)) = (name ≡ elf) × Rose before now
-BytesGive before now files elf (Err (R.TooLong name)) =
-    (name ≡ elf) × IfKnown files elf (λ file. (now ≡ before) × ((bytes : List ℕ) × (file ≡ Some bytes) × (elf_limit < length bytes)))
-BytesGive before now files elf (Err R.Memory) = Unit {0}
-BytesGive before now files elf (Err _) = ⊥
 
 -- their image is found
 abbrev pub ImageGives : (bytes : List ℕ) → Result Image Refusal → Type 0
@@ -93,6 +116,6 @@ RunGives limit elf before now (Err R.ReadFault) = Rose before.input.faults now.i
 RunGives limit elf before now (Err R.WriteFault) = Rose before.out.faults now.out.faults × Stopped limit elf before now (StoppedInWrite before now)
 RunGives limit elf before now (Err (R.BadElf field found)) = HoldsElf before.files elf (λ bytes. loaded bytes ≡ Err (field, found)) × IsUntouched before now
 RunGives limit elf before now (Err (R.FileFault name)) = (name ≡ elf) × Rose (before.failed_reads elf) (now.failed_reads elf) × IsUntouched before now
-RunGives limit elf before now (Err (R.TooLong name)) = (name ≡ elf) × HoldsLonger elf before now × IsUntouched before now
+RunGives limit elf before now (Err (R.TooLong name)) = (name ≡ elf) × HoldsLonger elf_limit elf before now × IsUntouched before now
 RunGives limit elf before now (Err R.Memory) = IsUntouched before now
 RunGives limit elf before now (Err _) = ⊥

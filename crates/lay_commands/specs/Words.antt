@@ -1,46 +1,123 @@
 -- What the words on the command line ask for.
-use Rattle.std.specs.Prelude.{◌≡◌, ◌≢◌, ℕ, ◌^◌, ◌≤◌, List, [], ◌∷◌, length, codes, Option, MatchOption, ◌⊎◌}
-use Rattle.std.specs.Str.Parse.{IsNumeral, digits_value}
+use Rattle.std.specs.Prelude.{ℕ, ◌^◌, ◌≤◌, ◌&&◌, nat_le, Bool, false, List, [], ◌∷◌, map, length, codes, Option, Some, None, ⊤}
+use Rattle.std.specs.Prelude.{option_and_then, if◌then◌else◌}
+use Rattle.std.specs.List.{list_all}
+use Rattle.std.specs.Option.{option_map_or}
+use Rattle.std.specs.Char.{is_ascii_digit}
+use Rattle.std.specs.Str.{bytes_eq}
+use Rattle.std.specs.Str.Parse.{digits_value}
+use Rattle.clap.specs.Walk.{Text, Row, first_of, one_of, all_of}
+use Rattle.lay_commands.specs.CommandLine.{matches_in}
+use Rattle.lay_commands.specs.declared.words.CompileRequest.{CompileRequest}
 use Rattle.lay_commands.specs.declared.words.Request.{Request}
 use Rattle.lay_commands.specs.declared.words.Request.TheVariants as Q
 
-pub data Command : Type 0 where
-  Compile : (out file : List ℕ) → Command
-  Run : (steps : ℕ) (elf : List ℕ) → Command
+-- ---- numbers, where an option is not given, and the greatest
 
--- the name of a file: not empty, and no option
-abbrev pub IsFileWord : List ℕ → Type 0
-IsFileWord [] = ⊥
-IsFileWord (c ∷ rest) = c ≢ 45
+abbrev pub default_heap : ℕ
+default_heap = 256
 
--- one to twenty decimal digits, which may begin with zeros, spell a number of steps
-pub record SpellsSteps (word : List ℕ) (steps : ℕ) : Type 0 where
-  pub digits : IsNumeral 10 word
-  pub few : length word ≤ 20
-  pub value : steps ≡ digits_value 10 word
-  pub least : 1 ≤ steps
-  pub most : steps ≤ 10 ^ 18
+abbrev pub most_heap : ℕ
+most_heap = 1024
 
--- the number of steps where the words say none
+abbrev pub default_stack : ℕ
+default_stack = 64
+
+abbrev pub most_stack : ℕ
+most_stack = 128
+
 abbrev pub default_steps : ℕ
 default_steps = 10000000000
 
--- these words and no others ask for the command
-abbrev pub AsksFor : List (List ℕ) → Command → Type 0
-AsksFor words (Compile out file) = (words ≡ codes "compile" ∷ codes "-o" ∷ out ∷ file ∷ []) × IsFileWord out × IsFileWord file
-AsksFor words (Run steps elf) = IsFileWord elf ×
-    (((words ≡ codes "run" ∷ elf ∷ []) × (steps ≡ default_steps))
-    ⊎ ((number : List ℕ) × (words ≡ codes "run" ∷ codes "--steps" ∷ number ∷ elf ∷ []) × SpellsSteps number steps))
+abbrev pub most_steps : ℕ
+most_steps = 10 ^ 18
 
--- the words ask for nothing
-abbrev pub AsksForNothing : List (List ℕ) → Type 0
-AsksForNothing words = (command : Command) → AsksFor words command → ⊥
+-- the value of a word of one to twenty decimal digits, which may begin with zeros, from 1 to the greatest
+abbrev pub number_in : (most : ℕ) (word : List ℕ) → Option ℕ
+number_in most word =
+    if list_all is_ascii_digit word && nat_le (length word) 20 && nat_le 1 (digits_value 10 word) && nat_le (digits_value 10 word) most
+    then Some (digits_value 10 word) else None
+
+-- ---- commands
+
+-- what `compile` is asked for: the name OUT, MiB of heap and of stack, and the names of the files
+pub record Compilation : Type 0 where
+  pub out : List ℕ
+  pub is_plain : Bool
+  pub heap : ℕ
+  pub stack : ℕ
+  pub files : List (List ℕ)
+
+-- there is a file, and heap and stack are within their limits
+pub record IsInRange (c : Compilation) : Type 0 where
+  pub some : 1 ≤ length c.files
+  pub heap : (1 ≤ c.heap) × (c.heap ≤ most_heap)
+  pub stack : (1 ≤ c.stack) × (c.stack ≤ most_stack)
+
+pub data Command : Type 0 where
+  Compile : Compilation → Command
+  Run : (steps : ℕ) (elf : List ℕ) → Command
+
+-- ---- by what is found for the arguments of a command
+
+-- the number that an option has; where it is not given, the default
+abbrev pub number_of : (name : Text) (default most : ℕ) → List Row → Option ℕ
+number_of name default most rows = option_map_or (number_in most) (first_of name rows) (Some default)
+
+-- the flag is given
+abbrev pub is_given : (name : Text) → List Row → Bool
+is_given name rows = option_map_or (bytes_eq (codes "true")) (one_of name rows) false
+
+abbrev pub some_files : List Text → Option (List Text)
+some_files [] = None
+some_files (file ∷ more) = Some (file ∷ more)
+
+-- the files, which are one or more
+abbrev pub files_of : List Row → Option (List Text)
+files_of rows = option_and_then some_files (all_of (codes "FILE") rows)
+
+-- all of these have to be there
+abbrev pub compile_with : (out : Option Text) (files : Option (List Text)) (heap stack : Option ℕ) (is_plain : Bool) → Option Command
+compile_with (Some out) (Some files) (Some heap) (Some stack) is_plain =
+    Some (Compile (record { out = out; is_plain = is_plain; heap = heap; stack = stack; files = files }))
+compile_with _ _ _ _ is_plain = None
+
+abbrev pub compile_of : List Row → Option Command
+compile_of rows = compile_with (first_of (codes "OUT") rows) (files_of rows) (number_of (codes "heap") default_heap most_heap rows)
+    (number_of (codes "stack") default_stack most_stack rows) (is_given (codes "plain") rows)
+
+abbrev pub run_with : (elf : Option Text) (steps : Option ℕ) → Option Command
+run_with (Some elf) (Some steps) = Some (Run steps elf)
+run_with _ _ = None
+
+abbrev pub run_of : List Row → Option Command
+run_of rows = run_with (first_of (codes "ELF") rows) (number_of (codes "steps") default_steps most_steps rows)
+
+-- the command that was found under this name
+abbrev pub command_found : Text × List Row → Option Command
+command_found found = if bytes_eq found.0 (codes "compile") then compile_of found.1 else run_of found.1
+
+-- the command that the words ask for, if they ask for one
+abbrev pub command_of : List (List ℕ) → Option Command
+command_of words = option_and_then command_found (matches_in words)
+
+-- ---- requests
+
+abbrev pub compilation_of : CompileRequest → Compilation
+compilation_of request = record {
+  out = request.out.now;
+  is_plain = request.plain;
+  heap = request.heap;
+  stack = request.stack;
+  files = map (λ file. file.now) request.files.now;
+}
 
 -- the command of a request
-abbrev pub command_in : Request → Command
-command_in (Q.Compile request) = Compile request.out.now request.file.now
-command_in (Q.Run request) = Run request.steps request.elf.now
+abbrev pub requested : Request → Command
+requested (Q.Compile request) = Compile (compilation_of request)
+requested (Q.Run request) = Run request.steps request.elf.now
 
--- a request that the words ask for, or none where they ask for nothing
-abbrev pub Asks : List (List ℕ) → Option Request → Type 0
-Asks words answer = MatchOption answer (AsksForNothing words) (λ request. AsksFor words (command_in request))
+-- what a request asks for is in range
+abbrev pub IsPossible : Request → Type 0
+IsPossible (Q.Compile request) = IsInRange (compilation_of request)
+IsPossible (Q.Run request) = ⊤

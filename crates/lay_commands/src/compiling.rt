@@ -1,60 +1,76 @@
-//! `compile`: from the text of a program to an ELF file and a report.
+//! `compile`: from the texts of a program's files to an ELF file and a report.
 
-ghost use Rattle.std.specs.Prelude.{◌≡◌, ◌≤◌, ℕ, List, IfOk, OnOk, All, length};
+ghost use Rattle.std.specs.Prelude.{◌≡◌, ◌<◌, ◌≤◌, ℕ, List, IfOk, OnOk, All, length, map, slice_get, Some};
 ghost use Rattle.lay_base.specs.Known.{FilesKeep, FilesKeepBut};
 ghost use Rattle.thin_parser.specs.ThinTree.{program_of};
 ghost use Rattle.thin_parser.specs.ThinText.{punctuators, whole_sums, spelled_program};
+ghost use Rattle.lay_commands.specs.Words.{IsInRange, compilation_of};
 ghost use Rattle.lay_commands.specs.Outside.{Stream, outside, stream};
-ghost use Rattle.lay_commands.specs.Compiling.{AgreesWith};
-ghost use Rattle.lay_commands.specs.Stages.{TextGives, ProgramGives, ElfGives, ReportGives, CompileGives};
+ghost use Rattle.lay_commands.specs.Compiling.{AgreesWith, most_files};
+ghost use Rattle.lay_commands.specs.Stages.{NumberGives, FilesGive, ProgramGives, ElfGives, ReportGives, CompileGives};
 
+use crate::reading::bytes_of;
 use crate::words::CompileRequest;
-use lay_base::{Host, HostRead, HostWrite, Name, NoMemory, Sink};
+use lay_base::{Bytes, File, Files, Host, HostWrite, LimitKind, List, Name, NoMemory, Sink, add};
 use refusals::Refusal;
 use std::alloc::Global;
 use thin_code::image_of_thin;
 use thin_parser::{Thin, thin};
 
-/// MiB of heap that a compiled program has.
-const HEAP_MIB: u32 = 256;
+/// The greatest number of files of a program.
+const MOST_FILES: usize = 64;
 
-/// MiB of stack that a compiled program has.
-const STACK_MIB: u32 = 64;
+/// The greatest number of bytes of a file.
+const FILE_LIMIT: u64 = 4_194_304;
 
-/// The greatest number of bytes of a thin text.
-const TEXT_LIMIT: u64 = 65_536;
+/// Refuses more names than a program has files.
+fn check_number(names: &[&str]) -> Result<(), Refusal>
+    ensures { NumberGives (length names.now) result }
+{
+    if names.len() > MOST_FILES {
+        return Err(Refusal::Limit(LimitKind::Files, names.len() as u64));
+    }
+    Ok(())
+}
 
-/// The text of the file; one that is too long is no thin text.
-fn text_of<H: Host>(alloc: Global, host: &mut H, file: &str) -> Result<Vec<u8>, Refusal>
+/// The files, read in the order of their names.
+fn read_files<H: Host>(alloc: Global, host: &mut H, names: &[&str]) -> Result<Files, Refusal>
+    requires { length names.now ≤ most_files }
     ensures files { FilesKeep (H.files host.old) (H.files host.new) }
     ensures writes { OnOk result ((name : List ℕ) → H.failed_writes host.new name ≡ H.failed_writes host.old name) }
-    ensures gives { TextGives (H.failed_reads host.old file.now) (H.failed_reads host.new file.now) (H.files host.old) file.now result }
+    ensures gives { FilesGive (H.failed_reads host.old) (H.failed_reads host.new) (H.files host.old) (map (λ name. name.now) names.now) result }
 {
-    match host.read_file(file, TEXT_LIMIT) {
-        Ok(text) => Ok(text),
-        Err(HostRead::Failed) => Err(Refusal::FileFault(Name::copy_of(alloc, file)?)),
-        Err(HostRead::TooLong) => Err(Refusal::NotBuilt(Name::copy_of(alloc, file)?)),
-        Err(HostRead::Memory) => Err(Refusal::Memory),
+    let mut files = List::new(alloc);
+    for &name in names {
+        let bytes = Bytes::of(bytes_of(alloc, host, name, FILE_LIMIT)?);
+        let name = Name::copy_of(alloc, name)?;
+        add(&mut files, File { name, bytes })?;
     }
+    Ok(files)
 }
 
-/// The program that the text spells.
-fn program_in(alloc: Global, file: &str, text: &[u8]) -> Result<Thin, Refusal>
-    ensures { ProgramGives file.now text.now result }
+/// The program that the files spell. A refusal has the name that is given. It takes the files, so that their
+/// memory is free after it.
+fn program_in(alloc: Global, name: &str, files: Files) -> Result<Thin, Refusal>
+    ensures { ProgramGives name.now files result }
 {
-    match thin(alloc, text)? {
-        Some(program) => Ok(program),
-        None => Err(Refusal::NotBuilt(Name::copy_of(alloc, file)?)),
+    if let [file] = files.as_slice() {
+        if let Some(program) = thin(alloc, file.bytes.as_slice())? {
+            return Ok(program);
+        }
     }
+    Err(Refusal::NotBuilt(Name::copy_of(alloc, name)?))
 }
 
-/// The ELF file of a program.
-fn elf_of(alloc: Global, program: &Thin) -> Result<Vec<u8>, NoMemory>
+/// The ELF file of a program, with so many MiB of heap and of stack.
+fn elf_of(alloc: Global, program: &Thin, heap: u32, stack: u32) -> Result<Vec<u8>, NoMemory>
     requires small { All (λ t. punctuators t ≤ 300) (whole_sums (program_of program.now)) }
     requires few { length (spelled_program (program_of program.now)) ≤ 10000 }
-    ensures { IfOk result (λ elf. AgreesWith (program_of program.now) elf.items) }
+    requires heap { (1 ≤ heap) × (heap ≤ 1024) }
+    requires stack { (1 ≤ stack) × (stack ≤ 128) }
+    ensures { IfOk result (λ elf. AgreesWith heap stack (program_of program.now) elf.items) }
 {
-    let image = image_of_thin(alloc, program, HEAP_MIB, STACK_MIB)?;
+    let image = image_of_thin(alloc, program, heap, stack)?;
     elf32::write(alloc, &image)
 }
 
@@ -82,24 +98,26 @@ fn write_report<O: Sink>(out: &mut O) -> Result<(), Refusal>
     }
 }
 
-/// Compiles a file: each stage refuses what it cannot take, and only the last two write.
+/// Compiles a program: each stage refuses what it cannot take, and only the last two write.
 pub fn compile<H: Host, O: Sink>(
     alloc: Global,
-    request: CompileRequest<'_>,
+    request: CompileRequest<'_, '_>,
     host: &mut H,
     out: &mut O,
 ) -> Result<(), Refusal>
+    requires { IsInRange (compilation_of request) }
     // Whatever the input is, it stays.
     ensures { (input : Stream) →
         let before = outside (H.files host.old) (H.failed_reads host.old) (H.failed_writes host.old)
         input (stream (O.written out.old) (O.faults out.old)) in
         let now = outside (H.files host.new) (H.failed_reads host.new) (H.failed_writes host.new)
         input (stream (O.written out.new) (O.faults out.new)) in
-        CompileGives request.entry.out.now request.entry.file.now before now result }
+        CompileGives (compilation_of request.entry) before now result }
 {
-    let text = text_of(alloc, host, request.file)?;
-    let program = program_in(alloc, request.file, &text)?;
-    let elf = elf_of(alloc, &program)?;
+    check_number(request.files)?;
+    let files = read_files(alloc, host, request.files)?;
+    let program = program_in(alloc, request.files[0], files)?;
+    let elf = elf_of(alloc, &program, request.heap, request.stack)?;
     write_elf(host, request.out, &elf)?;
     write_report(out)
 }

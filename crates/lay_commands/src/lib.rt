@@ -5,8 +5,11 @@
 //! every outcome when it comes and what it leaves; the definitions that it cites are in `specs/`.
 #![tactic(auto)]
 
+mod command_line;
 mod compiling;
+mod numbers;
 mod outcome;
+mod reading;
 mod running;
 mod top;
 mod words;

@@ -1,16 +1,16 @@
 //! `run`: an ELF file on the machine.
 
 ghost use Rattle.std.specs.Prelude.{◌≡◌, ◌⊎◌, IfOk};
-ghost use Rattle.lay_base.specs.Known.{FilesKeep};
 ghost use Rattle.rv_isa.specs.Placed.{IsPlaced};
 ghost use Rattle.rv_machine.specs.Runs.{IsFresh};
 ghost use Rattle.lay_commands.specs.Outside.{outside, stream};
-ghost use Rattle.lay_commands.specs.Stages.{BytesGive, ImageGives, RunGives, answer_for};
+ghost use Rattle.lay_commands.specs.Stages.{ImageGives, RunGives, answer_for};
 ghost use Rattle.lay_commands.specs.Answers.{IsOfProgram, run_outcome};
 
+use crate::reading::bytes_of;
 use crate::words::RunRequest;
 use elf32::ElfFault;
-use lay_base::{Host, HostRead, Name, NoMemory, Sink, Source};
+use lay_base::{Host, NoMemory, Sink, Source};
 use refusals::Refusal;
 use rv_isa::Image;
 use rv_machine::{Machine, MachineEnd};
@@ -18,19 +18,6 @@ use std::alloc::Global;
 
 /// The greatest number of bytes of an ELF file.
 const ELF_LIMIT: u64 = 201_326_592;
-
-/// The bytes of the ELF file.
-fn bytes_of<H: Host>(alloc: Global, host: &mut H, elf: &str) -> Result<Vec<u8>, Refusal>
-    ensures files { FilesKeep (H.files host.old) (H.files host.new) }
-    ensures gives { BytesGive (H.failed_reads host.old elf.now) (H.failed_reads host.new elf.now) (H.files host.old) elf.now result }
-{
-    match host.read_file(elf, ELF_LIMIT) {
-        Ok(bytes) => Ok(bytes),
-        Err(HostRead::Failed) => Err(Refusal::FileFault(Name::copy_of(alloc, elf)?)),
-        Err(HostRead::TooLong) => Err(Refusal::TooLong(Name::copy_of(alloc, elf)?)),
-        Err(HostRead::Memory) => Err(Refusal::Memory),
-    }
-}
 
 /// The image that the bytes load as. It takes the bytes, so that their memory is free after it.
 fn image_in(alloc: Global, bytes: Vec<u8>) -> Result<Image, Refusal>
@@ -81,7 +68,7 @@ pub fn run<H: Host, I: Source, O: Sink>(
         (stream (I.left input.new) (I.faults input.new)) (stream (O.written out.new) (O.faults out.new)) in
         RunGives request.entry.steps request.entry.elf.now before now result }
 {
-    let bytes = bytes_of(alloc, host, request.elf)?;
+    let bytes = bytes_of(alloc, host, request.elf, ELF_LIMIT)?;
     let image = image_in(alloc, bytes)?;
     let mut machine = machine_of(alloc, image)?;
     answer_for(machine.run(input, out, request.steps))

@@ -1,16 +1,33 @@
 //! The words on the command line.
 
-ghost use Rattle.std.specs.Prelude.{◌≡◌, ◌↔◌, ℕ, List, [], ◌∷◌, IsTrue, MatchOption, map};
+ghost use Rattle.std.specs.Prelude.{◌≡◌, ◌≤◌, IfOk, IfSome, option_map, option_and_then, map, length};
 ghost use Rattle.std.specs.String.{string_bytes};
-ghost use Rattle.std.specs.List.{list_all};
-ghost use Rattle.std.specs.Char.{is_ascii_digit};
-ghost use Rattle.lay_commands.specs.Words.{Asks, AsksFor, Compile, Run, IsFileWord, SpellsSteps};
+ghost use Rattle.clap.specs.Walk.{rows_of};
+ghost use Rattle.clap.specs.Matches.{found_of};
+ghost use Rattle.clap.specs.Simple.{subcommand_rows_of};
+ghost use Rattle.lay_commands.specs.CommandLine.{matches_in};
+ghost use Rattle.lay_commands.specs.Words.{Compile, Run, IsInRange, IsPossible, number_of, is_given, files_of};
+ghost use Rattle.lay_commands.specs.Words.{compile_of, run_of, command_found, compilation_of, requested};
 
-/// A request to compile `file` to an ELF file under `out`.
+use crate::command_line::command_line;
+use crate::numbers::number_in;
+use clap::ArgMatches;
+use clap::error::ErrorKind;
+use lay_base::NoMemory;
+use std::alloc::Global;
+
+/// A request to compile `files` to an ELF file under `out`.
 #[derive(Clone, Copy)]
-pub struct CompileRequest<'a> {
+pub struct CompileRequest<'b, 'a> {
     pub out: &'a str,
-    pub file: &'a str,
+    /// Whether each record is to stay as it is declared.
+    pub plain: bool,
+    /// MiB of heap, 1 to 1024.
+    pub heap: u32,
+    /// MiB of stack, 1 to 128.
+    pub stack: u32,
+    /// One or more names.
+    pub files: &'b [&'a str],
 }
 
 /// A request to run the ELF file `elf` for at most `steps` steps.
@@ -22,124 +39,117 @@ pub struct RunRequest<'a> {
 
 /// What the words can ask for.
 #[derive(Clone, Copy)]
-pub enum Request<'a> {
-    Compile(CompileRequest<'a>),
+pub enum Request<'b, 'a> {
+    Compile(CompileRequest<'b, 'a>),
     Run(RunRequest<'a>),
 }
 
-/// The number of steps where the words say none.
+/// MiB of heap where the words say none, and the most that they can ask for.
+const DEFAULT_HEAP: u64 = 256;
+
+const MOST_HEAP: u64 = 1024;
+
+/// The same of the stack.
+const DEFAULT_STACK: u64 = 64;
+
+const MOST_STACK: u64 = 128;
+
+/// The same of the number of steps.
 const DEFAULT_STEPS: u64 = 10_000_000_000;
 
-/// The greatest number of steps that words can ask for.
 const MOST_STEPS: u64 = 1_000_000_000_000_000_000;
 
-/// The most digits of a number.
-const MOST_DIGITS: usize = 20;
-
-fn is_file_word(word: &str) -> bool
-    ensures { IsTrue result ↔ IsFileWord word.now }
+/// The number that an option has, or the default where it is not given.
+#[tactic(auto, using(crate::proofs::Found::first_by_rows))]
+fn number_of(found: &ArgMatches<'_>, name: &str, default: u64, most: u64) -> Option<u64>
+    requires { (1 ≤ default) × (default ≤ most) }
+    ensures number { result ≡ number_of name.now default most (rows_of (found_of found.now)) }
+    ensures range { IfSome result (λ n. (1 ≤ n) × (n ≤ most)) }
 {
-    match word.as_bytes() {
-        [] => false,
-        [first, ..] => *first != b'-',
+    match found.get_str(name) {
+        Some(word) => number_in(word, most),
+        None => Some(default),
     }
 }
 
-fn are_digits(word: &[u8]) -> bool
-    ensures { result ≡ list_all is_ascii_digit word.now }
+/// Whether a flag is given.
+#[tactic(auto, using(crate::proofs::Found::one_by_rows))]
+fn is_given(found: &ArgMatches<'_>, name: &str) -> bool
+    ensures { result ≡ is_given name.now (rows_of (found_of found.now)) }
 {
-    word.iter().all(|byte| byte.is_ascii_digit())
+    found.get_one::<bool>(name) == Some(true)
 }
 
-/// The number of steps that a word spells, where it spells one.
-fn steps_in(word: &str) -> Option<u64>
-    ensures { MatchOption result ((steps : ℕ) → SpellsSteps word.now steps → ⊥) (SpellsSteps word.now) }
+/// The files, which are one or more.
+#[tactic(auto, using(crate::proofs::Found::all_by_rows, crate::proofs::Found::files_kept))]
+fn files_of<'b, 'a>(found: &'b ArgMatches<'a>) -> Option<&'b [&'a str]>
+    ensures files { option_map (λ files. map (λ file. file.now) files.now) result ≡ files_of (rows_of (found_of found.now)) }
+    ensures some { IfSome result (λ files. 1 ≤ length files.now) }
 {
-    if word.len() > MOST_DIGITS || !are_digits(word.as_bytes()) {
-        return None;
-    }
-    match word.parse::<u64>() {
-        Ok(steps) if 1 <= steps && steps <= MOST_STEPS => Some(steps),
-        _ => None,
-    }
+    let files = found.get_strs("FILE")?;
+    if files.is_empty() { None } else { Some(files) }
 }
 
-/// The request that two words make, where they make one.
-fn request_of_two<'a>(verb: &str, elf: &'a str) -> Option<Request<'a>>
-    ensures { Asks (verb.now ∷ elf.now ∷ []) result }
+/// The request to compile that was found, where its numbers are in range.
+#[tactic(auto, using(crate::proofs::Found::first_by_rows))]
+fn compile_request<'b, 'a>(found: &'b ArgMatches<'a>) -> Option<CompileRequest<'b, 'a>>
+    ensures command { option_map (λ request. Compile (compilation_of request)) result ≡ compile_of (rows_of (found_of found.now)) }
+    ensures range { IfSome result (λ request. IsInRange (compilation_of request)) }
 {
-    if verb == "run" && is_file_word(elf) {
-        let steps = DEFAULT_STEPS;
-        Some(Request::Run(RunRequest { steps, elf }))
+    let out = found.get_str("OUT")?;
+    let files = files_of(found)?;
+    let heap = number_of(found, "heap", DEFAULT_HEAP, MOST_HEAP)?;
+    let stack = number_of(found, "stack", DEFAULT_STACK, MOST_STACK)?;
+    Some(CompileRequest {
+        out,
+        plain: is_given(found, "plain"),
+        heap: heap as u32,
+        stack: stack as u32,
+        files,
+    })
+}
+
+/// The request to run that was found, where its number is in range.
+#[tactic(auto, using(crate::proofs::Found::first_by_rows))]
+fn run_request<'a>(found: &ArgMatches<'a>) -> Option<RunRequest<'a>>
+    ensures { option_map (λ request. Run request.steps request.elf.now) result ≡ run_of (rows_of (found_of found.now)) }
+{
+    let elf = found.get_str("ELF")?;
+    let steps = number_of(found, "steps", DEFAULT_STEPS, MOST_STEPS)?;
+    Some(RunRequest { steps, elf })
+}
+
+/// What was found asks for, where it asks for something.
+pub fn request_in<'b, 'a>(matches: &'b ArgMatches<'a>) -> Option<Request<'b, 'a>>
+    ensures command { option_map requested result ≡ option_and_then command_found (subcommand_rows_of matches.now) }
+    ensures range { IfSome result IsPossible }
+{
+    let (name, found) = matches.subcommand()?;
+    if name == "compile" {
+        Some(Request::Compile(compile_request(found)?))
     } else {
-        None
+        Some(Request::Run(run_request(found)?))
     }
 }
 
-/// The request to compile that four words make, where they make one.
-fn compile_request<'a>(
-    verb: &str,
-    option: &str,
-    out: &'a str,
-    file: &'a str,
-) -> Option<CompileRequest<'a>>
-    ensures { MatchOption result
-        ((a : List ℕ) (b : List ℕ) → AsksFor (verb.now ∷ option.now ∷ out.now ∷ file.now ∷ []) (Compile a b) → ⊥)
-        (λ request. AsksFor (verb.now ∷ option.now ∷ out.now ∷ file.now ∷ []) (Compile request.out.now request.file.now)) }
+/// What the command line has of the words, where it takes them.
+pub fn matches_in<'a>(
+    alloc: Global,
+    words: &'a [String],
+) -> Result<Option<ArgMatches<'a>>, NoMemory>
+    ensures { IfOk result (λ matches. option_and_then subcommand_rows_of matches ≡ matches_in (map string_bytes words.now)) }
 {
-    if verb == "compile" && option == "-o" && is_file_word(out) && is_file_word(file) {
-        Some(CompileRequest { out, file })
-    } else {
-        None
-    }
-}
-
-/// The request to run that four words make, where they make one.
-fn run_request<'a>(verb: &str, option: &str, number: &str, elf: &'a str) -> Option<RunRequest<'a>>
-    ensures { MatchOption result
-        ((n : ℕ) (a : List ℕ) → AsksFor (verb.now ∷ option.now ∷ number.now ∷ elf.now ∷ []) (Run n a) → ⊥)
-        (λ request. AsksFor (verb.now ∷ option.now ∷ number.now ∷ elf.now ∷ []) (Run request.steps request.elf.now)) }
-{
-    if verb == "run" && option == "--steps" && is_file_word(elf) {
-        let steps = steps_in(number)?;
-        Some(RunRequest { steps, elf })
-    } else {
-        None
-    }
-}
-
-/// The request that four words make, where they make one.
-#[tactic(auto, using(crate::proofs::Requests::neither))]
-fn request_of_four<'a>(
-    verb: &str,
-    option: &str,
-    value: &'a str,
-    file: &'a str,
-) -> Option<Request<'a>>
-    ensures { Asks (verb.now ∷ option.now ∷ value.now ∷ file.now ∷ []) result }
-{
-    if let Some(request) = compile_request(verb, option, value, file) {
-        return Some(Request::Compile(request));
-    }
-    let request = run_request(verb, option, value, file)?;
-    Some(Request::Run(request))
-}
-
-/// What the words ask for, where they ask for something.
-#[tactic(auto, using(crate::proofs::Requests::four_items))]
-pub fn request_in(words: &[String]) -> Option<Request<'_>>
-    ensures { Asks (map string_bytes words.now) result }
-{
-    match words {
-        [verb, elf] => request_of_two(verb.as_str(), elf.as_str()),
-        [verb, option, value, file] => {
-            request_of_four(
-                verb.as_str(),
-                option.as_str(),
-                value.as_str(),
-                file.as_str(),
-            )
+    let Ok(command) = command_line(alloc) else {
+        return Err(NoMemory);
+    };
+    match command.try_get_matches_from(words) {
+        Ok(matches) => Ok(Some(matches)),
+        Err(error) => {
+            if error.kind() == ErrorKind::OutOfMemory {
+                Err(NoMemory)
+            } else {
+                Ok(None)
+            }
         }
-        _ => None,
     }
 }
