@@ -7,3 +7,4 @@ mod ExamplesOfRefusals
 mod ExamplesOfSizes
 mod ManyItems
 mod ExamplesOfManyItems
+mod ExamplesOfFaultsInBodies
