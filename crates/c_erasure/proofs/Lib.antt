@@ -8,3 +8,4 @@ mod ExamplesOfSizes
 mod ManyItems
 mod ExamplesOfManyItems
 mod ExamplesOfFaultsInBodies
+mod ExamplesOfFaults
