@@ -9,3 +9,5 @@ mod ManyItems
 mod ExamplesOfManyItems
 mod ExamplesOfFaultsInBodies
 mod ExamplesOfFaults
+mod ExamplesOfFaultsInFiles
+mod ExamplesOfFaultsAfterItems
