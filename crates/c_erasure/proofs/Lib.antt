@@ -11,3 +11,4 @@ mod ExamplesOfFaultsInBodies
 mod ExamplesOfFaults
 mod ExamplesOfFaultsInFiles
 mod ExamplesOfFaultsAfterItems
+mod ExamplesOfFaultsInScope
