@@ -14,7 +14,7 @@ use Rattle.c_typed.specs.Trees as Typed
 use Rattle.c_erasure.specs.Noted.{value, way, an_object, a_value, Expression}
 use Rattle.c_erasure.specs.Scopes as Scopes
 use Rattle.c_erasure.specs.Scopes.{Bound, defines, tentative, declares, FileScope, AnObject, AFunction, AMention, Tag}
-use Rattle.c_erasure.specs.Declarators.{closed}
+use Rattle.c_erasure.specs.Declarators.{closed, open_array}
 use Rattle.c_erasure.specs.Broken.{ill_typed}
 use Rattle.c_erasure.specs.BrokenFiles.{IsFaultOf}
 use Rattle.c_erasure.proofs.ExampleParts.{place, word, int, ints, mention, number}
@@ -225,5 +225,44 @@ no_constant = record {
         )))))),
       ),
     )),
+  ));
+}
+
+-- int a[] = 3;
+abbrev no_braces : Trees.Item
+no_braces = Trees.declaration (record {
+  specs = ints 0;
+  all = record {
+    comma = None;
+    declarator = Trees.array (Trees.named (word (codes "a") 4 5)) 5 Trees.no_expression 6;
+    value = Some (8, Trees.number (word (codes "3") 10 11) 3 Int);
+  } ∷ [];
+  semicolon = 11;
+})
+
+without_elements : IsFaultOf (no_braces ∷ []) (ill_typed R.Init 10)
+without_elements = record {
+  before = [];
+  item = no_braces;
+  after = [];
+  whole = refl;
+  annotated = file [] [] [];
+  known = record {
+    untagged = λ at. ([], refl);
+    tags = refl;
+    ends = refl;
+    numbered = refl;
+    records = refl;
+    names = refl;
+    mentions = refl;
+    consistent = tt;
+    objects_in_order = tt;
+    functions_in_order = tt;
+    each_before = All-nil _;
+  };
+  broken = inr (inr (
+    int,
+    inl (refl, refl),
+    inl (inr (word (codes "a") 4 5, open_array int, refl, (refl, refl, refl), inl (refl, refl))),
   ));
 }

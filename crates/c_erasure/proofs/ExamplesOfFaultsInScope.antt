@@ -1,7 +1,7 @@
 -- A name that is declared before is not undeclared (C99 6.2.1).
-use Rattle.std.proofs.Common.{refl, ap, sym, subst, ◌∙◌, inl, inr, zero, suc, arith}
+use Rattle.std.proofs.Common.{refl, sym, subst, inl, inr, zero, suc}
 use Rattle.std.proofs.lemmas.List.Elements.{All-head}
-use Rattle.std.specs.Prelude.{◌≡◌, ◌≢◌, ℕ, ◌+◌, Bool, true, false, ◌&&◌, nat_le, if◌then◌else◌, List, [], ◌∷◌, ◌++◌, Option, Some, None, codes, All}
+use Rattle.std.specs.Prelude.{◌≡◌, ℕ, Bool, true, false, ◌&&◌, nat_le, if◌then◌else◌, List, [], ◌∷◌, ◌++◌, Option, Some, None, codes, All}
 use Rattle.std.specs.Prelude.{slice_get, ◌⊎◌}
 use Rattle.std.specs.Str.{bytes_eq}
 use Rattle.c_types.specs.Types.{CType, function, no_types}
@@ -10,7 +10,7 @@ use Rattle.c_ast.specs.Trees
 use Rattle.c_typed.specs.Conversions.{is_function}
 use Rattle.c_erasure.specs.Scopes as Scopes
 use Rattle.c_erasure.specs.Scopes.{Entity, Bound, tentative, FileScope, at_file_scope, visible, or_else}
-use Rattle.c_erasure.specs.Declarators.{Shape, closed, open_array}
+use Rattle.c_erasure.specs.Declarators.{closed, open_array}
 use Rattle.c_erasure.specs.Erasure.{IsBase, IsOne, Declares}
 use Rattle.c_erasure.specs.Files.{ErasesItem, bound}
 use Rattle.c_erasure.specs.Broken.{Fault, undeclared}
@@ -76,7 +76,8 @@ not_in_first f at (inl (e, w)) = cc
 not_in_first f at (inr (inl (inl b))) = b
 not_in_first f at (inr (inl (inr b))) = b
 not_in_first f at (inr (inr (base, is, inl (inl b)))) = b
-not_in_first f at (inr (inr (base, is, inl (inr (x, shape, name, d, inl (e, w)))))) = cc
+not_in_first f at (inr (inr (base, is, inl (inr (x, closed t, name, d, inl w))))) = w
+not_in_first f at (inr (inr (base, is, inl (inr (x, open_array t, name, d, inl w))))) = cc
 not_in_first f at (inr (inr (base, is, inl (inr (x, shape, name, d, inr (t, s, inl (e, w))))))) = cc
 not_in_first f at (inr (inr (base, is, inl (inr (x, shape, name, d, inr (t, s, inr (inl (e, w)))))))) = cc
 not_in_first f at (inr (inr (base, is, inl (inr (x, shape, name, d, inr (t, s, inr (inr (inl (e, v, u, w))))))))) = cc

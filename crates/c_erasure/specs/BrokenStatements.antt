@@ -19,7 +19,7 @@ use Rattle.c_erasure.specs.Scopes.{Scope, inside, ended, AnObject, declared, wit
 use Rattle.c_erasure.specs.Specifiers.{storage_of, Storage, a_typedef, is_extern, is_static, several}
 use Rattle.c_erasure.specs.Declarators.{declared_name, Shape, closed, open_array}
 use Rattle.c_erasure.specs.Erasure.{IsBase, IsConstant, Erases, IsOne, Declares}
-use Rattle.c_erasure.specs.Initializers.{texts_of, is_character, IsTextOf, count_of, IsInitializer, AreConstants}
+use Rattle.c_erasure.specs.Initializers.{texts_of, is_character, IsTextOf, length_of, count_of, IsInitializer, AreConstants}
 use Rattle.c_erasure.specs.Statements.{Statements, IsSized, with_variable, with_object, DeclareAll, IsStart, ErasesItem, ErasesSwitchItem}
 use Rattle.c_erasure.specs.Broken.{Fault, ill_typed, One, AThing, IsNoRecord, null, HasNoValue, IsNoConstant, IsOldName, AreNoType, IsBroken, AreBroken}
 use Rattle.c_erasure.specs.Broken.{IsBrokenDeclarator}
@@ -88,10 +88,11 @@ IsForbidden a_typedef = Unit {0}
 IsForbidden is_extern = Unit {0}
 IsForbidden words = ⊥
 
--- an array whose length is left to an initializer that is not there
-abbrev pub IsEndless : Shape → Option (ℕ × Trees.Expression) → Type 0
-IsEndless (open_array u) None = Unit {0}
-IsEndless shape value = ⊥
+-- an array whose length is left to an initializer that is not there, or has no elements
+abbrev pub IsEndless : Shape → Option (ℕ × Trees.Expression) → ℕ → Fault → Type 0
+IsEndless (open_array u) None at f = f ≡ ill_typed R.Length at
+IsEndless (open_array u) (Some value) at f = (length_of u (texts_of value.1) value.1 ≡ 0) × (f ≡ ill_typed R.Init (first value.1))
+IsEndless (closed t) value at f = ⊥
 
 -- the scope after a local, which is an object of the file where it is `static`
 abbrev pub with_declared : Scope → (static : Bool) → Spelling → ℕ → CType → Scope
@@ -101,7 +102,7 @@ with_declared s false x n t = with_variable s x n t
 abbrev pub IsBrokenLocal : Scope → (static : Bool) → CType → Trees.InitDeclarator → Fault → Type 0
 IsBrokenLocal s static base d f = IsBrokenDeclarator d.declarator s base f ⊎ IsOldName s (declared_name d.declarator) f
     ⊎ ((x : Spelling) × (shape : Shape) × (declared_name d.declarator ≡ Some x) × Declares s d.declarator base shape
-    × (((f ≡ ill_typed R.Length x.from) × IsEndless shape d.value)
+    × (IsEndless shape d.value x.from f
     ⊎ ((t : CType) × (shape ≡ closed t) × (is_function t ≡ true) × (f ≡ ill_typed R.Scope x.from))
     ⊎ ((t : CType) × IsSized s shape d.value t × (is_function t ≡ false) × (is_object (ended s.file.ends x.from) t ≡ false)
     × (f ≡ ill_typed R.Incomplete x.from))
