@@ -7,3 +7,8 @@ mod ExamplesOfRefusals
 mod ExamplesOfSizes
 mod ManyItems
 mod ExamplesOfManyItems
+mod ExamplesOfFaultsInBodies
+mod ExamplesOfFaults
+mod ExamplesOfFaultsInFiles
+mod ExamplesOfFaultsAfterItems
+mod ExamplesOfFaultsInScope

@@ -23,12 +23,12 @@ use Rattle.c_typed.specs.Rules.{on_numbers, comparing, choosing, moving, differi
 use Rattle.c_typed.specs.Typed.{IsTyped}
 use Rattle.c_erasure.specs.Noted.{Expression, Thing, an_object, a_value, a_function, a_function_at, a_library_function, type_of, type_of_path}
 use Rattle.c_erasure.specs.Noted.{unconverted}
-use Rattle.c_erasure.specs.Scopes.{Bound, Tag, AnObject, Scope, inside, measured, with_objects, named, tag_at, ended, declared, here}
+use Rattle.c_erasure.specs.Scopes.{Bound, defines, enumerator, Tag, AnObject, Scope, inside, measured, with_objects, named, tag_at, ended, declared, here}
 use Rattle.c_erasure.specs.Operators.{Kind, computes, compares, all_of, any_of, kind_of, update_of}
 use Rattle.c_erasure.specs.Specifiers.{named_by, words_of, no_words, types_among, storage_of, no_storage, is_register}
 use Rattle.c_erasure.specs.Declarators.{declared_name, is_name, Shape, closed, open_array, parameter_type, IsSmall}
 use Rattle.c_erasure.specs.Erasure.{typed, IsTypedThing, Values, IsConstant, IsInt, IsBase, Erases, IsOne, IsTypeName, Declares}
-use Rattle.c_erasure.specs.Erasure.{AreFields, AreParameters, IsEnumeratorValue, with_parameter_if_named}
+use Rattle.c_erasure.specs.Erasure.{AreFields, AreMembers, AreParameters, IsEnumeratorValue, with_parameter_if_named, IsBound, after_all, comma_or}
 
 pub data Fault : Type 0 where
   ill_typed : (rule : Rule) → (at : ℕ) → Fault
@@ -116,7 +116,8 @@ has_field (f ∷ more) x = bytes_eq f.name x || has_field more x
 
 abbrev pub IsMemberless : Scope → (at : ℕ) → CType → List ℕ → Rule → Type 0
 IsMemberless s at (structure r) x rule = ((rule ≡ R.Incomplete) × (is_object (ended s.file.ends at) (structure r) ≡ false))
-    ⊎ ((rec : Record) × (rule ≡ R.Member) × (slice_get s.file.records r ≡ Some rec) × (has_field rec.fields x ≡ false))
+    ⊎ ((rec : Record) × (rule ≡ R.Member) × (is_object (ended s.file.ends at) (structure r) ≡ true) × (slice_get s.file.records r ≡ Some rec)
+    × (has_field rec.fields x ≡ false))
 IsMemberless s at t x rule = rule ≡ R.Member
 
 abbrev pub NoMemberOf : Scope → (at : ℕ) → Thing → List ℕ → Rule → Type 0
@@ -217,9 +218,9 @@ IsNoInt z = IsInt z → ⊥
 
 -- ---- names that are declared already
 
--- where a declaration of this name stands in the list
-abbrev pub IsDeclaredAt : List Bound → List ℕ → ℕ → Type 0
-IsDeclaredAt all x at = (k : ℕ) × (b : Bound) × (slice_get all k ≡ Some b) × (b.name ≡ x) × (b.place ≡ at)
+-- where a declaration of this name stands in the list whose scope began by a byte
+abbrev pub IsDeclaredBy : List Bound → List ℕ → (by : ℕ) → ℕ → Type 0
+IsDeclaredBy all x by at = (k : ℕ) × (b : Bound) × (slice_get all k ≡ Some b) × (b.name ≡ x) × (b.from ≤ by) × (b.place ≡ at)
 
 abbrev pub IsOldName : Scope → Option Spelling → Fault → Type 0
 IsOldName s None f = ⊥
@@ -351,27 +352,32 @@ abbrev mutual
   IsBrokenSpecifier (Trees.enum_named at x) s f = IsOtherTag s x false f
       ⊎ ((f ≡ undeclared x.text x.from) × (tag_at s.file.tags x.text x.from ≡ None))
   IsBrokenSpecifier (Trees.enum_body at x left all comma right) s f = ((f ≡ ill_typed R.Scope at) × (s.is_inside ≡ true))
-      ⊎ AreBrokenEnumerators all s 0 f
+      ⊎ AreBrokenEnumerators all s 0 (after_all comma right) f
       ⊎ ((y : Spelling) × (x ≡ Some y) × (IsOtherTag s y false f ⊎ IsOtherTag s y true f))
 
-  pub AreBrokenEnumerators : Trees.Enumerators → Scope → ℕ → Fault → Type 0
-  AreBrokenEnumerators Trees.no_enumerators s next f = ⊥
-  AreBrokenEnumerators (Trees.and_enumerator comma x value more) s next f = IsBrokenValue value s f
+  -- those before are declared
+  pub AreBrokenEnumerators : Trees.Enumerators → Scope → (next after : ℕ) → Fault → Type 0
+  AreBrokenEnumerators Trees.no_enumerators s next after f = ⊥
+  AreBrokenEnumerators (Trees.and_enumerator comma x value more) s next after f = IsBrokenValue value s f
       ⊎ ((f ≡ ill_typed R.Constant x.from) × (value ≡ Trees.no_value) × (next ≡ 2 ^ 31))
-      ⊎ ((first : ℕ) × IsDeclaredAt s.file.names x.text first × (first < x.from) × (f ≡ redeclared x.text x.from first))
-      ⊎ ((v : ℕ) × IsEnumeratorValue s next value v × AreBrokenEnumerators more s ((v + 1) % 2 ^ 32) f)
+      ⊎ ((first : ℕ) × IsDeclaredBy s.file.names x.text x.from first × (f ≡ redeclared x.text x.from first))
+      ⊎ ((v : ℕ) × IsEnumeratorValue s next value v
+      × IsBound s (record { name = x.text; place = x.from; from = comma_or more after; how = defines; entity = enumerator v })
+      × AreBrokenEnumerators more s ((v + 1) % 2 ^ 32) after f)
 
   pub IsBrokenValue : Trees.EnumeratorValue → Scope → Fault → Type 0
   IsBrokenValue Trees.no_value s f = ⊥
   IsBrokenValue (Trees.valued equal a) s f = ((own : List AnObject) × IsBroken a (with_objects s own) f) ⊎ HasNoValue a s f ⊎ IsNoConstant a s f
       ⊎ ((f ≡ ill_typed R.Constant (first a)) × IsConstantBut a s IsNoInt)
 
+  -- those before are as their rules say
   pub AreBrokenMembers : Trees.MemberDeclarations → Scope → Fault → Type 0
   AreBrokenMembers Trees.no_member_declarations s f = ⊥
   AreBrokenMembers (Trees.and_member_declaration specs ds semicolon more) s f =
       ((f ≡ ill_typed R.Specifiers (first_specifiers specs)) × (storage_of specs ≢ no_storage))
       ⊎ ((f ≡ ill_typed R.Specifiers (first_specifiers specs)) × AreNoType specs) ⊎ AreBroken specs s f
-      ⊎ ((base : CType) × IsBase (IsOne s specs) specs base × AreBrokenFields ds s base semicolon f) ⊎ AreBrokenMembers more s f
+      ⊎ ((base : CType) × IsBase (IsOne s specs) specs base
+      × (AreBrokenFields ds s base semicolon f ⊎ ((own : List Field) × AreMembers s base ds semicolon own × AreBrokenMembers more s f)))
 
   pub AreBrokenFields : Trees.MemberDeclarators → Scope → CType → ℕ → Fault → Type 0
   AreBrokenFields Trees.no_member_declarators s base semicolon f = ⊥
@@ -379,7 +385,8 @@ abbrev mutual
       ⊎ ((u : CType) × Declares s d base (open_array u) × (f ≡ ill_typed R.Length (first_declarator d semicolon)))
       ⊎ ((t : CType) × Declares s d base (closed t) × (is_object (ended s.file.ends (first_declarator d semicolon)) t ≡ false)
       × (f ≡ ill_typed R.Incomplete (first_declarator d semicolon)))
-      ⊎ AreBrokenFields more s base semicolon f
+      ⊎ ((t : CType) × Declares s d base (closed t) × (is_object (ended s.file.ends (first_declarator d semicolon)) t ≡ true)
+      × AreBrokenFields more s base semicolon f)
 
   pub IsBrokenDeclarator : Trees.Declarator → Scope → CType → Fault → Type 0
   IsBrokenDeclarator Trees.nothing s t f = ⊥

@@ -1,5 +1,5 @@
 -- Which rule is broken where in a file (C99 6.7, 6.9): what stands before is declared as its rules say, and the rule there is false.
-use Rattle.std.specs.Prelude.{◌≡◌, ◌≢◌, ℕ, ◌<◌, Bool, true, false, List, [], ◌∷◌, ◌++◌, map, length, take, All, codes, Option, Some, None, slice_get, ◌⊎◌}
+use Rattle.std.specs.Prelude.{◌≡◌, ◌≢◌, ℕ, ◌≤◌, Bool, true, false, List, [], ◌∷◌, ◌++◌, map, length, take, All, codes, Option, Some, None, slice_get, ◌⊎◌}
 use Rattle.lay_base.specs.declared.faults.Rule.TheVariants as R
 use Rattle.c_types.specs.declared.ty.IntKind.TheVariants.{Int}
 use Rattle.c_types.specs.Types.{CType, integer, function, no_types}
@@ -14,20 +14,20 @@ use Rattle.c_erasure.specs.Scopes.{Entity, an_object, a_function, a_library_func
 use Rattle.c_erasure.specs.Scopes.{at_file_scope, ended}
 use Rattle.c_erasure.specs.Specifiers.{storage_of, Storage, no_storage, a_typedef, is_extern, is_static}
 use Rattle.c_erasure.specs.Declarators.{declared_name, Shape, closed}
-use Rattle.c_erasure.specs.Erasure.{IsBase, IsOne, Declares}
+use Rattle.c_erasure.specs.Erasure.{IsBound, IsBase, IsOne, Declares}
 use Rattle.c_erasure.specs.Statements.{IsSized}
 use Rattle.c_erasure.specs.Marks.{marks_of_file, name_from, after_declarator, scope_beginnings, ends_in, defined_in, tags_in, undefined_in, firsts}
 use Rattle.c_erasure.specs.MentionPlaces.{mentions_of_file}
-use Rattle.c_erasure.specs.Files.{library_name, IsFileDeclarator, may_stand_in_file, DeclaresSomething, parameters_of}
+use Rattle.c_erasure.specs.Files.{bound, is_first, library_name, IsFileDeclarator, may_stand_in_file, DeclaresSomething, parameters_of}
 use Rattle.c_erasure.specs.Files.{HasParameters, in_body, ErasesItem, AreConsistent, AreAscending}
 use Rattle.c_erasure.specs.Broken.{Fault, ill_typed, redeclared, AreNoType, AreBroken, IsBrokenDeclarator}
 use Rattle.c_erasure.specs.BrokenStatements.{IsBrokenInitial, HasNoConstants, IsEndless, AreBrokenItems}
 
 -- ---- names of the file scope
 
--- another declaration of the name stands before, of something else, or of what is defined there already
+-- another declaration of the name, whose scope began before, is of something else, or of what is defined there already
 abbrev pub IsOld : FileScope → Spelling → (Bound → Type 0) → Fault → Type 0
-IsOld f x IsOther fault = (k : ℕ) × (b : Bound) × (slice_get f.names k ≡ Some b) × (b.name ≡ x.text) × (b.place < x.from) × IsOther b
+IsOld f x IsOther fault = (k : ℕ) × (b : Bound) × (slice_get f.names k ≡ Some b) × (b.name ≡ x.text) × (b.from ≤ x.from) × IsOther b
     × (fault ≡ redeclared x.text x.from b.place)
 
 -- a typedef's name and an enumerator are declared once
@@ -69,8 +69,10 @@ IsOfOtherLinkage f words b = ⊥
 abbrev pub IsBrokenLibrary : Storage → CType → List ℕ → Type 0
 IsBrokenLibrary words t x = (which : LibraryFunction) × (x ≡ library_name which) × ((words ≡ a_typedef) ⊎ (words ≡ is_static) ⊎ (t ≢ library_type which))
 
-abbrev pub IsBrokenMain : Storage → CType → List ℕ → Type 0
-IsBrokenMain words t x = (x ≡ codes "main") × (words ≢ a_typedef) × (t ≢ function (integer Int) no_types)
+-- `main` is of another type, or an object that other files can name
+abbrev pub IsBrokenMain : FileScope → Storage → CType → Spelling → Type 0
+IsBrokenMain f words t x = (x.text ≡ codes "main") × (((words ≢ a_typedef) × (is_function t ≡ true) × (t ≢ function (integer Int) no_types))
+    ⊎ ((is_function t ≡ false) × ((words ≡ no_storage) ⊎ ((words ≡ is_extern) × (is_first f x ≡ true)))))
 
 -- of which type there is another declaration
 abbrev pub IsOtherwise : FileScope → Storage → CType → Spelling → Fault → Type 0
@@ -78,19 +80,23 @@ IsOtherwise f a_typedef t x fault = IsOld f x IsAny fault
 IsOtherwise f words t x fault = ((is_function t ≡ true) × IsOld f x (IsNoFunctionOf t) fault) ⊎ ((is_function t ≡ false) × IsOld f x (IsNoObjectOf t) fault)
     ⊎ IsOld f x (IsOfOtherLinkage f words) fault
 
+-- the object is in the scope of its own initializer
+abbrev pub IsDefinedThere : FileScope → Spelling → CType → Option (ℕ × Trees.Expression) → Type 0
+IsDefinedThere f x t None = ⊥
+IsDefinedThere f x t (Some value) = (n : ℕ) × IsBound (at_file_scope f) (bound x value.0 defines (an_object n t))
+
 abbrev pub IsBrokenFileDeclarator : FileScope → Storage → CType → Trees.InitDeclarator → Fault → Type 0
 IsBrokenFileDeclarator f words base d fault = IsBrokenDeclarator d.declarator (at_file_scope f) base fault
     ⊎ ((x : Spelling) × (shape : Shape) × (declared_name d.declarator ≡ Some x) × Declares (at_file_scope f) d.declarator base shape
-    × (((fault ≡ ill_typed R.Length x.from) × IsEndless shape d.value)
+    × (IsEndless shape d.value x.from fault
     ⊎ ((t : CType) × IsSized (at_file_scope f) shape d.value t
     × (((fault ≡ ill_typed R.Library x.from) × IsBrokenLibrary words t x.text)
-    ⊎ ((fault ≡ ill_typed R.Main x.from) × IsBrokenMain words t x.text)
+    ⊎ ((fault ≡ ill_typed R.Main x.from) × IsBrokenMain f words t x)
     ⊎ ((fault ≡ ill_typed R.Incomplete x.from) × (words ≢ a_typedef) × (is_function t ≡ false) × (is_object (ended f.ends x.from) t ≡ false))
     ⊎ ((fault ≡ ill_typed R.Init x.from) × (d.value ≢ None) × ((words ≡ a_typedef) ⊎ (is_function t ≡ true)))
     ⊎ IsOtherwise f words t x fault
     ⊎ ((d.value ≢ None) × IsOld f x IsDefinition fault)
-    ⊎ IsBrokenInitial d.value (at_file_scope f) t fault
-    ⊎ HasNoConstants d.value (at_file_scope f) t fault))))
+    ⊎ (IsDefinedThere f x t d.value × (IsBrokenInitial d.value (at_file_scope f) t fault ⊎ HasNoConstants d.value (at_file_scope f) t fault))))))
 
 -- the declarators before are as their rules say
 abbrev pub AreBrokenDeclarators : FileScope → Storage → CType → List Trees.InitDeclarator → ℕ → Fault → Type 0
@@ -124,30 +130,31 @@ HasNameless None = Unit {0}
 HasNameless (Some (Trees.void_alone at)) = ⊥
 HasNameless (Some (Trees.listed all)) = IsNameless all
 
--- the body, in the scope of its parameters
-abbrev pub IsBrokenBody : FileScope → CType → Trees.Declarator → Trees.BlockItems → Fault → Type 0
-IsBrokenBody f (function result types) d items fault = (parameters locals : List ALocal) × (bounds : List Bound)
+-- the body, in the scope of its parameters and of the function itself
+abbrev pub IsBrokenBody : FileScope → CType → Trees.Declarator → Spelling → ℕ → Trees.BlockItems → Fault → Type 0
+IsBrokenBody f (function result types) d x left items fault = (parameters locals : List ALocal) × (bounds : List Bound) × (n : ℕ)
+    × IsBound (at_file_scope f) (bound x left defines (a_function n (function result types)))
     × HasParameters (parameters_of d) types parameters bounds
     × AreBrokenItems result items (in_body f bounds (parameters ++ locals)) false false fault
-IsBrokenBody f t d items fault = ⊥
+IsBrokenBody f t d x left items fault = ⊥
 
-abbrev pub IsBrokenDefinition : FileScope → Trees.Specifiers → Trees.Declarator → Trees.BlockItems → Fault → Type 0
-IsBrokenDefinition f specs d items fault = ((fault ≡ ill_typed R.Specifiers (first_specifiers specs))
+abbrev pub IsBrokenDefinition : FileScope → Trees.Specifiers → Trees.Declarator → ℕ → Trees.BlockItems → Fault → Type 0
+IsBrokenDefinition f specs d left items fault = ((fault ≡ ill_typed R.Specifiers (first_specifiers specs))
     × ((IsFunctionStorage (storage_of specs) → ⊥) ⊎ AreNoType specs ⊎ HasNameless (parameters_of d)))
     ⊎ AreBroken specs (at_file_scope f) fault
     ⊎ ((base : CType) × IsBase (IsOne (at_file_scope f) specs) specs base × (IsBrokenDeclarator d (at_file_scope f) base fault
     ⊎ ((x : Spelling) × (t : CType) × (declared_name d ≡ Some x) × Declares (at_file_scope f) d base (closed t)
     × (((fault ≡ ill_typed R.Specifiers (first_specifiers specs)) × (is_function t ≡ false))
     ⊎ ((which : LibraryFunction) × (x.text ≡ library_name which) × (fault ≡ ill_typed R.Library x.from))
-    ⊎ ((fault ≡ ill_typed R.Main x.from) × IsBrokenMain (storage_of specs) t x.text)
+    ⊎ ((fault ≡ ill_typed R.Main x.from) × IsBrokenMain f (storage_of specs) t x)
     ⊎ IsOtherwise f (storage_of specs) t x fault
     ⊎ IsOld f x IsDefinition fault
-    ⊎ IsBrokenBody f t d items fault))))
+    ⊎ IsBrokenBody f t d x left items fault))))
 
 -- ---- items
 
 abbrev pub IsBrokenItem : FileScope → Trees.Item → Fault → Type 0
-IsBrokenItem f (Trees.defines specs d left items right) fault = IsBrokenDefinition f specs d items fault
+IsBrokenItem f (Trees.defines specs d left items right) fault = IsBrokenDefinition f specs d left items fault
 IsBrokenItem f (Trees.declaration d) fault = IsBrokenFileDeclaration f d fault
 
 -- ---- files: the annotated file is that of a first part of the text
@@ -156,6 +163,8 @@ abbrev pub IsFirstPart : {A : Type 0} → List A → List A → Type 0
 IsFirstPart all whole = all ≡ take (length all) whole
 
 pub record IsFileUpTo (before items : List Trees.Item) (f : FileScope) : Type 0 where
+  -- a tag that is written nowhere is no tag of another structure
+  pub untagged : (at : ℕ) → (rest : List ℕ) × (f.untagged at ≡ 64 ∷ rest)
   pub tags : f.tags ≡ firsts [] (tags_in (marks_of_file f.untagged items))
   pub ends : f.ends ≡ ends_in (marks_of_file f.untagged items)
   pub numbered : f.numbered ≡ defined_in (marks_of_file f.untagged items) ++ undefined_in (marks_of_file f.untagged items)

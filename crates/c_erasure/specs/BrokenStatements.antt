@@ -12,13 +12,15 @@ use Rattle.c_typed.specs.Trees as Typed
 use Rattle.c_typed.specs.Conversions.{as_kind, is_integer, is_scalar, is_array, is_function, is_record}
 use Rattle.c_typed.specs.Fits.{assigns}
 use Rattle.c_typed.specs.Rules.{promoting}
+use Rattle.c_typed.specs.Mapped.{of_types, mapped_initializer}
+use Rattle.c_typed.specs.TypedStatements.{IsTypedInitializer}
 use Rattle.c_erasure.specs.Noted.{Noted, type_of}
 use Rattle.c_erasure.specs.Scopes.{Scope, inside, ended, AnObject, declared, with_objects}
 use Rattle.c_erasure.specs.Specifiers.{storage_of, Storage, a_typedef, is_extern, is_static, several}
 use Rattle.c_erasure.specs.Declarators.{declared_name, Shape, closed, open_array}
 use Rattle.c_erasure.specs.Erasure.{IsBase, IsConstant, Erases, IsOne, Declares}
-use Rattle.c_erasure.specs.Initializers.{texts_of, is_character, IsTextOf, count_of, IsInitializer, AreConstants}
-use Rattle.c_erasure.specs.Statements.{Statements, IsSized, with_variable, DeclareAll, IsStart, ErasesItem, ErasesSwitchItem}
+use Rattle.c_erasure.specs.Initializers.{texts_of, is_character, IsTextOf, length_of, count_of, IsInitializer, AreConstants}
+use Rattle.c_erasure.specs.Statements.{Statements, IsSized, with_variable, with_object, DeclareAll, IsStart, ErasesItem, ErasesSwitchItem}
 use Rattle.c_erasure.specs.Broken.{Fault, ill_typed, One, AThing, IsNoRecord, null, HasNoValue, IsNoConstant, IsOldName, AreNoType, IsBroken, AreBroken}
 use Rattle.c_erasure.specs.Broken.{IsBrokenDeclarator}
 
@@ -74,7 +76,8 @@ IsBrokenInitial (Some value) s t f = IsBrokenInitializer value.1 s t f
 -- an object that is made before the program starts has an initializer of constants
 abbrev pub HasNoConstants : Option (ℕ × Trees.Expression) → Scope → CType → Fault → Type 0
 HasNoConstants None s t f = ⊥
-HasNoConstants (Some value) s t f = (i : Typed.Initializer Noted) × IsInitializer value.1 s t i × (AreConstants (declared s) i → ⊥)
+HasNoConstants (Some value) s t f = (i : Typed.Initializer Noted) × IsInitializer value.1 s t i
+    × IsTypedInitializer (declared s) t (mapped_initializer (of_types (λ t. t.ty)) i) × (AreConstants (declared s) i → ⊥)
     × (f ≡ ill_typed R.Init (first value.1))
 
 -- ---- declarations in a block
@@ -85,20 +88,26 @@ IsForbidden a_typedef = Unit {0}
 IsForbidden is_extern = Unit {0}
 IsForbidden words = ⊥
 
--- an array whose length is left to an initializer that is not there
-abbrev pub IsEndless : Shape → Option (ℕ × Trees.Expression) → Type 0
-IsEndless (open_array u) None = Unit {0}
-IsEndless shape value = ⊥
+-- an array whose length is left to an initializer that is not there, or has no elements
+abbrev pub IsEndless : Shape → Option (ℕ × Trees.Expression) → ℕ → Fault → Type 0
+IsEndless (open_array u) None at f = f ≡ ill_typed R.Length at
+IsEndless (open_array u) (Some value) at f = (length_of u (texts_of value.1) value.1 ≡ 0) × (f ≡ ill_typed R.Init (first value.1))
+IsEndless (closed t) value at f = ⊥
+
+-- the scope after a local, which is an object of the file where it is `static`
+abbrev pub with_declared : Scope → (static : Bool) → Spelling → ℕ → CType → Scope
+with_declared s true x n t = with_object s x n t
+with_declared s false x n t = with_variable s x n t
 
 abbrev pub IsBrokenLocal : Scope → (static : Bool) → CType → Trees.InitDeclarator → Fault → Type 0
 IsBrokenLocal s static base d f = IsBrokenDeclarator d.declarator s base f ⊎ IsOldName s (declared_name d.declarator) f
     ⊎ ((x : Spelling) × (shape : Shape) × (declared_name d.declarator ≡ Some x) × Declares s d.declarator base shape
-    × (((f ≡ ill_typed R.Length x.from) × IsEndless shape d.value)
+    × (IsEndless shape d.value x.from f
     ⊎ ((t : CType) × (shape ≡ closed t) × (is_function t ≡ true) × (f ≡ ill_typed R.Scope x.from))
     ⊎ ((t : CType) × IsSized s shape d.value t × (is_function t ≡ false) × (is_object (ended s.file.ends x.from) t ≡ false)
     × (f ≡ ill_typed R.Incomplete x.from))
-    ⊎ ((t : CType) × (n : ℕ) × IsSized s shape d.value t × IsBrokenInitial d.value (with_variable s x n t) t f)
-    ⊎ ((t : CType) × (n : ℕ) × (static ≡ true) × IsSized s shape d.value t × HasNoConstants d.value (with_variable s x n t) t f)))
+    ⊎ ((t : CType) × (n : ℕ) × IsSized s shape d.value t × IsBrokenInitial d.value (with_declared s static x n t) t f)
+    ⊎ ((t : CType) × (n : ℕ) × (static ≡ true) × IsSized s shape d.value t × HasNoConstants d.value (with_object s x n t) t f)))
 
 -- what stands before is declared, and then the scope is another
 abbrev pub AreBrokenLocals : List Trees.InitDeclarator → Scope → (static : Bool) → CType → Fault → Type 0
