@@ -186,12 +186,13 @@ fn a_thin_program_is_compiled_and_reported(rt: HostRuntime) -> Result<(), Fail> 
 
 #[test]
 fn a_text_that_is_not_thin_is_not_built(rt: HostRuntime) -> Result<(), Fail> {
-    let long = vec![in rt.alloc(); b' '; 4_194_304]?;
+    let past_the_limit = vec![in rt.alloc(); b' '; 65_537]?;
+    let longest = vec![in rt.alloc(); b' '; 4_194_304]?;
     for text in [
         b"int main(void){int x;}".as_slice(),
         b"",
-        &long[..65_537],
-        &long,
+        &past_the_limit,
+        &longest,
     ] {
         check(
             &rt,
