@@ -147,10 +147,13 @@ empty_array = record {
   broken = inr (inr (
     int,
     inl (refl, refl),
-    inl (inl (inl (inr (inr (inr (
-      refl,
-      (Int, 0, ([], number 6 0, (a_value (number 6 0), refl, refl), (Int, refl, refl), refl, refl, refl), zero_is_no_length),
-    )))))),
+    inl (inl (inl (
+      tt,
+      inr (inr (inr (
+        refl,
+        (Int, 0, ([], number 6 0, (a_value (number 6 0), refl, refl), (Int, refl, refl), refl, refl, refl), zero_is_no_length),
+      ))),
+    ))),
   ));
 }
 

@@ -63,6 +63,23 @@ Two a b s Is = (x y : Expression) × IsValue a s x × IsValue b s y × Is x y
 abbrev pub AThing : Trees.Expression → Scope → (Thing → Type 0) → Type 0
 AThing a s Is = (th : Thing) × IsThing a s th × Is th
 
+-- what stands to the left is well typed, so what it declares is known as the tree says
+abbrev pub IsSound : Trees.Expression → Scope → Type 0
+IsSound a s = (th : Thing) × IsThing a s th
+
+abbrev pub NamesType : Trees.TypeName → Scope → Type 0
+NamesType n s = (t : CType) × IsTypeName s n t
+
+-- the lengths in a declarator are constants
+abbrev pub HasLengths : Trees.Declarator → Scope → Type 0
+HasLengths Trees.nothing s = Unit {0}
+HasLengths (Trees.named x) s = Unit {0}
+HasLengths (Trees.pointer at consts d) s = HasLengths d s
+HasLengths (Trees.enclosed left d right) s = HasLengths d s
+HasLengths (Trees.array d left Trees.no_expression right) s = HasLengths d s
+HasLengths (Trees.array d left (Trees.some_expression a) right) s = HasLengths d s × ((kind : IntKind) × (v : ℕ) × IsConstant (Erases a) s kind v)
+HasLengths (Trees.function d left all right) s = HasLengths d s
+
 abbrev pub null : Expression → Bool
 null x = is_null (typed x)
 
@@ -155,7 +172,8 @@ AreUnfitArguments Trees.no_arguments s right no_types f = ⊥
 AreUnfitArguments Trees.no_arguments s right (and_type t more) f = f ≡ ill_typed R.Arguments right
 AreUnfitArguments (Trees.and_argument comma a rest) s right no_types f = f ≡ ill_typed R.Arguments (first a)
 AreUnfitArguments (Trees.and_argument comma a rest) s right (and_type t more) f =
-    ((f ≡ ill_typed R.Arguments (first a)) × One a s (λ x. assigns (type_of x) (null x) t ≡ false)) ⊎ AreUnfitArguments rest s right more f
+    ((f ≡ ill_typed R.Arguments (first a)) × One a s (λ x. assigns (type_of x) (null x) t ≡ false))
+    ⊎ (IsSound a s × AreUnfitArguments rest s right more f)
 
 -- ---- unary operators (6.5.3)
 
@@ -198,7 +216,7 @@ abbrev pub IsBrokenAssignment : Option BinaryOp → Trees.Expression → ℕ →
 IsBrokenAssignment None a at b s f = ((t : CType) × AThing a s (λ th. IsOfScalar th t)
     × (HasNoValue b s f ⊎ ((f ≡ ill_typed R.Assign at) × One b s (λ x. assigns (type_of x) (null x) t ≡ false))))
     ⊎ ((t : CType) × (f ≡ ill_typed R.Assign at) × AThing a s (λ th. IsOfRecord th t) × AThing b s (λ th. IsNoRecord th t))
-IsBrokenAssignment (Some op) a at b s f = HasNoValue b s f ⊎ ((t : CType) × (f ≡ ill_typed R.Operands at) × AThing a s (λ th. IsObjectOf th t)
+IsBrokenAssignment (Some op) a at b s f = (IsSound a s × HasNoValue b s f) ⊎ ((t : CType) × (f ≡ ill_typed R.Operands at) × AThing a s (λ th. IsObjectOf th t)
     × One b s (λ x. updating (ended s.file.ends at) op t (type_of x) ≡ None))
 
 -- ---- constants (6.6): an expression that is none, or has no value
@@ -287,10 +305,10 @@ abbrev mutual
   IsBroken (Trees.character x n) s f = ⊥
   IsBroken (Trees.texts all) s f = ⊥
   IsBroken (Trees.paren left a right) s f = IsBroken a s f
-  IsBroken (Trees.index a left b right) s f = IsBroken a s f ⊎ IsBroken b s f ⊎ HasNoValue a s f ⊎ HasNoValue b s f
+  IsBroken (Trees.index a left b right) s f = IsBroken a s f ⊎ (IsSound a s × IsBroken b s f) ⊎ HasNoValue a s f ⊎ (IsSound a s × HasNoValue b s f)
       ⊎ ((f ≡ ill_typed R.Operands left) × (AThing a s IsArrayObject × One b s (λ y. is_integer (type_of y) ≡ false)))
       ⊎ ((f ≡ ill_typed R.Operands left) × Two a b s (λ x y. is_subscript (ended s.file.ends left) (type_of x) (type_of y) ≡ false))
-  IsBroken (Trees.call g left all right) s f = IsBroken g s f ⊎ IsBrokenIn all s f
+  IsBroken (Trees.call g left all right) s f = IsBroken g s f ⊎ (IsSound g s × IsBrokenIn all s f)
       ⊎ ((f ≡ ill_typed R.Callee (first g)) × AThing g s (λ th. IsNoFunction (called_type th)))
       ⊎ ((parameters : CTypes) × AThing g s (λ th. IsFunctionType (called_type th) parameters) × AreUnfitArguments all s right parameters f)
   IsBroken (Trees.dot a at x) s f = IsBroken a s f
@@ -306,22 +324,23 @@ abbrev mutual
       ⊎ ((f ≡ ill_typed R.Incomplete at) × IsUnmeasured a s at)
   IsBroken (Trees.sizeof_type at left n right) s f = IsBrokenTypeName n s f
       ⊎ ((t : CType) × (f ≡ ill_typed R.Incomplete at) × IsTypeName s n t × (is_object (ended s.file.ends right) t ≡ false))
-  IsBroken (Trees.cast left n right a) s f = IsBrokenTypeName n s f ⊎ IsBroken a s f ⊎ HasNoValue a s f
+  IsBroken (Trees.cast left n right a) s f = IsBrokenTypeName n s f ⊎ (NamesType n s × IsBroken a s f) ⊎ (NamesType n s × HasNoValue a s f)
       ⊎ ((t : CType) × (f ≡ ill_typed R.Cast left) × IsTypeName s n t × One a s (λ x. casts (type_of x) (null x) t ≡ false))
-  IsBroken (Trees.binary a op at b) s f = IsBroken a s f ⊎ IsBroken b s f ⊎ HasNoValue a s f ⊎ HasNoValue b s f
+  IsBroken (Trees.binary a op at b) s f = IsBroken a s f ⊎ (IsSound a s × IsBroken b s f) ⊎ HasNoValue a s f ⊎ (IsSound a s × HasNoValue b s f)
       ⊎ ((f ≡ ill_typed R.Operands at) × Two a b s (AreUnfit (ended s.file.ends at) (kind_of op)))
-  IsBroken (Trees.cond a question b colon c) s f = IsBroken a s f ⊎ IsBroken b s f ⊎ IsBroken c s f
-      ⊎ HasNoValue a s f ⊎ HasNoValue b s f ⊎ HasNoValue c s f
+  IsBroken (Trees.cond a question b colon c) s f = IsBroken a s f ⊎ HasNoValue a s f
       ⊎ ((f ≡ ill_typed R.Operands question) × One a s (λ x. is_scalar (type_of x) ≡ false))
-      ⊎ ((f ≡ ill_typed R.Operands colon) × Two b c s (λ y z. choosing (type_of y) (null y) (type_of z) (null z) ≡ None))
-  IsBroken (Trees.assign a op at b) s f = IsBroken a s f ⊎ IsBroken b s f
+      ⊎ (IsSound a s × (IsBroken b s f ⊎ HasNoValue b s f))
+      ⊎ (IsSound a s × IsSound b s × (IsBroken c s f ⊎ HasNoValue c s f))
+      ⊎ ((f ≡ ill_typed R.Operands colon) × IsSound a s × Two b c s (λ y z. choosing (type_of y) (null y) (type_of z) (null z) ≡ None))
+  IsBroken (Trees.assign a op at b) s f = IsBroken a s f ⊎ (IsSound a s × IsBroken b s f)
       ⊎ ((f ≡ ill_typed R.Lvalue (first a)) × AThing a s IsNotAssigned) ⊎ IsBrokenAssignment (update_of op) a at b s f
-  IsBroken (Trees.comma a at b) s f = IsBroken a s f ⊎ IsBroken b s f ⊎ HasNoValue a s f ⊎ HasNoValue b s f
+  IsBroken (Trees.comma a at b) s f = IsBroken a s f ⊎ (IsSound a s × IsBroken b s f) ⊎ HasNoValue a s f ⊎ (IsSound a s × HasNoValue b s f)
   IsBroken (Trees.braces left all comma right) s f = ⊥
 
   pub IsBrokenIn : Trees.Arguments → Scope → Fault → Type 0
   IsBrokenIn Trees.no_arguments s f = ⊥
-  IsBrokenIn (Trees.and_argument comma a more) s f = IsBroken a s f ⊎ HasNoValue a s f ⊎ IsBrokenIn more s f
+  IsBrokenIn (Trees.and_argument comma a more) s f = IsBroken a s f ⊎ HasNoValue a s f ⊎ (IsSound a s × IsBrokenIn more s f)
 
   -- ---- types
 
@@ -393,7 +412,7 @@ abbrev mutual
   IsBrokenDeclarator (Trees.named x) s t f = ⊥
   IsBrokenDeclarator (Trees.pointer at consts d) s t f = IsTooBig s (pointer t) at f ⊎ IsBrokenDeclarator d s (pointer t) f
   IsBrokenDeclarator (Trees.enclosed left d right) s t f = IsBrokenDeclarator d s t f
-  IsBrokenDeclarator (Trees.array d left length right) s t f = IsBrokenLength length s f
+  IsBrokenDeclarator (Trees.array d left length right) s t f = (HasLengths d s × IsBrokenLength length s f)
       ⊎ ((f ≡ ill_typed R.Incomplete left) × (is_object (ended s.file.ends left) t ≡ false))
       ⊎ ((f ≡ ill_typed R.Length left) × (length ≡ Trees.no_expression) × (is_name d ≡ false))
       ⊎ ((n : ℕ) × IsOfLength length s n × (IsTooBig s (array t n) left f ⊎ IsBrokenDeclarator d s (array t n) f))

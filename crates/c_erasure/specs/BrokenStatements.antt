@@ -19,7 +19,7 @@ use Rattle.c_erasure.specs.Scopes.{Scope, inside, ended, AnObject, declared, wit
 use Rattle.c_erasure.specs.Specifiers.{storage_of, Storage, a_typedef, is_extern, is_static, several}
 use Rattle.c_erasure.specs.Declarators.{declared_name, Shape, closed, open_array}
 use Rattle.c_erasure.specs.Erasure.{IsBase, IsConstant, Erases, IsOne, Declares}
-use Rattle.c_erasure.specs.Initializers.{texts_of, is_character, IsTextOf, length_of, count_of, IsInitializer, AreConstants}
+use Rattle.c_erasure.specs.Initializers.{texts_of, is_character, IsTextOf, length_of, count_of, Part, Initializes, IsInitializer, AreConstants}
 use Rattle.c_erasure.specs.Statements.{Statements, IsSized, with_variable, with_object, DeclareAll, IsStart, ErasesItem, ErasesSwitchItem}
 use Rattle.c_erasure.specs.Broken.{Fault, ill_typed, One, AThing, IsNoRecord, null, HasNoValue, IsNoConstant, IsOldName, AreNoType, IsBroken, AreBroken}
 use Rattle.c_erasure.specs.Broken.{IsBrokenDeclarator}
@@ -62,12 +62,14 @@ abbrev mutual
   pub AreBrokenElements : Trees.Arguments → Scope → CType → ℕ → Fault → Type 0
   AreBrokenElements Trees.no_arguments s u n f = ⊥
   AreBrokenElements (Trees.and_argument comma a more) s u n f = ((n ≡ 0) × (f ≡ ill_typed R.Init (first a)))
-      ⊎ ((left : ℕ) × (n ≡ left + 1) × (IsBrokenInitializer a s u f ⊎ AreBrokenElements more s u left f))
+      ⊎ ((left : ℕ) × (n ≡ left + 1) × (IsBrokenInitializer a s u f
+      ⊎ ((own : List Part) × Initializes a s u 0 own × AreBrokenElements more s u left f)))
 
   pub AreBrokenFields : Trees.Arguments → Scope → List Field → Fault → Type 0
   AreBrokenFields Trees.no_arguments s fields f = ⊥
   AreBrokenFields (Trees.and_argument comma a more) s fields f = ((fields ≡ []) × (f ≡ ill_typed R.Init (first a)))
-      ⊎ ((field : Field) × (later : List Field) × (fields ≡ field ∷ later) × (IsBrokenInitializer a s field.ty f ⊎ AreBrokenFields more s later f))
+      ⊎ ((field : Field) × (later : List Field) × (fields ≡ field ∷ later) × (IsBrokenInitializer a s field.ty f
+      ⊎ ((own : List Part) × Initializes a s field.ty 0 own × AreBrokenFields more s later f)))
 
 abbrev pub IsBrokenInitial : Option (ℕ × Trees.Expression) → Scope → CType → Fault → Type 0
 IsBrokenInitial None s t f = ⊥
