@@ -19,8 +19,8 @@ use Rattle.c_typed.specs.Conversions.{is_integer}
 use Rattle.c_typed.specs.declared.program.MentionKind.TheVariants.{Named, Sizeof}
 use Rattle.c_erasure.specs.Noted.{size_of, value, way, value_of, type_of, unconverted, Thing, an_object, a_value, a_function, a_function_at}
 use Rattle.c_erasure.specs.Noted.{a_library_function, Expression, Path}
-use Rattle.c_erasure.specs.Scopes.{Bound, defines, a_local, FileScope, Scope, declared}
-use Rattle.c_erasure.specs.Erasure.{Erases, Values, IsTypedThing, IsNamed, literal_object, typed}
+use Rattle.c_erasure.specs.Scopes.{Bound, defines, a_local, FileScope, Scope, in_full, declared}
+use Rattle.c_erasure.specs.Erasure.{Erases, Values, IsTypedThing, IsNamed, unmade, typed}
 use Rattle.c_erasure.proofs.ExampleParts.{mention, value_of_some}
 
 abbrev int : CType
@@ -62,7 +62,7 @@ here = record {
   blocks = (local (codes "p") 0 (pointer (structure 0)) ∷ local (codes "a") 1 (array int 3) ∷ local (codes "i") 2 int ∷ local (codes "l") 3 long
       ∷ local (codes "v") 4 (pointer void) ∷ local (codes "c") 5 (integer Char) ∷ local (codes "q") 6 (pointer int) ∷ []) ∷ [];
   is_inside = true;
-  is_measured = false;
+  purpose = in_full;
   locals = record { name = codes "p"; ty = pointer (structure 0) } ∷ record { name = codes "a"; ty = array int 3 } ∷ record { name = codes "i"; ty = int }
       ∷ record { name = codes "l"; ty = long } ∷ record { name = codes "v"; ty = pointer void } ∷ record { name = codes "c"; ty = integer Char }
       ∷ record { name = codes "q"; ty = pointer int } ∷ [];
@@ -257,7 +257,7 @@ record_size = (structure 0, (structure 0, refl, inr (refl, ((0, refl, refl, inl 
 
 -- sizeof a, with no decay
 array_size : Erases (Trees.sizeof_expression 100 (name (codes "a") 107)) here (a_value (size 100 (array int 3) 12))
-array_size = (array int 3, ([], an_object (a_path 107), (a_local 1 (array int 3), refl, refl), refl, refl), (refl, inr (2, refl), refl))
+array_size = (array int 3, (an_object (a_path 107), (a_local 1 (array int 3), refl, refl), refl, refl), (refl, inr (2, refl), refl))
 
 -- sizeof "ab": the object of the literal stands in no file
 literal_size : Erases (Trees.sizeof_expression 100 (Trees.texts (record { from = 107; to = 111; text = codes "\"ab\"" } ∷ []))) here
@@ -266,10 +266,9 @@ unfolding string_bytes
 literal_size = (
   array (integer Char) 3,
   (
-    literal_object (place 107) (97 ∷ 98 ∷ 0 ∷ []) ∷ [],
-    an_object (way (array (integer Char) 3) (place 107) (Typed.object 0)),
-    (0, refl, refl),
+    unmade (place 107) (array (integer Char) 3),
     refl,
+    (refl, refl, refl, refl),
     refl,
   ),
   (refl, inr (3, refl), refl),

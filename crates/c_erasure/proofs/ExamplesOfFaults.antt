@@ -178,7 +178,7 @@ no_broken_sum s f (inl b) = b
 no_broken_sum s f (inr (inl (sound, b))) = b
 no_broken_sum s f (inr (inr (inl h))) = number_has_value (codes "256") 22 25 256 s f h
 no_broken_sum s f (inr (inr (inr (inl (sound, h))))) = number_has_value (codes "3") 28 29 3 s f h
-no_broken_sum s f (inr (inr (inr (inr (e, unfit))))) = not_unfit s (ended s.file.ends 26) unfit
+no_broken_sum s f (inr (inr (inr (inr (e, unfit))))) = not_unfit s (ended s.file.ends 22) unfit
 
 no_broken_return : (s : Scope) (f : Fault) → IsBrokenReturn (Some sum) 15 s int f → ⊥
 no_broken_return s f (inl b) = no_broken_sum s f b

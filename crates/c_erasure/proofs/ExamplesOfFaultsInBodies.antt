@@ -98,7 +98,7 @@ abbrev y : ℕ → Trees.Expression
 y at = Trees.name (word (codes "y") at (at + 1))
 
 no_name : IsFaultOf (main_item (alone (Trees.return 15 (Some (y 22)) 23)) 24 ∷ []) (undeclared (codes "y") 22)
-no_name = in_main (alone (Trees.return 15 (Some (y 22)) 23)) 24 [] [] (undeclared (codes "y") 22) refl (inl (inl (refl, refl)))
+no_name = in_main (alone (Trees.return 15 (Some (y 22)) 23)) 24 [] [] (undeclared (codes "y") 22) refl (inl (inl (inl (refl, refl))))
 
 -- int main(void){break;}
 no_loop : IsFaultOf (main_item (alone (Trees.break 15 20)) 21 ∷ []) (ill_typed R.Jump 15)
@@ -223,7 +223,7 @@ abbrev in_switch : Scope
 in_switch = inside (body [] [])
 
 one_is_constant : (at : ℕ) → IsConstant (Erases (one at)) in_switch Int 1
-one_is_constant at = ([], number at 1, (a_value (number at 1), refl, refl), (Int, refl, refl), refl, refl, refl)
+one_is_constant at = (number at 1, (a_value (number at 1), refl, refl), (Int, refl, refl), refl, refl, refl)
 
 same_case : IsFaultOf (main_item switch_items 50 ∷ []) (ill_typed R.Label 32)
 same_case = in_main switch_items 50 [] [] (ill_typed R.Label 32) refl (inl (inr (inr (inr (

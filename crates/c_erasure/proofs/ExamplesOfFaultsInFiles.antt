@@ -151,7 +151,7 @@ empty_array = record {
       tt,
       inr (inr (inr (
         refl,
-        (Int, 0, ([], number 6 0, (a_value (number 6 0), refl, refl), (Int, refl, refl), refl, refl, refl), zero_is_no_length),
+        (Int, 0, (number 6 0, (a_value (number 6 0), refl, refl), (Int, refl, refl), refl, refl, refl), zero_is_no_length),
       ))),
     ))),
   ));

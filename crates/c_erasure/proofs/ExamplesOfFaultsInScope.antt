@@ -100,8 +100,9 @@ main_is f base t is (types, listed, scalar, small, shape) = closed_type t (funct
 
 not_in_body : (f : FileScope) (at : ℕ) (x : Spelling) → ErasesItem f x_item
     → IsBrokenBody f (function int no_types) main_declarator x 20 main_items (no_x at) → ⊥
-not_in_body f at x first (parameters, locals, bounds, n, is, (none, ps, bs), inl (inl (h, e))) =
+not_in_body f at x first (parameters, locals, bounds, n, is, (none, ps, bs), inl (inl (inl (h, e)))) =
     x_visible f first (subst (λ bounds. or_else (Scopes.innermost (bounds ∷ []) (codes "x")) (visible f.names (codes "x") 28) ≡ None) bs h)
+not_in_body f at x first (parameters, locals, bounds, n, is, has, inl (inl (inr (t, h, e)))) = cc
 not_in_body f at x first (parameters, locals, bounds, n, is, has, inl (inr (inl (th, rule, t, w, e)))) = cc
 not_in_body f at x first (parameters, locals, bounds, n, is, has, inl (inr (inr (inl (e, w))))) = cc
 not_in_body f at x first (parameters, locals, bounds, n, is, has, inl (inr (inr (inr (e, some, w))))) = cc

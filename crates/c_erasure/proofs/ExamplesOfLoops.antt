@@ -227,7 +227,6 @@ typed_sum = value int (place 13) (Typed.binary Add (number 13 0) (number 17 2))
 
 sum_constant : IsConstant (Erases sum) (at_file_scope file) Int 2
 sum_constant = (
-  [],
   typed_sum,
   (
     a_value typed_sum,
@@ -279,7 +278,7 @@ enum_defined = (
 )
 
 length_constant : IsConstant (Erases (name (codes "C") 30)) (at_file_scope file) Int 3
-length_constant = ([], number 30 3, (a_value (number 30 3), refl, (enumerator 3, refl, refl)), (Int, refl, refl), refl, refl, refl)
+length_constant = (number 30 3, (a_value (number 30 3), refl, (enumerator 3, refl, refl)), (Int, refl, refl), refl, refl, refl)
 
 a_is_own : IsOwnName (codes "a")
 a_is_own L.Malloc = differ (codes "a") (codes "malloc") refl refl

@@ -146,7 +146,7 @@ type_defined = (
 )
 
 one_constant : (s : Scope) → IsConstant (Erases (digit (codes "1") 1 81)) (inside (in_body file (k_bound ∷ []) (k_local ∷ []))) Int 1
-one_constant s = ([], number 81 1, (a_value (number 81 1), refl, refl), (Int, refl, refl), refl, refl, refl)
+one_constant s = (number 81 1, (a_value (number 81 1), refl, refl), (Int, refl, refl), refl, refl, refl)
 
 g_defined : ErasesItem file g_item
 g_defined = (
@@ -403,7 +403,6 @@ size_stands = (
   (
     array char 3,
     (
-      [],
       an_object (way (array char 3) (place 190) (Typed.object 2)),
       (Scopes.an_object 2 (array char 3), refl, refl),
       refl,

@@ -23,7 +23,7 @@ use Rattle.c_typed.specs.Rules.{on_numbers, comparing, choosing, moving, differi
 use Rattle.c_typed.specs.Typed.{IsTyped}
 use Rattle.c_erasure.specs.Noted.{Expression, Thing, an_object, a_value, a_function, a_function_at, a_library_function, type_of, type_of_path}
 use Rattle.c_erasure.specs.Noted.{unconverted}
-use Rattle.c_erasure.specs.Scopes.{Bound, defines, enumerator, Tag, AnObject, Scope, inside, measured, with_objects, named, tag_at, ended, declared, here}
+use Rattle.c_erasure.specs.Scopes.{typedef, Bound, defines, enumerator, Tag, Scope, inside, for_value, measured, named, tag_at, ended, declared, here}
 use Rattle.c_erasure.specs.Operators.{Kind, computes, compares, all_of, any_of, kind_of, update_of}
 use Rattle.c_erasure.specs.Specifiers.{named_by, words_of, no_words, types_among, storage_of, no_storage, is_register}
 use Rattle.c_erasure.specs.Declarators.{declared_name, is_name, Shape, closed, open_array, parameter_type, IsSmall}
@@ -204,7 +204,7 @@ IsSizeless count (a_value e) = is_object count (type_of e) ≡ false
 IsSizeless count th = Unit {0}
 
 abbrev pub IsUnmeasured : Trees.Expression → Scope → ℕ → Type 0
-IsUnmeasured a s at = (own : List AnObject) × AThing a (measured (with_objects s own)) (IsSizeless (ended s.file.ends at))
+IsUnmeasured a s at = AThing a (measured s) (IsSizeless (ended s.file.ends at))
 
 -- ---- assignments (6.5.16): of a number or a pointer, of a record, and with an operator
 
@@ -217,13 +217,13 @@ IsBrokenAssignment None a at b s f = ((t : CType) × AThing a s (λ th. IsOfScal
     × (HasNoValue b s f ⊎ ((f ≡ ill_typed R.Assign at) × One b s (λ x. assigns (type_of x) (null x) t ≡ false))))
     ⊎ ((t : CType) × (f ≡ ill_typed R.Assign at) × AThing a s (λ th. IsOfRecord th t) × AThing b s (λ th. IsNoRecord th t))
 IsBrokenAssignment (Some op) a at b s f = (IsSound a s × HasNoValue b s f) ⊎ ((t : CType) × (f ≡ ill_typed R.Operands at) × AThing a s (λ th. IsObjectOf th t)
-    × One b s (λ x. updating (ended s.file.ends at) op t (type_of x) ≡ None))
+    × One b s (λ x. updating (ended s.file.ends (first a)) op t (type_of x) ≡ None))
 
 -- ---- constants (6.6): an expression that is none, or has no value
 
 abbrev pub IsNoConstant : Trees.Expression → Scope → Fault → Type 0
-IsNoConstant a s f = (own : List AnObject) × (f ≡ ill_typed R.Constant (first a))
-    × One a (with_objects s own) (λ x. (is_integer (type_of x) ≡ false) ⊎ ((v : ℕ) → constant_of (typed x) ≢ valued v))
+IsNoConstant a s f = (f ≡ ill_typed R.Constant (first a))
+    × One a (for_value s) (λ x. (is_integer (type_of x) ≡ false) ⊎ ((v : ℕ) → constant_of (typed x) ≢ valued v))
 
 abbrev pub IsConstantBut : Trees.Expression → Scope → (ℤ → Type 0) → Type 0
 IsConstantBut a s Is = (kind : IntKind) × (v : ℕ) × IsConstant (Erases a) s kind v × Is (number_of kind v)
@@ -248,6 +248,11 @@ IsOldName s (Some x) f = (b : Bound) × (here s x.text ≡ Some b) × (f ≡ red
 abbrev pub IsOtherTag : Scope → Spelling → (is_enumeration : Bool) → Fault → Type 0
 IsOtherTag s x is_enumeration f = (k : ℕ) × (t : Tag) × (slice_get s.file.tags k ≡ Some t) × (t.name ≡ x.text) × (t.is_enumeration ≡ is_enumeration)
     × (t.place < x.from) × (f ≡ redeclared x.text x.from t.place)
+
+-- a tag that stands elsewhere in the file before the enumeration with that tag ends
+abbrev pub IsTagElsewhere : Scope → Spelling → Fault → Type 0
+IsTagElsewhere s x f = (k : ℕ) × (t : Tag) × (slice_get s.file.tags k ≡ Some t) × (t.name ≡ x.text) × (t.place ≢ x.from)
+    × (f ≡ redeclared x.text x.from t.place)
 
 -- a structure that another definition completes
 abbrev pub IsDefinedBefore : Scope → Option Spelling → (right : ℕ) → Fault → Type 0
@@ -300,34 +305,36 @@ AreNoType specs = ((types_among specs ≡ []) × (named_by (words_of specs) ≡ 
 
 abbrev mutual
   pub IsBroken : Trees.Expression → Scope → Fault → Type 0
-  IsBroken (Trees.name x) s f = (named s x.text x.from ≡ None) × (f ≡ undeclared x.text x.from)
+  -- a name of a type is no operand
+  IsBroken (Trees.name x) s f = ((named s x.text x.from ≡ None) × (f ≡ undeclared x.text x.from))
+      ⊎ ((t : CType) × (named s x.text x.from ≡ Some (typedef t)) × (f ≡ ill_typed R.Operands x.from))
   IsBroken (Trees.number x n kind) s f = ⊥
   IsBroken (Trees.character x n) s f = ⊥
   IsBroken (Trees.texts all) s f = ⊥
   IsBroken (Trees.paren left a right) s f = IsBroken a s f
   IsBroken (Trees.index a left b right) s f = IsBroken a s f ⊎ (IsSound a s × IsBroken b s f) ⊎ HasNoValue a s f ⊎ (IsSound a s × HasNoValue b s f)
       ⊎ ((f ≡ ill_typed R.Operands left) × (AThing a s IsArrayObject × One b s (λ y. is_integer (type_of y) ≡ false)))
-      ⊎ ((f ≡ ill_typed R.Operands left) × Two a b s (λ x y. is_subscript (ended s.file.ends left) (type_of x) (type_of y) ≡ false))
+      ⊎ ((f ≡ ill_typed R.Operands left) × Two a b s (λ x y. is_subscript (ended s.file.ends (first a)) (type_of x) (type_of y) ≡ false))
   IsBroken (Trees.call g left all right) s f = IsBroken g s f ⊎ (IsSound g s × IsBrokenIn all s f)
       ⊎ ((f ≡ ill_typed R.Callee (first g)) × AThing g s (λ th. IsNoFunction (called_type th)))
       ⊎ ((parameters : CTypes) × AThing g s (λ th. IsFunctionType (called_type th) parameters) × AreUnfitArguments all s right parameters f)
   IsBroken (Trees.dot a at x) s f = IsBroken a s f
       ⊎ ((rule : Rule) × AThing a s (λ th. NoMemberOf s at th x.text rule) × (f ≡ ill_typed rule x.from))
   IsBroken (Trees.arrow a at x) s f = IsBroken a s f ⊎ HasNoValue a s f
-      ⊎ ((rule : Rule) × One a s (λ e. NoMemberAt s at (type_of e) x.text rule) × (f ≡ ill_typed rule x.from))
+      ⊎ ((rule : Rule) × One a s (λ e. NoMemberAt s (first a) (type_of e) x.text rule) × (f ≡ ill_typed rule x.from))
   IsBroken (Trees.post a op at) s f = IsBroken a s f ⊎ ((f ≡ ill_typed R.Lvalue (first a)) × AThing a s IsNoObject)
-      ⊎ ((t : CType) × (f ≡ ill_typed R.Operands at) × AThing a s (λ th. IsObjectOf th t) × (is_stepped (ended s.file.ends at) t ≡ false))
+      ⊎ ((t : CType) × (f ≡ ill_typed R.Operands at) × AThing a s (λ th. IsObjectOf th t) × (is_stepped (ended s.file.ends (first a)) t ≡ false))
   IsBroken (Trees.pre op at a) s f = IsBroken a s f ⊎ ((f ≡ ill_typed R.Lvalue (first a)) × AThing a s IsNoObject)
       ⊎ ((t : CType) × (f ≡ ill_typed R.Operands at) × AThing a s (λ th. IsObjectOf th t) × (is_stepped (ended s.file.ends at) t ≡ false))
   IsBroken (Trees.unary op at a) s f = IsBroken a s f ⊎ IsBrokenUnary op at a s f
-  IsBroken (Trees.sizeof_expression at a) s f = ((own : List AnObject) × IsBroken a (measured (with_objects s own)) f)
+  IsBroken (Trees.sizeof_expression at a) s f = IsBroken a (measured s) f
       ⊎ ((f ≡ ill_typed R.Incomplete at) × IsUnmeasured a s at)
   IsBroken (Trees.sizeof_type at left n right) s f = IsBrokenTypeName n s f
       ⊎ ((t : CType) × (f ≡ ill_typed R.Incomplete at) × IsTypeName s n t × (is_object (ended s.file.ends right) t ≡ false))
   IsBroken (Trees.cast left n right a) s f = IsBrokenTypeName n s f ⊎ (NamesType n s × IsBroken a s f) ⊎ (NamesType n s × HasNoValue a s f)
       ⊎ ((t : CType) × (f ≡ ill_typed R.Cast left) × IsTypeName s n t × One a s (λ x. casts (type_of x) (null x) t ≡ false))
   IsBroken (Trees.binary a op at b) s f = IsBroken a s f ⊎ (IsSound a s × IsBroken b s f) ⊎ HasNoValue a s f ⊎ (IsSound a s × HasNoValue b s f)
-      ⊎ ((f ≡ ill_typed R.Operands at) × Two a b s (AreUnfit (ended s.file.ends at) (kind_of op)))
+      ⊎ ((f ≡ ill_typed R.Operands at) × Two a b s (AreUnfit (ended s.file.ends (first a)) (kind_of op)))
   IsBroken (Trees.cond a question b colon c) s f = IsBroken a s f ⊎ HasNoValue a s f
       ⊎ ((f ≡ ill_typed R.Operands question) × One a s (λ x. is_scalar (type_of x) ≡ false))
       ⊎ (IsSound a s × (IsBroken b s f ⊎ HasNoValue b s f))
@@ -336,7 +343,7 @@ abbrev mutual
   IsBroken (Trees.assign a op at b) s f = IsBroken a s f ⊎ (IsSound a s × IsBroken b s f)
       ⊎ ((f ≡ ill_typed R.Lvalue (first a)) × AThing a s IsNotAssigned) ⊎ IsBrokenAssignment (update_of op) a at b s f
   IsBroken (Trees.comma a at b) s f = IsBroken a s f ⊎ (IsSound a s × IsBroken b s f) ⊎ HasNoValue a s f ⊎ (IsSound a s × HasNoValue b s f)
-  IsBroken (Trees.braces left all comma right) s f = ⊥
+  IsBroken (Trees.braces left all comma right) s f = f ≡ ill_typed R.Init left
 
   pub IsBrokenIn : Trees.Arguments → Scope → Fault → Type 0
   IsBrokenIn Trees.no_arguments s f = ⊥
@@ -357,7 +364,7 @@ abbrev mutual
 
   pub IsBrokenSpecifier : Trees.Specifier → Scope → Fault → Type 0
   IsBrokenSpecifier (Trees.plain word at) s f = ⊥
-  IsBrokenSpecifier (Trees.typename x) s f = ⊥
+  IsBrokenSpecifier (Trees.typename x) s f = ((t : CType) → named s x.text x.from ≢ Some (typedef t)) × (f ≡ undeclared x.text x.from)
   IsBrokenSpecifier (Trees.struct_named at x) s f = IsOtherTag s x true f
       ⊎ ((f ≡ ill_typed R.Scope at) × (s.is_inside ≡ true) × (tag_at s.file.tags x.text x.from ≡ None))
   IsBrokenSpecifier (Trees.struct_body at x left all right) s f = ((f ≡ ill_typed R.Scope at) × (s.is_inside ≡ true))
@@ -372,7 +379,7 @@ abbrev mutual
       ⊎ ((f ≡ undeclared x.text x.from) × (tag_at s.file.tags x.text x.from ≡ None))
   IsBrokenSpecifier (Trees.enum_body at x left all comma right) s f = ((f ≡ ill_typed R.Scope at) × (s.is_inside ≡ true))
       ⊎ AreBrokenEnumerators all s 0 (after_all comma right) f
-      ⊎ ((y : Spelling) × (x ≡ Some y) × (IsOtherTag s y false f ⊎ IsOtherTag s y true f))
+      ⊎ ((y : Spelling) × (x ≡ Some y) × IsTagElsewhere s y f)
 
   -- those before are declared
   pub AreBrokenEnumerators : Trees.Enumerators → Scope → (next after : ℕ) → Fault → Type 0
@@ -386,7 +393,7 @@ abbrev mutual
 
   pub IsBrokenValue : Trees.EnumeratorValue → Scope → Fault → Type 0
   IsBrokenValue Trees.no_value s f = ⊥
-  IsBrokenValue (Trees.valued equal a) s f = ((own : List AnObject) × IsBroken a (with_objects s own) f) ⊎ HasNoValue a s f ⊎ IsNoConstant a s f
+  IsBrokenValue (Trees.valued equal a) s f = IsBroken a (for_value s) f ⊎ HasNoValue a (for_value s) f ⊎ IsNoConstant a s f
       ⊎ ((f ≡ ill_typed R.Constant (first a)) × IsConstantBut a s IsNoInt)
 
   -- those before are as their rules say
@@ -423,7 +430,7 @@ abbrev mutual
 
   pub IsBrokenLength : Trees.OptionalExpression → Scope → Fault → Type 0
   IsBrokenLength Trees.no_expression s f = ⊥
-  IsBrokenLength (Trees.some_expression a) s f = ((own : List AnObject) × IsBroken a (with_objects s own) f) ⊎ HasNoValue a s f ⊎ IsNoConstant a s f
+  IsBrokenLength (Trees.some_expression a) s f = IsBroken a (for_value s) f ⊎ HasNoValue a (for_value s) f ⊎ IsNoConstant a s f
       ⊎ ((f ≡ ill_typed R.Length (first a)) × IsConstantBut a s IsNoLength)
 
   pub AreBrokenParameters : Trees.ParameterList → Scope → Fault → Type 0

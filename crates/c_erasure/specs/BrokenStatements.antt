@@ -15,7 +15,7 @@ use Rattle.c_typed.specs.Rules.{promoting}
 use Rattle.c_typed.specs.Mapped.{of_types, mapped_initializer}
 use Rattle.c_typed.specs.TypedStatements.{IsTypedInitializer}
 use Rattle.c_erasure.specs.Noted.{Noted, type_of}
-use Rattle.c_erasure.specs.Scopes.{Scope, inside, ended, AnObject, declared, with_objects}
+use Rattle.c_erasure.specs.Scopes.{Scope, inside, ended, declared, for_value}
 use Rattle.c_erasure.specs.Specifiers.{storage_of, Storage, a_typedef, is_extern, is_static, several}
 use Rattle.c_erasure.specs.Declarators.{declared_name, Shape, closed, open_array}
 use Rattle.c_erasure.specs.Erasure.{IsBase, IsConstant, Erases, IsOne, Declares}
@@ -166,7 +166,7 @@ IsAmong (w ∷ more) v = (v ≡ w) ⊎ IsAmong more v
 
 abbrev pub AreBrokenLabels : List Trees.Label → Scope → IntKind → Labels → Fault → Type 0
 AreBrokenLabels [] s kind before f = ⊥
-AreBrokenLabels (Trees.case at a colon ∷ more) s kind before f = ((own : List AnObject) × IsBroken a (with_objects s own) f) ⊎ HasNoValue a s f
+AreBrokenLabels (Trees.case at a colon ∷ more) s kind before f = IsBroken a (for_value s) f ⊎ HasNoValue a (for_value s) f
     ⊎ IsNoConstant a s f
     ⊎ ((k : IntKind) × (v : ℕ) × IsConstant (Erases a) s k v
     × (((f ≡ ill_typed R.Label at) × IsAmong before.cases (as_kind kind v))

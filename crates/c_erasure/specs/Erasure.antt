@@ -24,8 +24,8 @@ use Rattle.c_typed.specs.Mapped.{of_types, mapped, mapped_path}
 use Rattle.c_typed.specs.Conversions.{is_integer, is_array, is_function, is_scalar, number_of}
 use Rattle.c_typed.specs.Constants.{valued, constant_of}
 use Rattle.c_typed.specs.Typed.{IsTyped, IsTypedPath}
-use Rattle.c_erasure.specs.Scopes.{Entity, typedef, enumerator, a_local, Bound, FileScope, AnObject, Scope, inside, with_parameter, here, named, tag_at}
-use Rattle.c_erasure.specs.Scopes.{IsNumbered, ended, declared, with_objects, measured, IsMentioned}
+use Rattle.c_erasure.specs.Scopes.{Entity, typedef, enumerator, a_local, a_parameter, Bound, FileScope, AnObject, Scope, inside, with_parameter, here, named, tag_at}
+use Rattle.c_erasure.specs.Scopes.{IsNumbered, ended, declared, Purpose, in_full, for_value, measured, IsMentioned}
 use Rattle.c_erasure.specs.Scopes as Scopes
 use Rattle.c_erasure.specs.Scopes.{defines}
 use Rattle.c_erasure.specs.Noted as Notes
@@ -58,6 +58,10 @@ IsOfType th t = ⊥
 abbrev pub place_in : Scope → ℕ → Place
 place_in s at = record { file = s.file.file; at = at }
 
+-- where nothing is evaluated there is no object: what is used of it is a type, as of what a null pointer points to
+abbrev pub unmade : Place → CType → Thing
+unmade at t = an_object (way t at (Typed.deref (value (pointer t) at Typed.null)))
+
 -- an object, a function or a constant by its name (6.5.1)
 abbrev pub IsNamed : Place → Entity → Thing → Type 0
 IsNamed at (typedef t) th = ⊥
@@ -66,6 +70,7 @@ IsNamed at (Scopes.an_object n t) th = th ≡ an_object (way t at (Typed.object 
 IsNamed at (Scopes.a_function f t) th = th ≡ a_function at f t
 IsNamed at (Scopes.a_library_function which) th = th ≡ a_library_function at which
 IsNamed at (a_local n t) th = th ≡ an_object (way t at (Typed.local n))
+IsNamed at (a_parameter t) th = th ≡ unmade at t
 
 -- the object of a string literal: the bytes of the adjacent ones, and a zero (6.4.5)
 abbrev pub literal_of : List Spelling → List ℕ
@@ -84,9 +89,13 @@ literal_object at bytes = record {
   initial = Some (Typed.parts (record { offset = 0; value = Typed.text bytes } ∷ []));
 }
 
-abbrev pub IsLiteral : Scope → Place → List ℕ → Thing → Type 0
-IsLiteral s at bytes th = (n : ℕ) × (th ≡ an_object (way (array (integer Char) (length bytes)) at (Typed.object n)))
+abbrev pub IsLiteralFor : Purpose → Scope → Place → List ℕ → Thing → Type 0
+IsLiteralFor in_full s at bytes th = (n : ℕ) × (th ≡ an_object (way (array (integer Char) (length bytes)) at (Typed.object n)))
     × (slice_get s.file.objects n ≡ Some (literal_object at bytes))
+IsLiteralFor p s at bytes th = th ≡ unmade at (array (integer Char) (length bytes))
+
+abbrev pub IsLiteral : Scope → Place → List ℕ → Thing → Type 0
+IsLiteral s at bytes th = IsLiteralFor s.purpose s at bytes th
 
 -- what a binary operator makes of its operands
 abbrev pub IsSum : BinaryOp → Expression → Expression → Node → Type 0
@@ -170,13 +179,12 @@ Values Stands x = (th : Thing) × (value_of th ≡ Some (unconverted x)) × Stan
 
 -- an integer constant expression with its value (6.6): it is typed, and leaves nothing but its value
 abbrev pub IsConstant : (Scope → Thing → Type 0) → Scope → IntKind → ℕ → Type 0
-IsConstant Stands s kind v = (own : List AnObject) × (x : Expression) × Values (Stands (with_objects s own)) x
-    × IsTyped (declared (with_objects s own)) (typed x) × (unconverted x ≡ x) × (type_of x ≡ integer kind) × (constant_of (typed x) ≡ valued v)
+IsConstant Stands s kind v = (x : Expression) × Values (Stands (for_value s)) x × IsTyped (declared s) (typed x)
+    × (unconverted x ≡ x) × (type_of x ≡ integer kind) × (constant_of (typed x) ≡ valued v)
 
 -- the operand of `sizeof` is not evaluated: it is typed, and leaves nothing but its type
 abbrev pub IsMeasured : (Scope → Thing → Type 0) → Scope → CType → Type 0
-IsMeasured Stands s t = (own : List AnObject) × (operand : Thing) × Stands (measured (with_objects s own)) operand
-    × IsTypedThing (with_objects s own) operand × IsOfType operand t
+IsMeasured Stands s t = (operand : Thing) × Stands (measured s) operand × IsTypedThing s operand × IsOfType operand t
 
 -- the type that specifiers name (6.7.2): by their words, or by one typedef's name, structure or enumeration
 abbrev pub IsBase : (CType → Type 0) → Trees.Specifiers → CType → Type 0

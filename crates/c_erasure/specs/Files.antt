@@ -19,7 +19,7 @@ use Rattle.c_typed.specs.Fits.{library_type}
 use Rattle.c_typed.specs.TypedStatements.{declared_by, all_declared_by, IsTypedInitializer, AreTyped}
 use Rattle.c_erasure.specs.Noted.{Noted}
 use Rattle.c_erasure.specs.Scopes.{How, declares, tentative, defines, Entity, typedef, an_object, a_function, a_library_function, a_local, Bound, Tag}
-use Rattle.c_erasure.specs.Scopes.{AnObject, ALocal, AFunction, FileScope, Scope, at_file_scope, visible, ended, declared, IsMentioned}
+use Rattle.c_erasure.specs.Scopes.{AnObject, ALocal, AFunction, FileScope, Scope, in_full, at_file_scope, visible, ended, declared, IsMentioned}
 use Rattle.c_erasure.specs.Specifiers.{storage_of, Storage, no_storage, a_typedef, is_extern, is_static}
 use Rattle.c_erasure.specs.Declarators.{declared_name, is_name, Shape, closed, AreDifferent}
 use Rattle.c_erasure.specs.Erasure.{place_in, IsBound, IsBase, IsOne, Declares}
@@ -164,7 +164,7 @@ without_notes (Typed.and_statement s more) = Typed.and_statement (mapped_stateme
 
 -- inside the body, whose block is that of the parameters too (6.2.1)
 abbrev pub in_body : FileScope → List Bound → List ALocal → Scope
-in_body f bounds locals = record { file = f; blocks = bounds ∷ []; is_inside = true; is_measured = false; locals = locals }
+in_body f bounds locals = record { file = f; blocks = bounds ∷ []; is_inside = true; purpose = in_full; locals = locals }
 
 -- the locals are numbered in the order of the text, the parameters first
 abbrev pub IsBody : FileScope → CType → List Bound → AFunction → Trees.BlockItems → Type 0

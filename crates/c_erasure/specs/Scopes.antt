@@ -1,5 +1,5 @@
 -- What names stand for, and where (C99 6.2.1 to 6.2.3).
-use Rattle.std.specs.Prelude.{◌≡◌, ℕ, ◌+◌, Bool, true, false, ◌&&◌, nat_le, nat_lt, List, [], ◌∷◌, ◌++◌, map, length, if◌then◌else◌}
+use Rattle.std.specs.Prelude.{◌≡◌, ℕ, ◌+◌, Bool, true, false, ◌&&◌, nat_le, nat_lt, List, [], ◌∷◌, ◌++◌, map, if◌then◌else◌}
 use Rattle.std.specs.Prelude.{Option, Some, None, slice_get, ◌⊎◌}
 use Rattle.std.specs.Option.{option_map}
 use Rattle.std.specs.Str.{bytes_eq}
@@ -20,6 +20,8 @@ pub data Entity : Type 0 where
   a_function : (n : ℕ) → (t : CType) → Entity
   a_library_function : (which : LibraryFunction) → Entity
   a_local : (n : ℕ) → (t : CType) → Entity
+  -- a parameter in a declarator, where no function is defined
+  a_parameter : (t : CType) → Entity
 
 -- how a declaration declares (6.9.2): it may leave the definition to others, or define where no other does
 pub data How : Type 0 where
@@ -103,23 +105,29 @@ pub record FileScope : Type 0 where
   -- the tag of a record without one, by the byte of its `struct`
   pub untagged : ℕ → List ℕ
 
+-- what an expression is for: all that it does; its value alone, as of the length of an array or a `case` label; or its type alone, as of
+-- the operand of a `sizeof`
+pub data Purpose : Type 0 where
+  in_full : Purpose
+  value_alone : Purpose
+  type_alone : Purpose
+
 -- Where an expression stands: the file; the names that the blocks around it declare up to there, the innermost block first; whether it
--- is inside a function or a parameter list; whether it is inside an expression that is the operand of a `sizeof`; and the parameters and
--- locals of the function.
+-- is inside a function or a parameter list; what it is for; and the parameters and locals of the function.
 pub record Scope : Type 0 where
   pub file : FileScope
   pub blocks : List (List Bound)
   pub is_inside : Bool
-  pub is_measured : Bool
+  pub purpose : Purpose
   pub locals : List ALocal
 
 -- at file scope
 abbrev pub at_file_scope : FileScope → Scope
-at_file_scope f = record { file = f; blocks = []; is_inside = false; is_measured = false; locals = [] }
+at_file_scope f = record { file = f; blocks = []; is_inside = false; purpose = in_full; locals = [] }
 
 -- inside a block, or a parameter list
 abbrev pub inside : Scope → Scope
-inside s = record { file = s.file; blocks = [] ∷ s.blocks; is_inside = true; is_measured = s.is_measured; locals = s.locals }
+inside s = record { file = s.file; blocks = [] ∷ s.blocks; is_inside = true; purpose = s.purpose; locals = s.locals }
 
 -- what a declaration of the innermost block adds
 abbrev pub with_name : List (List Bound) → Bound → List (List Bound)
@@ -127,17 +135,11 @@ with_name [] b = (b ∷ []) ∷ []
 with_name (block ∷ outer) b = (block ++ b ∷ []) ∷ outer
 
 abbrev pub with_local : Scope → Bound → Scope
-with_local s b = record { file = s.file; blocks = with_name s.blocks b; is_inside = true; is_measured = s.is_measured; locals = s.locals }
+with_local s b = record { file = s.file; blocks = with_name s.blocks b; is_inside = true; purpose = s.purpose; locals = s.locals }
 
--- a parameter, whose number is the next one
+-- a parameter of a declarator
 abbrev pub with_parameter : Scope → (name : List ℕ) → (place : ℕ) → CType → Scope
-with_parameter s x at t = record {
-  file = s.file;
-  blocks = with_name s.blocks (record { name = x; place = at; from = at; how = defines; entity = a_local (length s.locals) t });
-  is_inside = true;
-  is_measured = s.is_measured;
-  locals = s.locals ++ record { name = x; ty = t } ∷ [];
-}
+with_parameter s x at t = with_local s (record { name = x; place = at; from = at; how = defines; entity = a_parameter t })
 
 -- ---- what a name stands for at a byte
 
@@ -198,30 +200,27 @@ declared s = record {
   functions = map (λ f. f.ty) s.file.functions;
 }
 
--- the scope with some more objects: those of string literals in an operand that is not evaluated
-abbrev pub with_objects : Scope → List AnObject → Scope
-with_objects s more = record {
-  file = record {
-    file = s.file.file;
-    names = s.file.names;
-    tags = s.file.tags;
-    records = s.file.records;
-    ends = s.file.ends;
-    numbered = s.file.numbered;
-    objects = s.file.objects ++ more;
-    functions = s.file.functions;
-    mentions = s.file.mentions;
-    untagged = s.file.untagged;
-  };
-  blocks = s.blocks;
-  is_inside = s.is_inside;
-  is_measured = s.is_measured;
-  locals = s.locals;
-}
+-- ---- operands that are not evaluated
+
+abbrev pub with_purpose : Purpose → Scope → Scope
+with_purpose p s = record { file = s.file; blocks = s.blocks; is_inside = s.is_inside; purpose = p; locals = s.locals }
 
 -- in the operand of a `sizeof`
 abbrev pub measured : Scope → Scope
-measured s = record { file = s.file; blocks = s.blocks; is_inside = s.is_inside; is_measured = true; locals = s.locals }
+measured s = with_purpose type_alone s
+
+-- of what stands in the operand of a `sizeof` no more than a type is used
+abbrev pub purpose_of_value : Purpose → Purpose
+purpose_of_value type_alone = type_alone
+purpose_of_value p = value_alone
+
+-- where an expression stands for its value
+abbrev pub for_value : Scope → Scope
+for_value s = with_purpose (purpose_of_value s.purpose) s
+
+abbrev pub is_measured : Purpose → Bool
+is_measured type_alone = true
+is_measured p = false
 
 -- ---- the file speaks of a type there; what is said in the operand of a `sizeof` is left out
 
@@ -229,4 +228,4 @@ abbrev pub IsListedAt : List AMention → MentionKind → CType → ℕ → Type
 IsListedAt all kind t at = (k : ℕ) × (slice_get all k ≡ Some (record { kind = kind; ty = t; at = at }))
 
 abbrev pub IsMentioned : Scope → MentionKind → CType → ℕ → Type 0
-IsMentioned s kind t at = (s.is_measured ≡ true) ⊎ IsListedAt s.file.mentions kind t at
+IsMentioned s kind t at = (is_measured s.purpose ≡ true) ⊎ IsListedAt s.file.mentions kind t at
