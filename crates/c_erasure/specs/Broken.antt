@@ -28,7 +28,7 @@ use Rattle.c_erasure.specs.Operators.{Kind, computes, compares, all_of, any_of, 
 use Rattle.c_erasure.specs.Specifiers.{named_by, words_of, no_words, types_among, storage_of, no_storage, is_register}
 use Rattle.c_erasure.specs.Declarators.{declared_name, is_name, Shape, closed, open_array, parameter_type, IsSmall}
 use Rattle.c_erasure.specs.Erasure.{typed, IsTypedThing, Values, IsConstant, IsInt, IsBase, Erases, IsOne, IsTypeName, Declares}
-use Rattle.c_erasure.specs.Erasure.{AreFields, AreMembers, AreParameters, IsEnumeratorValue, with_parameter_if_named, IsBound, after_all, comma_or}
+use Rattle.c_erasure.specs.Erasure.{AreFields, AreMembers, AreParameters, tag_text, IsEnumeratorValue, with_parameter_if_named, IsBound, after_all, comma_or}
 
 pub data Fault : Type 0 where
   ill_typed : (rule : Rule) → (at : ℕ) → Fault
@@ -247,7 +247,7 @@ IsOldName s (Some x) f = (b : Bound) × (here s x.text ≡ Some b) × (f ≡ red
 -- a tag of the other sort
 abbrev pub IsOtherTag : Scope → Spelling → (is_enumeration : Bool) → Fault → Type 0
 IsOtherTag s x is_enumeration f = (k : ℕ) × (t : Tag) × (slice_get s.file.tags k ≡ Some t) × (t.name ≡ x.text) × (t.is_enumeration ≡ is_enumeration)
-    × (t.place < x.from) × (f ≡ redeclared x.text x.from t.place)
+    × (t.from < x.from) × (f ≡ redeclared x.text x.from t.place)
 
 -- a tag that stands elsewhere in the file before the enumeration with that tag ends
 abbrev pub IsTagElsewhere : Scope → Spelling → Fault → Type 0
@@ -255,10 +255,13 @@ IsTagElsewhere s x f = (k : ℕ) × (t : Tag) × (slice_get s.file.tags k ≡ So
     × (f ≡ redeclared x.text x.from t.place)
 
 -- a structure that another definition completes
-abbrev pub IsDefinedBefore : Scope → Option Spelling → (right : ℕ) → Fault → Type 0
-IsDefinedBefore s None right f = ⊥
-IsDefinedBefore s (Some x) right f = (k end : ℕ) × (r : Record) × (slice_get s.file.records k ≡ Some r) × (r.tag ≡ x.text)
-    × (slice_get s.file.ends k ≡ Some end) × (end < right) × (f ≡ redeclared x.text x.from r.place.at)
+abbrev pub tag_place : ℕ → Option Spelling → ℕ
+tag_place at None = at
+tag_place at (Some x) = x.from
+
+abbrev pub IsDefinedBefore : Scope → (at : ℕ) → Option Spelling → (right : ℕ) → Fault → Type 0
+IsDefinedBefore s at x right f = (k end : ℕ) × (r : Record) × (slice_get s.file.records k ≡ Some r) × (r.tag ≡ tag_text s at x)
+    × (slice_get s.file.ends k ≡ Some end) × (end < right) × (f ≡ redeclared (tag_text s at x) (tag_place at x) r.place.at)
 
 abbrev pub if_named : Option Spelling → List Spelling
 if_named None = []
@@ -368,7 +371,7 @@ abbrev mutual
   IsBrokenSpecifier (Trees.struct_named at x) s f = IsOtherTag s x true f
       ⊎ ((f ≡ ill_typed R.Scope at) × (s.is_inside ≡ true) × (tag_at s.file.tags x.text x.from ≡ None))
   IsBrokenSpecifier (Trees.struct_body at x left all right) s f = ((f ≡ ill_typed R.Scope at) × (s.is_inside ≡ true))
-      ⊎ AreBrokenMembers all s f ⊎ IsRepeated (member_names all) f ⊎ IsDefinedBefore s x right f
+      ⊎ AreBrokenMembers all s f ⊎ IsRepeated (member_names all) f ⊎ IsDefinedBefore s at x right f
       ⊎ ((y : Spelling) × (x ≡ Some y) × IsOtherTag s y true f)
       ⊎ ((fields : List Field) × AreFields s all fields × (f ≡ too_big at) × (16777216 < size_of_record s.file.records (record {
         tag = [];
@@ -408,6 +411,7 @@ abbrev mutual
   pub AreBrokenFields : Trees.MemberDeclarators → Scope → CType → ℕ → Fault → Type 0
   AreBrokenFields Trees.no_member_declarators s base semicolon f = ⊥
   AreBrokenFields (Trees.and_member_declarator comma d more) s base semicolon f = IsBrokenDeclarator d s base f
+      ⊎ ((declared_name d ≡ None) × (f ≡ ill_typed R.Specifiers (first_declarator d semicolon)))
       ⊎ ((u : CType) × Declares s d base (open_array u) × (f ≡ ill_typed R.Length (first_declarator d semicolon)))
       ⊎ ((t : CType) × Declares s d base (closed t) × (is_object (ended s.file.ends (first_declarator d semicolon)) t ≡ false)
       × (f ≡ ill_typed R.Incomplete (first_declarator d semicolon)))

@@ -1,0 +1,4 @@
+pub mod Answers
+pub mod Nodes
+pub mod Declaring
+pub mod Finding
