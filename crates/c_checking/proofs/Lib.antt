@@ -1,0 +1,5 @@
+pub mod Results
+pub mod Extends
+pub mod Agreement
+pub mod Values
+pub mod NodesOfOne
