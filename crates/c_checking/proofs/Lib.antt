@@ -3,3 +3,4 @@ pub mod Extends
 pub mod Agreement
 pub mod Values
 pub mod NodesOfOne
+pub mod NodesOfTwo
