@@ -4,3 +4,4 @@ pub mod Agreement
 pub mod Values
 pub mod NodesOfOne
 pub mod NodesOfTwo
+pub mod NodesOfParts
