@@ -5,3 +5,4 @@ pub mod Values
 pub mod NodesOfOne
 pub mod NodesOfTwo
 pub mod NodesOfParts
+pub mod Declared
