@@ -6,3 +6,4 @@ pub mod NodesOfOne
 pub mod NodesOfTwo
 pub mod NodesOfParts
 pub mod Declared
+pub mod Derived
