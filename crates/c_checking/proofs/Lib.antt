@@ -7,3 +7,4 @@ pub mod NodesOfTwo
 pub mod NodesOfParts
 pub mod Declared
 pub mod Derived
+pub mod Ranges
