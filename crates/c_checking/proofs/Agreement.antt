@@ -31,18 +31,18 @@ abbrev pub BlocksAreFit : FileScope → List ALocal → List (List Bound) → Ty
 BlocksAreFit f locals [] = Unit {0}
 BlocksAreFit f locals (block ∷ outer) = AreFit f locals block × BlocksAreFit f locals outer
 
-fit_stays : {f g : FileScope} → Extends f g → (locals : List ALocal) (e : Entity) → IsFit f locals e → IsFit g locals e
-fit_stays p locals (typedef t) h = h
-fit_stays p locals (enumerator v) h = h
-fit_stays p locals (an_object n t) h = p.types n t h
-fit_stays p locals (a_function n t) h = p.functions n t h
-fit_stays p locals (a_library_function which) h = h
-fit_stays p locals (a_local n t) h = h
-fit_stays p locals (a_parameter t) h = h
+pub fit_stay : {f g : FileScope} → Extends f g → (locals : List ALocal) (e : Entity) → IsFit f locals e → IsFit g locals e
+fit_stay p locals (typedef t) h = h
+fit_stay p locals (enumerator v) h = h
+fit_stay p locals (an_object n t) h = p.types n t h
+fit_stay p locals (a_function n t) h = p.functions n t h
+fit_stay p locals (a_library_function which) h = h
+fit_stay p locals (a_local n t) h = h
+fit_stay p locals (a_parameter t) h = h
 
 pub fits_stay : {f g : FileScope} → Extends f g → (locals : List ALocal) (all : List Bound) → AreFit f locals all → AreFit g locals all
 fits_stay p locals [] h = h
-fits_stay p locals (b ∷ more) h = (fit_stays p locals b.entity h.0, fits_stay p locals more h.1)
+fits_stay p locals (b ∷ more) h = (fit_stay p locals b.entity h.0, fits_stay p locals more h.1)
 
 pub blocks_stay : {f g : FileScope} → Extends f g → (locals : List ALocal) (all : List (List Bound)) → BlocksAreFit f locals all → BlocksAreFit g locals all
 blocks_stay p locals [] h = h

@@ -142,7 +142,7 @@ literal_is_object count all = and_from (nat_lt 0 (length (literal_of all))) true
 pub record IsFoundLiteral (s : Scope) (from : ℕ) (all : List Spelling) (z : Thing × FileScope) : Type 0 where
   pub grown : IsGrown s.file s.is_inside [] z.1
   pub holds : (g : FileScope) → Extends z.1 g
-      → IsLiteral (moved s g) (place_in (moved s g) from) (literal_of all) z.0 × IsTypedThing (moved s g) z.0 × Unit {0}
+      → Stands (IsLiteral (moved s g) (place_in (moved s g) from) (literal_of all)) (moved s g) z.0
 
 unmade_literal : (s : Scope) (from : ℕ) (all : List Spelling) (g : FileScope) → Extends s.file g
     → IsTypedThing (moved s g) (unmade (place_in s from) (array (integer Char) (length (literal_of all))))

@@ -8,3 +8,5 @@ pub mod NodesOfParts
 pub mod Declared
 pub mod Derived
 pub mod Ranges
+pub mod InRange
+pub mod Found

@@ -39,3 +39,9 @@ by_option None f r y P h p q = q refl h
 pub both_true : (b c : Bool) → cond b c false ≡ true → (b ≡ true) × (c ≡ true)
 both_true true c h = (refl, h)
 both_true false c h = cc
+
+-- what follows an answer beside the file
+pub bound_with : {A B : Type 0} (f : FileScope) (r : Answer A) (k : A × FileScope → Answer B) (z : B) → (with_file f r >>= k) ≡ Ok z
+    → (y : A) × (r ≡ Ok y) × (k (y, f) ≡ Ok z)
+bound_with f (Ok y) k z h = (y, refl, h)
+bound_with f (Err e) k z h = cc
