@@ -22,7 +22,7 @@ use Rattle.c_typed.specs.Typed.{AreArguments}
 use Rattle.c_erasure.specs.Broken.{called_type}
 use Rattle.c_erasure.specs.Erasure.{place_in, literal_of, typed, Erases, AreValues, IsTypeName, IsConstant, IsSize, IsMeasured, IsOfType, place_of_name, IsTypedThing}
 use Rattle.c_erasure.specs.Marks.{Mark, marks, marks_of_all, marks_of_type}
-use Rattle.c_erasure.specs.Noted.{Noted, Expression, Path, Thing, an_object, a_value, nothing}
+use Rattle.c_erasure.specs.Noted.{Noted, Expression, Path, Thing, an_object, a_value, nothing, type_of}
 use Rattle.c_erasure.specs.Operators.{kind_of, update_of, step_of}
 use Rattle.c_erasure.specs.Scopes.{FileScope, Scope, Entity, Purpose, named, ended, declared, measured, for_value, IsMentioned}
 use Rattle.c_checking.specs.Answers.{Answer, ◌>>=◌, refused, Checked, with_file, moved}
@@ -343,7 +343,7 @@ module _ (untagged : ℕ → List ℕ) where
 
   -- the first operand of `?:`, which is tested
   pub tested_found : (s : Scope) (a : Trees.Expression) (question : ℕ) (r : Checked Expression) → ((x : Expression × FileScope) → r ≡ Ok x → FoundValue s a x)
-      → (x : Expression × FileScope) → tested_at question r ≡ Ok x → FoundValue s a x × (is_scalar (Rattle.c_erasure.specs.Noted.type_of x.0) ≡ true)
+      → (x : Expression × FileScope) → tested_at question r ≡ Ok x → FoundValue s a x × (is_scalar (type_of x.0) ≡ true)
   tested_found s a question r sound x h =
       let y = bound_ok r _ x h in
       let w = with_file_ok y.0.1 (tested question y.0.0) x y.2 in
@@ -352,10 +352,10 @@ module _ (untagged : ℕ → List ℕ) where
       (record {
         grew = subst (λ f. Grew s (marks untagged a) f) w.1 v.grew;
         holds = λ g e. subst (λ x. IsValue (Erases a (moved s g)) (moved s g) x) t.1 (v.holds g (subst (λ f. Extends f g) (sym w.1) e));
-      }, subst (λ x. is_scalar (Rattle.c_erasure.specs.Noted.type_of x) ≡ true) t.1 t.0)
+      }, subst (λ x. is_scalar (type_of x) ≡ true) t.1 t.0)
 
   pub choice_found : (s : Scope) (a : Trees.Expression) (question : ℕ) (b : Trees.Expression) (colon : ℕ) (c : Trees.Expression) (x : Expression × FileScope)
-      → FoundValue s a x × (is_scalar (Rattle.c_erasure.specs.Noted.type_of x.0) ≡ true) → (y : Expression × FileScope) → FoundValue (moved s x.1) b y
+      → FoundValue s a x × (is_scalar (type_of x.0) ≡ true) → (y : Expression × FileScope) → FoundValue (moved s x.1) b y
       → (u : Expression × FileScope) → FoundValue (moved s y.1) c u → (z : Thing × FileScope)
       → with_file u.1 (chosen_in colon (place_in s (first a)) x.0 y.0 u.0) ≡ Ok z → Found s (Trees.cond a question b colon c) z
   choice_found s a question b colon c x v y w u k z h =
@@ -365,3 +365,42 @@ module _ (untagged : ℕ → List ℕ) where
         let e = further k.grew.extends q in
         chosen_made (Erases a (moved s g)) (Erases b (moved s g)) (Erases c (moved s g)) (moved s g) (place_in (moved s g) (first a)) colon x.0 y.0 u.0
         (v.0.holds g (further w.grew.extends e)) v.1 (w.holds g e) (k.holds g q) z.0 h)
+
+  pub assign_found : (s : Scope) (a : Trees.Expression) (op : AssignOp) (at : ℕ) (b : Trees.Expression) (p : Thing × FileScope) → Found s a p
+      → (t : Target) → target_in (first a) p.0 ≡ Ok t → (right : FileScope → Checked Thing) → Later s p.1 b (right p.1) → (z : Thing × FileScope)
+      → assigned (complete s (first a)) at (first b) (place_in s (first a)) t p.1 right (update_of op) ≡ Ok z → Found s (Trees.assign a op at b) z
+  assign_found s a op at b p v t k right later z h = by_parts t (update_of op) refl object (target_type (Erases a s) (Erases a s) s 0 (first a) p.0 t k) h
+    where
+      object : (g : FileScope) → Extends p.1 g → Stands (Erases a (moved s g)) (moved s g) (an_object (path_of t))
+      object g e = subst (Stands (Erases a (moved s g)) (moved s g)) (target_made (Erases a s) (Erases a s) s 0 (first a) p.0 t k) (v.holds g e)
+      by_parts : (t : Target) (o : Option TypedBinary.BinaryOp) → update_of op ≡ o
+          → ((g : FileScope) → Extends p.1 g → Stands (Erases a (moved s g)) (moved s g) (an_object (path_of t)))
+          → IsTarget (Erases a s) (Erases a s) s 0 t
+          → assigned (complete s (first a)) at (first b) (place_in s (first a)) t p.1 right o ≡ Ok z → Found s (Trees.assign a op at b) z
+      by_parts t (Some update) e object i h =
+          let x = bound_ok (value_at (first b) (right p.1)) _ z h in
+          let w = valued b (moved s p.1) (first b) (right p.1) later x.0 x.1 in
+          concluded s (Trees.assign a op at b) x.0.1 (then v.grew w.grew)
+          (λ ends file. updated_in (ended ends (first a)) at (record { file = file; at = first a }) update (path_of t) x.0.0) z x.2
+          (λ g q h.
+            let m = updated_made (Erases a (moved s g)) (Erases b (moved s g)) (moved s g) (first a) at update (path_of t)
+              (object g (further w.grew.extends q)) x.0.0 (w.holds g q) z.0 h in
+            (inr (inr (m.0.0, m.0.1, m.0.2, update, e, m.0.3, m.0.4, m.0.5)), m.1, m.2))
+      by_parts (scalar_at to) None e object i h =
+          let x = bound_ok (value_at (first b) (right p.1)) _ z h in
+          let w = valued b (moved s p.1) (first b) (right p.1) later x.0 x.1 in
+          concluded s (Trees.assign a op at b) x.0.1 (then v.grew w.grew)
+          (λ ends file. assigned_in at (record { file = file; at = first a }) to x.0.0) z x.2
+          (λ g q h.
+            let m = assigned_made (Erases a (moved s g)) (Erases b (moved s g)) (moved s g) (first a) at to
+              (object g (further w.grew.extends q)) i x.0.0 (w.holds g q) z.0 h in
+            (inl (m.0.0, m.0.1, m.0.2, e, m.0.3, m.0.4, m.0.5), m.1, m.2))
+      by_parts (record_at to) None e object i h =
+          let x = bound_ok (right p.1) _ z h in
+          let w = later x.0 x.1 in
+          concluded s (Trees.assign a op at b) x.0.1 (then v.grew w.grew)
+          (λ ends file. copied_in at (record { file = file; at = first a }) to x.0.0) z x.2
+          (λ g q h.
+            let m = copied_made (Erases a (moved s g)) (Erases b (moved s g)) (moved s g) (first a) at to
+              (object g (further w.grew.extends q)) i.0 i.1 x.0.0 (w.holds g q) z.0 h in
+            (inr (inl (m.0.0, m.0.1, m.0.2, e, m.0.3, m.0.4, m.0.5)), m.1, m.2))

@@ -10,3 +10,4 @@ pub mod Derived
 pub mod Ranges
 pub mod InRange
 pub mod Found
+pub mod FoundTypes
