@@ -19,7 +19,7 @@ use Rattle.c_erasure.specs.Marks as Marks
 use Rattle.c_erasure.specs.Marks.{Mark, a_tag, an_end, a_name, marks, marks_if_any, marks_of_type, marks_of_specifiers, marks_of_specifier, marks_of_members}
 use Rattle.c_erasure.specs.Marks.{marks_of_member_declarators, marks_of_enumerators, marks_of_value, marks_of_declarator}
 use Rattle.c_erasure.specs.Scopes.{FileScope, Scope, Tag, Entity, typedef, enumerator, Bound, ALocal, defines, inside, with_name, with_parameter, named, ended, for_value, tag_at, IsNumbered}
-use Rattle.c_erasure.specs.Specifiers.{types_among, storage_of, words_of, no_words, named_by}
+use Rattle.c_erasure.specs.Specifiers.{no_storage, is_register, types_among, storage_of, words_of, no_words, named_by}
 use Rattle.c_checking.specs.Answers.{Answer, ◌>>=◌, refused, Checked, with_file, moved}
 use Rattle.c_checking.specs.Declaring.{with_mention, mentions_in, tagged_in, enumerated_in, type_named, known_tag, definable, unless, completed_in, enumerator_in}
 use Rattle.c_checking.specs.Declaring.{int_value, next_value, enumeration_of, Derivation, to_pointer, to_array, to_open_array, to_function, derived, length_value}
@@ -322,7 +322,7 @@ module _ (untagged : ℕ → List ℕ) where
       (record { grew = nothing_grown s.file s.is_inside; names = refl; holds = λ g p. refl })
 
   pub members_found : (s : Scope) (specs : Trees.Specifiers) (ds : Trees.MemberDeclarators) (semicolon : ℕ) (more : Trees.MemberDeclarations)
-      → storage_of specs ≡ Rattle.c_erasure.specs.Specifiers.no_storage → (b : CType × FileScope) → FoundBase s specs b
+      → storage_of specs ≡ no_storage → (b : CType × FileScope) → FoundBase s specs b
       → (own : List Field × FileScope) → FoundMembers (moved s b.1) b.0 ds semicolon own
       → (rest : List Field × FileScope) → FoundFields (moved s own.1) more rest → (z : List Field × FileScope) → ok (own.0 ++ rest.0, rest.1) ≡ Ok z
       → FoundFields s (Trees.and_member_declaration specs ds semicolon more) z
@@ -385,7 +385,7 @@ module _ (untagged : ℕ → List ℕ) where
 
   -- ---- type names (6.7.6)
 
-  pub type_found : (s : Scope) (specs : Trees.Specifiers) (d : Trees.Declarator) → storage_of specs ≡ Rattle.c_erasure.specs.Specifiers.no_storage
+  pub type_found : (s : Scope) (specs : Trees.Specifiers) (d : Trees.Declarator) → storage_of specs ≡ no_storage
       → (b : CType × FileScope) → FoundBase s specs b → (steps : List Derivation × FileScope) → FoundSteps (moved s b.1) d steps → (t : CType)
       → type_of_derived (first_declarator d (first_specifiers specs)) steps.1 steps.0 b.0 ≡ Ok t → (z : CType × FileScope)
       → ok (t, with_mention s (mentions_in b.1) Named t (first_declarator d (first_specifiers specs)) steps.1) ≡ Ok z

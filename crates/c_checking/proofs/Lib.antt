@@ -11,3 +11,4 @@ pub mod Ranges
 pub mod InRange
 pub mod Found
 pub mod FoundTypes
+pub mod FoundDeclarators
