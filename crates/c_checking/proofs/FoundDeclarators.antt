@@ -10,17 +10,17 @@ use Rattle.c_ast.specs.Places.{first, first_specifiers, first_declarator}
 use Rattle.c_typed.specs.declared.program.MentionKind.TheVariants.{Named}
 use Rattle.c_typed.specs.Conversions.{is_scalar}
 use Rattle.c_erasure.specs.Declarators.{Shape, closed, declared_name, parameter_type, is_name}
-use Rattle.c_erasure.specs.Erasure.{with_parameter_if_named, AreListed, Declares, IsNew}
+use Rattle.c_erasure.specs.Erasure.{IsBase, IsOne, with_parameter_if_named, AreListed, Declares, IsNew}
 use Rattle.c_erasure.specs.Marks.{Mark, marks_of_declarator, marks_of_specifiers}
-use Rattle.c_erasure.specs.Scopes.{FileScope, Scope, Bound, ALocal, a_parameter, inside, with_name, ended}
+use Rattle.c_erasure.specs.Scopes.{FileScope, Scope, Bound, ALocal, inside, with_name, ended, IsMentioned}
 use Rattle.c_erasure.specs.Specifiers.{storage_of, no_storage, is_register}
-use Rattle.c_checking.specs.Answers.{Answer, with_file, moved}
+use Rattle.c_checking.specs.Answers.{Answer, ◌>>=◌, with_file, moved}
 use Rattle.c_checking.specs.Declaring.{with_mention, mentions_in, Derivation, to_pointer, to_array, to_open_array, to_function, derived, length_value, new_if_named, scalar_parameter}
 use Rattle.c_checking.specs.Finding.{complete}
-use Rattle.c_checking.proofs.Results.{bound_ok, ok, given, with_file_ok}
+use Rattle.c_checking.proofs.Results.{bound_ok, bound_with, ok, given, with_file_ok}
 use Rattle.c_checking.proofs.Extends.{Extends, itself, further, constants_stay}
 use Rattle.c_checking.proofs.Agreement.{AreFit, IsFit, BlocksAreFit, one_more_fits, fits_stay, blocks_stay, added, IsReady, Ready, IsGrown, Grew, then}
-use Rattle.c_checking.proofs.Declared.{mentioned, is_mentioned, before_mention, nothing_grown, length_is, scalar_is}
+use Rattle.c_checking.proofs.Declared.{mentioned, is_mentioned, before_mention, nothing_grown, length_is, new_is, scalar_is}
 use Rattle.c_checking.proofs.Derived.{pointer_derived, array_derived, open_derived, function_derived, none_derived}
 use Rattle.c_checking.proofs.Found.{FoundConstant}
 use Rattle.c_checking.proofs.FoundTypes.{added_none, and_nothing, as_marks, added_inside, FoundBase, FoundSteps, FoundParameters, FoundList}
@@ -53,6 +53,22 @@ parameter_listed : (s : Scope) (x : Option Spelling) (t : CType) (g : FileScope)
     → AreListed (moved (with_parameter_if_named s x t) g) more rest → AreListed (with_parameter_if_named (moved s g) x t) more rest
 parameter_listed s None t g more rest h = h
 parameter_listed s (Some x) t g more rest h = h
+
+-- what is read in a parameter list
+pub ready_in : (s : Scope) (u : List Mark) (f : FileScope) → Ready s u → Grew s u f → Ready (inside (moved s f)) []
+ready_in s u f r p = record {
+  names_fit = p.names s.locals r.names_fit;
+  blocks_fit = (tt, blocks_stay p.extends s.locals s.blocks r.blocks_fit);
+  ends_stand = λ j n right h. cc;
+}
+
+-- what follows a name that is new
+pub new_bound : {A B : Type 0} (s : Scope) (x : Option Spelling) (f : FileScope) (r : Answer A) (k : A × FileScope → Answer B) (z : B)
+    → (new_if_named s x (with_file f r) >>= k) ≡ Ok z → IsNew s x × ((y : A) × (r ≡ Ok y) × (k (y, f) ≡ Ok z))
+new_bound s x f r k z h =
+    let t = bound_ok (new_if_named s x (with_file f r)) k z h in
+    let n = new_is s x (with_file f r) t.0 t.1 in
+    (n.0, bound_with f r k z (subst (λ q. (q >>= k) ≡ Ok z) (sym n.1) t.2))
 
 module _ (untagged : ℕ → List ℕ) where
   -- ---- declarators (6.7.5)
@@ -156,7 +172,7 @@ module _ (untagged : ℕ → List ℕ) where
     pub is_scalar : is_scalar t ≡ true
     pub is_new : IsNew s (declared_name d)
     pub grown : Grew s [] f
-    pub holds : (g : FileScope) → Extends f g → Rattle.c_erasure.specs.Erasure.IsBase (Rattle.c_erasure.specs.Erasure.IsOne (moved s g) specs) specs base
+    pub holds : (g : FileScope) → Extends f g → IsBase (IsOne (moved s g) specs) specs base
         × Declares (moved s g) d base shape
 
   pub parameter_made : (s : Scope) → s.is_inside ≡ true → (specs : Trees.Specifiers) (d : Trees.Declarator)
@@ -194,6 +210,6 @@ module _ (untagged : ℕ → List ℕ) where
             let m = is_mentioned s f g n Named t at q in
             let l = parameter_listed (moved s (with_mention s n Named t at f)) (declared_name d) t g more rest.0 (w.holds g p) in
             (v.base, v.shape, rest.0, ap (λ t. and_type t rest.0) v.ty_is, v.storage, y.0, y.1, subst (λ t. is_scalar t ≡ true) v.ty_is v.is_scalar, v.is_new,
-             subst (λ t. Rattle.c_erasure.specs.Scopes.IsMentioned (moved s g) Named t at) v.ty_is m,
+             subst (λ t. IsMentioned (moved s g) Named t at) v.ty_is m,
              subst (λ t. AreListed (with_parameter_if_named (moved s g) (declared_name d) t) more rest.0) v.ty_is l);
       })

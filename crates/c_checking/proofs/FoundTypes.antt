@@ -285,14 +285,22 @@ module _ (untagged : ℕ → List ℕ) where
       nothing true = refl
       nothing false = refl
 
+  abbrev pub bound_of : Spelling → Trees.Enumerators → ℕ → ℕ → Bound
+  bound_of x more after v = record { name = x.text; place = x.from; from = comma_or more after; how = defines; entity = enumerator v }
+
+  -- with an enumerator that is declared
+  pub enumerator_grown : (s : Scope) (next : ℕ) (x : Spelling) (value : Trees.EnumeratorValue) (more : Trees.Enumerators) (after : ℕ) (v : ℕ × FileScope)
+      → FoundNumber s next value v → (f : FileScope) → enumerator_in v.1 (bound_of x more after v.0) ≡ Ok f
+      → IsGrown v.1 s.is_inside (a_name (comma_or more after) ∷ []) f
+  enumerator_grown s next x value more after v w f e =
+      subst (λ f. IsGrown v.1 s.is_inside (a_name (comma_or more after) ∷ []) f) (enumerator_is v.1 (bound_of x more after v.0) f e)
+      (name_grown v.1 s.is_inside (comma_or more after) (bound_of x more after v.0) v.0 refl w.below)
+
   pub no_enumerators_found : (s : Scope) (next after : ℕ) (z : Unit {0} × FileScope) → ok (tt, s.file) ≡ Ok z
       → FoundEnumerators s next Trees.no_enumerators after z.1
   no_enumerators_found s next after z h =
       given (λ (z : Unit {0} × FileScope). FoundEnumerators s next Trees.no_enumerators after z.1) (tt, s.file) z h
       (record { grew = nothing_grown s.file s.is_inside; holds = λ g p. tt })
-
-  abbrev pub bound_of : Spelling → Trees.Enumerators → ℕ → ℕ → Bound
-  bound_of x more after v = record { name = x.text; place = x.from; from = comma_or more after; how = defines; entity = enumerator v }
 
   pub enumerator_found : (s : Scope) (comma : Option ℕ) (x : Spelling) (value : Trees.EnumeratorValue) (more : Trees.Enumerators) (next after : ℕ)
       → (v : ℕ × FileScope) → FoundNumber s next value v → (f : FileScope) → enumerator_in v.1 (bound_of x more after v.0) ≡ Ok f
@@ -301,7 +309,7 @@ module _ (untagged : ℕ → List ℕ) where
   enumerator_found s comma x value more next after v w f e g rest =
       let b = bound_of x more after v.0 in
       let i = enumerator_is v.1 b f e in
-      let n = subst (λ f. IsGrown v.1 s.is_inside (a_name (comma_or more after) ∷ []) f) i (name_grown v.1 s.is_inside (comma_or more after) b v.0 refl w.below) in
+      let n = enumerator_grown s next x value more after v w f e in
       let k : slice_get f.names (length v.1.names) ≡ Some b = subst (λ (f : FileScope). slice_get f.names (length v.1.names) ≡ Some b) i (at_end v.1.names b) in
       record {
         grew = then w.grew (then n rest.grew);

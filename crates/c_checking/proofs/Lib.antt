@@ -12,3 +12,4 @@ pub mod InRange
 pub mod Found
 pub mod FoundTypes
 pub mod FoundDeclarators
+pub mod Sound
