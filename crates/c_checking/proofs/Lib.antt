@@ -13,3 +13,4 @@ pub mod Found
 pub mod FoundTypes
 pub mod FoundDeclarators
 pub mod Sound
+pub mod Adding
