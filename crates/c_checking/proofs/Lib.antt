@@ -14,3 +14,4 @@ pub mod FoundTypes
 pub mod FoundDeclarators
 pub mod Sound
 pub mod Adding
+pub mod Growth
