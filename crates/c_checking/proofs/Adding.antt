@@ -1,13 +1,13 @@
 -- What a part of the text adds to a file, in numbers: names, structures, mentions and objects, in the order of the text.
-use Rattle.std.proofs.Common.{◌≡◌, ℕ, zero, suc, ◌+◌, Bool, true, false, refl, sym, ap, ◌∙◌, subst, List, [], ◌∷◌, ◌++◌, length, take, drop, append_assoc, append-nil, arith, cond}
-use Rattle.std.specs.Prelude.{map, Option, Some, None, Ok}
+use Rattle.std.proofs.Common.{◌≡◌, ℕ, zero, suc, Bool, true, false, refl, sym, ap, ◌∙◌, subst, List, [], ◌∷◌, ◌++◌, length, take, drop, append_assoc, append-nil, arith, cond}
+use Rattle.std.specs.Prelude.{map, Ok}
 use Rattle.c_types.specs.declared.ty.IntKind.{IntKind}
 use Rattle.c_types.specs.Types.{CType, Record}
 use Rattle.c_typed.specs.declared.program.MentionKind.{MentionKind}
 use Rattle.c_erasure.specs.Marks.{Mark, a_tag, an_end, a_name, scope_beginnings, defined_in}
 use Rattle.c_erasure.specs.Noted.{Expression, Thing}
 use Rattle.c_erasure.specs.Scopes.{Bound, Tag, AnObject, AMention, FileScope, Scope, Purpose, in_full, value_alone, type_alone, is_measured, purpose_of_value}
-use Rattle.c_checking.specs.Answers.{Answer, ◌>>=◌, Checked, with_file, moved}
+use Rattle.c_checking.specs.Answers.{Answer, Checked, with_file}
 use Rattle.c_checking.specs.Nodes.{worth, tested}
 use Rattle.c_checking.specs.Declaring.{with_mention, mentions_in, with_object, with_record, with_bound, constant_in}
 use Rattle.c_checking.specs.Finding.{value_at, tested_at, constant_at}

@@ -1,8 +1,8 @@
 -- The steps of declarators, and the types that specifiers name (C99 6.7.2, 6.7.5).
-use Rattle.std.proofs.Common.{◌≡◌, ◌≢◌, ℕ, zero, suc, ◌+◌, ◌*◌, ◌≤◌, ◌<◌, Bool, true, false, refl, sym, ap, ◌∙◌, subst, cond, List, [], ◌∷◌, ◌++◌, arith, inl, inr, length}
+use Rattle.std.proofs.Common.{◌≡◌, ℕ, ◌≤◌, Bool, true, false, refl, sym, ap, ◌∙◌, subst, cond, List, [], ◌∷◌, ◌++◌, arith, inl, inr, length}
 use Rattle.std.proofs.lemmas.Bool.{and_parts, eqb-true}
 use Rattle.std.proofs.lemmas.Bool.Decides.{nat_tests}
-use Rattle.std.specs.Prelude.{Option, Some, None, Ok, nat_le, ◌&&◌, ◌==◌, ◌⊎◌}
+use Rattle.std.specs.Prelude.{Option, Some, None, Ok, nat_le, ◌==◌, ◌⊎◌}
 use Rattle.c_types.specs.Types.{CType, CTypes, void, integer, pointer, array, function, structure, Record}
 use Rattle.c_types.specs.Layouts.{size_of}
 use Rattle.c_types.specs.Objects.{is_object, parts}
@@ -10,12 +10,12 @@ use Rattle.c_types.proofs.Growing.{layouts_stay}
 use Rattle.c_ast.specs.Trees
 use Rattle.c_typed.specs.Conversions.{is_scalar}
 use Rattle.c_erasure.specs.Declarators.{Shape, closed, open_array, IsSmall}
-use Rattle.c_erasure.specs.Marks.{Mark, marks_of_specifiers}
+use Rattle.c_erasure.specs.Marks.{marks_of_specifiers}
 use Rattle.c_erasure.specs.Scopes.{FileScope}
-use Rattle.c_erasure.specs.Specifiers.{Words, types_among, words_of, no_words, same_words, named_by, is_word}
-use Rattle.c_checking.specs.Answers.{Answer, ◌>>=◌, refused, Checked}
+use Rattle.c_erasure.specs.Specifiers.{Words, types_among, words_of, no_words, same_words, named_by}
+use Rattle.c_checking.specs.Answers.{◌>>=◌, Checked}
 use Rattle.c_checking.specs.Declaring.{Derivation, to_pointer, to_array, to_open_array, to_function, is_small, small, element, is_result, result_type, derived, closed_at, object_at}
-use Rattle.c_checking.specs.Declaring.{Base, by_words, by_one, no_type, base_of_words, base_among, base_kind}
+use Rattle.c_checking.specs.Declaring.{by_one, no_type, base_of_words, base_among, base_kind}
 use Rattle.c_checking.specs.Finding.{base_type, type_of_derived}
 use Rattle.c_checking.specs.Nodes.{is_complete}
 use Rattle.c_checking.proofs.Results.{bound_ok, ok, given, only_if, chosen}

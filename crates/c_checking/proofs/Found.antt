@@ -1,10 +1,9 @@
 -- What is found for an expression, in each file that goes on from the one that finding leaves; one lemma for each alternative of the grammar.
-use Rattle.std.proofs.Common.{◌≡◌, ℕ, ◌+◌, ◌<◌, Bool, true, false, refl, sym, ap, ◌∙◌, subst, List, [], ◌∷◌, ◌++◌, length, inl, inr}
-use Rattle.std.specs.Prelude.{◌^◌, Option, Some, None, Ok, Err}
-use Rattle.lay_base.specs.declared.place.Place.{Place}
+use Rattle.std.proofs.Common.{◌≡◌, ℕ, ◌<◌, true, false, refl, sym, subst, List, [], inl, inr}
+use Rattle.std.specs.Prelude.{◌^◌, Option, Some, None, Ok}
 use Rattle.c_types.specs.declared.ty.IntKind.{IntKind}
 use Rattle.c_types.specs.declared.ty.IntKind.TheVariants.{Int}
-use Rattle.c_types.specs.Types.{CType, CTypes, integer, function, no_types, and_type}
+use Rattle.c_types.specs.Types.{CType, CTypes, integer, no_types, and_type}
 use Rattle.c_ast.specs.declared.words.Spelling.{Spelling}
 use Rattle.c_ast.specs.declared.operators.UnaryOp.{UnaryOp}
 use Rattle.c_ast.specs.declared.operators.UnaryOp.TheVariants as U
@@ -19,13 +18,12 @@ use Rattle.c_typed.specs.declared.program.MentionKind.TheVariants.{Named, Sizeof
 use Rattle.c_typed.specs.Trees as Typed
 use Rattle.c_typed.specs.Conversions.{as_kind, is_scalar}
 use Rattle.c_typed.specs.Typed.{AreArguments}
-use Rattle.c_erasure.specs.Broken.{called_type}
-use Rattle.c_erasure.specs.Erasure.{place_in, literal_of, typed, Erases, AreValues, IsTypeName, IsConstant, IsSize, IsMeasured, IsOfType, place_of_name, IsTypedThing}
-use Rattle.c_erasure.specs.Marks.{Mark, marks, marks_of_all, marks_of_type}
+use Rattle.c_erasure.specs.Erasure.{place_in, literal_of, typed, Erases, AreValues, IsTypeName, IsConstant, IsSize, place_of_name}
+use Rattle.c_erasure.specs.Marks.{marks, marks_of_all, marks_of_type}
 use Rattle.c_erasure.specs.Noted.{Noted, Expression, Path, Thing, an_object, a_value, nothing, type_of}
 use Rattle.c_erasure.specs.Operators.{kind_of, update_of, step_of}
-use Rattle.c_erasure.specs.Scopes.{FileScope, Scope, Entity, Purpose, named, ended, declared, measured, for_value, IsMentioned}
-use Rattle.c_checking.specs.Answers.{Answer, ◌>>=◌, refused, Checked, with_file, moved}
+use Rattle.c_erasure.specs.Scopes.{FileScope, Scope, Entity, named, ended, declared, measured, for_value, IsMentioned}
+use Rattle.c_checking.specs.Answers.{Answer, ◌>>=◌, Checked, with_file, moved}
 use Rattle.c_checking.specs.Nodes.{worth, named_in, array_of, element_in, index_in, signature_in, argument_in, call_in, dot_in, arrow_in, step_in}
 use Rattle.c_checking.specs.Nodes.{address_in, deref_in, unary_in, not_in, size_node, sized_type, measured_in, cast_in, binary_in, tested, chosen_in}
 use Rattle.c_checking.specs.Nodes.{Target, scalar_at, record_at, path_of, target_in, assigned_in, copied_in, updated_in, comma_in}
@@ -33,8 +31,8 @@ use Rattle.c_checking.specs.Declaring.{with_mention, mentions_in, literal_in, co
 use Rattle.c_checking.specs.Finding.{complete, value_at, tested_at, on_value, unary_on, constant_at, subscripted, assigned}
 use Rattle.c_checking.proofs.Results.{bound_ok, bound_with, ok, given, with_file_ok}
 use Rattle.c_checking.proofs.Extends.{Extends, itself, further, record_stays, named_stays, constants_stay}
-use Rattle.c_checking.proofs.Agreement.{IsFit, fit_stay, named_fits, IsReady, Ready, IsGrown, Grew, then}
-use Rattle.c_checking.proofs.Values.{IsValue, IsNoArray, Stands, worth_made}
+use Rattle.c_checking.proofs.Agreement.{fit_stay, named_fits, Ready, Grew, then}
+use Rattle.c_checking.proofs.Values.{IsValue, Stands, worth_made}
 use Rattle.c_checking.proofs.NodesOfOne.{named_made, constant_made, unary_made, not_made, deref_made, address_made, step_made, cast_made}
 use Rattle.c_checking.proofs.NodesOfTwo.{element_made, index_made, binary_made, comma_made, target_made, IsTarget, target_type, assigned_made, copied_made, updated_made}
 use Rattle.c_checking.proofs.NodesOfTwo.{tested_is, chosen_made}

@@ -1,5 +1,5 @@
 -- What finding adds to a file is what the text declares, says and makes there, in the order of the text.
-use Rattle.std.proofs.Common.{◌≡◌, ℕ, ◌+◌, Bool, true, false, refl, sym, ap, ◌∙◌, subst, List, [], ◌∷◌, ◌++◌, append-nil, inl, inr}
+use Rattle.std.proofs.Common.{◌≡◌, ℕ, ◌+◌, true, false, refl, sym, ap, ◌∙◌, subst, List, [], ◌∷◌, ◌++◌, append-nil, inl, inr}
 use Rattle.std.specs.Prelude.{◌^◌, ◌%◌, Option, Some, None, Ok}
 use Rattle.lay_base.specs.declared.place.Place.{Place}
 use Rattle.c_types.specs.declared.ty.IntKind.{IntKind}
@@ -22,19 +22,18 @@ use Rattle.c_erasure.specs.Marks.{marks_of_member_declarators, marks_of_enumerat
 use Rattle.c_erasure.specs.MentionPlaces.{spoken, spoken_of_all, spoken_of_type, spoken_of_specifiers, spoken_of_specifier, spoken_of_members, spoken_of_fields}
 use Rattle.c_erasure.specs.MentionPlaces.{spoken_of_enumerators, spoken_of_value, spoken_of_declarator, spoken_of_list, spoken_of_parameters}
 use Rattle.c_erasure.specs.Noted.{Noted, Expression, Path, Thing}
-use Rattle.c_erasure.specs.Operators.{step_of, update_of, kind_of}
-use Rattle.c_erasure.specs.Scopes.{FileScope, Scope, Purpose, in_full, value_alone, type_alone, inside, measured, for_value, named, is_measured}
+use Rattle.c_erasure.specs.Operators.{update_of}
+use Rattle.c_erasure.specs.Scopes.{FileScope, Scope, Purpose, in_full, value_alone, type_alone, inside, measured, for_value, is_measured}
 use Rattle.c_erasure.specs.Specifiers.{types_among, storage_of}
-use Rattle.c_checking.specs.Answers.{Answer, ◌>>=◌, Checked, moved, with_file}
-use Rattle.c_checking.specs.Nodes.{worth, named_in, array_of, element_in, index_in, signature_in, argument_in, call_in, dot_in, arrow_in, step_in, address_in}
-use Rattle.c_checking.specs.Nodes.{measured_in, sized_type, cast_in, binary_in, chosen_in, Target, scalar_at, record_at, path_of, target_in, assigned_in, copied_in}
-use Rattle.c_checking.specs.Nodes.{updated_in, comma_in}
-use Rattle.c_checking.specs.Declaring.{with_record, with_mention, mentions_in, literal_for, literal_in, type_named, tagged_in, enumerated_in, completed_in, enumerator_in, enumeration_of}
-use Rattle.c_checking.specs.Declaring.{int_value, next_value, Derivation, derived, length_value, object_at, base_kind, without_storage, parameter_storage, scalar_parameter}
+use Rattle.c_checking.specs.Answers.{◌>>=◌, Checked, moved, with_file}
+use Rattle.c_checking.specs.Nodes.{worth, array_of, signature_in, argument_in}
+use Rattle.c_checking.specs.Nodes.{measured_in, sized_type, Target, scalar_at, record_at, target_in}
+use Rattle.c_checking.specs.Declaring.{with_record, with_mention, mentions_in, literal_for, literal_in, completed_in, enumerator_in}
+use Rattle.c_checking.specs.Declaring.{Derivation, derived, length_value, object_at, base_kind, without_storage, parameter_storage, scalar_parameter}
 use Rattle.c_checking.specs.Finding.{complete, value_at, tested_at, constant_at, on_value, unary_on, subscripted, assigned, base_type, type_of_derived, with_member}
 use Rattle.c_checking.specs.Finding.{find, arguments, type_name, one_of, specified, members, member_declarators, enumerators, enumerator_value, derivations, array_step}
 use Rattle.c_checking.specs.Finding.{parameter_list, parameters}
-use Rattle.c_checking.proofs.Results.{bound_ok, bound_with, ok, given, chosen}
+use Rattle.c_checking.proofs.Results.{bound_ok, bound_with, chosen}
 use Rattle.c_checking.proofs.Declared.{no_storage_is, parameter_storage_is, unless_ok, completed_is, enumerator_is}
 use Rattle.c_checking.proofs.Derived.{IsBaseOf, base_is, words_mark_nothing}
 use Rattle.c_checking.proofs.FoundTypes.{bound_of}

@@ -1,30 +1,28 @@
 -- Each node of one operand, and of none: it stands for its part of the text and is well typed (C99 6.5.1 to 6.5.4).
-use Rattle.std.proofs.Common.{◌≡◌, ◌≢◌, ℕ, ◌+◌, ◌≤◌, ◌<◌, Bool, true, false, refl, sym, ap, ◌∙◌, subst, cond, inl, inr, List, [], ◌∷◌, ◌++◌, length, arith}
-use Rattle.std.specs.Prelude.{Option, Some, None, Ok, Err, slice_get, map, ◌%◌, ◌^◌}
+use Rattle.std.proofs.Common.{◌≡◌, ℕ, Bool, true, false, refl, sym, ap, ◌∙◌, inl, inr, List}
+use Rattle.std.specs.Prelude.{Some, Ok}
 use Rattle.lay_base.specs.declared.place.Place.{Place}
 use Rattle.c_types.specs.declared.ty.IntKind.{IntKind}
-use Rattle.c_types.specs.declared.ty.IntKind.TheVariants.{Char, Int, UInt}
+use Rattle.c_types.specs.declared.ty.IntKind.TheVariants.{Int}
 use Rattle.c_types.specs.Types.{CType, void, integer, pointer, array, function, structure}
 use Rattle.c_types.specs.Objects.{is_object}
 use Rattle.c_typed.specs.declared.operators.UnaryOp.{UnaryOp}
 use Rattle.c_typed.specs.declared.operators.StepOp.{StepOp}
 use Rattle.c_typed.specs.Trees as Typed
-use Rattle.c_typed.specs.Constants.{ty, is_null}
-use Rattle.c_typed.specs.Conversions.{is_scalar, is_integer, is_function, is_pointer, promoted, as_kind, pointed}
+use Rattle.c_typed.specs.Constants.{ty}
+use Rattle.c_typed.specs.Conversions.{is_scalar, is_integer, is_function, promoted, as_kind, pointed}
 use Rattle.c_typed.specs.Fits.{casts}
 use Rattle.c_typed.specs.Rules.{points_to_object, promoting, is_stepped}
-use Rattle.c_typed.specs.Typed.{Declared, bare, bare_ty, is_decay, IsTyped, IsTypedPath}
+use Rattle.c_typed.specs.Typed.{bare_ty}
 use Rattle.c_erasure.specs.Erasure.{typed, IsTypedThing, Values, place_in, unmade, IsNamed, IsAddress, IsPointed}
-use Rattle.c_erasure.specs.Noted.{Noted, Expression, Path, Node, Thing, an_object, a_value, a_function, a_function_at, a_library_function, value, way, type_of, type_of_path}
-use Rattle.c_erasure.specs.Noted.{unconverted}
+use Rattle.c_erasure.specs.Noted.{Expression, Path, Thing, an_object, a_value, a_function, a_function_at, a_library_function, value, type_of, type_of_path}
 use Rattle.c_erasure.specs.Scopes.{Entity, typedef, enumerator, a_local, a_parameter, Scope, declared, ended}
 use Rattle.c_erasure.specs.Scopes as Scopes
-use Rattle.c_checking.specs.Answers.{Answer, refused}
-use Rattle.c_checking.specs.Nodes.{place_of, null, converted, promoted_value, a_node, a_way, named_in, step_in, address_in, pointed_to, deref_in, unary_in, not_in, cast_in}
+use Rattle.c_checking.specs.Nodes.{null, promoted_value, named_in, step_in, address_in, pointed_to, deref_in, unary_in, not_in, cast_in}
 use Rattle.c_checking.specs.Finding.{complete}
-use Rattle.c_checking.proofs.Results.{ok, given, only_if, chosen}
+use Rattle.c_checking.proofs.Results.{given, only_if, chosen}
 use Rattle.c_checking.proofs.Agreement.{IsFit}
-use Rattle.c_checking.proofs.Values.{typed_path, type_same, path_type_same, bare_same, unconverted_same, IsValue, IsNoArray, no_array, IsNeat, Stands, IsOperand, operand}
+use Rattle.c_checking.proofs.Values.{type_same, path_type_same, unconverted_same, IsValue, Stands, IsOperand, operand}
 
 -- ---- names and constants
 

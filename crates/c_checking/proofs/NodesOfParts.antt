@@ -1,39 +1,33 @@
 -- Members, calls, sizes and string literals: what is found stands for its part of the text and is well typed (C99 6.4.5, 6.5.2, 6.5.3.4).
-use Rattle.std.proofs.Common.{◌≡◌, ℕ, zero, suc, ◌+◌, ◌≤◌, ◌<◌, Bool, true, false, refl, sym, ap, ◌∙◌, subst, cond, List, [], ◌∷◌, ◌++◌, length, length-append, arith, inl, inr}
-use Rattle.std.proofs.lemmas.Bool.{and_parts, and_from, lt-ltb}
+use Rattle.std.proofs.Common.{◌≡◌, ℕ, suc, ◌+◌, ◌≤◌, Bool, true, false, refl, sym, ap, ◌∙◌, subst, cond, List, [], ◌∷◌, ◌++◌, length, arith}
+use Rattle.std.proofs.lemmas.Bool.{and_parts}
 use Rattle.std.proofs.lemmas.Slice.Eq.{bytes_eq-Decides}
 use Rattle.std.proofs.lemmas.Bool.Decides.{nat_tests}
-use Rattle.std.specs.Prelude.{Option, Some, None, Ok, Err, slice_get, map, nat_lt, nat_le, ◌&&◌, ◌%◌, ◌^◌}
+use Rattle.std.specs.Prelude.{Option, Some, None, Ok, slice_get, nat_le, ◌%◌, ◌^◌}
 use Rattle.std.specs.Option.{option_map}
 use Rattle.std.specs.Str.{bytes_eq}
 use Rattle.lay_base.specs.declared.place.Place.{Place}
-use Rattle.lay_base.specs.declared.faults.Rule.TheVariants as R
-use Rattle.c_types.specs.declared.ty.IntKind.TheVariants.{Char, Int, UInt}
+use Rattle.c_types.specs.declared.ty.IntKind.TheVariants.{UInt}
 use Rattle.c_types.specs.Types.{CType, CTypes, void, integer, pointer, array, function, structure, Field, Record}
 use Rattle.c_types.specs.Layouts.{size_of}
 use Rattle.c_types.specs.Objects.{is_object}
 use Rattle.c_types.proofs.Growing.{layouts_stay}
 use Rattle.c_typed.specs.Trees as Typed
 use Rattle.c_typed.specs.Mapped.{of_types, mapped_all}
-use Rattle.c_typed.specs.Constants.{ty}
-use Rattle.c_typed.specs.Conversions.{is_function, pointed}
+use Rattle.c_typed.specs.Conversions.{pointed}
 use Rattle.c_typed.specs.Fits.{assigns, library_type}
-use Rattle.c_typed.specs.Typed.{bare_ty, is_bare, field_type, type_in, IsTyped, IsTypedPath, IsConverted, AreArguments}
+use Rattle.c_typed.specs.Typed.{field_type, type_in, IsTyped, IsTypedPath, IsConverted, AreArguments}
 use Rattle.c_typed.specs.declared.program.MentionKind.TheVariants.{Sizeof}
-use Rattle.c_ast.specs.declared.words.Spelling.{Spelling}
 use Rattle.c_erasure.specs.Broken.{called_type, pointed_type}
-use Rattle.c_erasure.specs.Erasure.{typed, Values, IsTypedThing, place_in, IsField, IsCall, IsSize, IsLiteral, IsLiteralFor, IsOfType, literal_object, literal_of, unmade}
+use Rattle.c_erasure.specs.Erasure.{typed, Values, place_in, IsField, IsCall, IsSize, IsOfType}
 use Rattle.c_erasure.specs.Noted.{Noted, Expression, Path, Node, Thing, an_object, a_value, a_function, a_function_at, a_library_function, value, way, type_of, type_of_path, value_of}
 use Rattle.c_erasure.specs.Noted.{object_value, size_of as sized}
-use Rattle.c_erasure.specs.Scopes.{FileScope, Scope, declared, ended, Purpose, in_full, value_alone, type_alone, IsMentioned, AnObject}
-use Rattle.c_checking.specs.Answers.{Answer, refused, moved}
-use Rattle.c_checking.specs.Nodes.{null, converted, field_from, field_in, member_to, member_of_type, dot_in, arrow_to, arrow_in}
-use Rattle.c_checking.specs.Nodes.{signature_of, signature_in, argument_in, call_through, call_in, size_node, is_complete, of_limited_size, sized_type, measured_type, measured_of, measured_in}
-use Rattle.c_checking.specs.Declaring.{with_object, literal_for, literal_in}
+use Rattle.c_erasure.specs.Scopes.{Scope, declared, IsMentioned}
+use Rattle.c_checking.specs.Nodes.{null, field_from, field_in, member_to, member_of_type, dot_in, arrow_to, arrow_in}
+use Rattle.c_checking.specs.Nodes.{signature_of, signature_in, argument_in, call_through, call_in, size_node, is_complete, sized_type, measured_type, measured_in}
 use Rattle.c_checking.specs.Finding.{complete}
-use Rattle.c_checking.proofs.Results.{ok, given, only_if, chosen}
-use Rattle.c_checking.proofs.Extends.{Extends, itself, kept, at_end, record_stays}
-use Rattle.c_checking.proofs.Values.{typed_path, type_same, path_type_same, IsValue, IsNoArray, IsNeat, Stands, IsOperand, operand, found_worth}
+use Rattle.c_checking.proofs.Results.{given, only_if, chosen}
+use Rattle.c_checking.proofs.Values.{typed_path, type_same, path_type_same, IsValue, Stands, operand, found_worth}
 
 -- ---- members (6.5.2.3)
 

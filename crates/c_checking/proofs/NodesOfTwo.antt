@@ -1,11 +1,10 @@
 -- Each node of two operands or three: it stands for its part of the text and is well typed (C99 6.5.2.1, 6.5.5 to 6.5.17).
-use Rattle.std.proofs.Common.{◌≡◌, ◌≢◌, ℕ, Bool, true, false, refl, sym, ap, ◌∙◌, subst, cond, inl, inr}
+use Rattle.std.proofs.Common.{◌≡◌, ℕ, true, refl, sym, ap, ◌∙◌, subst, inl, inr}
 use Rattle.std.proofs.lemmas.Bool.{and_parts}
-use Rattle.std.specs.Prelude.{Option, Some, None, Ok, ◌⊎◌, ◌&&◌}
+use Rattle.std.specs.Prelude.{Some, Ok, ◌⊎◌, ◌&&◌}
 use Rattle.lay_base.specs.declared.place.Place.{Place}
 use Rattle.c_types.specs.declared.ty.IntKind.TheVariants.{Int}
 use Rattle.c_types.specs.Types.{CType, void, integer, pointer, array, function, structure}
-use Rattle.c_types.specs.Objects.{is_object}
 use Rattle.c_types.specs.Sameness.{same_type}
 use Rattle.c_types.proofs.SameTypes.{same_is}
 use Rattle.c_typed.specs.declared.operators.BinaryOp.{BinaryOp}
@@ -14,22 +13,20 @@ use Rattle.c_typed.specs.declared.operators.CompareOp.{CompareOp}
 use Rattle.c_typed.specs.declared.operators.PointerOp.{PointerOp}
 use Rattle.c_typed.specs.declared.operators.PointerOp.TheVariants as P
 use Rattle.c_typed.specs.Trees as Typed
-use Rattle.c_typed.specs.Constants.{ty, is_null}
 use Rattle.c_typed.specs.Conversions.{is_scalar, is_integer, is_array, promoted, pointed, element_of}
 use Rattle.c_typed.specs.Fits.{assigns}
 use Rattle.c_typed.specs.Rules.{points_to_object, on_numbers, comparing, choosing, moving, differing, updating}
-use Rattle.c_typed.specs.Typed.{bare, bare_ty, is_bare, is_decay, IsTyped, IsTypedPath, IsMoved, IsMove, IsSubscript, IsTested, IsConverted}
+use Rattle.c_typed.specs.Typed.{IsMoved, IsMove, IsTested}
 use Rattle.c_erasure.specs.Erasure.{typed, Values, place_in, IsSum, IsJoined}
-use Rattle.c_erasure.specs.Noted.{Noted, Expression, Path, Node, Thing, an_object, a_value, a_function, a_function_at, a_library_function, value, way, type_of, type_of_path}
+use Rattle.c_erasure.specs.Noted.{Expression, Path, Node, Thing, an_object, a_value, a_function, a_function_at, a_library_function, value, way, type_of, type_of_path}
 use Rattle.c_erasure.specs.Operators.{Kind, computes, compares, all_of, any_of}
-use Rattle.c_erasure.specs.Scopes.{Scope, ended}
-use Rattle.c_checking.specs.Answers.{Answer, refused}
+use Rattle.c_erasure.specs.Scopes.{Scope}
 use Rattle.c_checking.specs.Nodes.{null, converted, promoted_value, array_of, array_of_type, element_in, index_in, index_to, turned_to}
-use Rattle.c_checking.specs.Nodes.{number_node, forward_node, backward_node, added_in, subtracted_in, on_pointers, computed_in, compared_in, tested_in, binary_in}
+use Rattle.c_checking.specs.Nodes.{number_node, forward_node, backward_node, on_pointers, computed_in, compared_in, tested_in, binary_in}
 use Rattle.c_checking.specs.Nodes.{tested, chosen_in, Target, scalar_at, record_at, path_of, target_of_type, target_in, assigned_in, copied_in, updated_in, comma_in}
 use Rattle.c_checking.specs.Finding.{complete}
 use Rattle.c_checking.proofs.Results.{ok, given, only_if, chosen, by_option}
-use Rattle.c_checking.proofs.Values.{typed_path, type_same, path_type_same, bare_same, IsValue, IsNoArray, IsNeat, Stands, IsOperand, operand}
+use Rattle.c_checking.proofs.Values.{type_same, path_type_same, IsValue, IsNoArray, Stands, operand}
 use Rattle.c_checking.proofs.NodesOfOne.{promoted_bare, promoted_is_integer}
 
 module _ (Is Js : Thing → Type 0) (s : Scope) (at : ℕ) where

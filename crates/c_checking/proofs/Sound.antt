@@ -1,21 +1,20 @@
 -- What is found stands for its part of the text and is well typed, in each file that goes on from the one that finding leaves.
-use Rattle.std.proofs.Common.{◌≡◌, ℕ, ◌+◌, ◌<◌, Bool, true, false, refl, sym, ap, ◌∙◌, subst, List, [], ◌∷◌, ◌++◌, arith}
-use Rattle.std.specs.Prelude.{◌^◌, ◌%◌, Option, Some, None, Ok}
+use Rattle.std.proofs.Common.{◌≡◌, ℕ, ◌+◌, ◌<◌, true, refl, List, [], ◌∷◌, ◌++◌, arith}
+use Rattle.std.specs.Prelude.{◌^◌, ◌%◌, Ok}
 use Rattle.c_types.specs.declared.ty.IntKind.{IntKind}
 use Rattle.c_types.specs.Types.{CType, CTypes, no_types, and_type, Field}
 use Rattle.c_ast.specs.Trees
 use Rattle.c_ast.specs.Places.{first, first_specifiers, first_declarator}
 use Rattle.c_typed.specs.declared.program.MentionKind.TheVariants.{Named}
 use Rattle.c_typed.specs.Trees as Typed
-use Rattle.c_erasure.specs.Broken.{member_names, tag_place}
 use Rattle.c_erasure.specs.Declarators.{declared_name, parameter_type}
-use Rattle.c_erasure.specs.Erasure.{place_in, tag_text, comma_or, after_all}
+use Rattle.c_erasure.specs.Erasure.{comma_or, after_all}
 use Rattle.c_erasure.specs.Marks.{Mark, a_name, marks, marks_of_all, marks_of_type, marks_of_specifiers, marks_of_specifier, marks_of_members}
 use Rattle.c_erasure.specs.Marks.{marks_of_member_declarators, marks_of_enumerators, marks_of_value, marks_of_declarator, an_enumeration}
-use Rattle.c_erasure.specs.Noted.{Noted, Expression, Thing}
+use Rattle.c_erasure.specs.Noted.{Noted, Thing}
 use Rattle.c_erasure.specs.Scopes.{FileScope, Scope, inside, measured, for_value}
 use Rattle.c_erasure.specs.Specifiers.{types_among, storage_of}
-use Rattle.c_checking.specs.Answers.{moved, with_file}
+use Rattle.c_checking.specs.Answers.{moved}
 use Rattle.c_checking.specs.Nodes.{signature_in, argument_in, target_in, measured_in, sized_type}
 use Rattle.c_checking.specs.Declaring.{with_mention, mentions_in, Derivation, derived, length_value, object_at, base_kind, without_storage, parameter_storage, scalar_parameter}
 use Rattle.c_checking.specs.Declaring.{enumerator_in}
@@ -24,12 +23,12 @@ use Rattle.c_checking.specs.Finding.{member_declarators, enumerators, enumerator
 use Rattle.c_checking.proofs.InRange.{IsInRange, AreInRange, IsTypeInRange, AreSpecifiersInRange, IsSpecifierInRange, AreMembersInRange, AreDeclaratorsInRange}
 use Rattle.c_checking.proofs.InRange.{AreEnumeratorsInRange, IsValueInRange, IsDeclaratorInRange, IsListInRange, AreParametersInRange}
 use Rattle.c_checking.proofs.Results.{bound_ok, bound_with, chosen}
-use Rattle.c_checking.proofs.Agreement.{Ready, Grew, then, left, right}
+use Rattle.c_checking.proofs.Agreement.{Ready, then, left, right}
 use Rattle.c_checking.proofs.Declared.{mentioned, no_storage_is, parameter_storage_is, unless_ok}
-use Rattle.c_checking.proofs.Found.{Found, FoundValue, FoundAll, FoundType, FoundConstant, valued, constant_found, name_found, number_found, character_found}
+use Rattle.c_checking.proofs.Found.{Found, FoundAll, FoundType, FoundConstant, valued, constant_found, name_found, number_found, character_found}
 use Rattle.c_checking.proofs.Found.{texts_found, index_found, dot_found, arrow_found, call_found, no_arguments_found, argument_found, post_found, pre_found, unary_found}
 use Rattle.c_checking.proofs.Found.{sizeof_expression_found, sizeof_type_found, cast_found, binary_found, comma_found, tested_found, choice_found, assign_found}
-use Rattle.c_checking.proofs.FoundTypes.{ready_inside, FoundBase, FoundOne, FoundSpecifier, FoundFields, FoundMembers, FoundEnumerators, FoundNumber, FoundSteps}
+use Rattle.c_checking.proofs.FoundTypes.{ready_inside, FoundOne, FoundSpecifier, FoundFields, FoundMembers, FoundEnumerators, FoundNumber, FoundSteps}
 use Rattle.c_checking.proofs.FoundTypes.{FoundParameters, FoundList, base_found, one_found, typename_found, struct_named_found, enum_named_found, struct_ready}
 use Rattle.c_checking.proofs.FoundTypes.{struct_body_found, enum_body_found, no_value_found, value_found, no_enumerators_found, bound_of, enumerator_grown, enumerator_found}
 use Rattle.c_checking.proofs.FoundTypes.{no_members_found, members_found, no_declarators_found, member_found, type_found}
