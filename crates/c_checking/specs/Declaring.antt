@@ -235,7 +235,7 @@ derived records (to_array count at n ∷ more) t =
 derived records (to_open_array count at ∷ []) t = element records count at t >>= λ e. Ok (open_array e)
 derived records (to_open_array count at ∷ more) t = refused R.Length at
 derived records (to_function at parameters ∷ more) t =
-    result_type at t >>= λ r. small records at (function r parameters) >>= λ u. derived records more u
+    result_type at t >>= λ r. small records at (pointer (function r parameters)) >>= λ u. derived records more (function r parameters)
 
 -- a length is a number of at least 1
 abbrev pub length_of_number : ℕ → ℤ → Answer ℕ
