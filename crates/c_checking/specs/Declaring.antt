@@ -41,8 +41,10 @@ abbrev pub with_object : FileScope → AnObject → FileScope
 with_object f o = record f { objects = f.objects ++ o ∷ [] }
 
 abbrev pub literal_for : Purpose → Scope → Place → List ℕ → Checked Thing
-literal_for in_full s at bytes = Ok (an_object (way (array (integer Char) (length bytes)) at (Typed.object (length s.file.objects))),
-    with_object s.file (literal_object at bytes))
+literal_for in_full s at bytes = Ok (
+  an_object (way (array (integer Char) (length bytes)) at (Typed.object (length s.file.objects))),
+  with_object s.file (literal_object at bytes),
+)
 literal_for p s at bytes = Ok (unmade at (array (integer Char) (length bytes)), s.file)
 
 unfoldable pub literal_in : Scope → Place → List ℕ → Checked Thing

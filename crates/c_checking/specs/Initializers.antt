@@ -1,8 +1,8 @@
 -- The checker of initializers as functions (C99 6.7.8).
-use Rattle.std.specs.Prelude.{ℕ, zero, suc, ◌+◌, ◌-◌, ◌==◌, ◌&&◌, ◌||◌, Bool, true, false, not, nat_le, if◌then◌else◌, List, [], ◌∷◌, ◌++◌, length, take}
-use Rattle.std.specs.Prelude.{Option, Some, None, Result, Ok, Err, slice_get, is_some}
+use Rattle.std.specs.Prelude.{ℕ, zero, suc, ◌+◌, ◌==◌, ◌&&◌, ◌||◌, Bool, true, false, not, nat_le, if◌then◌else◌, List, [], ◌∷◌, ◌++◌, length, take}
+use Rattle.std.specs.Prelude.{Option, Some, None, Ok, slice_get, is_some}
 use Rattle.lay_base.specs.declared.faults.Rule.TheVariants as R
-use Rattle.c_types.specs.Types.{CType, void, integer, pointer, array, function, structure, Field, Record}
+use Rattle.c_types.specs.Types.{CType, integer, pointer, array, structure, Field, Record}
 use Rattle.c_types.specs.Layouts.{size_of, offset_of}
 use Rattle.c_types.specs.Sameness.{same_type}
 use Rattle.c_ast.specs.declared.words.Spelling.{Spelling}
@@ -14,7 +14,7 @@ use Rattle.c_typed.specs.Fits.{assigns}
 use Rattle.c_typed.specs.InitialValues.{initial_value}
 use Rattle.c_typed.specs.Typed.{Declared}
 use Rattle.c_erasure.specs.Erasure.{typed, literal_of}
-use Rattle.c_erasure.specs.Initializers.{Part, part_at, texts_of, is_character, is_braces, length_of}
+use Rattle.c_erasure.specs.Initializers.{Part, part_at, texts_of, is_character, is_braces}
 use Rattle.c_erasure.specs.Noted.{Noted, Expression, Thing, an_object, type_of, type_of_path}
 use Rattle.c_erasure.specs.Scopes.{FileScope, Scope}
 use Rattle.c_checking.specs.Answers.{Answer, ◌>>=◌, refused, Checked, with_file, moved}

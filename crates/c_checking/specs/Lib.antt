@@ -4,3 +4,4 @@ pub mod Declaring
 pub mod Finding
 pub mod Initializers
 pub mod Statements
+pub mod Files

@@ -1,18 +1,16 @@
 -- The checker of statements as functions (C99 6.8), and of declarations in a block (6.7). What is left of the scope tells what is declared.
-use Rattle.std.specs.Prelude.{◌≡◌, ℕ, zero, suc, ◌+◌, ◌==◌, ◌||◌, Bool, true, false, not, nat_le, if◌then◌else◌, List, [], ◌∷◌, ◌++◌, length}
-use Rattle.std.specs.Prelude.{Option, Some, None, Result, Ok, Err, slice_get, slice_set}
+use Rattle.std.specs.Prelude.{ℕ, zero, suc, ◌+◌, ◌==◌, ◌||◌, Bool, true, false, if◌then◌else◌, List, [], ◌∷◌, ◌++◌, length}
+use Rattle.std.specs.Prelude.{Option, Some, None, Ok, slice_set}
 use Rattle.std.specs.List.{list_any}
-use Rattle.lay_base.specs.declared.place.Place.{Place}
-use Rattle.lay_base.specs.declared.faults.Rule.{Rule}
 use Rattle.lay_base.specs.declared.faults.Rule.TheVariants as R
 use Rattle.c_types.specs.declared.ty.IntKind.{IntKind}
-use Rattle.c_types.specs.Types.{CType, void, integer, array, Record}
+use Rattle.c_types.specs.Types.{CType, integer, array, Record}
 use Rattle.c_ast.specs.declared.words.Spelling.{Spelling}
 use Rattle.c_ast.specs.Trees
 use Rattle.c_ast.specs.Places.{first, first_specifiers, first_declarator}
 use Rattle.c_typed.specs.declared.program.MentionKind.TheVariants.{Object}
 use Rattle.c_typed.specs.Trees as Typed
-use Rattle.c_typed.specs.Conversions.{as_kind, is_integer, is_scalar, is_function, promoted}
+use Rattle.c_typed.specs.Conversions.{as_kind, is_scalar, is_function, promoted}
 use Rattle.c_typed.specs.Fits.{assigns, is_void}
 use Rattle.c_typed.specs.TypedStatements.{declared_by, declared_by_arms}
 use Rattle.c_erasure.specs.BrokenStatements.{Labels, no_labels}
@@ -20,8 +18,8 @@ use Rattle.c_erasure.specs.Declarators.{declared_name, Shape, closed, open_array
 use Rattle.c_erasure.specs.Erasure.{place_in}
 use Rattle.c_erasure.specs.Initializers.{texts_of, length_of}
 use Rattle.c_erasure.specs.Noted.{Noted, Expression, type_of}
-use Rattle.c_erasure.specs.Scopes.{ALocal, AnObject, FileScope, Scope, inside, for_value, here, declared}
-use Rattle.c_erasure.specs.Specifiers.{Storage, no_storage, a_typedef, is_extern, is_static, is_auto, is_register, several, storage_of}
+use Rattle.c_erasure.specs.Scopes.{AnObject, FileScope, Scope, inside, for_value, here, declared}
+use Rattle.c_erasure.specs.Specifiers.{Storage, no_storage, is_static, is_auto, is_register, several, storage_of}
 use Rattle.c_erasure.specs.Statements.{Statement, Statements, Arms, followed_by, with_first, with_object, with_variable}
 use Rattle.c_checking.specs.Answers.{Answer, ◌>>=◌, refused, Checked, with_file, moved}
 use Rattle.c_checking.specs.Declaring.{with_mention, mentions_in, base_kind, new_here, small, object_at, derived}
