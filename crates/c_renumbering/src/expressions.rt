@@ -130,7 +130,7 @@ fn node_in(alloc: Global, to: &Renumbering, node: ExpressionNode) -> Result<Expr
 }
 
 #[cycle(expression_renumbering)]
-fn operand(alloc: Global, to: &Renumbering, e: Boxed<Expression>) -> Result<Boxed<Expression>, NoMemory>
+pub fn operand(alloc: Global, to: &Renumbering, e: Boxed<Expression>) -> Result<Boxed<Expression>, NoMemory>
     ensures { IfOk result (λ r. expression_of r ≡ mapped (renaming_of to.now) (expression_of e)) }
 {
     let e = expression(alloc, to, e.into_inner())?;

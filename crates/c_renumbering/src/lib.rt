@@ -4,7 +4,10 @@
 #![tactic(auto)]
 
 mod expressions;
+mod initializers;
 mod numbers;
+mod statements;
 
 pub use numbers::{Numbers, Renumbering};
-pub use expressions::{expression, path};
+pub use statements::renumbered_statement;
+

@@ -6,7 +6,7 @@ use Rattle.std.proofs.lemmas.List.{map-id}
 use Rattle.c_renumbering.specs.Numbers.{renaming_of}
 use Rattle.c_renumbering.specs.Nodes.{node_of}
 use Rattle.c_renumbering.proofs.Lists.{all_mapped, counted}
-use Rattle.c_renumbering.proofs.Allocations.{allocated}
+use Rattle.c_renumbering.proofs.Optional.{allocated}
 use Rattle.c_typed.specs.Mapped.{mapped_all, mapped_node}
 use Rattle.c_typed.specs.Views.{expression_of, expressions_of}
 use Rattle.c_typed.specs.declared.expression.ExpressionNode.TheVariants as E
