@@ -1,0 +1,9 @@
+-- The marks of enumerators, with the beginning of the scope of the one before them.
+use Rattle.std.proofs.Common.{ℕ, Bool, true, false, List, [], ◌∷◌}
+use Rattle.c_ast.specs.Trees
+use Rattle.c_erasure.specs.Erasure.{comma_or}
+use Rattle.c_erasure.specs.Marks.{Mark, a_name, marks_of_enumerators}
+
+abbrev pub marks_after : (ℕ → List ℕ) → (first : Bool) → Trees.Enumerators → ℕ → List Mark
+marks_after u true all after = marks_of_enumerators u all after
+marks_after u false all after = a_name (comma_or all after) ∷ marks_of_enumerators u all after
