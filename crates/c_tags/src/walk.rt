@@ -1,6 +1,6 @@
 //! The marks of a tree, in the order of the text.
 
-ghost use Rattle.std.specs.Prelude.{◌≡◌, ◌++◌, [], ◌∷◌, map, true, false, OnOk};
+ghost use Rattle.std.specs.Prelude.{◌≡◌, ◌++◌, [], ◌∷◌, map, true, false, IfOk, OnOk};
 ghost use Rattle.c_ast.specs.Views.{argument_of, arguments_of, declarator_of, enumerator_of, enumerators_of, expression_of, item_of, member_declaration_of};
 ghost use Rattle.c_ast.specs.Views.{member_declarations_of, member_declarator_of, member_declarators_of, specifier_of, specifiers_of, type_name_of};
 ghost use Rattle.c_ast.specs.Views.{init_declarator_of};
@@ -18,6 +18,7 @@ use c_ast::{
     MemberDeclarator, Specifier, Spelling, TypeName,
 };
 use lay_base::NoMemory;
+use std::alloc::Global;
 
 /// The tag of a structure, which is known where it stands.
 fn structure<'a>(untagged: &'a Untagged, at: At, x: &'a Option<Spelling>) -> TagMark<'a>
@@ -234,4 +235,54 @@ fn declarator_marks<'a>(found: &mut Marks<'a>, untagged: &'a Untagged, d: &'a De
             }
         }
     }
+}
+
+// The scope of a declarator without an initializer begins at the token after it, which is found with the next one.
+fn declarators_marks<'a>(found: &mut Marks<'a>, untagged: &'a Untagged, all: &'a [InitDeclarator], semicolon: At) -> Result<(), NoMemory>
+    ensures { OnOk result (marks_in found.new
+        ≡ marks_in found.old ++ marks_of_declarators (untagged_by untagged.now) (map init_declarator_of all.now) semicolon) }
+{
+    let mut is_open = false;
+    for d in all {
+        if is_open {
+            found.add_name(d.comma.unwrap_or(semicolon))?;
+        }
+        declarator_marks(found, untagged, &d.declarator)?;
+        is_open = d.value.is_none();
+        if let Some(value) = &d.value {
+            found.add_name(value.equal)?;
+            expression_marks(found, untagged, value.value.get())?;
+        }
+    }
+    if is_open {
+        return found.add_name(semicolon);
+    }
+    Ok(())
+}
+
+fn item_marks<'a>(found: &mut Marks<'a>, untagged: &'a Untagged, item: &'a Item) -> Result<(), NoMemory>
+    ensures { OnOk result (marks_in found.new ≡ marks_in found.old ++ marks_of_item (untagged_by untagged.now) (item_of item.now)) }
+{
+    match item {
+        Item::Function(f) => {
+            specifiers_marks(found, untagged, f.specifiers.as_slice())?;
+            declarator_marks(found, untagged, &f.declarator)?;
+            found.add_name(f.open)
+        }
+        Item::Declaration(d) => {
+            specifiers_marks(found, untagged, d.specifiers.as_slice())?;
+            declarators_marks(found, untagged, d.declarators.as_slice(), d.semicolon)
+        }
+    }
+}
+
+/// The marks of a file's items.
+pub fn file_marks<'a>(alloc: Global, untagged: &'a Untagged, all: &'a [Item]) -> Result<Marks<'a>, NoMemory>
+    ensures { IfOk result (λ found. marks_in found ≡ marks_of_file (untagged_by untagged.now) (map item_of all.now)) }
+{
+    let mut found = Marks::new(alloc);
+    for item in all {
+        item_marks(&mut found, untagged, item)?;
+    }
+    Ok(found)
 }
