@@ -3,8 +3,10 @@
 #![tactic(auto)]
 
 mod marks;
+mod names;
 mod untagged;
 mod walk;
 
+pub use names::Names;
 pub use marks::{Mark, Marks};
 pub use untagged::Untagged;
