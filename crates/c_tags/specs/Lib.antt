@@ -1,0 +1,4 @@
+pub mod Marks
+pub mod Untagged
+pub mod Keys
+pub mod Names
