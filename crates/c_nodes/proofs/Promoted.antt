@@ -1,5 +1,5 @@
 -- Numbers are promoted, and what is no number stays as it is.
-use Rattle.std.proofs.Common.{◌≡◌, None, Some, true, false, refl, sym, ap}
+use Rattle.std.proofs.Common.{◌≡◌, None, Some, true, false, refl, rules, sym, ap}
 use Rattle.std.specs.Prelude.{if◌then◌else◌, unwrap_or}
 use Rattle.c_types.specs.declared.ty.IntKind.{IntKind}
 use Rattle.c_types.specs.Types.{CType, void, integer}
@@ -9,6 +9,10 @@ use Rattle.c_typed.specs.Trees
 use Rattle.c_typed.specs.Conversions.{promoted}
 use Rattle.c_typed.specs.Rules.{promoting}
 use Rattle.c_erasure.specs.Noted.{Expression, type_of, value}
+use Rattle.c_annotated.specs.declared.expression.Expression as Tree
+use Rattle.c_annotated.specs.declared.expression.Expression.{the_lemmas}
+use Rattle.c_annotated.specs.Views.{expression_of}
+use Rattle.c_types.specs.Views as View
 use Rattle.c_checking.specs.Nodes.{place_of, converted, promoted_value}
 
 same_promoted : (t : CType) → None ≡ promoting t → same_type t (promoted t) ≡ true
@@ -25,3 +29,6 @@ promoted_is t kind h = cc
 
 pub promoted_number : (x : Expression) (kind : IntKind) → Some (integer kind) ≡ promoting (type_of x) → converted (integer kind) x ≡ promoted_value x
 promoted_number x kind h = ap (λ t. converted t x) (promoted_is (type_of x) kind h)
+
+pub type_seen : (e : Tree.Expression) → View.type_of e.ty ≡ type_of (expression_of e)
+type_seen e = search (rules, the_lemmas)

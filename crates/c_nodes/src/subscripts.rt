@@ -42,7 +42,7 @@ pub fn array_of(alloc: Global, thing: Thing) -> Result<Subscripted, NoMemory>
 }
 
 /// A value converted by the integer promotions (C99 6.3.1.1), where it is a number.
-#[tactic(auto, using(crate::proofs::Promoted::promoted_number, crate::proofs::Promoted::promoted_other))]
+#[tactic(auto, using(crate::proofs::Promoted::promoted_number))]
 pub fn promote(alloc: Global, x: Boxed<Expression>) -> Result<Boxed<Expression>, NoMemory>
     ensures { IfOk result (λ e. expression_of e ≡ promoted_value (expression_of x)) }
 {
