@@ -4,9 +4,12 @@
 
 mod marks;
 mod names;
+mod search;
+mod table;
 mod untagged;
 mod walk;
 
 pub use names::Names;
+pub use table::TagTable;
 pub use marks::{Mark, Marks};
 pub use untagged::Untagged;
