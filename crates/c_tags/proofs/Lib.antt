@@ -3,3 +3,5 @@ pub mod Enumerators
 pub mod Numbers
 pub mod TagTables
 pub mod Searching
+pub mod Counting
+pub mod Tagging

@@ -22,7 +22,8 @@ none_ended : (places : List ℕ) (at : ℕ) → ((k : ℕ) → k < length places
 none_ended [] at h = refl
 none_ended (x ∷ places) at h =
     let f : nat_lt x at ≡ false = le-ltb x at (h 0 (omega arith)) in
-    rw f (none_ended places at (λ k l. h (suc k) (omega arith)))
+    let rest : ended places at ≡ 0 = none_ended places at (λ k l. h (suc k) (omega arith)) in
+    rw f (omega (arith, rest))
 
 all_ended : (places : List ℕ) (at n : ℕ) → n ≤ length places → ((k : ℕ) → k < n → get_or places k 0 < at)
     → ((k : ℕ) → n ≤ k → k < length places → at ≤ get_or places k 0) → ended places at ≡ n
