@@ -5,3 +5,4 @@ pub mod TagTables
 pub mod Searching
 pub mod Counting
 pub mod Tagging
+pub mod Folds

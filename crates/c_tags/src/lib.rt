@@ -6,6 +6,7 @@ mod marks;
 mod names;
 mod search;
 mod table;
+mod tables;
 mod untagged;
 mod walk;
 
