@@ -6,3 +6,4 @@ pub mod Searching
 pub mod Counting
 pub mod Tagging
 pub mod Folds
+pub mod Structs

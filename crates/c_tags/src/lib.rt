@@ -7,10 +7,8 @@ mod names;
 mod search;
 mod table;
 mod tables;
+mod tags;
 mod untagged;
 mod walk;
 
-pub use names::Names;
-pub use table::TagTable;
-pub use marks::{Mark, Marks};
-pub use untagged::Untagged;
+pub use tags::Tags;

@@ -1,6 +1,6 @@
 //! Tags, each where it stands first.
 
-ghost use Rattle.std.specs.Prelude.{◌≡◌, [], OnErr, OnOk};
+ghost use Rattle.std.specs.Prelude.{◌≡◌, [], OnErr, OnOk, length};
 ghost use Rattle.c_erasure.specs.Scopes.{tag_at};
 ghost use Rattle.c_tags.specs.Keys.{found_at};
 ghost use Rattle.c_tags.specs.Marks.{tag_of};
@@ -53,6 +53,13 @@ impl TagTable {
         TagTable {
             known: IndexMap::new(alloc),
         }
+    }
+
+    /// How many tags there are.
+    pub fn len(&self) -> usize
+        ensures { result ≡ length self.now }
+    {
+        self.known.len()
     }
 
     /// Whether a tag that was declared before a byte is one of an enumeration.

@@ -2,12 +2,19 @@
 
 ghost use Rattle.std.specs.Prelude.{◌≡◌, ◌≤◌, ◌+◌, ℕ, List, nat_eq, [], ◌∷◌, ◌++◌, All, IfOk, OnOk, length, if◌then◌else◌};
 ghost use Rattle.c_lexer.specs.TokenPlaces.{IsPlaceIn};
+ghost use Rattle.c_ast.specs.Spelling.{spell};
+ghost use Rattle.c_ast.specs.TreesOfFiles.{IsTreeOf};
+ghost use Rattle.c_ast.specs.Views.{items_of};
 ghost use Rattle.c_erasure.specs.Files.{AreAscending};
-ghost use Rattle.c_erasure.specs.Untagged.{AreTags, Line, name_in, place_of_struct, tag_text};
+ghost use Rattle.c_erasure.specs.Untagged.{AreTags, Line, name_in, place_of_struct, structs_in, tag_text};
 ghost use Rattle.indexmap.specs.IndexMap.{insert_entry};
 ghost use Rattle.c_tags.specs.Untagged.{counted_at, is_line, structs_of, untagged_by};
 
-use c_lexer::{Presumed, PresumedLines, Token, TokenKind};
+use c_ast::Tree;
+use c_lexer::{
+    Presumed, PresumedLines, Token, TokenKind, lex, texts_have_one_reading, tokens_have_places,
+    tokens_have_texts,
+};
 use indexmap::IndexMap;
 use itoa::Buffer;
 use lay_base::{File, Keyword, Name, NoMemory};
@@ -145,4 +152,21 @@ impl Untagged {
             None => b"@".as_slice(),
         }
     }
+}
+
+/// The tags of the structures of a file, whose tree is known.
+pub fn untagged_of(alloc: Global, tree: &Tree, file: &File) -> Result<Untagged, NoMemory>
+    requires short { length file.now.bytes ≤ 4194304 }
+    requires tree { IsTreeOf file.now.bytes (items_of tree.now) }
+    ensures are { IfOk result (λ untagged. AreTags file.now.name file.now.bytes (structs_in (spell (items_of tree.now))) (untagged_by untagged)) }
+    ensures begin { IfOk result (λ untagged. (at : ℕ) → (rest : List ℕ) × (untagged_by untagged at ≡ 64 ∷ rest)) }
+{
+    texts_have_one_reading();
+    tokens_have_texts();
+    tokens_have_places();
+    let Ok(tokens) = lex(alloc, file.bytes.as_slice(), tree.file) else {
+        return Err(NoMemory);
+    };
+    let places = struct_places(alloc, tokens.list.as_slice())?;
+    Untagged::of(alloc, file, &places)
 }
