@@ -1,5 +1,5 @@
 pub mod Pushing
-pub mod Enumerators
+pub mod NextScopes
 pub mod Numbers
 pub mod TagTables
 pub mod Searching

@@ -1,4 +1,4 @@
-use Rattle.std.proofs.Common.{◌+◌, ◌-◌, ◌/◌, ◌≤◌, ◌<◌, arith}
+use Rattle.std.proofs.Common.{arith}
 use Rattle.c_tags.proofs.Searching.{lower, upper, counted}
 use Rattle.c_tags.proofs.search.ended.Goals as goal
 

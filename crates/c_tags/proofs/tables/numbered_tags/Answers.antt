@@ -1,4 +1,4 @@
-use Rattle.std.proofs.Common.{rules, ◌≡◌, ◌≤◌, [], ◌∙◌, drop, map, subst, arith}
+use Rattle.std.proofs.Common.{rules, ◌≡◌, ◌∙◌, map, subst, arith}
 use Rattle.std.specs.Prelude.{fold}
 use Rattle.c_erasure.specs.Marks.{defined_in}
 use Rattle.c_tags.specs.Marks.{mark_of, marks_in}

@@ -1,4 +1,4 @@
-use Rattle.std.proofs.Common.{◌≡◌, ◌≤◌, [], ◌∙◌, drop, map, subst, arith}
+use Rattle.std.proofs.Common.{◌≡◌, [], ◌∙◌, map, subst, arith}
 use Rattle.std.specs.Prelude.{fold}
 use Rattle.c_tags.specs.Marks.{mark_of, marks_in}
 use Rattle.c_tags.specs.Tables.{after_tag}

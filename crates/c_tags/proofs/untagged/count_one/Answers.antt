@@ -1,5 +1,5 @@
 use Rattle.std.proofs.Common.{rules, ◌≡◌}
-use Rattle.c_tags.specs.Untagged.{counted_at, is_line}
+use Rattle.c_tags.specs.Untagged.{counted_at}
 use Rattle.c_tags.proofs.Counting.{one_number, one_counted}
 use Rattle.c_tags.proofs.untagged.count_one.Goals as goal
 use Rattle.c_tags.proofs.untagged.count_one.Goals.{in-Ok, in-Err}

@@ -1,4 +1,4 @@
-use Rattle.std.proofs.Common.{rules, ◌≡◌, sym, ap, ◌∙◌}
+use Rattle.std.proofs.Common.{sym, ap, ◌∙◌}
 use Rattle.std.specs.Option.{option_map}
 use Rattle.c_tags.proofs.TagTables.{placed}
 use Rattle.c_tags.proofs.table.TagTable.place_of.Goals as goal

@@ -1,4 +1,3 @@
-use Rattle.std.proofs.Common.{◌≡◌}
 use Rattle.c_tags.proofs.TagTables.{seen_before, seen_later, not_seen}
 use Rattle.c_tags.proofs.table.TagTable.tag_at.Goals as goal
 

@@ -1,4 +1,4 @@
-use Rattle.std.proofs.Common.{◌≡◌, sym, subst}
+use Rattle.std.proofs.Common.{sym, subst}
 use Rattle.c_ast.specs.Views.{items_of}
 use Rattle.c_erasure.specs.Files.{AreAscending}
 use Rattle.c_order.proofs.Ordered.{marks_are_in_order}

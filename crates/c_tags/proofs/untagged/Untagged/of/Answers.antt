@@ -1,5 +1,4 @@
-use Rattle.std.proofs.Common.{◌≡◌, ◌+◌, ◌<◌, ◌≤◌, ◌∙◌, sym, subst, arith, rules, length, get_or, drop, take}
-use Rattle.std.specs.List.{AllByRecursion}
+use Rattle.std.proofs.Common.{◌∙◌, subst, arith}
 use Rattle.c_tags.specs.Untagged.{counted_at}
 use Rattle.c_tags.proofs.Tagging.{AreTagged, next_tagged, later, all_taken, all_tagged, all_begin}
 use Rattle.c_tags.proofs.untagged.Untagged.of.Goals as goal
