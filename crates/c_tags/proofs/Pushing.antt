@@ -1,6 +1,5 @@
 -- A mark more.
 use Rattle.std.proofs.Common.{◌≡◌, List, [], ◌∷◌, ◌++◌, map, refl, ap, ◌∙◌}
-use Rattle.c_erasure.specs.Marks as M
 use Rattle.c_tags.specs.declared.marks.Mark.{Mark}
 use Rattle.c_tags.specs.declared.marks.Marks.{Marks}
 use Rattle.c_tags.specs.Marks.{mark_of, marks_in}

@@ -1,5 +1,5 @@
 -- What collected marks stand for.
-use Rattle.std.specs.Prelude.{ℕ, List, map}
+use Rattle.std.specs.Prelude.{List, map}
 use Rattle.c_erasure.specs.Scopes.{Tag}
 use Rattle.c_erasure.specs.Marks as M
 use Rattle.c_tags.specs.declared.marks.TagMark.{TagMark}

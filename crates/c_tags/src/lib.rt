@@ -4,9 +4,11 @@
 
 mod marks;
 mod names;
+mod search;
+mod table;
+mod tables;
+mod tags;
 mod untagged;
 mod walk;
 
-pub use names::Names;
-pub use marks::{Mark, Marks};
-pub use untagged::Untagged;
+pub use tags::Tags;

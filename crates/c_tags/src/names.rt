@@ -1,6 +1,6 @@
 //! Names by their first places.
 
-ghost use Rattle.std.specs.Prelude.{◌≡◌, ℕ, List, ◌++◌, ◌∷◌, [], Some, None, if◌then◌else◌, OnErr, OnOk};
+ghost use Rattle.std.specs.Prelude.{◌≡◌, ℕ, List, ◌++◌, ◌∷◌, [], Some, None, if◌then◌else◌, OnErr, OnOk, length};
 ghost use Rattle.std.specs.Str.{bytes_eq};
 ghost use Rattle.c_erasure.specs.Scopes.{or_else};
 ghost use Rattle.c_tags.specs.Names.{number_in, with_new};
@@ -56,6 +56,13 @@ impl Names {
             names: Vec::new(alloc),
             places: IndexMap::new(alloc),
         }
+    }
+
+    /// How many names there are.
+    pub fn len(&self) -> usize
+        ensures { result ≡ length self.now }
+    {
+        self.names.len()
     }
 
     /// The first place of a name.

@@ -1,8 +1,4 @@
-use Rattle.std.proofs.Common.{rules, ◌≡◌, ℕ, List, ◌++◌, ◌∷◌, [], Some, None, if◌then◌else◌, OnErr, OnOk}
-use Rattle.std.specs.Str.{bytes_eq}
-use Rattle.indexmap.specs.IndexMap.{insert_entry}
-use Rattle.c_erasure.specs.Scopes.{or_else}
-use Rattle.c_tags.specs.Keys.{found_at}
+use Rattle.std.proofs.Common.{rules, ◌≡◌}
 use Rattle.c_tags.proofs.Numbers.{noted}
 use Rattle.c_tags.proofs.names.note.Goals as goal
 use Rattle.c_tags.proofs.names.note.Goals.{in-Ok, in-Err}

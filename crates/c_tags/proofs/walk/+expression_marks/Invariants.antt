@@ -5,7 +5,7 @@ use Rattle.c_ast.specs.Views.{argument_of, arguments_of, specifier_of, specifier
 use Rattle.c_ast.specs.Views.{member_declarator_of, member_declarators_of, enumerator_of, enumerators_of}
 use Rattle.c_tags.specs.Marks.{marks_in}
 use Rattle.c_tags.specs.Untagged.{untagged_by}
-use Rattle.c_tags.proofs.Enumerators.{marks_after}
+use Rattle.c_tags.proofs.NextScopes.{marks_after}
 use Rattle.c_tags.proofs.walk.+expression_marks.Given as goal
 
 abbrev pub invariant-arguments_marks-loop-item : goal.invariant-arguments_marks-loop-item

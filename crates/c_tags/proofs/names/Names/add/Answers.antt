@@ -1,6 +1,4 @@
-use Rattle.std.proofs.Common.{rules, ◌≡◌, ◌++◌, ◌∷◌, [], ◌∙◌, sym, ap, length}
-use Rattle.c_tags.specs.Names.{number_in}
-use Rattle.c_tags.specs.Keys.{found_at}
+use Rattle.std.proofs.Common.{rules, ◌≡◌, ◌++◌, ◌∷◌, [], length}
 use Rattle.c_tags.proofs.Numbers.{number_noted}
 use Rattle.c_tags.proofs.names.Names.add.Goals as goal
 

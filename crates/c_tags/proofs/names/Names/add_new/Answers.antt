@@ -1,4 +1,4 @@
-use Rattle.std.proofs.Common.{rules, ◌≡◌, ◌++◌, ◌∷◌, [], ◌∙◌, sym, ap}
+use Rattle.std.proofs.Common.{sym}
 use Rattle.c_tags.proofs.Numbers.{known_with_new, unknown_with_new}
 use Rattle.c_tags.proofs.names.Names.add_new.Goals as goal
 

@@ -1,5 +1,5 @@
--- The marks of enumerators, with the beginning of the scope of the one before them.
-use Rattle.std.proofs.Common.{ℕ, Bool, true, false, List, [], ◌∷◌}
+-- The marks of enumerators and of declarators, with the beginning of the scope of the one before them.
+use Rattle.std.proofs.Common.{ℕ, Bool, true, false, List, ◌∷◌}
 use Rattle.c_ast.specs.Trees
 use Rattle.c_erasure.specs.Erasure.{comma_or}
 use Rattle.c_erasure.specs.Marks.{Mark, a_name, after_declarator, marks_of_enumerators, marks_of_declarators}
