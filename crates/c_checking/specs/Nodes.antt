@@ -1,6 +1,6 @@
 -- What is made of the parts of an expression once they are found: a typed node, or the rule that is broken (C99 6.5). `count` records are
 -- complete where the node begins.
-use Rattle.std.specs.Prelude.{ℕ, ◌+◌, ◌&&◌, Bool, true, false, nat_lt, if◌then◌else◌, List, [], ◌∷◌, length, slice_get}
+use Rattle.std.specs.Prelude.{ℕ, ◌+◌, ◌&&◌, Bool, true, false, nat_le, nat_lt, if◌then◌else◌, List, [], ◌∷◌, length, slice_get}
 use Rattle.std.specs.Prelude.{Option, Some, None, Ok, Err}
 use Rattle.std.specs.Str.{bytes_eq}
 use Rattle.lay_base.specs.declared.place.Place.{Place}
@@ -208,9 +208,13 @@ size_node records at t =
 abbrev pub is_complete : List Record → (count : ℕ) → CType → Bool
 is_complete records count t = is_object count t && is_object (length records) t
 
+-- no size passes the limit
+abbrev pub of_limited_size : List Record → (at : ℕ) → CType → Answer CType
+of_limited_size records at t = if nat_le (size_of records t) 16777216 then Ok t else Err (too_big at)
+
 -- a type whose size is asked
 unfoldable pub sized_type : List Record → (count at : ℕ) → CType → Answer CType
-sized_type records count at t = if is_complete records count t then Ok t else refused R.Incomplete at
+sized_type records count at t = if is_complete records count t then of_limited_size records at t else refused R.Incomplete at
 
 abbrev pub measured_of : List Record → (count at : ℕ) → Option CType → Answer CType
 measured_of records count at None = refused R.Incomplete at
