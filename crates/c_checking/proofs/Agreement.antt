@@ -1,15 +1,13 @@
 -- What a scope keeps: what names stand for is declared with its type. And what a part of the text adds to a file.
-use Rattle.std.proofs.Common.{◌≡◌, ℕ, zero, suc, ◌+◌, Bool, true, false, List, [], ◌∷◌, ◌++◌, length, refl, sym, ap, ◌∙◌, subst, length-append, append_assoc, arith, cond}
-use Rattle.std.specs.Prelude.{◌%◌, ◌^◌, ◌&&◌, nat_le, map, Option, Some, None, slice_get}
+use Rattle.std.proofs.Common.{◌≡◌, ℕ, ◌+◌, Bool, true, false, List, [], ◌∷◌, ◌++◌, length, refl, ap, ◌∙◌, subst, length-append, arith, cond}
+use Rattle.std.specs.Prelude.{◌&&◌, nat_le, map, Option, Some, None, slice_get}
 use Rattle.std.specs.Option.{option_map}
 use Rattle.std.specs.Str.{bytes_eq}
 use Rattle.c_types.specs.declared.ty.IntKind.TheVariants.{Int}
-use Rattle.c_types.specs.Types.{CType}
 use Rattle.c_typed.specs.Conversions.{as_kind, is_scalar}
 use Rattle.c_erasure.specs.Marks.{Mark, a_tag, an_end, a_name, ends_in}
 use Rattle.c_erasure.specs.Scopes.{Bound, ALocal, FileScope, Scope, Entity, typedef, enumerator, an_object, a_function, a_library_function, a_local, a_parameter}
 use Rattle.c_erasure.specs.Scopes.{declared_in, innermost, visible, named, or_else}
-use Rattle.c_checking.specs.Answers.{moved}
 use Rattle.c_checking.proofs.Extends.{Extends, itself, further, behind, kept}
 
 -- ---- names and what they stand for

@@ -1,15 +1,13 @@
 -- What else a file declares: mentions, literals, constants, tags, structures and enumerators.
-use Rattle.std.proofs.Common.{add-one, ◌≡◌, ◌≢◌, ℕ, zero, suc, ◌+◌, ◌≤◌, ◌<◌, Bool, true, false, refl, sym, ap, ◌∙◌, subst, cond, List, [], ◌∷◌, ◌++◌, length, take, drop, length-append, append_assoc, arith, inl, inr}
-use Rattle.std.proofs.lemmas.Bool.{and_parts, and_from, lt-ltb, ltb-true, eqb-true, eq-eqb}
+use Rattle.std.proofs.Common.{add-one, ◌≡◌, ◌≢◌, ℕ, zero, suc, ◌+◌, ◌≤◌, ◌<◌, Bool, true, false, refl, sym, ap, ◌∙◌, subst, cond, List, [], ◌∷◌, ◌++◌, length, take, drop, length-append, arith, inl, inr}
+use Rattle.std.proofs.lemmas.Bool.{and_from, lt-ltb, ltb-true, eqb-true, eq-eqb}
 use Rattle.std.proofs.lemmas.List.Elements.{All-cons, All-nil}
 use Rattle.std.proofs.lemmas.Slice.Eq.{bytes_eq-Decides}
-use Rattle.std.proofs.lemmas.Bool.Decides.{nat_tests}
-use Rattle.std.specs.Prelude.{All, Option, Some, None, Ok, Err, slice_get, map, nat_lt, nat_le, ◌&&◌, ◌==◌, ◌%◌, ◌^◌, ℤ, pos, negsuc, ◌⊎◌}
+use Rattle.std.specs.Prelude.{All, Option, Some, None, Ok, slice_get, map, nat_lt, nat_le, ◌==◌, ◌^◌, ℤ, pos, negsuc, ◌⊎◌}
 use Rattle.std.specs.Str.{bytes_eq}
-use Rattle.lay_base.specs.declared.place.Place.{Place}
 use Rattle.c_types.specs.declared.ty.IntKind.{IntKind}
 use Rattle.c_types.specs.declared.ty.IntKind.TheVariants.{Char, Int}
-use Rattle.c_types.specs.Types.{CType, void, integer, pointer, array, function, structure, Field, Record}
+use Rattle.c_types.specs.Types.{CType, void, integer, pointer, array, function, structure, Record}
 use Rattle.c_types.specs.Objects.{is_object}
 use Rattle.c_types.specs.Layouts.{size_of_record}
 use Rattle.c_lexer.specs.QuotedScan.{string_bytes}
@@ -23,17 +21,17 @@ use Rattle.c_erasure.specs.Declarators.{AreDifferent}
 use Rattle.c_erasure.specs.Erasure.{typed, IsTypedThing, IsConstant, IsInt, IsNew, IsStructTag, IsLiteral, IsLiteralFor, literal_of, literal_object, unmade, place_in}
 use Rattle.c_erasure.specs.Marks.{Mark}
 use Rattle.c_erasure.specs.Noted.{Expression, Thing, an_object, type_of, way}
-use Rattle.c_erasure.specs.Scopes.{Bound, AnObject, AMention, ALocal, FileScope, Scope, Tag, Entity, typedef, IsMentioned, IsNumbered, is_measured, tag_at, here, declared, ended}
+use Rattle.c_erasure.specs.Scopes.{Bound, AnObject, AMention, ALocal, FileScope, Scope, Tag, Entity, typedef, IsMentioned, IsNumbered, is_measured, tag_at, here, ended}
 use Rattle.c_erasure.specs.Scopes.{Purpose, in_full, value_alone, type_alone, for_value}
 use Rattle.c_erasure.specs.Specifiers.{Storage, no_storage, is_register, a_typedef, is_extern, is_static, is_auto, several}
-use Rattle.c_checking.specs.Answers.{Answer, refused, moved}
+use Rattle.c_checking.specs.Answers.{Answer, moved}
 use Rattle.c_checking.specs.Declaring.{with_mention, with_object, literal_for, literal_in, constant_of_type, constant_in, number_among, next, structure_of, tagged, tagged_in}
-use Rattle.c_checking.specs.Declaring.{enumerated, enumerated_in, type_named, standing, repeated_or, repeated, unless, is_next, with_record, complete_with, completed_in}
+use Rattle.c_checking.specs.Declaring.{enumerated, enumerated_in, type_named, standing, repeated_or, repeated, unless, is_next, with_record, completed_in}
 use Rattle.c_checking.specs.Declaring.{with_bound, new_name, enumerator_in, declared_among, is_int, int_value, next_value, only_tag, enumeration_of, tag_named, length_of_number, length_value}
-use Rattle.c_checking.specs.Declaring.{without_storage, parameter_storage, new_here, new_if_named, scalar_parameter, closed_at, object_at}
-use Rattle.c_checking.proofs.Results.{ok, given, only_if, chosen}
-use Rattle.c_checking.proofs.Extends.{Extends, itself, further, kept, at_end, around, among, record_stays}
-use Rattle.c_checking.proofs.Agreement.{AreFit, IsFit, fits_stay, added, IsGrown, one_more_fits}
+use Rattle.c_checking.specs.Declaring.{without_storage, parameter_storage, new_here, new_if_named, scalar_parameter}
+use Rattle.c_checking.proofs.Results.{given, only_if, chosen}
+use Rattle.c_checking.proofs.Extends.{Extends, itself, further, kept, at_end, around, among}
+use Rattle.c_checking.proofs.Agreement.{IsFit, fits_stay, added, IsGrown, one_more_fits}
 use Rattle.c_checking.proofs.Values.{IsValue, Stands, unconverted_same}
 use Rattle.c_checking.proofs.NodesOfParts.{same_bytes}
 
@@ -256,6 +254,7 @@ tagged_is s at x t h = by_tag (tag_at s.file.tags x.text x.from) refl h
     numbered h i =
         let n = structure_is at (number_among s.file.numbered x.text) t h in
         (n.0, n.2, number_is s.file.numbered x.text n.0 n.1, i)
+
     by_tag : (o : Option Bool) → tag_at s.file.tags x.text x.from ≡ o → tagged s at x o ≡ Ok t
         → (r : ℕ) × (t ≡ structure r) × IsNumbered s.file x.text r × IsStructTag s x
     by_tag (Some false) e h = numbered h (inl e)
@@ -354,13 +353,13 @@ completed_is f named names r z h =
     let u = unless_ok (repeated [] names) _ z h in
     chosen (is_next (length f.records) (number_among f.numbered r.tag)) _ _ z (IsCompleted f names r z) u.1
     (λ b h. chosen (nat_le (size_of_record f.records r) 16777216) _ _ z (IsCompleted f names r z) h
-      (λ c h. given (IsCompleted f names r) (structure (length f.records), with_record f r) z h (record {
-        different = are_different [] names u.0;
-        numbered = number_is f.numbered r.tag (length f.records) (next_number (length f.records) (number_among f.numbered r.tag) b);
-        ty_is = refl;
-        file_is = refl;
-      }))
-      (λ c h. cc))
+    (λ c h. given (IsCompleted f names r) (structure (length f.records), with_record f r) z h (record {
+      different = are_different [] names u.0;
+      numbered = number_is f.numbered r.tag (length f.records) (next_number (length f.records) (number_among f.numbered r.tag) b);
+      ty_is = refl;
+      file_is = refl;
+    }))
+    (λ c h. cc))
     (λ b h. cc)
 
 -- ---- enumerators (6.7.2.2)

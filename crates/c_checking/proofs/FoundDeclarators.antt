@@ -1,15 +1,15 @@
 -- What is found for declarators and parameters, in each file that goes on from the one that finding leaves.
-use Rattle.std.proofs.Common.{◌≡◌, ℕ, ◌+◌, ◌≤◌, ◌<◌, Bool, true, false, refl, sym, ap, ◌∙◌, subst, List, [], ◌∷◌, ◌++◌, inl, inr, arith}
+use Rattle.std.proofs.Common.{◌≡◌, ℕ, true, refl, sym, ap, ◌∙◌, subst, List, [], ◌∷◌, arith}
 use Rattle.std.specs.Prelude.{◌⊎◌, Option, Some, None, Ok}
 use Rattle.c_types.specs.declared.ty.IntKind.{IntKind}
-use Rattle.c_types.specs.Types.{CType, CTypes, pointer, array, function, no_types, and_type, Record}
+use Rattle.c_types.specs.Types.{CType, CTypes, pointer, array, function, no_types, and_type}
 use Rattle.c_types.specs.Objects.{is_object}
 use Rattle.c_ast.specs.declared.words.Spelling.{Spelling}
 use Rattle.c_ast.specs.Trees
 use Rattle.c_ast.specs.Places.{first, first_specifiers, first_declarator}
 use Rattle.c_typed.specs.declared.program.MentionKind.TheVariants.{Named}
 use Rattle.c_typed.specs.Conversions.{is_scalar}
-use Rattle.c_erasure.specs.Declarators.{Shape, closed, declared_name, parameter_type, is_name}
+use Rattle.c_erasure.specs.Declarators.{Shape, declared_name, parameter_type}
 use Rattle.c_erasure.specs.Erasure.{IsBase, IsOne, with_parameter_if_named, AreListed, Declares, IsNew}
 use Rattle.c_erasure.specs.Marks.{Mark, marks_of_declarator, marks_of_specifiers}
 use Rattle.c_erasure.specs.Scopes.{FileScope, Scope, Bound, ALocal, inside, with_name, ended, IsMentioned}
@@ -17,9 +17,9 @@ use Rattle.c_erasure.specs.Specifiers.{storage_of, no_storage, is_register}
 use Rattle.c_checking.specs.Answers.{Answer, ◌>>=◌, with_file, moved}
 use Rattle.c_checking.specs.Declaring.{with_mention, mentions_in, Derivation, to_pointer, to_array, to_open_array, to_function, derived, length_value, new_if_named, scalar_parameter}
 use Rattle.c_checking.specs.Finding.{complete}
-use Rattle.c_checking.proofs.Results.{bound_ok, bound_with, ok, given, with_file_ok}
-use Rattle.c_checking.proofs.Extends.{Extends, itself, further, constants_stay}
-use Rattle.c_checking.proofs.Agreement.{AreFit, IsFit, BlocksAreFit, one_more_fits, fits_stay, blocks_stay, added, IsReady, Ready, IsGrown, Grew, then}
+use Rattle.c_checking.proofs.Results.{bound_ok, bound_with, ok, given}
+use Rattle.c_checking.proofs.Extends.{Extends, further, constants_stay}
+use Rattle.c_checking.proofs.Agreement.{IsFit, BlocksAreFit, one_more_fits, blocks_stay, Ready, Grew, then}
 use Rattle.c_checking.proofs.Declared.{mentioned, is_mentioned, before_mention, nothing_grown, length_is, new_is, scalar_is}
 use Rattle.c_checking.proofs.Derived.{pointer_derived, array_derived, open_derived, function_derived, none_derived}
 use Rattle.c_checking.proofs.Found.{FoundConstant}
@@ -208,8 +208,17 @@ module _ (untagged : ℕ → List ℕ) where
             let q = further u.extends p in
             let y = v.holds g (before_mention s f g n Named t at q) in
             let m = is_mentioned s f g n Named t at q in
-            let l = parameter_listed (moved s (with_mention s n Named t at f)) (declared_name d) t g more rest.0 (w.holds g p) in
-            (v.base, v.shape, rest.0, ap (λ t. and_type t rest.0) v.ty_is, v.storage, y.0, y.1, subst (λ t. is_scalar t ≡ true) v.ty_is v.is_scalar, v.is_new,
-             subst (λ t. IsMentioned (moved s g) Named t at) v.ty_is m,
-             subst (λ t. AreListed (with_parameter_if_named (moved s g) (declared_name d) t) more rest.0) v.ty_is l);
+            let l = parameter_listed (moved s (with_mention s n Named t at f)) (declared_name d) t g more rest.0 (w.holds g p) in (
+              v.base,
+              v.shape,
+              rest.0,
+              ap (λ t. and_type t rest.0) v.ty_is,
+              v.storage,
+              y.0,
+              y.1,
+              subst (λ t. is_scalar t ≡ true) v.ty_is v.is_scalar,
+              v.is_new,
+              subst (λ t. IsMentioned (moved s g) Named t at) v.ty_is m,
+              subst (λ t. AreListed (with_parameter_if_named (moved s g) (declared_name d) t) more rest.0) v.ty_is l,
+            );
       })

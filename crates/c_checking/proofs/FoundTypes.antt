@@ -1,37 +1,33 @@
 -- What is found for type names, specifiers and declarators, in each file that goes on from the one that finding leaves.
-use Rattle.std.proofs.Common.{◌≡◌, ℕ, suc, ◌+◌, ◌≤◌, ◌<◌, Bool, true, false, refl, sym, ap, ◌∙◌, subst, List, [], ◌∷◌, ◌++◌, length, length-append, inl, inr, arith}
-use Rattle.std.specs.Prelude.{◌^◌, ◌%◌, ◌⊎◌, map, Option, Some, None, Ok, Err, slice_get}
-use Rattle.lay_base.specs.declared.place.Place.{Place}
+use Rattle.std.proofs.Common.{◌≡◌, ℕ, ◌+◌, ◌<◌, Bool, true, false, refl, sym, ap, ◌∙◌, subst, List, [], ◌∷◌, ◌++◌, length, length-append, inl, inr, arith}
+use Rattle.std.specs.Prelude.{◌^◌, ◌%◌, map, Option, Some, None, Ok, slice_get}
 use Rattle.c_types.specs.declared.ty.IntKind.{IntKind}
-use Rattle.c_types.specs.declared.ty.IntKind.TheVariants.{Int}
-use Rattle.c_types.specs.Types.{CType, CTypes, integer, pointer, array, function, structure, no_types, and_type, Field, Record}
+use Rattle.c_types.specs.Types.{CType, CTypes, Field, Record}
 use Rattle.c_types.specs.Objects.{is_object}
 use Rattle.c_ast.specs.declared.words.Spelling.{Spelling}
 use Rattle.c_ast.specs.Trees
 use Rattle.c_ast.specs.Places.{first, first_specifiers, first_declarator}
 use Rattle.c_typed.specs.declared.program.MentionKind.TheVariants.{Named}
-use Rattle.c_typed.specs.Conversions.{as_kind, is_scalar, number_of}
 use Rattle.c_erasure.specs.Broken.{member_names, names_of_members, tag_place, if_named}
-use Rattle.c_erasure.specs.Declarators.{Shape, closed, open_array, declared_name, parameter_type, is_name, AreDifferent}
-use Rattle.c_erasure.specs.Erasure.{place_in, tag_text, comma_or, after_all, with_parameter_if_named, Erases, IsTypeName, IsOne, Specifies, Declares, AreParameters}
-use Rattle.c_erasure.specs.Erasure.{AreListed, AreFields, AreMembers, AreEnumerators, IsEnumeratorValue, IsBase, IsBound, IsStructTag, place_of_name}
+use Rattle.c_erasure.specs.Declarators.{Shape, closed, declared_name, is_name, AreDifferent}
+use Rattle.c_erasure.specs.Erasure.{place_in, tag_text, comma_or, after_all, IsOne, Specifies, Declares, AreParameters}
+use Rattle.c_erasure.specs.Erasure.{AreListed, AreFields, AreMembers, AreEnumerators, IsEnumeratorValue, IsBase, IsStructTag}
 use Rattle.c_erasure.specs.Marks as Marks
 use Rattle.c_erasure.specs.Marks.{Mark, a_tag, an_end, a_name, marks, marks_if_any, marks_of_type, marks_of_specifiers, marks_of_specifier, marks_of_members}
 use Rattle.c_erasure.specs.Marks.{marks_of_member_declarators, marks_of_enumerators, marks_of_value, marks_of_declarator}
-use Rattle.c_erasure.specs.Scopes.{FileScope, Scope, Tag, Entity, typedef, enumerator, Bound, ALocal, defines, inside, with_name, with_parameter, named, ended, for_value, tag_at, IsNumbered}
-use Rattle.c_erasure.specs.Specifiers.{no_storage, is_register, types_among, storage_of, words_of, no_words, named_by}
-use Rattle.c_checking.specs.Answers.{Answer, ◌>>=◌, refused, Checked, with_file, moved}
-use Rattle.c_checking.specs.Declaring.{with_mention, mentions_in, tagged_in, enumerated_in, type_named, known_tag, definable, unless, completed_in, enumerator_in}
-use Rattle.c_checking.specs.Declaring.{int_value, next_value, enumeration_of, Derivation, to_pointer, to_array, to_open_array, to_function, derived, length_value}
-use Rattle.c_checking.specs.Declaring.{closed_at, object_at, base_kind, without_storage, parameter_storage, new_if_named, scalar_parameter, with_record, with_bound}
+use Rattle.c_erasure.specs.Scopes.{FileScope, Scope, Tag, typedef, enumerator, Bound, ALocal, defines, named, ended, tag_at}
+use Rattle.c_erasure.specs.Specifiers.{no_storage, types_among, storage_of}
+use Rattle.c_checking.specs.Answers.{Checked, with_file, moved}
+use Rattle.c_checking.specs.Declaring.{with_mention, mentions_in, tagged_in, enumerated_in, type_named, completed_in, enumerator_in}
+use Rattle.c_checking.specs.Declaring.{int_value, next_value, enumeration_of, Derivation, derived}
+use Rattle.c_checking.specs.Declaring.{object_at, base_kind, with_record, with_bound}
 use Rattle.c_checking.specs.Finding.{complete, base_type, type_of_derived, with_member}
-use Rattle.c_checking.proofs.Results.{bound_ok, bound_with, ok, given, with_file_ok, chosen}
-use Rattle.c_checking.proofs.Extends.{Extends, itself, further, at_end, bound_stays, record_stays, named_stays, constants_stay}
-use Rattle.c_checking.proofs.Agreement.{AreFit, BlocksAreFit, fits_stay, blocks_stay, one_more_fits, added, IsReady, Ready, IsGrown, Grew, none_grown, then, left, right}
-use Rattle.c_checking.proofs.Declared.{mentioned, is_mentioned, before_mention, nothing_grown, int_is, next_is, length_is, tagged_is, enumerated_is, type_named_is}
-use Rattle.c_checking.proofs.Declared.{unless_ok, record_grown, IsCompleted, completed_is, enumerator_is, bound_grown, enumeration_is, no_storage_is, parameter_storage_is}
-use Rattle.c_checking.proofs.Declared.{new_is, scalar_is}
-use Rattle.c_checking.proofs.Derived.{pointer_derived, array_derived, open_derived, function_derived, none_derived, type_derived, object_is, IsBaseOf, base_is}
+use Rattle.c_checking.proofs.Results.{bound_ok, ok, given, with_file_ok}
+use Rattle.c_checking.proofs.Extends.{Extends, further, at_end, bound_stays, record_stays, named_stays, constants_stay}
+use Rattle.c_checking.proofs.Agreement.{fits_stay, added, IsReady, Ready, IsGrown, Grew, none_grown, then, left, right}
+use Rattle.c_checking.proofs.Declared.{mentioned, is_mentioned, before_mention, nothing_grown, int_is, next_is, tagged_is, enumerated_is, type_named_is}
+use Rattle.c_checking.proofs.Declared.{record_grown, completed_is, enumerator_is, bound_grown, enumeration_is}
+use Rattle.c_checking.proofs.Derived.{type_derived, object_is, IsBaseOf, base_is}
 use Rattle.c_checking.proofs.Derived.{words_mark_nothing}
 use Rattle.c_checking.proofs.Found.{FoundType, FoundConstant}
 
@@ -125,6 +121,7 @@ module _ (untagged : ℕ → List ℕ) where
     where
       nothing : (b : Bool) → marks_of_specifiers untagged specs ≡ [] → added b (marks_of_specifiers untagged specs) ≡ 0
       nothing b e = rw e (added_none b)
+
       by_way : IsBaseOf specs s.file one z → FoundBase s specs z
       by_way (inl w) = record {
         grew = subst (λ f. Grew s (marks_of_specifiers untagged specs) f) w.2
@@ -226,15 +223,19 @@ module _ (untagged : ℕ → List ℕ) where
             let q : Extends (with_record m.1 rec) g = subst (λ f. Extends f g) c.file_is p in
             let k : Extends m.1 g = further (record_grown m.1 rec) q in
             let e : Extends s.file g = further v.grew.extends k in
-            let t = tag_text_same s g e at x in
-            (length m.1.records, rec, i, c.ty_is,
-             rw (k.numbered, t) c.numbered,
-             record_stays q (length m.1.records) rec (at_end m.1.records rec),
-             subst (λ ends. slice_get ends (length m.1.records) ≡ Some right_at) (sym k.ends) ended,
-             sym t,
-             ap (λ file. record { file = file; at = at }) (sym e.file),
-             v.holds g k,
-             subst AreDifferent (sym v.names) c.different);
+            let t = tag_text_same s g e at x in (
+              length m.1.records,
+              rec,
+              i,
+              c.ty_is,
+              rw (k.numbered, t) c.numbered,
+              record_stays q (length m.1.records) rec (at_end m.1.records rec),
+              subst (λ ends. slice_get ends (length m.1.records) ≡ Some right_at) (sym k.ends) ended,
+              sym t,
+              ap (λ file. record { file = file; at = at }) (sym e.file),
+              v.holds g k,
+              subst AreDifferent (sym v.names) c.different,
+            );
       }
 
   an_enumeration_grown : (f : FileScope) (b : Bool) (x : Option Spelling) (end : ℕ) → IsGrown f b (Marks.an_enumeration untagged x end) f
@@ -360,15 +361,17 @@ module _ (untagged : ℕ → List ℕ) where
       → object_at steps.1.records (complete s (first_declarator d semicolon)) (first_declarator d semicolon) t ≡ Ok u
       → (r : Checked (List Field))
       → ((rest : List Field × FileScope) → r ≡ Ok rest
-        → FoundMembers (moved s (with_field s (mentions_in s.file) u (first_declarator d semicolon) steps.1)) base more semicolon rest)
+      → FoundMembers (moved s (with_field s (mentions_in s.file) u (first_declarator d semicolon) steps.1)) base more semicolon rest)
       → (z : List Field × FileScope) → with_member (place_in s (first_declarator d semicolon)) u (declared_name d) r ≡ Ok z
       → FoundMembers s base (Trees.and_member_declarator comma d more) semicolon z
   member_found s base comma d more semicolon steps v t u k j r sound z h = by_name (declared_name d) refl h
     where
       at : ℕ
       at = first_declarator d semicolon
+
       o : (is_object (complete s (first_declarator d semicolon)) t ≡ true) × (t ≡ u)
       o = object_is steps.1.records (complete s (first_declarator d semicolon)) (first_declarator d semicolon) t u j
+
       by_name : (x : Option Spelling) → declared_name d ≡ x → with_member (place_in s (first_declarator d semicolon)) u x r ≡ Ok z
           → FoundMembers s base (Trees.and_member_declarator comma d more) semicolon z
       by_name None e h = cc
@@ -384,11 +387,17 @@ module _ (untagged : ℕ → List ℕ) where
                 let l = before_mention s steps.1 g n Named u at q in
                 let f : Extends s.file g = further v.grew.extends l in
                 let c = constants_stay f (λ ends file. is_object (ended ends at) t ≡ true) o.0 in
-                let y = v.holds g l steps.1.records l.records.0 l.records.1 base (closed t) (type_derived at steps.1 steps.0 base t k) in
-                (x, u, rest.0.0, e, subst (λ t. Declares (moved s g) d base (closed t)) o.1 y, subst (λ t. is_object (ended g.ends at) t ≡ true) o.1 c,
-                 is_mentioned s steps.1 g n Named u at q,
-                 ap (λ file. record { name = x.text; ty = u; place = record { file = file; at = at } } ∷ rest.0.0) (sym f.file),
-                 w.holds g p);
+                let y = v.holds g l steps.1.records l.records.0 l.records.1 base (closed t) (type_derived at steps.1 steps.0 base t k) in (
+                  x,
+                  u,
+                  rest.0.0,
+                  e,
+                  subst (λ t. Declares (moved s g) d base (closed t)) o.1 y,
+                  subst (λ t. is_object (ended g.ends at) t ≡ true) o.1 c,
+                  is_mentioned s steps.1 g n Named u at q,
+                  ap (λ file. record { name = x.text; ty = u; place = record { file = file; at = at } } ∷ rest.0.0) (sym f.file),
+                  w.holds g p,
+                );
           })
 
   -- ---- type names (6.7.6)

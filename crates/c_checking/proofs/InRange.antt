@@ -1,5 +1,5 @@
 -- The numbers of a tree are values of their types: those of number literals of the literal's type, those of characters of int (C99 6.4.4).
-use Rattle.std.specs.Prelude.{◌≡◌, ℕ}
+use Rattle.std.specs.Prelude.{◌≡◌}
 use Rattle.c_types.specs.declared.ty.IntKind.TheVariants.{Int}
 use Rattle.c_typed.specs.Conversions.{as_kind}
 use Rattle.c_ast.specs.Trees

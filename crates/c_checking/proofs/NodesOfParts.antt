@@ -1,39 +1,33 @@
 -- Members, calls, sizes and string literals: what is found stands for its part of the text and is well typed (C99 6.4.5, 6.5.2, 6.5.3.4).
-use Rattle.std.proofs.Common.{◌≡◌, ℕ, zero, suc, ◌+◌, ◌≤◌, ◌<◌, Bool, true, false, refl, sym, ap, ◌∙◌, subst, cond, List, [], ◌∷◌, ◌++◌, length, length-append, arith, inl, inr}
-use Rattle.std.proofs.lemmas.Bool.{and_parts, and_from, lt-ltb}
+use Rattle.std.proofs.Common.{◌≡◌, ℕ, suc, ◌+◌, ◌≤◌, Bool, true, false, refl, sym, ap, ◌∙◌, subst, cond, List, [], ◌∷◌, ◌++◌, length, arith}
+use Rattle.std.proofs.lemmas.Bool.{and_parts}
 use Rattle.std.proofs.lemmas.Slice.Eq.{bytes_eq-Decides}
 use Rattle.std.proofs.lemmas.Bool.Decides.{nat_tests}
-use Rattle.std.specs.Prelude.{Option, Some, None, Ok, Err, slice_get, map, nat_lt, nat_le, ◌&&◌, ◌%◌, ◌^◌}
+use Rattle.std.specs.Prelude.{Option, Some, None, Ok, slice_get, nat_le, ◌%◌, ◌^◌}
 use Rattle.std.specs.Option.{option_map}
 use Rattle.std.specs.Str.{bytes_eq}
 use Rattle.lay_base.specs.declared.place.Place.{Place}
-use Rattle.lay_base.specs.declared.faults.Rule.TheVariants as R
-use Rattle.c_types.specs.declared.ty.IntKind.TheVariants.{Char, Int, UInt}
+use Rattle.c_types.specs.declared.ty.IntKind.TheVariants.{UInt}
 use Rattle.c_types.specs.Types.{CType, CTypes, void, integer, pointer, array, function, structure, Field, Record}
 use Rattle.c_types.specs.Layouts.{size_of}
 use Rattle.c_types.specs.Objects.{is_object}
 use Rattle.c_types.proofs.Growing.{layouts_stay}
 use Rattle.c_typed.specs.Trees as Typed
 use Rattle.c_typed.specs.Mapped.{of_types, mapped_all}
-use Rattle.c_typed.specs.Constants.{ty}
-use Rattle.c_typed.specs.Conversions.{is_function, pointed}
+use Rattle.c_typed.specs.Conversions.{pointed}
 use Rattle.c_typed.specs.Fits.{assigns, library_type}
-use Rattle.c_typed.specs.Typed.{bare_ty, is_bare, field_type, type_in, IsTyped, IsTypedPath, IsConverted, AreArguments}
+use Rattle.c_typed.specs.Typed.{field_type, type_in, IsTyped, IsTypedPath, IsConverted, AreArguments}
 use Rattle.c_typed.specs.declared.program.MentionKind.TheVariants.{Sizeof}
-use Rattle.c_ast.specs.declared.words.Spelling.{Spelling}
 use Rattle.c_erasure.specs.Broken.{called_type, pointed_type}
-use Rattle.c_erasure.specs.Erasure.{typed, Values, IsTypedThing, place_in, IsField, IsCall, IsSize, IsLiteral, IsLiteralFor, IsOfType, literal_object, literal_of, unmade}
+use Rattle.c_erasure.specs.Erasure.{typed, Values, place_in, IsField, IsCall, IsSize, IsOfType}
 use Rattle.c_erasure.specs.Noted.{Noted, Expression, Path, Node, Thing, an_object, a_value, a_function, a_function_at, a_library_function, value, way, type_of, type_of_path, value_of}
 use Rattle.c_erasure.specs.Noted.{object_value, size_of as sized}
-use Rattle.c_erasure.specs.Scopes.{FileScope, Scope, declared, ended, Purpose, in_full, value_alone, type_alone, IsMentioned, AnObject}
-use Rattle.c_checking.specs.Answers.{Answer, refused, moved}
-use Rattle.c_checking.specs.Nodes.{null, converted, field_from, field_in, member_to, member_of_type, dot_in, arrow_to, arrow_in}
-use Rattle.c_checking.specs.Nodes.{signature_of, signature_in, argument_in, call_through, call_in, size_node, is_complete, of_limited_size, sized_type, measured_type, measured_of, measured_in}
-use Rattle.c_checking.specs.Declaring.{with_object, literal_for, literal_in}
+use Rattle.c_erasure.specs.Scopes.{Scope, declared, IsMentioned}
+use Rattle.c_checking.specs.Nodes.{null, field_from, field_in, member_to, member_of_type, dot_in, arrow_to, arrow_in}
+use Rattle.c_checking.specs.Nodes.{signature_of, signature_in, argument_in, call_through, call_in, size_node, is_complete, sized_type, measured_type, measured_in}
 use Rattle.c_checking.specs.Finding.{complete}
-use Rattle.c_checking.proofs.Results.{ok, given, only_if, chosen}
-use Rattle.c_checking.proofs.Extends.{Extends, itself, kept, at_end, record_stays}
-use Rattle.c_checking.proofs.Values.{typed_path, type_same, path_type_same, IsValue, IsNoArray, IsNeat, Stands, IsOperand, operand, found_worth}
+use Rattle.c_checking.proofs.Results.{given, only_if, chosen}
+use Rattle.c_checking.proofs.Values.{typed_path, type_same, path_type_same, IsValue, Stands, operand, found_worth}
 
 -- ---- members (6.5.2.3)
 
@@ -77,6 +71,7 @@ module _ (records : List Record) (s : Scope) (stay : (k : ℕ) (r : Record) → 
     where
       b : (is_object count (structure r) ≡ true) × (member_to named at p r (field_in (slice_get records r) x) ≡ Ok th)
       b = only_if (is_object count (structure r)) _ _ _ th h
+
       by_field : (rec : Record) → slice_get records r ≡ Some rec → (o : Option (ℕ × CType)) → field_from 0 rec.fields x ≡ o
           → member_to named at p r o ≡ Ok th → IsMember count at p (structure r) x th
       by_field rec e None f h = cc
@@ -95,6 +90,7 @@ module _ (records : List Record) (s : Scope) (stay : (k : ℕ) (r : Record) → 
             typed = ap (λ o. type_in o z.0) there ∙ ap (λ o. option_map (λ (f : Field). f.ty) o) g ∙ ap Some w.5;
             is = refl;
           })
+
       by_record : (o : Option Record) → slice_get records r ≡ o → member_to named at p r (field_in o x) ≡ Ok th → IsMember count at p (structure r) x th
       by_record None e h = cc
       by_record (Some rec) e h = by_field rec e (field_from 0 rec.fields x) refl h
@@ -241,7 +237,7 @@ sized_is records count at t u h =
     let c = complete_is records count t b.0 in
     chosen (nat_le (size_of records t) 16777216) _ _ u (IsSized records count u × (t ≡ u)) b.1
     (λ l h. given (λ u. IsSized records count u × (t ≡ u)) t u h
-      (record { is_complete = c.0; is_known = c.1; is_limited = limited (size_of records t) l }, refl))
+    (record { is_complete = c.0; is_known = c.1; is_limited = limited (size_of records t) l }, refl))
     (λ l h. cc)
   where
     limited : (n : ℕ) → nat_le n 16777216 ≡ true → n ≤ 16777216
@@ -260,6 +256,8 @@ pub size_made : (s : Scope) (records more : List Record) → s.file.records ≡ 
     → IsMentioned s Sizeof t at → Stands (IsSize s at by t) s (size_node records (place_in s at) t)
 size_made s records more e at by t z m =
     let n : size_of s.file.records t ≡ size_of records t = ap (λ all. size_of all t) e ∙ (layouts_stay records more).sizes t z.is_known in
-    let l : size_of records t % 2 ^ 32 ≡ size_of records t = omega (arith, z.is_limited) in
-    ((z.is_complete, m, ap (λ n. a_value (Typed.expression (record { ty = integer UInt; note = sized t at }) (place_in s at) (Typed.constant n))) (sym n)),
-     (UInt, refl, l), (refl, λ count p. cc))
+    let l : size_of records t % 2 ^ 32 ≡ size_of records t = omega (arith, z.is_limited) in (
+      (z.is_complete, m, ap (λ n. a_value (Typed.expression (record { ty = integer UInt; note = sized t at }) (place_in s at) (Typed.constant n))) (sym n)),
+      (UInt, refl, l),
+      (refl, λ count p. cc),
+    )

@@ -1,16 +1,16 @@
 -- The value of an integer constant expression is kept in 32 bits (C99 6.6).
-use Rattle.std.proofs.Common.{◌≡◌, ℕ, zero, suc, ◌+◌, ◌-◌, ◌*◌, ◌/◌, ◌%◌, ◌^◌, ◌≤◌, ◌<◌, Bool, true, false, refl, sym, ap, ◌∙◌, subst, cond, arith}
+use Rattle.std.proofs.Common.{◌≡◌, ℕ, zero, suc, ◌+◌, ◌-◌, ◌*◌, ◌/◌, ◌%◌, ◌^◌, ◌≤◌, ◌<◌, Bool, true, false, refl, subst, cond, arith}
 use Rattle.std.proofs.lemmas.Bool.{and_parts}
 use Rattle.std.proofs.lemmas.Bool.Decides.{nat_tests}
 use Rattle.std.proofs.lemmas.Int.{rem_below, ints}
 use Rattle.std.proofs.lemmas.Nat.{or_lt, xor_lt, and_le_l}
 use Rattle.std.proofs.Math.Nat.{div-le_self, mod-le}
-use Rattle.std.specs.Prelude.{Option, Some, None, nat_lt, ◌==◌, not, if◌then◌else◌, bit_and, bit_or, bit_xor, ℤ, pos, negsuc, int_div, int_rem, int_le, unsigned_abs}
+use Rattle.std.specs.Prelude.{Option, Some, None, nat_lt, ◌==◌, not, bit_and, bit_or, bit_xor, ℤ, pos, negsuc, int_div, int_rem, int_le, unsigned_abs}
 use Rattle.std.specs.Bool.{then_some}
 use Rattle.std.specs.Option.{option_map}
 use Rattle.std.specs.Int.{w32, cast_signed, cast_unsigned, int_shr}
 use Rattle.std.specs.Ordering.{int_eq}
-use Rattle.lay_base.specs.Operators.{is_int, is_divisible, quotient, remainder, shifted_left, shifted_right, arithmetic_shift}
+use Rattle.lay_base.specs.Operators.{is_int, is_divisible, shifted_left, shifted_right, arithmetic_shift}
 use Rattle.lay_base.specs.declared.place.Place.{Place}
 use Rattle.c_types.specs.declared.ty.IntKind.{IntKind}
 use Rattle.c_types.specs.declared.ty.IntKind.TheVariants.{Char, SChar, UChar, Short, UShort, Int, UInt, Long, ULong}
@@ -21,8 +21,8 @@ use Rattle.c_typed.specs.declared.operators.BinaryOp.{BinaryOp}
 use Rattle.c_typed.specs.declared.operators.BinaryOp.TheVariants.{Multiply, Divide, Remainder, Add, Subtract, ShiftLeft, ShiftRight, BitAnd, BitXor, BitOr}
 use Rattle.c_typed.specs.Trees as Trees
 use Rattle.c_typed.specs.Trees.{Expression, expression, Node}
-use Rattle.c_typed.specs.Arithmetic.{truth, unary_value, divided, remaining, binary_value}
-use Rattle.c_typed.specs.Conversions.{as_kind, sign_extended, number_of, is_signed}
+use Rattle.c_typed.specs.Arithmetic.{divided, remaining, binary_value}
+use Rattle.c_typed.specs.Conversions.{as_kind, number_of, is_signed}
 use Rattle.c_typed.specs.Constants.{Constant, none, undefined, valued, of_value, converted_constant, unary_constant, with_both, decided_by, chosen, negated, constant_of, constant_in}
 use Rattle.c_typed.specs.Typed.{Declared, IsTyped, IsTypedNode}
 
@@ -97,7 +97,7 @@ remaining_below true v w r h e =
     let b : ℤ = cast_signed w32 w in
     remainder_below (is_divisible a b) b (int_rem a b) r
     (λ d. let n = not_zero_abs b (and_parts (not (int_eq b (pos 0))) (is_int (int_div a b)) d).0 in
-      abs_below (int_rem a b) (omega (arith, rem_below a b n, signed_abs w))) e
+    abs_below (int_rem a b) (omega (arith, rem_below a b n, signed_abs w))) e
 remaining_below false v w r h e = then_below (not (w == 0)) (v % w) r (λ d. omega (arith, h, mod-le v w)) e
 
 left_below : (v : ℕ) (by : ℤ) (r : ℕ) → shifted_left v by ≡ Some r → IsBelow r

@@ -1,21 +1,18 @@
 -- Found things that stand for a part of the text, their values, and these values converted.
 use Rattle.std.proofs.Common.{◌≡◌, ◌≢◌, ℕ, Bool, true, false, refl, sym, ap, ◌∙◌, subst, cond}
-use Rattle.std.specs.Prelude.{Option, Some, None, Ok, Err}
-use Rattle.lay_base.specs.declared.place.Place.{Place}
+use Rattle.std.specs.Prelude.{Option, Some, None, Ok}
 use Rattle.c_types.specs.Types.{CType, void, integer, pointer, array, function, structure}
 use Rattle.c_types.specs.Sameness.{same_type}
 use Rattle.c_types.proofs.SameTypes.{same_is, same_self}
 use Rattle.c_typed.specs.Trees as Typed
-use Rattle.c_typed.specs.Mapped.{of_types, mapped, mapped_path}
+use Rattle.c_typed.specs.Mapped.{of_types, mapped_path}
 use Rattle.c_typed.specs.Constants.{ty, is_null}
-use Rattle.c_typed.specs.Conversions.{is_scalar, is_function}
 use Rattle.c_typed.specs.Rules.{points_to_object}
-use Rattle.c_typed.specs.Typed.{Declared, at_of, path_ty, path_at, bare, is_bare, bare_ty, is_decay, IsTyped, IsTypedPath}
+use Rattle.c_typed.specs.Typed.{at_of, path_ty, path_at, bare, is_bare, bare_ty, is_decay, IsTyped, IsTypedPath}
 use Rattle.c_erasure.specs.Erasure.{typed, IsTypedThing, Values}
-use Rattle.c_erasure.specs.Noted.{Noted, Expression, Path, Thing, an_object, a_value, a_function, a_function_at, a_library_function, value, type_of, type_of_path}
+use Rattle.c_erasure.specs.Noted.{Expression, Path, Thing, an_object, a_value, a_function, a_function_at, a_library_function, value, type_of, type_of_path}
 use Rattle.c_erasure.specs.Noted.{place_of_path, object_value, value_of, unconverted}
 use Rattle.c_erasure.specs.Scopes.{Scope, declared}
-use Rattle.c_checking.specs.Answers.{Answer}
 use Rattle.c_checking.specs.Nodes.{place_of, null, converted, valued, worth, array_of, array_of_type}
 use Rattle.c_checking.proofs.Results.{given}
 
@@ -137,8 +134,10 @@ operand Is s t x v = by_test (same_type (type_of x) t) refl
   where
     before : ty (bare (typed x)) ≡ type_of x
     before = ap ty (bare_same x v.2) ∙ type_same x
+
     differs : same_type (type_of x) t ≡ false → t ≢ ty (typed x)
     differs e f = let g = same_self (type_of x) t (sym (type_same x) ∙ sym f) in cc
+
     by_test : (b : Bool) → same_type (type_of x) t ≡ b → IsOperand Is s t x (cond b x (value t (place_of x) (Typed.convert x false)))
     by_test true e = record {
       values = v.0;
