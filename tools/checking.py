@@ -20,6 +20,7 @@ COMPILERS = ["riscv64-unknown-elf-gcc", "riscv64-linux-gnu-gcc"]
 VALGRIND = "valgrind"
 TIME = "time"
 PACKAGES = {
+    "gcc": "gcc",
     EMULATOR: "qemu-user",
     OBJDUMP: "binutils-riscv64-linux-gnu",
     READELF: "binutils",
