@@ -22,6 +22,7 @@ GCC = ["gcc", "-std=c99", "-m32", "-funsigned-char", "-fwrapv"]
 STRICT = [*GCC, "-pedantic-errors", "-x", "cpp-output"]
 HEADERS = "/usr/include/csmith"
 SECONDS = 10
+SHORT = 10000
 
 # What this project's C leaves out.
 LEFT_OUT = """--no-longlong --no-math64 --no-float --no-bitfields --no-unions --no-volatiles --no-volatile-pointers --no-packed-struct --no-argc --no-jumps
@@ -88,7 +89,9 @@ def without_const(text):
 
 def is_strict(text):
     """Whether GCC takes the preprocessed text as strict C99, but for `const`."""
-    return checking.run([*STRICT, "-fsyntax-only", "-"], input=without_const(text).encode(), seconds=60).returncode == 0
+    # what is declared and never completed GCC finds only on its way to assembly
+    goal = ["-S", "-o", os.devnull] if len(text) < SHORT else ["-fsyntax-only"]
+    return checking.run([*STRICT, *goal, "-"], input=without_const(text).encode(), seconds=60).returncode == 0
 
 
 def strict_programs(count, first_seed=1, records_as_values=False, small=False):
@@ -198,82 +201,132 @@ def runtime_used(runtime, needed):
 # ---- faults: each takes the text and a chance, and gives the faulty text, or None where the text has no place for it
 
 
-def at_one(pattern, change, text, chance):
-    """The text with one of the places changed that a pattern has in the bodies of functions of csmith's own."""
-    begin = body_begin(text)
-    found = list(re.finditer(pattern, text[begin:]))
-    if not found:
-        return None
-    m = chance.choice(found)
-    return text[: begin + m.start()] + change(m) + text[begin + m.end() :]
-
-
 def body_begin(text):
-    """Where the first function of csmith's program begins."""
+    """Where the body of the first function of csmith's program begins."""
     m = re.search(r"(?m)^static .*\bfunc_1\([^;{]*\)\s*\{", text)
     return m.end() if m else len(text)
 
 
+def at_one(pattern, change):
+    """Changes one of the places that a pattern has in the bodies of csmith's functions."""
+
+    def changed(text, chance):
+        begin = body_begin(text)
+        found = list(re.finditer(pattern, text[begin:]))
+        if not found:
+            return None
+        m = chance.choice(found)
+        return text[: begin + m.start()] + change(m.group(0)) + text[begin + m.end() :]
+
+    return changed
+
+
+def at_number(change):
+    return at_one(r"(?<!\[)\b0x[0-9A-F]+\b", change)
+
+
 def before_return(statement):
-    return lambda text, chance: at_one(r"\breturn\b", lambda m: statement + " return", text, chance)
+    return at_one(r"\breturn\b", lambda word: statement + " return")
 
 
+def at_end(item):
+    return lambda text, chance: text + item + "\n"
+
+
+CALL = r"(?<=\()(?:safe_\w+|func_\d+)\("
+
+# Each fault with the rules that it may break.
 FAULTS = {
-    "an argument too many": lambda t, c: at_one(r"\b(safe_\w+|func_\d+)\((?=\()", lambda m: m.group(0) + "1, ", t, c),
-    "no arguments": lambda t, c: at_one(r"\bsafe_(?:add|sub|mul|div|mod)_func_\w+\(", lambda m: "(" + m.group(0) + ") + (", t, c),
-    "an undeclared name": lambda t, c: at_one(r"\b[gl]_\d+\b", lambda m: m.group(0) + "_unknown", t, c),
-    "an undeclared function": lambda t, c: at_one(r"\b(safe_\w+|func_\d+)\(", lambda m: "unknown_" + m.group(0), t, c),
-    "a member that is not there": lambda t, c: at_one(r"\.f(\d+)", lambda m: ".f_unknown", t, c),
-    "a member of a number": lambda t, c: at_one(r"\b0x[0-9A-F]+\b", lambda m: f"({m.group(0)}).f0", t, c),
-    "a string for a number": lambda t, c: at_one(r"(?<=[(,])0x[0-9A-F]+(?=[),])", lambda m: '"text"', t, c),
-    "a number that is called": lambda t, c: at_one(r"\b0x[0-9A-F]+\b", lambda m: m.group(0) + "()", t, c),
-    "what a number points to": lambda t, c: at_one(r"\b0x[0-9A-F]+\b", lambda m: f"(*{m.group(0)})", t, c),
-    "the address of a number": lambda t, c: at_one(r"\b0x[0-9A-F]+\b", lambda m: f"(&{m.group(0)})", t, c),
-    "a number that is stepped": lambda t, c: at_one(r"\b0x[0-9A-F]+\b", lambda m: f"(++{m.group(0)})", t, c),
-    "a void operand": lambda t, c: at_one(r"\b0x[0-9A-F]+\b", lambda m: f"(1 + (void){m.group(0)})", t, c),
-    "a record cast": lambda t, c: at_one(r"\b0x[0-9A-F]+\b", lambda m: f"((struct Unknown *)1 + {m.group(0)})", t, c),
-    "the difference of two kinds of pointers": lambda t, c: at_one(r"\b0x[0-9A-F]+\b", lambda m: '((int *)0 - (char *)0)', t, c),
-    "a wrong right operand of a shift": lambda t, c: at_one(r"\b0x[0-9A-F]+\b", lambda m: f'(1 << "text")', t, c),
-    "sizeof void": lambda t, c: at_one(r"\b0x[0-9A-F]+\b", lambda m: "sizeof(void)", t, c),
-    "sizeof a function": lambda t, c: at_one(r"\b0x[0-9A-F]+\b", lambda m: "sizeof(func_1)", t, c),
-    "a return without a value": lambda t, c: at_one(r"\breturn [^;]*;", lambda m: "return;", t, c),
-    "a return of a record's address": before_return("return &crc32_tab;"),
-    "a pointer for a number": before_return("{ int broken = &crc32_context; }"),
-    "a number for a pointer": before_return("{ int *broken = 1; }"),
-    "a pointer of another type": before_return("{ int *broken = &crc32_context; }"),
-    "a duplicate case": before_return("switch (1) { case 3: ; case 1 + 2: ; }"),
-    "two defaults": before_return("switch (1) { default: ; default: ; }"),
-    "a case that is not constant": before_return("switch (1) { case crc32_context: ; }"),
-    "a switch on a pointer": before_return("switch (&crc32_context) { default: ; }"),
-    "a void condition": before_return("if ((void)0) ;"),
-    "an array that is assigned": before_return("crc32_tab = 0;"),
-    "a function that is assigned": before_return("func_1 = 0;"),
-    "a local twice": before_return("{ int twice; char twice; }"),
-    "a void local": before_return("{ void broken; }"),
-    "an array of no length": before_return("{ int broken[0]; }"),
-    "an initializer too many": before_return("{ int broken[2] = { 1, 2, 3 }; }"),
-    "a static local that is not constant": before_return("{ static int broken = crc32_context; }"),
-    "a function twice": lambda t, c: t + "int main(void) { return 0; }\n",
-    "an object of another type": lambda t, c: t + "extern char crc32_context;\n",
-    "a break outside": lambda t, c: t + "static void broken(void) { break; }\n",
-    "a continue in a switch": lambda t, c: t + "static void broken(void) { switch (1) { case 1: continue; } }\n",
-    "a structure twice": lambda t, c: t + "struct Twice { int x; }; struct Twice { int x; };\n",
-    "a structure inside itself": lambda t, c: t + "struct Twice { struct Twice inner; };\n",
-    "two storage classes": lambda t, c: t + "static extern int broken;\n",
-    "no type": lambda t, c: t + "unsigned void *broken;\n",
-    "an enumerator twice": lambda t, c: t + "enum { TWICE, TWICE };\n",
-    "a length that is not constant": lambda t, c: t + "static int broken[crc32_context];\n",
-    "a static object and then another": lambda t, c: t + "static int broken; int broken;\n",
+    "an argument too many": ("Arguments", at_one(CALL + r"(?=\()", lambda call: call + "1, ")),
+    "an argument too few": ("Arguments", before_return("transparent_crc(1, 0);")),
+    "a pointer for an argument": ("Arguments", before_return("crc32_byte(crc32_tab);")),
+    "an undeclared name": ("undeclared", at_one(r"\b[gl]_\d+\b", lambda name: name + "_unknown")),
+    "an undeclared function": ("undeclared", at_one(CALL, lambda call: "unknown_" + call)),
+    "a member that is not there": ("Member", at_one(r"\.f\d+", lambda member: ".f_unknown")),
+    "a member of a number": ("Member", at_number(lambda number: f"({number}).f0")),
+    "a string for a number": ("Arguments Operands Assign Return", at_one(r"(?<=[(,])0x[0-9A-F]+(?=[),])", lambda number: '"text"')),
+    "a number that is called": ("Callee", at_number(lambda number: number + "()")),
+    "what a number points to": ("Operands", at_number(lambda number: f"(*{number})")),
+    "the address of a number": ("Lvalue", at_number(lambda number: f"(&{number})")),
+    "a number that is stepped": ("Lvalue", at_number(lambda number: f"(++{number})")),
+    "a number that is assigned": ("Lvalue", at_number(lambda number: f"({number} = 1)")),
+    "a void operand": ("Operands", at_number(lambda number: f"(1 + (void){number})")),
+    "a new tag in a function": ("Scope Operands Cast", at_number(lambda number: f"((struct Unknown *)1 + {number})")),
+    "the difference of two kinds of pointers": ("Operands", at_number(lambda number: "((int *)0 - (char *)0)")),
+    "a string as the right operand of a shift": ("Operands", at_number(lambda number: '(1 << "text")')),
+    "a number that is a choice of two": ("Operands", at_number(lambda number: f'({number} ? 1 : "text")')),
+    "sizeof void": ("Incomplete", at_number(lambda number: "sizeof(void)")),
+    "sizeof a function": ("Incomplete", at_number(lambda number: "sizeof(func_1)")),
+    "a return without a value": ("Return", at_one(r"\breturn [^;]*;", lambda statement: "return;")),
+    "a return of an array's address": ("Return", before_return("return &crc32_tab;")),
+    "a pointer for a number": ("Assign", before_return("{ int broken = &crc32_context; }")),
+    "a number for a pointer": ("Assign", before_return("{ int *broken; broken = 1; }")),
+    "a pointer of another type": ("Assign", before_return("{ int *broken = &crc32_context; }")),
+    "one case twice": ("Label", before_return("switch (1) { case 3: ; case 1 + 2: ; }")),
+    "two defaults": ("Label", before_return("switch (1) { default: ; default: ; }")),
+    "a case that is not constant": ("Constant", before_return("switch (1) { case crc32_context: ; }")),
+    "a switch on a pointer": ("Condition", before_return("switch (&crc32_context) { default: ; }")),
+    "a void condition": ("Condition", before_return("if ((void)0) ;")),
+    "an array that is assigned": ("Lvalue", before_return("crc32_tab = 0;")),
+    "a function that is assigned": ("Lvalue", before_return("func_1 = 0;")),
+    "a local twice": ("again", before_return("{ int twice; char twice; }")),
+    "a void local": ("Incomplete", before_return("{ void broken; }")),
+    "an array of no length": ("Length", before_return("{ int broken[0]; }")),
+    "an initializer too many": ("Init", before_return("{ int broken[2] = { 1, 2, 3 }; }")),
+    "a static local that is not constant": ("Init", before_return("{ static int broken = crc32_context; }")),
+    "a typedef's name as a type and a word": ("Specifiers", before_return("{ unsigned int32_t broken; }")),
+    "a function twice": ("again", at_end("int main(void) { return 0; }")),
+    "an object of another type": ("again", at_end("extern char crc32_context;")),
+    "a break outside": ("Jump", at_end("static void broken(void) { break; }")),
+    "a continue in a switch": ("Jump", at_end("static void broken(void) { switch (1) { case 1: continue; } }")),
+    "a structure twice": ("again", at_end("struct Twice { int x; }; struct Twice { int x; };")),
+    "a structure inside itself": ("Incomplete", at_end("struct Twice { struct Twice inner; };")),
+    "two storage classes": ("Specifiers", at_end("static extern int broken;")),
+    "no type": ("Specifiers", at_end("unsigned void *broken;")),
+    "an enumerator twice": ("again", at_end("enum { TWICE, TWICE };")),
+    "a length that is not constant": ("Constant", at_end("static int broken[crc32_context];")),
+    "a static object and then another": ("again", at_end("static int broken; int broken;")),
+    "a result that is an array": ("ByValue", at_end("int broken(void)[3];")),
+    "a cast of a function to an object pointer": ("Cast", at_number(lambda number: "((char *)func_1 != 0)")),
 }
 
 
 def faulty(text, seed):
-    """Faulty programs made of one that is strict C99, each with the name of its fault; GCC refuses them all."""
+    """Faulty programs made of one that is strict C99, each with the name of its fault and the rules it may break; GCC refuses them all."""
     chance = random.Random(seed)
-    for name, change in FAULTS.items():
+    for name, (rules, change) in FAULTS.items():
         broken = change(text, chance)
         if broken is not None and not is_strict(broken):
-            yield name, broken
+            yield name, rules.split(), broken
+
+
+# ---- faults between the files of a split program
+
+
+def clashing(files):
+    """The files where one of them declares an object with another type, and the object's name."""
+    for name, text in files.items():
+        for m in re.finditer(r"(?m)^extern ((?:const )?u?int)(8|16|32)_t (g_\d+)(?=[;\[])", text):
+            other = {"8": "16", "16": "32", "32": "8"}[m.group(2)]
+            changed = text[: m.start(2)] + other + text[m.end(2) :]
+            return {**files, name: changed}, m.group(3)
+    return None
+
+
+def without_definition(files):
+    """The files without the definition of an object that another file uses, and the object's name."""
+    for text in files.values():
+        for g in re.findall(r"(?m)^extern .*\b(g_\d+)(?=[;\[])", text):
+            for name, other in files.items():
+                definition = re.search(rf"(?m)^(?!extern|static)(\w[^=;\n]*\b{g}(?:\[\d+\])*)\s*=[^;]*;$", other)
+                if definition:
+                    return {**files, name: other[: definition.start()] + "extern " + definition.group(1) + ";" + other[definition.end() :]}, g
+    return None
+
+
+def with_two_mains(files):
+    last = list(files)[-1]
+    return {**files, last: files[last] + "int main(void) { return 1; }\n"}, "main"
 
 
 # ---- the module's own test
@@ -324,8 +377,21 @@ def check_seed(seed, has_headers, tally):
 
 
 def check_faults(seed, text):
-    made = [name for name, _ in faulty(text, seed)]
+    made = [name for name, _, _ in faulty(text, seed)]
     check(len(made) >= 9 * len(FAULTS) // 10, f"seed {seed}: {len(made)} of {len(FAULTS)} faults can be made; not {sorted(set(FAULTS) - set(made))}")
+
+
+def check_joined_faults(seed, text):
+    """The files of each case compile, and do not link but where only a type differs."""
+    parts = split(text, 3, seed)
+    for case, links in [(clashing(parts), True), (without_definition(parts), False), (with_two_mains(parts), False)]:
+        if case is None:
+            continue
+        with tempfile.TemporaryDirectory() as folder:
+            write_files(folder, case[0])
+            compiled = checking.run([*GCC, "-c", *case[0]], cwd=folder, seconds=120).returncode == 0
+            linked = checking.run([*GCC, *(name.replace(".c", ".o") for name in case[0])], cwd=folder, seconds=120).returncode == 0
+            check(compiled and linked == links, f"seed {seed}: the files with a fault of {case[1]}: compiled {compiled}, linked {linked}")
 
 
 def main():
@@ -338,6 +404,7 @@ def main():
         check_seed(seed, has_headers, tally)
     for seed, text in strict_programs(max(1, count // 10), small=True):
         check_faults(seed, text)
+        check_joined_faults(seed, text)
     print(f"{tally.ended} of {count} seeds gave a program that ends, {tally.strict} of them strict C99")
     print(f"csmith: {checking.made - checking.failed} comparisons hold, {checking.failed} do not")
     return 1 if checking.failed else 0
