@@ -1,16 +1,16 @@
 #!/usr/bin/env python3
 """Times the front end, from bytes to a typed program, on random C text of 1, 2 and 4 MB beside `gcc -fsyntax-only` and `tcc -c`, in the same run: the
-median of several, and whether twice the text takes about twice the time.
+median of several, in processor seconds, and whether twice the text takes about twice the time.
 
 The text is that of csmith's programs one after another, with names of their own. Such a text has more nodes than a program may have, so the front end
 refuses it at its very end, when all has been typed and joined. `--stand-in` leaves the front end out."""
 
 import os
 import re
+import resource
 import statistics
 import sys
 import tempfile
-import time
 
 import checking
 import csmith_programs as programs
@@ -71,20 +71,25 @@ def texts():
 # ---- times
 
 
+def timed(words, folder):
+    """The program's end and the processor seconds that it took with its children."""
+    before = resource.getrusage(resource.RUSAGE_CHILDREN)
+    done = checking.run(words, cwd=folder)
+    after = resource.getrusage(resource.RUSAGE_CHILDREN)
+    return done, after.ru_utime - before.ru_utime + after.ru_stime - before.ru_stime
+
+
 def front_seconds(path):
-    """How long the front end takes for the file, or None where no command has it yet."""
-    begin = time.perf_counter()
-    done = checking.run([LAYC, "compile", "-o", os.devnull, path])
-    seconds = time.perf_counter() - begin
+    """What the front end takes for the file, or None where no command has it yet."""
+    done, seconds = timed([LAYC, "compile", "-o", "text.out", path], os.path.dirname(path))
     return None if b"form not built yet" in done.stderr else seconds
 
 
 def command_seconds(words):
     def seconds(path):
-        begin = time.perf_counter()
-        done = checking.run([*words, path])
+        done, seconds = timed([*words, path], os.path.dirname(path))
         assert done.returncode == 0, done.stderr[:500]
-        return time.perf_counter() - begin
+        return seconds
 
     return seconds
 
@@ -122,7 +127,7 @@ def main():
     timers = {} if "--stand-in" in sys.argv else {"layc": front_seconds}
     timers["gcc -fsyntax-only"] = command_seconds(["gcc", "-std=c99", "-m32", "-funsigned-char", "-w", "-fsyntax-only", "-x", "cpp-output"])
     if checking.have("tcc"):
-        timers["tcc -c"] = command_seconds(["tcc", "-c", "-w", "-o", os.devnull])
+        timers["tcc -c"] = command_seconds(["tcc", "-c", "-w", "-o", "text.o"])
     with tempfile.TemporaryDirectory() as folder:
         paths = []
         for size, text in zip(SIZES, texts()):

@@ -4,7 +4,6 @@ line of its own, and on random programs of csmith, in one file and in several, w
 
 Words: `--stand-in` asks GCC in the place of the front end, to try the script itself; a number says how many random programs are made."""
 
-import os
 import re
 import sys
 import tempfile
@@ -29,7 +28,7 @@ def front_answer(files):
     """What the front end says of the files, given by name: `accepted`, or the refusal's text without `layc: `."""
     with tempfile.TemporaryDirectory() as folder:
         programs.write_files(folder, files)
-        done = checking.run([LAYC, "compile", "-o", os.devnull, *files], cwd=folder)
+        done = checking.run([LAYC, "compile", "-o", "program", *files], cwd=folder)
     if done.returncode == 0:
         return ACCEPTED
     return re.sub(r"^layc: ", "", done.stderr.decode(errors="replace")).rstrip("\n")
@@ -95,6 +94,41 @@ def check_rows(ask, exact):
             print(f"  open: {row.name} ({row.reason}): {ask({'t.c': text})}")
 
 
+# ---- rows on what comes before and after types, as they are
+
+
+OTHER_TEXTS = {
+    "BadByte": "{at}: unexpected byte",
+    "BadLiteral": "{at}: bad literal",
+    "Unclosed": "{at}: not closed",
+    "TooWide": "{at}: literal or name too wide",
+    "NoParse": r"t\.c:\d+: syntax error",
+    "Unsupported": "{at}: keyword {subject} is not supported",
+    "Missing": "no definition of {subject}",
+    "Twice": "{at}: {subject} defined again, first at {first}",
+    "TagClash": "{at}: record {subject} differs from {first}",
+    "NameClash": "{at}: type of {subject} differs from {first}",
+    "NoMain": "no function main",
+    "Limit": r"limit {subject} passed: \d+",
+}
+
+
+def text_wanted(row):
+    """A regular expression for the refusal of a row."""
+    at = f"{row.place_file}:{row.line_of(row.place_file, row.places[0])}" if row.places else ""
+    first = f"{row.first_file}:{row.line_of(row.first_file, row.first)}" if row.first is not None else ""
+    return OTHER_TEXTS[row.answer].format(at=re.escape(at), first=re.escape(first), subject=row.subject)
+
+
+def check_other_rows(ask):
+    for row in checker_rows.every_row():
+        if row.file in ("before_types.txt", "after_types.txt"):
+            answer = ask(dict(row.files))
+            good = answer == ACCEPTED or "form not built yet" in answer or "no function main" in answer if row.answer == "accepted" \
+                else re.fullmatch(text_wanted(row), answer) is not None
+            check(good, f"{row.file} {row.name}: answers {answer!r}, wanted {row.answer}")
+
+
 # ---- random programs
 
 
@@ -146,6 +180,8 @@ def main():
     if not exact and not checking.have("gcc"):
         return 0
     check_rows(ask, exact)
+    if exact:
+        check_other_rows(ask)
     if programs.have_csmith():
         for seed in range(1, count + 1):
             check_whole(ask, seed)

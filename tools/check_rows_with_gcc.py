@@ -10,6 +10,7 @@ import os
 import re
 import subprocess
 import sys
+import tempfile
 
 import checker_rows
 import checking
@@ -39,7 +40,7 @@ def answers_of(text, flags):
     """GCC's errors and warnings, each as its line and what it says. What is declared and never completed GCC finds only where it goes on to
     assembly."""
     errors, warnings = answers_to(text, [*flags, "-fsyntax-only"])
-    return (errors, warnings) if errors else answers_to(text, [*flags, "-S", "-o", os.devnull])
+    return (errors, warnings) if errors else answers_to(text, [*flags, "-S", "-o", "-"])
 
 
 def answers_to(text, flags):
@@ -82,6 +83,26 @@ def check_only_fault(row):
     return sorted({line for line, _ in errors})
 
 
+# ---- rows on what comes before and after types: GCC compiles and links the files as they are
+
+
+def is_program_of_gcc(row):
+    """Whether GCC makes a program of the files, or, where only their tokens and grammar count, takes the file."""
+    with tempfile.TemporaryDirectory() as folder:
+        for name, text in row.files:
+            with open(os.path.join(folder, name), "w") as f:
+                f.write(text)
+        goal = ["-o", "program"] if row.file == "after_types.txt" else ["-fsyntax-only"]
+        words = [*GCC[:-2], *QUIET, *goal, *(name for name, _ in row.files)]
+        return checking.run(words, cwd=folder, seconds=60).returncode == 0
+
+
+def check_other_row(row):
+    taken = is_program_of_gcc(row)
+    wanted = (row.answer == "accepted") != (row.kind == "own")
+    check(taken == wanted, f"{row.file} {row.name}: {row.answer}{' unlike C99' if row.kind else ''}, GCC {'takes' if taken else 'refuses'} it")
+
+
 def show_open(rows):
     for row in rows:
         errors, warnings = answers_of(spread(row.text)[0], QUIET)
@@ -99,7 +120,12 @@ def main():
     settled, unsettled = checker_rows.all_rows()
     elsewhere = []
     for row in settled:
-        check_row(row, elsewhere)
+        if row.file not in ("before_types.txt", "after_types.txt"):
+            check_row(row, elsewhere)
+    others = [row for row in checker_rows.every_row() if row.file in ("before_types.txt", "after_types.txt")]
+    for row in others:
+        check_other_row(row)
+    settled = [row for row in settled if row not in others]
     several = [(row, found) for row in settled if row.answer != "accepted" and not row.kind for found in [check_only_fault(row)] if len(found) > 1]
     print(f"GCC names another line in {len(elsewhere)} rows")
     for each in elsewhere[:SHOWN_ELSEWHERE]:
@@ -108,7 +134,7 @@ def main():
         print(f"  several lines: {row.file} {row.name}: {found}")
     print(f"open rows: {len(unsettled)}")
     show_open(unsettled)
-    print(f"{len(settled)} rows: {checking.made - checking.failed} comparisons agree with GCC, {checking.failed} do not")
+    print(f"{len(settled) + len(others)} rows: {checking.made - checking.failed} comparisons agree with GCC, {checking.failed} do not")
     return 1 if checking.failed else 0
 
 

@@ -4,6 +4,8 @@
 csmith's own header is replaced by `csmith_runtime.h`, and the text is preprocessed, with its line markers. csmith does not keep to the rules of C99
 on pointers to signed and unsigned numbers, so some of its programs are no strict C99; `is_strict` tells by GCC, where `const` has no effect.
 
+What a compiler writes goes to a folder of its own or to standard output, and never to a device: one that runs as root may remove the file that it writes.
+
 As a command, the module tests itself: what it makes prints the checksum of csmith's program under csmith's own headers, compiled as strict C99 where it
 is that; the files of a split program do so too; and GCC refuses each faulty program. Where csmith cannot be had, that is said and skipped."""
 
@@ -90,7 +92,7 @@ def without_const(text):
 def is_strict(text):
     """Whether GCC takes the preprocessed text as strict C99, but for `const`."""
     # what is declared and never completed GCC finds only on its way to assembly
-    goal = ["-S", "-o", os.devnull] if len(text) < SHORT else ["-fsyntax-only"]
+    goal = ["-S", "-o", "-"] if len(text) < SHORT else ["-fsyntax-only"]
     return checking.run([*STRICT, *goal, "-"], input=without_const(text).encode(), seconds=60).returncode == 0
 
 
