@@ -254,6 +254,7 @@ tagged_is s at x t h = by_tag (tag_at s.file.tags x.text x.from) refl h
     numbered h i =
         let n = structure_is at (number_among s.file.numbered x.text) t h in
         (n.0, n.2, number_is s.file.numbered x.text n.0 n.1, i)
+
     by_tag : (o : Option Bool) → tag_at s.file.tags x.text x.from ≡ o → tagged s at x o ≡ Ok t
         → (r : ℕ) × (t ≡ structure r) × IsNumbered s.file x.text r × IsStructTag s x
     by_tag (Some false) e h = numbered h (inl e)
@@ -352,13 +353,13 @@ completed_is f named names r z h =
     let u = unless_ok (repeated [] names) _ z h in
     chosen (is_next (length f.records) (number_among f.numbered r.tag)) _ _ z (IsCompleted f names r z) u.1
     (λ b h. chosen (nat_le (size_of_record f.records r) 16777216) _ _ z (IsCompleted f names r z) h
-      (λ c h. given (IsCompleted f names r) (structure (length f.records), with_record f r) z h (record {
-        different = are_different [] names u.0;
-        numbered = number_is f.numbered r.tag (length f.records) (next_number (length f.records) (number_among f.numbered r.tag) b);
-        ty_is = refl;
-        file_is = refl;
-      }))
-      (λ c h. cc))
+    (λ c h. given (IsCompleted f names r) (structure (length f.records), with_record f r) z h (record {
+      different = are_different [] names u.0;
+      numbered = number_is f.numbered r.tag (length f.records) (next_number (length f.records) (number_among f.numbered r.tag) b);
+      ty_is = refl;
+      file_is = refl;
+    }))
+    (λ c h. cc))
     (λ b h. cc)
 
 -- ---- enumerators (6.7.2.2)

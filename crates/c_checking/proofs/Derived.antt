@@ -30,8 +30,8 @@ small_is : (records : List Record) (at : ℕ) (t u : CType) → small records at
 small_is records at t u h =
     chosen (is_small records t) _ _ u (IsSmall records t × (t ≡ u)) h
     (λ b h. let p = and_parts (nat_le (size_of records t) 16777216) (nat_le (parts t) 1024) b in
-      given (λ u. IsSmall records t × (t ≡ u)) t u h
-      (record { bytes = at_most (size_of records t) 16777216 p.0; parts = at_most (parts t) 1024 p.1 }, refl))
+    given (λ u. IsSmall records t × (t ≡ u)) t u h
+    (record { bytes = at_most (size_of records t) 16777216 p.0; parts = at_most (parts t) 1024 p.1 }, refl))
     (λ b h. cc)
 
 element_is : (records : List Record) (count at : ℕ) (t u : CType) → element records count at t ≡ Ok u
@@ -89,16 +89,16 @@ module _ (records all more : List Record) (is : all ≡ records ++ more) (shape 
   open_derived count at (step ∷ steps) t h = cc
 
   pub function_derived : (at : ℕ) (types : CTypes) (steps : List Derivation) (t : CType) → derived records (to_function at types ∷ steps) t ≡ Ok shape
-      → ((is_scalar t ≡ true) ⊎ (t ≡ void)) × IsSmall all (function t types) × (derived records steps (function t types) ≡ Ok shape)
+      → ((is_scalar t ≡ true) ⊎ (t ≡ void)) × IsSmall all (pointer (function t types)) × (derived records steps (function t types) ≡ Ok shape)
   unfolding derived
   function_derived at types steps t h =
       let r = bound_ok (result_type at t) _ shape h in
       let c = result_is at t r.0 r.1 in
-      let g : (small records at (function t types) >>= λ u. derived records steps u) ≡ Ok shape =
-      subst (λ r. (small records at (function r types) >>= λ u. derived records steps u) ≡ Ok shape) (sym c.1) r.2 in
-      let u = bound_ok (small records at (function t types)) _ shape g in
-      let b = small_is records at (function t types) u.0 u.1 in
-      (c.0, record { bytes = b.0.bytes; parts = b.0.parts }, subst (λ u. derived records steps u ≡ Ok shape) (sym b.1) u.2)
+      let g : (small records at (pointer (function t types)) >>= λ u. derived records steps (function t types)) ≡ Ok shape =
+      subst (λ r. (small records at (pointer (function r types)) >>= λ u. derived records steps (function r types)) ≡ Ok shape) (sym c.1) r.2 in
+      let u = bound_ok (small records at (pointer (function t types))) _ shape g in
+      let b = small_is records at (pointer (function t types)) u.0 u.1 in
+      (c.0, record { bytes = b.0.bytes; parts = b.0.parts }, u.2)
 
 pub none_derived : (records : List Record) (t : CType) (shape : Shape) → derived records [] t ≡ Ok shape → shape ≡ closed t
 unfolding derived
@@ -154,10 +154,12 @@ base_is specs at f one z h = by_types (types_among specs) refl h
         → IsBaseOf specs f one z
     by_words_alone e None n h = cc
     by_words_alone e (Some t) n h = given (IsBaseOf specs f one) (t, f) z h (inl (e, n, refl))
+
     by_test : (x : Trees.Specifier) → types_among specs ≡ x ∷ [] → (b : Bool) → same_words (words_of specs) no_words ≡ b
         → base_type (cond b by_one no_type) at f one ≡ Ok z → IsBaseOf specs f one z
     by_test x e true n h = inr (x, e, words_are (words_of specs) no_words n, h)
     by_test x e false n h = cc
+
     by_types : (all : List Trees.Specifier) → types_among specs ≡ all → base_type (base_among all specs) at f one ≡ Ok z → IsBaseOf specs f one z
     by_types [] e h = by_words_alone e (named_by (words_of specs)) refl h
     by_types (x ∷ []) e h = by_test x e (same_words (words_of specs) no_words) refl h

@@ -111,9 +111,9 @@ module _ (untagged : ℕ → List ℕ) where
       concluded s (Trees.name x) s.file (nothing_grown s.file s.is_inside)
       (λ ends file. named_in (record { file = file; at = x.from }) x.text (Some y)) z h
       (λ g p h.
-        let f = fit_stay p s.locals y (named_fits s x.text x.from y r.names_fit r.blocks_fit e) in
-        let m = named_made (moved s g) x.from x.text y f z.0 h in
-        ((y, named_stays s g p x.text x.from y e, m.0), m.1, m.2))
+      let f = fit_stay p s.locals y (named_fits s x.text x.from y r.names_fit r.blocks_fit e) in
+      let m = named_made (moved s g) x.from x.text y f z.0 h in
+      ((y, named_stays s g p x.text x.from y e, m.0), m.1, m.2))
 
   pub name_found : (s : Scope) (x : Spelling) → Ready s [] → (z : Thing × FileScope)
       → with_file s.file (named_in (place_in s x.from) x.text (named s x.text x.from)) ≡ Ok z → Found s (Trees.name x) z
@@ -162,7 +162,7 @@ module _ (untagged : ℕ → List ℕ) where
           concluded s (Trees.index a left b right) i.0.1 (then v.grew w.grew)
           (λ ends file. element_in left (record { file = file; at = first a }) p i.0.0) z i.2
           (λ g q h. element_made (Erases a (moved s g)) (Erases b (moved s g)) (moved s g) (first a) left x.0 p (v.holds g (further w.grew.extends q)) e
-            i.0.0 (w.holds g q) z.0 h)
+          i.0.0 (w.holds g q) z.0 h)
       by_array None e h =
           let y = bound_with x.1 (worth (first a) x.0) _ z h in
           let i = bound_ok (value_at (first b) (number x.1)) _ z y.2 in
@@ -170,15 +170,15 @@ module _ (untagged : ℕ → List ℕ) where
           concluded s (Trees.index a left b right) i.0.1 (then v.grew w.grew)
           (λ ends file. index_in (ended ends (first a)) left (record { file = file; at = first a }) y.0 i.0.0) z i.2
           (λ g q h.
-            let u = worth_made (Erases a (moved s g)) (moved s g) (first a) x.0 (v.holds g (further w.grew.extends q)) y.0 y.1 in
-            index_made (Erases a (moved s g)) (Erases b (moved s g)) (moved s g) (first a) left y.0 i.0.0 u.0 (u.1 e) (w.holds g q) z.0 h)
+          let u = worth_made (Erases a (moved s g)) (moved s g) (first a) x.0 (v.holds g (further w.grew.extends q)) y.0 y.1 in
+          index_made (Erases a (moved s g)) (Erases b (moved s g)) (moved s g) (first a) left y.0 i.0.0 u.0 (u.1 e) (w.holds g q) z.0 h)
 
   pub dot_found : (s : Scope) (a : Trees.Expression) (at : ℕ) (x : Spelling) (p : Thing × FileScope) → Found s a p → (z : Thing × FileScope)
       → with_file p.1 (dot_in p.1.records (complete s at) x.from (place_in s (first a)) p.0 x.text) ≡ Ok z → Found s (Trees.dot a at x) z
   dot_found s a at x p v z h =
       concluded s (Trees.dot a at x) p.1 v.grew (λ ends file. dot_in p.1.records (ended ends at) x.from (record { file = file; at = first a }) p.0 x.text) z h
       (λ g q h. dot_made p.1.records (moved s g) (record_stays q) (Erases a (moved s g)) (complete (moved s g) at) x.from (place_in (moved s g) (first a)) p.0
-        (v.holds g q) x.text z.0 h)
+      (v.holds g q) x.text z.0 h)
 
   pub arrow_found : (s : Scope) (a : Trees.Expression) (at : ℕ) (x : Spelling) (e : Expression × FileScope) → FoundValue s a e → (z : Thing × FileScope)
       → with_file e.1 (arrow_in e.1.records (complete s (first a)) x.from (place_in s (first a)) e.0 x.text) ≡ Ok z → Found s (Trees.arrow a at x) z
@@ -195,10 +195,10 @@ module _ (untagged : ℕ → List ℕ) where
   call_found s f left all right x v t k xs w z h =
       concluded s (Trees.call f left all right) xs.1 (then v.grew w.grew) (λ ends file. call_in (record { file = file; at = first f }) x.0 t.1 xs.0) z h
       (λ g q h.
-        let y = w.holds g q in
-        let m = call_made (Erases f (moved s g)) (moved s g) (place_in (moved s g) (first f)) t.1 t.0 xs.0 y.1 x.0 (v.holds g (further w.grew.extends q))
-          (signature_is (first f) x.0 t k) z.0 h in
-        ((m.0.0, m.0.1, xs.0, m.0.2, m.0.3, y.0, m.0.4, m.0.5), m.1, m.2))
+      let y = w.holds g q in
+      let m = call_made (Erases f (moved s g)) (moved s g) (place_in (moved s g) (first f)) t.1 t.0 xs.0 y.1 x.0 (v.holds g (further w.grew.extends q))
+      (signature_is (first f) x.0 t k) z.0 h in
+      ((m.0.0, m.0.1, xs.0, m.0.2, m.0.3, y.0, m.0.4, m.0.5), m.1, m.2))
 
   pub no_arguments_found : (s : Scope) (z : Typed.Expressions Noted × FileScope) → ok (Typed.no_expressions, s.file) ≡ Ok z
       → FoundAll s no_types Trees.no_arguments z
@@ -317,9 +317,9 @@ module _ (untagged : ℕ → List ℕ) where
   cast_found s left n right a t v x w z h =
       concluded s (Trees.cast left n right a) x.1 (then v.grew w.grew) (λ ends file. cast_in (record { file = file; at = left }) t.0 x.0) z h
       (λ g q h.
-        let m = cast_made (Erases a (moved s g)) (moved s g) (place_in (moved s g) left) t.0 x.0 (w.holds g q) z.0 h in
-        let u = v.holds g (further w.grew.extends q) in
-        ((t.0, m.0.0, u.0, u.1, m.0.1, m.0.2), m.1, m.2))
+      let m = cast_made (Erases a (moved s g)) (moved s g) (place_in (moved s g) left) t.0 x.0 (w.holds g q) z.0 h in
+      let u = v.holds g (further w.grew.extends q) in
+      ((t.0, m.0.0, u.0, u.1, m.0.1, m.0.2), m.1, m.2))
 
   -- ---- binary operators, `?:`, assignments and the comma (6.5.5 to 6.5.17)
 
@@ -330,7 +330,7 @@ module _ (untagged : ℕ → List ℕ) where
       concluded s (Trees.binary a op at b) y.1 (then v.grew w.grew)
       (λ ends file. binary_in (ended ends (first a)) at (record { file = file; at = first a }) (kind_of op) x.0 y.0) z h
       (λ g q h. binary_made (Erases a (moved s g)) (Erases b (moved s g)) (moved s g) (first a) at (kind_of op) x.0 y.0
-        (v.holds g (further w.grew.extends q)) (w.holds g q) z.0 h)
+      (v.holds g (further w.grew.extends q)) (w.holds g q) z.0 h)
 
   pub comma_found : (s : Scope) (a : Trees.Expression) (at : ℕ) (b : Trees.Expression) (x : Expression × FileScope) → FoundValue s a x
       → (y : Expression × FileScope) → FoundValue (moved s x.1) b y → (z : Thing × FileScope) → with_file y.1 (comma_in (place_in s (first a)) x.0 y.0) ≡ Ok z
@@ -346,11 +346,13 @@ module _ (untagged : ℕ → List ℕ) where
       let y = bound_ok r _ x h in
       let w = with_file_ok y.0.1 (tested question y.0.0) x y.2 in
       let t = tested_is question y.0.0 x.0 w.0 in
-      let v = sound y.0 y.1 in
-      (record {
-        grew = subst (λ f. Grew s (marks untagged a) f) w.1 v.grew;
-        holds = λ g e. subst (λ x. IsValue (Erases a (moved s g)) (moved s g) x) t.1 (v.holds g (subst (λ f. Extends f g) (sym w.1) e));
-      }, subst (λ x. is_scalar (type_of x) ≡ true) t.1 t.0)
+      let v = sound y.0 y.1 in (
+        record {
+          grew = subst (λ f. Grew s (marks untagged a) f) w.1 v.grew;
+          holds = λ g e. subst (λ x. IsValue (Erases a (moved s g)) (moved s g) x) t.1 (v.holds g (subst (λ f. Extends f g) (sym w.1) e));
+        },
+        subst (λ x. is_scalar (type_of x) ≡ true) t.1 t.0,
+      )
 
   pub choice_found : (s : Scope) (a : Trees.Expression) (question : ℕ) (b : Trees.Expression) (colon : ℕ) (c : Trees.Expression) (x : Expression × FileScope)
       → FoundValue s a x × (is_scalar (type_of x.0) ≡ true) → (y : Expression × FileScope) → FoundValue (moved s x.1) b y
@@ -360,9 +362,9 @@ module _ (untagged : ℕ → List ℕ) where
       concluded s (Trees.cond a question b colon c) u.1 (then (then v.0.grew w.grew) k.grew)
       (λ ends file. chosen_in colon (record { file = file; at = first a }) x.0 y.0 u.0) z h
       (λ g q h.
-        let e = further k.grew.extends q in
-        chosen_made (Erases a (moved s g)) (Erases b (moved s g)) (Erases c (moved s g)) (moved s g) (place_in (moved s g) (first a)) colon x.0 y.0 u.0
-        (v.0.holds g (further w.grew.extends e)) v.1 (w.holds g e) (k.holds g q) z.0 h)
+      let e = further k.grew.extends q in
+      chosen_made (Erases a (moved s g)) (Erases b (moved s g)) (Erases c (moved s g)) (moved s g) (place_in (moved s g) (first a)) colon x.0 y.0 u.0
+      (v.0.holds g (further w.grew.extends e)) v.1 (w.holds g e) (k.holds g q) z.0 h)
 
   pub assign_found : (s : Scope) (a : Trees.Expression) (op : AssignOp) (at : ℕ) (b : Trees.Expression) (p : Thing × FileScope) → Found s a p
       → (t : Target) → target_in (first a) p.0 ≡ Ok t → (right : FileScope → Checked Thing) → Later s p.1 b (right p.1) → (z : Thing × FileScope)
@@ -371,6 +373,7 @@ module _ (untagged : ℕ → List ℕ) where
     where
       object : (g : FileScope) → Extends p.1 g → Stands (Erases a (moved s g)) (moved s g) (an_object (path_of t))
       object g e = subst (Stands (Erases a (moved s g)) (moved s g)) (target_made (Erases a s) (Erases a s) s 0 (first a) p.0 t k) (v.holds g e)
+
       by_parts : (t : Target) (o : Option TypedBinary.BinaryOp) → update_of op ≡ o
           → ((g : FileScope) → Extends p.1 g → Stands (Erases a (moved s g)) (moved s g) (an_object (path_of t)))
           → IsTarget (Erases a s) (Erases a s) s 0 t
@@ -381,24 +384,24 @@ module _ (untagged : ℕ → List ℕ) where
           concluded s (Trees.assign a op at b) x.0.1 (then v.grew w.grew)
           (λ ends file. updated_in (ended ends (first a)) at (record { file = file; at = first a }) update (path_of t) x.0.0) z x.2
           (λ g q h.
-            let m = updated_made (Erases a (moved s g)) (Erases b (moved s g)) (moved s g) (first a) at update (path_of t)
-              (object g (further w.grew.extends q)) x.0.0 (w.holds g q) z.0 h in
-            (inr (inr (m.0.0, m.0.1, m.0.2, update, e, m.0.3, m.0.4, m.0.5)), m.1, m.2))
+          let m = updated_made (Erases a (moved s g)) (Erases b (moved s g)) (moved s g) (first a) at update (path_of t)
+          (object g (further w.grew.extends q)) x.0.0 (w.holds g q) z.0 h in
+          (inr (inr (m.0.0, m.0.1, m.0.2, update, e, m.0.3, m.0.4, m.0.5)), m.1, m.2))
       by_parts (scalar_at to) None e object i h =
           let x = bound_ok (value_at (first b) (right p.1)) _ z h in
           let w = valued b (moved s p.1) (first b) (right p.1) later x.0 x.1 in
           concluded s (Trees.assign a op at b) x.0.1 (then v.grew w.grew)
           (λ ends file. assigned_in at (record { file = file; at = first a }) to x.0.0) z x.2
           (λ g q h.
-            let m = assigned_made (Erases a (moved s g)) (Erases b (moved s g)) (moved s g) (first a) at to
-              (object g (further w.grew.extends q)) i x.0.0 (w.holds g q) z.0 h in
-            (inl (m.0.0, m.0.1, m.0.2, e, m.0.3, m.0.4, m.0.5), m.1, m.2))
+          let m = assigned_made (Erases a (moved s g)) (Erases b (moved s g)) (moved s g) (first a) at to
+          (object g (further w.grew.extends q)) i x.0.0 (w.holds g q) z.0 h in
+          (inl (m.0.0, m.0.1, m.0.2, e, m.0.3, m.0.4, m.0.5), m.1, m.2))
       by_parts (record_at to) None e object i h =
           let x = bound_ok (right p.1) _ z h in
           let w = later x.0 x.1 in
           concluded s (Trees.assign a op at b) x.0.1 (then v.grew w.grew)
           (λ ends file. copied_in at (record { file = file; at = first a }) to x.0.0) z x.2
           (λ g q h.
-            let m = copied_made (Erases a (moved s g)) (Erases b (moved s g)) (moved s g) (first a) at to
-              (object g (further w.grew.extends q)) i.0 i.1 x.0.0 (w.holds g q) z.0 h in
-            (inr (inl (m.0.0, m.0.1, m.0.2, e, m.0.3, m.0.4, m.0.5)), m.1, m.2))
+          let m = copied_made (Erases a (moved s g)) (Erases b (moved s g)) (moved s g) (first a) at to
+          (object g (further w.grew.extends q)) i.0 i.1 x.0.0 (w.holds g q) z.0 h in
+          (inr (inl (m.0.0, m.0.1, m.0.2, e, m.0.3, m.0.4, m.0.5)), m.1, m.2))

@@ -208,8 +208,17 @@ module _ (untagged : ℕ → List ℕ) where
             let q = further u.extends p in
             let y = v.holds g (before_mention s f g n Named t at q) in
             let m = is_mentioned s f g n Named t at q in
-            let l = parameter_listed (moved s (with_mention s n Named t at f)) (declared_name d) t g more rest.0 (w.holds g p) in
-            (v.base, v.shape, rest.0, ap (λ t. and_type t rest.0) v.ty_is, v.storage, y.0, y.1, subst (λ t. is_scalar t ≡ true) v.ty_is v.is_scalar, v.is_new,
-             subst (λ t. IsMentioned (moved s g) Named t at) v.ty_is m,
-             subst (λ t. AreListed (with_parameter_if_named (moved s g) (declared_name d) t) more rest.0) v.ty_is l);
+            let l = parameter_listed (moved s (with_mention s n Named t at f)) (declared_name d) t g more rest.0 (w.holds g p) in (
+              v.base,
+              v.shape,
+              rest.0,
+              ap (λ t. and_type t rest.0) v.ty_is,
+              v.storage,
+              y.0,
+              y.1,
+              subst (λ t. is_scalar t ≡ true) v.ty_is v.is_scalar,
+              v.is_new,
+              subst (λ t. IsMentioned (moved s g) Named t at) v.ty_is m,
+              subst (λ t. AreListed (with_parameter_if_named (moved s g) (declared_name d) t) more rest.0) v.ty_is l,
+            );
       })

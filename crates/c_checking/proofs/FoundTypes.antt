@@ -121,6 +121,7 @@ module _ (untagged : ℕ → List ℕ) where
     where
       nothing : (b : Bool) → marks_of_specifiers untagged specs ≡ [] → added b (marks_of_specifiers untagged specs) ≡ 0
       nothing b e = rw e (added_none b)
+
       by_way : IsBaseOf specs s.file one z → FoundBase s specs z
       by_way (inl w) = record {
         grew = subst (λ f. Grew s (marks_of_specifiers untagged specs) f) w.2
@@ -222,15 +223,19 @@ module _ (untagged : ℕ → List ℕ) where
             let q : Extends (with_record m.1 rec) g = subst (λ f. Extends f g) c.file_is p in
             let k : Extends m.1 g = further (record_grown m.1 rec) q in
             let e : Extends s.file g = further v.grew.extends k in
-            let t = tag_text_same s g e at x in
-            (length m.1.records, rec, i, c.ty_is,
-             rw (k.numbered, t) c.numbered,
-             record_stays q (length m.1.records) rec (at_end m.1.records rec),
-             subst (λ ends. slice_get ends (length m.1.records) ≡ Some right_at) (sym k.ends) ended,
-             sym t,
-             ap (λ file. record { file = file; at = at }) (sym e.file),
-             v.holds g k,
-             subst AreDifferent (sym v.names) c.different);
+            let t = tag_text_same s g e at x in (
+              length m.1.records,
+              rec,
+              i,
+              c.ty_is,
+              rw (k.numbered, t) c.numbered,
+              record_stays q (length m.1.records) rec (at_end m.1.records rec),
+              subst (λ ends. slice_get ends (length m.1.records) ≡ Some right_at) (sym k.ends) ended,
+              sym t,
+              ap (λ file. record { file = file; at = at }) (sym e.file),
+              v.holds g k,
+              subst AreDifferent (sym v.names) c.different,
+            );
       }
 
   an_enumeration_grown : (f : FileScope) (b : Bool) (x : Option Spelling) (end : ℕ) → IsGrown f b (Marks.an_enumeration untagged x end) f
@@ -356,15 +361,17 @@ module _ (untagged : ℕ → List ℕ) where
       → object_at steps.1.records (complete s (first_declarator d semicolon)) (first_declarator d semicolon) t ≡ Ok u
       → (r : Checked (List Field))
       → ((rest : List Field × FileScope) → r ≡ Ok rest
-        → FoundMembers (moved s (with_field s (mentions_in s.file) u (first_declarator d semicolon) steps.1)) base more semicolon rest)
+      → FoundMembers (moved s (with_field s (mentions_in s.file) u (first_declarator d semicolon) steps.1)) base more semicolon rest)
       → (z : List Field × FileScope) → with_member (place_in s (first_declarator d semicolon)) u (declared_name d) r ≡ Ok z
       → FoundMembers s base (Trees.and_member_declarator comma d more) semicolon z
   member_found s base comma d more semicolon steps v t u k j r sound z h = by_name (declared_name d) refl h
     where
       at : ℕ
       at = first_declarator d semicolon
+
       o : (is_object (complete s (first_declarator d semicolon)) t ≡ true) × (t ≡ u)
       o = object_is steps.1.records (complete s (first_declarator d semicolon)) (first_declarator d semicolon) t u j
+
       by_name : (x : Option Spelling) → declared_name d ≡ x → with_member (place_in s (first_declarator d semicolon)) u x r ≡ Ok z
           → FoundMembers s base (Trees.and_member_declarator comma d more) semicolon z
       by_name None e h = cc
@@ -380,11 +387,17 @@ module _ (untagged : ℕ → List ℕ) where
                 let l = before_mention s steps.1 g n Named u at q in
                 let f : Extends s.file g = further v.grew.extends l in
                 let c = constants_stay f (λ ends file. is_object (ended ends at) t ≡ true) o.0 in
-                let y = v.holds g l steps.1.records l.records.0 l.records.1 base (closed t) (type_derived at steps.1 steps.0 base t k) in
-                (x, u, rest.0.0, e, subst (λ t. Declares (moved s g) d base (closed t)) o.1 y, subst (λ t. is_object (ended g.ends at) t ≡ true) o.1 c,
-                 is_mentioned s steps.1 g n Named u at q,
-                 ap (λ file. record { name = x.text; ty = u; place = record { file = file; at = at } } ∷ rest.0.0) (sym f.file),
-                 w.holds g p);
+                let y = v.holds g l steps.1.records l.records.0 l.records.1 base (closed t) (type_derived at steps.1 steps.0 base t k) in (
+                  x,
+                  u,
+                  rest.0.0,
+                  e,
+                  subst (λ t. Declares (moved s g) d base (closed t)) o.1 y,
+                  subst (λ t. is_object (ended g.ends at) t ≡ true) o.1 c,
+                  is_mentioned s steps.1 g n Named u at q,
+                  ap (λ file. record { name = x.text; ty = u; place = record { file = file; at = at } } ∷ rest.0.0) (sym f.file),
+                  w.holds g p,
+                );
           })
 
   -- ---- type names (6.7.6)

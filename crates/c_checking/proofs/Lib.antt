@@ -1,3 +1,5 @@
+mod Examples
+mod LongerExamples
 pub mod Results
 pub mod Extends
 pub mod Agreement

@@ -1,11 +1,12 @@
 -- Each node of one operand, and of none: it stands for its part of the text and is well typed (C99 6.5.1 to 6.5.4).
-use Rattle.std.proofs.Common.{◌≡◌, ℕ, Bool, true, false, refl, sym, ap, ◌∙◌, inl, inr, List}
-use Rattle.std.specs.Prelude.{Some, Ok}
+use Rattle.std.proofs.Common.{◌≡◌, ℕ, ◌≤◌, Bool, true, false, refl, sym, ap, ◌∙◌, inl, inr, List, arith}
+use Rattle.std.specs.Prelude.{Some, Ok, nat_lt}
+use Rattle.std.proofs.lemmas.Bool.Decides.{nat_tests}
 use Rattle.lay_base.specs.declared.place.Place.{Place}
 use Rattle.c_types.specs.declared.ty.IntKind.{IntKind}
 use Rattle.c_types.specs.declared.ty.IntKind.TheVariants.{Int}
 use Rattle.c_types.specs.Types.{CType, void, integer, pointer, array, function, structure}
-use Rattle.c_types.specs.Objects.{is_object}
+use Rattle.c_types.specs.Objects.{is_object, parts}
 use Rattle.c_typed.specs.declared.operators.UnaryOp.{UnaryOp}
 use Rattle.c_typed.specs.declared.operators.StepOp.{StepOp}
 use Rattle.c_typed.specs.Trees as Typed
@@ -124,12 +125,14 @@ deref_made Is s at x v th h = by_type (type_of x) refl h
     by_type (structure r) e h = cc
     by_type (pointer t) e h =
         chosen (is_function t) _ _ th (Stands (IsDeref Is (place_in s at)) s th) h
-        (λ b h. given (Stands (IsDeref Is (place_in s at)) s) _ th h
-          ((x, inr (t, e, b, unconverted_same x v.2, refl), v.0), (v.1, (t, e, b)),
-           (v.2, λ count p. let f : is_object count t ≡ true = ap (points_to_object count) (sym e) ∙ p in let g = function_no_object count t b in cc)))
+        (λ b h. given (Stands (IsDeref Is (place_in s at)) s) _ th h (
+          (x, inr (t, e, b, unconverted_same x v.2, refl), v.0),
+          (v.1, (t, e, b)),
+          (v.2, λ count p. let f : is_object count t ≡ true = ap (points_to_object count) (sym e) ∙ p in let g = function_no_object count t b in cc),
+        ))
         (λ b h. let o = only_if (is_object (complete s at) t) _ _ _ th h in
-          given (Stands (IsDeref Is (place_in s at)) s) _ th o.1
-          ((x, inl (t, b, refl), v.0), (v.1, v.2, ap pointed (type_same x ∙ e), o.0), tt))
+        given (Stands (IsDeref Is (place_in s at)) s) _ th o.1
+        ((x, inl (t, b, refl), v.0), (v.1, v.2, ap pointed (type_same x ∙ e), o.0), tt))
 
 abbrev IsAddressOf : (Thing → Type 0) → Place → Thing → Type 0
 IsAddressOf Is at th = (operand : Thing) × IsAddress at operand th × Is operand
@@ -138,8 +141,11 @@ pub address_made : (Is : Thing → Type 0) (s : Scope) (from : ℕ) (at : Place)
     → Stands (IsAddressOf Is at) s th
 unfolding address_in
 address_made Is s from at (an_object p) v th h =
+    chosen (nat_lt (parts (type_of_path p)) 1024) _ _ th (Stands (IsAddressOf Is at) s th) h
+    (λ b h. let few : parts (pointer (type_of_path p)) ≤ 1024 = grind (arith, nat_tests, b) in
     given (Stands (IsAddressOf Is at) s) _ th h
-    ((an_object p, (pointer (type_of_path p), refl), v.0), (v.1, ap pointer (sym (path_type_same p))), (refl, λ count p. refl))
+    ((an_object p, (pointer (type_of_path p), few, refl), v.0), (v.1, ap pointer (sym (path_type_same p))), (refl, λ count p. refl)))
+    (λ b h. cc)
 address_made Is s from at (a_function f_at f t) v th h =
     given (Stands (IsAddressOf Is at) s) _ th h ((a_function f_at f t, refl, v.0), (t, v.1, refl), (refl, λ count p. refl))
 address_made Is s from at (a_function_at e) v th h =

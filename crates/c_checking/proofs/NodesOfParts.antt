@@ -71,6 +71,7 @@ module _ (records : List Record) (s : Scope) (stay : (k : ℕ) (r : Record) → 
     where
       b : (is_object count (structure r) ≡ true) × (member_to named at p r (field_in (slice_get records r) x) ≡ Ok th)
       b = only_if (is_object count (structure r)) _ _ _ th h
+
       by_field : (rec : Record) → slice_get records r ≡ Some rec → (o : Option (ℕ × CType)) → field_from 0 rec.fields x ≡ o
           → member_to named at p r o ≡ Ok th → IsMember count at p (structure r) x th
       by_field rec e None f h = cc
@@ -89,6 +90,7 @@ module _ (records : List Record) (s : Scope) (stay : (k : ℕ) (r : Record) → 
             typed = ap (λ o. type_in o z.0) there ∙ ap (λ o. option_map (λ (f : Field). f.ty) o) g ∙ ap Some w.5;
             is = refl;
           })
+
       by_record : (o : Option Record) → slice_get records r ≡ o → member_to named at p r (field_in o x) ≡ Ok th → IsMember count at p (structure r) x th
       by_record None e h = cc
       by_record (Some rec) e h = by_field rec e (field_from 0 rec.fields x) refl h
@@ -235,7 +237,7 @@ sized_is records count at t u h =
     let c = complete_is records count t b.0 in
     chosen (nat_le (size_of records t) 16777216) _ _ u (IsSized records count u × (t ≡ u)) b.1
     (λ l h. given (λ u. IsSized records count u × (t ≡ u)) t u h
-      (record { is_complete = c.0; is_known = c.1; is_limited = limited (size_of records t) l }, refl))
+    (record { is_complete = c.0; is_known = c.1; is_limited = limited (size_of records t) l }, refl))
     (λ l h. cc)
   where
     limited : (n : ℕ) → nat_le n 16777216 ≡ true → n ≤ 16777216
@@ -254,6 +256,8 @@ pub size_made : (s : Scope) (records more : List Record) → s.file.records ≡ 
     → IsMentioned s Sizeof t at → Stands (IsSize s at by t) s (size_node records (place_in s at) t)
 size_made s records more e at by t z m =
     let n : size_of s.file.records t ≡ size_of records t = ap (λ all. size_of all t) e ∙ (layouts_stay records more).sizes t z.is_known in
-    let l : size_of records t % 2 ^ 32 ≡ size_of records t = omega (arith, z.is_limited) in
-    ((z.is_complete, m, ap (λ n. a_value (Typed.expression (record { ty = integer UInt; note = sized t at }) (place_in s at) (Typed.constant n))) (sym n)),
-     (UInt, refl, l), (refl, λ count p. cc))
+    let l : size_of records t % 2 ^ 32 ≡ size_of records t = omega (arith, z.is_limited) in (
+      (z.is_complete, m, ap (λ n. a_value (Typed.expression (record { ty = integer UInt; note = sized t at }) (place_in s at) (Typed.constant n))) (sym n)),
+      (UInt, refl, l),
+      (refl, λ count p. cc),
+    )

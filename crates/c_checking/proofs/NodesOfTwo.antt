@@ -62,9 +62,11 @@ module _ (Is Js : Thing → Type 0) (s : Scope) (at : ℕ) where
           let h : element_in left there (p, t) i ≡ Ok th = subst (λ a. element_in left there a i ≡ Ok th) (sym q) h in
           let b = only_if (is_integer (type_of i)) _ _ _ th h in
           let o = operand Js s (promoted (type_of i)) i w in
-          given (Stands IsIndexed s) _ th b.1
-          (inl (t, p, promoted_value i, ap is_array e, refl, v.0, o.values),
-           (v.1, o.is_typed, promoted_bare Js s i o b.0, ap element_of (path_type_same p ∙ e)), tt)
+          given (Stands IsIndexed s) _ th b.1 (
+            inl (t, p, promoted_value i, ap is_array e, refl, v.0, o.values),
+            (v.1, o.is_typed, promoted_bare Js s i o b.0, ap element_of (path_type_same p ∙ e)),
+            tt,
+          )
 
   pub index_made : (left : ℕ) (x y : Expression) → IsValue Is s x → IsNoArray x → IsValue Js s y
       → (th : Thing) → index_in (complete s at) left there x y ≡ Ok th → Stands IsIndexed s th
@@ -73,8 +75,8 @@ module _ (Is Js : Thing → Type 0) (s : Scope) (at : ℕ) where
       chosen (points_to_object (complete s at) (type_of x) && is_integer (type_of y)) _ _ th (Stands IsIndexed s th) h
       (λ b h. let b = and_parts (points_to_object (complete s at) (type_of x)) (is_integer (type_of y)) b in forward (type_of x) refl b.0 b.1 h)
       (λ b h. chosen (is_integer (type_of x) && points_to_object (complete s at) (type_of y)) _ _ th (Stands IsIndexed s th) h
-        (λ b h. let b = and_parts (is_integer (type_of x)) (points_to_object (complete s at) (type_of y)) b in backward (type_of y) refl b.0 b.1 h)
-        (λ b h. cc))
+      (λ b h. let b = and_parts (is_integer (type_of x)) (points_to_object (complete s at) (type_of y)) b in backward (type_of y) refl b.0 b.1 h)
+      (λ b h. cc))
     where
       forward : (u : CType) → type_of x ≡ u → points_to_object (complete s at) (type_of x) ≡ true → is_integer (type_of y) ≡ true
           → index_to there x y u ≡ Ok th → Stands IsIndexed s th
@@ -85,9 +87,12 @@ module _ (Is Js : Thing → Type 0) (s : Scope) (at : ℕ) where
       forward (structure r) e b c h = cc
       forward (pointer t) e b c h =
           let o = operand Js s (promoted (type_of y)) y w in
-          given (Stands IsIndexed s) _ th h
-          (inr (inl (t, x, promoted_value y, refl, v.0, o.values)),
-           (v.1, o.is_typed, v.2, n (complete s at) b, promoted_bare Js s y o c, ap pointed (type_same x ∙ e), ap (points_to_object (complete s at)) (sym e) ∙ b), tt)
+          given (Stands IsIndexed s) _ th h (
+            inr (inl (t, x, promoted_value y, refl, v.0, o.values)),
+            (v.1, o.is_typed, v.2, n (complete s at) b, promoted_bare Js s y o c, ap pointed (type_same x ∙ e), ap (points_to_object (complete s at)) (sym e) ∙ b),
+            tt,
+          )
+
       backward : (u : CType) → type_of y ≡ u → is_integer (type_of x) ≡ true → points_to_object (complete s at) (type_of y) ≡ true
           → turned_to there x y u ≡ Ok th → Stands IsIndexed s th
       backward void e b c h = cc
@@ -100,9 +105,11 @@ module _ (Is Js : Thing → Type 0) (s : Scope) (at : ℕ) where
           let p : points_to_object (complete s at) (pointer t) ≡ true = ap (points_to_object (complete s at)) (sym e) ∙ c in
           let i : is_integer (type_of (promoted_value x)) ≡ true =
           ap is_integer (sym (type_same (promoted_value x)) ∙ o.type_is) ∙ promoted_is_integer (type_of x) b in
-          given (Stands IsIndexed s) _ th h
-          (inr (inr (t, pointer t, promoted_value x, y, i, o.values, w.0, refl)),
-           ((o.is_typed, w.1, inr (w.2, rw (type_same y, e, p) (promoted_bare Is s x o b), sym (type_same y ∙ e))), refl, refl, p), tt)
+          given (Stands IsIndexed s) _ th h (
+            inr (inr (t, pointer t, promoted_value x, y, i, o.values, w.0, refl)),
+            ((o.is_typed, w.1, inr (w.2, rw (type_same y, e, p) (promoted_bare Is s x o b), sym (type_same y ∙ e))), refl, refl, p),
+            tt,
+          )
 
   -- ---- binary operators (6.5.5 to 6.5.14)
 
@@ -127,9 +134,11 @@ module _ (Is Js : Thing → Type 0) (s : Scope) (at : ℕ) where
   number_made op x y v w t e th h =
       let o = operand Is s t.0 x v in
       let q = operand Js s t.1 y w in
-      given (Stands (IsBinary (computes op)) s) _ th h
-      ((t.0, converted t.0 x, converted t.1 y, Typed.binary op (converted t.0 x) (converted t.1 y), o.values, q.values, sum_is op _ _, refl),
-       (o.is_typed, q.is_typed, rw (o.bare_type_is, q.bare_type_is, q.type_is) e, o.type_is), (refl, λ count p. refl))
+      given (Stands (IsBinary (computes op)) s) _ th h (
+        (t.0, converted t.0 x, converted t.1 y, Typed.binary op (converted t.0 x) (converted t.1 y), o.values, q.values, sum_is op _ _, refl),
+        (o.is_typed, q.is_typed, rw (o.bare_type_is, q.bare_type_is, q.type_is) e, o.type_is),
+        (refl, λ count p. refl),
+      )
 
   abbrev sign : PointerOp → BinaryOp
   sign P.Add = B.Add
@@ -149,24 +158,30 @@ module _ (Is Js : Thing → Type 0) (s : Scope) (at : ℕ) where
       let q = operand Js s t y w in
       let m : IsMoved (complete s at) (typed x) (typed (converted t y)) (type_of x) =
       (v.2, rw (type_same x, q.bare_type_is, q.type_is) e, sym (type_same x)) in
-      given (Stands (IsBinary (computes (sign op))) s) _ th h
-      ((type_of x, x, converted t y, Typed.pointer_add op x (converted t y), v.0, q.values, pointer_sum_is op _ _, refl),
-       (v.1, q.is_typed, move_is op _ _ _ _ m), (refl, λ count p. refl))
+      given (Stands (IsBinary (computes (sign op))) s) _ th h (
+        (type_of x, x, converted t y, Typed.pointer_add op x (converted t y), v.0, q.values, pointer_sum_is op _ _, refl),
+        (v.1, q.is_typed, move_is op _ _ _ _ m),
+        (refl, λ count p. refl),
+      )
 
   backward_made : (x y : Expression) → IsValue Is s x → IsValue Js s y → (t : CType) → moving (complete s at) (type_of y) (type_of x) ≡ Some t
       → (th : Thing) → backward_node there x y t ≡ Ok th → Stands (IsBinary (computes B.Add)) s th
   backward_made x y v w t e th h =
       let o = operand Is s t x v in
-      given (Stands (IsBinary (computes B.Add)) s) _ th h
-      ((type_of y, converted t x, y, Typed.pointer_add P.Add (converted t x) y, o.values, w.0, inr refl, refl),
-       (o.is_typed, w.1, inr (w.2, rw (type_same y, o.bare_type_is, o.type_is) e, sym (type_same y))), (refl, λ count p. refl))
+      given (Stands (IsBinary (computes B.Add)) s) _ th h (
+        (type_of y, converted t x, y, Typed.pointer_add P.Add (converted t x) y, o.values, w.0, inr refl, refl),
+        (o.is_typed, w.1, inr (w.2, rw (type_same y, o.bare_type_is, o.type_is) e, sym (type_same y))),
+        (refl, λ count p. refl),
+      )
 
   difference_made : (x y : Expression) → IsValue Is s x → IsValue Js s y → differing (complete s at) (type_of x) (type_of y) ≡ true
       → (th : Thing) → ok (a_value (value (integer Int) there (Typed.pointer_difference x y))) ≡ Ok th → Stands (IsBinary (computes B.Subtract)) s th
   difference_made x y v w d th h =
-      given (Stands (IsBinary (computes B.Subtract)) s) _ th h
-      ((integer Int, x, y, Typed.pointer_difference x y, v.0, w.0, inr (inr refl), refl),
-       (v.1, w.1, v.2, w.2, rw (type_same x, type_same y) d, refl), (refl, λ count p. refl))
+      given (Stands (IsBinary (computes B.Subtract)) s) _ th h (
+        (integer Int, x, y, Typed.pointer_difference x y, v.0, w.0, inr (inr refl), refl),
+        (v.1, w.1, v.2, w.2, rw (type_same x, type_same y) d, refl),
+        (refl, λ count p. refl),
+      )
 
   pointers_made : (op_at : ℕ) (op : BinaryOp) (x y : Expression) → IsValue Is s x → IsValue Js s y
       → (th : Thing) → on_pointers (complete s at) op_at there op x y ≡ Ok th → Stands (IsBinary (computes op)) s th
@@ -174,8 +189,8 @@ module _ (Is Js : Thing → Type 0) (s : Scope) (at : ℕ) where
       by_option (moving (complete s at) (type_of x) (type_of y)) _ _ th (Stands (IsBinary (computes B.Add)) s th) h
       (λ t e h. forward_made P.Add x y v w t e th h)
       (λ n h. by_option (moving (complete s at) (type_of y) (type_of x)) _ _ th (Stands (IsBinary (computes B.Add)) s th) h
-        (λ t e h. backward_made x y v w t e th h)
-        (λ n h. cc))
+      (λ t e h. backward_made x y v w t e th h)
+      (λ n h. cc))
   pointers_made op_at B.Subtract x y v w th h =
       by_option (moving (complete s at) (type_of x) (type_of y)) _ _ th (Stands (IsBinary (computes B.Subtract)) s th) h
       (λ t e h. forward_made P.Subtract x y v w t e th h)
@@ -188,12 +203,13 @@ module _ (Is Js : Thing → Type 0) (s : Scope) (at : ℕ) where
   compared_made op_at op x y v w th h =
       by_option (comparing op (type_of x) (null x) (type_of y) (null y)) _ _ th (Stands (IsBinary (compares op)) s th) h
       (λ t e h.
-        let o = operand Is s t x v in
-        let q = operand Js s t y w in
-        given (Stands (IsBinary (compares op)) s) _ th h
-        ((integer Int, converted t x, converted t y, Typed.compare op (converted t x) (converted t y), o.values, q.values, refl, refl),
-         (o.is_typed, q.is_typed, rw (o.bare_type_is, o.null_is, q.bare_type_is, q.null_is, o.type_is) e, rw (o.type_is, q.type_is) refl, refl),
-         (refl, λ count p. refl)))
+      let o = operand Is s t x v in
+      let q = operand Js s t y w in
+      given (Stands (IsBinary (compares op)) s) _ th h (
+        (integer Int, converted t x, converted t y, Typed.compare op (converted t x) (converted t y), o.values, q.values, refl, refl),
+        (o.is_typed, q.is_typed, rw (o.bare_type_is, o.null_is, q.bare_type_is, q.null_is, o.type_is) e, rw (o.type_is, q.type_is) refl, refl),
+        (refl, λ count p. refl),
+      ))
       (λ n h. cc)
 
   abbrev AreTested : Expression → Expression → Type 0
@@ -282,9 +298,11 @@ module _ (Is Js : Thing → Type 0) (s : Scope) (at : ℕ) where
   assigned_made op_at p v i x w th h =
       let b = only_if (assigns (type_of x) (null x) (type_of_path p)) _ _ _ th h in
       let o = operand Js s (type_of_path p) x w in
-      given (Stands IsAssigned s) _ th b.1
-      ((type_of_path p, p, converted (type_of_path p) x, refl, v.0, o.values),
-       (v.1, o.is_typed, i, sym (path_type_same p), (rw (o.bare_type_is, o.null_is) b.0, o.type_is)), (refl, λ count p. refl))
+      given (Stands IsAssigned s) _ th b.1 (
+        (type_of_path p, p, converted (type_of_path p) x, refl, v.0, o.values),
+        (v.1, o.is_typed, i, sym (path_type_same p), (rw (o.bare_type_is, o.null_is) b.0, o.type_is)),
+        (refl, λ count p. refl),
+      )
 
   abbrev pub IsCopied : Thing → Type 0
   IsCopied th = (t : CType) × (p q : Path) × (th ≡ a_value (value t there (Typed.copy_record p q))) × Is (an_object p) × Js (an_object q)
@@ -294,10 +312,11 @@ module _ (Is Js : Thing → Type 0) (s : Scope) (at : ℕ) where
   unfolding copied_in
   copied_made op_at p v r e (an_object q) w th h =
       let b = only_if (same_type (type_of_path q) (type_of_path p)) _ _ _ th h in
-      given (Stands IsCopied s) _ th b.1
-      ((void, p, q, refl, v.0, w.0),
-       (v.1, w.1, refl, path_type_same q ∙ same_is (type_of_path q) (type_of_path p) b.0 ∙ sym (path_type_same p), (r, path_type_same p ∙ e)),
-       (refl, λ count p. refl))
+      given (Stands IsCopied s) _ th b.1 (
+        (void, p, q, refl, v.0, w.0),
+        (v.1, w.1, refl, path_type_same q ∙ same_is (type_of_path q) (type_of_path p) b.0 ∙ sym (path_type_same p), (r, path_type_same p ∙ e)),
+        (refl, λ count p. refl),
+      )
   copied_made op_at p v r e (a_value x) w th h = cc
   copied_made op_at p v r e (a_function f_at f t) w th h = cc
   copied_made op_at p v r e (a_function_at x) w th h = cc
@@ -312,10 +331,12 @@ module _ (Is Js : Thing → Type 0) (s : Scope) (at : ℕ) where
   updated_made op_at op p v x w th h =
       by_option (updating (complete s at) op (type_of_path p) (type_of x)) _ _ th (Stands (IsUpdated op) s th) h
       (λ t e h.
-        let o = operand Js s t x w in
-        given (Stands (IsUpdated op) s) _ th h
-        ((type_of_path p, p, converted t x, refl, v.0, o.values),
-         (v.1, o.is_typed, sym (path_type_same p), rw (o.bare_type_is, o.type_is) e), (refl, λ count p. refl)))
+      let o = operand Js s t x w in
+      given (Stands (IsUpdated op) s) _ th h (
+        (type_of_path p, p, converted t x, refl, v.0, o.values),
+        (v.1, o.is_typed, sym (path_type_same p), rw (o.bare_type_is, o.type_is) e),
+        (refl, λ count p. refl),
+      ))
       (λ n h. cc)
 
 -- ---- `?:` (6.5.15)
@@ -336,10 +357,19 @@ module _ (Is Js Ks : Thing → Type 0) (s : Scope) (at : Place) where
   chosen_made colon x y z v i w u th h =
       by_option (choosing (type_of y) (null y) (type_of z) (null z)) _ _ th (Stands IsChoice s th) h
       (λ t e h.
-        let o = operand Js s t y w in
-        let q = operand Ks s t z u in
-        given (Stands IsChoice s) _ th h
-        ((t, x, converted t y, converted t z, refl, v.0, o.values, q.values),
-         (v.1, o.is_typed, q.is_typed, (v.2, ap is_scalar (type_same x) ∙ i),
-          rw (o.bare_type_is, o.null_is, q.bare_type_is, q.null_is) e, o.type_is, q.type_is), (refl, λ count p. refl)))
+      let o = operand Js s t y w in
+      let q = operand Ks s t z u in
+      given (Stands IsChoice s) _ th h (
+        (t, x, converted t y, converted t z, refl, v.0, o.values, q.values),
+        (
+          v.1,
+          o.is_typed,
+          q.is_typed,
+          (v.2, ap is_scalar (type_same x) ∙ i),
+          rw (o.bare_type_is, o.null_is, q.bare_type_is, q.null_is) e,
+          o.type_is,
+          q.type_is,
+        ),
+        (refl, λ count p. refl),
+      ))
       (λ n h. cc)

@@ -97,7 +97,7 @@ remaining_below true v w r h e =
     let b : ℤ = cast_signed w32 w in
     remainder_below (is_divisible a b) b (int_rem a b) r
     (λ d. let n = not_zero_abs b (and_parts (not (int_eq b (pos 0))) (is_int (int_div a b)) d).0 in
-      abs_below (int_rem a b) (omega (arith, rem_below a b n, signed_abs w))) e
+    abs_below (int_rem a b) (omega (arith, rem_below a b n, signed_abs w))) e
 remaining_below false v w r h e = then_below (not (w == 0)) (v % w) r (λ d. omega (arith, h, mod-le v w)) e
 
 left_below : (v : ℕ) (by : ℤ) (r : ℕ) → shifted_left v by ≡ Some r → IsBelow r

@@ -45,6 +45,7 @@ module _ (untagged : ℕ → List ℕ) where
 
   mutual
     unfolding find arguments type_name one_of specified members member_declarators enumerators enumerator_value derivations array_step parameter_list parameters
+
     pub sound : (a : Trees.Expression) (s : Scope) → IsInRange a → Ready s (marks untagged a) → (z : Thing × FileScope) → find a s ≡ Ok z → Found untagged s a z
     sound (Trees.name x) s n r z h = name_found untagged s x r z h
     sound (Trees.number x v kind) s n r z h = number_found untagged s x v kind n z h
@@ -103,7 +104,7 @@ module _ (untagged : ℕ → List ℕ) where
         let before = left (u ++ marks untagged b) (marks untagged c) r in
         let x = bound_ok (tested_at question (value_at (first a) (find a s))) _ z h in
         let v = tested_found untagged s a question (value_at (first a) (find a s))
-          (λ x k. valued untagged a s (first a) (find a s) (λ y k. sound a s n.0 (left u (marks untagged b) before) y k) x k) x.0 x.1 in
+        (λ x k. valued untagged a s (first a) (find a s) (λ y k. sound a s n.0 (left u (marks untagged b) before) y k) x k) x.0 x.1 in
         let later = right u (marks untagged b) before v.0.grew in
         let y = bound_ok (value_at (first b) (find b (moved s x.0.1))) _ z x.2 in
         let w = valued untagged b (moved s x.0.1) (first b) (find b (moved s x.0.1)) (λ y k. sound b (moved s x.0.1) n.1 later y k) y.0 y.1 in
@@ -180,17 +181,17 @@ module _ (untagged : ℕ → List ℕ) where
     sound_specifier (Trees.struct_body at x from all to) s n r z h =
         chosen s.is_inside _ _ z (FoundSpecifier untagged s (Trees.struct_body at x from all to) z) h (λ i h. cc)
         (λ i h.
-          let u = unless_ok _ _ z h in
-          let m = bound_ok (members all s) _ z u.1 in
-          struct_body_found untagged s at x from all to r i m.0 (sound_members all s n (struct_ready untagged s at x from all to r) m.0 m.1) z m.2)
+        let u = unless_ok _ _ z h in
+        let m = bound_ok (members all s) _ z u.1 in
+        struct_body_found untagged s at x from all to r i m.0 (sound_members all s n (struct_ready untagged s at x from all to r) m.0 m.1) z m.2)
     sound_specifier (Trees.enum_named at x) s n r z h = enum_named_found untagged s at x z h
     sound_specifier (Trees.enum_body at x from all comma to) s n r z h =
         chosen s.is_inside _ _ z (FoundSpecifier untagged s (Trees.enum_body at x from all comma to) z) h (λ i h. cc)
         (λ i h.
-          let f = bound_ok (enumerators all s 0 (after_all comma to)) _ z h in
-          let v = sound_enumerators all s 0 (after_all comma to) (omega arith) n
-            (left (marks_of_enumerators untagged all (after_all comma to)) (an_enumeration untagged x to) r) f.0 f.1 in
-          enum_body_found untagged s at x from all comma to i f.0.1 v z f.2)
+        let f = bound_ok (enumerators all s 0 (after_all comma to)) _ z h in
+        let v = sound_enumerators all s 0 (after_all comma to) (omega arith) n
+        (left (marks_of_enumerators untagged all (after_all comma to)) (an_enumeration untagged x to) r) f.0 f.1 in
+        enum_body_found untagged s at x from all comma to i f.0.1 v z f.2)
 
     pub sound_members : (all : Trees.MemberDeclarations) (s : Scope) → AreMembersInRange all → Ready s (marks_of_members untagged all) → (z : List Field × FileScope)
         → members all s ≡ Ok z → FoundFields untagged s all z
@@ -304,5 +305,5 @@ module _ (untagged : ℕ → List ℕ) where
         let scope = behind_parameter untagged s m (declared_name d) t.1.0 place steps.0.1 in
         let rest = bound_ok (parameters more scope) _ z t.1.2 in
         let o = sound_parameters more scope (parameter_inside (moved s f) (declared_name d) t.1.0 i) n.2
-          (parameter_ready (moved s f) (declared_name d) t.1.0 p.is_scalar i known) rest.0 rest.1 in
+        (parameter_ready (moved s f) (declared_name d) t.1.0 p.is_scalar i known) rest.0 rest.1 in
         parameter_found untagged s comma specs d more m t.1.0 steps.0.1 p rest.0 o z rest.2

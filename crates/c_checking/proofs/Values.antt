@@ -134,8 +134,10 @@ operand Is s t x v = by_test (same_type (type_of x) t) refl
   where
     before : ty (bare (typed x)) ≡ type_of x
     before = ap ty (bare_same x v.2) ∙ type_same x
+
     differs : same_type (type_of x) t ≡ false → t ≢ ty (typed x)
     differs e f = let g = same_self (type_of x) t (sym (type_same x) ∙ sym f) in cc
+
     by_test : (b : Bool) → same_type (type_of x) t ≡ b → IsOperand Is s t x (cond b x (value t (place_of x) (Typed.convert x false)))
     by_test true e = record {
       values = v.0;

@@ -1,6 +1,6 @@
 -- What is made of the parts of an expression once they are found: a typed node, or the rule that is broken (C99 6.5). `count` records are
 -- complete where the node begins.
-use Rattle.std.specs.Prelude.{ℕ, ◌+◌, ◌&&◌, Bool, true, false, if◌then◌else◌, nat_le, List, [], ◌∷◌, length, slice_get}
+use Rattle.std.specs.Prelude.{ℕ, ◌+◌, ◌&&◌, Bool, true, false, nat_le, nat_lt, if◌then◌else◌, List, [], ◌∷◌, length, slice_get}
 use Rattle.std.specs.Prelude.{Option, Some, None, Ok, Err}
 use Rattle.std.specs.Str.{bytes_eq}
 use Rattle.lay_base.specs.declared.place.Place.{Place}
@@ -8,7 +8,7 @@ use Rattle.lay_base.specs.declared.faults.Rule.TheVariants as R
 use Rattle.c_types.specs.declared.ty.IntKind.TheVariants.{Int, UInt}
 use Rattle.c_types.specs.Types.{CType, CTypes, void, integer, pointer, array, function, structure, Field, Record}
 use Rattle.c_types.specs.Layouts.{size_of}
-use Rattle.c_types.specs.Objects.{is_object}
+use Rattle.c_types.specs.Objects.{is_object, parts}
 use Rattle.c_types.specs.Sameness.{same_type}
 use Rattle.c_typed.specs.declared.operators.UnaryOp.{UnaryOp}
 use Rattle.c_typed.specs.declared.operators.StepOp.{StepOp}
@@ -169,7 +169,8 @@ step_in count from op_at at op before (an_object p) =
 step_in count from op_at at op before th = refused R.Lvalue from
 
 unfoldable pub address_in : (from : ℕ) → Place → Thing → Answer Thing
-address_in from at (an_object p) = a_node (pointer (type_of_path p)) at (Typed.address_of p)
+address_in from at (an_object p) =
+    if nat_lt (parts (type_of_path p)) 1024 then a_node (pointer (type_of_path p)) at (Typed.address_of p) else Err (too_big at.at)
 address_in from at (a_function f_at f t) = a_node (pointer t) at (Typed.function_name f)
 address_in from at (a_function_at e) = Ok (a_value e)
 address_in from at (a_value e) = refused R.Lvalue at.at

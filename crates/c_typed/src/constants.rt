@@ -45,7 +45,7 @@ fn truth(test: bool) -> Constant
 }
 
 /// Whether it is a constant of value 0.
-fn is_zero(c: Constant) -> bool
+pub fn is_zero(c: Constant) -> bool
     ensures { result ≡ is_zero (constant_view c) }
 {
     match c {
@@ -55,7 +55,7 @@ fn is_zero(c: Constant) -> bool
 }
 
 /// The value of a unary operator on a constant (C99 6.5.3.3).
-fn unary_constant(op: UnaryOp, c: Constant) -> Constant
+pub fn unary_constant(op: UnaryOp, c: Constant) -> Constant
     ensures { constant_view result ≡ unary_constant op (constant_view c) }
 {
     match c {
@@ -65,7 +65,7 @@ fn unary_constant(op: UnaryOp, c: Constant) -> Constant
 }
 
 /// The value of `!` on a constant (C99 6.5.3.3).
-fn negated(c: Constant) -> Constant
+pub fn negated(c: Constant) -> Constant
     ensures { constant_view result ≡ negated (constant_view c) }
 {
     match c {
@@ -75,7 +75,7 @@ fn negated(c: Constant) -> Constant
 }
 
 /// The value of a binary operator on constants of those kinds (C99 6.5.5 to 6.5.7, 6.5.10 to 6.5.12).
-fn binary_constant(
+pub fn binary_constant(
     op: BinaryOp,
     kind: IntKind,
     c: Constant,
@@ -92,7 +92,7 @@ fn binary_constant(
 }
 
 /// Whether a comparison holds of constants of one kind (C99 6.5.8, 6.5.9).
-fn compared_constants(op: CompareOp, kind: IntKind, c: Constant, d: Constant) -> Constant
+pub fn compared_constants(op: CompareOp, kind: IntKind, c: Constant, d: Constant) -> Constant
     ensures { constant_view result ≡ with_both (constant_view c) (constant_view d) (λ v w. valued (truth (holds op kind v w))) }
 {
     match (c, d) {
@@ -104,7 +104,7 @@ fn compared_constants(op: CompareOp, kind: IntKind, c: Constant, d: Constant) ->
 
 /// The value of `||` where `deciding`, and of `&&` where not (C99 6.5.13, 6.5.14). The right operand is not evaluated where the left
 /// one decides.
-fn decided_by(deciding: bool, c: Constant, d: Constant) -> Constant
+pub fn decided_by(deciding: bool, c: Constant, d: Constant) -> Constant
     ensures { constant_view result ≡ decided_by deciding (constant_view c) (constant_view d) }
 {
     match (c, d) {
@@ -117,7 +117,7 @@ fn decided_by(deciding: bool, c: Constant, d: Constant) -> Constant
 }
 
 /// The value of `?:` (C99 6.5.15). What is not chosen is not evaluated.
-fn chosen(c: Constant, d: Constant, e: Constant) -> Constant
+pub fn chosen(c: Constant, d: Constant, e: Constant) -> Constant
     ensures { constant_view result ≡ chosen (constant_view c) (constant_view d) (constant_view e) }
 {
     match (c, d, e) {
@@ -128,7 +128,7 @@ fn chosen(c: Constant, d: Constant, e: Constant) -> Constant
 }
 
 /// The kind of an integer type, and `int` of any other, or of none.
-fn kind_of(t: Option<&Ty>) -> IntKind
+pub fn kind_of(t: Option<&Ty>) -> IntKind
     ensures { result ≡ kind_of (or_void (option_copied t.entry)) }
 {
     match t {
@@ -138,7 +138,7 @@ fn kind_of(t: Option<&Ty>) -> IntKind
 }
 
 /// A constant converted to a type (C99 6.3.1.3): it is none where that is no integer type.
-fn converted_constant(t: Option<&Ty>, c: Constant) -> Constant
+pub fn converted_constant(t: Option<&Ty>, c: Constant) -> Constant
     ensures { constant_view result ≡ converted_constant (or_void (option_copied t.entry)) (constant_view c) }
 {
     match t {
@@ -151,7 +151,7 @@ fn converted_constant(t: Option<&Ty>, c: Constant) -> Constant
 }
 
 /// Whether a type is `void *`.
-fn is_void_pointer(t: Option<&Ty>) -> bool
+pub fn is_void_pointer(t: Option<&Ty>) -> bool
     ensures { result ≡ is_void_pointer (or_void (option_copied t.entry)) }
 {
     match t {

@@ -4,7 +4,7 @@
 //! checker is said of these programs.
 #![tactic(auto)]
 
-mod constants;
+pub mod constants;
 mod conversions;
 mod expression;
 mod fits;

@@ -1,0 +1,11 @@
+-- What a node for itself stands for.
+use Rattle.c_erasure.specs.Noted
+use Rattle.c_annotated.specs.declared.expression.ExpressionNode.{ExpressionNode, fold-ExpressionNode}
+use Rattle.c_annotated.specs.declared.expression.PathNode.{PathNode, fold-PathNode}
+use Rattle.c_annotated.specs.Views.{node_layer, path_node_layer, expression_layer, path_layer}
+
+abbrev pub node_of : ExpressionNode → Noted.Node
+node_of = fold-ExpressionNode Noted.Node Noted.PathNode Noted.Expression Noted.Path node_layer path_node_layer expression_layer path_layer
+
+abbrev pub path_node_of : PathNode → Noted.PathNode
+path_node_of = fold-PathNode Noted.Node Noted.PathNode Noted.Expression Noted.Path node_layer path_node_layer expression_layer path_layer

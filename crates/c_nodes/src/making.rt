@@ -1,0 +1,133 @@
+//! Nodes as they are made, and the values of what stands there.
+
+ghost use Rattle.std.specs.Prelude.{◌≡◌, IfOk};
+ghost use Rattle.std.specs.Option.{option_map};
+ghost use Rattle.c_types.specs.Types.{integer, pointer};
+ghost use Rattle.c_types.specs.Views.{type_of};
+ghost use Rattle.c_erasure.specs.Noted.{a_value, an_object, value_of};
+ghost use Rattle.c_checking.specs.Nodes.{a_node, a_way, converted, worth as worth_of};
+ghost use Rattle.c_annotated.specs.Views.{expression_of, path_of, thing_of};
+ghost use Rattle.c_nodes.specs.Gives.{Gives};
+ghost use Rattle.c_nodes.specs.NodeViews.{node_of, path_node_of};
+
+use crate::fault::Fault;
+use c_annotated::{Expression, ExpressionNode, Path, PathNode, Thing};
+use c_types::{IntKind, Ty, copy, same};
+use lay_base::{Boxed, NoMemory, Place, Rule, boxed};
+use std::alloc::Global;
+
+/// A value of a type.
+pub fn value(
+    alloc: Global,
+    ty: Ty,
+    place: Place,
+    node: ExpressionNode,
+) -> Result<Boxed<Expression>, Fault>
+    ensures { Gives (λ e. a_value (expression_of e)) result (a_node (type_of ty) place (node_of node)) }
+{
+    Ok(boxed(
+        alloc,
+        Expression {
+            ty,
+            note: None,
+            place,
+            node,
+        },
+    )?)
+}
+
+/// A value of a type.
+pub fn node(alloc: Global, ty: Ty, place: Place, node: ExpressionNode) -> Result<Thing, Fault>
+    ensures { Gives thing_of result (a_node (type_of ty) place (node_of node)) }
+{
+    Ok(Thing::Value(value(alloc, ty, place, node)?))
+}
+
+/// An object of a type.
+pub fn way(alloc: Global, ty: Ty, place: Place, node: PathNode) -> Result<Thing, Fault>
+    ensures { Gives thing_of result (a_way (type_of ty) place (path_node_of node)) }
+{
+    Ok(Thing::Object(boxed(alloc, Path { ty, place, node })?))
+}
+
+/// A type as that of a pointer to it.
+pub fn pointer_to(alloc: Global, t: Ty) -> Result<Ty, NoMemory>
+    ensures { IfOk result (λ it. type_of it ≡ pointer (type_of t)) }
+{
+    Ok(Ty::Pointer(boxed(alloc, t)?))
+}
+
+/// A value as one of a type, converted where it has another.
+pub fn convert(alloc: Global, t: &Ty, x: Boxed<Expression>) -> Result<Boxed<Expression>, NoMemory>
+    ensures { IfOk result (λ e. expression_of e ≡ converted (type_of t.now) (expression_of x)) }
+{
+    if same(&x.get().ty, t) {
+        return Ok(x);
+    }
+    let ty = copy(alloc, t)?;
+    let place = x.get().place;
+    boxed(
+        alloc,
+        Expression {
+            ty,
+            note: None,
+            place,
+            node: ExpressionNode::Convert(x, false),
+        },
+    )
+}
+
+/// A value as one of an integer type, converted where it has another type.
+pub fn convert_to_kind(
+    alloc: Global,
+    kind: IntKind,
+    x: Boxed<Expression>,
+) -> Result<Boxed<Expression>, NoMemory>
+    ensures { IfOk result (λ e. expression_of e ≡ converted (integer kind) (expression_of x)) }
+{
+    let t = Ty::Int(kind);
+    convert(alloc, &t, x)
+}
+
+/// The value of an object: a number or a pointer is loaded, an array becomes a pointer to its first element (C99 6.3.2.1). Other objects have
+/// none.
+pub fn object_value(
+    alloc: Global,
+    p: Boxed<Path>,
+) -> Result<Option<Boxed<Expression>>, NoMemory>
+    ensures { IfOk result (λ o. option_map expression_of o ≡ value_of (an_object (path_of p))) }
+{
+    let place = p.get().place;
+    let (ty, is_array) = match &p.get().ty {
+        Ty::Int(kind) => (Ty::Int(*kind), false),
+        Ty::Pointer(to) => (Ty::Pointer(boxed(alloc, copy(alloc, to.get())?)?), false),
+        Ty::Array(element, _) => (Ty::Pointer(boxed(alloc, copy(alloc, element.get())?)?), true),
+        _ => return Ok(None),
+    };
+    let node = if is_array {
+        ExpressionNode::Decay(p)
+    } else {
+        ExpressionNode::Load(p)
+    };
+    Ok(Some(boxed(alloc, Expression { ty, note: None, place, node })?))
+}
+
+/// The value of what stands there, which begins at `at` (C99 6.3.2.1).
+#[tactic(auto, unfolding(c_checking::specs::Nodes::worth))]
+pub fn worth(alloc: Global, at: u32, thing: Thing) -> Result<Boxed<Expression>, Fault>
+    ensures { Gives expression_of result (worth_of at (thing_of thing)) }
+{
+    match thing {
+        Thing::Object(p) => match object_value(alloc, p)? {
+            Some(e) => Ok(e),
+            None => Err(Fault::IllTyped(Rule::ByValue, at)),
+        },
+        Thing::Value(e) | Thing::FunctionAt(e) => Ok(e),
+        Thing::Function(place, f, t) => {
+            let ty = pointer_to(alloc, t)?;
+            let node = ExpressionNode::FunctionName(f);
+            Ok(boxed(alloc, Expression { ty, note: None, place, node })?)
+        }
+        Thing::LibraryFunction(_, _) => Err(Fault::IllTyped(Rule::Library, at)),
+    }
+}
