@@ -1,5 +1,6 @@
 -- What a part of the text adds to a file, in numbers: names, structures, mentions and objects, in the order of the text.
-use Rattle.std.proofs.Common.{◌≡◌, ℕ, zero, suc, Bool, true, false, refl, sym, ap, ◌∙◌, subst, List, [], ◌∷◌, ◌++◌, length, take, drop, append_assoc, append-nil, arith, cond}
+use Rattle.std.proofs.Common.{◌≡◌, ℕ, zero, suc, Bool, true, false, refl, sym, ap, ◌∙◌, subst, List, [], ◌∷◌, ◌++◌, length, take, drop, append_assoc}
+use Rattle.std.proofs.Common.{append-nil, arith, cond}
 use Rattle.std.specs.Prelude.{map, Ok}
 use Rattle.c_types.specs.declared.ty.IntKind.{IntKind}
 use Rattle.c_types.specs.Types.{CType, Record}
@@ -83,11 +84,12 @@ adds_then {f} {g} {h} {a} {b} {c} {u} {v} {x} {y} {k} {l} p q = record {
   names = longer a _ _ _ (scope_beginnings u) (scope_beginnings v) _ p.names q.names (beginnings_append u v);
   records = longer a _ _ _ (defined_in u) (defined_in v) _ p.records q.records (defined_append u v);
   mentions = longer b _ _ _ x y _ p.mentions q.mentions refl;
-  objects =
-      (p.objects.0 ++ q.objects.0,
-       q.objects.1 ∙ ap (λ z. z ++ q.objects.0) p.objects.1 ∙ append_assoc f.objects p.objects.0 q.objects.0,
-       map_append (λ o. o.first) p.objects.0 q.objects.0 ∙ ap (λ z. z ++ map (λ o. o.first) q.objects.0) p.objects.2
-       ∙ ap (λ z. unless c k ++ z) q.objects.2 ∙ sym (unless_append c k l));
+  objects = (
+    p.objects.0 ++ q.objects.0,
+    q.objects.1 ∙ ap (λ z. z ++ q.objects.0) p.objects.1 ∙ append_assoc f.objects p.objects.0 q.objects.0,
+    map_append (λ o. o.first) p.objects.0 q.objects.0 ∙ ap (λ z. z ++ map (λ o. o.first) q.objects.0) p.objects.2
+        ∙ ap (λ z. unless c k ++ z) q.objects.2 ∙ sym (unless_append c k l),
+  );
 }
 
 -- ---- operands that are not evaluated, and what is inside of functions
@@ -174,7 +176,8 @@ put_there f u w m v e =
 
 mention_by : (b d : Bool) → b ≡ d → (f g h : FileScope) (a c : Bool) (u v : List Mark) (x y k l : List ℕ) (m : AMention)
     → Adds f a b c u x k g → Adds g a b c v y l h
-    → Adds f a b c (u ++ v) (x ++ m.at ∷ y) (k ++ l) (cond d h (record h { mentions = take (length g.mentions) h.mentions ++ m ∷ drop (length g.mentions) h.mentions }))
+    → Adds f a b c (u ++ v) (x ++ m.at ∷ y) (k ++ l)
+    (cond d h (record h { mentions = take (length g.mentions) h.mentions ++ m ∷ drop (length g.mentions) h.mentions }))
 mention_by true true e f g h a c u v x y k l m p q =
     let r = adds_then p q in
     record { untagged = r.untagged; functions = r.functions; names = r.names; records = r.records; mentions = r.mentions; objects = r.objects }

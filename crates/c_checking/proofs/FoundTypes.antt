@@ -279,7 +279,8 @@ module _ (untagged : ℕ → List ℕ) where
             subst (λ n. IsEnumeratorValue (moved s g) next (Trees.valued equal a) n) n.0 (c.0.0, k, n.1);
       }
 
-  name_grown : (f : FileScope) (b : Bool) (from : ℕ) (x : Bound) (v : ℕ) → x.entity ≡ enumerator v → v < 2 ^ 32 → IsGrown f b (a_name from ∷ []) (with_bound f x)
+  name_grown : (f : FileScope) (b : Bool) (from : ℕ) (x : Bound) (v : ℕ) → x.entity ≡ enumerator v → v < 2 ^ 32
+      → IsGrown f b (a_name from ∷ []) (with_bound f x)
   name_grown f b from x v e l = bound_grown f x b (a_name from ∷ []) (nothing b) (λ locals. rw e (let k : v % 2 ^ 32 ≡ v = omega (arith, l) in k))
     where
       nothing : (b : Bool) → added b (a_name from ∷ []) ≡ 0

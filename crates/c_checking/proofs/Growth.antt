@@ -17,7 +17,8 @@ use Rattle.c_erasure.specs.Declarators.{declared_name, parameter_type}
 use Rattle.c_erasure.specs.Erasure.{place_in, tag_text, comma_or, after_all, literal_of, literal_object, with_parameter_if_named}
 use Rattle.c_erasure.specs.Literals.{literals, literals_of_all}
 use Rattle.c_erasure.specs.Marks as Marks
-use Rattle.c_erasure.specs.Marks.{Mark, a_tag, an_end, a_name, marks, marks_of_all, marks_if_any, marks_of_type, marks_of_specifiers, marks_of_specifier, marks_of_members}
+use Rattle.c_erasure.specs.Marks.{Mark, a_tag, an_end, a_name, marks, marks_of_all, marks_if_any, marks_of_type, marks_of_specifiers}
+use Rattle.c_erasure.specs.Marks.{marks_of_specifier, marks_of_members}
 use Rattle.c_erasure.specs.Marks.{marks_of_member_declarators, marks_of_enumerators, marks_of_value, marks_of_declarator, an_enumeration}
 use Rattle.c_erasure.specs.MentionPlaces.{spoken, spoken_of_all, spoken_of_type, spoken_of_specifiers, spoken_of_specifier, spoken_of_members, spoken_of_fields}
 use Rattle.c_erasure.specs.MentionPlaces.{spoken_of_enumerators, spoken_of_value, spoken_of_declarator, spoken_of_list, spoken_of_parameters}
@@ -30,8 +31,10 @@ use Rattle.c_checking.specs.Nodes.{worth, array_of, signature_in, argument_in}
 use Rattle.c_checking.specs.Nodes.{measured_in, sized_type, Target, scalar_at, record_at, target_in}
 use Rattle.c_checking.specs.Declaring.{with_record, with_mention, mentions_in, literal_for, literal_in, completed_in, enumerator_in}
 use Rattle.c_checking.specs.Declaring.{Derivation, derived, length_value, object_at, base_kind, without_storage, parameter_storage, scalar_parameter}
-use Rattle.c_checking.specs.Finding.{complete, value_at, tested_at, constant_at, on_value, unary_on, subscripted, assigned, base_type, type_of_derived, with_member}
-use Rattle.c_checking.specs.Finding.{find, arguments, type_name, one_of, specified, members, member_declarators, enumerators, enumerator_value, derivations, array_step}
+use Rattle.c_checking.specs.Finding.{complete, value_at, tested_at, constant_at, on_value, unary_on, subscripted, assigned, base_type}
+use Rattle.c_checking.specs.Finding.{type_of_derived, with_member}
+use Rattle.c_checking.specs.Finding.{find, arguments, type_name, one_of, specified, members, member_declarators, enumerators, enumerator_value}
+use Rattle.c_checking.specs.Finding.{derivations, array_step}
 use Rattle.c_checking.specs.Finding.{parameter_list, parameters}
 use Rattle.c_checking.proofs.Results.{bound_ok, bound_with, chosen}
 use Rattle.c_checking.proofs.Declared.{no_storage_is, parameter_storage_is, unless_ok, completed_is, enumerator_is}
@@ -115,7 +118,8 @@ unary_grows P s U.Complement count from at r p z h = operator_grows P s U.Comple
 unary_grows P s U.Not count from at r p z h = operator_grows P s U.Not count from at r p z h
 
 assigned_grows : (P : FileScope → Type 0) (count op_at from : ℕ) (at : Place) (t : Target) (f : FileScope) (right : FileScope → Checked Thing)
-    → ((x : Thing × FileScope) → right f ≡ Ok x → P x.1) → (o : Option BinaryOp) (z : Thing × FileScope) → assigned count op_at from at t f right o ≡ Ok z → P z.1
+    → ((x : Thing × FileScope) → right f ≡ Ok x → P x.1) → (o : Option BinaryOp) (z : Thing × FileScope)
+    → assigned count op_at from at t f right o ≡ Ok z → P z.1
 assigned_grows P count op_at from at t f right p (Some op) z h =
     let x = bound_ok (value_at from (right f)) _ z h in
     file_beside P x.0.1 _ z x.2 (file_of_value P from (right f) x.0 x.1 p)
@@ -144,7 +148,8 @@ parameter_untagged : (s : Scope) (x : Option Spelling) (t : CType) → (with_par
 parameter_untagged s None t = refl
 parameter_untagged s (Some x) t = refl
 
-parameter_grows : (s : Scope) (x : Option Spelling) (t : CType) (y : List ℕ) (f : FileScope) → Grows (with_parameter_if_named s x t) [] y [] f → Grows s [] y [] f
+parameter_grows : (s : Scope) (x : Option Spelling) (t : CType) (y : List ℕ) (f : FileScope) → Grows (with_parameter_if_named s x t) [] y [] f
+    → Grows s [] y [] f
 parameter_grows s None t y f p = p
 parameter_grows s (Some x) t y f p = as_inside {u = []} refl p
 
@@ -182,7 +187,7 @@ module _ (untagged : ℕ → List ℕ) where
       let r = adds_then p (record_adds m.1 rec (Marks.tag_name untagged at x) to s.is_inside (is_measured s.purpose) (makes_none s.purpose) i (tag_is x)) in
       subst (Grows s (marks_of_specifier untagged (Trees.struct_body at x from all to)) (spoken_of_members all) []) (sym c.file_is)
       (tag_adds (subst (λ y. Grows s (marks_of_members untagged all ++ an_end (Marks.tag_name untagged at x) to ∷ []) y [] (with_record m.1 rec))
-        (append-nil (spoken_of_members all)) r))
+      (append-nil (spoken_of_members all)) r))
     where
       tag_is : (x : Option Spelling) → tag_text s at x ≡ Marks.tag_name untagged at x
       tag_is None = ap (λ (names : ℕ → List ℕ). names at) e
@@ -196,6 +201,7 @@ module _ (untagged : ℕ → List ℕ) where
 
   mutual
     unfolding find arguments type_name one_of specified members member_declarators enumerators enumerator_value derivations array_step parameter_list parameters
+
     pub grow : (a : Trees.Expression) (s : Scope) → s.file.untagged ≡ untagged → (z : Thing × FileScope) → find a s ≡ Ok z
         → Grows s (marks untagged a) (spoken a) (literals a) z.1
     grow (Trees.name x) s e z h = file_beside (Grows s [] [] []) s.file _ z h (nothing s)
@@ -206,17 +212,19 @@ module _ (untagged : ℕ → List ℕ) where
     grow (Trees.index a from b to) s e z h =
         let x = bound_ok (find a s) _ z h in
         let v = grow a s e x.0 x.1 in
-        index_grows s (marks untagged b) (spoken b) (literals b) (complete s (first a)) (first a) from (first a) x.0 (λ f. value_at (first b) (find b (moved s f)))
+        index_grows s (marks untagged b) (spoken b) (literals b) (complete s (first a)) (first a) from (first a) x.0
+        (λ f. value_at (first b) (find b (moved s f)))
         (marks untagged a) (spoken a) (literals a) v
         (λ i j. file_of_value (Grows (moved s x.0.1) (marks untagged b) (spoken b) (literals b)) (first b) (find b (moved s x.0.1)) i j
-          (λ y k. grow b (moved s x.0.1) (v.untagged ∙ e) y k))
+        (λ y k. grow b (moved s x.0.1) (v.untagged ∙ e) y k))
         (array_of x.0.0) z x.2
     grow (Trees.call f from all to) s e z h =
         let x = bound_ok (find f s) _ z h in
         let v = grow f s e x.0 x.1 in
         let t = bound_with x.0.1 (signature_in (first f) x.0.0) _ z x.2 in
         let xs = bound_ok (arguments to t.0.0 all (moved s x.0.1)) _ z t.2 in
-        file_beside (Grows s (marks untagged (Trees.call f from all to)) (spoken (Trees.call f from all to)) (literals (Trees.call f from all to))) xs.0.1 _ z xs.2
+        file_beside (Grows s (marks untagged f ++ marks_of_all untagged all) (spoken f ++ spoken_of_all all) (literals f ++ literals_of_all all))
+        xs.0.1 _ z xs.2
         (adds_then v (grow_all all to t.0.0 (moved s x.0.1) (v.untagged ∙ e) xs.0 xs.1))
     grow (Trees.dot a at x) s e z h =
         let p = bound_ok (find a s) _ z h in
@@ -247,26 +255,27 @@ module _ (untagged : ℕ → List ℕ) where
         let v = grow_type m s e t.0 t.1 in
         let x = bound_ok (value_at (first a) (find a (moved s t.0.1))) _ z t.2 in
         let w = file_of_value (Grows (moved s t.0.1) (marks untagged a) (spoken a) (literals a)) (first a) (find a (moved s t.0.1)) x.0 x.1
-          (λ y k. grow a (moved s t.0.1) (v.untagged ∙ e) y k) in
+        (λ y k. grow a (moved s t.0.1) (v.untagged ∙ e) y k) in
         file_beside (Grows s (marks_of_type untagged m ++ marks untagged a) (spoken_of_type m ++ spoken a) (literals a)) x.0.1 _ z x.2 (adds_then v w)
     grow (Trees.binary a op at b) s e z h =
         let x = bound_ok (value_at (first a) (find a s)) _ z h in
         let v = file_of_value (Grows s (marks untagged a) (spoken a) (literals a)) (first a) (find a s) x.0 x.1 (λ y k. grow a s e y k) in
         let y = bound_ok (value_at (first b) (find b (moved s x.0.1))) _ z x.2 in
         let w = file_of_value (Grows (moved s x.0.1) (marks untagged b) (spoken b) (literals b)) (first b) (find b (moved s x.0.1)) y.0 y.1
-          (λ y k. grow b (moved s x.0.1) (v.untagged ∙ e) y k) in
+        (λ y k. grow b (moved s x.0.1) (v.untagged ∙ e) y k) in
         file_beside (Grows s (marks untagged a ++ marks untagged b) (spoken a ++ spoken b) (literals a ++ literals b)) y.0.1 _ z y.2 (adds_then v w)
     grow (Trees.cond a question b colon c) s e z h =
         let x = bound_ok (tested_at question (value_at (first a) (find a s))) _ z h in
         let v = file_of_tested (Grows s (marks untagged a) (spoken a) (literals a)) question (value_at (first a) (find a s)) x.0 x.1
-          (λ y k. file_of_value (Grows s (marks untagged a) (spoken a) (literals a)) (first a) (find a s) y k (λ y k. grow a s e y k)) in
+        (λ y k. file_of_value (Grows s (marks untagged a) (spoken a) (literals a)) (first a) (find a s) y k (λ y k. grow a s e y k)) in
         let y = bound_ok (value_at (first b) (find b (moved s x.0.1))) _ z x.2 in
         let w = file_of_value (Grows (moved s x.0.1) (marks untagged b) (spoken b) (literals b)) (first b) (find b (moved s x.0.1)) y.0 y.1
-          (λ y k. grow b (moved s x.0.1) (v.untagged ∙ e) y k) in
+        (λ y k. grow b (moved s x.0.1) (v.untagged ∙ e) y k) in
         let u = bound_ok (value_at (first c) (find c (moved s y.0.1))) _ z y.2 in
         let t = file_of_value (Grows (moved s y.0.1) (marks untagged c) (spoken c) (literals c)) (first c) (find c (moved s y.0.1)) u.0 u.1
-          (λ y' k. grow c (moved s y.0.1) (w.untagged ∙ v.untagged ∙ e) y' k) in
-        file_beside (Grows s (marks untagged a ++ marks untagged b ++ marks untagged c) (spoken a ++ spoken b ++ spoken c) (literals a ++ literals b ++ literals c))
+        (λ y' k. grow c (moved s y.0.1) (w.untagged ∙ v.untagged ∙ e) y' k) in
+        file_beside (Grows s (marks untagged a ++ marks untagged b ++ marks untagged c) (spoken a ++ spoken b ++ spoken c)
+        (literals a ++ literals b ++ literals c))
         u.0.1 _ z u.2 (adds_then (adds_then v w) t)
     grow (Trees.assign a op at b) s e z h =
         let p = bound_ok (find a s) _ z h in
@@ -280,7 +289,7 @@ module _ (untagged : ℕ → List ℕ) where
         let v = file_of_value (Grows s (marks untagged a) (spoken a) (literals a)) (first a) (find a s) x.0 x.1 (λ y k. grow a s e y k) in
         let y = bound_ok (value_at (first b) (find b (moved s x.0.1))) _ z x.2 in
         let w = file_of_value (Grows (moved s x.0.1) (marks untagged b) (spoken b) (literals b)) (first b) (find b (moved s x.0.1)) y.0 y.1
-          (λ y k. grow b (moved s x.0.1) (v.untagged ∙ e) y k) in
+        (λ y k. grow b (moved s x.0.1) (v.untagged ∙ e) y k) in
         file_beside (Grows s (marks untagged a ++ marks untagged b) (spoken a ++ spoken b) (literals a ++ literals b)) y.0.1 _ z y.2 (adds_then v w)
     grow (Trees.braces from all comma to) s e z h = cc
 
@@ -310,7 +319,8 @@ module _ (untagged : ℕ → List ℕ) where
         file_of (Grows s (marks_of_type untagged (Trees.type_name specs d)) (spoken_of_type (Trees.type_name specs d)) []) _ z t.2
         (mention_between s Named t.0 (first_declarator d at) v w)
 
-    grow_one : (specs : Trees.Specifiers) (s : Scope) → s.file.untagged ≡ untagged → (x : Trees.Specifier) → types_among specs ≡ x ∷ [] → (z : CType × FileScope)
+    grow_one : (specs : Trees.Specifiers) (s : Scope) → s.file.untagged ≡ untagged → (x : Trees.Specifier) → types_among specs ≡ x ∷ []
+        → (z : CType × FileScope)
         → one_of specs s ≡ Ok z → GrowsBySpecifiers s specs z.1
     grow_one Trees.no_specifiers s e x i z h = cc
     grow_one (Trees.and_specifier (Trees.plain word at) more) s e x i z h = grow_one more s e x i z h
@@ -334,17 +344,18 @@ module _ (untagged : ℕ → List ℕ) where
     grow_specifier (Trees.struct_body at x from all to) s e z h =
         chosen s.is_inside _ _ z (Grows s (marks_of_specifier untagged (Trees.struct_body at x from all to)) (spoken_of_members all) [] z.1) h (λ i h. cc)
         (λ i h.
-          let u = unless_ok _ _ z h in
-          let m = bound_ok (members all s) _ z u.1 in
-          struct_grows s at x from all to e i m.0 (grow_members all s e m.0 m.1) z m.2)
+        let u = unless_ok _ _ z h in
+        let m = bound_ok (members all s) _ z u.1 in
+        struct_grows s at x from all to e i m.0 (grow_members all s e m.0 m.1) z m.2)
     grow_specifier (Trees.enum_named at x) s e z h = file_beside (Grows s [] [] []) s.file _ z h (nothing s)
     grow_specifier (Trees.enum_body at x from all comma to) s e z h =
-        chosen s.is_inside _ _ z (Grows s (marks_of_specifier untagged (Trees.enum_body at x from all comma to)) (spoken_of_enumerators all) [] z.1) h (λ i h. cc)
+        chosen s.is_inside _ _ z (Grows s (marks_of_specifier untagged (Trees.enum_body at x from all comma to)) (spoken_of_enumerators all) [] z.1) h
+        (λ i h. cc)
         (λ i h.
-          let f = bound_ok (enumerators all s 0 (after_all comma to)) _ z h in
-          file_beside (Grows s (marks_of_specifier untagged (Trees.enum_body at x from all comma to)) (spoken_of_enumerators all) []) f.0.1 _ z f.2
-          (enumeration_grows s x to f.0.1 (marks_of_enumerators untagged all (after_all comma to)) (spoken_of_enumerators all)
-            (grow_enumerators all s 0 (after_all comma to) i e f.0 f.1)))
+        let f = bound_ok (enumerators all s 0 (after_all comma to)) _ z h in
+        file_beside (Grows s (marks_of_specifier untagged (Trees.enum_body at x from all comma to)) (spoken_of_enumerators all) []) f.0.1 _ z f.2
+        (enumeration_grows s x to f.0.1 (marks_of_enumerators untagged all (after_all comma to)) (spoken_of_enumerators all)
+        (grow_enumerators all s 0 (after_all comma to) i e f.0 f.1)))
 
     pub grow_members : (all : Trees.MemberDeclarations) (s : Scope) → s.file.untagged ≡ untagged → (z : List Field × FileScope) → members all s ≡ Ok z
         → Grows s (marks_of_members untagged all) (spoken_of_members all) [] z.1
@@ -359,7 +370,7 @@ module _ (untagged : ℕ → List ℕ) where
         let rest = bound_ok (members more (moved s own.0.1)) _ z own.2 in
         let t = grow_members more (moved s own.0.1) (w.untagged ∙ v.untagged ∙ e) rest.0 rest.1 in
         file_of (Grows s (marks_of_members untagged (Trees.and_member_declaration specs ds semicolon more))
-          (spoken_of_members (Trees.and_member_declaration specs ds semicolon more)) []) _ z rest.2 (adds_then (adds_then v w) t)
+        (spoken_of_members (Trees.and_member_declaration specs ds semicolon more)) []) _ z rest.2 (adds_then (adds_then v w) t)
 
     grow_declarators : (all : Trees.MemberDeclarators) (base : CType) (semicolon : ℕ) (s : Scope) → s.file.untagged ≡ untagged → (z : List Field × FileScope)
         → member_declarators all base semicolon s ≡ Ok z → Grows s (marks_of_member_declarators untagged all) (spoken_of_fields all semicolon) [] z.1
@@ -373,11 +384,12 @@ module _ (untagged : ℕ → List ℕ) where
         let f = with_mention s (mentions_in s.file) Named o.0 at steps.0.1 in
         let p = mention_before s Named o.0 at v in
         member_grows (Grows s (marks_of_member_declarators untagged (Trees.and_member_declarator comma d more))
-          (spoken_of_fields (Trees.and_member_declarator comma d more) semicolon) []) (place_in s at) o.0 (declared_name d)
+        (spoken_of_fields (Trees.and_member_declarator comma d more) semicolon) []) (place_in s at) o.0 (declared_name d)
         (member_declarators more base semicolon (moved s f))
         (λ rest k. adds_then p (grow_declarators more base semicolon (moved s f) (p.untagged ∙ e) rest k)) z o.2
 
-    pub grow_enumerators : (all : Trees.Enumerators) (s : Scope) (next after : ℕ) → s.is_inside ≡ false → s.file.untagged ≡ untagged → (z : Unit {0} × FileScope)
+    pub grow_enumerators : (all : Trees.Enumerators) (s : Scope) (next after : ℕ) → s.is_inside ≡ false → s.file.untagged ≡ untagged
+        → (z : Unit {0} × FileScope)
         → enumerators all s next after ≡ Ok z → Grows s (marks_of_enumerators untagged all after) (spoken_of_enumerators all) [] z.1
     grow_enumerators Trees.no_enumerators s next after i e z h = file_of (Grows s [] [] []) _ z h (nothing s)
     grow_enumerators (Trees.and_enumerator comma x value more) s next after i e z h =
@@ -386,7 +398,7 @@ module _ (untagged : ℕ → List ℕ) where
         let b = bound_of untagged x more after v.0.0 in
         let f = bound_ok (enumerator_in v.0.1 b) _ z v.2 in
         let n = subst (Grows (moved s v.0.1) (a_name (comma_or more after) ∷ []) [] []) (enumerator_is v.0.1 b f.0 f.1)
-          (bound_adds v.0.1 b s.is_inside (is_measured s.purpose) (makes_none s.purpose) i) in
+        (bound_adds v.0.1 b s.is_inside (is_measured s.purpose) (makes_none s.purpose) i) in
         adds_then w (adds_then n (grow_enumerators more (moved s f.0) ((v.0.0 + 1) % 2 ^ 32) after i (n.untagged ∙ w.untagged ∙ e) z f.2))
 
     grow_value : (value : Trees.EnumeratorValue) (s : Scope) (at next : ℕ) → s.file.untagged ≡ untagged → (z : ℕ × FileScope)
@@ -414,7 +426,7 @@ module _ (untagged : ℕ → List ℕ) where
         let v = grow_steps d s e steps.0 steps.1 in
         let c = bound_ok (constant_at (first a) (value_at (first a) (find a (for_value (moved s steps.0.1))))) _ z steps.2 in
         let w = constant_grows (moved s steps.0.1) (first a) (marks untagged a) (spoken a) (literals a) (find a (for_value (moved s steps.0.1)))
-          (λ y k. grow a (for_value (moved s steps.0.1)) (v.untagged ∙ e) y k) c.0 c.1 in
+        (λ y k. grow a (for_value (moved s steps.0.1)) (v.untagged ∙ e) y k) c.0 c.1 in
         let l = bound_with c.0.1 (length_value (first a) c.0.0) _ z c.2 in
         file_of (Grows s (marks_of_declarator untagged d ++ marks untagged a) (spoken_of_declarator d ++ spoken a) []) _ z l.2 (adds_then v w)
     grow_steps (Trees.function d from all to) s e z h =
@@ -449,6 +461,6 @@ module _ (untagged : ℕ → List ℕ) where
         let scope = with_parameter_if_named (moved s f) (declared_name d) t.1.0 in
         let rest = bound_ok (parameters more scope) _ z t.1.2 in
         let o = grow_parameters more scope (parameter_inside (moved s f) (declared_name d) t.1.0 i)
-          (parameter_untagged (moved s f) (declared_name d) t.1.0 ∙ p.untagged ∙ e) rest.0 rest.1 in
+        (parameter_untagged (moved s f) (declared_name d) t.1.0 ∙ p.untagged ∙ e) rest.0 rest.1 in
         file_of (Grows s [] (spoken_of_parameters (Trees.and_parameter comma specs d more)) []) _ z rest.2
         (adds_then p (parameter_grows (moved s f) (declared_name d) t.1.0 (spoken_of_parameters more) rest.0.1 o))

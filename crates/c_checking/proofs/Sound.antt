@@ -16,9 +16,11 @@ use Rattle.c_erasure.specs.Scopes.{FileScope, Scope, inside, measured, for_value
 use Rattle.c_erasure.specs.Specifiers.{types_among, storage_of}
 use Rattle.c_checking.specs.Answers.{moved}
 use Rattle.c_checking.specs.Nodes.{signature_in, argument_in, target_in, measured_in, sized_type}
-use Rattle.c_checking.specs.Declaring.{with_mention, mentions_in, Derivation, derived, length_value, object_at, base_kind, without_storage, parameter_storage, scalar_parameter}
+use Rattle.c_checking.specs.Declaring.{with_mention, mentions_in, Derivation, derived, length_value, object_at, base_kind, without_storage}
+use Rattle.c_checking.specs.Declaring.{parameter_storage, scalar_parameter}
 use Rattle.c_checking.specs.Declaring.{enumerator_in}
-use Rattle.c_checking.specs.Finding.{complete, value_at, tested_at, constant_at, base_type, type_of_derived, find, arguments, type_name, one_of, specified, members}
+use Rattle.c_checking.specs.Finding.{complete, value_at, tested_at, constant_at, base_type, type_of_derived, find, arguments, type_name, one_of}
+use Rattle.c_checking.specs.Finding.{specified, members}
 use Rattle.c_checking.specs.Finding.{member_declarators, enumerators, enumerator_value, derivations, array_step, parameter_list, parameters}
 use Rattle.c_checking.proofs.InRange.{IsInRange, AreInRange, IsTypeInRange, AreSpecifiersInRange, IsSpecifierInRange, AreMembersInRange, AreDeclaratorsInRange}
 use Rattle.c_checking.proofs.InRange.{AreEnumeratorsInRange, IsValueInRange, IsDeclaratorInRange, IsListInRange, AreParametersInRange}
@@ -26,14 +28,18 @@ use Rattle.c_checking.proofs.Results.{bound_ok, bound_with, chosen}
 use Rattle.c_checking.proofs.Agreement.{Ready, then, left, right}
 use Rattle.c_checking.proofs.Declared.{mentioned, no_storage_is, parameter_storage_is, unless_ok}
 use Rattle.c_checking.proofs.Found.{Found, FoundAll, FoundType, FoundConstant, valued, constant_found, name_found, number_found, character_found}
-use Rattle.c_checking.proofs.Found.{texts_found, index_found, dot_found, arrow_found, call_found, no_arguments_found, argument_found, post_found, pre_found, unary_found}
+use Rattle.c_checking.proofs.Found.{texts_found, index_found, dot_found, arrow_found, call_found, no_arguments_found, argument_found, post_found}
+use Rattle.c_checking.proofs.Found.{pre_found, unary_found}
 use Rattle.c_checking.proofs.Found.{sizeof_expression_found, sizeof_type_found, cast_found, binary_found, comma_found, tested_found, choice_found, assign_found}
 use Rattle.c_checking.proofs.FoundTypes.{ready_inside, FoundOne, FoundSpecifier, FoundFields, FoundMembers, FoundEnumerators, FoundNumber, FoundSteps}
 use Rattle.c_checking.proofs.FoundTypes.{FoundParameters, FoundList, base_found, one_found, typename_found, struct_named_found, enum_named_found, struct_ready}
-use Rattle.c_checking.proofs.FoundTypes.{struct_body_found, enum_body_found, no_value_found, value_found, no_enumerators_found, bound_of, enumerator_grown, enumerator_found}
+use Rattle.c_checking.proofs.FoundTypes.{struct_body_found, enum_body_found, no_value_found, value_found, no_enumerators_found, bound_of}
+use Rattle.c_checking.proofs.FoundTypes.{enumerator_grown, enumerator_found}
 use Rattle.c_checking.proofs.FoundTypes.{no_members_found, members_found, no_declarators_found, member_found, type_found}
-use Rattle.c_checking.proofs.FoundDeclarators.{ready_in, new_bound, parameter_inside, parameter_ready, nothing_found, named_found, pointer_found, enclosed_found, open_found}
-use Rattle.c_checking.proofs.FoundDeclarators.{array_found, function_found, void_found, listed_found, no_parameters_found, behind_parameter, parameter_made, parameter_found}
+use Rattle.c_checking.proofs.FoundDeclarators.{ready_in, new_bound, parameter_inside, parameter_ready, nothing_found, named_found, pointer_found}
+use Rattle.c_checking.proofs.FoundDeclarators.{enclosed_found, open_found}
+use Rattle.c_checking.proofs.FoundDeclarators.{array_found, function_found, void_found, listed_found, no_parameters_found, behind_parameter}
+use Rattle.c_checking.proofs.FoundDeclarators.{parameter_made, parameter_found}
 
 module _ (untagged : ℕ → List ℕ) where
   -- an integer constant expression, which stands for its value
@@ -159,7 +165,8 @@ module _ (untagged : ℕ → List ℕ) where
     sound_one (Trees.and_specifier (Trees.plain word at) more) s n r x e z h =
         let v = sound_one more s n.1 r x e z h in record { grew = v.grew; holds = λ g p. v.holds g p }
     sound_one (Trees.and_specifier (Trees.typename y) more) s n r x e z h =
-        one_found untagged s (Trees.typename y) more z (sound_specifier (Trees.typename y) s n.0 (left _ _ r) z h) (let f : types_among more ≡ [] = cc in f) (λ g p. p)
+        one_found untagged s (Trees.typename y) more z (sound_specifier (Trees.typename y) s n.0 (left _ _ r) z h) (let f : types_among more ≡ [] = cc in f)
+        (λ g p. p)
     sound_one (Trees.and_specifier (Trees.struct_named at y) more) s n r x e z h =
         one_found untagged s (Trees.struct_named at y) more z (sound_specifier (Trees.struct_named at y) s n.0 (left _ _ r) z h)
         (let f : types_among more ≡ [] = cc in f) (λ g p. p)
@@ -193,7 +200,8 @@ module _ (untagged : ℕ → List ℕ) where
         (left (marks_of_enumerators untagged all (after_all comma to)) (an_enumeration untagged x to) r) f.0 f.1 in
         enum_body_found untagged s at x from all comma to i f.0.1 v z f.2)
 
-    pub sound_members : (all : Trees.MemberDeclarations) (s : Scope) → AreMembersInRange all → Ready s (marks_of_members untagged all) → (z : List Field × FileScope)
+    pub sound_members : (all : Trees.MemberDeclarations) (s : Scope) → AreMembersInRange all → Ready s (marks_of_members untagged all)
+        → (z : List Field × FileScope)
         → members all s ≡ Ok z → FoundFields untagged s all z
     sound_members Trees.no_member_declarations s n r z h = no_members_found untagged s z h
     sound_members (Trees.and_member_declaration specs ds semicolon more) s n r z h =
