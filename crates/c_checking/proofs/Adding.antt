@@ -1,6 +1,7 @@
 -- What a part of the text adds to a file, in numbers: names, structures, mentions and objects, in the order of the text.
 use Rattle.std.proofs.Common.{◌≡◌, ℕ, zero, suc, Bool, true, false, refl, sym, ap, ◌∙◌, subst, List, [], ◌∷◌, ◌++◌, length, take, drop, append_assoc}
 use Rattle.std.proofs.Common.{append-nil, arith, cond}
+use Rattle.std.proofs.lemmas.List.{map-append}
 use Rattle.std.specs.Prelude.{map, Ok}
 use Rattle.c_types.specs.declared.ty.IntKind.{IntKind}
 use Rattle.c_types.specs.Types.{CType, Record}
@@ -62,10 +63,6 @@ longer : {X : Type 0} (b : Bool) (x y z u v w : List X) → y ≡ x ++ unless b 
 longer b x y z u v w p q e =
     q ∙ ap (λ y. y ++ unless b v) p ∙ append_assoc x (unless b u) (unless b v) ∙ ap (λ t. x ++ t) (sym (unless_append b u v) ∙ ap (unless b) (sym e))
 
-pub map_append : {X Y : Type 0} (f : X → Y) (u v : List X) → map f (u ++ v) ≡ map f u ++ map f v
-map_append f [] v = refl
-map_append f (x ∷ u) v = ap (λ z. f x ∷ z) (map_append f u v)
-
 pub adds_nothing : (f : FileScope) (a b c : Bool) → Adds f a b c [] [] [] f
 adds_nothing f a b c = record {
   untagged = refl;
@@ -87,7 +84,7 @@ adds_then {f} {g} {h} {a} {b} {c} {u} {v} {x} {y} {k} {l} p q = record {
   objects = (
     p.objects.0 ++ q.objects.0,
     q.objects.1 ∙ ap (λ z. z ++ q.objects.0) p.objects.1 ∙ append_assoc f.objects p.objects.0 q.objects.0,
-    map_append (λ o. o.first) p.objects.0 q.objects.0 ∙ ap (λ z. z ++ map (λ o. o.first) q.objects.0) p.objects.2
+    map-append (λ o. o.first) p.objects.0 q.objects.0 ∙ ap (λ z. z ++ map (λ o. o.first) q.objects.0) p.objects.2
         ∙ ap (λ z. unless c k ++ z) q.objects.2 ∙ sym (unless_append c k l),
   );
 }
@@ -170,7 +167,7 @@ length_map f (x ∷ u) = omega (arith, length_map f u)
 put_there : {X Y : Type 0} (f : X → Y) (u w : List X) (m : X) (v : List Y) → map f w ≡ map f u ++ v
     → map f (take (length u) w ++ m ∷ drop (length u) w) ≡ map f u ++ f m ∷ v
 put_there f u w m v e =
-    map_append f (take (length u) w) (m ∷ drop (length u) w)
+    map-append f (take (length u) w) (m ∷ drop (length u) w)
     ∙ ap (λ z. z ++ f m ∷ map f (drop (length u) w)) (map_take f (length u) w ∙ ap (take (length u)) e ∙ take_there (length u) (map f u) v (length_map f u))
     ∙ ap (λ z. map f u ++ f m ∷ z) (map_drop f (length u) w ∙ ap (drop (length u)) e ∙ drop_there (length u) (map f u) v (length_map f u))
 
@@ -228,7 +225,7 @@ record_adds f r tag right false b c i e =
       untagged = refl;
       functions = refl;
       names = n.names;
-      records = map_append (λ r. r.tag) f.records (r ∷ []) ∙ ap (λ t. map (λ r. r.tag) f.records ++ t ∷ []) e;
+      records = map-append (λ r. r.tag) f.records (r ∷ []) ∙ ap (λ t. map (λ r. r.tag) f.records ++ t ∷ []) e;
       mentions = n.mentions;
       objects = n.objects;
     }
@@ -240,7 +237,7 @@ bound_adds f x false b c i =
     record {
       untagged = refl;
       functions = refl;
-      names = map_append (λ b. b.from) f.names (x ∷ []);
+      names = map-append (λ b. b.from) f.names (x ∷ []);
       records = n.records;
       mentions = n.mentions;
       objects = n.objects;

@@ -158,11 +158,3 @@ right {f} {g} {locals} {blocks} {is_inside} u v r p = record {
       let n : length g.records + k ≡ length f.records + (length (ends_in u) + k) = omega (arith, c) in
       rw (p.extends.ends, n) e;
 }
-
--- inside of functions no structure is defined
-pub inside_ready : {f : FileScope} {locals : List ALocal} {blocks : List (List Bound)} (all : List Mark) → AreFit f locals f.names
-    → BlocksAreFit f locals blocks → IsReady f locals blocks true all
-inside_ready all n b = record { names_fit = n; blocks_fit = b; ends_stand = λ i k right h. cc }
-
-pub inside_grown : {f g : FileScope} (u v : List Mark) → IsGrown f true u g → IsGrown f true v g
-inside_grown u v p = record { extends = p.extends; counted = p.counted; names = p.names }

@@ -40,7 +40,7 @@ use Rattle.c_checking.proofs.Agreement.{IsFit, fits_stay, added, IsGrown, one_mo
 use Rattle.c_checking.proofs.Values.{IsValue, Stands, unconverted_same}
 use Rattle.c_checking.proofs.NodesOfParts.{same_bytes}
 
-added_nothing : (b : Bool) → added b [] ≡ 0
+pub added_nothing : (b : Bool) → added b [] ≡ 0
 added_nothing true = refl
 added_nothing false = refl
 

@@ -464,3 +464,18 @@ module _ (untagged : ℕ → List ℕ) where
         (parameter_untagged (moved s f) (declared_name d) t.1.0 ∙ p.untagged ∙ e) rest.0 rest.1 in
         file_of (Grows s [] (spoken_of_parameters (Trees.and_parameter comma specs d more)) []) _ z rest.2
         (adds_then p (parameter_grows (moved s f) (declared_name d) t.1.0 (spoken_of_parameters more) rest.0.1 o))
+
+  -- ---- what stands outside of expressions asks for
+
+  pub grow_value_of : (a : Trees.Expression) (s : Scope) → s.file.untagged ≡ untagged → (at : ℕ) (z : Expression × FileScope) → value_at at (find a s) ≡ Ok z
+      → Grows s (marks untagged a) (spoken a) (literals a) z.1
+  grow_value_of a s e at z h = file_of_value (Grows s (marks untagged a) (spoken a) (literals a)) at (find a s) z h (λ y k. grow a s e y k)
+
+  pub grow_constant : (a : Trees.Expression) (s : Scope) → s.file.untagged ≡ untagged → (z : (IntKind × ℕ) × FileScope)
+      → constant_at (first a) (value_at (first a) (find a (for_value s))) ≡ Ok z → Grows s (marks untagged a) (spoken a) [] z.1
+  grow_constant a s e z h =
+      constant_grows s (first a) (marks untagged a) (spoken a) (literals a) (find a (for_value s)) (λ y k. grow a (for_value s) e y k) z h
+
+  pub grow_base : (specs : Trees.Specifiers) (s : Scope) → s.file.untagged ≡ untagged → (at : ℕ) (z : CType × FileScope)
+      → base_type (base_kind specs) at s.file (one_of specs s) ≡ Ok z → Grows s (marks_of_specifiers untagged specs) (spoken_of_specifiers specs) [] z.1
+  grow_base specs s e at z h = base_grows s specs at (one_of specs s) (λ x i y k. grow_one specs s e x i y k) z h

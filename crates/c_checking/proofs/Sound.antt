@@ -11,7 +11,7 @@ use Rattle.c_erasure.specs.Declarators.{declared_name, parameter_type}
 use Rattle.c_erasure.specs.Erasure.{comma_or, after_all}
 use Rattle.c_erasure.specs.Marks.{Mark, a_name, marks, marks_of_all, marks_of_type, marks_of_specifiers, marks_of_specifier, marks_of_members}
 use Rattle.c_erasure.specs.Marks.{marks_of_member_declarators, marks_of_enumerators, marks_of_value, marks_of_declarator, an_enumeration}
-use Rattle.c_erasure.specs.Noted.{Noted, Thing}
+use Rattle.c_erasure.specs.Noted.{Noted, Expression, Thing}
 use Rattle.c_erasure.specs.Scopes.{FileScope, Scope, inside, measured, for_value}
 use Rattle.c_erasure.specs.Specifiers.{types_among, storage_of}
 use Rattle.c_checking.specs.Answers.{moved}
@@ -27,11 +27,12 @@ use Rattle.c_checking.proofs.InRange.{AreEnumeratorsInRange, IsValueInRange, IsD
 use Rattle.c_checking.proofs.Results.{bound_ok, bound_with, chosen}
 use Rattle.c_checking.proofs.Agreement.{Ready, then, left, right}
 use Rattle.c_checking.proofs.Declared.{mentioned, no_storage_is, parameter_storage_is, unless_ok}
-use Rattle.c_checking.proofs.Found.{Found, FoundAll, FoundType, FoundConstant, valued, constant_found, name_found, number_found, character_found}
+use Rattle.c_checking.proofs.Found.{Found, FoundValue, FoundAll, FoundType, FoundConstant, valued, constant_found, name_found, number_found, character_found}
 use Rattle.c_checking.proofs.Found.{texts_found, index_found, dot_found, arrow_found, call_found, no_arguments_found, argument_found, post_found}
 use Rattle.c_checking.proofs.Found.{pre_found, unary_found}
 use Rattle.c_checking.proofs.Found.{sizeof_expression_found, sizeof_type_found, cast_found, binary_found, comma_found, tested_found, choice_found, assign_found}
-use Rattle.c_checking.proofs.FoundTypes.{ready_inside, FoundOne, FoundSpecifier, FoundFields, FoundMembers, FoundEnumerators, FoundNumber, FoundSteps}
+use Rattle.c_checking.proofs.FoundTypes.{FoundBase, ready_inside, FoundOne, FoundSpecifier}
+use Rattle.c_checking.proofs.FoundTypes.{FoundFields, FoundMembers, FoundEnumerators, FoundNumber, FoundSteps}
 use Rattle.c_checking.proofs.FoundTypes.{FoundParameters, FoundList, base_found, one_found, typename_found, struct_named_found, enum_named_found, struct_ready}
 use Rattle.c_checking.proofs.FoundTypes.{struct_body_found, enum_body_found, no_value_found, value_found, no_enumerators_found, bound_of}
 use Rattle.c_checking.proofs.FoundTypes.{enumerator_grown, enumerator_found}
@@ -315,3 +316,17 @@ module _ (untagged : ℕ → List ℕ) where
         let o = sound_parameters more scope (parameter_inside (moved s f) (declared_name d) t.1.0 i) n.2
         (parameter_ready (moved s f) (declared_name d) t.1.0 p.is_scalar i known) rest.0 rest.1 in
         parameter_found untagged s comma specs d more m t.1.0 steps.0.1 p rest.0 o z rest.2
+
+  -- ---- what stands outside of expressions asks for
+
+  pub sound_value_of : (a : Trees.Expression) (s : Scope) → IsInRange a → Ready s (marks untagged a) → (at : ℕ) (z : Expression × FileScope)
+      → value_at at (find a s) ≡ Ok z → FoundValue untagged s a z
+  sound_value_of a s n r at z h = valued untagged a s at (find a s) (λ y k. sound a s n r y k) z h
+
+  pub sound_constant : (a : Trees.Expression) (s : Scope) → IsInRange a → Ready s (marks untagged a) → (z : (IntKind × ℕ) × FileScope)
+      → constant_at (first a) (value_at (first a) (find a (for_value s))) ≡ Ok z → FoundConstant untagged s a z
+  sound_constant a s n r z h = constant_part a s (λ y k. sound a (for_value s) n r y k) z h
+
+  pub sound_base : (specs : Trees.Specifiers) (s : Scope) → AreSpecifiersInRange specs → Ready s (marks_of_specifiers untagged specs) → (at : ℕ)
+      → (z : CType × FileScope) → base_type (base_kind specs) at s.file (one_of specs s) ≡ Ok z → FoundBase untagged s specs z
+  sound_base specs s n r at z h = base_found untagged s specs at (one_of specs s) (λ x e y k. sound_one specs s n r x e y k) z h
