@@ -259,7 +259,12 @@ pub size_made : (s : Scope) (records more : List Record) → s.file.records ≡ 
 size_made s records more e at by t z m =
     let n : size_of s.file.records t ≡ size_of records t = ap (λ all. size_of all t) e ∙ (layouts_stay records more).sizes t z.is_known in
     let l : size_of records t % 2 ^ 32 ≡ size_of records t = omega (arith, z.is_limited) in (
-      (z.is_complete, m, ap (λ n. a_value (Typed.expression (record { ty = integer UInt; note = sized t at }) (place_in s at) (Typed.constant n))) (sym n)),
+      (
+        z.is_complete,
+        m,
+        ap (λ n. a_value (Typed.expression (record { ty = integer UInt; note = sized t at }) (place_in s at) (Typed.constant n))) (sym n),
+        rw n z.is_limited,
+      ),
       (UInt, refl, l),
       (refl, λ count p. cc),
     )
