@@ -17,3 +17,12 @@ pub mod FoundDeclarators
 pub mod Sound
 pub mod Adding
 pub mod Growth
+pub mod CompleteValues
+pub mod CompleteNodes
+pub mod CompletePart
+pub mod CompleteParts
+pub mod CompleteWalk
+pub mod CompleteOperands
+pub mod CompleteExpressions
+pub mod CompleteCalls
+pub mod CompleteDeclarators
