@@ -65,23 +65,36 @@ fn has_untagged(tags: &Tags, rows: &[(u32, &'static str)]) -> bool {
     true
 }
 
-/// The first text that tells something else, with the list in which it does; a text without tags tells none.
+/// The list in which tags are other than a row says, if one is.
+fn wrong_list(tags: &Tags, row: &Row) -> Option<&'static str> {
+    if !has_tags(tags, row.tags) {
+        return Some("tags");
+    }
+    if !has_ends(tags, row.ends) {
+        return Some("ends");
+    }
+    if !has_numbers(tags, row.numbered) {
+        return Some("numbered");
+    }
+    if !has_untagged(tags, row.untagged) {
+        return Some("untagged");
+    }
+    None
+}
+
+/// The list in which a text tells something else than its row says; all of them where it has no tree.
+fn otherwise(alloc: Global, row: &Row) -> Option<&'static str> {
+    match tags_of(alloc, row.text) {
+        Some(tags) => wrong_list(&tags, row),
+        None => Some("all"),
+    }
+}
+
+/// The first text that tells something else, with the list in which it does.
 pub fn first_otherwise(alloc: Global, rows: &[Row]) -> Option<(&'static str, &'static str)> {
     for row in rows {
-        let Some(tags) = tags_of(alloc, row.text) else {
-            return Some((row.text, "none"));
-        };
-        if !has_tags(&tags, row.tags) {
-            return Some((row.text, "tags"));
-        }
-        if !has_ends(&tags, row.ends) {
-            return Some((row.text, "ends"));
-        }
-        if !has_numbers(&tags, row.numbered) {
-            return Some((row.text, "numbered"));
-        }
-        if !has_untagged(&tags, row.untagged) {
-            return Some((row.text, "untagged"));
+        if let Some(list) = otherwise(alloc, row) {
+            return Some((row.text, list));
         }
     }
     None
