@@ -1,1 +1,3 @@
 pub mod Promoted
+pub mod Limits
+pub mod Steps
