@@ -20,6 +20,9 @@ COMPILERS = ["riscv64-unknown-elf-gcc", "riscv64-linux-gnu-gcc"]
 VALGRIND = "valgrind"
 TIME = "time"
 PACKAGES = {
+    "csmith": "csmith",
+    "gcc": "gcc",
+    "tcc": "tcc",
     EMULATOR: "qemu-user",
     OBJDUMP: "binutils-riscv64-linux-gnu",
     READELF: "binutils",

@@ -41,8 +41,10 @@ abbrev pub with_object : FileScope → AnObject → FileScope
 with_object f o = record f { objects = f.objects ++ o ∷ [] }
 
 abbrev pub literal_for : Purpose → Scope → Place → List ℕ → Checked Thing
-literal_for in_full s at bytes = Ok (an_object (way (array (integer Char) (length bytes)) at (Typed.object (length s.file.objects))),
-    with_object s.file (literal_object at bytes))
+literal_for in_full s at bytes = Ok (
+  an_object (way (array (integer Char) (length bytes)) at (Typed.object (length s.file.objects))),
+  with_object s.file (literal_object at bytes),
+)
 literal_for p s at bytes = Ok (unmade at (array (integer Char) (length bytes)), s.file)
 
 unfoldable pub literal_in : Scope → Place → List ℕ → Checked Thing
@@ -235,7 +237,7 @@ derived records (to_array count at n ∷ more) t =
 derived records (to_open_array count at ∷ []) t = element records count at t >>= λ e. Ok (open_array e)
 derived records (to_open_array count at ∷ more) t = refused R.Length at
 derived records (to_function at parameters ∷ more) t =
-    result_type at t >>= λ r. small records at (function r parameters) >>= λ u. derived records more u
+    result_type at t >>= λ r. small records at (pointer (function r parameters)) >>= λ u. derived records more (function r parameters)
 
 -- a length is a number of at least 1
 abbrev pub length_of_number : ℕ → ℤ → Answer ℕ

@@ -167,7 +167,7 @@ unfoldable mutual
       >>= λ steps. with_file steps.1 (type_of_derived (first_declarator d semicolon) steps.1 steps.0 base)
       >>= λ t. with_file t.1 (object_at t.1.records (complete s (first_declarator d semicolon)) (first_declarator d semicolon) t.0)
       >>= λ u. with_member (place_in s (first_declarator d semicolon)) u.0 (declared_name d)
-        (member_declarators more base semicolon (moved s (with_mention s (mentions_in s.file) Named u.0 (first_declarator d semicolon) u.1)))
+      (member_declarators more base semicolon (moved s (with_mention s (mentions_in s.file) Named u.0 (first_declarator d semicolon) u.1)))
 
   -- enumerators, from the value on that the next one has where none is written (6.7.2.2)
   pub enumerators : Trees.Enumerators → Scope → (next after : ℕ) → Checked (Unit {0})
@@ -207,5 +207,5 @@ unfoldable mutual
       >>= λ b. derivations d (moved s b.1) >>= λ steps. with_file steps.1 (derived steps.1.records steps.0 b.0)
       >>= λ shape. new_if_named s (declared_name d) (with_file shape.1 (scalar_parameter (first_declarator d (first_specifiers specs)) (parameter_type shape.0)))
       >>= λ t. parameters more (with_parameter_if_named (moved s (with_mention s (mentions_in b.1) Named t.0 (first_declarator d (first_specifiers specs)) t.1))
-        (declared_name d) t.0)
+      (declared_name d) t.0)
       >>= λ rest. Ok (and_type t.0 rest.0, rest.1)

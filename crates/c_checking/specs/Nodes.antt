@@ -1,6 +1,6 @@
 -- What is made of the parts of an expression once they are found: a typed node, or the rule that is broken (C99 6.5). `count` records are
 -- complete where the node begins.
-use Rattle.std.specs.Prelude.{ℕ, ◌+◌, ◌&&◌, Bool, true, false, if◌then◌else◌, List, [], ◌∷◌, length, slice_get}
+use Rattle.std.specs.Prelude.{ℕ, ◌+◌, ◌&&◌, Bool, true, false, nat_le, nat_lt, if◌then◌else◌, List, [], ◌∷◌, length, slice_get}
 use Rattle.std.specs.Prelude.{Option, Some, None, Ok, Err}
 use Rattle.std.specs.Str.{bytes_eq}
 use Rattle.lay_base.specs.declared.place.Place.{Place}
@@ -8,7 +8,7 @@ use Rattle.lay_base.specs.declared.faults.Rule.TheVariants as R
 use Rattle.c_types.specs.declared.ty.IntKind.TheVariants.{Int, UInt}
 use Rattle.c_types.specs.Types.{CType, CTypes, void, integer, pointer, array, function, structure, Field, Record}
 use Rattle.c_types.specs.Layouts.{size_of}
-use Rattle.c_types.specs.Objects.{is_object}
+use Rattle.c_types.specs.Objects.{is_object, parts}
 use Rattle.c_types.specs.Sameness.{same_type}
 use Rattle.c_typed.specs.declared.operators.UnaryOp.{UnaryOp}
 use Rattle.c_typed.specs.declared.operators.StepOp.{StepOp}
@@ -22,7 +22,7 @@ use Rattle.c_typed.specs.Conversions.{is_integer, is_scalar, is_function, promot
 use Rattle.c_typed.specs.Constants.{is_null}
 use Rattle.c_typed.specs.Fits.{assigns, casts}
 use Rattle.c_typed.specs.Rules.{on_numbers, comparing, choosing, moving, differing, updating, is_stepped, points_to_object}
-use Rattle.c_erasure.specs.Broken.{undeclared, called_type}
+use Rattle.c_erasure.specs.Broken.{undeclared, too_big, called_type}
 use Rattle.c_erasure.specs.Erasure.{typed, unmade}
 use Rattle.c_erasure.specs.Noted.{Noted, Expression, Path, Node, Thing, an_object, a_value, a_function, a_function_at, a_library_function, size_of as sized}
 use Rattle.c_erasure.specs.Noted.{value, way, type_of, type_of_path, value_of}
@@ -169,7 +169,8 @@ step_in count from op_at at op before (an_object p) =
 step_in count from op_at at op before th = refused R.Lvalue from
 
 unfoldable pub address_in : (from : ℕ) → Place → Thing → Answer Thing
-address_in from at (an_object p) = a_node (pointer (type_of_path p)) at (Typed.address_of p)
+address_in from at (an_object p) =
+    if nat_lt (parts (type_of_path p)) 1024 then a_node (pointer (type_of_path p)) at (Typed.address_of p) else Err (too_big at.at)
 address_in from at (a_function f_at f t) = a_node (pointer t) at (Typed.function_name f)
 address_in from at (a_function_at e) = Ok (a_value e)
 address_in from at (a_value e) = refused R.Lvalue at.at
@@ -207,9 +208,13 @@ size_node records at t =
 abbrev pub is_complete : List Record → (count : ℕ) → CType → Bool
 is_complete records count t = is_object count t && is_object (length records) t
 
+-- no size passes the limit
+abbrev pub of_limited_size : List Record → (at : ℕ) → CType → Answer CType
+of_limited_size records at t = if nat_le (size_of records t) 16777216 then Ok t else Err (too_big at)
+
 -- a type whose size is asked
 unfoldable pub sized_type : List Record → (count at : ℕ) → CType → Answer CType
-sized_type records count at t = if is_complete records count t then Ok t else refused R.Incomplete at
+sized_type records count at t = if is_complete records count t then of_limited_size records at t else refused R.Incomplete at
 
 abbrev pub measured_of : List Record → (count at : ℕ) → Option CType → Answer CType
 measured_of records count at None = refused R.Incomplete at

@@ -128,7 +128,7 @@ as_function_typed : IsTyped (declared here) (typed as_function)
 as_function_typed = ((refl, refl, refl, refl), refl, (λ e. cc), refl)
 
 no_function : Erases address_of_target here (a_value as_function) → ⊥
-no_function (an_object p, (t, r), w) = cc
+no_function (an_object p, (t, few, r), w) = cc
 no_function (a_value e, r, w) = r
 no_function (a_function at f t, r, w) = cc
 no_function (a_library_function at which, r, w) = r

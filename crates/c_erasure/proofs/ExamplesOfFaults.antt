@@ -23,7 +23,7 @@ use Rattle.c_erasure.specs.Broken.{One, Two, AreUnfit, IsBroken, null}
 use Rattle.c_erasure.specs.BrokenStatements.{AreBrokenItems}
 use Rattle.lay_base.specs.declared.faults.Rule.{Rule}
 use Rattle.c_types.specs.declared.ty.IntKind.TheVariants.{Int}
-use Rattle.c_types.specs.Types.{CType, void, function, no_types}
+use Rattle.c_types.specs.Types.{CType, void, pointer, function, no_types}
 use Rattle.c_ast.specs.declared.operators.BinaryOp.TheVariants as O
 use Rattle.c_ast.specs.Trees
 use Rattle.c_typed.specs.declared.operators.BinaryOp.TheVariants.{Add}
@@ -208,15 +208,15 @@ int_is : (f : FileScope) (t : CType) → IsBase (IsOne (at_file_scope f) (ints 0
 int_is f t (inl (e, n)) = cc
 int_is f t (inr (e, n)) = absurd n
 
-main_is_small : (f : FileScope) → IsSmall f.records (function int no_types)
+main_is_small : (f : FileScope) → IsSmall f.records (pointer (function int no_types))
 main_is_small f = record { bytes = omega arith; parts = omega arith }
 
 no_broken_declarator : (f : FileScope) (base : CType) (fault : Fault) → base ≡ int → IsBrokenDeclarator main_declarator (at_file_scope f) base fault → ⊥
 no_broken_declarator f base fault is (inl b) = b
 no_broken_declarator f base fault is (inr (inl (e, (n, v)))) = let z : true ≡ false = subst (λ t. is_scalar t ≡ false) is n in cc
 no_broken_declarator f base fault is (inr (inr (types, listed, inl (e, big)))) =
-    let z = subst (λ t. IsSmall f.records (function t types) → ⊥) is big in
-    let w = subst (λ types. IsSmall f.records (function int types) → ⊥) listed z in
+    let z = subst (λ t. IsSmall f.records (pointer (function t types)) → ⊥) is big in
+    let w = subst (λ types. IsSmall f.records (pointer (function int types)) → ⊥) listed z in
     w (main_is_small f)
 no_broken_declarator f base fault is (inr (inr (types, listed, inr b))) = b
 

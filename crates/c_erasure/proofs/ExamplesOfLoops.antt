@@ -99,7 +99,7 @@ block_items = Trees.and_block_item (Trees.local i_declaration)
 abbrev main_item : Trees.Item
 main_item = Trees.defines (ints 43) (Trees.function (Trees.named (word (codes "main") 47 51)) 51 (Trees.void_alone 52) 56) 57 block_items 115
 
-abbrev items : List Trees.Item
+abbrev pub items : List Trees.Item
 items = enum_item ∷ a_item ∷ main_item ∷ []
 
 -- ---- the file
@@ -206,7 +206,7 @@ array_bound = bound (codes "a") 28 33 (Scopes.an_object 0 a_type)
 abbrev main_bound : Bound
 main_bound = bound (codes "main") 47 57 (Scopes.a_function 0 main_type)
 
-abbrev file : FileScope
+abbrev pub file : FileScope
 file = record {
   file = 0;
   names = a_bound ∷ b_bound ∷ c_bound ∷ array_bound ∷ main_bound ∷ [];

@@ -494,7 +494,7 @@ main_erased = (
                   u_address,
                   refl,
                   refl,
-                  (a_value u_address, refl, (an_object u_path, (pointer the_type, refl), (a_local 0 the_type, refl, refl))),
+                  (a_value u_address, refl, (an_object u_path, (pointer the_type, omega arith, refl), (a_local 0 the_type, refl, refl))),
                 ),
               ),
             ),

@@ -57,7 +57,7 @@ abbrev main_item : Trees.Item
 main_item = Trees.defines (ints 67) (Trees.function (Trees.named (word (codes "main") 71 75)) 75 (Trees.void_alone 76) 80) 81
     (Trees.and_block_item (Trees.statement (Trees.return 82 (Some (Trees.number (word (codes "0") 89 90) 0 Int)) 90)) Trees.no_block_items) 91
 
-abbrev items : List Trees.Item
+abbrev pub items : List Trees.Item
 items = record_item ∷ f_item ∷ main_item ∷ []
 
 -- ---- the file
@@ -133,7 +133,7 @@ f_bound = record { name = codes "f"; place = 38; from = 52; how = defines; entit
 abbrev main_bound : Bound
 main_bound = record { name = codes "main"; place = 71; from = 81; how = defines; entity = Scopes.a_function 1 main_type }
 
-abbrev file : FileScope
+abbrev pub file : FileScope
 file = record {
   file = 0;
   names = f_bound ∷ main_bound ∷ [];

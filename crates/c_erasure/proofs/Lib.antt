@@ -1,12 +1,12 @@
-mod ExampleParts
+pub mod ExampleParts
 mod ExamplesOfExpressions
 mod ExamplesOfFiles
-mod ExamplesOfRecords
-mod ExamplesOfLoops
+pub mod ExamplesOfRecords
+pub mod ExamplesOfLoops
 mod ExamplesOfRefusals
 mod ExamplesOfSizes
-mod ManyItems
-mod ExamplesOfManyItems
+pub mod ManyItems
+pub mod ExamplesOfManyItems
 mod ExamplesOfFaultsInBodies
 mod ExamplesOfFaults
 mod ExamplesOfFaultsInFiles

@@ -8,7 +8,7 @@ use Rattle.lay_base.specs.declared.faults.Rule.TheVariants as R
 use Rattle.c_types.specs.declared.ty.IntKind.{IntKind}
 use Rattle.c_types.specs.Types.{CType, CTypes, void, pointer, array, function, structure, no_types, and_type, Field, Record}
 use Rattle.c_types.specs.Layouts.{size_of_record}
-use Rattle.c_types.specs.Objects.{is_object}
+use Rattle.c_types.specs.Objects.{is_object, parts}
 use Rattle.c_ast.specs.declared.words.Spelling.{Spelling}
 use Rattle.c_ast.specs.declared.operators.UnaryOp.{UnaryOp}
 use Rattle.c_ast.specs.declared.operators.UnaryOp.TheVariants as U
@@ -185,13 +185,18 @@ abbrev pub IsOnlyValue : Thing → Type 0
 IsOnlyValue (a_value e) = Unit {0}
 IsOnlyValue th = ⊥
 
+-- an object of a type of which a pointer type passes the limit
+abbrev pub IsOfGreatestType : Thing → Type 0
+IsOfGreatestType (an_object p) = 1024 ≤ parts (type_of_path p)
+IsOfGreatestType th = ⊥
+
 -- what it points to is an object or a function
 abbrev pub IsPointless : (count : ℕ) → CType → Rule → Type 0
 IsPointless count (pointer t) rule = (rule ≡ R.Incomplete) × ((is_object count t || is_function t) ≡ false)
 IsPointless count t rule = rule ≡ R.Operands
 
 abbrev pub IsBrokenUnary : UnaryOp → ℕ → Trees.Expression → Scope → Fault → Type 0
-IsBrokenUnary U.Address at a s f = ((f ≡ ill_typed R.Lvalue at) × AThing a s IsOnlyValue) ⊎ ((f ≡ ill_typed R.Library (first a)) × AThing a s IsLibrary)
+IsBrokenUnary U.Address at a s f = ((f ≡ too_big at) × AThing a s IsOfGreatestType) ⊎ ((f ≡ ill_typed R.Lvalue at) × AThing a s IsOnlyValue) ⊎ ((f ≡ ill_typed R.Library (first a)) × AThing a s IsLibrary)
 IsBrokenUnary U.Deref at a s f = HasNoValue a s f
     ⊎ ((rule : Rule) × (f ≡ ill_typed rule at) × One a s (λ x. IsPointless (ended s.file.ends at) (type_of x) rule))
 IsBrokenUnary U.Not at a s f = HasNoValue a s f ⊎ ((f ≡ ill_typed R.Operands at) × One a s (λ x. is_scalar (type_of x) ≡ false))
@@ -411,7 +416,6 @@ abbrev mutual
   pub AreBrokenFields : Trees.MemberDeclarators → Scope → CType → ℕ → Fault → Type 0
   AreBrokenFields Trees.no_member_declarators s base semicolon f = ⊥
   AreBrokenFields (Trees.and_member_declarator comma d more) s base semicolon f = IsBrokenDeclarator d s base f
-      ⊎ ((declared_name d ≡ None) × (f ≡ ill_typed R.Specifiers (first_declarator d semicolon)))
       ⊎ ((u : CType) × Declares s d base (open_array u) × (f ≡ ill_typed R.Length (first_declarator d semicolon)))
       ⊎ ((t : CType) × Declares s d base (closed t) × (is_object (ended s.file.ends (first_declarator d semicolon)) t ≡ false)
       × (f ≡ ill_typed R.Incomplete (first_declarator d semicolon)))
@@ -430,7 +434,7 @@ abbrev mutual
   IsBrokenDeclarator (Trees.function d left all right) s t f = AreBrokenParameters all (inside s) f
       ⊎ ((f ≡ ill_typed R.ByValue left) × IsNoResult t)
       ⊎ ((parameters : CTypes) × AreParameters (inside s) all parameters
-      × (IsTooBig s (function t parameters) left f ⊎ IsBrokenDeclarator d s (function t parameters) f))
+      × (IsTooBig s (pointer (function t parameters)) left f ⊎ IsBrokenDeclarator d s (function t parameters) f))
 
   pub IsBrokenLength : Trees.OptionalExpression → Scope → Fault → Type 0
   IsBrokenLength Trees.no_expression s f = ⊥

@@ -8,7 +8,7 @@ use Rattle.c_types.specs.declared.ty.IntKind.{IntKind}
 use Rattle.c_types.specs.declared.ty.IntKind.TheVariants.{Char, Int, UInt}
 use Rattle.c_types.specs.Types.{CType, CTypes, void, integer, pointer, array, function, structure, no_types, and_type, Field, Record}
 use Rattle.c_types.specs.Layouts.{size_of}
-use Rattle.c_types.specs.Objects.{is_object}
+use Rattle.c_types.specs.Objects.{is_object, parts}
 use Rattle.c_lexer.specs.QuotedScan.{string_bytes}
 use Rattle.c_ast.specs.declared.words.Spelling.{Spelling}
 use Rattle.c_ast.specs.declared.operators.UnaryOp.TheVariants as U
@@ -117,9 +117,9 @@ IsCall (a_value e) all node = node ≡ Typed.call_through e all
 IsCall (a_function_at e) all node = node ≡ Typed.call_through e all
 IsCall (an_object p) all node = (e : Expression) × (value_of (an_object p) ≡ Some e) × (node ≡ Typed.call_through e all)
 
--- `&` of an object, or of a function (6.5.3.2)
+-- `&` of an object, within the limits of types, or of a function (6.5.3.2)
 abbrev pub IsAddress : Place → Thing → Thing → Type 0
-IsAddress at (an_object p) th = (t : CType) × (th ≡ a_value (value t at (Typed.address_of p)))
+IsAddress at (an_object p) th = (t : CType) × (parts t ≤ 1024) × (th ≡ a_value (value t at (Typed.address_of p)))
 IsAddress at (a_function from f t) th = th ≡ a_value (value (pointer t) at (Typed.function_name f))
 IsAddress at (a_function_at e) th = th ≡ a_value e
 IsAddress at operand th = ⊥
@@ -292,9 +292,10 @@ abbrev mutual
       × (1 ≤ n) × (is_object (ended s.file.ends left) t ≡ true) × IsSmall s.file.records (array t n) × Declares s d (array t n) shape
   Declares s (Trees.array d left Trees.no_expression right) t shape = (is_object (ended s.file.ends left) t ≡ true) × (is_name d ≡ true)
       × (shape ≡ open_array t)
-  -- a function gives a number, a pointer or nothing (own: no record)
+  -- a function gives a number, a pointer or nothing (own: no record), and its name becomes a pointer to it
   Declares s (Trees.function d left all right) t shape = (parameters : CTypes) × AreParameters (inside s) all parameters
-      × ((is_scalar t ≡ true) ⊎ (t ≡ void)) × IsSmall s.file.records (function t parameters) × Declares s d (function t parameters) shape
+      × ((is_scalar t ≡ true) ⊎ (t ≡ void)) × IsSmall s.file.records (pointer (function t parameters))
+      × Declares s d (function t parameters) shape
 
   pub AreParameters : Scope → Trees.ParameterList → CTypes → Type 0
   AreParameters s (Trees.void_alone at) types = types ≡ no_types

@@ -1,6 +1,7 @@
 //! Unary operators and casts (C99 6.5.2.4, 6.5.3, 6.5.4). An operand begins at `from`, and `count` records are complete there.
 
-ghost use Rattle.std.specs.Prelude.{◌≡◌};
+ghost use Rattle.std.specs.Prelude.{◌≡◌, nat_lt};
+ghost use Rattle.c_types.specs.Objects.{parts};
 ghost use Rattle.c_types.specs.Views.{type_of};
 ghost use Rattle.c_checking.specs.Nodes.{address_in, cast_in, deref_in, not_in, step_in, unary_in};
 ghost use Rattle.c_annotated.specs.Views.{expression_of, thing_of};
@@ -11,7 +12,7 @@ use crate::making::{node, pointer_to, way};
 use crate::subscripts::promote;
 use c_annotated::{Expression, ExpressionNode, PathNode, Thing, is_null};
 use c_typed::{StepOp, UnaryOp, casts, is_function, is_scalar, is_stepped, promoted_kind};
-use c_types::{IntKind, Ty, copy, is_object};
+use c_types::{IntKind, Ty, copy, is_object, parts};
 use lay_base::{Boxed, Place, Rule};
 use std::alloc::Global;
 
@@ -42,6 +43,13 @@ pub fn step(
     }
 }
 
+/// Whether a pointer to a type is within the limit of types.
+fn is_pointed_to(t: &Ty) -> bool
+    ensures { result ≡ nat_lt (parts (type_of t.now)) 1024 }
+{
+    parts(t) < 1024
+}
+
 /// `&`
 #[tactic(auto, unfolding(c_checking::specs::Nodes::address_in))]
 pub fn address(alloc: Global, from: u32, at: Place, thing: Thing) -> Result<Thing, Fault>
@@ -49,8 +57,12 @@ pub fn address(alloc: Global, from: u32, at: Place, thing: Thing) -> Result<Thin
 {
     match thing {
         Thing::Object(p) => {
-            let t = pointer_to(alloc, copy(alloc, &p.get().ty)?)?;
-            node(alloc, t, at, ExpressionNode::AddressOf(p))
+            if is_pointed_to(&p.get().ty) {
+                let t = pointer_to(alloc, copy(alloc, &p.get().ty)?)?;
+                node(alloc, t, at, ExpressionNode::AddressOf(p))
+            } else {
+                Err(Fault::TooBig(at.at))
+            }
         }
         Thing::Function(_, f, t) => {
             let t = pointer_to(alloc, t)?;

@@ -1,0 +1,4 @@
+pub mod Walks
+pub mod MarksOfParts
+pub mod MarksOfFiles
+pub mod Ordered

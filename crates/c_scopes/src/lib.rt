@@ -1,0 +1,11 @@
+//! What is declared where an expression stands (C99 6.2.1): the file with all that it declares up to there, and the blocks around.
+//!
+//! It stands on `c_annotated` and on the tables of `c_tags`. It promises that a look-up finds what the definition of its name says of the lists
+//! of all that is declared, in constant time for each block.
+#![tactic(auto)]
+
+mod block;
+mod bound_names;
+
+pub use block::Block;
+pub use bound_names::BoundNames;

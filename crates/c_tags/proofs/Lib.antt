@@ -1,0 +1,9 @@
+pub mod Pushing
+pub mod NextScopes
+pub mod Numbers
+pub mod TagTables
+pub mod Searching
+pub mod Counting
+pub mod Tagging
+pub mod Folds
+pub mod Structs

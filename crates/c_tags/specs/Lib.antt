@@ -1,0 +1,6 @@
+pub mod Marks
+pub mod Untagged
+pub mod Keys
+pub mod Names
+pub mod Tables
+pub mod TagLists

@@ -1,0 +1,124 @@
+//! The tags of a file.
+
+ghost use Rattle.std.specs.Prelude.{◌≡◌, ◌≤◌, IfOk, length};
+ghost use Rattle.c_ast.specs.TreesOfFiles.{IsTreeOf};
+ghost use Rattle.c_ast.specs.Spelling.{spell};
+ghost use Rattle.c_ast.specs.Views.{items_of};
+ghost use Rattle.c_erasure.specs.Scopes.{ended, tag_at};
+ghost use Rattle.c_erasure.specs.Untagged.{AreTags, structs_in};
+ghost use Rattle.c_tags.specs.Names.{number_in};
+ghost use Rattle.c_tags.specs.Tables.{place_of_tag};
+ghost use Rattle.c_tags.specs.TagLists.{AreTagsOf};
+ghost use Rattle.c_tags.specs.Untagged.{untagged_by};
+
+use crate::names::Names;
+use crate::search::ended;
+use crate::table::TagTable;
+use crate::tables::{Tables, tables_of};
+use crate::untagged::{Untagged, untagged_of};
+use c_ast::Tree;
+use c_lexer::tokens_have_places;
+use lay_base::{File, NoMemory};
+use std::alloc::Global;
+use std::marker::Model;
+
+/// What the syntax of a file tells of its tags and structures, with look-ups in constant time, and by a binary search of the ends.
+#[derive(Drop)]
+pub struct Tags {
+    untagged: Untagged,
+    tags: TagTable,
+    ends: Vec<u32>,
+    numbered: Names,
+}
+
+impl Model for Tags {
+    ghost use Rattle.std.specs.Prelude.{ℕ, ◌<◌, ◌^◌, length};
+    ghost use Rattle.c_erasure.specs.Files.{AreAscending};
+    ghost use Rattle.c_tags.specs.TagLists.{TagLists};
+
+    ghost Value = { TagLists };
+
+    ghost view = { λ it. record { tags = it.tags; ends = it.ends.items; numbered = it.numbered; untagged = it.untagged } };
+
+    ghost invariant = { λ it. record { few : length it.ends.items < 2 ^ 32; ascending : AreAscending it.ends.items } };
+}
+
+impl Tags {
+    /// The tags of a tree, which is that of the file's bytes.
+    pub fn of(alloc: Global, tree: &Tree, file: &File) -> Result<Tags, NoMemory>
+        requires short { length file.now.bytes ≤ 4194304 }
+        requires tree { IsTreeOf file.now.bytes (items_of tree.now) }
+        ensures { IfOk result (AreTagsOf file.now.name file.now.bytes (items_of tree.now)) }
+    {
+        tokens_have_places();
+        let untagged = untagged_of(alloc, tree, file)?;
+        let tables = tables_of(alloc, &untagged, tree)?;
+        let Tables {
+            tags,
+            ends,
+            numbered,
+        } = tables;
+        Ok(Tags {
+            untagged,
+            tags,
+            ends,
+            numbered,
+        })
+    }
+
+    /// Whether a tag that was declared before byte `at` is one of an enumeration; `None` where none was (C99 6.2.1, 6.7.2.3).
+    pub fn tag_at(&self, name: &[u8], at: u32) -> Option<bool>
+        ensures { result ≡ tag_at self.now.tags name.now at }
+    {
+        self.tags.tag_at(name, at)
+    }
+
+    /// Where a tag stands first.
+    pub fn place_of_tag(&self, name: &[u8]) -> Option<u32>
+        ensures { result ≡ place_of_tag self.now.tags name.now }
+    {
+        self.tags.place_of(name)
+    }
+
+    /// The number of a structure, by its tag.
+    pub fn number_of(&self, tag: &[u8]) -> Option<u32>
+        ensures { result ≡ number_in self.now.numbered tag.now }
+    {
+        self.numbered.number_of(tag)
+    }
+
+    /// How many definitions of structures ended before byte `at`.
+    pub fn ended(&self, at: u32) -> u32
+        ensures { result ≡ ended self.now.ends at }
+    {
+        ended(&self.ends, at)
+    }
+
+    /// The tag of a structure without one, by the byte of its `struct`. It begins with `@`, as no name does.
+    pub fn untagged(&self, at: u32) -> &[u8]
+        ensures { result.now ≡ untagged_by self.now.untagged at }
+    {
+        self.untagged.tag_at(at)
+    }
+
+    /// How many tags there are.
+    pub fn tags(&self) -> usize
+        ensures { result ≡ length self.now.tags }
+    {
+        self.tags.len()
+    }
+
+    /// How many definitions of structures there are.
+    pub fn definitions(&self) -> usize
+        ensures { result ≡ length self.now.ends }
+    {
+        self.ends.len()
+    }
+
+    /// How many structures have a number.
+    pub fn structures(&self) -> usize
+        ensures { result ≡ length self.now.numbered }
+    {
+        self.numbered.len()
+    }
+}
