@@ -1,3 +1,2 @@
 pub mod Promoted
 pub mod Limits
-pub mod Steps

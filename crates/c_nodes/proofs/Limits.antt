@@ -10,8 +10,9 @@ use Rattle.c_types.specs.declared.record.Record as R
 use Rattle.c_types.specs.Types.{CType, void, integer, pointer, array, function, structure, Record}
 use Rattle.c_types.specs.Layouts.{layouts, size_of}
 use Rattle.c_types.specs.Limits.{size_if_small}
-use Rattle.c_types.specs.Objects.{is_object}
+use Rattle.c_types.specs.Objects.{is_object, parts}
 use Rattle.c_types.specs.Views.{record_of, records_of}
+use Rattle.c_checking.specs.Declaring.{is_small}
 use Rattle.c_types.proofs.Before.{length-layouts}
 
 -- what is no object has no bytes
@@ -43,3 +44,16 @@ small_of_some size found h = tests (nat_le size 16777216) size found h
 
 pub few_parts : (n : ℕ) → nat_le (min n (2 ^ 32 - 1)) 1024 ≡ nat_le n 1024
 few_parts n = grind arith
+
+pub room_for_pointer : (n : ℕ) → nat_lt (min n (2 ^ 32 - 1)) 1024 ≡ nat_lt n 1024
+room_for_pointer n = grind arith
+
+pub small_pointer : (records : List Record) (t : CType) → is_small records (pointer t) ≡ nat_lt (parts t) 1024
+small_pointer records t = ap (λ n. nat_le n 1024) (omega arith)
+
+given : (b : Bool) (size v : ℕ) → Some v ≡ then_some b size → (b ≡ true) × (v ≡ size)
+given true size v h = (refl, ap (λ o. unwrap_or o 0) h)
+given false size v h = cc
+
+pub of_small_size : (size v : ℕ) → Some v ≡ size_if_small size → (nat_le size 16777216 ≡ true) × (v ≡ size)
+of_small_size size v h = given (nat_le size 16777216) size v h

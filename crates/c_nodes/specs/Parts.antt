@@ -1,7 +1,6 @@
 -- What parts of nodes answer.
-use Rattle.std.specs.Prelude.{◌≡◌, ℕ, Result, Ok, Err, Option, Some, None}
+use Rattle.std.specs.Prelude.{◌≡◌, Result, Ok, Err, Option, Some, None}
 use Rattle.lay_base.specs.declared.no_memory.NoMemory.{NoMemory}
-use Rattle.c_types.specs.declared.ty.IntKind.{IntKind}
 use Rattle.c_types.specs.Types.{CType, CTypes, void, function, no_types}
 use Rattle.c_types.specs.Views.{type_of, types_of}
 use Rattle.c_erasure.specs.Noted.{Thing}
@@ -11,7 +10,6 @@ use Rattle.c_annotated.specs.Views.{path_of, thing_of}
 use Rattle.c_nodes.specs.declared.assignments.Target.{Target}
 use Rattle.c_nodes.specs.declared.assignments.Target.TheVariants.{Scalar, Record}
 use Rattle.c_nodes.specs.declared.calls.Signature.{Signature}
-use Rattle.c_nodes.specs.declared.lengths.Integer.{Integer}
 use Rattle.c_nodes.specs.declared.subscripts.Subscripted.{Subscripted}
 use Rattle.c_nodes.specs.declared.subscripts.Subscripted.TheVariants.{Array, Other}
 
@@ -36,6 +34,3 @@ result_of t = void
 abbrev pub target_view : Target → Nodes.Target
 target_view (Scalar p) = Nodes.scalar_at (path_of p)
 target_view (Record p) = Nodes.record_at (path_of p)
-
-abbrev pub integer_view : Integer → IntKind × ℕ
-integer_view c = (c.kind, c.value)

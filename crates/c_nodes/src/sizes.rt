@@ -1,20 +1,29 @@
 //! Sizes of types, and `sizeof` (C99 6.5.3.4). `count` records are complete where it stands.
 
-ghost use Rattle.std.specs.Prelude.{◌≡◌, IfOk, IsTrue, Ok, length, nat_le};
+ghost use Rattle.std.specs.Prelude.{◌≡◌, IfOk, List, Ok, nat_le, nat_lt};
 ghost use Rattle.std.specs.Option.{option_map};
 ghost use Rattle.c_types.specs.Layouts.{size_of as size_of_type};
-ghost use Rattle.c_types.specs.Objects.{is_object as object_type, parts as parts_of};
+ghost use Rattle.c_types.specs.Objects.{parts as parts_of};
+ghost use Rattle.c_types.specs.Types.{Record};
 ghost use Rattle.c_types.specs.Views.{records_of, type_of};
 ghost use Rattle.c_checking.specs.Declaring.{is_small as small_in};
-ghost use Rattle.c_checking.specs.Nodes.{is_complete as complete_in, measured_in, measured_type as type_measured, size_node, sized_type};
+ghost use Rattle.c_checking.specs.Nodes.{is_complete as complete_in, measured_in, measured_type as type_measured, size_node};
 ghost use Rattle.c_annotated.specs.Views.{thing_of};
 ghost use Rattle.c_nodes.specs.Gives.{Gives};
+ghost use Rattle.c_nodes.specs.Sizing.{sized_in, sized_view, with_size};
 
 use crate::fault::Fault;
 use c_annotated::{Expression, ExpressionNode, SizeOf, Thing};
 use c_types::{IntKind, Records, Ty, checked_size_of, copy, is_object, parts};
 use lay_base::{NoMemory, Place, Rule, boxed};
 use std::alloc::Global;
+
+/// An object type, with its size in bytes.
+#[derive(Drop)]
+pub struct SizedType {
+    pub ty: Ty,
+    pub size: u32,
+}
 
 /// Whether a type fully describes an object, and all records in it are in the list.
 pub fn is_complete(records: &Records, count: u32, t: &Ty) -> bool
@@ -50,13 +59,24 @@ pub fn is_small(records: &Records, t: &Ty) -> bool
     has_small_size(records, t) && has_few_parts(t)
 }
 
-/// A type whose size is asked. A fault is named at `at`.
-#[tactic(auto, unfolding(c_checking::specs::Nodes::sized_type))]
-pub fn sized(records: &Records, count: u32, at: u32, t: Ty) -> Result<Ty, Fault>
-    ensures { Gives type_of result (sized_type (records_of records.now) count at (type_of t)) }
+/// Whether a pointer to a type has at most 1,024 parts.
+#[tactic(auto, using(crate::proofs::Limits::room_for_pointer))]
+pub fn may_be_pointed_to(t: &Ty) -> bool
+    ensures { result ≡ nat_lt (parts_of (type_of t.now)) 1024 }
 {
-    if is_complete(records, count, &t) {
-        Ok(t)
+    parts(t) < 1024
+}
+
+/// A type whose size is asked, with its size. A fault is named at `at`.
+#[tactic(auto, unfolding(c_checking::specs::Nodes::sized_type), using(crate::proofs::Limits::of_small_size))]
+pub fn sized(records: &Records, count: u32, at: u32, t: Ty) -> Result<SizedType, Fault>
+    ensures { Gives sized_view result (sized_in (records_of records.now) count at (type_of t)) }
+{
+    if is_object(count, &t) && is_object(records.len(), &t) {
+        match checked_size_of(records, &t) {
+            Some(size) => Ok(SizedType { ty: t, size }),
+            None => Err(Fault::TooBig(at)),
+        }
     } else {
         Err(Fault::IllTyped(Rule::Incomplete, at))
     }
@@ -74,7 +94,7 @@ fn measured_type(alloc: Global, thing: &Thing) -> Result<Option<Ty>, NoMemory>
     }
 }
 
-/// The type of an operand of `sizeof`, which stands at `at`.
+/// The type of an operand of `sizeof`, which stands at `at`, with its size.
 #[tactic(auto, unfolding(c_checking::specs::Nodes::measured_in))]
 pub fn measured(
     alloc: Global,
@@ -82,8 +102,8 @@ pub fn measured(
     count: u32,
     at: u32,
     thing: &Thing,
-) -> Result<Ty, Fault>
-    ensures { Gives type_of result (measured_in (records_of records.now) count at (thing_of thing.now)) }
+) -> Result<SizedType, Fault>
+    ensures { Gives sized_view result (with_size (records_of records.now) (measured_in (records_of records.now) count at (thing_of thing.now))) }
 {
     match measured_type(alloc, thing)? {
         Some(t) => sized(records, count, at, t),
@@ -91,20 +111,16 @@ pub fn measured(
     }
 }
 
-/// The size of a complete type, as a constant. `Memory` comes also where it passes 16,777,216 bytes; no type of a file does.
-pub fn size(alloc: Global, records: &Records, at: Place, t: Ty) -> Result<Thing, Fault>
-    requires { IsTrue (object_type (length records.now) (type_of t)) }
-    ensures { Gives thing_of result (Ok (size_node (records_of records.now) at (type_of t))) }
+/// The constant that a `sizeof` is.
+pub fn size_constant(alloc: Global, at: Place, it: SizedType) -> Result<Thing, Fault>
+    ensures { (records : List Record) → it.size ≡ size_of_type records (type_of it.ty) → Gives thing_of result (Ok (size_node records at (type_of it.ty))) }
 {
-    let Some(v) = checked_size_of(records, &t) else {
-        return Err(Fault::Memory);
-    };
-    let note = boxed(alloc, SizeOf { ty: t, at: at.at })?;
+    let note = boxed(alloc, SizeOf { ty: it.ty, at: at.at })?;
     let constant = Expression {
         ty: Ty::Int(IntKind::UInt),
         note: Some(note),
         place: at,
-        node: ExpressionNode::Constant(v),
+        node: ExpressionNode::Constant(it.size),
     };
     Ok(Thing::Value(boxed(alloc, constant)?))
 }

@@ -5,10 +5,10 @@ ghost use Rattle.c_typed.specs.Conversions.{number_of as number_in};
 ghost use Rattle.c_checking.specs.Declaring.{constant_in, int_value as int_in, length_value, next_value as next_in};
 ghost use Rattle.c_annotated.specs.Views.{expression_of};
 ghost use Rattle.c_nodes.specs.Gives.{Gives};
-ghost use Rattle.c_nodes.specs.Parts.{integer_view};
+ghost use Rattle.c_declarators.specs.DeclaratorViews.{integer_view};
 
-use crate::fault::Fault;
 use c_annotated::{Expression, constant_of};
+use c_nodes::Fault;
 use c_typed::{Constant, is_signed};
 use c_types::{IntKind, Ty};
 use lay_base::Rule;

@@ -4,12 +4,10 @@ ghost use Rattle.std.specs.Prelude.{◌≡◌, IfOk};
 ghost use Rattle.c_types.specs.Views.{records_of, type_of, types_of};
 ghost use Rattle.c_erasure.specs.Declarators.{parameter_type as type_of_parameter};
 ghost use Rattle.c_checking.specs.Declaring.{closed_at, derived as derived_in, element as element_in, object_at, result_type, scalar_parameter, small as small_in};
-ghost use Rattle.c_nodes.specs.DeclaratorViews.{array_in, derivations_of, function_in, shape_of};
+ghost use Rattle.c_declarators.specs.DeclaratorViews.{array_in, derivations_of, function_in, shape_of};
 ghost use Rattle.c_nodes.specs.Gives.{Gives};
 
-use crate::fault::Fault;
-use crate::making::pointer_to;
-use crate::sizes::{is_complete, is_small};
+use c_nodes::{Fault, is_complete, is_small, may_be_pointed_to, pointer_to};
 use c_typed::{adjusted, is_scalar, is_void};
 use c_types::{Records, Ty};
 use lay_base::{List, NoMemory, Rule, boxed};
@@ -37,7 +35,7 @@ pub enum Shape {
 }
 
 /// A type within the limits of types. A fault is named at `at`.
-fn small(records: &Records, at: u32, t: Ty) -> Result<Ty, Fault>
+pub fn small(records: &Records, at: u32, t: Ty) -> Result<Ty, Fault>
     ensures { Gives type_of result (small_in (records_of records.now) at (type_of t)) }
 {
     if is_small(records, &t) {
@@ -84,18 +82,22 @@ fn array(
     small(records, at, Ty::Array(boxed(alloc, t)?, n))
 }
 
-/// A function with parameters of these types, whose result has a type.
+/// A function with parameters of these types, whose result has a type. A pointer to it is within the limits of types too.
 fn function(
     alloc: Global,
-    records: &Records,
     at: u32,
     parameters: List<Ty>,
     t: Ty,
 ) -> Result<Ty, Fault>
-    ensures { Gives type_of result (function_in (records_of records.now) at (types_of parameters) (type_of t)) }
+    ensures { Gives type_of result (function_in at (types_of parameters) (type_of t)) }
 {
     let t = result(at, t)?;
-    small(records, at, Ty::Function(boxed(alloc, t)?, parameters))
+    let t = Ty::Function(boxed(alloc, t)?, parameters);
+    if may_be_pointed_to(&t) {
+        Ok(t)
+    } else {
+        Err(Fault::TooBig(at))
+    }
 }
 
 /// What the steps of a declarator make of a type. The step that is taken first stands last.
@@ -123,7 +125,7 @@ pub fn derived(
             Some(_) => Err(Fault::IllTyped(Rule::Length, at)),
         },
         Some(Derivation::Function(at, parameters)) => {
-            let t = function(alloc, records, at, parameters, t)?;
+            let t = function(alloc, at, parameters, t)?;
             derived(alloc, records, steps, t)
         }
     }
