@@ -9,6 +9,7 @@ ghost use Rattle.c_nodes.specs.Gives.{Gives};
 
 use crate::fault::Fault;
 use crate::making::{node, pointer_to, way};
+use crate::sizes::may_be_pointed_to;
 use crate::subscripts::promote;
 use c_annotated::{Expression, ExpressionNode, PathNode, Thing, is_null};
 use c_typed::{StepOp, UnaryOp, casts, is_function, is_scalar, is_stepped, promoted_kind};

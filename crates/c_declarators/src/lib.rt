@@ -1,0 +1,11 @@
+//! The types that specifiers and declarators make of their parts once these are found (C99 6.7.2 to 6.7.6), or the rule that is broken.
+//!
+//! It stands on `c_nodes` and mirrors the functions of `c_checking` that ask nothing of the names of a file, one for one. It promises that
+//! each answers what the definition of its name says, or that no memory was left.
+#![tactic(auto)]
+
+mod declarators;
+mod lengths;
+
+pub use declarators::{Derivation, Shape, closed, derived, object, parameter_type, scalar, small};
+pub use lengths::{Integer, constant, int_value, length, next_value};
