@@ -1,1 +1,2 @@
 pub mod DeclaratorViews
+pub mod SpecifierViews

@@ -6,6 +6,8 @@
 
 mod declarators;
 mod lengths;
+mod specifiers;
 
 pub use declarators::{Derivation, Shape, closed, derived, object, parameter_type, scalar, small};
 pub use lengths::{Integer, constant, int_value, length, next_value};
+pub use specifiers::{Storage, storage_of};

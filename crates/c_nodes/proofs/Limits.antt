@@ -1,6 +1,6 @@
 -- Sizes and parts within the limits of types.
-use Rattle.std.proofs.Common.{◌≡◌, ◌∙◌, ◌≤◌, ℕ, zero, suc, ◌*◌, ◌-◌, ◌^◌, List, [], length, false, true, None, Some, refl, sym, ap, arith}
-use Rattle.std.specs.Prelude.{Bool, IsTrue, min, nat_le, nat_lt, slice_get, unwrap_or, Option, is_some, ◌&&◌}
+use Rattle.std.proofs.Common.{◌≡◌, ◌∙◌, ◌≤◌, ℕ, zero, suc, ◌*◌, ◌-◌, ◌^◌, List, [], length, false, true, Some, refl, sym, ap, arith}
+use Rattle.std.specs.Prelude.{Bool, min, nat_le, nat_lt, unwrap_or, Option, is_some, ◌&&◌}
 use Rattle.std.specs.Bool.{then_some}
 use Rattle.std.proofs.lemmas.Bool.{lt-ltb, ltb-false}
 use Rattle.std.proofs.lemmas.Option.{slice_get_past}

@@ -1,5 +1,5 @@
 -- What parts of nodes answer.
-use Rattle.std.specs.Prelude.{◌≡◌, Result, Ok, Err, Option, Some, None}
+use Rattle.std.specs.Prelude.{◌≡◌, Result, Ok, Err, Some, None}
 use Rattle.lay_base.specs.declared.no_memory.NoMemory.{NoMemory}
 use Rattle.c_types.specs.Types.{CType, CTypes, void, function, no_types}
 use Rattle.c_types.specs.Views.{type_of, types_of}
