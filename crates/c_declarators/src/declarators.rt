@@ -1,15 +1,20 @@
 //! The types that declarators make (C99 6.7.5), and the limits of types.
 
 ghost use Rattle.std.specs.Prelude.{◌≡◌, IfOk};
+ghost use Rattle.std.specs.Option.{option_copied, option_map};
 ghost use Rattle.c_types.specs.Views.{records_of, type_of, types_of};
 ghost use Rattle.c_erasure.specs.Declarators.{parameter_type as type_of_parameter};
-ghost use Rattle.c_checking.specs.Declaring.{closed_at, derived as derived_in, element as element_in, object_at, result_type, scalar_parameter, small as small_in};
+ghost use Rattle.c_checking.specs.Declaring.{closed_at, derived as derived_in, element as element_in, object_at, result_type, scalar_parameter, small as small_in, type_named};
+ghost use Rattle.c_checking.specs.Statements.{counted_array, variable_type};
+ghost use Rattle.c_annotated.specs.FileViews.{entity_of};
 ghost use Rattle.c_declarators.specs.DeclaratorViews.{array_in, derivations_of, function_in, shape_of};
 ghost use Rattle.c_nodes.specs.Gives.{Gives};
 
-use c_nodes::{Fault, is_complete, is_small, may_be_pointed_to, pointer_to};
-use c_typed::{adjusted, is_scalar, is_void};
-use c_types::{Records, Ty};
+use c_annotated::Entity;
+use c_ast::Spelling;
+use c_nodes::{Fault, is_complete, is_small, may_be_pointed_to, name, pointer_to};
+use c_typed::{adjusted, is_function, is_scalar, is_void};
+use c_types::{Records, Ty, copy};
 use lay_base::{List, NoMemory, Rule, boxed};
 use std::alloc::Global;
 
@@ -160,5 +165,44 @@ pub fn scalar(at: u32, t: Ty) -> Result<Ty, Fault>
         Ty::Pointer(to) => Ok(Ty::Pointer(to)),
         Ty::Record(_) => Err(Fault::IllTyped(Rule::ByValue, at)),
         _ => Err(Fault::IllTyped(Rule::Incomplete, at)),
+    }
+}
+
+/// The type of an array whose initializer tells how many elements it has (C99 6.7.8).
+pub fn counted(
+    alloc: Global,
+    records: &Records,
+    at: u32,
+    element: Ty,
+    n: u32,
+) -> Result<Ty, Fault>
+    ensures { Gives type_of result (counted_array (records_of records.now) at (type_of element) n) }
+{
+    if n == 0 {
+        Err(Fault::IllTyped(Rule::Init, at))
+    } else {
+        small(records, at, Ty::Array(boxed(alloc, element)?, n))
+    }
+}
+
+/// The type of an object in a block, which is complete, and no function. `count` records are complete there.
+#[tactic(auto, unfolding(c_checking::specs::Statements::variable_type, c_checking::specs::Declaring::object_at))]
+pub fn variable(records: &Records, count: u32, at: u32, t: Ty) -> Result<Ty, Fault>
+    ensures { Gives type_of result (variable_type (records_of records.now) count at (type_of t)) }
+{
+    if is_function(&t) {
+        Err(Fault::IllTyped(Rule::Scope, at))
+    } else {
+        object(records, count, at, t)
+    }
+}
+
+/// The type for which the name of a typedef stands (C99 6.7.7).
+pub fn named(alloc: Global, x: &Spelling, it: Option<&Entity>) -> Result<Ty, Fault>
+    ensures { Gives type_of result (type_named x.now (option_map entity_of (option_copied it.entry))) }
+{
+    match it {
+        Some(Entity::Typedef(t)) => Ok(copy(alloc, t)?),
+        _ => Err(Fault::Undeclared(name(alloc, x.text.as_slice())?, x.from)),
     }
 }

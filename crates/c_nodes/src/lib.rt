@@ -13,6 +13,7 @@ mod making;
 mod members;
 mod primary;
 mod sizes;
+mod statement_parts;
 mod subscripts;
 mod unary_operators;
 
@@ -27,5 +28,6 @@ pub use primary::{name, named, unmade};
 pub use sizes::{
     SizedType, is_complete, is_small, may_be_pointed_to, measured, size_constant, sized,
 };
+pub use statement_parts::{SwitchValue, condition, initial_value, returned, switched};
 pub use subscripts::{Subscripted, array_of, element, index, promote};
 pub use unary_operators::{address, cast, deref, not, step, unary};
