@@ -1,6 +1,6 @@
 -- The steps of a declarator, of which the last one in the program's list is taken first.
-use Rattle.std.proofs.Common.{◌≡◌, ◌∙◌, ℕ, List, [], ◌∷◌, ◌++◌, refl, sym, ap}
-use Rattle.std.specs.Prelude.{Bool, true, false, if◌then◌else◌, nat_lt, map, reverse, Ok, Err}
+use Rattle.std.proofs.Common.{◌≡◌, ◌∙◌, ℕ, List, [], ◌∷◌, ◌++◌, refl, ap}
+use Rattle.std.specs.Prelude.{Bool, true, false, if◌then◌else◌, nat_lt, map, Ok, Err}
 use Rattle.std.proofs.lemmas.List.{reverse-append}
 use Rattle.c_types.specs.Types.{CType, CTypes, array, function, pointer, Record}
 use Rattle.c_types.specs.Objects.{parts}

@@ -68,14 +68,7 @@ fn result(at: u32, t: Ty) -> Result<Ty, Fault>
 }
 
 /// An array of so many elements of a type.
-fn array(
-    alloc: Global,
-    records: &Records,
-    count: u32,
-    at: u32,
-    n: u32,
-    t: Ty,
-) -> Result<Ty, Fault>
+fn array(alloc: Global, records: &Records, count: u32, at: u32, n: u32, t: Ty) -> Result<Ty, Fault>
     ensures { Gives type_of result (array_in (records_of records.now) count at n (type_of t)) }
 {
     let t = element(records, count, at, t)?;
@@ -83,12 +76,7 @@ fn array(
 }
 
 /// A function with parameters of these types, whose result has a type. A pointer to it is within the limits of types too.
-fn function(
-    alloc: Global,
-    at: u32,
-    parameters: List<Ty>,
-    t: Ty,
-) -> Result<Ty, Fault>
+fn function(alloc: Global, at: u32, parameters: List<Ty>, t: Ty) -> Result<Ty, Fault>
     ensures { Gives type_of result (function_in at (types_of parameters) (type_of t)) }
 {
     let t = result(at, t)?;

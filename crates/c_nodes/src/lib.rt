@@ -24,6 +24,8 @@ pub use kinds::{BinaryKind, kind_of, step_of, update_of};
 pub use making::{convert, node, object_value, pointer_to, way, worth};
 pub use members::{arrow, dot};
 pub use primary::{name, named, unmade};
-pub use sizes::{SizedType, is_complete, is_small, may_be_pointed_to, measured, size_constant, sized};
+pub use sizes::{
+    SizedType, is_complete, is_small, may_be_pointed_to, measured, size_constant, sized,
+};
 pub use subscripts::{Subscripted, array_of, element, index, promote};
 pub use unary_operators::{address, cast, deref, not, step, unary};

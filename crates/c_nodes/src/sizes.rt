@@ -115,7 +115,13 @@ pub fn measured(
 pub fn size_constant(alloc: Global, at: Place, it: SizedType) -> Result<Thing, Fault>
     ensures { (records : List Record) → it.size ≡ size_of_type records (type_of it.ty) → Gives thing_of result (Ok (size_node records at (type_of it.ty))) }
 {
-    let note = boxed(alloc, SizeOf { ty: it.ty, at: at.at })?;
+    let note = boxed(
+        alloc,
+        SizeOf {
+            ty: it.ty,
+            at: at.at,
+        },
+    )?;
     let constant = Expression {
         ty: Ty::Int(IntKind::UInt),
         note: Some(note),
