@@ -4,5 +4,9 @@
 //! unit's parts get in the program.
 #![tactic(auto)]
 
+
+mod identities;
 mod keys;
+mod tables;
 mod tags;
+mod types;

@@ -3,7 +3,7 @@ use Rattle.std.proofs.lemmas.List.{map-append}
 use Rattle.c_typed.specs.Programs.{unit_data}
 use Rattle.numbering.specs.Keys.{position}
 use Rattle.c_link.specs.Joining.{complete_in, tags_of_unit}
-use Rattle.c_link.proofs.Tables.{numbers_are}
+use Rattle.c_link.proofs.NumberLists.{numbers_are}
 use Rattle.c_link.proofs.tags.numbers_of_structures.Goals as goal
 
 pub returns : goal.returns

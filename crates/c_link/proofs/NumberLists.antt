@@ -1,9 +1,12 @@
 -- Tables of numbers.
-use Rattle.std.proofs.Common.{◌≡◌, ℕ, List, [], map, get_or, sym, ap, ◌∙◌}
+use Rattle.std.proofs.Common.{◌≡◌, ℕ, List, map, get_or, ap, ◌∙◌, rules}
 use Rattle.std.specs.Prelude.{unwrap_or, slice_get}
 use Rattle.std.proofs.Math.ListN.{get_or-map}
 use Rattle.std.proofs.lemmas.Option.{unwrap_or-slice_get}
-use Rattle.numbering.specs.Keys.{position}
+use Rattle.c_types.specs.declared.ty.Ty.{the_lemmas}
+use Rattle.c_types.specs.declared.ty.Ty.TheVariants as T
+use Rattle.c_types.specs.Types.{void}
+use Rattle.c_types.specs.Views.{type_of}
 use Rattle.c_renumbering.specs.declared.numbers.Numbers.{Numbers}
 use Rattle.c_renumbering.specs.Numbers.{number_at}
 
@@ -14,3 +17,6 @@ numbers_are number none all numbers h e =
         λ n. unwrap_or-slice_get numbers.entries n numbers.otherwise ∙ ap (λ xs. get_or xs n numbers.otherwise) h ∙ ap (get_or (map number all) n) e
             ∙ get_or-map number all n none in
     λ i n. at n i
+
+pub void_is : type_of T.Void ≡ void
+void_is = search (rules, the_lemmas)
