@@ -1,2 +1,3 @@
 pub mod NumberLists
-pub mod Placing
+pub mod Placed
+pub mod UnderKeys

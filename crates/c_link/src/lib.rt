@@ -7,6 +7,8 @@
 
 mod identities;
 mod keys;
+mod placing;
+mod records;
 mod tables;
 mod tags;
 mod types;

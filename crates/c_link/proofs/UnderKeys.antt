@@ -1,5 +1,5 @@
 -- Things that come one after another, each to its key: under each key stands what the definition chooses.
-use Rattle.std.proofs.Common.{◌≡◌, ℕ, suc, ◌+◌, Bool, true, false, ◌||◌, List, [], ◌∷◌, ◌++◌, Option, Some, None, fold, map, flat_map, refl, sym, ap, ◌∙◌, subst, add-one}
+use Rattle.std.proofs.Common.{◌≡◌, ℕ, suc, ◌+◌, Bool, true, false, not, ◌&&◌, ◌||◌, List, [], ◌∷◌, ◌++◌, Option, Some, None, fold, map, flat_map, refl, sym, ap, ◌∙◌, subst, add-one, append_assoc}
 use Rattle.std.specs.Prelude.{if◌then◌else◌}
 use Rattle.std.specs.List.{list_any}
 use Rattle.std.specs.Str.{bytes_eq}
@@ -7,7 +7,7 @@ use Rattle.std.proofs.lemmas.Slice.Eq.{bytes_eq-Decides}
 use Rattle.numbering.specs.Keys.{is_among, new_keys, position, with_key}
 use Rattle.numbering.proofs.Laws.{all_after, all_new}
 use Rattle.c_link.specs.Joining.{under, chosen_among, or_first, chosen, if_any}
-use Rattle.c_link.specs.Placing.{kept, place, placed}
+use Rattle.c_link.specs.Placing.{put, place, placed, replaces}
 
 abbrev Key : Type 0
 Key = List ℕ
@@ -23,9 +23,22 @@ neither true b h = absurd (false_is_true (sym h))
 neither false b h = (refl, h)
 
 module _ {A : Type 0} (d : A → Bool) where
+  -- of two, the first that is defined, or else the first
+  abbrev kept : A → A → A
+  kept x y = if d x then x else if d y then y else x
+
+  kept_is : (x y : A) → kept x y ≡ (if not (d x) && d y then y else x)
+  kept_is x y = go (d x) (d y)
+    where
+      go : (b c : Bool) → (if b then x else if c then y else x) ≡ (if not b && c then y else x)
+      go true true = refl
+      go true false = refl
+      go false true = refl
+      go false false = refl
+
   abbrev with_item : List (Key × A) → Key → A → List (Key × A)
   with_item [] k x = (k, x) ∷ []
-  with_item (p ∷ more) k x = if bytes_eq k p.0 then (p.0, kept d p.1 x) ∷ more else p ∷ with_item more k x
+  with_item (p ∷ more) k x = if bytes_eq k p.0 then (p.0, kept p.1 x) ∷ more else p ∷ with_item more k x
 
   abbrev all_items : List (Key × A) → List (Key × A) → List (Key × A)
   all_items acc [] = acc
@@ -44,7 +57,7 @@ module _ {A : Type 0} (d : A → Bool) where
       go (bytes_eq k p.0) (is_among (keys more) k) (keys_of_item more k x)
     where
       go : (b c : Bool) → keys (with_item more k x) ≡ (if c then keys more else keys more ++ k ∷ [])
-          → keys (if b then (p.0, kept d p.1 x) ∷ more else p ∷ with_item more k x)
+          → keys (if b then (p.0, kept p.1 x) ∷ more else p ∷ with_item more k x)
           ≡ (if b || c then p.0 ∷ keys more else p.0 ∷ keys more ++ k ∷ [])
       go true c e = refl
       go false true e = ap (λ ks. p.0 ∷ ks) e
@@ -65,21 +78,25 @@ module _ {A : Type 0} (d : A → Bool) where
       go (bytes_eq k p.0) refl (values_of_item more k x rest)
     where
       go : (b : Bool) → bytes_eq k p.0 ≡ b → values (with_item more k x) ≡ place d (values more) (position (keys (with_item more k x) ++ rest) k) x
-          → values (if b then (p.0, kept d p.1 x) ∷ more else p ∷ with_item more k x)
-          ≡ place d (p.1 ∷ values more) (position (keys (if b then (p.0, kept d p.1 x) ∷ more else p ∷ with_item more k x) ++ rest) k) x
-      go true e r = ap (λ b. place d (p.1 ∷ values more) (if b then 0 else position (keys more ++ rest) k + 1) x) (sym e)
+          → values (if b then (p.0, kept p.1 x) ∷ more else p ∷ with_item more k x)
+          ≡ place d (p.1 ∷ values more) (position (keys (if b then (p.0, kept p.1 x) ∷ more else p ∷ with_item more k x) ++ rest) k) x
+      go true e r =
+          ap (λ y. y ∷ values more) (kept_is p.1 x)
+          ∙ ap (λ b. place d (p.1 ∷ values more) (if b then 0 else position (keys more ++ rest) k + 1) x) (sym e)
       go false e r =
           ap (λ ys. p.1 ∷ ys) r ∙ sym (one_further p.1 (values more) (position (keys (with_item more k x) ++ rest) k) x)
           ∙ ap (λ b. place d (p.1 ∷ values more) (if b then 0 else position (keys (with_item more k x) ++ rest) k + 1) x) (sym e)
 
-  placed_is : (table : List Key) (acc ps : List (Key × A)) → table ≡ fold with_key (keys acc) (keys ps) → placed d table (values acc) ps ≡ values (all_items acc ps)
-  placed_is table acc [] h = refl
-  placed_is table acc (p ∷ more) h =
+  placed_is : (table rest : List Key) (acc ps : List (Key × A)) → table ≡ fold with_key (keys acc) (keys ps) ++ rest
+      → placed d table (values acc) ps ≡ values (all_items acc ps)
+  placed_is table rest acc [] h = refl
+  placed_is table rest acc (p ∷ more) h =
       let next = with_item acc p.0 p.1 in
-      let e : table ≡ fold with_key (keys next) (keys more) = h ∙ ap (λ ks. fold with_key ks (keys more)) (sym (keys_of_item acc p.0 p.1)) in
-      let t = e ∙ all_after (keys more) (keys next) in
-      ap (λ all. placed d table all more) (ap (λ them. place d (values acc) (position them p.0) p.1) t ∙ sym (values_of_item acc p.0 p.1 (new_keys (keys next) (keys more))))
-      ∙ placed_is table next more e
+      let e : table ≡ fold with_key (keys next) (keys more) ++ rest = h ∙ ap (λ ks. fold with_key ks (keys more) ++ rest) (sym (keys_of_item acc p.0 p.1)) in
+      let t = e ∙ ap (λ ks. ks ++ rest) (all_after (keys more) (keys next)) ∙ append_assoc (keys next) (new_keys (keys next) (keys more)) rest in
+      ap (λ all. placed d table all more) (ap (λ them. place d (values acc) (position them p.0) p.1) t
+          ∙ sym (values_of_item acc p.0 p.1 (new_keys (keys next) (keys more) ++ rest)))
+      ∙ placed_is table rest next more e
 
   -- what stands under a key
   abbrev found : List (Key × A) → Key → Option A
@@ -88,7 +105,7 @@ module _ {A : Type 0} (d : A → Bool) where
 
   abbrev after : Option A → A → Option A
   after None x = Some x
-  after (Some y) x = Some (kept d y x)
+  after (Some y) x = Some (kept y x)
 
   abbrev merged : Option A → List A → Option A
   merged o [] = o
@@ -103,10 +120,10 @@ module _ {A : Type 0} (d : A → Bool) where
       is a b = (bytes_eq-Decides a b).0
       go : (b1 b2 b3 : Bool) → bytes_eq k p.0 ≡ b1 → bytes_eq j p.0 ≡ b2 → bytes_eq j k ≡ b3
           → found (with_item more k x) j ≡ (if b3 then after (found more j) x else found more j)
-          → found (if b1 then (p.0, kept d p.1 x) ∷ more else p ∷ with_item more k x) j
+          → found (if b1 then (p.0, kept p.1 x) ∷ more else p ∷ with_item more k x) j
           ≡ (if b3 then after (if b2 then Some p.1 else found more j) x else (if b2 then Some p.1 else found more j))
-      go true true true e1 e2 e3 r = ap (λ b. if b then Some (kept d p.1 x) else found more j) e2
-      go true false false e1 e2 e3 r = ap (λ b. if b then Some (kept d p.1 x) else found more j) e2
+      go true true true e1 e2 e3 r = ap (λ b. if b then Some (kept p.1 x) else found more j) e2
+      go true false false e1 e2 e3 r = ap (λ b. if b then Some (kept p.1 x) else found more j) e2
       go true true false e1 e2 e3 r =
           absurd (false_is_true (sym e3 ∙ (bytes_eq-Decides j k).1 (is j p.0 e2 ∙ sym (is k p.0 e1))))
       go true false true e1 e2 e3 r =
@@ -190,12 +207,12 @@ module _ {A : Type 0} (d : A → Bool) where
   distinct_all ks (x ∷ more) h = distinct_all (with_key ks x) more (distinct_with ks x h)
 
   -- the whole
-  pub placed_all : (ps : List (Key × A)) → placed d (new_keys [] (map (λ p. p.0) ps)) [] ps
+  pub placed_all : (ps : List (Key × A)) (rest : List Key) → placed d (new_keys [] (map (λ p. p.0) ps) ++ rest) [] ps
       ≡ flat_map (λ k. if_any (chosen d (under k ps))) (new_keys [] (map (λ p. p.0) ps))
-  placed_all ps =
+  placed_all ps rest =
       let e : keys (all_items [] ps) ≡ new_keys [] (keys ps) = keys_of_all [] ps ∙ all_new (keys ps) in
       let f : (k : Key) → found (all_items [] ps) k ≡ chosen d (under k ps) = λ k. found_of_all [] ps k ∙ chosen_is (under k ps) in
-      placed_is (new_keys [] (keys ps)) [] ps (sym (all_new (keys ps)))
+      placed_is (new_keys [] (keys ps) ++ rest) rest [] ps (ap (λ ks. ks ++ rest) (sym (all_new (keys ps))))
       ∙ values_found (all_items [] ps) (subst Distinct (sym (keys_of_all [] ps)) (distinct_all [] (keys ps) tt))
       ∙ ap (flat_map (λ k. if_any (found (all_items [] ps) k))) e
       ∙ ap (λ (g : Key → Option A). flat_map (λ k. if_any (g k)) (new_keys [] (keys ps))) (λ i k. f k i)
