@@ -1,3 +1,5 @@
 pub mod NumberLists
+pub mod Pairs
 pub mod Placed
+pub mod Whole
 pub mod UnderKeys

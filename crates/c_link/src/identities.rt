@@ -71,7 +71,7 @@ pub fn all_functions(alloc: Global, units: &[Unit]) -> Result<KeyTable, NoMemory
     Ok(keys)
 }
 
-fn number_of(
+pub fn number_of(
     alloc: Global,
     keys: &KeyTable,
     unit: u32,

@@ -6,9 +6,13 @@
 
 
 mod identities;
+mod joining;
 mod keys;
 mod placing;
+mod program;
 mod records;
 mod tables;
 mod tags;
 mod types;
+
+pub use program::join;
