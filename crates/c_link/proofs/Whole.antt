@@ -1,15 +1,15 @@
 -- What is assembled is the program of the units.
-use Rattle.std.proofs.Common.{◌≡◌, ℕ, ◌+◌, Bool, true, List, [], ◌∷◌, ◌++◌, Option, Some, None, fold, map, flat_map, refl, sym, ap, ◌∙◌}
+use Rattle.std.proofs.Common.{◌≡◌, ℕ, ◌+◌, Bool, true, false, List, [], ◌∷◌, ◌++◌, Option, Some, None, fold, map, flat_map, refl, sym, ap, ◌∙◌}
 use Rattle.std.specs.Prelude.{codes, if◌then◌else◌}
 use Rattle.std.specs.Str.{bytes_eq}
-use Rattle.std.proofs.lemmas.List.{append-nil, map-append, map-map}
+use Rattle.std.proofs.lemmas.List.{append-nil, map-append}
 use Rattle.c_types.specs.Types.{Record}
 use Rattle.c_typed.specs.declared.program.Object.{Object}
 use Rattle.c_typed.specs.Programs.{FunctionData, UnitData}
 use Rattle.c_type_table.specs.Renumbered.{record_in}
 use Rattle.numbering.specs.Keys.{new_keys, position}
 use Rattle.c_link.specs.Joining.{Tables, all_functions, all_functions_in, all_objects, all_objects_in, all_records_in, all_tags, chosen, complete_in, complete_tags}
-use Rattle.c_link.specs.Joining.{function_identities, functions, functions_of, if_any, is_function_defined, is_object_defined, joined, named, numbered_from}
+use Rattle.c_link.specs.Joining.{function_identities, functions, functions_of, identity, if_any, is_function_defined, is_object_defined, joined, named, numbered_from}
 use Rattle.c_link.specs.Joining.{object_identities, objects, objects_of, paired, records, records_in, structure_in, tables, under, with_tag}
 use Rattle.c_link.specs.Placing.{placed}
 use Rattle.c_link.specs.Views.{assembled, nothing, tagged, with_unit}
@@ -56,12 +56,12 @@ records_are units =
 
 keys_of_objects : {A : Type 0} (k n : ℕ) (f : Object → A) (os : List Object) → map {B = Key} (λ p. p.0) (paired (object_identities k n os) (map f os)) ≡ object_identities k n os
 keys_of_objects k n f [] = refl
-keys_of_objects k n f (o ∷ more) = ap (λ ks. _ ∷ ks) (keys_of_objects k (n + 1) f more)
+keys_of_objects k n f (o ∷ more) = ap (λ ks. identity k o.linked o.name n ∷ ks) (keys_of_objects k (n + 1) f more)
 
 keys_of_functions : {A : Type 0} (k n : ℕ) (f : FunctionData → A) (os : List FunctionData)
     → map {B = Key} (λ p. p.0) (paired (function_identities k n os) (map f os)) ≡ function_identities k n os
 keys_of_functions k n f [] = refl
-keys_of_functions k n f (o ∷ more) = ap (λ ks. _ ∷ ks) (keys_of_functions k (n + 1) f more)
+keys_of_functions k n f (o ∷ more) = ap (λ ks. identity k o.is_linked o.name n ∷ ks) (keys_of_functions k (n + 1) f more)
 
 all_keys : {A : Type 0} (f : ℕ × UnitData → List (Key × A)) (g : ℕ × UnitData → List Key) → ((u : ℕ × UnitData) → map {B = Key} (λ p. p.0) (f u) ≡ g u)
     → (us : List (ℕ × UnitData)) → map {B = Key} (λ p. p.0) (flat_map f us) ≡ flat_map g us

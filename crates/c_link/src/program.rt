@@ -1,6 +1,6 @@
 //! The program of units.
 
-ghost use Rattle.std.specs.Prelude.{◌≡◌, ◌≤◌, [], true, All, IfOk, IsTrue, OnOk, codes, length, map};
+ghost use Rattle.std.specs.Prelude.{◌≡◌, ◌≤◌, [], false, true, All, IfOk, IsTrue, OnOk, codes, length, map};
 ghost use Rattle.c_link.specs.Joining.{joined, named};
 ghost use Rattle.c_link.specs.Placing.{placed, put};
 ghost use Rattle.c_link.specs.Views.{assembled, joined_of, tables_of, tagged};
@@ -49,9 +49,10 @@ fn join_record(records: &mut Records, number: u32, r: Record) -> Result<(), NoMe
         return Err(NoMemory);
     }
     match records.add(r) {
-        Ok(_) => Ok(()),
-        Err(_) => Err(NoMemory),
+        Ok(_) => {}
+        Err(_) => return Err(NoMemory),
     }
+    Ok(())
 }
 
 /// The first record of each tag.

@@ -8,6 +8,6 @@ use Rattle.c_link.proofs.program.are_objects.Given as goal
 
 abbrev pub invariant-loop-f : goal.invariant-loop-f
 invariant-loop-f l = record {
-  objects : All (λ f. IsTrue (is_object (length l.records) (type_of f.ty))) (take l.f-index l.f-items);
-  bounded : All (λ f. size_of (records_of l.records) (type_of f.ty) ≤ greatest_size) (take l.f-index l.f-items);
+  objects : All (λ f. IsTrue (is_object (length l.records) (type_of f.ty))) (take l.f-index l.fields);
+  bounded : All (λ f. size_of (records_of l.records) (type_of f.ty) ≤ greatest_size) (take l.f-index l.fields);
 }
