@@ -31,9 +31,18 @@ fn initials(alloc: Global, to: &Renumbering, all: List<Initial>) -> Result<List<
 {
     let mut done = List::new(alloc);
     for it in all.into_vec() {
-        let Initial { offset, value: kept } = it;
+        let Initial {
+            offset,
+            value: kept,
+        } = it;
         let kept = value(to, kept);
-        add(&mut done, Initial { offset, value: kept })?;
+        add(
+            &mut done,
+            Initial {
+                offset,
+                value: kept,
+            },
+        )?;
     }
     Ok(done)
 }
@@ -90,7 +99,11 @@ fn locals(alloc: Global, to: &Renumbering, all: List<Local>) -> Result<List<Loca
     Ok(done)
 }
 
-fn body(alloc: Global, to: &Renumbering, it: Option<Statement>) -> Result<Option<Statement>, NoMemory>
+fn body(
+    alloc: Global,
+    to: &Renumbering,
+    it: Option<Statement>,
+) -> Result<Option<Statement>, NoMemory>
     ensures { IfOk result (λ r. option_map statement_of r ≡ option_map (mapped_statement (renaming_of to.now)) (option_map statement_of it)) }
 {
     match it {
@@ -103,7 +116,11 @@ fn body(alloc: Global, to: &Renumbering, it: Option<Statement>) -> Result<Option
 }
 
 /// A function with other numbers.
-pub fn renumbered_function(alloc: Global, to: &Renumbering, f: Function) -> Result<Function, NoMemory>
+pub fn renumbered_function(
+    alloc: Global,
+    to: &Renumbering,
+    f: Function,
+) -> Result<Function, NoMemory>
     ensures { IfOk result (λ r. data_of r ≡ function_in (renaming_of to.now) (data_of f)) }
 {
     let Function {
