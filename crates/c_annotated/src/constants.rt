@@ -9,11 +9,11 @@ ghost use Rattle.c_erasure.specs.Erasure.{typed};
 ghost use Rattle.c_annotated.specs.Views.{expression_of};
 
 use crate::expression::{Expression, ExpressionNode};
-use c_typed::{Constant, is_integer};
 use c_typed::constants::{
     binary_constant, chosen, compared_constants, converted_constant, decided_by, is_void_pointer,
     is_zero, kind_of, negated, unary_constant,
 };
+use c_typed::{Constant, is_integer};
 
 /// What an expression is as an integer constant expression (C99 6.6).
 pub fn constant_of(e: &Expression) -> Constant

@@ -126,9 +126,9 @@ module _ (g : FileScope) (w : IsWhole g) where
       let u = walk_of_declarator g.untagged d in
       let v = a_look left ∷ seen false value_alone (walk g.untagged a) in
       let z = i s c (array t h.2) shape f
-          (left_seen g s.is_inside s.purpose c (walk_of_declarator g.untagged d) (a_look left ∷ seen false value_alone (walk g.untagged a)) b) h.8 in
+      (left_seen g s.is_inside s.purpose c (walk_of_declarator g.untagged d) (a_look left ∷ seen false value_alone (walk g.untagged a)) b) h.8 in
       let r = right_seen g s.is_inside s.purpose c z.lists (walk_of_declarator g.untagged d) (a_look left ∷ seen false value_alone (walk g.untagged a)) b
-          z.after in
+      z.after in
       let asked = r.follows.0 in
       let inner = behind_look g w z.lists left (seen s.is_inside s.purpose (seen false value_alone (walk g.untagged a))) r in
       let m = constant_complete g w a j s z.lists h.0 h.1 (blocks_stay g (length c.records) (length z.lists.records) s.blocks (grown z.after) f) inner h.3 in
@@ -144,7 +144,7 @@ module _ (g : FileScope) (w : IsWhole g) where
         derive = λ e p l.
             let o : is_object (length e.records) t ≡ true = complete_stays (ended g.ends left) (length e.records) t (omega (arith, asked, k, l)) h.6 in
             let q : is_object (length e.records) (array t h.2)
-                ≡ true = and_from (nat_lt 0 h.2) (is_object (length e.records) t) (lt-ltb 0 h.2 (omega (arith, h.5))) o in
+            ≡ true = and_from (nat_lt 0 h.2) (is_object (length e.records) t) (lt-ltb 0 h.2 (omega (arith, h.5))) o in
             let same = size_same g w e (array t h.2) p q in
             let bytes = h.7.bytes in
             let x = element_back e.records (ended g.ends left) left t h.6 o in
@@ -175,7 +175,7 @@ module _ (g : FileScope) (w : IsWhole g) where
   unfolding derivations array_step derived
   open_array_complete d left right s c t shape f b h =
       let e : walk_of_declarator g.untagged (Trees.array d left Trees.no_expression right)
-          ≡ a_look left ∷ [] = ap (λ u. u ++ a_look left ∷ []) (name_walk d h.1) in
+      ≡ a_look left ∷ [] = ap (λ u. u ++ a_look left ∷ []) (name_walk d h.1) in
       let r : IsBefore g c (a_look left ∷ []) = subst (λ u. IsBefore g c (seen s.is_inside s.purpose u)) e b in
       let asked = r.follows.0 in
       let n = name_steps d (moved s (part g c)) h.1 in
@@ -202,12 +202,12 @@ module _ (g : FileScope) (w : IsWhole g) where
   unfolding derivations derived
   function_complete d left all right i j s c t shape f b h =
       let z = i s c (function t h.0) shape f
-          (left_seen g s.is_inside s.purpose c (walk_of_declarator g.untagged d) (seen true in_full (walk_of_parameter_list g.untagged all)) b) h.4 in
+      (left_seen g s.is_inside s.purpose c (walk_of_declarator g.untagged d) (seen true in_full (walk_of_parameter_list g.untagged all)) b) h.4 in
       let r = right_seen g s.is_inside s.purpose c z.lists (walk_of_declarator g.untagged d) (seen true in_full (walk_of_parameter_list g.untagged all)) b
-          z.after in
+      z.after in
       let e = seen_inside s.is_inside s.purpose (walk_of_parameter_list g.untagged all) in
       let m = j (inside s) z.lists h.0 refl (blocks_stay g (length c.records) (length z.lists.records) s.blocks (grown z.after) f)
-          (subst (IsBefore g z.lists) e r) h.1 in
+      (subst (IsBefore g z.lists) e r) h.1 in
       let k : length z.lists.records ≤ length m.lists.records = grown m.after in
       record {
         lists = m.lists;
@@ -309,14 +309,14 @@ module _ (g : FileScope) (w : IsWhole g) where
   unfolding type_name
   type_complete specs d i j s c t f b h m =
       let z = base_complete specs i s c h.0 f (left_seen g s.is_inside s.purpose c (walk_of_specifiers g.untagged specs) (walk_of_declarator g.untagged d) b)
-          h.2 in
+      h.2 in
       let n = j s z.lists h.0 (closed t) (blocks_stay g (length c.records) (length z.lists.records) s.blocks (grown z.after) f)
       (right_seen g s.is_inside s.purpose c z.lists (walk_of_specifiers g.untagged specs) (walk_of_declarator g.untagged d) b z.after) h.3 in
       let at = first_declarator d (first_specifiers specs) in
       let k = closed_back (first_declarator d (first_specifiers specs)) n.lists n.steps h.0 t (n.derive n.lists n.after.extends (omega arith)) in
       let a = then_seen g s.is_inside s.purpose c z.lists n.lists (walk_of_specifiers g.untagged specs) (walk_of_declarator g.untagged d) z.after n.after in
       let l = mentioned g s c n.lists (SeenType s (Trees.type_name specs d)) (mentions_in (part g z.lists)) Named t
-          (first_declarator d (first_specifiers specs)) m a in
+      (first_declarator d (first_specifiers specs)) m a in
       record { lists = l.0; is = rw (h.1, z.is, n.is, k, l.1) refl; after = l.3 }
 
   pub sizeof_type_complete : (at left : ℕ) (n : Trees.TypeName) (right : ℕ) → CompletesType n → Completes g w (Trees.sizeof_type at left n right)
@@ -331,7 +331,7 @@ module _ (g : FileScope) (w : IsWhole g) where
       let l : size_of d.records h.0 ≤ 16777216 = omega (arith, same, h.3.3) in
       let k = CompleteParts.size_back d.records (ended g.ends right) at h.0 h.3.0 o l in
       let a = then_seen g s.is_inside s.purpose c d d (walk_of_type g.untagged n) (a_look right ∷ []) z.after
-          (none_after g d (a_look right ∷ []) r refl refl refl) in
+      (none_after g d (a_look right ∷ []) r refl refl refl) in
       let m = mentioned g s c d (Seen g w s (Trees.sizeof_type at left n right)) (mentions_in (part g c)) Sizeof h.0 at h.3.1 a in
       record {
         done = record { lists = m.0; is = rw (z.is, k, m.1, same) refl; after = m.3 };
@@ -407,7 +407,7 @@ module _ (g : FileScope) (w : IsWhole g) where
   -- those after a parameter see its name
   parameters_after : (more : Trees.Parameters) → CompletesParameters more → (s : Scope) (c : Lists) (o : Option Spelling) (t : CType) (rest : CTypes)
       → is_scalar t ≡ true → s.is_inside ≡ true → BlocksFit g (length c.records) s.blocks
-          → IsBefore g c (seen true s.purpose (walk_of_parameters g.untagged more))
+      → IsBefore g c (seen true s.purpose (walk_of_parameters g.untagged more))
       → AreListed (with_parameter_if_named (moved s g) o t) more rest
       → Done g c (seen true s.purpose (walk_of_parameters g.untagged more)) (parameters more (with_parameter_if_named (moved s (part g c)) o t)) rest
   parameters_after more i s c None t rest v e f b h = i s c rest e f b h
@@ -422,13 +422,13 @@ module _ (g : FileScope) (w : IsWhole g) where
       → derivations d (moved s (part g l)) ≡ Ok (steps, part g m) → derived m.records steps base ≡ Ok shape → IsNew (moved s g) (declared_name d)
       → is_scalar (parameter_type shape) ≡ true
       → with_mention (moved s (part g c)) (mentions_in (part g l)) Named (parameter_type shape) (first_declarator d (first_specifiers specs)) (part g m)
-          ≡ part g n
+      ≡ part g n
       → parameters more (with_parameter_if_named (moved s (part g n)) (declared_name d) (parameter_type shape)) ≡ Ok (rest, part g o)
       → parameters (Trees.and_parameter comma specs d more) (moved s (part g c)) ≡ Ok (and_type (parameter_type shape) rest, part g o)
   unfolding parameters
   parameter_joined comma specs d more s c l m n o base steps shape rest st b x y ne sc me r =
       let ne = new_back s c (declared_name d) (with_file (part g m) (scalar_parameter (first_declarator d (first_specifiers specs)) (parameter_type shape)))
-          ne in
+      ne in
       let sc = scalar_back (first_declarator d (first_specifiers specs)) (parameter_type shape) sc in
       let st = parameter_storage_back (first_specifiers specs) (storage_of specs)
       (base_type (base_kind specs) (first_specifiers specs) (part g c) (one_of specs (moved s (part g c)))) st in
@@ -441,7 +441,7 @@ module _ (g : FileScope) (w : IsWhole g) where
       subst (λ i. IsBefore g c (seen i s.purpose (walk_of_specifiers g.untagged specs ++ walk_of_declarator g.untagged d))) (sym e)
       (left_seen g true s.purpose c (walk_of_specifiers g.untagged specs ++ walk_of_declarator g.untagged d) (walk_of_parameters g.untagged more) b) in
       let z = base_complete specs i s c h.0 f
-          (left_seen g s.is_inside s.purpose c (walk_of_specifiers g.untagged specs) (walk_of_declarator g.untagged d) own) h.5 in
+      (left_seen g s.is_inside s.purpose c (walk_of_specifiers g.untagged specs) (walk_of_declarator g.untagged d) own) h.5 in
       let n = j s z.lists h.0 h.1 (blocks_stay g (length c.records) (length z.lists.records) s.blocks (grown z.after) f)
       (right_seen g s.is_inside s.purpose c z.lists (walk_of_specifiers g.untagged specs) (walk_of_declarator g.untagged d) own z.after) h.6 in
       let q = n.derive n.lists n.after.extends (omega arith) in
@@ -449,12 +449,12 @@ module _ (g : FileScope) (w : IsWhole g) where
       let a : IsAfter g c (seen true s.purpose (walk_of_specifiers g.untagged specs ++ walk_of_declarator g.untagged d)) n.lists =
       subst (λ i. IsAfter g c (seen i s.purpose (walk_of_specifiers g.untagged specs ++ walk_of_declarator g.untagged d)) n.lists) e both in
       let m = mentioned g s c n.lists (seen true s.purpose (walk_of_specifiers g.untagged specs ++ walk_of_declarator g.untagged d))
-          (mentions_in (part g z.lists)) Named
+      (mentions_in (part g z.lists)) Named
       (parameter_type h.1) (first_declarator d (first_specifiers specs)) h.9 a in
       let r = parameters_after more k s m.0 (declared_name d) (parameter_type h.1) h.2 h.7 e
       (blocks_stay g (length c.records) (length m.0.records) s.blocks (grown m.3) f)
       (right_seen g true s.purpose c m.0 (walk_of_specifiers g.untagged specs ++ walk_of_declarator g.untagged d) (walk_of_parameters g.untagged more) b m.3)
-          h.10 in
+      h.10 in
       record {
         lists = r.lists;
         is = parameter_joined comma specs d more s c z.lists n.lists m.0 r.lists h.0 n.steps h.1 h.2 h.4 z.is n.is q h.8 h.7 m.1 r.is

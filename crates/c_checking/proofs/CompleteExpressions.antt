@@ -163,7 +163,7 @@ module _ (g : FileScope) (w : IsWhole g) where
       let p = joined_parts (moved s g) (kind_of op) h.0 (place_in (moved s g) (first a)) h.1 h.2 h.3 h.6 t in
       let z = operands a b i j s c h.1 h.2 f e h.4 h.5 p.0 p.1 in
       let n = CompleteNodes.binary_back (declared (moved s g)) (place_in (moved s g) (first a)) at (kind_of op) h.0 h.1 h.2 h.3 z.first.left z.second.left
-          h.6 t in
+      h.6 t in
       record {
         done = record { lists = z.second.lists; is = rw (z.first.value_is, z.second.value_is, n) refl; after = z.after };
         complete = tt;
@@ -188,7 +188,7 @@ module _ (g : FileScope) (w : IsWhole g) where
       (λ t.
       let ab : List Event = walk g.untagged a ++ walk g.untagged b in
       let z = operands a b i j s c h.1 h.2 f (left_seen g s.is_inside s.purpose c (walk g.untagged a ++ walk g.untagged b) (walk g.untagged d) e) h.5 h.6 t.0
-          t.1 in
+      t.1 in
       let m = operand g w d k s z.second.lists h.3 (blocks_stay g (length c.records) (length z.second.lists.records) s.blocks (grown z.after) f)
       (right_seen g s.is_inside s.purpose c z.second.lists (walk g.untagged a ++ walk g.untagged b) (walk g.untagged d) e z.after) h.7 t.2 in
       let n = CompleteNodes.test_back (declared (moved s g)) (place_in (moved s g) (first a)) question h.1 z.first.left t.3 in
@@ -308,21 +308,27 @@ module _ (g : FileScope) (w : IsWhole g) where
           (λ t.
           let z = i s c (an_object p) f (behind_look c at (Seen g w s a) b) e t.0 in
           let n = CompleteNodes.address_of_object_back (declared (moved s g)) (place_in (moved s g) at) (first a) x.0 p x.1 t in
-          record { done = record { lists = z.done.lists; is = rw (z.done.is, n) refl; after = after_look c z.done.lists at (Seen g w s a) z.done.after };
-              complete = tt })
+          record {
+            done = record { lists = z.done.lists; is = rw (z.done.is, n) refl; after = after_look c z.done.lists at (Seen g w s a) z.done.after };
+            complete = tt;
+          })
       by_operand (a_function from k u) x e = by_thing s c (Trees.unary U.Address at a) th _ x
           (λ t.
           let z = i s c (a_function from k u) f (behind_look c at (Seen g w s a) b) e (erased_sound g w a s (length c.records) f (a_function from k u) e) in
           let n = address_function (first a) (place_in (moved s g) at) from k u in
-          record { done = record { lists = z.done.lists; is = rw (z.done.is, n) refl; after = after_look c z.done.lists at (Seen g w s a) z.done.after };
-              complete = tt })
+          record {
+            done = record { lists = z.done.lists; is = rw (z.done.is, n) refl; after = after_look c z.done.lists at (Seen g w s a) z.done.after };
+            complete = tt;
+          })
       by_operand (a_function_at y) x e = by_thing s c (Trees.unary U.Address at a) th _ x
           (λ t.
           let k = erased_sound g w a s (length c.records) f (a_function_at y) e in
           let z = i s c (a_function_at y) f (behind_look c at (Seen g w s a) b) e (t, k.1) in
           let n = address_function_at (first a) (place_in (moved s g) at) y in
-          record { done = record { lists = z.done.lists; is = rw (z.done.is, n) refl; after = after_look c z.done.lists at (Seen g w s a) z.done.after };
-              complete = tt })
+          record {
+            done = record { lists = z.done.lists; is = rw (z.done.is, n) refl; after = after_look c z.done.lists at (Seen g w s a) z.done.after };
+            complete = tt;
+          })
       by_operand (a_value y) x e = absurd x
       by_operand (a_library_function from which) x e = absurd x
 
@@ -416,7 +422,7 @@ module _ (g : FileScope) (w : IsWhole g) where
       let rec = h.5.0 in
       let there = among_first g.records z.done.lists.records y.0 h.2 rec y.1 h.5.2 l in
       let n = CompleteParts.dot_back (declared (moved s g)) (place_in (moved s g) (first a)) z.done.lists.records (ended g.ends at) x.from h.1 h.2 h.3 rec
-          h.5.1 x.text
+      h.5.1 x.text
       u q there h.5.3 h.5.4 (w.fields_apart h.2 rec h.5.2) in
       record {
         done = record {
@@ -424,7 +430,7 @@ module _ (g : FileScope) (w : IsWhole g) where
           is = rw (z.done.is, n, h.5.5) refl;
           after = then_seen g s.is_inside s.purpose c z.done.lists z.done.lists (walk g.untagged a) (a_look at ∷ []) z.done.after
               (none_after g z.done.lists (a_look at ∷ [])
-                  (right_seen g s.is_inside s.purpose c z.done.lists (walk g.untagged a) (a_look at ∷ []) b z.done.after) refl refl refl);
+              (right_seen g s.is_inside s.purpose c z.done.lists (walk g.untagged a) (a_look at ∷ []) b z.done.after) refl refl refl);
         };
         complete = subst (λ t. is_object (length z.done.lists.records) t ≡ true) h.5.5
             (complete_stays h.2 (length z.done.lists.records) h.5.1.ty (omega (arith, l)) (w.fields_complete h.2 h.3 rec h.5.1 h.5.2 h.5.3));

@@ -411,7 +411,7 @@ module _ (d : Declared) (at : Place) where
       let e : t ≡ type_of_path p = h.3 ∙ path_type_same p in
       let a : assigns (type_of (unconverted x)) (null (unconverted x)) t ≡ true = rw (sym o.bare_type, sym o.null_same) h.4.0 in
       subst (λ u. cond (assigns (type_of (unconverted x)) (null (unconverted x)) u) (a_node u at (Typed.assign p (converted u (unconverted x))))
-          (refused R.Assign op_at)
+      (refused R.Assign op_at)
       ≡ Ok (a_value (value t at (Typed.assign p x)))) e (rw (a, back_to x o t h.4.1) refl)
 
   pub copy_back : (op_at : ℕ) (t : CType) (p q : Path) → IsTypedNode d t at (Typed.copy_record (typed_path p) (typed_path q))

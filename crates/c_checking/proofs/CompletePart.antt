@@ -222,8 +222,14 @@ in_place (suc n) (z ∷ all) y (suc k) x e = later (in_place n all y k x e)
     later (inr h) = inr (suc h.0, h.1)
 
 abbrev mentioning : Lists → (before : ℕ) → AMention → Lists
-mentioning c n m = record { names = c.names; records = c.records; objects = c.objects; functions = c.functions; mentions =
-    take n c.mentions ++ m ∷ drop n c.mentions }
+mentioning c n m = record {
+  names = c.names;
+  records = c.records;
+  objects = c.objects;
+  functions = c.functions;
+  mentions =
+      take n c.mentions ++ m ∷ drop n c.mentions;
+}
 
 mention_extends : (g : FileScope) (c : Lists) (n : ℕ) (m : AMention) → Extends (part g c) g → IsListedAt g.mentions m.kind m.ty m.at
     → Extends (part g (mentioning c n m)) g
@@ -255,15 +261,20 @@ mentioned g s c d w before kind t at m p = by_purpose (is_measured s.purpose) re
   where
     by_purpose : (b : Bool) → is_measured s.purpose ≡ b → (b ≡ true) ⊎ IsListedAt g.mentions kind t at
         → (e : Lists) × (cond b (part g d) (part g (mentioning d before (record { kind = kind; ty = t; at = at }))) ≡ part g e) × (e.records ≡ d.records)
-            × IsAfter g c w e
+        × IsAfter g c w e
     by_purpose true q h = (d, refl, refl, p)
     by_purpose false q (inl h) = cc
     by_purpose false q (inr h) = (
       mentioning d before (record { kind = kind; ty = t; at = at }),
       refl,
       refl,
-      record { extends = mention_extends g d before (record { kind = kind; ty = t; at = at }) p.extends h; names = p.names; records = p.records; objects =
-          p.objects },
+      record {
+        extends = mention_extends g d before (record { kind = kind; ty = t; at = at }) p.extends h;
+        names = p.names;
+        records = p.records;
+        objects =
+            p.objects;
+      },
     )
 
 -- ---- what is known of a thing that stands for a part of the text

@@ -192,7 +192,7 @@ module _ (d : Declared) (at : Place) where
 
   pub dot_back : (records : List Record) (complete named : ℕ) (p : Path) (r k : ℕ) (rec : Record) (f : Field) (x : List ℕ)
       → type_of_path p ≡ structure r → is_object complete (type_of_path p) ≡ true → slice_get records r ≡ Some rec → slice_get rec.fields k ≡ Some f
-          → f.name ≡ x
+      → f.name ≡ x
       → AreDifferent (map (λ f. f.name) rec.fields)
       → dot_in records complete named at (an_object p) x ≡ Ok (an_object (way f.ty at (Typed.member p r k)))
   unfolding dot_in

@@ -160,7 +160,7 @@ module _ (g : FileScope) (w : IsWhole g) where
       (next after v : ℕ)
       → enumerator_value value (moved s (part g c)) x.from next ≡ Ok (v, part g l)
       → Declaring.enumerator_in (part g l) (record { name = x.text; place = x.from; from = comma_or more after; how = defines; entity = enumerator v })
-          ≡ Ok (part g m)
+      ≡ Ok (part g m)
       → enumerators more (moved s (part g m)) ((v + 1) % 2 ^ 32) after ≡ Ok (tt, part g n)
       → enumerators (Trees.and_enumerator comma x value more) (moved s (part g c)) next after ≡ Ok (tt, part g n)
   unfolding enumerators
@@ -177,13 +177,13 @@ module _ (g : FileScope) (w : IsWhole g) where
       let a : IsAfter g c (seen false s.purpose (walk_of_value g.untagged value)) z.lists =
       subst (λ i. IsAfter g c (seen i s.purpose (walk_of_value g.untagged value)) z.lists) e z.after in
       let r = right_seen g false s.purpose c z.lists (walk_of_value g.untagged value)
-          (a_name (comma_or more after) ∷ walk_of_enumerators g.untagged more after) b a in
+      (a_name (comma_or more after) ∷ walk_of_enumerators g.untagged more after) b a in
       let d : Bound = record { name = x.text; place = x.from; from = comma_or more after; how = defines; entity = enumerator h.0 } in
       let n = next_name z.lists (record { name = x.text; place = x.from; from = comma_or more after; how = defines; entity = enumerator h.0 }) h.0 refl
-          z.after.extends
+      z.after.extends
       h.2.0 h.2.1 r.follows.0 in
       let y = name_after z.lists (record { name = x.text; place = x.from; from = comma_or more after; how = defines; entity = enumerator h.0 })
-          (comma_or more after)
+      (comma_or more after)
       z.after.extends n.there in
       let q = right (a_name (comma_or more after) ∷ []) (seen false s.purpose (walk_of_enumerators g.untagged more after)) r y in
       let k = j s (with_one_name z.lists (record { name = x.text; place = x.from; from = comma_or more after; how = defines; entity = enumerator h.0 }))
@@ -215,7 +215,7 @@ module _ (g : FileScope) (w : IsWhole g) where
   unfolding specified
   enum_body_joined at x begin all comma end s c l e a b =
       ap (λ i. cond i (refused R.Scope at)
-          (enumerators all (moved s (part g c)) 0 (after_all comma end) >>= λ f. with_file f.1 (Declaring.enumeration_of f.1 x))) e
+      (enumerators all (moved s (part g c)) 0 (after_all comma end) >>= λ f. with_file f.1 (Declaring.enumeration_of f.1 x))) e
       ∙ rw (a, b) refl
 
   pub enum_body_complete : (at : ℕ) (x : Option Spelling) (begin : ℕ) (all : Trees.Enumerators) (comma : Option ℕ) (end : ℕ) → CompletesEnumerators g w all
@@ -224,7 +224,7 @@ module _ (g : FileScope) (w : IsWhole g) where
       let out : IsBefore g c (seen false s.purpose (walk_of_enumerators g.untagged all (after_all comma end) ++ an_enumeration g.untagged x end)) =
       subst (λ i. IsBefore g c (seen i s.purpose (walk_of_enumerators g.untagged all (after_all comma end) ++ an_enumeration g.untagged x end))) h.0 b in
       let z = i s c 0 (after_all comma end) h.0 f
-          (left_seen g false s.purpose c (walk_of_enumerators g.untagged all (after_all comma end)) (an_enumeration g.untagged x end) out) h.2 in
+      (left_seen g false s.purpose c (walk_of_enumerators g.untagged all (after_all comma end)) (an_enumeration g.untagged x end) out) h.2 in
       let r = right_seen g false s.purpose c z.lists (walk_of_enumerators g.untagged all (after_all comma end)) (an_enumeration g.untagged x end) out z.after in
       let n = enumeration_back x end z.lists s.purpose r in
       record {
@@ -233,7 +233,7 @@ module _ (g : FileScope) (w : IsWhole g) where
         after = subst (λ i. IsAfter g c (seen i s.purpose (walk_of_enumerators g.untagged all (after_all comma end) ++ an_enumeration g.untagged x end))
             z.lists) (sym h.0)
             (then_seen g false s.purpose c z.lists z.lists (walk_of_enumerators g.untagged all (after_all comma end)) (an_enumeration g.untagged x end)
-                z.after n.1);
+            z.after n.1);
       }
 
   abbrev tag_of_structure : ℕ → Option Spelling → Tag
@@ -281,7 +281,7 @@ module _ (g : FileScope) (w : IsWhole g) where
       let inner = behind_look g w c (first_declarator d semicolon)
       (seen s.is_inside s.purpose (walk_of_declarator g.untagged d ++ walk_of_member_declarators g.untagged more semicolon)) b in
       let z = i s c base (closed h.1) f
-          (left_seen g s.is_inside s.purpose c (walk_of_declarator g.untagged d) (walk_of_member_declarators g.untagged more semicolon) inner) h.4 in
+      (left_seen g s.is_inside s.purpose c (walk_of_declarator g.untagged d) (walk_of_member_declarators g.untagged more semicolon) inner) h.4 in
       let k = closed_back g w (first_declarator d semicolon) z.lists z.steps base h.1 (z.derive z.lists z.after.extends (omega arith)) in
       let o = complete_stays (ended g.ends (first_declarator d semicolon)) (length z.lists.records) h.1 (omega (arith, b.follows.0, z.after.records)) h.5 in
       let y = object_back z.lists.records (ended g.ends (first_declarator d semicolon)) (first_declarator d semicolon) h.1 h.5 o in
@@ -295,7 +295,7 @@ module _ (g : FileScope) (w : IsWhole g) where
         after = after_look g w c r.lists (first_declarator d semicolon)
             (seen s.is_inside s.purpose (walk_of_declarator g.untagged d ++ walk_of_member_declarators g.untagged more semicolon))
             (then_seen g s.is_inside s.purpose c m.0 r.lists (walk_of_declarator g.untagged d) (walk_of_member_declarators g.untagged more semicolon) m.3
-                r.after);
+            r.after);
       }
 
   pub no_members_complete : CompletesMembers Trees.no_member_declarations
@@ -317,17 +317,17 @@ module _ (g : FileScope) (w : IsWhole g) where
   members_complete specs ds semicolon more i j k s c fields f b h =
       let u = walk_of_specifiers g.untagged specs in
       let first = left_seen g s.is_inside s.purpose c (walk_of_specifiers g.untagged specs ++ walk_of_member_declarators g.untagged ds semicolon)
-          (walk_of_members g.untagged more) b in
+      (walk_of_members g.untagged more) b in
       let z = base_complete g w specs i s c h.0 f
-          (left_seen g s.is_inside s.purpose c (walk_of_specifiers g.untagged specs) (walk_of_member_declarators g.untagged ds semicolon) first) h.5 in
+      (left_seen g s.is_inside s.purpose c (walk_of_specifiers g.untagged specs) (walk_of_member_declarators g.untagged ds semicolon) first) h.5 in
       let n = j s z.lists h.0 semicolon h.1 (blocks_stay g (length c.records) (length z.lists.records) s.blocks (grown z.after) f)
       (right_seen g s.is_inside s.purpose c z.lists (walk_of_specifiers g.untagged specs) (walk_of_member_declarators g.untagged ds semicolon) first z.after)
-          h.6 in
+      h.6 in
       let a = then_seen g s.is_inside s.purpose c z.lists n.lists (walk_of_specifiers g.untagged specs) (walk_of_member_declarators g.untagged ds semicolon)
-          z.after n.after in
+      z.after n.after in
       let r = k s n.lists h.2 (blocks_stay g (length c.records) (length n.lists.records) s.blocks (grown a) f)
       (right_seen g s.is_inside s.purpose c n.lists (walk_of_specifiers g.untagged specs ++ walk_of_member_declarators g.untagged ds semicolon)
-          (walk_of_members g.untagged more) b a) h.7 in
+      (walk_of_members g.untagged more) b a) h.7 in
       record {
         lists = r.lists;
         is = members_joined specs ds semicolon more s c z.lists n.lists r.lists h.0 h.1 h.2 h.4 z.is n.is r.is
@@ -417,22 +417,22 @@ module _ (g : FileScope) (w : IsWhole g) where
       → s.is_inside ≡ false → Declaring.definable (moved s (part g c)) at x (Declaring.known_tag (moved s (part g c)) x) ≡ None
       → members all (moved s (part g c)) ≡ Ok (fields, part g l)
       → Declaring.completed_in (part g l) (tag_place at x) (member_names all)
-          (record { tag = tag_text (moved s g) at x; place = place_in (moved s g) at; fields = fields })
+      (record { tag = tag_text (moved s g) at x; place = place_in (moved s g) at; fields = fields })
       ≡ Ok (t, part g m)
       → specified (Trees.struct_body at x begin all end) (moved s (part g c)) ≡ Ok (t, part g m)
   unfolding specified
   struct_body_joined at x begin all end s c l m fields t e d a b =
       ap (λ i. cond i (refused R.Scope at)
-          (Declaring.unless (Declaring.definable (moved s (part g c)) at x (Declaring.known_tag (moved s (part g c)) x)) (members all (moved s (part g c))
+      (Declaring.unless (Declaring.definable (moved s (part g c)) at x (Declaring.known_tag (moved s (part g c)) x)) (members all (moved s (part g c))
       >>= λ m. Declaring.completed_in m.1 (tag_place at x) (member_names all)
-          (record { tag = tag_text (moved s (part g c)) at x; place = place_in (moved s (part g c)) at; fields = m.0 })))) e
+      (record { tag = tag_text (moved s (part g c)) at x; place = place_in (moved s (part g c)) at; fields = m.0 })))) e
       ∙ ap (λ o. Declaring.unless o (members all (moved s (part g c))
       >>= λ m. Declaring.completed_in m.1 (tag_place at x) (member_names all)
-          (record { tag = tag_text (moved s (part g c)) at x; place = place_in (moved s (part g c)) at; fields = m.0 }))) d
+      (record { tag = tag_text (moved s (part g c)) at x; place = place_in (moved s (part g c)) at; fields = m.0 }))) d
       ∙ ap (λ r. r >>= λ m. Declaring.completed_in m.1 (tag_place at x) (member_names all)
-          (record { tag = tag_text (moved s (part g c)) at x; place = place_in (moved s (part g c)) at; fields = m.0 })) a
+      (record { tag = tag_text (moved s (part g c)) at x; place = place_in (moved s (part g c)) at; fields = m.0 })) a
       ∙ ap (λ tag. Declaring.completed_in (part g l) (tag_place at x) (member_names all)
-          (record { tag = tag; place = place_in (moved s g) at; fields = fields })) (text_same s c at x)
+      (record { tag = tag; place = place_in (moved s g) at; fields = fields })) (text_same s c at x)
       ∙ b
 
   abbrev body : Trees.MemberDeclarations → List ℕ → (right : ℕ) → List Event
@@ -465,7 +465,7 @@ module _ (g : FileScope) (w : IsWhole g) where
       made_is (tag_text (moved s g) at x) (place_in (moved s g) at) h.1 h.7 h.8 in
       let own_end = record_after z.lists h.1 (tag_name g.untagged at x) end z.after.extends there in
       let all_after = then_seen g false s.purpose c z.lists (with_one_record z.lists h.1) (walk_of_members g.untagged all)
-          (an_end (tag_name g.untagged at x) end ∷ []) a own_end in
+      (an_end (tag_name g.untagged at x) end ∷ []) a own_end in
       record {
         lists = with_one_record z.lists h.1;
         is = struct_body_joined at x begin all end s c z.lists (with_one_record z.lists h.1) h.1.fields (structure (length z.lists.records)) h.2

@@ -82,7 +82,7 @@ left_of d (Typed.expression t at (Typed.convert e false)) h b = by_note t.note t
         → IsLeftOf d (Typed.expression t at (Typed.convert e false)) (unless_noted n e (Typed.expression t at (Typed.convert e false)))
     by_note nothing u q =
         subst (λ (t : Noted). IsTyped d (typed (Typed.expression t at (Typed.convert e false)))
-            → IsLeftOf d (Typed.expression t at (Typed.convert e false)) e) (sym q)
+        → IsLeftOf d (Typed.expression t at (Typed.convert e false)) e) (sym q)
         (λ h. left_converted d u at e h) h
     by_note (size_of v p) u q =
         let w : IsBare (unless_noted t.note e (Typed.expression t at (Typed.convert e false))) = b in
