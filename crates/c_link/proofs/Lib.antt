@@ -1,4 +1,7 @@
 pub mod NumberLists
+pub mod Earliest
+pub mod MainFunction
+pub mod OneProgram
 pub mod Pairs
 pub mod Placed
 pub mod RecordLists

@@ -1,6 +1,5 @@
 -- Tables of numbers.
 use Rattle.std.proofs.Common.{◌≡◌, ℕ, List, map, get_or, ap, ◌∙◌, rules}
-use Rattle.std.specs.Prelude.{unwrap_or, slice_get}
 use Rattle.std.proofs.Math.ListN.{get_or-map}
 use Rattle.std.proofs.lemmas.Option.{unwrap_or-slice_get}
 use Rattle.c_types.specs.declared.ty.Ty.{the_lemmas}
@@ -14,8 +13,8 @@ pub numbers_are : {A : Type 0} (number : A → ℕ) (none : A) (all : List A) (n
     → number_at numbers ≡ (λ n. number (get_or all n none))
 numbers_are number none all numbers h e =
     let at : (n : ℕ) → number_at numbers n ≡ number (get_or all n none) =
-        λ n. unwrap_or-slice_get numbers.entries n numbers.otherwise ∙ ap (λ xs. get_or xs n numbers.otherwise) h ∙ ap (get_or (map number all) n) e
-            ∙ get_or-map number all n none in
+    λ n. unwrap_or-slice_get numbers.entries n numbers.otherwise ∙ ap (λ xs. get_or xs n numbers.otherwise) h ∙ ap (get_or (map number all) n) e
+    ∙ get_or-map number all n none in
     λ i n. at n i
 
 pub void_is : type_of T.Void ≡ void

@@ -28,7 +28,7 @@ one_more_object d keys k n f all (q ∷ more) o =
     let next = place d all (position keys (identity k q.linked q.name n)) (f q) in
     one_more_object d keys k (n + 1) f next more o
     ∙ ap (λ m. place d (placed d keys next (paired (object_identities k (n + 1) more) (map f more))) (position keys (identity k o.linked o.name m)) (f o))
-        (one_further n (length more))
+    (one_further n (length more))
 
 pub one_more_function : {A : Type 0} (d : A → Bool) (keys : List (List ℕ)) (k n : ℕ) (f : FunctionData → A) (all : List A) (os : List FunctionData) (o : FunctionData)
     → placed d keys all (paired (function_identities k n (os ++ o ∷ [])) (map f (os ++ o ∷ [])))
@@ -38,7 +38,7 @@ one_more_function d keys k n f all (q ∷ more) o =
     let next = place d all (position keys (identity k q.is_linked q.name n)) (f q) in
     one_more_function d keys k (n + 1) f next more o
     ∙ ap (λ m. place d (placed d keys next (paired (function_identities k (n + 1) more) (map f more))) (position keys (identity k o.is_linked o.name m)) (f o))
-        (one_further n (length more))
+    (one_further n (length more))
 
 pub joined_one_more : (t : Tables) (j : JoinedData) (k : ℕ) (units : List UnitData) (u : UnitData) → fold (with_unit t) j (numbered_from k (units ++ u ∷ []))
     ≡ with_unit t (fold (with_unit t) j (numbered_from k units)) (k + length units, u)

@@ -1,13 +1,12 @@
 -- Things that come one after another, each to its key: under each key stands what the definition chooses.
-use Rattle.std.proofs.Common.{◌≡◌, ℕ, suc, ◌+◌, Bool, true, false, not, ◌&&◌, ◌||◌, List, [], ◌∷◌, ◌++◌, Option, Some, None, fold, map, flat_map, refl, sym, ap, ◌∙◌, subst, add-one, append_assoc}
+use Rattle.std.proofs.Common.{◌≡◌, ℕ, ◌+◌, Bool, true, false, not, ◌&&◌, ◌||◌, List, [], ◌∷◌, ◌++◌, Option, Some, None, fold, map, flat_map, refl, sym, ap, ◌∙◌, subst, add-one, append_assoc}
 use Rattle.std.specs.Prelude.{if◌then◌else◌}
-use Rattle.std.specs.List.{list_any}
 use Rattle.std.specs.Str.{bytes_eq}
 use Rattle.std.proofs.lemmas.Slice.Eq.{bytes_eq-Decides}
 use Rattle.numbering.specs.Keys.{is_among, new_keys, position, with_key}
 use Rattle.numbering.proofs.Laws.{all_after, all_new}
 use Rattle.c_link.specs.Joining.{under, chosen_among, or_first, chosen, if_any}
-use Rattle.c_link.specs.Placing.{put, place, placed, replaces}
+use Rattle.c_link.specs.Placing.{place, placed}
 
 abbrev Key : Type 0
 Key = List ℕ
@@ -95,7 +94,7 @@ module _ {A : Type 0} (d : A → Bool) where
       let e : table ≡ fold with_key (keys next) (keys more) ++ rest = h ∙ ap (λ ks. fold with_key ks (keys more) ++ rest) (sym (keys_of_item acc p.0 p.1)) in
       let t = e ∙ ap (λ ks. ks ++ rest) (all_after (keys more) (keys next)) ∙ append_assoc (keys next) (new_keys (keys next) (keys more)) rest in
       ap (λ all. placed d table all more) (ap (λ them. place d (values acc) (position them p.0) p.1) t
-          ∙ sym (values_of_item acc p.0 p.1 (new_keys (keys next) (keys more) ++ rest)))
+      ∙ sym (values_of_item acc p.0 p.1 (new_keys (keys next) (keys more) ++ rest)))
       ∙ placed_is table rest next more e
 
   -- what stands under a key
@@ -118,6 +117,7 @@ module _ {A : Type 0} (d : A → Bool) where
     where
       is : (a b : Key) → bytes_eq a b ≡ true → a ≡ b
       is a b = (bytes_eq-Decides a b).0
+
       go : (b1 b2 b3 : Bool) → bytes_eq k p.0 ≡ b1 → bytes_eq j p.0 ≡ b2 → bytes_eq j k ≡ b3
           → found (with_item more k x) j ≡ (if b3 then after (found more j) x else found more j)
           → found (if b1 then (p.0, kept p.1 x) ∷ more else p ∷ with_item more k x) j

@@ -1,5 +1,5 @@
 -- What is assembled is the program of the units.
-use Rattle.std.proofs.Common.{◌≡◌, ℕ, ◌+◌, Bool, true, false, List, [], ◌∷◌, ◌++◌, Option, Some, None, fold, map, flat_map, refl, sym, ap, ◌∙◌}
+use Rattle.std.proofs.Common.{◌≡◌, ℕ, ◌+◌, Bool, true, false, List, [], ◌∷◌, ◌++◌, fold, map, flat_map, refl, sym, ap, ◌∙◌}
 use Rattle.std.specs.Prelude.{codes, if◌then◌else◌}
 use Rattle.std.specs.Str.{bytes_eq}
 use Rattle.std.proofs.lemmas.List.{append-nil, map-append}
@@ -8,7 +8,7 @@ use Rattle.c_typed.specs.declared.program.Object.{Object}
 use Rattle.c_typed.specs.Programs.{FunctionData, UnitData}
 use Rattle.c_type_table.specs.Renumbered.{record_in}
 use Rattle.numbering.specs.Keys.{new_keys, position}
-use Rattle.c_link.specs.Joining.{Tables, all_functions, all_functions_in, all_objects, all_objects_in, all_records_in, all_tags, chosen, complete_in, complete_tags}
+use Rattle.c_link.specs.Joining.{all_functions, all_functions_in, all_objects, all_objects_in, all_records_in, all_tags, chosen, complete_in, complete_tags}
 use Rattle.c_link.specs.Joining.{function_identities, functions, functions_of, identity, if_any, is_function_defined, is_object_defined, joined, named, numbered_from}
 use Rattle.c_link.specs.Joining.{object_identities, objects, objects_of, paired, records, records_in, structure_in, tables, under, with_tag}
 use Rattle.c_link.specs.Placing.{placed}
@@ -78,14 +78,14 @@ placed_once d keys ps e =
 objects_are : (units : List UnitData) → placed is_object_defined (all_objects units) [] (all_objects_in units) ≡ objects units
 objects_are units =
     placed_once is_object_defined (all_objects units) (all_objects_in units)
-        (ap (new_keys []) (all_keys (λ u. objects_of (tables units) u.0 u.1) (λ u. object_identities u.0 0 u.1.objects) (λ u. keys_of_objects u.0 0 _ u.1.objects)
-            (numbered_from 0 units)))
+    (ap (new_keys []) (all_keys (λ u. objects_of (tables units) u.0 u.1) (λ u. object_identities u.0 0 u.1.objects) (λ u. keys_of_objects u.0 0 _ u.1.objects)
+    (numbered_from 0 units)))
 
 functions_are : (units : List UnitData) → placed is_function_defined (all_functions units) [] (all_functions_in units) ≡ functions units
 functions_are units =
     placed_once is_function_defined (all_functions units) (all_functions_in units)
-        (ap (new_keys []) (all_keys (λ u. functions_of (tables units) u.0 u.1) (λ u. function_identities u.0 0 u.1.functions)
-            (λ u. keys_of_functions u.0 0 _ u.1.functions) (numbered_from 0 units)))
+    (ap (new_keys []) (all_keys (λ u. functions_of (tables units) u.0 u.1) (λ u. function_identities u.0 0 u.1.functions)
+    (λ u. keys_of_functions u.0 0 _ u.1.functions) (numbered_from 0 units)))
 
 -- ---- the whole
 

@@ -23,7 +23,12 @@ pub fn next(number: u32) -> Result<u32, NoMemory>
     }
 }
 
-fn add_objects(alloc: Global, keys: &mut KeyTable, unit: u32, objects: &[Object]) -> Result<(), NoMemory>
+fn add_objects(
+    alloc: Global,
+    keys: &mut KeyTable,
+    unit: u32,
+    objects: &[Object],
+) -> Result<(), NoMemory>
     ensures { OnOk result (keys.new ≡ fold with_key keys.old (object_identities unit 0 objects.now)) }
 {
     let mut n: u32 = 0;
@@ -34,7 +39,12 @@ fn add_objects(alloc: Global, keys: &mut KeyTable, unit: u32, objects: &[Object]
     Ok(())
 }
 
-fn add_functions(alloc: Global, keys: &mut KeyTable, unit: u32, functions: &[Function]) -> Result<(), NoMemory>
+fn add_functions(
+    alloc: Global,
+    keys: &mut KeyTable,
+    unit: u32,
+    functions: &[Function],
+) -> Result<(), NoMemory>
     ensures { OnOk result (keys.new ≡ fold with_key keys.old (function_identities unit 0 (map data_of functions.now))) }
 {
     let mut n: u32 = 0;
@@ -85,32 +95,53 @@ pub fn number_of(
     Ok(keys.number(&key))
 }
 
-fn entries_of_objects(alloc: Global, keys: &KeyTable, unit: u32, objects: &[Object]) -> Result<List<u32>, NoMemory>
+fn entries_of_objects(
+    alloc: Global,
+    keys: &KeyTable,
+    unit: u32,
+    objects: &[Object],
+) -> Result<List<u32>, NoMemory>
     ensures { IfOk result (λ numbers. numbers ≡ map (position keys.now) (object_identities unit 0 objects.now)) }
 {
     let mut numbers = List::new(alloc);
     let mut n: u32 = 0;
     for o in objects {
-        add(&mut numbers, number_of(alloc, keys, unit, o.linked, &o.name, n)?)?;
+        add(
+            &mut numbers,
+            number_of(alloc, keys, unit, o.linked, &o.name, n)?,
+        )?;
         n = next(n)?;
     }
     Ok(numbers)
 }
 
-fn entries_of_functions(alloc: Global, keys: &KeyTable, unit: u32, functions: &[Function]) -> Result<List<u32>, NoMemory>
+fn entries_of_functions(
+    alloc: Global,
+    keys: &KeyTable,
+    unit: u32,
+    functions: &[Function],
+) -> Result<List<u32>, NoMemory>
     ensures { IfOk result (λ numbers. numbers ≡ map (position keys.now) (function_identities unit 0 (map data_of functions.now))) }
 {
     let mut numbers = List::new(alloc);
     let mut n: u32 = 0;
     for f in functions {
-        add(&mut numbers, number_of(alloc, keys, unit, f.linked, &f.name, n)?)?;
+        add(
+            &mut numbers,
+            number_of(alloc, keys, unit, f.linked, &f.name, n)?,
+        )?;
         n = next(n)?;
     }
     Ok(numbers)
 }
 
 /// The numbers of a unit's objects.
-pub fn numbers_of_objects(alloc: Global, keys: &KeyTable, unit: u32, objects: &[Object]) -> Result<Numbers, NoMemory>
+pub fn numbers_of_objects(
+    alloc: Global,
+    keys: &KeyTable,
+    unit: u32,
+    objects: &[Object],
+) -> Result<Numbers, NoMemory>
     ensures { IfOk result (λ numbers. number_at numbers ≡ (λ n. position keys.now (get_or (object_identities unit 0 objects.now) n []))) }
 {
     let entries = entries_of_objects(alloc, keys, unit, objects)?;

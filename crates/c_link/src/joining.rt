@@ -95,7 +95,11 @@ fn join_functions(
     Ok(())
 }
 
-fn join_mentions(to: &Renumbering, all: &mut List<Mention>, mentions: List<Mention>) -> Result<(), NoMemory>
+fn join_mentions(
+    to: &Renumbering,
+    all: &mut List<Mention>,
+    mentions: List<Mention>,
+) -> Result<(), NoMemory>
     ensures { OnOk result (all.new ≡ all.old ++ map (mention_in (renaming_of to.now)) mentions) }
 {
     for it in mentions.into_vec() {
@@ -142,7 +146,13 @@ fn parts_of(u: Unit) -> Given
 }
 
 /// Adds what a unit gives to what those before it gave.
-fn join_unit(alloc: Global, tables: &Tables, unit: u32, joined: &mut Joined, u: Unit) -> Result<(), NoMemory>
+fn join_unit(
+    alloc: Global,
+    tables: &Tables,
+    unit: u32,
+    joined: &mut Joined,
+    u: Unit,
+) -> Result<(), NoMemory>
     ensures { OnOk result (joined_of joined.new ≡ with_unit (tables_of tables.now) (joined_of joined.old) (unit, unit_data u)) }
 {
     let to = renumbering(alloc, tables, unit, &u)?;
@@ -152,8 +162,22 @@ fn join_unit(alloc: Global, tables: &Tables, unit: u32, joined: &mut Joined, u: 
         functions,
         mentions,
     } = parts_of(u);
-    join_objects(alloc, &tables.objects, &to, unit, &mut joined.objects, objects)?;
-    join_functions(alloc, &tables.functions, &to, unit, &mut joined.functions, functions)?;
+    join_objects(
+        alloc,
+        &tables.objects,
+        &to,
+        unit,
+        &mut joined.objects,
+        objects,
+    )?;
+    join_functions(
+        alloc,
+        &tables.functions,
+        &to,
+        unit,
+        &mut joined.functions,
+        functions,
+    )?;
     join_mentions(&to, &mut joined.mentions, mentions)
 }
 

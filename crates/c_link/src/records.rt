@@ -38,7 +38,11 @@ fn renumbered_field(alloc: Global, numbers: &Numbers, f: &Field) -> Result<Field
     })
 }
 
-fn renumbered_fields(alloc: Global, numbers: &Numbers, fields: &[Field]) -> Result<List<Field>, NoMemory>
+fn renumbered_fields(
+    alloc: Global,
+    numbers: &Numbers,
+    fields: &[Field],
+) -> Result<List<Field>, NoMemory>
     ensures { IfOk result (λ r. map field_of r ≡ map (field_in (number_at numbers.now)) (map field_of fields.now)) }
 {
     let mut done = List::new(alloc);
@@ -60,7 +64,12 @@ fn renumbered_record(alloc: Global, numbers: &Numbers, it: &Record) -> Result<Re
     })
 }
 
-fn add_records(alloc: Global, numbers: &Numbers, all: &mut List<Record>, records: &[Record]) -> Result<(), NoMemory>
+fn add_records(
+    alloc: Global,
+    numbers: &Numbers,
+    all: &mut List<Record>,
+    records: &[Record],
+) -> Result<(), NoMemory>
     ensures { OnOk result (records_of all.new ≡ records_of all.old ++ map (record_in (number_at numbers.now)) (records_of records.now)) }
 {
     for it in records {
@@ -69,7 +78,12 @@ fn add_records(alloc: Global, numbers: &Numbers, all: &mut List<Record>, records
     Ok(())
 }
 
-fn add_records_of(alloc: Global, tags: &KeyTable, all: &mut List<Record>, u: &Unit) -> Result<(), NoMemory>
+fn add_records_of(
+    alloc: Global,
+    tags: &KeyTable,
+    all: &mut List<Record>,
+    u: &Unit,
+) -> Result<(), NoMemory>
     ensures { OnOk result (records_of all.new ≡ records_of all.old ++ records_in tags.now (unit_data u.now)) }
 {
     let numbers = numbers_of_structures(alloc, tags, u)?;

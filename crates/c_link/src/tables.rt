@@ -42,7 +42,12 @@ pub fn program_tables(alloc: Global, units: &[Unit]) -> Result<Tables, NoMemory>
 }
 
 /// What the numbers of a unit become in the program.
-pub fn renumbering(alloc: Global, tables: &Tables, unit: u32, u: &Unit) -> Result<Renumbering, NoMemory>
+pub fn renumbering(
+    alloc: Global,
+    tables: &Tables,
+    unit: u32,
+    u: &Unit,
+) -> Result<Renumbering, NoMemory>
     ensures { IfOk result (λ to. renaming_of to ≡ renaming (tables_of tables.now) unit (unit_data u.now)) }
 {
     let records = numbers_of_structures(alloc, &tables.tags, u)?;

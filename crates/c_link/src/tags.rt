@@ -99,11 +99,7 @@ fn add_numbers_of_names(
 }
 
 /// The numbers of a unit's structures.
-pub fn numbers_of_structures(
-    alloc: Global,
-    tags: &KeyTable,
-    u: &Unit,
-) -> Result<Numbers, NoMemory>
+pub fn numbers_of_structures(alloc: Global, tags: &KeyTable, u: &Unit) -> Result<Numbers, NoMemory>
     ensures { IfOk result (λ numbers. number_at numbers ≡ structure_in tags.now (unit_data u.now)) }
 {
     let mut entries = List::new(alloc);

@@ -19,7 +19,12 @@ use lay_base::{List, NoMemory, add};
 use numbering::KeyTable;
 use std::alloc::Global;
 
-fn add_types(alloc: Global, types: &mut TypeTable, records: &Numbers, all: &[Ty]) -> Result<(), NoMemory>
+fn add_types(
+    alloc: Global,
+    types: &mut TypeTable,
+    records: &Numbers,
+    all: &[Ty],
+) -> Result<(), NoMemory>
     ensures { OnOk result (map type_of types.new ≡ fold with_type (map type_of types.old) (map (renumbered (number_at records.now)) (map type_of all.now))) }
 {
     for t in all {
@@ -29,7 +34,12 @@ fn add_types(alloc: Global, types: &mut TypeTable, records: &Numbers, all: &[Ty]
     Ok(())
 }
 
-fn add_types_of(alloc: Global, types: &mut TypeTable, tags: &KeyTable, u: &Unit) -> Result<(), NoMemory>
+fn add_types_of(
+    alloc: Global,
+    types: &mut TypeTable,
+    tags: &KeyTable,
+    u: &Unit,
+) -> Result<(), NoMemory>
     ensures { OnOk result (map type_of types.new ≡ fold with_type (map type_of types.old) (types_in tags.now (unit_data u.now))) }
 {
     let records = numbers_of_structures(alloc, tags, u)?;

@@ -1,4 +1,4 @@
-use Rattle.std.proofs.Common.{[], map, rules}
+use Rattle.std.proofs.Common.{[], map}
 use Rattle.c_typed.specs.Programs.{data_of}
 use Rattle.numbering.specs.Keys.{position}
 use Rattle.c_link.specs.Joining.{function_identities}

@@ -1,4 +1,4 @@
-use Rattle.std.proofs.Common.{[], rules}
+use Rattle.std.proofs.Common.{[]}
 use Rattle.numbering.specs.Keys.{position}
 use Rattle.c_link.specs.Joining.{object_identities}
 use Rattle.c_link.proofs.NumberLists.{numbers_are}

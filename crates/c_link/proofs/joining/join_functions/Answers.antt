@@ -26,5 +26,5 @@ loop-f-preserved c =
           ∙ ap (λ them. place is_function_defined them (number (0 + length (map data_of ys))) (function_in m (data_of f))) c.loop-f.invariant.functions
           ∙ sym (one_more_function is_function_defined keys c.args.unit 0 (function_in m) (map data_of c.args.all.now.items) (map data_of ys) (data_of f))
           ∙ ap (λ them. placed is_function_defined keys (map data_of c.args.all.now.items) (paired (function_identities c.args.unit 0 them) (map (function_in m) them)))
-              (sym (map-append data_of ys (f ∷ [])));
+          (sym (map-append data_of ys (f ∷ [])));
     }

@@ -1,5 +1,4 @@
-use Rattle.std.proofs.Common.{◌≡◌, ◌≤◌, ◌<◌, ◌++◌, ◌∷◌, [], ◌∙◌, length, true, false, ap, set, rules}
-use Rattle.c_link.specs.Placing.{put}
+use Rattle.std.proofs.Common.{◌≡◌, ◌≤◌, ◌<◌, ◌++◌, ◌∷◌, [], ◌∙◌, length, true, false, rules}
 use Rattle.c_link.proofs.Placed.{past, replaced, stays}
 use Rattle.c_link.proofs.placing.put.Goals as goal
 
