@@ -1,10 +1,11 @@
 -- Calls, string literals, sizes and constants: the typed tree is the one that is found (C99 6.4.5, 6.5.2.2, 6.5.3.4, 6.6).
-use Rattle.std.proofs.Common.{◌≡◌, ◌≢◌, ℕ, zero, suc, ◌+◌, ◌≤◌, ◌<◌, Bool, true, false, List, [], ◌∷◌, ◌++◌, length, length-append, refl, sym, ap, ◌∙◌, subst, cond, inl, inr, arith}
+use Rattle.std.proofs.Common.{◌≡◌, ℕ, zero, suc, ◌≤◌, ◌<◌, true, false, List, [], ◌∷◌, ◌++◌, length, length-append, refl, sym, ap, ◌∙◌, subst, inl}
+use Rattle.std.proofs.Common.{inr, arith}
 use Rattle.std.proofs.lemmas.Bool.{and_parts, and_from, lt-ltb}
-use Rattle.std.specs.Prelude.{◌⊎◌, ◌&&◌, nat_lt, IsSome, Option, Some, None, Ok, Err, slice_get, map}
+use Rattle.std.specs.Prelude.{◌⊎◌, nat_lt, IsSome, Option, Some, Ok, slice_get, map}
 use Rattle.lay_base.specs.declared.place.Place.{Place}
 use Rattle.c_types.specs.declared.ty.IntKind.{IntKind}
-use Rattle.c_types.specs.declared.ty.IntKind.TheVariants.{Char, UInt}
+use Rattle.c_types.specs.declared.ty.IntKind.TheVariants.{Char}
 use Rattle.c_types.specs.Types.{CType, CTypes, void, integer, pointer, array, function, structure, no_types, and_type}
 use Rattle.c_types.specs.Layouts.{size_of}
 use Rattle.c_types.specs.Objects.{is_object}
@@ -15,28 +16,29 @@ use Rattle.c_ast.specs.Trees
 use Rattle.c_ast.specs.Places.{first}
 use Rattle.c_typed.specs.declared.program.MentionKind.TheVariants.{Sizeof}
 use Rattle.c_typed.specs.Trees as Typed
-use Rattle.c_typed.specs.Constants.{ty, Constant, valued, constant_of}
+use Rattle.c_typed.specs.Constants.{ty}
 use Rattle.c_typed.specs.Conversions.{is_function}
-use Rattle.c_typed.specs.Typed.{IsTyped, IsTypedNode, AreArguments}
+use Rattle.c_typed.specs.Typed.{IsTyped, AreArguments}
 use Rattle.c_erasure.specs.Broken.{called_type, pointed_type}
-use Rattle.c_erasure.specs.Erasure.{typed, IsTypedThing, Values, Erases, AreValues, IsCall, IsLiteralFor, IsConstant, literal_of, literal_object, unmade, place_in}
-use Rattle.c_erasure.specs.Noted.{Noted, Node, value, way, Expression, Path, Thing, an_object, a_value, a_function, a_function_at, a_library_function, type_of, type_of_path, value_of, object_value, unconverted}
-use Rattle.c_erasure.specs.Scopes.{FileScope, Scope, AnObject, Purpose, in_full, value_alone, type_alone, purpose_of_value, measured, for_value, ended, declared}
-use Rattle.c_checking.specs.Answers.{Answer, ◌>>=◌, Checked, with_file, moved}
-use Rattle.c_checking.specs.Nodes.{signature_in, call_in, argument_in, measured_in, size_node}
-use Rattle.c_checking.specs.Declaring.{with_mention, mentions_in, literal_for, literal_in, constant_of_type, constant_in}
-use Rattle.c_checking.specs.Finding.{value_at, constant_at, complete, find, arguments}
+use Rattle.c_erasure.specs.Erasure.{typed, IsTypedThing, Erases, AreValues, IsCall, IsLiteralFor, IsConstant, literal_of, literal_object, unmade, place_in}
+use Rattle.c_erasure.specs.Noted.{Noted, Node, value, way, Expression, Path, Thing, an_object, a_value, a_function, a_function_at, a_library_function}
+use Rattle.c_erasure.specs.Noted.{type_of, type_of_path, object_value}
+use Rattle.c_erasure.specs.Scopes.{FileScope, Scope, AnObject, Purpose, in_full, value_alone, type_alone, measured, for_value, ended, declared}
+use Rattle.c_checking.specs.Answers.{moved}
+use Rattle.c_checking.specs.Declaring.{mentions_in, literal_for, literal_in, constant_in}
+use Rattle.c_checking.specs.Finding.{value_at, constant_at, find, arguments}
 use Rattle.c_checking.proofs.Results.{ok}
 use Rattle.c_checking.proofs.Extends.{Extends}
 use Rattle.c_checking.proofs.Values.{type_same}
 use Rattle.c_checking.proofs.CompleteNodes
 use Rattle.c_checking.proofs.CompleteParts
 use Rattle.c_checking.proofs.CompleteParts.{typed_all}
-use Rattle.c_checking.proofs.CompleteWalk.{Event, seen, seen_measured, seen_for_value, walk, walk_of_all, a_use, a_literal}
-use Rattle.c_checking.proofs.CompletePart.{Lists, part, IsWhole, IsBefore, IsAfter, Done, BlocksFit, blocks_stay, IsSound, IsComplete, value_typed, none_after, grown, complete_stays, mentioned}
+use Rattle.c_checking.proofs.CompleteWalk.{Event, seen, seen_measured, seen_for_value, walk, walk_of_all, a_literal}
+use Rattle.c_checking.proofs.CompletePart.{Lists, part, IsWhole, IsBefore, IsAfter, Done, BlocksFit, blocks_stay, IsSound, IsComplete, value_typed}
+use Rattle.c_checking.proofs.CompletePart.{none_after, grown, complete_stays, mentioned}
 use Rattle.c_checking.proofs.CompletePart.{left_seen, right_seen, then_seen}
-use Rattle.c_checking.proofs.CompleteOperands.{Seen, Found, Completes, FoundValue, operand, erased_sound}
-use Rattle.c_checking.proofs.CompleteExpressions.{Back, by_thing, after_use, behind_use}
+use Rattle.c_checking.proofs.CompleteOperands.{Seen, Completes, operand, erased_sound}
+use Rattle.c_checking.proofs.CompleteExpressions.{by_thing, after_look, behind_look}
 
 -- ---- what is called
 
@@ -77,7 +79,8 @@ module _ (g : FileScope) (w : IsWhole g) where
     pub is_typed : IsTypedThing (moved s g) f
     pub called : (r : ℕ) → IsComplete g r f → called_type f ≡ Some (function t parameters)
 
-  through : (e : Expression) (t : CType) (parameters : CTypes) → ty (typed e) ≡ pointer (function t parameters) → pointed_type (type_of e) ≡ Some (function t parameters)
+  through : (e : Expression) (t : CType) (parameters : CTypes) → ty (typed e) ≡ pointer (function t parameters)
+      → pointed_type (type_of e) ≡ Some (function t parameters)
   through e t parameters h = ap pointed_type (sym (type_same e) ∙ h)
 
   call_parts : (s : Scope) (f : Thing) (t : CType) (at : Place) (xs : Typed.Expressions Noted) (node : Node) → IsSound g f → IsCall f xs node
@@ -127,7 +130,7 @@ module _ (g : FileScope) (w : IsWhole g) where
       let q = subst (λ xs. AreArguments (declared (moved s g)) (and_type u parameters) (typed_all xs)) h.2 t in
       let m = operand g w a i s c h.0 f (left_seen g s.is_inside s.purpose c (walk g.untagged a) (walk_of_all g.untagged more) b) h.3 q.0 in
       let n = j s m.lists parameters h.1 right (blocks_stay g (length c.records) (length m.lists.records) s.blocks (grown m.after) f)
-          (right_seen g s.is_inside s.purpose c m.lists (walk g.untagged a) (walk_of_all g.untagged more) b m.after) h.4 q.2 in
+      (right_seen g s.is_inside s.purpose c m.lists (walk g.untagged a) (walk_of_all g.untagged more) b m.after) h.4 q.2 in
       let o = CompleteParts.argument_back (declared (moved s g)) (place_in (moved s g) (first a)) (first a) u h.0 m.left q.1 in
       record {
         lists = n.lists;
@@ -140,22 +143,22 @@ module _ (g : FileScope) (w : IsWhole g) where
   unfolding find
   call_complete a left all right i j s c th f b h t = by_thing g w s c (Trees.call a left all right) th _ h.7
       (λ t.
-        let sound = erased_sound g w a s (length c.records) f h.1 h.4 in
-        let p = call_parts s h.1 h.0 (place_in (moved s g) (first a)) h.2 h.3 sound h.6 t in
-        let z = i s c h.1 f (left_seen g s.is_inside s.purpose c (walk g.untagged a) (walk_of_all g.untagged all) b) h.4 p.is_typed in
-        let n = j s z.done.lists p.parameters h.2 right (blocks_stay g (length c.records) (length z.done.lists.records) s.blocks (grown z.done.after) f)
-            (right_seen g s.is_inside s.purpose c z.done.lists (walk g.untagged a) (walk_of_all g.untagged all) b z.done.after) h.5 p.given in
-        let o = CompleteParts.signature_back (declared (moved s g)) (place_in (moved s g) (first a)) (first a) h.1 h.0 p.parameters
-            (p.called (length z.done.lists.records) z.complete) in
-        let q = CompleteParts.call_back (declared (moved s g)) (place_in (moved s g) (first a)) h.1 h.0 h.2 h.3 h.6 in
-        record {
-          done = record {
-            lists = n.lists;
-            is = rw (z.done.is, o, n.is, q) refl;
-            after = then_seen g s.is_inside s.purpose c z.done.lists n.lists (walk g.untagged a) (walk_of_all g.untagged all) z.done.after n.after;
-          };
-          complete = tt;
-        }) t
+      let sound = erased_sound g w a s (length c.records) f h.1 h.4 in
+      let p = call_parts s h.1 h.0 (place_in (moved s g) (first a)) h.2 h.3 sound h.6 t in
+      let z = i s c h.1 f (left_seen g s.is_inside s.purpose c (walk g.untagged a) (walk_of_all g.untagged all) b) h.4 p.is_typed in
+      let n = j s z.done.lists p.parameters h.2 right (blocks_stay g (length c.records) (length z.done.lists.records) s.blocks (grown z.done.after) f)
+      (right_seen g s.is_inside s.purpose c z.done.lists (walk g.untagged a) (walk_of_all g.untagged all) b z.done.after) h.5 p.given in
+      let o = CompleteParts.signature_back (declared (moved s g)) (place_in (moved s g) (first a)) (first a) h.1 h.0 p.parameters
+      (p.called (length z.done.lists.records) z.complete) in
+      let q = CompleteParts.call_back (declared (moved s g)) (place_in (moved s g) (first a)) h.1 h.0 h.2 h.3 h.6 in
+      record {
+        done = record {
+          lists = n.lists;
+          is = rw (z.done.is, o, n.is, q) refl;
+          after = then_seen g s.is_inside s.purpose c z.done.lists n.lists (walk g.untagged a) (walk_of_all g.untagged all) z.done.after n.after;
+        };
+        complete = tt;
+      }) t
 
   -- ---- integer constant expressions
 
@@ -183,21 +186,21 @@ module _ (g : FileScope) (w : IsWhole g) where
   unfolding find
   sizeof_complete at a i s c th f b h t = by_thing g w s c (Trees.sizeof_expression at a) th _ h.2.2
       (λ t.
-        let e = seen_measured s.is_inside s.purpose (walk g.untagged a) in
-        let inner = behind_use g w c at (seen s.is_inside s.purpose (seen false value_alone (walk g.untagged a))) b in
-        let z = i (measured s) c h.1.0 f (subst (IsBefore g c) e inner) h.1.1 h.1.2 in
-        let d = z.done.lists in
-        let k : ended g.ends at ≤ length d.records = omega (arith, b.follows.0.1, z.done.after.records) in
-        let o = complete_stays (ended g.ends at) (length d.records) h.0 k h.2.0 in
-        let same = size_same d h.0 z.done.after.extends o in
-        let l : size_of d.records h.0 ≤ 16777216 = omega (arith, same, h.2.3) in
-        let n = CompleteParts.measured_back d.records (ended g.ends at) at h.1.0 h.0 h.1.3 h.2.0 o l in
-        let m = mentioned g s c d (Seen g w s (Trees.sizeof_expression at a)) (mentions_in (part g d)) Sizeof h.0 at h.2.1
-            (after_use g w c d at (seen s.is_inside s.purpose (seen false value_alone (walk g.untagged a))) (subst (λ w. IsAfter g c w d) (sym e) z.done.after)) in
-        record {
-          done = record { lists = m.0; is = rw (z.done.is, n, m.1, same) refl; after = m.3 };
-          complete = tt;
-        }) t
+      let e = seen_measured s.is_inside s.purpose (walk g.untagged a) in
+      let inner = behind_look g w c at (seen s.is_inside s.purpose (seen false value_alone (walk g.untagged a))) b in
+      let z = i (measured s) c h.1.0 f (subst (IsBefore g c) e inner) h.1.1 h.1.2 in
+      let d = z.done.lists in
+      let k : ended g.ends at ≤ length d.records = omega (arith, b.follows.0, z.done.after.records) in
+      let o = complete_stays (ended g.ends at) (length d.records) h.0 k h.2.0 in
+      let same = size_same d h.0 z.done.after.extends o in
+      let l : size_of d.records h.0 ≤ 16777216 = omega (arith, same, h.2.3) in
+      let n = CompleteParts.measured_back d.records (ended g.ends at) at h.1.0 h.0 h.1.3 h.2.0 o l in
+      let m = mentioned g s c d (Seen g w s (Trees.sizeof_expression at a)) (mentions_in (part g d)) Sizeof h.0 at h.2.1
+      (after_look g w c d at (seen s.is_inside s.purpose (seen false value_alone (walk g.untagged a))) (subst (λ w. IsAfter g c w d) (sym e) z.done.after)) in
+      record {
+        done = record { lists = m.0; is = rw (z.done.is, n, m.1, same) refl; after = m.3 };
+        complete = tt;
+      }) t
 
   -- ---- string literals
 
@@ -227,7 +230,8 @@ module _ (g : FileScope) (w : IsWhole g) where
   abbrev pub with_one_object : Lists → AnObject → Lists
   with_one_object c o = record { names = c.names; records = c.records; objects = c.objects ++ o ∷ []; functions = c.functions; mentions = c.mentions }
 
-  pub object_extends : (c : Lists) (o : AnObject) → Extends (part g c) g → slice_get g.objects (length c.objects) ≡ Some o → Extends (part g (with_one_object c o)) g
+  pub object_extends : (c : Lists) (o : AnObject) → Extends (part g c) g → slice_get g.objects (length c.objects) ≡ Some o
+      → Extends (part g (with_one_object c o)) g
   object_extends c o p h = record {
     file = refl;
     tags = refl;
@@ -249,7 +253,9 @@ module _ (g : FileScope) (w : IsWhole g) where
           let k : n ≡ length c.objects = e.0 ∙ map_length (λ (o : AnObject). o.ty) c.objects in
           subst (λ n. slice_get (map (λ o. o.ty) g.objects) n ≡ Some t) (sym k)
           (mapped_at (λ (o : AnObject). o.ty) g.objects (length c.objects) o h ∙ ap (λ t. CompleteNodes.some t) e.1)
-      by_place : (n : ℕ) (x : AnObject) → IsSome x.initial → (slice_get c.objects n ≡ Some x) ⊎ ((n ≡ length c.objects) × (o ≡ x)) → slice_get g.objects n ≡ Some x
+
+      by_place : (n : ℕ) (x : AnObject) → IsSome x.initial → (slice_get c.objects n ≡ Some x) ⊎ ((n ≡ length c.objects) × (o ≡ x))
+          → slice_get g.objects n ≡ Some x
       by_place n x i (inl e) = p.objects n x e i
       by_place n x i (inr e) = subst (λ n. slice_get g.objects n ≡ Some x) (sym e.0) (h ∙ ap (λ o. CompleteNodes.some o) e.1)
 
@@ -306,7 +312,8 @@ module _ (g : FileScope) (w : IsWhole g) where
     complete = chars_complete (length c.records) all;
   }
 
-  literal_found : (all : List Spelling) (s : Scope) (c : Lists) (th : Thing) (p : Purpose) → IsBefore g c (seen s.is_inside p (a_literal (first (Trees.texts all)) ∷ []))
+  literal_found : (all : List Spelling) (s : Scope) (c : Lists) (th : Thing) (p : Purpose)
+      → IsBefore g c (seen s.is_inside p (a_literal (first (Trees.texts all)) ∷ []))
       → IsLiteralFor p (moved s g) (place_in (moved s g) (first (Trees.texts all))) (literal_of all) th → FoundLiteral s c p all th
   literal_found all s c th in_full b h =
       let o = b.follows.0 in

@@ -1,11 +1,10 @@
 -- Each alternative of an expression: the typed tree is the one that is found, where those of the parts are (C99 6.5).
-use Rattle.std.proofs.Common.{◌≡◌, ◌≢◌, ℕ, zero, suc, ◌+◌, ◌≤◌, ◌<◌, Bool, true, false, List, [], ◌∷◌, ◌++◌, length, refl, sym, ap, ◌∙◌, subst, cond, inl, inr, arith}
+use Rattle.std.proofs.Common.{◌≡◌, ℕ, zero, suc, ◌≤◌, ◌<◌, Bool, true, false, List, [], ◌∷◌, ◌++◌, length, refl, sym, ap, ◌∙◌, subst, cond, inl, inr, arith}
 use Rattle.std.proofs.lemmas.Bool.{and_parts, ltb-true}
-use Rattle.std.specs.Prelude.{◌⊎◌, ◌&&◌, nat_lt, Option, Some, None, Ok, Err, slice_get, map}
+use Rattle.std.specs.Prelude.{nat_lt, Some, None, Ok, slice_get}
 use Rattle.lay_base.specs.declared.place.Place.{Place}
 use Rattle.c_types.specs.declared.ty.IntKind.{IntKind}
-use Rattle.c_types.specs.declared.ty.IntKind.TheVariants.{Int}
-use Rattle.c_types.specs.Types.{CType, CTypes, void, integer, pointer, array, function, structure}
+use Rattle.c_types.specs.Types.{CType, void, integer, pointer, array, function, structure}
 use Rattle.c_types.specs.Objects.{is_object}
 use Rattle.c_ast.specs.declared.words.Spelling.{Spelling}
 use Rattle.c_ast.specs.declared.operators.UnaryOp.TheVariants as U
@@ -19,24 +18,23 @@ use Rattle.c_typed.specs.declared.operators.BinaryOp as TypedBinary
 use Rattle.c_typed.specs.declared.operators.BinaryOp.TheVariants as B
 use Rattle.c_typed.specs.Trees as Typed
 use Rattle.c_typed.specs.Constants.{ty}
-use Rattle.c_typed.specs.Conversions.{element_of, is_scalar, is_integer}
+use Rattle.c_typed.specs.Conversions.{element_of, is_scalar}
 use Rattle.c_typed.specs.Rules.{updating, is_move, moving}
-use Rattle.c_typed.specs.Typed.{is_decay, bare_ty, IsTyped, IsTypedPath, IsTypedNode}
-use Rattle.c_erasure.specs.Erasure.{typed, IsTypedThing, Values, Erases, IsNamed, IsSum, IsJoined, IsAddress, IsPointed, place_in}
-use Rattle.c_erasure.specs.Noted.{Noted, Node, value, way, Expression, Path, Thing, an_object, a_value, a_function, a_function_at, a_library_function, type_of, type_of_path, value_of, unconverted, nothing}
-use Rattle.c_erasure.specs.Operators.{Kind, computes, compares, all_of, any_of, kind_of, update_of, step_of}
-use Rattle.c_erasure.specs.Scopes.{FileScope, Scope, Entity, named, ended, declared}
-use Rattle.c_checking.specs.Answers.{Answer, ◌>>=◌, Checked, with_file, moved}
-use Rattle.c_checking.specs.Nodes.{worth, named_in, index_in, element_in, array_of, binary_in, chosen_in, comma_in, target_in, assigned_in, copied_in, updated_in}
-use Rattle.c_checking.specs.Nodes.{tested, step_in, address_in, deref_in, unary_in, not_in, Target, scalar_at, record_at}
-use Rattle.c_checking.specs.Finding.{value_at, tested_at, complete, on_value, unary_on, subscripted, assigned, find}
-use Rattle.c_checking.proofs.Results.{ok}
-use Rattle.c_checking.proofs.Values.{typed_path, type_same, path_type_same, unconverted_same}
+use Rattle.c_typed.specs.Typed.{is_decay, bare_ty, IsTyped, IsTypedPath}
+use Rattle.c_erasure.specs.Erasure.{typed, IsTypedThing, Values, Erases, IsSum, IsJoined, IsAddress, IsPointed, place_in}
+use Rattle.c_erasure.specs.Noted.{Node, value, Expression, Path, Thing, an_object, a_value, a_function, a_function_at, a_library_function}
+use Rattle.c_erasure.specs.Noted.{type_of_path, unconverted}
+use Rattle.c_erasure.specs.Operators.{Kind, computes, compares, all_of, any_of, kind_of, step_of}
+use Rattle.c_erasure.specs.Scopes.{FileScope, Scope, ended, declared}
+use Rattle.c_checking.specs.Answers.{with_file, moved}
+use Rattle.c_checking.specs.Nodes.{named_in}
+use Rattle.c_checking.specs.Nodes.{address_in}
+use Rattle.c_checking.specs.Finding.{find}
+use Rattle.c_checking.proofs.Values.{typed_path, path_type_same, unconverted_same}
 use Rattle.c_checking.proofs.CompleteNodes
 use Rattle.c_checking.proofs.CompleteParts
-use Rattle.c_checking.proofs.CompleteValues.{IsLeftOf}
-use Rattle.c_checking.proofs.CompleteWalk.{Event, seen, walk, a_use}
-use Rattle.c_checking.proofs.CompletePart.{Lists, part, IsFitFor, IsWhole, IsBefore, IsAfter, Done, BlocksFit, blocks_stay, IsSound, IsComplete, none_after, grown, complete_stays}
+use Rattle.c_checking.proofs.CompleteWalk.{Event, seen, walk, a_look}
+use Rattle.c_checking.proofs.CompletePart.{Lists, part, IsFitFor, IsWhole, IsBefore, IsAfter, BlocksFit, blocks_stay, none_after, grown, complete_stays}
 use Rattle.c_checking.proofs.CompletePart.{left_seen, right_seen, then_seen, named_same, named_fits}
 use Rattle.c_checking.proofs.CompleteOperands.{Seen, Found, Completes, FoundValue, operand, named_complete, erased_sound, no_array, number_no_array}
 
@@ -123,6 +121,7 @@ module _ (g : FileScope) (w : IsWhole g) where
     where
       same : (own : Node) → node ≡ own → IsTyped (declared s) (typed (value t at own))
       same own e = subst (λ node. IsTyped (declared s) (typed (value t at node))) e h
+
       by_sum : (op : TypedBinary.BinaryOp) → IsSum op x y node → IsTyped (declared s) (typed x) × IsTyped (declared s) (typed y)
       by_sum B.Add (inl e) = let h = same _ e in (h.0, h.1)
       by_sum B.Add (inr e) = let h = same _ e in (h.0, h.1)
@@ -154,31 +153,32 @@ module _ (g : FileScope) (w : IsWhole g) where
   operands a b i j s c x y f e v u t q =
       let m = operand g w a i s c x f (left_seen g s.is_inside s.purpose c (walk g.untagged a) (walk g.untagged b) e) v t in
       let n = operand g w b j s m.lists y (blocks_stay g (length c.records) (length m.lists.records) s.blocks (grown m.after) f)
-          (right_seen g s.is_inside s.purpose c m.lists (walk g.untagged a) (walk g.untagged b) e m.after) u q in
+      (right_seen g s.is_inside s.purpose c m.lists (walk g.untagged a) (walk g.untagged b) e m.after) u q in
       record { first = m; second = n; after = then_seen g s.is_inside s.purpose c m.lists n.lists (walk g.untagged a) (walk g.untagged b) m.after n.after }
 
   pub binary_complete : (a b : Trees.Expression) (op : BinaryOp) (at : ℕ) → Is a → Is b → Is (Trees.binary a op at b)
   unfolding find
   binary_complete a b op at i j s c th f e h t = by_thing s c (Trees.binary a op at b) th _ h.7
       (λ t.
-        let p = joined_parts (moved s g) (kind_of op) h.0 (place_in (moved s g) (first a)) h.1 h.2 h.3 h.6 t in
-        let z = operands a b i j s c h.1 h.2 f e h.4 h.5 p.0 p.1 in
-        let n = CompleteNodes.binary_back (declared (moved s g)) (place_in (moved s g) (first a)) at (kind_of op) h.0 h.1 h.2 h.3 z.first.left z.second.left h.6 t in
-        record {
-          done = record { lists = z.second.lists; is = rw (z.first.value_is, z.second.value_is, n) refl; after = z.after };
-          complete = tt;
-        }) t
+      let p = joined_parts (moved s g) (kind_of op) h.0 (place_in (moved s g) (first a)) h.1 h.2 h.3 h.6 t in
+      let z = operands a b i j s c h.1 h.2 f e h.4 h.5 p.0 p.1 in
+      let n = CompleteNodes.binary_back (declared (moved s g)) (place_in (moved s g) (first a)) at (kind_of op) h.0 h.1 h.2 h.3 z.first.left z.second.left
+      h.6 t in
+      record {
+        done = record { lists = z.second.lists; is = rw (z.first.value_is, z.second.value_is, n) refl; after = z.after };
+        complete = tt;
+      }) t
 
   pub comma_complete : (a b : Trees.Expression) (at : ℕ) → Is a → Is b → Is (Trees.comma a at b)
   unfolding find
   comma_complete a b at i j s c th f e h t = by_thing s c (Trees.comma a at b) th _ h.3
       (λ t.
-        let z = operands a b i j s c h.1 h.2 f e h.4 h.5 t.0 t.1 in
-        let n = CompleteNodes.comma_back (declared (moved s g)) (place_in (moved s g) (first a)) h.0 h.1 h.2 t in
-        record {
-          done = record { lists = z.second.lists; is = rw (z.first.value_is, z.second.value_is, n) refl; after = z.after };
-          complete = tt;
-        }) t
+      let z = operands a b i j s c h.1 h.2 f e h.4 h.5 t.0 t.1 in
+      let n = CompleteNodes.comma_back (declared (moved s g)) (place_in (moved s g) (first a)) h.0 h.1 h.2 t in
+      record {
+        done = record { lists = z.second.lists; is = rw (z.first.value_is, z.second.value_is, n) refl; after = z.after };
+        complete = tt;
+      }) t
 
   -- ---- `?:`
 
@@ -186,20 +186,21 @@ module _ (g : FileScope) (w : IsWhole g) where
   unfolding find
   cond_complete a b d question colon i j k s c th f e h t = by_thing s c (Trees.cond a question b colon d) th _ h.4
       (λ t.
-        let ab : List Event = walk g.untagged a ++ walk g.untagged b in
-        let z = operands a b i j s c h.1 h.2 f (left_seen g s.is_inside s.purpose c (walk g.untagged a ++ walk g.untagged b) (walk g.untagged d) e) h.5 h.6 t.0 t.1 in
-        let m = operand g w d k s z.second.lists h.3 (blocks_stay g (length c.records) (length z.second.lists.records) s.blocks (grown z.after) f)
-            (right_seen g s.is_inside s.purpose c z.second.lists (walk g.untagged a ++ walk g.untagged b) (walk g.untagged d) e z.after) h.7 t.2 in
-        let n = CompleteNodes.test_back (declared (moved s g)) (place_in (moved s g) (first a)) question h.1 z.first.left t.3 in
-        let o = CompleteNodes.choice_back (declared (moved s g)) (place_in (moved s g) (first a)) colon h.0 h.1 h.2 h.3 z.second.left m.left t in
-        record {
-          done = record {
-            lists = m.lists;
-            is = rw (z.first.value_is, n, z.second.value_is, m.value_is, o) refl;
-            after = then_seen g s.is_inside s.purpose c z.second.lists m.lists (walk g.untagged a ++ walk g.untagged b) (walk g.untagged d) z.after m.after;
-          };
-          complete = tt;
-        }) t
+      let ab : List Event = walk g.untagged a ++ walk g.untagged b in
+      let z = operands a b i j s c h.1 h.2 f (left_seen g s.is_inside s.purpose c (walk g.untagged a ++ walk g.untagged b) (walk g.untagged d) e) h.5 h.6 t.0
+      t.1 in
+      let m = operand g w d k s z.second.lists h.3 (blocks_stay g (length c.records) (length z.second.lists.records) s.blocks (grown z.after) f)
+      (right_seen g s.is_inside s.purpose c z.second.lists (walk g.untagged a ++ walk g.untagged b) (walk g.untagged d) e z.after) h.7 t.2 in
+      let n = CompleteNodes.test_back (declared (moved s g)) (place_in (moved s g) (first a)) question h.1 z.first.left t.3 in
+      let o = CompleteNodes.choice_back (declared (moved s g)) (place_in (moved s g) (first a)) colon h.0 h.1 h.2 h.3 z.second.left m.left t in
+      record {
+        done = record {
+          lists = m.lists;
+          is = rw (z.first.value_is, n, z.second.value_is, m.value_is, o) refl;
+          after = then_seen g s.is_inside s.purpose c z.second.lists m.lists (walk g.untagged a ++ walk g.untagged b) (walk g.untagged d) z.after m.after;
+        };
+        complete = tt;
+      }) t
 
   -- ---- objects
 
@@ -214,57 +215,57 @@ module _ (g : FileScope) (w : IsWhole g) where
   unfolding find
   post_complete a op at i s c th f b h t = by_thing s c (Trees.post a op at) th _ h.2
       (λ t.
-        let z = object a i s c h.1 f b h.3 t.0 in
-        let n = CompleteNodes.step_back (declared (moved s g)) (place_in (moved s g) (first a)) (first a) at (step_of op) false h.0 h.1 t in
-        record { done = record { lists = z.done.lists; is = rw (z.done.is, n) refl; after = z.done.after }; complete = tt }) t
+      let z = object a i s c h.1 f b h.3 t.0 in
+      let n = CompleteNodes.step_back (declared (moved s g)) (place_in (moved s g) (first a)) (first a) at (step_of op) false h.0 h.1 t in
+      record { done = record { lists = z.done.lists; is = rw (z.done.is, n) refl; after = z.done.after }; complete = tt }) t
 
   pub pre_complete : (a : Trees.Expression) (op : StepOp) (at : ℕ) → Is a → Is (Trees.pre op at a)
   unfolding find
   pre_complete a op at i s c th f b h t = by_thing s c (Trees.pre op at a) th _ h.2
       (λ t.
-        let z = object a i s c h.1 f b h.3 t.0 in
-        let n = CompleteNodes.step_back (declared (moved s g)) (place_in (moved s g) at) (first a) at (step_of op) true h.0 h.1 t in
-        record { done = record { lists = z.done.lists; is = rw (z.done.is, n) refl; after = z.done.after }; complete = tt }) t
+      let z = object a i s c h.1 f b h.3 t.0 in
+      let n = CompleteNodes.step_back (declared (moved s g)) (place_in (moved s g) at) (first a) at (step_of op) true h.0 h.1 t in
+      record { done = record { lists = z.done.lists; is = rw (z.done.is, n) refl; after = z.done.after }; complete = tt }) t
 
   -- ---- unary operators
 
-  pub after_use : (c e : Lists) (at : ℕ) (v : List Event) → IsAfter g c v e → IsAfter g c (a_use at ∷ v) e
-  after_use c e at v p = record { extends = p.extends; names = p.names; records = p.records; objects = p.objects }
+  pub after_look : (c e : Lists) (at : ℕ) (v : List Event) → IsAfter g c v e → IsAfter g c (a_look at ∷ v) e
+  after_look c e at v p = record { extends = p.extends; names = p.names; records = p.records; objects = p.objects }
 
-  pub behind_use : (c : Lists) (at : ℕ) (v : List Event) → IsBefore g c (a_use at ∷ v) → IsBefore g c v
-  behind_use c at v p = record { extends = p.extends; follows = p.follows.1 }
+  pub behind_look : (c : Lists) (at : ℕ) (v : List Event) → IsBefore g c (a_look at ∷ v) → IsBefore g c v
+  behind_look c at v p = record { extends = p.extends; follows = p.follows.1 }
 
   pub plus_complete : (at : ℕ) (a : Trees.Expression) → Is a → Is (Trees.unary U.Plus at a)
   unfolding find
   plus_complete at a i s c th f b h t = by_thing s c (Trees.unary U.Plus at a) th _ h.2
       (λ t.
-        let z = operand g w a i s c h.1 f (behind_use c at (Seen g w s a) b) h.3 t.0 in
-        let n = CompleteNodes.unary_back (declared (moved s g)) (place_in (moved s g) at) TU.Plus h.0 h.1 z.left t in
-        record { done = record { lists = z.lists; is = rw (z.value_is, n) refl; after = after_use c z.lists at (Seen g w s a) z.after }; complete = tt }) t
+      let z = operand g w a i s c h.1 f (behind_look c at (Seen g w s a) b) h.3 t.0 in
+      let n = CompleteNodes.unary_back (declared (moved s g)) (place_in (moved s g) at) TU.Plus h.0 h.1 z.left t in
+      record { done = record { lists = z.lists; is = rw (z.value_is, n) refl; after = after_look c z.lists at (Seen g w s a) z.after }; complete = tt }) t
 
   pub minus_complete : (at : ℕ) (a : Trees.Expression) → Is a → Is (Trees.unary U.Minus at a)
   unfolding find
   minus_complete at a i s c th f b h t = by_thing s c (Trees.unary U.Minus at a) th _ h.2
       (λ t.
-        let z = operand g w a i s c h.1 f (behind_use c at (Seen g w s a) b) h.3 t.0 in
-        let n = CompleteNodes.unary_back (declared (moved s g)) (place_in (moved s g) at) TU.Minus h.0 h.1 z.left t in
-        record { done = record { lists = z.lists; is = rw (z.value_is, n) refl; after = after_use c z.lists at (Seen g w s a) z.after }; complete = tt }) t
+      let z = operand g w a i s c h.1 f (behind_look c at (Seen g w s a) b) h.3 t.0 in
+      let n = CompleteNodes.unary_back (declared (moved s g)) (place_in (moved s g) at) TU.Minus h.0 h.1 z.left t in
+      record { done = record { lists = z.lists; is = rw (z.value_is, n) refl; after = after_look c z.lists at (Seen g w s a) z.after }; complete = tt }) t
 
   pub complement_complete : (at : ℕ) (a : Trees.Expression) → Is a → Is (Trees.unary U.Complement at a)
   unfolding find
   complement_complete at a i s c th f b h t = by_thing s c (Trees.unary U.Complement at a) th _ h.2
       (λ t.
-        let z = operand g w a i s c h.1 f (behind_use c at (Seen g w s a) b) h.3 t.0 in
-        let n = CompleteNodes.unary_back (declared (moved s g)) (place_in (moved s g) at) TU.Complement h.0 h.1 z.left t in
-        record { done = record { lists = z.lists; is = rw (z.value_is, n) refl; after = after_use c z.lists at (Seen g w s a) z.after }; complete = tt }) t
+      let z = operand g w a i s c h.1 f (behind_look c at (Seen g w s a) b) h.3 t.0 in
+      let n = CompleteNodes.unary_back (declared (moved s g)) (place_in (moved s g) at) TU.Complement h.0 h.1 z.left t in
+      record { done = record { lists = z.lists; is = rw (z.value_is, n) refl; after = after_look c z.lists at (Seen g w s a) z.after }; complete = tt }) t
 
   pub not_complete : (at : ℕ) (a : Trees.Expression) → Is a → Is (Trees.unary U.Not at a)
   unfolding find
   not_complete at a i s c th f b h t = by_thing s c (Trees.unary U.Not at a) th _ h.2
       (λ t.
-        let z = operand g w a i s c h.1 f (behind_use c at (Seen g w s a) b) h.3 t.0 in
-        let n = CompleteNodes.not_back (declared (moved s g)) (place_in (moved s g) at) h.0 h.1 z.left t in
-        record { done = record { lists = z.lists; is = rw (z.value_is, n) refl; after = after_use c z.lists at (Seen g w s a) z.after }; complete = tt }) t
+      let z = operand g w a i s c h.1 f (behind_look c at (Seen g w s a) b) h.3 t.0 in
+      let n = CompleteNodes.not_back (declared (moved s g)) (place_in (moved s g) at) h.0 h.1 z.left t in
+      record { done = record { lists = z.lists; is = rw (z.value_is, n) refl; after = after_look c z.lists at (Seen g w s a) z.after }; complete = tt }) t
 
   pub deref_complete : (at : ℕ) (a : Trees.Expression) → Is a → Is (Trees.unary U.Deref at a)
   unfolding find
@@ -273,23 +274,24 @@ module _ (g : FileScope) (w : IsWhole g) where
       by_pointed : IsPointed (place_in (moved s g) at) h.0 th → Back s c (Trees.unary U.Deref at a) th
       by_pointed (inl e) = by_thing s c (Trees.unary U.Deref at a) th _ e.2
           (λ t.
-            let z = operand g w a i s c h.0 f (behind_use c at (Seen g w s a) b) h.2 t.0 in
-            let n = CompleteNodes.deref_back (declared (moved s g)) (place_in (moved s g) at) e.0 h.0 z.left t in
-            let k : ended g.ends at ≤ length z.lists.records = omega (arith, b.follows.0.1, z.after.records) in
-            record {
-              done = record { lists = z.lists; is = rw (z.value_is, n) refl; after = after_use c z.lists at (Seen g w s a) z.after };
-              complete = complete_stays (ended g.ends at) (length z.lists.records) e.0 k t.3;
-            })
+          let z = operand g w a i s c h.0 f (behind_look c at (Seen g w s a) b) h.2 t.0 in
+          let n = CompleteNodes.deref_back (declared (moved s g)) (place_in (moved s g) at) e.0 h.0 z.left t in
+          let k : ended g.ends at ≤ length z.lists.records = omega (arith, b.follows.0, z.after.records) in
+          record {
+            done = record { lists = z.lists; is = rw (z.value_is, n) refl; after = after_look c z.lists at (Seen g w s a) z.after };
+            complete = complete_stays (ended g.ends at) (length z.lists.records) e.0 k t.3;
+          })
       by_pointed (inr e) = by_thing s c (Trees.unary U.Deref at a) th _ e.4
           (λ t.
-            let z = operand g w a i s c h.0 f (behind_use c at (Seen g w s a) b) h.2 t.0 in
-            let n = CompleteNodes.deref_function_back (declared (moved s g)) (place_in (moved s g) at) e.0 h.0 e.1 e.2 in
-            record {
-              done = record { lists = z.lists; is = rw (z.value_is, e.3, n) refl; after = after_use c z.lists at (Seen g w s a) z.after };
-              complete = tt;
-            })
+          let z = operand g w a i s c h.0 f (behind_look c at (Seen g w s a) b) h.2 t.0 in
+          let n = CompleteNodes.deref_function_back (declared (moved s g)) (place_in (moved s g) at) e.0 h.0 e.1 e.2 in
+          record {
+            done = record { lists = z.lists; is = rw (z.value_is, e.3, n) refl; after = after_look c z.lists at (Seen g w s a) z.after };
+            complete = tt;
+          })
 
-  address_function : (from : ℕ) (at f_at : Place) (f : ℕ) (t : CType) → address_in from at (a_function f_at f t) ≡ Ok (a_value (value (pointer t) at (Typed.function_name f)))
+  address_function : (from : ℕ) (at f_at : Place) (f : ℕ) (t : CType)
+      → address_in from at (a_function f_at f t) ≡ Ok (a_value (value (pointer t) at (Typed.function_name f)))
   unfolding address_in
   address_function from at f_at f t = refl
 
@@ -304,20 +306,29 @@ module _ (g : FileScope) (w : IsWhole g) where
       by_operand : (operand : Thing) → IsAddress (place_in (moved s g) at) operand th → Erases a (moved s g) operand → Back s c (Trees.unary U.Address at a) th
       by_operand (an_object p) x e = by_thing s c (Trees.unary U.Address at a) th _ x.2
           (λ t.
-            let z = i s c (an_object p) f (behind_use c at (Seen g w s a) b) e t.0 in
-            let n = CompleteNodes.address_of_object_back (declared (moved s g)) (place_in (moved s g) at) (first a) x.0 p x.1 t in
-            record { done = record { lists = z.done.lists; is = rw (z.done.is, n) refl; after = after_use c z.done.lists at (Seen g w s a) z.done.after }; complete = tt })
+          let z = i s c (an_object p) f (behind_look c at (Seen g w s a) b) e t.0 in
+          let n = CompleteNodes.address_of_object_back (declared (moved s g)) (place_in (moved s g) at) (first a) x.0 p x.1 t in
+          record {
+            done = record { lists = z.done.lists; is = rw (z.done.is, n) refl; after = after_look c z.done.lists at (Seen g w s a) z.done.after };
+            complete = tt;
+          })
       by_operand (a_function from k u) x e = by_thing s c (Trees.unary U.Address at a) th _ x
           (λ t.
-            let z = i s c (a_function from k u) f (behind_use c at (Seen g w s a) b) e (erased_sound g w a s (length c.records) f (a_function from k u) e) in
-            let n = address_function (first a) (place_in (moved s g) at) from k u in
-            record { done = record { lists = z.done.lists; is = rw (z.done.is, n) refl; after = after_use c z.done.lists at (Seen g w s a) z.done.after }; complete = tt })
+          let z = i s c (a_function from k u) f (behind_look c at (Seen g w s a) b) e (erased_sound g w a s (length c.records) f (a_function from k u) e) in
+          let n = address_function (first a) (place_in (moved s g) at) from k u in
+          record {
+            done = record { lists = z.done.lists; is = rw (z.done.is, n) refl; after = after_look c z.done.lists at (Seen g w s a) z.done.after };
+            complete = tt;
+          })
       by_operand (a_function_at y) x e = by_thing s c (Trees.unary U.Address at a) th _ x
           (λ t.
-            let k = erased_sound g w a s (length c.records) f (a_function_at y) e in
-            let z = i s c (a_function_at y) f (behind_use c at (Seen g w s a) b) e (t, k.1) in
-            let n = address_function_at (first a) (place_in (moved s g) at) y in
-            record { done = record { lists = z.done.lists; is = rw (z.done.is, n) refl; after = after_use c z.done.lists at (Seen g w s a) z.done.after }; complete = tt })
+          let k = erased_sound g w a s (length c.records) f (a_function_at y) e in
+          let z = i s c (a_function_at y) f (behind_look c at (Seen g w s a) b) e (t, k.1) in
+          let n = address_function_at (first a) (place_in (moved s g) at) y in
+          record {
+            done = record { lists = z.done.lists; is = rw (z.done.is, n) refl; after = after_look c z.done.lists at (Seen g w s a) z.done.after };
+            complete = tt;
+          })
       by_operand (a_value y) x e = absurd x
       by_operand (a_library_function from which) x e = absurd x
 
@@ -335,63 +346,64 @@ module _ (g : FileScope) (w : IsWhole g) where
   unfolding find
   index_complete a b left right i j s c th f e (inl h) t = by_thing s c (Trees.index a left b right) th _ h.4
       (λ t.
-        let both = behind_use c (first a) (seen s.is_inside s.purpose (walk g.untagged a ++ walk g.untagged b)) e in
-        let m = object a i s c h.1 f (left_seen g s.is_inside s.purpose c (walk g.untagged a) (walk g.untagged b) both) h.5 t.0 in
-        let n = operand g w b j s m.done.lists h.2 (blocks_stay g (length c.records) (length m.done.lists.records) s.blocks (grown m.done.after) f)
-            (right_seen g s.is_inside s.purpose c m.done.lists (walk g.untagged a) (walk g.untagged b) both m.done.after) h.6 t.1 in
-        let l : element_of (type_of_path h.1) ≡ Some h.0 = ap element_of (sym (path_type_same h.1)) ∙ t.3 in
-        let r = CompleteParts.array_back (declared (moved s g)) (place_in (moved s g) (first a)) h.1 h.0 l in
-        let o = CompleteParts.element_back (declared (moved s g)) (place_in (moved s g) (first a)) left h.0 h.1 h.2 n.left t in
-        let k : length m.done.lists.records ≤ length n.lists.records = grown n.after in
-        record {
-          done = record {
-            lists = n.lists;
-            is = rw (m.done.is, r, n.value_is, o) refl;
-            after = after_use c n.lists (first a) (seen s.is_inside s.purpose (walk g.untagged a ++ walk g.untagged b))
-                (then_seen g s.is_inside s.purpose c m.done.lists n.lists (walk g.untagged a) (walk g.untagged b) m.done.after n.after);
-          };
-          complete = complete_stays (length m.done.lists.records) (length n.lists.records) h.0 k
-              (element_stays (length m.done.lists.records) (type_of_path h.1) h.0 l m.complete);
-        }) t
+      let both = behind_look c (first a) (seen s.is_inside s.purpose (walk g.untagged a ++ walk g.untagged b)) e in
+      let m = object a i s c h.1 f (left_seen g s.is_inside s.purpose c (walk g.untagged a) (walk g.untagged b) both) h.5 t.0 in
+      let n = operand g w b j s m.done.lists h.2 (blocks_stay g (length c.records) (length m.done.lists.records) s.blocks (grown m.done.after) f)
+      (right_seen g s.is_inside s.purpose c m.done.lists (walk g.untagged a) (walk g.untagged b) both m.done.after) h.6 t.1 in
+      let l : element_of (type_of_path h.1) ≡ Some h.0 = ap element_of (sym (path_type_same h.1)) ∙ t.3 in
+      let r = CompleteParts.array_back (declared (moved s g)) (place_in (moved s g) (first a)) h.1 h.0 l in
+      let o = CompleteParts.element_back (declared (moved s g)) (place_in (moved s g) (first a)) left h.0 h.1 h.2 n.left t in
+      let k : length m.done.lists.records ≤ length n.lists.records = grown n.after in
+      record {
+        done = record {
+          lists = n.lists;
+          is = rw (m.done.is, r, n.value_is, o) refl;
+          after = after_look c n.lists (first a) (seen s.is_inside s.purpose (walk g.untagged a ++ walk g.untagged b))
+              (then_seen g s.is_inside s.purpose c m.done.lists n.lists (walk g.untagged a) (walk g.untagged b) m.done.after n.after);
+        };
+        complete = complete_stays (length m.done.lists.records) (length n.lists.records) h.0 k
+            (element_stays (length m.done.lists.records) (type_of_path h.1) h.0 l m.complete);
+      }) t
   index_complete a b left right i j s c th f e (inr (inl h)) t = by_thing s c (Trees.index a left b right) th _ h.3
       (λ t.
-        let both = behind_use c (first a) (seen s.is_inside s.purpose (walk g.untagged a ++ walk g.untagged b)) e in
-        let z = operands a b i j s c h.1 h.2 f both h.4 h.5 t.0 t.1 in
-        let u : unconverted h.1 ≡ h.1 = unconverted_same h.1 t.2 in
-        let d : is_decay (typed (unconverted h.1)) ≡ false = ap (λ x. is_decay (typed x)) u ∙ t.3 in
-        let n = no_array z.first.thing (unconverted h.1) z.first.value d in
-        let v = CompleteNodes.worth_back (first a) z.first.thing (unconverted h.1) z.first.value in
-        let o = CompleteParts.index_back (declared (moved s g)) (place_in (moved s g) (first a)) left h.0 h.1 h.2 z.first.left z.second.left t in
-        let k : ended g.ends (first a) ≤ length z.second.lists.records = omega (arith, e.follows.0.1, z.after.records) in
-        record {
-          done = record {
-            lists = z.second.lists;
-            is = rw (z.first.is, n, v, z.second.value_is, o) refl;
-            after = after_use c z.second.lists (first a) (seen s.is_inside s.purpose (walk g.untagged a ++ walk g.untagged b)) z.after;
-          };
-          complete = complete_stays (ended g.ends (first a)) (length z.second.lists.records) h.0 k t.6;
-        }) t
+      let both = behind_look c (first a) (seen s.is_inside s.purpose (walk g.untagged a ++ walk g.untagged b)) e in
+      let z = operands a b i j s c h.1 h.2 f both h.4 h.5 t.0 t.1 in
+      let u : unconverted h.1 ≡ h.1 = unconverted_same h.1 t.2 in
+      let d : is_decay (typed (unconverted h.1)) ≡ false = ap (λ x. is_decay (typed x)) u ∙ t.3 in
+      let n = no_array z.first.thing (unconverted h.1) z.first.value d in
+      let v = CompleteNodes.worth_back (first a) z.first.thing (unconverted h.1) z.first.value in
+      let o = CompleteParts.index_back (declared (moved s g)) (place_in (moved s g) (first a)) left h.0 h.1 h.2 z.first.left z.second.left t in
+      let k : ended g.ends (first a) ≤ length z.second.lists.records = omega (arith, e.follows.0, z.after.records) in
+      record {
+        done = record {
+          lists = z.second.lists;
+          is = rw (z.first.is, n, v, z.second.value_is, o) refl;
+          after = after_look c z.second.lists (first a) (seen s.is_inside s.purpose (walk g.untagged a ++ walk g.untagged b)) z.after;
+        };
+        complete = complete_stays (ended g.ends (first a)) (length z.second.lists.records) h.0 k t.6;
+      }) t
   index_complete a b left right i j s c th f e (inr (inr h)) t = by_thing s c (Trees.index a left b right) th _ h.7
       (λ t.
-        let both = behind_use c (first a) (seen s.is_inside s.purpose (walk g.untagged a ++ walk g.untagged b)) e in
-        let z = operands a b i j s c h.2 h.3 f both h.5 h.6 t.0.0 t.0.1 in
-        let q = CompleteParts.turned_number (declared (moved s g)) (place_in (moved s g) (first a)) h.0 h.1 h.2 h.3 z.first.left h.4 t in
-        let n = number_no_array z.first.thing (unconverted h.2) z.first.value q in
-        let v = CompleteNodes.worth_back (first a) z.first.thing (unconverted h.2) z.first.value in
-        let o = CompleteParts.turned_back (declared (moved s g)) (place_in (moved s g) (first a)) left h.0 h.1 h.2 h.3 z.first.left z.second.left h.4 t in
-        let k : ended g.ends (first a) ≤ length z.second.lists.records = omega (arith, e.follows.0.1, z.after.records) in
-        record {
-          done = record {
-            lists = z.second.lists;
-            is = rw (z.first.is, n, v, z.second.value_is, o) refl;
-            after = after_use c z.second.lists (first a) (seen s.is_inside s.purpose (walk g.untagged a ++ walk g.untagged b)) z.after;
-          };
-          complete = complete_stays (ended g.ends (first a)) (length z.second.lists.records) h.0 k t.3;
-        }) t
+      let both = behind_look c (first a) (seen s.is_inside s.purpose (walk g.untagged a ++ walk g.untagged b)) e in
+      let z = operands a b i j s c h.2 h.3 f both h.5 h.6 t.0.0 t.0.1 in
+      let q = CompleteParts.turned_number (declared (moved s g)) (place_in (moved s g) (first a)) h.0 h.1 h.2 h.3 z.first.left h.4 t in
+      let n = number_no_array z.first.thing (unconverted h.2) z.first.value q in
+      let v = CompleteNodes.worth_back (first a) z.first.thing (unconverted h.2) z.first.value in
+      let o = CompleteParts.turned_back (declared (moved s g)) (place_in (moved s g) (first a)) left h.0 h.1 h.2 h.3 z.first.left z.second.left h.4 t in
+      let k : ended g.ends (first a) ≤ length z.second.lists.records = omega (arith, e.follows.0, z.after.records) in
+      record {
+        done = record {
+          lists = z.second.lists;
+          is = rw (z.first.is, n, v, z.second.value_is, o) refl;
+          after = after_look c z.second.lists (first a) (seen s.is_inside s.purpose (walk g.untagged a ++ walk g.untagged b)) z.after;
+        };
+        complete = complete_stays (ended g.ends (first a)) (length z.second.lists.records) h.0 k t.3;
+      }) t
 
   -- ---- members
 
-  among_first : {X : Type 0} (all first more : List X) (k : ℕ) (x : X) → all ≡ first ++ more → slice_get all k ≡ Some x → k < length first → slice_get first k ≡ Some x
+  among_first : {X : Type 0} (all first more : List X) (k : ℕ) (x : X) → all ≡ first ++ more → slice_get all k ≡ Some x → k < length first
+      → slice_get first k ≡ Some x
   among_first all first more k x e h l = in_first first more k x (subst (λ all. slice_get all k ≡ Some x) e h) l
 
   structure_below : (r k : ℕ) → is_object r (structure k) ≡ true → k < r
@@ -401,45 +413,47 @@ module _ (g : FileScope) (w : IsWhole g) where
   unfolding find
   dot_complete a at x i s c th f b h t = by_thing s c (Trees.dot a at x) th _ h.4
       (λ t.
-        let z = object a i s c h.1 f (left_seen g s.is_inside s.purpose c (walk g.untagged a) (a_use at ∷ []) b) h.6 t.0 in
-        let asked = (right_seen g s.is_inside s.purpose c z.done.lists (walk g.untagged a) (a_use at ∷ []) b z.done.after).follows.0 in
-        let u : type_of_path h.1 ≡ structure h.2 = sym (path_type_same h.1) ∙ t.1 in
-        let q = subst (λ r. is_object r (type_of_path h.1) ≡ true) (sym asked.1) z.complete in
-        let l = structure_below (length z.done.lists.records) h.2 (subst (λ t. is_object (length z.done.lists.records) t ≡ true) u z.complete) in
-        let y = z.done.after.extends.records in
-        let rec = h.5.0 in
-        let there = among_first g.records z.done.lists.records y.0 h.2 rec y.1 h.5.2 l in
-        let n = CompleteParts.dot_back (declared (moved s g)) (place_in (moved s g) (first a)) z.done.lists.records (ended g.ends at) x.from h.1 h.2 h.3 rec h.5.1 x.text
-            u q there h.5.3 h.5.4 (w.fields_apart h.2 rec h.5.2) in
-        record {
-          done = record {
-            lists = z.done.lists;
-            is = rw (z.done.is, n, h.5.5) refl;
-            after = then_seen g s.is_inside s.purpose c z.done.lists z.done.lists (walk g.untagged a) (a_use at ∷ []) z.done.after
-                (none_after g z.done.lists (a_use at ∷ []) (right_seen g s.is_inside s.purpose c z.done.lists (walk g.untagged a) (a_use at ∷ []) b z.done.after) refl refl refl);
-          };
-          complete = subst (λ t. is_object (length z.done.lists.records) t ≡ true) h.5.5
-              (complete_stays h.2 (length z.done.lists.records) h.5.1.ty (omega (arith, l)) (w.fields_complete h.2 h.3 rec h.5.1 h.5.2 h.5.3));
-        }) t
+      let z = object a i s c h.1 f (left_seen g s.is_inside s.purpose c (walk g.untagged a) (a_look at ∷ []) b) h.6 t.0 in
+      let asked = (right_seen g s.is_inside s.purpose c z.done.lists (walk g.untagged a) (a_look at ∷ []) b z.done.after).follows.0 in
+      let u : type_of_path h.1 ≡ structure h.2 = sym (path_type_same h.1) ∙ t.1 in
+      let q = subst (λ r. is_object r (type_of_path h.1) ≡ true) (sym asked) z.complete in
+      let l = structure_below (length z.done.lists.records) h.2 (subst (λ t. is_object (length z.done.lists.records) t ≡ true) u z.complete) in
+      let y = z.done.after.extends.records in
+      let rec = h.5.0 in
+      let there = among_first g.records z.done.lists.records y.0 h.2 rec y.1 h.5.2 l in
+      let n = CompleteParts.dot_back (declared (moved s g)) (place_in (moved s g) (first a)) z.done.lists.records (ended g.ends at) x.from h.1 h.2 h.3 rec
+      h.5.1 x.text
+      u q there h.5.3 h.5.4 (w.fields_apart h.2 rec h.5.2) in
+      record {
+        done = record {
+          lists = z.done.lists;
+          is = rw (z.done.is, n, h.5.5) refl;
+          after = then_seen g s.is_inside s.purpose c z.done.lists z.done.lists (walk g.untagged a) (a_look at ∷ []) z.done.after
+              (none_after g z.done.lists (a_look at ∷ [])
+              (right_seen g s.is_inside s.purpose c z.done.lists (walk g.untagged a) (a_look at ∷ []) b z.done.after) refl refl refl);
+        };
+        complete = subst (λ t. is_object (length z.done.lists.records) t ≡ true) h.5.5
+            (complete_stays h.2 (length z.done.lists.records) h.5.1.ty (omega (arith, l)) (w.fields_complete h.2 h.3 rec h.5.1 h.5.2 h.5.3));
+      }) t
 
   pub arrow_complete : (a : Trees.Expression) (at : ℕ) (x : Spelling) → Is a → Is (Trees.arrow a at x)
   unfolding find
   arrow_complete a at x i s c th f b h t = by_thing s c (Trees.arrow a at x) th _ h.7
       (λ t.
-        let z = operand g w a i s c h.2 f (behind_use c (first a) (Seen g w s a) b) h.6 t.0.0 in
-        let k : ended g.ends (first a) ≤ length z.lists.records = omega (arith, b.follows.0.1, z.after.records) in
-        let m = structure_below (ended g.ends (first a)) h.3 (subst (λ t. is_object (ended g.ends (first a)) t ≡ true) t.1 t.0.3) in
-        let l : h.3 < length z.lists.records = omega (arith, m, k) in
-        let y = z.after.extends.records in
-        let rec = h.5.0 in
-        let there = among_first g.records z.lists.records y.0 h.3 rec y.1 h.5.2 l in
-        let n = CompleteParts.arrow_back (declared (moved s g)) (place_in (moved s g) (first a)) z.lists.records x.from h.1 h.2 h.3 h.4 rec h.5.1 x.text
-            z.left t.0 t.1 there h.5.3 h.5.4 (w.fields_apart h.3 rec h.5.2) in
-        record {
-          done = record { lists = z.lists; is = rw (z.value_is, n, h.5.5) refl; after = after_use c z.lists (first a) (Seen g w s a) z.after };
-          complete = subst (λ t. is_object (length z.lists.records) t ≡ true) h.5.5
-              (complete_stays h.3 (length z.lists.records) h.5.1.ty (omega (arith, l)) (w.fields_complete h.3 h.4 rec h.5.1 h.5.2 h.5.3));
-        }) t
+      let z = operand g w a i s c h.2 f (behind_look c (first a) (Seen g w s a) b) h.6 t.0.0 in
+      let k : ended g.ends (first a) ≤ length z.lists.records = omega (arith, b.follows.0, z.after.records) in
+      let m = structure_below (ended g.ends (first a)) h.3 (subst (λ t. is_object (ended g.ends (first a)) t ≡ true) t.1 t.0.3) in
+      let l : h.3 < length z.lists.records = omega (arith, m, k) in
+      let y = z.after.extends.records in
+      let rec = h.5.0 in
+      let there = among_first g.records z.lists.records y.0 h.3 rec y.1 h.5.2 l in
+      let n = CompleteParts.arrow_back (declared (moved s g)) (place_in (moved s g) (first a)) z.lists.records x.from h.1 h.2 h.3 h.4 rec h.5.1 x.text
+      z.left t.0 t.1 there h.5.3 h.5.4 (w.fields_apart h.3 rec h.5.2) in
+      record {
+        done = record { lists = z.lists; is = rw (z.value_is, n, h.5.5) refl; after = after_look c z.lists (first a) (Seen g w s a) z.after };
+        complete = subst (λ t. is_object (length z.lists.records) t ≡ true) h.5.5
+            (complete_stays h.3 (length z.lists.records) h.5.1.ty (omega (arith, l)) (w.fields_complete h.3 h.4 rec h.5.1 h.5.2 h.5.3));
+      }) t
 
   -- ---- assignments
 
@@ -447,49 +461,49 @@ module _ (g : FileScope) (w : IsWhole g) where
   unfolding find
   assign_complete a b op at i j s c th f e (inl h) t = by_thing s c (Trees.assign a op at b) th _ h.4
       (λ t.
-        let m = object a i s c h.1 f (left_seen g s.is_inside s.purpose c (walk g.untagged a) (walk g.untagged b) e) h.5 t.0 in
-        let n = operand g w b j s m.done.lists h.2 (blocks_stay g (length c.records) (length m.done.lists.records) s.blocks (grown m.done.after) f)
-            (right_seen g s.is_inside s.purpose c m.done.lists (walk g.untagged a) (walk g.untagged b) e m.done.after) h.6 t.1 in
-        let u : is_scalar (type_of_path h.1) ≡ true = subst (λ t. is_scalar t ≡ true) (t.3 ∙ path_type_same h.1) t.2 in
-        let v = CompleteNodes.scalar_target_back (declared (moved s g)) (place_in (moved s g) (first a)) (first a) h.1 u in
-        let o = CompleteNodes.assign_back (declared (moved s g)) (place_in (moved s g) (first a)) at h.0 h.1 h.2 n.left t in
-        record {
-          done = record {
-            lists = n.lists;
-            is = rw (m.done.is, v, h.3, n.value_is, o) refl;
-            after = then_seen g s.is_inside s.purpose c m.done.lists n.lists (walk g.untagged a) (walk g.untagged b) m.done.after n.after;
-          };
-          complete = tt;
-        }) t
+      let m = object a i s c h.1 f (left_seen g s.is_inside s.purpose c (walk g.untagged a) (walk g.untagged b) e) h.5 t.0 in
+      let n = operand g w b j s m.done.lists h.2 (blocks_stay g (length c.records) (length m.done.lists.records) s.blocks (grown m.done.after) f)
+      (right_seen g s.is_inside s.purpose c m.done.lists (walk g.untagged a) (walk g.untagged b) e m.done.after) h.6 t.1 in
+      let u : is_scalar (type_of_path h.1) ≡ true = subst (λ t. is_scalar t ≡ true) (t.3 ∙ path_type_same h.1) t.2 in
+      let v = CompleteNodes.scalar_target_back (declared (moved s g)) (place_in (moved s g) (first a)) (first a) h.1 u in
+      let o = CompleteNodes.assign_back (declared (moved s g)) (place_in (moved s g) (first a)) at h.0 h.1 h.2 n.left t in
+      record {
+        done = record {
+          lists = n.lists;
+          is = rw (m.done.is, v, h.3, n.value_is, o) refl;
+          after = then_seen g s.is_inside s.purpose c m.done.lists n.lists (walk g.untagged a) (walk g.untagged b) m.done.after n.after;
+        };
+        complete = tt;
+      }) t
   assign_complete a b op at i j s c th f e (inr (inl h)) t = by_thing s c (Trees.assign a op at b) th _ h.4
       (λ t.
-        let m = object a i s c h.1 f (left_seen g s.is_inside s.purpose c (walk g.untagged a) (walk g.untagged b) e) h.5 t.0 in
-        let n = object b j s m.done.lists h.2 (blocks_stay g (length c.records) (length m.done.lists.records) s.blocks (grown m.done.after) f)
-            (right_seen g s.is_inside s.purpose c m.done.lists (walk g.untagged a) (walk g.untagged b) e m.done.after) h.6 t.1 in
-        let v = CompleteNodes.record_target_back (declared (moved s g)) (place_in (moved s g) (first a)) (first a) h.1 t.4.0 (sym (path_type_same h.1) ∙ t.4.1) in
-        let o = CompleteNodes.copy_back (declared (moved s g)) (place_in (moved s g) (first a)) at h.0 h.1 h.2 t in
-        record {
-          done = record {
-            lists = n.done.lists;
-            is = rw (m.done.is, v, h.3, n.done.is, o) refl;
-            after = then_seen g s.is_inside s.purpose c m.done.lists n.done.lists (walk g.untagged a) (walk g.untagged b) m.done.after n.done.after;
-          };
-          complete = tt;
-        }) t
+      let m = object a i s c h.1 f (left_seen g s.is_inside s.purpose c (walk g.untagged a) (walk g.untagged b) e) h.5 t.0 in
+      let n = object b j s m.done.lists h.2 (blocks_stay g (length c.records) (length m.done.lists.records) s.blocks (grown m.done.after) f)
+      (right_seen g s.is_inside s.purpose c m.done.lists (walk g.untagged a) (walk g.untagged b) e m.done.after) h.6 t.1 in
+      let v = CompleteNodes.record_target_back (declared (moved s g)) (place_in (moved s g) (first a)) (first a) h.1 t.4.0 (sym (path_type_same h.1) ∙ t.4.1) in
+      let o = CompleteNodes.copy_back (declared (moved s g)) (place_in (moved s g) (first a)) at h.0 h.1 h.2 t in
+      record {
+        done = record {
+          lists = n.done.lists;
+          is = rw (m.done.is, v, h.3, n.done.is, o) refl;
+          after = then_seen g s.is_inside s.purpose c m.done.lists n.done.lists (walk g.untagged a) (walk g.untagged b) m.done.after n.done.after;
+        };
+        complete = tt;
+      }) t
   assign_complete a b op at i j s c th f e (inr (inr h)) t = by_thing s c (Trees.assign a op at b) th _ h.5
       (λ t.
-        let m = object a i s c h.1 f (left_seen g s.is_inside s.purpose c (walk g.untagged a) (walk g.untagged b) e) h.6 t.0 in
-        let n = operand g w b j s m.done.lists h.2 (blocks_stay g (length c.records) (length m.done.lists.records) s.blocks (grown m.done.after) f)
-            (right_seen g s.is_inside s.purpose c m.done.lists (walk g.untagged a) (walk g.untagged b) e m.done.after) h.7 t.1 in
-        let u : is_scalar (type_of_path h.1) ≡ true = updated_scalar (ended g.ends (first a)) h.3 (type_of_path h.1) (bare_ty (typed h.2)) (ty (typed h.2))
-            (subst (λ u. updating (ended g.ends (first a)) h.3 u (bare_ty (typed h.2)) ≡ Some (ty (typed h.2))) (t.2 ∙ path_type_same h.1) t.3) in
-        let v = CompleteNodes.scalar_target_back (declared (moved s g)) (place_in (moved s g) (first a)) (first a) h.1 u in
-        let o = CompleteNodes.update_back (declared (moved s g)) (place_in (moved s g) (first a)) at h.3 h.0 h.1 h.2 n.left t in
-        record {
-          done = record {
-            lists = n.lists;
-            is = rw (m.done.is, v, h.4, n.value_is, o) refl;
-            after = then_seen g s.is_inside s.purpose c m.done.lists n.lists (walk g.untagged a) (walk g.untagged b) m.done.after n.after;
-          };
-          complete = tt;
-        }) t
+      let m = object a i s c h.1 f (left_seen g s.is_inside s.purpose c (walk g.untagged a) (walk g.untagged b) e) h.6 t.0 in
+      let n = operand g w b j s m.done.lists h.2 (blocks_stay g (length c.records) (length m.done.lists.records) s.blocks (grown m.done.after) f)
+      (right_seen g s.is_inside s.purpose c m.done.lists (walk g.untagged a) (walk g.untagged b) e m.done.after) h.7 t.1 in
+      let u : is_scalar (type_of_path h.1) ≡ true = updated_scalar (ended g.ends (first a)) h.3 (type_of_path h.1) (bare_ty (typed h.2)) (ty (typed h.2))
+      (subst (λ u. updating (ended g.ends (first a)) h.3 u (bare_ty (typed h.2)) ≡ Some (ty (typed h.2))) (t.2 ∙ path_type_same h.1) t.3) in
+      let v = CompleteNodes.scalar_target_back (declared (moved s g)) (place_in (moved s g) (first a)) (first a) h.1 u in
+      let o = CompleteNodes.update_back (declared (moved s g)) (place_in (moved s g) (first a)) at h.3 h.0 h.1 h.2 n.left t in
+      record {
+        done = record {
+          lists = n.lists;
+          is = rw (m.done.is, v, h.4, n.value_is, o) refl;
+          after = then_seen g s.is_inside s.purpose c m.done.lists n.lists (walk g.untagged a) (walk g.untagged b) m.done.after n.after;
+        };
+        complete = tt;
+      }) t

@@ -1,10 +1,9 @@
 -- What is made of the parts of a well typed node is that node (C99 6.5): unary operators, casts, binary operators, assignments.
-use Rattle.std.proofs.Common.{◌≡◌, ◌≢◌, ℕ, ◌+◌, ◌≤◌, ◌<◌, Bool, true, false, refl, sym, ap, ◌∙◌, subst, cond, inl, inr, arith}
-use Rattle.std.proofs.lemmas.Bool.{and_parts, and_from, lt-ltb}
-use Rattle.std.specs.Prelude.{List, Option, Some, None, Ok, Err, ◌&&◌, ◌⊎◌, nat_lt}
+use Rattle.std.proofs.Common.{◌≡◌, ℕ, ◌+◌, ◌≤◌, Bool, true, false, refl, sym, ap, ◌∙◌, subst, cond, inl, inr, arith}
+use Rattle.std.proofs.lemmas.Bool.{and_parts, lt-ltb}
+use Rattle.std.specs.Prelude.{List, Option, Some, None, Ok, ◌⊎◌, nat_lt}
 use Rattle.lay_base.specs.declared.place.Place.{Place}
 use Rattle.lay_base.specs.declared.faults.Rule.TheVariants as R
-use Rattle.c_types.specs.declared.ty.IntKind.{IntKind}
 use Rattle.c_types.specs.declared.ty.IntKind.TheVariants.{Int}
 use Rattle.c_types.specs.Types.{CType, void, integer, pointer, array, function, structure}
 use Rattle.c_types.specs.Objects.{is_object, parts}
@@ -18,25 +17,26 @@ use Rattle.c_typed.specs.declared.operators.BinaryOp.TheVariants as B
 use Rattle.c_typed.specs.declared.operators.PointerOp.{PointerOp}
 use Rattle.c_typed.specs.declared.operators.PointerOp.TheVariants as P
 use Rattle.c_typed.specs.Trees as Typed
-use Rattle.c_typed.specs.Constants.{ty, is_null}
+use Rattle.c_typed.specs.Constants.{ty}
 use Rattle.c_typed.specs.Conversions.{is_integer, is_scalar, is_function, promoted, pointed}
 use Rattle.c_typed.specs.Fits.{assigns, casts}
-use Rattle.c_typed.specs.Rules.{promoting, arithmetic, is_shift, shifting, twice, on_numbers, comparing, choosing, moving, differing, updating, is_stepped, points_to_object}
-use Rattle.c_typed.specs.Typed.{Declared, bare, is_bare, bare_ty, IsTyped, IsTypedPath, IsTypedNode, IsMoved, IsConverted, IsSubscript}
-use Rattle.c_erasure.specs.Erasure.{typed, place_in, IsNamed, IsSum, IsJoined, IsAddress, IsPointed, unmade}
-use Rattle.c_erasure.specs.Noted.{Noted, Expression, Path, Node, Thing, an_object, a_value, a_function, a_function_at, a_library_function}
+use Rattle.c_typed.specs.Rules.{promoting, arithmetic, is_shift, shifting, twice, on_numbers, comparing, choosing, moving, differing, updating}
+use Rattle.c_typed.specs.Rules.{is_stepped, points_to_object}
+use Rattle.c_typed.specs.Typed.{Declared, is_bare, IsTyped, IsTypedPath, IsTypedNode, IsMoved}
+use Rattle.c_erasure.specs.Erasure.{typed, IsNamed, IsSum, IsJoined}
+use Rattle.c_erasure.specs.Noted.{Expression, Path, Node, Thing, an_object, a_value, a_function_at}
 use Rattle.c_erasure.specs.Noted.{value, way, type_of, type_of_path, value_of, unconverted}
 use Rattle.c_erasure.specs.Operators.{Kind, computes, compares, all_of, any_of}
 use Rattle.c_erasure.specs.Scopes.{Entity, typedef, enumerator, a_local, a_parameter}
 use Rattle.c_erasure.specs.Scopes as Scopes
 use Rattle.c_checking.specs.Answers.{Answer, refused}
-use Rattle.c_checking.specs.Nodes.{place_of, null, converted, valued, worth, a_node, a_way, named_in, promoted_value, step_in, address_in, pointed_to, deref_in}
-use Rattle.c_checking.specs.Nodes.{unary_in, not_in, cast_in, number_node, forward_node, backward_node, or_else, added_in, subtracted_in, on_pointers, computed_in}
-use Rattle.c_checking.specs.Nodes.{compare_node, compared_in, tested_in, binary_in, tested, choice_node, chosen_in, Target, scalar_at, record_at, target_of_type}
+use Rattle.c_checking.specs.Nodes.{null, converted, valued, worth, a_node, named_in, step_in, address_in, deref_in}
+use Rattle.c_checking.specs.Nodes.{unary_in, not_in, cast_in, number_node, forward_node, backward_node, or_else, on_pointers, computed_in}
+use Rattle.c_checking.specs.Nodes.{compare_node, compared_in, tested_in, binary_in, tested, choice_node, chosen_in, scalar_at, record_at, target_of_type}
 use Rattle.c_checking.specs.Nodes.{target_in, assigned_in, copied_in, update_node, updated_in, comma_in}
 use Rattle.c_checking.proofs.Results.{ok}
 use Rattle.c_checking.proofs.Values.{typed_path, type_same, path_type_same, unconverted_same}
-use Rattle.c_checking.proofs.CompleteValues.{IsBare, IsLeftOf, bare_same}
+use Rattle.c_checking.proofs.CompleteValues.{IsLeftOf}
 
 -- ---- names, and values of things
 
@@ -163,7 +163,8 @@ module _ (d : Declared) (at : Place) where
       let p = promoting_back (type_of (unconverted x)) t (ap promoting (sym o.bare_type) ∙ h.1) in
       rw (p.is_integer, p.is_promoted, back_to x o t h.2) refl
 
-  pub not_back : (t : CType) (x : Expression) → Left x → IsTypedNode d t at (Typed.not (typed x)) → not_in at (unconverted x) ≡ Ok (a_value (value t at (Typed.not x)))
+  pub not_back : (t : CType) (x : Expression) → Left x → IsTypedNode d t at (Typed.not (typed x))
+      → not_in at (unconverted x) ≡ Ok (a_value (value t at (Typed.not x)))
   unfolding not_in
   not_back t x o h =
       let u = unconverted_same x h.1.0 in
@@ -289,7 +290,7 @@ module _ (d : Declared) (at : Place) where
       ap (λ z. computed_in count op_at at B.Add (unconverted x) z) f.same
       ∙ pointers_first B.Add op_at (unconverted x) y n
       ∙ ap (λ w. or_else w (forward_node at P.Add (unconverted x) y)
-        (or_else (moving count (type_of y) (type_of (unconverted x))) (backward_node at (unconverted x) y) (refused R.Operands op_at))) m
+      (or_else (moving count (type_of y) (type_of (unconverted x))) (backward_node at (unconverted x) y) (refused R.Operands op_at))) m
       ∙ ap (λ w. or_else w (backward_node at (unconverted x) y) (refused R.Operands op_at)) f.moved
       ∙ rw (back_to x o (ty (typed x)) refl, f.type_is) refl
 
@@ -303,7 +304,7 @@ module _ (d : Declared) (at : Place) where
       rw (unconverted_same x h.2, unconverted_same y h.3)
       (pointers_first B.Subtract op_at x y (no_numbers_left B.Subtract count (type_of x) (type_of y) b.0)
       ∙ ap (λ w. or_else w (forward_node at P.Subtract x y)
-        (cond (differing count (type_of x) (type_of y)) (a_node (integer Int) at (Typed.pointer_difference x y)) (refused R.Operands op_at))) m
+      (cond (differing count (type_of x) (type_of y)) (a_node (integer Int) at (Typed.pointer_difference x y)) (refused R.Operands op_at))) m
       ∙ rw (e, h.5) refl)
 
   compare_back : (op_at : ℕ) (op : CompareOp) (t : CType) (x y : Expression) → Left x → Left y
@@ -329,7 +330,8 @@ module _ (d : Declared) (at : Place) where
   JoinsBack op_at kind t x y node = IsTyped d (typed (value t at node))
       → binary_in count op_at at kind (unconverted x) (unconverted y) ≡ Ok (a_value (value t at node))
 
-  by_node : (op_at : ℕ) (kind : Kind) (t : CType) (x y : Expression) (node own : Node) → node ≡ own → JoinsBack op_at kind t x y own → JoinsBack op_at kind t x y node
+  by_node : (op_at : ℕ) (kind : Kind) (t : CType) (x y : Expression) (node own : Node) → node ≡ own → JoinsBack op_at kind t x y own
+      → JoinsBack op_at kind t x y node
   by_node op_at kind t x y node own e h = subst (JoinsBack op_at kind t x y) (sym e) h
 
   sum_back : (op_at : ℕ) (op : BinaryOp) (t : CType) (x y : Expression) (node : Node) → Left x → Left y → IsSum op x y node
@@ -408,8 +410,9 @@ module _ (d : Declared) (at : Place) where
   assign_back op_at t p x o h =
       let e : t ≡ type_of_path p = h.3 ∙ path_type_same p in
       let a : assigns (type_of (unconverted x)) (null (unconverted x)) t ≡ true = rw (sym o.bare_type, sym o.null_same) h.4.0 in
-      subst (λ u. cond (assigns (type_of (unconverted x)) (null (unconverted x)) u) (a_node u at (Typed.assign p (converted u (unconverted x)))) (refused R.Assign op_at)
-        ≡ Ok (a_value (value t at (Typed.assign p x)))) e (rw (a, back_to x o t h.4.1) refl)
+      subst (λ u. cond (assigns (type_of (unconverted x)) (null (unconverted x)) u) (a_node u at (Typed.assign p (converted u (unconverted x))))
+      (refused R.Assign op_at)
+      ≡ Ok (a_value (value t at (Typed.assign p x)))) e (rw (a, back_to x o t h.4.1) refl)
 
   pub copy_back : (op_at : ℕ) (t : CType) (p q : Path) → IsTypedNode d t at (Typed.copy_record (typed_path p) (typed_path q))
       → copied_in op_at at p (an_object q) ≡ Ok (a_value (value t at (Typed.copy_record p q)))
@@ -418,7 +421,8 @@ module _ (d : Declared) (at : Place) where
       let e : type_of_path q ≡ type_of_path p = sym (path_type_same q) ∙ h.3 ∙ path_type_same p in
       rw (same_self (type_of_path q) (type_of_path p) e, h.2) refl
 
-  pub update_back : (op_at : ℕ) (op : BinaryOp) (t : CType) (p : Path) (x : Expression) → Left x → IsTypedNode d t at (Typed.assign_op op (typed_path p) (typed x))
+  pub update_back : (op_at : ℕ) (op : BinaryOp) (t : CType) (p : Path) (x : Expression) → Left x
+      → IsTypedNode d t at (Typed.assign_op op (typed_path p) (typed x))
       → updated_in count op_at at op p (unconverted x) ≡ Ok (a_value (value t at (Typed.assign_op op p x)))
   unfolding updated_in
   update_back op_at op t p x o h =

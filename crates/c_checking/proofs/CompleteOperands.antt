@@ -1,6 +1,6 @@
 -- What stands for a part of the text is sound, and so is the value that is read of it.
-use Rattle.std.proofs.Common.{◌≡◌, ◌≢◌, ℕ, zero, suc, ◌+◌, ◌≤◌, ◌<◌, Bool, true, false, List, [], ◌∷◌, ◌++◌, length, refl, sym, ap, ◌∙◌, subst, cond, inl, inr, arith}
-use Rattle.std.specs.Prelude.{◌⊎◌, Option, Some, None, Ok, Err, slice_get, map}
+use Rattle.std.proofs.Common.{◌≡◌, ℕ, true, false, List, length, refl, sym, ap, ◌∙◌, subst, inl, inr}
+use Rattle.std.specs.Prelude.{Option, Some, None, Ok}
 use Rattle.lay_base.specs.declared.place.Place.{Place}
 use Rattle.c_types.specs.Types.{CType, void, integer, pointer, array, function, structure}
 use Rattle.c_types.specs.Objects.{is_object}
@@ -10,15 +10,17 @@ use Rattle.c_ast.specs.Places.{first}
 use Rattle.c_typed.specs.declared.operators.BinaryOp.{BinaryOp}
 use Rattle.c_typed.specs.declared.operators.BinaryOp.TheVariants as B
 use Rattle.c_typed.specs.Trees as Typed
-use Rattle.c_typed.specs.Conversions.{is_integer, is_scalar, element_of}
+use Rattle.c_typed.specs.Conversions.{is_integer, is_scalar}
 use Rattle.c_typed.specs.Typed.{is_decay, IsTyped}
 use Rattle.c_erasure.specs.Erasure.{typed, IsTypedThing, Values, Erases, IsNamed, IsAddress, IsPointed, IsLiteralFor, IsSum, IsJoined, IsCall, place_in}
 use Rattle.c_erasure.specs.Operators.{Kind, computes, compares, all_of, any_of, kind_of}
-use Rattle.c_erasure.specs.Noted.{Noted, Node, value, Expression, Path, Thing, an_object, a_value, a_function, a_function_at, a_library_function, type_of, type_of_path, object_value, value_of, unconverted}
-use Rattle.c_erasure.specs.Scopes.{FileScope, Scope, Entity, typedef, enumerator, a_local, a_parameter, Purpose, in_full, value_alone, type_alone, innermost, visible, named, or_else, ended, declared}
+use Rattle.c_erasure.specs.Noted.{Noted, Node, value, Expression, Path, Thing, an_object, a_value, a_function, a_function_at, a_library_function}
+use Rattle.c_erasure.specs.Noted.{type_of, type_of_path, object_value, value_of, unconverted}
+use Rattle.c_erasure.specs.Scopes.{FileScope, Scope, Entity, typedef, enumerator, a_local, a_parameter, Purpose, in_full, value_alone, type_alone}
+use Rattle.c_erasure.specs.Scopes.{innermost, visible, named, or_else, ended, declared}
 use Rattle.c_erasure.specs.Scopes as Scopes
-use Rattle.c_checking.specs.Answers.{Answer, ◌>>=◌, Checked, with_file, moved}
-use Rattle.c_checking.specs.Nodes.{worth, array_of_type, array_of}
+use Rattle.c_checking.specs.Answers.{with_file, moved}
+use Rattle.c_checking.specs.Nodes.{array_of_type, array_of}
 use Rattle.c_checking.specs.Finding.{value_at, find}
 use Rattle.c_checking.proofs.CompleteNodes.{some_is, worth_back}
 use Rattle.c_checking.proofs.CompleteValues.{IsBare, IsLeftOf, left_of}
@@ -197,7 +199,8 @@ module _ (g : FileScope) (w : IsWhole g) where
     pub after : IsAfter g c (Seen s a) lists
     pub left : IsLeftOf (declared (moved s g)) x (unconverted x)
 
-  pub operand : (a : Trees.Expression) → Completes a → (s : Scope) (c : Lists) (x : Expression) → BlocksFit g (length c.records) s.blocks → IsBefore g c (Seen s a)
+  pub operand : (a : Trees.Expression) → Completes a → (s : Scope) (c : Lists) (x : Expression) → BlocksFit g (length c.records) s.blocks
+      → IsBefore g c (Seen s a)
       → Values (Erases a (moved s g)) x → IsTyped (declared (moved s g)) (typed x) → FoundValue s c a x
   operand a h s c x f b v t =
       let sound = erased_sound a s (length c.records) f v.0 v.2 in

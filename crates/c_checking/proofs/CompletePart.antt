@@ -1,8 +1,9 @@
 -- The first part of a whole file, and what a part of the text adds to it.
-use Rattle.std.proofs.Common.{◌≡◌, ◌≢◌, ℕ, zero, suc, ◌+◌, ◌≤◌, ◌<◌, Bool, true, false, List, [], ◌∷◌, ◌++◌, length, refl, sym, ap, ◌∙◌, subst, cond, inl, inr, arith, append-nil, take, drop}
+use Rattle.std.proofs.Common.{◌≡◌, ◌≢◌, ℕ, zero, suc, ◌+◌, ◌≤◌, ◌<◌, Bool, true, false, List, [], ◌∷◌, ◌++◌, length, refl, sym, ap, ◌∙◌, subst, cond}
+use Rattle.std.proofs.Common.{inl, inr, arith, take, drop}
 use Rattle.std.proofs.lemmas.Bool.{and_parts, and_from, lt-ltb, ltb-true}
 use Rattle.std.proofs.lemmas.Bool.Decides.{nat_tests}
-use Rattle.std.specs.Prelude.{◌⊎◌, ◌&&◌, nat_le, nat_lt, map, Option, Some, None, Ok, Err, slice_get}
+use Rattle.std.specs.Prelude.{◌⊎◌, ◌&&◌, nat_le, nat_lt, map, Option, Some, None, Ok, slice_get}
 use Rattle.std.specs.Str.{bytes_eq}
 use Rattle.c_types.specs.Types.{CType, void, integer, pointer, array, function, structure, Field, Record}
 use Rattle.c_types.specs.Layouts.{size_of_record}
@@ -12,16 +13,19 @@ use Rattle.c_typed.specs.Conversions.{is_scalar, is_function}
 use Rattle.c_typed.specs.Typed.{IsTyped}
 use Rattle.c_erasure.specs.Declarators.{AreDifferent}
 use Rattle.c_erasure.specs.Erasure.{typed, IsTypedThing}
-use Rattle.c_erasure.specs.Noted.{Expression, Path, Thing, an_object, a_value, a_function, a_function_at, a_library_function, type_of, type_of_path, value_of, object_value, value}
-use Rattle.c_erasure.specs.Scopes.{Bound, AnObject, AFunction, AMention, FileScope, Scope, Entity, typedef, enumerator, a_local, a_parameter, Purpose, IsListedAt, IsMentioned, is_measured}
+use Rattle.c_erasure.specs.Noted.{Expression, Path, Thing, an_object, a_value, a_function, a_function_at, a_library_function, type_of, type_of_path}
+use Rattle.c_erasure.specs.Noted.{value_of, object_value}
+use Rattle.c_erasure.specs.Scopes.{Bound, AnObject, AFunction, AMention, FileScope, Scope, Entity, typedef, enumerator, a_local, a_parameter, Purpose}
+use Rattle.c_erasure.specs.Scopes.{IsListedAt, IsMentioned, is_measured}
 use Rattle.c_erasure.specs.Scopes.{or_else, visible, innermost, named, ended, declared}
 use Rattle.c_erasure.specs.Scopes as Scopes
-use Rattle.c_checking.specs.Answers.{Answer, Checked, moved}
+use Rattle.c_checking.specs.Answers.{Checked, moved}
 use Rattle.c_checking.specs.Declaring.{with_mention}
 use Rattle.c_checking.proofs.Extends.{Extends, behind}
 use Rattle.c_checking.proofs.CompleteNodes.{some_is}
 use Rattle.c_checking.proofs.CompleteValues.{IsBare}
-use Rattle.c_checking.proofs.CompleteWalk.{Event, seen, seen_append, names_in, ends_in, literals_in, names_append, ends_append, literals_append, Follows, follows_left, follows_right}
+use Rattle.c_checking.proofs.CompleteWalk.{Event, seen, seen_append, names_in, ends_in, literals_in, names_append, ends_append, literals_append}
+use Rattle.c_checking.proofs.CompleteWalk.{Follows, follows_left, follows_right}
 
 -- ---- what is declared up to a place of a file
 
@@ -189,7 +193,7 @@ pub named_same : (g : FileScope) (s : Scope) (c : Lists) → Extends (part g c) 
 named_same g s c p x at h =
     let more = p.names.0 in
     let later : AreLater more at = λ k b e. h k b (subst (λ all. slice_get all (length c.names + k) ≡ Some b) (sym p.names.1)
-        (behind c.names more k (length c.names + k) b refl e)) in
+    (behind c.names more k (length c.names + k) b refl e)) in
     ap (or_else (innermost s.blocks x)) (sym (ap (λ all. visible all x at) p.names.1 ∙ visible_before c.names more x at later))
 
 one_fits : (g : FileScope) (r : ℕ) (o n : Option Entity) (e : Entity) → (o ≡ Some e → IsFitFor g r e) → (n ≡ Some e → IsFitFor g r e)
@@ -218,9 +222,17 @@ in_place (suc n) (z ∷ all) y (suc k) x e = later (in_place n all y k x e)
     later (inr h) = inr (suc h.0, h.1)
 
 abbrev mentioning : Lists → (before : ℕ) → AMention → Lists
-mentioning c n m = record { names = c.names; records = c.records; objects = c.objects; functions = c.functions; mentions = take n c.mentions ++ m ∷ drop n c.mentions }
+mentioning c n m = record {
+  names = c.names;
+  records = c.records;
+  objects = c.objects;
+  functions = c.functions;
+  mentions =
+      take n c.mentions ++ m ∷ drop n c.mentions;
+}
 
-mention_extends : (g : FileScope) (c : Lists) (n : ℕ) (m : AMention) → Extends (part g c) g → IsListedAt g.mentions m.kind m.ty m.at → Extends (part g (mentioning c n m)) g
+mention_extends : (g : FileScope) (c : Lists) (n : ℕ) (m : AMention) → Extends (part g c) g → IsListedAt g.mentions m.kind m.ty m.at
+    → Extends (part g (mentioning c n m)) g
 mention_extends g c n m p h = record {
   file = refl;
   tags = refl;
@@ -235,7 +247,8 @@ mention_extends g c n m p h = record {
   functions = p.functions;
 }
   where
-    by_case : (kind : MentionKind) (t : CType) (at : ℕ) → (m ≡ record { kind = kind; ty = t; at = at }) ⊎ ((j : ℕ) × (slice_get c.mentions j ≡ Some (record { kind = kind; ty = t; at = at })))
+    by_case : (kind : MentionKind) (t : CType) (at : ℕ)
+        → (m ≡ record { kind = kind; ty = t; at = at }) ⊎ ((j : ℕ) × (slice_get c.mentions j ≡ Some (record { kind = kind; ty = t; at = at })))
         → IsListedAt g.mentions kind t at
     by_case kind t at (inl e) = subst (λ (m : AMention). IsListedAt g.mentions m.kind m.ty m.at) e h
     by_case kind t at (inr e) = p.mentions kind t at e
@@ -247,11 +260,22 @@ pub mentioned : (g : FileScope) (s : Scope) (c d : Lists) (w : List Event) (befo
 mentioned g s c d w before kind t at m p = by_purpose (is_measured s.purpose) refl m
   where
     by_purpose : (b : Bool) → is_measured s.purpose ≡ b → (b ≡ true) ⊎ IsListedAt g.mentions kind t at
-        → (e : Lists) × (cond b (part g d) (part g (mentioning d before (record { kind = kind; ty = t; at = at }))) ≡ part g e) × (e.records ≡ d.records) × IsAfter g c w e
+        → (e : Lists) × (cond b (part g d) (part g (mentioning d before (record { kind = kind; ty = t; at = at }))) ≡ part g e) × (e.records ≡ d.records)
+        × IsAfter g c w e
     by_purpose true q h = (d, refl, refl, p)
     by_purpose false q (inl h) = cc
-    by_purpose false q (inr h) = (mentioning d before (record { kind = kind; ty = t; at = at }), refl, refl,
-      record { extends = mention_extends g d before (record { kind = kind; ty = t; at = at }) p.extends h; names = p.names; records = p.records; objects = p.objects })
+    by_purpose false q (inr h) = (
+      mentioning d before (record { kind = kind; ty = t; at = at }),
+      refl,
+      refl,
+      record {
+        extends = mention_extends g d before (record { kind = kind; ty = t; at = at }) p.extends h;
+        names = p.names;
+        records = p.records;
+        objects =
+            p.objects;
+      },
+    )
 
 -- ---- what is known of a thing that stands for a part of the text
 

@@ -1,37 +1,35 @@
 -- Subscripts, calls, members and sizes: what is made of the parts of a well typed node is that node (C99 6.5.2, 6.5.3.4).
-use Rattle.std.proofs.Common.{◌≡◌, ◌≢◌, ℕ, zero, suc, ◌+◌, ◌≤◌, ◌<◌, Bool, true, false, refl, sym, ap, ◌∙◌, subst, cond, inl, inr, arith, List, [], ◌∷◌, length}
-use Rattle.std.proofs.lemmas.Bool.{and_parts, and_from, lt-ltb, le-leb}
+use Rattle.std.proofs.Common.{◌≡◌, ◌≢◌, ℕ, zero, suc, ◌+◌, ◌≤◌, Bool, true, false, refl, sym, ap, ◌∙◌, subst, cond, inl, inr, arith, List, [], ◌∷◌, length}
+use Rattle.std.proofs.lemmas.Bool.{le-leb}
 use Rattle.std.proofs.lemmas.Slice.Eq.{bytes_eq-Decides}
 use Rattle.std.specs.List.{AllByRecursion}
 use Rattle.std.proofs.lemmas.List.Elements.{recursion_from_All}
-use Rattle.std.specs.Prelude.{Option, Some, None, Ok, Err, ◌&&◌, ◌⊎◌, nat_lt, nat_le, slice_get, map, All}
+use Rattle.std.specs.Prelude.{Some, Ok, ◌⊎◌, nat_le, slice_get, map, All}
 use Rattle.std.specs.Str.{bytes_eq}
 use Rattle.lay_base.specs.declared.place.Place.{Place}
 use Rattle.lay_base.specs.declared.faults.Rule.TheVariants as R
-use Rattle.c_types.specs.declared.ty.IntKind.TheVariants.{Int}
 use Rattle.c_types.specs.Types.{CType, CTypes, void, integer, pointer, array, function, structure, Field, Record}
 use Rattle.c_types.specs.Layouts.{size_of}
 use Rattle.c_types.specs.Objects.{is_object}
 use Rattle.c_typed.specs.declared.operators.PointerOp.TheVariants as P
 use Rattle.c_typed.specs.Trees as Typed
 use Rattle.c_typed.specs.Mapped.{of_types, mapped_all}
-use Rattle.c_typed.specs.Constants.{ty, is_null}
-use Rattle.c_typed.specs.Conversions.{is_integer, is_scalar, is_function, is_array, promoted, pointed, element_of}
-use Rattle.c_typed.specs.Fits.{assigns, library_type}
+use Rattle.c_typed.specs.Constants.{ty}
+use Rattle.c_typed.specs.Conversions.{is_integer, pointed, element_of}
+use Rattle.c_typed.specs.Fits.{assigns}
 use Rattle.c_typed.specs.Rules.{promoting, points_to_object}
-use Rattle.c_typed.specs.Typed.{Declared, bare, is_bare, bare_ty, IsTyped, IsTypedPath, IsTypedNode, IsMoved, IsConverted}
-use Rattle.c_erasure.specs.Broken.{called_type, pointed_type}
+use Rattle.c_typed.specs.Typed.{Declared, bare_ty, IsTypedPath, IsMoved, IsConverted}
+use Rattle.c_erasure.specs.Broken.{called_type}
 use Rattle.c_erasure.specs.Declarators.{AreDifferent}
 use Rattle.c_erasure.specs.Erasure.{typed, IsCall, IsOfType}
 use Rattle.c_erasure.specs.Noted.{Noted, Expression, Path, Node, Thing, an_object, a_value, a_function, a_function_at, a_library_function}
-use Rattle.c_erasure.specs.Noted.{value, way, type_of, type_of_path, object_value, value_of, unconverted}
-use Rattle.c_checking.specs.Answers.{Answer, refused}
-use Rattle.c_checking.specs.Nodes.{null, converted, a_way, promoted_value, element_to, index_to, turned_to, index_in, array_of_type, array_of, element_in}
+use Rattle.c_erasure.specs.Noted.{value, way, type_of, type_of_path, unconverted}
+use Rattle.c_checking.specs.Answers.{refused}
+use Rattle.c_checking.specs.Nodes.{null, index_in, array_of_type, array_of, element_in}
 use Rattle.c_checking.specs.Nodes.{signature_of, signature_in, argument_in, call_through, call_in, field_from, field_in, member_to, member_of_type, dot_in}
-use Rattle.c_checking.specs.Nodes.{arrow_to, arrow_in, measured_type, is_complete, of_limited_size, sized_type, measured_of, measured_in}
+use Rattle.c_checking.specs.Nodes.{arrow_to, arrow_in, measured_type, sized_type, measured_in}
 use Rattle.c_checking.proofs.Results.{ok}
-use Rattle.c_checking.proofs.Values.{typed_path, type_same, path_type_same, unconverted_same}
-use Rattle.c_checking.proofs.CompleteValues.{IsBare, IsLeftOf}
+use Rattle.c_checking.proofs.Values.{typed_path, unconverted_same}
 use Rattle.c_checking.proofs.CompleteNodes
 
 abbrev pub typed_all : Typed.Expressions Noted → Typed.Expressions CType
@@ -193,7 +191,8 @@ module _ (d : Declared) (at : Place) where
       ∙ ap (member_to named at p r) w
 
   pub dot_back : (records : List Record) (complete named : ℕ) (p : Path) (r k : ℕ) (rec : Record) (f : Field) (x : List ℕ)
-      → type_of_path p ≡ structure r → is_object complete (type_of_path p) ≡ true → slice_get records r ≡ Some rec → slice_get rec.fields k ≡ Some f → f.name ≡ x
+      → type_of_path p ≡ structure r → is_object complete (type_of_path p) ≡ true → slice_get records r ≡ Some rec → slice_get rec.fields k ≡ Some f
+      → f.name ≡ x
       → AreDifferent (map (λ f. f.name) rec.fields)
       → dot_in records complete named at (an_object p) x ≡ Ok (an_object (way f.ty at (Typed.member p r k)))
   unfolding dot_in

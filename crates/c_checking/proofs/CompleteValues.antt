@@ -1,22 +1,17 @@
 -- A value of a typed tree is that of its part of the text, converted again.
-use Rattle.std.proofs.Common.{◌≡◌, ◌≢◌, ℕ, Bool, true, false, refl, sym, ap, ◌∙◌, subst, cond}
-use Rattle.std.specs.Prelude.{Option, Some, None, Ok, Err}
+use Rattle.std.proofs.Common.{◌≡◌, ◌≢◌, Bool, true, false, refl, sym, ap, ◌∙◌, subst}
 use Rattle.lay_base.specs.declared.place.Place.{Place}
-use Rattle.c_types.specs.Types.{CType, void, integer, pointer, array, function, structure}
+use Rattle.c_types.specs.Types.{CType}
 use Rattle.c_types.specs.Sameness.{same_type}
 use Rattle.c_types.proofs.SameTypes.{same_is, same_self}
 use Rattle.c_typed.specs.Trees as Typed
-use Rattle.c_typed.specs.Mapped.{of_types, mapped, mapped_path}
 use Rattle.c_typed.specs.Constants.{ty, is_null}
-use Rattle.c_typed.specs.Conversions.{is_scalar}
-use Rattle.c_typed.specs.Typed.{Declared, at_of, path_ty, path_at, bare, is_bare, bare_ty, is_decay, IsTyped, IsTypedPath}
+use Rattle.c_typed.specs.Typed.{Declared, bare, is_bare, bare_ty, IsTyped}
 use Rattle.c_erasure.specs.Erasure.{typed}
-use Rattle.c_erasure.specs.Noted.{Noted, Note, nothing, size_of, Expression, Path, Thing, an_object, a_value, a_function, a_function_at, a_library_function}
-use Rattle.c_erasure.specs.Noted.{value, type_of, type_of_path, place_of_path, object_value, value_of, unconverted, unless_noted}
-use Rattle.c_checking.specs.Answers.{Answer, refused}
-use Rattle.c_checking.specs.Nodes.{place_of, null, converted, valued, worth}
-use Rattle.c_checking.proofs.Results.{ok}
-use Rattle.c_checking.proofs.Values.{typed_path, type_same, path_type_same, place_same, path_place_same}
+use Rattle.c_erasure.specs.Noted.{Noted, Note, nothing, size_of, Expression}
+use Rattle.c_erasure.specs.Noted.{value, type_of, unconverted, unless_noted}
+use Rattle.c_checking.specs.Nodes.{null, converted}
+use Rattle.c_checking.proofs.Values.{type_same, place_same}
 
 -- ---- no note stands beside a conversion
 
@@ -83,9 +78,11 @@ left_converted d t at e h = record {
 pub left_of : (d : Declared) (x : Expression) → IsTyped d (typed x) → IsBare (unconverted x) → IsLeftOf d x (unconverted x)
 left_of d (Typed.expression t at (Typed.convert e false)) h b = by_note t.note t.ty refl
   where
-    by_note : (n : Note) (u : CType) → t ≡ record { ty = u; note = n } → IsLeftOf d (Typed.expression t at (Typed.convert e false)) (unless_noted n e (Typed.expression t at (Typed.convert e false)))
+    by_note : (n : Note) (u : CType) → t ≡ record { ty = u; note = n }
+        → IsLeftOf d (Typed.expression t at (Typed.convert e false)) (unless_noted n e (Typed.expression t at (Typed.convert e false)))
     by_note nothing u q =
-        subst (λ (t : Noted). IsTyped d (typed (Typed.expression t at (Typed.convert e false))) → IsLeftOf d (Typed.expression t at (Typed.convert e false)) e) (sym q)
+        subst (λ (t : Noted). IsTyped d (typed (Typed.expression t at (Typed.convert e false)))
+        → IsLeftOf d (Typed.expression t at (Typed.convert e false)) e) (sym q)
         (λ h. left_converted d u at e h) h
     by_note (size_of v p) u q =
         let w : IsBare (unless_noted t.note e (Typed.expression t at (Typed.convert e false))) = b in

@@ -26,3 +26,7 @@ pub mod CompleteOperands
 pub mod CompleteExpressions
 pub mod CompleteCalls
 pub mod CompleteDeclarators
+pub mod CompleteSpecifiers
+pub mod CompleteStructures
+pub mod CompleteTrees
+pub mod CompleteAlone

@@ -1,0 +1,9 @@
+pub mod NumberLists
+pub mod Earliest
+pub mod MainFunction
+pub mod OneProgram
+pub mod Pairs
+pub mod Placed
+pub mod RecordLists
+pub mod Whole
+pub mod UnderKeys

@@ -1,3 +1,5 @@
 pub mod Joining
+pub mod Placing
+pub mod Views
 pub mod Gaps
 pub mod Programs

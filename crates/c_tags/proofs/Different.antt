@@ -1,7 +1,7 @@
 -- The tags of structures by their numbers are different, where no structure is defined twice.
-use Rattle.std.proofs.Common.{◌≡◌, ◌≢◌, ℕ, zero, suc, ◌+◌, ◌<◌, List, [], ◌∷◌, ◌++◌, map, filter, length, slice_get, Bool, true, false, not, ◌||◌}
-use Rattle.std.proofs.Common.{Option, Some, None, refl, sym, ap, ◌∙◌, subst, add-one, arith, if◌then◌else◌}
-use Rattle.std.specs.List.{All, AllByRecursion}
+use Rattle.std.proofs.Common.{◌≡◌, ◌≢◌, ℕ, zero, suc, List, [], ◌∷◌, ◌++◌, map, filter, slice_get, Bool, true, false, not, ◌||◌}
+use Rattle.std.proofs.Common.{Some, refl, sym, subst, add-one, if◌then◌else◌}
+use Rattle.std.specs.List.{AllByRecursion}
 use Rattle.std.specs.Str.{bytes_eq}
 use Rattle.std.proofs.lemmas.Slice.Eq.{bytes_eq-Decides}
 use Rattle.std.proofs.lemmas.List.Elements.{All-from_recursion, recursion_from_All}
@@ -54,8 +54,11 @@ firsts_new known (t ∷ tags) = by (is_among known t.name) refl (firsts_new know
     by true e h k = h
     by false e h k = record {
       new = (e, still_new known t.name (map (λ t. t.name) (firsts (t.name ∷ known) tags)) k.new);
-      different = (All-from_recursion (λ y. t.name ≢ y) (map (λ t. t.name) (firsts (t.name ∷ known) tags))
-          (apart known t.name (map (λ t. t.name) (firsts (t.name ∷ known) tags)) k.new), k.different);
+      different = (
+        All-from_recursion (λ y. t.name ≢ y) (map (λ t. t.name) (firsts (t.name ∷ known) tags))
+            (apart known t.name (map (λ t. t.name) (firsts (t.name ∷ known) tags)) k.new),
+        k.different,
+      );
     }
 
 -- ---- two lists one after the other

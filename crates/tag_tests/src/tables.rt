@@ -7,17 +7,10 @@ static ROWS: &[Row] = &[
     // Two structures without a tag on one line.
     Row {
         text: "struct { int x; } a; struct { int y; } *b;\n",
-        tags: &[
-            ("@a.c:1:1", 0, 0, false),
-            ("@a.c:1:2", 21, 21, false),
-        ],
+        tags: &[("@a.c:1:1", 0, 0, false), ("@a.c:1:2", 21, 21, false)],
         ends: &[16, 37],
         numbered: &["@a.c:1:1", "@a.c:1:2"],
-        untagged: &[
-            (0, "@a.c:1:1"),
-            (21, "@a.c:1:2"),
-            (1, "@"),
-        ],
+        untagged: &[(0, "@a.c:1:1"), (21, "@a.c:1:2"), (1, "@")],
     },
     // Lines of another file, of which one comes again: a `struct` with a tag counts too.
     Row {
@@ -29,11 +22,7 @@ static ROWS: &[Row] = &[
         ],
         ends: &[39, 70],
         numbered: &["@b.h:7:2", "@b.h:7:3", "S"],
-        untagged: &[
-            (10, "@b.h:7:1"),
-            (23, "@b.h:7:2"),
-            (54, "@b.h:7:3"),
-        ],
+        untagged: &[(10, "@b.h:7:1"), (23, "@b.h:7:2"), (54, "@b.h:7:3")],
     },
     // An enumeration is known from its end on; the inner structure is defined first; lists of parameters and bodies declare none.
     Row {
@@ -57,16 +46,10 @@ static ROWS: &[Row] = &[
     // Inside an expression, and a tag that is never defined.
     Row {
         text: "int n = sizeof(struct W { char c; });\nstruct X *x;\n",
-        tags: &[
-            ("W", 22, 22, false),
-            ("X", 45, 45, false),
-        ],
+        tags: &[("W", 22, 22, false), ("X", 45, 45, false)],
         ends: &[34],
         numbered: &["W", "X"],
-        untagged: &[
-            (15, "@a.c:1:1"),
-            (38, "@a.c:2:1"),
-        ],
+        untagged: &[(15, "@a.c:1:1"), (38, "@a.c:2:1")],
     },
     // Neither tags nor structures.
     Row {
