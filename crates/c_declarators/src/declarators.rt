@@ -169,13 +169,7 @@ pub fn scalar(at: u32, t: Ty) -> Result<Ty, Fault>
 }
 
 /// The type of an array whose initializer tells how many elements it has (C99 6.7.8).
-pub fn counted(
-    alloc: Global,
-    records: &Records,
-    at: u32,
-    element: Ty,
-    n: u32,
-) -> Result<Ty, Fault>
+pub fn counted(alloc: Global, records: &Records, at: u32, element: Ty, n: u32) -> Result<Ty, Fault>
     ensures { Gives type_of result (counted_array (records_of records.now) at (type_of element) n) }
 {
     if n == 0 {

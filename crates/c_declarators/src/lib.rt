@@ -9,7 +9,8 @@ mod lengths;
 mod specifiers;
 
 pub use declarators::{
-    Derivation, Shape, closed, counted, derived, named, object, parameter_type, scalar, small, variable,
+    Derivation, Shape, closed, counted, derived, named, object, parameter_type, scalar, small,
+    variable,
 };
 pub use lengths::{Integer, constant, int_value, length, next_value};
 pub use specifiers::{Storage, storage_of};
