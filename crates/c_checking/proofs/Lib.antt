@@ -15,3 +15,5 @@ pub mod Found
 pub mod FoundTypes
 pub mod FoundDeclarators
 pub mod Sound
+pub mod FaultResults
+pub mod FaultNodes
