@@ -1,5 +1,5 @@
 -- What is found stands for its part of the text and is well typed, in each file that goes on from the one that finding leaves.
-use Rattle.std.proofs.Common.{◌≡◌, ℕ, ◌+◌, ◌<◌, true, refl, List, [], ◌∷◌, ◌++◌, arith}
+use Rattle.std.proofs.Common.{◌≡◌, ℕ, ◌+◌, ◌<◌, true, false, refl, List, [], ◌∷◌, ◌++◌, arith}
 use Rattle.std.specs.Prelude.{◌^◌, ◌%◌, Ok}
 use Rattle.c_types.specs.declared.ty.IntKind.{IntKind}
 use Rattle.c_types.specs.Types.{CType, CTypes, no_types, and_type, Field}
@@ -189,7 +189,7 @@ module _ (untagged : ℕ → List ℕ) where
         chosen s.is_inside _ _ z (FoundSpecifier untagged s (Trees.enum_body at x from all comma to) z) h (λ i h. cc)
         (λ i h.
         let f = bound_ok (enumerators all s 0 (after_all comma to)) _ z h in
-        let v = sound_enumerators all s 0 (after_all comma to) (omega arith) n
+        let v = sound_enumerators all s 0 (after_all comma to) i (omega arith) n
         (left (marks_of_enumerators untagged all (after_all comma to)) (an_enumeration untagged x to) r) f.0 f.1 in
         enum_body_found untagged s at x from all comma to i f.0.1 v z f.2)
 
@@ -227,20 +227,20 @@ module _ (untagged : ℕ → List ℕ) where
         member_found untagged s base comma d more semicolon steps.0 v t.0 o.0 t.1 o.1 (member_declarators more base semicolon (moved s f))
         (λ rest k. sound_declarators more base semicolon (moved s f) n.1 later rest k) z o.2
 
-    pub sound_enumerators : (all : Trees.Enumerators) (s : Scope) (next after : ℕ) → next < 2 ^ 32 → AreEnumeratorsInRange all
+    pub sound_enumerators : (all : Trees.Enumerators) (s : Scope) (next after : ℕ) → s.is_inside ≡ false → next < 2 ^ 32 → AreEnumeratorsInRange all
         → Ready s (marks_of_enumerators untagged all after) → (z : Unit {0} × FileScope) → enumerators all s next after ≡ Ok z
         → FoundEnumerators untagged s next all after z.1
-    sound_enumerators Trees.no_enumerators s next after b n r z h = no_enumerators_found untagged s next after z h
-    sound_enumerators (Trees.and_enumerator comma x value more) s next after b n r z h =
+    sound_enumerators Trees.no_enumerators s next after i b n r z h = no_enumerators_found untagged s next after z h
+    sound_enumerators (Trees.and_enumerator comma x value more) s next after i b n r z h =
         let u = marks_of_value untagged value in
         let own : List Mark = a_name (comma_or more after) ∷ [] in
         let rest = marks_of_enumerators untagged more after in
         let v = bound_ok (enumerator_value value s x.from next) _ z h in
         let w = sound_value value s x.from next b n.0 (left u (own ++ rest) r) v.0 v.1 in
         let f = bound_ok (enumerator_in v.0.1 (bound_of untagged x more after v.0.0)) _ z v.2 in
-        let g = enumerator_grown untagged s next x value more after v.0 w f.0 f.1 in
-        let t = sound_enumerators more (moved s f.0) ((v.0.0 + 1) % 2 ^ 32) after (omega arith) n.1 (right own rest (right u (own ++ rest) r w.grew) g) z f.2 in
-        enumerator_found untagged s comma x value more next after v.0 w f.0 f.1 z.1 t
+        let g = enumerator_grown untagged s i next x value more after v.0 w f.0 f.1 in
+        let t = sound_enumerators more (moved s f.0) ((v.0.0 + 1) % 2 ^ 32) after i (omega arith) n.1 (right own rest (right u (own ++ rest) r w.grew) g) z f.2 in
+        enumerator_found untagged s i comma x value more next after v.0 w f.0 f.1 z.1 t
 
     sound_value : (value : Trees.EnumeratorValue) (s : Scope) (at next : ℕ) → next < 2 ^ 32 → IsValueInRange value → Ready s (marks_of_value untagged value)
         → (z : ℕ × FileScope) → enumerator_value value s at next ≡ Ok z → FoundNumber untagged s next value z
