@@ -253,7 +253,7 @@ length_is at c n h = by_number (number_of c.0 c.1) h
 
 -- ---- tags (6.7.2.3)
 
-number_is : (all : List (List ℕ)) (x : List ℕ) (r : ℕ) → number_among all x ≡ Some r → slice_get all r ≡ Some x
+pub number_is : (all : List (List ℕ)) (x : List ℕ) (r : ℕ) → number_among all x ≡ Some r → slice_get all r ≡ Some x
 number_is [] x r h = cc
 number_is (t ∷ more) x r h = by_test (bytes_eq t x) refl (number_among more x) (λ r h. number_is more x r h) h
   where

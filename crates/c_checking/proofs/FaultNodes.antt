@@ -35,6 +35,7 @@ use Rattle.c_checking.specs.Nodes.{call_through, call_in, field_from, field_in, 
 use Rattle.c_checking.specs.Nodes.{deref_in, unary_in, not_in, measured_type, is_complete, of_limited_size, sized_type, measured_of, measured_in, cast_in}
 use Rattle.c_checking.specs.Nodes.{number_node, forward_node, backward_node, on_pointers, computed_in, compared_in, tested_in, binary_in, tested, chosen_in}
 use Rattle.c_checking.specs.Nodes.{Target, scalar_at, record_at, path_of, target_of_type, target_in, assigned_in, copied_in, updated_in, comma_in}
+use Rattle.c_checking.proofs.Agreement.{IsObjectType}
 use Rattle.c_checking.proofs.FaultResults.{bad, same_fault, chosen_err, unless_err, option_err}
 
 -- ---- tests
@@ -69,9 +70,6 @@ incomplete records count t l h = by_test (is_object count t) refl h
     by_test false e h = refl
 
 -- ---- values: an object has a type of objects, complete or not
-
-abbrev pub IsObjectType : CType → Type 0
-IsObjectType t = (count : ℕ) × (is_object count t ≡ true)
 
 abbrev pub IsProper : Thing → Type 0
 IsProper (an_object p) = IsObjectType (type_of_path p)

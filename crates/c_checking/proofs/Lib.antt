@@ -17,3 +17,4 @@ pub mod FoundDeclarators
 pub mod Sound
 pub mod FaultResults
 pub mod FaultNodes
+pub mod FaultDeclaring
