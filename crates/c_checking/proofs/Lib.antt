@@ -18,3 +18,5 @@ pub mod Sound
 pub mod FaultResults
 pub mod FaultNodes
 pub mod FaultDeclaring
+pub mod FaultPremises
+pub mod FaultSteps
