@@ -82,7 +82,7 @@ module _ (untagged : ℕ → List ℕ) (ends : List ℕ) where
       bound_err (small s.file.records at (pointer (function t types))) _ f P h (λ e. p (small_fault s at (pointer (function t types)) f e)) (λ u e h. q h))
 
   -- a byte that asks for records which are known by then
-  asked : (s : Scope) (n : ℕ) (at : ℕ) (g : FileScope) → s.file.ends ≡ ends → AreKnown untagged ends n at → n ≤ length g.records
+  pub asked : (s : Scope) (n : ℕ) (at : ℕ) (g : FileScope) → s.file.ends ≡ ends → AreKnown untagged ends n at → n ≤ length g.records
       → ended s.file.ends at ≤ length g.records
   asked s n at g e k l = let m : ended s.file.ends at ≤ n = subst (λ ends. ended ends at ≤ n) (sym e) k in omega (arith, m, l)
 

@@ -20,3 +20,4 @@ pub mod FaultNodes
 pub mod FaultDeclaring
 pub mod FaultPremises
 pub mod FaultSteps
+pub mod FaultParts
