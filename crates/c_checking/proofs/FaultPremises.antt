@@ -130,6 +130,7 @@ module _ (untagged : ℕ → List ℕ) (ends : List ℕ) where
   pub record IsPrepared (f : FileScope) (locals : List ALocal) (blocks : List (List Bound)) (is_inside : Bool) (all : List Mark) : Type 0 where
     pub ready : IsReady f locals blocks is_inside all
     pub ends_are : f.ends ≡ ends
+    pub untagged_are : f.untagged ≡ untagged
     pub steady : IsSteady f
     pub orderly : IsOrderly f
     pub locals_are : (k : ℕ) (t : CType) → slice_get (map (λ l. l.ty) locals) k ≡ Some t → IsObjectType t
@@ -167,6 +168,7 @@ module _ (untagged : ℕ → List ℕ) (ends : List ℕ) where
   left u v p = record {
     ready = Agreement.left u v p.ready;
     ends_are = p.ends_are;
+    untagged_are = p.untagged_are;
     steady = p.steady;
     orderly = p.orderly;
     locals_are = p.locals_are;
@@ -188,6 +190,7 @@ module _ (untagged : ℕ → List ℕ) (ends : List ℕ) where
   right {f} {g} {locals} {blocks} {i} u v p w = record {
     ready = Agreement.right u v p.ready w;
     ends_are = w.extends.ends ∙ p.ends_are;
+    untagged_are = w.extends.untagged ∙ p.untagged_are;
     steady = w.steady p.steady;
     orderly = orderly_stays w.extends p.orderly;
     locals_are = p.locals_are;
@@ -215,11 +218,12 @@ module _ (untagged : ℕ → List ℕ) (ends : List ℕ) where
   }
 
   -- inside of functions and parameter lists nothing else is asked
-  pub inside_prepared : {f : FileScope} {locals : List ALocal} {blocks : List (List Bound)} (u : List Mark) → IsReady f locals blocks true u → f.ends ≡ ends
-      → IsSteady f → IsOrderly f → ((k : ℕ) (t : CType) → slice_get (map (λ l. l.ty) locals) k ≡ Some t → IsObjectType t) → IsPrepared f locals blocks true u
-  inside_prepared u r e s o l = record {
+  pub inside_prepared : {f : FileScope} {locals : List ALocal} {blocks : List (List Bound)} {i : Bool} → i ≡ true → (u : List Mark)
+      → IsReady f locals blocks i u → f.ends ≡ ends → f.untagged ≡ untagged → IsSteady f → IsOrderly f → ((k : ℕ) (t : CType) → slice_get (map (λ l. l.ty) locals) k ≡ Some t → IsObjectType t) → IsPrepared f locals blocks i u
+  inside_prepared i u r e n s o l = record {
     ready = r;
     ends_are = e;
+    untagged_are = n;
     steady = s;
     orderly = o;
     locals_are = l;

@@ -192,7 +192,7 @@ module _ (untagged : ℕ → List ℕ) where
 
   -- ---- definitions of structures and enumerations
 
-  tag_text_same : (s : Scope) (g : FileScope) → Extends s.file g → (at : ℕ) (x : Option Spelling) → tag_text (moved s g) at x ≡ tag_text s at x
+  pub tag_text_same : (s : Scope) (g : FileScope) → Extends s.file g → (at : ℕ) (x : Option Spelling) → tag_text (moved s g) at x ≡ tag_text s at x
   tag_text_same s g p at None = ap (λ (names : ℕ → List ℕ). names at) p.untagged
   tag_text_same s g p at (Some x) = refl
 

@@ -21,3 +21,4 @@ pub mod FaultDeclaring
 pub mod FaultPremises
 pub mod FaultSteps
 pub mod FaultParts
+pub mod FaultTypes
