@@ -22,3 +22,4 @@ pub mod FaultPremises
 pub mod FaultSteps
 pub mod FaultParts
 pub mod FaultTypes
+pub mod Faults
