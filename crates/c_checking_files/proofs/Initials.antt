@@ -48,6 +48,34 @@ use Rattle.c_checking_files.proofs.Parts.{NoneBegins, none_left, none_right, ini
 pub nothing : (s : Scope) → Grows s [] [] [] s.file
 nothing s = adds_nothing s.file s.is_inside (is_measured s.purpose) (makes_none s.purpose)
 
+-- of an object that begins at that byte
+abbrev pub OfObject : CType → ℕ → FileScope → ℕ → CType → Type 0
+OfObject t at g o u = (k : ℕ) × (o ≡ at + k) × IsPart g.records t k u
+
+-- of elements, of which there are so many
+abbrev pub OfElements : CType → (n at : ℕ) → FileScope → ℕ → CType → Type 0
+OfElements u n at g o v = (i k : ℕ) × (i < n) × (o ≡ at + (i * size_of g.records u + k)) × IsPart g.records u k v
+
+-- of fields of a record from one on
+abbrev pub OfFields : (r m at : ℕ) → FileScope → ℕ → CType → Type 0
+OfFields r m at g o v = (j k : ℕ) × (w : CType) × (m ≤ j) × (field_type g.records r j ≡ Some w) × (o ≡ at + (offset_of g.records r j + k))
+    × IsPart g.records w k v
+
+abbrev pub RisesIn : CType → ℕ → FileScope → List Part → Type 0
+RisesIn t at g parts = Rise at parts (at + size_of g.records t)
+
+abbrev pub RisesInElements : CType → (n at : ℕ) → FileScope → List Part → Type 0
+RisesInElements u n at g parts = Rise at parts (at + size_of g.records u * n)
+
+abbrev pub RisesInFields : (r m at : ℕ) → FileScope → List Part → Type 0
+RisesInFields r m at g parts = (low : ℕ) → low ≤ at + size_of g.records (structure r)
+    → ((j : ℕ) (w : CType) → m ≤ j → field_type g.records r j ≡ Some w → low ≤ at + offset_of g.records r j)
+    → Rise low parts (at + size_of g.records (structure r))
+
+-- a type is complete in a file
+abbrev pub IsKnown : FileScope → CType → Type 0
+IsKnown f t = is_object (length f.records) t ≡ true
+
 module _ (untagged : ℕ → List ℕ) where
   -- parts that stand for a part of the text, whose marks, mentions and literals are those: of which type each is, and in which order they stand
   pub record FoundParts (s : Scope) (u : List Mark) (x k : List ℕ) (Is : Scope → List Part → Type 0) (Where : FileScope → ℕ → CType → Type 0)
@@ -61,30 +89,6 @@ module _ (untagged : ℕ → List ℕ) where
     pub holds : (g : FileScope) → Extends z.1 g → NoneBegins g texts → Is (moved s g) z.0
     pub typed : (g : FileScope) → Extends z.1 g → AreOver (Where g) (declared (moved s g)) z.0
     pub rises : (g : FileScope) → Extends z.1 g → IsLaid g → Rises g z.0
-
-  -- of an object that begins at that byte
-  abbrev pub OfObject : CType → ℕ → FileScope → ℕ → CType → Type 0
-  OfObject t at g o u = (k : ℕ) × (o ≡ at + k) × IsPart g.records t k u
-
-  -- of elements, of which there are so many
-  abbrev pub OfElements : CType → (n at : ℕ) → FileScope → ℕ → CType → Type 0
-  OfElements u n at g o v = (i k : ℕ) × (i < n) × (o ≡ at + (i * size_of g.records u + k)) × IsPart g.records u k v
-
-  -- of fields of a record from one on
-  abbrev pub OfFields : (r m at : ℕ) → FileScope → ℕ → CType → Type 0
-  OfFields r m at g o v = (j k : ℕ) × (w : CType) × (m ≤ j) × (field_type g.records r j ≡ Some w) × (o ≡ at + (offset_of g.records r j + k))
-      × IsPart g.records w k v
-
-  abbrev pub RisesIn : CType → ℕ → FileScope → List Part → Type 0
-  RisesIn t at g parts = Rise at parts (at + size_of g.records t)
-
-  abbrev pub RisesInElements : CType → (n at : ℕ) → FileScope → List Part → Type 0
-  RisesInElements u n at g parts = Rise at parts (at + size_of g.records u * n)
-
-  abbrev pub RisesInFields : (r m at : ℕ) → FileScope → List Part → Type 0
-  RisesInFields r m at g parts = (low : ℕ) → low ≤ at + size_of g.records (structure r)
-      → ((j : ℕ) (w : CType) → m ≤ j → field_type g.records r j ≡ Some w → low ≤ at + offset_of g.records r j)
-      → Rise low parts (at + size_of g.records (structure r))
 
   abbrev pub FoundInitial : Scope → Trees.Expression → CType → ℕ → List Part × FileScope → Type 0
   FoundInitial s a t at z =
@@ -248,16 +252,17 @@ module _ (untagged : ℕ → List ℕ) where
 
   -- ---- what is no initializer in braces
 
-  abbrev Plainly : Trees.Expression → Scope → CType → ℕ → List Part → Type 0
+  abbrev pub Plainly : Trees.Expression → Scope → CType → ℕ → List Part → Type 0
   Plainly a s t at parts =
       ((x : Expression) × (is_scalar t ≡ true) × (parts ≡ part_at at (Typed.value x)) × Values (Erases a s) x)
       ⊎ ((r : ℕ) × (p : Typed.Path Noted) × (t ≡ structure r) × (parts ≡ part_at at (Typed.record_of p)) × Erases a s (an_object p))
       ⊎ IsText (texts_of a) s t at parts
 
-  abbrev AreBytes : Trees.Expression → Type 0
+  abbrev pub AreBytes : Trees.Expression → Type 0
   AreBytes a = (all : List Spelling) → texts_of a ≡ Some all → (marks untagged a ≡ []) × (spoken a ≡ []) × (literals a ≡ first_text all ∷ [])
 
-  record IsPlain (a : Trees.Expression) : Type 0 where
+  pub record IsPlain (a : Trees.Expression) : Type 0 where
+    pub found : (s : Scope) (t : CType) (at : ℕ) → initialized a s t at ≡ without_braces (first a) at t (texts_of a) s.file (find a s)
     pub stands : (s : Scope) (t : CType) (at : ℕ) (parts : List Part) → Plainly a s t at parts → Initializes a s t at parts
     pub bytes : AreBytes a
     pub one : (from : ℕ) (comma : Option ℕ) (s : Scope) (t : CType) (at : ℕ)
@@ -266,27 +271,27 @@ module _ (untagged : ℕ → List ℕ) where
   literal_bytes : (all : List Spelling) → AreBytes (Trees.texts all)
   literal_bytes all texts e = let f : all ≡ texts = cc in (refl, refl, ap (λ all. first_text all ∷ []) f)
 
-  plain : (a : Trees.Expression) → is_braces a ≡ false → IsPlain a
-  unfolding one_value
-  plain (Trees.name x) h = record { stands = λ s t at parts p. p; bytes = λ all e. cc; one = λ from comma s t at. refl }
-  plain (Trees.number x v kind) h = record { stands = λ s t at parts p. p; bytes = λ all e. cc; one = λ from comma s t at. refl }
-  plain (Trees.character x v) h = record { stands = λ s t at parts p. p; bytes = λ all e. cc; one = λ from comma s t at. refl }
-  plain (Trees.texts all) h = record { stands = λ s t at parts p. p; bytes = literal_bytes all; one = λ from comma s t at. refl }
-  plain (Trees.paren from a to) h = record { stands = λ s t at parts p. p; bytes = λ all e. cc; one = λ from comma s t at. refl }
-  plain (Trees.index a from b to) h = record { stands = λ s t at parts p. p; bytes = λ all e. cc; one = λ from comma s t at. refl }
-  plain (Trees.call f from all to) h = record { stands = λ s t at parts p. p; bytes = λ all e. cc; one = λ from comma s t at. refl }
-  plain (Trees.dot a at x) h = record { stands = λ s t at parts p. p; bytes = λ all e. cc; one = λ from comma s t at. refl }
-  plain (Trees.arrow a at x) h = record { stands = λ s t at parts p. p; bytes = λ all e. cc; one = λ from comma s t at. refl }
-  plain (Trees.post a op at) h = record { stands = λ s t at parts p. p; bytes = λ all e. cc; one = λ from comma s t at. refl }
-  plain (Trees.pre op at a) h = record { stands = λ s t at parts p. p; bytes = λ all e. cc; one = λ from comma s t at. refl }
-  plain (Trees.unary op at a) h = record { stands = λ s t at parts p. p; bytes = λ all e. cc; one = λ from comma s t at. refl }
-  plain (Trees.sizeof_expression at a) h = record { stands = λ s t at parts p. p; bytes = λ all e. cc; one = λ from comma s t at. refl }
-  plain (Trees.sizeof_type at from m to) h = record { stands = λ s t at parts p. p; bytes = λ all e. cc; one = λ from comma s t at. refl }
-  plain (Trees.cast from m to a) h = record { stands = λ s t at parts p. p; bytes = λ all e. cc; one = λ from comma s t at. refl }
-  plain (Trees.binary a op at b) h = record { stands = λ s t at parts p. p; bytes = λ all e. cc; one = λ from comma s t at. refl }
-  plain (Trees.cond a question b colon c) h = record { stands = λ s t at parts p. p; bytes = λ all e. cc; one = λ from comma s t at. refl }
-  plain (Trees.assign a op at b) h = record { stands = λ s t at parts p. p; bytes = λ all e. cc; one = λ from comma s t at. refl }
-  plain (Trees.comma a at b) h = record { stands = λ s t at parts p. p; bytes = λ all e. cc; one = λ from comma s t at. refl }
+  pub plain : (a : Trees.Expression) → is_braces a ≡ false → IsPlain a
+  unfolding initialized one_value
+  plain (Trees.name x) h = record { found = λ s t at. refl; stands = λ s t at parts p. p; bytes = λ all e. cc; one = λ from comma s t at. refl }
+  plain (Trees.number x v kind) h = record { found = λ s t at. refl; stands = λ s t at parts p. p; bytes = λ all e. cc; one = λ from comma s t at. refl }
+  plain (Trees.character x v) h = record { found = λ s t at. refl; stands = λ s t at parts p. p; bytes = λ all e. cc; one = λ from comma s t at. refl }
+  plain (Trees.texts all) h = record { found = λ s t at. refl; stands = λ s t at parts p. p; bytes = literal_bytes all; one = λ from comma s t at. refl }
+  plain (Trees.paren from a to) h = record { found = λ s t at. refl; stands = λ s t at parts p. p; bytes = λ all e. cc; one = λ from comma s t at. refl }
+  plain (Trees.index a from b to) h = record { found = λ s t at. refl; stands = λ s t at parts p. p; bytes = λ all e. cc; one = λ from comma s t at. refl }
+  plain (Trees.call f from all to) h = record { found = λ s t at. refl; stands = λ s t at parts p. p; bytes = λ all e. cc; one = λ from comma s t at. refl }
+  plain (Trees.dot a at x) h = record { found = λ s t at. refl; stands = λ s t at parts p. p; bytes = λ all e. cc; one = λ from comma s t at. refl }
+  plain (Trees.arrow a at x) h = record { found = λ s t at. refl; stands = λ s t at parts p. p; bytes = λ all e. cc; one = λ from comma s t at. refl }
+  plain (Trees.post a op at) h = record { found = λ s t at. refl; stands = λ s t at parts p. p; bytes = λ all e. cc; one = λ from comma s t at. refl }
+  plain (Trees.pre op at a) h = record { found = λ s t at. refl; stands = λ s t at parts p. p; bytes = λ all e. cc; one = λ from comma s t at. refl }
+  plain (Trees.unary op at a) h = record { found = λ s t at. refl; stands = λ s t at parts p. p; bytes = λ all e. cc; one = λ from comma s t at. refl }
+  plain (Trees.sizeof_expression at a) h = record { found = λ s t at. refl; stands = λ s t at parts p. p; bytes = λ all e. cc; one = λ from comma s t at. refl }
+  plain (Trees.sizeof_type at from m to) h = record { found = λ s t at. refl; stands = λ s t at parts p. p; bytes = λ all e. cc; one = λ from comma s t at. refl }
+  plain (Trees.cast from m to a) h = record { found = λ s t at. refl; stands = λ s t at parts p. p; bytes = λ all e. cc; one = λ from comma s t at. refl }
+  plain (Trees.binary a op at b) h = record { found = λ s t at. refl; stands = λ s t at parts p. p; bytes = λ all e. cc; one = λ from comma s t at. refl }
+  plain (Trees.cond a question b colon c) h = record { found = λ s t at. refl; stands = λ s t at parts p. p; bytes = λ all e. cc; one = λ from comma s t at. refl }
+  plain (Trees.assign a op at b) h = record { found = λ s t at. refl; stands = λ s t at parts p. p; bytes = λ all e. cc; one = λ from comma s t at. refl }
+  plain (Trees.comma a at b) h = record { found = λ s t at. refl; stands = λ s t at parts p. p; bytes = λ all e. cc; one = λ from comma s t at. refl }
   plain (Trees.braces from all comma to) h = cc
 
   -- the file from which a type is known, the scope, and what is asked of both
@@ -297,9 +302,6 @@ module _ (untagged : ℕ → List ℕ) where
 
   pub behind : {f : FileScope} {s : Scope} {u : List Mark} {g : FileScope} → ReadFrom f s → Grew s u g → ReadFrom f (moved s g)
   behind q p = record { complete = q.complete; extends = further q.extends p.extends; same = p.extends.untagged ∙ q.same }
-
-  abbrev pub IsKnown : FileScope → CType → Type 0
-  IsKnown f t = is_object (length f.records) t ≡ true
 
   plain_found : (f : FileScope) (a : Trees.Expression) → IsPlain a → (s : Scope) → IsInRange a → Ready s (marks untagged a) → ReadFrom f s → (t : CType) (at : ℕ)
       → IsKnown f t → (o : Option (List Spelling)) → (texts_of a ≡ o) ⊎ (o ≡ None) → (z : List Part × FileScope)

@@ -1,3 +1,4 @@
 pub mod Layouts
 pub mod Parts
 pub mod Initials
+pub mod Wholes
