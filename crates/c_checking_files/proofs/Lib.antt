@@ -2,3 +2,4 @@ pub mod Layouts
 pub mod Parts
 pub mod Initials
 pub mod Wholes
+pub mod SameLocals
