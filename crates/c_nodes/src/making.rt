@@ -6,9 +6,9 @@ ghost use Rattle.c_types.specs.Types.{integer, pointer};
 ghost use Rattle.c_types.specs.Views.{type_of};
 ghost use Rattle.c_erasure.specs.Noted.{a_value, an_object, value_of};
 ghost use Rattle.c_checking.specs.Nodes.{a_node, a_way, converted, worth as worth_of};
+ghost use Rattle.c_annotated.specs.Nodes.{node_of, path_node_of};
 ghost use Rattle.c_annotated.specs.Views.{expression_of, path_of, thing_of};
 ghost use Rattle.c_nodes.specs.Gives.{Gives};
-ghost use Rattle.c_nodes.specs.NodeViews.{node_of, path_node_of};
 
 use crate::fault::Fault;
 use c_annotated::{Expression, ExpressionNode, Path, PathNode, Thing};
