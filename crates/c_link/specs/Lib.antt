@@ -1,4 +1,5 @@
 pub mod Joining
+pub mod Clashes
 pub mod Placing
 pub mod Views
 pub mod Gaps

@@ -4,6 +4,7 @@
 //! the numbers that a unit's parts get in the program. It promises that what it joins is the program that `joined` defines.
 #![tactic(auto)]
 
+mod clashes;
 mod identities;
 mod joining;
 mod keys;
@@ -12,6 +13,7 @@ mod program;
 mod records;
 mod tables;
 mod tags;
+mod troubles;
 mod types;
 mod whole_program;
 

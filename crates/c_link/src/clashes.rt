@@ -1,0 +1,71 @@
+//! Structures of one tag whose members differ (C99 6.2.7).
+
+ghost use Rattle.std.specs.Prelude.{◌≡◌, ◌++◌, [], IfOk, OnOk, map};
+ghost use Rattle.c_link.specs.Clashes.{clash, clashes, same_field, same_fields, trouble_of};
+ghost use Rattle.c_types.specs.Views.{field_of, record_of, records_of};
+ghost use Rattle.std.specs.Option.{option_copied, option_map};
+
+use crate::placing::put;
+use crate::records::copy_of_name;
+use crate::tags::number_of;
+use crate::troubles::Trouble;
+use c_types::{Field, Record, same};
+use lay_base::{List, NoMemory, add};
+use numbering::KeyTable;
+use std::alloc::Global;
+
+fn same_field(f: &Field, g: &Field) -> bool
+    ensures { result ≡ same_field (field_of f.now) (field_of g.now) }
+{
+    f.name.as_slice() == g.name.as_slice() && same(&f.ty, &g.ty)
+}
+
+fn same_fields(all: &[Field], others: &[Field]) -> bool
+    ensures { result ≡ same_fields (map field_of all.now) (map field_of others.now) }
+{
+    if all.len() != others.len() {
+        return false;
+    }
+    for (index, f) in all.iter().enumerate() {
+        if !same_field(f, &others[index]) {
+            return false;
+        }
+    }
+    true
+}
+
+fn add_clash(alloc: Global, troubles: &mut List<Trouble>, first: Option<&Record>, r: &Record) -> Result<(), NoMemory>
+    ensures { OnOk result (map trouble_of troubles.new ≡ map trouble_of troubles.old ++ clash (option_map record_of (option_copied first.entry)) (record_of r.now)) }
+{
+    match first {
+        None => Ok(()),
+        Some(first) => {
+            if same_fields(r.fields.as_slice(), first.fields.as_slice()) {
+                return Ok(());
+            }
+            let name = copy_of_name(alloc, &r.tag)?;
+            add(
+                troubles,
+                Trouble {
+                    name,
+                    place: r.place,
+                    first: first.place,
+                },
+            )
+        }
+    }
+}
+
+/// The troubles with the tags of some records, in their order.
+pub fn tag_troubles(alloc: Global, tags: &KeyTable, all: &[Record]) -> Result<List<Trouble>, NoMemory>
+    ensures { IfOk result (λ troubles. map trouble_of troubles ≡ clashes tags.now [] (records_of all.now)) }
+{
+    let mut troubles = List::new(alloc);
+    let mut firsts: Vec<&Record> = Vec::new(alloc);
+    for r in all {
+        let number = number_of(alloc, tags, &r.tag)?;
+        add_clash(alloc, &mut troubles, firsts.get(number as usize).copied(), r)?;
+        put(&mut firsts, number, false, r)?;
+    }
+    Ok(troubles)
+}
