@@ -1,6 +1,6 @@
 -- The troubles that are found record after record are those with tags.
 use Rattle.std.proofs.Common.{◌≡◌, Bor, ℕ, ◌+◌, ◌⊎◌, inl, inr, Bool, true, false, ◌&&◌, List, [], ◌∷◌, ◌++◌, Option, Some, None, fold, map, flat_map, refl, sym, ap, ◌∙◌, subst, append_assoc, get_or, length}
-use Rattle.std.specs.Prelude.{if◌then◌else◌, is_some, nat_lt, slice_get, IfSome}
+use Rattle.std.specs.Prelude.{if◌then◌else◌, is_some, nat_lt, slice_get, IfSome, MatchOption}
 use Rattle.std.specs.Option.{option_copied, option_map}
 use Rattle.std.specs.Str.{bytes_eq}
 use Rattle.std.proofs.lemmas.Bool.{and_parts, ltb-false, ltb-true}
@@ -18,10 +18,12 @@ use Rattle.numbering.proofs.Laws.{all_after, all_new}
 use Rattle.numbering.specs.Keys.{new_keys, position, with_key}
 use Rattle.c_link.specs.Clashes.{clash, clashes, same_fields, trouble_of}
 use Rattle.c_link.specs.declared.troubles.Trouble as troubles
-use Rattle.c_link.specs.Gaps.{HaveSameMembers, IsIn, IsTagClash, Trouble}
+use Rattle.c_link.specs.Earliest.{earliest, earliest_of}
+use Rattle.c_link.specs.Gaps.{HasNone, HaveSameMembers, IsEarliest, IsIn, IsTagClash, Trouble}
 use Rattle.c_link.specs.Joining.{all_records_in, all_tags, complete_tags, if_any, with_tag}
 use Rattle.c_link.specs.Placing.{place, placed, put, replaces_one}
 use Rattle.c_link.specs.Views.{tagged}
+use Rattle.c_link.proofs.Earliest.{earliest_is}
 use Rattle.c_link.proofs.Pairs.{placed_append}
 use Rattle.c_link.proofs.Placed.{put_mapped}
 use Rattle.c_link.proofs.UnderKeys.{found_at}
@@ -220,3 +222,21 @@ pub looked_up : {X : Type 0} (o : Option (Bor X)) (xs : List X) (n : ℕ) → is
     → option_copied o ≡ slice_get xs n
 looked_up None xs n h k = sym (slice_get_past xs n (ltb-false n (length xs) (sym h)))
 looked_up (Some x) xs n h k = ap Some k ∙ sym (slice_get-get_or xs n x.now (ltb-true n (length xs) (sym h)))
+
+-- ---- the earliest
+
+pub clash_or_none : (units : List UnitData) (o : Option troubles.Trouble) → option_map trouble_of o ≡ earliest_of (clashes (all_tags units) [] (all_records_in units))
+    → MatchOption o (HasNone (IsTagClash units)) (λ t. IsEarliest (IsTagClash units) (trouble_of t))
+clash_or_none units o h = go (clashes (all_tags units) [] (all_records_in units)) (clash_is_in units) (in_is_clash units) o h
+  where
+    go : (all : List Trouble) → ((t : Trouble) → IsTagClash units t → IsIn t all) → ((t : Trouble) → IsIn t all → IsTagClash units t)
+        → (o : Option troubles.Trouble) → option_map trouble_of o ≡ earliest_of all
+        → MatchOption o (HasNone (IsTagClash units)) (λ t. IsEarliest (IsTagClash units) (trouble_of t))
+    go [] f g None e = f
+    go [] f g (Some t) e = absurd (let k : Some (trouble_of t) ≡ None = e in cc)
+    go (t ∷ more) f g None e = absurd (let k : None ≡ Some (earliest t more) = e in cc)
+    go (t ∷ more) f g (Some u) e =
+        let is : trouble_of u ≡ earliest t more = let k : Some (trouble_of u) ≡ Some (earliest t more) = e in cc in
+        let first = earliest_is t more in
+        subst (IsEarliest (IsTagClash units)) (sym is)
+            (record { here = g (earliest t more) first.here; earliest = λ other w. first.earliest other (f other w) })

@@ -1,14 +1,17 @@
 //! Structures of one tag whose members differ (C99 6.2.7).
 
-ghost use Rattle.std.specs.Prelude.{◌≡◌, ◌++◌, [], IfOk, OnOk, map};
+ghost use Rattle.std.specs.Prelude.{◌≡◌, ◌++◌, [], IfOk, MatchOption, OnOk, map};
 ghost use Rattle.c_link.specs.Clashes.{clash, clashes, same_field, same_fields, trouble_of};
+ghost use Rattle.c_link.specs.Gaps.{HasNone, IsEarliest, IsTagClash};
+ghost use Rattle.c_typed.specs.Programs.{unit_data};
 ghost use Rattle.c_types.specs.Views.{field_of, record_of, records_of};
 ghost use Rattle.std.specs.Option.{option_copied, option_map};
 
 use crate::placing::put;
-use crate::records::copy_of_name;
-use crate::tags::number_of;
-use crate::troubles::Trouble;
+use crate::records::{all_records, copy_of_name};
+use crate::tags::{all_tags, number_of};
+use crate::troubles::{Trouble, earliest};
+use c_typed::Unit;
 use c_types::{Field, Record, same};
 use lay_base::{List, NoMemory, add};
 use numbering::KeyTable;
@@ -57,7 +60,7 @@ fn add_clash(alloc: Global, troubles: &mut List<Trouble>, first: Option<&Record>
 }
 
 /// The troubles with the tags of some records, in their order.
-pub fn tag_troubles(alloc: Global, tags: &KeyTable, all: &[Record]) -> Result<List<Trouble>, NoMemory>
+fn tag_troubles(alloc: Global, tags: &KeyTable, all: &[Record]) -> Result<List<Trouble>, NoMemory>
     ensures { IfOk result (λ troubles. map trouble_of troubles ≡ clashes tags.now [] (records_of all.now)) }
 {
     let mut troubles = List::new(alloc);
@@ -68,4 +71,14 @@ pub fn tag_troubles(alloc: Global, tags: &KeyTable, all: &[Record]) -> Result<Li
         put(&mut firsts, number, false, r)?;
     }
     Ok(troubles)
+}
+
+/// The earliest trouble with a tag among the units, if there is one.
+pub fn tag_clash(alloc: Global, units: &[Unit]) -> Result<Option<Trouble>, NoMemory>
+    ensures { IfOk result (λ found. MatchOption found (HasNone (IsTagClash (map unit_data units.now))) (λ t. IsEarliest (IsTagClash (map unit_data units.now)) (trouble_of t))) }
+{
+    let tags = all_tags(alloc, units)?;
+    let all = all_records(alloc, &tags, units)?;
+    let troubles = tag_troubles(alloc, &tags, all.as_slice())?;
+    Ok(earliest(troubles))
 }

@@ -17,5 +17,7 @@ mod troubles;
 mod types;
 mod whole_program;
 
+pub use clashes::tag_clash;
 pub use program::join;
+pub use troubles::Trouble;
 pub use whole_program::{fields_past, has_main, nodes_past};
