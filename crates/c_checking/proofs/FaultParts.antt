@@ -78,7 +78,8 @@ module _ (untagged : ℕ → List ℕ) where
       → Broken.IsValue a (moved s g) x.0
   value_stands {s} {a} {x} v g p = value_is a (moved s g) x.0 (v.found.holds g p)
 
-  worthless : (s : Scope) (a : Trees.Expression) (r : Checked Thing) → Read s a r → (y : Thing × FileScope) → r ≡ Ok y → (f : Fault)
+  -- what is found has no value
+  pub worthless : (s : Scope) (a : Trees.Expression) (r : Checked Thing) → Read s a r → (y : Thing × FileScope) → r ≡ Ok y → (f : Fault)
       → worth (first a) y.0 ≡ Err f → Results.Broken s (λ s. HasNoValue a s f)
   worthless s a r part y e f h =
       let v = part.sound y e in

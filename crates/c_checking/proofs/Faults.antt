@@ -23,7 +23,7 @@ use Rattle.c_erasure.specs.Noted.{Noted, Expression, Thing, type_of}
 use Rattle.c_erasure.specs.Scopes.{FileScope, Scope, Tag, inside, measured, for_value, named, ended}
 use Rattle.c_erasure.specs.Specifiers.{types_among, storage_of, is_word}
 use Rattle.c_checking.specs.Answers.{Answer, ◌>>=◌, Checked, with_file, moved}
-use Rattle.c_checking.specs.Nodes.{named_in, signature_in, argument_in, call_in, target_in, measured_in, sized_type, cast_in}
+use Rattle.c_checking.specs.Nodes.{worth, named_in, signature_in, argument_in, call_in, target_in, measured_in, sized_type, cast_in}
 use Rattle.c_checking.specs.Declaring.{with_mention, mentions_in, Derivation, derived, length_value, object_at, base_kind, without_storage, parameter_storage, scalar_parameter}
 use Rattle.c_checking.specs.Declaring.{enumerator_in, type_named, definable, known_tag, completed_in, int_value, next_value, enumeration_of, new_if_named}
 use Rattle.c_checking.specs.Finding.{complete, value_at, tested_at, constant_at, base_type, type_of_derived, find, arguments, type_name, one_of, specified, members}
@@ -47,7 +47,7 @@ use Rattle.c_checking.proofs.FaultDeclaring.{orderly_stays, storage_fault, param
 use Rattle.c_checking.proofs.FaultPremises.{Prepared, inside_prepared, records_grow, left, right, known_after, IsTimely, AreTimely, IsTypeTimely, AreSpecifiersTimely, IsSpecifierTimely, AreMembersTimely}
 use Rattle.c_checking.proofs.FaultPremises.{AreDeclaratorsTimely, AreEnumeratorsTimely, IsValueTimely, IsDeclaratorTimely, IsLengthTimely, IsListTimely, AreParametersTimely}
 use Rattle.c_checking.proofs.FaultSteps.{ReadSteps, read_steps, asked}
-use Rattle.c_checking.proofs.FaultParts.{literal_stops, Read, FoundPart, thing_stands, value_stands, value_part, constant_stops, StopsAtConstant, index_stops, dot_stops}
+use Rattle.c_checking.proofs.FaultParts.{literal_stops, Read, FoundPart, thing_stands, value_stands, worthless, value_part, constant_stops, StopsAtConstant, index_stops, dot_stops}
 use Rattle.c_checking.proofs.FaultParts.{arrow_stops, post_stops, pre_stops, unary_stops, sizeof_stops, binary_stops, comma_stops, tested_part, choice_stops, assign_stops}
 use Rattle.c_checking.proofs.FaultTypes.{within_broken, base_stops, shape_stops, struct_named_stops, enum_named_stops, struct_body_stops, enumerator_stops, prepared_inside}
 use Rattle.c_checking.proofs.FaultTypes.{parameter_prepared, parameter_file, behind_broken}
@@ -68,7 +68,8 @@ new_stops s x g r k f P h p q o =
     o n.0 z.0 w.0 (subst (λ g. k (z.0, g) ≡ Err f) (sym w.1) h))
 
 module _ (untagged : ℕ → List ℕ) (ends : List ℕ) where
-  reading : (a : Trees.Expression) (s : Scope) → IsInRange a → Prepared untagged ends s (marks untagged a)
+  -- what the theorems say of a part, as the lemmas of its alternatives ask it
+  pub reading : (a : Trees.Expression) (s : Scope) → IsInRange a → Prepared untagged ends s (marks untagged a)
       → ((f : Fault) → find a s ≡ Err f → Broken s (λ s. IsBroken a s f)) → Read untagged s a (find a s)
   reading a s i p names = record {
     steady = p.steady;
@@ -79,7 +80,7 @@ module _ (untagged : ℕ → List ℕ) (ends : List ℕ) where
 
   -- ---- arguments
 
-  abbrev Stop : Trees.Arguments → ℕ → CTypes → Fault → Scope → Type 0
+  abbrev pub Stop : Trees.Arguments → ℕ → CTypes → Fault → Scope → Type 0
   Stop all right types f s = IsBrokenIn all s f ⊎ AreUnfitArguments all s right types f
 
   arguments_broken : (s : Scope) (g : Trees.Expression) (from : ℕ) (all : Trees.Arguments) (to : ℕ) (th : Thing) (types : CTypes) → IsThing g s th
@@ -122,7 +123,7 @@ module _ (untagged : ℕ → List ℕ) (ends : List ℕ) where
 
   -- ---- enumerators
 
-  abbrev StopsAtValue : Trees.EnumeratorValue → (at next : ℕ) → Fault → Scope → Type 0
+  abbrev pub StopsAtValue : Trees.EnumeratorValue → (at next : ℕ) → Fault → Scope → Type 0
   StopsAtValue value at next f s = IsBrokenValue value s f ⊎ ((f ≡ ill_typed R.Constant at) × (value ≡ Trees.no_value) × (next ≡ 2 ^ 31))
 
   value_broken : (s : Scope) (equal : ℕ) (a : Trees.Expression) (f : Fault) → StopsAtConstant untagged a f s → IsBrokenValue (Trees.valued equal a) s f
@@ -610,7 +611,7 @@ module _ (untagged : ℕ → List ℕ) (ends : List ℕ) where
         record { file = b.file; extends = further v.grew.extends b.extends; is = inr b.is })
         (λ types k h. cc))
 
-    faults_list : (all : Trees.ParameterList) (s : Scope) (n : ℕ) → s.is_inside ≡ true → IsListInRange all → Prepared untagged ends s []
+    pub faults_list : (all : Trees.ParameterList) (s : Scope) (n : ℕ) → s.is_inside ≡ true → IsListInRange all → Prepared untagged ends s []
         → n ≤ length s.file.records → IsListTimely untagged ends n all → (f : Fault) → parameter_list all s ≡ Err f → Broken s (λ s. AreBrokenParameters all s f)
     faults_list (Trees.void_alone at) s n i r p l t f h = cc
     faults_list (Trees.listed all) s n i r p l t f h =
@@ -684,3 +685,19 @@ module _ (untagged : ℕ → List ℕ) (ends : List ℕ) where
         inr (inr (inr (inr (inr (made.base, made.shape, z.0, z.1,
         inr (subst (λ t. IsBrokenAmong more (with_parameter_if_named (moved s g) name t) f) made.ty_is h))))))))
         (λ rest e h. cc)))))
+
+  -- where a value is asked for
+  pub value_faults : (a : Trees.Expression) (s : Scope) (n : ℕ) → IsInRange a → Prepared untagged ends s (marks untagged a) → n ≤ length s.file.records
+      → IsTimely untagged ends s.is_inside n a → (f : Fault) → value_at (first a) (find a s) ≡ Err f
+      → Broken s (λ s. IsBroken a s f) ⊎ Broken s (λ s. HasNoValue a s f)
+  value_faults a s n i p l t f h =
+      let part = reading a s i p (λ f k. faults a s n i p l t f k) in
+      bound_err (find a s) _ f (Broken s (λ s. IsBroken a s f) ⊎ Broken s (λ s. HasNoValue a s f)) h (λ e. inl (part.names f e))
+      (λ y e h. inr (worthless untagged s a (find a s) part y e f (with_file_err y.1 (worth (first a) y.0) f h)))
+
+  -- and where a constant is
+  pub constant_faults : (a : Trees.Expression) (s : Scope) (n : ℕ) → IsInRange a → Prepared untagged ends s (marks untagged a) → n ≤ length s.file.records
+      → IsTimely untagged ends s.is_inside n a → (f : Fault) → constant_at (first a) (value_at (first a) (find a (for_value s))) ≡ Err f
+      → Broken s (StopsAtConstant untagged a f)
+  constant_faults a s n i p l t f h =
+      constant_stops untagged s a (find a (for_value s)) (reading a (for_value s) i p (λ f k. faults a (for_value s) n i p l t f k)) f h
