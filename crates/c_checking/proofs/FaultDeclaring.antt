@@ -1,42 +1,41 @@
 -- What the faults of declarations say: constants, tags, structures, enumerators, steps of declarators and specifiers (C99 6.6, 6.7).
-use Rattle.std.proofs.Common.{add-one, ◌≡◌, ◌≢◌, ℕ, zero, suc, ◌+◌, ◌≤◌, ◌<◌, Bool, true, false, refl, sym, ap, ◌∙◌, subst, cond, List, [], ◌∷◌, ◌++◌, length}
+use Rattle.std.proofs.Common.{◌≡◌, ◌≢◌, ℕ, zero, suc, ◌+◌, ◌≤◌, ◌<◌, Bool, true, false, refl, sym, ap, ◌∙◌, subst, cond, List, [], ◌∷◌, ◌++◌, length}
 use Rattle.std.proofs.Common.{append_assoc, arith, inl, inr}
 use Rattle.std.proofs.lemmas.Bool.{eqb-true, eq-eqb, lt-ltb}
 use Rattle.std.proofs.lemmas.Bool.Decides.{nat_tests}
 use Rattle.std.proofs.lemmas.Slice.Eq.{bytes_eq-Decides}
-use Rattle.std.specs.Prelude.{Option, Some, None, Ok, Err, ◌⊎◌, ◌&&◌, nat_lt, nat_le, ◌==◌, ◌^◌, slice_get, ℤ, pos, negsuc}
+use Rattle.std.specs.Prelude.{Option, Some, None, Err, ◌⊎◌, ◌&&◌, nat_lt, nat_le, ◌==◌, ◌^◌, slice_get, ℤ, pos, negsuc}
 use Rattle.std.specs.Str.{bytes_eq}
 use Rattle.lay_base.specs.declared.faults.Rule.{Rule}
 use Rattle.lay_base.specs.declared.faults.Rule.TheVariants as R
 use Rattle.c_types.specs.declared.ty.IntKind.{IntKind}
-use Rattle.c_types.specs.declared.ty.IntKind.TheVariants.{Int}
-use Rattle.c_types.specs.Types.{CType, CTypes, void, integer, pointer, array, function, structure, Record}
+use Rattle.c_types.specs.Types.{CType, void, integer, pointer, array, function, structure, Record}
 use Rattle.c_types.specs.Layouts.{size_of, size_of_record}
 use Rattle.c_types.specs.Objects.{is_object, parts}
 use Rattle.c_ast.specs.declared.words.Spelling.{Spelling}
 use Rattle.c_ast.specs.Trees
-use Rattle.c_typed.specs.Conversions.{is_integer, is_scalar, number_of}
+use Rattle.c_typed.specs.Conversions.{is_integer, number_of}
 use Rattle.c_typed.specs.Constants.{Constant, none, undefined, valued, constant_of}
 use Rattle.c_erasure.specs.Broken.{Fault, ill_typed, undeclared, redeclared, too_big, IsOtherTag, IsTagElsewhere, IsRepeated, IsNoLength, IsNoInt, IsTooBig, IsNoResult}
 use Rattle.c_erasure.specs.Broken.{IsNoParameter, AreNoType, IsOldName}
-use Rattle.c_erasure.specs.Declarators.{Shape, closed, open_array, IsSmall}
-use Rattle.c_erasure.specs.Erasure.{typed, IsInt}
-use Rattle.c_erasure.specs.Noted.{Expression, Thing, type_of}
+use Rattle.c_erasure.specs.Declarators.{Shape, closed, open_array}
+use Rattle.c_erasure.specs.Erasure.{typed}
+use Rattle.c_erasure.specs.Noted.{Expression, type_of}
 use Rattle.c_erasure.specs.Scopes.{Bound, FileScope, Scope, Tag, Entity, typedef, enumerator, a_local, a_parameter, tag_at, here, or_else}
 use Rattle.c_erasure.specs.Scopes as Scopes
 use Rattle.c_erasure.specs.Specifiers.{Words, Storage, no_storage, is_register, a_typedef, is_extern, is_static, is_auto, several, types_among, words_of, no_words, same_words, named_by}
-use Rattle.c_checking.specs.Answers.{Answer, ◌>>=◌, Checked, with_file}
+use Rattle.c_checking.specs.Answers.{Answer, Checked}
 use Rattle.c_checking.specs.Declaring.{constant_of_type, constant_in, tag_named, place_of_tag, next, number_among, structure_of, other_tag, tagged, tagged_in, enumerated}
 use Rattle.c_checking.specs.Declaring.{enumerated_in, type_named, standing, repeated_or, repeated, unless, definable, known_tag, place_of_record, record_if_any, completed_before}
-use Rattle.c_checking.specs.Declaring.{is_next, complete_with, completed_in, declared_among, new_name, enumerator_in, is_int, int_value, next_value, only_tag, enumeration_of}
-use Rattle.c_checking.specs.Declaring.{is_small, small, element, is_result, result_type, length_of_number, length_value, closed_at, object_at, Base, by_words, by_one, no_type}
+use Rattle.c_checking.specs.Declaring.{is_next, completed_in, declared_among, new_name, enumerator_in, is_int, int_value, next_value, only_tag, enumeration_of}
+use Rattle.c_checking.specs.Declaring.{is_small, small, element, is_result, result_type, length_of_number, length_value, closed_at, object_at, by_one, no_type}
 use Rattle.c_checking.specs.Declaring.{base_of_words, base_among, base_kind, without_storage, parameter_storage, new_here, new_if_named, scalar_parameter}
 use Rattle.c_checking.specs.Finding.{base_type}
 use Rattle.c_checking.proofs.Extends.{Extends, kept, behind}
 use Rattle.c_checking.proofs.Agreement.{IsSteady}
 use Rattle.c_checking.proofs.Declared.{number_is}
 use Rattle.c_checking.proofs.NodesOfParts.{same_bytes}
-use Rattle.c_checking.proofs.FaultResults.{bad, same_fault, bound_err, chosen_err, unless_err}
+use Rattle.c_checking.proofs.FaultResults.{bad, same_fault, chosen_err, unless_err}
 use Rattle.c_checking.proofs.FaultNodes.{over, incomplete}
 
 -- ---- integer constant expressions (6.6)

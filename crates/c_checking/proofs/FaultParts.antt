@@ -1,12 +1,9 @@
 -- Where finding stops in an expression, a rule is broken: one lemma for each alternative of the grammar.
 use Rattle.std.proofs.Common.{◌≡◌, ◌≢◌, ℕ, ◌≤◌, true, false, refl, sym, ap, subst, List, length, inl, inr}
 use Rattle.std.specs.Prelude.{Option, Some, None, Ok, Err, ◌⊎◌, map, slice_get}
-use Rattle.lay_base.specs.declared.faults.Rule.{Rule}
 use Rattle.lay_base.specs.declared.faults.Rule.TheVariants as R
 use Rattle.lay_base.specs.declared.place.Place.{Place}
-use Rattle.c_types.specs.declared.ty.IntKind.{IntKind}
-use Rattle.c_types.specs.Types.{CType, CTypes, function}
-use Rattle.c_types.specs.Objects.{is_object}
+use Rattle.c_types.specs.Types.{CType}
 use Rattle.c_ast.specs.declared.words.Spelling.{Spelling}
 use Rattle.c_ast.specs.declared.operators.UnaryOp.{UnaryOp}
 use Rattle.c_ast.specs.declared.operators.UnaryOp.TheVariants as U
@@ -17,31 +14,30 @@ use Rattle.c_ast.specs.Trees
 use Rattle.c_ast.specs.Places.{first}
 use Rattle.c_typed.specs.declared.operators.UnaryOp.TheVariants as TU
 use Rattle.c_typed.specs.declared.operators.BinaryOp as TypedBinary
-use Rattle.c_typed.specs.Trees as Typed
 use Rattle.c_typed.specs.Conversions.{is_record}
 use Rattle.c_typed.specs.Rules.{is_stepped}
 use Rattle.c_erasure.specs.Broken.{Fault, ill_typed, IsThing, HasNoValue, IsSound, IsBroken, IsBrokenUnary, IsBrokenAssignment, IsNoConstant, IsFunctionType}
 use Rattle.c_erasure.specs.Broken as Broken
 use Rattle.c_erasure.specs.Erasure.{place_in, Erases}
-use Rattle.c_erasure.specs.Noted.{Noted, Expression, Path, Thing, an_object, type_of, type_of_path}
+use Rattle.c_erasure.specs.Noted.{Expression, Path, Thing, an_object, type_of_path}
 use Rattle.c_erasure.specs.Operators.{kind_of, update_of, step_of}
 use Rattle.c_erasure.specs.Scopes.{FileScope, Scope, ended, measured, for_value, Purpose, in_full, value_alone, type_alone}
 use Rattle.c_checking.specs.Answers.{Answer, ◌>>=◌, Checked, with_file, moved}
 use Rattle.c_checking.specs.Nodes.{worth, array_of, element_in, index_in, dot_in, arrow_in, step_in, address_in, deref_in, unary_in, not_in, measured_in, binary_in, tested}
 use Rattle.c_checking.specs.Nodes.{chosen_in, Target, scalar_at, record_at, path_of, target_in, assigned_in, copied_in, updated_in, comma_in}
-use Rattle.c_checking.specs.Declaring.{constant_in, literal_in, literal_for, with_mention, mentions_in}
+use Rattle.c_checking.specs.Declaring.{constant_in, literal_in, literal_for}
 use Rattle.c_checking.specs.Finding.{complete, value_at, tested_at, on_value, unary_on, constant_at, subscripted, assigned}
 use Rattle.c_checking.proofs.Results.{bound_ok, with_file_ok}
 use Rattle.c_checking.proofs.Extends.{Extends, itself, further, constants_stay}
 use Rattle.c_checking.proofs.Agreement.{IsObjectType, IsSteady}
 use Rattle.c_checking.proofs.Values as Values
 use Rattle.c_checking.proofs.Values.{Stands, unconverted_same, worth_made}
-use Rattle.c_checking.proofs.NodesOfTwo.{target_made, target_type, IsTarget, tested_is}
+use Rattle.c_checking.proofs.NodesOfTwo.{target_made, target_type, IsTarget}
 use Rattle.c_checking.proofs.Found.{Found, FoundValue, valued, tested_found}
 use Rattle.c_checking.proofs.FaultResults as Results
 use Rattle.c_checking.proofs.FaultResults.{bound_err, with_file_err, beside_err, here, there, whole, later}
 use Rattle.c_checking.proofs.FaultNodes.{worth_fault, element_fault, array_is, index_fault, dot_fault, arrow_fault, step_fault, address_fault, deref_fault, unary_fault}
-use Rattle.c_checking.proofs.FaultNodes.{not_fault, measured_fault, binary_fault, tested_fault, chosen_fault, target_fault, assigned_fault, copied_fault, updated_fault, comma_fault}
+use Rattle.c_checking.proofs.FaultNodes.{not_fault, measured_fault, binary_fault, tested_fault, chosen_fault, assigned_fault, copied_fault, updated_fault, comma_fault}
 use Rattle.c_checking.proofs.FaultDeclaring.{constant_fault}
 use Rattle.c_checking.proofs.FaultPremises.{thing_proper}
 
@@ -380,8 +376,11 @@ module _ (untagged : ℕ → List ℕ) where
       let n = chosen_fault colon (place_in s (first a)) x.0 y.0 z.0 f (with_file_err z.1 (chosen_in colon (place_in s (first a)) x.0 y.0 z.0) f h) in
       let p = u.found.grew.extends in
       there s (λ s. IsBroken (Trees.cond a question b colon c) s f) z.1 (further q p)
-      (inr (inr (inr (inr (inr (n.0, v.stands z.1 (further w.found.grew.extends p),
-      (y.0, z.0, value_stands w z.1 p, value_stands u z.1 (itself z.1), n.1))))))))
+      (inr (inr (inr (inr (inr (
+        n.0,
+        v.stands z.1 (further w.found.grew.extends p),
+        (y.0, z.0, value_stands w z.1 p, value_stands u z.1 (itself z.1), n.1),
+      )))))))
 
   pub assign_stops : (s : Scope) (a : Trees.Expression) (op : AssignOp) (at : ℕ) (b : Trees.Expression) (y : Thing × FileScope) → Found untagged s a y
       → (t : Target) → target_in (first a) y.0 ≡ Ok t → (right : FileScope → Checked Thing) → Read (moved s y.1) b (right y.1) → (f : Fault)

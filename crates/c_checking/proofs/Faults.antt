@@ -1,8 +1,8 @@
 -- Each fault at which finding stops is one: in a file that goes on from the one at which it starts, the rule that the fault names is broken.
 use Rattle.std.proofs.Common.{◌≡◌, ℕ, ◌+◌, ◌≤◌, ◌<◌, Bool, true, false, refl, sym, ◌∙◌, subst, List, [], ◌∷◌, ◌++◌, length, inl, inr, arith}
-use Rattle.std.specs.Prelude.{◌^◌, ◌%◌, ◌⊎◌, Option, Some, None, Ok, Err, slice_get}
+use Rattle.std.specs.Prelude.{◌^◌, ◌%◌, ◌⊎◌, Option, Some, Ok, Err, slice_get}
 use Rattle.lay_base.specs.declared.faults.Rule.TheVariants as R
-use Rattle.c_types.specs.Types.{CType, CTypes, no_types, and_type, function, Field}
+use Rattle.c_types.specs.Types.{CType, CTypes, no_types, and_type, function}
 use Rattle.c_types.specs.Objects.{is_object}
 use Rattle.c_types.specs.Layouts.{size_of}
 use Rattle.c_ast.specs.declared.words.Spelling.{Spelling}
@@ -10,34 +10,34 @@ use Rattle.c_ast.specs.Trees
 use Rattle.c_ast.specs.Places.{first, first_specifiers, first_declarator}
 use Rattle.c_typed.specs.declared.program.MentionKind.TheVariants.{Named}
 use Rattle.c_typed.specs.Trees as Typed
-use Rattle.c_erasure.specs.Broken.{Fault, ill_typed, undeclared, redeclared, too_big, IsThing, HasNoValue, IsSound, HasLengths, IsBroken, IsBrokenIn, IsBrokenTypeName}
+use Rattle.c_erasure.specs.Broken.{Fault, ill_typed, too_big, IsThing, HasNoValue, IsSound, IsBroken, IsBrokenIn, IsBrokenTypeName}
 use Rattle.c_erasure.specs.Broken.{AreBroken, IsBrokenSpecifier, AreBrokenEnumerators, IsBrokenValue, AreBrokenMembers, AreBrokenFields, IsBrokenDeclarator, IsBrokenWithin}
 use Rattle.c_erasure.specs.Broken.{IsBrokenLength, AreBrokenParameters, IsBrokenAmong, AreUnfitArguments, IsFunctionType, IsOldName, called_type}
-use Rattle.c_erasure.specs.Declarators.{declared_name, parameter_type, Shape, closed, open_array}
-use Rattle.c_erasure.specs.Erasure.{place_in, literal_of, tag_text, comma_or, after_all, IsBase, IsOne, Declares, IsTypeName, AreMembers, with_parameter_if_named}
+use Rattle.c_erasure.specs.Declarators.{declared_name, parameter_type, closed, open_array}
+use Rattle.c_erasure.specs.Erasure.{place_in, literal_of, comma_or, after_all, IsBase, IsOne, Declares, IsTypeName, with_parameter_if_named}
 use Rattle.c_erasure.specs.Erasure.{IsNew}
 use Rattle.c_erasure.specs.Marks as Marks
 use Rattle.c_erasure.specs.Marks.{Mark, a_tag, a_name, an_end, marks, marks_of_all, marks_of_type, marks_of_specifiers, marks_of_specifier, marks_of_members}
 use Rattle.c_erasure.specs.Marks.{marks_of_member_declarators, marks_of_enumerators, marks_of_value, marks_of_declarator, an_enumeration}
-use Rattle.c_erasure.specs.Noted.{Noted, Expression, Thing, type_of}
+use Rattle.c_erasure.specs.Noted.{Noted, Thing}
 use Rattle.c_erasure.specs.Scopes.{FileScope, Scope, Tag, inside, measured, for_value, named, ended}
 use Rattle.c_erasure.specs.Specifiers.{types_among, storage_of, is_word}
-use Rattle.c_checking.specs.Answers.{Answer, ◌>>=◌, Checked, with_file, moved}
+use Rattle.c_checking.specs.Answers.{Answer, ◌>>=◌, with_file, moved}
 use Rattle.c_checking.specs.Nodes.{worth, named_in, signature_in, argument_in, call_in, target_in, measured_in, sized_type, cast_in}
-use Rattle.c_checking.specs.Declaring.{with_mention, mentions_in, Derivation, derived, length_value, object_at, base_kind, without_storage, parameter_storage, scalar_parameter}
-use Rattle.c_checking.specs.Declaring.{enumerator_in, type_named, definable, known_tag, completed_in, int_value, next_value, enumeration_of, new_if_named}
-use Rattle.c_checking.specs.Finding.{complete, value_at, tested_at, constant_at, base_type, type_of_derived, find, arguments, type_name, one_of, specified, members}
+use Rattle.c_checking.specs.Declaring.{with_mention, mentions_in, derived, length_value, object_at, base_kind, without_storage, parameter_storage, scalar_parameter}
+use Rattle.c_checking.specs.Declaring.{enumerator_in, type_named, definable, known_tag, int_value, next_value, enumeration_of, new_if_named}
+use Rattle.c_checking.specs.Finding.{complete, value_at, constant_at, base_type, type_of_derived, find, arguments, type_name, one_of, specified, members}
 use Rattle.c_checking.specs.Finding.{with_member, member_declarators, enumerators, enumerator_value, derivations, array_step, parameter_list, parameters}
 use Rattle.c_checking.proofs.InRange.{IsInRange, AreInRange, IsTypeInRange, AreSpecifiersInRange, IsSpecifierInRange, AreMembersInRange, AreDeclaratorsInRange}
 use Rattle.c_checking.proofs.InRange.{AreEnumeratorsInRange, IsValueInRange, IsDeclaratorInRange, IsListInRange, AreParametersInRange}
 use Rattle.c_checking.proofs.Extends.{Extends, itself, further, at_end, bound_stays, constants_stay}
-use Rattle.c_checking.proofs.Agreement.{added, none_grown, then, Grew}
+use Rattle.c_checking.proofs.Agreement.{added, none_grown, then}
 use Rattle.c_checking.proofs.Declared.{mentioned, before_mention, no_storage_is, parameter_storage_is, enumerator_is, new_is}
 use Rattle.c_checking.proofs.Results.{with_file_ok}
 use Rattle.c_checking.proofs.NodesOfParts.{signature_is}
 use Rattle.c_checking.proofs.Derived.{type_derived, object_is}
-use Rattle.c_checking.proofs.Found.{Found, FoundType, valued}
-use Rattle.c_checking.proofs.FoundTypes.{FoundBase, base_found, struct_ready, bound_of, enumerator_grown, after_mark}
+use Rattle.c_checking.proofs.Found.{valued}
+use Rattle.c_checking.proofs.FoundTypes.{base_found, bound_of, enumerator_grown}
 use Rattle.c_checking.proofs.FoundDeclarators.{ready_in, parameter_inside, behind_parameter, parameter_made}
 use Rattle.c_checking.proofs.Sound.{sound, sound_type, sound_one, sound_members, sound_declarators, sound_value, sound_steps, sound_enumerators, constant_part}
 use Rattle.c_checking.proofs.FaultResults.{Broken, same_fault, bound_err, with_file_err, beside_err, chosen_err, here, there, whole, later}
@@ -45,9 +45,9 @@ use Rattle.c_checking.proofs.FaultNodes.{named_fault, signature_fault, argument_
 use Rattle.c_checking.proofs.FaultDeclaring.{type_named_fault, unless_fault, definable_fault, enumeration_fault, int_fault, next_fault, length_fault, object_fault}
 use Rattle.c_checking.proofs.FaultDeclaring.{orderly_stays, storage_fault, parameter_storage_fault, new_fault, scalar_fault}
 use Rattle.c_checking.proofs.FaultPremises.{Prepared, inside_prepared, records_grow, left, right, known_after, IsTimely, AreTimely, IsTypeTimely, AreSpecifiersTimely, IsSpecifierTimely, AreMembersTimely}
-use Rattle.c_checking.proofs.FaultPremises.{AreDeclaratorsTimely, AreEnumeratorsTimely, IsValueTimely, IsDeclaratorTimely, IsLengthTimely, IsListTimely, AreParametersTimely}
-use Rattle.c_checking.proofs.FaultSteps.{ReadSteps, read_steps, asked}
-use Rattle.c_checking.proofs.FaultParts.{literal_stops, Read, FoundPart, thing_stands, value_stands, worthless, value_part, constant_stops, StopsAtConstant, index_stops, dot_stops}
+use Rattle.c_checking.proofs.FaultPremises.{AreDeclaratorsTimely, AreEnumeratorsTimely, IsValueTimely, IsDeclaratorTimely, IsListTimely, AreParametersTimely}
+use Rattle.c_checking.proofs.FaultSteps.{read_steps, asked}
+use Rattle.c_checking.proofs.FaultParts.{literal_stops, Read, thing_stands, value_stands, worthless, value_part, constant_stops, StopsAtConstant, index_stops, dot_stops}
 use Rattle.c_checking.proofs.FaultParts.{arrow_stops, post_stops, pre_stops, unary_stops, sizeof_stops, binary_stops, comma_stops, tested_part, choice_stops, assign_stops}
 use Rattle.c_checking.proofs.FaultTypes.{within_broken, base_stops, shape_stops, struct_named_stops, enum_named_stops, struct_body_stops, enumerator_stops, prepared_inside}
 use Rattle.c_checking.proofs.FaultTypes.{parameter_prepared, parameter_file, behind_broken}
@@ -502,8 +502,12 @@ module _ (untagged : ℕ → List ℕ) (ends : List ℕ) where
         (λ k. later s file grown.extends (λ s. AreBrokenFields more s base semicolon f)
         (λ s. AreBrokenFields (Trees.and_member_declarator comma d more) s base semicolon f)
         (faults_declarators more base semicolon (moved s file) (n + added s.is_inside u) i.1 after (known_after n l grown) t.3 f k)
-        (λ g q h. inr (inr (inr (c, declares g (before_mention s steps.1 g m Named o at q),
-        constants_stay (further grown.extends q) (λ ends file. is_object (ended ends at) c ≡ true) is.0, h)))))
+        (λ g q h. inr (inr (inr (
+          c,
+          declares g (before_mention s steps.1 g m Named o at q),
+          constants_stay (further grown.extends q) (λ ends file. is_object (ended ends at) c ≡ true) is.0,
+          h,
+        )))))
         (λ rest k h. cc))))
 
     pub faults_enumerators : (all : Trees.Enumerators) (s : Scope) (next after n : ℕ) → s.is_inside ≡ false → next < 2 ^ 32 → AreEnumeratorsInRange all
@@ -663,8 +667,13 @@ module _ (untagged : ℕ → List ℕ) (ends : List ℕ) where
         (λ c.
         let m = scalar_fault place (parameter_type shape) f c in
         there s (λ s. IsBrokenAmong (Trees.and_parameter comma specs d more) s f) steps.1 ext
-        (inr (inr (inr (inr (inr (b.0, shape, v.holds steps.1 w.grew.extends, w.holds steps.1 j steps.1.records j.records.0 j.records.1 b.0 shape o,
-        inl (m.0, m.1, m.2))))))))
+        (inr (inr (inr (inr (inr (
+          b.0,
+          shape,
+          v.holds steps.1 w.grew.extends,
+          w.holds steps.1 j steps.1.records j.records.0 j.records.1 b.0 shape o,
+          inl (m.0, m.1, m.2),
+        )))))))
         (λ new c is h.
         let m = mentions_in b.1 in
         let made = parameter_made untagged s i specs d q.0 b v steps w shape o new c is in
@@ -682,8 +691,13 @@ module _ (untagged : ℕ → List ℕ) (ends : List ℕ) where
         (subst (λ (g : FileScope). n ≤ length g.records) (sym (parameter_file untagged ends (moved s file) name c)) many) t.2 f e))
         (λ g a h.
         let z = made.holds g (before_mention s steps.1 g m Named c place a) in
-        inr (inr (inr (inr (inr (made.base, made.shape, z.0, z.1,
-        inr (subst (λ t. IsBrokenAmong more (with_parameter_if_named (moved s g) name t) f) made.ty_is h))))))))
+        inr (inr (inr (inr (inr (
+          made.base,
+          made.shape,
+          z.0,
+          z.1,
+          inr (subst (λ t. IsBrokenAmong more (with_parameter_if_named (moved s g) name t) f) made.ty_is h),
+        )))))))
         (λ rest e h. cc)))))
 
   -- where a value is asked for
