@@ -1,5 +1,6 @@
 -- What else a file declares: mentions, literals, constants, tags, structures and enumerators.
-use Rattle.std.proofs.Common.{add-one, ◌≡◌, ◌≢◌, ℕ, zero, suc, ◌+◌, ◌≤◌, ◌<◌, Bool, true, false, refl, sym, ap, ◌∙◌, subst, cond, List, [], ◌∷◌, ◌++◌, length, take, drop, length-append, arith, inl, inr}
+use Rattle.std.proofs.Common.{add-one, ◌≡◌, ◌≢◌, ℕ, zero, suc, ◌+◌, ◌≤◌, ◌<◌, Bool, true, false, refl, sym, ap, ◌∙◌, subst, cond, List, [], ◌∷◌, ◌++◌, length}
+use Rattle.std.proofs.Common.{take, drop, length-append, arith, inl, inr}
 use Rattle.std.proofs.lemmas.Bool.{and_from, lt-ltb, ltb-true, eqb-true, eq-eqb}
 use Rattle.std.proofs.lemmas.List.Elements.{All-cons, All-nil}
 use Rattle.std.proofs.lemmas.Slice.Eq.{bytes_eq-Decides}
@@ -18,16 +19,20 @@ use Rattle.c_typed.specs.Conversions.{is_scalar, number_of}
 use Rattle.c_typed.specs.Constants.{Constant, none, undefined, valued, constant_of}
 use Rattle.c_erasure.specs.Broken.{Fault}
 use Rattle.c_erasure.specs.Declarators.{AreDifferent}
-use Rattle.c_erasure.specs.Erasure.{typed, IsTypedThing, IsConstant, IsInt, IsNew, IsStructTag, IsLiteral, IsLiteralFor, literal_of, literal_object, unmade, place_in}
+use Rattle.c_erasure.specs.Erasure.{typed, IsTypedThing, IsConstant, IsInt, IsNew, IsStructTag, IsLiteral, IsLiteralFor, literal_of, literal_object, unmade}
+use Rattle.c_erasure.specs.Erasure.{place_in}
 use Rattle.c_erasure.specs.Marks.{Mark, scope_beginnings}
 use Rattle.c_erasure.specs.Noted.{Expression, Thing, an_object, type_of, way}
-use Rattle.c_erasure.specs.Scopes.{Bound, AnObject, AMention, ALocal, FileScope, Scope, Tag, Entity, typedef, IsMentioned, IsNumbered, is_measured, tag_at, here, ended}
+use Rattle.c_erasure.specs.Scopes.{Bound, AnObject, AMention, ALocal, FileScope, Scope, Tag, Entity, typedef, IsMentioned, IsNumbered, is_measured, tag_at}
+use Rattle.c_erasure.specs.Scopes.{here, ended}
 use Rattle.c_erasure.specs.Scopes.{Purpose, in_full, value_alone, type_alone, for_value}
 use Rattle.c_erasure.specs.Specifiers.{Storage, no_storage, is_register, a_typedef, is_extern, is_static, is_auto, several}
 use Rattle.c_checking.specs.Answers.{Answer, moved}
-use Rattle.c_checking.specs.Declaring.{with_mention, with_object, literal_for, literal_in, constant_of_type, constant_in, number_among, next, structure_of, tagged, tagged_in}
+use Rattle.c_checking.specs.Declaring.{with_mention, with_object, literal_for, literal_in, constant_of_type, constant_in, number_among, next, structure_of}
+use Rattle.c_checking.specs.Declaring.{tagged, tagged_in}
 use Rattle.c_checking.specs.Declaring.{enumerated, enumerated_in, type_named, standing, repeated_or, repeated, unless, is_next, with_record, completed_in}
-use Rattle.c_checking.specs.Declaring.{with_bound, new_name, enumerator_in, declared_among, is_int, int_value, next_value, only_tag, enumeration_of, tag_named, length_of_number, length_value}
+use Rattle.c_checking.specs.Declaring.{with_bound, new_name, enumerator_in, declared_among, is_int, int_value, next_value, only_tag, enumeration_of}
+use Rattle.c_checking.specs.Declaring.{tag_named, length_of_number, length_value}
 use Rattle.c_checking.specs.Declaring.{without_storage, parameter_storage, new_here, new_if_named, scalar_parameter}
 use Rattle.c_checking.proofs.Results.{given, only_if, chosen}
 use Rattle.c_checking.proofs.Extends.{Extends, itself, further, kept, at_end, around, among, last_or}
@@ -411,7 +416,8 @@ bound_extends f b = record {
 }
 
 pub bound_grown : (f : FileScope) (b : Bound) (is_inside : Bool) (all : List Mark) → added is_inside all ≡ 0
-    → ((before : ℕ) → (is_inside ≡ false → AreBefore (scope_beginnings all) before) → b.from < before) → ((locals : List ALocal) → IsFit (with_bound f b) locals b.entity) → IsGrown f is_inside all (with_bound f b)
+    → ((before : ℕ) → (is_inside ≡ false → AreBefore (scope_beginnings all) before) → b.from < before)
+    → ((locals : List ALocal) → IsFit (with_bound f b) locals b.entity) → IsGrown f is_inside all (with_bound f b)
 bound_grown f b is_inside all e begins fit = record {
   extends = bound_extends f b;
   counted = omega (arith, e);

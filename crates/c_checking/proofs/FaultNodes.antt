@@ -29,8 +29,10 @@ use Rattle.c_erasure.specs.Noted.{object_value}
 use Rattle.c_erasure.specs.Operators.{Kind, computes, compares, all_of, any_of}
 use Rattle.c_erasure.specs.Scopes.{Scope, Entity, typedef, enumerator, a_local, a_parameter, ended}
 use Rattle.c_erasure.specs.Scopes as Scopes
-use Rattle.c_checking.specs.Nodes.{null, valued, worth, named_in, array_of, array_of_type, element_in, index_to, turned_to, index_in, signature_of, signature_in, argument_in}
-use Rattle.c_checking.specs.Nodes.{call_through, call_in, field_from, field_in, member_to, member_of_type, dot_in, arrow_to, arrow_in, step_in, address_in, pointed_to}
+use Rattle.c_checking.specs.Nodes.{null, valued, worth, named_in, array_of, array_of_type, element_in, index_to, turned_to, index_in, signature_of}
+use Rattle.c_checking.specs.Nodes.{signature_in, argument_in}
+use Rattle.c_checking.specs.Nodes.{call_through, call_in, field_from, field_in, member_to, member_of_type, dot_in, arrow_to, arrow_in, step_in, address_in}
+use Rattle.c_checking.specs.Nodes.{pointed_to}
 use Rattle.c_checking.specs.Nodes.{deref_in, unary_in, not_in, measured_type, is_complete, sized_type, measured_in, cast_in}
 use Rattle.c_checking.specs.Nodes.{on_pointers, computed_in, compared_in, tested_in, binary_in, tested, chosen_in}
 use Rattle.c_checking.specs.Nodes.{Target, target_of_type, target_in, assigned_in, copied_in, updated_in, comma_in}
@@ -326,24 +328,22 @@ sized_fault records count at t l f h =
     (λ c h. inr (same_fault CType (too_big at) f h, over (size_of records t) 16777216 c)))
     (λ b h. inl (same_fault CType (ill_typed R.Incomplete at) f h, incomplete records count t l b))
 
-pub measured_fault : (records : List Record) (count at : ℕ) (th : Thing) → count ≤ length records → (f : Fault) → measured_in records count at th ≡ Err f
-    → ((f ≡ ill_typed R.Incomplete at) × IsSizeless count th)
+abbrev Unmeasured : List Record → (count at : ℕ) → Thing → Fault → Type 0
+Unmeasured records count at th f = ((f ≡ ill_typed R.Incomplete at) × IsSizeless count th)
     ⊎ ((f ≡ too_big at) × ((t : CType) × IsOfType th t × (16777216 < size_of records t)))
+
+unmeasured : (records : List Record) (count at : ℕ) (th : Thing) (t : CType) → (is_object count t ≡ false → IsSizeless count th) → IsOfType th t → (f : Fault)
+    → ((f ≡ ill_typed R.Incomplete at) × (is_object count t ≡ false)) ⊎ ((f ≡ too_big at) × (16777216 < size_of records t)) → Unmeasured records count at th f
+unmeasured records count at th t sizeless is f (inl b) = inl (b.0, sizeless b.1)
+unmeasured records count at th t sizeless is f (inr b) = inr (b.0, (t, is, b.1))
+
+pub measured_fault : (records : List Record) (count at : ℕ) (th : Thing) → count ≤ length records → (f : Fault) → measured_in records count at th ≡ Err f
+    → Unmeasured records count at th f
 unfolding measured_in measured_type
-measured_fault records count at (an_object p) l f h = by_size (sized_fault records count at (type_of_path p) l f h)
-  where
-    by_size : ((f ≡ ill_typed R.Incomplete at) × (is_object count (type_of_path p) ≡ false)) ⊎ ((f ≡ too_big at) × (16777216 < size_of records (type_of_path p)))
-        → ((f ≡ ill_typed R.Incomplete at) × IsSizeless count (an_object p))
-        ⊎ ((f ≡ too_big at) × ((t : CType) × IsOfType (an_object p) t × (16777216 < size_of records t)))
-    by_size (inl b) = inl b
-    by_size (inr b) = inr (b.0, (type_of_path p, refl, b.1))
-measured_fault records count at (a_value e) l f h = by_size (sized_fault records count at (type_of e) l f h)
-  where
-    by_size : ((f ≡ ill_typed R.Incomplete at) × (is_object count (type_of e) ≡ false)) ⊎ ((f ≡ too_big at) × (16777216 < size_of records (type_of e)))
-        → ((f ≡ ill_typed R.Incomplete at) × IsSizeless count (a_value e))
-        ⊎ ((f ≡ too_big at) × ((t : CType) × IsOfType (a_value e) t × (16777216 < size_of records t)))
-    by_size (inl b) = inl b
-    by_size (inr b) = inr (b.0, (type_of e, refl, b.1))
+measured_fault records count at (an_object p) l f h =
+    unmeasured records count at (an_object p) (type_of_path p) (λ e. e) refl f (sized_fault records count at (type_of_path p) l f h)
+measured_fault records count at (a_value e) l f h =
+    unmeasured records count at (a_value e) (type_of e) (λ e. e) refl f (sized_fault records count at (type_of e) l f h)
 measured_fault records count at (a_function from n t) l f h = inl (same_fault CType (ill_typed R.Incomplete at) f h, tt)
 measured_fault records count at (a_function_at e) l f h = inl (same_fault CType (ill_typed R.Incomplete at) f h, tt)
 measured_fault records count at (a_library_function from which) l f h = inl (same_fault CType (ill_typed R.Incomplete at) f h, tt)

@@ -217,7 +217,8 @@ module _ (untagged : ℕ → List ℕ) (ends : List ℕ) where
 
   -- inside of functions and parameter lists nothing else is asked
   pub inside_prepared : {f : FileScope} {locals : List ALocal} {blocks : List (List Bound)} {i : Bool} → i ≡ true → (u : List Mark)
-      → IsReady f locals blocks i u → f.ends ≡ ends → f.untagged ≡ untagged → IsSteady f → IsOrderly f → ((k : ℕ) (t : CType) → slice_get (map (λ l. l.ty) locals) k ≡ Some t → IsObjectType t) → IsPrepared f locals blocks i u
+      → IsReady f locals blocks i u → f.ends ≡ ends → f.untagged ≡ untagged → IsSteady f → IsOrderly f
+      → ((k : ℕ) (t : CType) → slice_get (map (λ l. l.ty) locals) k ≡ Some t → IsObjectType t) → IsPrepared f locals blocks i u
   inside_prepared i u r e n s o l = record {
     ready = r;
     ends_are = e;

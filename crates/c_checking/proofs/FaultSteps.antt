@@ -82,7 +82,8 @@ module _ (untagged : ℕ → List ℕ) (ends : List ℕ) where
   asked s n at g e k l = let m : ended s.file.ends at ≤ n = subst (λ ends. ended ends at ≤ n) (sym e) k in omega (arith, m, l)
 
   pub read_steps : (d : Trees.Declarator) (s : Scope) (n : ℕ) → IsDeclaratorInRange d → Ready s (marks_of_declarator untagged d) → s.file.ends ≡ ends
-      → n ≤ length s.file.records → IsDeclaratorTimely untagged ends s.is_inside n d → (z : List Derivation × FileScope) → derivations d s ≡ Ok z → ReadSteps s d z
+      → n ≤ length s.file.records → IsDeclaratorTimely untagged ends s.is_inside n d → (z : List Derivation × FileScope) → derivations d s ≡ Ok z
+      → ReadSteps s d z
   unfolding derivations array_step
   read_steps Trees.nothing s n i r e l w z h =
       given (ReadSteps s Trees.nothing) ([], s.file) z h (record {

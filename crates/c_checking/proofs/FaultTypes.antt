@@ -6,7 +6,8 @@ use Rattle.c_types.specs.Types.{CType, Field, Record}
 use Rattle.c_types.specs.Layouts.{size_of_record}
 use Rattle.c_ast.specs.declared.words.Spelling.{Spelling}
 use Rattle.c_ast.specs.Trees
-use Rattle.c_erasure.specs.Broken.{Fault, ill_typed, redeclared, too_big, AreNoType, AreBroken, IsBrokenDeclarator, IsBrokenWithin, IsBrokenSpecifier, IsBrokenAmong}
+use Rattle.c_erasure.specs.Broken.{Fault, ill_typed, redeclared, too_big, AreNoType, AreBroken, IsBrokenDeclarator, IsBrokenWithin, IsBrokenSpecifier}
+use Rattle.c_erasure.specs.Broken.{IsBrokenAmong}
 use Rattle.c_erasure.specs.Broken.{IsRepeated, IsDefinedBefore, IsDeclaredBefore, member_names, tag_place}
 use Rattle.c_erasure.specs.Declarators.{open_array}
 use Rattle.c_erasure.specs.Erasure.{Declares, tag_text, place_in, with_parameter_if_named}

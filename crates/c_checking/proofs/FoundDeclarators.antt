@@ -15,7 +15,8 @@ use Rattle.c_erasure.specs.Marks.{Mark, marks_of_declarator, marks_of_specifiers
 use Rattle.c_erasure.specs.Scopes.{FileScope, Scope, Bound, ALocal, inside, with_name, ended, IsMentioned}
 use Rattle.c_erasure.specs.Specifiers.{storage_of, no_storage, is_register}
 use Rattle.c_checking.specs.Answers.{Answer, ◌>>=◌, with_file, moved}
-use Rattle.c_checking.specs.Declaring.{with_mention, mentions_in, Derivation, to_pointer, to_array, to_open_array, to_function, derived, length_value, new_if_named, scalar_parameter}
+use Rattle.c_checking.specs.Declaring.{with_mention, mentions_in, Derivation, to_pointer, to_array, to_open_array, to_function, derived, length_value}
+use Rattle.c_checking.specs.Declaring.{new_if_named, scalar_parameter}
 use Rattle.c_checking.specs.Finding.{complete}
 use Rattle.c_checking.proofs.Results.{bound_ok, bound_with, ok, given}
 use Rattle.c_checking.proofs.Extends.{Extends, further, constants_stay}
@@ -37,7 +38,8 @@ parameter_inside s None t i = i
 parameter_inside s (Some x) t i = refl
 
 -- what is read behind a parameter knows its name
-pub parameter_ready : (s : Scope) (x : Option Spelling) (t : CType) → is_scalar t ≡ true → s.is_inside ≡ true → Ready s [] → Ready (with_parameter_if_named s x t) []
+pub parameter_ready : (s : Scope) (x : Option Spelling) (t : CType) → is_scalar t ≡ true → s.is_inside ≡ true → Ready s []
+    → Ready (with_parameter_if_named s x t) []
 parameter_ready s None t k i r = r
 parameter_ready s (Some x) t k i r = record {
   names_fit = r.names_fit;
@@ -157,7 +159,8 @@ module _ (untagged : ℕ → List ℕ) where
       given (FoundList untagged s (Trees.void_alone at)) (no_types, s.file) z h
       (record { grew = nothing_grown s.file s.is_inside; holds = λ g p. refl })
 
-  pub listed_found : (s : Scope) (all : Trees.Parameters) (z : CTypes × FileScope) → FoundParameters untagged s all z → FoundList untagged s (Trees.listed all) z
+  pub listed_found : (s : Scope) (all : Trees.Parameters) (z : CTypes × FileScope) → FoundParameters untagged s all z
+      → FoundList untagged s (Trees.listed all) z
   listed_found s all z v = record { grew = v.grew; holds = λ g p. v.holds g p }
 
   pub no_parameters_found : (s : Scope) (z : CTypes × FileScope) → ok (no_types, s.file) ≡ Ok z → FoundParameters untagged s Trees.no_parameters z
