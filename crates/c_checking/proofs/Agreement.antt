@@ -8,7 +8,8 @@ use Rattle.c_types.specs.Types.{CType, Field, Record}
 use Rattle.c_types.specs.Objects.{is_object}
 use Rattle.c_typed.specs.Conversions.{as_kind, is_scalar}
 use Rattle.c_erasure.specs.Marks.{Mark, a_tag, an_end, a_name, ends_in, scope_beginnings}
-use Rattle.c_erasure.specs.Scopes.{Bound, ALocal, FileScope, Scope, Entity, typedef, enumerator, an_object, a_function, a_library_function, a_local, a_parameter}
+use Rattle.c_erasure.specs.Scopes.{Bound, ALocal, FileScope, Scope, Entity, typedef, enumerator, an_object, a_function, a_library_function, a_local}
+use Rattle.c_erasure.specs.Scopes.{a_parameter}
 use Rattle.c_erasure.specs.Scopes.{declared_in, innermost, visible, named, or_else}
 use Rattle.c_checking.proofs.Extends.{Extends, itself, further, behind, kept}
 

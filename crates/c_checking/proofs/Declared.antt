@@ -19,7 +19,8 @@ use Rattle.c_typed.specs.Conversions.{is_scalar, number_of}
 use Rattle.c_typed.specs.Constants.{Constant, none, undefined, valued, constant_of}
 use Rattle.c_erasure.specs.Broken.{Fault}
 use Rattle.c_erasure.specs.Declarators.{AreDifferent}
-use Rattle.c_erasure.specs.Erasure.{typed, IsTypedThing, IsConstant, IsInt, IsNew, IsStructTag, IsLiteral, IsLiteralFor, literal_of, literal_object, unmade, place_in}
+use Rattle.c_erasure.specs.Erasure.{typed, IsTypedThing, IsConstant, IsInt, IsNew, IsStructTag, IsLiteral, IsLiteralFor, literal_of, literal_object, unmade}
+use Rattle.c_erasure.specs.Erasure.{place_in}
 use Rattle.c_erasure.specs.Marks.{Mark, scope_beginnings}
 use Rattle.c_erasure.specs.Noted.{Expression, Thing, an_object, type_of, way}
 use Rattle.c_erasure.specs.Scopes.{Bound, AnObject, AMention, ALocal, FileScope, Scope, Tag, Entity, typedef, IsMentioned, IsNumbered, is_measured}
@@ -415,7 +416,8 @@ bound_extends f b = record {
 }
 
 pub bound_grown : (f : FileScope) (b : Bound) (is_inside : Bool) (all : List Mark) → added is_inside all ≡ 0
-    → ((before : ℕ) → (is_inside ≡ false → AreBefore (scope_beginnings all) before) → b.from < before) → ((locals : List ALocal) → IsFit (with_bound f b) locals b.entity) → IsGrown f is_inside all (with_bound f b)
+    → ((before : ℕ) → (is_inside ≡ false → AreBefore (scope_beginnings all) before) → b.from < before)
+    → ((locals : List ALocal) → IsFit (with_bound f b) locals b.entity) → IsGrown f is_inside all (with_bound f b)
 bound_grown f b is_inside all e begins fit = record {
   extends = bound_extends f b;
   counted = omega (arith, e);

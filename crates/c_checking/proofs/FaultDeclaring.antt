@@ -1,42 +1,45 @@
 -- What the faults of declarations say: constants, tags, structures, enumerators, steps of declarators and specifiers (C99 6.6, 6.7).
-use Rattle.std.proofs.Common.{add-one, ◌≡◌, ◌≢◌, ℕ, zero, suc, ◌+◌, ◌≤◌, ◌<◌, Bool, true, false, refl, sym, ap, ◌∙◌, subst, cond, List, [], ◌∷◌, ◌++◌, length}
+use Rattle.std.proofs.Common.{◌≡◌, ◌≢◌, ℕ, zero, suc, ◌+◌, ◌≤◌, ◌<◌, Bool, true, false, refl, sym, ap, ◌∙◌, subst, cond, List, [], ◌∷◌, ◌++◌, length}
 use Rattle.std.proofs.Common.{append_assoc, arith, inl, inr}
 use Rattle.std.proofs.lemmas.Bool.{eqb-true, eq-eqb, lt-ltb}
 use Rattle.std.proofs.lemmas.Bool.Decides.{nat_tests}
 use Rattle.std.proofs.lemmas.Slice.Eq.{bytes_eq-Decides}
-use Rattle.std.specs.Prelude.{Option, Some, None, Ok, Err, ◌⊎◌, ◌&&◌, nat_lt, nat_le, ◌==◌, ◌^◌, slice_get, ℤ, pos, negsuc}
+use Rattle.std.specs.Prelude.{Option, Some, None, Err, ◌⊎◌, ◌&&◌, nat_lt, nat_le, ◌==◌, ◌^◌, slice_get, ℤ, pos, negsuc}
 use Rattle.std.specs.Str.{bytes_eq}
 use Rattle.lay_base.specs.declared.faults.Rule.{Rule}
 use Rattle.lay_base.specs.declared.faults.Rule.TheVariants as R
 use Rattle.c_types.specs.declared.ty.IntKind.{IntKind}
-use Rattle.c_types.specs.declared.ty.IntKind.TheVariants.{Int}
-use Rattle.c_types.specs.Types.{CType, CTypes, void, integer, pointer, array, function, structure, Record}
+use Rattle.c_types.specs.Types.{CType, void, integer, pointer, array, function, structure, Record}
 use Rattle.c_types.specs.Layouts.{size_of, size_of_record}
 use Rattle.c_types.specs.Objects.{is_object, parts}
 use Rattle.c_ast.specs.declared.words.Spelling.{Spelling}
 use Rattle.c_ast.specs.Trees
-use Rattle.c_typed.specs.Conversions.{is_integer, is_scalar, number_of}
+use Rattle.c_typed.specs.Conversions.{is_integer, number_of}
 use Rattle.c_typed.specs.Constants.{Constant, none, undefined, valued, constant_of}
-use Rattle.c_erasure.specs.Broken.{Fault, ill_typed, undeclared, redeclared, too_big, IsOtherTag, IsTagElsewhere, IsRepeated, IsNoLength, IsNoInt, IsTooBig, IsNoResult}
+use Rattle.c_erasure.specs.Broken.{Fault, ill_typed, undeclared, redeclared, too_big, IsOtherTag, IsTagElsewhere, IsRepeated, IsNoLength, IsNoInt, IsTooBig}
+use Rattle.c_erasure.specs.Broken.{IsNoResult}
 use Rattle.c_erasure.specs.Broken.{IsNoParameter, AreNoType, IsOldName}
-use Rattle.c_erasure.specs.Declarators.{Shape, closed, open_array, IsSmall}
-use Rattle.c_erasure.specs.Erasure.{typed, IsInt}
-use Rattle.c_erasure.specs.Noted.{Expression, Thing, type_of}
+use Rattle.c_erasure.specs.Declarators.{Shape, closed, open_array}
+use Rattle.c_erasure.specs.Erasure.{typed}
+use Rattle.c_erasure.specs.Noted.{Expression, type_of}
 use Rattle.c_erasure.specs.Scopes.{Bound, FileScope, Scope, Tag, Entity, typedef, enumerator, a_local, a_parameter, tag_at, here, or_else}
 use Rattle.c_erasure.specs.Scopes as Scopes
-use Rattle.c_erasure.specs.Specifiers.{Words, Storage, no_storage, is_register, a_typedef, is_extern, is_static, is_auto, several, types_among, words_of, no_words, same_words, named_by}
-use Rattle.c_checking.specs.Answers.{Answer, ◌>>=◌, Checked, with_file}
-use Rattle.c_checking.specs.Declaring.{constant_of_type, constant_in, tag_named, place_of_tag, next, number_among, structure_of, other_tag, tagged, tagged_in, enumerated}
-use Rattle.c_checking.specs.Declaring.{enumerated_in, type_named, standing, repeated_or, repeated, unless, definable, known_tag, place_of_record, record_if_any, completed_before}
-use Rattle.c_checking.specs.Declaring.{is_next, complete_with, completed_in, declared_among, new_name, enumerator_in, is_int, int_value, next_value, only_tag, enumeration_of}
-use Rattle.c_checking.specs.Declaring.{is_small, small, element, is_result, result_type, length_of_number, length_value, closed_at, object_at, Base, by_words, by_one, no_type}
+use Rattle.c_erasure.specs.Specifiers.{Words, Storage, no_storage, is_register, a_typedef, is_extern, is_static, is_auto, several, types_among, words_of}
+use Rattle.c_erasure.specs.Specifiers.{no_words, same_words, named_by}
+use Rattle.c_checking.specs.Answers.{Answer, Checked}
+use Rattle.c_checking.specs.Declaring.{constant_of_type, constant_in, tag_named, place_of_tag, next, number_among, structure_of, other_tag, tagged, tagged_in}
+use Rattle.c_checking.specs.Declaring.{enumerated}
+use Rattle.c_checking.specs.Declaring.{enumerated_in, type_named, standing, repeated_or, repeated, unless, definable, known_tag, place_of_record}
+use Rattle.c_checking.specs.Declaring.{record_if_any, completed_before}
+use Rattle.c_checking.specs.Declaring.{is_next, completed_in, declared_among, new_name, enumerator_in, is_int, int_value, next_value, only_tag, enumeration_of}
+use Rattle.c_checking.specs.Declaring.{is_small, small, element, is_result, result_type, length_of_number, length_value, closed_at, object_at, by_one, no_type}
 use Rattle.c_checking.specs.Declaring.{base_of_words, base_among, base_kind, without_storage, parameter_storage, new_here, new_if_named, scalar_parameter}
 use Rattle.c_checking.specs.Finding.{base_type}
 use Rattle.c_checking.proofs.Extends.{Extends, kept, behind}
 use Rattle.c_checking.proofs.Agreement.{IsSteady}
 use Rattle.c_checking.proofs.Declared.{number_is}
 use Rattle.c_checking.proofs.NodesOfParts.{same_bytes}
-use Rattle.c_checking.proofs.FaultResults.{bad, same_fault, bound_err, chosen_err, unless_err}
+use Rattle.c_checking.proofs.FaultResults.{bad, same_fault, chosen_err, unless_err}
 use Rattle.c_checking.proofs.FaultNodes.{over, incomplete}
 
 -- ---- integer constant expressions (6.6)
@@ -87,7 +90,8 @@ pub record IsOrderly (f : FileScope) : Type 0 where
 pub orderly_stays : {f g : FileScope} → Extends f g → IsOrderly f → IsOrderly g
 orderly_stays {f} {g} p h = record {
   tags_ascend = λ j k t u l a b. h.tags_ascend j k t u l (subst (λ all. slice_get all j ≡ Some t) p.tags a) (subst (λ all. slice_get all k ≡ Some u) p.tags b);
-  tags_numbered = λ k t a e. subst (λ all. (r : ℕ) × (number_among all t.name ≡ Some r)) (sym p.numbered) (h.tags_numbered k t (subst (λ all. slice_get all k ≡ Some t) p.tags a) e);
+  tags_numbered = λ k t a e. subst (λ all. (r : ℕ) × (number_among all t.name ≡ Some r)) (sym p.numbered)
+      (h.tags_numbered k t (subst (λ all. slice_get all k ≡ Some t) p.tags a) e);
   ends_ascend = λ j k a b l d e. h.ends_ascend j k a b l (subst (λ all. slice_get all j ≡ Some a) p.ends d) (subst (λ all. slice_get all k ≡ Some b) p.ends e);
 }
 
@@ -128,7 +132,8 @@ pub first_seen : (all : List Tag) (x : List ℕ) (at : ℕ) (sort : Bool) → Ar
     → (k : ℕ) × (t : Tag) × IsSeen all x at sort k t × (place_of_tag (tag_named all x) ≡ t.place)
 first_seen [] x at sort order h = cc
 first_seen (t ∷ more) x at sort order h =
-    by_name (bytes_eq t.name x) refl (nat_lt t.from at) refl h (λ h. first_seen more x at sort (λ j k u v l a b. order (suc j) (suc k) u v (omega (arith, l)) a b) h)
+    by_name (bytes_eq t.name x) refl (nat_lt t.from at) refl h (λ h. first_seen more x at sort
+    (λ j k u v l a b. order (suc j) (suc k) u v (omega (arith, l)) a b) h)
   where
     behind_it : (k : ℕ) (u : Tag) → IsSeen more x at sort k u → IsSeen (t ∷ more) x at sort (suc k) u
     behind_it k u s = (s.0, s.1, s.2, s.3)
@@ -195,7 +200,8 @@ type_named_fault x (Some (a_parameter t)) f h = (λ t e. cc, same_fault CType (u
 
 -- ---- definitions of structures (6.7.2.1)
 
-pub unless_fault : {A : Type 0} (o : Option Fault) (r : Answer A) (f : Fault) (P : Type 0) → unless o r ≡ Err f → (o ≡ Some f → P) → (o ≡ None → r ≡ Err f → P) → P
+pub unless_fault : {A : Type 0} (o : Option Fault) (r : Answer A) (f : Fault) (P : Type 0) → unless o r ≡ Err f → (o ≡ Some f → P)
+    → (o ≡ None → r ≡ Err f → P) → P
 unless_fault None r f P h p q = q refl h
 unless_fault {A} (Some e) r f P h p q = p (ap Some (sym (same_fault A e f h)))
 
@@ -436,7 +442,8 @@ other_words : (v w : Words) → same_words v w ≡ false → v ≢ w
 other_words v w h e = let k = same_self_words w in let g : same_words w w ≡ false = subst (λ v. same_words v w ≡ false) e h in cc
 
 -- the specifiers name no type, or the one that names it by itself stops
-pub base_fault : (specs : Trees.Specifiers) (at : ℕ) (g : FileScope) (one : Checked CType) (f : Fault) (P : Type 0) → base_type (base_kind specs) at g one ≡ Err f
+pub base_fault : (specs : Trees.Specifiers) (at : ℕ) (g : FileScope) (one : Checked CType) (f : Fault) (P : Type 0)
+    → base_type (base_kind specs) at g one ≡ Err f
     → ((f ≡ ill_typed R.Specifiers at) × AreNoType specs → P)
     → ((x : Trees.Specifier) → types_among specs ≡ x ∷ [] → one ≡ Err f → P) → P
 base_fault specs at g one f P h p q = by_types (types_among specs) refl h

@@ -1,8 +1,8 @@
 -- What the faults of nodes say: the rule that is named is false of their parts (C99 6.5).
-use Rattle.std.proofs.Common.{◌≡◌, ◌≢◌, ℕ, zero, suc, ◌+◌, ◌≤◌, ◌<◌, Bool, true, false, refl, sym, ap, ◌∙◌, subst, cond, List, [], ◌∷◌, length, inl, inr, arith}
+use Rattle.std.proofs.Common.{◌≡◌, ℕ, zero, suc, ◌+◌, ◌≤◌, ◌<◌, Bool, true, false, refl, cond, List, [], ◌∷◌, length, inl, inr, arith}
 use Rattle.std.proofs.lemmas.Bool.{and_parts, and_from, lt-ltb, ltb-true}
 use Rattle.std.proofs.lemmas.Bool.Decides.{nat_tests}
-use Rattle.std.specs.Prelude.{Option, Some, None, Ok, Err, ◌⊎◌, ◌&&◌, ◌||◌, nat_lt, nat_le, slice_get}
+use Rattle.std.specs.Prelude.{Option, Some, None, Err, ◌⊎◌, ◌&&◌, ◌||◌, nat_lt, nat_le, slice_get}
 use Rattle.std.specs.Str.{bytes_eq}
 use Rattle.lay_base.specs.declared.place.Place.{Place}
 use Rattle.lay_base.specs.declared.faults.Rule.{Rule}
@@ -14,27 +14,28 @@ use Rattle.c_types.specs.Sameness.{same_type}
 use Rattle.c_types.proofs.SameTypes.{same_self}
 use Rattle.c_typed.specs.declared.operators.UnaryOp.{UnaryOp}
 use Rattle.c_typed.specs.declared.operators.StepOp.{StepOp}
-use Rattle.c_typed.specs.declared.operators.CompareOp.{CompareOp}
 use Rattle.c_typed.specs.declared.operators.BinaryOp.{BinaryOp}
 use Rattle.c_typed.specs.declared.operators.BinaryOp.TheVariants as B
 use Rattle.c_typed.specs.Trees as Typed
 use Rattle.c_typed.specs.Conversions.{is_integer, is_scalar, is_array, is_function, is_record}
 use Rattle.c_typed.specs.Fits.{assigns, casts}
 use Rattle.c_typed.specs.Rules.{on_numbers, comparing, choosing, moving, differing, updating, is_stepped, points_to_object}
-use Rattle.c_erasure.specs.Broken.{Fault, ill_typed, undeclared, too_big, called_type, pointed_type, IsNoFunction, IsFunctionType, IsNoSum, AreUnfit, is_subscript}
-use Rattle.c_erasure.specs.Broken.{IsNoObject, IsArrayObject, IsNotAssigned, IsOfScalar, IsOfRecord, IsObjectOf, has_field, IsMemberless, NoMemberOf, NoMemberAt, IsLibrary}
+use Rattle.c_erasure.specs.Broken.{Fault, ill_typed, undeclared, too_big, called_type, pointed_type, IsNoFunction, AreUnfit, is_subscript}
+use Rattle.c_erasure.specs.Broken.{IsNoObject, IsArrayObject, IsNotAssigned, IsObjectOf, has_field, IsMemberless, NoMemberOf, NoMemberAt, IsLibrary}
 use Rattle.c_erasure.specs.Broken.{IsOnlyValue, IsOfGreatestType, IsPointless, IsSizeless, IsNoRecord, IsValueless}
 use Rattle.c_erasure.specs.Erasure.{IsOfType}
-use Rattle.c_erasure.specs.Noted.{Noted, Expression, Path, Node, Thing, an_object, a_value, a_function, a_function_at, a_library_function, type_of, type_of_path, value_of}
+use Rattle.c_erasure.specs.Noted.{Noted, Expression, Path, Thing, an_object, a_value, a_function, a_function_at, a_library_function, type_of, type_of_path}
 use Rattle.c_erasure.specs.Noted.{object_value}
 use Rattle.c_erasure.specs.Operators.{Kind, computes, compares, all_of, any_of}
 use Rattle.c_erasure.specs.Scopes.{Scope, Entity, typedef, enumerator, a_local, a_parameter, ended}
 use Rattle.c_erasure.specs.Scopes as Scopes
-use Rattle.c_checking.specs.Nodes.{null, valued, worth, named_in, array_of, array_of_type, element_in, index_to, turned_to, index_in, signature_of, signature_in, argument_in}
-use Rattle.c_checking.specs.Nodes.{call_through, call_in, field_from, field_in, member_to, member_of_type, dot_in, arrow_to, arrow_in, step_in, address_in, pointed_to}
-use Rattle.c_checking.specs.Nodes.{deref_in, unary_in, not_in, measured_type, is_complete, of_limited_size, sized_type, measured_of, measured_in, cast_in}
-use Rattle.c_checking.specs.Nodes.{number_node, forward_node, backward_node, on_pointers, computed_in, compared_in, tested_in, binary_in, tested, chosen_in}
-use Rattle.c_checking.specs.Nodes.{Target, scalar_at, record_at, path_of, target_of_type, target_in, assigned_in, copied_in, updated_in, comma_in}
+use Rattle.c_checking.specs.Nodes.{null, valued, worth, named_in, array_of, array_of_type, element_in, index_to, turned_to, index_in, signature_of}
+use Rattle.c_checking.specs.Nodes.{signature_in, argument_in}
+use Rattle.c_checking.specs.Nodes.{call_through, call_in, field_from, field_in, member_to, member_of_type, dot_in, arrow_to, arrow_in, step_in, address_in}
+use Rattle.c_checking.specs.Nodes.{pointed_to}
+use Rattle.c_checking.specs.Nodes.{deref_in, unary_in, not_in, measured_type, is_complete, sized_type, measured_in, cast_in}
+use Rattle.c_checking.specs.Nodes.{on_pointers, computed_in, compared_in, tested_in, binary_in, tested, chosen_in}
+use Rattle.c_checking.specs.Nodes.{Target, target_of_type, target_in, assigned_in, copied_in, updated_in, comma_in}
 use Rattle.c_checking.proofs.Agreement.{IsObjectType}
 use Rattle.c_checking.proofs.FaultResults.{bad, same_fault, chosen_err, unless_err, option_err}
 
@@ -327,24 +328,22 @@ sized_fault records count at t l f h =
     (λ c h. inr (same_fault CType (too_big at) f h, over (size_of records t) 16777216 c)))
     (λ b h. inl (same_fault CType (ill_typed R.Incomplete at) f h, incomplete records count t l b))
 
-pub measured_fault : (records : List Record) (count at : ℕ) (th : Thing) → count ≤ length records → (f : Fault) → measured_in records count at th ≡ Err f
-    → ((f ≡ ill_typed R.Incomplete at) × IsSizeless count th)
+abbrev Unmeasured : List Record → (count at : ℕ) → Thing → Fault → Type 0
+Unmeasured records count at th f = ((f ≡ ill_typed R.Incomplete at) × IsSizeless count th)
     ⊎ ((f ≡ too_big at) × ((t : CType) × IsOfType th t × (16777216 < size_of records t)))
+
+unmeasured : (records : List Record) (count at : ℕ) (th : Thing) (t : CType) → (is_object count t ≡ false → IsSizeless count th) → IsOfType th t → (f : Fault)
+    → ((f ≡ ill_typed R.Incomplete at) × (is_object count t ≡ false)) ⊎ ((f ≡ too_big at) × (16777216 < size_of records t)) → Unmeasured records count at th f
+unmeasured records count at th t sizeless is f (inl b) = inl (b.0, sizeless b.1)
+unmeasured records count at th t sizeless is f (inr b) = inr (b.0, (t, is, b.1))
+
+pub measured_fault : (records : List Record) (count at : ℕ) (th : Thing) → count ≤ length records → (f : Fault) → measured_in records count at th ≡ Err f
+    → Unmeasured records count at th f
 unfolding measured_in measured_type
-measured_fault records count at (an_object p) l f h = by_size (sized_fault records count at (type_of_path p) l f h)
-  where
-    by_size : ((f ≡ ill_typed R.Incomplete at) × (is_object count (type_of_path p) ≡ false)) ⊎ ((f ≡ too_big at) × (16777216 < size_of records (type_of_path p)))
-        → ((f ≡ ill_typed R.Incomplete at) × IsSizeless count (an_object p))
-        ⊎ ((f ≡ too_big at) × ((t : CType) × IsOfType (an_object p) t × (16777216 < size_of records t)))
-    by_size (inl b) = inl b
-    by_size (inr b) = inr (b.0, (type_of_path p, refl, b.1))
-measured_fault records count at (a_value e) l f h = by_size (sized_fault records count at (type_of e) l f h)
-  where
-    by_size : ((f ≡ ill_typed R.Incomplete at) × (is_object count (type_of e) ≡ false)) ⊎ ((f ≡ too_big at) × (16777216 < size_of records (type_of e)))
-        → ((f ≡ ill_typed R.Incomplete at) × IsSizeless count (a_value e))
-        ⊎ ((f ≡ too_big at) × ((t : CType) × IsOfType (a_value e) t × (16777216 < size_of records t)))
-    by_size (inl b) = inl b
-    by_size (inr b) = inr (b.0, (type_of e, refl, b.1))
+measured_fault records count at (an_object p) l f h =
+    unmeasured records count at (an_object p) (type_of_path p) (λ e. e) refl f (sized_fault records count at (type_of_path p) l f h)
+measured_fault records count at (a_value e) l f h =
+    unmeasured records count at (a_value e) (type_of e) (λ e. e) refl f (sized_fault records count at (type_of e) l f h)
 measured_fault records count at (a_function from n t) l f h = inl (same_fault CType (ill_typed R.Incomplete at) f h, tt)
 measured_fault records count at (a_function_at e) l f h = inl (same_fault CType (ill_typed R.Incomplete at) f h, tt)
 measured_fault records count at (a_library_function from which) l f h = inl (same_fault CType (ill_typed R.Incomplete at) f h, tt)

@@ -1,12 +1,9 @@
 -- Where finding stops in an expression, a rule is broken: one lemma for each alternative of the grammar.
 use Rattle.std.proofs.Common.{◌≡◌, ◌≢◌, ℕ, ◌≤◌, true, false, refl, sym, ap, subst, List, length, inl, inr}
 use Rattle.std.specs.Prelude.{Option, Some, None, Ok, Err, ◌⊎◌, map, slice_get}
-use Rattle.lay_base.specs.declared.faults.Rule.{Rule}
 use Rattle.lay_base.specs.declared.faults.Rule.TheVariants as R
 use Rattle.lay_base.specs.declared.place.Place.{Place}
-use Rattle.c_types.specs.declared.ty.IntKind.{IntKind}
-use Rattle.c_types.specs.Types.{CType, CTypes, function}
-use Rattle.c_types.specs.Objects.{is_object}
+use Rattle.c_types.specs.Types.{CType}
 use Rattle.c_ast.specs.declared.words.Spelling.{Spelling}
 use Rattle.c_ast.specs.declared.operators.UnaryOp.{UnaryOp}
 use Rattle.c_ast.specs.declared.operators.UnaryOp.TheVariants as U
@@ -17,31 +14,33 @@ use Rattle.c_ast.specs.Trees
 use Rattle.c_ast.specs.Places.{first}
 use Rattle.c_typed.specs.declared.operators.UnaryOp.TheVariants as TU
 use Rattle.c_typed.specs.declared.operators.BinaryOp as TypedBinary
-use Rattle.c_typed.specs.Trees as Typed
 use Rattle.c_typed.specs.Conversions.{is_record}
 use Rattle.c_typed.specs.Rules.{is_stepped}
 use Rattle.c_erasure.specs.Broken.{Fault, ill_typed, IsThing, HasNoValue, IsSound, IsBroken, IsBrokenUnary, IsBrokenAssignment, IsNoConstant, IsFunctionType}
 use Rattle.c_erasure.specs.Broken as Broken
 use Rattle.c_erasure.specs.Erasure.{place_in, Erases}
-use Rattle.c_erasure.specs.Noted.{Noted, Expression, Path, Thing, an_object, type_of, type_of_path}
+use Rattle.c_erasure.specs.Noted.{Expression, Path, Thing, an_object, type_of_path}
 use Rattle.c_erasure.specs.Operators.{kind_of, update_of, step_of}
 use Rattle.c_erasure.specs.Scopes.{FileScope, Scope, ended, measured, for_value, Purpose, in_full, value_alone, type_alone}
 use Rattle.c_checking.specs.Answers.{Answer, ◌>>=◌, Checked, with_file, moved}
-use Rattle.c_checking.specs.Nodes.{worth, array_of, element_in, index_in, dot_in, arrow_in, step_in, address_in, deref_in, unary_in, not_in, measured_in, binary_in, tested}
+use Rattle.c_checking.specs.Nodes.{worth, array_of, element_in, index_in, dot_in, arrow_in, step_in, address_in, deref_in, unary_in, not_in, measured_in}
+use Rattle.c_checking.specs.Nodes.{binary_in, tested}
 use Rattle.c_checking.specs.Nodes.{chosen_in, Target, scalar_at, record_at, path_of, target_in, assigned_in, copied_in, updated_in, comma_in}
-use Rattle.c_checking.specs.Declaring.{constant_in, literal_in, literal_for, with_mention, mentions_in}
+use Rattle.c_checking.specs.Declaring.{constant_in, literal_in, literal_for}
 use Rattle.c_checking.specs.Finding.{complete, value_at, tested_at, on_value, unary_on, constant_at, subscripted, assigned}
 use Rattle.c_checking.proofs.Results.{bound_ok, with_file_ok}
 use Rattle.c_checking.proofs.Extends.{Extends, itself, further, constants_stay}
 use Rattle.c_checking.proofs.Agreement.{IsObjectType, IsSteady}
 use Rattle.c_checking.proofs.Values as Values
 use Rattle.c_checking.proofs.Values.{Stands, unconverted_same, worth_made}
-use Rattle.c_checking.proofs.NodesOfTwo.{target_made, target_type, IsTarget, tested_is}
+use Rattle.c_checking.proofs.NodesOfTwo.{target_made, target_type, IsTarget}
 use Rattle.c_checking.proofs.Found.{Found, FoundValue, valued, tested_found}
 use Rattle.c_checking.proofs.FaultResults as Results
 use Rattle.c_checking.proofs.FaultResults.{bound_err, with_file_err, beside_err, here, there, whole, later}
-use Rattle.c_checking.proofs.FaultNodes.{worth_fault, element_fault, array_is, index_fault, dot_fault, arrow_fault, step_fault, address_fault, deref_fault, unary_fault}
-use Rattle.c_checking.proofs.FaultNodes.{not_fault, measured_fault, binary_fault, tested_fault, chosen_fault, target_fault, assigned_fault, copied_fault, updated_fault, comma_fault}
+use Rattle.c_checking.proofs.FaultNodes.{worth_fault, element_fault, array_is, index_fault, dot_fault, arrow_fault, step_fault, address_fault, deref_fault}
+use Rattle.c_checking.proofs.FaultNodes.{unary_fault}
+use Rattle.c_checking.proofs.FaultNodes.{not_fault, measured_fault, binary_fault, tested_fault, chosen_fault, assigned_fault, copied_fault, updated_fault}
+use Rattle.c_checking.proofs.FaultNodes.{comma_fault}
 use Rattle.c_checking.proofs.FaultDeclaring.{constant_fault}
 use Rattle.c_checking.proofs.FaultPremises.{thing_proper}
 
@@ -78,7 +77,8 @@ module _ (untagged : ℕ → List ℕ) where
       → Broken.IsValue a (moved s g) x.0
   value_stands {s} {a} {x} v g p = value_is a (moved s g) x.0 (v.found.holds g p)
 
-  worthless : (s : Scope) (a : Trees.Expression) (r : Checked Thing) → Read s a r → (y : Thing × FileScope) → r ≡ Ok y → (f : Fault)
+  -- what is found has no value
+  pub worthless : (s : Scope) (a : Trees.Expression) (r : Checked Thing) → Read s a r → (y : Thing × FileScope) → r ≡ Ok y → (f : Fault)
       → worth (first a) y.0 ≡ Err f → Results.Broken s (λ s. HasNoValue a s f)
   worthless s a r part y e f h =
       let v = part.sound y e in
@@ -86,7 +86,8 @@ module _ (untagged : ℕ → List ℕ) where
       let w = worth_fault (first a) y.0 (thing_proper (moved s y.1) (v.grew.steady part.steady) part.locals y.0 t.1) f h in
       there s (λ s. HasNoValue a s f) y.1 v.grew.extends (y.0, w.0, t, w.1, w.2)
 
-  found_part : (s : Scope) (a : Trees.Expression) (r : Checked Thing) → Read s a r → (x : Expression × FileScope) → value_at (first a) r ≡ Ok x → FoundPart s a x
+  found_part : (s : Scope) (a : Trees.Expression) (r : Checked Thing) → Read s a r → (x : Expression × FileScope) → value_at (first a) r ≡ Ok x
+      → FoundPart s a x
   found_part s a r part x h =
       let y = bound_ok r _ x h in
       let w = with_file_ok y.0.1 (worth (first a) y.0.0) x y.2 in
@@ -97,7 +98,8 @@ module _ (untagged : ℕ → List ℕ) where
       }
 
   -- the value of a part stops, or what is done with it
-  pub value_part : {B : Type 0} (s : Scope) (a : Trees.Expression) (r : Checked Thing) → Read s a r → (k : Expression × FileScope → Answer B) (f : Fault) (P : Type 0)
+  pub value_part : {B : Type 0} (s : Scope) (a : Trees.Expression) (r : Checked Thing) → Read s a r
+      → (k : Expression × FileScope → Answer B) (f : Fault) (P : Type 0)
       → (value_at (first a) r >>= k) ≡ Err f → (Results.Broken s (λ s. IsBroken a s f) → P) → (Results.Broken s (λ s. HasNoValue a s f) → P)
       → ((x : Expression × FileScope) → FoundPart s a x → value_at (first a) r ≡ Ok x → k x ≡ Err f → P) → P
   value_part s a r part k f P h p q o =
@@ -204,7 +206,8 @@ module _ (untagged : ℕ → List ℕ) where
       (λ y e h.
       let v = part.sound y e in
       let h = with_file_err y.1 (step_in (complete s (first a)) (first a) at (place_in s (first a)) (step_of op) false y.0) f h in
-      let g = constants_stay v.grew.extends (λ ends file. step_in (ended ends (first a)) (first a) at (place_in s (first a)) (step_of op) false y.0 ≡ Err f) h in
+      let g = constants_stay v.grew.extends (λ ends file. step_in (ended ends (first a)) (first a) at (place_in s (first a))
+      (step_of op) false y.0 ≡ Err f) h in
       let t = thing_stands v y.1 (itself y.1) in
       there s (λ s. IsBroken (Trees.post a op at) s f) y.1 v.grew.extends
       (by_rule y v (step_fault (complete (moved s y.1) (first a)) (first a) at (place_in s (first a)) (step_of op) false y.0 f g)))
@@ -289,7 +292,8 @@ module _ (untagged : ℕ → List ℕ) where
   unary_stops s U.Deref at a r part f h = value_stops s U.Deref at a r part f (λ s n. inl n) (λ x v h. on_value_stops s U.Deref (λ e. cc) at a x v f h) h
   unary_stops s U.Plus at a r part f h = value_stops s U.Plus at a r part f (λ s n. inl n) (λ x v h. on_value_stops s U.Plus (λ e. cc) at a x v f h) h
   unary_stops s U.Minus at a r part f h = value_stops s U.Minus at a r part f (λ s n. inl n) (λ x v h. on_value_stops s U.Minus (λ e. cc) at a x v f h) h
-  unary_stops s U.Complement at a r part f h = value_stops s U.Complement at a r part f (λ s n. inl n) (λ x v h. on_value_stops s U.Complement (λ e. cc) at a x v f h) h
+  unary_stops s U.Complement at a r part f h = value_stops s U.Complement at a r part f (λ s n. inl n)
+      (λ x v h. on_value_stops s U.Complement (λ e. cc) at a x v f h) h
   unary_stops s U.Not at a r part f h = value_stops s U.Not at a r part f (λ s n. inl n) (λ x v h. on_value_stops s U.Not (λ e. cc) at a x v f h) h
 
   -- ---- sizes (6.5.3.4)
@@ -390,10 +394,12 @@ module _ (untagged : ℕ → List ℕ) where
       → assigned (complete s (first a)) at (first b) (place_in s (first a)) t y.1 right (update_of op) ≡ Err f
       → Results.Broken s (λ s. IsBroken (Trees.assign a op at b) s f)
   assign_stops s a op at b y v t k right part f h =
-      by_parts t (update_of op) refl (target_made (Erases a s) (Erases a s) s 0 (first a) y.0 t k) (target_type (Erases a s) (Erases a s) s 0 (first a) y.0 t k) h
+      by_parts t (update_of op) refl (target_made (Erases a s) (Erases a s) s 0 (first a) y.0 t k)
+      (target_type (Erases a s) (Erases a s) s 0 (first a) y.0 t k) h
     where
       broken : Results.Broken (moved s y.1) (λ s. IsBroken b s f) → Results.Broken s (λ s. IsBroken (Trees.assign a op at b) s f)
-      broken i = later s y.1 v.grew.extends (λ s. IsBroken b s f) (λ s. IsBroken (Trees.assign a op at b) s f) i (λ g p h. inr (inl ((y.0, thing_stands v g p), h)))
+      broken i = later s y.1 v.grew.extends (λ s. IsBroken b s f) (λ s. IsBroken (Trees.assign a op at b) s f) i
+          (λ g p h. inr (inl ((y.0, thing_stands v g p), h)))
 
       ruled : (g : FileScope) → Extends s.file g → (o : Option TypedBinary.BinaryOp) → update_of op ≡ o → IsBrokenAssignment o a at b (moved s g) f
           → Results.Broken s (λ s. IsBroken (Trees.assign a op at b) s f)

@@ -4,7 +4,6 @@ use Rattle.std.proofs.Common.{◌≡◌, ℕ, zero, suc, ◌+◌, ◌≤◌, ◌
 use Rattle.std.proofs.lemmas.Bool.{and_parts}
 use Rattle.std.specs.Prelude.{Option, Some, None, slice_get, map, nat_lt}
 use Rattle.std.specs.Option.{option_map}
-use Rattle.lay_base.specs.declared.place.Place.{Place}
 use Rattle.c_types.specs.Types.{CType, void, integer, pointer, array, function, structure, Field, Record}
 use Rattle.c_types.specs.Objects.{is_object}
 use Rattle.c_ast.specs.declared.words.Spelling.{Spelling}
@@ -15,11 +14,10 @@ use Rattle.c_typed.specs.Conversions.{element_of}
 use Rattle.c_typed.specs.Typed.{Declared, type_in, field_type, path_ty, IsTypedPath}
 use Rattle.c_erasure.specs.Declarators.{declared_name}
 use Rattle.c_erasure.specs.Erasure.{IsTypedThing}
-use Rattle.c_erasure.specs.Marks.{Mark, a_tag, an_end, a_name, marks, marks_of_all, marks_of_type, marks_of_specifiers, marks_of_specifier, marks_of_members}
-use Rattle.c_erasure.specs.Marks.{marks_of_member_declarators, marks_of_enumerators, marks_of_value, marks_of_declarator, tags_in, defined_in, scope_beginnings}
-use Rattle.c_erasure.specs.Noted.{Thing, an_object, a_value, a_function, a_function_at, a_library_function, type_of_path}
+use Rattle.c_erasure.specs.Marks.{Mark, a_tag, an_end, a_name, marks, marks_of_type, marks_of_specifiers}
+use Rattle.c_erasure.specs.Marks.{marks_of_member_declarators, marks_of_value, marks_of_declarator, tags_in, defined_in, scope_beginnings}
+use Rattle.c_erasure.specs.Noted.{Thing, an_object, a_value, a_function, a_function_at, a_library_function}
 use Rattle.c_erasure.specs.Scopes.{Bound, ALocal, Tag, FileScope, Scope, ended, declared}
-use Rattle.c_checking.specs.Answers.{moved}
 use Rattle.c_checking.proofs.Extends.{Extends, kept, behind}
 use Rattle.c_checking.proofs.Agreement as Agreement
 use Rattle.c_checking.proofs.Agreement.{IsObjectType, IsSteady, AreBegun, AreBefore, IsReady, IsGrown, added, beginnings_append, none_grown}
@@ -219,7 +217,8 @@ module _ (untagged : ℕ → List ℕ) (ends : List ℕ) where
 
   -- inside of functions and parameter lists nothing else is asked
   pub inside_prepared : {f : FileScope} {locals : List ALocal} {blocks : List (List Bound)} {i : Bool} → i ≡ true → (u : List Mark)
-      → IsReady f locals blocks i u → f.ends ≡ ends → f.untagged ≡ untagged → IsSteady f → IsOrderly f → ((k : ℕ) (t : CType) → slice_get (map (λ l. l.ty) locals) k ≡ Some t → IsObjectType t) → IsPrepared f locals blocks i u
+      → IsReady f locals blocks i u → f.ends ≡ ends → f.untagged ≡ untagged → IsSteady f → IsOrderly f
+      → ((k : ℕ) (t : CType) → slice_get (map (λ l. l.ty) locals) k ≡ Some t → IsObjectType t) → IsPrepared f locals blocks i u
   inside_prepared i u r e n s o l = record {
     ready = r;
     ends_are = e;

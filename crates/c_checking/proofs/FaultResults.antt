@@ -1,10 +1,10 @@
 -- What a fault says of the steps before it, and where a rule is broken.
-use Rattle.std.proofs.Common.{◌≡◌, ℕ, Bool, true, false, refl, ap, subst, cond}
+use Rattle.std.proofs.Common.{◌≡◌, ℕ, Bool, true, false, refl, ap, cond}
 use Rattle.std.specs.Prelude.{Option, Some, None, Ok, Err}
 use Rattle.lay_base.specs.declared.faults.Rule.{Rule}
 use Rattle.c_erasure.specs.Broken.{Fault, ill_typed}
 use Rattle.c_erasure.specs.Scopes.{FileScope, Scope}
-use Rattle.c_checking.specs.Answers.{Answer, ◌>>=◌, refused, Checked, with_file, moved}
+use Rattle.c_checking.specs.Answers.{Answer, ◌>>=◌, refused, with_file, moved}
 use Rattle.c_checking.specs.Nodes.{or_else}
 use Rattle.c_checking.proofs.Extends.{Extends, itself, further}
 

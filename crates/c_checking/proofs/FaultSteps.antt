@@ -1,29 +1,24 @@
 -- The steps of a declarator that are read: where one of them stops, the declarator is broken (C99 6.7.5).
-use Rattle.std.proofs.Common.{◌≡◌, ◌≢◌, ℕ, ◌+◌, ◌≤◌, Bool, true, false, refl, sym, ap, ◌∙◌, subst, List, [], ◌∷◌, ◌++◌, length, inl, inr, arith}
-use Rattle.std.specs.Prelude.{Option, Some, None, Ok, Err, ◌⊎◌, ℤ, pos}
+use Rattle.std.proofs.Common.{◌≡◌, ◌≢◌, ℕ, ◌+◌, ◌≤◌, false, refl, sym, subst, List, [], ◌∷◌, length, inl, inr, arith}
+use Rattle.std.specs.Prelude.{Ok, Err}
 use Rattle.lay_base.specs.declared.faults.Rule.TheVariants as R
-use Rattle.c_types.specs.declared.ty.IntKind.{IntKind}
 use Rattle.c_types.specs.Types.{CType, CTypes, pointer, array, function, Record}
 use Rattle.c_types.specs.Objects.{is_object}
 use Rattle.c_ast.specs.Trees
 use Rattle.c_ast.specs.Places.{first}
-use Rattle.c_typed.specs.Conversions.{number_of}
 use Rattle.c_erasure.specs.Broken.{Fault, ill_typed, HasLengths, IsBrokenDeclarator, IsTooBig, IsNoResult}
-use Rattle.c_erasure.specs.Declarators.{Shape, closed, is_name}
-use Rattle.c_erasure.specs.Erasure.{AreParameters}
-use Rattle.c_erasure.specs.Marks.{Mark, marks, marks_of_declarator}
-use Rattle.c_erasure.specs.Noted.{Thing}
+use Rattle.c_erasure.specs.Declarators.{Shape, is_name}
+use Rattle.c_erasure.specs.Marks.{marks, marks_of_declarator}
 use Rattle.c_erasure.specs.Scopes.{FileScope, Scope, inside, ended, for_value}
-use Rattle.c_checking.specs.Answers.{Answer, ◌>>=◌, Checked, with_file, moved}
+use Rattle.c_checking.specs.Answers.{◌>>=◌, moved}
 use Rattle.c_checking.specs.Declaring.{Derivation, to_pointer, to_array, to_open_array, to_function, small, element, result_type, derived, length_value}
 use Rattle.c_checking.specs.Finding.{complete, value_at, constant_at, find, derivations, array_step, parameter_list}
 use Rattle.c_checking.proofs.InRange.{IsDeclaratorInRange}
-use Rattle.c_checking.proofs.Results.{bound_ok, bound_with, ok, given}
-use Rattle.c_checking.proofs.Extends.{Extends, itself, further, constants_stay}
+use Rattle.c_checking.proofs.Results.{bound_ok, bound_with, given}
+use Rattle.c_checking.proofs.Extends.{Extends, further, constants_stay}
 use Rattle.c_checking.proofs.Agreement.{Ready, left, right, added}
 use Rattle.c_checking.proofs.Declared.{length_is}
-use Rattle.c_checking.proofs.Found.{Found, FoundConstant, valued, constant_found}
-use Rattle.c_checking.proofs.FoundTypes.{FoundSteps, FoundList}
+use Rattle.c_checking.proofs.Found.{valued, constant_found}
 use Rattle.c_checking.proofs.FoundDeclarators.{ready_in}
 use Rattle.c_checking.proofs.Sound.{sound, sound_steps, sound_list}
 use Rattle.c_checking.proofs.Derived.{element_is, small_is, result_is}
@@ -87,7 +82,8 @@ module _ (untagged : ℕ → List ℕ) (ends : List ℕ) where
   asked s n at g e k l = let m : ended s.file.ends at ≤ n = subst (λ ends. ended ends at ≤ n) (sym e) k in omega (arith, m, l)
 
   pub read_steps : (d : Trees.Declarator) (s : Scope) (n : ℕ) → IsDeclaratorInRange d → Ready s (marks_of_declarator untagged d) → s.file.ends ≡ ends
-      → n ≤ length s.file.records → IsDeclaratorTimely untagged ends s.is_inside n d → (z : List Derivation × FileScope) → derivations d s ≡ Ok z → ReadSteps s d z
+      → n ≤ length s.file.records → IsDeclaratorTimely untagged ends s.is_inside n d → (z : List Derivation × FileScope) → derivations d s ≡ Ok z
+      → ReadSteps s d z
   unfolding derivations array_step
   read_steps Trees.nothing s n i r e l w z h =
       given (ReadSteps s Trees.nothing) ([], s.file) z h (record {

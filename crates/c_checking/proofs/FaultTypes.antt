@@ -1,31 +1,31 @@
 -- Where finding stops in a type name, a specifier, a member or a parameter, a rule is broken.
-use Rattle.std.proofs.Common.{◌≡◌, ◌≢◌, ℕ, ◌+◌, ◌≤◌, ◌<◌, Bool, true, false, refl, sym, ap, ◌∙◌, subst, List, [], ◌∷◌, ◌++◌, length, inl, inr, arith}
-use Rattle.std.specs.Prelude.{Option, Some, None, Ok, Err, ◌⊎◌, ◌^◌, map, slice_get}
+use Rattle.std.proofs.Common.{◌≡◌, ℕ, ◌<◌, true, false, refl, sym, ap, ◌∙◌, subst, List, [], ◌∷◌, length, inl, inr, arith}
+use Rattle.std.specs.Prelude.{Option, Some, None, Ok, Err, ◌⊎◌, slice_get}
 use Rattle.lay_base.specs.declared.faults.Rule.TheVariants as R
 use Rattle.c_types.specs.Types.{CType, Field, Record}
 use Rattle.c_types.specs.Layouts.{size_of_record}
 use Rattle.c_ast.specs.declared.words.Spelling.{Spelling}
 use Rattle.c_ast.specs.Trees
-use Rattle.c_erasure.specs.Broken.{Fault, ill_typed, redeclared, too_big, AreNoType, AreBroken, IsBrokenDeclarator, IsBrokenWithin, IsBrokenSpecifier, IsBrokenAmong}
+use Rattle.c_erasure.specs.Broken.{Fault, ill_typed, redeclared, too_big, AreNoType, AreBroken, IsBrokenDeclarator, IsBrokenWithin, IsBrokenSpecifier}
+use Rattle.c_erasure.specs.Broken.{IsBrokenAmong}
 use Rattle.c_erasure.specs.Broken.{IsRepeated, IsDefinedBefore, IsDeclaredBefore, member_names, tag_place}
-use Rattle.c_erasure.specs.Declarators.{Shape, open_array}
-use Rattle.c_erasure.specs.Erasure.{Declares, AreFields, tag_text, place_in, comma_or, with_parameter_if_named}
+use Rattle.c_erasure.specs.Declarators.{open_array}
+use Rattle.c_erasure.specs.Erasure.{Declares, tag_text, place_in, with_parameter_if_named}
 use Rattle.c_erasure.specs.Marks as Marks
 use Rattle.c_erasure.specs.Marks.{Mark, a_tag, an_end, a_name, marks_of_specifier}
 use Rattle.c_erasure.specs.Scopes.{Bound, FileScope, Scope}
 use Rattle.c_erasure.specs.Specifiers.{types_among}
 use Rattle.c_checking.specs.Answers.{Checked, with_file, moved}
-use Rattle.c_checking.specs.Declaring.{Derivation, derived, closed_at, base_kind, tagged_in, enumerated_in, number_among, completed_in, enumerator_in}
+use Rattle.c_checking.specs.Declaring.{Derivation, derived, base_kind, tagged_in, enumerated_in, completed_in, enumerator_in}
 use Rattle.c_checking.specs.Finding.{base_type, type_of_derived}
 use Rattle.c_typed.specs.Conversions.{is_scalar}
 use Rattle.c_checking.proofs.Results.{ok}
-use Rattle.c_checking.proofs.Extends.{Extends, itself, further}
-use Rattle.c_checking.proofs.Agreement.{Ready, IsGrown, IsSteady, added}
+use Rattle.c_checking.proofs.Extends.{itself}
 use Rattle.c_checking.proofs.FoundTypes.{FoundSteps, FoundFields, tag_text_same, ready_inside}
-use Rattle.c_checking.proofs.FoundDeclarators.{parameter_ready, parameter_inside}
-use Rattle.c_checking.proofs.FaultResults.{Broken, bound_err, with_file_err, here, there, whole}
+use Rattle.c_checking.proofs.FoundDeclarators.{parameter_ready}
+use Rattle.c_checking.proofs.FaultResults.{Broken, bound_err, with_file_err, here, there}
 use Rattle.c_checking.proofs.FaultDeclaring.{base_fault, closed_fault, tagged_fault, enumerated_fault, completed_fault, IsEarlier, enumerator_fault}
-use Rattle.c_checking.proofs.FaultPremises.{Prepared, IsPrepared, inside_prepared}
+use Rattle.c_checking.proofs.FaultPremises.{Prepared, inside_prepared}
 use Rattle.c_checking.proofs.FaultSteps.{ReadSteps}
 
 -- ---- declarators (6.7.5)

@@ -1,8 +1,8 @@
 -- Each fault at which finding stops is one: in a file that goes on from the one at which it starts, the rule that the fault names is broken.
 use Rattle.std.proofs.Common.{◌≡◌, ℕ, ◌+◌, ◌≤◌, ◌<◌, Bool, true, false, refl, sym, ◌∙◌, subst, List, [], ◌∷◌, ◌++◌, length, inl, inr, arith}
-use Rattle.std.specs.Prelude.{◌^◌, ◌%◌, ◌⊎◌, Option, Some, None, Ok, Err, slice_get}
+use Rattle.std.specs.Prelude.{◌^◌, ◌%◌, ◌⊎◌, Option, Some, Ok, Err, slice_get}
 use Rattle.lay_base.specs.declared.faults.Rule.TheVariants as R
-use Rattle.c_types.specs.Types.{CType, CTypes, no_types, and_type, function, Field}
+use Rattle.c_types.specs.Types.{CType, CTypes, no_types, and_type, function}
 use Rattle.c_types.specs.Objects.{is_object}
 use Rattle.c_types.specs.Layouts.{size_of}
 use Rattle.c_ast.specs.declared.words.Spelling.{Spelling}
@@ -10,46 +10,53 @@ use Rattle.c_ast.specs.Trees
 use Rattle.c_ast.specs.Places.{first, first_specifiers, first_declarator}
 use Rattle.c_typed.specs.declared.program.MentionKind.TheVariants.{Named}
 use Rattle.c_typed.specs.Trees as Typed
-use Rattle.c_erasure.specs.Broken.{Fault, ill_typed, undeclared, redeclared, too_big, IsThing, HasNoValue, IsSound, HasLengths, IsBroken, IsBrokenIn, IsBrokenTypeName}
-use Rattle.c_erasure.specs.Broken.{AreBroken, IsBrokenSpecifier, AreBrokenEnumerators, IsBrokenValue, AreBrokenMembers, AreBrokenFields, IsBrokenDeclarator, IsBrokenWithin}
+use Rattle.c_erasure.specs.Broken.{Fault, ill_typed, too_big, IsThing, HasNoValue, IsSound, IsBroken, IsBrokenIn, IsBrokenTypeName}
+use Rattle.c_erasure.specs.Broken.{AreBroken, IsBrokenSpecifier, AreBrokenEnumerators, IsBrokenValue, AreBrokenMembers, AreBrokenFields, IsBrokenDeclarator}
+use Rattle.c_erasure.specs.Broken.{IsBrokenWithin}
 use Rattle.c_erasure.specs.Broken.{IsBrokenLength, AreBrokenParameters, IsBrokenAmong, AreUnfitArguments, IsFunctionType, IsOldName, called_type}
-use Rattle.c_erasure.specs.Declarators.{declared_name, parameter_type, Shape, closed, open_array}
-use Rattle.c_erasure.specs.Erasure.{place_in, literal_of, tag_text, comma_or, after_all, IsBase, IsOne, Declares, IsTypeName, AreMembers, with_parameter_if_named}
+use Rattle.c_erasure.specs.Declarators.{declared_name, parameter_type, closed, open_array}
+use Rattle.c_erasure.specs.Erasure.{place_in, literal_of, comma_or, after_all, IsBase, IsOne, Declares, IsTypeName, with_parameter_if_named}
 use Rattle.c_erasure.specs.Erasure.{IsNew}
 use Rattle.c_erasure.specs.Marks as Marks
 use Rattle.c_erasure.specs.Marks.{Mark, a_tag, a_name, an_end, marks, marks_of_all, marks_of_type, marks_of_specifiers, marks_of_specifier, marks_of_members}
 use Rattle.c_erasure.specs.Marks.{marks_of_member_declarators, marks_of_enumerators, marks_of_value, marks_of_declarator, an_enumeration}
-use Rattle.c_erasure.specs.Noted.{Noted, Expression, Thing, type_of}
+use Rattle.c_erasure.specs.Noted.{Noted, Thing}
 use Rattle.c_erasure.specs.Scopes.{FileScope, Scope, Tag, inside, measured, for_value, named, ended}
 use Rattle.c_erasure.specs.Specifiers.{types_among, storage_of, is_word}
-use Rattle.c_checking.specs.Answers.{Answer, ◌>>=◌, Checked, with_file, moved}
-use Rattle.c_checking.specs.Nodes.{named_in, signature_in, argument_in, call_in, target_in, measured_in, sized_type, cast_in}
-use Rattle.c_checking.specs.Declaring.{with_mention, mentions_in, Derivation, derived, length_value, object_at, base_kind, without_storage, parameter_storage, scalar_parameter}
-use Rattle.c_checking.specs.Declaring.{enumerator_in, type_named, definable, known_tag, completed_in, int_value, next_value, enumeration_of, new_if_named}
-use Rattle.c_checking.specs.Finding.{complete, value_at, tested_at, constant_at, base_type, type_of_derived, find, arguments, type_name, one_of, specified, members}
+use Rattle.c_checking.specs.Answers.{Answer, ◌>>=◌, with_file, moved}
+use Rattle.c_checking.specs.Nodes.{worth, named_in, signature_in, argument_in, call_in, target_in, measured_in, sized_type, cast_in}
+use Rattle.c_checking.specs.Declaring.{with_mention, mentions_in, derived, length_value, object_at, base_kind, without_storage, parameter_storage}
+use Rattle.c_checking.specs.Declaring.{scalar_parameter}
+use Rattle.c_checking.specs.Declaring.{enumerator_in, type_named, definable, known_tag, int_value, next_value, enumeration_of, new_if_named}
+use Rattle.c_checking.specs.Finding.{complete, value_at, constant_at, base_type, type_of_derived, find, arguments, type_name, one_of, specified, members}
 use Rattle.c_checking.specs.Finding.{with_member, member_declarators, enumerators, enumerator_value, derivations, array_step, parameter_list, parameters}
 use Rattle.c_checking.proofs.InRange.{IsInRange, AreInRange, IsTypeInRange, AreSpecifiersInRange, IsSpecifierInRange, AreMembersInRange, AreDeclaratorsInRange}
 use Rattle.c_checking.proofs.InRange.{AreEnumeratorsInRange, IsValueInRange, IsDeclaratorInRange, IsListInRange, AreParametersInRange}
 use Rattle.c_checking.proofs.Extends.{Extends, itself, further, at_end, bound_stays, constants_stay}
-use Rattle.c_checking.proofs.Agreement.{added, none_grown, then, Grew}
+use Rattle.c_checking.proofs.Agreement.{added, none_grown, then}
 use Rattle.c_checking.proofs.Declared.{mentioned, before_mention, no_storage_is, parameter_storage_is, enumerator_is, new_is}
 use Rattle.c_checking.proofs.Results.{with_file_ok}
 use Rattle.c_checking.proofs.NodesOfParts.{signature_is}
 use Rattle.c_checking.proofs.Derived.{type_derived, object_is}
-use Rattle.c_checking.proofs.Found.{Found, FoundType, valued}
-use Rattle.c_checking.proofs.FoundTypes.{FoundBase, base_found, struct_ready, bound_of, enumerator_grown, after_mark}
+use Rattle.c_checking.proofs.Found.{valued}
+use Rattle.c_checking.proofs.FoundTypes.{base_found, bound_of, enumerator_grown}
 use Rattle.c_checking.proofs.FoundDeclarators.{ready_in, parameter_inside, behind_parameter, parameter_made}
 use Rattle.c_checking.proofs.Sound.{sound, sound_type, sound_one, sound_members, sound_declarators, sound_value, sound_steps, sound_enumerators, constant_part}
 use Rattle.c_checking.proofs.FaultResults.{Broken, same_fault, bound_err, with_file_err, beside_err, chosen_err, here, there, whole, later}
 use Rattle.c_checking.proofs.FaultNodes.{named_fault, signature_fault, argument_fault, call_fault, target_fault, sized_fault, cast_fault}
-use Rattle.c_checking.proofs.FaultDeclaring.{type_named_fault, unless_fault, definable_fault, enumeration_fault, int_fault, next_fault, length_fault, object_fault}
+use Rattle.c_checking.proofs.FaultDeclaring.{type_named_fault, unless_fault, definable_fault, enumeration_fault, int_fault, next_fault, length_fault}
+use Rattle.c_checking.proofs.FaultDeclaring.{object_fault}
 use Rattle.c_checking.proofs.FaultDeclaring.{orderly_stays, storage_fault, parameter_storage_fault, new_fault, scalar_fault}
-use Rattle.c_checking.proofs.FaultPremises.{Prepared, inside_prepared, records_grow, left, right, known_after, IsTimely, AreTimely, IsTypeTimely, AreSpecifiersTimely, IsSpecifierTimely, AreMembersTimely}
-use Rattle.c_checking.proofs.FaultPremises.{AreDeclaratorsTimely, AreEnumeratorsTimely, IsValueTimely, IsDeclaratorTimely, IsLengthTimely, IsListTimely, AreParametersTimely}
-use Rattle.c_checking.proofs.FaultSteps.{ReadSteps, read_steps, asked}
-use Rattle.c_checking.proofs.FaultParts.{literal_stops, Read, FoundPart, thing_stands, value_stands, value_part, constant_stops, StopsAtConstant, index_stops, dot_stops}
-use Rattle.c_checking.proofs.FaultParts.{arrow_stops, post_stops, pre_stops, unary_stops, sizeof_stops, binary_stops, comma_stops, tested_part, choice_stops, assign_stops}
-use Rattle.c_checking.proofs.FaultTypes.{within_broken, base_stops, shape_stops, struct_named_stops, enum_named_stops, struct_body_stops, enumerator_stops, prepared_inside}
+use Rattle.c_checking.proofs.FaultPremises.{Prepared, inside_prepared, records_grow, left, right, known_after, IsTimely, AreTimely, IsTypeTimely}
+use Rattle.c_checking.proofs.FaultPremises.{AreSpecifiersTimely, IsSpecifierTimely, AreMembersTimely}
+use Rattle.c_checking.proofs.FaultPremises.{AreDeclaratorsTimely, AreEnumeratorsTimely, IsValueTimely, IsDeclaratorTimely, IsListTimely, AreParametersTimely}
+use Rattle.c_checking.proofs.FaultSteps.{read_steps, asked}
+use Rattle.c_checking.proofs.FaultParts.{literal_stops, Read, thing_stands, value_stands, worthless, value_part, constant_stops, StopsAtConstant, index_stops}
+use Rattle.c_checking.proofs.FaultParts.{dot_stops}
+use Rattle.c_checking.proofs.FaultParts.{arrow_stops, post_stops, pre_stops, unary_stops, sizeof_stops, binary_stops, comma_stops, tested_part, choice_stops}
+use Rattle.c_checking.proofs.FaultParts.{assign_stops}
+use Rattle.c_checking.proofs.FaultTypes.{within_broken, base_stops, shape_stops, struct_named_stops, enum_named_stops, struct_body_stops, enumerator_stops}
+use Rattle.c_checking.proofs.FaultTypes.{prepared_inside}
 use Rattle.c_checking.proofs.FaultTypes.{parameter_prepared, parameter_file, behind_broken}
 
 tag_ends_nothing : (b : Bool) (t : Tag) → added b (a_tag t ∷ []) ≡ 0
@@ -68,7 +75,8 @@ new_stops s x g r k f P h p q o =
     o n.0 z.0 w.0 (subst (λ g. k (z.0, g) ≡ Err f) (sym w.1) h))
 
 module _ (untagged : ℕ → List ℕ) (ends : List ℕ) where
-  reading : (a : Trees.Expression) (s : Scope) → IsInRange a → Prepared untagged ends s (marks untagged a)
+  -- what the theorems say of a part, as the lemmas of its alternatives ask it
+  pub reading : (a : Trees.Expression) (s : Scope) → IsInRange a → Prepared untagged ends s (marks untagged a)
       → ((f : Fault) → find a s ≡ Err f → Broken s (λ s. IsBroken a s f)) → Read untagged s a (find a s)
   reading a s i p names = record {
     steady = p.steady;
@@ -79,7 +87,7 @@ module _ (untagged : ℕ → List ℕ) (ends : List ℕ) where
 
   -- ---- arguments
 
-  abbrev Stop : Trees.Arguments → ℕ → CTypes → Fault → Scope → Type 0
+  abbrev pub Stop : Trees.Arguments → ℕ → CTypes → Fault → Scope → Type 0
   Stop all right types f s = IsBrokenIn all s f ⊎ AreUnfitArguments all s right types f
 
   arguments_broken : (s : Scope) (g : Trees.Expression) (from : ℕ) (all : Trees.Arguments) (to : ℕ) (th : Thing) (types : CTypes) → IsThing g s th
@@ -87,7 +95,8 @@ module _ (untagged : ℕ → List ℕ) (ends : List ℕ) where
   arguments_broken s g from all to th types t c f (inl b) = inr (inl ((th, t), b))
   arguments_broken s g from all to th types t c f (inr b) = inr (inr (inr (types, (th, t, c), b)))
 
-  argument_behind : (s : Scope) (comma : Option ℕ) (a : Trees.Expression) (rest : Trees.Arguments) (to : ℕ) (t : CType) (more : CTypes) (f : Fault) → IsSound a s
+  argument_behind : (s : Scope) (comma : Option ℕ) (a : Trees.Expression) (rest : Trees.Arguments) (to : ℕ) (t : CType) (more : CTypes) (f : Fault)
+      → IsSound a s
       → Stop rest to more f s → Stop (Trees.and_argument comma a rest) to (and_type t more) f s
   argument_behind s comma a rest to t more f i (inl b) = inl (inr (inr (i, b)))
   argument_behind s comma a rest to t more f i (inr b) = inr (inr (i, b))
@@ -122,7 +131,7 @@ module _ (untagged : ℕ → List ℕ) (ends : List ℕ) where
 
   -- ---- enumerators
 
-  abbrev StopsAtValue : Trees.EnumeratorValue → (at next : ℕ) → Fault → Scope → Type 0
+  abbrev pub StopsAtValue : Trees.EnumeratorValue → (at next : ℕ) → Fault → Scope → Type 0
   StopsAtValue value at next f s = IsBrokenValue value s f ⊎ ((f ≡ ill_typed R.Constant at) × (value ≡ Trees.no_value) × (next ≡ 2 ^ 31))
 
   value_broken : (s : Scope) (equal : ℕ) (a : Trees.Expression) (f : Fault) → StopsAtConstant untagged a f s → IsBrokenValue (Trees.valued equal a) s f
@@ -142,7 +151,8 @@ module _ (untagged : ℕ → List ℕ) (ends : List ℕ) where
         → IsTimely untagged ends s.is_inside n a → (f : Fault) → find a s ≡ Err f → Broken s (λ s. IsBroken a s f)
     faults (Trees.name x) s n i p l t f h =
         here s (λ s. IsBroken (Trees.name x) s f)
-        (named_fault (place_in s x.from) x.text (named s x.text x.from) f (with_file_err s.file (named_in (place_in s x.from) x.text (named s x.text x.from)) f h))
+        (named_fault (place_in s x.from) x.text (named s x.text x.from) f
+        (with_file_err s.file (named_in (place_in s x.from) x.text (named s x.text x.from)) f h))
     faults (Trees.number x v kind) s n i p l t f h = cc
     faults (Trees.character x v) s n i p l t f h = cc
     faults (Trees.texts all) s n i p l t f h = absurd (literal_stops s (place_in s (first (Trees.texts all))) (literal_of all) f h)
@@ -297,7 +307,8 @@ module _ (untagged : ℕ → List ℕ) (ends : List ℕ) where
     faults (Trees.braces from all comma to) s n i p l t f h =
         here s (λ s. IsBroken (Trees.braces from all comma to) s f) (same_fault (Thing × FileScope) (ill_typed R.Init from) f h)
 
-    pub faults_all : (all : Trees.Arguments) (to : ℕ) (types : CTypes) (s : Scope) (n : ℕ) → AreInRange all → Prepared untagged ends s (marks_of_all untagged all)
+    pub faults_all : (all : Trees.Arguments) (to : ℕ) (types : CTypes) (s : Scope) (n : ℕ) → AreInRange all
+        → Prepared untagged ends s (marks_of_all untagged all)
         → n ≤ length s.file.records → AreTimely untagged ends s.is_inside n all → (f : Fault) → arguments to types all s ≡ Err f
         → Broken s (Stop all to types f)
     faults_all Trees.no_arguments to no_types s n i p l t f h = cc
@@ -325,7 +336,8 @@ module _ (untagged : ℕ → List ℕ) (ends : List ℕ) where
         (λ g p h. argument_behind (moved s g) comma a rest to c more f (v.stands g p) h))
         (λ ys k h. cc)))
 
-    pub faults_type : (m : Trees.TypeName) (s : Scope) (n : ℕ) → IsTypeInRange m → Prepared untagged ends s (marks_of_type untagged m) → n ≤ length s.file.records
+    pub faults_type : (m : Trees.TypeName) (s : Scope) (n : ℕ) → IsTypeInRange m → Prepared untagged ends s (marks_of_type untagged m)
+        → n ≤ length s.file.records
         → IsTypeTimely untagged ends s.is_inside n m → (f : Fault) → type_name m s ≡ Err f → Broken s (λ s. IsBrokenTypeName m s f)
     faults_type (Trees.type_name specs d) s n i p l t f h =
         let at = first_specifiers specs in
@@ -372,13 +384,15 @@ module _ (untagged : ℕ → List ℕ) (ends : List ℕ) where
         whole s (λ s. IsBrokenSpecifier (Trees.struct_named at y) s f) (λ s. AreBroken (Trees.and_specifier (Trees.struct_named at y) more) s f)
         (faults_specifier (Trees.struct_named at y) s n i.0 (left untagged ends _ _ p) l t refl f h) (λ g p h. inl h)
     faults_one (Trees.and_specifier (Trees.struct_body at y from all to) more) s n i p l t x e f h =
-        whole s (λ s. IsBrokenSpecifier (Trees.struct_body at y from all to) s f) (λ s. AreBroken (Trees.and_specifier (Trees.struct_body at y from all to) more) s f)
+        whole s (λ s. IsBrokenSpecifier (Trees.struct_body at y from all to) s f)
+        (λ s. AreBroken (Trees.and_specifier (Trees.struct_body at y from all to) more) s f)
         (faults_specifier (Trees.struct_body at y from all to) s n i.0 (left untagged ends _ _ p) l t refl f h) (λ g p h. inl h)
     faults_one (Trees.and_specifier (Trees.enum_named at y) more) s n i p l t x e f h =
         whole s (λ s. IsBrokenSpecifier (Trees.enum_named at y) s f) (λ s. AreBroken (Trees.and_specifier (Trees.enum_named at y) more) s f)
         (faults_specifier (Trees.enum_named at y) s n i.0 (left untagged ends _ _ p) l t refl f h) (λ g p h. inl h)
     faults_one (Trees.and_specifier (Trees.enum_body at y from all comma to) more) s n i p l t x e f h =
-        whole s (λ s. IsBrokenSpecifier (Trees.enum_body at y from all comma to) s f) (λ s. AreBroken (Trees.and_specifier (Trees.enum_body at y from all comma to) more) s f)
+        whole s (λ s. IsBrokenSpecifier (Trees.enum_body at y from all comma to) s f)
+        (λ s. AreBroken (Trees.and_specifier (Trees.enum_body at y from all comma to) more) s f)
         (faults_specifier (Trees.enum_body at y from all comma to) s n i.0 (left untagged ends _ _ p) l t refl f h) (λ g p h. inl h)
 
     pub faults_specifier : (x : Trees.Specifier) (s : Scope) (n : ℕ) → IsSpecifierInRange x → Prepared untagged ends s (marks_of_specifier untagged x)
@@ -412,7 +426,8 @@ module _ (untagged : ℕ → List ℕ) (ends : List ℕ) where
         let u = marks_of_enumerators untagged all (after_all comma to) in
         let before = left untagged ends u (an_enumeration untagged x to) p in
         chosen_err s.is_inside _ _ f (Broken s (λ s. IsBrokenSpecifier (Trees.enum_body at x from all comma to) s f)) h
-        (λ j h. here s (λ s. IsBrokenSpecifier (Trees.enum_body at x from all comma to) s f) (inl (same_fault (CType × FileScope) (ill_typed R.Scope at) f h, j)))
+        (λ j h. here s (λ s. IsBrokenSpecifier (Trees.enum_body at x from all comma to) s f)
+        (inl (same_fault (CType × FileScope) (ill_typed R.Scope at) f h, j)))
         (λ j h. bound_err (enumerators all s 0 (after_all comma to)) _ f (Broken s (λ s. IsBrokenSpecifier (Trees.enum_body at x from all comma to) s f)) h
         (λ e. whole s (λ s. AreBrokenEnumerators all s 0 (after_all comma to) f) (λ s. IsBrokenSpecifier (Trees.enum_body at x from all comma to) s f)
         (faults_enumerators all s 0 (after_all comma to) n j (omega arith) i before l t f e) (λ g p h. inr (inl h)))
@@ -446,8 +461,10 @@ module _ (untagged : ℕ → List ℕ) (ends : List ℕ) where
         let v = base_found untagged s specs at (one_of specs s) (λ x e y j. sound_one untagged specs s i.0 before.ready x e y j) b q.1 in
         let after = right untagged ends u k own v.grew in
         let known = known_after n l v.grew in
-        bound_err (member_declarators ds b.0 semicolon (moved s b.1)) _ f (Broken s (λ s. AreBrokenMembers (Trees.and_member_declaration specs ds semicolon more) s f)) h
-        (λ e. later s b.1 v.grew.extends (λ s. AreBrokenFields ds s b.0 semicolon f) (λ s. AreBrokenMembers (Trees.and_member_declaration specs ds semicolon more) s f)
+        bound_err (member_declarators ds b.0 semicolon (moved s b.1)) _ f
+        (Broken s (λ s. AreBrokenMembers (Trees.and_member_declaration specs ds semicolon more) s f)) h
+        (λ e. later s b.1 v.grew.extends (λ s. AreBrokenFields ds s b.0 semicolon f)
+        (λ s. AreBrokenMembers (Trees.and_member_declaration specs ds semicolon more) s f)
         (faults_declarators ds b.0 semicolon (moved s b.1) (n + added s.is_inside u) i.1 after known t.1 f e)
         (λ g p h. inr (inr (inr (b.0, v.holds g p, inl h)))))
         (λ c e h.
@@ -456,7 +473,8 @@ module _ (untagged : ℕ → List ℕ) (ends : List ℕ) where
         bound_err (members more (moved s c.1)) _ f (Broken s (λ s. AreBrokenMembers (Trees.and_member_declaration specs ds semicolon more) s f)) h
         (λ e. later s c.1 (further v.grew.extends w.grew.extends) (λ s. AreBrokenMembers more s f)
         (λ s. AreBrokenMembers (Trees.and_member_declaration specs ds semicolon more) s f)
-        (faults_members more (moved s c.1) (n + added s.is_inside u + added s.is_inside k) i.2 last (known_after (n + added s.is_inside u) known w.grew) t.2 f e)
+        (faults_members more (moved s c.1) (n + added s.is_inside u + added s.is_inside k) i.2 last
+        (known_after (n + added s.is_inside u) known w.grew) t.2 f e)
         (λ g p h. inr (inr (inr (b.0, v.holds g (further w.grew.extends p), inr (c.0, w.holds g p, h))))))
         (λ rest e h. cc)))
 
@@ -476,14 +494,16 @@ module _ (untagged : ℕ → List ℕ) (ends : List ℕ) where
         let v = sound_steps untagged d s i.0 before.ready steps e in
         let w = read_steps untagged ends d s n i.0 before.ready before.ends_are l t.0 steps e in
         let known = known_after n l v.grew in
-        beside_err steps.1 (type_of_derived at steps.1 steps.0 base) _ f (Broken s (λ s. AreBrokenFields (Trees.and_member_declarator comma d more) s base semicolon f)) h
+        beside_err steps.1 (type_of_derived at steps.1 steps.0 base) _ f
+        (Broken s (λ s. AreBrokenFields (Trees.and_member_declarator comma d more) s base semicolon f)) h
         (λ k. there s (λ s. AreBrokenFields (Trees.and_member_declarator comma d more) s base semicolon f) steps.1 v.grew.extends
         (field_broken (moved s steps.1) comma d more base semicolon f (shape_stops untagged ends s d steps v w at base f k)))
         (λ c k h.
         let ask = asked untagged ends s (n + added s.is_inside u) at steps.1 p.ends_are t.1 known in
         let declares = λ (g : FileScope) (q : Extends steps.1 g).
         v.holds g q steps.1.records q.records.0 q.records.1 base (closed c) (type_derived at steps.1 steps.0 base c k) in
-        beside_err steps.1 (object_at steps.1.records (complete s at) at c) _ f (Broken s (λ s. AreBrokenFields (Trees.and_member_declarator comma d more) s base semicolon f)) h
+        beside_err steps.1 (object_at steps.1.records (complete s at) at c) _ f
+        (Broken s (λ s. AreBrokenFields (Trees.and_member_declarator comma d more) s base semicolon f)) h
         (λ k.
         let m = object_fault steps.1.records (complete s at) at c ask f k in
         there s (λ s. AreBrokenFields (Trees.and_member_declarator comma d more) s base semicolon f) steps.1 v.grew.extends
@@ -541,7 +561,8 @@ module _ (untagged : ℕ → List ℕ) (ends : List ℕ) where
         (right untagged ends own rest later_on grown) (omega (arith, known, grew)) t.1 f h)
         (λ d q h. inr (inr (inr (v.0, w.holds d (further grown.extends q), (length v.1.names, bound_stays q (length v.1.names) c there_is), h))))))
 
-    pub faults_value : (value : Trees.EnumeratorValue) (s : Scope) (at next n : ℕ) → IsValueInRange value → Prepared untagged ends s (marks_of_value untagged value)
+    pub faults_value : (value : Trees.EnumeratorValue) (s : Scope) (at next n : ℕ) → IsValueInRange value
+        → Prepared untagged ends s (marks_of_value untagged value)
         → n ≤ length s.file.records → IsValueTimely untagged ends s.is_inside n value → (f : Fault) → enumerator_value value s at next ≡ Err f
         → Broken s (StopsAtValue value at next f)
     faults_value Trees.no_value s at next n i p l t f h =
@@ -602,7 +623,8 @@ module _ (untagged : ℕ → List ℕ) (ends : List ℕ) where
     faults_steps (Trees.function d from all to) s n i p l t f h =
         let u = marks_of_declarator untagged d in
         bound_err (derivations d s) _ f (Broken s (λ s. IsBrokenWithin (Trees.function d from all to) s f)) h
-        (λ e. whole s (λ s. IsBrokenWithin d s f) (λ s. IsBrokenWithin (Trees.function d from all to) s f) (faults_steps d s n i.0 p l t.0 f e) (λ g p h. inl h))
+        (λ e. whole s (λ s. IsBrokenWithin d s f) (λ s. IsBrokenWithin (Trees.function d from all to) s f) (faults_steps d s n i.0 p l t.0 f e)
+        (λ g p h. inl h))
         (λ steps e h.
         let v = sound_steps untagged d s i.0 p.ready steps e in
         let own = inside (moved s steps.1) in
@@ -614,8 +636,9 @@ module _ (untagged : ℕ → List ℕ) (ends : List ℕ) where
         record { file = b.file; extends = further v.grew.extends b.extends; is = inr b.is })
         (λ types k h. cc))
 
-    faults_list : (all : Trees.ParameterList) (s : Scope) (n : ℕ) → s.is_inside ≡ true → IsListInRange all → Prepared untagged ends s []
-        → n ≤ length s.file.records → IsListTimely untagged ends n all → (f : Fault) → parameter_list all s ≡ Err f → Broken s (λ s. AreBrokenParameters all s f)
+    pub faults_list : (all : Trees.ParameterList) (s : Scope) (n : ℕ) → s.is_inside ≡ true → IsListInRange all → Prepared untagged ends s []
+        → n ≤ length s.file.records → IsListTimely untagged ends n all → (f : Fault) → parameter_list all s ≡ Err f
+        → Broken s (λ s. AreBrokenParameters all s f)
     faults_list (Trees.void_alone at) s n i r p l t f h = cc
     faults_list (Trees.listed all) s n i r p l t f h =
         whole s (λ s. IsBrokenAmong all s f) (λ s. AreBrokenParameters (Trees.listed all) s f) (faults_parameters all s n i r p l t f h) (λ g p h. h)
@@ -661,7 +684,8 @@ module _ (untagged : ℕ → List ℕ) (ends : List ℕ) where
         (λ o. there s (λ s. IsBrokenAmong (Trees.and_parameter comma specs d more) s f) steps.1 ext
         (inr (inr (inr (inr (inl (b.0, v.holds steps.1 w.grew.extends, y.broken steps.1 j b.0 f o)))))))
         (λ shape o h.
-        new_stops s name steps.1 (scalar_parameter place (parameter_type shape)) _ f (Broken s (λ s. IsBrokenAmong (Trees.and_parameter comma specs d more) s f)) h
+        new_stops s name steps.1 (scalar_parameter place (parameter_type shape)) _ f
+        (Broken s (λ s. IsBrokenAmong (Trees.and_parameter comma specs d more) s f)) h
         (λ old. here s (λ s. IsBrokenAmong (Trees.and_parameter comma specs d more) s f) (inr (inr (inr (inl old)))))
         (λ c.
         let m = scalar_fault place (parameter_type shape) f c in
@@ -698,3 +722,19 @@ module _ (untagged : ℕ → List ℕ) (ends : List ℕ) where
           inr (subst (λ t. IsBrokenAmong more (with_parameter_if_named (moved s g) name t) f) made.ty_is h),
         )))))))
         (λ rest e h. cc)))))
+
+  -- where a value is asked for
+  pub value_faults : (a : Trees.Expression) (s : Scope) (n : ℕ) → IsInRange a → Prepared untagged ends s (marks untagged a) → n ≤ length s.file.records
+      → IsTimely untagged ends s.is_inside n a → (f : Fault) → value_at (first a) (find a s) ≡ Err f
+      → Broken s (λ s. IsBroken a s f) ⊎ Broken s (λ s. HasNoValue a s f)
+  value_faults a s n i p l t f h =
+      let part = reading a s i p (λ f k. faults a s n i p l t f k) in
+      bound_err (find a s) _ f (Broken s (λ s. IsBroken a s f) ⊎ Broken s (λ s. HasNoValue a s f)) h (λ e. inl (part.names f e))
+      (λ y e h. inr (worthless untagged s a (find a s) part y e f (with_file_err y.1 (worth (first a) y.0) f h)))
+
+  -- and where a constant is
+  pub constant_faults : (a : Trees.Expression) (s : Scope) (n : ℕ) → IsInRange a → Prepared untagged ends s (marks untagged a) → n ≤ length s.file.records
+      → IsTimely untagged ends s.is_inside n a → (f : Fault) → constant_at (first a) (value_at (first a) (find a (for_value s))) ≡ Err f
+      → Broken s (StopsAtConstant untagged a f)
+  constant_faults a s n i p l t f h =
+      constant_stops untagged s a (find a (for_value s)) (reading a (for_value s) i p (λ f k. faults a (for_value s) n i p l t f k)) f h

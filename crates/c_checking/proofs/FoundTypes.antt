@@ -1,5 +1,6 @@
 -- What is found for type names, specifiers and declarators, in each file that goes on from the one that finding leaves.
-use Rattle.std.proofs.Common.{◌≡◌, ℕ, zero, suc, ◌+◌, ◌<◌, Bool, true, false, refl, sym, ap, ◌∙◌, subst, List, [], ◌∷◌, ◌++◌, length, length-append, inl, inr, arith}
+use Rattle.std.proofs.Common.{◌≡◌, ℕ, zero, suc, ◌+◌, ◌<◌, Bool, true, false, refl, sym, ap, ◌∙◌, subst, List, [], ◌∷◌, ◌++◌, length, length-append, inl, inr}
+use Rattle.std.proofs.Common.{arith}
 use Rattle.std.proofs.lemmas.List.{map-append}
 use Rattle.std.specs.Prelude.{◌⊎◌, ◌^◌, ◌%◌, map, Option, Some, None, Ok, slice_get}
 use Rattle.c_types.specs.declared.ty.IntKind.{IntKind}
@@ -203,7 +204,8 @@ module _ (untagged : ℕ → List ℕ) where
     where
       of_tag : (k : ℕ) (q : Record) → (slice_get f.records k ≡ Some q) ⊎ ((k ≡ length f.records) × (r ≡ q)) → slice_get f.numbered k ≡ Some q.tag
       of_tag k q (inl e) = h.tagged k q e
-      of_tag k q (inr e) = subst (λ k. slice_get f.numbered k ≡ Some q.tag) (sym e.0) (subst (λ (q : Record). slice_get f.numbered (length f.records) ≡ Some q.tag) e.1 n)
+      of_tag k q (inr e) = subst (λ k. slice_get f.numbered k ≡ Some q.tag) (sym e.0)
+          (subst (λ (q : Record). slice_get f.numbered (length f.records) ≡ Some q.tag) e.1 n)
 
       of_fields : (k j : ℕ) (q : Record) (x : Field) → (slice_get f.records k ≡ Some q) ⊎ ((k ≡ length f.records) × (r ≡ q)) → slice_get q.fields j ≡ Some x
           → IsObjectType x.ty
@@ -243,7 +245,8 @@ module _ (untagged : ℕ → List ℕ) where
   fields_proper s (Trees.and_member_declaration specs ds semicolon more) fields (base, own, rest, w, storage, is, members, others) j x e =
       by_part (λ k g. fields_proper s more rest others k x g) (one_of_both own rest j x (subst (λ fields. slice_get fields j ≡ Some x) w e))
     where
-      by_part : ((k : ℕ) → slice_get rest k ≡ Some x → IsObjectType x.ty) → (slice_get own j ≡ Some x) ⊎ ((k : ℕ) × (j ≡ length own + k) × (slice_get rest k ≡ Some x)) → IsObjectType x.ty
+      by_part : ((k : ℕ) → slice_get rest k ≡ Some x → IsObjectType x.ty)
+          → (slice_get own j ≡ Some x) ⊎ ((k : ℕ) × (j ≡ length own + k) × (slice_get rest k ≡ Some x)) → IsObjectType x.ty
       by_part later (inl g) = members_proper s base ds semicolon own members j x g
       by_part later (inr g) = later g.0 g.2
 
@@ -334,7 +337,8 @@ module _ (untagged : ℕ → List ℕ) where
 
   name_grown : (f : FileScope) (b : Bool) → b ≡ false → (from : ℕ) (x : Bound) (v : ℕ) → x.from ≡ from → x.entity ≡ enumerator v → v < 2 ^ 32
       → IsGrown f b (a_name from ∷ []) (with_bound f x)
-  name_grown f b i from x v w e l = bound_grown f x b (a_name from ∷ []) (nothing b) (λ before m. rw w (m i 0 from refl)) (λ locals. rw e (let k : v % 2 ^ 32 ≡ v = omega (arith, l) in k))
+  name_grown f b i from x v w e l = bound_grown f x b (a_name from ∷ []) (nothing b) (λ before m. rw w (m i 0 from refl))
+      (λ locals. rw e (let k : v % 2 ^ 32 ≡ v = omega (arith, l) in k))
     where
       nothing : (b : Bool) → added b (a_name from ∷ []) ≡ 0
       nothing true = refl

@@ -196,7 +196,8 @@ IsPointless count (pointer t) rule = (rule ≡ R.Incomplete) × ((is_object coun
 IsPointless count t rule = rule ≡ R.Operands
 
 abbrev pub IsBrokenUnary : UnaryOp → ℕ → Trees.Expression → Scope → Fault → Type 0
-IsBrokenUnary U.Address at a s f = ((f ≡ too_big at) × AThing a s IsOfGreatestType) ⊎ ((f ≡ ill_typed R.Lvalue at) × AThing a s IsOnlyValue) ⊎ ((f ≡ ill_typed R.Library (first a)) × AThing a s IsLibrary)
+IsBrokenUnary U.Address at a s f = ((f ≡ too_big at) × AThing a s IsOfGreatestType) ⊎ ((f ≡ ill_typed R.Lvalue at) × AThing a s IsOnlyValue)
+    ⊎ ((f ≡ ill_typed R.Library (first a)) × AThing a s IsLibrary)
 IsBrokenUnary U.Deref at a s f = HasNoValue a s f
     ⊎ ((rule : Rule) × (f ≡ ill_typed rule at) × One a s (λ x. IsPointless (ended s.file.ends at) (type_of x) rule))
 IsBrokenUnary U.Not at a s f = HasNoValue a s f ⊎ ((f ≡ ill_typed R.Operands at) × One a s (λ x. is_scalar (type_of x) ≡ false))

@@ -100,7 +100,7 @@ module _ (u : ℕ → List ℕ) (types : List (List ℕ)) where
     enumerators_along first (Trees.and_enumerator comma x value more) w m at long =
         after (comma_along comma) (skip (both (value_along value w.2) (after_enumerator more w.3 m at long)))
 
-    after_enumerator : (t : Trees.Enumerators) → AreEnumerators types false t → (m : Punctuator) (at : ℕ) → length (punctuator_text m) ≡ 1
+    pub after_enumerator : (t : Trees.Enumerators) → AreEnumerators types false t → (m : Punctuator) (at : ℕ) → length (punctuator_text m) ≡ 1
         → {rest : List Lexeme} → Along (a_name (comma_or t at) ∷ marks_of_enumerators u t at) (spelled_enumerators t (punctuator m at ∷ rest)) rest
     after_enumerator Trees.no_enumerators w m at long = begins long none
     after_enumerator (Trees.and_enumerator None x value more) w m at long = cc
@@ -127,7 +127,7 @@ module _ (u : ℕ → List ℕ) (types : List (List ℕ)) where
     parameter_list_along (Trees.void_alone at) w = skip none
     parameter_list_along (Trees.listed all) w = parameters_along true all w.1
 
-    parameters_along : (first : Bool) (t : Trees.Parameters) → AreParameters types first t → {rest : List Lexeme} → Along [] (spelled_parameters t rest) rest
+    pub parameters_along : (first : Bool) (t : Trees.Parameters) → AreParameters types first t → {rest : List Lexeme} → Along [] (spelled_parameters t rest) rest
     parameters_along first Trees.no_parameters w = none
     parameters_along first (Trees.and_parameter comma specs d more) w =
         after (comma_along comma) (after (specifiers_along specs w.1) (after (declarator_along d w.2) (parameters_along false more w.3)))
