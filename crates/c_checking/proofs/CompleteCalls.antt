@@ -23,7 +23,7 @@ use Rattle.c_erasure.specs.Broken.{called_type, pointed_type}
 use Rattle.c_erasure.specs.Erasure.{typed, IsTypedThing, Erases, AreValues, IsCall, IsLiteralFor, IsConstant, literal_of, literal_object, unmade, place_in}
 use Rattle.c_erasure.specs.Noted.{Noted, Node, value, way, Expression, Path, Thing, an_object, a_value, a_function, a_function_at, a_library_function}
 use Rattle.c_erasure.specs.Noted.{type_of, type_of_path, object_value}
-use Rattle.c_erasure.specs.Scopes.{FileScope, Scope, AnObject, Purpose, in_full, value_alone, type_alone, measured, for_value, ended, declared}
+use Rattle.c_erasure.specs.Scopes.{ALocal, FileScope, Scope, AnObject, Purpose, in_full, value_alone, type_alone, measured, for_value, ended, declared}
 use Rattle.c_checking.specs.Answers.{moved}
 use Rattle.c_checking.specs.Declaring.{mentions_in, literal_for, literal_in, constant_in}
 use Rattle.c_checking.specs.Finding.{value_at, constant_at, find, arguments}
@@ -34,7 +34,7 @@ use Rattle.c_checking.proofs.CompleteNodes
 use Rattle.c_checking.proofs.CompleteParts
 use Rattle.c_checking.proofs.CompleteParts.{typed_all}
 use Rattle.c_checking.proofs.CompleteWalk.{Event, seen, seen_measured, seen_for_value, walk, walk_of_all, a_literal}
-use Rattle.c_checking.proofs.CompletePart.{Lists, part, IsWhole, IsBefore, IsAfter, Done, BlocksFit, blocks_stay, IsSound, IsComplete, value_typed}
+use Rattle.c_checking.proofs.CompletePart.{whole, Lists, part, IsWhole, IsBefore, IsAfter, Done, BlocksFit, blocks_stay, IsSound, IsComplete, value_typed}
 use Rattle.c_checking.proofs.CompletePart.{none_after, grown, complete_stays, mentioned}
 use Rattle.c_checking.proofs.CompletePart.{left_seen, right_seen, then_seen}
 use Rattle.c_checking.proofs.CompleteOperands.{Seen, Completes, operand, erased_sound}
@@ -70,13 +70,13 @@ object_called p void e q r v h f o = cc
 object_called p (function t all) e q r v h f o = cc
 object_called p (structure k) e q r v h f o = cc
 
-module _ (g : FileScope) (w : IsWhole g) where
+module _ (g : FileScope) (w : IsWhole g) (ls : List ALocal) where
   -- ---- calls
 
   record CallParts (s : Scope) (f : Thing) (t : CType) (xs : Typed.Expressions Noted) : Type 0 where
     pub parameters : CTypes
-    pub given : AreArguments (declared (moved s g)) parameters (typed_all xs)
-    pub is_typed : IsTypedThing (moved s g) f
+    pub given : AreArguments (declared (whole g ls s)) parameters (typed_all xs)
+    pub is_typed : IsTypedThing (whole g ls s) f
     pub called : (r : ℕ) → IsComplete g r f → called_type f ≡ Some (function t parameters)
 
   through : (e : Expression) (t : CType) (parameters : CTypes) → ty (typed e) ≡ pointer (function t parameters)
@@ -84,25 +84,25 @@ module _ (g : FileScope) (w : IsWhole g) where
   through e t parameters h = ap pointed_type (sym (type_same e) ∙ h)
 
   call_parts : (s : Scope) (f : Thing) (t : CType) (at : Place) (xs : Typed.Expressions Noted) (node : Node) → IsSound g f → IsCall f xs node
-      → IsTyped (declared (moved s g)) (typed (value t at node)) → CallParts s f t xs
+      → IsTyped (declared (whole g ls s)) (typed (value t at node)) → CallParts s f t xs
   call_parts s (a_function from k u) t at xs node o c h =
-      let z = subst (λ node. IsTyped (declared (moved s g)) (typed (value t at node))) c h in
+      let z = subst (λ node. IsTyped (declared (whole g ls s)) (typed (value t at node))) c h in
       record { parameters = z.0; given = z.2; is_typed = o; called = λ r k. sym o ∙ z.1 }
   call_parts s (a_library_function from which) t at xs node o c h =
-      let z = subst (λ node. IsTyped (declared (moved s g)) (typed (value t at node))) c h in
+      let z = subst (λ node. IsTyped (declared (whole g ls s)) (typed (value t at node))) c h in
       record { parameters = z.0; given = z.2; is_typed = tt; called = λ r k. ap (λ t. CompleteNodes.some t) z.1 }
   call_parts s (a_value e) t at xs node o c h =
-      let z = subst (λ node. IsTyped (declared (moved s g)) (typed (value t at node))) c h in
+      let z = subst (λ node. IsTyped (declared (whole g ls s)) (typed (value t at node))) c h in
       record { parameters = z.0; given = z.4; is_typed = z.1; called = λ r k. through e t z.0 z.3 }
   call_parts s (a_function_at e) t at xs node o c h =
-      let z = subst (λ node. IsTyped (declared (moved s g)) (typed (value t at node))) c h in
+      let z = subst (λ node. IsTyped (declared (whole g ls s)) (typed (value t at node))) c h in
       record { parameters = z.0; given = z.4; is_typed = (z.1, o.1); called = λ r k. through e t z.0 z.3 }
   call_parts s (an_object p) t at xs node o c h =
-      let z = subst (λ node. IsTyped (declared (moved s g)) (typed (value t at node))) c.2 h in
+      let z = subst (λ node. IsTyped (declared (whole g ls s)) (typed (value t at node))) c.2 h in
       record {
         parameters = z.0;
         given = z.4;
-        is_typed = value_typed g s (an_object p) c.0 tt c.1 z.1;
+        is_typed = value_typed g ls s (an_object p) c.0 tt c.1 z.1;
         called = λ r k. object_called p (type_of_path p) c.0 (function t z.0) r c.1 (sym (type_same c.0) ∙ z.3) refl k;
       }
 
@@ -111,7 +111,7 @@ module _ (g : FileScope) (w : IsWhole g) where
 
   abbrev pub CompletesAll : Trees.Arguments → Type 0
   CompletesAll all = (s : Scope) (c : Lists) (parameters : CTypes) (xs : Typed.Expressions Noted) (right : ℕ) → BlocksFit g (length c.records) s.blocks
-      → IsBefore g c (SeenAll s all) → AreValues (moved s g) xs all → AreArguments (declared (moved s g)) parameters (typed_all xs)
+      → IsBefore g c (SeenAll s all) → AreValues (whole g ls s) xs all → AreArguments (declared (whole g ls s)) parameters (typed_all xs)
       → Done g c (SeenAll s all) (arguments right parameters all (moved s (part g c))) xs
 
   pub no_arguments_complete : CompletesAll Trees.no_arguments
@@ -119,38 +119,38 @@ module _ (g : FileScope) (w : IsWhole g) where
   no_arguments_complete s c no_types xs right f b h t =
       record { lists = c; is = ap (λ xs. ok (xs, part g c)) (sym h); after = none_after g c [] b refl refl refl }
   no_arguments_complete s c (and_type u more) xs right f b h t =
-      absurd (subst (λ xs. AreArguments (declared (moved s g)) (and_type u more) (typed_all xs)) h t)
+      absurd (subst (λ xs. AreArguments (declared (whole g ls s)) (and_type u more) (typed_all xs)) h t)
 
-  pub argument_complete : (comma : Option ℕ) (a : Trees.Expression) (more : Trees.Arguments) → Completes g w a → CompletesAll more
+  pub argument_complete : (comma : Option ℕ) (a : Trees.Expression) (more : Trees.Arguments) → Completes g w ls a → CompletesAll more
       → CompletesAll (Trees.and_argument comma a more)
   unfolding arguments
   argument_complete comma a more i j s c no_types xs right f b h t =
-      absurd (subst (λ xs. AreArguments (declared (moved s g)) no_types (typed_all xs)) h.2 t)
+      absurd (subst (λ xs. AreArguments (declared (whole g ls s)) no_types (typed_all xs)) h.2 t)
   argument_complete comma a more i j s c (and_type u parameters) xs right f b h t =
-      let q = subst (λ xs. AreArguments (declared (moved s g)) (and_type u parameters) (typed_all xs)) h.2 t in
-      let m = operand g w a i s c h.0 f (left_seen g s.is_inside s.purpose c (walk g.untagged a) (walk_of_all g.untagged more) b) h.3 q.0 in
+      let q = subst (λ xs. AreArguments (declared (whole g ls s)) (and_type u parameters) (typed_all xs)) h.2 t in
+      let m = operand g w ls a i s c h.0 f (left_seen g s.is_inside s.purpose c (walk g.untagged a) (walk_of_all g.untagged more) b) h.3 q.0 in
       let n = j s m.lists parameters h.1 right (blocks_stay g (length c.records) (length m.lists.records) s.blocks (grown m.after) f)
       (right_seen g s.is_inside s.purpose c m.lists (walk g.untagged a) (walk_of_all g.untagged more) b m.after) h.4 q.2 in
-      let o = CompleteParts.argument_back (declared (moved s g)) (place_in (moved s g) (first a)) (first a) u h.0 m.left q.1 in
+      let o = CompleteParts.argument_back (declared (whole g ls s)) (place_in (whole g ls s) (first a)) (first a) u h.0 m.left q.1 in
       record {
         lists = n.lists;
         is = rw (m.value_is, o, n.is) (ap (λ xs. ok (xs, part g n.lists)) (sym h.2));
         after = then_seen g s.is_inside s.purpose c m.lists n.lists (walk g.untagged a) (walk_of_all g.untagged more) m.after n.after;
       }
 
-  pub call_complete : (a : Trees.Expression) (left : ℕ) (all : Trees.Arguments) (right : ℕ) → Completes g w a → CompletesAll all
-      → Completes g w (Trees.call a left all right)
+  pub call_complete : (a : Trees.Expression) (left : ℕ) (all : Trees.Arguments) (right : ℕ) → Completes g w ls a → CompletesAll all
+      → Completes g w ls (Trees.call a left all right)
   unfolding find
-  call_complete a left all right i j s c th f b h t = by_thing g w s c (Trees.call a left all right) th _ h.7
+  call_complete a left all right i j s c th f b h t = by_thing g w ls s c (Trees.call a left all right) th _ h.7
       (λ t.
-      let sound = erased_sound g w a s (length c.records) f h.1 h.4 in
-      let p = call_parts s h.1 h.0 (place_in (moved s g) (first a)) h.2 h.3 sound h.6 t in
+      let sound = erased_sound g w ls a s (length c.records) f h.1 h.4 in
+      let p = call_parts s h.1 h.0 (place_in (whole g ls s) (first a)) h.2 h.3 sound h.6 t in
       let z = i s c h.1 f (left_seen g s.is_inside s.purpose c (walk g.untagged a) (walk_of_all g.untagged all) b) h.4 p.is_typed in
       let n = j s z.done.lists p.parameters h.2 right (blocks_stay g (length c.records) (length z.done.lists.records) s.blocks (grown z.done.after) f)
       (right_seen g s.is_inside s.purpose c z.done.lists (walk g.untagged a) (walk_of_all g.untagged all) b z.done.after) h.5 p.given in
-      let o = CompleteParts.signature_back (declared (moved s g)) (place_in (moved s g) (first a)) (first a) h.1 h.0 p.parameters
+      let o = CompleteParts.signature_back (declared (whole g ls s)) (place_in (whole g ls s) (first a)) (first a) h.1 h.0 p.parameters
       (p.called (length z.done.lists.records) z.complete) in
-      let q = CompleteParts.call_back (declared (moved s g)) (place_in (moved s g) (first a)) h.1 h.0 h.2 h.3 h.6 in
+      let q = CompleteParts.call_back (declared (whole g ls s)) (place_in (whole g ls s) (first a)) h.1 h.0 h.2 h.3 h.6 in
       record {
         done = record {
           lists = n.lists;
@@ -162,14 +162,14 @@ module _ (g : FileScope) (w : IsWhole g) where
 
   -- ---- integer constant expressions
 
-  pub constant_complete : (a : Trees.Expression) → Completes g w a → (s : Scope) (c : Lists) (kind : IntKind) (v : ℕ) → BlocksFit g (length c.records) s.blocks
-      → IsBefore g c (seen s.is_inside s.purpose (seen false value_alone (walk g.untagged a))) → IsConstant (Erases a) (moved s g) kind v
+  pub constant_complete : (a : Trees.Expression) → Completes g w ls a → (s : Scope) (c : Lists) (kind : IntKind) (v : ℕ) → BlocksFit g (length c.records) s.blocks
+      → IsBefore g c (seen s.is_inside s.purpose (seen false value_alone (walk g.untagged a))) → IsConstant (Erases a) (whole g ls s) kind v
       → Done g c (seen s.is_inside s.purpose (seen false value_alone (walk g.untagged a)))
       (constant_at (first a) (value_at (first a) (find a (for_value (moved s (part g c)))))) (kind, v)
   unfolding constant_in
   constant_complete a i s c kind v f b h =
       let e = seen_for_value s.is_inside s.purpose (walk g.untagged a) in
-      let m = operand g w a i (for_value s) c h.0 f (subst (IsBefore g c) e b) h.1 h.2 in
+      let m = operand g w ls a i (for_value s) c h.0 f (subst (IsBefore g c) e b) h.1 h.2 in
       let n : value_at (first a) (find a (for_value (moved s (part g c)))) ≡ Ok (h.0, part g m.lists) = m.value_is ∙ ap (λ x. ok (x, part g m.lists)) h.3 in
       record {
         lists = m.lists;
@@ -182,12 +182,12 @@ module _ (g : FileScope) (w : IsWhole g) where
   pub size_same : (c : Lists) (t : CType) → Extends (part g c) g → is_object (length c.records) t ≡ true → size_of c.records t ≡ size_of g.records t
   size_same c t p o = sym (ap (λ all. size_of all t) p.records.1 ∙ (layouts_stay c.records p.records.0).sizes t o)
 
-  pub sizeof_complete : (at : ℕ) (a : Trees.Expression) → Completes g w a → Completes g w (Trees.sizeof_expression at a)
+  pub sizeof_complete : (at : ℕ) (a : Trees.Expression) → Completes g w ls a → Completes g w ls (Trees.sizeof_expression at a)
   unfolding find
-  sizeof_complete at a i s c th f b h t = by_thing g w s c (Trees.sizeof_expression at a) th _ h.2.2
+  sizeof_complete at a i s c th f b h t = by_thing g w ls s c (Trees.sizeof_expression at a) th _ h.2.2
       (λ t.
       let e = seen_measured s.is_inside s.purpose (walk g.untagged a) in
-      let inner = behind_look g w c at (seen s.is_inside s.purpose (seen false value_alone (walk g.untagged a))) b in
+      let inner = behind_look g w ls c at (seen s.is_inside s.purpose (seen false value_alone (walk g.untagged a))) b in
       let z = i (measured s) c h.1.0 f (subst (IsBefore g c) e inner) h.1.1 h.1.2 in
       let d = z.done.lists in
       let k : ended g.ends at ≤ length d.records = omega (arith, b.follows.0, z.done.after.records) in
@@ -195,8 +195,8 @@ module _ (g : FileScope) (w : IsWhole g) where
       let same = size_same d h.0 z.done.after.extends o in
       let l : size_of d.records h.0 ≤ 16777216 = omega (arith, same, h.2.3) in
       let n = CompleteParts.measured_back d.records (ended g.ends at) at h.1.0 h.0 h.1.3 h.2.0 o l in
-      let m = mentioned g s c d (Seen g w s (Trees.sizeof_expression at a)) (mentions_in (part g d)) Sizeof h.0 at h.2.1
-      (after_look g w c d at (seen s.is_inside s.purpose (seen false value_alone (walk g.untagged a))) (subst (λ w. IsAfter g c w d) (sym e) z.done.after)) in
+      let m = mentioned g ls s c d (Seen g w ls s (Trees.sizeof_expression at a)) (mentions_in (part g d)) Sizeof h.0 at h.2.1
+      (after_look g w ls c d at (seen s.is_inside s.purpose (seen false value_alone (walk g.untagged a))) (subst (λ w. IsAfter g c w d) (sym e) z.done.after)) in
       record {
         done = record { lists = m.0; is = rw (z.done.is, n, m.1, same) refl; after = m.3 };
         complete = tt;
@@ -271,17 +271,17 @@ module _ (g : FileScope) (w : IsWhole g) where
   chars_complete r all = and_from (nat_lt 0 (length (literal_of all))) true (lt-ltb 0 (length (literal_of all)) (literal_length all)) refl
 
   abbrev the_literal : Scope → List Spelling → AnObject
-  the_literal s all = literal_object (place_in (moved s g) (first (Trees.texts all))) (literal_of all)
+  the_literal s all = literal_object (place_in (whole g ls s) (first (Trees.texts all))) (literal_of all)
 
   abbrev literal_thing : Scope → List Spelling → ℕ → Thing
-  literal_thing s all n = an_object (way (array (integer Char) (length (literal_of all))) (place_in (moved s g) (first (Trees.texts all))) (Typed.object n))
+  literal_thing s all n = an_object (way (array (integer Char) (length (literal_of all))) (place_in (whole g ls s) (first (Trees.texts all))) (Typed.object n))
 
   abbrev unmade_thing : Scope → List Spelling → Thing
-  unmade_thing s all = unmade (place_in (moved s g) (first (Trees.texts all))) (array (integer Char) (length (literal_of all)))
+  unmade_thing s all = unmade (place_in (whole g ls s) (first (Trees.texts all))) (array (integer Char) (length (literal_of all)))
 
   record FoundLiteral (s : Scope) (c : Lists) (p : Purpose) (all : List Spelling) (th : Thing) : Type 0 where
     pub done : Done g c (seen s.is_inside p (a_literal (first (Trees.texts all)) ∷ []))
-        (literal_for p (moved s (part g c)) (place_in (moved s g) (first (Trees.texts all))) (literal_of all)) th
+        (literal_for p (moved s (part g c)) (place_in (whole g ls s) (first (Trees.texts all))) (literal_of all)) th
     pub complete : IsComplete g (length done.lists.records) th
 
   literal_made : (all : List Spelling) (s : Scope) (c : Lists) → IsBefore g c (a_literal (first (Trees.texts all)) ∷ [])
@@ -314,7 +314,7 @@ module _ (g : FileScope) (w : IsWhole g) where
 
   literal_found : (all : List Spelling) (s : Scope) (c : Lists) (th : Thing) (p : Purpose)
       → IsBefore g c (seen s.is_inside p (a_literal (first (Trees.texts all)) ∷ []))
-      → IsLiteralFor p (moved s g) (place_in (moved s g) (first (Trees.texts all))) (literal_of all) th → FoundLiteral s c p all th
+      → IsLiteralFor p (whole g ls s) (place_in (whole g ls s) (first (Trees.texts all))) (literal_of all) th → FoundLiteral s c p all th
   literal_found all s c th in_full b h =
       let o = b.follows.0 in
       let n : h.0 ≡ length c.objects = w.objects_apart h.0 (length c.objects) (the_literal s all) o.0 h.2 o.1 (sym o.2) in
@@ -323,6 +323,6 @@ module _ (g : FileScope) (w : IsWhole g) where
   literal_found all s c th value_alone b h = subst (FoundLiteral s c value_alone all) (sym h) (literal_unmade all s c b)
   literal_found all s c th type_alone b h = subst (FoundLiteral s c type_alone all) (sym h) (literal_unmeasured all s c b)
 
-  pub texts_complete : (all : List Spelling) → Completes g w (Trees.texts all)
+  pub texts_complete : (all : List Spelling) → Completes g w ls (Trees.texts all)
   unfolding find literal_in
   texts_complete all s c th f b h t = let z = literal_found all s c th s.purpose b h in record { done = z.done; complete = z.complete }

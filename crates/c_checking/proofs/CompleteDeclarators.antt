@@ -12,7 +12,7 @@ use Rattle.c_typed.specs.declared.program.MentionKind.TheVariants.{Named, Sizeof
 use Rattle.c_typed.specs.Conversions.{is_scalar, number_of}
 use Rattle.c_erasure.specs.Declarators.{Shape, closed, open_array, parameter_type, is_name, declared_name}
 use Rattle.c_erasure.specs.Erasure.{IsTypeName, IsOne, IsBase, Declares, AreParameters, AreListed, IsNew, place_of_name, with_parameter_if_named, place_in}
-use Rattle.c_erasure.specs.Scopes.{FileScope, Scope, Bound, Entity, in_full, value_alone, inside, ended, declared, IsMentioned, innermost}
+use Rattle.c_erasure.specs.Scopes.{ALocal, FileScope, Scope, Bound, Entity, in_full, value_alone, inside, ended, declared, IsMentioned, innermost}
 use Rattle.c_erasure.specs.Scopes.{declared_in, with_name, with_parameter, a_parameter, or_else, defines}
 use Rattle.std.specs.Option.{option_map}
 use Rattle.std.specs.Str.{bytes_eq}
@@ -29,7 +29,7 @@ use Rattle.c_checking.proofs.CompleteNodes
 use Rattle.c_checking.proofs.CompleteParts
 use Rattle.c_checking.proofs.CompleteWalk.{Event, seen, seen_inside, walk, walk_of_type, walk_of_specifiers, walk_of_declarator}
 use Rattle.c_checking.proofs.CompleteWalk.{walk_of_parameter_list, walk_of_parameters, a_look}
-use Rattle.c_checking.proofs.CompletePart.{Lists, part, IsFitFor, IsWhole, IsBefore, IsAfter, Done, BlocksFit, blocks_stay, none_after, grown}
+use Rattle.c_checking.proofs.CompletePart.{whole, Lists, part, IsFitFor, IsWhole, IsBefore, IsAfter, Done, BlocksFit, blocks_stay, none_after, grown}
 use Rattle.c_checking.proofs.CompletePart.{complete_stays, mentioned}
 use Rattle.c_checking.proofs.CompletePart.{left_seen, right_seen, then_seen}
 use Rattle.c_checking.proofs.CompleteOperands.{Seen, Completes, operand}
@@ -38,7 +38,7 @@ use Rattle.c_checking.proofs.CompleteCalls.{constant_complete, size_same}
 
 -- ---- steps
 
-small_back : (records : List Record) (at : ℕ) (t : CType) → size_of records t ≤ 16777216 → parts t ≤ 1024 → small records at t ≡ Ok t
+pub small_back : (records : List Record) (at : ℕ) (t : CType) → size_of records t ≤ 16777216 → parts t ≤ 1024 → small records at t ≡ Ok t
 small_back records at t b p =
     let x = le-leb (size_of records t) 16777216 b in
     let y = le-leb (parts t) 1024 p in
@@ -63,7 +63,7 @@ length_back : (at n : ℕ) (z : ℤ) → z ≡ pos n → 1 ≤ n → length_of_n
 length_back at zero z e l = absurd (omega (arith, l))
 length_back at (suc n) z e l = ap (length_of_number at) e
 
-module _ (g : FileScope) (w : IsWhole g) where
+module _ (g : FileScope) (w : IsWhole g) (ls : List ALocal) where
   abbrev pub SeenDeclarator : Scope → Trees.Declarator → List Event
   SeenDeclarator s d = seen s.is_inside s.purpose (walk_of_declarator g.untagged d)
 
@@ -77,7 +77,7 @@ module _ (g : FileScope) (w : IsWhole g) where
 
   abbrev pub CompletesDeclarator : Trees.Declarator → Type 0
   CompletesDeclarator d = (s : Scope) (c : Lists) (t : CType) (shape : Shape) → BlocksFit g (length c.records) s.blocks → IsBefore g c (SeenDeclarator s d)
-      → Declares (moved s g) d t shape → FoundDeclarator s c d t shape
+      → Declares (whole g ls s) d t shape → FoundDeclarator s c d t shape
 
   pub nothing_complete : CompletesDeclarator Trees.nothing
   unfolding derivations derived
@@ -119,7 +119,7 @@ module _ (g : FileScope) (w : IsWhole g) where
       let z = i s c t shape f b h in
       record { lists = z.lists; steps = z.steps; is = z.is; after = z.after; derive = z.derive }
 
-  pub array_complete : (d : Trees.Declarator) (left : ℕ) (a : Trees.Expression) (right : ℕ) → CompletesDeclarator d → Completes g w a
+  pub array_complete : (d : Trees.Declarator) (left : ℕ) (a : Trees.Expression) (right : ℕ) → CompletesDeclarator d → Completes g w ls a
       → CompletesDeclarator (Trees.array d left (Trees.some_expression a) right)
   unfolding derivations array_step derived
   array_complete d left a right i j s c t shape f b h =
@@ -130,8 +130,8 @@ module _ (g : FileScope) (w : IsWhole g) where
       let r = right_seen g s.is_inside s.purpose c z.lists (walk_of_declarator g.untagged d) (a_look left ∷ seen false value_alone (walk g.untagged a)) b
       z.after in
       let asked = r.follows.0 in
-      let inner = behind_look g w z.lists left (seen s.is_inside s.purpose (seen false value_alone (walk g.untagged a))) r in
-      let m = constant_complete g w a j s z.lists h.0 h.1 (blocks_stay g (length c.records) (length z.lists.records) s.blocks (grown z.after) f) inner h.3 in
+      let inner = behind_look g w ls z.lists left (seen s.is_inside s.purpose (seen false value_alone (walk g.untagged a))) r in
+      let m = constant_complete g w ls a j s z.lists h.0 h.1 (blocks_stay g (length c.records) (length z.lists.records) s.blocks (grown z.after) f) inner h.3 in
       let n : length_value (first a) (h.0, h.1) ≡ Ok h.2 = length_back (first a) h.2 (number_of h.0 h.1) h.4 h.5 in
       let k : length z.lists.records ≤ length m.lists.records = grown m.after in
       record {
@@ -140,12 +140,12 @@ module _ (g : FileScope) (w : IsWhole g) where
         is = rw (z.is, m.is, n) refl;
         after = then_seen g s.is_inside s.purpose c z.lists m.lists (walk_of_declarator g.untagged d)
             (a_look left ∷ seen false value_alone (walk g.untagged a)) z.after
-            (after_look g w z.lists m.lists left (seen s.is_inside s.purpose (seen false value_alone (walk g.untagged a))) m.after);
+            (after_look g w ls z.lists m.lists left (seen s.is_inside s.purpose (seen false value_alone (walk g.untagged a))) m.after);
         derive = λ e p l.
             let o : is_object (length e.records) t ≡ true = complete_stays (ended g.ends left) (length e.records) t (omega (arith, asked, k, l)) h.6 in
             let q : is_object (length e.records) (array t h.2)
             ≡ true = and_from (nat_lt 0 h.2) (is_object (length e.records) t) (lt-ltb 0 h.2 (omega (arith, h.5))) o in
-            let same = size_same g w e (array t h.2) p q in
+            let same = size_same g w ls e (array t h.2) p q in
             let bytes = h.7.bytes in
             let x = element_back e.records (ended g.ends left) left t h.6 o in
             let y = small_back e.records left (array t h.2) (omega (arith, same, bytes)) h.7.parts in
@@ -194,7 +194,7 @@ module _ (g : FileScope) (w : IsWhole g) where
 
   abbrev pub CompletesParameterList : Trees.ParameterList → Type 0
   CompletesParameterList all = (s : Scope) (c : Lists) (types : CTypes) → s.is_inside ≡ true → BlocksFit g (length c.records) s.blocks
-      → IsBefore g c (seen true s.purpose (walk_of_parameter_list g.untagged all)) → AreParameters (moved s g) all types
+      → IsBefore g c (seen true s.purpose (walk_of_parameter_list g.untagged all)) → AreParameters (whole g ls s) all types
       → Done g c (seen true s.purpose (walk_of_parameter_list g.untagged all)) (parameter_list all (moved s (part g c))) types
 
   pub function_complete : (d : Trees.Declarator) (left : ℕ) (all : Trees.ParameterList) (right : ℕ) → CompletesDeclarator d → CompletesParameterList all
@@ -229,7 +229,7 @@ module _ (g : FileScope) (w : IsWhole g) where
 
   abbrev pub CompletesParameters : Trees.Parameters → Type 0
   CompletesParameters all = (s : Scope) (c : Lists) (types : CTypes) → s.is_inside ≡ true → BlocksFit g (length c.records) s.blocks
-      → IsBefore g c (seen true s.purpose (walk_of_parameters g.untagged all)) → AreListed (moved s g) all types
+      → IsBefore g c (seen true s.purpose (walk_of_parameters g.untagged all)) → AreListed (whole g ls s) all types
       → Done g c (seen true s.purpose (walk_of_parameters g.untagged all)) (parameters all (moved s (part g c))) types
 
   pub listed_complete : (all : Trees.Parameters) → CompletesParameters all → CompletesParameterList (Trees.listed all)
@@ -247,7 +247,7 @@ module _ (g : FileScope) (w : IsWhole g) where
 
   abbrev pub CompletesOne : Trees.Specifiers → Type 0
   CompletesOne specs = (s : Scope) (c : Lists) (t : CType) → BlocksFit g (length c.records) s.blocks → IsBefore g c (SeenSpecifiers s specs)
-      → IsOne (moved s g) specs t → Done g c (SeenSpecifiers s specs) (one_of specs (moved s (part g c))) t
+      → IsOne (whole g ls s) specs t → Done g c (SeenSpecifiers s specs) (one_of specs (moved s (part g c))) t
 
   -- words alone declare nothing
   pub words_walk : (specs : Trees.Specifiers) → types_among specs ≡ [] → walk_of_specifiers g.untagged specs ≡ []
@@ -271,7 +271,7 @@ module _ (g : FileScope) (w : IsWhole g) where
       (Trees.enum_body at x left all comma right, ap (λ z. Trees.enum_body at x left all comma right ∷ z) h.1)
 
   pub base_complete : (specs : Trees.Specifiers) → CompletesOne specs → (s : Scope) (c : Lists) (t : CType) → BlocksFit g (length c.records) s.blocks
-      → IsBefore g c (SeenSpecifiers s specs) → IsBase (IsOne (moved s g) specs) specs t
+      → IsBefore g c (SeenSpecifiers s specs) → IsBase (IsOne (whole g ls s) specs) specs t
       → Done g c (SeenSpecifiers s specs) (base_type (base_kind specs) (first_specifiers specs) (part g c) (one_of specs (moved s (part g c)))) t
   base_complete specs i s c t f b (inl h) =
       let k : base_kind specs ≡ by_words t = ap (λ all. base_among all specs) h.0 ∙ ap base_of_words h.1 in
@@ -283,7 +283,7 @@ module _ (g : FileScope) (w : IsWhole g) where
             (none_after g c [] (subst (λ u. IsBefore g c (seen s.is_inside s.purpose u)) e b) refl refl refl);
       }
   base_complete specs i s c t f b (inr h) =
-      let x = one_among specs (moved s g) t h.1 in
+      let x = one_among specs (whole g ls s) t h.1 in
       let z = i s c t f b h.1 in
       let k : base_kind specs ≡ by_one = ap (λ all. base_among all specs) x.1 ∙ ap (λ v. cond (same_words v no_words) by_one no_type) h.0 in
       record {
@@ -299,7 +299,7 @@ module _ (g : FileScope) (w : IsWhole g) where
 
   abbrev pub CompletesType : Trees.TypeName → Type 0
   CompletesType n = (s : Scope) (c : Lists) (t : CType) → BlocksFit g (length c.records) s.blocks → IsBefore g c (SeenType s n)
-      → IsTypeName (moved s g) n t → IsMentioned (moved s g) Named t (place_of_name n) → Done g c (SeenType s n) (type_name n (moved s (part g c))) t
+      → IsTypeName (whole g ls s) n t → IsMentioned (whole g ls s) Named t (place_of_name n) → Done g c (SeenType s n) (type_name n (moved s (part g c))) t
 
   pub closed_back : (at : ℕ) (e : Lists) (steps : List Derivation) (base t : CType) → derived e.records steps base ≡ Ok (closed t)
       → type_of_derived at (part g e) steps base ≡ Ok t
@@ -315,38 +315,38 @@ module _ (g : FileScope) (w : IsWhole g) where
       let at = first_declarator d (first_specifiers specs) in
       let k = closed_back (first_declarator d (first_specifiers specs)) n.lists n.steps h.0 t (n.derive n.lists n.after.extends (omega arith)) in
       let a = then_seen g s.is_inside s.purpose c z.lists n.lists (walk_of_specifiers g.untagged specs) (walk_of_declarator g.untagged d) z.after n.after in
-      let l = mentioned g s c n.lists (SeenType s (Trees.type_name specs d)) (mentions_in (part g z.lists)) Named t
+      let l = mentioned g ls s c n.lists (SeenType s (Trees.type_name specs d)) (mentions_in (part g z.lists)) Named t
       (first_declarator d (first_specifiers specs)) m a in
       record { lists = l.0; is = rw (h.1, z.is, n.is, k, l.1) refl; after = l.3 }
 
-  pub sizeof_type_complete : (at left : ℕ) (n : Trees.TypeName) (right : ℕ) → CompletesType n → Completes g w (Trees.sizeof_type at left n right)
+  pub sizeof_type_complete : (at left : ℕ) (n : Trees.TypeName) (right : ℕ) → CompletesType n → Completes g w ls (Trees.sizeof_type at left n right)
   unfolding find
-  sizeof_type_complete at left n right i s c th f b h t = by_thing g w s c (Trees.sizeof_type at left n right) th _ h.3.2
+  sizeof_type_complete at left n right i s c th f b h t = by_thing g w ls s c (Trees.sizeof_type at left n right) th _ h.3.2
       (λ t.
       let z = i s c h.0 f (left_seen g s.is_inside s.purpose c (walk_of_type g.untagged n) (a_look right ∷ []) b) h.1 h.2 in
       let d = z.lists in
       let r = right_seen g s.is_inside s.purpose c z.lists (walk_of_type g.untagged n) (a_look right ∷ []) b z.after in
       let o = complete_stays (ended g.ends right) (length d.records) h.0 (omega (arith, r.follows.0)) h.3.0 in
-      let same = size_same g w d h.0 z.after.extends o in
+      let same = size_same g w ls d h.0 z.after.extends o in
       let l : size_of d.records h.0 ≤ 16777216 = omega (arith, same, h.3.3) in
       let k = CompleteParts.size_back d.records (ended g.ends right) at h.0 h.3.0 o l in
       let a = then_seen g s.is_inside s.purpose c d d (walk_of_type g.untagged n) (a_look right ∷ []) z.after
       (none_after g d (a_look right ∷ []) r refl refl refl) in
-      let m = mentioned g s c d (Seen g w s (Trees.sizeof_type at left n right)) (mentions_in (part g c)) Sizeof h.0 at h.3.1 a in
+      let m = mentioned g ls s c d (Seen g w ls s (Trees.sizeof_type at left n right)) (mentions_in (part g c)) Sizeof h.0 at h.3.1 a in
       record {
         done = record { lists = m.0; is = rw (z.is, k, m.1, same) refl; after = m.3 };
         complete = tt;
       }) t
 
-  pub cast_complete : (left : ℕ) (n : Trees.TypeName) (right : ℕ) (a : Trees.Expression) → CompletesType n → Completes g w a
-      → Completes g w (Trees.cast left n right a)
+  pub cast_complete : (left : ℕ) (n : Trees.TypeName) (right : ℕ) (a : Trees.Expression) → CompletesType n → Completes g w ls a
+      → Completes g w ls (Trees.cast left n right a)
   unfolding find
-  cast_complete left n right a i j s c th f b h t = by_thing g w s c (Trees.cast left n right a) th _ h.5
+  cast_complete left n right a i j s c th f b h t = by_thing g w ls s c (Trees.cast left n right a) th _ h.5
       (λ t.
       let z = i s c h.0 f (left_seen g s.is_inside s.purpose c (walk_of_type g.untagged n) (walk g.untagged a) b) h.2 h.3 in
-      let m = operand g w a j s z.lists h.1 (blocks_stay g (length c.records) (length z.lists.records) s.blocks (grown z.after) f)
+      let m = operand g w ls a j s z.lists h.1 (blocks_stay g (length c.records) (length z.lists.records) s.blocks (grown z.after) f)
       (right_seen g s.is_inside s.purpose c z.lists (walk_of_type g.untagged n) (walk g.untagged a) b z.after) h.4 t.0 in
-      let k = CompleteNodes.cast_back (declared (moved s g)) (place_in (moved s g) left) h.0 h.1 m.left t in
+      let k = CompleteNodes.cast_back (declared (whole g ls s)) (place_in (whole g ls s) left) h.0 h.1 m.left t in
       record {
         done = record {
           lists = m.lists;
@@ -392,7 +392,7 @@ module _ (g : FileScope) (w : IsWhole g) where
   parameter_storage_back at v r (inl e) = ap (λ v. parameter_storage at v r) e
   parameter_storage_back at v r (inr e) = ap (λ v. parameter_storage at v r) e
 
-  new_back : {A : Type 0} (s : Scope) (c : Lists) (o : Option Spelling) (r : Answer A) → IsNew (moved s g) o → new_if_named (moved s (part g c)) o r ≡ r
+  new_back : {A : Type 0} (s : Scope) (c : Lists) (o : Option Spelling) (r : Answer A) → IsNew (whole g ls s) o → new_if_named (moved s (part g c)) o r ≡ r
   new_back s c None r h = refl
   new_back s c (Some x) r h = ap (λ o. new_here x o r) h
 
@@ -408,7 +408,7 @@ module _ (g : FileScope) (w : IsWhole g) where
   parameters_after : (more : Trees.Parameters) → CompletesParameters more → (s : Scope) (c : Lists) (o : Option Spelling) (t : CType) (rest : CTypes)
       → is_scalar t ≡ true → s.is_inside ≡ true → BlocksFit g (length c.records) s.blocks
       → IsBefore g c (seen true s.purpose (walk_of_parameters g.untagged more))
-      → AreListed (with_parameter_if_named (moved s g) o t) more rest
+      → AreListed (with_parameter_if_named (whole g ls s) o t) more rest
       → Done g c (seen true s.purpose (walk_of_parameters g.untagged more)) (parameters more (with_parameter_if_named (moved s (part g c)) o t)) rest
   parameters_after more i s c None t rest v e f b h = i s c rest e f b h
   parameters_after more i s c (Some x) t rest v e f b h =
@@ -419,7 +419,7 @@ module _ (g : FileScope) (w : IsWhole g) where
       (base : CType)
       (steps : List Derivation) (shape : Shape) (rest : CTypes) → (storage_of specs ≡ no_storage) ⊎ (storage_of specs ≡ is_register)
       → base_type (base_kind specs) (first_specifiers specs) (part g c) (one_of specs (moved s (part g c))) ≡ Ok (base, part g l)
-      → derivations d (moved s (part g l)) ≡ Ok (steps, part g m) → derived m.records steps base ≡ Ok shape → IsNew (moved s g) (declared_name d)
+      → derivations d (moved s (part g l)) ≡ Ok (steps, part g m) → derived m.records steps base ≡ Ok shape → IsNew (whole g ls s) (declared_name d)
       → is_scalar (parameter_type shape) ≡ true
       → with_mention (moved s (part g c)) (mentions_in (part g l)) Named (parameter_type shape) (first_declarator d (first_specifiers specs)) (part g m)
       ≡ part g n
@@ -448,7 +448,7 @@ module _ (g : FileScope) (w : IsWhole g) where
       let both = then_seen g s.is_inside s.purpose c z.lists n.lists (walk_of_specifiers g.untagged specs) (walk_of_declarator g.untagged d) z.after n.after in
       let a : IsAfter g c (seen true s.purpose (walk_of_specifiers g.untagged specs ++ walk_of_declarator g.untagged d)) n.lists =
       subst (λ i. IsAfter g c (seen i s.purpose (walk_of_specifiers g.untagged specs ++ walk_of_declarator g.untagged d)) n.lists) e both in
-      let m = mentioned g s c n.lists (seen true s.purpose (walk_of_specifiers g.untagged specs ++ walk_of_declarator g.untagged d))
+      let m = mentioned g ls s c n.lists (seen true s.purpose (walk_of_specifiers g.untagged specs ++ walk_of_declarator g.untagged d))
       (mentions_in (part g z.lists)) Named
       (parameter_type h.1) (first_declarator d (first_specifiers specs)) h.9 a in
       let r = parameters_after more k s m.0 (declared_name d) (parameter_type h.1) h.2 h.7 e

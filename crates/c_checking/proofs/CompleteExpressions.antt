@@ -25,8 +25,8 @@ use Rattle.c_erasure.specs.Erasure.{typed, IsTypedThing, Values, Erases, IsSum, 
 use Rattle.c_erasure.specs.Noted.{Node, value, Expression, Path, Thing, an_object, a_value, a_function, a_function_at, a_library_function}
 use Rattle.c_erasure.specs.Noted.{type_of_path, unconverted}
 use Rattle.c_erasure.specs.Operators.{Kind, computes, compares, all_of, any_of, kind_of, step_of}
-use Rattle.c_erasure.specs.Scopes.{FileScope, Scope, ended, declared}
-use Rattle.c_checking.specs.Answers.{with_file, moved}
+use Rattle.c_erasure.specs.Scopes.{ALocal, FileScope, Scope, ended, declared}
+use Rattle.c_checking.specs.Answers.{with_file}
 use Rattle.c_checking.specs.Nodes.{named_in}
 use Rattle.c_checking.specs.Nodes.{address_in}
 use Rattle.c_checking.specs.Finding.{find}
@@ -34,7 +34,8 @@ use Rattle.c_checking.proofs.Values.{typed_path, path_type_same, unconverted_sam
 use Rattle.c_checking.proofs.CompleteNodes
 use Rattle.c_checking.proofs.CompleteParts
 use Rattle.c_checking.proofs.CompleteWalk.{Event, seen, walk, a_look}
-use Rattle.c_checking.proofs.CompletePart.{Lists, part, IsFitFor, IsWhole, IsBefore, IsAfter, BlocksFit, blocks_stay, none_after, grown, complete_stays}
+use Rattle.c_checking.proofs.CompletePart.{whole, Lists, part, IsFitFor, IsWhole, IsBefore, IsAfter, BlocksFit, blocks_stay, none_after, grown}
+use Rattle.c_checking.proofs.CompletePart.{complete_stays}
 use Rattle.c_checking.proofs.CompletePart.{left_seen, right_seen, then_seen, named_same, named_fits}
 use Rattle.c_checking.proofs.CompleteOperands.{Seen, Found, Completes, FoundValue, operand, named_complete, erased_sound, no_array, number_no_array}
 
@@ -68,13 +69,13 @@ updated_scalar count op (structure r) u v h = by_test (is_move op) h
     by_test true h = cc
     by_test false h = cc
 
-module _ (g : FileScope) (w : IsWhole g) where
+module _ (g : FileScope) (w : IsWhole g) (ls : List ALocal) where
   abbrev Is : Trees.Expression → Type 0
-  Is a = Completes g w a
+  Is a = Completes g w ls a
 
   -- what stands there is a value, or an object, of that form
   abbrev pub Back : Scope → Lists → Trees.Expression → Thing → Type 0
-  Back s c a th = IsTypedThing (moved s g) th → Found g w s c a th
+  Back s c a th = IsTypedThing (whole g ls s) th → Found g w ls s c a th
 
   pub by_thing : (s : Scope) (c : Lists) (a : Trees.Expression) (th own : Thing) → th ≡ own → Back s c a own → Back s c a th
   by_thing s c a th own e h = subst (Back s c a) (sym e) h
@@ -85,16 +86,16 @@ module _ (g : FileScope) (w : IsWhole g) where
   unfolding find
   name_complete x s c th f b h t =
       let asked = b.follows.0 in
-      let n = named_same g s c b.extends x.text x.from asked.0 ∙ h.1 in
-      let fits = named_fits g w s x.from (subst (λ r. BlocksFit g r s.blocks) (sym asked.1) f) x.text h.0 h.1 in
+      let n = named_same g ls s c b.extends x.text x.from asked.0 ∙ h.1 in
+      let fits = named_fits g w ls s x.from (subst (λ r. BlocksFit g r s.blocks) (sym asked.1) f) x.text h.0 h.1 in
       record {
         done = record {
           lists = c;
-          is = ap (λ o. with_file (part g c) (named_in (place_in (moved s g) x.from) x.text o)) n
-              ∙ ap (with_file (part g c)) (CompleteNodes.named_back (place_in (moved s g) x.from) x.text h.0 th h.2);
-          after = none_after g c (Seen g w s (Trees.name x)) b refl refl refl;
+          is = ap (λ o. with_file (part g c) (named_in (place_in (whole g ls s) x.from) x.text o)) n
+              ∙ ap (with_file (part g c)) (CompleteNodes.named_back (place_in (whole g ls s) x.from) x.text h.0 th h.2);
+          after = none_after g c (Seen g w ls s (Trees.name x)) b refl refl refl;
         };
-        complete = named_complete g w (place_in (moved s g) x.from) h.0 th (length c.records) (subst (λ r. IsFitFor g r h.0) asked.1 fits) h.2;
+        complete = named_complete g w ls (place_in (whole g ls s) x.from) h.0 th (length c.records) (subst (λ r. IsFitFor g r h.0) asked.1 fits) h.2;
       }
 
   pub number_complete : (x : Spelling) (n : ℕ) (kind : IntKind) → Is (Trees.number x n kind)
@@ -142,17 +143,17 @@ module _ (g : FileScope) (w : IsWhole g) where
 
   -- two operands, one after the other
   record Operands (s : Scope) (c : Lists) (a b : Trees.Expression) (x y : Expression) : Type 0 where
-    pub first : FoundValue g w s c a x
-    pub second : FoundValue g w s first.lists b y
+    pub first : FoundValue g w ls s c a x
+    pub second : FoundValue g w ls s first.lists b y
     pub after : IsAfter g c (seen s.is_inside s.purpose (walk g.untagged a ++ walk g.untagged b)) second.lists
 
   operands : (a b : Trees.Expression) → Is a → Is b → (s : Scope) (c : Lists) (x y : Expression) → BlocksFit g (length c.records) s.blocks
       → IsBefore g c (seen s.is_inside s.purpose (walk g.untagged a ++ walk g.untagged b))
-      → Values (Erases a (moved s g)) x → Values (Erases b (moved s g)) y → IsTyped (declared (moved s g)) (typed x) → IsTyped (declared (moved s g)) (typed y)
+      → Values (Erases a (whole g ls s)) x → Values (Erases b (whole g ls s)) y → IsTyped (declared (whole g ls s)) (typed x) → IsTyped (declared (whole g ls s)) (typed y)
       → Operands s c a b x y
   operands a b i j s c x y f e v u t q =
-      let m = operand g w a i s c x f (left_seen g s.is_inside s.purpose c (walk g.untagged a) (walk g.untagged b) e) v t in
-      let n = operand g w b j s m.lists y (blocks_stay g (length c.records) (length m.lists.records) s.blocks (grown m.after) f)
+      let m = operand g w ls a i s c x f (left_seen g s.is_inside s.purpose c (walk g.untagged a) (walk g.untagged b) e) v t in
+      let n = operand g w ls b j s m.lists y (blocks_stay g (length c.records) (length m.lists.records) s.blocks (grown m.after) f)
       (right_seen g s.is_inside s.purpose c m.lists (walk g.untagged a) (walk g.untagged b) e m.after) u q in
       record { first = m; second = n; after = then_seen g s.is_inside s.purpose c m.lists n.lists (walk g.untagged a) (walk g.untagged b) m.after n.after }
 
@@ -160,9 +161,9 @@ module _ (g : FileScope) (w : IsWhole g) where
   unfolding find
   binary_complete a b op at i j s c th f e h t = by_thing s c (Trees.binary a op at b) th _ h.7
       (λ t.
-      let p = joined_parts (moved s g) (kind_of op) h.0 (place_in (moved s g) (first a)) h.1 h.2 h.3 h.6 t in
+      let p = joined_parts (whole g ls s) (kind_of op) h.0 (place_in (whole g ls s) (first a)) h.1 h.2 h.3 h.6 t in
       let z = operands a b i j s c h.1 h.2 f e h.4 h.5 p.0 p.1 in
-      let n = CompleteNodes.binary_back (declared (moved s g)) (place_in (moved s g) (first a)) at (kind_of op) h.0 h.1 h.2 h.3 z.first.left z.second.left
+      let n = CompleteNodes.binary_back (declared (whole g ls s)) (place_in (whole g ls s) (first a)) at (kind_of op) h.0 h.1 h.2 h.3 z.first.left z.second.left
       h.6 t in
       record {
         done = record { lists = z.second.lists; is = rw (z.first.value_is, z.second.value_is, n) refl; after = z.after };
@@ -174,7 +175,7 @@ module _ (g : FileScope) (w : IsWhole g) where
   comma_complete a b at i j s c th f e h t = by_thing s c (Trees.comma a at b) th _ h.3
       (λ t.
       let z = operands a b i j s c h.1 h.2 f e h.4 h.5 t.0 t.1 in
-      let n = CompleteNodes.comma_back (declared (moved s g)) (place_in (moved s g) (first a)) h.0 h.1 h.2 t in
+      let n = CompleteNodes.comma_back (declared (whole g ls s)) (place_in (whole g ls s) (first a)) h.0 h.1 h.2 t in
       record {
         done = record { lists = z.second.lists; is = rw (z.first.value_is, z.second.value_is, n) refl; after = z.after };
         complete = tt;
@@ -189,10 +190,10 @@ module _ (g : FileScope) (w : IsWhole g) where
       let ab : List Event = walk g.untagged a ++ walk g.untagged b in
       let z = operands a b i j s c h.1 h.2 f (left_seen g s.is_inside s.purpose c (walk g.untagged a ++ walk g.untagged b) (walk g.untagged d) e) h.5 h.6 t.0
       t.1 in
-      let m = operand g w d k s z.second.lists h.3 (blocks_stay g (length c.records) (length z.second.lists.records) s.blocks (grown z.after) f)
+      let m = operand g w ls d k s z.second.lists h.3 (blocks_stay g (length c.records) (length z.second.lists.records) s.blocks (grown z.after) f)
       (right_seen g s.is_inside s.purpose c z.second.lists (walk g.untagged a ++ walk g.untagged b) (walk g.untagged d) e z.after) h.7 t.2 in
-      let n = CompleteNodes.test_back (declared (moved s g)) (place_in (moved s g) (first a)) question h.1 z.first.left t.3 in
-      let o = CompleteNodes.choice_back (declared (moved s g)) (place_in (moved s g) (first a)) colon h.0 h.1 h.2 h.3 z.second.left m.left t in
+      let n = CompleteNodes.test_back (declared (whole g ls s)) (place_in (whole g ls s) (first a)) question h.1 z.first.left t.3 in
+      let o = CompleteNodes.choice_back (declared (whole g ls s)) (place_in (whole g ls s) (first a)) colon h.0 h.1 h.2 h.3 z.second.left m.left t in
       record {
         done = record {
           lists = m.lists;
@@ -205,8 +206,8 @@ module _ (g : FileScope) (w : IsWhole g) where
   -- ---- objects
 
   -- an object that is part of what stands there
-  object : (a : Trees.Expression) → Is a → (s : Scope) (c : Lists) (p : Path) → BlocksFit g (length c.records) s.blocks → IsBefore g c (Seen g w s a)
-      → Erases a (moved s g) (an_object p) → IsTypedPath (declared (moved s g)) (typed_path p) → Found g w s c a (an_object p)
+  object : (a : Trees.Expression) → Is a → (s : Scope) (c : Lists) (p : Path) → BlocksFit g (length c.records) s.blocks → IsBefore g c (Seen g w ls s a)
+      → Erases a (whole g ls s) (an_object p) → IsTypedPath (declared (whole g ls s)) (typed_path p) → Found g w ls s c a (an_object p)
   object a i s c p f b h t = i s c (an_object p) f b h t
 
   -- ---- steps
@@ -216,7 +217,7 @@ module _ (g : FileScope) (w : IsWhole g) where
   post_complete a op at i s c th f b h t = by_thing s c (Trees.post a op at) th _ h.2
       (λ t.
       let z = object a i s c h.1 f b h.3 t.0 in
-      let n = CompleteNodes.step_back (declared (moved s g)) (place_in (moved s g) (first a)) (first a) at (step_of op) false h.0 h.1 t in
+      let n = CompleteNodes.step_back (declared (whole g ls s)) (place_in (whole g ls s) (first a)) (first a) at (step_of op) false h.0 h.1 t in
       record { done = record { lists = z.done.lists; is = rw (z.done.is, n) refl; after = z.done.after }; complete = tt }) t
 
   pub pre_complete : (a : Trees.Expression) (op : StepOp) (at : ℕ) → Is a → Is (Trees.pre op at a)
@@ -224,7 +225,7 @@ module _ (g : FileScope) (w : IsWhole g) where
   pre_complete a op at i s c th f b h t = by_thing s c (Trees.pre op at a) th _ h.2
       (λ t.
       let z = object a i s c h.1 f b h.3 t.0 in
-      let n = CompleteNodes.step_back (declared (moved s g)) (place_in (moved s g) at) (first a) at (step_of op) true h.0 h.1 t in
+      let n = CompleteNodes.step_back (declared (whole g ls s)) (place_in (whole g ls s) at) (first a) at (step_of op) true h.0 h.1 t in
       record { done = record { lists = z.done.lists; is = rw (z.done.is, n) refl; after = z.done.after }; complete = tt }) t
 
   -- ---- unary operators
@@ -239,54 +240,54 @@ module _ (g : FileScope) (w : IsWhole g) where
   unfolding find
   plus_complete at a i s c th f b h t = by_thing s c (Trees.unary U.Plus at a) th _ h.2
       (λ t.
-      let z = operand g w a i s c h.1 f (behind_look c at (Seen g w s a) b) h.3 t.0 in
-      let n = CompleteNodes.unary_back (declared (moved s g)) (place_in (moved s g) at) TU.Plus h.0 h.1 z.left t in
-      record { done = record { lists = z.lists; is = rw (z.value_is, n) refl; after = after_look c z.lists at (Seen g w s a) z.after }; complete = tt }) t
+      let z = operand g w ls a i s c h.1 f (behind_look c at (Seen g w ls s a) b) h.3 t.0 in
+      let n = CompleteNodes.unary_back (declared (whole g ls s)) (place_in (whole g ls s) at) TU.Plus h.0 h.1 z.left t in
+      record { done = record { lists = z.lists; is = rw (z.value_is, n) refl; after = after_look c z.lists at (Seen g w ls s a) z.after }; complete = tt }) t
 
   pub minus_complete : (at : ℕ) (a : Trees.Expression) → Is a → Is (Trees.unary U.Minus at a)
   unfolding find
   minus_complete at a i s c th f b h t = by_thing s c (Trees.unary U.Minus at a) th _ h.2
       (λ t.
-      let z = operand g w a i s c h.1 f (behind_look c at (Seen g w s a) b) h.3 t.0 in
-      let n = CompleteNodes.unary_back (declared (moved s g)) (place_in (moved s g) at) TU.Minus h.0 h.1 z.left t in
-      record { done = record { lists = z.lists; is = rw (z.value_is, n) refl; after = after_look c z.lists at (Seen g w s a) z.after }; complete = tt }) t
+      let z = operand g w ls a i s c h.1 f (behind_look c at (Seen g w ls s a) b) h.3 t.0 in
+      let n = CompleteNodes.unary_back (declared (whole g ls s)) (place_in (whole g ls s) at) TU.Minus h.0 h.1 z.left t in
+      record { done = record { lists = z.lists; is = rw (z.value_is, n) refl; after = after_look c z.lists at (Seen g w ls s a) z.after }; complete = tt }) t
 
   pub complement_complete : (at : ℕ) (a : Trees.Expression) → Is a → Is (Trees.unary U.Complement at a)
   unfolding find
   complement_complete at a i s c th f b h t = by_thing s c (Trees.unary U.Complement at a) th _ h.2
       (λ t.
-      let z = operand g w a i s c h.1 f (behind_look c at (Seen g w s a) b) h.3 t.0 in
-      let n = CompleteNodes.unary_back (declared (moved s g)) (place_in (moved s g) at) TU.Complement h.0 h.1 z.left t in
-      record { done = record { lists = z.lists; is = rw (z.value_is, n) refl; after = after_look c z.lists at (Seen g w s a) z.after }; complete = tt }) t
+      let z = operand g w ls a i s c h.1 f (behind_look c at (Seen g w ls s a) b) h.3 t.0 in
+      let n = CompleteNodes.unary_back (declared (whole g ls s)) (place_in (whole g ls s) at) TU.Complement h.0 h.1 z.left t in
+      record { done = record { lists = z.lists; is = rw (z.value_is, n) refl; after = after_look c z.lists at (Seen g w ls s a) z.after }; complete = tt }) t
 
   pub not_complete : (at : ℕ) (a : Trees.Expression) → Is a → Is (Trees.unary U.Not at a)
   unfolding find
   not_complete at a i s c th f b h t = by_thing s c (Trees.unary U.Not at a) th _ h.2
       (λ t.
-      let z = operand g w a i s c h.1 f (behind_look c at (Seen g w s a) b) h.3 t.0 in
-      let n = CompleteNodes.not_back (declared (moved s g)) (place_in (moved s g) at) h.0 h.1 z.left t in
-      record { done = record { lists = z.lists; is = rw (z.value_is, n) refl; after = after_look c z.lists at (Seen g w s a) z.after }; complete = tt }) t
+      let z = operand g w ls a i s c h.1 f (behind_look c at (Seen g w ls s a) b) h.3 t.0 in
+      let n = CompleteNodes.not_back (declared (whole g ls s)) (place_in (whole g ls s) at) h.0 h.1 z.left t in
+      record { done = record { lists = z.lists; is = rw (z.value_is, n) refl; after = after_look c z.lists at (Seen g w ls s a) z.after }; complete = tt }) t
 
   pub deref_complete : (at : ℕ) (a : Trees.Expression) → Is a → Is (Trees.unary U.Deref at a)
   unfolding find
   deref_complete at a i s c th f b h t = by_pointed h.1 t
     where
-      by_pointed : IsPointed (place_in (moved s g) at) h.0 th → Back s c (Trees.unary U.Deref at a) th
+      by_pointed : IsPointed (place_in (whole g ls s) at) h.0 th → Back s c (Trees.unary U.Deref at a) th
       by_pointed (inl e) = by_thing s c (Trees.unary U.Deref at a) th _ e.2
           (λ t.
-          let z = operand g w a i s c h.0 f (behind_look c at (Seen g w s a) b) h.2 t.0 in
-          let n = CompleteNodes.deref_back (declared (moved s g)) (place_in (moved s g) at) e.0 h.0 z.left t in
+          let z = operand g w ls a i s c h.0 f (behind_look c at (Seen g w ls s a) b) h.2 t.0 in
+          let n = CompleteNodes.deref_back (declared (whole g ls s)) (place_in (whole g ls s) at) e.0 h.0 z.left t in
           let k : ended g.ends at ≤ length z.lists.records = omega (arith, b.follows.0, z.after.records) in
           record {
-            done = record { lists = z.lists; is = rw (z.value_is, n) refl; after = after_look c z.lists at (Seen g w s a) z.after };
+            done = record { lists = z.lists; is = rw (z.value_is, n) refl; after = after_look c z.lists at (Seen g w ls s a) z.after };
             complete = complete_stays (ended g.ends at) (length z.lists.records) e.0 k t.3;
           })
       by_pointed (inr e) = by_thing s c (Trees.unary U.Deref at a) th _ e.4
           (λ t.
-          let z = operand g w a i s c h.0 f (behind_look c at (Seen g w s a) b) h.2 t.0 in
-          let n = CompleteNodes.deref_function_back (declared (moved s g)) (place_in (moved s g) at) e.0 h.0 e.1 e.2 in
+          let z = operand g w ls a i s c h.0 f (behind_look c at (Seen g w ls s a) b) h.2 t.0 in
+          let n = CompleteNodes.deref_function_back (declared (whole g ls s)) (place_in (whole g ls s) at) e.0 h.0 e.1 e.2 in
           record {
-            done = record { lists = z.lists; is = rw (z.value_is, e.3, n) refl; after = after_look c z.lists at (Seen g w s a) z.after };
+            done = record { lists = z.lists; is = rw (z.value_is, e.3, n) refl; after = after_look c z.lists at (Seen g w ls s a) z.after };
             complete = tt;
           })
 
@@ -303,30 +304,30 @@ module _ (g : FileScope) (w : IsWhole g) where
   unfolding find
   address_complete at a i s c th f b h t = by_operand h.0 h.1 h.2 t
     where
-      by_operand : (operand : Thing) → IsAddress (place_in (moved s g) at) operand th → Erases a (moved s g) operand → Back s c (Trees.unary U.Address at a) th
+      by_operand : (operand : Thing) → IsAddress (place_in (whole g ls s) at) operand th → Erases a (whole g ls s) operand → Back s c (Trees.unary U.Address at a) th
       by_operand (an_object p) x e = by_thing s c (Trees.unary U.Address at a) th _ x.2
           (λ t.
-          let z = i s c (an_object p) f (behind_look c at (Seen g w s a) b) e t.0 in
-          let n = CompleteNodes.address_of_object_back (declared (moved s g)) (place_in (moved s g) at) (first a) x.0 p x.1 t in
+          let z = i s c (an_object p) f (behind_look c at (Seen g w ls s a) b) e t.0 in
+          let n = CompleteNodes.address_of_object_back (declared (whole g ls s)) (place_in (whole g ls s) at) (first a) x.0 p x.1 t in
           record {
-            done = record { lists = z.done.lists; is = rw (z.done.is, n) refl; after = after_look c z.done.lists at (Seen g w s a) z.done.after };
+            done = record { lists = z.done.lists; is = rw (z.done.is, n) refl; after = after_look c z.done.lists at (Seen g w ls s a) z.done.after };
             complete = tt;
           })
       by_operand (a_function from k u) x e = by_thing s c (Trees.unary U.Address at a) th _ x
           (λ t.
-          let z = i s c (a_function from k u) f (behind_look c at (Seen g w s a) b) e (erased_sound g w a s (length c.records) f (a_function from k u) e) in
-          let n = address_function (first a) (place_in (moved s g) at) from k u in
+          let z = i s c (a_function from k u) f (behind_look c at (Seen g w ls s a) b) e (erased_sound g w ls a s (length c.records) f (a_function from k u) e) in
+          let n = address_function (first a) (place_in (whole g ls s) at) from k u in
           record {
-            done = record { lists = z.done.lists; is = rw (z.done.is, n) refl; after = after_look c z.done.lists at (Seen g w s a) z.done.after };
+            done = record { lists = z.done.lists; is = rw (z.done.is, n) refl; after = after_look c z.done.lists at (Seen g w ls s a) z.done.after };
             complete = tt;
           })
       by_operand (a_function_at y) x e = by_thing s c (Trees.unary U.Address at a) th _ x
           (λ t.
-          let k = erased_sound g w a s (length c.records) f (a_function_at y) e in
-          let z = i s c (a_function_at y) f (behind_look c at (Seen g w s a) b) e (t, k.1) in
-          let n = address_function_at (first a) (place_in (moved s g) at) y in
+          let k = erased_sound g w ls a s (length c.records) f (a_function_at y) e in
+          let z = i s c (a_function_at y) f (behind_look c at (Seen g w ls s a) b) e (t, k.1) in
+          let n = address_function_at (first a) (place_in (whole g ls s) at) y in
           record {
-            done = record { lists = z.done.lists; is = rw (z.done.is, n) refl; after = after_look c z.done.lists at (Seen g w s a) z.done.after };
+            done = record { lists = z.done.lists; is = rw (z.done.is, n) refl; after = after_look c z.done.lists at (Seen g w ls s a) z.done.after };
             complete = tt;
           })
       by_operand (a_value y) x e = absurd x
@@ -348,11 +349,11 @@ module _ (g : FileScope) (w : IsWhole g) where
       (λ t.
       let both = behind_look c (first a) (seen s.is_inside s.purpose (walk g.untagged a ++ walk g.untagged b)) e in
       let m = object a i s c h.1 f (left_seen g s.is_inside s.purpose c (walk g.untagged a) (walk g.untagged b) both) h.5 t.0 in
-      let n = operand g w b j s m.done.lists h.2 (blocks_stay g (length c.records) (length m.done.lists.records) s.blocks (grown m.done.after) f)
+      let n = operand g w ls b j s m.done.lists h.2 (blocks_stay g (length c.records) (length m.done.lists.records) s.blocks (grown m.done.after) f)
       (right_seen g s.is_inside s.purpose c m.done.lists (walk g.untagged a) (walk g.untagged b) both m.done.after) h.6 t.1 in
       let l : element_of (type_of_path h.1) ≡ Some h.0 = ap element_of (sym (path_type_same h.1)) ∙ t.3 in
-      let r = CompleteParts.array_back (declared (moved s g)) (place_in (moved s g) (first a)) h.1 h.0 l in
-      let o = CompleteParts.element_back (declared (moved s g)) (place_in (moved s g) (first a)) left h.0 h.1 h.2 n.left t in
+      let r = CompleteParts.array_back (declared (whole g ls s)) (place_in (whole g ls s) (first a)) h.1 h.0 l in
+      let o = CompleteParts.element_back (declared (whole g ls s)) (place_in (whole g ls s) (first a)) left h.0 h.1 h.2 n.left t in
       let k : length m.done.lists.records ≤ length n.lists.records = grown n.after in
       record {
         done = record {
@@ -372,7 +373,7 @@ module _ (g : FileScope) (w : IsWhole g) where
       let d : is_decay (typed (unconverted h.1)) ≡ false = ap (λ x. is_decay (typed x)) u ∙ t.3 in
       let n = no_array z.first.thing (unconverted h.1) z.first.value d in
       let v = CompleteNodes.worth_back (first a) z.first.thing (unconverted h.1) z.first.value in
-      let o = CompleteParts.index_back (declared (moved s g)) (place_in (moved s g) (first a)) left h.0 h.1 h.2 z.first.left z.second.left t in
+      let o = CompleteParts.index_back (declared (whole g ls s)) (place_in (whole g ls s) (first a)) left h.0 h.1 h.2 z.first.left z.second.left t in
       let k : ended g.ends (first a) ≤ length z.second.lists.records = omega (arith, e.follows.0, z.after.records) in
       record {
         done = record {
@@ -386,10 +387,10 @@ module _ (g : FileScope) (w : IsWhole g) where
       (λ t.
       let both = behind_look c (first a) (seen s.is_inside s.purpose (walk g.untagged a ++ walk g.untagged b)) e in
       let z = operands a b i j s c h.2 h.3 f both h.5 h.6 t.0.0 t.0.1 in
-      let q = CompleteParts.turned_number (declared (moved s g)) (place_in (moved s g) (first a)) h.0 h.1 h.2 h.3 z.first.left h.4 t in
+      let q = CompleteParts.turned_number (declared (whole g ls s)) (place_in (whole g ls s) (first a)) h.0 h.1 h.2 h.3 z.first.left h.4 t in
       let n = number_no_array z.first.thing (unconverted h.2) z.first.value q in
       let v = CompleteNodes.worth_back (first a) z.first.thing (unconverted h.2) z.first.value in
-      let o = CompleteParts.turned_back (declared (moved s g)) (place_in (moved s g) (first a)) left h.0 h.1 h.2 h.3 z.first.left z.second.left h.4 t in
+      let o = CompleteParts.turned_back (declared (whole g ls s)) (place_in (whole g ls s) (first a)) left h.0 h.1 h.2 h.3 z.first.left z.second.left h.4 t in
       let k : ended g.ends (first a) ≤ length z.second.lists.records = omega (arith, e.follows.0, z.after.records) in
       record {
         done = record {
@@ -421,7 +422,7 @@ module _ (g : FileScope) (w : IsWhole g) where
       let y = z.done.after.extends.records in
       let rec = h.5.0 in
       let there = among_first g.records z.done.lists.records y.0 h.2 rec y.1 h.5.2 l in
-      let n = CompleteParts.dot_back (declared (moved s g)) (place_in (moved s g) (first a)) z.done.lists.records (ended g.ends at) x.from h.1 h.2 h.3 rec
+      let n = CompleteParts.dot_back (declared (whole g ls s)) (place_in (whole g ls s) (first a)) z.done.lists.records (ended g.ends at) x.from h.1 h.2 h.3 rec
       h.5.1 x.text
       u q there h.5.3 h.5.4 (w.fields_apart h.2 rec h.5.2) in
       record {
@@ -440,17 +441,17 @@ module _ (g : FileScope) (w : IsWhole g) where
   unfolding find
   arrow_complete a at x i s c th f b h t = by_thing s c (Trees.arrow a at x) th _ h.7
       (λ t.
-      let z = operand g w a i s c h.2 f (behind_look c (first a) (Seen g w s a) b) h.6 t.0.0 in
+      let z = operand g w ls a i s c h.2 f (behind_look c (first a) (Seen g w ls s a) b) h.6 t.0.0 in
       let k : ended g.ends (first a) ≤ length z.lists.records = omega (arith, b.follows.0, z.after.records) in
       let m = structure_below (ended g.ends (first a)) h.3 (subst (λ t. is_object (ended g.ends (first a)) t ≡ true) t.1 t.0.3) in
       let l : h.3 < length z.lists.records = omega (arith, m, k) in
       let y = z.after.extends.records in
       let rec = h.5.0 in
       let there = among_first g.records z.lists.records y.0 h.3 rec y.1 h.5.2 l in
-      let n = CompleteParts.arrow_back (declared (moved s g)) (place_in (moved s g) (first a)) z.lists.records x.from h.1 h.2 h.3 h.4 rec h.5.1 x.text
+      let n = CompleteParts.arrow_back (declared (whole g ls s)) (place_in (whole g ls s) (first a)) z.lists.records x.from h.1 h.2 h.3 h.4 rec h.5.1 x.text
       z.left t.0 t.1 there h.5.3 h.5.4 (w.fields_apart h.3 rec h.5.2) in
       record {
-        done = record { lists = z.lists; is = rw (z.value_is, n, h.5.5) refl; after = after_look c z.lists (first a) (Seen g w s a) z.after };
+        done = record { lists = z.lists; is = rw (z.value_is, n, h.5.5) refl; after = after_look c z.lists (first a) (Seen g w ls s a) z.after };
         complete = subst (λ t. is_object (length z.lists.records) t ≡ true) h.5.5
             (complete_stays h.3 (length z.lists.records) h.5.1.ty (omega (arith, l)) (w.fields_complete h.3 h.4 rec h.5.1 h.5.2 h.5.3));
       }) t
@@ -462,11 +463,11 @@ module _ (g : FileScope) (w : IsWhole g) where
   assign_complete a b op at i j s c th f e (inl h) t = by_thing s c (Trees.assign a op at b) th _ h.4
       (λ t.
       let m = object a i s c h.1 f (left_seen g s.is_inside s.purpose c (walk g.untagged a) (walk g.untagged b) e) h.5 t.0 in
-      let n = operand g w b j s m.done.lists h.2 (blocks_stay g (length c.records) (length m.done.lists.records) s.blocks (grown m.done.after) f)
+      let n = operand g w ls b j s m.done.lists h.2 (blocks_stay g (length c.records) (length m.done.lists.records) s.blocks (grown m.done.after) f)
       (right_seen g s.is_inside s.purpose c m.done.lists (walk g.untagged a) (walk g.untagged b) e m.done.after) h.6 t.1 in
       let u : is_scalar (type_of_path h.1) ≡ true = subst (λ t. is_scalar t ≡ true) (t.3 ∙ path_type_same h.1) t.2 in
-      let v = CompleteNodes.scalar_target_back (declared (moved s g)) (place_in (moved s g) (first a)) (first a) h.1 u in
-      let o = CompleteNodes.assign_back (declared (moved s g)) (place_in (moved s g) (first a)) at h.0 h.1 h.2 n.left t in
+      let v = CompleteNodes.scalar_target_back (declared (whole g ls s)) (place_in (whole g ls s) (first a)) (first a) h.1 u in
+      let o = CompleteNodes.assign_back (declared (whole g ls s)) (place_in (whole g ls s) (first a)) at h.0 h.1 h.2 n.left t in
       record {
         done = record {
           lists = n.lists;
@@ -480,8 +481,8 @@ module _ (g : FileScope) (w : IsWhole g) where
       let m = object a i s c h.1 f (left_seen g s.is_inside s.purpose c (walk g.untagged a) (walk g.untagged b) e) h.5 t.0 in
       let n = object b j s m.done.lists h.2 (blocks_stay g (length c.records) (length m.done.lists.records) s.blocks (grown m.done.after) f)
       (right_seen g s.is_inside s.purpose c m.done.lists (walk g.untagged a) (walk g.untagged b) e m.done.after) h.6 t.1 in
-      let v = CompleteNodes.record_target_back (declared (moved s g)) (place_in (moved s g) (first a)) (first a) h.1 t.4.0 (sym (path_type_same h.1) ∙ t.4.1) in
-      let o = CompleteNodes.copy_back (declared (moved s g)) (place_in (moved s g) (first a)) at h.0 h.1 h.2 t in
+      let v = CompleteNodes.record_target_back (declared (whole g ls s)) (place_in (whole g ls s) (first a)) (first a) h.1 t.4.0 (sym (path_type_same h.1) ∙ t.4.1) in
+      let o = CompleteNodes.copy_back (declared (whole g ls s)) (place_in (whole g ls s) (first a)) at h.0 h.1 h.2 t in
       record {
         done = record {
           lists = n.done.lists;
@@ -493,12 +494,12 @@ module _ (g : FileScope) (w : IsWhole g) where
   assign_complete a b op at i j s c th f e (inr (inr h)) t = by_thing s c (Trees.assign a op at b) th _ h.5
       (λ t.
       let m = object a i s c h.1 f (left_seen g s.is_inside s.purpose c (walk g.untagged a) (walk g.untagged b) e) h.6 t.0 in
-      let n = operand g w b j s m.done.lists h.2 (blocks_stay g (length c.records) (length m.done.lists.records) s.blocks (grown m.done.after) f)
+      let n = operand g w ls b j s m.done.lists h.2 (blocks_stay g (length c.records) (length m.done.lists.records) s.blocks (grown m.done.after) f)
       (right_seen g s.is_inside s.purpose c m.done.lists (walk g.untagged a) (walk g.untagged b) e m.done.after) h.7 t.1 in
       let u : is_scalar (type_of_path h.1) ≡ true = updated_scalar (ended g.ends (first a)) h.3 (type_of_path h.1) (bare_ty (typed h.2)) (ty (typed h.2))
       (subst (λ u. updating (ended g.ends (first a)) h.3 u (bare_ty (typed h.2)) ≡ Some (ty (typed h.2))) (t.2 ∙ path_type_same h.1) t.3) in
-      let v = CompleteNodes.scalar_target_back (declared (moved s g)) (place_in (moved s g) (first a)) (first a) h.1 u in
-      let o = CompleteNodes.update_back (declared (moved s g)) (place_in (moved s g) (first a)) at h.3 h.0 h.1 h.2 n.left t in
+      let v = CompleteNodes.scalar_target_back (declared (whole g ls s)) (place_in (whole g ls s) (first a)) (first a) h.1 u in
+      let o = CompleteNodes.update_back (declared (whole g ls s)) (place_in (whole g ls s) (first a)) at h.3 h.0 h.1 h.2 n.left t in
       record {
         done = record {
           lists = n.lists;

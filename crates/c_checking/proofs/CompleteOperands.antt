@@ -16,7 +16,7 @@ use Rattle.c_erasure.specs.Erasure.{typed, IsTypedThing, Values, Erases, IsNamed
 use Rattle.c_erasure.specs.Operators.{Kind, computes, compares, all_of, any_of, kind_of}
 use Rattle.c_erasure.specs.Noted.{Noted, Node, value, Expression, Path, Thing, an_object, a_value, a_function, a_function_at, a_library_function}
 use Rattle.c_erasure.specs.Noted.{type_of, type_of_path, object_value, value_of, unconverted}
-use Rattle.c_erasure.specs.Scopes.{FileScope, Scope, Entity, typedef, enumerator, a_local, a_parameter, Purpose, in_full, value_alone, type_alone}
+use Rattle.c_erasure.specs.Scopes.{ALocal, FileScope, Scope, Entity, typedef, enumerator, a_local, a_parameter, Purpose, in_full, value_alone, type_alone}
 use Rattle.c_erasure.specs.Scopes.{innermost, visible, named, or_else, ended, declared}
 use Rattle.c_erasure.specs.Scopes as Scopes
 use Rattle.c_checking.specs.Answers.{with_file, moved}
@@ -25,7 +25,8 @@ use Rattle.c_checking.specs.Finding.{value_at, find}
 use Rattle.c_checking.proofs.CompleteNodes.{some_is, worth_back}
 use Rattle.c_checking.proofs.CompleteValues.{IsBare, IsLeftOf, left_of}
 use Rattle.c_checking.proofs.CompleteWalk.{Event, seen, walk}
-use Rattle.c_checking.proofs.CompletePart.{Lists, part, IsFitFor, IsWhole, IsBefore, IsAfter, Done, BlocksFit, IsSound, IsComplete, value_bare, value_typed}
+use Rattle.c_checking.proofs.CompletePart.{whole, Lists, part, IsFitFor, IsWhole, IsBefore, IsAfter, Done, BlocksFit, IsSound, IsComplete, value_bare}
+use Rattle.c_checking.proofs.CompletePart.{value_typed}
 
 either : {A : Type 0} (o n : Option A) (e : A) (Q : Type 0) → (o ≡ Some e → Q) → (n ≡ Some e → Q) → or_else o n ≡ Some e → Q
 either None n e Q p q h = q h
@@ -64,7 +65,7 @@ number_no_array (a_function at f t) y v h = refl
 number_no_array (a_function_at x) y v h = refl
 number_no_array (a_library_function at which) y v h = refl
 
-module _ (g : FileScope) (w : IsWhole g) where
+module _ (g : FileScope) (w : IsWhole g) (ls : List ALocal) where
   -- ---- names
 
   abbrev Fits : Entity → Type 0
@@ -142,25 +143,25 @@ module _ (g : FileScope) (w : IsWhole g) where
   call_bare (a_function_at e) t at all node h = subst (λ node. IsBare (value t at node)) (sym h) refl
   call_bare (an_object p) t at all node h = subst (λ node. IsBare (value t at node)) (sym h.2) refl
 
-  pub erased_sound : (a : Trees.Expression) (s : Scope) (r : ℕ) → BlocksFit g r s.blocks → (th : Thing) → Erases a (moved s g) th → IsSound g th
-  erased_sound (Trees.name x) s r b th h = named_sound (place_in (moved s g) x.from) h.0 th
+  pub erased_sound : (a : Trees.Expression) (s : Scope) (r : ℕ) → BlocksFit g r s.blocks → (th : Thing) → Erases a (whole g ls s) th → IsSound g th
+  erased_sound (Trees.name x) s r b th h = named_sound (place_in (whole g ls s) x.from) h.0 th
       (either (innermost s.blocks x.text) (visible g.names x.text x.from) h.0 (Fits h.0) (λ e. (r, b x.text h.0 e))
       (λ e. (ended g.ends x.from, w.names_fit x.text x.from h.0 e)) h.1) h.2
   erased_sound (Trees.number x n kind) s r b th h = subst (IsSound g) (sym h) refl
   erased_sound (Trees.character x n) s r b th h = subst (IsSound g) (sym h) refl
-  erased_sound (Trees.texts all) s r b th h = literal_sound s.purpose (moved s g) _ _ th h
+  erased_sound (Trees.texts all) s r b th h = literal_sound s.purpose (whole g ls s) _ _ th h
   erased_sound (Trees.paren left a right) s r b th h = erased_sound a s r b th h
   erased_sound (Trees.index a left c right) s r b th (inl h) = subst (IsSound g) (sym h.4) tt
   erased_sound (Trees.index a left c right) s r b th (inr (inl h)) = subst (IsSound g) (sym h.3) tt
   erased_sound (Trees.index a left c right) s r b th (inr (inr h)) = subst (IsSound g) (sym h.7) tt
-  erased_sound (Trees.call f left all right) s r b th h = subst (IsSound g) (sym h.7) (call_bare h.1 h.0 (place_in (moved s g) (first f)) h.2 h.3 h.6)
+  erased_sound (Trees.call f left all right) s r b th h = subst (IsSound g) (sym h.7) (call_bare h.1 h.0 (place_in (whole g ls s) (first f)) h.2 h.3 h.6)
   erased_sound (Trees.dot a at x) s r b th h = subst (IsSound g) (sym h.4) tt
   erased_sound (Trees.arrow a at x) s r b th h = subst (IsSound g) (sym h.7) tt
   erased_sound (Trees.post a op at) s r b th h = subst (IsSound g) (sym h.2) refl
   erased_sound (Trees.pre op at a) s r b th h = subst (IsSound g) (sym h.2) refl
-  erased_sound (Trees.unary U.Address at a) s r b th h = address_sound (place_in (moved s g) at) h.0 th (erased_sound a s r b h.0 h.2) h.1
+  erased_sound (Trees.unary U.Address at a) s r b th h = address_sound (place_in (whole g ls s) at) h.0 th (erased_sound a s r b h.0 h.2) h.1
   erased_sound (Trees.unary U.Deref at a) s r b th h =
-      pointed_sound (place_in (moved s g) at) h.0 th (value_bare g h.2.0 (unconverted h.0) (erased_sound a s r b h.2.0 h.2.2) h.2.1) h.1
+      pointed_sound (place_in (whole g ls s) at) h.0 th (value_bare g h.2.0 (unconverted h.0) (erased_sound a s r b h.2.0 h.2.2) h.2.1) h.1
   erased_sound (Trees.unary U.Plus at a) s r b th h = subst (IsSound g) (sym h.2) refl
   erased_sound (Trees.unary U.Minus at a) s r b th h = subst (IsSound g) (sym h.2) refl
   erased_sound (Trees.unary U.Complement at a) s r b th h = subst (IsSound g) (sym h.2) refl
@@ -168,7 +169,7 @@ module _ (g : FileScope) (w : IsWhole g) where
   erased_sound (Trees.sizeof_expression at a) s r b th h = subst (IsSound g) (sym h.2.2) refl
   erased_sound (Trees.sizeof_type at left n right) s r b th h = subst (IsSound g) (sym h.3.2) refl
   erased_sound (Trees.cast left n right a) s r b th h = subst (IsSound g) (sym h.5) refl
-  erased_sound (Trees.binary a op at c) s r b th h = subst (IsSound g) (sym h.7) (joined_bare (kind_of op) h.0 (place_in (moved s g) (first a)) h.1 h.2 h.3 h.6)
+  erased_sound (Trees.binary a op at c) s r b th h = subst (IsSound g) (sym h.7) (joined_bare (kind_of op) h.0 (place_in (whole g ls s) (first a)) h.1 h.2 h.3 h.6)
   erased_sound (Trees.cond a question c colon d) s r b th h = subst (IsSound g) (sym h.4) refl
   erased_sound (Trees.assign a op at c) s r b th (inl h) = subst (IsSound g) (sym h.4) refl
   erased_sound (Trees.assign a op at c) s r b th (inr (inl h)) = subst (IsSound g) (sym h.4) refl
@@ -187,8 +188,8 @@ module _ (g : FileScope) (w : IsWhole g) where
 
   -- the typed tree of an expression is the one that is found
   abbrev pub Completes : Trees.Expression → Type 0
-  Completes a = (s : Scope) (c : Lists) (th : Thing) → BlocksFit g (length c.records) s.blocks → IsBefore g c (Seen s a) → Erases a (moved s g) th
-      → IsTypedThing (moved s g) th → Found s c a th
+  Completes a = (s : Scope) (c : Lists) (th : Thing) → BlocksFit g (length c.records) s.blocks → IsBefore g c (Seen s a) → Erases a (whole g ls s) th
+      → IsTypedThing (whole g ls s) th → Found s c a th
 
   pub record FoundValue (s : Scope) (c : Lists) (a : Trees.Expression) (x : Expression) : Type 0 where
     pub lists : Lists
@@ -197,15 +198,15 @@ module _ (g : FileScope) (w : IsWhole g) where
     pub value : value_of thing ≡ Some (unconverted x)
     pub value_is : value_at (first a) (find a (moved s (part g c))) ≡ Ok (unconverted x, part g lists)
     pub after : IsAfter g c (Seen s a) lists
-    pub left : IsLeftOf (declared (moved s g)) x (unconverted x)
+    pub left : IsLeftOf (declared (whole g ls s)) x (unconverted x)
 
   pub operand : (a : Trees.Expression) → Completes a → (s : Scope) (c : Lists) (x : Expression) → BlocksFit g (length c.records) s.blocks
       → IsBefore g c (Seen s a)
-      → Values (Erases a (moved s g)) x → IsTyped (declared (moved s g)) (typed x) → FoundValue s c a x
+      → Values (Erases a (whole g ls s)) x → IsTyped (declared (whole g ls s)) (typed x) → FoundValue s c a x
   operand a h s c x f b v t =
       let sound = erased_sound a s (length c.records) f v.0 v.2 in
-      let left = left_of (declared (moved s g)) x t (value_bare g v.0 (unconverted x) sound v.1) in
-      let z = h s c v.0 f b v.2 (value_typed g s v.0 (unconverted x) sound v.1 left.is_typed) in
+      let left = left_of (declared (whole g ls s)) x t (value_bare g v.0 (unconverted x) sound v.1) in
+      let z = h s c v.0 f b v.2 (value_typed g ls s v.0 (unconverted x) sound v.1 left.is_typed) in
       record {
         lists = z.done.lists;
         thing = v.0;

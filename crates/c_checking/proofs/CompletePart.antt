@@ -15,7 +15,8 @@ use Rattle.c_erasure.specs.Declarators.{AreDifferent}
 use Rattle.c_erasure.specs.Erasure.{typed, IsTypedThing}
 use Rattle.c_erasure.specs.Noted.{Expression, Path, Thing, an_object, a_value, a_function, a_function_at, a_library_function, type_of, type_of_path}
 use Rattle.c_erasure.specs.Noted.{value_of, object_value}
-use Rattle.c_erasure.specs.Scopes.{Bound, AnObject, AFunction, AMention, FileScope, Scope, Entity, typedef, enumerator, a_local, a_parameter, Purpose}
+use Rattle.c_erasure.specs.Scopes.{ALocal, Bound, AnObject, AFunction, AMention, FileScope, Scope, Entity, typedef, enumerator, a_local, a_parameter}
+use Rattle.c_erasure.specs.Scopes.{Purpose}
 use Rattle.c_erasure.specs.Scopes.{IsListedAt, IsMentioned, is_measured}
 use Rattle.c_erasure.specs.Scopes.{or_else, visible, innermost, named, ended, declared}
 use Rattle.c_erasure.specs.Scopes as Scopes
@@ -49,6 +50,10 @@ part g c = record {
   mentions = c.mentions;
   untagged = g.untagged;
 }
+
+-- a scope in the whole file, with all locals of the function
+abbrev pub whole : FileScope → List ALocal → Scope → Scope
+whole g ls s = record { file = g; blocks = s.blocks; is_inside = s.is_inside; purpose = s.purpose; locals = ls }
 
 -- ---- what the file level has to supply of the whole file
 
@@ -188,9 +193,9 @@ visible_before (b ∷ all) more x at h =
     ap (or_else (cond (bytes_eq b.name x && nat_le b.from at) (Some b.entity) None)) (visible_before all more x at h)
 
 -- at that byte the names of the whole file are those up to there
-pub named_same : (g : FileScope) (s : Scope) (c : Lists) → Extends (part g c) g → (x : List ℕ) (at : ℕ)
-    → ((k : ℕ) (b : Bound) → slice_get g.names (length c.names + k) ≡ Some b → at < b.from) → named (moved s (part g c)) x at ≡ named (moved s g) x at
-named_same g s c p x at h =
+pub named_same : (g : FileScope) (ls : List ALocal) (s : Scope) (c : Lists) → Extends (part g c) g → (x : List ℕ) (at : ℕ)
+    → ((k : ℕ) (b : Bound) → slice_get g.names (length c.names + k) ≡ Some b → at < b.from) → named (moved s (part g c)) x at ≡ named (whole g ls s) x at
+named_same g ls s c p x at h =
     let more = p.names.0 in
     let later : AreLater more at = λ k b e. h k b (subst (λ all. slice_get all (length c.names + k) ≡ Some b) (sym p.names.1)
     (behind c.names more k (length c.names + k) b refl e)) in
@@ -201,9 +206,9 @@ one_fits : (g : FileScope) (r : ℕ) (o n : Option Entity) (e : Entity) → (o �
 one_fits g r None n e p q h = q h
 one_fits g r (Some x) n e p q h = p h
 
-pub named_fits : (g : FileScope) (w : IsWhole g) (s : Scope) (at : ℕ) → BlocksFit g (ended g.ends at) s.blocks → (x : List ℕ) (e : Entity)
-    → named (moved s g) x at ≡ Some e → IsFitFor g (ended g.ends at) e
-named_fits g w s at b x e h =
+pub named_fits : (g : FileScope) (w : IsWhole g) (ls : List ALocal) (s : Scope) (at : ℕ) → BlocksFit g (ended g.ends at) s.blocks → (x : List ℕ) (e : Entity)
+    → named (whole g ls s) x at ≡ Some e → IsFitFor g (ended g.ends at) e
+named_fits g w ls s at b x e h =
     one_fits g (ended g.ends at) (innermost s.blocks x) (visible g.names x at) e (b x e) (w.names_fit x at e) h
 
 -- ---- types of which the file speaks
@@ -254,10 +259,10 @@ mention_extends g c n m p h = record {
     by_case kind t at (inr e) = p.mentions kind t at e
 
 -- a type that is mentioned in the whole file is listed where it stands
-pub mentioned : (g : FileScope) (s : Scope) (c d : Lists) (w : List Event) (before : ℕ) (kind : MentionKind) (t : CType) (at : ℕ)
-    → IsMentioned (moved s g) kind t at → IsAfter g c w d
+pub mentioned : (g : FileScope) (ls : List ALocal) (s : Scope) (c d : Lists) (w : List Event) (before : ℕ) (kind : MentionKind) (t : CType) (at : ℕ)
+    → IsMentioned (whole g ls s) kind t at → IsAfter g c w d
     → (e : Lists) × (with_mention (moved s (part g c)) before kind t at (part g d) ≡ part g e) × (e.records ≡ d.records) × IsAfter g c w e
-mentioned g s c d w before kind t at m p = by_purpose (is_measured s.purpose) refl m
+mentioned g ls s c d w before kind t at m p = by_purpose (is_measured s.purpose) refl m
   where
     by_purpose : (b : Bool) → is_measured s.purpose ≡ b → (b ≡ true) ⊎ IsListedAt g.mentions kind t at
         → (e : Lists) × (cond b (part g d) (part g (mentioning d before (record { kind = kind; ty = t; at = at }))) ≡ part g e) × (e.records ≡ d.records)
@@ -323,10 +328,10 @@ module _ (g : FileScope) where
   object_typed s p (structure r) y v h = cc
 
   -- what has a typed value is typed
-  pub value_typed : (s : Scope) (th : Thing) (y : Expression) → IsSound th → value_of th ≡ Some y → IsTyped (declared (moved s g)) (typed y)
-      → IsTypedThing (moved s g) th
-  value_typed s (an_object p) y k v h = object_typed (moved s g) p (type_of_path p) y v h
-  value_typed s (a_value x) y k v h = subst (λ y. IsTyped (declared (moved s g)) (typed y)) (sym (some_is x y v)) h
-  value_typed s (a_function at f t) y k v h = k
-  value_typed s (a_function_at x) y k v h = (subst (λ y. IsTyped (declared (moved s g)) (typed y)) (sym (some_is x y v)) h, k.1)
-  value_typed s (a_library_function at which) y k v h = tt
+  pub value_typed : (ls : List ALocal) (s : Scope) (th : Thing) (y : Expression) → IsSound th → value_of th ≡ Some y → IsTyped (declared (whole g ls s)) (typed y)
+      → IsTypedThing (whole g ls s) th
+  value_typed ls s (an_object p) y k v h = object_typed (whole g ls s) p (type_of_path p) y v h
+  value_typed ls s (a_value x) y k v h = subst (λ y. IsTyped (declared (whole g ls s)) (typed y)) (sym (some_is x y v)) h
+  value_typed ls s (a_function at f t) y k v h = k
+  value_typed ls s (a_function_at x) y k v h = (subst (λ y. IsTyped (declared (whole g ls s)) (typed y)) (sym (some_is x y v)) h, k.1)
+  value_typed ls s (a_library_function at which) y k v h = tt

@@ -16,7 +16,7 @@ use Rattle.c_typed.specs.declared.program.MentionKind.TheVariants.{Named}
 use Rattle.c_erasure.specs.Broken.{redeclared, member_names, names_of_members, if_named, tag_place}
 use Rattle.c_erasure.specs.Declarators.{closed, declared_name, AreDifferent}
 use Rattle.c_erasure.specs.Erasure.{AreFields, AreMembers, tag_text, comma_or, after_all, place_in}
-use Rattle.c_erasure.specs.Scopes.{FileScope, Scope, Bound, Tag, enumerator, defines, Purpose, ended, IsNumbered, tag_at}
+use Rattle.c_erasure.specs.Scopes.{ALocal, FileScope, Scope, Bound, Tag, enumerator, defines, Purpose, ended, IsNumbered, tag_at}
 use Rattle.c_erasure.specs.Marks
 use Rattle.c_erasure.specs.Marks.{tag_name}
 use Rattle.c_erasure.specs.Specifiers.{no_storage, storage_of}
@@ -30,7 +30,7 @@ use Rattle.c_checking.proofs.CompleteNodes.{some, some_is}
 use Rattle.c_checking.proofs.CompleteParts.{all_at}
 use Rattle.c_checking.proofs.CompleteWalk.{Event, seen, walk_of_specifiers, walk_of_declarator, walk_of_members, walk_of_member_declarators}
 use Rattle.c_checking.proofs.CompleteWalk.{walk_of_enumerators, walk_of_value, a_tag, an_end, a_name, IsTagOf, a_structure, an_enumeration}
-use Rattle.c_checking.proofs.CompletePart.{Lists, part, IsWhole, IsBefore, IsAfter, Done, BlocksFit, blocks_stay, none_after, grown, complete_stays}
+use Rattle.c_checking.proofs.CompletePart.{whole, Lists, part, IsWhole, IsBefore, IsAfter, Done, BlocksFit, blocks_stay, none_after, grown, complete_stays}
 use Rattle.c_checking.proofs.CompletePart.{mentioned, right, then}
 use Rattle.c_checking.proofs.CompletePart.{left_seen, right_seen, then_seen}
 use Rattle.c_checking.proofs.CompleteExpressions.{after_look, behind_look}
@@ -39,7 +39,7 @@ use Rattle.c_checking.proofs.CompleteSpecifiers.{CompletesSpecifier, CompletesEn
 
 -- ---- lists
 
-split_at : {X : Type 0} (xs more : List X) (y : X) → slice_get (xs ++ more) (length xs) ≡ Some y → (rest : List X) × (more ≡ y ∷ rest)
+pub split_at : {X : Type 0} (xs more : List X) (y : X) → slice_get (xs ++ more) (length xs) ≡ Some y → (rest : List X) × (more ≡ y ∷ rest)
 split_at [] [] y h = cc
 split_at [] (x ∷ more) y h = (more, ap (λ x. x ∷ more) (some_is x y h))
 split_at (x ∷ xs) more y h = split_at xs more y h
@@ -111,7 +111,7 @@ made_is : (tag : List ℕ) (place : Place) (r : Record) → r.tag ≡ tag → r.
 made_is tag place r e f =
     ap (λ tag. with_parts tag place r.fields) (sym e) ∙ ap (λ place. with_parts r.tag place r.fields) (sym f)
 
-module _ (g : FileScope) (w : IsWhole g) where
+module _ (g : FileScope) (w : IsWhole g) (ls : List ALocal) where
   -- ---- enumerators
 
   abbrev with_one_name : Lists → Bound → Lists
@@ -166,8 +166,8 @@ module _ (g : FileScope) (w : IsWhole g) where
   unfolding enumerators
   enumerator_joined comma x value more s c l m n next after v a b d = rw (a, b, d) refl
 
-  pub enumerator_complete : (comma : Option ℕ) (x : Spelling) (value : Trees.EnumeratorValue) (more : Trees.Enumerators) → CompletesEnumeratorValue g w value
-      → CompletesEnumerators g w more → CompletesEnumerators g w (Trees.and_enumerator comma x value more)
+  pub enumerator_complete : (comma : Option ℕ) (x : Spelling) (value : Trees.EnumeratorValue) (more : Trees.Enumerators) → CompletesEnumeratorValue g w ls value
+      → CompletesEnumerators g w ls more → CompletesEnumerators g w ls (Trees.and_enumerator comma x value more)
   enumerator_complete comma x value more i j s c next after e f b h =
       let u = walk_of_value g.untagged value in
       let own : IsBefore g c (seen s.is_inside s.purpose (walk_of_value g.untagged value)) =
@@ -218,8 +218,8 @@ module _ (g : FileScope) (w : IsWhole g) where
       (enumerators all (moved s (part g c)) 0 (after_all comma end) >>= λ f. with_file f.1 (Declaring.enumeration_of f.1 x))) e
       ∙ rw (a, b) refl
 
-  pub enum_body_complete : (at : ℕ) (x : Option Spelling) (begin : ℕ) (all : Trees.Enumerators) (comma : Option ℕ) (end : ℕ) → CompletesEnumerators g w all
-      → CompletesSpecifier g w (Trees.enum_body at x begin all comma end)
+  pub enum_body_complete : (at : ℕ) (x : Option Spelling) (begin : ℕ) (all : Trees.Enumerators) (comma : Option ℕ) (end : ℕ) → CompletesEnumerators g w ls all
+      → CompletesSpecifier g w ls (Trees.enum_body at x begin all comma end)
   enum_body_complete at x begin all comma end i s c t f b h =
       let out : IsBefore g c (seen false s.purpose (walk_of_enumerators g.untagged all (after_all comma end) ++ an_enumeration g.untagged x end)) =
       subst (λ i. IsBefore g c (seen i s.purpose (walk_of_enumerators g.untagged all (after_all comma end) ++ an_enumeration g.untagged x end))) h.0 b in
@@ -244,13 +244,13 @@ module _ (g : FileScope) (w : IsWhole g) where
 
   abbrev pub CompletesMemberDeclarators : Trees.MemberDeclarators → Type 0
   CompletesMemberDeclarators all = (s : Scope) (c : Lists) (base : CType) (semicolon : ℕ) (fields : List Field) → BlocksFit g (length c.records) s.blocks
-      → IsBefore g c (seen s.is_inside s.purpose (walk_of_member_declarators g.untagged all semicolon)) → AreMembers (moved s g) base all semicolon fields
+      → IsBefore g c (seen s.is_inside s.purpose (walk_of_member_declarators g.untagged all semicolon)) → AreMembers (whole g ls s) base all semicolon fields
       → Done g c (seen s.is_inside s.purpose (walk_of_member_declarators g.untagged all semicolon))
       (member_declarators all base semicolon (moved s (part g c))) fields
 
   abbrev pub CompletesMembers : Trees.MemberDeclarations → Type 0
   CompletesMembers all = (s : Scope) (c : Lists) (fields : List Field) → BlocksFit g (length c.records) s.blocks
-      → IsBefore g c (seen s.is_inside s.purpose (walk_of_members g.untagged all)) → AreFields (moved s g) all fields
+      → IsBefore g c (seen s.is_inside s.purpose (walk_of_members g.untagged all)) → AreFields (whole g ls s) all fields
       → Done g c (seen s.is_inside s.purpose (walk_of_members g.untagged all)) (members all (moved s (part g c))) fields
 
   pub no_member_declarators_complete : CompletesMemberDeclarators Trees.no_member_declarators
@@ -258,7 +258,7 @@ module _ (g : FileScope) (w : IsWhole g) where
   no_member_declarators_complete s c base semicolon fields f b h =
       record { lists = c; is = ap (λ fields. ok (fields, part g c)) (sym h); after = none_after g c [] b refl refl refl }
 
-  object_back : (records : List Record) (count at : ℕ) (t : CType) → is_object count t ≡ true → is_object (length records) t ≡ true
+  pub object_back : (records : List Record) (count at : ℕ) (t : CType) → is_object count t ≡ true → is_object (length records) t ≡ true
       → object_at records count at t ≡ Ok t
   unfolding object_at
   object_back records count at t c l = rw (c, l) refl
@@ -270,29 +270,29 @@ module _ (g : FileScope) (w : IsWhole g) where
       → with_mention (moved s (part g c)) (mentions_in (part g c)) Named t (first_declarator d semicolon) (part g l) ≡ part g m
       → member_declarators more base semicolon (moved s (part g m)) ≡ Ok (rest, part g n)
       → member_declarators (Trees.and_member_declarator comma d more) base semicolon (moved s (part g c))
-      ≡ Ok (record { name = x.text; ty = t; place = place_in (moved s g) (first_declarator d semicolon) } ∷ rest, part g n)
+      ≡ Ok (record { name = x.text; ty = t; place = place_in (whole g ls s) (first_declarator d semicolon) } ∷ rest, part g n)
   unfolding member_declarators
   member_joined comma d more s c l m n base semicolon x t steps rest na a k o me r = rw (a, k, o, na, me, r) refl
 
-  pub member_complete : (comma : Option ℕ) (d : Trees.Declarator) (more : Trees.MemberDeclarators) → CompletesDeclarator g w d → CompletesMemberDeclarators more
+  pub member_complete : (comma : Option ℕ) (d : Trees.Declarator) (more : Trees.MemberDeclarators) → CompletesDeclarator g w ls d → CompletesMemberDeclarators more
       → CompletesMemberDeclarators (Trees.and_member_declarator comma d more)
   member_complete comma d more i j s c base semicolon fields f b h =
       let at = first_declarator d semicolon in
-      let inner = behind_look g w c (first_declarator d semicolon)
+      let inner = behind_look g w ls c (first_declarator d semicolon)
       (seen s.is_inside s.purpose (walk_of_declarator g.untagged d ++ walk_of_member_declarators g.untagged more semicolon)) b in
       let z = i s c base (closed h.1) f
       (left_seen g s.is_inside s.purpose c (walk_of_declarator g.untagged d) (walk_of_member_declarators g.untagged more semicolon) inner) h.4 in
-      let k = closed_back g w (first_declarator d semicolon) z.lists z.steps base h.1 (z.derive z.lists z.after.extends (omega arith)) in
+      let k = closed_back g w ls (first_declarator d semicolon) z.lists z.steps base h.1 (z.derive z.lists z.after.extends (omega arith)) in
       let o = complete_stays (ended g.ends (first_declarator d semicolon)) (length z.lists.records) h.1 (omega (arith, b.follows.0, z.after.records)) h.5 in
       let y = object_back z.lists.records (ended g.ends (first_declarator d semicolon)) (first_declarator d semicolon) h.1 h.5 o in
-      let m = mentioned g s c z.lists (SeenDeclarator g w s d) (mentions_in (part g c)) Named h.1 (first_declarator d semicolon) h.6 z.after in
+      let m = mentioned g ls s c z.lists (SeenDeclarator g w ls s d) (mentions_in (part g c)) Named h.1 (first_declarator d semicolon) h.6 z.after in
       let r = j s m.0 base semicolon h.2 (blocks_stay g (length c.records) (length m.0.records) s.blocks (grown m.3) f)
       (right_seen g s.is_inside s.purpose c m.0 (walk_of_declarator g.untagged d) (walk_of_member_declarators g.untagged more semicolon) inner m.3) h.8 in
       record {
         lists = r.lists;
         is = member_joined comma d more s c z.lists m.0 r.lists base semicolon h.0 h.1 z.steps h.2 h.3 z.is k y m.1 r.is
             ∙ ap (λ fields. ok (fields, part g r.lists)) (sym h.7);
-        after = after_look g w c r.lists (first_declarator d semicolon)
+        after = after_look g w ls c r.lists (first_declarator d semicolon)
             (seen s.is_inside s.purpose (walk_of_declarator g.untagged d ++ walk_of_member_declarators g.untagged more semicolon))
             (then_seen g s.is_inside s.purpose c m.0 r.lists (walk_of_declarator g.untagged d) (walk_of_member_declarators g.untagged more semicolon) m.3
             r.after);
@@ -312,13 +312,13 @@ module _ (g : FileScope) (w : IsWhole g) where
   unfolding members
   members_joined specs ds semicolon more s c l m n base own rest st a k r = rw (st, a, k, r) refl
 
-  pub members_complete : (specs : Trees.Specifiers) (ds : Trees.MemberDeclarators) (semicolon : ℕ) (more : Trees.MemberDeclarations) → CompletesOne g w specs
+  pub members_complete : (specs : Trees.Specifiers) (ds : Trees.MemberDeclarators) (semicolon : ℕ) (more : Trees.MemberDeclarations) → CompletesOne g w ls specs
       → CompletesMemberDeclarators ds → CompletesMembers more → CompletesMembers (Trees.and_member_declaration specs ds semicolon more)
   members_complete specs ds semicolon more i j k s c fields f b h =
       let u = walk_of_specifiers g.untagged specs in
       let first = left_seen g s.is_inside s.purpose c (walk_of_specifiers g.untagged specs ++ walk_of_member_declarators g.untagged ds semicolon)
       (walk_of_members g.untagged more) b in
-      let z = base_complete g w specs i s c h.0 f
+      let z = base_complete g w ls specs i s c h.0 f
       (left_seen g s.is_inside s.purpose c (walk_of_specifiers g.untagged specs) (walk_of_member_declarators g.untagged ds semicolon) first) h.5 in
       let n = j s z.lists h.0 semicolon h.1 (blocks_stay g (length c.records) (length z.lists.records) s.blocks (grown z.after) f)
       (right_seen g s.is_inside s.purpose c z.lists (walk_of_specifiers g.untagged specs) (walk_of_member_declarators g.untagged ds semicolon) first z.after)
@@ -386,7 +386,7 @@ module _ (g : FileScope) (w : IsWhole g) where
   unfolding Declaring.completed_in
   completed_back c r at names p h n e =
       let z = next_after g.records c.records p.records.0 r p.records.1 h in
-      let k = number_back g w r.tag (length c.records) n in
+      let k = number_back g w ls r.tag (length c.records) n in
       let i = itself (length c.records) in
       let l = le-leb (size_of_record c.records r) 16777216 (w.records_small c.records z.0 r z.1) in
       rw (e, k, i, l) refl
@@ -404,11 +404,11 @@ module _ (g : FileScope) (w : IsWhole g) where
   known_back s c at None h = refl
   known_back s c at (Some x) h = definable_back s c at (Some x) (tag_at g.tags x.text x.from) (h x.from)
 
-  text_same : (s : Scope) (c : Lists) (at : ℕ) (x : Option Spelling) → tag_text (moved s (part g c)) at x ≡ tag_text (moved s g) at x
+  text_same : (s : Scope) (c : Lists) (at : ℕ) (x : Option Spelling) → tag_text (moved s (part g c)) at x ≡ tag_text (whole g ls s) at x
   text_same s c at None = refl
   text_same s c at (Some x) = refl
 
-  name_same : (s : Scope) (at : ℕ) (x : Option Spelling) → tag_text (moved s g) at x ≡ tag_name g.untagged at x
+  name_same : (s : Scope) (at : ℕ) (x : Option Spelling) → tag_text (whole g ls s) at x ≡ tag_name g.untagged at x
   name_same s at None = refl
   name_same s at (Some x) = refl
 
@@ -417,7 +417,7 @@ module _ (g : FileScope) (w : IsWhole g) where
       → s.is_inside ≡ false → Declaring.definable (moved s (part g c)) at x (Declaring.known_tag (moved s (part g c)) x) ≡ None
       → members all (moved s (part g c)) ≡ Ok (fields, part g l)
       → Declaring.completed_in (part g l) (tag_place at x) (member_names all)
-      (record { tag = tag_text (moved s g) at x; place = place_in (moved s g) at; fields = fields })
+      (record { tag = tag_text (whole g ls s) at x; place = place_in (whole g ls s) at; fields = fields })
       ≡ Ok (t, part g m)
       → specified (Trees.struct_body at x begin all end) (moved s (part g c)) ≡ Ok (t, part g m)
   unfolding specified
@@ -432,14 +432,14 @@ module _ (g : FileScope) (w : IsWhole g) where
       ∙ ap (λ r. r >>= λ m. Declaring.completed_in m.1 (tag_place at x) (member_names all)
       (record { tag = tag_text (moved s (part g c)) at x; place = place_in (moved s (part g c)) at; fields = m.0 })) a
       ∙ ap (λ tag. Declaring.completed_in (part g l) (tag_place at x) (member_names all)
-      (record { tag = tag; place = place_in (moved s g) at; fields = fields })) (text_same s c at x)
+      (record { tag = tag; place = place_in (whole g ls s) at; fields = fields })) (text_same s c at x)
       ∙ b
 
   abbrev body : Trees.MemberDeclarations → List ℕ → (right : ℕ) → List Event
   body all tag right = walk_of_members g.untagged all ++ an_end tag right ∷ []
 
   pub struct_body_complete : (at : ℕ) (x : Option Spelling) (begin : ℕ) (all : Trees.MemberDeclarations) (end : ℕ) → CompletesMembers all
-      → CompletesSpecifier g w (Trees.struct_body at x begin all end)
+      → CompletesSpecifier g w ls (Trees.struct_body at x begin all end)
   struct_body_complete at x begin all end i s c t f b h =
       let out : IsBefore g c (a_structure g.untagged at x ∷ seen false s.purpose (body all (tag_name g.untagged at x) end)) =
       subst (λ i. IsBefore g c (seen i s.purpose (a_structure g.untagged at x ∷ body all (tag_name g.untagged at x) end))) h.2 b in
@@ -458,11 +458,11 @@ module _ (g : FileScope) (w : IsWhole g) where
       let number : IsNumbered g h.1.tag (length z.lists.records) =
       subst (λ k. IsNumbered g h.1.tag k) same (subst (λ tag. IsNumbered g tag h.0) (sym h.7) h.4) in
       let names = repeated_none [] (member_names all) (λ j k z y p q. cc)
-      (subst AreDifferent (sym (fields_names (moved s g) all h.1.fields h.9)) h.10) in
+      (subst AreDifferent (sym (fields_names (whole g ls s) all h.1.fields h.9)) h.10) in
       let k = completed_back z.lists h.1 (tag_place at x) (member_names all) z.after.extends there number names in
-      let made : Record = record { tag = tag_text (moved s g) at x; place = place_in (moved s g) at; fields = h.1.fields } in
-      let is_made : record { tag = tag_text (moved s g) at x; place = place_in (moved s g) at; fields = h.1.fields } ≡ h.1 =
-      made_is (tag_text (moved s g) at x) (place_in (moved s g) at) h.1 h.7 h.8 in
+      let made : Record = record { tag = tag_text (whole g ls s) at x; place = place_in (whole g ls s) at; fields = h.1.fields } in
+      let is_made : record { tag = tag_text (whole g ls s) at x; place = place_in (whole g ls s) at; fields = h.1.fields } ≡ h.1 =
+      made_is (tag_text (whole g ls s) at x) (place_in (whole g ls s) at) h.1 h.7 h.8 in
       let own_end = record_after z.lists h.1 (tag_name g.untagged at x) end z.after.extends there in
       let all_after = then_seen g false s.purpose c z.lists (with_one_record z.lists h.1) (walk_of_members g.untagged all)
       (an_end (tag_name g.untagged at x) end ∷ []) a own_end in

@@ -38,3 +38,13 @@ pub mod FaultSteps
 pub mod FaultParts
 pub mod FaultTypes
 pub mod Faults
+pub mod CompleteOrder
+pub mod CompleteLists
+pub mod CompleteMarks
+pub mod CompleteLiterals
+pub mod CompleteWhole
+pub mod CompleteStatements
+pub mod CompleteBlocks
+pub mod CompleteFor
+pub mod CompleteLocals
+pub mod CompleteBodies
