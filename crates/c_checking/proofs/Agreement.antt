@@ -1,13 +1,14 @@
 -- What a scope keeps: what names stand for is declared with its type. And what a part of the text adds to a file.
-use Rattle.std.proofs.Common.{◌≡◌, ℕ, ◌+◌, Bool, true, false, List, [], ◌∷◌, ◌++◌, length, refl, ap, ◌∙◌, subst, length-append, arith, cond}
+use Rattle.std.proofs.Common.{◌≡◌, ℕ, ◌+◌, ◌<◌, Bool, true, false, List, [], ◌∷◌, ◌++◌, length, refl, ap, ◌∙◌, subst, length-append, arith, cond}
 use Rattle.std.specs.Prelude.{◌&&◌, nat_le, map, Option, Some, None, slice_get}
 use Rattle.std.specs.Option.{option_map}
 use Rattle.std.specs.Str.{bytes_eq}
 use Rattle.c_types.specs.declared.ty.IntKind.TheVariants.{Int}
+use Rattle.c_types.specs.Types.{CType, Field, Record}
+use Rattle.c_types.specs.Objects.{is_object}
 use Rattle.c_typed.specs.Conversions.{as_kind, is_scalar}
-use Rattle.c_erasure.specs.Marks.{Mark, a_tag, an_end, a_name, ends_in}
-use Rattle.c_erasure.specs.Scopes.{Bound, ALocal, FileScope, Scope, Entity, typedef, enumerator, an_object, a_function, a_library_function, a_local}
-use Rattle.c_erasure.specs.Scopes.{a_parameter}
+use Rattle.c_erasure.specs.Marks.{Mark, a_tag, an_end, a_name, ends_in, scope_beginnings}
+use Rattle.c_erasure.specs.Scopes.{Bound, ALocal, FileScope, Scope, Entity, typedef, enumerator, an_object, a_function, a_library_function, a_local, a_parameter}
 use Rattle.c_erasure.specs.Scopes.{declared_in, innermost, visible, named, or_else}
 use Rattle.c_checking.proofs.Extends.{Extends, itself, further, behind, kept}
 
@@ -94,6 +95,23 @@ pub named_fits : (s : Scope) (x : List ℕ) (at : ℕ) (e : Entity) → AreFit s
 named_fits s x at e n b p =
     one_of_fits s.file s.locals _ _ e (innermost_fits s.file s.locals s.blocks x e b) (visible_fits s.file s.locals s.file.names x at e n) p
 
+-- ---- what each part of the text keeps: records have their tags, and objects and fields types of objects, complete or not
+
+abbrev pub IsObjectType : CType → Type 0
+IsObjectType t = (count : ℕ) × (is_object count t ≡ true)
+
+pub record IsSteady (f : FileScope) : Type 0 where
+  pub tagged : (k : ℕ) (r : Record) → slice_get f.records k ≡ Some r → slice_get f.numbered k ≡ Some r.tag
+  pub fields : (k j : ℕ) (r : Record) (x : Field) → slice_get f.records k ≡ Some r → slice_get r.fields j ≡ Some x → IsObjectType x.ty
+  pub objects : (n : ℕ) (t : CType) → slice_get (map (λ o. o.ty) f.objects) n ≡ Some t → IsObjectType t
+
+-- names that are in scope before a byte, and bytes before one
+abbrev pub AreBegun : List Bound → (before : ℕ) → Type 0
+AreBegun all before = (k : ℕ) (b : Bound) → slice_get all k ≡ Some b → b.from < before
+
+abbrev pub AreBefore : List ℕ → (before : ℕ) → Type 0
+AreBefore all before = (k from : ℕ) → slice_get all k ≡ Some from → from < before
+
 -- ---- what a part of the text adds
 
 -- structures are defined at file scope alone
@@ -114,6 +132,8 @@ pub record IsGrown (f : FileScope) (is_inside : Bool) (all : List Mark) (g : Fil
   pub extends : Extends f g
   pub counted : length g.records ≡ length f.records + added is_inside all
   pub names : (locals : List ALocal) → AreFit f locals f.names → AreFit g locals g.names
+  pub steady : IsSteady f → IsSteady g
+  pub begun : (before : ℕ) → AreBegun f.names before → (is_inside ≡ false → AreBefore (scope_beginnings all) before) → AreBegun g.names before
 
 abbrev pub Grew : Scope → List Mark → FileScope → Type 0
 Grew s all g = IsGrown s.file s.is_inside all g
@@ -124,18 +144,40 @@ ends_append (a_tag t ∷ u) v = ends_append u v
 ends_append (an_end tag right ∷ u) v = ap (λ z. right ∷ z) (ends_append u v)
 ends_append (a_name from ∷ u) v = ends_append u v
 
+pub beginnings_append : (u v : List Mark) → scope_beginnings (u ++ v) ≡ scope_beginnings u ++ scope_beginnings v
+beginnings_append [] v = refl
+beginnings_append (a_tag t ∷ u) v = beginnings_append u v
+beginnings_append (an_end tag right ∷ u) v = beginnings_append u v
+beginnings_append (a_name from ∷ u) v = ap (λ z. from ∷ z) (beginnings_append u v)
+
+before_left : (u v : List Mark) (before : ℕ) → AreBefore (scope_beginnings (u ++ v)) before → AreBefore (scope_beginnings u) before
+before_left u v before h k from e = h k from (rw (beginnings_append u v) (kept (scope_beginnings u) (scope_beginnings v) k from e))
+
+before_right : (u v : List Mark) (before : ℕ) → AreBefore (scope_beginnings (u ++ v)) before → AreBefore (scope_beginnings v) before
+before_right u v before h k from e =
+    let n : ℕ = length (scope_beginnings u) + k in
+    h n from (rw (beginnings_append u v) (behind (scope_beginnings u) (scope_beginnings v) k n from refl e))
+
 added_append : (is_inside : Bool) (u v : List Mark) → added is_inside (u ++ v) ≡ added is_inside u + added is_inside v
 added_append true u v = omega arith
 added_append false u v = ap length (ends_append u v) ∙ length-append (ends_in u) (ends_in v)
 
 pub none_grown : (f : FileScope) (is_inside : Bool) (all : List Mark) → added is_inside all ≡ 0 → IsGrown f is_inside all f
-none_grown f is_inside all e = record { extends = itself f; counted = omega (arith, e); names = λ locals h. h }
+none_grown f is_inside all e = record {
+  extends = itself f;
+  counted = omega (arith, e);
+  names = λ locals h. h;
+  steady = λ h. h;
+  begun = λ before h m. h;
+}
 
 pub then : {f g h : FileScope} {is_inside : Bool} {u v : List Mark} → IsGrown f is_inside u g → IsGrown g is_inside v h → IsGrown f is_inside (u ++ v) h
 then {f} {g} {h} {is_inside} {u} {v} p q = record {
   extends = further p.extends q.extends;
   counted = omega (arith, p.counted, q.counted, added_append is_inside u v);
   names = λ locals x. q.names locals (p.names locals x);
+  steady = λ x. q.steady (p.steady x);
+  begun = λ before x m. q.begun before (p.begun before x (λ i. before_left u v before (m i))) (λ i. before_right u v before (m i));
 }
 
 pub left : {f : FileScope} {locals : List ALocal} {blocks : List (List Bound)} {is_inside : Bool} (u v : List Mark)
@@ -158,3 +200,11 @@ right {f} {g} {locals} {blocks} {is_inside} u v r p = record {
       let n : length g.records + k ≡ length f.records + (length (ends_in u) + k) = omega (arith, c) in
       rw (p.extends.ends, n) e;
 }
+
+-- inside of functions no structure is defined
+pub inside_ready : {f : FileScope} {locals : List ALocal} {blocks : List (List Bound)} (all : List Mark) → AreFit f locals f.names
+    → BlocksAreFit f locals blocks → IsReady f locals blocks true all
+inside_ready all n b = record { names_fit = n; blocks_fit = b; ends_stand = λ i k right h. cc }
+
+pub inside_grown : {f g : FileScope} (u v : List Mark) → IsGrown f true u g → IsGrown f true v g
+inside_grown u v p = record { extends = p.extends; counted = p.counted; names = p.names; steady = p.steady; begun = λ before h m. p.begun before h (λ i. cc) }

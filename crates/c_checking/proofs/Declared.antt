@@ -19,9 +19,8 @@ use Rattle.c_typed.specs.Conversions.{is_scalar, number_of}
 use Rattle.c_typed.specs.Constants.{Constant, none, undefined, valued, constant_of}
 use Rattle.c_erasure.specs.Broken.{Fault}
 use Rattle.c_erasure.specs.Declarators.{AreDifferent}
-use Rattle.c_erasure.specs.Erasure.{typed, IsTypedThing, IsConstant, IsInt, IsNew, IsStructTag, IsLiteral, IsLiteralFor, literal_of, literal_object}
-use Rattle.c_erasure.specs.Erasure.{unmade, place_in}
-use Rattle.c_erasure.specs.Marks.{Mark}
+use Rattle.c_erasure.specs.Erasure.{typed, IsTypedThing, IsConstant, IsInt, IsNew, IsStructTag, IsLiteral, IsLiteralFor, literal_of, literal_object, unmade, place_in}
+use Rattle.c_erasure.specs.Marks.{Mark, scope_beginnings}
 use Rattle.c_erasure.specs.Noted.{Expression, Thing, an_object, type_of, way}
 use Rattle.c_erasure.specs.Scopes.{Bound, AnObject, AMention, ALocal, FileScope, Scope, Tag, Entity, typedef, IsMentioned, IsNumbered, is_measured}
 use Rattle.c_erasure.specs.Scopes.{tag_at, here, ended}
@@ -35,8 +34,8 @@ use Rattle.c_checking.specs.Declaring.{with_bound, new_name, enumerator_in, decl
 use Rattle.c_checking.specs.Declaring.{tag_named, length_of_number, length_value}
 use Rattle.c_checking.specs.Declaring.{without_storage, parameter_storage, new_here, new_if_named, scalar_parameter}
 use Rattle.c_checking.proofs.Results.{given, only_if, chosen}
-use Rattle.c_checking.proofs.Extends.{Extends, itself, further, kept, at_end, around, among}
-use Rattle.c_checking.proofs.Agreement.{IsFit, fits_stay, added, IsGrown, one_more_fits}
+use Rattle.c_checking.proofs.Extends.{Extends, itself, further, kept, at_end, around, among, last_or}
+use Rattle.c_checking.proofs.Agreement.{IsFit, fits_stay, IsObjectType, IsSteady, AreBegun, AreBefore, added, IsGrown, one_more_fits}
 use Rattle.c_checking.proofs.Values.{IsValue, Stands, unconverted_same}
 use Rattle.c_checking.proofs.NodesOfParts.{same_bytes}
 
@@ -72,6 +71,11 @@ mention_names : (b : Bool) (f : FileScope) (n : ℕ) (m : AMention)
 mention_names true f n m = refl
 mention_names false f n m = refl
 
+mention_steady : (b : Bool) (f : FileScope) (n : ℕ) (m : AMention) → IsSteady f
+    → IsSteady (cond b f (record f { mentions = take n f.mentions ++ m ∷ drop n f.mentions }))
+mention_steady true f n m h = h
+mention_steady false f n m h = record { tagged = h.tagged; fields = h.fields; objects = h.objects }
+
 -- a mention beside what is declared
 pub mentioned : {f g : FileScope} {is_inside : Bool} {all : List Mark} (s : Scope) (n : ℕ) (kind : MentionKind) (t : CType) (at : ℕ)
     → IsGrown f is_inside all g → IsGrown f is_inside all (with_mention s n kind t at g)
@@ -82,6 +86,8 @@ mentioned {f} {g} {is_inside} {all} s n kind t at p =
       extends = further p.extends e;
       counted = mention_counted (is_measured s.purpose) g n m ∙ p.counted;
       names = λ locals h. rw (mention_names (is_measured s.purpose) g n m) (fits_stay e locals g.names (p.names locals h));
+      steady = λ h. mention_steady (is_measured s.purpose) g n m (p.steady h);
+      begun = λ before h w. subst (λ all. AreBegun all before) (sym (mention_names (is_measured s.purpose) g n m)) (p.begun before h w);
     }
 
 mention_stands : (s : Scope) (b : Bool) → is_measured s.purpose ≡ b → (f g : FileScope) (n : ℕ) (kind : MentionKind) (t : CType) (at : ℕ)
@@ -124,15 +130,31 @@ object_extends f o = record {
   functions = λ n t h. h;
 }
 
-object_grown : (f : FileScope) (o : AnObject) (is_inside : Bool) → IsGrown f is_inside [] (with_object f o)
-object_grown f o b = record {
+mapped_or : {X Y : Type 0} (v : X → Y) (xs : List X) (x : X) (k : ℕ) (y : Y) → slice_get (map v (xs ++ x ∷ [])) k ≡ Some y
+    → (slice_get (map v xs) k ≡ Some y) ⊎ (v x ≡ y)
+mapped_or v [] x zero y e = inr (let f : v x ≡ y = cc in f)
+mapped_or v [] x (suc k) y e = cc
+mapped_or v (z ∷ xs) x zero y e = inl e
+mapped_or v (z ∷ xs) x (suc k) y e = mapped_or v xs x k y e
+
+object_steady : (f : FileScope) (o : AnObject) → IsObjectType o.ty → IsSteady f → IsSteady (with_object f o)
+object_steady f o i h = record { tagged = h.tagged; fields = h.fields; objects = λ n t e. of_one n t (mapped_or (λ o. o.ty) f.objects o n t e) }
+  where
+    of_one : (n : ℕ) (t : CType) → (slice_get (map (λ o. o.ty) f.objects) n ≡ Some t) ⊎ (o.ty ≡ t) → IsObjectType t
+    of_one n t (inl e) = h.objects n t e
+    of_one n t (inr e) = subst IsObjectType e i
+
+object_grown : (f : FileScope) (o : AnObject) (is_inside : Bool) → IsObjectType o.ty → IsGrown f is_inside [] (with_object f o)
+object_grown f o b i = record {
   extends = object_extends f o;
   counted = omega (arith, added_nothing b);
   names = λ locals h. fits_stay (object_extends f o) locals f.names h;
+  steady = object_steady f o i;
+  begun = λ before h m. h;
 }
 
 pub nothing_grown : (f : FileScope) (is_inside : Bool) → IsGrown f is_inside [] f
-nothing_grown f b = record { extends = itself f; counted = omega (arith, added_nothing b); names = λ locals h. h }
+nothing_grown f b = record { extends = itself f; counted = omega (arith, added_nothing b); names = λ locals h. h; steady = λ h. h; begun = λ before h m. h }
 
 literal_length : (all : List Spelling) → 0 < length (literal_of all)
 literal_length [] = omega arith
@@ -158,7 +180,7 @@ literal_by in_full s e from all z h =
     let n : ℕ = length s.file.objects in
     let th : Thing = an_object (way (array (integer Char) (length (literal_of all))) (place_in s from) (Typed.object n)) in
     given (IsFoundLiteral s from all) (th, f) z h (record {
-      grown = object_grown s.file (literal_object (place_in s from) (literal_of all)) s.is_inside;
+      grown = object_grown s.file (literal_object (place_in s from) (literal_of all)) s.is_inside (0, literal_is_object 0 all);
       holds = λ g p.
           let o = p.objects n (literal_object (place_in s from) (literal_of all)) (at_end s.file.objects _) refl in
           let t = p.types n (array (integer Char) (length (literal_of all))) (mapped_at_end (λ o. o.ty) s.file.objects _) in
@@ -235,7 +257,7 @@ length_is at c n h = by_number (number_of c.0 c.1) h
 
 -- ---- tags (6.7.2.3)
 
-number_is : (all : List (List ℕ)) (x : List ℕ) (r : ℕ) → number_among all x ≡ Some r → slice_get all r ≡ Some x
+pub number_is : (all : List (List ℕ)) (x : List ℕ) (r : ℕ) → number_among all x ≡ Some r → slice_get all r ≡ Some x
 number_is [] x r h = cc
 number_is (t ∷ more) x r h = by_test (bytes_eq t x) refl (number_among more x) (λ r h. number_is more x r h) h
   where
@@ -393,12 +415,19 @@ bound_extends f b = record {
 }
 
 pub bound_grown : (f : FileScope) (b : Bound) (is_inside : Bool) (all : List Mark) → added is_inside all ≡ 0
-    → ((locals : List ALocal) → IsFit (with_bound f b) locals b.entity) → IsGrown f is_inside all (with_bound f b)
-bound_grown f b is_inside all e fit = record {
+    → ((before : ℕ) → (is_inside ≡ false → AreBefore (scope_beginnings all) before) → b.from < before) → ((locals : List ALocal) → IsFit (with_bound f b) locals b.entity) → IsGrown f is_inside all (with_bound f b)
+bound_grown f b is_inside all e begins fit = record {
   extends = bound_extends f b;
   counted = omega (arith, e);
   names = λ locals h. one_more_fits (with_bound f b) locals f.names b (fits_stay (bound_extends f b) locals f.names h) (fit locals);
+  steady = λ h. record { tagged = h.tagged; fields = h.fields; objects = h.objects };
+  begun = λ before h m k c e. of_one before h m k c (last_or f.names b k c e);
 }
+  where
+    of_one : (before : ℕ) → AreBegun f.names before → (is_inside ≡ false → AreBefore (scope_beginnings all) before) → (k : ℕ) (c : Bound)
+        → (slice_get f.names k ≡ Some c) ⊎ ((k ≡ length f.names) × (b ≡ c)) → c.from < before
+    of_one before h m k c (inl e) = h k c e
+    of_one before h m k c (inr e) = subst (λ (c : Bound). c.from < before) e.1 (begins before m)
 
 pub enumeration_is : (f : FileScope) (x : Option Spelling) (t : CType) → enumeration_of f x ≡ Ok t → t ≡ integer Int
 enumeration_is f None t h = given (λ t. t ≡ integer Int) (integer Int) t h refl

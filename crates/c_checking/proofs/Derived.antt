@@ -27,7 +27,7 @@ use Rattle.c_checking.proofs.NodesOfParts.{complete_is}
 at_most : (n m : ℕ) → nat_le n m ≡ true → n ≤ m
 at_most n m h = grind (arith, nat_tests)
 
-small_is : (records : List Record) (at : ℕ) (t u : CType) → small records at t ≡ Ok u → IsSmall records t × (t ≡ u)
+pub small_is : (records : List Record) (at : ℕ) (t u : CType) → small records at t ≡ Ok u → IsSmall records t × (t ≡ u)
 small_is records at t u h =
     chosen (is_small records t) _ _ u (IsSmall records t × (t ≡ u)) h
     (λ b h. let p = and_parts (nat_le (size_of records t) 16777216) (nat_le (parts t) 1024) b in
@@ -35,7 +35,7 @@ small_is records at t u h =
     (record { bytes = at_most (size_of records t) 16777216 p.0; parts = at_most (parts t) 1024 p.1 }, refl))
     (λ b h. cc)
 
-element_is : (records : List Record) (count at : ℕ) (t u : CType) → element records count at t ≡ Ok u
+pub element_is : (records : List Record) (count at : ℕ) (t u : CType) → element records count at t ≡ Ok u
     → (is_object count t ≡ true) × (is_object (length records) t ≡ true) × (t ≡ u)
 element_is records count at t u h =
     let b = only_if (is_complete records count t) _ _ _ u h in
@@ -50,7 +50,7 @@ result_kind (array t n) h = cc
 result_kind (function t all) h = cc
 result_kind (structure r) h = cc
 
-result_is : (at : ℕ) (t u : CType) → result_type at t ≡ Ok u → ((is_scalar t ≡ true) ⊎ (t ≡ void)) × (t ≡ u)
+pub result_is : (at : ℕ) (t u : CType) → result_type at t ≡ Ok u → ((is_scalar t ≡ true) ⊎ (t ≡ void)) × (t ≡ u)
 result_is at t u h =
     let b = only_if (is_result t) _ _ _ u h in
     given (λ u. ((is_scalar t ≡ true) ⊎ (t ≡ void)) × (t ≡ u)) t u b.1 (result_kind t b.0, refl)

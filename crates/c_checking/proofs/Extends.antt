@@ -1,6 +1,6 @@
 -- A file in which more is declared: all that was found in the smaller one is found there.
-use Rattle.std.proofs.Common.{◌≡◌, ℕ, zero, suc, ◌+◌, List, [], ◌∷◌, ◌++◌, length, take, drop, refl, sym, ap, ◌∙◌, subst, append_assoc, append-nil, arith}
-use Rattle.std.specs.Prelude.{map, Option, Some, None, IsSome, slice_get}
+use Rattle.std.proofs.Common.{◌≡◌, ℕ, zero, suc, ◌+◌, List, [], ◌∷◌, ◌++◌, length, take, drop, refl, sym, ap, ◌∙◌, subst, append_assoc, append-nil, arith, inl, inr}
+use Rattle.std.specs.Prelude.{map, Option, Some, None, IsSome, slice_get, ◌⊎◌}
 use Rattle.c_types.specs.Types.{CType, Record}
 use Rattle.c_typed.specs.declared.program.MentionKind.{MentionKind}
 use Rattle.c_erasure.specs.Scopes.{Bound, AnObject, FileScope, Scope, IsListedAt, or_else, visible, innermost, named, Entity}
@@ -17,6 +17,28 @@ pub behind : {X : Type 0} (xs ys : List X) (k n : ℕ) (y : X) → n ≡ length 
 behind [] ys k n y e h = let f : n ≡ k = omega (arith, e) in rw f h
 behind (x ∷ xs) ys k zero y e h = absurd (omega (arith, e))
 behind (x ∷ xs) ys k (suc n) y e h = behind xs ys k n y (omega (arith, e)) h
+
+-- what stands in two lists one after the other
+pub one_of_both : {X : Type 0} (xs ys : List X) (k : ℕ) (x : X) → slice_get (xs ++ ys) k ≡ Some x
+    → (slice_get xs k ≡ Some x) ⊎ ((j : ℕ) × (k ≡ length xs + j) × (slice_get ys j ≡ Some x))
+one_of_both [] ys k x e = inr (k, omega arith, e)
+one_of_both (z ∷ xs) ys zero x e = inl e
+one_of_both {X} (z ∷ xs) ys (suc k) x e = next (one_of_both xs ys k x e)
+  where
+    next : (slice_get xs k ≡ Some x) ⊎ ((j : ℕ) × (k ≡ length xs + j) × (slice_get ys j ≡ Some x))
+        → (slice_get (z ∷ xs) (suc k) ≡ Some x) ⊎ ((j : ℕ) × (suc k ≡ length (z ∷ xs) + j) × (slice_get ys j ≡ Some x))
+    next (inl h) = inl h
+    next (inr h) = inr (h.0, omega (arith, h.1), h.2)
+
+-- the last of a list, or one before it
+pub last_or : {X : Type 0} (xs : List X) (y : X) (k : ℕ) (x : X) → slice_get (xs ++ y ∷ []) k ≡ Some x
+    → (slice_get xs k ≡ Some x) ⊎ ((k ≡ length xs) × (y ≡ x))
+last_or {X} xs y k x e = at (one_of_both xs (y ∷ []) k x e)
+  where
+    at : (slice_get xs k ≡ Some x) ⊎ ((j : ℕ) × (k ≡ length xs + j) × (slice_get (y ∷ []) j ≡ Some x)) → (slice_get xs k ≡ Some x) ⊎ ((k ≡ length xs) × (y ≡ x))
+    at (inl h) = inl h
+    at (inr (zero, h, e)) = inr (omega (arith, h), let f : y ≡ x = cc in f)
+    at (inr (suc j, h, e)) = cc
 
 pub at_end : {X : Type 0} (xs : List X) (y : X) → slice_get (xs ++ y ∷ []) (length xs) ≡ Some y
 at_end xs y = behind xs (y ∷ []) 0 (length xs) y (omega arith) refl

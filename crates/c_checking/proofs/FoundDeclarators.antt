@@ -49,7 +49,13 @@ parameter_ready s (Some x) t k i r = record {
 
 parameter_grown : (s : Scope) (x : Option Spelling) (t : CType) (f : FileScope) → Grew (with_parameter_if_named s x t) [] f → Grew s [] f
 parameter_grown s None t f p = p
-parameter_grown s (Some x) t f p = record { extends = p.extends; counted = omega (arith, p.counted, added_nothing s.is_inside); names = p.names }
+parameter_grown s (Some x) t f p = record {
+  extends = p.extends;
+  counted = omega (arith, p.counted, added_nothing s.is_inside);
+  names = p.names;
+  steady = p.steady;
+  begun = λ before h m. p.begun before h (λ i k from e. cc);
+}
 
 parameter_listed : (s : Scope) (x : Option Spelling) (t : CType) (g : FileScope) (more : Trees.Parameters) (rest : CTypes)
     → AreListed (moved (with_parameter_if_named s x t) g) more rest → AreListed (with_parameter_if_named (moved s g) x t) more rest
@@ -139,7 +145,7 @@ module _ (untagged : ℕ → List ℕ) where
       → (z : List Derivation × FileScope) → ok (to_function at types.0 ∷ steps.0, types.1) ≡ Ok z → FoundSteps untagged s (Trees.function d at all right) z
   function_found s d at all right steps v types w z h =
       given (FoundSteps untagged s (Trees.function d at all right)) _ z h (record {
-        grew = and_nothing {v = []} refl v.grew w.grew;
+        grew = and_nothing {v = []} refl (λ i. refl) v.grew w.grew;
         is_name = λ e. cc;
         holds = λ g p records more e t shape k.
             let b = function_derived records g.records more e shape at types.0 steps.0 t k in
@@ -192,8 +198,8 @@ module _ (untagged : ℕ → List ℕ) where
         ty_is = sym c.0;
         is_scalar = subst (λ t. is_scalar t ≡ true) c.0 c.1;
         is_new = new;
-        grown = and_nothing (added_inside i (marks_of_declarator untagged d))
-            (as_marks {u = marks_of_specifiers untagged specs} {v = []} (added_inside i _ ∙ sym (added_nothing s.is_inside)) v.grew) w.grew;
+        grown = and_nothing (added_inside i (marks_of_declarator untagged d)) (λ j. cc)
+            (as_marks {u = marks_of_specifiers untagged specs} {v = []} i (added_inside i _ ∙ sym (added_nothing s.is_inside)) v.grew) w.grew;
         holds = λ g p.
             (v.holds g (further w.grew.extends p), w.holds g p steps.1.records p.records.0 p.records.1 b.0 shape k);
       }
@@ -206,7 +212,7 @@ module _ (untagged : ℕ → List ℕ) where
       let at = first_declarator d (first_specifiers specs) in
       let u = parameter_grown (moved s (with_mention s n Named t at f)) (declared_name d) t rest.1 w.grew in
       given (FoundParameters untagged s (Trees.and_parameter comma specs d more)) _ z h (record {
-        grew = and_nothing (added_nothing s.is_inside) (mentioned s n Named t at v.grown) u;
+        grew = and_nothing (added_nothing s.is_inside) (λ j. refl) (mentioned s n Named t at v.grown) u;
         holds = λ g p.
             let q = further u.extends p in
             let y = v.holds g (before_mention s f g n Named t at q) in

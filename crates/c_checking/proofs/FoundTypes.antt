@@ -1,7 +1,7 @@
 -- What is found for type names, specifiers and declarators, in each file that goes on from the one that finding leaves.
-use Rattle.std.proofs.Common.{◌≡◌, ℕ, ◌+◌, ◌<◌, Bool, true, false, refl, sym, ap, ◌∙◌, subst, List, [], ◌∷◌, ◌++◌, length, length-append, inl, inr, arith}
+use Rattle.std.proofs.Common.{◌≡◌, ℕ, zero, suc, ◌+◌, ◌<◌, Bool, true, false, refl, sym, ap, ◌∙◌, subst, List, [], ◌∷◌, ◌++◌, length, length-append, inl, inr, arith}
 use Rattle.std.proofs.lemmas.List.{map-append}
-use Rattle.std.specs.Prelude.{◌^◌, ◌%◌, map, Option, Some, None, Ok, slice_get}
+use Rattle.std.specs.Prelude.{◌⊎◌, ◌^◌, ◌%◌, map, Option, Some, None, Ok, slice_get}
 use Rattle.c_types.specs.declared.ty.IntKind.{IntKind}
 use Rattle.c_types.specs.Types.{CType, CTypes, Field, Record}
 use Rattle.c_types.specs.Objects.{is_object}
@@ -24,10 +24,9 @@ use Rattle.c_checking.specs.Declaring.{int_value, next_value, enumeration_of, De
 use Rattle.c_checking.specs.Declaring.{object_at, base_kind, with_record, with_bound}
 use Rattle.c_checking.specs.Finding.{complete, base_type, type_of_derived, with_member}
 use Rattle.c_checking.proofs.Results.{bound_ok, ok, given, with_file_ok}
-use Rattle.c_checking.proofs.Extends.{Extends, further, at_end, bound_stays, record_stays, named_stays, constants_stay}
-use Rattle.c_checking.proofs.Agreement.{fits_stay, added, IsReady, Ready, IsGrown, Grew, none_grown, then, left, right}
-use Rattle.c_checking.proofs.Declared.{added_nothing, mentioned, is_mentioned, before_mention, nothing_grown}
-use Rattle.c_checking.proofs.Declared.{int_is, next_is, tagged_is, enumerated_is, type_named_is}
+use Rattle.c_checking.proofs.Extends.{Extends, itself, further, at_end, one_of_both, last_or, bound_stays, record_stays, named_stays, constants_stay}
+use Rattle.c_checking.proofs.Agreement.{IsObjectType, IsSteady, AreBefore, fits_stay, added, IsReady, Ready, IsGrown, Grew, none_grown, then, left, right}
+use Rattle.c_checking.proofs.Declared.{added_nothing, mentioned, is_mentioned, before_mention, nothing_grown, int_is, next_is, tagged_is, enumerated_is, type_named_is}
 use Rattle.c_checking.proofs.Declared.{record_grown, completed_is, enumerator_is, bound_grown, enumeration_is}
 use Rattle.c_checking.proofs.Derived.{type_derived, object_is, IsBaseOf, base_is}
 use Rattle.c_checking.proofs.Derived.{words_mark_nothing}
@@ -36,15 +35,24 @@ use Rattle.c_checking.proofs.Found.{FoundType, FoundConstant}
 -- ---- what adds no structures
 
 -- a part behind that defines nothing
-pub and_nothing : {f g h : FileScope} {b c : Bool} {u v : List Mark} → added c v ≡ 0 → IsGrown f b u g → IsGrown g c v h → IsGrown f b u h
-and_nothing {f} {g} {h} {b} {c} {u} {v} e p q = record {
+pub and_nothing : {f g h : FileScope} {b c : Bool} {u v : List Mark} → added c v ≡ 0 → (c ≡ false → Marks.scope_beginnings v ≡ [])
+    → IsGrown f b u g → IsGrown g c v h → IsGrown f b u h
+and_nothing {f} {g} {h} {b} {c} {u} {v} e n p q = record {
   extends = further p.extends q.extends;
   counted = omega (arith, p.counted, q.counted, e);
   names = λ locals x. q.names locals (p.names locals x);
+  steady = λ x. q.steady (p.steady x);
+  begun = λ before x m. q.begun before (p.begun before x m) (λ i. subst (λ all. AreBefore all before) (sym (n i)) (λ k from e. cc));
 }
 
-pub as_marks : {f g : FileScope} {b : Bool} {u v : List Mark} → added b u ≡ added b v → IsGrown f b u g → IsGrown f b v g
-as_marks {f} {g} {b} {u} {v} e p = record { extends = p.extends; counted = omega (arith, p.counted, e); names = p.names }
+pub as_marks : {f g : FileScope} {b : Bool} {u v : List Mark} → b ≡ true → added b u ≡ added b v → IsGrown f b u g → IsGrown f b v g
+as_marks {f} {g} {b} {u} {v} i e p = record {
+  extends = p.extends;
+  counted = omega (arith, p.counted, e);
+  names = p.names;
+  steady = p.steady;
+  begun = λ before h m. p.begun before h (λ j. cc);
+}
 
 -- what is inside defines nothing
 pub added_inside : {b : Bool} (i : b ≡ true) (u : List Mark) → added b u ≡ 0
@@ -181,17 +189,63 @@ module _ (untagged : ℕ → List ℕ) where
 
   -- ---- definitions of structures and enumerations
 
-  tag_text_same : (s : Scope) (g : FileScope) → Extends s.file g → (at : ℕ) (x : Option Spelling) → tag_text (moved s g) at x ≡ tag_text s at x
+  pub tag_text_same : (s : Scope) (g : FileScope) → Extends s.file g → (at : ℕ) (x : Option Spelling) → tag_text (moved s g) at x ≡ tag_text s at x
   tag_text_same s g p at None = ap (λ (names : ℕ → List ℕ). names at) p.untagged
   tag_text_same s g p at (Some x) = refl
 
-  end_grown : (f : FileScope) (b : Bool) → b ≡ false → (r : Record) (tag : List ℕ) (end : ℕ) → IsGrown f b (an_end tag end ∷ []) (with_record f r)
-  end_grown f true e r tag end = cc
-  end_grown f false e r tag end = record {
+  record_steady : (f : FileScope) (r : Record) → slice_get f.numbered (length f.records) ≡ Some r.tag
+      → ((j : ℕ) (x : Field) → slice_get r.fields j ≡ Some x → IsObjectType x.ty) → IsSteady f → IsSteady (with_record f r)
+  record_steady f r n i h = record {
+    tagged = λ k q e. of_tag k q (last_or f.records r k q e);
+    fields = λ k j q x e. of_fields k j q x (last_or f.records r k q e);
+    objects = h.objects;
+  }
+    where
+      of_tag : (k : ℕ) (q : Record) → (slice_get f.records k ≡ Some q) ⊎ ((k ≡ length f.records) × (r ≡ q)) → slice_get f.numbered k ≡ Some q.tag
+      of_tag k q (inl e) = h.tagged k q e
+      of_tag k q (inr e) = subst (λ k. slice_get f.numbered k ≡ Some q.tag) (sym e.0) (subst (λ (q : Record). slice_get f.numbered (length f.records) ≡ Some q.tag) e.1 n)
+
+      of_fields : (k j : ℕ) (q : Record) (x : Field) → (slice_get f.records k ≡ Some q) ⊎ ((k ≡ length f.records) × (r ≡ q)) → slice_get q.fields j ≡ Some x
+          → IsObjectType x.ty
+      of_fields k j q x (inl e) g = h.fields k j q x e g
+      of_fields k j q x (inr e) g = i j x (subst (λ (q : Record). slice_get q.fields j ≡ Some x) (sym e.1) g)
+
+  end_grown : (f : FileScope) (b : Bool) → b ≡ false → (r : Record) (tag : List ℕ) (end : ℕ) → slice_get f.numbered (length f.records) ≡ Some r.tag
+      → ((j : ℕ) (x : Field) → slice_get r.fields j ≡ Some x → IsObjectType x.ty) → IsGrown f b (an_end tag end ∷ []) (with_record f r)
+  end_grown f true e r tag end n i = cc
+  end_grown f false e r tag end n i = record {
     extends = record_grown f r;
     counted = length-append f.records (r ∷ []);
     names = λ locals h. fits_stay (record_grown f r) locals f.names h;
+    steady = record_steady f r n i;
+    begun = λ before h m. h;
   }
+
+  -- a field has a type of objects
+  members_proper : (s : Scope) (base : CType) (all : Trees.MemberDeclarators) (semicolon : ℕ) (fields : List Field) → AreMembers s base all semicolon fields
+      → (j : ℕ) (x : Field) → slice_get fields j ≡ Some x → IsObjectType x.ty
+  members_proper s base Trees.no_member_declarators semicolon fields h j x e =
+      let g : slice_get [] j ≡ Some x = subst (λ fields. slice_get fields j ≡ Some x) h e in cc
+  members_proper s base (Trees.and_member_declarator comma d more) semicolon fields (y, t, rest, named, declares, is, said, w, others) j x e =
+      by_place j (λ k g. members_proper s base more semicolon rest others k x g) (subst (λ fields. slice_get fields j ≡ Some x) w e)
+    where
+      own : Field
+      own = record { name = y.text; ty = t; place = place_in s (first_declarator d semicolon) }
+
+      by_place : (j : ℕ) → ((k : ℕ) → slice_get rest k ≡ Some x → IsObjectType x.ty) → slice_get (own ∷ rest) j ≡ Some x → IsObjectType x.ty
+      by_place zero later g = let z : own ≡ x = cc in subst (λ (x : Field). IsObjectType x.ty) z (ended s.file.ends (first_declarator d semicolon), is)
+      by_place (suc j) later g = later j g
+
+  fields_proper : (s : Scope) (all : Trees.MemberDeclarations) (fields : List Field) → AreFields s all fields
+      → (j : ℕ) (x : Field) → slice_get fields j ≡ Some x → IsObjectType x.ty
+  fields_proper s Trees.no_member_declarations fields h j x e =
+      let g : slice_get [] j ≡ Some x = subst (λ fields. slice_get fields j ≡ Some x) h e in cc
+  fields_proper s (Trees.and_member_declaration specs ds semicolon more) fields (base, own, rest, w, storage, is, members, others) j x e =
+      by_part (λ k g. fields_proper s more rest others k x g) (one_of_both own rest j x (subst (λ fields. slice_get fields j ≡ Some x) w e))
+    where
+      by_part : ((k : ℕ) → slice_get rest k ≡ Some x → IsObjectType x.ty) → (slice_get own j ≡ Some x) ⊎ ((k : ℕ) × (j ≡ length own + k) × (slice_get rest k ≡ Some x)) → IsObjectType x.ty
+      by_part later (inl g) = members_proper s base ds semicolon own members j x g
+      by_part later (inr g) = later g.0 g.2
 
   pub struct_ready : (s : Scope) (at : ℕ) (x : Option Spelling) (left_at : ℕ) (all : Trees.MemberDeclarations) (right_at : ℕ)
       → Ready s (marks_of_specifier untagged (Trees.struct_body at x left_at all right_at)) → Ready s (marks_of_members untagged all)
@@ -213,7 +267,8 @@ module _ (untagged : ℕ → List ℕ) where
       let last = right u (an_end tag right_at ∷ []) after v.grew in
       let ended : slice_get m.1.ends (length m.1.records) ≡ Some right_at =
       subst (λ n. slice_get m.1.ends n ≡ Some right_at) (omega arith) (last.ends_stand i 0 right_at refl) in
-      let grown = then v.grew (end_grown m.1 s.is_inside i rec tag right_at) in
+      let proper = fields_proper (moved s m.1) all m.0 (v.holds m.1 (itself m.1)) in
+      let grown = then v.grew (end_grown m.1 s.is_inside i rec tag right_at c.numbered proper) in
       record {
         grew = subst (λ f. Grew s (marks_of_specifier untagged (Trees.struct_body at x left_at all right_at)) f) (sym c.file_is)
             (then (tag_grown s.file s.is_inside _) grown);
@@ -277,9 +332,9 @@ module _ (untagged : ℕ → List ℕ) where
             subst (λ n. IsEnumeratorValue (moved s g) next (Trees.valued equal a) n) n.0 (c.0.0, k, n.1);
       }
 
-  name_grown : (f : FileScope) (b : Bool) (from : ℕ) (x : Bound) (v : ℕ) → x.entity ≡ enumerator v → v < 2 ^ 32
+  name_grown : (f : FileScope) (b : Bool) → b ≡ false → (from : ℕ) (x : Bound) (v : ℕ) → x.from ≡ from → x.entity ≡ enumerator v → v < 2 ^ 32
       → IsGrown f b (a_name from ∷ []) (with_bound f x)
-  name_grown f b from x v e l = bound_grown f x b (a_name from ∷ []) (nothing b) (λ locals. rw e (let k : v % 2 ^ 32 ≡ v = omega (arith, l) in k))
+  name_grown f b i from x v w e l = bound_grown f x b (a_name from ∷ []) (nothing b) (λ before m. rw w (m i 0 from refl)) (λ locals. rw e (let k : v % 2 ^ 32 ≡ v = omega (arith, l) in k))
     where
       nothing : (b : Bool) → added b (a_name from ∷ []) ≡ 0
       nothing true = refl
@@ -289,12 +344,12 @@ module _ (untagged : ℕ → List ℕ) where
   bound_of x more after v = record { name = x.text; place = x.from; from = comma_or more after; how = defines; entity = enumerator v }
 
   -- with an enumerator that is declared
-  pub enumerator_grown : (s : Scope) (next : ℕ) (x : Spelling) (value : Trees.EnumeratorValue) (more : Trees.Enumerators) (after : ℕ) (v : ℕ × FileScope)
+  pub enumerator_grown : (s : Scope) → s.is_inside ≡ false → (next : ℕ) (x : Spelling) (value : Trees.EnumeratorValue) (more : Trees.Enumerators) (after : ℕ) (v : ℕ × FileScope)
       → FoundNumber s next value v → (f : FileScope) → enumerator_in v.1 (bound_of x more after v.0) ≡ Ok f
       → IsGrown v.1 s.is_inside (a_name (comma_or more after) ∷ []) f
-  enumerator_grown s next x value more after v w f e =
+  enumerator_grown s i next x value more after v w f e =
       subst (λ f. IsGrown v.1 s.is_inside (a_name (comma_or more after) ∷ []) f) (enumerator_is v.1 (bound_of x more after v.0) f e)
-      (name_grown v.1 s.is_inside (comma_or more after) (bound_of x more after v.0) v.0 refl w.below)
+      (name_grown v.1 s.is_inside i (comma_or more after) (bound_of x more after v.0) v.0 refl refl w.below)
 
   pub no_enumerators_found : (s : Scope) (next after : ℕ) (z : Unit {0} × FileScope) → ok (tt, s.file) ≡ Ok z
       → FoundEnumerators s next Trees.no_enumerators after z.1
@@ -302,14 +357,14 @@ module _ (untagged : ℕ → List ℕ) where
       given (λ (z : Unit {0} × FileScope). FoundEnumerators s next Trees.no_enumerators after z.1) (tt, s.file) z h
       (record { grew = nothing_grown s.file s.is_inside; holds = λ g p. tt })
 
-  pub enumerator_found : (s : Scope) (comma : Option ℕ) (x : Spelling) (value : Trees.EnumeratorValue) (more : Trees.Enumerators) (next after : ℕ)
+  pub enumerator_found : (s : Scope) → s.is_inside ≡ false → (comma : Option ℕ) (x : Spelling) (value : Trees.EnumeratorValue) (more : Trees.Enumerators) (next after : ℕ)
       → (v : ℕ × FileScope) → FoundNumber s next value v → (f : FileScope) → enumerator_in v.1 (bound_of x more after v.0) ≡ Ok f
       → (g : FileScope) → FoundEnumerators (moved s f) ((v.0 + 1) % 2 ^ 32) more after g
       → FoundEnumerators s next (Trees.and_enumerator comma x value more) after g
-  enumerator_found s comma x value more next after v w f e g rest =
+  enumerator_found s j comma x value more next after v w f e g rest =
       let b = bound_of x more after v.0 in
       let i = enumerator_is v.1 b f e in
-      let n = enumerator_grown s next x value more after v w f e in
+      let n = enumerator_grown s j next x value more after v w f e in
       let k : slice_get f.names (length v.1.names) ≡ Some b = subst (λ (f : FileScope). slice_get f.names (length v.1.names) ≡ Some b) i (at_end v.1.names b) in
       record {
         grew = then w.grew (then n rest.grew);

@@ -30,3 +30,11 @@ pub mod CompleteSpecifiers
 pub mod CompleteStructures
 pub mod CompleteTrees
 pub mod CompleteAlone
+pub mod FaultResults
+pub mod FaultNodes
+pub mod FaultDeclaring
+pub mod FaultPremises
+pub mod FaultSteps
+pub mod FaultParts
+pub mod FaultTypes
+pub mod Faults

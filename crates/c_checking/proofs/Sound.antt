@@ -1,5 +1,5 @@
 -- What is found stands for its part of the text and is well typed, in each file that goes on from the one that finding leaves.
-use Rattle.std.proofs.Common.{◌≡◌, ℕ, ◌+◌, ◌<◌, true, refl, List, [], ◌∷◌, ◌++◌, arith}
+use Rattle.std.proofs.Common.{◌≡◌, ℕ, ◌+◌, ◌<◌, true, false, refl, List, [], ◌∷◌, ◌++◌, arith}
 use Rattle.std.specs.Prelude.{◌^◌, ◌%◌, Ok}
 use Rattle.c_types.specs.declared.ty.IntKind.{IntKind}
 use Rattle.c_types.specs.Types.{CType, CTypes, no_types, and_type, Field}
@@ -44,7 +44,7 @@ use Rattle.c_checking.proofs.FoundDeclarators.{parameter_made, parameter_found}
 
 module _ (untagged : ℕ → List ℕ) where
   -- an integer constant expression, which stands for its value
-  constant_part : (a : Trees.Expression) (s : Scope) → ((y : Thing × FileScope) → find a (for_value s) ≡ Ok y → Found untagged (for_value s) a y)
+  pub constant_part : (a : Trees.Expression) (s : Scope) → ((y : Thing × FileScope) → find a (for_value s) ≡ Ok y → Found untagged (for_value s) a y)
       → (z : (IntKind × ℕ) × FileScope) → constant_at (first a) (value_at (first a) (find a (for_value s))) ≡ Ok z → FoundConstant untagged s a z
   constant_part a s sound z h =
       constant_found untagged a s (first a) (value_at (first a) (find a (for_value s)))
@@ -160,7 +160,7 @@ module _ (untagged : ℕ → List ℕ) where
         let t = bound_with steps.0.1 (type_of_derived (first_declarator d at) steps.0.1 steps.0.0 b.0.0) _ z steps.2 in
         type_found untagged s specs d k.0 b.0 v steps.0 w t.0 t.1 z t.2
 
-    sound_one : (specs : Trees.Specifiers) (s : Scope) → AreSpecifiersInRange specs → Ready s (marks_of_specifiers untagged specs)
+    pub sound_one : (specs : Trees.Specifiers) (s : Scope) → AreSpecifiersInRange specs → Ready s (marks_of_specifiers untagged specs)
         → (x : Trees.Specifier) → types_among specs ≡ x ∷ [] → (z : CType × FileScope) → one_of specs s ≡ Ok z → FoundOne untagged s specs z
     sound_one Trees.no_specifiers s n r x e z h = cc
     sound_one (Trees.and_specifier (Trees.plain word at) more) s n r x e z h =
@@ -197,7 +197,7 @@ module _ (untagged : ℕ → List ℕ) where
         chosen s.is_inside _ _ z (FoundSpecifier untagged s (Trees.enum_body at x from all comma to) z) h (λ i h. cc)
         (λ i h.
         let f = bound_ok (enumerators all s 0 (after_all comma to)) _ z h in
-        let v = sound_enumerators all s 0 (after_all comma to) (omega arith) n
+        let v = sound_enumerators all s 0 (after_all comma to) i (omega arith) n
         (left (marks_of_enumerators untagged all (after_all comma to)) (an_enumeration untagged x to) r) f.0 f.1 in
         enum_body_found untagged s at x from all comma to i f.0.1 v z f.2)
 
@@ -220,7 +220,7 @@ module _ (untagged : ℕ → List ℕ) where
         let t = sound_members more (moved s own.0.1) n.2 last rest.0 rest.1 in
         members_found untagged s specs ds semicolon more k.0 b.0 v own.0 w rest.0 t z rest.2
 
-    sound_declarators : (all : Trees.MemberDeclarators) (base : CType) (semicolon : ℕ) (s : Scope) → AreDeclaratorsInRange all
+    pub sound_declarators : (all : Trees.MemberDeclarators) (base : CType) (semicolon : ℕ) (s : Scope) → AreDeclaratorsInRange all
         → Ready s (marks_of_member_declarators untagged all) → (z : List Field × FileScope) → member_declarators all base semicolon s ≡ Ok z
         → FoundMembers untagged s base all semicolon z
     sound_declarators Trees.no_member_declarators base semicolon s n r z h = no_declarators_found untagged s base semicolon z h
@@ -236,22 +236,22 @@ module _ (untagged : ℕ → List ℕ) where
         member_found untagged s base comma d more semicolon steps.0 v t.0 o.0 t.1 o.1 (member_declarators more base semicolon (moved s f))
         (λ rest k. sound_declarators more base semicolon (moved s f) n.1 later rest k) z o.2
 
-    pub sound_enumerators : (all : Trees.Enumerators) (s : Scope) (next after : ℕ) → next < 2 ^ 32 → AreEnumeratorsInRange all
+    pub sound_enumerators : (all : Trees.Enumerators) (s : Scope) (next after : ℕ) → s.is_inside ≡ false → next < 2 ^ 32 → AreEnumeratorsInRange all
         → Ready s (marks_of_enumerators untagged all after) → (z : Unit {0} × FileScope) → enumerators all s next after ≡ Ok z
         → FoundEnumerators untagged s next all after z.1
-    sound_enumerators Trees.no_enumerators s next after b n r z h = no_enumerators_found untagged s next after z h
-    sound_enumerators (Trees.and_enumerator comma x value more) s next after b n r z h =
+    sound_enumerators Trees.no_enumerators s next after i b n r z h = no_enumerators_found untagged s next after z h
+    sound_enumerators (Trees.and_enumerator comma x value more) s next after i b n r z h =
         let u = marks_of_value untagged value in
         let own : List Mark = a_name (comma_or more after) ∷ [] in
         let rest = marks_of_enumerators untagged more after in
         let v = bound_ok (enumerator_value value s x.from next) _ z h in
         let w = sound_value value s x.from next b n.0 (left u (own ++ rest) r) v.0 v.1 in
         let f = bound_ok (enumerator_in v.0.1 (bound_of untagged x more after v.0.0)) _ z v.2 in
-        let g = enumerator_grown untagged s next x value more after v.0 w f.0 f.1 in
-        let t = sound_enumerators more (moved s f.0) ((v.0.0 + 1) % 2 ^ 32) after (omega arith) n.1 (right own rest (right u (own ++ rest) r w.grew) g) z f.2 in
-        enumerator_found untagged s comma x value more next after v.0 w f.0 f.1 z.1 t
+        let g = enumerator_grown untagged s i next x value more after v.0 w f.0 f.1 in
+        let t = sound_enumerators more (moved s f.0) ((v.0.0 + 1) % 2 ^ 32) after i (omega arith) n.1 (right own rest (right u (own ++ rest) r w.grew) g) z f.2 in
+        enumerator_found untagged s i comma x value more next after v.0 w f.0 f.1 z.1 t
 
-    sound_value : (value : Trees.EnumeratorValue) (s : Scope) (at next : ℕ) → next < 2 ^ 32 → IsValueInRange value → Ready s (marks_of_value untagged value)
+    pub sound_value : (value : Trees.EnumeratorValue) (s : Scope) (at next : ℕ) → next < 2 ^ 32 → IsValueInRange value → Ready s (marks_of_value untagged value)
         → (z : ℕ × FileScope) → enumerator_value value s at next ≡ Ok z → FoundNumber untagged s next value z
     sound_value Trees.no_value s at next b n r z h = no_value_found untagged s at next b z h
     sound_value (Trees.valued equal a) s at next b n r z h =
@@ -286,7 +286,7 @@ module _ (untagged : ℕ → List ℕ) where
         let w = sound_list all (inside (moved s steps.0.1)) refl n.1 (ready_in s u steps.0.1 r v.grew) types.0 types.1 in
         function_found untagged s d from all to steps.0 v types.0 w z types.2
 
-    sound_list : (all : Trees.ParameterList) (s : Scope) → s.is_inside ≡ true → IsListInRange all → Ready s [] → (z : CTypes × FileScope)
+    pub sound_list : (all : Trees.ParameterList) (s : Scope) → s.is_inside ≡ true → IsListInRange all → Ready s [] → (z : CTypes × FileScope)
         → parameter_list all s ≡ Ok z → FoundList untagged s all z
     sound_list (Trees.void_alone at) s i n r z h = void_found untagged s at z h
     sound_list (Trees.listed all) s i n r z h = listed_found untagged s all z (sound_parameters all s i n r z h)

@@ -2,7 +2,7 @@
 use Rattle.std.proofs.Common.{◌≡◌, ℕ, zero, suc, ◌+◌, ◌*◌, ◌≤◌, ◌<◌, Bool, true, false, refl, sym, ap, ◌∙◌, subst, List, [], ◌∷◌, ◌++◌, length}
 use Rattle.std.proofs.Common.{length-append, IsTrue, arith}
 use Rattle.std.proofs.lemmas.Bool.{and_from, and_parts, lt-ltb, ltb-true}
-use Rattle.std.proofs.lemmas.Option.{slice_get_within}
+use Rattle.std.proofs.lemmas.Option.{slice_get_within, get_or_from_slice_get}
 use Rattle.std.specs.Prelude.{map, Option, Some, None, slice_get, nat_lt, ◌&&◌, IsSomeAnd}
 use Rattle.std.specs.Option.{option_map}
 use Rattle.c_types.specs.Types.{CType, void, integer, pointer, array, function, structure, Field, Record, field_types}
@@ -14,7 +14,7 @@ use Rattle.c_types.proofs.Growing.{layouts_stay}
 use Rattle.c_types.proofs.Apart.{fields_lie_apart}
 use Rattle.c_typed.specs.Typed.{type_in, field_type}
 use Rattle.c_erasure.specs.Scopes.{FileScope}
-use Rattle.c_checking.proofs.Extends.{Extends}
+use Rattle.c_checking.proofs.Extends.{Extends, record_stays}
 
 -- what holds of the records of a whole file: their fields are complete, and no object is empty
 pub record IsLaid (g : FileScope) : Type 0 where
@@ -87,3 +87,32 @@ field_within records c r k t h = (fields_lie_apart records c).within r k t (is_f
 pub fields_apart : (records : List Record) → AreComplete records → (r k j : ℕ) (t u : CType) → field_type records r k ≡ Some t → field_type records r j ≡ Some u
     → k < j → offset_of records r k + size_of records t ≤ offset_of records r j
 fields_apart records c r k j t u h i less = (fields_lie_apart records c).apart r k j t u (is_field records r k t h) (is_field records r j u i) less
+
+pub field_stays : {f g : FileScope} → Extends f g → (r k : ℕ) (t : CType) → field_type f.records r k ≡ Some t → field_type g.records r k ≡ Some t
+field_stays {f} {g} p r k t h = of_record (slice_get f.records r) refl h
+  where
+    of_record : (o : Option Record) → slice_get f.records r ≡ o → type_in o k ≡ Some t → field_type g.records r k ≡ Some t
+    of_record None e h = cc
+    of_record (Some rec) e h = ap (λ o. type_in o k) (record_stays p r rec e) ∙ h
+
+-- fields are complete
+pub field_object : (records : List Record) → AreComplete records → (r k : ℕ) (t : CType) → field_type records r k ≡ Some t
+    → is_object (length records) t ≡ true
+field_object records c r k t h = of_record (slice_get records r) refl h
+  where
+    of_record : (o : Option Record) → slice_get records r ≡ o → type_in o k ≡ Some t → is_object (length records) t ≡ true
+    of_record None e h = cc
+    of_record (Some rec) e h =
+        let f = mapped_get rec.fields k t h in
+        let at : is_object r t ≡ true =
+        subst (λ u. is_object r u ≡ true) (get_or_from_slice_get (field_types rec) k t t f) (c r rec e k t (slice_get_within (field_types rec) k t f)) in
+        object_more r (length records) (let b = slice_get_within records r rec e in omega (arith, b)) t at
+
+-- a complete structure is one of the list
+pub record_in : (records : List Record) (r : ℕ) → is_object (length records) (structure r) ≡ true → (rec : Record) × (slice_get records r ≡ Some rec)
+record_in records r h = below records r (ltb-true r (length records) h)
+  where
+    below : (records : List Record) (r : ℕ) → r < length records → (rec : Record) × (slice_get records r ≡ Some rec)
+    below [] r h = absurd (omega (arith, h))
+    below (rec ∷ more) zero h = (rec, refl)
+    below (rec ∷ more) (suc r) h = below more r (omega (arith, h))

@@ -7,7 +7,7 @@ use Rattle.lay_base.specs.declared.faults.Rule.{Rule}
 use Rattle.lay_base.specs.declared.faults.Rule.TheVariants as R
 use Rattle.c_types.specs.declared.ty.IntKind.{IntKind}
 use Rattle.c_types.specs.Types.{CType, CTypes, void, pointer, array, function, structure, no_types, and_type, Field, Record}
-use Rattle.c_types.specs.Layouts.{size_of_record}
+use Rattle.c_types.specs.Layouts.{size_of, size_of_record}
 use Rattle.c_types.specs.Objects.{is_object, parts}
 use Rattle.c_ast.specs.declared.words.Spelling.{Spelling}
 use Rattle.c_ast.specs.declared.operators.UnaryOp.{UnaryOp}
@@ -27,7 +27,7 @@ use Rattle.c_erasure.specs.Scopes.{typedef, Bound, defines, enumerator, Tag, Sco
 use Rattle.c_erasure.specs.Operators.{Kind, computes, compares, all_of, any_of, kind_of, update_of}
 use Rattle.c_erasure.specs.Specifiers.{named_by, words_of, no_words, types_among, storage_of, no_storage, is_register}
 use Rattle.c_erasure.specs.Declarators.{declared_name, is_name, Shape, closed, open_array, parameter_type, IsSmall}
-use Rattle.c_erasure.specs.Erasure.{typed, IsTypedThing, Values, IsConstant, IsInt, IsBase, Erases, IsOne, IsTypeName, Declares}
+use Rattle.c_erasure.specs.Erasure.{typed, IsTypedThing, IsOfType, Values, IsConstant, IsInt, IsBase, Erases, IsOne, IsTypeName, Declares}
 use Rattle.c_erasure.specs.Erasure.{AreFields, AreMembers, AreParameters, tag_text, IsEnumeratorValue, with_parameter_if_named, IsBound, after_all, comma_or}
 
 pub data Fault : Type 0 where
@@ -211,6 +211,13 @@ IsSizeless count th = Unit {0}
 abbrev pub IsUnmeasured : Trees.Expression → Scope → ℕ → Type 0
 IsUnmeasured a s at = AThing a (measured s) (IsSizeless (ended s.file.ends at))
 
+-- a size over the limit of types
+abbrev pub IsGreat : Scope → CType → Type 0
+IsGreat s t = 16777216 < size_of s.file.records t
+
+abbrev pub IsOfGreatSize : Scope → Thing → Type 0
+IsOfGreatSize s th = (t : CType) × IsOfType th t × IsGreat s t
+
 -- ---- assignments (6.5.16): of a number or a pointer, of a record, and with an operator
 
 abbrev pub IsNoRecord : Thing → CType → Type 0
@@ -241,9 +248,9 @@ IsNoInt z = IsInt z → ⊥
 
 -- ---- names that are declared already
 
--- where a declaration of this name stands in the list whose scope began by a byte
-abbrev pub IsDeclaredBy : List Bound → List ℕ → (by : ℕ) → ℕ → Type 0
-IsDeclaredBy all x by at = (k : ℕ) × (b : Bound) × (slice_get all k ≡ Some b) × (b.name ≡ x) × (b.from ≤ by) × (b.place ≡ at)
+-- where a declaration of this name stands in the list whose scope began before a byte
+abbrev pub IsDeclaredBefore : List Bound → List ℕ → (before : ℕ) → ℕ → Type 0
+IsDeclaredBefore all x before at = (k : ℕ) × (b : Bound) × (slice_get all k ≡ Some b) × (b.name ≡ x) × (b.from < before) × (b.place ≡ at)
 
 abbrev pub IsOldName : Scope → Option Spelling → Fault → Type 0
 IsOldName s None f = ⊥
@@ -336,9 +343,10 @@ abbrev mutual
       ⊎ ((t : CType) × (f ≡ ill_typed R.Operands at) × AThing a s (λ th. IsObjectOf th t) × (is_stepped (ended s.file.ends at) t ≡ false))
   IsBroken (Trees.unary op at a) s f = IsBroken a s f ⊎ IsBrokenUnary op at a s f
   IsBroken (Trees.sizeof_expression at a) s f = IsBroken a (measured s) f
-      ⊎ ((f ≡ ill_typed R.Incomplete at) × IsUnmeasured a s at)
+      ⊎ ((f ≡ ill_typed R.Incomplete at) × IsUnmeasured a s at) ⊎ ((f ≡ too_big at) × AThing a (measured s) (IsOfGreatSize s))
   IsBroken (Trees.sizeof_type at left n right) s f = IsBrokenTypeName n s f
       ⊎ ((t : CType) × (f ≡ ill_typed R.Incomplete at) × IsTypeName s n t × (is_object (ended s.file.ends right) t ≡ false))
+      ⊎ ((t : CType) × (f ≡ too_big at) × IsTypeName s n t × IsGreat s t)
   IsBroken (Trees.cast left n right a) s f = IsBrokenTypeName n s f ⊎ (NamesType n s × IsBroken a s f) ⊎ (NamesType n s × HasNoValue a s f)
       ⊎ ((t : CType) × (f ≡ ill_typed R.Cast left) × IsTypeName s n t × One a s (λ x. casts (type_of x) (null x) t ≡ false))
   IsBroken (Trees.binary a op at b) s f = IsBroken a s f ⊎ (IsSound a s × IsBroken b s f) ⊎ HasNoValue a s f ⊎ (IsSound a s × HasNoValue b s f)
@@ -394,7 +402,7 @@ abbrev mutual
   AreBrokenEnumerators Trees.no_enumerators s next after f = ⊥
   AreBrokenEnumerators (Trees.and_enumerator comma x value more) s next after f = IsBrokenValue value s f
       ⊎ ((f ≡ ill_typed R.Constant x.from) × (value ≡ Trees.no_value) × (next ≡ 2 ^ 31))
-      ⊎ ((first : ℕ) × IsDeclaredBy s.file.names x.text x.from first × (f ≡ redeclared x.text x.from first))
+      ⊎ ((first : ℕ) × IsDeclaredBefore s.file.names x.text (comma_or more after) first × (f ≡ redeclared x.text x.from first))
       ⊎ ((v : ℕ) × IsEnumeratorValue s next value v
       × IsBound s (record { name = x.text; place = x.from; from = comma_or more after; how = defines; entity = enumerator v })
       × AreBrokenEnumerators more s ((v + 1) % 2 ^ 32) after f)
@@ -430,11 +438,20 @@ abbrev mutual
   IsBrokenDeclarator (Trees.array d left length right) s t f = (HasLengths d s × IsBrokenLength length s f)
       ⊎ ((f ≡ ill_typed R.Incomplete left) × (is_object (ended s.file.ends left) t ≡ false))
       ⊎ ((f ≡ ill_typed R.Length left) × (length ≡ Trees.no_expression) × (is_name d ≡ false))
-      ⊎ ((n : ℕ) × IsOfLength length s n × (IsTooBig s (array t n) left f ⊎ IsBrokenDeclarator d s (array t n) f))
+      ⊎ ((n : ℕ) × IsOfLength length s n × (IsTooBig s (array t n) left f ⊎ IsBrokenDeclarator d s (array t n) f)) ⊎ IsBrokenWithin d s f
   IsBrokenDeclarator (Trees.function d left all right) s t f = AreBrokenParameters all (inside s) f
       ⊎ ((f ≡ ill_typed R.ByValue left) × IsNoResult t)
       ⊎ ((parameters : CTypes) × AreParameters (inside s) all parameters
-      × (IsTooBig s (pointer (function t parameters)) left f ⊎ IsBrokenDeclarator d s (function t parameters) f))
+      × (IsTooBig s (pointer (function t parameters)) left f ⊎ IsBrokenDeclarator d s (function t parameters) f)) ⊎ IsBrokenWithin d s f
+
+  -- of a length or a parameter in a declarator, whatever type the declarator makes another of
+  pub IsBrokenWithin : Trees.Declarator → Scope → Fault → Type 0
+  IsBrokenWithin Trees.nothing s f = ⊥
+  IsBrokenWithin (Trees.named x) s f = ⊥
+  IsBrokenWithin (Trees.pointer at consts d) s f = IsBrokenWithin d s f
+  IsBrokenWithin (Trees.enclosed left d right) s f = IsBrokenWithin d s f
+  IsBrokenWithin (Trees.array d left length right) s f = IsBrokenWithin d s f ⊎ (HasLengths d s × IsBrokenLength length s f)
+  IsBrokenWithin (Trees.function d left all right) s f = IsBrokenWithin d s f ⊎ AreBrokenParameters all (inside s) f
 
   pub IsBrokenLength : Trees.OptionalExpression → Scope → Fault → Type 0
   IsBrokenLength Trees.no_expression s f = ⊥

@@ -1,17 +1,10 @@
 -- The earliest of some troubles: of a list, one that stands at no later place than any.
-use Rattle.std.proofs.Common.{◌≡◌, ℕ, ◌<◌, ◌≤◌, ◌⊎◌, inl, inr, Bool, true, false, ◌||◌, ◌&&◌, ◌==◌, nat_lt, List, [], ◌∷◌, refl, sym, ◌∙◌, subst, arith}
+use Rattle.std.proofs.Common.{◌≡◌, ◌++◌, Some, ap, ℕ, ◌<◌, ◌≤◌, ◌⊎◌, inl, inr, Bool, true, false, ◌||◌, ◌&&◌, ◌==◌, nat_lt, List, [], ◌∷◌, refl, sym, ◌∙◌, subst, arith}
 use Rattle.std.specs.Prelude.{if◌then◌else◌}
 use Rattle.std.proofs.lemmas.Bool.{eqb-true, eqb-false, ltb-true, ltb-false}
 use Rattle.lay_base.specs.declared.place.Place.{Place}
+use Rattle.c_link.specs.Earliest.{earlier, earlier_of, earliest, earliest_of, is_earlier}
 use Rattle.c_link.specs.Gaps.{IsBefore, IsEarliest, IsIn, IsNotAfter, Trouble}
-
-abbrev pub is_earlier : Place → Place → Bool
-is_earlier p q = nat_lt p.file q.file || (p.file == q.file && nat_lt p.at q.at)
-
--- the earliest of one and those of a list; of two at one place the first
-abbrev pub earliest : Trouble → List Trouble → Trouble
-earliest t [] = t
-earliest t (u ∷ more) = earliest (if is_earlier u.place t.place then u else t) more
 
 earlier_is : (p q : Place) → is_earlier p q ≡ true → IsBefore p q
 earlier_is p q h =
@@ -99,3 +92,12 @@ earliest_is t more = record {
     | inr e ↦ earliest_rest t more other e
   ];
 }
+
+-- one more
+one_after : (t : Trouble) (more : List Trouble) (u : Trouble) → earliest t (more ++ u ∷ []) ≡ earlier (earliest t more) u
+one_after t [] u = refl
+one_after t (x ∷ more) u = one_after (earlier t x) more u
+
+pub one_more_trouble : (all : List Trouble) (u : Trouble) → Some (earlier_of (earliest_of all) u) ≡ earliest_of (all ++ u ∷ [])
+one_more_trouble [] u = refl
+one_more_trouble (t ∷ more) u = ap Some (sym (one_after t more u))

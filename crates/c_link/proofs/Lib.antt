@@ -6,4 +6,6 @@ pub mod Pairs
 pub mod Placed
 pub mod RecordLists
 pub mod Whole
+pub mod TagClashes
 pub mod UnderKeys
+pub mod Unlike

@@ -1,6 +1,6 @@
 -- Things that come one after another, each to its key: under each key stands what the definition chooses.
 use Rattle.std.proofs.Common.{◌≡◌, ℕ, ◌+◌, Bool, true, false, not, ◌&&◌, ◌||◌, List, [], ◌∷◌, ◌++◌, Option, Some, None, fold, map, flat_map, refl, sym, ap, ◌∙◌, subst, add-one, append_assoc}
-use Rattle.std.specs.Prelude.{if◌then◌else◌}
+use Rattle.std.specs.Prelude.{if◌then◌else◌, slice_get}
 use Rattle.std.specs.Str.{bytes_eq}
 use Rattle.std.proofs.lemmas.Slice.Eq.{bytes_eq-Decides}
 use Rattle.numbering.specs.Keys.{is_among, new_keys, position, with_key}
@@ -216,3 +216,21 @@ module _ {A : Type 0} (d : A → Bool) where
       ∙ values_found (all_items [] ps) (subst Distinct (sym (keys_of_all [] ps)) (distinct_all [] (keys ps) tt))
       ∙ ap (flat_map (λ k. if_any (found (all_items [] ps) k))) e
       ∙ ap (λ (g : Key → Option A). flat_map (λ k. if_any (g k)) (new_keys [] (keys ps))) (λ i k. f k i)
+
+  -- what stands at the place of a key
+  get_is_found : (acc : List (Key × A)) (rest : List Key) (k : Key) → slice_get (values acc) (position (keys acc ++ rest) k) ≡ found acc k
+  get_is_found [] rest k = refl
+  get_is_found (p ∷ more) rest k = go (bytes_eq k p.0) (get_is_found more rest k)
+    where
+      go : (b : Bool) → slice_get (values more) (position (keys more ++ rest) k) ≡ found more k
+          → slice_get (p.1 ∷ values more) (if b then 0 else position (keys more ++ rest) k + 1) ≡ (if b then Some p.1 else found more k)
+      go true e = refl
+      go false e = ap (slice_get (p.1 ∷ values more)) (add-one (position (keys more ++ rest) k)) ∙ e
+
+  pub found_at : (ps : List (Key × A)) (rest : List Key) (k : Key) → (let table = fold with_key [] (map (λ p. p.0) ps) ++ rest in
+      slice_get (placed d table [] ps) (position table k)) ≡ chosen d (under k ps)
+  found_at ps rest k =
+      let table = fold with_key [] (keys ps) ++ rest in
+      ap (λ all. slice_get all (position table k)) (placed_is table rest [] ps refl)
+      ∙ ap (λ ks. slice_get (values (all_items [] ps)) (position (ks ++ rest) k)) (sym (keys_of_all [] ps))
+      ∙ get_is_found (all_items [] ps) rest k ∙ found_of_all [] ps k ∙ chosen_is (under k ps)

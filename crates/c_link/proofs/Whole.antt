@@ -21,7 +21,7 @@ Key = List ℕ
 
 -- ---- records
 
-with_tag_is : (tag : Key) (all : List Record) → if_any (chosen (λ r. true) (under tag (map tagged all))) ≡ with_tag tag all
+pub with_tag_is : (tag : Key) (all : List Record) → if_any (chosen (λ r. true) (under tag (map tagged all))) ≡ with_tag tag all
 with_tag_is tag [] = refl
 with_tag_is tag (r ∷ more) = go (bytes_eq tag r.tag) (with_tag_is tag more)
   where
@@ -34,7 +34,7 @@ tags_of_records : (f : ℕ → ℕ) (all : List Record) → map {B = Key} (λ p.
 tags_of_records f [] = refl
 tags_of_records f (r ∷ more) = ap (λ rest. r.tag ∷ rest) (tags_of_records f more)
 
-tags_of_all : (tags : List Key) (units : List UnitData) → map {B = Key} (λ p. p.0) (map tagged (flat_map (records_in tags) units)) ≡ flat_map complete_in units
+pub tags_of_all : (tags : List Key) (units : List UnitData) → map {B = Key} (λ p. p.0) (map tagged (flat_map (records_in tags) units)) ≡ flat_map complete_in units
 tags_of_all tags [] = refl
 tags_of_all tags (u ∷ more) =
     ap (map {B = Key} (λ p. p.0)) (map-append tagged (records_in tags u) (flat_map (records_in tags) more))

@@ -1,4 +1,6 @@
 pub mod Joining
+pub mod Clashes
+pub mod Earliest
 pub mod Placing
 pub mod Views
 pub mod Gaps

@@ -4,6 +4,7 @@
 //! the numbers that a unit's parts get in the program. It promises that what it joins is the program that `joined` defines.
 #![tactic(auto)]
 
+mod clashes;
 mod identities;
 mod joining;
 mod keys;
@@ -12,8 +13,11 @@ mod program;
 mod records;
 mod tables;
 mod tags;
+mod troubles;
 mod types;
 mod whole_program;
 
+pub use clashes::tag_clash;
 pub use program::join;
+pub use troubles::Trouble;
 pub use whole_program::{fields_past, has_main, nodes_past};

@@ -9,7 +9,7 @@ use c_typed::{Function, Object};
 use lay_base::NoMemory;
 
 /// Puts a thing to those before it, or in the place of the one that has its number.
-fn put<T: Drop>(all: &mut Vec<T>, number: u32, replaces: bool, it: T) -> Result<(), NoMemory>
+pub fn put<T: Drop>(all: &mut Vec<T>, number: u32, replaces: bool, it: T) -> Result<(), NoMemory>
     ensures { OnOk result (all.new.items ≡ put replaces all.old.items number it) }
 {
     let n = number as usize;
