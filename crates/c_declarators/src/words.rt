@@ -145,7 +145,8 @@ impl Words {
         signed: u32,
         unsigned: u32,
     ) -> bool
-        ensures { result ≡ same_words (record { void = void; char = char; short = short; int = int; long = long; signed = signed; unsigned = unsigned }) (words_view self) }
+        ensures { result ≡ same_words
+            (record { void = void; char = char; short = short; int = int; long = long; signed = signed; unsigned = unsigned }) (words_view self) }
     {
         void == self.void
             && char == self.char
