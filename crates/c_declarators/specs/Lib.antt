@@ -1,2 +1,3 @@
 pub mod DeclaratorViews
 pub mod SpecifierViews
+pub mod WordViews

@@ -7,6 +7,7 @@
 mod declarators;
 mod lengths;
 mod specifiers;
+mod words;
 
 pub use declarators::{
     Derivation, Shape, closed, counted, derived, named, object, parameter_type, scalar, small,
@@ -14,3 +15,4 @@ pub use declarators::{
 };
 pub use lengths::{Integer, constant, int_value, length, next_value};
 pub use specifiers::{Storage, storage_of};
+pub use words::{Base, base_kind};
