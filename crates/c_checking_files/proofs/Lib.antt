@@ -7,3 +7,5 @@ pub mod Wholes
 pub mod Scoped
 pub mod Locals
 pub mod LocalObjects
+pub mod StaticLocals
+pub mod Declarations

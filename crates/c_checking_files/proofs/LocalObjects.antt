@@ -14,7 +14,7 @@ use Rattle.c_typed.specs.Trees as Typed
 use Rattle.c_typed.specs.InitialValues.{InitialValue, initial_value}
 use Rattle.c_typed.specs.Mapped.{of_types, mapped_value, mapped_part}
 use Rattle.c_typed.specs.Typed.{Declared, IsTyped}
-use Rattle.c_typed.specs.TypedStatements.{IsTypedPart, IsTypedValue, IsTypedInitializer, IsInitialized}
+use Rattle.c_typed.specs.TypedStatements.{IsTypedPart, IsTypedValue, IsTypedInitializer, IsInitialized, all_declared_by}
 use Rattle.c_erasure.specs.Erasure.{typed}
 use Rattle.c_erasure.specs.Initializers.{Part, HasConstant, AreConstants, IsInitializer}
 use Rattle.c_erasure.specs.Literals.{literals, literals_of_value}
@@ -80,12 +80,12 @@ constants_later d e t (Typed.parts all) keep h c = constant_parts_later d e t al
 
 -- ---- one more name in the block
 
-named_fits : (f : FileScope) (locals : List ALocal) (blocks : List (List Bound)) (b : Bound) → BlocksAreFit f locals blocks → IsFit f locals b.entity
+pub named_fits : (f : FileScope) (locals : List ALocal) (blocks : List (List Bound)) (b : Bound) → BlocksAreFit f locals blocks → IsFit f locals b.entity
     → BlocksAreFit f locals (with_name blocks b)
 named_fits f locals [] b h p = ((p, tt), tt)
 named_fits f locals (block ∷ outer) b h p = (one_more_fits f locals block b h.0 p, h.1)
 
-last_mapped : {X Y : Type 0} (v : X → Y) (xs : List X) (x : X) → slice_get (map v (xs ++ x ∷ [])) (length xs) ≡ Some (v x)
+pub last_mapped : {X Y : Type 0} (v : X → Y) (xs : List X) (x : X) → slice_get (map v (xs ++ x ∷ [])) (length xs) ≡ Some (v x)
 last_mapped v [] x = refl
 last_mapped v (z ∷ xs) x = last_mapped v xs x
 
@@ -223,16 +223,16 @@ module _ (untagged : ℕ → List ℕ) (f : FileScope) where
 
   pub local_found : (s : Scope) (d : Trees.InitDeclarator) (x : Spelling) (t : CType) → IsValueInRange d.value → IsWithin untagged f s
       → is_object (length s.file.records) t ≡ true → (z : Statements × Scope) → declare_local s d x t ≡ Ok z
-      → FoundIn untagged f s (spoken_by_value d.value) (literals_of_value d.value) (IsDeclared s d x t z.0 z.1) (length s.locals ∷ []) z.1
+      → FoundIn untagged f s (spoken_by_value d.value) (literals_of_value d.value) (IsDeclared s d x t z.0 z.1) (all_declared_by z.0) z.1
   local_found s d x t n w o z h =
       let b = with_new_local s x t in
       let i = bound_ok (in_scope b (initial_if_any d.value b t)) _ z h in
       let j = bound_ok (initial_if_any d.value b t) _ i.0 i.1 in
       let v = initial_in d.value b t n (new_within s x t w) o j.0 j.1 in
       let r = given (λ (i : Option (Typed.Initializer Noted) × Scope). made_of i ≡ Ok z → FoundIn untagged f s (spoken_by_value d.value) (literals_of_value d.value)
-      (IsDeclared s d x t z.0 z.1) (length s.locals ∷ []) z.1) (j.0.0, moved b j.0.1) i.0 j.2
+      (IsDeclared s d x t z.0 z.1) (all_declared_by z.0) z.1) (j.0.0, moved b j.0.1) i.0 j.2
       (λ h. given (λ (z : Statements × Scope). FoundIn untagged f s (spoken_by_value d.value) (literals_of_value d.value) (IsDeclared s d x t z.0 z.1)
-      (length s.locals ∷ []) z.1) (Typed.and_statement (Typed.declare (length s.locals) j.0.0) Typed.no_statements, moved b j.0.1) z h (record {
+      (all_declared_by z.0) z.1) (Typed.and_statement (Typed.declare (length s.locals) j.0.0) Typed.no_statements, moved b j.0.1) z h (record {
         within = v.within;
         extends = v.extends;
         more = record { name = x.text; ty = t } ∷ [];
