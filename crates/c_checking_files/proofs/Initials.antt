@@ -25,7 +25,7 @@ use Rattle.c_erasure.specs.Literals.{literals, literals_of_all}
 use Rattle.c_erasure.specs.Marks.{Mark, marks, marks_of_all}
 use Rattle.c_erasure.specs.MentionPlaces.{spoken, spoken_of_all}
 use Rattle.c_erasure.specs.Noted.{Noted, Expression, Thing, an_object, type_of_path}
-use Rattle.c_erasure.specs.Scopes.{FileScope, Scope, declared, is_measured}
+use Rattle.c_erasure.specs.Scopes.{ALocal, FileScope, Scope, declared, is_measured}
 use Rattle.c_checking.specs.Answers.{◌>>=◌, Checked, with_file, moved}
 use Rattle.c_checking.specs.Finding.{value_at, find}
 use Rattle.c_checking.specs.Initializers.{initial_value_in, value_part, initial_record_in, text_of_array, is_text, fields_of, without_braces, in_braces}
@@ -40,6 +40,8 @@ use Rattle.c_checking.proofs.Adding.{Grows, makes_none, adds_nothing, adds_then}
 use Rattle.c_checking.proofs.Found.{Found, FoundValue}
 use Rattle.c_checking.proofs.Sound.{sound, sound_value_of}
 use Rattle.c_checking.proofs.Growth.{grow, grow_value_of}
+use Rattle.c_checking_files.proofs.SameLocals.{with_locals, same_find}
+use Rattle.c_checking_files.proofs.Longer.{seen, GoesOn, ready_longer}
 use Rattle.c_checking_files.proofs.Layouts.{IsLaid, object_stays, size_stays, offset_stays, AreFields, fields_are, later_fields, first_field}
 use Rattle.c_checking_files.proofs.Layouts.{field_within, fields_apart, field_stays, field_object, record_in}
 use Rattle.c_checking_files.proofs.Parts.{Rise, rise_from, rise_to, rise_then, one_rises, AreOver, over_then, over_within, Parted, none, is_bytes, all_made, parted_then}
@@ -86,13 +88,26 @@ module _ (untagged : ℕ → List ℕ) where
     pub texts : List ℕ
     pub parted : Parted k made texts
     pub grows : Grows s u x made z.1
-    pub holds : (g : FileScope) → Extends z.1 g → NoneBegins g texts → Is (moved s g) z.0
-    pub typed : (g : FileScope) → Extends z.1 g → AreOver (Where g) (declared (moved s g)) z.0
+    pub holds : (g : FileScope) (l : List ALocal) → Extends z.1 g → GoesOn s.locals l → NoneBegins g texts → Is (seen s g l) z.0
+    pub typed : (g : FileScope) (l : List ALocal) → Extends z.1 g → GoesOn s.locals l → AreOver (Where g) (declared (seen s g l)) z.0
     pub rises : (g : FileScope) → Extends z.1 g → IsLaid g → Rises g z.0
 
   abbrev pub FoundInitial : Scope → Trees.Expression → CType → ℕ → List Part × FileScope → Type 0
   FoundInitial s a t at z =
       FoundParts s (marks untagged a) (spoken a) (literals a) (λ s parts. Initializes a s t at parts) (OfObject t at) (RisesIn t at) z
+
+  pub same_locals : (s : Scope) → GoesOn s.locals s.locals
+  same_locals s = ([], sym (append-nil s.locals))
+
+  -- what is found is found with more locals too
+  sound_longer : (a : Trees.Expression) (s : Scope) → IsInRange a → Ready s (marks untagged a) → (l : List ALocal) → GoesOn s.locals l
+      → (y : Thing × FileScope) → find a s ≡ Ok y → Found untagged (with_locals l s) a y
+  sound_longer a s n r l b y h = sound untagged a (with_locals l s) n (ready_longer b r) y (same_find l a s ∙ h)
+
+  value_longer : (a : Trees.Expression) (s : Scope) → IsInRange a → Ready s (marks untagged a) → (l : List ALocal) → GoesOn s.locals l → (at : ℕ)
+      → (y : Expression × FileScope) → value_at at (find a s) ≡ Ok y → FoundValue untagged (with_locals l s) a y
+  value_longer a s n r l b at y h =
+      sound_value_of untagged a (with_locals l s) n (ready_longer b r) at y (ap (value_at at) (same_find l a s) ∙ h)
 
   -- ---- one part
 
@@ -106,14 +121,14 @@ module _ (untagged : ℕ → List ℕ) where
   -- a value
   scalar_found : (a : Trees.Expression) (s : Scope) (t : CType) (at from : ℕ) → is_scalar t ≡ true → is_object (length s.file.records) t ≡ true
       → (Is : Scope → List Part → Type 0)
-      → ((s : Scope) (x : Expression) → Values (Erases a s) x → Is s (part_at at (Typed.value x))) → ((y : Expression × FileScope)
-      → value_at from (find a s) ≡ Ok y → FoundValue untagged s a y × Grows s (marks untagged a) (spoken a) (literals a) y.1)
+      → ((s : Scope) (x : Expression) → Values (Erases a s) x → Is s (part_at at (Typed.value x))) → ((l : List ALocal) → GoesOn s.locals l → (y : Expression × FileScope)
+      → value_at from (find a s) ≡ Ok y → FoundValue untagged (with_locals l s) a y × Grows s (marks untagged a) (spoken a) (literals a) y.1)
       → (z : List Part × FileScope)
       → (value_at from (find a s) >>= λ x. with_file x.1 (initial_value_in from t x.0) >>= λ y. Ok (value_part at y.0, y.1)) ≡ Ok z
       → FoundParts s (marks untagged a) (spoken a) (literals a) Is (OfObject t at) (RisesIn t at) z
   scalar_found a s t at from i o Is stands sound z h =
       let x = bound_ok (value_at from (find a s)) _ z h in
-      let v = sound x.0 x.1 in
+      let v = sound s.locals (same_locals s) x.0 x.1 in
       let y = bound_with x.0.1 (initial_value_in from t x.0.0) _ z x.2 in
       given (FoundParts s (marks untagged a) (spoken a) (literals a) Is (OfObject t at) (RisesIn t at)) _ z y.2 (record {
         grew = v.0.grew;
@@ -121,24 +136,25 @@ module _ (untagged : ℕ → List ℕ) where
         texts = [];
         parted = all_made (literals a);
         grows = v.1;
-        holds = λ g p n. stands (moved s g) y.0 (initial_value_made (Erases a (moved s g)) (moved s g) from t x.0.0 (v.0.holds g p) y.0 y.1).0;
-        typed = λ g p.
-            let m = initial_value_made (Erases a (moved s g)) (moved s g) from t x.0.0 (v.0.holds g p) y.0 y.1 in
-            one_over t at (declared (moved s g)) g (Typed.value y.0) (m.1, i, m.2);
+        holds = λ g l p b n.
+            stands (seen s g l) y.0 (initial_value_made (Erases a (seen s g l)) (seen s g l) from t x.0.0 ((sound l b x.0 x.1).0.holds g p) y.0 y.1).0;
+        typed = λ g l p b.
+            let m = initial_value_made (Erases a (seen s g l)) (seen s g l) from t x.0.0 ((sound l b x.0 x.1).0.holds g p) y.0 y.1 in
+            one_over t at (declared (seen s g l)) g (Typed.value y.0) (m.1, i, m.2);
         rises = λ g p l. one_in t at g (Typed.value y.0) (object_stays (further v.0.grew.extends p) t o) l;
       })
 
   -- a record of the same type
   record_found : (a : Trees.Expression) (s : Scope) (r at from : ℕ) → is_object (length s.file.records) (structure r) ≡ true
       → (Is : Scope → List Part → Type 0)
-      → ((s : Scope) (p : Typed.Path Noted) → Erases a s (an_object p) → Is s (part_at at (Typed.record_of p))) → ((y : Thing × FileScope)
-      → find a s ≡ Ok y → Found untagged s a y × Grows s (marks untagged a) (spoken a) (literals a) y.1)
+      → ((s : Scope) (p : Typed.Path Noted) → Erases a s (an_object p) → Is s (part_at at (Typed.record_of p))) → ((l : List ALocal) → GoesOn s.locals l → (y : Thing × FileScope)
+      → find a s ≡ Ok y → Found untagged (with_locals l s) a y × Grows s (marks untagged a) (spoken a) (literals a) y.1)
       → (z : List Part × FileScope)
       → (find a s >>= λ x. with_file x.1 (initial_record_in from at (structure r) x.0)) ≡ Ok z
       → FoundParts s (marks untagged a) (spoken a) (literals a) Is (OfObject (structure r) at) (RisesIn (structure r) at) z
   record_found a s r at from o Is stands sound z h =
       let x = bound_ok (find a s) _ z h in
-      let v = sound x.0 x.1 in
+      let v = sound s.locals (same_locals s) x.0 x.1 in
       let w = with_file_ok x.0.1 (initial_record_in from at (structure r) x.0.0) z x.2 in
       let q = initial_record_is from at (structure r) x.0.0 z.0 w.0 in
       let e = λ (g : FileScope) (p : Extends z.1 g). subst (λ f. Extends f g) (sym w.1) p in
@@ -148,12 +164,13 @@ module _ (untagged : ℕ → List ℕ) where
         texts = [];
         parted = all_made (literals a);
         grows = subst (λ f. Grows s (marks untagged a) (spoken a) (literals a) f) w.1 v.1;
-        holds = λ g p n.
-            subst (λ parts. Is (moved s g) parts) (sym q.3) (stands (moved s g) q.0 (subst (Erases a (moved s g)) q.1 (v.0.holds g (e g p)).0));
-        typed = λ g p.
-            let t = subst (Stands (Erases a (moved s g)) (moved s g)) q.1 (v.0.holds g (e g p)) in
-            subst (λ parts. AreOver (OfObject (structure r) at g) (declared (moved s g)) parts) (sym q.3)
-            (one_over (structure r) at (declared (moved s g)) g (Typed.record_of q.0) (r, t.1, refl, path_type_same q.0 ∙ q.2));
+        holds = λ g l p b n.
+            subst (λ parts. Is (seen s g l) parts) (sym q.3)
+            (stands (seen s g l) q.0 (subst (Erases a (seen s g l)) q.1 ((sound l b x.0 x.1).0.holds g (e g p)).0));
+        typed = λ g l p b.
+            let t = subst (Stands (Erases a (seen s g l)) (seen s g l)) q.1 ((sound l b x.0 x.1).0.holds g (e g p)) in
+            subst (λ parts. AreOver (OfObject (structure r) at g) (declared (seen s g l)) parts) (sym q.3)
+            (one_over (structure r) at (declared (seen s g l)) g (Typed.record_of q.0) (r, t.1, refl, path_type_same q.0 ∙ q.2));
         rises = λ g p l.
             subst (λ parts. RisesIn (structure r) at g parts) (sym q.3)
             (one_in (structure r) at g (Typed.record_of q.0) (object_stays (further v.0.grew.extends (e g p)) (structure r) o) l);
@@ -179,11 +196,11 @@ module _ (untagged : ℕ → List ℕ) where
         parted = subst (λ k. Parted k [] (first_text m.texts ∷ [])) (sym p.2) (is_bytes (first_text m.texts) [] [] [] none);
         grows = subst (λ f. Grows s (marks untagged a) (spoken a) [] f) w.1
             (subst (λ u. Grows s u (spoken a) [] s.file) (sym p.0) (subst (λ x. Grows s [] x [] s.file) (sym p.1) (nothing s)));
-        holds = λ g q k.
-            stands (moved s g) z.0 (subst (λ o. IsText o (moved s g) (array u n) at z.0) (sym m.is_text) (m.bytes, m.text_of, k.0, m.parts_are));
-        typed = λ g q.
-            subst (λ parts. AreOver (OfObject (array u n) at g) (declared (moved s g)) parts) (sym m.parts_are)
-            (one_over (array u n) at (declared (moved s g)) g (Typed.text m.bytes) (m.typed (declared (moved s g))));
+        holds = λ g l q b k.
+            stands (seen s g l) z.0 (subst (λ o. IsText o (seen s g l) (array u n) at z.0) (sym m.is_text) (m.bytes, m.text_of, k.0, m.parts_are));
+        typed = λ g l q b.
+            subst (λ parts. AreOver (OfObject (array u n) at g) (declared (seen s g l)) parts) (sym m.parts_are)
+            (one_over (array u n) at (declared (seen s g l)) g (Typed.text m.bytes) (m.typed (declared (seen s g l))));
         rises = λ g q l.
             subst (λ parts. RisesIn (array u n) at g parts) (sym m.parts_are)
             (one_in (array u n) at g (Typed.text m.bytes) (object_stays (e g q) (array u n) c) l);
@@ -195,7 +212,7 @@ module _ (untagged : ℕ → List ℕ) where
       (A B C : FileScope → List Part → Type 0)
       → (own : List Part × FileScope) → FoundParts s u x k Is P A own → (rest : List Part × FileScope)
       → FoundParts (moved s own.1) v y l Js Q B rest
-      → ((g : FileScope) → Extends own.1 g → Is (moved s g) own.0 → Js (moved s g) rest.0 → Ks (moved s g) (own.0 ++ rest.0))
+      → ((g : FileScope) (l : List ALocal) → Extends own.1 g → Is (seen s g l) own.0 → Js (seen s g l) rest.0 → Ks (seen s g l) (own.0 ++ rest.0))
       → ((g : FileScope) → Extends own.1 g → (o : ℕ) (t : CType) → P g o t → R g o t)
       → ((g : FileScope) → Extends own.1 g → (o : ℕ) (t : CType) → Q g o t → R g o t)
       → ((g : FileScope) → Extends own.1 g → IsLaid g → A g own.0 → B g rest.0 → C g (own.0 ++ rest.0))
@@ -206,13 +223,13 @@ module _ (untagged : ℕ → List ℕ) where
     texts = p.texts ++ q.texts;
     parted = parted_then p.parted q.parted;
     grows = adds_then p.grows q.grows;
-    holds = λ g e n.
+    holds = λ g l e c n.
         let b = further q.grew.extends e in
-        is g b (p.holds g b (none_left g p.texts q.texts n)) (q.holds g e (none_right g p.texts q.texts n));
-    typed = λ g e.
+        is g l b (p.holds g l b c (none_left g p.texts q.texts n)) (q.holds g l e c (none_right g p.texts q.texts n));
+    typed = λ g l e c.
         let b = further q.grew.extends e in
-        over_then (R g) (declared (moved s g)) own.0 rest.0 (over_within (P g) (R g) (declared (moved s g)) own.0 (first g b) (p.typed g b))
-        (over_within (Q g) (R g) (declared (moved s g)) rest.0 (second g b) (q.typed g e));
+        over_then (R g) (declared (seen s g l)) own.0 rest.0 (over_within (P g) (R g) (declared (seen s g l)) own.0 (first g b) (p.typed g l b c))
+        (over_within (Q g) (R g) (declared (seen s g l)) rest.0 (second g b) (q.typed g l e c));
     rises = λ g e l.
         let b = further q.grew.extends e in
         rise g b l (p.rises g b l) (q.rises g e l);
@@ -220,22 +237,22 @@ module _ (untagged : ℕ → List ℕ) where
 
   -- nothing is left to say
   none_found : (s : Scope) (Is : Scope → List Part → Type 0) (P : FileScope → ℕ → CType → Type 0) (A : FileScope → List Part → Type 0)
-      → ((g : FileScope) → Is (moved s g) []) → ((g : FileScope) → Extends s.file g → IsLaid g → A g []) → FoundParts s [] [] [] Is P A ([], s.file)
+      → ((g : FileScope) (l : List ALocal) → Is (seen s g l) []) → ((g : FileScope) → Extends s.file g → IsLaid g → A g []) → FoundParts s [] [] [] Is P A ([], s.file)
   none_found s Is P A is rise = record {
     grew = nothing_grown s.file s.is_inside;
     made = [];
     texts = [];
     parted = none;
     grows = nothing s;
-    holds = λ g e n. is g;
-    typed = λ g e. tt;
+    holds = λ g l e b n. is g l;
+    typed = λ g l e b. tt;
     rises = λ g e l. rise g e l;
   }
 
   -- what stands for something else too
   as_other : (s : Scope) (u : List Mark) (x k : List ℕ) (Is Js : Scope → List Part → Type 0) (P Q : FileScope → ℕ → CType → Type 0)
       (A B : FileScope → List Part → Type 0) (z : List Part × FileScope) → FoundParts s u x k Is P A z
-      → ((g : FileScope) → Extends z.1 g → Is (moved s g) z.0 → Js (moved s g) z.0)
+      → ((g : FileScope) (l : List ALocal) → Extends z.1 g → Is (seen s g l) z.0 → Js (seen s g l) z.0)
       → ((g : FileScope) → Extends z.1 g → (o : ℕ) (t : CType) → P g o t → Q g o t)
       → ((g : FileScope) → Extends z.1 g → IsLaid g → A g z.0 → B g z.0)
       → FoundParts s u x k Js Q B z
@@ -245,8 +262,8 @@ module _ (untagged : ℕ → List ℕ) where
     texts = p.texts;
     parted = p.parted;
     grows = p.grows;
-    holds = λ g e n. is g e (p.holds g e n);
-    typed = λ g e. over_within (P g) (Q g) (declared (moved s g)) z.0 (into g e) (p.typed g e);
+    holds = λ g l e b n. is g l e (p.holds g l e b n);
+    typed = λ g l e b. over_within (P g) (Q g) (declared (seen s g l)) z.0 (into g e) (p.typed g l e b);
     rises = λ g e l. rise g e l (p.rises g e l);
   }
 
@@ -310,16 +327,16 @@ module _ (untagged : ℕ → List ℕ) where
   plain_found f a p s n r q (integer kind) at k o w z h =
       scalar_found a s (integer kind) at (first a) refl refl (λ s parts. Initializes a s (integer kind) at parts)
       (λ s x v. p.stands s (integer kind) at _ (inl (x, refl, refl, v)))
-      (λ y j. (sound_value_of untagged a s n r (first a) y j, grow_value_of untagged a s q.same (first a) y j)) z h
+      (λ l b y j. (value_longer a s n r l b (first a) y j, grow_value_of untagged a s q.same (first a) y j)) z h
   plain_found f a p s n r q (pointer t) at k o w z h =
       scalar_found a s (pointer t) at (first a) refl refl (λ s parts. Initializes a s (pointer t) at parts)
       (λ s x v. p.stands s (pointer t) at _ (inl (x, refl, refl, v)))
-      (λ y j. (sound_value_of untagged a s n r (first a) y j, grow_value_of untagged a s q.same (first a) y j)) z h
+      (λ l b y j. (value_longer a s n r l b (first a) y j, grow_value_of untagged a s q.same (first a) y j)) z h
   plain_found f a p s n r q (function t all) at k o w z h = cc
   plain_found f a p s n r q (structure i) at k o w z h =
       record_found a s i at (first a) (object_stays q.extends (structure i) k) (λ s parts. Initializes a s (structure i) at parts)
       (λ s path v. p.stands s (structure i) at _ (inr (inl (i, path, refl, refl, v))))
-      (λ y j. (sound untagged a s n r y j, grow untagged a s q.same y j)) z h
+      (λ l b y j. (sound_longer a s n r l b y j, grow untagged a s q.same y j)) z h
   plain_found f a p s n r q (array u m) at k o (inl w) z h =
       text_found a s u m at (first a) (object_stays q.extends (array u m) k) (texts_of a) p.bytes (λ s parts. Initializes a s (array u m) at parts)
       (λ s parts b. p.stands s (array u m) at parts (inr (inr b))) (is_character u) refl z
@@ -359,7 +376,7 @@ module _ (untagged : ℕ → List ℕ) where
       by_value t i o h =
           scalar_found a s t at (first a) i o (λ s parts. IsOnePart (Trees.and_argument comma a Trees.no_arguments) t at s parts)
           (λ s x v. (x, refl, v))
-          (λ y j. (sound_value_of untagged a s n (left (marks untagged a) [] r) (first a) y j, grow_value_of untagged a s q.same (first a) y j)) z h
+          (λ l b y j. (value_longer a s n (left (marks untagged a) [] r) l b (first a) y j, grow_value_of untagged a s q.same (first a) y j)) z h
 
       by_type : (t : CType) → is_scalar t ≡ true → without_braces (first a) at t None s.file (find a s) ≡ Ok z
           → FoundParts s (marks untagged a) (spoken a) (literals a) (λ s parts. IsOnePart (Trees.and_argument comma a Trees.no_arguments) t at s parts)
@@ -380,8 +397,8 @@ module _ (untagged : ℕ → List ℕ) where
         parted = subst (λ k. Parted k p.made p.texts) (sym (append-nil (literals a))) p.parted;
         grows = subst (λ u. Grows s u (spoken a ++ []) p.made z.1) (sym (append-nil (marks untagged a)))
             (subst (λ x. Grows s (marks untagged a) x p.made z.1) (sym (append-nil (spoken a))) p.grows);
-        holds = λ g e n. p.holds g e n;
-        typed = λ g e. p.typed g e;
+        holds = λ g l e b n. p.holds g l e b n;
+        typed = λ g l e b. p.typed g l e b;
         rises = λ g e l. p.rises g e l;
       }
 
@@ -479,9 +496,9 @@ module _ (untagged : ℕ → List ℕ) where
       (OfElements t (suc n) at) (RisesInElements t (suc n) at) (own.0 ++ rest.0, rest.1)
   element_then s u v x y k l comma a more t n at own o p rest q =
       joined s u v x y k l _ _ _ _ _ _ _ _ _ own p rest q
-      (λ g e is js.
+      (λ g l e is js.
       (n, own.0, rest.0, omega arith, refl, is,
-      subst (λ z. InitializeElements more (moved s g) t n (at + z) rest.0) (sym (size_stays e t o)) js))
+      subst (λ z. InitializeElements more (seen s g l) t n (at + z) rest.0) (sym (size_stays e t o)) js))
       (λ g e b w h. (0, h.0, omega arith, first g b h.0 h.1, h.2))
       (λ g e b w h. (suc h.0, h.1, let lt = h.2 in omega (arith, lt), later g e b h.0 h.1 h.3, h.4))
       (λ g e l is js.
@@ -512,8 +529,8 @@ module _ (untagged : ℕ → List ℕ) where
   field_then s u v x y k l comma a more i m at f later rec known field own p rest q =
       joined s u v x y k l (λ c parts. Initializes a c f.ty (at + offset_of s.file.records i m) parts) _ _
       (OfObject f.ty (at + offset_of s.file.records i m)) _ _ (RisesIn f.ty (at + offset_of s.file.records i m)) _ _ own p rest q
-      (λ g e is js.
-      (f, later, own.0, rest.0, refl, refl, subst (λ z. Initializes a (moved s g) f.ty (at + z) own.0) (sym (stays g e)) is, js))
+      (λ g l e is js.
+      (f, later, own.0, rest.0, refl, refl, subst (λ z. Initializes a (seen s g l) f.ty (at + z) own.0) (sym (stays g e)) is, js))
       (λ g e b w h. (m, h.0, f.ty, omega arith, field_stays (after g e) i m f.ty field, first g e b h.0 h.1, h.2))
       (λ g e b w h. (h.0, h.1, h.2, let lt = h.3 in omega (arith, lt), h.4, h.5, h.6))
       (λ g e c is js.
@@ -565,10 +582,10 @@ module _ (untagged : ℕ → List ℕ) where
     sound_initial f (Trees.braces from all last to) s n r q void at k z h = cc
     sound_initial f (Trees.braces from all last to) s n r q (integer kind) at k z h =
         as_other s _ _ _ (λ s parts. IsOnePart all (integer kind) at s parts) _ _ _ _ _ z (sound_one f from all s n r q (integer kind) at refl z h)
-        (λ g e i. inl (i.0, refl, i.1, i.2)) (λ g e o t h. h) (λ g e l h. h)
+        (λ g l e i. inl (i.0, refl, i.1, i.2)) (λ g e o t h. h) (λ g e l h. h)
     sound_initial f (Trees.braces from all last to) s n r q (pointer t) at k z h =
         as_other s _ _ _ (λ s parts. IsOnePart all (pointer t) at s parts) _ _ _ _ _ z (sound_one f from all s n r q (pointer t) at refl z h)
-        (λ g e i. inl (i.0, refl, i.1, i.2)) (λ g e o t h. h) (λ g e l h. h)
+        (λ g l e i. inl (i.0, refl, i.1, i.2)) (λ g e o t h. h) (λ g e l h. h)
     sound_initial f (Trees.braces from all last to) s n r q (function t types) at k z h = cc
     sound_initial f (Trees.braces from all last to) s n r q (array u m) at k z h =
         let a = Trees.braces from all last to in
@@ -580,7 +597,7 @@ module _ (untagged : ℕ → List ℕ) where
         (λ b h.
         as_other s _ _ _ (λ s parts. InitializeElements all s u m at parts) _ (OfElements u m at) _ (RisesInElements u m at) _ z
         (sound_elements f all s n r q u m at ((and_parts (nat_lt 0 m) (is_object (length f.records) u) k).1) z h)
-        (λ g e i. inr (inl (m, u, refl, not_text u (texts_of a) b, i)))
+        (λ g l e i. inr (inl (m, u, refl, not_text u (texts_of a) b, i)))
         (λ g e o v h. (h.0 * size_of g.records u + h.1, h.3, Lying.of_element u v m h.0 h.1 h.2 h.4)) (λ g e l h. h))
     sound_initial f (Trees.braces from all last to) s n r q (structure i) at k z h =
         let a = Trees.braces from all last to in
@@ -589,7 +606,7 @@ module _ (untagged : ℕ → List ℕ) where
         let v = sound_fields f all s n r q i 0 rec.0 rec.1 rec.0.fields at (fields_are f.records i rec.0 rec.1) z
         (subst (λ o. fields_from all s i 0 (fields_of o) at ≡ Ok z) known h) in
         as_other s _ _ _ (λ s parts. InitializeFields all s i 0 rec.0.fields at parts) _ (OfFields i 0 at) _ (RisesInFields i 0 at) _ z v
-        (λ g e j. inr (inr (inl (i, rec.0, refl, record_stays (further v.grew.extends e) i rec.0 known, j))))
+        (λ g l e j. inr (inr (inl (i, rec.0, refl, record_stays (further v.grew.extends e) i rec.0 known, j))))
         (λ g e o v h. (offset_of g.records i h.0 + h.1, h.5, Lying.of_field h.2 v i h.0 h.1 h.4 h.6))
         (λ g e l h. h at (omega arith) (λ j w less there. omega arith))
 
@@ -599,7 +616,7 @@ module _ (untagged : ℕ → List ℕ) where
         (OfElements u m at) (RisesInElements u m at) z
     sound_elements f Trees.no_arguments s n r q u m at k z h =
         given (FoundParts s [] [] [] (λ s parts. InitializeElements Trees.no_arguments s u m at parts) (OfElements u m at) (RisesInElements u m at)) _ z h
-        (none_found s _ _ _ (λ g. refl) (λ g e l. omega arith))
+        (none_found s _ _ _ (λ g l. refl) (λ g e l. omega arith))
     sound_elements f (Trees.and_argument comma a more) s n r q u zero at k z h = cc
     sound_elements f (Trees.and_argument comma a more) s n r q u (suc m) at k z h =
         let own = bound_ok (initialized a s u at) _ z h in
@@ -620,7 +637,7 @@ module _ (untagged : ℕ → List ℕ) where
         (OfFields i m at) (RisesInFields i m at) z
     sound_fields f Trees.no_arguments s n r q i m rec known fields at are z h =
         given (FoundParts s [] [] [] (λ s parts. InitializeFields Trees.no_arguments s i m fields at parts) (OfFields i m at) (RisesInFields i m at)) _ z h
-        (none_found s _ _ _ (λ g. refl) (λ g e l low top below. top))
+        (none_found s _ _ _ (λ g l. refl) (λ g e l low top below. top))
     sound_fields f (Trees.and_argument comma a more) s n r q i m rec known [] at are z h = cc
     sound_fields f (Trees.and_argument comma a more) s n r q i m rec known (x ∷ fields) at are z h =
         let at' = at + offset_of s.file.records i m in

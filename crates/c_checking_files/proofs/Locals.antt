@@ -36,7 +36,8 @@ use Rattle.c_checking.proofs.Sound.{sound_steps}
 use Rattle.c_checking.proofs.Growth.{grow_steps}
 use Rattle.c_checking_files.proofs.Layouts.{object_stays, size_stays}
 use Rattle.c_checking_files.proofs.SameLocals.{with_locals, same_derivations}
-use Rattle.c_checking_files.proofs.Scoped.{seen, GoesOn, IsWithin, ready_for, AddsInside, inside_grows, within_moved}
+use Rattle.c_checking_files.proofs.Longer.{seen, GoesOn, goes_further, fits_longer, blocks_longer}
+use Rattle.c_checking_files.proofs.Scoped.{IsWithin, ready_for, AddsInside, inside_grows, within_moved}
 
 -- ---- types of objects
 

@@ -21,59 +21,18 @@ use Rattle.c_checking.specs.Finding.{value_at, find}
 use Rattle.c_checking.specs.Statements.{Performed, in_scope, leaving, value_of_expression}
 use Rattle.c_checking.proofs.Results.{bound_ok, given}
 use Rattle.c_checking.proofs.Extends.{Extends, itself, further, kept}
-use Rattle.c_checking.proofs.Agreement.{IsFit, AreFit, BlocksAreFit, blocks_stay, IsReady, Ready, IsGrown, Grew}
+use Rattle.c_checking.proofs.Agreement.{added, IsFit, AreFit, BlocksAreFit, blocks_stay, IsReady, Ready, IsGrown, Grew}
 use Rattle.c_checking.proofs.Values.{IsValue}
 use Rattle.c_checking.proofs.InRange.{IsInRange}
 use Rattle.c_checking.proofs.Adding.{Adds, Grows, makes_none, adds_nothing, adds_then, as_inside}
-use Rattle.c_checking.proofs.FoundTypes.{ready_inside}
+use Rattle.c_checking.proofs.FoundTypes.{ready_inside, added_inside}
 use Rattle.c_checking.proofs.Found.{FoundValue}
 use Rattle.c_checking.proofs.Sound.{sound_value_of}
 use Rattle.c_checking.proofs.Growth.{grow_value_of}
 use Rattle.c_checking_files.proofs.Layouts.{IsLaid}
 use Rattle.c_checking_files.proofs.Parts.{Parted, none, all_made, parted_then, NoneBegins, none_left, none_right}
+use Rattle.c_checking_files.proofs.Longer.{seen, GoesOn, goes_further, ready_longer}
 use Rattle.c_checking_files.proofs.SameLocals.{with_locals, same_find}
-
--- ---- scopes as the whole function sees them
-
--- in a later file, with all locals
-abbrev pub seen : Scope → FileScope → List ALocal → Scope
-seen s g l = record s { file = g; locals = l }
-
-abbrev pub GoesOn : {X : Type 0} → List X → List X → Type 0
-GoesOn {X} xs ys = (more : List X) × (ys ≡ xs ++ more)
-
-pub goes_further : {X : Type 0} (xs ys zs : List X) → GoesOn xs ys → GoesOn ys zs → GoesOn xs zs
-goes_further xs ys zs p q = (p.0 ++ q.0, q.1 ∙ ap (λ z. z ++ q.0) p.1 ∙ append_assoc xs p.0 q.0)
-
-map_kept : {X Y : Type 0} (v : X → Y) (xs ys : List X) (k : ℕ) (y : Y) → slice_get (map v xs) k ≡ Some y → slice_get (map v (xs ++ ys)) k ≡ Some y
-map_kept v [] ys k y e = cc
-map_kept v (x ∷ xs) ys zero y e = e
-map_kept v (x ∷ xs) ys (suc k) y e = map_kept v xs ys k y e
-
-fit_longer : (f : FileScope) (locals more : List ALocal) (e : Entity) → IsFit f locals e → IsFit f (locals ++ more) e
-fit_longer f locals more (typedef t) h = h
-fit_longer f locals more (enumerator v) h = h
-fit_longer f locals more (an_object n t) h = h
-fit_longer f locals more (a_function n t) h = h
-fit_longer f locals more (a_library_function which) h = h
-fit_longer f locals more (a_local n t) h = map_kept (λ l. l.ty) locals more n t h
-fit_longer f locals more (a_parameter t) h = h
-
-pub fits_longer : (f : FileScope) (locals more : List ALocal) (all : List Bound) → AreFit f locals all → AreFit f (locals ++ more) all
-fits_longer f locals more [] h = h
-fits_longer f locals more (b ∷ all) h = (fit_longer f locals more b.entity h.0, fits_longer f locals more all h.1)
-
-pub blocks_longer : (f : FileScope) (locals more : List ALocal) (all : List (List Bound)) → BlocksAreFit f locals all → BlocksAreFit f (locals ++ more) all
-blocks_longer f locals more [] h = h
-blocks_longer f locals more (b ∷ all) h = (fits_longer f locals more b h.0, blocks_longer f locals more all h.1)
-
-pub ready_longer : {f : FileScope} {locals l : List ALocal} {blocks : List (List Bound)} → GoesOn locals l → IsReady f locals blocks true []
-    → IsReady f l blocks true []
-ready_longer {f} {locals} {l} {blocks} p r = record {
-  names_fit = subst (λ l. AreFit f l f.names) (sym p.1) (fits_longer f locals p.0 f.names r.names_fit);
-  blocks_fit = subst (λ l. BlocksAreFit f l blocks) (sym p.1) (blocks_longer f locals p.0 blocks r.blocks_fit);
-  ends_stand = λ j n right h. cc;
-}
 
 -- ---- what is asked of a scope inside of a function that begins in a file
 
@@ -81,7 +40,7 @@ pub record IsWithin (untagged : ℕ → List ℕ) (f : FileScope) (s : Scope) : 
   pub inside : s.is_inside ≡ true
   pub full : s.purpose ≡ in_full
   pub ready : IsReady s.file s.locals s.blocks true []
-  pub complete : AreComplete f.records
+  pub complete : AreComplete s.file.records
   pub extends : Extends f s.file
   pub same : s.file.untagged ≡ untagged
 
@@ -101,12 +60,23 @@ inside_grows s u x k g i p h =
     as_inside {a = s.is_inside} {d = true} {u = u} i
     (subst (λ p. Adds s.file s.is_inside (is_measured p) (makes_none p) u x k g) p h)
 
+-- structures are defined at file scope alone
+no_more : {X : Type 0} (xs ys zs : List X) → zs ≡ xs ++ ys → length zs ≡ length xs → zs ≡ xs
+no_more xs [] zs e h = e ∙ append-nil xs
+no_more xs (y ∷ ys) zs e h = absurd (let n = ap length e ∙ length-append xs (y ∷ ys) in omega (arith, n, h))
+
+pub records_same : {f g : FileScope} → Extends f g → length g.records ≡ length f.records → g.records ≡ f.records
+records_same {f} {g} p h = no_more f.records p.records.0 g.records p.records.1 h
+
+pub grown_none : {f g : FileScope} {b : Bool} {u : List Mark} → added b u ≡ 0 → IsGrown f b u g → length g.records ≡ length f.records
+grown_none e p = omega (arith, e, p.counted)
+
 -- ---- what is asked of a later file and its locals
 
 -- constants have their values in later files too
 abbrev pub KeepsConstants : FileScope → FileScope → Type 0
-KeepsConstants f g = (s : Scope) (x : Expression) (v : InitialValue) → IsTyped (declared (moved s f)) (typed x) → IsTyped (declared (moved s g)) (typed x)
-    → initial_value (declared (moved s f)) (typed x) ≡ Some v → initial_value (declared (moved s g)) (typed x) ≡ Some v
+KeepsConstants f g = (s : Scope) (l : List ALocal) (x : Expression) (v : InitialValue) → IsTyped (declared (seen s g l)) (typed x)
+    → initial_value (declared (moved s f)) (typed x) ≡ Some v → initial_value (declared (seen s g l)) (typed x) ≡ Some v
 
 pub record IsLater (f : FileScope) (after : Scope) (texts : List ℕ) (g : FileScope) (l : List ALocal) : Type 0 where
   pub extends : Extends after.file g
@@ -215,7 +185,7 @@ module _ (untagged : ℕ → List ℕ) (f : FileScope) where
       blocks_fit = blocks_stay p.extends s.locals s.blocks w.ready.blocks_fit;
       ends_stand = λ j n right h. cc;
     };
-    complete = w.complete;
+    complete = subst AreComplete (sym (records_same p.extends (grown_none (added_inside w.inside u) p))) w.complete;
     extends = further w.extends p.extends;
     same = p.extends.untagged ∙ w.same;
   }

@@ -22,7 +22,7 @@ use Rattle.c_erasure.specs.Literals.{literals}
 use Rattle.c_erasure.specs.Marks.{Mark, marks}
 use Rattle.c_erasure.specs.MentionPlaces.{spoken}
 use Rattle.c_erasure.specs.Noted.{Noted, Expression, Thing, an_object, type_of_path}
-use Rattle.c_erasure.specs.Scopes.{FileScope, Scope, declared}
+use Rattle.c_erasure.specs.Scopes.{ALocal, FileScope, Scope, declared}
 use Rattle.c_checking.specs.Answers.{◌>>=◌, with_file, moved}
 use Rattle.c_checking.specs.Finding.{find}
 use Rattle.c_checking.specs.Initializers.{initial_record_in, without_braces, initialized, initializer, whole_of, is_constant_part, are_constant_parts, are_constants, constants_in}
@@ -33,6 +33,8 @@ use Rattle.c_checking.proofs.Values.{Stands, path_type_same}
 use Rattle.c_checking.proofs.InRange.{IsInRange}
 use Rattle.c_checking.proofs.Adding.{Grows}
 use Rattle.c_checking.proofs.Sound.{sound}
+use Rattle.c_checking_files.proofs.SameLocals.{with_locals, same_find}
+use Rattle.c_checking_files.proofs.Longer.{seen, GoesOn, ready_longer}
 use Rattle.c_checking_files.proofs.Layouts.{IsLaid}
 use Rattle.c_checking_files.proofs.Parts.{Rise, are_rising, AreOver, all_over, Parted, NoneBegins, initial_record_is}
 use Rattle.c_checking_files.proofs.Initials.{FoundParts, FoundInitial, OfObject, RisesIn, ReadFrom, IsKnown, Plainly, plain, sound_initial}
@@ -231,22 +233,23 @@ module _ (untagged : ℕ → List ℕ) where
     pub texts : List ℕ
     pub parted : Parted (literals a) made texts
     pub grows : Grows s (marks untagged a) (spoken a) made z.1
-    pub holds : (g : FileScope) → Extends z.1 g → IsLaid g → NoneBegins g texts
-        → IsInitializer a (moved s g) t z.0 × IsTypedInitializer (declared (moved s g)) t (typed_initial z.0)
+    pub holds : (g : FileScope) (l : List ALocal) → Extends z.1 g → GoesOn s.locals l → IsLaid g → NoneBegins g texts
+        → IsInitializer a (seen s g l) t z.0 × IsTypedInitializer (declared (seen s g l)) t (typed_initial z.0)
 
   -- the record that is found for an initializer without braces is of the type
   record_here : (a : Trees.Expression) (s : Scope) → IsInRange a → Ready s (marks untagged a) → (t : CType) (z : List Part × FileScope)
-      → initialized a s t 0 ≡ Ok z → (g : FileScope) → Extends z.1 g → IsRecordHere (declared (moved s g)) g refl t (is_braces a) z.0
-  record_here a s n r t z h g e i p bare is parts =
+      → initialized a s t 0 ≡ Ok z → (g : FileScope) (l : List ALocal) → Extends z.1 g → GoesOn s.locals l
+      → IsRecordHere (declared (seen s g l)) g refl t (is_braces a) z.0
+  record_here a s n r t z h g l e b i p bare is parts =
       let f = sym ((plain untagged a bare).found s t 0) ∙ h in
       let k : (find a s >>= λ x. with_file x.1 (initial_record_in (first a) 0 (structure i) x.0)) ≡ Ok z =
       subst (λ t. without_braces (first a) 0 t (texts_of a) s.file (find a s) ≡ Ok z) is f in
       let x = bound_ok (find a s) _ z k in
       let w = with_file_ok x.0.1 (initial_record_in (first a) 0 (structure i) x.0.0) z x.2 in
       let q = initial_record_is (first a) 0 (structure i) x.0.0 z.0 w.0 in
-      let v = (sound untagged a s n r x.0 x.1).holds g (subst (λ f. Extends f g) (sym w.1) e) in
+      let v = (sound untagged a (with_locals l s) n (ready_longer b r) x.0 (same_find l a s ∙ x.1)).holds g (subst (λ f. Extends f g) (sym w.1) e) in
       let same : p ≡ q.0 = same_path p q.0 (sym parts ∙ q.3) in
-      let u = subst (Stands (Erases a (moved s g)) (moved s g)) (q.1 ∙ ap an_object (sym same)) v in
+      let u = subst (Stands (Erases a (seen s g l)) (seen s g l)) (q.1 ∙ ap an_object (sym same)) v in
       let typed_as = path_type_same p ∙ ap type_of_path same ∙ q.2 in
       (i, u.1, is, typed_as ∙ sym is)
     where
@@ -264,11 +267,11 @@ module _ (untagged : ℕ → List ℕ) where
         texts = v.texts;
         parted = v.parted;
         grows = v.grows;
-        holds = λ g e l m.
-            let i = v.holds g e m in
-            (whole_is a (moved s g) t x.0.0 i,
-            whole_typed (declared (moved s g)) g refl t (is_braces a) x.0.0 (outline a (moved s g) t 0 x.0.0 i) (v.typed g e) (0 + size_of g.records t)
-            (v.rises g e l) (record_here a s n r t x.0 x.1 g e));
+        holds = λ g l e b laid m.
+            let i = v.holds g l e b m in
+            (whole_is a (seen s g l) t x.0.0 i,
+            whole_typed (declared (seen s g l)) g refl t (is_braces a) x.0.0 (outline a (seen s g l) t 0 x.0.0 i) (v.typed g l e b) (0 + size_of g.records t)
+            (v.rises g e laid) (record_here a s n r t x.0 x.1 g l e b));
       })
 
 -- ---- constants
