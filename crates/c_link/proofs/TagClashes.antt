@@ -94,9 +94,9 @@ tags_begin units before after h =
     let others = new_keys (complete_tags units) (flat_map (λ u. u.incomplete) units) in
     let known = fold with_key [] (tags_in before) in
     let e : complete_tags units ≡ known ++ new_keys known (tags_in after) =
-        sym (all_new _) ∙ ap (fold with_key []) (sym (tags_of_all (all_tags units) units) ∙ ap tags_in h
-            ∙ ap (map {B = List ℕ} (λ p. p.0)) (map-append tagged before after) ∙ map-append {B = List ℕ} (λ p. p.0) (map tagged before) (map tagged after))
-        ∙ fold-append with_key [] (tags_in before) (tags_in after) ∙ all_after (tags_in after) known in
+    sym (all_new _) ∙ ap (fold with_key []) (sym (tags_of_all (all_tags units) units) ∙ ap tags_in h
+    ∙ ap (map {B = List ℕ} (λ p. p.0)) (map-append tagged before after) ∙ map-append {B = List ℕ} (λ p. p.0) (map tagged before) (map tagged after))
+    ∙ fold-append with_key [] (tags_in before) (tags_in after) ∙ all_after (tags_in after) known in
     (new_keys known (tags_in after) ++ others, ap (λ ks. ks ++ others) e ∙ append_assoc known (new_keys known (tags_in after)) others)
 
 -- ---- troubles of a list
@@ -153,7 +153,7 @@ clash_is_in units t w =
     let c : clash found r ≡ it ∷ [] = ap (λ o. clash o r) s ∙ ap (λ same. if same then [] else it ∷ []) d in
     let here : IsIn t (clash found r) = subst (IsIn t) (sym c) (inl w.8) in
     subst (IsIn t) (sym (ap (clashes tags []) w.5 ∙ clashes_append tags [] before (r ∷ after)))
-        (in_right t (clashes tags [] before) _ (in_left t (clash found r) _ here))
+    (in_right t (clashes tags [] before) _ (in_left t (clash found r) _ here))
 
 one_more : (tags : List (List ℕ)) (before : List Record) (r : Record) → place (λ r. true) (firsts tags before) (position tags r.tag) r ≡ firsts tags (before ++ r ∷ [])
 one_more tags before r =
@@ -166,6 +166,7 @@ at_record units before after r e t (Some first) k h = go (same_fields r.fields f
   where
     false_is_true : false ≡ true → ⊥
     false_is_true q = cc
+
     go : (b : Bool) → same_fields r.fields first.fields ≡ b
         → IsIn t (if b then [] else record { name = r.tag; place = r.place; first = first.place } ∷ []) → IsTagClash units t
     go true d h = absurd h
@@ -180,9 +181,10 @@ walk units before (r ∷ more) e t h =
     let b = tags_begin units before (r ∷ more) e in
     let found = slice_get (firsts tags before) (position tags r.tag) in
     elim (in_append t (clash found r) _ h) [
-        inl k ↦ at_record units before more r e t found (first_is tags b.0 before r.tag b.1) k
+      | inl k ↦ at_record units before more r e t found (first_is tags b.0 before r.tag b.1) k
       | inr k ↦ walk units (before ++ r ∷ []) more (e ∙ sym (append_assoc before (r ∷ []) more)) t
-            (subst (λ fs. IsIn t (clashes tags fs more)) (one_more tags before r) k) ]
+          (subst (λ fs. IsIn t (clashes tags fs more)) (one_more tags before r) k)
+    ]
 
 pub in_is_clash : (units : List UnitData) (t : Trouble) → IsIn t (clashes (all_tags units) [] (all_records_in units)) → IsTagClash units t
 in_is_clash units t h = walk units [] (all_records_in units) refl t h
@@ -202,7 +204,7 @@ one_more_clash now tags fs b n old new found next rest e f g h =
     let x = record_of (now b) in
     let all = map (λ it. record_of (now it)) fs in
     let place_now = ap (map (λ it. record_of (now it))) h ∙ put_mapped (λ it. record_of (now it)) false fs n b
-        ∙ ap (λ (r : Bool). put r all n x) (never (slice_get all n) x) ∙ ap (λ m. place (λ r. true) all m x) e in
+    ∙ ap (λ (r : Bool). put r all n x) (never (slice_get all n) x) ∙ ap (λ m. place (λ r. true) all m x) e in
     let later = clashes tags (place (λ r. true) all (position tags x.tag) x) (records_of rest) in
     ap (λ them. map trouble_of new ++ clashes tags them (records_of rest)) place_now
     ∙ ap (λ them. them ++ later) g ∙ append_assoc (map trouble_of old) (clash found x) later
@@ -239,4 +241,4 @@ clash_or_none units o h = go (clashes (all_tags units) [] (all_records_in units)
         let is : trouble_of u ≡ earliest t more = let k : Some (trouble_of u) ≡ Some (earliest t more) = e in cc in
         let first = earliest_is t more in
         subst (IsEarliest (IsTagClash units)) (sym is)
-            (record { here = g (earliest t more) first.here; earliest = λ other w. first.earliest other (f other w) })
+        (record { here = g (earliest t more) first.here; earliest = λ other w. first.earliest other (f other w) })

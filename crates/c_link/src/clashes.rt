@@ -37,7 +37,12 @@ fn same_fields(all: &[Field], others: &[Field]) -> bool
     true
 }
 
-fn add_clash(alloc: Global, troubles: &mut List<Trouble>, first: Option<&Record>, r: &Record) -> Result<(), NoMemory>
+fn add_clash(
+    alloc: Global,
+    troubles: &mut List<Trouble>,
+    first: Option<&Record>,
+    r: &Record,
+) -> Result<(), NoMemory>
     ensures { OnOk result (map trouble_of troubles.new ≡ map trouble_of troubles.old ++ clash (option_map record_of (option_copied first.entry)) (record_of r.now)) }
 {
     match first {
@@ -67,7 +72,12 @@ fn tag_troubles(alloc: Global, tags: &KeyTable, all: &[Record]) -> Result<List<T
     let mut firsts: Vec<&Record> = Vec::new(alloc);
     for r in all {
         let number = number_of(alloc, tags, &r.tag)?;
-        add_clash(alloc, &mut troubles, firsts.get(number as usize).copied(), r)?;
+        add_clash(
+            alloc,
+            &mut troubles,
+            firsts.get(number as usize).copied(),
+            r,
+        )?;
         put(&mut firsts, number, false, r)?;
     }
     Ok(troubles)

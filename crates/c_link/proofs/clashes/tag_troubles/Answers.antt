@@ -25,7 +25,7 @@ loop-r-preserved c =
     let f = found_is firsts number c.copied.result q in
     let left = λ (them : List Record). map trouble_of troubles ++ clashes tags (map (λ (it : Bor Record). record_of it.now) firsts) (records_of them) in
     one_more_clash (λ (it : Bor Record). it.now) tags firsts _ number troubles c.add_clash.new.troubles (option_map record_of (option_copied c.copied.result))
-        c.put.new.all.items (drop (i + 1) all) n f c.in_ok-add_clash.ensures c.in_ok-put.ensures
+    c.put.new.all.items (drop (i + 1) all) n f c.in_ok-add_clash.ensures c.in_ok-put.ensures
     ∙ ap (λ x. left (x ∷ drop (i + 1) all)) c.r-item.is
     ∙ sym (at_drop_more left all i r c.loop-r-test.true)
     ∙ c.loop-r.invariant
