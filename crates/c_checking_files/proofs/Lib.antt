@@ -9,3 +9,4 @@ pub mod Locals
 pub mod LocalObjects
 pub mod StaticLocals
 pub mod Declarations
+pub mod StatementParts
