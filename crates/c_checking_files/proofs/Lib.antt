@@ -10,3 +10,6 @@ pub mod LocalObjects
 pub mod StaticLocals
 pub mod Declarations
 pub mod StatementParts
+pub mod Labels
+pub mod StatementLaws
+pub mod Statements

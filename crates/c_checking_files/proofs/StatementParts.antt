@@ -1,13 +1,15 @@
 -- What is found for declarations in blocks, and for parts of statements (C99 6.7, 6.8).
 use Rattle.std.proofs.Common.{◌≡◌, ◌≢◌, ℕ, zero, suc, ◌+◌, ◌≤◌, Bool, true, false, refl, sym, ap, ◌∙◌, subst, List, [], ◌∷◌, ◌++◌, length, append-nil}
 use Rattle.std.proofs.Common.{append_assoc, inl, inr, arith}
-use Rattle.std.specs.Prelude.{◌⊎◌, Option, Some, None, Ok, slice_get}
+use Rattle.std.specs.Prelude.{◌⊎◌, ◌^◌, Option, Some, None, Ok, slice_get}
+use Rattle.std.proofs.Math.Nat.{mod-mod}
 use Rattle.c_types.specs.declared.ty.IntKind.{IntKind}
+use Rattle.c_types.specs.declared.ty.IntKind.TheVariants.{Char, SChar, UChar, Short, UShort, Int, UInt, Long, ULong}
 use Rattle.c_types.specs.Types.{CType, void, integer, pointer, array, function, structure}
 use Rattle.c_ast.specs.Trees
 use Rattle.c_ast.specs.Places.{first, first_specifiers}
 use Rattle.c_typed.specs.Trees as Typed
-use Rattle.c_typed.specs.Conversions.{is_scalar, promoted}
+use Rattle.c_typed.specs.Conversions.{as_kind, is_scalar, promoted_kind, promoted}
 use Rattle.c_typed.specs.Constants.{ty}
 use Rattle.c_typed.specs.Fits.{assigns, is_void}
 use Rattle.c_typed.specs.Rules.{promoting}
@@ -82,6 +84,33 @@ pub record IsSwitched (Is : Thing → Type 0) (c : Scope) (x : Expression) (kind
   pub is_typed : IsTyped (declared c) (typed x)
   pub promotes : promoting (bare_ty (typed x)) ≡ Some (ty (typed x))
   pub type_is : type_of x ≡ integer kind
+  -- a value of the type is kept
+  pub keeps : (v : ℕ) → as_kind kind (as_kind kind v) ≡ as_kind kind v
+
+kind_is : (k kind : IntKind) → integer k ≡ integer kind → k ≡ kind
+kind_is k kind h = cc
+
+abbrev Keeps : IntKind → Type 0
+Keeps kind = (v : ℕ) → as_kind kind (as_kind kind v) ≡ as_kind kind v
+
+keeps_promoted : (k : IntKind) → Keeps (promoted_kind k)
+keeps_promoted Char v = mod-mod v (2 ^ 32)
+keeps_promoted SChar v = mod-mod v (2 ^ 32)
+keeps_promoted UChar v = mod-mod v (2 ^ 32)
+keeps_promoted Short v = mod-mod v (2 ^ 32)
+keeps_promoted UShort v = mod-mod v (2 ^ 32)
+keeps_promoted Int v = mod-mod v (2 ^ 32)
+keeps_promoted UInt v = mod-mod v (2 ^ 32)
+keeps_promoted Long v = mod-mod v (2 ^ 32)
+keeps_promoted ULong v = mod-mod v (2 ^ 32)
+
+keeps_so : (t : CType) (kind : IntKind) → promoted t ≡ integer kind → Keeps kind
+keeps_so (integer k) kind h = subst Keeps (kind_is (promoted_kind k) kind h) (keeps_promoted k)
+keeps_so void kind h = cc
+keeps_so (pointer t) kind h = cc
+keeps_so (array t n) kind h = cc
+keeps_so (function t all) kind h = cc
+keeps_so (structure r) kind h = cc
 
 promotes_so : (t : CType) (kind : IntKind) → promoted t ≡ integer kind → promoting t ≡ Some (integer kind)
 promotes_so (integer k) kind h = ap Some h
@@ -104,6 +133,7 @@ switched_made Is c at x v y h = by_type (promoted (type_of x)) refl h
           is_typed = o.is_typed;
           promotes = ap promoting o.bare_type_is ∙ promotes_so (type_of x) kind e ∙ ap Some (sym o.type_is);
           type_is = sym (type_same (converted (integer kind) x)) ∙ o.type_is;
+          keeps = keeps_so (type_of x) kind e;
         })
     by_type void e h = cc
     by_type (pointer t) e h = cc
