@@ -84,8 +84,6 @@ pub record IsSwitched (Is : Thing → Type 0) (c : Scope) (x : Expression) (kind
   pub is_typed : IsTyped (declared c) (typed x)
   pub promotes : promoting (bare_ty (typed x)) ≡ Some (ty (typed x))
   pub type_is : type_of x ≡ integer kind
-  -- a value of the type is kept
-  pub keeps : (v : ℕ) → as_kind kind (as_kind kind v) ≡ as_kind kind v
 
 kind_is : (k kind : IntKind) → integer k ≡ integer kind → k ≡ kind
 kind_is k kind h = cc
@@ -133,8 +131,20 @@ switched_made Is c at x v y h = by_type (promoted (type_of x)) refl h
           is_typed = o.is_typed;
           promotes = ap promoting o.bare_type_is ∙ promotes_so (type_of x) kind e ∙ ap Some (sym o.type_is);
           type_is = sym (type_same (converted (integer kind) x)) ∙ o.type_is;
-          keeps = keeps_so (type_of x) kind e;
         })
+    by_type void e h = cc
+    by_type (pointer t) e h = cc
+    by_type (array t n) e h = cc
+    by_type (function t all) e h = cc
+    by_type (structure r) e h = cc
+
+-- of which values are kept, whatever is switched on
+pub switched_keeps : (at : ℕ) (x : Expression) (y : Expression × IntKind) → switched_in at x ≡ Ok y → Keeps y.1
+unfolding switched_in
+switched_keeps at x y h = by_type (promoted (type_of x)) refl h
+  where
+    by_type : (t : CType) → promoted (type_of x) ≡ t → switch_value at x t ≡ Ok y → Keeps y.1
+    by_type (integer kind) e h = given (λ (y : Expression × IntKind). Keeps y.1) (converted (integer kind) x, kind) y h (keeps_so (type_of x) kind e)
     by_type void e h = cc
     by_type (pointer t) e h = cc
     by_type (array t n) e h = cc
