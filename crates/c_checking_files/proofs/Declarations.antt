@@ -72,15 +72,15 @@ first_named (Trees.enclosed left d right) x h a b = refl
 first_named (Trees.array d left length right) x h a b = refl
 first_named (Trees.function d left all right) x h a b = refl
 
-abbrev static_places : Bool → ℕ → List ℕ
+abbrev pub static_places : Bool → ℕ → List ℕ
 static_places true at = at ∷ []
 static_places false at = []
 
-abbrev made_by : Bool → List Trees.InitDeclarator → ℕ → List ℕ
+abbrev pub made_by : Bool → List Trees.InitDeclarator → ℕ → List ℕ
 made_by static [] semicolon = []
 made_by static (d ∷ more) semicolon = static_places static (first_declarator d.declarator semicolon) ++ literals_of_value d.value ++ made_by static more semicolon
 
-made_same : (static : Bool) (words : Storage) → ((at : ℕ) → place_if_static words at ≡ static_places static at) → (all : List Trees.InitDeclarator) (semicolon : ℕ)
+pub made_same : (static : Bool) (words : Storage) → ((at : ℕ) → place_if_static words at ≡ static_places static at) → (all : List Trees.InitDeclarator) (semicolon : ℕ)
     → made_by static all semicolon ≡ made_by_declarators words all semicolon
 made_same static words e [] semicolon = refl
 made_same static words e (d ∷ more) semicolon = rw (e (first_declarator d.declarator semicolon), made_same static words e more semicolon) refl
@@ -178,7 +178,7 @@ module _ (untagged : ℕ → List ℕ) (f : FileScope) where
   FoundDeclarators static all s base semicolon z =
       FoundIn untagged f s (spoken_of_declarators all semicolon) (made_by static all semicolon) (AreDeclared static all s base z.0 z.1) (all_declared_by z.0) z.1
 
-  declarators_found : (all : List Trees.InitDeclarator) (s : Scope) (static : Bool) (base : CType) (semicolon : ℕ) → AreDeclaratorsInRange all
+  pub declarators_found : (all : List Trees.InitDeclarator) (s : Scope) (static : Bool) (base : CType) (semicolon : ℕ) → AreDeclaratorsInRange all
       → IsWithin untagged f s → (z : Statements × Scope) → declare_all all s static base ≡ Ok z → FoundDeclarators static all s base semicolon z
   unfolding declare_all
   declarators_found [] s static base semicolon n w z h =

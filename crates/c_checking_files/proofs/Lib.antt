@@ -9,3 +9,7 @@ pub mod Locals
 pub mod LocalObjects
 pub mod StaticLocals
 pub mod Declarations
+pub mod StatementParts
+pub mod Labels
+pub mod StatementLaws
+pub mod Statements
