@@ -1,5 +1,5 @@
 -- In a well formed tree, whose tokens come one after the other, a record is known where a byte asks for it.
-use Rattle.std.proofs.Common.{◌≡◌, ℕ, ◌+◌, ◌≤◌, Bool, true, false, refl, sym, ap, ◌∙◌, subst, List, [], ◌∷◌, ◌++◌, arith, length}
+use Rattle.std.proofs.Common.{◌≡◌, ℕ, ◌+◌, Bool, true, false, refl, ◌∙◌, subst, List, [], ◌∷◌, ◌++◌, arith, length}
 use Rattle.std.specs.Prelude.{Option, Some, None}
 use Rattle.lay_base.specs.declared.faults.Keyword.TheVariants as W
 use Rattle.c_lexer.specs.declared.token.TokenKind.TheVariants as K
@@ -11,7 +11,7 @@ use Rattle.c_ast.specs.Trees
 use Rattle.c_ast.specs.Places.{begins_at, first, first_declarator}
 use Rattle.c_ast.specs.Laws.{TreesBeginFirst}
 use Rattle.c_ast.specs.Spelling.{Lexeme, step_punctuator, binary_punctuator, assign_punctuator}
-use Rattle.c_ast.specs.Spelling.{punctuator, keyword, word, spelled, spelled_arguments, spelled_optional, spelled_type_name, spelled_specifiers, spelled_comma}
+use Rattle.c_ast.specs.Spelling.{punctuator, keyword, word, spelled, spelled_arguments, spelled_optional, spelled_type_name, spelled_specifiers}
 use Rattle.c_ast.specs.Spelling.{spelled_specifier, spelled_member_declarations, spelled_member_declarators, spelled_enumerators}
 use Rattle.c_ast.specs.Spelling.{spelled_enumerator_value, spelled_declarator, spelled_parameter_list, spelled_parameters}
 use Rattle.c_ast.specs.WellFormed.{has_name, IsExpression, AreArguments, IsOptional, IsTypeName, AreSpecifiers, AreMoreSpecifiers, IsSpecifier}
@@ -26,12 +26,13 @@ use Rattle.c_order.specs.Places.{AreOrdered, Along}
 use Rattle.c_order.proofs.Walks as Walks
 use Rattle.c_order.proofs.Walks.{none, skip, both, before, after, bare, comma_along, tag_along, consts_along}
 use Rattle.c_order.proofs.Ordered.{ends_between}
-use Rattle.c_order.proofs.MarksOfParts.{along, arguments_along, optional_along, type_name_along, specifiers_along, more_specifiers_along, specifier_along}
-use Rattle.c_order.proofs.MarksOfParts.{members_along, member_declarators_along, enumerators_along, after_enumerator, value_along, declarator_along}
+use Rattle.c_order.proofs.MarksOfParts.{along, arguments_along, optional_along, type_name_along, specifiers_along, more_specifiers_along}
+use Rattle.c_order.proofs.MarksOfParts.{members_along, member_declarators_along, after_enumerator, value_along, declarator_along}
 use Rattle.c_order.proofs.MarksOfParts.{parameter_list_along, parameters_along}
 use Rattle.c_checking.proofs.Agreement.{added}
 use Rattle.c_checking.proofs.FaultPremises.{IsTimely, AreTimely, IsTypeTimely, AreSpecifiersTimely, IsSpecifierTimely, AreMembersTimely, AreDeclaratorsTimely}
-use Rattle.c_checking.proofs.FaultPremises.{AreEnumeratorsTimely, IsValueTimely, IsDeclaratorTimely, IsLengthTimely, IsListTimely, AreParametersTimely, AreKnown}
+use Rattle.c_checking.proofs.FaultPremises.{AreEnumeratorsTimely, IsValueTimely, IsDeclaratorTimely, IsLengthTimely, IsListTimely, AreParametersTimely}
+use Rattle.c_checking.proofs.FaultPremises.{AreKnown}
 use Rattle.c_checking_order.proofs.Ahead.{Ahead, Standing, standing_left, standing_right, known, earlier, back, ahead_same, added_both}
 
 -- ---- declarators that have names
@@ -113,6 +114,15 @@ module _ (untagged : ℕ → List ℕ) (types : List (List ℕ)) (ends : List �
   enumeration_adds_nothing false None right = refl
   enumeration_adds_nothing false (Some x) right = refl
 
+  -- the tag of a definition
+  abbrev own_tag : ℕ → Option Spelling → Tag
+  own_tag at x = record {
+    name = Marks.tag_name untagged at x;
+    place = Marks.tag_place untagged at x;
+    from = Marks.tag_place untagged at x;
+    is_enumeration = false;
+  }
+
   -- the brace at which a definition ends
   closes : (tag : List ℕ) (right : ℕ) (rest : List Lexeme) → Along (an_end tag right ∷ []) (punctuator M.CloseBrace right ∷ rest) rest
   closes tag right rest = Walks.ends refl none
@@ -131,14 +141,16 @@ module _ (untagged : ℕ → List ℕ) (types : List (List ℕ)) (ends : List �
     timely i n (Trees.number x v kind) w f rest o st h = tt
     timely i n (Trees.character x v) w f rest o st h = tt
     timely i n (Trees.texts all) w f rest o st h = tt
-    timely i n (Trees.paren left a right) w f rest o st h = timely i n a w _ _ o.2 st (ahead_of (n + added i (marks untagged a)) (punctuator M.Close right) rest h)
+    timely i n (Trees.paren left a right) w f rest o st h =
+        timely i n a w _ _ o.2 st (ahead_of (n + added i (marks untagged a)) (punctuator M.Close right) rest h)
     timely i n (Trees.index a left b right) w f rest o st h =
         let u = marks untagged a in
         let v = marks untagged b in
         let close = punctuator M.CloseSquare right in
         let hb = ahead_of (n + added i u + added i v) close rest (halves i n u v rest h) in
         let sb = standing_right ends i n u v st in
-        let ha = ahead_of (n + added i u) (punctuator M.OpenSquare left) (spelled b (close ∷ rest)) (back_expression i (n + added i u) (close ∷ rest) b w.2 sb hb) in
+        let ha = ahead_of (n + added i u) (punctuator M.OpenSquare left) (spelled b (close ∷ rest))
+        (back_expression i (n + added i u) (close ∷ rest) b w.2 sb hb) in
         let c = behind_part f (along untagged types a w.1) o in
         (timely i n a w.1 f _ o (standing_left ends i n u v st) ha, timely i (n + added i u) b w.2 _ (close ∷ rest) c.1.2 sb hb)
     timely i n (Trees.call g left all right) w f rest o st h =
@@ -148,7 +160,7 @@ module _ (untagged : ℕ → List ℕ) (types : List (List ℕ)) (ends : List �
         let hb = ahead_of (n + added i u + added i v) close rest (halves i n u v rest h) in
         let sb = standing_right ends i n u v st in
         let ha = ahead_of (n + added i u) (punctuator M.Open left) (spelled_arguments all (close ∷ rest))
-            (back_arguments i (n + added i u) (close ∷ rest) true all w.2 sb hb) in
+        (back_arguments i (n + added i u) (close ∷ rest) true all w.2 sb hb) in
         let c = behind_part f (along untagged types g w.1) o in
         (timely i n g w.1 f _ o (standing_left ends i n u v st) ha, timely_all i (n + added i u) true all w.2 _ (close ∷ rest) c.1.2 sb hb)
     timely i n (Trees.dot a at x) w f rest o st h =
@@ -163,7 +175,8 @@ module _ (untagged : ℕ → List ℕ) (types : List (List ℕ)) (ends : List �
         let hw = earlier ends m (along untagged types a w.1 {rest = tokens}) ha in
         let ow = subst (λ at. AreOrdered at (spelled a tokens)) (law.of_expression types a w.1 tokens) (from_first f (spelled a tokens) o) in
         (timely i n a w.1 f tokens o st ha, known ends m (first a) (spelled a tokens) hw ow)
-    timely i n (Trees.post a op at) w f rest o st h = timely i n a w.1 f _ o st (ahead_of (n + added i (marks untagged a)) (punctuator (step_punctuator op) at) rest h)
+    timely i n (Trees.post a op at) w f rest o st h =
+        timely i n a w.1 f _ o st (ahead_of (n + added i (marks untagged a)) (punctuator (step_punctuator op) at) rest h)
     timely i n (Trees.pre op at a) w f rest o st h = timely i n a w.1 _ rest o.2 st h
     timely i n (Trees.unary op at a) w f rest o st h = timely i n a w.1 _ rest o.2 st h
     timely i n (Trees.sizeof_expression at a) w f rest o st h =
@@ -198,9 +211,9 @@ module _ (untagged : ℕ → List ℕ) (types : List (List ℕ)) (ends : List �
         let k = marks untagged d in
         let m = n + added i u + added i v in
         let hd = ahead_same ends (n + added i (u ++ v) + added i k) (m + added i k) rest (let e = added_both i u v in omega (arith, e))
-            (halves i n (u ++ v) k rest h) in
+        (halves i n (u ++ v) k rest h) in
         let sd = subst (λ m. Standing ends i m k) (let e = added_both i u v in let q : n + added i (u ++ v) ≡ m = omega (arith, e) in q)
-            (standing_right ends i n (u ++ v) k st) in
+        (standing_right ends i n (u ++ v) k st) in
         let two = standing_left ends i n (u ++ v) k st in
         let third : List Lexeme = punctuator M.Colon colon ∷ spelled d rest in
         let hb : Ahead ends m third = ahead_of m (punctuator M.Colon colon) (spelled d rest) (back_expression i m rest d w.4 sd hd) in
@@ -241,7 +254,8 @@ module _ (untagged : ℕ → List ℕ) (types : List (List ℕ)) (ends : List �
         let c = behind_part _ (along untagged types a w.2) d.1 in
         (timely i n a w.2 _ _ d.1 (standing_left ends i n u v st) ha, timely_all i (n + added i u) false more w.3 _ rest c.1 sb hb)
 
-    pub timely_type : (i : Bool) (n : ℕ) (m : Trees.TypeName) → IsTypeName types m → (from : ℕ) (rest : List Lexeme) → AreOrdered from (spelled_type_name m rest)
+    pub timely_type : (i : Bool) (n : ℕ) (m : Trees.TypeName) → IsTypeName types m → (from : ℕ) (rest : List Lexeme)
+        → AreOrdered from (spelled_type_name m rest)
         → Standing ends i n (marks_of_type untagged m) → Ahead ends (n + added i (marks_of_type untagged m)) rest → IsTypeTimely untagged ends i n m
     timely_type i n (Trees.type_name specs d) w f rest o st h =
         let u = marks_of_specifiers untagged specs in
@@ -281,10 +295,10 @@ module _ (untagged : ℕ → List ℕ) (types : List (List ℕ)) (ends : List �
     timely_specifier i n (Trees.struct_named at x) w f rest o st h = tt
     timely_specifier i n (Trees.struct_body at x left all right) w f rest o st h =
         let u = marks_of_members untagged all in
-        let t : Tag = record { name = Marks.tag_name untagged at x; place = Marks.tag_place untagged at x; from = Marks.tag_place untagged at x; is_enumeration = false } in
+        let t = own_tag at x in
         let own : List Mark = an_end (Marks.tag_name untagged at x) right ∷ [] in
         let hk = ahead_same ends (n + added i (a_tag t ∷ (u ++ own))) (n + added i u + added i own) rest
-            (let e = tag_adds_nothing i t (u ++ own) in let g = added_both i u own in omega (arith, e, g)) h in
+        (let e = tag_adds_nothing i t (u ++ own) in let g = added_both i u own in omega (arith, e, g)) h in
         let sk = standing_right ends i n u own st in
         let ha = back ends i (n + added i u) (closes (Marks.tag_name untagged at x) right rest) sk hk in
         let c = behind_part _ (tag_along x) o.2 in
@@ -294,7 +308,7 @@ module _ (untagged : ℕ → List ℕ) (types : List (List ℕ)) (ends : List �
         let u = marks_of_enumerators untagged all right in
         let v = an_enumeration untagged x right in
         let hk = ahead_same ends (n + added i u + added i v) (n + added i u) rest (let e = enumeration_adds_nothing i x right in omega (arith, e))
-            (halves i n u v rest h) in
+        (halves i n u v rest h) in
         let c = behind_part _ (tag_along x) o.2 in
         timely_enumerators i n true all w.1 M.CloseBrace right refl _ rest c.1.2 (standing_left ends i n u v st) hk
     timely_specifier i n (Trees.enum_body at x left all (Some comma) right) w f rest o st h =
@@ -302,7 +316,7 @@ module _ (untagged : ℕ → List ℕ) (types : List (List ℕ)) (ends : List �
         let v = an_enumeration untagged x right in
         let close = punctuator M.CloseBrace right in
         let hk = ahead_same ends (n + added i u + added i v) (n + added i u) rest (let e = enumeration_adds_nothing i x right in omega (arith, e))
-            (halves i n u v rest h) in
+        (halves i n u v rest h) in
         let c = behind_part _ (tag_along x) o.2 in
         timely_enumerators i n true all w.1 M.Comma comma refl _ (close ∷ rest) c.1.2 (standing_left ends i n u v st) (ahead_of (n + added i u) close rest hk)
 
@@ -317,9 +331,9 @@ module _ (untagged : ℕ → List ℕ) (types : List (List ℕ)) (ends : List �
         let m = n + added i u + added i v in
         let semi = punctuator M.Semicolon semicolon in
         let hd = ahead_same ends (n + added i (u ++ v) + added i k) (m + added i k) rest (let e = added_both i u v in omega (arith, e))
-            (halves i n (u ++ v) k rest h) in
+        (halves i n (u ++ v) k rest h) in
         let sd = subst (λ m. Standing ends i m k) (let e = added_both i u v in let q : n + added i (u ++ v) ≡ m = omega (arith, e) in q)
-            (standing_right ends i n (u ++ v) k st) in
+        (standing_right ends i n (u ++ v) k st) in
         let two = standing_left ends i n (u ++ v) k st in
         let hb = ahead_of m semi (spelled_member_declarations more rest) (back_members i m rest more w.3 sd hd) in
         let sb = standing_right ends i n u v two in
@@ -369,7 +383,7 @@ module _ (untagged : ℕ → List ℕ) (types : List (List ℕ)) (ends : List �
         let p = behind_part f (comma_along comma) o in
         let c = behind_part _ (value_along untagged types value w.2) p.1.2 in
         let hk = ahead_same ends (n + added i u + added i v) (n + added i u + added i k) rest
-            (let e = name_adds_nothing i (comma_or more at) k in omega (arith, e)) hb in (
+        (let e = name_adds_nothing i (comma_or more at) k in omega (arith, e)) hb in (
           timely_value i n value w.2 _ _ p.1.2 (standing_left ends i n u v st) ha,
           timely_enumerators i (n + added i u) false more w.3 m at long _ rest c.1 sb hk,
         )
@@ -407,7 +421,7 @@ module _ (untagged : ℕ → List ℕ) (types : List (List ℕ)) (ends : List �
         let close = punctuator M.Close right in
         let hl = ahead_of m close rest h in
         let ha = ahead_of m (punctuator M.Open left) (spelled_parameter_list all (close ∷ rest))
-            (earlier ends m (parameter_list_along untagged types all w.2 {rest = close ∷ rest}) hl) in
+        (earlier ends m (parameter_list_along untagged types all w.2 {rest = close ∷ rest}) hl) in
         let c = behind_part f (declarator_along untagged types d w.1) o in
         (timely_declarator i n d w.1 f _ o st ha, timely_list m all w.2 _ (close ∷ rest) c.1.2 hl)
 
