@@ -9,11 +9,11 @@ ghost use Rattle.c_erasure.specs.Erasure.{typed};
 ghost use Rattle.c_annotated.specs.Views.{expression_of};
 
 use crate::expression::{Expression, ExpressionNode};
-use c_typed::Constant;
 use c_typed::constants::{
     binary_constant, chosen, compared_constants, converted_constant, decided_by, is_void_pointer,
     is_zero, kind_of, negated, unary_constant,
 };
+use c_typed::{Constant, is_integer};
 
 /// What an expression is as an integer constant expression (C99 6.6).
 pub fn constant_of(e: &Expression) -> Constant
@@ -21,7 +21,14 @@ pub fn constant_of(e: &Expression) -> Constant
 {
     match &e.node {
         ExpressionNode::Constant(v) => Constant::Valued(*v),
-        ExpressionNode::Convert(x, _) => converted_constant(Some(&e.ty), constant_of(x.get())),
+        ExpressionNode::Convert(x, _) => {
+            // Of a conversion to any other type the operand is not asked, so that nested ones take linear time.
+            if is_integer(&e.ty) {
+                converted_constant(Some(&e.ty), constant_of(x.get()))
+            } else {
+                Constant::None
+            }
+        }
         ExpressionNode::Unary(op, x) => unary_constant(*op, constant_of(x.get())),
         ExpressionNode::Binary(op, x, y) => {
             let left = constant_of(x.get());

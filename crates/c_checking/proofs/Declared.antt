@@ -1,6 +1,6 @@
 -- What else a file declares: mentions, literals, constants, tags, structures and enumerators.
-use Rattle.std.proofs.Common.{add-one, ◌≡◌, ◌≢◌, ℕ, zero, suc, ◌+◌, ◌≤◌, ◌<◌, Bool, true, false, refl, sym, ap, ◌∙◌, subst, cond, List, [], ◌∷◌, ◌++◌, length}
-use Rattle.std.proofs.Common.{take, drop, length-append, arith, inl, inr}
+use Rattle.std.proofs.Common.{add-one, ◌≡◌, ◌≢◌, ℕ, zero, suc, ◌+◌, ◌≤◌, ◌<◌, Bool, true, false, refl, sym, ap, ◌∙◌, subst, cond, List, [], ◌∷◌, ◌++◌}
+use Rattle.std.proofs.Common.{length, take, drop, length-append, arith, inl, inr}
 use Rattle.std.proofs.lemmas.Bool.{and_from, lt-ltb, ltb-true, eqb-true, eq-eqb}
 use Rattle.std.proofs.lemmas.List.Elements.{All-cons, All-nil}
 use Rattle.std.proofs.lemmas.Slice.Eq.{bytes_eq-Decides}
@@ -23,13 +23,13 @@ use Rattle.c_erasure.specs.Erasure.{typed, IsTypedThing, IsConstant, IsInt, IsNe
 use Rattle.c_erasure.specs.Erasure.{place_in}
 use Rattle.c_erasure.specs.Marks.{Mark, scope_beginnings}
 use Rattle.c_erasure.specs.Noted.{Expression, Thing, an_object, type_of, way}
-use Rattle.c_erasure.specs.Scopes.{Bound, AnObject, AMention, ALocal, FileScope, Scope, Tag, Entity, typedef, IsMentioned, IsNumbered, is_measured, tag_at}
-use Rattle.c_erasure.specs.Scopes.{here, ended}
+use Rattle.c_erasure.specs.Scopes.{Bound, AnObject, AMention, ALocal, FileScope, Scope, Tag, Entity, typedef, IsMentioned, IsNumbered, is_measured}
+use Rattle.c_erasure.specs.Scopes.{tag_at, here, ended}
 use Rattle.c_erasure.specs.Scopes.{Purpose, in_full, value_alone, type_alone, for_value}
 use Rattle.c_erasure.specs.Specifiers.{Storage, no_storage, is_register, a_typedef, is_extern, is_static, is_auto, several}
 use Rattle.c_checking.specs.Answers.{Answer, moved}
-use Rattle.c_checking.specs.Declaring.{with_mention, with_object, literal_for, literal_in, constant_of_type, constant_in, number_among, next, structure_of}
-use Rattle.c_checking.specs.Declaring.{tagged, tagged_in}
+use Rattle.c_checking.specs.Declaring.{with_mention, with_object, literal_for, literal_in, constant_of_type, constant_in, number_among, next}
+use Rattle.c_checking.specs.Declaring.{structure_of, tagged, tagged_in}
 use Rattle.c_checking.specs.Declaring.{enumerated, enumerated_in, type_named, standing, repeated_or, repeated, unless, is_next, with_record, completed_in}
 use Rattle.c_checking.specs.Declaring.{with_bound, new_name, enumerator_in, declared_among, is_int, int_value, next_value, only_tag, enumeration_of}
 use Rattle.c_checking.specs.Declaring.{tag_named, length_of_number, length_value}
@@ -40,7 +40,7 @@ use Rattle.c_checking.proofs.Agreement.{IsFit, fits_stay, IsObjectType, IsSteady
 use Rattle.c_checking.proofs.Values.{IsValue, Stands, unconverted_same}
 use Rattle.c_checking.proofs.NodesOfParts.{same_bytes}
 
-added_nothing : (b : Bool) → added b [] ≡ 0
+pub added_nothing : (b : Bool) → added b [] ≡ 0
 added_nothing true = refl
 added_nothing false = refl
 

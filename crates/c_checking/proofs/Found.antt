@@ -34,7 +34,8 @@ use Rattle.c_checking.proofs.Extends.{Extends, itself, further, record_stays, na
 use Rattle.c_checking.proofs.Agreement.{fit_stay, named_fits, Ready, Grew, then}
 use Rattle.c_checking.proofs.Values.{IsValue, Stands, worth_made}
 use Rattle.c_checking.proofs.NodesOfOne.{named_made, constant_made, unary_made, not_made, deref_made, address_made, step_made, cast_made}
-use Rattle.c_checking.proofs.NodesOfTwo.{element_made, index_made, binary_made, comma_made, target_made, IsTarget, target_type, assigned_made, copied_made, updated_made}
+use Rattle.c_checking.proofs.NodesOfTwo.{element_made, index_made, binary_made, comma_made, target_made, IsTarget, target_type, assigned_made}
+use Rattle.c_checking.proofs.NodesOfTwo.{copied_made, updated_made}
 use Rattle.c_checking.proofs.NodesOfTwo.{tested_is, chosen_made}
 use Rattle.c_checking.proofs.NodesOfParts.{dot_made, arrow_made, typed_all, signature_is, argument_made, call_made, IsSized, sized_is, measured_is, size_made}
 use Rattle.c_checking.proofs.Declared.{mentioned, is_mentioned, before_mention, nothing_grown, literal_made, constant_is}
@@ -89,7 +90,8 @@ module _ (untagged : ℕ → List ℕ) where
       }
 
   pub constant_found : (a : Trees.Expression) (s : Scope) (at : ℕ) (r : Checked Expression)
-      → ((x : Expression × FileScope) → r ≡ Ok x → FoundValue (for_value s) a x) → (z : (IntKind × ℕ) × FileScope) → constant_at at r ≡ Ok z → FoundConstant s a z
+      → ((x : Expression × FileScope) → r ≡ Ok x → FoundValue (for_value s) a x) → (z : (IntKind × ℕ) × FileScope) → constant_at at r ≡ Ok z
+      → FoundConstant s a z
   constant_found a s at r sound z h =
       let x = bound_ok r _ z h in
       let w = with_file_ok x.0.1 (constant_in at x.0.0) z x.2 in
@@ -125,7 +127,8 @@ module _ (untagged : ℕ → List ℕ) where
   number_found s x n kind i z h =
       concluded s (Trees.number x n kind) s.file (nothing_grown s.file s.is_inside)
       (λ ends file. Ok (a_value (Typed.expression (record { ty = integer kind; note = nothing }) (record { file = file; at = x.from }) (Typed.constant n)))) z h
-      (λ g p h. given (Stands (Erases (Trees.number x n kind) (moved s g)) (moved s g)) _ z.0 h (constant_made (moved s g) (place_in (moved s g) x.from) kind n i))
+      (λ g p h. given (Stands (Erases (Trees.number x n kind) (moved s g)) (moved s g)) _ z.0 h
+      (constant_made (moved s g) (place_in (moved s g) x.from) kind n i))
 
   pub character_found : (s : Scope) (x : Spelling) (n : ℕ) → as_kind Int n ≡ n → (z : Thing × FileScope)
       → ok (a_value (Typed.expression (record { ty = integer Int; note = nothing }) (place_in s x.from) (Typed.constant n)), s.file) ≡ Ok z
@@ -337,7 +340,8 @@ module _ (untagged : ℕ → List ℕ) where
       → Found s (Trees.comma a at b) z
   comma_found s a at b x v y w z h =
       concluded s (Trees.comma a at b) y.1 (then v.grew w.grew) (λ ends file. comma_in (record { file = file; at = first a }) x.0 y.0) z h
-      (λ g q h. comma_made (Erases a (moved s g)) (Erases b (moved s g)) (moved s g) (first a) x.0 y.0 (v.holds g (further w.grew.extends q)) (w.holds g q) z.0 h)
+      (λ g q h. comma_made (Erases a (moved s g)) (Erases b (moved s g)) (moved s g) (first a) x.0 y.0
+      (v.holds g (further w.grew.extends q)) (w.holds g q) z.0 h)
 
   -- the first operand of `?:`, which is tested
   pub tested_found : (s : Scope) (a : Trees.Expression) (question : ℕ) (r : Checked Expression) → ((x : Expression × FileScope) → r ≡ Ok x → FoundValue s a x)

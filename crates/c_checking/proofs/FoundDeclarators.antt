@@ -21,10 +21,10 @@ use Rattle.c_checking.specs.Finding.{complete}
 use Rattle.c_checking.proofs.Results.{bound_ok, bound_with, ok, given}
 use Rattle.c_checking.proofs.Extends.{Extends, further, constants_stay}
 use Rattle.c_checking.proofs.Agreement.{IsFit, BlocksAreFit, one_more_fits, blocks_stay, Ready, Grew, then}
-use Rattle.c_checking.proofs.Declared.{mentioned, is_mentioned, before_mention, nothing_grown, length_is, new_is, scalar_is}
+use Rattle.c_checking.proofs.Declared.{added_nothing, mentioned, is_mentioned, before_mention, nothing_grown, length_is, new_is, scalar_is}
 use Rattle.c_checking.proofs.Derived.{pointer_derived, array_derived, open_derived, function_derived, none_derived}
 use Rattle.c_checking.proofs.Found.{FoundConstant}
-use Rattle.c_checking.proofs.FoundTypes.{added_none, and_nothing, as_marks, added_inside, FoundBase, FoundSteps, FoundParameters, FoundList}
+use Rattle.c_checking.proofs.FoundTypes.{and_nothing, as_marks, added_inside, FoundBase, FoundSteps, FoundParameters, FoundList}
 
 -- ---- parameters have scopes of their own
 
@@ -51,7 +51,7 @@ parameter_grown : (s : Scope) (x : Option Spelling) (t : CType) (f : FileScope) 
 parameter_grown s None t f p = p
 parameter_grown s (Some x) t f p = record {
   extends = p.extends;
-  counted = omega (arith, p.counted, added_none s.is_inside);
+  counted = omega (arith, p.counted, added_nothing s.is_inside);
   names = p.names;
   steady = p.steady;
   begun = λ before h m. p.begun before h (λ i k from e. cc);
@@ -199,7 +199,7 @@ module _ (untagged : ℕ → List ℕ) where
         is_scalar = subst (λ t. is_scalar t ≡ true) c.0 c.1;
         is_new = new;
         grown = and_nothing (added_inside i (marks_of_declarator untagged d)) (λ j. cc)
-            (as_marks {u = marks_of_specifiers untagged specs} {v = []} i (added_inside i _ ∙ sym (added_none s.is_inside)) v.grew) w.grew;
+            (as_marks {u = marks_of_specifiers untagged specs} {v = []} i (added_inside i _ ∙ sym (added_nothing s.is_inside)) v.grew) w.grew;
         holds = λ g p.
             (v.holds g (further w.grew.extends p), w.holds g p steps.1.records p.records.0 p.records.1 b.0 shape k);
       }
@@ -212,7 +212,7 @@ module _ (untagged : ℕ → List ℕ) where
       let at = first_declarator d (first_specifiers specs) in
       let u = parameter_grown (moved s (with_mention s n Named t at f)) (declared_name d) t rest.1 w.grew in
       given (FoundParameters untagged s (Trees.and_parameter comma specs d more)) _ z h (record {
-        grew = and_nothing (added_none s.is_inside) (λ j. refl) (mentioned s n Named t at v.grown) u;
+        grew = and_nothing (added_nothing s.is_inside) (λ j. refl) (mentioned s n Named t at v.grown) u;
         holds = λ g p.
             let q = further u.extends p in
             let y = v.holds g (before_mention s f g n Named t at q) in

@@ -1,6 +1,7 @@
 -- What is found for type names, specifiers and declarators, in each file that goes on from the one that finding leaves.
 use Rattle.std.proofs.Common.{◌≡◌, ℕ, zero, suc, ◌+◌, ◌<◌, Bool, true, false, refl, sym, ap, ◌∙◌, subst, List, [], ◌∷◌, ◌++◌, length, length-append, inl, inr}
 use Rattle.std.proofs.Common.{arith}
+use Rattle.std.proofs.lemmas.List.{map-append}
 use Rattle.std.specs.Prelude.{◌⊎◌, ◌^◌, ◌%◌, map, Option, Some, None, Ok, slice_get}
 use Rattle.c_types.specs.declared.ty.IntKind.{IntKind}
 use Rattle.c_types.specs.Types.{CType, CTypes, Field, Record}
@@ -26,17 +27,13 @@ use Rattle.c_checking.specs.Finding.{complete, base_type, type_of_derived, with_
 use Rattle.c_checking.proofs.Results.{bound_ok, ok, given, with_file_ok}
 use Rattle.c_checking.proofs.Extends.{Extends, itself, further, at_end, one_of_both, last_or, bound_stays, record_stays, named_stays, constants_stay}
 use Rattle.c_checking.proofs.Agreement.{IsObjectType, IsSteady, AreBefore, fits_stay, added, IsReady, Ready, IsGrown, Grew, none_grown, then, left, right}
-use Rattle.c_checking.proofs.Declared.{mentioned, is_mentioned, before_mention, nothing_grown, int_is, next_is, tagged_is, enumerated_is, type_named_is}
+use Rattle.c_checking.proofs.Declared.{added_nothing, mentioned, is_mentioned, before_mention, nothing_grown, int_is, next_is, tagged_is, enumerated_is, type_named_is}
 use Rattle.c_checking.proofs.Declared.{record_grown, completed_is, enumerator_is, bound_grown, enumeration_is}
 use Rattle.c_checking.proofs.Derived.{type_derived, object_is, IsBaseOf, base_is}
 use Rattle.c_checking.proofs.Derived.{words_mark_nothing}
 use Rattle.c_checking.proofs.Found.{FoundType, FoundConstant}
 
 -- ---- what adds no structures
-
-pub added_none : (b : Bool) → added b [] ≡ 0
-added_none true = refl
-added_none false = refl
 
 -- a part behind that defines nothing
 pub and_nothing : {f g h : FileScope} {b c : Bool} {u v : List Mark} → added c v ≡ 0 → (c ≡ false → Marks.scope_beginnings v ≡ [])
@@ -130,7 +127,7 @@ module _ (untagged : ℕ → List ℕ) where
   base_found s specs at one sound z h = by_way (base_is specs at s.file one z h)
     where
       nothing : (b : Bool) → marks_of_specifiers untagged specs ≡ [] → added b (marks_of_specifiers untagged specs) ≡ 0
-      nothing b e = rw e (added_none b)
+      nothing b e = rw e (added_nothing b)
 
       by_way : IsBaseOf specs s.file one z → FoundBase s specs z
       by_way (inl w) = record {
@@ -145,7 +142,7 @@ module _ (untagged : ℕ → List ℕ) where
       → ((g : FileScope) → Specifies (moved s g) x z.0 × (types_among more ≡ []) → IsOne (moved s g) (Trees.and_specifier x more) z.0)
       → FoundOne s (Trees.and_specifier x more) z
   one_found s x more z v e is = record {
-    grew = then v.grew (none_grown z.1 s.is_inside (marks_of_specifiers untagged more) (rw (words_mark_nothing untagged more e) (added_none s.is_inside)));
+    grew = then v.grew (none_grown z.1 s.is_inside (marks_of_specifiers untagged more) (rw (words_mark_nothing untagged more e) (added_nothing s.is_inside)));
     holds = λ g p. is g (v.holds g p, e);
   }
 
@@ -382,10 +379,6 @@ module _ (untagged : ℕ → List ℕ) where
 
   -- ---- members (6.7.2.1)
 
-  map_append : {X Y : Type 0} (f : X → Y) (u v : List X) → map f (u ++ v) ≡ map f u ++ map f v
-  map_append f [] v = refl
-  map_append f (x ∷ u) v = ap (λ z. f x ∷ z) (map_append f u v)
-
   pub no_members_found : (s : Scope) (z : List Field × FileScope) → ok ([], s.file) ≡ Ok z → FoundFields s Trees.no_member_declarations z
   no_members_found s z h =
       given (FoundFields s Trees.no_member_declarations) ([], s.file) z h
@@ -399,8 +392,8 @@ module _ (untagged : ℕ → List ℕ) where
   members_found s specs ds semicolon more storage b v own w rest u z h =
       given (FoundFields s (Trees.and_member_declaration specs ds semicolon more)) (own.0 ++ rest.0, rest.1) z h (record {
         grew = then (then v.grew w.grew) u.grew;
-        names = map_append (λ f. f.name) own.0 rest.0 ∙ ap (λ z. z ++ map (λ f. f.name) rest.0) w.names
-            ∙ ap (λ z. map (λ x. x.text) (names_of_members ds) ++ z) u.names ∙ sym (map_append (λ x. x.text) (names_of_members ds) (member_names more));
+        names = map-append (λ f. f.name) own.0 rest.0 ∙ ap (λ z. z ++ map (λ f. f.name) rest.0) w.names
+            ∙ ap (λ z. map (λ x. x.text) (names_of_members ds) ++ z) u.names ∙ sym (map-append (λ x. x.text) (names_of_members ds) (member_names more));
         holds = λ g p.
             let q = further u.grew.extends p in
             (b.0, own.0, rest.0, refl, storage, v.holds g (further w.grew.extends q), w.holds g q, u.holds g p);

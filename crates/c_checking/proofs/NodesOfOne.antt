@@ -66,7 +66,8 @@ promotes (array t n) h = cc
 promotes (function t all) h = cc
 promotes (structure r) h = cc
 
-pub promoted_bare : (Is : Thing → Type 0) (s : Scope) (x : Expression) → IsOperand Is s (promoted (type_of x)) x (promoted_value x) → is_integer (type_of x) ≡ true
+pub promoted_bare : (Is : Thing → Type 0) (s : Scope) (x : Expression) → IsOperand Is s (promoted (type_of x)) x (promoted_value x)
+    → is_integer (type_of x) ≡ true
     → promoting (bare_ty (typed (promoted_value x))) ≡ Some (ty (typed (promoted_value x)))
 promoted_bare Is s x o i = ap promoting o.bare_type_is ∙ promotes (type_of x) i ∙ ap Some (sym o.type_is)
 
@@ -87,8 +88,11 @@ unfolding unary_in
 unary_made Is s at op x v th h =
     let b = only_if (is_integer (type_of x)) _ _ _ th h in
     let o = operand Is s (promoted (type_of x)) x v in
-    given (Stands (IsUnary Is at op) s) _ th b.1
-    ((promoted (type_of x), promoted_value x, refl, o.values), (o.is_typed, ap promoting o.bare_type_is ∙ promotes (type_of x) b.0, o.type_is), (refl, λ count p. refl))
+    given (Stands (IsUnary Is at op) s) _ th b.1 (
+      (promoted (type_of x), promoted_value x, refl, o.values),
+      (o.is_typed, ap promoting o.bare_type_is ∙ promotes (type_of x) b.0, o.type_is),
+      (refl, λ count p. refl),
+    )
 
 abbrev IsNot : (Thing → Type 0) → Place → Thing → Type 0
 IsNot Is at th = (t : CType) × (x : Expression) × (th ≡ a_value (value t at (Typed.not x))) × Values Is x
@@ -137,7 +141,8 @@ deref_made Is s at x v th h = by_type (type_of x) refl h
 abbrev IsAddressOf : (Thing → Type 0) → Place → Thing → Type 0
 IsAddressOf Is at th = (operand : Thing) × IsAddress at operand th × Is operand
 
-pub address_made : (Is : Thing → Type 0) (s : Scope) (from : ℕ) (at : Place) (operand : Thing) → Stands Is s operand → (th : Thing) → address_in from at operand ≡ Ok th
+pub address_made : (Is : Thing → Type 0) (s : Scope) (from : ℕ) (at : Place) (operand : Thing) → Stands Is s operand → (th : Thing)
+    → address_in from at operand ≡ Ok th
     → Stands (IsAddressOf Is at) s th
 unfolding address_in
 address_made Is s from at (an_object p) v th h =

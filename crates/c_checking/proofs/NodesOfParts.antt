@@ -20,11 +20,13 @@ use Rattle.c_typed.specs.Typed.{field_type, type_in, IsTyped, IsTypedPath, IsCon
 use Rattle.c_typed.specs.declared.program.MentionKind.TheVariants.{Sizeof}
 use Rattle.c_erasure.specs.Broken.{called_type, pointed_type}
 use Rattle.c_erasure.specs.Erasure.{typed, Values, place_in, IsField, IsCall, IsSize, IsOfType}
-use Rattle.c_erasure.specs.Noted.{Noted, Expression, Path, Node, Thing, an_object, a_value, a_function, a_function_at, a_library_function, value, way, type_of, type_of_path, value_of}
+use Rattle.c_erasure.specs.Noted.{Noted, Expression, Path, Node, Thing, an_object, a_value, a_function, a_function_at, a_library_function, value, way}
+use Rattle.c_erasure.specs.Noted.{type_of, type_of_path, value_of}
 use Rattle.c_erasure.specs.Noted.{object_value, size_of as sized}
 use Rattle.c_erasure.specs.Scopes.{Scope, declared, IsMentioned}
 use Rattle.c_checking.specs.Nodes.{null, field_from, field_in, member_to, member_of_type, dot_in, arrow_to, arrow_in}
-use Rattle.c_checking.specs.Nodes.{signature_of, signature_in, argument_in, call_through, call_in, size_node, is_complete, sized_type, measured_type, measured_in}
+use Rattle.c_checking.specs.Nodes.{signature_of, signature_in, argument_in, call_through, call_in, size_node, is_complete, sized_type, measured_type}
+use Rattle.c_checking.specs.Nodes.{measured_in}
 use Rattle.c_checking.specs.Finding.{complete}
 use Rattle.c_checking.proofs.Results.{given, only_if, chosen}
 use Rattle.c_checking.proofs.Values.{typed_path, type_same, path_type_same, IsValue, Stands, operand, found_worth}
@@ -257,7 +259,12 @@ pub size_made : (s : Scope) (records more : List Record) → s.file.records ≡ 
 size_made s records more e at by t z m =
     let n : size_of s.file.records t ≡ size_of records t = ap (λ all. size_of all t) e ∙ (layouts_stay records more).sizes t z.is_known in
     let l : size_of records t % 2 ^ 32 ≡ size_of records t = omega (arith, z.is_limited) in (
-      (z.is_complete, m, ap (λ n. a_value (Typed.expression (record { ty = integer UInt; note = sized t at }) (place_in s at) (Typed.constant n))) (sym n)),
+      (
+        z.is_complete,
+        m,
+        ap (λ n. a_value (Typed.expression (record { ty = integer UInt; note = sized t at }) (place_in s at) (Typed.constant n))) (sym n),
+        rw n z.is_limited,
+      ),
       (UInt, refl, l),
       (refl, λ count p. cc),
     )

@@ -18,12 +18,14 @@ use Rattle.c_typed.specs.Fits.{assigns}
 use Rattle.c_typed.specs.Rules.{points_to_object, on_numbers, comparing, choosing, moving, differing, updating}
 use Rattle.c_typed.specs.Typed.{IsMoved, IsMove, IsTested}
 use Rattle.c_erasure.specs.Erasure.{typed, Values, place_in, IsSum, IsJoined}
-use Rattle.c_erasure.specs.Noted.{Expression, Path, Node, Thing, an_object, a_value, a_function, a_function_at, a_library_function, value, way, type_of, type_of_path}
+use Rattle.c_erasure.specs.Noted.{Expression, Path, Node, Thing, an_object, a_value, a_function, a_function_at, a_library_function, value, way}
+use Rattle.c_erasure.specs.Noted.{type_of, type_of_path}
 use Rattle.c_erasure.specs.Operators.{Kind, computes, compares, all_of, any_of}
 use Rattle.c_erasure.specs.Scopes.{Scope}
 use Rattle.c_checking.specs.Nodes.{null, converted, promoted_value, array_of, array_of_type, element_in, index_in, index_to, turned_to}
 use Rattle.c_checking.specs.Nodes.{number_node, forward_node, backward_node, on_pointers, computed_in, compared_in, tested_in, binary_in}
-use Rattle.c_checking.specs.Nodes.{tested, chosen_in, Target, scalar_at, record_at, path_of, target_of_type, target_in, assigned_in, copied_in, updated_in, comma_in}
+use Rattle.c_checking.specs.Nodes.{tested, chosen_in, Target, scalar_at, record_at, path_of, target_of_type, target_in, assigned_in, copied_in}
+use Rattle.c_checking.specs.Nodes.{updated_in, comma_in}
 use Rattle.c_checking.specs.Finding.{complete}
 use Rattle.c_checking.proofs.Results.{ok, given, only_if, chosen, by_option}
 use Rattle.c_checking.proofs.Values.{type_same, path_type_same, IsValue, IsNoArray, Stands, operand}
@@ -89,7 +91,15 @@ module _ (Is Js : Thing → Type 0) (s : Scope) (at : ℕ) where
           let o = operand Js s (promoted (type_of y)) y w in
           given (Stands IsIndexed s) _ th h (
             inr (inl (t, x, promoted_value y, refl, v.0, o.values)),
-            (v.1, o.is_typed, v.2, n (complete s at) b, promoted_bare Js s y o c, ap pointed (type_same x ∙ e), ap (points_to_object (complete s at)) (sym e) ∙ b),
+            (
+              v.1,
+              o.is_typed,
+              v.2,
+              n (complete s at) b,
+              promoted_bare Js s y o c,
+              ap pointed (type_same x ∙ e),
+              ap (points_to_object (complete s at)) (sym e) ∙ b,
+            ),
             tt,
           )
 

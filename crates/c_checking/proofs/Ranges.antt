@@ -23,7 +23,8 @@ use Rattle.c_typed.specs.Trees as Trees
 use Rattle.c_typed.specs.Trees.{Expression, expression, Node}
 use Rattle.c_typed.specs.Arithmetic.{divided, remaining, binary_value}
 use Rattle.c_typed.specs.Conversions.{as_kind, number_of, is_signed}
-use Rattle.c_typed.specs.Constants.{Constant, none, undefined, valued, of_value, converted_constant, unary_constant, with_both, decided_by, chosen, negated, constant_of, constant_in}
+use Rattle.c_typed.specs.Constants.{Constant, none, undefined, valued, of_value, converted_constant, unary_constant, with_both, decided_by, chosen}
+use Rattle.c_typed.specs.Constants.{negated, constant_of, constant_in}
 use Rattle.c_typed.specs.Typed.{Declared, IsTyped, IsTypedNode}
 
 abbrev IsBelow : ℕ → Type 0
@@ -75,7 +76,8 @@ quotient_below : (b : Bool) (z : ℤ) (v : ℕ) → (b ≡ true → is_int z ≡
 quotient_below true z v h e = subst IsBelow (same_some (cast_unsigned w32 z) v e) (int_below z (h refl))
 quotient_below false z v h e = cc
 
-remainder_below : (b : Bool) (y z : ℤ) (v : ℕ) → (b ≡ true → IsBelow (cast_unsigned w32 z)) → option_map (cast_unsigned w32) (then_some b z) ≡ Some v → IsBelow v
+remainder_below : (b : Bool) (y z : ℤ) (v : ℕ) → (b ≡ true → IsBelow (cast_unsigned w32 z)) → option_map (cast_unsigned w32) (then_some b z) ≡ Some v
+    → IsBelow v
 remainder_below true y z v h e = subst IsBelow (same_some (cast_unsigned w32 z) v e) (h refl)
 remainder_below false y z v h e = cc
 
@@ -119,7 +121,8 @@ right_below : (v : ℕ) (by : ℤ) (signed : Bool) (r : ℕ) → IsBelow v → s
 right_below v (pos n) signed r h e = then_below (nat_lt n 32) _ r (λ d. shifted_below signed v n h) e
 right_below v (negsuc n) signed r h e = cc
 
-pub binary_below : (op : BinaryOp) (kind : IntKind) (v : ℕ) (right : IntKind) (w r : ℕ) → IsBelow v → IsBelow w → binary_value op kind v right w ≡ Some r → IsBelow r
+pub binary_below : (op : BinaryOp) (kind : IntKind) (v : ℕ) (right : IntKind) (w r : ℕ) → IsBelow v → IsBelow w → binary_value op kind v right w ≡ Some r
+    → IsBelow r
 binary_below Multiply kind v right w r h k e = subst IsBelow (same_some (v * w % 2 ^ 32) r e) (omega arith)
 binary_below Divide kind v right w r h k e = divided_below (is_signed kind) v w r h e
 binary_below Remainder kind v right w r h k e = remaining_below (is_signed kind) v w r h e

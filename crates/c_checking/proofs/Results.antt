@@ -36,10 +36,6 @@ pub by_option : {A B : Type 0} (o : Option A) (f : A → Answer B) (r : Answer B
 by_option (Some x) f r y P h p q = p x refl h
 by_option None f r y P h p q = q refl h
 
-pub both_true : (b c : Bool) → cond b c false ≡ true → (b ≡ true) × (c ≡ true)
-both_true true c h = (refl, h)
-both_true false c h = cc
-
 -- what follows an answer beside the file
 pub bound_with : {A B : Type 0} (f : FileScope) (r : Answer A) (k : A × FileScope → Answer B) (z : B) → (with_file f r >>= k) ≡ Ok z
     → (y : A) × (r ≡ Ok y) × (k (y, f) ≡ Ok z)

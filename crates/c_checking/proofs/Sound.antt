@@ -11,29 +11,36 @@ use Rattle.c_erasure.specs.Declarators.{declared_name, parameter_type}
 use Rattle.c_erasure.specs.Erasure.{comma_or, after_all}
 use Rattle.c_erasure.specs.Marks.{Mark, a_name, marks, marks_of_all, marks_of_type, marks_of_specifiers, marks_of_specifier, marks_of_members}
 use Rattle.c_erasure.specs.Marks.{marks_of_member_declarators, marks_of_enumerators, marks_of_value, marks_of_declarator, an_enumeration}
-use Rattle.c_erasure.specs.Noted.{Noted, Thing}
+use Rattle.c_erasure.specs.Noted.{Noted, Expression, Thing}
 use Rattle.c_erasure.specs.Scopes.{FileScope, Scope, inside, measured, for_value}
 use Rattle.c_erasure.specs.Specifiers.{types_among, storage_of}
 use Rattle.c_checking.specs.Answers.{moved}
 use Rattle.c_checking.specs.Nodes.{signature_in, argument_in, target_in, measured_in, sized_type}
-use Rattle.c_checking.specs.Declaring.{with_mention, mentions_in, Derivation, derived, length_value, object_at, base_kind, without_storage, parameter_storage, scalar_parameter}
+use Rattle.c_checking.specs.Declaring.{with_mention, mentions_in, Derivation, derived, length_value, object_at, base_kind, without_storage}
+use Rattle.c_checking.specs.Declaring.{parameter_storage, scalar_parameter}
 use Rattle.c_checking.specs.Declaring.{enumerator_in}
-use Rattle.c_checking.specs.Finding.{complete, value_at, tested_at, constant_at, base_type, type_of_derived, find, arguments, type_name, one_of, specified, members}
+use Rattle.c_checking.specs.Finding.{complete, value_at, tested_at, constant_at, base_type, type_of_derived, find, arguments, type_name, one_of}
+use Rattle.c_checking.specs.Finding.{specified, members}
 use Rattle.c_checking.specs.Finding.{member_declarators, enumerators, enumerator_value, derivations, array_step, parameter_list, parameters}
 use Rattle.c_checking.proofs.InRange.{IsInRange, AreInRange, IsTypeInRange, AreSpecifiersInRange, IsSpecifierInRange, AreMembersInRange, AreDeclaratorsInRange}
 use Rattle.c_checking.proofs.InRange.{AreEnumeratorsInRange, IsValueInRange, IsDeclaratorInRange, IsListInRange, AreParametersInRange}
 use Rattle.c_checking.proofs.Results.{bound_ok, bound_with, chosen}
 use Rattle.c_checking.proofs.Agreement.{Ready, then, left, right}
 use Rattle.c_checking.proofs.Declared.{mentioned, no_storage_is, parameter_storage_is, unless_ok}
-use Rattle.c_checking.proofs.Found.{Found, FoundAll, FoundType, FoundConstant, valued, constant_found, name_found, number_found, character_found}
-use Rattle.c_checking.proofs.Found.{texts_found, index_found, dot_found, arrow_found, call_found, no_arguments_found, argument_found, post_found, pre_found, unary_found}
+use Rattle.c_checking.proofs.Found.{Found, FoundValue, FoundAll, FoundType, FoundConstant, valued, constant_found, name_found, number_found, character_found}
+use Rattle.c_checking.proofs.Found.{texts_found, index_found, dot_found, arrow_found, call_found, no_arguments_found, argument_found, post_found}
+use Rattle.c_checking.proofs.Found.{pre_found, unary_found}
 use Rattle.c_checking.proofs.Found.{sizeof_expression_found, sizeof_type_found, cast_found, binary_found, comma_found, tested_found, choice_found, assign_found}
-use Rattle.c_checking.proofs.FoundTypes.{ready_inside, FoundOne, FoundSpecifier, FoundFields, FoundMembers, FoundEnumerators, FoundNumber, FoundSteps}
+use Rattle.c_checking.proofs.FoundTypes.{FoundBase, ready_inside, FoundOne, FoundSpecifier}
+use Rattle.c_checking.proofs.FoundTypes.{FoundFields, FoundMembers, FoundEnumerators, FoundNumber, FoundSteps}
 use Rattle.c_checking.proofs.FoundTypes.{FoundParameters, FoundList, base_found, one_found, typename_found, struct_named_found, enum_named_found, struct_ready}
-use Rattle.c_checking.proofs.FoundTypes.{struct_body_found, enum_body_found, no_value_found, value_found, no_enumerators_found, bound_of, enumerator_grown, enumerator_found}
+use Rattle.c_checking.proofs.FoundTypes.{struct_body_found, enum_body_found, no_value_found, value_found, no_enumerators_found, bound_of}
+use Rattle.c_checking.proofs.FoundTypes.{enumerator_grown, enumerator_found}
 use Rattle.c_checking.proofs.FoundTypes.{no_members_found, members_found, no_declarators_found, member_found, type_found}
-use Rattle.c_checking.proofs.FoundDeclarators.{ready_in, new_bound, parameter_inside, parameter_ready, nothing_found, named_found, pointer_found, enclosed_found, open_found}
-use Rattle.c_checking.proofs.FoundDeclarators.{array_found, function_found, void_found, listed_found, no_parameters_found, behind_parameter, parameter_made, parameter_found}
+use Rattle.c_checking.proofs.FoundDeclarators.{ready_in, new_bound, parameter_inside, parameter_ready, nothing_found, named_found, pointer_found}
+use Rattle.c_checking.proofs.FoundDeclarators.{enclosed_found, open_found}
+use Rattle.c_checking.proofs.FoundDeclarators.{array_found, function_found, void_found, listed_found, no_parameters_found, behind_parameter}
+use Rattle.c_checking.proofs.FoundDeclarators.{parameter_made, parameter_found}
 
 module _ (untagged : ℕ → List ℕ) where
   -- an integer constant expression, which stands for its value
@@ -159,7 +166,8 @@ module _ (untagged : ℕ → List ℕ) where
     sound_one (Trees.and_specifier (Trees.plain word at) more) s n r x e z h =
         let v = sound_one more s n.1 r x e z h in record { grew = v.grew; holds = λ g p. v.holds g p }
     sound_one (Trees.and_specifier (Trees.typename y) more) s n r x e z h =
-        one_found untagged s (Trees.typename y) more z (sound_specifier (Trees.typename y) s n.0 (left _ _ r) z h) (let f : types_among more ≡ [] = cc in f) (λ g p. p)
+        one_found untagged s (Trees.typename y) more z (sound_specifier (Trees.typename y) s n.0 (left _ _ r) z h) (let f : types_among more ≡ [] = cc in f)
+        (λ g p. p)
     sound_one (Trees.and_specifier (Trees.struct_named at y) more) s n r x e z h =
         one_found untagged s (Trees.struct_named at y) more z (sound_specifier (Trees.struct_named at y) s n.0 (left _ _ r) z h)
         (let f : types_among more ≡ [] = cc in f) (λ g p. p)
@@ -193,7 +201,8 @@ module _ (untagged : ℕ → List ℕ) where
         (left (marks_of_enumerators untagged all (after_all comma to)) (an_enumeration untagged x to) r) f.0 f.1 in
         enum_body_found untagged s at x from all comma to i f.0.1 v z f.2)
 
-    pub sound_members : (all : Trees.MemberDeclarations) (s : Scope) → AreMembersInRange all → Ready s (marks_of_members untagged all) → (z : List Field × FileScope)
+    pub sound_members : (all : Trees.MemberDeclarations) (s : Scope) → AreMembersInRange all → Ready s (marks_of_members untagged all)
+        → (z : List Field × FileScope)
         → members all s ≡ Ok z → FoundFields untagged s all z
     sound_members Trees.no_member_declarations s n r z h = no_members_found untagged s z h
     sound_members (Trees.and_member_declaration specs ds semicolon more) s n r z h =
@@ -307,3 +316,17 @@ module _ (untagged : ℕ → List ℕ) where
         let o = sound_parameters more scope (parameter_inside (moved s f) (declared_name d) t.1.0 i) n.2
         (parameter_ready (moved s f) (declared_name d) t.1.0 p.is_scalar i known) rest.0 rest.1 in
         parameter_found untagged s comma specs d more m t.1.0 steps.0.1 p rest.0 o z rest.2
+
+  -- ---- what stands outside of expressions asks for
+
+  pub sound_value_of : (a : Trees.Expression) (s : Scope) → IsInRange a → Ready s (marks untagged a) → (at : ℕ) (z : Expression × FileScope)
+      → value_at at (find a s) ≡ Ok z → FoundValue untagged s a z
+  sound_value_of a s n r at z h = valued untagged a s at (find a s) (λ y k. sound a s n r y k) z h
+
+  pub sound_constant : (a : Trees.Expression) (s : Scope) → IsInRange a → Ready s (marks untagged a) → (z : (IntKind × ℕ) × FileScope)
+      → constant_at (first a) (value_at (first a) (find a (for_value s))) ≡ Ok z → FoundConstant untagged s a z
+  sound_constant a s n r z h = constant_part a s (λ y k. sound a (for_value s) n r y k) z h
+
+  pub sound_base : (specs : Trees.Specifiers) (s : Scope) → AreSpecifiersInRange specs → Ready s (marks_of_specifiers untagged specs) → (at : ℕ)
+      → (z : CType × FileScope) → base_type (base_kind specs) at s.file (one_of specs s) ≡ Ok z → FoundBase untagged s specs z
+  sound_base specs s n r at z h = base_found untagged s specs at (one_of specs s) (λ x e y k. sound_one specs s n r x e y k) z h

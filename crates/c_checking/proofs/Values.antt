@@ -88,7 +88,8 @@ object_worth Is s p i h (array u n) e x v =
 object_worth Is s p i h (function u all) e x v = cc
 object_worth Is s p i h (structure r) e x v = cc
 
-pub found_worth : (Is : Thing → Type 0) (s : Scope) (th : Thing) → Stands Is s th → (x : Expression) → value_of th ≡ Some x → IsValue Is s x × (array_of th ≡ None → IsNoArray x)
+pub found_worth : (Is : Thing → Type 0) (s : Scope) (th : Thing) → Stands Is s th → (x : Expression) → value_of th ≡ Some x
+    → IsValue Is s x × (array_of th ≡ None → IsNoArray x)
 unfolding array_of
 found_worth Is s (an_object p) h x v = object_worth Is s p h.0 h.1 (type_of_path p) refl x v
 found_worth Is s (a_value e) h x v =

@@ -253,11 +253,11 @@ struct_name at = Trees.and_specifier (Trees.struct_named at (record { from = at 
 
 -- sizeof(struct S)
 record_size : Erases (Trees.sizeof_type 100 106 (Trees.type_name (struct_name 107) Trees.nothing) 115) here (a_value (size 100 (structure 0) 8))
-record_size = (structure 0, (structure 0, refl, inr (refl, ((0, refl, refl, inl refl), refl)), refl), inr (0, refl), (refl, inr (1, refl), refl))
+record_size = (structure 0, (structure 0, refl, inr (refl, ((0, refl, refl, inl refl), refl)), refl), inr (0, refl), (refl, inr (1, refl), refl, omega arith))
 
 -- sizeof a, with no decay
 array_size : Erases (Trees.sizeof_expression 100 (name (codes "a") 107)) here (a_value (size 100 (array int 3) 12))
-array_size = (array int 3, (an_object (a_path 107), (a_local 1 (array int 3), refl, refl), refl, refl), (refl, inr (2, refl), refl))
+array_size = (array int 3, (an_object (a_path 107), (a_local 1 (array int 3), refl, refl), refl, refl), (refl, inr (2, refl), refl, omega arith))
 
 -- sizeof "ab": the object of the literal stands in no file
 literal_size : Erases (Trees.sizeof_expression 100 (Trees.texts (record { from = 107; to = 111; text = codes "\"ab\"" } ∷ []))) here
@@ -271,7 +271,7 @@ literal_size = (
     (refl, refl, refl, refl),
     refl,
   ),
-  (refl, inr (3, refl), refl),
+  (refl, inr (3, refl), refl, omega arith),
 )
 
 -- (struct S *)v

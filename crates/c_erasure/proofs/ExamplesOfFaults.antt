@@ -30,7 +30,7 @@ use Rattle.c_typed.specs.declared.operators.BinaryOp.TheVariants.{Add}
 use Rattle.c_typed.specs.Trees as Typed
 use Rattle.c_typed.specs.Typed.{IsTyped, IsMoved, bare, is_bare, bare_ty}
 use Rattle.c_typed.specs.Constants.{ty}
-use Rattle.c_erasure.specs.Noted.{nothing, Expression, Thing, a_value, value_of, type_of, unconverted}
+use Rattle.c_erasure.specs.Noted.{Note, nothing, size_of, Expression, Thing, a_value, value_of, type_of, unconverted, unless_noted}
 use Rattle.c_erasure.specs.Scopes.{Bound, FileScope, Scope, at_file_scope}
 use Rattle.c_erasure.specs.Erasure.{IsBase, IsOne, typed, place_in}
 use Rattle.c_erasure.specs.Broken.{Fault, IsValue, IsValueless, HasNoValue}
@@ -40,36 +40,10 @@ use Rattle.c_erasure.proofs.ExampleParts.{word, int, ints, value_of_some, main_i
 
 -- ---- an expression without the implicit conversion at its top
 
-abbrev IsBareOf : Expression → Type 0
-IsBareOf x = (bare (typed x) ≡ typed (unconverted x)) × (is_bare (typed x) ≡ true → unconverted x ≡ x)
-
-is_bare_of : (x : Expression) → IsBareOf x
-is_bare_of (Typed.expression t at (Typed.convert e false)) = (refl, (λ e. cc))
-is_bare_of (Typed.expression t at (Typed.constant v)) = (refl, (λ e. refl))
-is_bare_of (Typed.expression t at Typed.null) = (refl, (λ e. refl))
-is_bare_of (Typed.expression t at (Typed.function_name f)) = (refl, (λ e. refl))
-is_bare_of (Typed.expression t at (Typed.load p)) = (refl, (λ e. refl))
-is_bare_of (Typed.expression t at (Typed.address_of p)) = (refl, (λ e. refl))
-is_bare_of (Typed.expression t at (Typed.decay p)) = (refl, (λ e. refl))
-is_bare_of (Typed.expression t at (Typed.convert e true)) = (refl, (λ e. refl))
-is_bare_of (Typed.expression t at (Typed.unary op x)) = (refl, (λ e. refl))
-is_bare_of (Typed.expression t at (Typed.binary op x y)) = (refl, (λ e. refl))
-is_bare_of (Typed.expression t at (Typed.compare op x y)) = (refl, (λ e. refl))
-is_bare_of (Typed.expression t at (Typed.pointer_add op x y)) = (refl, (λ e. refl))
-is_bare_of (Typed.expression t at (Typed.pointer_difference x y)) = (refl, (λ e. refl))
-is_bare_of (Typed.expression t at (Typed.both x y)) = (refl, (λ e. refl))
-is_bare_of (Typed.expression t at (Typed.either x y)) = (refl, (λ e. refl))
-is_bare_of (Typed.expression t at (Typed.not x)) = (refl, (λ e. refl))
-is_bare_of (Typed.expression t at (Typed.choose x y z)) = (refl, (λ e. refl))
-is_bare_of (Typed.expression t at (Typed.comma x y)) = (refl, (λ e. refl))
-is_bare_of (Typed.expression t at (Typed.assign p x)) = (refl, (λ e. refl))
-is_bare_of (Typed.expression t at (Typed.assign_op op p x)) = (refl, (λ e. refl))
-is_bare_of (Typed.expression t at (Typed.step op before p)) = (refl, (λ e. refl))
-is_bare_of (Typed.expression t at (Typed.copy_record to from)) = (refl, (λ e. refl))
-is_bare_of (Typed.expression t at (Typed.call f all)) = (refl, (λ e. refl))
-is_bare_of (Typed.expression t at (Typed.call_through e all)) = (refl, (λ e. refl))
-is_bare_of (Typed.expression t at (Typed.library which all)) = (refl, (λ e. refl))
-is_bare_of (Typed.expression t at (Typed.allocate r count zeroed)) = (refl, (λ e. refl))
+bare_is : (x : Expression) → is_bare (typed x) ≡ true → unconverted x ≡ x
+bare_is (Typed.expression t at (Typed.convert e false)) h = cc
+bare_is (Typed.expression t at (Typed.convert e true)) h = refl
+bare_is (Typed.expression t at node) h = refl
 
 -- ---- int main(void){return 256 + 3;}
 
@@ -116,10 +90,16 @@ number_is_int : (x : List ℕ) (from to n : ℕ) (s : Scope) (e : Expression) �
 number_is_int x from to n s e ((th, v, is), typed, bare) = sym (ap type_of (is_number s from n e th v is ∙ bare))
 
 operand_is_int : (s : Scope) (at n : ℕ) (x : Expression) → typed_number s at n ≡ unconverted x → bare_ty (typed x) ≡ int
-operand_is_int s at n x e = sym (ap ty (ap typed e ∙ sym (is_bare_of x).0))
+operand_is_int s at n (Typed.expression t p (Typed.convert e false)) h = by_note t.note h
+  where
+    by_note : (note : Note) → typed_number s at n ≡ unless_noted note e (Typed.expression t p (Typed.convert e false)) → ty (typed e) ≡ int
+    by_note nothing h = sym (ap (λ x. ty (typed x)) h)
+    by_note (size_of u at) h = cc
+operand_is_int s at n (Typed.expression t p (Typed.convert e true)) h = sym (ap (λ x. ty (typed x)) h)
+operand_is_int s at n (Typed.expression t p node) h = sym (ap (λ x. ty (typed x)) h)
 
 bare_operand_is_int : (s : Scope) (at n : ℕ) (x : Expression) → typed_number s at n ≡ unconverted x → is_bare (typed x) ≡ true → ty (typed x) ≡ int
-bare_operand_is_int s at n x e b = sym (ap (λ x. ty (typed x)) (e ∙ (is_bare_of x).1 b))
+bare_operand_is_int s at n x e b = sym (ap (λ x. ty (typed x)) (e ∙ bare_is x b))
 
 -- ---- the sum is an int
 

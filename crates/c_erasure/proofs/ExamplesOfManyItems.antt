@@ -408,7 +408,7 @@ size_stands = (
       refl,
       refl,
     ),
-    (refl, inr (10, refl), refl),
+    (refl, inr (10, refl), refl, omega arith),
   ),
 )
 

@@ -1,5 +1,5 @@
 -- `sizeof(struct T {int x;})` in `enum {N = sizeof(struct T {int x;})};`: the type name defines the structure whose size it is (C99 6.5.3.4).
-use Rattle.std.proofs.Common.{refl, inl, inr}
+use Rattle.std.proofs.Common.{refl, inl, inr, arith}
 use Rattle.std.proofs.lemmas.List.Elements.{All-nil}
 use Rattle.std.specs.Prelude.{[], ◌∷◌, Some, None, false, codes}
 use Rattle.c_types.specs.declared.ty.IntKind.TheVariants.{UInt}
@@ -66,5 +66,5 @@ defined_there = (
     refl,
   ),
   inr (2, refl),
-  (refl, inr (0, refl), refl),
+  (refl, inr (0, refl), refl, omega arith),
 )

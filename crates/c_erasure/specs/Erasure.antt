@@ -163,11 +163,11 @@ abbrev pub with_parameter_if_named : Scope → Option Spelling → CType → Sco
 with_parameter_if_named s None t = s
 with_parameter_if_named s (Some x) t = with_parameter s x.text x.from t
 
--- `sizeof` a type that is a complete object type by that byte (6.5.3.4)
+-- `sizeof` a type that is a complete object type by that byte (6.5.3.4), within the limits of types
 abbrev pub IsSize : Scope → (at by : ℕ) → CType → Thing → Type 0
 IsSize s at by t th = (is_object (ended s.file.ends by) t ≡ true) × IsMentioned s Sizeof t at
     × (th ≡ a_value (Typed.expression (record { ty = integer UInt; note = sized t at }) (place_in s at)
-    (Typed.constant (size_of s.file.records t))))
+    (Typed.constant (size_of s.file.records t)))) × (size_of s.file.records t ≤ 16777216)
 
 abbrev pub IsInt : ℤ → Type 0
 IsInt (pos n) = n < 2 ^ 31

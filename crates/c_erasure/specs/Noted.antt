@@ -71,7 +71,11 @@ value_of (a_function at f t) = Some (value (pointer t) at (Trees.function_name f
 value_of (a_function_at e) = Some e
 value_of (a_library_function at which) = None
 
--- without the implicit conversion at the top
+-- without the implicit conversion at the top, beside which there is no note
+abbrev pub unless_noted : Note → Expression → Expression → Expression
+unless_noted nothing e whole = e
+unless_noted (size_of t at) e whole = whole
+
 abbrev pub unconverted : Expression → Expression
-unconverted (Trees.expression t at (Trees.convert e false)) = e
+unconverted (Trees.expression t at (Trees.convert e false)) = unless_noted t.note e (Trees.expression t at (Trees.convert e false))
 unconverted e = e

@@ -1,0 +1,11 @@
+pub mod NumberLists
+pub mod Earliest
+pub mod MainFunction
+pub mod OneProgram
+pub mod Pairs
+pub mod Placed
+pub mod RecordLists
+pub mod Whole
+pub mod TagClashes
+pub mod UnderKeys
+pub mod Unlike

@@ -58,12 +58,12 @@ pub record Linked : Type 0 where
 
 abbrev pub linked_object : List UnitData → UnitData → Object → List Linked
 linked_object units u o = if o.linked
-    then record { name = o.name; place = o.place; ty = type_in units u (get_or u.types o.ty void); is_defined = is_some o.initial } ∷ []
+    then record { name = o.name; place = o.place; ty = type_in (all_tags units) u (get_or u.types o.ty void); is_defined = is_some o.initial } ∷ []
     else []
 
 abbrev pub linked_function : List UnitData → UnitData → FunctionData → List Linked
 linked_function units u f = if f.is_linked
-    then record { name = f.name; place = f.place; ty = type_in units u (get_or u.types f.ty void); is_defined = is_some f.body } ∷ []
+    then record { name = f.name; place = f.place; ty = type_in (all_tags units) u (get_or u.types f.ty void); is_defined = is_some f.body } ∷ []
     else []
 
 abbrev pub linked_in : List UnitData → List Linked

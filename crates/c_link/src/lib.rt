@@ -1,4 +1,23 @@
 //! Joining the files of a program by the names of what they declare (C99 6.2.2, 6.9).
 //!
-//! It stands on `c_typed` and `c_erasure`, and has definitions alone.
+//! It stands on `c_typed` and `c_erasure`, on `numbering` for the tables of names, and on `c_renumbering` and `c_type_table` for
+//! the numbers that a unit's parts get in the program. It promises that what it joins is the program that `joined` defines.
 #![tactic(auto)]
+
+mod clashes;
+mod identities;
+mod joining;
+mod keys;
+mod placing;
+mod program;
+mod records;
+mod tables;
+mod tags;
+mod troubles;
+mod types;
+mod whole_program;
+
+pub use clashes::tag_clash;
+pub use program::join;
+pub use troubles::Trouble;
+pub use whole_program::{fields_past, has_main, nodes_past};

@@ -1,15 +1,17 @@
 -- What parts of nodes answer.
-use Rattle.std.specs.Prelude.{◌≡◌, Result, Ok, Err, Option, Some, None}
+use Rattle.std.specs.Prelude.{◌≡◌, Result, Ok, Err, Some, None}
 use Rattle.lay_base.specs.declared.no_memory.NoMemory.{NoMemory}
+use Rattle.c_types.specs.declared.ty.IntKind.{IntKind}
 use Rattle.c_types.specs.Types.{CType, CTypes, void, function, no_types}
 use Rattle.c_types.specs.Views.{type_of, types_of}
-use Rattle.c_erasure.specs.Noted.{Thing}
+use Rattle.c_erasure.specs.Noted.{Expression, Thing}
 use Rattle.c_checking.specs.Nodes as Nodes
 use Rattle.c_checking.specs.Nodes.{array_of}
-use Rattle.c_annotated.specs.Views.{path_of, thing_of}
+use Rattle.c_annotated.specs.Views.{expression_of, path_of, thing_of}
 use Rattle.c_nodes.specs.declared.assignments.Target.{Target}
 use Rattle.c_nodes.specs.declared.assignments.Target.TheVariants.{Scalar, Record}
 use Rattle.c_nodes.specs.declared.calls.Signature.{Signature}
+use Rattle.c_nodes.specs.declared.statement_parts.SwitchValue.{SwitchValue}
 use Rattle.c_nodes.specs.declared.subscripts.Subscripted.{Subscripted}
 use Rattle.c_nodes.specs.declared.subscripts.Subscripted.TheVariants.{Array, Other}
 
@@ -34,3 +36,7 @@ result_of t = void
 abbrev pub target_view : Target → Nodes.Target
 target_view (Scalar p) = Nodes.scalar_at (path_of p)
 target_view (Record p) = Nodes.record_at (path_of p)
+
+-- the controlling expression of a `switch` with its type
+abbrev pub switch_view : SwitchValue → Expression × IntKind
+switch_view it = (expression_of it.value, it.kind)

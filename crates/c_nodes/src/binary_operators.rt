@@ -23,12 +23,7 @@ use lay_base::{Boxed, NoMemory, Place, Rule};
 use std::alloc::Global;
 
 /// The type to which two operands of these types are converted.
-pub fn type_in_common(
-    alloc: Global,
-    s: &Ty,
-    t: &Ty,
-    common: CommonType,
-) -> Result<Ty, NoMemory>
+pub fn type_in_common(alloc: Global, s: &Ty, t: &Ty, common: CommonType) -> Result<Ty, NoMemory>
     ensures { IfOk result (λ it. type_of it ≡ common_type (type_of s.now) (type_of t.now) common) }
 {
     match common {
@@ -68,7 +63,12 @@ fn backward(
 {
     let t = copy(alloc, &y.get().ty)?;
     let x = convert_to_kind(alloc, kind, x)?;
-    node(alloc, t, at, ExpressionNode::PointerAdd(PointerOp::Add, x, y))
+    node(
+        alloc,
+        t,
+        at,
+        ExpressionNode::PointerAdd(PointerOp::Add, x, y),
+    )
 }
 
 /// `+` of a pointer and a number, in either order (C99 6.5.6).
@@ -132,7 +132,12 @@ pub fn computed(
         Some(kinds) => {
             let x = convert_to_kind(alloc, kinds.left, x)?;
             let y = convert_to_kind(alloc, kinds.right, y)?;
-            node(alloc, Ty::Int(kinds.left), at, ExpressionNode::Binary(op, x, y))
+            node(
+                alloc,
+                Ty::Int(kinds.left),
+                at,
+                ExpressionNode::Binary(op, x, y),
+            )
         }
         None => match op {
             BinaryOp::Add => added(alloc, count, op_at, at, x, y),
@@ -161,7 +166,12 @@ pub fn compared(
             let t = type_in_common(alloc, &x.get().ty, &y.get().ty, common)?;
             let x = convert(alloc, &t, x)?;
             let y = convert(alloc, &t, y)?;
-            node(alloc, Ty::Int(IntKind::Int), at, ExpressionNode::Compare(op, x, y))
+            node(
+                alloc,
+                Ty::Int(IntKind::Int),
+                at,
+                ExpressionNode::Compare(op, x, y),
+            )
         }
         None => Err(Fault::IllTyped(Rule::Operands, op_at)),
     }

@@ -84,9 +84,9 @@ fn library_result(alloc: Global, which: LibraryFunction) -> Result<Ty, NoMemory>
 {
     match which {
         LibraryFunction::Free | LibraryFunction::Exit => Ok(Ty::Void),
-        LibraryFunction::Memcmp | LibraryFunction::Putchar | LibraryFunction::Getchar => Ok(
-            Ty::Int(IntKind::Int),
-        ),
+        LibraryFunction::Memcmp | LibraryFunction::Putchar | LibraryFunction::Getchar => Ok(Ty::Int(
+            IntKind::Int,
+        )),
         _ => bytes(alloc),
     }
 }

@@ -6,9 +6,9 @@ ghost use Rattle.c_types.specs.Types.{integer, pointer};
 ghost use Rattle.c_types.specs.Views.{type_of};
 ghost use Rattle.c_erasure.specs.Noted.{a_value, an_object, value_of};
 ghost use Rattle.c_checking.specs.Nodes.{a_node, a_way, converted, worth as worth_of};
+ghost use Rattle.c_annotated.specs.Nodes.{node_of, path_node_of};
 ghost use Rattle.c_annotated.specs.Views.{expression_of, path_of, thing_of};
 ghost use Rattle.c_nodes.specs.Gives.{Gives};
-ghost use Rattle.c_nodes.specs.NodeViews.{node_of, path_node_of};
 
 use crate::fault::Fault;
 use c_annotated::{Expression, ExpressionNode, Path, PathNode, Thing};
@@ -91,17 +91,17 @@ pub fn convert_to_kind(
 
 /// The value of an object: a number or a pointer is loaded, an array becomes a pointer to its first element (C99 6.3.2.1). Other objects have
 /// none.
-pub fn object_value(
-    alloc: Global,
-    p: Boxed<Path>,
-) -> Result<Option<Boxed<Expression>>, NoMemory>
+pub fn object_value(alloc: Global, p: Boxed<Path>) -> Result<Option<Boxed<Expression>>, NoMemory>
     ensures { IfOk result (λ o. option_map expression_of o ≡ value_of (an_object (path_of p))) }
 {
     let place = p.get().place;
     let (ty, is_array) = match &p.get().ty {
         Ty::Int(kind) => (Ty::Int(*kind), false),
         Ty::Pointer(to) => (Ty::Pointer(boxed(alloc, copy(alloc, to.get())?)?), false),
-        Ty::Array(element, _) => (Ty::Pointer(boxed(alloc, copy(alloc, element.get())?)?), true),
+        Ty::Array(element, _) => (
+            Ty::Pointer(boxed(alloc, copy(alloc, element.get())?)?),
+            true,
+        ),
         _ => return Ok(None),
     };
     let node = if is_array {
@@ -109,7 +109,15 @@ pub fn object_value(
     } else {
         ExpressionNode::Load(p)
     };
-    Ok(Some(boxed(alloc, Expression { ty, note: None, place, node })?))
+    Ok(Some(boxed(
+        alloc,
+        Expression {
+            ty,
+            note: None,
+            place,
+            node,
+        },
+    )?))
 }
 
 /// The value of what stands there, which begins at `at` (C99 6.3.2.1).
@@ -126,7 +134,15 @@ pub fn worth(alloc: Global, at: u32, thing: Thing) -> Result<Boxed<Expression>, 
         Thing::Function(place, f, t) => {
             let ty = pointer_to(alloc, t)?;
             let node = ExpressionNode::FunctionName(f);
-            Ok(boxed(alloc, Expression { ty, note: None, place, node })?)
+            Ok(boxed(
+                alloc,
+                Expression {
+                    ty,
+                    note: None,
+                    place,
+                    node,
+                },
+            )?)
         }
         Thing::LibraryFunction(_, _) => Err(Fault::IllTyped(Rule::Library, at)),
     }

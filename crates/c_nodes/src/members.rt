@@ -16,7 +16,8 @@ use std::alloc::Global;
 
 /// The first of some fields that has a name, with its number.
 fn field_named<'a>(fields: &'a [Field], x: &[u8]) -> Option<(usize, &'a Ty)>
-    ensures { MatchOption result (field_from 0 (map field_of fields.now) x.now ≡ None) (λ it. field_from 0 (map field_of fields.now) x.now ≡ Some (it.0, type_of it.1.now)) }
+    ensures { MatchOption result (field_from 0 (map field_of fields.now) x.now ≡ None)
+        (λ it. field_from 0 (map field_of fields.now) x.now ≡ Some (it.0, type_of it.1.now)) }
 {
     for (number, field) in fields.iter().enumerate() {
         if field.name.as_slice() == x {
@@ -28,7 +29,8 @@ fn field_named<'a>(fields: &'a [Field], x: &[u8]) -> Option<(usize, &'a Ty)>
 
 /// The first field with a name of the record with that number.
 fn field_of_record<'a>(records: &'a Records, r: u32, x: &[u8]) -> Option<(usize, &'a Ty)>
-    ensures { MatchOption result (field_in (slice_get (records_of records.now) r) x.now ≡ None) (λ it. field_in (slice_get (records_of records.now) r) x.now ≡ Some (it.0, type_of it.1.now)) }
+    ensures { MatchOption result (field_in (slice_get (records_of records.now) r) x.now ≡ None)
+        (λ it. field_in (slice_get (records_of records.now) r) x.now ≡ Some (it.0, type_of it.1.now)) }
 {
     match records.as_slice().get(r as usize) {
         Some(record) => field_named(record.fields.as_slice(), x),

@@ -9,6 +9,7 @@ ghost use Rattle.c_nodes.specs.Gives.{Gives};
 
 use crate::fault::Fault;
 use crate::making::{node, pointer_to, way};
+use crate::sizes::may_be_pointed_to;
 use crate::subscripts::promote;
 use c_annotated::{Expression, ExpressionNode, PathNode, Thing, is_null};
 use c_typed::{StepOp, UnaryOp, casts, is_function, is_scalar, is_stepped, promoted_kind};
@@ -76,12 +77,7 @@ pub fn address(alloc: Global, from: u32, at: Place, thing: Thing) -> Result<Thin
 
 /// `*`
 #[tactic(auto, unfolding(c_checking::specs::Nodes::deref_in))]
-pub fn deref(
-    alloc: Global,
-    count: u32,
-    at: Place,
-    e: Boxed<Expression>,
-) -> Result<Thing, Fault>
+pub fn deref(alloc: Global, count: u32, at: Place, e: Boxed<Expression>) -> Result<Thing, Fault>
     ensures { Gives thing_of result (deref_in count at (expression_of e)) }
 {
     match &e.get().ty {
@@ -101,12 +97,7 @@ pub fn deref(
 
 /// `+`, `-` or `~`
 #[tactic(auto, unfolding(c_checking::specs::Nodes::unary_in))]
-pub fn unary(
-    alloc: Global,
-    at: Place,
-    op: UnaryOp,
-    x: Boxed<Expression>,
-) -> Result<Thing, Fault>
+pub fn unary(alloc: Global, at: Place, op: UnaryOp, x: Boxed<Expression>) -> Result<Thing, Fault>
     ensures { Gives thing_of result (unary_in at op (expression_of x)) }
 {
     match &x.get().ty {

@@ -6,7 +6,8 @@ use Rattle.c_ast.specs.Trees
 use Rattle.c_ast.specs.Spelling.{Lexeme, punctuator, spelled, spelled_arguments, spelled_comma, spelled_init_declarators, spelled_declaration}
 use Rattle.c_ast.specs.Spelling.{spelled_declarator, spelled_value, spelled_if_any, spelled_labels, spelled_for_start, spelled_statement, spelled_block_item}
 use Rattle.c_ast.specs.Spelling.{spelled_block_items, spelled_switch_item, spelled_switch_items, spelled_item, spelled_items}
-use Rattle.c_ast.specs.WellFormed.{IsComma, IsDeclarator, IsInitializer, AreInitializers, IsValue, AreInitDeclarators, IsDeclaration, IsExpressionIfAny, AreLabels, IsForStart}
+use Rattle.c_ast.specs.WellFormed.{IsComma, IsDeclarator, IsInitializer, AreInitializers, IsValue, AreInitDeclarators, IsDeclaration, IsExpressionIfAny}
+use Rattle.c_ast.specs.WellFormed.{AreLabels, IsForStart}
 use Rattle.c_ast.specs.WellFormed.{IsStatement, IsBlockItem, AreBlockItems, IsSwitchItem, AreSwitchItems, IsItem, AreItems, types_after}
 use Rattle.c_erasure.specs.Marks.{Mark, a_name, marks, marks_of_all, marks_of_specifiers, marks_of_initial, marks_of_declarators, marks_of_item}
 use Rattle.c_erasure.specs.Marks.{marks_of_declarator, marks_of_file, after_declarator, name_from}

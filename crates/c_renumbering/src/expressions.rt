@@ -24,7 +24,11 @@ pub fn expression(alloc: Global, to: &Renumbering, e: Expression) -> Result<Expr
 }
 
 #[cycle(expression_renumbering)]
-fn node_in(alloc: Global, to: &Renumbering, node: ExpressionNode) -> Result<ExpressionNode, NoMemory>
+fn node_in(
+    alloc: Global,
+    to: &Renumbering,
+    node: ExpressionNode,
+) -> Result<ExpressionNode, NoMemory>
     ensures { IfOk result (λ r. node_of r ≡ mapped_node (renaming_of to.now) (node_of node)) }
 {
     match node {
@@ -130,7 +134,11 @@ fn node_in(alloc: Global, to: &Renumbering, node: ExpressionNode) -> Result<Expr
 }
 
 #[cycle(expression_renumbering)]
-pub fn operand(alloc: Global, to: &Renumbering, e: Boxed<Expression>) -> Result<Boxed<Expression>, NoMemory>
+pub fn operand(
+    alloc: Global,
+    to: &Renumbering,
+    e: Boxed<Expression>,
+) -> Result<Boxed<Expression>, NoMemory>
     ensures { IfOk result (λ r. expression_of r ≡ mapped (renaming_of to.now) (expression_of e)) }
 {
     let e = expression(alloc, to, e.into_inner())?;
@@ -183,7 +191,11 @@ fn inner_path(alloc: Global, to: &Renumbering, p: Boxed<Path>) -> Result<Boxed<P
 }
 
 #[cycle(expression_renumbering)]
-fn expressions(alloc: Global, to: &Renumbering, all: List<Expression>) -> Result<List<Expression>, NoMemory>
+fn expressions(
+    alloc: Global,
+    to: &Renumbering,
+    all: List<Expression>,
+) -> Result<List<Expression>, NoMemory>
     ensures { IfOk result (λ r. expressions_of (map expression_of r) ≡ mapped_all (renaming_of to.now) (expressions_of (map expression_of all))) }
 {
     let mut done = List::new(alloc);

@@ -53,7 +53,11 @@ fn part(alloc: Global, to: &Renumbering, it: InitializerPart) -> Result<Initiali
     Ok(InitializerPart { offset, value })
 }
 
-fn parts(alloc: Global, to: &Renumbering, all: List<InitializerPart>) -> Result<List<InitializerPart>, NoMemory>
+fn parts(
+    alloc: Global,
+    to: &Renumbering,
+    all: List<InitializerPart>,
+) -> Result<List<InitializerPart>, NoMemory>
     ensures { IfOk result (λ r. map part_of r ≡ map (mapped_part (renaming_of to.now)) (map part_of all)) }
 {
     let mut done = List::new(alloc);
@@ -64,7 +68,11 @@ fn parts(alloc: Global, to: &Renumbering, all: List<InitializerPart>) -> Result<
     Ok(done)
 }
 
-fn initializer(alloc: Global, to: &Renumbering, initial: Initializer) -> Result<Initializer, NoMemory>
+fn initializer(
+    alloc: Global,
+    to: &Renumbering,
+    initial: Initializer,
+) -> Result<Initializer, NoMemory>
     ensures { IfOk result (λ r. initializer_of r ≡ mapped_initializer (renaming_of to.now) (initializer_of initial)) }
 {
     match initial {

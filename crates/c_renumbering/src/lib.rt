@@ -6,8 +6,9 @@
 mod expressions;
 mod initializers;
 mod numbers;
+mod parts;
 mod statements;
 
 pub use numbers::{Numbers, Renumbering};
+pub use parts::{renumbered_function, renumbered_mention, renumbered_object};
 pub use statements::renumbered_statement;
-

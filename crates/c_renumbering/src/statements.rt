@@ -33,7 +33,11 @@ fn test_and_step(
 
 /// A statement with other numbers.
 #[cycle(statement_renumbering)]
-pub fn renumbered_statement(alloc: Global, to: &Renumbering, s: Statement) -> Result<Statement, NoMemory>
+pub fn renumbered_statement(
+    alloc: Global,
+    to: &Renumbering,
+    s: Statement,
+) -> Result<Statement, NoMemory>
     ensures { IfOk result (λ r. statement_of r ≡ mapped_statement (renaming_of to.now) (statement_of s)) }
 {
     match s {
@@ -99,7 +103,11 @@ fn inner(alloc: Global, to: &Renumbering, s: Boxed<Statement>) -> Result<Boxed<S
 }
 
 #[cycle(statement_renumbering)]
-fn statements(alloc: Global, to: &Renumbering, all: List<Statement>) -> Result<List<Statement>, NoMemory>
+fn statements(
+    alloc: Global,
+    to: &Renumbering,
+    all: List<Statement>,
+) -> Result<List<Statement>, NoMemory>
     ensures { IfOk result (λ r. statements_of (map statement_of r) ≡ mapped_statements (renaming_of to.now) (statements_of (map statement_of all))) }
 {
     let mut done = List::new(alloc);
@@ -114,9 +122,17 @@ fn statements(alloc: Global, to: &Renumbering, all: List<Statement>) -> Result<L
 fn arm(alloc: Global, to: &Renumbering, it: Arm) -> Result<Arm, NoMemory>
     ensures { IfOk result (λ r. arm_of r ≡ mapped_arm (renaming_of to.now) (arm_of it)) }
 {
-    let Arm { cases, is_default, statements: all } = it;
+    let Arm {
+        cases,
+        is_default,
+        statements: all,
+    } = it;
     let all = statements(alloc, to, all)?;
-    Ok(Arm { cases, is_default, statements: all })
+    Ok(Arm {
+        cases,
+        is_default,
+        statements: all,
+    })
 }
 
 #[cycle(statement_renumbering)]

@@ -7,3 +7,4 @@ pub mod Counting
 pub mod Tagging
 pub mod Folds
 pub mod Structs
+pub mod Different

@@ -1,9 +1,11 @@
 -- Names by their places, and tables that have them.
-use Rattle.std.proofs.Common.{◌≡◌, ℕ, ◌+◌, List, [], ◌∷◌, ◌++◌, length, Bool, true, false, cond, Option, Some, None, refl, sym, ap, ◌∙◌, subst, arith, ◌||◌, if◌then◌else◌}
+use Rattle.std.proofs.Common.{◌≡◌, ℕ, zero, suc, slice_get, add-one, ◌+◌, List, [], ◌∷◌, ◌++◌, length, Bool, true, false, cond, Option, Some, None, refl}
+use Rattle.std.proofs.Common.{sym, ap, ◌∙◌, subst, arith, ◌||◌, if◌then◌else◌}
 use Rattle.std.specs.Option.{option_map}
 use Rattle.std.specs.Global.{Vec}
 use Rattle.std.specs.Map.{lookup}
 use Rattle.std.specs.Str.{bytes_eq}
+use Rattle.std.proofs.lemmas.Slice.Eq.{bytes_eq-Decides}
 use Rattle.indexmap.specs.IndexMap.{insert_entry}
 use Rattle.c_erasure.specs.Scopes.{or_else}
 use Rattle.c_erasure.specs.Marks.{is_among}
@@ -95,3 +97,36 @@ number_noted old new names more name place known noted e p x =
     noted x ∙ (ap (λ o. or_else o (if bytes_eq x name then Some place else None)) (known x)
     ∙ (ap (λ n. or_else (number_in names x) (if bytes_eq x name then Some n else None)) p
     ∙ (sym (number_more names name x) ∙ ap (λ all. number_in all x) (sym e))))
+
+-- ---- numbers and places
+
+-- a name has the number where it stands
+pub stands_at : (names : List (List ℕ)) (x : List ℕ) (n : ℕ) → number_in names x ≡ Some n → slice_get names n ≡ Some x
+stands_at [] x n h = cc
+stands_at (name ∷ names) x n h = by (bytes_eq x name) (number_in names x) refl refl h (stands_at names x)
+  where
+    by : (b : Bool) (o : Option ℕ) → bytes_eq x name ≡ b → number_in names x ≡ o → pick b (Some 0) (next o) ≡ Some n
+        → ((k : ℕ) → number_in names x ≡ Some k → slice_get names k ≡ Some x) → slice_get (name ∷ names) n ≡ Some x
+    by true o s e h rest =
+        let z : n ≡ 0 = cc in
+        let f : x ≡ name = (bytes_eq-Decides x name).0 s in
+        rw (z, f) refl
+    by false None s e h rest = cc
+    by false (Some k) s e h rest =
+        let z : n ≡ k + 1 = cc in
+        rw (z, add-one) (rest k e)
+
+-- what has no number stands nowhere
+pub stands_nowhere : (names : List (List ℕ)) (x : List ℕ) (n : ℕ) → number_in names x ≡ None → slice_get names n ≡ Some x → ⊥
+stands_nowhere [] x n h s = cc
+stands_nowhere (name ∷ names) x n h s = by n (bytes_eq x name) (number_in names x) refl refl h s (stands_nowhere names x)
+  where
+    by : (n : ℕ) (b : Bool) (o : Option ℕ) → bytes_eq x name ≡ b → number_in names x ≡ o → pick b (Some 0) (next o) ≡ None
+        → slice_get (name ∷ names) n ≡ Some x → ((k : ℕ) → number_in names x ≡ None → slice_get names k ≡ Some x → ⊥) → ⊥
+    by n true o e f h s rest = cc
+    by n false (Some k) e f h s rest = cc
+    by zero false None e f h s rest =
+        let t : name ≡ x = cc in
+        let u : bytes_eq x name ≡ true = (bytes_eq-Decides x name).1 (sym t) in
+        cc
+    by (suc n) false None e f h s rest = rest n f s

@@ -30,7 +30,8 @@ all_ended places at zero l below above = none_ended places at (λ k h. above k (
 all_ended [] at (suc n) l below above = absurd (omega arith)
 all_ended (x ∷ places) at (suc n) l below above =
     let f : nat_lt x at ≡ true = lt-ltb x at (below 0 (omega arith)) in
-    let rest : ended places at ≡ n = all_ended places at n (omega arith) (λ k h. below (suc k) (omega arith)) (λ k h g. above (suc k) (omega arith) (omega arith)) in
+    let rest : ended places at ≡ n =
+    all_ended places at n (omega arith) (λ k h. below (suc k) (omega arith)) (λ k h g. above (suc k) (omega arith) (omega arith)) in
     rw f (omega (arith, rest))
 
 pub counted : (places : List ℕ) (at low high : ℕ) → Between places at low high → high ≤ low → low ≡ ended places at

@@ -1,5 +1,6 @@
 -- What a table of tags has at a name.
-use Rattle.std.proofs.Common.{◌≡◌, ℕ, List, [], ◌∷◌, ◌++◌, map, Bool, true, false, cond, Option, Some, None, refl, sym, ap, ◌∙◌, subst, ◌||◌, if◌then◌else◌, nat_lt, ◌<◌, ◌≤◌}
+use Rattle.std.proofs.Common.{◌≡◌, ℕ, List, [], ◌∷◌, ◌++◌, map, Bool, true, false, cond, Option, Some, None, refl, sym, ap, ◌∙◌, subst, ◌||◌}
+use Rattle.std.proofs.Common.{if◌then◌else◌, nat_lt, ◌<◌, ◌≤◌}
 use Rattle.std.proofs.lemmas.Bool.{lt-ltb, le-ltb}
 use Rattle.std.specs.Option.{option_map}
 use Rattle.std.specs.Global.{Vec}
@@ -73,7 +74,6 @@ placed (e ∷ es) x = by (bytes_eq x e.0.items) refl (placed es x)
 
 -- ---- one more
 
-
 among : (es : List (Vec ℕ × Known)) (x : List ℕ) (k : Known) → found_at es x ≡ Some k → is_among (map (λ t. t.name) (tags_of_entries es)) x ≡ true
 among [] x k h = cc
 among (e ∷ es) x k h = by (bytes_eq x e.0.items) h (among es x k)
@@ -107,10 +107,10 @@ pub newly : (old new : List (Vec ℕ × Known)) (t : Tag) (key : Vec ℕ) (k : K
 newly old new t key k named is h i =
     let known : Tag = record { name = t.name; place = k.place; from = k.from; is_enumeration = k.is_enumeration } in
     let e : tag_of_entry (key, k) ≡ t =
-        ap (λ (x : List ℕ). record known { name = x }) named
-        ∙ ap (λ (x : Known). record t { place = x.place; from = x.from; is_enumeration = x.is_enumeration }) is in
+    ap (λ (x : List ℕ). record known { name = x }) named
+    ∙ ap (λ (x : Known). record t { place = x.place; from = x.from; is_enumeration = x.is_enumeration }) is in
     let absent : lookup (λ (other : Vec ℕ). bytes_eq key.items other.items) old ≡ None
-        = subst (λ y. found_at old y ≡ None) (sym (ap (λ t. t.name) e)) (sym h) in
+    = subst (λ y. found_at old y ≡ None) (sym (ap (λ t. t.name) e)) (sym h) in
     let n : new ≡ old ++ (key, k) ∷ [] = i ∙ inserted_last (λ a b. bytes_eq a.items b.items) old key k absent in
     rw (not_among old t.name (sym h)) (ap tags_of_entries n ∙ (one_tag_more old (key, k) ∙ ap (λ z. tags_of_entries old ++ z ∷ []) e))
 

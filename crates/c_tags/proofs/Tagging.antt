@@ -1,5 +1,6 @@
 -- The tags of structures without one, place by place.
-use Rattle.std.proofs.Common.{◌≡◌, ℕ, zero, suc, ◌+◌, ◌<◌, ◌≤◌, List, [], ◌∷◌, ◌++◌, length, map, filter, get_or, take, drop, Bool, true, false, cond, Some, None, refl, sym, ap, ◌∙◌, subst, arith, if◌then◌else◌, nat_eq, nat_le, unwrap_or, add-one}
+use Rattle.std.proofs.Common.{◌≡◌, ℕ, zero, suc, ◌+◌, ◌<◌, ◌≤◌, List, [], ◌∷◌, ◌++◌, length, map, filter, get_or, take, drop, Bool, true, false, cond}
+use Rattle.std.proofs.Common.{Some, None, refl, sym, ap, ◌∙◌, subst, arith, if◌then◌else◌, nat_eq, nat_le, unwrap_or, add-one}
 use Rattle.std.proofs.lemmas.List.{take_more}
 use Rattle.std.specs.List.{AllByRecursion}
 use Rattle.std.specs.Map.{lookup}
@@ -101,15 +102,20 @@ one_tagged name bytes places old new tags more at k line t before l n e i =
     let absent : lookup (nat_eq at) tags ≡ None = missing tags at (subst (AllByRecursion (λ p. p < at)) (sym t.keys) before) in
     let last : more ≡ tags ++ (at, tag_text line k) ∷ [] = i ∙ inserted_last nat_eq tags at (tag_text line k) absent in
     let own : AreOnLine name bytes (places ++ at ∷ []) line k =
-        subst (AreOnLine name bytes (places ++ at ∷ []) line) (ap (λ b. old line + (if b then 1 else 0)) (own_line line) ∙ sym e)
-        (on_line_more name bytes places at line line (old line) (t.on_line line) l) in
+    subst (AreOnLine name bytes (places ++ at ∷ []) line) (ap (λ b. old line + (if b then 1 else 0)) (own_line line) ∙ sym e)
+    (on_line_more name bytes places at line line (old line) (t.on_line line) l) in
     subst (AreTagged name bytes (places ++ at ∷ []) new) (sym last) (record {
       on_line = λ q.
           subst (AreOnLine name bytes (places ++ at ∷ []) q) (sym (n q)) (on_line_more name bytes places at line q (old q) (t.on_line q) l);
       tagged = push (IsTagged name bytes (places ++ at ∷ []) (tags ++ (at, tag_text line k) ∷ [])) places at
           (weaker (IsTagged name bytes places tags) (λ p. p < at) (IsTagged name bytes (places ++ at ∷ []) (tags ++ (at, tag_text line k) ∷ []))
-          (λ p s b. (s.0, s.1, s.2, subst (λ all. AreOnLine name bytes all s.0 s.1) (sym (filter_old places p at b)) s.3,
-          lookup_old tags at p (tag_text s.0 s.1) (tag_text line k) s.4)) places t.tagged before)
+          (λ p s b. (
+            s.0,
+            s.1,
+            s.2,
+            subst (λ all. AreOnLine name bytes all s.0 s.1) (sym (filter_old places p at b)) s.3,
+            lookup_old tags at p (tag_text s.0 s.1) (tag_text line k) s.4,
+          )) places t.tagged before)
           (line, k, l, subst (λ all. AreOnLine name bytes all line k) (sym (filter_new places at before)) own, lookup_new tags at (tag_text line k) absent);
       keys = keys_more tags at (tag_text line k) ∙ ap (λ all. all ++ at ∷ []) t.keys;
       begin = push Begins tags (at, tag_text line k) t.begin (_, refl);

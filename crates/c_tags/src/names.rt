@@ -32,7 +32,12 @@ impl Model for Names {
 }
 
 /// Notes the place of a name that has none yet.
-fn note(places: &mut IndexMap<Vec<u8>, u32>, alloc: Global, name: &[u8], place: u32) -> Result<(), NoMemory>
+fn note(
+    places: &mut IndexMap<Vec<u8>, u32>,
+    alloc: Global,
+    name: &[u8],
+    place: u32,
+) -> Result<(), NoMemory>
     ensures noted { OnOk result ((x : List ℕ) →
         found_at places.new.entries x ≡ or_else (found_at places.old.entries x) (if bytes_eq x name.now then Some place else None)) }
     ensures unchanged { OnErr result (places.new.entries ≡ places.old.entries) }

@@ -89,7 +89,12 @@ fn tag_bytes(alloc: Global, name: &[u8], line: u32, number: u32) -> Result<Vec<u
 }
 
 /// How many places are on each line: of that line there is one more.
-fn count_one(counts: &mut IndexMap<(Vec<u8>, u32), u32>, alloc: Global, name: &[u8], line: u32) -> Result<u32, NoMemory>
+fn count_one(
+    counts: &mut IndexMap<(Vec<u8>, u32), u32>,
+    alloc: Global,
+    name: &[u8],
+    line: u32,
+) -> Result<u32, NoMemory>
     ensures number { IfOk result (λ n. n ≡ counted_at counts.old.entries (name.now, line) + 1) }
     ensures counted { OnOk result ((q : Line) →
         counted_at counts.new.entries q ≡ counted_at counts.old.entries q + (if is_line q (name.now, line) then 1 else 0)) }

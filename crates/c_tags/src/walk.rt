@@ -74,7 +74,11 @@ fn after_all(comma: Option<At>, right: At) -> At
 }
 
 #[cycle(expression_marks)]
-fn expression_marks<'a>(found: &mut Marks<'a>, untagged: &'a Untagged, a: &'a Expression) -> Result<(), NoMemory>
+fn expression_marks<'a>(
+    found: &mut Marks<'a>,
+    untagged: &'a Untagged,
+    a: &'a Expression,
+) -> Result<(), NoMemory>
     ensures { OnOk result (marks_in found.new ≡ marks_in found.old ++ marks (untagged_by untagged.now) (expression_of a.now)) }
 {
     match a {
@@ -115,7 +119,11 @@ fn expression_marks<'a>(found: &mut Marks<'a>, untagged: &'a Untagged, a: &'a Ex
 }
 
 #[cycle(expression_marks)]
-fn arguments_marks<'a>(found: &mut Marks<'a>, untagged: &'a Untagged, all: &'a [Argument]) -> Result<(), NoMemory>
+fn arguments_marks<'a>(
+    found: &mut Marks<'a>,
+    untagged: &'a Untagged,
+    all: &'a [Argument],
+) -> Result<(), NoMemory>
     ensures { OnOk result (marks_in found.new ≡ marks_in found.old ++ marks_of_all (untagged_by untagged.now) (arguments_of (map argument_of all.now))) }
 {
     for item in all {
@@ -125,7 +133,11 @@ fn arguments_marks<'a>(found: &mut Marks<'a>, untagged: &'a Untagged, all: &'a [
 }
 
 #[cycle(expression_marks)]
-fn type_name_marks<'a>(found: &mut Marks<'a>, untagged: &'a Untagged, type_name: &'a TypeName) -> Result<(), NoMemory>
+fn type_name_marks<'a>(
+    found: &mut Marks<'a>,
+    untagged: &'a Untagged,
+    type_name: &'a TypeName,
+) -> Result<(), NoMemory>
     ensures { OnOk result (marks_in found.new ≡ marks_in found.old ++ marks_of_type (untagged_by untagged.now) (type_name_of type_name.now)) }
 {
     specifiers_marks(found, untagged, type_name.specifiers.as_slice())?;
@@ -136,7 +148,11 @@ fn type_name_marks<'a>(found: &mut Marks<'a>, untagged: &'a Untagged, type_name:
 }
 
 #[cycle(expression_marks)]
-fn specifiers_marks<'a>(found: &mut Marks<'a>, untagged: &'a Untagged, all: &'a [Specifier]) -> Result<(), NoMemory>
+fn specifiers_marks<'a>(
+    found: &mut Marks<'a>,
+    untagged: &'a Untagged,
+    all: &'a [Specifier],
+) -> Result<(), NoMemory>
     ensures { OnOk result
         (marks_in found.new ≡ marks_in found.old ++ marks_of_specifiers (untagged_by untagged.now) (specifiers_of (map specifier_of all.now))) }
 {
@@ -147,7 +163,11 @@ fn specifiers_marks<'a>(found: &mut Marks<'a>, untagged: &'a Untagged, all: &'a 
 }
 
 #[cycle(expression_marks)]
-fn specifier_marks<'a>(found: &mut Marks<'a>, untagged: &'a Untagged, specifier: &'a Specifier) -> Result<(), NoMemory>
+fn specifier_marks<'a>(
+    found: &mut Marks<'a>,
+    untagged: &'a Untagged,
+    specifier: &'a Specifier,
+) -> Result<(), NoMemory>
     ensures { OnOk result (marks_in found.new ≡ marks_in found.old ++ marks_of_specifier (untagged_by untagged.now) (specifier_of specifier.now)) }
 {
     match specifier {
@@ -170,7 +190,11 @@ fn specifier_marks<'a>(found: &mut Marks<'a>, untagged: &'a Untagged, specifier:
 }
 
 #[cycle(expression_marks)]
-fn members_marks<'a>(found: &mut Marks<'a>, untagged: &'a Untagged, all: &'a [MemberDeclaration]) -> Result<(), NoMemory>
+fn members_marks<'a>(
+    found: &mut Marks<'a>,
+    untagged: &'a Untagged,
+    all: &'a [MemberDeclaration],
+) -> Result<(), NoMemory>
     ensures { OnOk result (marks_in found.new
         ≡ marks_in found.old ++ marks_of_members (untagged_by untagged.now) (member_declarations_of (map member_declaration_of all.now))) }
 {
@@ -182,7 +206,11 @@ fn members_marks<'a>(found: &mut Marks<'a>, untagged: &'a Untagged, all: &'a [Me
 }
 
 #[cycle(expression_marks)]
-fn member_declarators_marks<'a>(found: &mut Marks<'a>, untagged: &'a Untagged, all: &'a [MemberDeclarator]) -> Result<(), NoMemory>
+fn member_declarators_marks<'a>(
+    found: &mut Marks<'a>,
+    untagged: &'a Untagged,
+    all: &'a [MemberDeclarator],
+) -> Result<(), NoMemory>
     ensures { OnOk result (marks_in found.new
         ≡ marks_in found.old ++ marks_of_member_declarators (untagged_by untagged.now) (member_declarators_of (map member_declarator_of all.now))) }
 {
@@ -194,7 +222,12 @@ fn member_declarators_marks<'a>(found: &mut Marks<'a>, untagged: &'a Untagged, a
 
 // The scope of an enumerator begins at the comma after it, so that of each but the last is found with the next one.
 #[cycle(expression_marks)]
-fn enumerators_marks<'a>(found: &mut Marks<'a>, untagged: &'a Untagged, all: &'a [Enumerator], after: At) -> Result<(), NoMemory>
+fn enumerators_marks<'a>(
+    found: &mut Marks<'a>,
+    untagged: &'a Untagged,
+    all: &'a [Enumerator],
+    after: At,
+) -> Result<(), NoMemory>
     ensures { OnOk result (marks_in found.new
         ≡ marks_in found.old ++ marks_of_enumerators (untagged_by untagged.now) (enumerators_of (map enumerator_of all.now)) after) }
 {
@@ -215,7 +248,11 @@ fn enumerators_marks<'a>(found: &mut Marks<'a>, untagged: &'a Untagged, all: &'a
 }
 
 #[cycle(expression_marks)]
-fn declarator_marks<'a>(found: &mut Marks<'a>, untagged: &'a Untagged, d: &'a Declarator) -> Result<(), NoMemory>
+fn declarator_marks<'a>(
+    found: &mut Marks<'a>,
+    untagged: &'a Untagged,
+    d: &'a Declarator,
+) -> Result<(), NoMemory>
     ensures { OnOk result (marks_in found.new ≡ marks_in found.old ++ marks_of_declarator (untagged_by untagged.now) (declarator_of d.now)) }
 {
     match d {
@@ -238,7 +275,12 @@ fn declarator_marks<'a>(found: &mut Marks<'a>, untagged: &'a Untagged, d: &'a De
 }
 
 // The scope of a declarator without an initializer begins at the token after it, which is found with the next one.
-fn declarators_marks<'a>(found: &mut Marks<'a>, untagged: &'a Untagged, all: &'a [InitDeclarator], semicolon: At) -> Result<(), NoMemory>
+fn declarators_marks<'a>(
+    found: &mut Marks<'a>,
+    untagged: &'a Untagged,
+    all: &'a [InitDeclarator],
+    semicolon: At,
+) -> Result<(), NoMemory>
     ensures { OnOk result (marks_in found.new
         ≡ marks_in found.old ++ marks_of_declarators (untagged_by untagged.now) (map init_declarator_of all.now) semicolon) }
 {
@@ -260,7 +302,11 @@ fn declarators_marks<'a>(found: &mut Marks<'a>, untagged: &'a Untagged, all: &'a
     Ok(())
 }
 
-fn item_marks<'a>(found: &mut Marks<'a>, untagged: &'a Untagged, item: &'a Item) -> Result<(), NoMemory>
+fn item_marks<'a>(
+    found: &mut Marks<'a>,
+    untagged: &'a Untagged,
+    item: &'a Item,
+) -> Result<(), NoMemory>
     ensures { OnOk result (marks_in found.new ≡ marks_in found.old ++ marks_of_item (untagged_by untagged.now) (item_of item.now)) }
 {
     match item {
@@ -277,7 +323,11 @@ fn item_marks<'a>(found: &mut Marks<'a>, untagged: &'a Untagged, item: &'a Item)
 }
 
 /// The marks of a file's items.
-pub fn file_marks<'a>(alloc: Global, untagged: &'a Untagged, all: &'a [Item]) -> Result<Marks<'a>, NoMemory>
+pub fn file_marks<'a>(
+    alloc: Global,
+    untagged: &'a Untagged,
+    all: &'a [Item],
+) -> Result<Marks<'a>, NoMemory>
     ensures { IfOk result (λ found. marks_in found ≡ marks_of_file (untagged_by untagged.now) (map item_of all.now)) }
 {
     let mut found = Marks::new(alloc);

@@ -1,5 +1,5 @@
 -- Keys that are written piece by piece.
-use Rattle.std.proofs.Common.{◌≡◌, ℕ, List, [], ◌∷◌, ◌++◌, refl, sym, ap, ◌∙◌, append_assoc}
+use Rattle.std.proofs.Common.{◌≡◌, ℕ, List, [], ◌∷◌, ◌++◌, append_assoc}
 
 pub two_appended : (key : List ℕ) (a b : ℕ) → (key ++ a ∷ []) ++ b ∷ [] ≡ key ++ a ∷ b ∷ []
 two_appended key a b = append_assoc key (a ∷ []) (b ∷ [])

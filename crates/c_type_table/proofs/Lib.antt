@@ -1,4 +1,5 @@
 pub mod Keys
+pub mod Laws
 pub mod Lists
 pub mod Places
 pub mod Readable

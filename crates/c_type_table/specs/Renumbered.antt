@@ -1,6 +1,6 @@
--- Types with other numbers of records.
-use Rattle.std.specs.Prelude.{ℕ}
-use Rattle.c_types.specs.Types.{CType, CTypes, void, integer, pointer, array, function, structure, no_types, and_type}
+-- Types and records with other numbers of records.
+use Rattle.std.specs.Prelude.{ℕ, map}
+use Rattle.c_types.specs.Types.{CType, CTypes, void, integer, pointer, array, function, structure, no_types, and_type, Field, Record}
 
 module _ (number : ℕ → ℕ) where
   abbrev mutual
@@ -15,3 +15,9 @@ module _ (number : ℕ → ℕ) where
     pub all_renumbered : CTypes → CTypes
     all_renumbered no_types = no_types
     all_renumbered (and_type t more) = and_type (renumbered t) (all_renumbered more)
+
+  abbrev pub field_in : Field → Field
+  field_in f = record { name = f.name; ty = renumbered f.ty; place = f.place }
+
+  abbrev pub record_in : Record → Record
+  record_in r = record { tag = r.tag; place = r.place; fields = map field_in r.fields }

@@ -1,7 +1,7 @@
 -- What a table's index answers is the place of a key.
-use Rattle.std.proofs.Common.{◌≡◌, ℕ, ◌+◌, ◌≤◌, ◌<◌, Bool, true, false, not, ◌||◌, List, [], ◌∷◌, ◌++◌, Option, Some, None, Vec, Global, map, length, cond, refl, sym, ap, ◌∙◌, arith}
+use Rattle.std.proofs.Common.{◌≡◌, ℕ, ◌+◌, ◌≤◌, Bool, true, false, not, ◌||◌, List, [], ◌∷◌, ◌++◌, Some, None, Vec, Global, map, length, cond, refl, sym, ap, ◌∙◌, arith}
 use Rattle.std.specs.Prelude.{unwrap_or, nat_lt, if◌then◌else◌}
-use Rattle.std.specs.List.{prefix_len, position_or_len, list_any}
+use Rattle.std.specs.List.{position_or_len, list_any}
 use Rattle.std.specs.List as L
 use Rattle.std.proofs.lemmas.List.{map-append}
 use Rattle.std.specs.Str.{bytes_eq}

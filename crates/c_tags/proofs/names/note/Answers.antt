@@ -7,7 +7,7 @@ pub returns-clause-noted : goal.returns-clause-noted
 returns-clause-noted c =
     let e : c.in_ok-key.key.items ≡ c.args.name.now = search rules in
     elim c.match-insert.branch [
-      in-Ok w ↦ rw w.result-is (noted c.args.places.now.entries c.insert.new.self.entries c.in_ok-key.key c.args.place c.args.name.now e
+      | in-Ok w ↦ rw w.result-is (noted c.args.places.now.entries c.insert.new.self.entries c.in_ok-key.key c.args.place c.args.name.now e
           c.in-None.ensures.value w.in-Ok.ensures.entries)
-    | in-Err w ↦ rw w.result-is tt
+      | in-Err w ↦ rw w.result-is tt
     ]

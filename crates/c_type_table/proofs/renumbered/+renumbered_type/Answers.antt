@@ -13,6 +13,6 @@ returns-after-loop-parameter t c =
     let all = c.as_slice-parameter-items in
     let h : type_of c.in_ok-returned-in-Function-2.returned ≡ renumbered number (type_of a.result) = search rules in
     function_of_loop number a.result c.in_ok-returned-in-Function-2.returned all.result.now c.loop-parameter.copies c.loop-parameter.parameter-index
-        c.loop-parameter-test.false h c.loop-parameter.invariant
+    c.loop-parameter-test.false h c.loop-parameter.invariant
     ∙ ap (λ them. renumbered number (type_of (T.Function a.result them))) all.ensures
     ∙ ap (λ t. renumbered number (type_of t)) (sym a.is)

@@ -13,16 +13,16 @@ pub invariant_of-self : goal.invariant_of-self
 invariant_of-self c =
     let e : c.in_ok-key.key.items ≡ c.args.tag.now.name.now = search rules in
     elim c.match-insert.branch [
-      in-Ok w ↦ apart_after c.self.inside.known.entries c.insert.new.self.entries c.args.tag.now.name.now c.in_ok-key.key _ c.self.invariant e
+      | in-Ok w ↦ apart_after c.self.inside.known.entries c.insert.new.self.entries c.args.tag.now.name.now c.in_ok-key.key _ c.self.invariant e
           c.in-None.ensures w.in-Ok.ensures.entries
-    | in-Err w ↦ subst AreApart (sym w.in-Err.ensures.err) c.self.invariant
+      | in-Err w ↦ subst AreApart (sym w.in-Err.ensures.err) c.self.invariant
     ]
 
 pub returns-clause-added : goal.returns-clause-added
 returns-clause-added c =
     let e : c.in_ok-key.key.items ≡ c.args.tag.now.name.now = search rules in
     elim c.match-insert.branch [
-      in-Ok w ↦ rw (w.result-is, ← c.self.view_is) (newly c.self.inside.known.entries c.insert.new.self.entries (tag_of c.args.tag.now) c.in_ok-key.key
+      | in-Ok w ↦ rw (w.result-is, ← c.self.view_is) (newly c.self.inside.known.entries c.insert.new.self.entries (tag_of c.args.tag.now) c.in_ok-key.key
           _ e refl c.in-None.ensures w.in-Ok.ensures.entries)
-    | in-Err w ↦ rw w.result-is tt
+      | in-Err w ↦ rw w.result-is tt
     ]

@@ -1,4 +1,4 @@
-use Rattle.std.proofs.Common.{rules, ◌∙◌, ap}
+use Rattle.std.proofs.Common.{◌∙◌, ap}
 use Rattle.numbering.specs.Keys.{with_key}
 use Rattle.numbering.proofs.Places.{added_is, listed}
 use Rattle.numbering.proofs.key_table.KeyTable.add.Goals as goal
@@ -6,5 +6,6 @@ use Rattle.numbering.proofs.key_table.KeyTable.add.Goals.{in-Ok, in-Err}
 
 pub returns-clause-added : goal.returns-clause-added
 returns-clause-added c = elim c.match-insert.branch [
-    in-Ok w ↦ (let e = ap listed w.in-Ok.ensures.keys ∙ added_is c.self.inside.keys.keys c.args.key ∙ ap (λ keys. with_key keys c.args.key.items) c.self.view_is in rw w.result-is e)
-  | in-Err w ↦ rw w.result-is tt ]
+  | in-Ok w ↦ (let e = ap listed w.in-Ok.ensures.keys ∙ added_is c.self.inside.keys.keys c.args.key ∙ ap (λ keys. with_key keys c.args.key.items) c.self.view_is in rw w.result-is e)
+  | in-Err w ↦ rw w.result-is tt
+]

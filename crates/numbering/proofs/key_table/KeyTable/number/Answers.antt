@@ -1,5 +1,4 @@
 use Rattle.std.proofs.Common.{◌∙◌, ap}
-use Rattle.std.specs.Prelude.{unwrap_or}
 use Rattle.numbering.proofs.Places.{index_is_place}
 use Rattle.numbering.specs.Keys.{position}
 use Rattle.numbering.proofs.key_table.KeyTable.number.Goals as goal

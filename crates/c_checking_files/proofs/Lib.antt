@@ -1,0 +1,11 @@
+pub mod Layouts
+pub mod Parts
+pub mod SameLocals
+pub mod Longer
+pub mod Initials
+pub mod Wholes
+pub mod Scoped
+pub mod Locals
+pub mod LocalObjects
+pub mod StaticLocals
+pub mod Declarations

@@ -1,0 +1,225 @@
+-- What is found inside of a function, in each file that goes on from the one that finding leaves and with each longer list of locals.
+use Rattle.std.proofs.Common.{◌≡◌, ℕ, zero, suc, ◌+◌, Bool, true, false, refl, sym, ap, ◌∙◌, subst, List, [], ◌∷◌, ◌++◌, length, append-nil, append_assoc}
+use Rattle.std.proofs.Common.{length-append, arith}
+use Rattle.std.specs.Prelude.{map, Option, Some, None, Ok, slice_get}
+use Rattle.c_types.specs.Limits.{AreComplete}
+use Rattle.c_types.specs.Types.{CType}
+use Rattle.c_ast.specs.Trees
+use Rattle.c_ast.specs.Places.{first}
+use Rattle.c_typed.specs.InitialValues.{InitialValue, initial_value}
+use Rattle.c_typed.specs.Typed.{Declared, IsTyped}
+use Rattle.c_erasure.specs.Erasure.{typed, Erases}
+use Rattle.c_erasure.specs.Files.{count_up}
+use Rattle.c_erasure.specs.Literals.{literals}
+use Rattle.c_erasure.specs.Marks.{Mark, marks, scope_beginnings, defined_in}
+use Rattle.c_erasure.specs.MentionPlaces.{spoken}
+use Rattle.c_erasure.specs.Noted.{Expression}
+use Rattle.c_erasure.specs.Scopes.{FileScope, Scope, Bound, ALocal, Entity, typedef, enumerator, an_object, a_function, a_library_function, a_local, a_parameter}
+use Rattle.c_erasure.specs.Scopes.{Purpose, in_full, is_measured, declared}
+use Rattle.c_checking.specs.Answers.{moved}
+use Rattle.c_checking.specs.Finding.{value_at, find}
+use Rattle.c_checking.specs.Statements.{Performed, in_scope, leaving, value_of_expression}
+use Rattle.c_checking.proofs.Results.{bound_ok, given}
+use Rattle.c_checking.proofs.Extends.{Extends, itself, further, kept}
+use Rattle.c_checking.proofs.Agreement.{added, IsFit, AreFit, BlocksAreFit, blocks_stay, IsReady, Ready, IsGrown, Grew}
+use Rattle.c_checking.proofs.Values.{IsValue}
+use Rattle.c_checking.proofs.InRange.{IsInRange}
+use Rattle.c_checking.proofs.Adding.{Adds, Grows, makes_none, adds_nothing, adds_then, as_inside}
+use Rattle.c_checking.proofs.FoundTypes.{ready_inside, added_inside}
+use Rattle.c_checking.proofs.Found.{FoundValue}
+use Rattle.c_checking.proofs.Sound.{sound_value_of}
+use Rattle.c_checking.proofs.Growth.{grow_value_of}
+use Rattle.c_checking_files.proofs.Layouts.{IsLaid}
+use Rattle.c_checking_files.proofs.Parts.{Parted, none, all_made, parted_then, NoneBegins, none_left, none_right}
+use Rattle.c_checking_files.proofs.Longer.{seen, GoesOn, goes_further, ready_longer}
+use Rattle.c_checking_files.proofs.SameLocals.{with_locals, same_find}
+
+-- ---- what is asked of a scope inside of a function that begins in a file
+
+pub record IsWithin (untagged : ℕ → List ℕ) (f : FileScope) (s : Scope) : Type 0 where
+  pub inside : s.is_inside ≡ true
+  pub full : s.purpose ≡ in_full
+  pub ready : IsReady s.file s.locals s.blocks true []
+  pub complete : AreComplete s.file.records
+  pub extends : Extends f s.file
+  pub same : s.file.untagged ≡ untagged
+
+pub ready_for : {untagged : ℕ → List ℕ} {f : FileScope} {s : Scope} → IsWithin untagged f s → (l : List ALocal) → GoesOn s.locals l → (u : List Mark)
+    → Ready (with_locals l s) u
+ready_for {s} w l p u =
+    ready_inside w.inside [] u
+    (subst (λ b. IsReady s.file l s.blocks b []) (sym w.inside) (ready_longer p w.ready))
+
+-- inside nothing is declared at file scope
+abbrev pub AddsInside : FileScope → (types made : List ℕ) → FileScope → Type 0
+AddsInside f types made g = Adds f true false false [] types made g
+
+pub inside_grows : (s : Scope) (u : List Mark) (x k : List ℕ) (g : FileScope) → s.is_inside ≡ true → s.purpose ≡ in_full → Grows s u x k g
+    → AddsInside s.file x k g
+inside_grows s u x k g i p h =
+    as_inside {a = s.is_inside} {d = true} {u = u} i
+    (subst (λ p. Adds s.file s.is_inside (is_measured p) (makes_none p) u x k g) p h)
+
+-- structures are defined at file scope alone
+no_more : {X : Type 0} (xs ys zs : List X) → zs ≡ xs ++ ys → length zs ≡ length xs → zs ≡ xs
+no_more xs [] zs e h = e ∙ append-nil xs
+no_more xs (y ∷ ys) zs e h = absurd (let n = ap length e ∙ length-append xs (y ∷ ys) in omega (arith, n, h))
+
+pub records_same : {f g : FileScope} → Extends f g → length g.records ≡ length f.records → g.records ≡ f.records
+records_same {f} {g} p h = no_more f.records p.records.0 g.records p.records.1 h
+
+pub grown_none : {f g : FileScope} {b : Bool} {u : List Mark} → added b u ≡ 0 → IsGrown f b u g → length g.records ≡ length f.records
+grown_none e p = omega (arith, e, p.counted)
+
+-- ---- what is asked of a later file and its locals
+
+-- constants have their values in later files too
+abbrev pub KeepsConstants : FileScope → FileScope → Type 0
+KeepsConstants f g = (s : Scope) (l : List ALocal) (x : Expression) (v : InitialValue) → IsTyped (declared (seen s g l)) (typed x)
+    → initial_value (declared (moved s f)) (typed x) ≡ Some v → initial_value (declared (seen s g l)) (typed x) ≡ Some v
+
+pub record IsLater (f : FileScope) (after : Scope) (texts : List ℕ) (g : FileScope) (l : List ALocal) : Type 0 where
+  pub extends : Extends after.file g
+  pub locals : GoesOn after.locals l
+  pub laid : IsLaid g
+  pub none_begins : NoneBegins g texts
+  pub constants : (h : FileScope) → Extends f h → Extends h g → KeepsConstants h g
+
+-- ---- locals are numbered in their order
+
+pub counted : (from n m : ℕ) → count_up from n ++ count_up (from + n) m ≡ count_up from (n + m)
+counted from zero m = let e : from + 0 ≡ from = omega arith in let z : 0 + m ≡ m = omega arith in rw (e, z) refl
+counted from (suc n) m =
+    let e : from + suc n ≡ from + 1 + n = omega arith in
+    let z : suc n + m ≡ suc (n + m) = omega arith in
+    ap (λ b. from ∷ (count_up (from + 1) n ++ count_up b m)) e ∙ ap (λ z. from ∷ z) (counted (from + 1) n m) ∙ ap (count_up from) (sym z)
+
+module _ (untagged : ℕ → List ℕ) (f : FileScope) where
+  -- a part of a function of which that holds, with the locals that it declares, and the scope after it
+  pub record FoundIn (s : Scope) (x k : List ℕ) (Holds : FileScope → List ALocal → Type 0) (numbers : List ℕ) (after : Scope) : Type 0 where
+    pub within : IsWithin untagged f after
+    pub extends : Extends s.file after.file
+    pub more : List ALocal
+    pub locals : after.locals ≡ s.locals ++ more
+    pub numbered : numbers ≡ count_up (length s.locals) (length more)
+    pub made : List ℕ
+    pub texts : List ℕ
+    pub parted : Parted k made texts
+    pub grows : AddsInside s.file x made after.file
+    pub holds : (g : FileScope) (l : List ALocal) → IsLater f after texts g l → Holds g l
+
+  -- one part after another
+  pub then_in : (s m n : Scope) (x y k l : List ℕ) (A B C : FileScope → List ALocal → Type 0) (i j : List ℕ) → FoundIn s x k A i m → FoundIn m y l B j n
+      → ((g : FileScope) (l : List ALocal) → Extends n.file g → IsLaid g → GoesOn n.locals l → A g l → B g l → C g l)
+      → FoundIn s (x ++ y) (k ++ l) C (i ++ j) n
+  then_in s m n x y k l A B C i j p q both = record {
+    within = q.within;
+    extends = further p.extends q.extends;
+    more = p.more ++ q.more;
+    locals = q.locals ∙ ap (λ z. z ++ q.more) p.locals ∙ append_assoc s.locals p.more q.more;
+    numbered =
+        ap (λ z. z ++ j) p.numbered
+        ∙ ap (λ z. count_up (length s.locals) (length p.more) ++ z) (q.numbered ∙ ap (λ b. count_up b (length q.more)) (ap length p.locals ∙ length-append s.locals p.more))
+        ∙ counted (length s.locals) (length p.more) (length q.more)
+        ∙ ap (count_up (length s.locals)) (sym (length-append p.more q.more));
+    made = p.made ++ q.made;
+    texts = p.texts ++ q.texts;
+    parted = parted_then p.parted q.parted;
+    grows = adds_then p.grows q.grows;
+    holds = λ g l h.
+        both g l h.extends h.laid h.locals
+        (p.holds g l (record {
+          extends = further q.extends h.extends;
+          locals = goes_further m.locals n.locals l (q.more, q.locals) h.locals;
+          laid = h.laid;
+          none_begins = none_left g p.texts q.texts h.none_begins;
+          constants = h.constants;
+        }))
+        (q.holds g l (record {
+          extends = h.extends;
+          locals = h.locals;
+          laid = h.laid;
+          none_begins = none_right g p.texts q.texts h.none_begins;
+          constants = h.constants;
+        }));
+  }
+
+  -- what holds of one part, said in another way
+  pub as_said : (s after : Scope) (x k : List ℕ) (A B : FileScope → List ALocal → Type 0) (i j : List ℕ) → FoundIn s x k A i after → i ≡ j
+      → ((g : FileScope) (l : List ALocal) → Extends after.file g → IsLaid g → GoesOn after.locals l → A g l → B g l) → FoundIn s x k B j after
+  as_said s after x k A B i j p e is = record {
+    within = p.within;
+    extends = p.extends;
+    more = p.more;
+    locals = p.locals;
+    numbered = sym e ∙ p.numbered;
+    made = p.made;
+    texts = p.texts;
+    parted = p.parted;
+    grows = p.grows;
+    holds = λ g l h. is g l h.extends h.laid h.locals (p.holds g l h);
+  }
+
+  pub nothing_in : (s : Scope) (A : FileScope → List ALocal → Type 0) → IsWithin untagged f s → ((g : FileScope) (l : List ALocal) → A g l)
+      → FoundIn s [] [] A [] s
+  nothing_in s A w is = record {
+    within = w;
+    extends = itself s.file;
+    more = [];
+    locals = sym (append-nil s.locals);
+    numbered = refl;
+    made = [];
+    texts = [];
+    parted = none;
+    grows = adds_nothing s.file true false false;
+    holds = λ g l h. is g l;
+  }
+
+  -- the scope that a part of an expression leaves
+  pub within_moved : (s : Scope) (u : List Mark) (g : FileScope) → IsWithin untagged f s → Grew s u g → IsWithin untagged f (moved s g)
+  within_moved s u g w p = record {
+    inside = w.inside;
+    full = w.full;
+    ready = record {
+      names_fit = p.names s.locals w.ready.names_fit;
+      blocks_fit = blocks_stay p.extends s.locals s.blocks w.ready.blocks_fit;
+      ends_stand = λ j n right h. cc;
+    };
+    complete = subst AreComplete (sym (records_same p.extends (grown_none (added_inside w.inside u) p))) w.complete;
+    extends = further w.extends p.extends;
+    same = p.extends.untagged ∙ w.same;
+  }
+
+  -- ---- expressions
+
+  abbrev pub IsFoundValue : Trees.Expression → Scope → Expression → FileScope → List ALocal → Type 0
+  IsFoundValue a s x g l = IsValue (Erases a (seen s g l)) (seen s g l) x
+
+  -- what is found beside a scope that is as before but for its file and locals
+  pub record FoundBeside (s : Scope) (x k : List ℕ) (Holds : FileScope → List ALocal → Type 0) (numbers : List ℕ) (after : Scope) : Type 0 where
+    pub found : FoundIn s x k Holds numbers after
+    pub stays : after ≡ leaving s after
+
+  pub value_in : (a : Trees.Expression) (s : Scope) → IsInRange a → IsWithin untagged f s → (z : Expression × Scope) → value_of_expression a s ≡ Ok z
+      → FoundBeside s (spoken a) (literals a) (IsFoundValue a s z.0) [] z.1
+  value_in a s n w z h =
+      let x = bound_ok (value_at (first a) (find a s)) _ z h in
+      let own = sound_value_of untagged a s n (ready_for w s.locals ([], sym (append-nil s.locals)) (marks untagged a)) (first a) x.0 x.1 in
+      let after = within_moved s (marks untagged a) x.0.1 w own.grew in
+      given (λ (z : Expression × Scope). FoundBeside s (spoken a) (literals a) (IsFoundValue a s z.0) [] z.1) (x.0.0, moved s x.0.1) z x.2 (record {
+        found = record {
+          within = after;
+          extends = own.grew.extends;
+          more = [];
+          locals = sym (append-nil s.locals);
+          numbered = refl;
+          made = literals a;
+          texts = [];
+          parted = all_made (literals a);
+          grows = inside_grows s (marks untagged a) (spoken a) (literals a) x.0.1 w.inside w.full (grow_value_of untagged a s w.same (first a) x.0 x.1);
+          holds = λ g l h.
+              let e : value_at (first a) (find a (with_locals l s)) ≡ Ok x.0 = ap (value_at (first a)) (same_find l a s) ∙ x.1 in
+              (sound_value_of untagged a (with_locals l s) n (ready_for w l h.locals (marks untagged a)) (first a) x.0 e).holds g h.extends;
+        };
+        stays = refl;
+      })

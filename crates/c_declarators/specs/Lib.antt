@@ -1,0 +1,3 @@
+pub mod DeclaratorViews
+pub mod SpecifierViews
+pub mod WordViews

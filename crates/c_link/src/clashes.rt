@@ -1,0 +1,84 @@
+//! Structures of one tag whose members differ (C99 6.2.7).
+
+ghost use Rattle.std.specs.Prelude.{◌≡◌, ◌++◌, [], IfOk, MatchOption, OnOk, map};
+ghost use Rattle.c_link.specs.Clashes.{clash, clashes, same_field, same_fields, trouble_of};
+ghost use Rattle.c_link.specs.Gaps.{HasNone, IsEarliest, IsTagClash};
+ghost use Rattle.c_typed.specs.Programs.{unit_data};
+ghost use Rattle.c_types.specs.Views.{field_of, record_of, records_of};
+ghost use Rattle.std.specs.Option.{option_copied, option_map};
+
+use crate::placing::put;
+use crate::records::{all_records, copy_of_name};
+use crate::tags::{all_tags, number_of};
+use crate::troubles::{Trouble, earliest};
+use c_typed::Unit;
+use c_types::{Field, Record, same};
+use lay_base::{List, NoMemory, add};
+use numbering::KeyTable;
+use std::alloc::Global;
+
+fn same_field(f: &Field, g: &Field) -> bool
+    ensures { result ≡ same_field (field_of f.now) (field_of g.now) }
+{
+    f.name.as_slice() == g.name.as_slice() && same(&f.ty, &g.ty)
+}
+
+fn same_fields(all: &[Field], others: &[Field]) -> bool
+    ensures { result ≡ same_fields (map field_of all.now) (map field_of others.now) }
+{
+    if all.len() != others.len() {
+        return false;
+    }
+    for (index, f) in all.iter().enumerate() {
+        if !same_field(f, &others[index]) {
+            return false;
+        }
+    }
+    true
+}
+
+fn add_clash(alloc: Global, troubles: &mut List<Trouble>, first: Option<&Record>, r: &Record) -> Result<(), NoMemory>
+    ensures { OnOk result (map trouble_of troubles.new ≡ map trouble_of troubles.old ++ clash (option_map record_of (option_copied first.entry)) (record_of r.now)) }
+{
+    match first {
+        None => Ok(()),
+        Some(first) => {
+            if same_fields(r.fields.as_slice(), first.fields.as_slice()) {
+                return Ok(());
+            }
+            let name = copy_of_name(alloc, &r.tag)?;
+            add(
+                troubles,
+                Trouble {
+                    name,
+                    place: r.place,
+                    first: first.place,
+                },
+            )
+        }
+    }
+}
+
+/// The troubles with the tags of some records, in their order.
+fn tag_troubles(alloc: Global, tags: &KeyTable, all: &[Record]) -> Result<List<Trouble>, NoMemory>
+    ensures { IfOk result (λ troubles. map trouble_of troubles ≡ clashes tags.now [] (records_of all.now)) }
+{
+    let mut troubles = List::new(alloc);
+    let mut firsts: Vec<&Record> = Vec::new(alloc);
+    for r in all {
+        let number = number_of(alloc, tags, &r.tag)?;
+        add_clash(alloc, &mut troubles, firsts.get(number as usize).copied(), r)?;
+        put(&mut firsts, number, false, r)?;
+    }
+    Ok(troubles)
+}
+
+/// The earliest trouble with a tag among the units, if there is one.
+pub fn tag_clash(alloc: Global, units: &[Unit]) -> Result<Option<Trouble>, NoMemory>
+    ensures { IfOk result (λ found. MatchOption found (HasNone (IsTagClash (map unit_data units.now))) (λ t. IsEarliest (IsTagClash (map unit_data units.now)) (trouble_of t))) }
+{
+    let tags = all_tags(alloc, units)?;
+    let all = all_records(alloc, &tags, units)?;
+    let troubles = tag_troubles(alloc, &tags, all.as_slice())?;
+    Ok(earliest(troubles))
+}

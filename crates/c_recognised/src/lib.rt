@@ -1,0 +1,14 @@
+//! Annotated trees with allocations of records and null pointers recognised.
+//!
+//! It stands on `c_annotated`, whose trees it takes and gives back, and on the definitions of `c_erasure`. It promises that a tree is
+//! rebuilt with a node for each allocation of records and for each null pointer constant that is converted to a pointer.
+#![tactic(auto)]
+
+mod allocations;
+mod expressions;
+mod initializers;
+mod sizes;
+mod statements;
+
+pub use initializers::optional_initializer;
+pub use statements::{optional_statement, recognised_statement};

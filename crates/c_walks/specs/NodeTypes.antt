@@ -1,0 +1,18 @@
+-- What the types of nodes stand for that are collected.
+use Rattle.std.specs.Prelude.{List, map}
+use Rattle.std.specs.Option.{option_copied}
+use Rattle.c_types.specs.Types.{CType}
+use Rattle.c_types.specs.Views.{type_of}
+use Rattle.c_annotated.specs.Views.{note_of}
+use Rattle.c_erasure.specs.Noted.{Note, Noted}
+use Rattle.c_walks.specs.declared.nodes.NodeType.{NodeType}
+use Rattle.c_walks.specs.declared.nodes.Nodes.{Nodes}
+
+abbrev pub noted : CType → Note → Noted
+noted t note = record { ty = t; note = note }
+
+abbrev pub noted_of : NodeType → Noted
+noted_of n = noted (type_of n.ty.now) (note_of (option_copied n.note))
+
+unfoldable pub nodes_in : Nodes → List Noted
+nodes_in found = map noted_of found.list.items
