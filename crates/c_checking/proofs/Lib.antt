@@ -48,3 +48,4 @@ pub mod CompleteBlocks
 pub mod CompleteFor
 pub mod CompleteLocals
 pub mod CompleteBodies
+mod FaultExample
