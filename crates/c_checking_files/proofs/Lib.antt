@@ -13,3 +13,4 @@ pub mod StatementParts
 pub mod Labels
 pub mod StatementLaws
 pub mod Statements
+pub mod Bodies
