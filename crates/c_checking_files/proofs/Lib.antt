@@ -14,3 +14,4 @@ pub mod Labels
 pub mod StatementLaws
 pub mod Statements
 pub mod Bodies
+pub mod FileScopes
