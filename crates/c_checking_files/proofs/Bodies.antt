@@ -1,29 +1,28 @@
 -- What is found for the parameters and the body of a function (C99 6.9.1).
-use Rattle.std.proofs.Common.{◌≡◌, ℕ, zero, suc, ◌+◌, Bool, true, false, refl, sym, ap, ◌∙◌, subst, List, [], ◌∷◌, ◌++◌, length, take, drop, append-nil, append_assoc}
-use Rattle.std.proofs.Common.{add-one, take-append-drop, length-append, arith}
+use Rattle.std.proofs.Common.{◌≡◌, ℕ, ◌+◌, false, refl, sym, ap, ◌∙◌, subst, List, [], ◌∷◌, ◌++◌, length, take, drop, append_assoc}
+use Rattle.std.proofs.Common.{take-append-drop, length-append, arith}
 use Rattle.std.specs.Prelude.{map, Option, Some, None, Ok, slice_get}
 use Rattle.c_types.specs.Limits.{AreComplete}
 use Rattle.c_types.specs.Types.{CType, CTypes, no_types, and_type}
 use Rattle.c_ast.specs.declared.words.Spelling.{Spelling}
 use Rattle.c_ast.specs.Trees
 use Rattle.c_typed.specs.Trees as Typed
-use Rattle.c_typed.specs.Typed.{Declared}
-use Rattle.c_typed.specs.TypedStatements.{declared_by, all_declared_by, AreTyped}
+use Rattle.c_typed.specs.TypedStatements.{all_declared_by, AreTyped}
 use Rattle.c_erasure.specs.Declarators.{declared_name}
 use Rattle.c_erasure.specs.Files.{AreNamed, HasParameters, count_up, without_notes, in_body, IsBody}
 use Rattle.c_erasure.specs.Literals.{made_by_items}
 use Rattle.c_erasure.specs.MentionPlaces.{spoken_by_items}
-use Rattle.c_erasure.specs.Scopes.{FileScope, Bound, ALocal, AFunction, Scope, a_local, defines, declared}
+use Rattle.c_erasure.specs.Scopes.{FileScope, ALocal, AFunction, Scope, a_local, defines, declared}
 use Rattle.c_erasure.specs.Statements.{Statements, EraseItems}
-use Rattle.c_checking.specs.Files.{Received, received, received_if_named, named_parameters, received_by, defined_function}
+use Rattle.c_checking.specs.Files.{Received, received_if_named, named_parameters, received_by, defined_function}
 use Rattle.c_checking.specs.Statements.{items_in}
 use Rattle.c_checking.proofs.Extends.{itself}
 use Rattle.c_checking.proofs.Agreement.{AreFit}
 use Rattle.c_checking_files.proofs.Longer.{seen, fits_longer}
-use Rattle.c_checking_files.proofs.Scoped.{IsWithin, IsLater, FoundIn}
+use Rattle.c_checking_files.proofs.Scoped.{IsWithin, FoundIn}
 use Rattle.c_checking_files.proofs.Declarations.{typed_statements}
 use Rattle.c_checking_files.proofs.StatementLaws.{AreItemsInRange}
-use Rattle.c_checking_files.proofs.Statements.{AreItemsFound, sound_items}
+use Rattle.c_checking_files.proofs.Statements.{sound_items}
 
 -- ---- parameters
 
@@ -155,10 +154,12 @@ module _ (untagged : ℕ → List ℕ) where
             let own : take (length p.locals) z.1.locals ≡ p.locals = ap (take (length p.locals)) v.locals ∙ take_own p.locals v.more in
             let others : drop (length p.locals) z.1.locals ≡ v.more = ap (drop (length p.locals)) v.locals ∙ drop_own p.locals v.more in
             let whole : l ≡ take (length p.locals) z.1.locals ++ drop (length p.locals) z.1.locals =
-            same ∙ sym (take-append-drop (length p.locals) z.1.locals) in
-            (z.0, refl,
-            subst (λ l. EraseItems items (in_body g p.bounds l) z.0) whole i.erase,
-            subst (λ l. AreTyped (declared (in_body g p.bounds l)) result false false (without_notes z.0)) whole
-            (subst (AreTyped (declared (seen s g l)) result false false) (sym (notes_left z.0)) i.is_typed),
-            v.numbered ∙ ap (λ n. count_up n (length v.more)) (ap length (sym own)) ∙ ap (count_up (length (take (length p.locals) z.1.locals))) (ap length (sym others)));
+            same ∙ sym (take-append-drop (length p.locals) z.1.locals) in (
+              z.0,
+              refl,
+              subst (λ l. EraseItems items (in_body g p.bounds l) z.0) whole i.erase,
+              subst (λ l. AreTyped (declared (in_body g p.bounds l)) result false false (without_notes z.0)) whole
+                  (subst (AreTyped (declared (seen s g l)) result false false) (sym (notes_left z.0)) i.is_typed),
+              v.numbered ∙ ap (λ n. count_up n (length v.more)) (ap length (sym own)) ∙ ap (count_up (length (take (length p.locals) z.1.locals))) (ap length (sym others)),
+            );
       }

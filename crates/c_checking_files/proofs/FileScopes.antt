@@ -1,25 +1,23 @@
 -- What is declared at file scope stands in each file that goes on from there: typedefs and functions (C99 6.7, 6.9).
-use Rattle.std.proofs.Common.{◌≡◌, ◌≢◌, ℕ, zero, suc, ◌+◌, ◌<◌, Bool, true, false, refl, sym, ap, ◌∙◌, subst, List, [], ◌∷◌, ◌++◌, length, cond, arith, inl, inr}
+use Rattle.std.proofs.Common.{◌≡◌, ◌≢◌, ℕ, zero, suc, ◌<◌, Bool, true, false, refl, sym, ap, ◌∙◌, subst, List, [], ◌∷◌, ◌++◌, length, cond, arith}
 use Rattle.std.proofs.lemmas.Bool.{and_parts}
 use Rattle.std.proofs.lemmas.Slice.Eq.{bytes_eq-Decides}
-use Rattle.std.specs.Prelude.{◌⊎◌, map, Option, Some, None, Ok, Err, slice_get, is_none, not, ◌&&◌}
+use Rattle.std.specs.Prelude.{map, Option, Some, None, Ok, slice_get, is_none, not, ◌&&◌}
 use Rattle.std.specs.Option.{IsSome}
-use Rattle.std.specs.Str.{bytes_eq}
 use Rattle.c_types.specs.Sameness.{same_type}
-use Rattle.c_types.specs.Types.{CType, Record}
+use Rattle.c_types.specs.Types.{CType}
 use Rattle.c_types.proofs.SameTypes.{same_is}
 use Rattle.c_ast.specs.declared.words.Spelling.{Spelling}
-use Rattle.c_ast.specs.Trees
 use Rattle.c_typed.specs.declared.operators.LibraryFunction.{LibraryFunction}
 use Rattle.c_typed.specs.declared.operators.LibraryFunction.TheVariants as L
 use Rattle.c_erasure.specs.Erasure.{IsBound}
-use Rattle.c_erasure.specs.Files.{library_name, IsOwnName, IsLinkage, function_storage, is_first, IsFirst, bound}
+use Rattle.c_erasure.specs.Files.{library_name, IsOwnName, IsLinkage, function_storage, IsFirst, bound}
 use Rattle.c_erasure.specs.Scopes.{FileScope, Bound, AnObject, AFunction, Entity, typedef, enumerator, an_object, a_function, a_library_function, a_local, a_parameter}
 use Rattle.c_erasure.specs.Scopes.{declares, defines, at_file_scope}
 use Rattle.c_erasure.specs.Specifiers.{Storage, no_storage, a_typedef, is_extern, is_static, is_auto, is_register, several}
-use Rattle.c_checking.specs.Answers.{Answer, ◌>>=◌}
+use Rattle.c_checking.specs.Answers.{Answer}
 use Rattle.c_checking.specs.Declaring.{declared_among, with_bound}
-use Rattle.c_checking.specs.Files.{is_library_name, first_named, library, library_named, own_name, main_function, is_main, main_type, once, again, links}
+use Rattle.c_checking.specs.Files.{is_library_name, first_named, library_named, own_name, main_function, is_main, main_type, once, links}
 use Rattle.c_checking.specs.Files.{function_linked_before, function_linkage_agrees, new_function, with_new_function, known_function, function_of, declare_own}
 use Rattle.c_checking.specs.Files.{declare_typedef}
 use Rattle.c_checking.proofs.Results.{bound_ok, given, chosen}
@@ -334,20 +332,21 @@ function_declared f words m x place from t nodes k g h =
     let v = function_is f words m x place t nodes (declared_among f.names x.text) k n.0 n.1 in
     let b = bound x from declares (a_function n.0.0 t) in
     given (λ g. Continues f g × ((h : FileScope) → Continues g h → IsFunctionDeclared words x place from t (is_none (declared_among f.names x.text)) h))
-    (with_bound n.0.1 b) g n.2
-    (continues_then v.continues (bound_put n.0.1 b),
-    λ h c.
-    let q = c.functions n.0.0 v.function v.stands in
-    record {
-      number = n.0.0;
-      function = q.0;
-      stands = q.1;
-      name = q.2.name ∙ v.name;
-      ty = q.2.ty ∙ v.ty;
-      linkage = subst (λ b. IsLinkage (function_storage words) (is_none (declared_among f.names x.text)) b) (sym q.2.is_linked) v.linkage;
-      first_place = first_later (is_none (declared_among f.names x.text)) q.0.first v.function.first place q.2.first v.first_place;
-      binds = bound_there n.0.1 h b c.extends;
-    })
+    (with_bound n.0.1 b) g n.2 (
+      continues_then v.continues (bound_put n.0.1 b),
+      λ h c.
+          let q = c.functions n.0.0 v.function v.stands in
+          record {
+            number = n.0.0;
+            function = q.0;
+            stands = q.1;
+            name = q.2.name ∙ v.name;
+            ty = q.2.ty ∙ v.ty;
+            linkage = subst (λ b. IsLinkage (function_storage words) (is_none (declared_among f.names x.text)) b) (sym q.2.is_linked) v.linkage;
+            first_place = first_later (is_none (declared_among f.names x.text)) q.0.first v.function.first place q.2.first v.first_place;
+            binds = bound_there n.0.1 h b c.extends;
+          },
+    )
   where
     main_answer : {A : Type 0} (x : List ℕ) (at : ℕ) (t : CType) (r : Answer A) (z : A) → main_function x at t r ≡ Ok z → r ≡ Ok z
     main_answer x at t r z h = chosen (is_main x && not (same_type t main_type)) _ _ z (r ≡ Ok z) h (λ b h. cc) (λ b h. h)
