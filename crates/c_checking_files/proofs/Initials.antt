@@ -1,10 +1,9 @@
 -- What is found for initializers, in each file that goes on from the one that finding leaves (C99 6.7.8).
-use Rattle.std.proofs.Common.{◌≡◌, ◌≢◌, ℕ, zero, suc, ◌+◌, ◌*◌, ◌≤◌, ◌<◌, Bool, true, false, refl, sym, ap, ◌∙◌, subst, List, [], ◌∷◌, ◌++◌, length}
-use Rattle.std.proofs.Common.{append-nil, append_assoc, arith, inl, inr}
+use Rattle.std.proofs.Common.{◌≡◌, ℕ, zero, suc, ◌+◌, ◌*◌, ◌≤◌, ◌<◌, Bool, true, false, refl, sym, ap, ◌∙◌, subst, List, [], ◌∷◌, ◌++◌, length}
+use Rattle.std.proofs.Common.{append-nil, arith, inl, inr}
 use Rattle.std.proofs.Math.Nat.{suc-mul, mul-suc, zero-mul}
 use Rattle.std.proofs.lemmas.Bool.{and_parts}
 use Rattle.std.specs.Prelude.{◌⊎◌, Option, Some, None, Ok, slice_get, nat_lt, ◌&&◌, is_some}
-use Rattle.c_types.specs.declared.ty.IntKind.{IntKind}
 use Rattle.c_types.specs.Types.{CType, void, integer, pointer, array, function, structure, Field, Record}
 use Rattle.c_types.specs.Layouts.{size_of, offset_of}
 use Rattle.c_types.specs.Limits.{AreComplete}
@@ -17,23 +16,23 @@ use Rattle.c_typed.specs.Conversions.{is_scalar}
 use Rattle.c_typed.specs.Mapped.{of_types, mapped_value}
 use Rattle.c_typed.specs.Parts as Lying
 use Rattle.c_typed.specs.Parts.{IsPart}
-use Rattle.c_typed.specs.Typed.{Declared, IsTyped, IsConverted, field_type}
+use Rattle.c_typed.specs.Typed.{Declared, field_type}
 use Rattle.c_typed.specs.TypedStatements.{IsTypedValue}
-use Rattle.c_erasure.specs.Erasure.{typed, Values, Erases}
+use Rattle.c_erasure.specs.Erasure.{Values, Erases}
 use Rattle.c_erasure.specs.Initializers.{Part, part_at, texts_of, is_braces, is_character, IsText, IsNoText, Initializes, IsOneValue, InitializeElements, InitializeFields}
 use Rattle.c_erasure.specs.Literals.{literals, literals_of_all}
 use Rattle.c_erasure.specs.Marks.{Mark, marks, marks_of_all}
 use Rattle.c_erasure.specs.MentionPlaces.{spoken, spoken_of_all}
-use Rattle.c_erasure.specs.Noted.{Noted, Expression, Thing, an_object, type_of_path}
+use Rattle.c_erasure.specs.Noted.{Noted, Expression, Thing, an_object}
 use Rattle.c_erasure.specs.Scopes.{ALocal, FileScope, Scope, declared, is_measured}
-use Rattle.c_checking.specs.Answers.{◌>>=◌, Checked, with_file, moved}
+use Rattle.c_checking.specs.Answers.{◌>>=◌, with_file, moved}
 use Rattle.c_checking.specs.Finding.{value_at, find}
-use Rattle.c_checking.specs.Initializers.{initial_value_in, value_part, initial_record_in, text_of_array, is_text, fields_of, without_braces, in_braces}
+use Rattle.c_checking.specs.Initializers.{initial_value_in, value_part, initial_record_in, text_of_array, is_text, fields_of, without_braces}
 use Rattle.c_checking.specs.Initializers.{initialized, one_value, elements, fields_from}
-use Rattle.c_checking.proofs.Results.{bound_ok, bound_with, ok, given, with_file_ok, chosen}
-use Rattle.c_checking.proofs.Extends.{Extends, itself, further, record_stays}
+use Rattle.c_checking.proofs.Results.{bound_ok, bound_with, given, with_file_ok, chosen}
+use Rattle.c_checking.proofs.Extends.{Extends, further, record_stays}
 use Rattle.c_checking.proofs.Agreement.{Ready, Grew, then, left, right}
-use Rattle.c_checking.proofs.Values.{IsValue, Stands, path_type_same}
+use Rattle.c_checking.proofs.Values.{Stands, path_type_same}
 use Rattle.c_checking.proofs.InRange.{IsInRange, AreInRange}
 use Rattle.c_checking.proofs.Declared.{nothing_grown}
 use Rattle.c_checking.proofs.Adding.{Grows, makes_none, adds_nothing, adds_then}
@@ -45,7 +44,7 @@ use Rattle.c_checking_files.proofs.Longer.{seen, GoesOn, ready_longer}
 use Rattle.c_checking_files.proofs.Layouts.{IsLaid, object_stays, size_stays, offset_stays, AreFields, fields_are, later_fields, first_field}
 use Rattle.c_checking_files.proofs.Layouts.{field_within, fields_apart, field_stays, field_object, record_in}
 use Rattle.c_checking_files.proofs.Parts.{Rise, rise_from, rise_to, rise_then, one_rises, AreOver, over_then, over_within, Parted, none, is_bytes, all_made, parted_then}
-use Rattle.c_checking_files.proofs.Parts.{NoneBegins, none_left, none_right, initial_value_made, initial_record_is, IsTextPart, text_made}
+use Rattle.c_checking_files.proofs.Parts.{NoneBegins, none_left, none_right, initial_value_made, initial_record_is, text_made}
 
 pub nothing : (s : Scope) → Grows s [] [] [] s.file
 nothing s = adds_nothing s.file s.is_inside (is_measured s.purpose) (makes_none s.purpose)
@@ -496,9 +495,15 @@ module _ (untagged : ℕ → List ℕ) where
       (OfElements t (suc n) at) (RisesInElements t (suc n) at) (own.0 ++ rest.0, rest.1)
   element_then s u v x y k l comma a more t n at own o p rest q =
       joined s u v x y k l _ _ _ _ _ _ _ _ _ own p rest q
-      (λ g l e is js.
-      (n, own.0, rest.0, omega arith, refl, is,
-      subst (λ z. InitializeElements more (seen s g l) t n (at + z) rest.0) (sym (size_stays e t o)) js))
+      (λ g l e is js. (
+        n,
+        own.0,
+        rest.0,
+        omega arith,
+        refl,
+        is,
+        subst (λ z. InitializeElements more (seen s g l) t n (at + z) rest.0) (sym (size_stays e t o)) js,
+      ))
       (λ g e b w h. (0, h.0, omega arith, first g b h.0 h.1, h.2))
       (λ g e b w h. (suc h.0, h.1, let lt = h.2 in omega (arith, lt), later g e b h.0 h.1 h.3, h.4))
       (λ g e l is js.

@@ -1,9 +1,9 @@
 -- Labels of a `switch`: they differ, and `default` stands there once at most (C99 6.8.4.2).
-use Rattle.std.proofs.Common.{◌≡◌, ◌≢◌, ℕ, zero, suc, ◌+◌, ◌≤◌, Bool, true, false, refl, sym, ap, ◌∙◌, subst, List, [], ◌∷◌, ◌++◌, length, append-nil, arith}
+use Rattle.std.proofs.Common.{◌≡◌, ◌≢◌, ℕ, ◌+◌, ◌≤◌, false, refl, sym, ap, ◌∙◌, subst, List, [], ◌∷◌, ◌++◌, append-nil, arith}
 use Rattle.std.proofs.lemmas.Bool.{or_parts, eqb-true, eq-eqb}
 use Rattle.std.proofs.lemmas.List.Elements.{All-cons, All-nil, All-append}
 use Rattle.std.proofs.Common.{inl, inr}
-use Rattle.std.specs.Prelude.{◌⊎◌, All, Option, Some, None, Ok, ◌==◌, ◌||◌}
+use Rattle.std.specs.Prelude.{◌⊎◌, All, Ok, ◌==◌}
 use Rattle.std.specs.List.{list_any}
 use Rattle.c_types.specs.declared.ty.IntKind.{IntKind}
 use Rattle.c_ast.specs.Trees
@@ -14,19 +14,18 @@ use Rattle.c_erasure.specs.BrokenStatements.{Labels}
 use Rattle.c_erasure.specs.Erasure.{IsConstant, Erases}
 use Rattle.c_erasure.specs.Marks.{marks}
 use Rattle.c_erasure.specs.MentionPlaces.{spoken, spoken_of_labels}
-use Rattle.c_erasure.specs.Scopes.{FileScope, Scope, ALocal, for_value}
+use Rattle.c_erasure.specs.Scopes.{FileScope, Scope, for_value}
 use Rattle.c_erasure.specs.Statements.{AreLabels}
-use Rattle.c_checking.specs.Answers.{◌>>=◌, with_file, moved}
+use Rattle.c_checking.specs.Answers.{moved}
 use Rattle.c_checking.specs.Finding.{value_at, constant_at, find}
-use Rattle.c_checking.specs.Statements.{leaving, with_case, with_default, Found, labels_in}
+use Rattle.c_checking.specs.Statements.{with_case, with_default, Found, labels_in}
 use Rattle.c_checking.proofs.Results.{bound_ok, bound_with, given, only_if, chosen}
 use Rattle.c_checking.proofs.InRange.{IsInRange}
 use Rattle.c_checking.proofs.Sound.{sound_constant}
 use Rattle.c_checking.proofs.Growth.{grow_constant}
 use Rattle.c_checking_files.proofs.Parts.{none}
 use Rattle.c_checking_files.proofs.SameLocals.{with_locals, same_find}
-use Rattle.c_checking_files.proofs.Longer.{seen}
-use Rattle.c_checking_files.proofs.Scoped.{IsWithin, ready_for, inside_grows, within_moved, FoundIn, then_in, as_said, nothing_in, FoundBeside}
+use Rattle.c_checking_files.proofs.Scoped.{IsWithin, ready_for, inside_grows, within_moved}
 use Rattle.c_checking_files.proofs.StatementParts.{FoundAs, then_as, change_as, nothing_as}
 
 -- ---- case values, each of which is none of those before

@@ -1,9 +1,9 @@
 -- Where parts of objects lie, over a list of records that grows (C99 6.7.2.1).
-use Rattle.std.proofs.Common.{◌≡◌, ℕ, zero, suc, ◌+◌, ◌*◌, ◌≤◌, ◌<◌, Bool, true, false, refl, sym, ap, ◌∙◌, subst, List, [], ◌∷◌, ◌++◌, length}
-use Rattle.std.proofs.Common.{length-append, IsTrue, arith}
+use Rattle.std.proofs.Common.{◌≡◌, ℕ, zero, suc, ◌+◌, ◌≤◌, ◌<◌, true, refl, sym, ap, ◌∙◌, subst, List, [], ◌∷◌, length}
+use Rattle.std.proofs.Common.{length-append, arith}
 use Rattle.std.proofs.lemmas.Bool.{and_from, and_parts, lt-ltb, ltb-true}
 use Rattle.std.proofs.lemmas.Option.{slice_get_within, get_or_from_slice_get}
-use Rattle.std.specs.Prelude.{map, Option, Some, None, slice_get, nat_lt, ◌&&◌, IsSomeAnd}
+use Rattle.std.specs.Prelude.{map, Option, Some, None, slice_get, nat_lt, IsSomeAnd}
 use Rattle.std.specs.Option.{option_map}
 use Rattle.c_types.specs.Types.{CType, void, integer, pointer, array, function, structure, Field, Record, field_types}
 use Rattle.c_types.specs.Layouts.{size_of, offset_of}

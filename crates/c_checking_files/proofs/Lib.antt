@@ -13,3 +13,5 @@ pub mod StatementParts
 pub mod Labels
 pub mod StatementLaws
 pub mod Statements
+pub mod Bodies
+pub mod FileScopes

@@ -2,37 +2,33 @@
 use Rattle.std.proofs.Common.{◌≡◌, Bool, refl, ap, ◌∙◌}
 use Rattle.c_erasure.specs.Scopes.{tag_at}
 use Rattle.c_checking.specs.Declaring.{literal_for, tagged}
-use Rattle.std.specs.Prelude.{ℕ, ◌+◌, ◌%◌, ◌^◌, true, false, if◌then◌else◌, List, [], ◌∷◌, ◌++◌, Option, Some, None, Ok}
+use Rattle.std.specs.Prelude.{ℕ, ◌+◌, ◌%◌, ◌^◌, true, false, if◌then◌else◌, List, ◌∷◌, ◌++◌, Option, Some, None, Ok}
 use Rattle.lay_base.specs.declared.faults.Rule.TheVariants as R
 use Rattle.lay_base.specs.declared.place.Place.{Place}
-use Rattle.c_types.specs.declared.ty.IntKind.{IntKind}
-use Rattle.c_types.specs.declared.ty.IntKind.TheVariants.{Int}
-use Rattle.c_types.specs.Types.{CType, CTypes, integer, no_types, and_type, Field}
+use Rattle.c_types.specs.Types.{CType, CTypes, no_types, and_type}
 use Rattle.c_ast.specs.declared.words.Spelling.{Spelling}
 use Rattle.c_ast.specs.declared.operators.UnaryOp.{UnaryOp}
 use Rattle.c_ast.specs.declared.operators.UnaryOp.TheVariants as U
 use Rattle.c_ast.specs.Trees
 use Rattle.c_ast.specs.Places.{first, first_specifiers, first_declarator}
-use Rattle.c_typed.specs.declared.operators.UnaryOp.TheVariants as TU
-use Rattle.c_typed.specs.declared.operators.BinaryOp.{BinaryOp}
 use Rattle.c_typed.specs.declared.program.MentionKind.TheVariants.{Named, Sizeof}
 use Rattle.c_typed.specs.Trees as Typed
 use Rattle.c_erasure.specs.Broken.{member_names, tag_place}
 use Rattle.c_erasure.specs.Declarators.{declared_name, parameter_type}
 use Rattle.c_erasure.specs.Erasure.{place_in, literal_of, tag_text, comma_or, after_all, with_parameter_if_named}
-use Rattle.c_erasure.specs.Noted.{Noted, nothing, Expression, Thing, a_value}
+use Rattle.c_erasure.specs.Noted.{Thing}
 use Rattle.c_erasure.specs.Operators.{kind_of, update_of, step_of}
-use Rattle.c_erasure.specs.Scopes.{ALocal, FileScope, Scope, Purpose, in_full, value_alone, type_alone, inside, measured, for_value, named, ended, defines, enumerator}
+use Rattle.c_erasure.specs.Scopes.{ALocal, Scope, Purpose, in_full, value_alone, type_alone, inside, measured, for_value, defines, enumerator}
 use Rattle.c_erasure.specs.Specifiers.{storage_of}
 use Rattle.c_checking.specs.Answers.{Answer, ◌>>=◌, refused, Checked, with_file, moved}
-use Rattle.c_checking.specs.Nodes.{worth, named_in, array_of, element_in, index_in, signature_in, argument_in, call_in, dot_in, arrow_in, step_in}
-use Rattle.c_checking.specs.Nodes.{address_in, deref_in, unary_in, not_in, size_node, sized_type, measured_in, cast_in, binary_in, tested, chosen_in}
-use Rattle.c_checking.specs.Nodes.{Target, scalar_at, record_at, path_of, target_in, assigned_in, copied_in, updated_in, comma_in}
-use Rattle.c_checking.specs.Declaring.{with_mention, mentions_in, literal_in, constant_in, tagged_in, enumerated_in, type_named, known_tag, definable}
-use Rattle.c_checking.specs.Declaring.{unless, completed_in, enumerator_in, int_value, next_value, enumeration_of, Derivation, to_pointer, to_array}
-use Rattle.c_checking.specs.Declaring.{to_open_array, to_function, derived, length_value, closed_at, object_at, Base, by_words, by_one, no_type, base_kind}
+use Rattle.c_checking.specs.Nodes.{array_of, signature_in, argument_in, call_in, dot_in, arrow_in, step_in}
+use Rattle.c_checking.specs.Nodes.{size_node, sized_type, measured_in, cast_in, binary_in, chosen_in}
+use Rattle.c_checking.specs.Nodes.{target_in, comma_in}
+use Rattle.c_checking.specs.Declaring.{with_mention, mentions_in, literal_in, tagged_in, known_tag, definable}
+use Rattle.c_checking.specs.Declaring.{unless, completed_in, enumerator_in, int_value, enumeration_of, Derivation, to_pointer, to_array}
+use Rattle.c_checking.specs.Declaring.{to_function, derived, length_value, object_at, base_kind}
 use Rattle.c_checking.specs.Declaring.{without_storage, parameter_storage, new_if_named, scalar_parameter}
-use Rattle.c_checking.specs.Finding.{complete, value_at, tested_at, on_value, unary_on, constant_at, type_of_derived, subscripted, assigned, base_type, with_member}
+use Rattle.c_checking.specs.Finding.{complete, value_at, tested_at, unary_on, constant_at, type_of_derived, subscripted, assigned, base_type, with_member}
 use Rattle.c_checking.specs.Finding.{find, arguments, type_name, one_of, specified, members, member_declarators, enumerators, enumerator_value, derivations, array_step, parameter_list, parameters}
 
 module _ (l : List ALocal) where
@@ -155,7 +151,7 @@ module _ (l : List ALocal) where
         >>= λ b. same_member_declarators ds b.0 semicolon (moved s b.1) i >>= λ own. same_members more (moved s own.1) i >>= λ rest. Ok (own.0 ++ rest.0, rest.1)
 
     pub same_member_declarators : (a : Trees.MemberDeclarators) (base : CType) (semicolon : ℕ) (s : Scope)
-      → member_declarators a base semicolon (with_locals s) ≡ member_declarators a base semicolon s
+        → member_declarators a base semicolon (with_locals s) ≡ member_declarators a base semicolon s
     same_member_declarators Trees.no_member_declarators base semicolon s = refl
     same_member_declarators (Trees.and_member_declarator comma d more) base semicolon s = λ i. same_derivations d s i
         >>= λ steps. with_file steps.1 (type_of_derived (first_declarator d semicolon) steps.1 steps.0 base)

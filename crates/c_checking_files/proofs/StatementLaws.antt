@@ -1,44 +1,28 @@
 -- What is found for statements stands for them and is well typed, in each later file and with each longer list of locals (C99 6.8).
-use Rattle.std.proofs.Common.{◌≡◌, ◌≢◌, ℕ, zero, suc, ◌+◌, ◌≤◌, Bool, true, false, refl, sym, ap, ◌∙◌, subst, List, [], ◌∷◌, ◌++◌, length, append-nil}
-use Rattle.std.proofs.Common.{append_assoc, arith, cond}
+use Rattle.std.proofs.Common.{◌≡◌, ◌≢◌, ℕ, zero, suc, ◌+◌, ◌≤◌, Bool, true, false, refl, sym, ap, subst, List, [], ◌∷◌, ◌++◌}
+use Rattle.std.proofs.Common.{arith}
 use Rattle.std.proofs.lemmas.List.Elements.{All-append}
-use Rattle.std.specs.Prelude.{All, Option, Some, None, Ok, ◌==◌, ◌||◌}
-use Rattle.std.specs.Option.{option_map}
+use Rattle.std.specs.Prelude.{All, Option, Some, None, Ok, ◌==◌}
 use Rattle.c_types.specs.declared.ty.IntKind.{IntKind}
 use Rattle.c_types.specs.Types.{CType, void, integer, pointer, array, function, structure}
 use Rattle.c_ast.specs.Trees
-use Rattle.c_ast.specs.Places.{first, first_specifiers}
 use Rattle.c_typed.specs.Trees as Typed
 use Rattle.c_typed.specs.Conversions.{as_kind}
-use Rattle.c_typed.specs.Constants.{ty}
 use Rattle.c_typed.specs.Fits.{is_void}
-use Rattle.c_typed.specs.Mapped.{of_types, mapped_statement, mapped_statements, mapped_arms}
+use Rattle.c_typed.specs.Mapped.{of_types, mapped_statement, mapped_arms}
 use Rattle.c_typed.specs.Typed.{Declared}
-use Rattle.c_typed.specs.TypedStatements.{declared_by, declared_by_arms, all_declared, all_declared_by, all_declared_by_arms, all_cases, one_if, defaults}
-use Rattle.c_typed.specs.TypedStatements.{AreDifferent, IsCondition, IsEffect, IsTypedStatement, AreTyped, AreTypedArms}
-use Rattle.c_erasure.specs.BrokenStatements.{Labels, no_labels}
-use Rattle.c_erasure.specs.Erasure.{typed, Erases}
-use Rattle.c_erasure.specs.Literals.{literals, literals_if_any, made_by_start, made_by, made_by_item, made_by_items, made_by_switch_item, made_by_switch_items}
-use Rattle.c_erasure.specs.MentionPlaces.{spoken, spoken_if_some, spoken_of_start, spoken_of_labels, spoken_by, spoken_by_item, spoken_by_items}
-use Rattle.c_erasure.specs.MentionPlaces.{spoken_by_switch_item, spoken_by_switch_items}
-use Rattle.c_erasure.specs.Noted.{Noted, Expression}
-use Rattle.c_erasure.specs.Scopes.{FileScope, Scope, ALocal, declared, inside}
-use Rattle.c_erasure.specs.Specifiers.{Storage, no_storage, a_typedef, is_extern, is_static, is_auto, is_register, several, storage_of}
-use Rattle.c_erasure.specs.Statements.{Statement, Statements, Arms, followed_by, with_first, IsPlain, IsPlainIfAny, IsStart, AreLabels, IsArranged, ErasesStatement}
-use Rattle.c_erasure.specs.Statements.{ErasesItem, EraseItems, ErasesSwitchItem, EraseSwitchItems}
-use Rattle.c_checking.specs.Answers.{Answer, ◌>>=◌, refused, moved}
-use Rattle.c_checking.specs.Statements.{Performed, in_scope, leaving, value_of_expression, value_if_any, condition, condition_if_any, start_of, unless_static}
-use Rattle.c_checking.specs.Statements.{local_declaration, in_same_scope, labels_in, Found, arranged, switched_in, jump, returned_in, returned_nothing, unless_void}
-use Rattle.c_checking.specs.Statements.{performed, item_in, items_in, switch_items, switch_item}
-use Rattle.c_checking.proofs.Results.{bound_ok, given, only_if, chosen}
+use Rattle.c_typed.specs.TypedStatements.{declared_by, declared_by_arms, all_declared_by, all_declared_by_arms, all_cases, one_if, defaults}
+use Rattle.c_typed.specs.TypedStatements.{AreTyped, AreTypedArms}
+use Rattle.c_erasure.specs.BrokenStatements.{Labels}
+use Rattle.c_erasure.specs.Specifiers.{Storage, no_storage, a_typedef, is_extern, is_static, is_auto, is_register, several}
+use Rattle.c_erasure.specs.Statements.{Statement, Statements, Arms, with_first, IsArranged}
+use Rattle.c_checking.specs.Answers.{Answer}
+use Rattle.c_checking.specs.Statements.{unless_static}
+use Rattle.c_checking.specs.Statements.{arranged, jump, returned_nothing, unless_void}
+use Rattle.c_checking.proofs.Results.{given, only_if, chosen}
 use Rattle.c_checking.proofs.InRange.{IsInRange}
-use Rattle.c_checking.proofs.Values.{IsValue}
-use Rattle.c_checking_files.proofs.Longer.{seen}
-use Rattle.c_checking_files.proofs.Scoped.{IsWithin, FoundIn, then_in, as_said, nothing_in, FoundBeside}
-use Rattle.c_checking_files.proofs.Declarations.{IsDeclarationInRange, typed_statements, declared_then, typed_then}
-use Rattle.c_checking_files.proofs.StatementParts.{FoundAs, same_seen, then_as, change_as, nothing_as, inside_within, left_block, IsDeclaration, declaration_found}
-use Rattle.c_checking_files.proofs.StatementParts.{IsValueThere, value_as, IsConditionThere, condition_as, plain_value, IsSwitched, switched_made, returned_made}
-use Rattle.c_checking_files.proofs.Labels.{AreFresh, fresh_then, are_different, AreCounted, none_counted, AreLabelsInRange, FoundLabels, labels_found}
+use Rattle.c_checking_files.proofs.Declarations.{IsDeclarationInRange, typed_statements}
+use Rattle.c_checking_files.proofs.Labels.{AreFresh, fresh_then, AreCounted, AreLabelsInRange}
 
 -- ---- literals in range
 

@@ -1,48 +1,44 @@
 -- What is found for declarations in blocks, and for parts of statements (C99 6.7, 6.8).
-use Rattle.std.proofs.Common.{◌≡◌, ◌≢◌, ℕ, zero, suc, ◌+◌, ◌≤◌, Bool, true, false, refl, sym, ap, ◌∙◌, subst, List, [], ◌∷◌, ◌++◌, length, append-nil}
-use Rattle.std.proofs.Common.{append_assoc, inl, inr, arith}
-use Rattle.std.specs.Prelude.{◌⊎◌, ◌^◌, Option, Some, None, Ok, slice_get}
+use Rattle.std.proofs.Common.{◌≡◌, ◌≢◌, ℕ, Bool, true, false, refl, sym, ap, ◌∙◌, subst, List, [], ◌∷◌, ◌++◌, append-nil}
+use Rattle.std.proofs.Common.{inl, inr}
+use Rattle.std.specs.Prelude.{◌⊎◌, ◌^◌, Some, Ok}
 use Rattle.std.proofs.Math.Nat.{mod-mod}
 use Rattle.c_types.specs.declared.ty.IntKind.{IntKind}
 use Rattle.c_types.specs.declared.ty.IntKind.TheVariants.{Char, SChar, UChar, Short, UShort, Int, UInt, Long, ULong}
 use Rattle.c_types.specs.Types.{CType, void, integer, pointer, array, function, structure}
 use Rattle.c_ast.specs.Trees
 use Rattle.c_ast.specs.Places.{first, first_specifiers}
-use Rattle.c_typed.specs.Trees as Typed
 use Rattle.c_typed.specs.Conversions.{as_kind, is_scalar, promoted_kind, promoted}
 use Rattle.c_typed.specs.Constants.{ty}
-use Rattle.c_typed.specs.Fits.{assigns, is_void}
+use Rattle.c_typed.specs.Fits.{assigns}
 use Rattle.c_typed.specs.Rules.{promoting}
-use Rattle.c_typed.specs.Typed.{Declared, bare_ty, IsTyped, IsTested, IsConverted}
+use Rattle.c_typed.specs.Typed.{bare_ty, IsTyped, IsTested, IsConverted}
 use Rattle.c_typed.specs.TypedStatements.{all_declared_by}
 use Rattle.c_erasure.specs.Erasure.{typed, IsBase, IsOne, Erases, Values}
-use Rattle.c_erasure.specs.Literals.{literals, literals_if_any, place_if_static, made_by_declarators, made_by_declaration}
+use Rattle.c_erasure.specs.Literals.{literals, place_if_static, made_by_declaration}
 use Rattle.c_erasure.specs.Marks.{marks_of_specifiers}
-use Rattle.c_erasure.specs.MentionPlaces.{spoken, spoken_if_some, spoken_of_declarators, spoken_of_declaration, spoken_of_specifiers}
-use Rattle.c_erasure.specs.Noted.{Noted, Expression, Thing, type_of}
+use Rattle.c_erasure.specs.MentionPlaces.{spoken, spoken_of_declaration, spoken_of_specifiers}
+use Rattle.c_erasure.specs.Noted.{Expression, Thing, type_of}
 use Rattle.c_erasure.specs.Scopes.{FileScope, Scope, ALocal, declared, inside}
 use Rattle.c_erasure.specs.Specifiers.{Storage, no_storage, a_typedef, is_extern, is_static, is_auto, is_register, several, storage_of}
-use Rattle.c_erasure.specs.Statements.{Statement, Statements, DeclareAll, IsLocalDeclaration, IsPlain}
-use Rattle.c_checking.specs.Answers.{Answer, ◌>>=◌, refused, moved}
+use Rattle.c_erasure.specs.Statements.{Statements, DeclareAll, IsLocalDeclaration, IsPlain}
+use Rattle.c_checking.specs.Answers.{Answer, moved}
 use Rattle.c_checking.specs.Declaring.{base_kind}
 use Rattle.c_checking.specs.Finding.{base_type, one_of}
 use Rattle.c_checking.specs.Nodes.{null, converted}
-use Rattle.c_checking.specs.Statements.{Performed, in_scope, leaving, declare_all, local_storage, some_declared, local_declaration, value_of_expression, value_if_any}
-use Rattle.c_checking.specs.Statements.{condition_in, in_same_scope, condition, condition_if_any, switch_value, switched_in, returned_in}
+use Rattle.c_checking.specs.Statements.{in_scope, leaving, declare_all, local_storage, some_declared, local_declaration, value_of_expression}
+use Rattle.c_checking.specs.Statements.{condition_in, condition, switch_value, switched_in, returned_in}
 use Rattle.c_checking.proofs.Results.{bound_ok, given, only_if}
-use Rattle.c_checking.proofs.Extends.{Extends}
 use Rattle.c_checking.proofs.Agreement.{blocks_stay}
 use Rattle.c_checking.proofs.InRange.{IsInRange, AreSpecifiersInRange}
 use Rattle.c_checking.proofs.Values.{IsValue, operand, unconverted_same, type_same}
-use Rattle.c_checking.proofs.FoundTypes.{FoundBase}
 use Rattle.c_checking.proofs.Sound.{sound_base}
 use Rattle.c_checking.proofs.Growth.{grow_base}
-use Rattle.c_checking_files.proofs.Layouts.{IsLaid}
 use Rattle.c_checking_files.proofs.Parts.{none}
 use Rattle.c_checking_files.proofs.SameLocals.{with_locals, same_one_of}
-use Rattle.c_checking_files.proofs.Longer.{seen, GoesOn, blocks_longer}
-use Rattle.c_checking_files.proofs.Scoped.{IsWithin, ready_for, inside_grows, within_moved, IsLater, FoundIn, then_in, as_said, nothing_in, FoundBeside, value_in}
-use Rattle.c_checking_files.proofs.Declarations.{IsDeclarationInRange, static_places, made_by, made_same, AreDeclared, AreTypedIn, declarators_found}
+use Rattle.c_checking_files.proofs.Longer.{seen, blocks_longer}
+use Rattle.c_checking_files.proofs.Scoped.{IsWithin, ready_for, inside_grows, within_moved, FoundIn, then_in, as_said, nothing_in, FoundBeside, value_in}
+use Rattle.c_checking_files.proofs.Declarations.{IsDeclarationInRange, static_places, made_same, AreTypedIn, declarators_found}
 
 -- ---- storage classes in a block
 

@@ -1,46 +1,42 @@
 -- What is found for statements stands for them and is well typed, in each later file and with each longer list of locals (C99 6.8).
-use Rattle.std.proofs.Common.{◌≡◌, ◌≢◌, ℕ, zero, suc, ◌+◌, ◌≤◌, Bool, true, false, refl, sym, ap, ◌∙◌, subst, List, [], ◌∷◌, ◌++◌, length, append-nil}
-use Rattle.std.proofs.Common.{append_assoc, arith, cond}
-use Rattle.std.proofs.lemmas.List.Elements.{All-append, All-nil}
-use Rattle.std.specs.Prelude.{All, Option, Some, None, Ok, ◌==◌, ◌||◌}
+use Rattle.std.proofs.Common.{◌≡◌, ℕ, ◌+◌, ◌≤◌, Bool, true, false, refl, sym, ap, ◌∙◌, subst, List, [], ◌++◌, append-nil}
+use Rattle.std.proofs.Common.{append_assoc, arith}
+use Rattle.std.proofs.lemmas.List.Elements.{All-nil}
+use Rattle.std.specs.Prelude.{All, Option, Some, None, Ok, ◌||◌}
 use Rattle.std.specs.Option.{option_map}
 use Rattle.c_types.specs.declared.ty.IntKind.{IntKind}
-use Rattle.c_types.specs.Types.{CType, void, integer, pointer, array, function, structure}
+use Rattle.c_types.specs.Types.{CType, integer}
 use Rattle.c_ast.specs.Trees
 use Rattle.c_ast.specs.Places.{first, first_specifiers}
 use Rattle.c_typed.specs.Trees as Typed
 use Rattle.c_typed.specs.Conversions.{as_kind}
 use Rattle.c_typed.specs.Constants.{ty}
-use Rattle.c_typed.specs.Fits.{is_void}
-use Rattle.c_typed.specs.Mapped.{of_types, mapped_statement, mapped_statements, mapped_arms}
-use Rattle.c_typed.specs.Typed.{Declared}
-use Rattle.c_typed.specs.TypedStatements.{declared_by, declared_by_arms, all_declared, all_declared_by, all_declared_by_arms, all_cases, one_if, defaults}
+use Rattle.c_typed.specs.TypedStatements.{declared_by, declared_by_arms, all_declared, all_declared_by, all_declared_by_arms, all_cases, defaults}
 use Rattle.c_typed.specs.TypedStatements.{AreDifferent, IsCondition, IsEffect, IsTypedStatement, AreTyped, AreTypedArms}
 use Rattle.c_erasure.specs.BrokenStatements.{Labels, no_labels}
 use Rattle.c_erasure.specs.Erasure.{typed, Erases}
 use Rattle.c_erasure.specs.Literals.{literals, literals_if_any, made_by_start, made_by, made_by_item, made_by_items, made_by_switch_item, made_by_switch_items}
-use Rattle.c_erasure.specs.MentionPlaces.{spoken, spoken_if_some, spoken_of_start, spoken_of_labels, spoken_by, spoken_by_item, spoken_by_items}
+use Rattle.c_erasure.specs.MentionPlaces.{spoken, spoken_if_some, spoken_of_start, spoken_by, spoken_by_item, spoken_by_items}
 use Rattle.c_erasure.specs.MentionPlaces.{spoken_by_switch_item, spoken_by_switch_items}
-use Rattle.c_erasure.specs.Noted.{Noted, Expression, type_of}
+use Rattle.c_erasure.specs.Noted.{Expression, type_of}
 use Rattle.c_erasure.specs.Scopes.{FileScope, Scope, ALocal, declared, inside}
-use Rattle.c_erasure.specs.Specifiers.{Storage, no_storage, a_typedef, is_extern, is_static, is_auto, is_register, several, storage_of}
-use Rattle.c_erasure.specs.Statements.{Statement, Statements, Arms, followed_by, with_first, IsPlain, IsPlainIfAny, IsStart, AreLabels, IsArranged, ErasesStatement}
+use Rattle.c_erasure.specs.Specifiers.{storage_of}
+use Rattle.c_erasure.specs.Statements.{Statement, Statements, Arms, followed_by, with_first, IsPlainIfAny, IsStart, ErasesStatement}
 use Rattle.c_erasure.specs.Statements.{ErasesItem, EraseItems, ErasesSwitchItem, EraseSwitchItems}
-use Rattle.c_checking.specs.Answers.{Answer, ◌>>=◌, refused, moved}
-use Rattle.c_checking.specs.Statements.{Performed, in_scope, leaving, value_of_expression, value_if_any, condition, condition_if_any, start_of, unless_static}
-use Rattle.c_checking.specs.Statements.{local_declaration, in_same_scope, labels_in, Found, arranged, switched_in, jump, returned_in, returned_nothing, unless_void}
+use Rattle.c_checking.specs.Answers.{Answer, ◌>>=◌, moved}
+use Rattle.c_checking.specs.Statements.{in_scope, leaving, value_of_expression, value_if_any, condition, condition_if_any, start_of}
+use Rattle.c_checking.specs.Statements.{local_declaration, labels_in, Found, arranged, switched_in, jump, returned_in, returned_nothing}
 use Rattle.c_checking.specs.Statements.{performed, item_in, items_in, switch_items, switch_item}
 use Rattle.c_checking.proofs.Results.{bound_ok, given, only_if, chosen}
-use Rattle.c_checking.proofs.InRange.{IsInRange}
-use Rattle.c_checking.proofs.Values.{IsValue, type_same}
+use Rattle.c_checking.proofs.Values.{type_same}
 use Rattle.c_checking_files.proofs.Longer.{seen}
-use Rattle.c_checking_files.proofs.Scoped.{IsWithin, FoundIn, then_in, as_said, nothing_in, FoundBeside}
-use Rattle.c_checking_files.proofs.Declarations.{IsDeclarationInRange, typed_statements, declared_then, typed_then}
-use Rattle.c_checking_files.proofs.StatementParts.{FoundAs, same_seen, then_as, change_as, nothing_as, inside_within, left_block, IsDeclaration, declaration_found}
-use Rattle.c_checking_files.proofs.StatementParts.{IsValueThere, value_as, IsConditionThere, condition_as, plain_value, IsSwitched, switched_made, switched_keeps, returned_made}
-use Rattle.c_checking_files.proofs.Labels.{AreFresh, fresh_then, are_different, AreCounted, none_counted, AreLabelsInRange, FoundLabels, labels_found}
-use Rattle.c_checking_files.proofs.StatementLaws.{declared_typed, declared_typed_arms, cases_typed, defaults_typed, arranged_cases, one_if_one}
-use Rattle.c_checking_files.proofs.StatementLaws.{arranged_defaults, arranged_is, arranged_declared, arranged_typed, first_cases, first_defaults}
+use Rattle.c_checking_files.proofs.Scoped.{IsWithin, FoundIn, then_in, as_said, nothing_in}
+use Rattle.c_checking_files.proofs.Declarations.{typed_statements, declared_then, typed_then}
+use Rattle.c_checking_files.proofs.StatementParts.{FoundAs, same_seen, then_as, change_as, nothing_as, inside_within, left_block, declaration_found}
+use Rattle.c_checking_files.proofs.StatementParts.{IsValueThere, value_as, IsConditionThere, condition_as, plain_value, switched_made, switched_keeps, returned_made}
+use Rattle.c_checking_files.proofs.Labels.{are_different, AreCounted, none_counted, labels_found}
+use Rattle.c_checking_files.proofs.StatementLaws.{declared_typed, declared_typed_arms, cases_typed, defaults_typed}
+use Rattle.c_checking_files.proofs.StatementLaws.{arranged_is, arranged_declared, arranged_typed, first_cases, first_defaults}
 use Rattle.c_checking_files.proofs.StatementLaws.{first_declared, first_typed, arms_counted, jump_is, nothing_is, not_static}
 use Rattle.c_checking_files.proofs.StatementLaws.{not_void, IsInRangeIfAny, IsStartInRange, typed_statement, typed_arms, IsStatementInRange}
 use Rattle.c_checking_files.proofs.StatementLaws.{IsItemInRange, AreItemsInRange, IsSwitchItemInRange, AreSwitchItemsInRange, AreArmsCounted}
@@ -199,13 +195,18 @@ module _ (untagged : ℕ → List ℕ) (f : FileScope) where
         (λ g l e laid goes value all.
         let k = switched_made (Erases a (seen s g l)) (seen s g l) (first a) x.0 value y h in
         let here = same_seen untagged f s x.1 v.stays g l in
-        let m = first_cases b.0.0 b.0.1 in
-        ((y.0, y.1, b.0.0, b.0.1, refl, k.values, k.type_is, subst (λ c. EraseSwitchItems items (inside c) y.1 b.0.0 b.0.1) here all.erase),
-        (k.is_typed, k.promotes, declared_typed_arms arms,
-        (y.1, sym (type_there k.type_is), subst (All (λ v. as_kind y.1 v ≡ v)) (sym m ∙ cases_typed arms) u.counted.values),
-        subst AreDifferent (sym m ∙ cases_typed arms) (are_different (all_cases b.0.1) u.counted.fresh),
-        few (defaults_typed arms) (first_defaults b.0.0 b.0.1) u.counted.bounded,
-        first_typed (declared (seen s g l)) result loop b.0.0 b.0.1 all.is_typed all.arms_typed))) in
+        let m = first_cases b.0.0 b.0.1 in (
+          (y.0, y.1, b.0.0, b.0.1, refl, k.values, k.type_is, subst (λ c. EraseSwitchItems items (inside c) y.1 b.0.0 b.0.1) here all.erase),
+          (
+            k.is_typed,
+            k.promotes,
+            declared_typed_arms arms,
+            (y.1, sym (type_there k.type_is), subst (All (λ v. as_kind y.1 v ≡ v)) (sym m ∙ cases_typed arms) u.counted.values),
+            subst AreDifferent (sym m ∙ cases_typed arms) (are_different (all_cases b.0.1) u.counted.fresh),
+            few (defaults_typed arms) (first_defaults b.0.0 b.0.1) u.counted.bounded,
+            first_typed (declared (seen s g l)) result loop b.0.0 b.0.1 all.is_typed all.arms_typed,
+          ),
+        )) in
         record {
           found = subst (λ after. FoundIn untagged f s (spoken a ++ spoken_by_switch_items items) (literals a ++ made_by_switch_items items)
               (λ g l. IsStatementThere (Trees.switch at from a to begin items end) loop switch st (seen s g l))

@@ -14,20 +14,20 @@ use Rattle.c_typed.specs.InitialValues.{InitialValue, initial_value}
 use Rattle.c_typed.specs.Mapped.{of_types, mapped_initializer, mapped_part, mapped_value}
 use Rattle.c_typed.specs.Parts as Lying
 use Rattle.c_typed.specs.Parts.{IsPart}
-use Rattle.c_typed.specs.Typed.{Declared, IsTyped}
+use Rattle.c_typed.specs.Typed.{Declared}
 use Rattle.c_typed.specs.TypedStatements.{IsTypedPart, IsTypedValue, IsTypedInitializer}
 use Rattle.c_erasure.specs.Erasure.{typed, Values, Erases}
-use Rattle.c_erasure.specs.Initializers.{Part, part_at, texts_of, is_braces, IsText, IsTextOf, Initializes, IsInitializer, HasConstant, AreConstants}
+use Rattle.c_erasure.specs.Initializers.{Part, part_at, texts_of, is_braces, IsText, Initializes, IsInitializer, HasConstant, AreConstants}
 use Rattle.c_erasure.specs.Literals.{literals}
-use Rattle.c_erasure.specs.Marks.{Mark, marks}
+use Rattle.c_erasure.specs.Marks.{marks}
 use Rattle.c_erasure.specs.MentionPlaces.{spoken}
-use Rattle.c_erasure.specs.Noted.{Noted, Expression, Thing, an_object, type_of_path}
+use Rattle.c_erasure.specs.Noted.{Noted, Expression, an_object, type_of_path}
 use Rattle.c_erasure.specs.Scopes.{ALocal, FileScope, Scope, declared}
-use Rattle.c_checking.specs.Answers.{◌>>=◌, with_file, moved}
+use Rattle.c_checking.specs.Answers.{◌>>=◌, with_file}
 use Rattle.c_checking.specs.Finding.{find}
 use Rattle.c_checking.specs.Initializers.{initial_record_in, without_braces, initialized, initializer, whole_of, is_constant_part, are_constant_parts, are_constants, constants_in}
-use Rattle.c_checking.proofs.Results.{bound_ok, bound_with, given, with_file_ok, only_if}
-use Rattle.c_checking.proofs.Extends.{Extends, itself, further}
+use Rattle.c_checking.proofs.Results.{bound_ok, given, with_file_ok, only_if}
+use Rattle.c_checking.proofs.Extends.{Extends}
 use Rattle.c_checking.proofs.Agreement.{Ready, Grew}
 use Rattle.c_checking.proofs.Values.{Stands, path_type_same}
 use Rattle.c_checking.proofs.InRange.{IsInRange}
@@ -37,7 +37,7 @@ use Rattle.c_checking_files.proofs.SameLocals.{with_locals, same_find}
 use Rattle.c_checking_files.proofs.Longer.{seen, GoesOn, ready_longer}
 use Rattle.c_checking_files.proofs.Layouts.{IsLaid}
 use Rattle.c_checking_files.proofs.Parts.{Rise, are_rising, AreOver, all_over, Parted, NoneBegins, initial_record_is}
-use Rattle.c_checking_files.proofs.Initials.{FoundParts, FoundInitial, OfObject, RisesIn, ReadFrom, IsKnown, Plainly, plain, sound_initial}
+use Rattle.c_checking_files.proofs.Initials.{OfObject, ReadFrom, IsKnown, plain, sound_initial}
 
 -- ---- what parts stand for an object of a type
 
@@ -122,9 +122,12 @@ whole_is a s t parts h = by_outline (outline a s t 0 parts h)
 
     by_outline : Outline (is_braces a) t 0 parts → IsInitializer a s t (whole_of t (is_braces a) parts)
     by_outline (inl x) =
-        inl (x.0,
-        ap (whole_of t (is_braces a)) x.2 ∙ chosen_first (is_scalar t || (is_record t && not (is_braces a))) (scalar_or (is_scalar t) x.1 _) _ _,
-        x.1, subst (Initializes a s t 0) x.2 h)
+        inl (
+          x.0,
+          ap (whole_of t (is_braces a)) x.2 ∙ chosen_first (is_scalar t || (is_record t && not (is_braces a))) (scalar_or (is_scalar t) x.1 _) _ _,
+          x.1,
+          subst (Initializes a s t 0) x.2 h,
+        )
     by_outline (inr (inl x)) =
         let e : whole_of t (is_braces a) (part_at 0 (Typed.record_of x.1)) ≡ Typed.whole_record x.1 = rw (x.2, x.3) refl in
         inr (inl (x.1, ap (whole_of t (is_braces a)) x.4 ∙ e, ap is_record x.3, x.2, subst (Initializes a s t 0) x.4 h))
@@ -268,10 +271,11 @@ module _ (untagged : ℕ → List ℕ) where
         parted = v.parted;
         grows = v.grows;
         holds = λ g l e b laid m.
-            let i = v.holds g l e b m in
-            (whole_is a (seen s g l) t x.0.0 i,
-            whole_typed (declared (seen s g l)) g refl t (is_braces a) x.0.0 (outline a (seen s g l) t 0 x.0.0 i) (v.typed g l e b) (0 + size_of g.records t)
-            (v.rises g e laid) (record_here a s n r t x.0 x.1 g l e b));
+            let i = v.holds g l e b m in (
+              whole_is a (seen s g l) t x.0.0 i,
+              whole_typed (declared (seen s g l)) g refl t (is_braces a) x.0.0 (outline a (seen s g l) t 0 x.0.0 i) (v.typed g l e b) (0 + size_of g.records t)
+                  (v.rises g e laid) (record_here a s n r t x.0 x.1 g l e b),
+            );
       })
 
 -- ---- constants
