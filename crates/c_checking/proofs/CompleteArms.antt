@@ -76,7 +76,7 @@ module _ (g : FileScope) (w : IsWhole g) (ls : List ALocal) (result : CType) (ow
       (after : Scope)
       (before : Labels) (loop : Bool) → BlocksFit g (length c.records) b → IsBefore g c (Seen g w ls (walk_of_switch_item g.untagged own item))
       → (more : List ALocal) × (ls ≡ l ++ more) → ErasesSwitchItem item (outer g w ls b) kind cases n found after
-          → AreTypedHere g w ls result own b loop true found
+      → AreTypedHere g w ls result own b loop true found
       → AreNumbered (length l) (all_declared_by found) → AreFresh before.cases cases → before.defaults + n ≤ 1
       → FoundSwitchItem b l c (walk_of_switch_item g.untagged own item) (switch_item result item (inner g w ls b l c) loop kind before) found
       (found_labels g w ls cases n before) after
@@ -86,7 +86,7 @@ module _ (g : FileScope) (w : IsWhole g) (ls : List ALocal) (result : CType) (ow
   no_labels_found cases n before p q =
       let z : before.defaults ≡ before.defaults + n = omega (arith, q) in
       ap (λ m. found [] 0 [] m) z ∙ ap (λ cases. found cases 0 cases (before.defaults + n)) (sym p)
-          ∙ ap (λ k. found cases k cases (before.defaults + n)) (sym q)
+      ∙ ap (λ k. found cases k cases (before.defaults + n)) (sym q)
     where
       found : List ℕ → ℕ → List ℕ → ℕ → Found
       found own k all m = record { cases = own; defaults = k; all = record { cases = onto all before.cases; defaults = m } }
@@ -104,7 +104,7 @@ module _ (g : FileScope) (w : IsWhole g) (ls : List ALocal) (result : CType) (ow
           locals = r.locals;
           is = ap (λ r. r >>= λ x. ok {A = (Statements × Found) × Scope} ((x.0, record { cases = []; defaults = 0; all = before }), x.1)) r.is
               ∙ ap (λ labels. ok {A = (Statements × Found) × Scope} ((found, labels), inner g w ls z.blocks r.locals r.lists))
-                  (no_labels_found cases n before h.0 h.1);
+              (no_labels_found cases n before h.0 h.1);
           after = r.after;
           count = r.count;
           rest = r.rest;
@@ -193,7 +193,7 @@ module _ (g : FileScope) (w : IsWhole g) (ls : List ALocal) (result : CType) (ow
       let both = typed_followed g w ls result own b loop true h.2 h.3 t.0 in
       let d : all_declared_by all ++ all_declared_by_arms arms ≡ all_declared_by h.2 ++ (all_declared_by h.3 ++ all_declared_by_arms h.4) =
       a.declare ∙ ap (λ z. z ++ all_declared_by_arms h.4) (declared_followed h.2 h.3)
-          ∙ append_assoc (all_declared_by h.2) (all_declared_by h.3) (all_declared_by_arms h.4) in
+      ∙ append_assoc (all_declared_by h.2) (all_declared_by h.3) (all_declared_by_arms h.4) in
       let n = subst (AreNumbered (length l)) d n in
       let u = subst (AreFresh before.cases) a.values u in
       let own_count = a.count in

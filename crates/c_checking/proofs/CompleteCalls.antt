@@ -198,7 +198,7 @@ module _ (g : FileScope) (w : IsWhole g) (ls : List ALocal) where
       let n = CompleteParts.measured_back d.records (ended g.ends at) at h.1.0 h.0 h.1.3 h.2.0 o l in
       let m = mentioned g ls s c d (Seen g w ls s (Trees.sizeof_expression at a)) (mentions_in (part g d)) Sizeof h.0 at h.2.1
       (after_look g w ls c d at (seen s.is_inside s.purpose (seen false value_alone (walk g.untagged a)))
-          (subst (λ w. IsAfter g c w d) (sym e) z.done.after)) in
+      (subst (λ w. IsAfter g c w d) (sym e) z.done.after)) in
       record {
         done = record { lists = m.0; is = rw (z.done.is, n, m.1, same) refl; after = m.3 };
         complete = tt;

@@ -150,7 +150,7 @@ module _ (g : FileScope) (w : IsWhole g) (ls : List ALocal) (result : CType) (ow
       (walk_of_option g.untagged own step) e3 in
       let e1 = left_seen g true in_full c (walk_of_start g.untagged own start) (walk_of_option g.untagged own test) e2 in
       let z = start_complete start d ([] ∷ b) l c h.0 h.1 (λ x y q. f x y q) e1 p h.6 k.1
-          (numbered_left (length l) (all_declared_by h.0) (all_declared h.4) n) in
+      (numbered_left (length l) (all_declared_by h.0) (all_declared h.4) n) in
       let q = z.performs in
       let r = test_complete test z.blocks q.locals q.lists h.2 z.fit
       (right_seen g true in_full c q.lists (walk_of_start g.untagged own start) (walk_of_option g.untagged own test) e2 q.after)

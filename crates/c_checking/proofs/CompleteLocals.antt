@@ -94,7 +94,7 @@ module _ (g : FileScope) (w : IsWhole g) (ls : List ALocal) where
       let bytes = h.2.bytes in
       let k = small_back c.records (first value.1) t (omega (arith, same, bytes)) h.2.parts in
       counted_back c.records (first value.1) u (length_of u (texts_of value.1) value.1) h.1 (subst (λ t. small c.records (first value.1) t ≡ Ok t) h.0 k)
-          ∙ ap ok (sym h.0)
+      ∙ ap ok (sym h.0)
 
   variable_joined : (b : List (List Bound)) (l : List ALocal) (c m n : Lists) (base : CType) (d : Trees.InitDeclarator) (x : Spelling) (steps : List Derivation)
       (shape : Shape) (t : CType) → derivations d.declarator (inner g w ls b l c) ≡ Ok (steps, part g m) → derived m.records steps base ≡ Ok shape
@@ -117,7 +117,7 @@ module _ (g : FileScope) (w : IsWhole g) (ls : List ALocal) where
       let s = sized_back b z.lists x.from h.0 d.value t z.after.extends o h.3 in
       let v = type_back z.lists.records (ended g.ends x.from) x.from t h.4 o in
       let m = mentioned g ls (inner g w ls b l c) c z.lists (Seen g w ls (a_look x.from ∷ walk_of_declarator g.untagged d.declarator))
-          (mentions_in (part g c)) Object t
+      (mentions_in (part g c)) Object t
       (first_declarator d.declarator x.from) h.6 (after_look g w ls c z.lists x.from (Seen g w ls (walk_of_declarator g.untagged d.declarator)) z.after) in
       record { lists = m.0; is = variable_joined b l c z.lists m.0 base d x z.steps h.0 t z.is k s v h.5 m.1; after = m.3 }
 
@@ -176,7 +176,7 @@ module _ (g : FileScope) (w : IsWhole g) (ls : List ALocal) where
     pub locals_complete : (all : List Trees.InitDeclarator) (b : List (List Bound)) (l : List ALocal) (c : Lists) (base : CType) (found : Statements)
         (after : Scope)
         (loop switch : Bool) → BlocksFit g (length c.records) b → IsBefore g c (Seen g w ls (walk_of_locals g.untagged all))
-            → (more : List ALocal) × (ls ≡ l ++ more)
+        → (more : List ALocal) × (ls ≡ l ++ more)
         → DeclareAll all (outer g w ls b) false base found after → AreTypedHere g w ls result own b loop switch found
         → AreNumbered (length l) (all_declared_by found)
         → FoundAll g w ls result own b l c (walk_of_locals g.untagged all) (declare_all all (inner g w ls b l c) false base) found after
@@ -208,7 +208,7 @@ module _ (g : FileScope) (w : IsWhole g) (ls : List ALocal) where
         let e2 = left_seen g true in_full c (walk_of_declared g.untagged d ++ walk_of_initial g.untagged d.value) (walk_of_locals g.untagged all) e in
         let e1 = left_seen g true in_full c (walk_of_declared g.untagged d) (walk_of_initial g.untagged d.value) e2 in
         let e0 : IsBefore g c (Seen g w ls (a_look h.0.from ∷ walk_of_declarator g.untagged d.declarator)) = subst (λ u. IsBefore g c (Seen g w ls u)) name
-            e1 in
+        e1 in
         let z = variable_complete b l c base d h.0 h.1 f e0 h.5 in
         let a1 : IsAfter g c (Seen g w ls (walk_of_declared g.untagged d)) z.lists = subst (λ u. IsAfter g c (Seen g w ls u) z.lists) (sym name) z.after in
         let o = complete_stays (ended g.ends h.0.from) (length z.lists.records) h.1 (omega (arith, e0.follows.0, z.after.records)) h.5.4 in

@@ -164,7 +164,7 @@ module _ (u : ℕ → List ℕ) where
     marks_same_members (Trees.and_member_declaration specs ds semicolon more) =
         joined (walk_of_specifiers u specs ++ walk_of_member_declarators u ds semicolon) (walk_of_members u more) _ _
         (joined (walk_of_specifiers u specs) (walk_of_member_declarators u ds semicolon) _ _ (marks_same_specifiers specs)
-            (marks_same_declarators ds semicolon))
+        (marks_same_declarators ds semicolon))
         (marks_same_members more)
 
     marks_same_declarators : (t : Trees.MemberDeclarators) (semicolon : ℕ)

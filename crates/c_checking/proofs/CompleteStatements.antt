@@ -102,13 +102,13 @@ module _ (g : FileScope) (w : IsWhole g) (ls : List ALocal) where
 
   -- what is found, with the blocks, the locals and the file after it
   pub record Performs {A : Type 0} (c : Lists) (l : List ALocal) (all : List Event) (own : List ℕ) (r : Performed A) (a : A) (b : List (List Bound)) : Type 0
-      where
-    pub lists : Lists
-    pub locals : List ALocal
-    pub is : r ≡ Ok (a, inner b locals lists)
-    pub after : IsAfter g c (Seen all) lists
-    pub count : length locals ≡ length l + length own
-    pub rest : (more : List ALocal) × (ls ≡ locals ++ more)
+    where
+      pub lists : Lists
+      pub locals : List ALocal
+      pub is : r ≡ Ok (a, inner b locals lists)
+      pub after : IsAfter g c (Seen all) lists
+      pub count : length locals ≡ length l + length own
+      pub rest : (more : List ALocal) × (ls ≡ locals ++ more)
 
   -- ---- expressions
 

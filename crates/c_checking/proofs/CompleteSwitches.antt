@@ -120,11 +120,11 @@ module _ (g : FileScope) (w : IsWhole g) (ls : List ALocal) where
             let z : before.defaults ≡ before.defaults + defaults = omega (arith, q) in
             ap (λ n. ok {A = Found × FileScope} (record { cases = []; defaults = 0; all = record { cases = before.cases; defaults = n } }, part g c)) z
             ∙ ap (λ cases. ok {A = Found × FileScope}
-                (record { cases = cases; defaults = 0; all = record { cases = onto cases before.cases; defaults = before.defaults + defaults } }, part g c))
-                    (sym p)
+            (record { cases = cases; defaults = 0; all = record { cases = onto cases before.cases; defaults = before.defaults + defaults } }, part g c))
+            (sym p)
             ∙ ap (λ n. ok {A = Found × FileScope}
-                (record { cases = cases; defaults = n; all = record { cases = onto cases before.cases; defaults = before.defaults + defaults } }, part g c))
-                    (sym q)
+            (record { cases = cases; defaults = n; all = record { cases = onto cases before.cases; defaults = before.defaults + defaults } }, part g c))
+            (sym q)
     labels_complete (Trees.case at a colon ∷ more) b l c kind cases defaults before f e h n d =
         let n = subst (AreFresh before.cases) h.4 n in
         let z = constant_complete g w ls a (complete g w ls a) (inner g w ls b l c) c h.0 h.1 f
@@ -150,9 +150,10 @@ module _ (g : FileScope) (w : IsWhole g) (ls : List ALocal) where
           is = default_joined at colon more (inner g w ls b l c) (inner g w ls b l r.lists) kind before
               (found_labels cases h.0 (record { cases = before.cases; defaults = 1 })) z r.is
               ∙ ap (λ n. ok {A = Found × FileScope}
-                  (record { cases = cases; defaults = h.0 + 1; all = record { cases = onto cases before.cases; defaults = n } }, part g r.lists)) m
-              ∙ ap (λ n. ok {A = Found × FileScope}
-                  (record { cases = cases; defaults = n; all = record { cases = onto cases before.cases; defaults = before.defaults + defaults } },
-                      part g r.lists)) (sym q);
+              (record { cases = cases; defaults = h.0 + 1; all = record { cases = onto cases before.cases; defaults = n } }, part g r.lists)) m
+              ∙ ap (λ n. ok {A = Found × FileScope} (
+                record { cases = cases; defaults = n; all = record { cases = onto cases before.cases; defaults = before.defaults + defaults } },
+                part g r.lists,
+              )) (sym q);
           after = r.after;
         }

@@ -49,3 +49,6 @@ pub mod CompleteFor
 pub mod CompleteLocals
 pub mod CompleteBodies
 mod FaultExample
+pub mod CompleteSwitches
+pub mod CompleteArms
+mod CompleteExamples

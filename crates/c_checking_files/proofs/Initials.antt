@@ -23,7 +23,7 @@ use Rattle.c_erasure.specs.Initializers.{Part, part_at, texts_of, is_braces, is_
 use Rattle.c_erasure.specs.Literals.{literals, literals_of_all}
 use Rattle.c_erasure.specs.Marks.{Mark, marks, marks_of_all}
 use Rattle.c_erasure.specs.MentionPlaces.{spoken, spoken_of_all}
-use Rattle.c_erasure.specs.Noted.{Noted, Expression, Thing, an_object}
+use Rattle.c_erasure.specs.Noted.{Noted, Expression, Thing, an_object, type_of, type_of_path}
 use Rattle.c_erasure.specs.Scopes.{ALocal, FileScope, Scope, declared, is_measured}
 use Rattle.c_checking.specs.Answers.{◌>>=◌, with_file, moved}
 use Rattle.c_checking.specs.Finding.{value_at, find}
@@ -32,7 +32,7 @@ use Rattle.c_checking.specs.Initializers.{initialized, one_value, elements, fiel
 use Rattle.c_checking.proofs.Results.{bound_ok, bound_with, given, with_file_ok, chosen}
 use Rattle.c_checking.proofs.Extends.{Extends, further, record_stays}
 use Rattle.c_checking.proofs.Agreement.{Ready, Grew, then, left, right}
-use Rattle.c_checking.proofs.Values.{Stands, path_type_same}
+use Rattle.c_checking.proofs.Values.{Stands, type_same, path_type_same}
 use Rattle.c_checking.proofs.InRange.{IsInRange, AreInRange}
 use Rattle.c_checking.proofs.Declared.{nothing_grown}
 use Rattle.c_checking.proofs.Adding.{Grows, makes_none, adds_nothing, adds_then}
@@ -120,7 +120,7 @@ module _ (untagged : ℕ → List ℕ) where
   -- a value
   scalar_found : (a : Trees.Expression) (s : Scope) (t : CType) (at from : ℕ) → is_scalar t ≡ true → is_object (length s.file.records) t ≡ true
       → (Is : Scope → List Part → Type 0)
-      → ((s : Scope) (x : Expression) → Values (Erases a s) x → Is s (part_at at (Typed.value x))) → ((l : List ALocal) → GoesOn s.locals l → (y : Expression × FileScope)
+      → ((s : Scope) (x : Expression) → type_of x ≡ t → Values (Erases a s) x → Is s (part_at at (Typed.value x))) → ((l : List ALocal) → GoesOn s.locals l → (y : Expression × FileScope)
       → value_at from (find a s) ≡ Ok y → FoundValue untagged (with_locals l s) a y × Grows s (marks untagged a) (spoken a) (literals a) y.1)
       → (z : List Part × FileScope)
       → (value_at from (find a s) >>= λ x. with_file x.1 (initial_value_in from t x.0) >>= λ y. Ok (value_part at y.0, y.1)) ≡ Ok z
@@ -136,7 +136,8 @@ module _ (untagged : ℕ → List ℕ) where
         parted = all_made (literals a);
         grows = v.1;
         holds = λ g l p b n.
-            stands (seen s g l) y.0 (initial_value_made (Erases a (seen s g l)) (seen s g l) from t x.0.0 ((sound l b x.0 x.1).0.holds g p) y.0 y.1).0;
+            let m = initial_value_made (Erases a (seen s g l)) (seen s g l) from t x.0.0 ((sound l b x.0 x.1).0.holds g p) y.0 y.1 in
+            stands (seen s g l) y.0 (sym (type_same y.0) ∙ m.2.1) m.0;
         typed = λ g l p b.
             let m = initial_value_made (Erases a (seen s g l)) (seen s g l) from t x.0.0 ((sound l b x.0 x.1).0.holds g p) y.0 y.1 in
             one_over t at (declared (seen s g l)) g (Typed.value y.0) (m.1, i, m.2);
@@ -146,7 +147,7 @@ module _ (untagged : ℕ → List ℕ) where
   -- a record of the same type
   record_found : (a : Trees.Expression) (s : Scope) (r at from : ℕ) → is_object (length s.file.records) (structure r) ≡ true
       → (Is : Scope → List Part → Type 0)
-      → ((s : Scope) (p : Typed.Path Noted) → Erases a s (an_object p) → Is s (part_at at (Typed.record_of p))) → ((l : List ALocal) → GoesOn s.locals l → (y : Thing × FileScope)
+      → ((s : Scope) (p : Typed.Path Noted) → type_of_path p ≡ structure r → Erases a s (an_object p) → Is s (part_at at (Typed.record_of p))) → ((l : List ALocal) → GoesOn s.locals l → (y : Thing × FileScope)
       → find a s ≡ Ok y → Found untagged (with_locals l s) a y × Grows s (marks untagged a) (spoken a) (literals a) y.1)
       → (z : List Part × FileScope)
       → (find a s >>= λ x. with_file x.1 (initial_record_in from at (structure r) x.0)) ≡ Ok z
@@ -165,7 +166,7 @@ module _ (untagged : ℕ → List ℕ) where
         grows = subst (λ f. Grows s (marks untagged a) (spoken a) (literals a) f) w.1 v.1;
         holds = λ g l p b n.
             subst (λ parts. Is (seen s g l) parts) (sym q.3)
-            (stands (seen s g l) q.0 (subst (Erases a (seen s g l)) q.1 ((sound l b x.0 x.1).0.holds g (e g p)).0));
+            (stands (seen s g l) q.0 q.2 (subst (Erases a (seen s g l)) q.1 ((sound l b x.0 x.1).0.holds g (e g p)).0));
         typed = λ g l p b.
             let t = subst (Stands (Erases a (seen s g l)) (seen s g l)) q.1 ((sound l b x.0 x.1).0.holds g (e g p)) in
             subst (λ parts. AreOver (OfObject (structure r) at g) (declared (seen s g l)) parts) (sym q.3)
@@ -270,8 +271,8 @@ module _ (untagged : ℕ → List ℕ) where
 
   abbrev pub Plainly : Trees.Expression → Scope → CType → ℕ → List Part → Type 0
   Plainly a s t at parts =
-      ((x : Expression) × (is_scalar t ≡ true) × (parts ≡ part_at at (Typed.value x)) × Values (Erases a s) x)
-      ⊎ ((r : ℕ) × (p : Typed.Path Noted) × (t ≡ structure r) × (parts ≡ part_at at (Typed.record_of p)) × Erases a s (an_object p))
+      ((x : Expression) × (is_scalar t ≡ true) × (type_of x ≡ t) × (parts ≡ part_at at (Typed.value x)) × Values (Erases a s) x)
+      ⊎ ((r : ℕ) × (p : Typed.Path Noted) × (t ≡ structure r) × (type_of_path p ≡ t) × (parts ≡ part_at at (Typed.record_of p)) × Erases a s (an_object p))
       ⊎ IsText (texts_of a) s t at parts
 
   abbrev pub AreBytes : Trees.Expression → Type 0
@@ -325,16 +326,16 @@ module _ (untagged : ℕ → List ℕ) where
   plain_found f a p s n r q void at k o w z h = cc
   plain_found f a p s n r q (integer kind) at k o w z h =
       scalar_found a s (integer kind) at (first a) refl refl (λ s parts. Initializes a s (integer kind) at parts)
-      (λ s x v. p.stands s (integer kind) at _ (inl (x, refl, refl, v)))
+      (λ s x e v. p.stands s (integer kind) at _ (inl (x, refl, e, refl, v)))
       (λ l b y j. (value_longer a s n r l b (first a) y j, grow_value_of untagged a s q.same (first a) y j)) z h
   plain_found f a p s n r q (pointer t) at k o w z h =
       scalar_found a s (pointer t) at (first a) refl refl (λ s parts. Initializes a s (pointer t) at parts)
-      (λ s x v. p.stands s (pointer t) at _ (inl (x, refl, refl, v)))
+      (λ s x e v. p.stands s (pointer t) at _ (inl (x, refl, e, refl, v)))
       (λ l b y j. (value_longer a s n r l b (first a) y j, grow_value_of untagged a s q.same (first a) y j)) z h
   plain_found f a p s n r q (function t all) at k o w z h = cc
   plain_found f a p s n r q (structure i) at k o w z h =
       record_found a s i at (first a) (object_stays q.extends (structure i) k) (λ s parts. Initializes a s (structure i) at parts)
-      (λ s path v. p.stands s (structure i) at _ (inr (inl (i, path, refl, refl, v))))
+      (λ s path e v. p.stands s (structure i) at _ (inr (inl (i, path, refl, e, refl, v))))
       (λ l b y j. (sound_longer a s n r l b y j, grow untagged a s q.same y j)) z h
   plain_found f a p s n r q (array u m) at k o (inl w) z h =
       text_found a s u m at (first a) (object_stays q.extends (array u m) k) (texts_of a) p.bytes (λ s parts. Initializes a s (array u m) at parts)
@@ -357,7 +358,7 @@ module _ (untagged : ℕ → List ℕ) where
       of_test false h = refl
 
   abbrev IsOnePart : Trees.Arguments → CType → ℕ → Scope → List Part → Type 0
-  IsOnePart all t at s parts = (x : Expression) × (parts ≡ part_at at (Typed.value x)) × IsOneValue all s x
+  IsOnePart all t at s parts = (x : Expression) × (type_of x ≡ t) × (parts ≡ part_at at (Typed.value x)) × IsOneValue all s x
 
   abbrev FoundOne : Scope → Trees.Arguments → CType → ℕ → List Part × FileScope → Type 0
   FoundOne s all t at z =
@@ -374,7 +375,7 @@ module _ (untagged : ℕ → List ℕ) where
           (OfObject t at) (RisesIn t at) z
       by_value t i o h =
           scalar_found a s t at (first a) i o (λ s parts. IsOnePart (Trees.and_argument comma a Trees.no_arguments) t at s parts)
-          (λ s x v. (x, refl, v))
+          (λ s x e v. (x, e, refl, v))
           (λ l b y j. (value_longer a s n (left (marks untagged a) [] r) l b (first a) y j, grow_value_of untagged a s q.same (first a) y j)) z h
 
       by_type : (t : CType) → is_scalar t ≡ true → without_braces (first a) at t None s.file (find a s) ≡ Ok z
@@ -587,10 +588,10 @@ module _ (untagged : ℕ → List ℕ) where
     sound_initial f (Trees.braces from all last to) s n r q void at k z h = cc
     sound_initial f (Trees.braces from all last to) s n r q (integer kind) at k z h =
         as_other s _ _ _ (λ s parts. IsOnePart all (integer kind) at s parts) _ _ _ _ _ z (sound_one f from all s n r q (integer kind) at refl z h)
-        (λ g l e i. inl (i.0, refl, i.1, i.2)) (λ g e o t h. h) (λ g e l h. h)
+        (λ g l e i. inl (i.0, refl, i.1, i.2, i.3)) (λ g e o t h. h) (λ g e l h. h)
     sound_initial f (Trees.braces from all last to) s n r q (pointer t) at k z h =
         as_other s _ _ _ (λ s parts. IsOnePart all (pointer t) at s parts) _ _ _ _ _ z (sound_one f from all s n r q (pointer t) at refl z h)
-        (λ g l e i. inl (i.0, refl, i.1, i.2)) (λ g e o t h. h) (λ g e l h. h)
+        (λ g l e i. inl (i.0, refl, i.1, i.2, i.3)) (λ g e o t h. h) (λ g e l h. h)
     sound_initial f (Trees.braces from all last to) s n r q (function t types) at k z h = cc
     sound_initial f (Trees.braces from all last to) s n r q (array u m) at k z h =
         let a = Trees.braces from all last to in

@@ -21,7 +21,7 @@ use Rattle.c_erasure.specs.Initializers.{Part, part_at, texts_of, is_braces, IsT
 use Rattle.c_erasure.specs.Literals.{literals}
 use Rattle.c_erasure.specs.Marks.{marks}
 use Rattle.c_erasure.specs.MentionPlaces.{spoken}
-use Rattle.c_erasure.specs.Noted.{Noted, Expression, an_object, type_of_path}
+use Rattle.c_erasure.specs.Noted.{Noted, Expression, an_object, type_of, type_of_path}
 use Rattle.c_erasure.specs.Scopes.{ALocal, FileScope, Scope, declared}
 use Rattle.c_checking.specs.Answers.{◌>>=◌, with_file}
 use Rattle.c_checking.specs.Finding.{find}
@@ -52,11 +52,11 @@ text_outline None s t at parts h = absurd h
 text_outline (Some all) s t at parts h = let e = h.1.2 in ap is_array e
 
 plain_outline : (a : Trees.Expression) (o : Option (List Spelling)) (s : Scope) (t : CType) (at : ℕ) (parts : List Part)
-    → ((x : Expression) × (is_scalar t ≡ true) × (parts ≡ part_at at (Typed.value x)) × Values (Erases a s) x)
-    ⊎ ((r : ℕ) × (p : Typed.Path Noted) × (t ≡ structure r) × (parts ≡ part_at at (Typed.record_of p)) × Erases a s (an_object p))
+    → ((x : Expression) × (is_scalar t ≡ true) × (type_of x ≡ t) × (parts ≡ part_at at (Typed.value x)) × Values (Erases a s) x)
+    ⊎ ((r : ℕ) × (p : Typed.Path Noted) × (t ≡ structure r) × (type_of_path p ≡ t) × (parts ≡ part_at at (Typed.record_of p)) × Erases a s (an_object p))
     ⊎ IsText o s t at parts → Outline false t at parts
-plain_outline a o s t at parts (inl h) = inl (h.0, h.1, h.2)
-plain_outline a o s t at parts (inr (inl h)) = inr (inl (h.0, h.1, refl, h.2, h.3))
+plain_outline a o s t at parts (inl h) = inl (h.0, h.1, h.3)
+plain_outline a o s t at parts (inr (inl h)) = inr (inl (h.0, h.1, refl, h.2, h.4))
 plain_outline a o s t at parts (inr (inr h)) = inr (inr (inl (text_outline o s t at parts h)))
 
 outline : (a : Trees.Expression) (s : Scope) (t : CType) (at : ℕ) (parts : List Part) → Initializes a s t at parts → Outline (is_braces a) t at parts
@@ -82,7 +82,7 @@ outline (Trees.comma a b c) s t at parts h = plain_outline (Trees.comma a b c) (
 outline (Trees.braces from all last to) s t at parts h = of_braces h
   where
     of_braces : Initializes (Trees.braces from all last to) s t at parts → Outline true t at parts
-    of_braces (inl h) = inl (h.0, h.1, h.2)
+    of_braces (inl h) = inl (h.0, h.1, h.3)
     of_braces (inr (inl h)) = inr (inr (inl (ap is_array h.2)))
     of_braces (inr (inr (inl h))) = inr (inr (inr (ap is_record h.2, refl)))
     of_braces (inr (inr (inr h))) = inr (inr (inl (text_outline (texts_of (Trees.braces from all last to)) s t at parts h)))
