@@ -15,11 +15,18 @@ use lay_base::{Boxed, List, NoMemory, add, boxed};
 use std::alloc::Global;
 
 #[cycle(expression_numbering)]
-pub fn expression(alloc: Global, types: &TypeTable, e: c_annotated::Expression) -> Result<Expression, NoMemory>
+pub fn expression(
+    alloc: Global,
+    types: &TypeTable,
+    e: c_annotated::Expression,
+) -> Result<Expression, NoMemory>
     ensures { IfOk result (λ r. expression_of r ≡ mapped (numbered types.now) (noted_expression e)) }
 {
     let c_annotated::Expression {
-        ty, place, node, ..
+        ty,
+        place,
+        node,
+        ..
     } = e;
     let ty = number_of(alloc, types, ty)?;
     let node = node_in(alloc, types, node)?;
@@ -27,7 +34,11 @@ pub fn expression(alloc: Global, types: &TypeTable, e: c_annotated::Expression) 
 }
 
 #[cycle(expression_numbering)]
-fn node_in(alloc: Global, types: &TypeTable, node: c_annotated::ExpressionNode) -> Result<ExpressionNode, NoMemory>
+fn node_in(
+    alloc: Global,
+    types: &TypeTable,
+    node: c_annotated::ExpressionNode,
+) -> Result<ExpressionNode, NoMemory>
     ensures { IfOk result (λ r. node_of r ≡ mapped_node (numbered types.now) (noted_node node)) }
 {
     match node {
@@ -35,7 +46,9 @@ fn node_in(alloc: Global, types: &TypeTable, node: c_annotated::ExpressionNode) 
         c_annotated::ExpressionNode::Null => Ok(ExpressionNode::Null),
         c_annotated::ExpressionNode::FunctionName(f) => Ok(ExpressionNode::FunctionName(f)),
         c_annotated::ExpressionNode::Load(p) => Ok(ExpressionNode::Load(path(alloc, types, p)?)),
-        c_annotated::ExpressionNode::AddressOf(p) => Ok(ExpressionNode::AddressOf(path(alloc, types, p)?)),
+        c_annotated::ExpressionNode::AddressOf(p) => Ok(ExpressionNode::AddressOf(path(
+            alloc, types, p,
+        )?)),
         c_annotated::ExpressionNode::Decay(p) => Ok(ExpressionNode::Decay(path(alloc, types, p)?)),
         c_annotated::ExpressionNode::Convert(x, written) => {
             let x = operand(alloc, types, x)?;
@@ -132,7 +145,11 @@ fn node_in(alloc: Global, types: &TypeTable, node: c_annotated::ExpressionNode) 
 }
 
 #[cycle(expression_numbering)]
-pub fn operand(alloc: Global, types: &TypeTable, e: Boxed<c_annotated::Expression>) -> Result<Boxed<Expression>, NoMemory>
+pub fn operand(
+    alloc: Global,
+    types: &TypeTable,
+    e: Boxed<c_annotated::Expression>,
+) -> Result<Boxed<Expression>, NoMemory>
     ensures { IfOk result (λ r. expression_of r ≡ mapped (numbered types.now) (noted_expression e)) }
 {
     let e = expression(alloc, types, e.into_inner())?;
@@ -150,7 +167,11 @@ pub fn path(alloc: Global, types: &TypeTable, p: Boxed<c_annotated::Path>) -> Re
 }
 
 #[cycle(expression_numbering)]
-fn path_node(alloc: Global, types: &TypeTable, node: c_annotated::PathNode) -> Result<PathNode, NoMemory>
+fn path_node(
+    alloc: Global,
+    types: &TypeTable,
+    node: c_annotated::PathNode,
+) -> Result<PathNode, NoMemory>
     ensures { IfOk result (λ r. path_node_of r ≡ mapped_step (numbered types.now) (noted_path_node node)) }
 {
     match node {
@@ -175,7 +196,11 @@ fn path_node(alloc: Global, types: &TypeTable, node: c_annotated::PathNode) -> R
 }
 
 #[cycle(expression_numbering)]
-fn inner_path(alloc: Global, types: &TypeTable, p: Boxed<c_annotated::Path>) -> Result<Boxed<Path>, NoMemory>
+fn inner_path(
+    alloc: Global,
+    types: &TypeTable,
+    p: Boxed<c_annotated::Path>,
+) -> Result<Boxed<Path>, NoMemory>
     ensures { IfOk result (λ r. path_of r ≡ mapped_path (numbered types.now) (noted_path p)) }
 {
     let p = path(alloc, types, p)?;
@@ -183,7 +208,11 @@ fn inner_path(alloc: Global, types: &TypeTable, p: Boxed<c_annotated::Path>) -> 
 }
 
 #[cycle(expression_numbering)]
-fn expressions(alloc: Global, types: &TypeTable, all: List<c_annotated::Expression>) -> Result<List<Expression>, NoMemory>
+fn expressions(
+    alloc: Global,
+    types: &TypeTable,
+    all: List<c_annotated::Expression>,
+) -> Result<List<Expression>, NoMemory>
     ensures { IfOk result (λ r. expressions_of (map expression_of r) ≡ mapped_all (numbered types.now) (noted_expressions (map noted_expression all))) }
 {
     let mut done = List::new(alloc);

@@ -31,7 +31,11 @@ pub fn optional_expression(
     }
 }
 
-fn part_value(alloc: Global, types: &TypeTable, value: c_annotated::PartValue) -> Result<PartValue, NoMemory>
+fn part_value(
+    alloc: Global,
+    types: &TypeTable,
+    value: c_annotated::PartValue,
+) -> Result<PartValue, NoMemory>
     ensures { IfOk result (λ r. part_value_of r ≡ mapped_value (numbered types.now) (noted_value value)) }
 {
     match value {
@@ -47,7 +51,11 @@ fn part_value(alloc: Global, types: &TypeTable, value: c_annotated::PartValue) -
     }
 }
 
-fn part(alloc: Global, types: &TypeTable, it: c_annotated::InitializerPart) -> Result<InitializerPart, NoMemory>
+fn part(
+    alloc: Global,
+    types: &TypeTable,
+    it: c_annotated::InitializerPart,
+) -> Result<InitializerPart, NoMemory>
     ensures { IfOk result (λ r. part_of r ≡ mapped_part (numbered types.now) (noted_part it)) }
 {
     let c_annotated::InitializerPart { offset, value } = it;
@@ -55,7 +63,11 @@ fn part(alloc: Global, types: &TypeTable, it: c_annotated::InitializerPart) -> R
     Ok(InitializerPart { offset, value })
 }
 
-fn parts(alloc: Global, types: &TypeTable, all: List<c_annotated::InitializerPart>) -> Result<List<InitializerPart>, NoMemory>
+fn parts(
+    alloc: Global,
+    types: &TypeTable,
+    all: List<c_annotated::InitializerPart>,
+) -> Result<List<InitializerPart>, NoMemory>
     ensures { IfOk result (λ r. map part_of r ≡ map (mapped_part (numbered types.now)) (map noted_part all)) }
 {
     let mut done = List::new(alloc);
@@ -66,7 +78,11 @@ fn parts(alloc: Global, types: &TypeTable, all: List<c_annotated::InitializerPar
     Ok(done)
 }
 
-fn initializer(alloc: Global, types: &TypeTable, initial: c_annotated::Initializer) -> Result<Initializer, NoMemory>
+fn initializer(
+    alloc: Global,
+    types: &TypeTable,
+    initial: c_annotated::Initializer,
+) -> Result<Initializer, NoMemory>
     ensures { IfOk result (λ r. initializer_of r ≡ mapped_initializer (numbered types.now) (noted_initializer initial)) }
 {
     match initial {

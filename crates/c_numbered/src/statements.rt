@@ -36,7 +36,11 @@ fn test_and_step(
 
 /// A statement with numbers of types.
 #[cycle(statement_numbering)]
-pub fn numbered_statement(alloc: Global, types: &TypeTable, s: c_annotated::Statement) -> Result<Statement, NoMemory>
+pub fn numbered_statement(
+    alloc: Global,
+    types: &TypeTable,
+    s: c_annotated::Statement,
+) -> Result<Statement, NoMemory>
     ensures { IfOk result (λ r. statement_of r ≡ mapped_statement (numbered types.now) (noted_statement s)) }
 {
     match s {
@@ -94,7 +98,11 @@ pub fn numbered_statement(alloc: Global, types: &TypeTable, s: c_annotated::Stat
 }
 
 #[cycle(statement_numbering)]
-fn inner(alloc: Global, types: &TypeTable, s: Boxed<c_annotated::Statement>) -> Result<Boxed<Statement>, NoMemory>
+fn inner(
+    alloc: Global,
+    types: &TypeTable,
+    s: Boxed<c_annotated::Statement>,
+) -> Result<Boxed<Statement>, NoMemory>
     ensures { IfOk result (λ r. statement_of r ≡ mapped_statement (numbered types.now) (noted_statement s)) }
 {
     let s = numbered_statement(alloc, types, s.into_inner())?;
@@ -102,7 +110,11 @@ fn inner(alloc: Global, types: &TypeTable, s: Boxed<c_annotated::Statement>) -> 
 }
 
 #[cycle(statement_numbering)]
-fn statements(alloc: Global, types: &TypeTable, all: List<c_annotated::Statement>) -> Result<List<Statement>, NoMemory>
+fn statements(
+    alloc: Global,
+    types: &TypeTable,
+    all: List<c_annotated::Statement>,
+) -> Result<List<Statement>, NoMemory>
     ensures { IfOk result (λ r. statements_of (map statement_of r) ≡ mapped_statements (numbered types.now) (noted_statements (map noted_statement all))) }
 {
     let mut done = List::new(alloc);
@@ -117,13 +129,25 @@ fn statements(alloc: Global, types: &TypeTable, all: List<c_annotated::Statement
 fn arm(alloc: Global, types: &TypeTable, it: c_annotated::Arm) -> Result<Arm, NoMemory>
     ensures { IfOk result (λ r. arm_of r ≡ numbered_arm types.now (noted_arm it)) }
 {
-    let c_annotated::Arm { cases, is_default, statements: all } = it;
+    let c_annotated::Arm {
+        cases,
+        is_default,
+        statements: all,
+    } = it;
     let all = statements(alloc, types, all)?;
-    Ok(Arm { cases, is_default, statements: all })
+    Ok(Arm {
+        cases,
+        is_default,
+        statements: all,
+    })
 }
 
 #[cycle(statement_numbering)]
-fn arms(alloc: Global, types: &TypeTable, all: List<c_annotated::Arm>) -> Result<List<Arm>, NoMemory>
+fn arms(
+    alloc: Global,
+    types: &TypeTable,
+    all: List<c_annotated::Arm>,
+) -> Result<List<Arm>, NoMemory>
     ensures { IfOk result (λ r. arms_of (map arm_of r) ≡ mapped_arms (numbered types.now) (noted_arms (map noted_arm all))) }
 {
     let mut done = List::new(alloc);

@@ -16,7 +16,7 @@ statements-returns t c =
     let m = numbered c.args.types.now in
     let g = c.into_iter-s-iterator.ensures.into_iter_gives in
     let all = YieldsList-end (YieldsList-from_vec _ g.0 (g.1 ∙ counted c.into_vec-s-items.result)) c.loop-s.yielded c.loop-s.s-iterator c.loop-s.yielded_by c.next.result
-        c.next.new.self c.in-None.is c.next.ensures.steps in
+    c.next.new.self c.in-None.is c.next.ensures.steps in
     let e : c.loop-s.yielded ≡ c.args.all = sym (map-id c.loop-s.yielded) ∙ all.0 ∙ c.into_vec-s-items.ensures in
     all_statements_mapped m c.loop-s.yielded c.loop-s.done c.loop-s.invariant ∙ ap (λ them. mapped_statements m (noted_statements (map noted_statement them))) e
 
@@ -25,7 +25,7 @@ arms-returns t c =
     let types = c.args.types.now in
     let g = c.into_iter-it-iterator.ensures.into_iter_gives in
     let all = YieldsList-end (YieldsList-from_vec _ g.0 (g.1 ∙ counted c.into_vec-it-items.result)) c.loop-it.yielded c.loop-it.it-iterator c.loop-it.yielded_by c.next.result
-        c.next.new.self c.in-None.is c.next.ensures.steps in
+    c.next.new.self c.in-None.is c.next.ensures.steps in
     let e : c.loop-it.yielded ≡ c.args.all = sym (map-id c.loop-it.yielded) ∙ all.0 ∙ c.into_vec-it-items.ensures in
     all_arms_mapped types c.loop-it.yielded c.loop-it.done c.loop-it.invariant
     ∙ ap (λ them. mapped_arms (numbered types) (noted_arms (map noted_arm them))) e
@@ -36,5 +36,5 @@ numbered_statement-returns-in_ok-other-in-Some t c =
     let a = c.in-If in
     let e = a.is ∙ ap (λ other. S.If a.e a.one other) c.in-Some.is in
     either_mapped m a.e c.in_ok-e-in-If.e a.one c.in_ok-one-in-If.one c.in-Some.other c.in_ok-other-in-Some.other c.in_ok-e-in-If.ensures
-        c.in_ok-one-in-If.ensures c.in_ok-other-in-Some.ensures
+    c.in_ok-one-in-If.ensures c.in_ok-other-in-Some.ensures
     ∙ ap (λ s. mapped_statement m (noted_statement s)) (sym e)
