@@ -122,10 +122,10 @@ module _ (records : List Record) (objects : List CType) (complete before : ℕ �
   pointer_alike e =
       ap (λ b. if b then Some a_null else as_address one (address_in one e) (as_function one (function_in one e))) (null_alike one two e)
       ∙ ap (λ v. if is_null_in two e then Some a_null else v)
-          (ap (λ a. as_address one a (as_function one (function_in one e))) (address_alike e)
-          ∙ ap (λ f. as_address one (address_in two e) (as_function one f)) (function_alike one two e)
-          ∙ ap (λ v. as_address one (address_in two e) v) (function_value_alike (function_in two e))
-          ∙ address_value_alike (address_in two e) (as_function two (function_in two e)))
+      (ap (λ a. as_address one a (as_function one (function_in one e))) (address_alike e)
+      ∙ ap (λ f. as_address one (address_in two e) (as_function one f)) (function_alike one two e)
+      ∙ ap (λ v. as_address one (address_in two e) v) (function_value_alike (function_in two e))
+      ∙ address_value_alike (address_in two e) (as_function two (function_in two e)))
 
   in_alike : (t : CType) (e : Trees.Expression CType) → initial_in one t e ≡ initial_in two t e
   in_alike (integer kind) e = number_alike kind (constant_of e)

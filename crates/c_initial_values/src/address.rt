@@ -41,11 +41,20 @@ fn number_of(t: &Ty, v: u32) -> i64
         Ty::Int(kind) => !is_signed(*kind),
         _ => false,
     };
-    if is_unsigned { i64::from(v) } else { i64::from(v.cast_signed()) }
+    if is_unsigned {
+        i64::from(v)
+    } else {
+        i64::from(v.cast_signed())
+    }
 }
 
 /// The byte of an object at an offset.
-fn within(records: &Records, objects: &[Ty], n: u32, offset: i64) -> Result<Option<Address>, NoMemory>
+fn within(
+    records: &Records,
+    objects: &[Ty],
+    n: u32,
+    offset: i64,
+) -> Result<Option<Address>, NoMemory>
     ensures { IfOk result (λ a. option_map address_of a ≡ within (declared_by records.now objects.now) n offset) }
 {
     let size = object_size(records, objects, n).ok_or(NoMemory)?;

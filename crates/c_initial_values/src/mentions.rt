@@ -9,14 +9,21 @@ ghost use Rattle.c_initial_values.specs.Values.{mentions_in};
 ghost use Rattle.c_typed.specs.Mapped.{mapped_initializer, mapped_part, mapped_path, mapped_value, of_types};
 ghost use Rattle.c_types.specs.Views.{type_of};
 
-use c_annotated::{Expression, ExpressionNode, Initializer, InitializerPart, Mention, PartValue, Path, PathNode};
+use c_annotated::{
+    Expression, ExpressionNode, Initializer, InitializerPart, Mention, PartValue, Path, PathNode,
+};
 use c_typed::{MentionKind, is_pointer};
 use c_types::{Ty, copy, same};
 use lay_base::{List, NoMemory, Place, add};
 use std::alloc::Global;
 
 #[tactic(auto, unfolding(crate::specs::Values::mentions_in))]
-fn add_mention(found: &mut List<Mention>, kind: MentionKind, ty: Ty, place: Place) -> Result<(), NoMemory>
+fn add_mention(
+    found: &mut List<Mention>,
+    kind: MentionKind,
+    ty: Ty,
+    place: Place,
+) -> Result<(), NoMemory>
     ensures { OnOk result (mentions_in found.new ≡ mentions_in found.old ++ mention kind (type_of ty) place ∷ []) }
 {
     let at = place.at;
@@ -30,7 +37,13 @@ fn is_null_node(e: &Expression) -> bool
 }
 
 /// Those before and after a conversion of a pointer.
-fn told_by_conversion(alloc: Global, found: &mut List<Mention>, t: &Ty, place: Place, e: &Expression) -> Result<(), NoMemory>
+fn told_by_conversion(
+    alloc: Global,
+    found: &mut List<Mention>,
+    t: &Ty,
+    place: Place,
+    e: &Expression,
+) -> Result<(), NoMemory>
     ensures { OnOk result (mentions_in found.new ≡ mentions_in found.old ++ of_conversion (type_of t.now) place (typed (expression_of e.now))) }
 {
     if is_pointer(t) && is_pointer(&e.ty) && !same(t, &e.ty) && !is_null_node(e) {
@@ -44,7 +57,11 @@ fn told_by_conversion(alloc: Global, found: &mut List<Mention>, t: &Ty, place: P
 }
 
 #[cycle(telling)]
-fn told_by_expression(alloc: Global, found: &mut List<Mention>, e: &Expression) -> Result<(), NoMemory>
+fn told_by_expression(
+    alloc: Global,
+    found: &mut List<Mention>,
+    e: &Expression,
+) -> Result<(), NoMemory>
     ensures { OnOk result (mentions_in found.new ≡ mentions_in found.old ++ told (typed (expression_of e.now))) }
 {
     match &e.node {
@@ -102,7 +119,11 @@ fn told_by_path(alloc: Global, found: &mut List<Mention>, p: &Path) -> Result<()
     }
 }
 
-fn told_by_value(alloc: Global, found: &mut List<Mention>, value: &PartValue) -> Result<(), NoMemory>
+fn told_by_value(
+    alloc: Global,
+    found: &mut List<Mention>,
+    value: &PartValue,
+) -> Result<(), NoMemory>
     ensures { OnOk result (mentions_in found.new ≡ mentions_in found.old ++ told_by_value (mapped_value (of_types (λ t. t.ty)) (part_value_of value.now))) }
 {
     match value {
@@ -112,7 +133,11 @@ fn told_by_value(alloc: Global, found: &mut List<Mention>, value: &PartValue) ->
     }
 }
 
-fn told_by_parts(alloc: Global, found: &mut List<Mention>, all: &[InitializerPart]) -> Result<(), NoMemory>
+fn told_by_parts(
+    alloc: Global,
+    found: &mut List<Mention>,
+    all: &[InitializerPart],
+) -> Result<(), NoMemory>
     ensures { OnOk result (mentions_in found.new
         ≡ mentions_in found.old ++ flat_map (λ part. told_by_value part.value) (map (mapped_part (of_types (λ t. t.ty))) (map part_of all.now))) }
 {
@@ -123,7 +148,11 @@ fn told_by_parts(alloc: Global, found: &mut List<Mention>, all: &[InitializerPar
 }
 
 /// Adds the mentions of an initializer whose allocations and null pointers are recognised, where there is one.
-pub fn told_by_initial(alloc: Global, found: &mut List<Mention>, initial: &Option<Initializer>) -> Result<(), NoMemory>
+pub fn told_by_initial(
+    alloc: Global,
+    found: &mut List<Mention>,
+    initial: &Option<Initializer>,
+) -> Result<(), NoMemory>
     ensures { OnOk result (mentions_in found.new
         ≡ mentions_in found.old ++ told_by_initial (option_map (mapped_initializer (of_types (λ t. t.ty))) (option_map initializer_of initial.now))) }
 {

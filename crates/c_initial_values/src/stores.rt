@@ -113,7 +113,12 @@ fn add_initial(
 
 /// What an initializer of a file with those records and types of objects stores, whose allocations and null pointers are recognised.
 #[tactic(auto, using(crate::proofs::Nothing::nothing_stored))]
-pub fn stores_of(alloc: Global, records: &Records, objects: &[Ty], initial: &Initializer) -> Result<List<Store>, NoMemory>
+pub fn stores_of(
+    alloc: Global,
+    records: &Records,
+    objects: &[Ty],
+    initial: &Initializer,
+) -> Result<List<Store>, NoMemory>
     ensures { IfOk result (λ found. stores_in found
         ≡ of_initializer (scope_with records.now objects.now) (mapped_initializer (of_types (λ t. t.ty)) (initializer_of initial.now))) }
 {

@@ -27,7 +27,11 @@ pub enum Value {
 
 /// The address that an expression is.
 #[cycle(addresses)]
-fn address_in(e: &Expression, records: &Records, objects: &[Ty]) -> Result<Option<Address>, NoMemory>
+fn address_in(
+    e: &Expression,
+    records: &Records,
+    objects: &[Ty],
+) -> Result<Option<Address>, NoMemory>
     ensures { IfOk result (λ a. option_map address_of a ≡ address_in (declared_by records.now objects.now) (typed (expression_of e.now))) }
 {
     match &e.node {
@@ -96,7 +100,11 @@ fn function_in(e: &Expression) -> Option<u32>
     match &e.node {
         ExpressionNode::FunctionName(f) => Some(*f),
         ExpressionNode::Convert(x, _) => {
-            if is_pointer(&e.ty) { function_in(x.get()) } else { None }
+            if is_pointer(&e.ty) {
+                function_in(x.get())
+            } else {
+                None
+            }
         }
         _ => None,
     }
@@ -117,7 +125,11 @@ fn is_null_in(e: &Expression) -> bool
 
 /// The value of an expression whose type is no integer type.
 #[tactic(auto, using(crate::proofs::Alike::null_anywhere, crate::proofs::Alike::function_anywhere))]
-fn pointer_value(records: &Records, objects: &[Ty], e: &Expression) -> Result<Option<Value>, NoMemory>
+fn pointer_value(
+    records: &Records,
+    objects: &[Ty],
+    e: &Expression,
+) -> Result<Option<Value>, NoMemory>
     ensures { IfOk result (λ v. option_map value_of v ≡ pointer_value (declared_by records.now objects.now) (typed (expression_of e.now))) }
 {
     if is_null_in(e) {
@@ -133,7 +145,11 @@ fn pointer_value(records: &Records, objects: &[Ty], e: &Expression) -> Result<Op
 }
 
 /// The value of a constant expression in an initializer of a file with those records and objects; none of any other expression.
-pub fn initial_value(records: &Records, objects: &[Ty], e: &Expression) -> Result<Option<Value>, NoMemory>
+pub fn initial_value(
+    records: &Records,
+    objects: &[Ty],
+    e: &Expression,
+) -> Result<Option<Value>, NoMemory>
     ensures { IfOk result (λ v. option_map value_of v ≡ initial_value (declared_by records.now objects.now) (typed (expression_of e.now))) }
 {
     match &e.ty {
