@@ -1,4 +1,4 @@
-use Rattle.std.proofs.Common.{◌≡◌, ◌≤◌, ◌∙◌, length, ap, sym, arith}
+use Rattle.std.proofs.Common.{◌≤◌, ◌∙◌, length, ap, sym, arith}
 use Rattle.c_types.specs.Layouts.{size_of}
 use Rattle.c_types.specs.Views.{records_of, type_of}
 use Rattle.c_initial_values.proofs.Objects.{none_past_the_end}
