@@ -1,5 +1,5 @@
 -- What the file up to there, and the place of an expression in it, stand for.
-use Rattle.std.specs.Prelude.{ℕ, Bool, true, false, List, [], map, Option, Some, None, is_some}
+use Rattle.std.specs.Prelude.{List, [], map, Option, Some, None, is_some}
 use Rattle.std.specs.Borrow.{Bor}
 use Rattle.c_types.specs.Views.{records_of}
 use Rattle.c_erasure.specs.Scopes as Scopes
