@@ -15,3 +15,4 @@ pub mod StatementLaws
 pub mod Statements
 pub mod Bodies
 pub mod FileScopes
+pub mod FileObjects
