@@ -104,7 +104,7 @@ pub notes_left : (all : Statements) → without_notes all ≡ typed_statements a
 notes_left Typed.no_statements = refl
 notes_left (Typed.and_statement s more) = rw (notes_left more) refl
 
-take_own : {X : Type 0} (xs ys : List X) → take (length xs) (xs ++ ys) ≡ xs
+pub take_own : {X : Type 0} (xs ys : List X) → take (length xs) (xs ++ ys) ≡ xs
 take_own [] ys = refl
 take_own (x ∷ xs) ys = ap (λ z. x ∷ z) (take_own xs ys)
 

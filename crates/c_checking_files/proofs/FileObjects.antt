@@ -152,12 +152,12 @@ object_is f words m x place t (Some old) k z h = known_is f words m x place t ol
 
 -- ---- an object that is defined takes the place of the one that was declared
 
-set_same : (xs : List AnObject) (n : ℕ) (o p : AnObject) → slice_get xs n ≡ Some o → slice_get (slice_set xs n p) n ≡ Some p
+pub set_same : {X : Type 0} (xs : List X) (n : ℕ) (o p : X) → slice_get xs n ≡ Some o → slice_get (slice_set xs n p) n ≡ Some p
 set_same [] n o p h = cc
 set_same (x ∷ xs) zero o p h = refl
 set_same (x ∷ xs) (suc n) o p h = set_same xs n o p h
 
-set_other : (xs : List AnObject) (n : ℕ) (o p : AnObject) → slice_get xs n ≡ Some o → (k : ℕ) (q : AnObject) → slice_get xs k ≡ Some q
+pub set_other : {X : Type 0} (xs : List X) (n : ℕ) (o p : X) → slice_get xs n ≡ Some o → (k : ℕ) (q : X) → slice_get xs k ≡ Some q
     → ((k ≡ n) × (q ≡ o)) ⊎ (slice_get (slice_set xs n p) k ≡ Some q)
 set_other [] n o p h k q i = cc
 set_other (x ∷ xs) zero o p h zero q i = inl (refl, let a : x ≡ o = cc in let b : x ≡ q = cc in sym b ∙ a)
@@ -170,10 +170,10 @@ set_other (x ∷ xs) (suc n) o p h (suc k) q i = further_on (set_other xs n o p 
     further_on (inl e) = inl (ap suc e.0, e.1)
     further_on (inr e) = inr e
 
-set_types : (xs : List AnObject) (n : ℕ) (o p : AnObject) → slice_get xs n ≡ Some o → p.ty ≡ o.ty → map (λ o. o.ty) (slice_set xs n p) ≡ map (λ o. o.ty) xs
-set_types [] n o p h e = cc
-set_types (x ∷ xs) zero o p h e = let a : x ≡ o = cc in ap (λ t. t ∷ map (λ o. o.ty) xs) (e ∙ ap (λ (o : AnObject). o.ty) (sym a))
-set_types (x ∷ xs) (suc n) o p h e = ap (λ all. x.ty ∷ all) (set_types xs n o p h e)
+pub set_types : {X Y : Type 0} (v : X → Y) (xs : List X) (n : ℕ) (o p : X) → slice_get xs n ≡ Some o → v p ≡ v o → map v (slice_set xs n p) ≡ map v xs
+set_types v [] n o p h e = cc
+set_types v (x ∷ xs) zero o p h e = let a : x ≡ o = cc in ap (λ t. t ∷ map v xs) (e ∙ ap v (sym a))
+set_types v (x ∷ xs) (suc n) o p h e = ap (λ all. v x ∷ all) (set_types v xs n o p h e)
 
 nothing_settled : (o q : AnObject) → o.initial ≡ None → q ≡ o → IsSome q.initial → ⊥
 nothing_settled o q e f i = let none_is_some = subst IsSome (ap (λ (o : AnObject). o.initial) f ∙ e) i in cc
@@ -190,7 +190,7 @@ object_defined f n o p h e same = record {
     names = (itself f).names;
     records = (itself f).records;
     mentions = λ kind t at h. h;
-    types = λ k t i. subst (λ all. slice_get all k ≡ Some t) (sym (set_types f.objects n o p h same.ty)) i;
+    types = λ k t i. subst (λ all. slice_get all k ≡ Some t) (sym (set_types (λ o. o.ty) f.objects n o p h same.ty)) i;
     objects = λ k q i s. by_number k q s (set_other f.objects n o p h k q i);
     functions = λ n t h. h;
   };
@@ -208,3 +208,79 @@ object_defined f n o p h e same = record {
     found k q (inl i) =
         (p, subst (λ k. slice_get (slice_set f.objects n p) k ≡ Some p) (sym i.0) (set_same f.objects n o p h), subst (λ q. IsSameObject q p) (sym i.1) same)
     found k q (inr i) = (q, i, same_object q)
+
+-- ---- the initializer of a definition
+
+abbrev with_initial : FileScope → (place : ℕ) → Typed.Initializer Noted → AnObject → AnObject
+with_initial f place i o = record o { place = place_in (at_file_scope f) place; initial = Some i }
+
+module _ (untagged : ℕ → List ℕ) where
+  -- what is asked of a file that goes on from a definition
+  pub record IsLaterFile (f : FileScope) (texts : List ℕ) (g : FileScope) : Type 0 where
+    pub continues : Continues f g
+    pub laid : IsLaid g
+    pub none_begins : NoneBegins g texts
+
+  -- an object is defined by an initializer of constants, which is typed
+  pub record FoundDefinition (f : FileScope) (n place : ℕ) (value : ℕ × Trees.Expression) (t : CType) (o : AnObject) (g : FileScope) : Type 0 where
+    pub after : FileScope
+    pub initial : Typed.Initializer Noted
+    pub whole : FoundWhole untagged (at_file_scope f) value.1 t (initial, after)
+    pub file_is : g ≡ replaced_object after n (with_initial f place initial o)
+    pub continues : Continues f g
+    pub holds : (h : FileScope) → IsLaterFile g whole.texts h → KeepsConstants after h → (p : AnObject) → slice_get h.objects n ≡ Some p
+        → IsDefinition (at_file_scope h) place t (Some value) p × IsTypedInitializer (declared (at_file_scope h)) t (typed_initial initial)
+
+  pub definition_found : (f : FileScope) (n place : ℕ) (value : ℕ × Trees.Expression) (t : CType) (o : AnObject) → slice_get f.objects n ≡ Some o
+      → o.initial ≡ None → IsInRange value.1 → Ready (at_file_scope f) (marks untagged value.1) → AreComplete f.records → f.untagged ≡ untagged
+      → is_object (length f.records) t ≡ true → (g : FileScope) → define_object f n place (Some value) t ≡ Ok g → FoundDefinition f n place value t o g
+  definition_found f n place value t o stands e range r c same k g h =
+      let s = at_file_scope f in
+      let i = bound_ok (constants_if_any (Some value) s t) _ g h in
+      let x = bound_ok (initializer value.1 s t) _ i.0 i.1 in
+      let w = with_file_ok x.0.1 (constants_in (declared (moved s x.0.1)) (first value.1) x.0.0) i.0 x.2 in
+      let d = constants_are (declared (moved s x.0.1)) (first value.1) x.0.0 i.0.0 w.0 in
+      let v = sound_whole untagged f value.1 s range r (record { complete = c; extends = itself f; same = same }) t k x.0 x.1 in
+      let u = subst (λ z. FoundWhole untagged s value.1 t z) (pair_is x.0 i.0 d.0 w.1) v in
+      let step = adds_continues u.grew.extends u.grows in
+      let there : slice_get i.0.1.objects n ≡ Some o =
+      subst (λ all. slice_get all n ≡ Some o) (sym u.grows.objects.1) (kept f.objects u.grows.objects.0 n o stands) in
+      let new = with_initial f place i.0.0 o in
+      let last = object_defined i.0.1 n o new there e
+      (record { name = refl; first = refl; ty = refl; is_linked = refl; literal = refl; settled = λ s. absurd (nothing_settled o o e refl s) }) in
+      let file = defined_by i.0.1 n o new there place f i.0.0 refl g i.2 in
+      let whole : Continues f g = subst (Continues f) (sym file) (continues_then step last) in
+      record {
+        after = i.0.1;
+        initial = i.0.0;
+        whole = u;
+        file_is = file;
+        continues = whole;
+        holds = λ h later keeps p found.
+            let back = subst (λ g. Continues g h) file later.continues in
+            let q = back.objects n new (set_same i.0.1.objects n o new there) in
+            let is : p ≡ new = same_found p q.0 (sym found ∙ q.1) ∙ q.2.settled refl in
+            let b = u.holds h [] (further last.extends back.extends) ([], refl) later.laid later.none_begins in
+            let number : h.file ≡ f.file = (further whole.extends later.continues.extends).file in
+            ((i.0.0,
+            (b.0,
+            constants_later (declared (moved s i.0.1)) (declared (at_file_scope h)) t i.0.0
+            (λ y m is_typed has. keeps s [] y m is_typed has) b.1
+            (subst (λ file. Rattle.c_erasure.specs.Initializers.AreConstants (declared (moved s file)) i.0.0) w.1 d.1)),
+            ap (λ (o : AnObject). o.initial) is,
+            ap (λ (o : AnObject). o.place) is ∙ ap (λ file. record { file = file; at = place }) (sym number)),
+            b.1);
+      }
+    where
+      pair_is : (x z : Typed.Initializer Noted × FileScope) → x.0 ≡ z.0 → x.1 ≡ z.1 → x ≡ z
+      pair_is x z p q = λ i. (p i, q i)
+
+      same_found : (p q : AnObject) → Some p ≡ Some q → p ≡ q
+      same_found p q e = cc
+
+      defined_by : (b : FileScope) (n : ℕ) (o new : AnObject) → slice_get b.objects n ≡ Some o → (place : ℕ) (f : FileScope) (i : Typed.Initializer Noted)
+          → new ≡ with_initial f place i o → (g : FileScope)
+          → Rattle.c_checking.proofs.Results.ok (with_definition b n (defined_object f place i (slice_get b.objects n))) ≡ Ok g → g ≡ replaced_object b n new
+      defined_by b n o new there place f i is g h =
+          given (λ g. g ≡ replaced_object b n new) _ g h
+          (ap (λ o. with_definition b n (defined_object f place i o)) there ∙ ap (replaced_object b n) (sym is))

@@ -146,14 +146,14 @@ pub own_answer : {A : Type 0} (at : ℕ) (o : Option LibraryFunction) (r : Answe
 own_answer at None r z h = (refl, h)
 own_answer at (Some which) r z h = cc
 
-once_answer : {A : Type 0} (x : Spelling) (o : Option Bound) (r : Answer A) (z : A) → once x o r ≡ Ok z → (o ≡ None) × (r ≡ Ok z)
+pub once_answer : {A : Type 0} (x : Spelling) (o : Option Bound) (r : Answer A) (z : A) → once x o r ≡ Ok z → (o ≡ None) × (r ≡ Ok z)
 once_answer x None r z h = (refl, h)
 once_answer x (Some b) r z h = cc
 
 -- ---- typedefs
 
 -- a name is bound behind the others
-bound_there : (f g : FileScope) (b : Bound) → Extends (with_bound f b) g → IsBound (at_file_scope g) b
+pub bound_there : (f g : FileScope) (b : Bound) → Extends (with_bound f b) g → IsBound (at_file_scope g) b
 bound_there f g b p = (length f.names, bound_stays p (length f.names) b (at_end f.names b))
 
 pub record IsTypedefDeclared (f : FileScope) (x : Spelling) (from : ℕ) (t : CType) (g : FileScope) : Type 0 where
@@ -299,7 +299,7 @@ pub record IsFunctionDeclared (words : Storage) (x : Spelling) (place from : ℕ
   pub first_place : IsFirst first function.first place
   pub binds : IsBound (at_file_scope g) (bound x from declares (a_function number t))
 
-bound_put : (f : FileScope) (b : Bound) → Continues f (with_bound f b)
+pub bound_put : (f : FileScope) (b : Bound) → Continues f (with_bound f b)
 bound_put f b = record {
   extends = record {
     file = refl;
@@ -318,7 +318,7 @@ bound_put f b = record {
   functions = λ n o h. (o, h, same_function o);
 }
 
-first_later : (first : Bool) (a b place : ℕ) → a ≡ b → IsFirst first b place → IsFirst first a place
+pub first_later : (first : Bool) (a b place : ℕ) → a ≡ b → IsFirst first b place → IsFirst first a place
 first_later true a b place e h = e ∙ h
 first_later false a b place e h = omega (arith, e, h)
 

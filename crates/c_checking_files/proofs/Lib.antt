@@ -16,3 +16,4 @@ pub mod Statements
 pub mod Bodies
 pub mod FileScopes
 pub mod FileObjects
+pub mod FileFunctions
