@@ -15,7 +15,8 @@ use Rattle.c_erasure.specs.Specifiers.{Storage}
 use Rattle.c_erasure.specs.Statements.{Statements}
 use Rattle.c_checking.specs.Answers.{Answer, ◌>>=◌}
 use Rattle.c_checking.specs.Declaring.{declared_among, with_bound}
-use Rattle.c_checking.specs.Files.{library_named, own_name, main_function, is_main, main_type, once, defined_among, function_of, Received, received_by, defined_function}
+use Rattle.c_checking.specs.Files.{library_named, own_name, main_function, is_main, main_type, once, defined_among, function_of, Received, received_by}
+use Rattle.c_checking.specs.Files.{defined_function}
 use Rattle.c_checking.specs.Files.{with_body, function_body, define_function}
 use Rattle.c_checking.specs.Statements.{items_in}
 use Rattle.c_checking.proofs.Results.{bound_ok, given, chosen, ok}
@@ -23,7 +24,8 @@ use Rattle.c_checking.proofs.Extends.{Extends, itself, further}
 use Rattle.c_checking_files.proofs.Scoped.{IsLater, FoundIn}
 use Rattle.c_checking_files.proofs.StatementLaws.{AreItemsInRange}
 use Rattle.c_checking_files.proofs.Bodies.{IsReadyFile, AreParametersOf, parameters_are, body_found}
-use Rattle.c_checking_files.proofs.FileScopes.{IsSameFunction, Continues, continues_itself, continues_then, adds_continues, MayDeclare, StandsFor, own_answer, own_is}
+use Rattle.c_checking_files.proofs.FileScopes.{IsSameFunction, Continues, continues_itself, continues_then, adds_continues, MayDeclare, StandsFor}
+use Rattle.c_checking_files.proofs.FileScopes.{own_answer, own_is}
 use Rattle.c_checking_files.proofs.FileScopes.{once_answer, bound_there, bound_put, first_later, IsTheFunction, function_is}
 use Rattle.c_checking_files.proofs.FileObjects.{set_same, set_other, set_types}
 
@@ -61,7 +63,8 @@ function_defined f n o p h e same = record {
     found : (k : ℕ) (q : AFunction) → ((k ≡ n) × (q ≡ o)) ⊎ (slice_get (slice_set f.functions n p) k ≡ Some q)
         → (r : AFunction) × (slice_get (slice_set f.functions n p) k ≡ Some r) × IsSameFunction q r
     found k q (inl i) =
-        (p, subst (λ k. slice_get (slice_set f.functions n p) k ≡ Some p) (sym i.0) (set_same f.functions n o p h), subst (λ q. IsSameFunction q p) (sym i.1) same)
+        (p, subst (λ k. slice_get (slice_set f.functions n p) k ≡ Some p) (sym i.0) (set_same f.functions n o p h), subst (λ q. IsSameFunction q p)
+        (sym i.1) same)
     found k q (inr i) = (q, i, same_function q)
 
 main_answer : {A : Type 0} (x : List ℕ) (at : ℕ) (t : CType) (r : Answer A) (z : A) → main_function x at t r ≡ Ok z → r ≡ Ok z
@@ -117,7 +120,8 @@ module _ (untagged : ℕ → List ℕ) where
       let all = bound_ok (items_in result items (in_body file p.bounds p.locals) false false) _ g c.1 in
       let u = body_found untagged file place nodes result items list types p e range r.0 all.0 all.1 in
       let step = adds_continues u.extends u.grows in
-      let known : slice_get all.0.1.file.functions n.0.0 ≡ Some v.function = subst (λ all. slice_get all n.0.0 ≡ Some v.function) (sym u.grows.functions) v.stands in
+      let known : slice_get all.0.1.file.functions n.0.0 ≡ Some v.function = subst (λ all. slice_get all n.0.0 ≡ Some v.function)
+      (sym u.grows.functions) v.stands in
       let new = defined_function all.0.1.file place (length p.locals) nodes all.0.0 all.0.1.locals v.function in
       let none = r.1 v.function v.stands in
       let last = function_defined all.0.1.file n.0.0 v.function new known none
@@ -148,7 +152,8 @@ module _ (untagged : ℕ → List ℕ) where
               linkage = v.linkage;
               first_place = v.first_place;
               binds = bound_there n.0.1 h name (further u.extends (further last.extends back.extends));
-              parameters = subst (λ locals. HasParameters list types locals p.bounds) (sym (own_locals p all.0.1 u.more u.locals)) (parameters_are file list types p e).has;
+              parameters = subst (λ locals. HasParameters list types locals p.bounds) (sym (own_locals p all.0.1 u.more u.locals))
+                  (parameters_are file list types p e).has;
               body = u.holds h all.0.1.locals read v.function refl;
             };
       }

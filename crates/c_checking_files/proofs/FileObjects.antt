@@ -19,7 +19,8 @@ use Rattle.c_erasure.specs.Files.{IsLinkage, IsFirst, IsDefinition, object_how, 
 use Rattle.c_erasure.specs.Initializers.{IsInitializer}
 use Rattle.c_erasure.specs.Marks.{marks}
 use Rattle.c_erasure.specs.Noted.{Noted}
-use Rattle.c_erasure.specs.Scopes.{FileScope, Scope, Bound, AnObject, Entity, typedef, enumerator, an_object, a_function, a_library_function, a_local, a_parameter}
+use Rattle.c_erasure.specs.Scopes.{FileScope, Scope, Bound, AnObject, Entity, typedef, enumerator, an_object, a_function, a_library_function, a_local}
+use Rattle.c_erasure.specs.Scopes.{a_parameter}
 use Rattle.c_erasure.specs.Scopes.{at_file_scope, declared}
 use Rattle.c_erasure.specs.Specifiers.{Storage, no_storage, a_typedef, is_extern, is_static, is_auto, is_register, several}
 use Rattle.c_erasure.specs.Statements.{HasConstants}
