@@ -17,3 +17,4 @@ pub mod Bodies
 pub mod FileScopes
 pub mod FileObjects
 pub mod FileFunctions
+pub mod FileDeclarators
