@@ -184,7 +184,7 @@ module _ (untagged : ℕ → List ℕ) (f : FileScope) where
   abbrev pub FoundDeclarators : Bool → List Trees.InitDeclarator → Scope → CType → ℕ → Statements × Scope → Type 0
   FoundDeclarators static all s base semicolon z =
       FoundIn untagged f s (spoken_of_declarators all semicolon) (made_by static all semicolon) (AreDeclared static all s base z.0 z.1)
-          (all_declared_by z.0) z.1
+      (all_declared_by z.0) z.1
 
   pub declarators_found : (all : List Trees.InitDeclarator) (s : Scope) (static : Bool) (base : CType) (semicolon : ℕ) → AreDeclaratorsInRange all
       → IsWithin untagged f s → (z : Statements × Scope) → declare_all all s static base ≡ Ok z → FoundDeclarators static all s base semicolon z

@@ -1,7 +1,7 @@
 -- Declarators of the file scope: typedefs, and functions that are declared (C99 6.7, 6.9).
-use Rattle.std.proofs.Common.{◌≡◌, ◌≢◌, ℕ, Bool, true, false, refl, sym, ap, ◌∙◌, subst, List, [], ◌∷◌, ◌++◌, cond, inl, inr}
+use Rattle.std.proofs.Common.{◌≡◌, ◌≢◌, ℕ, Bool, true, false, refl, sym, ap, ◌∙◌, subst, List, [], ◌∷◌, cond, inl, inr}
 use Rattle.std.proofs.lemmas.Bool.{and_parts}
-use Rattle.std.specs.Prelude.{◌⊎◌, Option, Some, None, Ok, is_none, ◌&&◌}
+use Rattle.std.specs.Prelude.{Option, Some, None, Ok, is_none, ◌&&◌}
 use Rattle.c_types.specs.Sameness.{same_type}
 use Rattle.c_types.specs.Types.{CType, Record}
 use Rattle.c_types.proofs.SameTypes.{same_is}
@@ -12,17 +12,17 @@ use Rattle.c_typed.specs.declared.operators.LibraryFunction.{LibraryFunction}
 use Rattle.c_typed.specs.declared.program.MentionKind.TheVariants.{Named}
 use Rattle.c_typed.specs.Conversions.{is_function}
 use Rattle.c_typed.specs.Fits.{library_type}
-use Rattle.c_erasure.specs.Declarators.{declared_name, Shape, closed, open_array}
-use Rattle.c_erasure.specs.Erasure.{Declares, IsBound}
+use Rattle.c_erasure.specs.Declarators.{Shape, closed, open_array}
+use Rattle.c_erasure.specs.Erasure.{Declares}
 use Rattle.c_erasure.specs.Files.{library_name, IsLinkage, function_storage, is_first, IsFirst, bound, IsTypedef, IsFunction}
 use Rattle.c_erasure.specs.Marks.{marks_of_declarator}
 use Rattle.c_erasure.specs.Scopes.{FileScope, Bound, a_library_function, declares, at_file_scope, IsMentioned}
 use Rattle.c_erasure.specs.Specifiers.{Storage, no_storage, a_typedef, is_extern, is_static, is_auto, is_register, several}
-use Rattle.c_checking.specs.Answers.{Answer, ◌>>=◌, refused}
+use Rattle.c_checking.specs.Answers.{Answer}
 use Rattle.c_checking.specs.Declaring.{with_mention, mentions_in, Derivation, derived, declared_among, with_bound}
 use Rattle.c_checking.specs.Finding.{derivations}
 use Rattle.c_checking.specs.Files.{is_library_name, first_named, library, library_named, links, library_again, declare_library, declare_function, without_value}
-use Rattle.c_checking.specs.Files.{declare_typedef, declare_as, declarator_named}
+use Rattle.c_checking.specs.Files.{declarator_named}
 use Rattle.c_checking.specs.Statements.{sized_in}
 use Rattle.c_checking.proofs.Results.{bound_ok, given, chosen}
 use Rattle.c_checking.proofs.Extends.{Extends, further}
@@ -104,10 +104,14 @@ module _ (untagged : ℕ → List ℕ) where
       let back : Extends file later =
       further (subst (Extends file) (sym w.file_is) (bound_put file _).extends) e in
       let before = before_mention s steps.0.1 later (mentions_in f) Named t.0 place back in
-      let c = closed_is steps.0.1.records shape.0 d.value t.0 o.0 (sized_so steps.0.1.records x.from shape.0 d.value t.0 t.1) in
-      (t.0, o.0, is_mentioned s steps.0.1 later (mentions_in f) Named t.0 place back,
-      v.holds later before steps.0.1.records before.records.0 before.records.1 base (closed t.0) (shape.1 ∙ ap Ok c),
-      w.own, w.binds later e)
+      let c = closed_is steps.0.1.records shape.0 d.value t.0 o.0 (sized_so steps.0.1.records x.from shape.0 d.value t.0 t.1) in (
+        t.0,
+        o.0,
+        is_mentioned s steps.0.1 later (mentions_in f) Named t.0 place back,
+        v.holds later before steps.0.1.records before.records.0 before.records.1 base (closed t.0) (shape.1 ∙ ap Ok c),
+        w.own,
+        w.binds later e,
+      )
 
   -- a function that is declared: `first` tells whether no declaration of the name stands before, as the later file has it
   pub function_found : (f : FileScope) (words : Storage) → MayDeclare words → (base : CType) (d : Trees.InitDeclarator) (x : Spelling) (from nodes : ℕ)
@@ -133,9 +137,10 @@ module _ (untagged : ℕ → List ℕ) where
       let e = closed_is steps.1.records shape d.value t o.0 (sized_so steps.1.records x.from shape d.value t is_sized) in
       by_name (library_named x.text) refl o.0 o.1
       (λ back.
-      let before = before_mention s steps.1 later (mentions_in f) Named t place back in
-      (v.holds later before steps.1.records before.records.0 before.records.1 base (closed t) (is_shape ∙ ap Ok e),
-      is_mentioned s steps.1 later (mentions_in f) Named t place back))
+      let before = before_mention s steps.1 later (mentions_in f) Named t place back in (
+        v.holds later before steps.1.records before.records.0 before.records.1 base (closed t) (is_shape ∙ ap Ok e),
+        is_mentioned s steps.1 later (mentions_in f) Named t place back,
+      ))
     where
       by_name : (o : Option LibraryFunction) → library_named x.text ≡ o → d.value ≡ None
           → declare_function (with_mention (at_file_scope f) (mentions_in f) Named t (first_declarator d.declarator x.from) steps.1) words x
@@ -149,11 +154,24 @@ module _ (untagged : ℕ → List ℕ) where
           let file = with_mention (at_file_scope f) (mentions_in f) Named t place steps.1 in
           let w = function_declared file words m x place from t nodes k g h in
           let q = w.1 later c in
-          let a = both (further w.0.extends c.extends) in
-          (t, none, a.0, is_fun, a.1,
-          inr (q.number, q.function, own_is x.text is_own, q.stands, q.name, q.ty,
-          subst (λ b. IsLinkage (function_storage words) b q.function.is_linked) (sym first) q.linkage,
-          subst (λ b. IsFirst b q.function.first place) (sym first) q.first_place, q.binds))
+          let a = both (further w.0.extends c.extends) in (
+            t,
+            none,
+            a.0,
+            is_fun,
+            a.1,
+            inr (
+              q.number,
+              q.function,
+              own_is x.text is_own,
+              q.stands,
+              q.name,
+              q.ty,
+              subst (λ b. IsLinkage (function_storage words) b q.function.is_linked) (sym first) q.linkage,
+              subst (λ b. IsFirst b q.function.first place) (sym first) q.first_place,
+              q.binds,
+            ),
+          )
       by_name (Some which) is_library none h both =
           let place = first_declarator d.declarator x.from in
           let file = with_mention (at_file_scope f) (mentions_in f) Named t place steps.1 in

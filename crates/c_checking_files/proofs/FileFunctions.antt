@@ -1,5 +1,5 @@
 -- Definitions of functions at file scope (C99 6.9.1).
-use Rattle.std.proofs.Common.{◌≡◌, ℕ, zero, suc, ◌+◌, Bool, true, false, refl, sym, ap, ◌∙◌, subst, List, [], ◌∷◌, ◌++◌, length, append-nil, inl, inr}
+use Rattle.std.proofs.Common.{◌≡◌, ℕ, Bool, false, refl, sym, ap, ◌∙◌, subst, List, ◌++◌, length, inl, inr}
 use Rattle.std.specs.Prelude.{◌⊎◌, map, Option, Some, None, Ok, slice_get, slice_set, is_none, not, ◌&&◌}
 use Rattle.std.specs.Option.{IsSome}
 use Rattle.c_types.specs.Sameness.{same_type}
@@ -8,25 +8,22 @@ use Rattle.c_ast.specs.declared.words.Spelling.{Spelling}
 use Rattle.c_ast.specs.Trees
 use Rattle.c_erasure.specs.Erasure.{place_in, IsBound}
 use Rattle.c_erasure.specs.Files.{IsOwnName, IsLinkage, function_storage, IsFirst, bound, HasParameters, IsBody, in_body}
-use Rattle.c_erasure.specs.Literals.{made_by_items}
-use Rattle.c_erasure.specs.MentionPlaces.{spoken_by_items}
 use Rattle.c_erasure.specs.Scopes.{FileScope, Scope, Bound, AFunction, a_function, defines, at_file_scope}
 use Rattle.c_erasure.specs.Specifiers.{Storage}
-use Rattle.c_erasure.specs.Statements.{Statements}
-use Rattle.c_checking.specs.Answers.{Answer, ◌>>=◌}
+use Rattle.c_checking.specs.Answers.{Answer}
 use Rattle.c_checking.specs.Declaring.{declared_among, with_bound}
-use Rattle.c_checking.specs.Files.{library_named, own_name, main_function, is_main, main_type, once, defined_among, function_of, Received, received_by}
+use Rattle.c_checking.specs.Files.{library_named, main_function, is_main, main_type, defined_among, function_of, Received, received_by}
 use Rattle.c_checking.specs.Files.{defined_function}
-use Rattle.c_checking.specs.Files.{with_body, function_body, define_function}
+use Rattle.c_checking.specs.Files.{with_body, define_function}
 use Rattle.c_checking.specs.Statements.{items_in}
-use Rattle.c_checking.proofs.Results.{bound_ok, given, chosen, ok}
-use Rattle.c_checking.proofs.Extends.{Extends, itself, further}
-use Rattle.c_checking_files.proofs.Scoped.{IsLater, FoundIn}
+use Rattle.c_checking.proofs.Results.{bound_ok, given, chosen}
+use Rattle.c_checking.proofs.Extends.{itself, further}
+use Rattle.c_checking_files.proofs.Scoped.{IsLater}
 use Rattle.c_checking_files.proofs.StatementLaws.{AreItemsInRange}
 use Rattle.c_checking_files.proofs.Bodies.{IsReadyFile, AreParametersOf, parameters_are, body_found}
 use Rattle.c_checking_files.proofs.FileScopes.{IsSameFunction, Continues, continues_itself, continues_then, adds_continues, MayDeclare, StandsFor}
 use Rattle.c_checking_files.proofs.FileScopes.{own_answer, own_is}
-use Rattle.c_checking_files.proofs.FileScopes.{once_answer, bound_there, bound_put, first_later, IsTheFunction, function_is}
+use Rattle.c_checking_files.proofs.FileScopes.{once_answer, bound_there, bound_put, IsTheFunction, function_is}
 use Rattle.c_checking_files.proofs.FileObjects.{set_same, set_other, set_types}
 
 -- ---- a function that is defined takes the place of the one that was declared
@@ -62,9 +59,12 @@ function_defined f n o p h e same = record {
   where
     found : (k : ℕ) (q : AFunction) → ((k ≡ n) × (q ≡ o)) ⊎ (slice_get (slice_set f.functions n p) k ≡ Some q)
         → (r : AFunction) × (slice_get (slice_set f.functions n p) k ≡ Some r) × IsSameFunction q r
-    found k q (inl i) =
-        (p, subst (λ k. slice_get (slice_set f.functions n p) k ≡ Some p) (sym i.0) (set_same f.functions n o p h), subst (λ q. IsSameFunction q p)
-        (sym i.1) same)
+    found k q (inl i) = (
+      p,
+      subst (λ k. slice_get (slice_set f.functions n p) k ≡ Some p) (sym i.0) (set_same f.functions n o p h),
+      subst (λ q. IsSameFunction q p)
+          (sym i.1) same,
+    )
     found k q (inr i) = (q, i, same_function q)
 
 main_answer : {A : Type 0} (x : List ℕ) (at : ℕ) (t : CType) (r : Answer A) (z : A) → main_function x at t r ≡ Ok z → r ≡ Ok z

@@ -1,6 +1,6 @@
 -- Objects of the file scope: declared, declared again, and defined with an initializer (C99 6.7.8, 6.9.2).
-use Rattle.std.proofs.Common.{◌≡◌, ◌≢◌, ℕ, zero, suc, ◌+◌, ◌<◌, Bool, true, false, refl, sym, ap, ◌∙◌, subst, List, [], ◌∷◌, ◌++◌, length, append-nil, arith}
-use Rattle.std.proofs.Common.{inl, inr, cond}
+use Rattle.std.proofs.Common.{◌≡◌, ℕ, zero, suc, Bool, true, false, refl, sym, ap, ◌∙◌, subst, List, [], ◌∷◌, ◌++◌, length}
+use Rattle.std.proofs.Common.{inl, inr}
 use Rattle.std.proofs.lemmas.Bool.{and_parts}
 use Rattle.std.specs.Prelude.{◌⊎◌, map, Option, Some, None, Ok, slice_get, slice_set, is_none, not, ◌&&◌}
 use Rattle.std.specs.Option.{IsSome}
@@ -14,28 +14,26 @@ use Rattle.c_ast.specs.Trees
 use Rattle.c_ast.specs.Places.{first}
 use Rattle.c_typed.specs.Trees as Typed
 use Rattle.c_typed.specs.TypedStatements.{IsTypedInitializer}
-use Rattle.c_erasure.specs.Erasure.{place_in, IsBound}
-use Rattle.c_erasure.specs.Files.{IsLinkage, IsFirst, IsDefinition, object_how, bound}
+use Rattle.c_erasure.specs.Erasure.{place_in}
+use Rattle.c_erasure.specs.Files.{IsLinkage, IsFirst, IsDefinition}
 use Rattle.c_erasure.specs.Initializers.{IsInitializer}
 use Rattle.c_erasure.specs.Marks.{marks}
 use Rattle.c_erasure.specs.Noted.{Noted}
-use Rattle.c_erasure.specs.Scopes.{FileScope, Scope, Bound, AnObject, Entity, typedef, enumerator, an_object, a_function, a_library_function, a_local}
+use Rattle.c_erasure.specs.Scopes.{FileScope, Bound, AnObject, Entity, typedef, enumerator, an_object, a_function, a_library_function, a_local}
 use Rattle.c_erasure.specs.Scopes.{a_parameter}
 use Rattle.c_erasure.specs.Scopes.{at_file_scope, declared}
 use Rattle.c_erasure.specs.Specifiers.{Storage, no_storage, a_typedef, is_extern, is_static, is_auto, is_register, several}
-use Rattle.c_erasure.specs.Statements.{HasConstants}
-use Rattle.c_checking.specs.Answers.{Answer, ◌>>=◌, moved}
+use Rattle.c_checking.specs.Answers.{Answer, moved}
 use Rattle.c_checking.specs.Files.{links, main_object, is_main, linked_before, linkage_agrees, new_object, with_new_object, known_object, object_of}
 use Rattle.c_checking.specs.Files.{defined_object, with_definition, define_object}
 use Rattle.c_checking.specs.Initializers.{initializer, constants_in}
 use Rattle.c_checking.specs.Statements.{constants_if_any, replaced_object}
 use Rattle.c_checking.proofs.Results.{bound_ok, given, chosen, with_file_ok}
-use Rattle.c_checking.proofs.Extends.{Extends, itself, further, kept, at_end}
+use Rattle.c_checking.proofs.Extends.{itself, further, kept, at_end}
 use Rattle.c_checking.proofs.Agreement.{Ready}
 use Rattle.c_checking.proofs.InRange.{IsInRange}
 use Rattle.c_checking_files.proofs.Layouts.{IsLaid}
 use Rattle.c_checking_files.proofs.Parts.{NoneBegins}
-use Rattle.c_checking_files.proofs.Longer.{GoesOn}
 use Rattle.c_checking_files.proofs.Scoped.{KeepsConstants}
 use Rattle.c_checking_files.proofs.Wholes.{typed_initial, FoundWhole, sound_whole, constants_are}
 use Rattle.c_checking_files.proofs.LocalObjects.{constants_later}
@@ -262,15 +260,20 @@ module _ (untagged : ℕ → List ℕ) where
             let q = back.objects n new (set_same i.0.1.objects n o new there) in
             let is : p ≡ new = same_found p q.0 (sym found ∙ q.1) ∙ q.2.settled refl in
             let b = u.holds h [] (further last.extends back.extends) ([], refl) later.laid later.none_begins in
-            let number : h.file ≡ f.file = (further whole.extends later.continues.extends).file in
-            ((i.0.0,
-            (b.0,
-            constants_later (declared (moved s i.0.1)) (declared (at_file_scope h)) t i.0.0
-            (λ y m is_typed has. keeps s [] y m is_typed has) b.1
-            (subst (λ file. Rattle.c_erasure.specs.Initializers.AreConstants (declared (moved s file)) i.0.0) w.1 d.1)),
-            ap (λ (o : AnObject). o.initial) is,
-            ap (λ (o : AnObject). o.place) is ∙ ap (λ file. record { file = file; at = place }) (sym number)),
-            b.1);
+            let number : h.file ≡ f.file = (further whole.extends later.continues.extends).file in (
+              (
+                i.0.0,
+                (
+                  b.0,
+                  constants_later (declared (moved s i.0.1)) (declared (at_file_scope h)) t i.0.0
+                      (λ y m is_typed has. keeps s [] y m is_typed has) b.1
+                      (subst (λ file. Rattle.c_erasure.specs.Initializers.AreConstants (declared (moved s file)) i.0.0) w.1 d.1),
+                ),
+                ap (λ (o : AnObject). o.initial) is,
+                ap (λ (o : AnObject). o.place) is ∙ ap (λ file. record { file = file; at = place }) (sym number),
+              ),
+              b.1,
+            );
       }
     where
       pair_is : (x z : Typed.Initializer Noted × FileScope) → x.0 ≡ z.0 → x.1 ≡ z.1 → x ≡ z

@@ -371,7 +371,7 @@ module _ (untagged : ℕ → List ℕ) where
   abbrev FoundOne : Scope → Trees.Arguments → CType → ℕ → List Part × FileScope → Type 0
   FoundOne s all t at z =
       FoundParts s (marks_of_all untagged all) (spoken_of_all all) (literals_of_all all) (λ s parts. IsOnePart all t at s parts) (OfObject t at)
-          (RisesIn t at) z
+      (RisesIn t at) z
 
   one_found : (f : FileScope) (comma : Option ℕ) (a : Trees.Expression) (s : Scope) → IsInRange a → Ready s (marks untagged a ++ []) → ReadFrom f s
       → (t : CType)
@@ -619,7 +619,7 @@ module _ (untagged : ℕ → List ℕ) where
         plain_found f (Trees.unary op b a) (plain (Trees.unary op b a) refl) s n r q t at k (texts_of (Trees.unary op b a)) (inl refl) z h
     sound_initial f (Trees.sizeof_expression b a) s n r q t at k z h =
         plain_found f (Trees.sizeof_expression b a) (plain (Trees.sizeof_expression b a) refl) s n r q t at k (texts_of (Trees.sizeof_expression b a))
-            (inl refl) z h
+        (inl refl) z h
     sound_initial f (Trees.sizeof_type b c m d) s n r q t at k z h =
         plain_found f (Trees.sizeof_type b c m d) (plain (Trees.sizeof_type b c m d) refl) s n r q t at k (texts_of (Trees.sizeof_type b c m d)) (inl refl) z h
     sound_initial f (Trees.cast b m c a) s n r q t at k z h =

@@ -449,7 +449,7 @@ module _ (untagged : ℕ → List ℕ) (f : FileScope) where
           let m = moved s c.0.1 in
           let there : (performed result a m loop true >>= λ st. Ok ((Typed.and_statement st.0 Typed.no_statements, c.0.0), st.1)) ≡ Ok z =
           labels_there (c.0.0, m) all.0 c.2 (λ all. performed result a all.1 loop true >>= λ st. Ok
-              ((Typed.and_statement st.0 Typed.no_statements, all.0), st.1)) z all.2 in
+          ((Typed.and_statement st.0 Typed.no_statements, all.0), st.1)) z all.2 in
           let st = bound_ok (performed result a m loop true) _ z there in
           let u = sound_statement a m loop true n.1 v.found.found.within st.0 st.1 in
           let own = Typed.and_statement st.0.0 Typed.no_statements in
