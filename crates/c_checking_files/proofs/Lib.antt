@@ -18,3 +18,4 @@ pub mod FileScopes
 pub mod FileObjects
 pub mod FileFunctions
 pub mod FileDeclarators
+pub mod FileObjectDeclarators
