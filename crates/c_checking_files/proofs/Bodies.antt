@@ -35,7 +35,8 @@ record IsReceived (x : Option Spelling) (k : ℕ) (t : CType) (more : Option Rec
   pub locals : p.locals ≡ record { name = name.text; ty = t } ∷ rest.locals
   pub bounds : p.bounds ≡ record { name = name.text; place = name.from; from = name.to; how = defines; entity = a_local k t } ∷ rest.bounds
 
-received_is : (x : Option Spelling) (k : ℕ) (t : CType) (more : Option Received) (p : Received) → received_if_named x k t more ≡ Some p → IsReceived x k t more p
+received_is : (x : Option Spelling) (k : ℕ) (t : CType) (more : Option Received) (p : Received) → received_if_named x k t more ≡ Some p
+    → IsReceived x k t more p
 received_is None k t more p h = cc
 received_is (Some x) k t None p h = cc
 received_is (Some x) k t (Some rest) p h =
@@ -104,7 +105,7 @@ pub notes_left : (all : Statements) → without_notes all ≡ typed_statements a
 notes_left Typed.no_statements = refl
 notes_left (Typed.and_statement s more) = rw (notes_left more) refl
 
-take_own : {X : Type 0} (xs ys : List X) → take (length xs) (xs ++ ys) ≡ xs
+pub take_own : {X : Type 0} (xs ys : List X) → take (length xs) (xs ++ ys) ≡ xs
 take_own [] ys = refl
 take_own (x ∷ xs) ys = ap (λ z. x ∷ z) (take_own xs ys)
 
@@ -130,7 +131,8 @@ module _ (untagged : ℕ → List ℕ) where
   }
 
   -- the body of a function, as the checker keeps it: its parameters and locals are those of its last scope
-  pub body_found : (f : FileScope) (place nodes : ℕ) (result : CType) (items : Trees.BlockItems) (list : Option Trees.ParameterList) (types : CTypes) (p : Received)
+  pub body_found : (f : FileScope) (place nodes : ℕ) (result : CType) (items : Trees.BlockItems) (list : Option Trees.ParameterList) (types : CTypes)
+      (p : Received)
       → received_by list types ≡ Some p → AreItemsInRange items → IsReadyFile untagged f → (z : Statements × Scope)
       → items_in result items (in_body f p.bounds p.locals) false false ≡ Ok z
       → FoundIn untagged f (in_body f p.bounds p.locals) (spoken_by_items items) (made_by_items items)
@@ -160,6 +162,7 @@ module _ (untagged : ℕ → List ℕ) where
               subst (λ l. EraseItems items (in_body g p.bounds l) z.0) whole i.erase,
               subst (λ l. AreTyped (declared (in_body g p.bounds l)) result false false (without_notes z.0)) whole
                   (subst (AreTyped (declared (seen s g l)) result false false) (sym (notes_left z.0)) i.is_typed),
-              v.numbered ∙ ap (λ n. count_up n (length v.more)) (ap length (sym own)) ∙ ap (count_up (length (take (length p.locals) z.1.locals))) (ap length (sym others)),
+              v.numbered ∙ ap (λ n. count_up n (length v.more)) (ap length (sym own)) ∙ ap (count_up (length (take (length p.locals) z.1.locals)))
+                  (ap length (sym others)),
             );
       }

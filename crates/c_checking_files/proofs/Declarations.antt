@@ -66,9 +66,11 @@ static_places false at = []
 
 abbrev pub made_by : Bool → List Trees.InitDeclarator → ℕ → List ℕ
 made_by static [] semicolon = []
-made_by static (d ∷ more) semicolon = static_places static (first_declarator d.declarator semicolon) ++ literals_of_value d.value ++ made_by static more semicolon
+made_by static (d ∷ more) semicolon =
+    static_places static (first_declarator d.declarator semicolon) ++ literals_of_value d.value ++ made_by static more semicolon
 
-pub made_same : (static : Bool) (words : Storage) → ((at : ℕ) → place_if_static words at ≡ static_places static at) → (all : List Trees.InitDeclarator) (semicolon : ℕ)
+pub made_same : (static : Bool) (words : Storage) → ((at : ℕ) → place_if_static words at ≡ static_places static at)
+    → (all : List Trees.InitDeclarator) (semicolon : ℕ)
     → made_by static all semicolon ≡ made_by_declarators words all semicolon
 made_same static words e [] semicolon = refl
 made_same static words e (d ∷ more) semicolon = rw (e (first_declarator d.declarator semicolon), made_same static words e more semicolon) refl
@@ -103,7 +105,8 @@ module _ (untagged : ℕ → List ℕ) (f : FileScope) where
   abbrev FoundDeclarator : Bool → Scope → CType → Trees.InitDeclarator → ℕ → Statements × Scope → Type 0
   FoundDeclarator static s base d semicolon z =
       FoundIn untagged f s (first_declarator d.declarator semicolon ∷ spoken_of_declarator d.declarator ++ spoken_by_value d.value)
-      (static_places static (first_declarator d.declarator semicolon) ++ literals_of_value d.value) (IsDeclarator static s base d z.0 z.1) (all_declared_by z.0) z.1
+      (static_places static (first_declarator d.declarator semicolon) ++ literals_of_value d.value) (IsDeclarator static s base d z.0 z.1)
+      (all_declared_by z.0) z.1
 
   declarator_by : (static : Bool) (s : Scope) (base : CType) (d : Trees.InitDeclarator) (x : Spelling) (semicolon : ℕ) → IsValueInRange d.value
       → (t : CType × FileScope) → FoundVariable untagged f s base d x t → (z : Statements × Scope) → declare_as static (moved s t.1) d x t.0 ≡ Ok z
@@ -124,11 +127,13 @@ module _ (untagged : ℕ → List ℕ) (f : FileScope) where
         );
         is_typed = λ result loop switch. subst (λ all. AreTyped (declared (seen s g l)) result loop switch (typed_statements all)) (sym made.all_is) tt;
       }) in
-      as_said untagged f s z.1 _ _ (IsDeclarator true s base d z.0 z.1) (IsDeclarator true s base d z.0 z.1) [] (all_declared_by z.0) b (no_locals z.0 z.1 t.1 t.0 h) (λ g l e laid goes h. h)
+      as_said untagged f s z.1 _ _ (IsDeclarator true s base d z.0 z.1) (IsDeclarator true s base d z.0 z.1) [] (all_declared_by z.0) b
+      (no_locals z.0 z.1 t.1 t.0 h) (λ g l e laid goes h. h)
     where
       no_locals : (all : Statements) (after : Scope) (g : FileScope) (u : CType) → declare_static (moved s g) d x u ≡ Ok (all, after) → [] ≡ all_declared_by all
       no_locals all after g u h =
-          let i = bound_ok (Rattle.c_checking.specs.Statements.constants_if_any d.value (Rattle.c_checking.specs.Statements.with_static (moved s g) d x u) u) _ (all, after) h in
+          let i = bound_ok (Rattle.c_checking.specs.Statements.constants_if_any d.value
+          (Rattle.c_checking.specs.Statements.with_static (moved s g) d x u) u) _ (all, after) h in
           given (λ (z : Statements × Scope). [] ≡ all_declared_by z.0) _ (all, after) i.2 refl
   declarator_by false s base d x semicolon n t v z h =
       let o = local_found untagged f (moved s t.1) d x t.0 n v.within v.complete z h in
@@ -178,7 +183,8 @@ module _ (untagged : ℕ → List ℕ) (f : FileScope) where
 
   abbrev pub FoundDeclarators : Bool → List Trees.InitDeclarator → Scope → CType → ℕ → Statements × Scope → Type 0
   FoundDeclarators static all s base semicolon z =
-      FoundIn untagged f s (spoken_of_declarators all semicolon) (made_by static all semicolon) (AreDeclared static all s base z.0 z.1) (all_declared_by z.0) z.1
+      FoundIn untagged f s (spoken_of_declarators all semicolon) (made_by static all semicolon) (AreDeclared static all s base z.0 z.1)
+      (all_declared_by z.0) z.1
 
   pub declarators_found : (all : List Trees.InitDeclarator) (s : Scope) (static : Bool) (base : CType) (semicolon : ℕ) → AreDeclaratorsInRange all
       → IsWithin untagged f s → (z : Statements × Scope) → declare_all all s static base ≡ Ok z → FoundDeclarators static all s base semicolon z

@@ -12,7 +12,8 @@ use Rattle.c_typed.specs.declared.operators.LibraryFunction.{LibraryFunction}
 use Rattle.c_typed.specs.declared.operators.LibraryFunction.TheVariants as L
 use Rattle.c_erasure.specs.Erasure.{IsBound}
 use Rattle.c_erasure.specs.Files.{library_name, IsOwnName, IsLinkage, function_storage, IsFirst, bound}
-use Rattle.c_erasure.specs.Scopes.{FileScope, Bound, AnObject, AFunction, Entity, typedef, enumerator, an_object, a_function, a_library_function, a_local, a_parameter}
+use Rattle.c_erasure.specs.Scopes.{FileScope, Bound, AnObject, AFunction, Entity, typedef, enumerator, an_object, a_function, a_library_function, a_local}
+use Rattle.c_erasure.specs.Scopes.{a_parameter}
 use Rattle.c_erasure.specs.Scopes.{declares, defines, at_file_scope}
 use Rattle.c_erasure.specs.Specifiers.{Storage, no_storage, a_typedef, is_extern, is_static, is_auto, is_register, several}
 use Rattle.c_checking.specs.Answers.{Answer}
@@ -92,7 +93,8 @@ continues_then p q = record {
 }
 
 -- what only adds objects behind those of a file
-pub adds_continues : {f g : FileScope} {a b c : Bool} {u : List Rattle.c_erasure.specs.Marks.Mark} {x k : List ℕ} → Extends f g → Adds f a b c u x k g → Continues f g
+pub adds_continues : {f g : FileScope} {a b c : Bool} {u : List Rattle.c_erasure.specs.Marks.Mark} {x k : List ℕ} → Extends f g → Adds f a b c u x k g
+    → Continues f g
 adds_continues {f} {g} e p = record {
   extends = e;
   objects = λ n o h. (o, subst (λ all. slice_get all n ≡ Some o) (sym p.objects.1) (kept f.objects p.objects.0 n o h), same_object o);
@@ -146,14 +148,14 @@ pub own_answer : {A : Type 0} (at : ℕ) (o : Option LibraryFunction) (r : Answe
 own_answer at None r z h = (refl, h)
 own_answer at (Some which) r z h = cc
 
-once_answer : {A : Type 0} (x : Spelling) (o : Option Bound) (r : Answer A) (z : A) → once x o r ≡ Ok z → (o ≡ None) × (r ≡ Ok z)
+pub once_answer : {A : Type 0} (x : Spelling) (o : Option Bound) (r : Answer A) (z : A) → once x o r ≡ Ok z → (o ≡ None) × (r ≡ Ok z)
 once_answer x None r z h = (refl, h)
 once_answer x (Some b) r z h = cc
 
 -- ---- typedefs
 
 -- a name is bound behind the others
-bound_there : (f g : FileScope) (b : Bound) → Extends (with_bound f b) g → IsBound (at_file_scope g) b
+pub bound_there : (f g : FileScope) (b : Bound) → Extends (with_bound f b) g → IsBound (at_file_scope g) b
 bound_there f g b p = (length f.names, bound_stays p (length f.names) b (at_end f.names b))
 
 pub record IsTypedefDeclared (f : FileScope) (x : Spelling) (from : ℕ) (t : CType) (g : FileScope) : Type 0 where
@@ -162,7 +164,8 @@ pub record IsTypedefDeclared (f : FileScope) (x : Spelling) (from : ℕ) (t : CT
   pub file_is : g ≡ with_bound f (bound x from defines (typedef t))
   pub binds : (h : FileScope) → Extends g h → IsBound (at_file_scope h) (bound x from defines (typedef t))
 
-pub typedef_declared : (f : FileScope) (x : Spelling) (from : ℕ) (t : CType) (g : FileScope) → declare_typedef f x from t ≡ Ok g → IsTypedefDeclared f x from t g
+pub typedef_declared : (f : FileScope) (x : Spelling) (from : ℕ) (t : CType) (g : FileScope) → declare_typedef f x from t ≡ Ok g
+    → IsTypedefDeclared f x from t g
 typedef_declared f x from t g h =
     let o = own_answer x.from (library_named x.text) _ g h in
     let n = once_answer x (declared_among f.names x.text) _ g o.1 in
@@ -299,7 +302,7 @@ pub record IsFunctionDeclared (words : Storage) (x : Spelling) (place from : ℕ
   pub first_place : IsFirst first function.first place
   pub binds : IsBound (at_file_scope g) (bound x from declares (a_function number t))
 
-bound_put : (f : FileScope) (b : Bound) → Continues f (with_bound f b)
+pub bound_put : (f : FileScope) (b : Bound) → Continues f (with_bound f b)
 bound_put f b = record {
   extends = record {
     file = refl;
@@ -318,7 +321,7 @@ bound_put f b = record {
   functions = λ n o h. (o, h, same_function o);
 }
 
-first_later : (first : Bool) (a b place : ℕ) → a ≡ b → IsFirst first b place → IsFirst first a place
+pub first_later : (first : Bool) (a b place : ℕ) → a ≡ b → IsFirst first b place → IsFirst first a place
 first_later true a b place e h = e ∙ h
 first_later false a b place e h = omega (arith, e, h)
 

@@ -172,7 +172,8 @@ module _ (untagged : ℕ → List ℕ) (f : FileScope) where
       let all = bound_with c.0.1 (with_case at before (as_kind kind c.0.0.1)) _ z c.2 in
       let rest = bound_ok (labels_in more (moved s c.0.1) kind all.0) _ z all.2 in
       let u = labels_found more (moved s c.0.1) kind k all.0 n.1 v.found.within rest.0 rest.1 in
-      given (FoundLabels (Trees.case at a colon ∷ more) s kind before) (record rest.0.0 { cases = as_kind kind c.0.0.1 ∷ rest.0.0.cases }, rest.0.1) z rest.2 (record {
+      given (FoundLabels (Trees.case at a colon ∷ more) s kind before) (record rest.0.0 { cases = as_kind kind c.0.0.1 ∷ rest.0.0.cases }, rest.0.1) z rest.2
+      (record {
         found = then_as untagged f s (moved s c.0.1) (moved s rest.0.1) (spoken a) (spoken_of_labels more) [] []
             (λ e. IsConstant (Erases a) e c.0.0.0 c.0.0.1) (λ e. AreLabels more e kind rest.0.0.cases rest.0.0.defaults)
             (λ e. AreLabels (Trees.case at a colon ∷ more) e kind (as_kind kind c.0.0.1 ∷ rest.0.0.cases) rest.0.0.defaults) [] [] v u.found

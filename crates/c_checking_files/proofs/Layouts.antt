@@ -42,7 +42,8 @@ object_stays {f} {g} p t h = object_more (length f.records) (length g.records) (
 pub size_stays : {f g : FileScope} → Extends f g → (t : CType) → is_object (length f.records) t ≡ true → size_of g.records t ≡ size_of f.records t
 size_stays {f} {g} p t h = ap (λ all. size_of all t) p.records.1 ∙ (layouts_stay f.records p.records.0).sizes t h
 
-pub offset_stays : {f g : FileScope} → Extends f g → (r k : ℕ) (rec : Record) → slice_get f.records r ≡ Some rec → offset_of g.records r k ≡ offset_of f.records r k
+pub offset_stays : {f g : FileScope} → Extends f g → (r k : ℕ) (rec : Record) → slice_get f.records r ≡ Some rec
+    → offset_of g.records r k ≡ offset_of f.records r k
 offset_stays {f} {g} p r k rec h =
     ap (λ all. offset_of all r k) p.records.1 ∙ (layouts_stay f.records p.records.0).offsets r k (slice_get_within f.records r rec h)
 

@@ -15,3 +15,7 @@ pub mod StatementLaws
 pub mod Statements
 pub mod Bodies
 pub mod FileScopes
+pub mod FileObjects
+pub mod FileFunctions
+pub mod FileDeclarators
+pub mod FileObjectDeclarators

@@ -136,7 +136,8 @@ module _ (untagged : ℕ → List ℕ) (f : FileScope) where
   initial_in (Some value) s t n w o z h =
       let x = bound_ok (initializer value.1 s t) _ z h in
       let v = whole_in value.1 s t n w o x.0 x.1 in
-      given (λ (z : Option (Typed.Initializer Noted) × FileScope). FoundInitializer s (spoken value.1) (literals value.1) (IsInitialIn s t (Some value) z.0) z.1)
+      given (λ (z : Option (Typed.Initializer Noted) × FileScope). FoundInitializer s (spoken value.1) (literals value.1)
+      (IsInitialIn s t (Some value) z.0) z.1)
       (Some x.0.0, x.0.1) z x.2 (record {
         within = v.within;
         extends = v.extends;
@@ -226,7 +227,8 @@ module _ (untagged : ℕ → List ℕ) (f : FileScope) where
       let i = bound_ok (in_scope b (initial_if_any d.value b t)) _ z h in
       let j = bound_ok (initial_if_any d.value b t) _ i.0 i.1 in
       let v = initial_in d.value b t n (new_within s x t w) o j.0 j.1 in
-      let r = given (λ (i : Option (Typed.Initializer Noted) × Scope). made_of i ≡ Ok z → FoundIn untagged f s (spoken_by_value d.value) (literals_of_value d.value)
+      let r = given (λ (i : Option (Typed.Initializer Noted) × Scope). made_of i ≡ Ok z
+      → FoundIn untagged f s (spoken_by_value d.value) (literals_of_value d.value)
       (IsDeclared s d x t z.0 z.1) (all_declared_by z.0) z.1) (j.0.0, moved b j.0.1) i.0 j.2
       (λ h. given (λ (z : Statements × Scope). FoundIn untagged f s (spoken_by_value d.value) (literals_of_value d.value) (IsDeclared s d x t z.0 z.1)
       (all_declared_by z.0) z.1) (Typed.and_statement (Typed.declare (length s.locals) j.0.0) Typed.no_statements, moved b j.0.1) z h (record {
@@ -245,7 +247,8 @@ module _ (untagged : ℕ → List ℕ) (f : FileScope) where
               initial = j.0.0;
               all_is = refl;
               local = subst (λ l. slice_get l (length s.locals) ≡ Some (record { name = x.text; ty = t })) (sym e.locals.1)
-                  (kept (s.locals ++ record { name = x.text; ty = t } ∷ []) e.locals.0 (length s.locals) _ (at_end s.locals (record { name = x.text; ty = t })));
+                  (kept (s.locals ++ record { name = x.text; ty = t } ∷ []) e.locals.0 (length s.locals) _
+                  (at_end s.locals (record { name = x.text; ty = t })));
               initializer = m.0;
               after_is = refl;
               complete = object_stays (further v.extends e.extends) t o;

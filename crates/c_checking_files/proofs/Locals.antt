@@ -47,7 +47,7 @@ small_so records at t u h =
     only_small true h = (refl, given (λ u. t ≡ u) t u h refl)
     only_small false h = cc
 
-abbrev IsSizedOver : List Record → Shape → Option (ℕ × Trees.Expression) → CType → Type 0
+abbrev pub IsSizedOver : List Record → Shape → Option (ℕ × Trees.Expression) → CType → Type 0
 IsSizedOver records (closed u) value t = t ≡ u
 IsSizedOver records (open_array u) None t = ⊥
 IsSizedOver records (open_array u) (Some value) t = (t ≡ array u (length_of u (texts_of value.1) value.1)) × (1 ≤ length_of u (texts_of value.1) value.1)

@@ -74,7 +74,8 @@ over_within P Q d [] into h = tt
 over_within P Q d (part ∷ more) into h = ((h.0.0, into part.offset h.0.0 h.0.1, h.0.2), over_within P Q d more into h.1)
 
 pub all_over : (P : ℕ → CType → Type 0) (d : Declared) (parts : List Part) (Q : Typed.Part CType → Type 0)
-    → ((part : Part) (u : CType) → P part.offset u → IsTypedValue d u (mapped_value (of_types (λ t. t.ty)) part.value) → Q (mapped_part (of_types (λ t. t.ty)) part))
+    → ((part : Part) (u : CType) → P part.offset u → IsTypedValue d u (mapped_value (of_types (λ t. t.ty)) part.value)
+    → Q (mapped_part (of_types (λ t. t.ty)) part))
     → AreOver P d parts → All Q (typed_parts parts)
 all_over P d [] Q into h = All-nil Q
 all_over P d (part ∷ more) Q into h =

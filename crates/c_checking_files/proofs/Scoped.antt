@@ -117,7 +117,8 @@ module _ (untagged : ℕ → List ℕ) (f : FileScope) where
     locals = q.locals ∙ ap (λ z. z ++ q.more) p.locals ∙ append_assoc s.locals p.more q.more;
     numbered =
         ap (λ z. z ++ j) p.numbered
-        ∙ ap (λ z. count_up (length s.locals) (length p.more) ++ z) (q.numbered ∙ ap (λ b. count_up b (length q.more)) (ap length p.locals ∙ length-append s.locals p.more))
+        ∙ ap (λ z. count_up (length s.locals) (length p.more) ++ z)
+        (q.numbered ∙ ap (λ b. count_up b (length q.more)) (ap length p.locals ∙ length-append s.locals p.more))
         ∙ counted (length s.locals) (length p.more) (length q.more)
         ∙ ap (count_up (length s.locals)) (sym (length-append p.more q.more));
     made = p.made ++ q.made;

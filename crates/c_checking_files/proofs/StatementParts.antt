@@ -172,7 +172,8 @@ module _ (untagged : ℕ → List ℕ) (f : FileScope) where
     stays = q.stays ∙ ap (λ c. leaving c n) p.stays;
   }
 
-  pub change_as : (s n : Scope) (x k : List ℕ) (A B : Scope → Type 0) (i j : List ℕ) → FoundAs s x k A i n → i ≡ j → ((c : Scope) → A c → B c) → FoundAs s x k B j n
+  pub change_as : (s n : Scope) (x k : List ℕ) (A B : Scope → Type 0) (i j : List ℕ) → FoundAs s x k A i n → i ≡ j → ((c : Scope) → A c → B c)
+      → FoundAs s x k B j n
   change_as s n x k A B i j p e is = record {
     found = as_said untagged f s n x k _ _ i j p.found e (λ g l e laid goes a. is (seen s g l) a);
     stays = p.stays;

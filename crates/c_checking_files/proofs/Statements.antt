@@ -33,7 +33,8 @@ use Rattle.c_checking_files.proofs.Longer.{seen}
 use Rattle.c_checking_files.proofs.Scoped.{IsWithin, FoundIn, then_in, as_said, nothing_in}
 use Rattle.c_checking_files.proofs.Declarations.{typed_statements, declared_then, typed_then}
 use Rattle.c_checking_files.proofs.StatementParts.{FoundAs, same_seen, then_as, change_as, nothing_as, inside_within, left_block, declaration_found}
-use Rattle.c_checking_files.proofs.StatementParts.{IsValueThere, value_as, IsConditionThere, condition_as, plain_value, switched_made, switched_keeps, returned_made}
+use Rattle.c_checking_files.proofs.StatementParts.{IsValueThere, value_as, IsConditionThere, condition_as, plain_value, switched_made, switched_keeps}
+use Rattle.c_checking_files.proofs.StatementParts.{returned_made}
 use Rattle.c_checking_files.proofs.Labels.{are_different, AreCounted, none_counted, labels_found}
 use Rattle.c_checking_files.proofs.StatementLaws.{declared_typed, declared_typed_arms, cases_typed, defaults_typed}
 use Rattle.c_checking_files.proofs.StatementLaws.{arranged_is, arranged_declared, arranged_typed, first_cases, first_defaults}
@@ -85,7 +86,8 @@ module _ (untagged : ℕ → List ℕ) (f : FileScope) where
       → start_of start s ≡ Ok z
       → FoundIn untagged f s (spoken_of_start start) (made_by_start start) (IsStartFound start result s z.0 z.1) (all_declared_by z.0) z.1
   start_found result (Trees.starts_with None semicolon) s n w z h =
-      given (λ (z : Statements × Scope). FoundIn untagged f s [] [] (IsStartFound (Trees.starts_with None semicolon) result s z.0 z.1) (all_declared_by z.0) z.1)
+      given (λ (z : Statements × Scope). FoundIn untagged f s [] [] (IsStartFound (Trees.starts_with None semicolon) result s z.0 z.1)
+      (all_declared_by z.0) z.1)
       (Typed.no_statements, s) z h (nothing_in untagged f s _ w (λ g l. record { starts = (refl, refl); is_typed = tt }))
   start_found result (Trees.starts_with (Some a) semicolon) s n w z h =
       let x = bound_ok (value_of_expression a s) _ z h in
@@ -113,7 +115,8 @@ module _ (untagged : ℕ → List ℕ) (f : FileScope) where
     FoundStatement a s loop switch z =
         FoundAs untagged f s (spoken_by a) (made_by a) (IsStatementThere a loop switch z.0) (all_declared z.0) z.1
 
-    pub record IsItemFound (e : Trees.BlockItem) (s : Scope) (loop switch : Bool) (all : Statements) (after : Scope) (g : FileScope) (l : List ALocal) : Type 0 where
+    pub record IsItemFound (e : Trees.BlockItem) (s : Scope) (loop switch : Bool) (all : Statements) (after : Scope) (g : FileScope)
+        (l : List ALocal) : Type 0 where
       pub erases : ErasesItem e (seen s g l) all (seen after g l)
       pub is_typed : AreTyped (declared (seen s g l)) result loop switch (typed_statements all)
 
@@ -134,7 +137,8 @@ module _ (untagged : ℕ → List ℕ) (f : FileScope) where
       pub erases : ErasesSwitchItem item (seen s g l) kind cases n all (seen after g l)
       pub is_typed : AreTyped (declared (seen s g l)) result loop true (typed_statements all)
 
-    record FoundSwitchItem (item : Trees.SwitchItem) (s : Scope) (loop : Bool) (kind : IntKind) (before : Labels) (z : (Statements × Found) × Scope) : Type 0 where
+    record FoundSwitchItem (item : Trees.SwitchItem) (s : Scope) (loop : Bool) (kind : IntKind) (before : Labels)
+        (z : (Statements × Found) × Scope) : Type 0 where
       pub found : FoundIn untagged f s (spoken_by_switch_item item) (made_by_switch_item item)
           (IsSwitchItemFound item s loop kind z.0.1.cases z.0.1.defaults z.0.0 z.1) (all_declared_by z.0.0) z.1
       pub counted : AreCounted kind before z.0.1.cases z.0.1.defaults z.0.1.all
@@ -145,7 +149,8 @@ module _ (untagged : ℕ → List ℕ) (f : FileScope) where
       pub is_typed : AreTyped (declared (seen s g l)) result loop true (typed_statements own)
       pub arms_typed : AreTypedArms (declared (seen s g l)) result loop (typed_arms arms)
 
-    record FoundSwitchItems (items : Trees.SwitchItems) (s : Scope) (loop : Bool) (kind : IntKind) (before : Labels) (z : (Statements × Arms) × Scope) : Type 0 where
+    record FoundSwitchItems (items : Trees.SwitchItems) (s : Scope) (loop : Bool) (kind : IntKind) (before : Labels)
+        (z : (Statements × Arms) × Scope) : Type 0 where
       pub found : FoundIn untagged f s (spoken_by_switch_items items) (made_by_switch_items items)
           (AreSwitchItemsFound items s loop kind z.0.0 z.0.1) (all_declared_by z.0.0 ++ all_declared_by_arms z.0.1) z.1
       pub counted : AreArmsCounted kind before z.0.1
@@ -154,20 +159,23 @@ module _ (untagged : ℕ → List ℕ) (f : FileScope) where
 
     for_found : (at from : ℕ) (start : Trees.ForStart) (test : Option Trees.Expression) (semicolon : ℕ) (step : Option Trees.Expression) (to : ℕ)
         (body : Trees.Statement) (s : Scope) (loop switch : Bool) → IsWithin untagged f s → (all : Statements × Scope)
-        → FoundIn untagged f (inside s) (spoken_of_start start) (made_by_start start) (IsStartFound start result (inside s) all.0 all.1) (all_declared_by all.0) all.1
+        → FoundIn untagged f (inside s) (spoken_of_start start) (made_by_start start) (IsStartFound start result (inside s) all.0 all.1)
+        (all_declared_by all.0) all.1
         → (t : Option Expression × Scope) → FoundAs untagged f all.1 (spoken_if_some test) (literals_if_any test) (IsTestThere test t.0) [] t.1
         → (e : Option Expression × Scope) → FoundAs untagged f t.1 (spoken_if_some step) (literals_if_any step) (IsEffectThere step e.0) [] e.1
         → (b : Statement × Scope) → FoundStatement body e.1 true switch b
         → FoundStatement (Trees.for at from start test semicolon step to body) s loop switch
         (Typed.for (declared_by all.0) all.0 t.0 e.0 b.0, leaving s b.1)
     for_found at from start test semicolon step to body s loop switch w all u t v e x b y =
-        let one = then_in untagged f (inside s) all.1 t.1 _ _ _ _ _ _ (λ g l. IsStartFound start result (inside s) all.0 all.1 g l × IsTestThere test t.0 (seen all.1 g l))
+        let one = then_in untagged f (inside s) all.1 t.1 _ _ _ _ _ _
+        (λ g l. IsStartFound start result (inside s) all.0 all.1 g l × IsTestThere test t.0 (seen all.1 g l))
         _ _ u v.found (λ g l ex laid goes a b. (a, b)) in
         let two = then_in untagged f (inside s) t.1 e.1 _ _ _ _ _ _
         (λ g l. IsStartFound start result (inside s) all.0 all.1 g l × IsTestThere test t.0 (seen all.1 g l) × IsEffectThere step e.0 (seen all.1 g l))
         _ _ one x.found (λ g l ex laid goes a b. (a.0, a.1, subst (IsEffectThere step e.0) (same_seen untagged f all.1 t.1 v.stays g l) b)) in
         let three = then_in untagged f (inside s) e.1 b.1 _ _ _ _ _ _
-        (λ g l. IsStatementThere (Trees.for at from start test semicolon step to body) loop switch (Typed.for (declared_by all.0) all.0 t.0 e.0 b.0) (seen s g l))
+        (λ g l. IsStatementThere (Trees.for at from start test semicolon step to body) loop switch (Typed.for (declared_by all.0) all.0 t.0 e.0 b.0)
+        (seen s g l))
         _ _ two y.found
         (λ g l ex laid goes a c.
         let there = same_seen untagged f t.1 e.1 x.stays g l ∙ same_seen untagged f all.1 t.1 v.stays g l in
@@ -270,7 +278,8 @@ module _ (untagged : ℕ → List ℕ) (f : FileScope) where
           })
       sound_statement (Trees.evaluate None semicolon) s loop switch n w z h =
           given (FoundStatement (Trees.evaluate None semicolon) s loop switch) (Typed.block [] Typed.no_statements, s) z h
-          (nothing_as untagged f s (IsStatementThere (Trees.evaluate None semicolon) loop switch (Typed.block [] Typed.no_statements)) w (λ c. (refl, (refl, tt))))
+          (nothing_as untagged f s (IsStatementThere (Trees.evaluate None semicolon) loop switch (Typed.block [] Typed.no_statements)) w
+          (λ c. (refl, (refl, tt))))
       sound_statement (Trees.evaluate (Some a) semicolon) s loop switch n w z h =
           let x = bound_ok (value_of_expression a s) _ z h in
           given (FoundStatement (Trees.evaluate (Some a) semicolon) s loop switch) (Typed.evaluate x.0.0, x.0.1) z x.2
@@ -439,7 +448,8 @@ module _ (untagged : ℕ → List ℕ) (f : FileScope) where
           let v = labels_found untagged f labels s kind k before n.0 w c.0 c.1 in
           let m = moved s c.0.1 in
           let there : (performed result a m loop true >>= λ st. Ok ((Typed.and_statement st.0 Typed.no_statements, c.0.0), st.1)) ≡ Ok z =
-          labels_there (c.0.0, m) all.0 c.2 (λ all. performed result a all.1 loop true >>= λ st. Ok ((Typed.and_statement st.0 Typed.no_statements, all.0), st.1)) z all.2 in
+          labels_there (c.0.0, m) all.0 c.2 (λ all. performed result a all.1 loop true >>= λ st. Ok
+          ((Typed.and_statement st.0 Typed.no_statements, all.0), st.1)) z all.2 in
           let st = bound_ok (performed result a m loop true) _ z there in
           let u = sound_statement a m loop true n.1 v.found.found.within st.0 st.1 in
           let own = Typed.and_statement st.0.0 Typed.no_statements in

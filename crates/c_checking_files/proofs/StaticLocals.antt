@@ -142,7 +142,8 @@ module _ (untagged : ℕ → List ℕ) (f : FileScope) where
       let whole = further (object_put s.file old) (further v.extends last) in
       let m = adds_there s old i.1 g more new v.made v.grows there v.grows.objects.2 in
       record {
-        within = within_file (moved (with_static s d x t) i.1) g v.within last (ap (λ (g : FileScope). g.names) there) (ap (λ (g : FileScope). g.records) there);
+        within = within_file (moved (with_static s d x t) i.1) g v.within last (ap (λ (g : FileScope). g.names) there)
+            (ap (λ (g : FileScope). g.records) there);
         extends = whole;
         more = [];
         locals = sym (append-nil s.locals);

@@ -25,7 +25,8 @@ use Rattle.c_erasure.specs.Noted.{Noted, Expression, an_object, type_of, type_of
 use Rattle.c_erasure.specs.Scopes.{ALocal, FileScope, Scope, declared}
 use Rattle.c_checking.specs.Answers.{◌>>=◌, with_file}
 use Rattle.c_checking.specs.Finding.{find}
-use Rattle.c_checking.specs.Initializers.{initial_record_in, without_braces, initialized, initializer, whole_of, is_constant_part, are_constant_parts, are_constants, constants_in}
+use Rattle.c_checking.specs.Initializers.{initial_record_in, without_braces, initialized, initializer, whole_of, is_constant_part, are_constant_parts}
+use Rattle.c_checking.specs.Initializers.{are_constants, constants_in}
 use Rattle.c_checking.proofs.Results.{bound_ok, given, with_file_ok, only_if}
 use Rattle.c_checking.proofs.Extends.{Extends}
 use Rattle.c_checking.proofs.Agreement.{Ready, Grew}
@@ -169,7 +170,8 @@ module _ (d : Declared) (g : FileScope) (records_are : d.records ≡ g.records) 
   abbrev IsTypedWhole : Typed.Initializer Noted → Type 0
   IsTypedWhole i = IsTypedInitializer d t (typed_initial i)
 
-  scalar_whole : (b braces : Bool) (x : Expression) → is_scalar t ≡ true → IsTypedWhole (Typed.whole x) → IsTypedWhole (whole_of t braces (part_at 0 (Typed.value x)))
+  scalar_whole : (b braces : Bool) (x : Expression) → is_scalar t ≡ true → IsTypedWhole (Typed.whole x)
+      → IsTypedWhole (whole_of t braces (part_at 0 (Typed.value x)))
   scalar_whole b braces x i h = subst IsTypedWhole (sym (whole_there (is_scalar t) i (is_record t && not braces))) h
     where
       whole_there : (b : Bool) → b ≡ true → (c : Bool) → cond (b || c) (Typed.whole x) (Typed.parts (part_at 0 (Typed.value x))) ≡ Typed.whole x
