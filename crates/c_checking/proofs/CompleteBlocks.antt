@@ -30,7 +30,7 @@ use Rattle.c_checking.proofs.CompleteStatements.{inner, outer, Seen, Performs, f
 
 -- ---- statements one after the other
 
-declared_followed : (a b : Statements) → all_declared_by (followed_by a b) ≡ all_declared_by a ++ all_declared_by b
+pub declared_followed : (a b : Statements) → all_declared_by (followed_by a b) ≡ all_declared_by a ++ all_declared_by b
 declared_followed Typed.no_statements b = refl
 declared_followed (Typed.and_statement s a) b =
     ap (λ z. all_declared s ++ z) (declared_followed a b) ∙ sym (append_assoc (all_declared s) (all_declared_by a) (all_declared_by b))
@@ -55,11 +55,11 @@ no_void s n (function t all) h = refl
 no_void s n (structure r) h = refl
 no_void s n void h = let e = not_void s n in cc
 
-module _ (g : FileScope) (w : IsWhole g) (ls : List ALocal) (result : CType) (own : Trees.Declaration → List Event) (labelled : Trees.SwitchItems → List Event) where
+module _ (g : FileScope) (w : IsWhole g) (ls : List ALocal) (result : CType) (own : Trees.Declaration → List Event) where
   abbrev pub AreTypedHere : List (List Bound) → (loop switch : Bool) → Statements → Type 0
   AreTypedHere b loop switch all = AreTyped (declared (outer g w ls b)) result loop switch (without all)
 
-  typed_followed : (b : List (List Bound)) (loop switch : Bool) (x y : Statements) → AreTypedHere b loop switch (followed_by x y)
+  pub typed_followed : (b : List (List Bound)) (loop switch : Bool) (x y : Statements) → AreTypedHere b loop switch (followed_by x y)
       → AreTypedHere b loop switch x × AreTypedHere b loop switch y
   typed_followed b loop switch Typed.no_statements y h = (tt, h)
   typed_followed b loop switch (Typed.and_statement s x) y h =
@@ -67,7 +67,8 @@ module _ (g : FileScope) (w : IsWhole g) (ls : List ALocal) (result : CType) (ow
 
   -- ---- declarations in a block, and the blocks after them
 
-  pub record FoundAll (b : List (List Bound)) (l : List ALocal) (c : Lists) (all : List Event) (r : Performed Statements) (found : Statements) (after : Scope) : Type 0 where
+  pub record FoundAll (b : List (List Bound)) (l : List ALocal) (c : Lists) (all : List Event) (r : Performed Statements) (found : Statements)
+      (after : Scope) : Type 0 where
     pub blocks : List (List Bound)
     pub is_after : after ≡ outer g w ls blocks
     pub performs : Performs g w ls c l all (all_declared_by found) r found blocks
@@ -80,18 +81,18 @@ module _ (g : FileScope) (w : IsWhole g) (ls : List ALocal) (result : CType) (ow
       → FoundAll b l c (own d) (local_declaration d (inner g w ls b l c)) all after
 
   abbrev pub Is : Trees.Statement → Type 0
-  Is st = CompletesStatement g w ls result own labelled st
+  Is st = CompletesStatement g w ls result own st
 
   abbrev walked : Trees.BlockItems → List Event
-  walked items = walk_of_items g.untagged own labelled items
+  walked items = walk_of_items g.untagged own items
 
   -- ---- items of blocks
 
   abbrev pub CompletesItem : Trees.BlockItem → Type 0
   CompletesItem item = (b : List (List Bound)) (l : List ALocal) (c : Lists) (all : Statements) (after : Scope) (loop switch : Bool)
-      → BlocksFit g (length c.records) b → IsBefore g c (Seen g w ls (walk_of_item g.untagged own labelled item)) → (more : List ALocal) × (ls ≡ l ++ more)
+      → BlocksFit g (length c.records) b → IsBefore g c (Seen g w ls (walk_of_item g.untagged own item)) → (more : List ALocal) × (ls ≡ l ++ more)
       → ErasesItem item (outer g w ls b) all after → AreTypedHere b loop switch all → AreNumbered (length l) (all_declared_by all)
-      → FoundAll b l c (walk_of_item g.untagged own labelled item) (item_in result item (inner g w ls b l c) loop switch) all after
+      → FoundAll b l c (walk_of_item g.untagged own item) (item_in result item (inner g w ls b l c) loop switch) all after
 
   pub local_complete : (d : Trees.Declaration) → CompletesDeclaration d → CompletesItem (Trees.local d)
   unfolding item_in
@@ -107,8 +108,8 @@ module _ (g : FileScope) (w : IsWhole g) (ls : List ALocal) (result : CType) (ow
       let z = i b l c h.0 loop switch f e p h.2 k.0 (numbered_left (length l) (all_declared h.0) [] n) in
       made z
     where
-      made : Performs g w ls c l (walk_of_statement g.untagged own labelled a) (all_declared h.0) (performed result a (inner g w ls b l c) loop switch) h.0 b
-          → FoundAll b l c (walk_of_statement g.untagged own labelled a) (item_in result (Trees.statement a) (inner g w ls b l c) loop switch) all after
+      made : Performs g w ls c l (walk_of_statement g.untagged own a) (all_declared h.0) (performed result a (inner g w ls b l c) loop switch) h.0 b
+          → FoundAll b l c (walk_of_statement g.untagged own a) (item_in result (Trees.statement a) (inner g w ls b l c) loop switch) all after
       made z = record {
         blocks = b;
         is_after = h.3;
@@ -156,17 +157,18 @@ module _ (g : FileScope) (w : IsWhole g) (ls : List ALocal) (result : CType) (ow
   unfolding items_in
   items_joined item more loop switch s t v x y a b = rw (a, b) refl
 
-  pub items_complete : (item : Trees.BlockItem) (more : Trees.BlockItems) → CompletesItem item → CompletesItems more → CompletesItems (Trees.and_block_item item more)
+  pub items_complete : (item : Trees.BlockItem) (more : Trees.BlockItems) → CompletesItem item → CompletesItems more
+      → CompletesItems (Trees.and_block_item item more)
   items_complete item more i j b l c all loop switch f e p h k n =
       let k = typed_followed b loop switch h.0 h.1 (subst (AreTypedHere b loop switch) h.3 k) in
       let d : all_declared_by all ≡ all_declared_by h.0 ++ all_declared_by h.1 = ap all_declared_by h.3 ∙ declared_followed h.0 h.1 in
       let n = subst (AreNumbered (length l)) d n in
-      let first = walk_of_item g.untagged own labelled item in
-      let z = i b l c h.0 h.2 loop switch f (left_seen g true in_full c (walk_of_item g.untagged own labelled item) (walked more) e) p h.4 k.0
+      let first = walk_of_item g.untagged own item in
+      let z = i b l c h.0 h.2 loop switch f (left_seen g true in_full c (walk_of_item g.untagged own item) (walked more) e) p h.4 k.0
       (numbered_left (length l) (all_declared_by h.0) (all_declared_by h.1) n) in
       let q = z.performs in
       let m = j z.blocks q.locals q.lists h.1 loop switch z.fit
-      (right_seen g true in_full c q.lists (walk_of_item g.untagged own labelled item) (walked more) e q.after) q.rest
+      (right_seen g true in_full c q.lists (walk_of_item g.untagged own item) (walked more) e q.after) q.rest
       (subst (λ s. EraseItems more s h.1) z.is_after h.5) k.1
       (numbered_right (length l) (length q.locals) (all_declared_by h.0) (all_declared_by h.1) q.count n) in
       let t = ap length d in
@@ -179,7 +181,7 @@ module _ (g : FileScope) (w : IsWhole g) (ls : List ALocal) (result : CType) (ow
           is = items_joined item more loop switch (inner g w ls b l c) (inner g w ls z.blocks q.locals q.lists)
               (inner g w ls m.blocks m.performs.locals m.performs.lists) h.0 h.1 q.is m.performs.is
               ∙ ap (λ all. ok (all, inner g w ls m.blocks m.performs.locals m.performs.lists)) (sym h.3);
-          after = then_seen g true in_full c q.lists m.performs.lists (walk_of_item g.untagged own labelled item) (walked more) q.after m.performs.after;
+          after = then_seen g true in_full c q.lists m.performs.lists (walk_of_item g.untagged own item) (walked more) q.after m.performs.after;
           count = omega (arith, q.count, m.performs.count, t, y);
           rest = m.performs.rest;
         };
@@ -192,7 +194,7 @@ module _ (g : FileScope) (w : IsWhole g) (ls : List ALocal) (result : CType) (ow
 
   pub block_complete : (begin : ℕ) (items : Trees.BlockItems) (end : ℕ) → CompletesItems items → Is (Trees.block begin items end)
   unfolding performed
-  block_complete begin items end i b l c t loop switch f e p h k n = by_statement g w ls result own labelled (Trees.block begin items end) b l c loop switch t _ h.1
+  block_complete begin items end i b l c t loop switch f e p h k n = by_statement g w ls result own (Trees.block begin items end) b l c loop switch t _ h.1
       (λ k n.
       let z = i ([] ∷ b) l c h.0 loop switch (inside_fits (length c.records) b f) e p h.2 k.1 n in
       let q = z.performs in
@@ -222,7 +224,7 @@ module _ (g : FileScope) (w : IsWhole g) (ls : List ALocal) (result : CType) (ow
 
   pub return_complete : (at : ℕ) (a : Trees.Expression) (semicolon : ℕ) → Is (Trees.return at (Some a) semicolon)
   return_complete at a semicolon b l c t loop switch f e p h k n =
-      by_statement g w ls result own labelled (Trees.return at (Some a) semicolon) b l c loop switch t _ h.1
+      by_statement g w ls result own (Trees.return at (Some a) semicolon) b l c loop switch t _ h.1
       (λ k n.
       let z = found_plain g w ls a b l c h.0 f e h.2 k.0 in
       let r = returned_back at b h.0 z.left k.1 in

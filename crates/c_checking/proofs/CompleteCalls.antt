@@ -162,7 +162,8 @@ module _ (g : FileScope) (w : IsWhole g) (ls : List ALocal) where
 
   -- ---- integer constant expressions
 
-  pub constant_complete : (a : Trees.Expression) → Completes g w ls a → (s : Scope) (c : Lists) (kind : IntKind) (v : ℕ) → BlocksFit g (length c.records) s.blocks
+  pub constant_complete : (a : Trees.Expression) → Completes g w ls a → (s : Scope) (c : Lists) (kind : IntKind) (v : ℕ)
+      → BlocksFit g (length c.records) s.blocks
       → IsBefore g c (seen s.is_inside s.purpose (seen false value_alone (walk g.untagged a))) → IsConstant (Erases a) (whole g ls s) kind v
       → Done g c (seen s.is_inside s.purpose (seen false value_alone (walk g.untagged a)))
       (constant_at (first a) (value_at (first a) (find a (for_value (moved s (part g c)))))) (kind, v)
@@ -196,7 +197,8 @@ module _ (g : FileScope) (w : IsWhole g) (ls : List ALocal) where
       let l : size_of d.records h.0 ≤ 16777216 = omega (arith, same, h.2.3) in
       let n = CompleteParts.measured_back d.records (ended g.ends at) at h.1.0 h.0 h.1.3 h.2.0 o l in
       let m = mentioned g ls s c d (Seen g w ls s (Trees.sizeof_expression at a)) (mentions_in (part g d)) Sizeof h.0 at h.2.1
-      (after_look g w ls c d at (seen s.is_inside s.purpose (seen false value_alone (walk g.untagged a))) (subst (λ w. IsAfter g c w d) (sym e) z.done.after)) in
+      (after_look g w ls c d at (seen s.is_inside s.purpose (seen false value_alone (walk g.untagged a)))
+      (subst (λ w. IsAfter g c w d) (sym e) z.done.after)) in
       record {
         done = record { lists = m.0; is = rw (z.done.is, n, m.1, same) refl; after = m.3 };
         complete = tt;

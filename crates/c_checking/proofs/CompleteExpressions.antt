@@ -149,7 +149,8 @@ module _ (g : FileScope) (w : IsWhole g) (ls : List ALocal) where
 
   operands : (a b : Trees.Expression) → Is a → Is b → (s : Scope) (c : Lists) (x y : Expression) → BlocksFit g (length c.records) s.blocks
       → IsBefore g c (seen s.is_inside s.purpose (walk g.untagged a ++ walk g.untagged b))
-      → Values (Erases a (whole g ls s)) x → Values (Erases b (whole g ls s)) y → IsTyped (declared (whole g ls s)) (typed x) → IsTyped (declared (whole g ls s)) (typed y)
+      → Values (Erases a (whole g ls s)) x → Values (Erases b (whole g ls s)) y → IsTyped (declared (whole g ls s)) (typed x)
+      → IsTyped (declared (whole g ls s)) (typed y)
       → Operands s c a b x y
   operands a b i j s c x y f e v u t q =
       let m = operand g w ls a i s c x f (left_seen g s.is_inside s.purpose c (walk g.untagged a) (walk g.untagged b) e) v t in
@@ -304,7 +305,8 @@ module _ (g : FileScope) (w : IsWhole g) (ls : List ALocal) where
   unfolding find
   address_complete at a i s c th f b h t = by_operand h.0 h.1 h.2 t
     where
-      by_operand : (operand : Thing) → IsAddress (place_in (whole g ls s) at) operand th → Erases a (whole g ls s) operand → Back s c (Trees.unary U.Address at a) th
+      by_operand : (operand : Thing) → IsAddress (place_in (whole g ls s) at) operand th → Erases a (whole g ls s) operand
+          → Back s c (Trees.unary U.Address at a) th
       by_operand (an_object p) x e = by_thing s c (Trees.unary U.Address at a) th _ x.2
           (λ t.
           let z = i s c (an_object p) f (behind_look c at (Seen g w ls s a) b) e t.0 in
@@ -315,7 +317,8 @@ module _ (g : FileScope) (w : IsWhole g) (ls : List ALocal) where
           })
       by_operand (a_function from k u) x e = by_thing s c (Trees.unary U.Address at a) th _ x
           (λ t.
-          let z = i s c (a_function from k u) f (behind_look c at (Seen g w ls s a) b) e (erased_sound g w ls a s (length c.records) f (a_function from k u) e) in
+          let z = i s c (a_function from k u) f (behind_look c at (Seen g w ls s a) b) e
+          (erased_sound g w ls a s (length c.records) f (a_function from k u) e) in
           let n = address_function (first a) (place_in (whole g ls s) at) from k u in
           record {
             done = record { lists = z.done.lists; is = rw (z.done.is, n) refl; after = after_look c z.done.lists at (Seen g w ls s a) z.done.after };
@@ -481,7 +484,8 @@ module _ (g : FileScope) (w : IsWhole g) (ls : List ALocal) where
       let m = object a i s c h.1 f (left_seen g s.is_inside s.purpose c (walk g.untagged a) (walk g.untagged b) e) h.5 t.0 in
       let n = object b j s m.done.lists h.2 (blocks_stay g (length c.records) (length m.done.lists.records) s.blocks (grown m.done.after) f)
       (right_seen g s.is_inside s.purpose c m.done.lists (walk g.untagged a) (walk g.untagged b) e m.done.after) h.6 t.1 in
-      let v = CompleteNodes.record_target_back (declared (whole g ls s)) (place_in (whole g ls s) (first a)) (first a) h.1 t.4.0 (sym (path_type_same h.1) ∙ t.4.1) in
+      let v = CompleteNodes.record_target_back (declared (whole g ls s)) (place_in (whole g ls s) (first a)) (first a) h.1 t.4.0 (sym (path_type_same h.1)
+      ∙ t.4.1) in
       let o = CompleteNodes.copy_back (declared (whole g ls s)) (place_in (whole g ls s) (first a)) at h.0 h.1 h.2 t in
       record {
         done = record {

@@ -34,19 +34,20 @@ unless_back at is_auto r h = refl
 unless_back at is_register r h = refl
 unless_back at several r h = refl
 
-module _ (g : FileScope) (w : IsWhole g) (ls : List ALocal) (result : CType) (own : Trees.Declaration → List Event) (labelled : Trees.SwitchItems → List Event) where
+module _ (g : FileScope) (w : IsWhole g) (ls : List ALocal) (result : CType) (own : Trees.Declaration → List Event) where
   -- ---- an expression, or none
 
-  record FoundOption (b : List (List Bound)) (l : List ALocal) (c : Lists) (o : Option Trees.Expression) (r : Performed (Option Expression)) (t : Option Expression) : Type 0 where
+  record FoundOption (b : List (List Bound)) (l : List ALocal) (c : Lists) (o : Option Trees.Expression) (r : Performed (Option Expression))
+      (t : Option Expression) : Type 0 where
     pub lists : Lists
     pub is : r ≡ Ok (t, inner g w ls b l lists)
-    pub after : IsAfter g c (Seen g w ls (walk_of_option g.untagged own labelled o)) lists
+    pub after : IsAfter g c (Seen g w ls (walk_of_option g.untagged own o)) lists
 
   abbrev AsTyped : Option Expression → Option (Typed.Expression CType)
   AsTyped t = option_map (mapped (of_types (λ t. t.ty))) t
 
   test_complete : (o : Option Trees.Expression) (b : List (List Bound)) (l : List ALocal) (c : Lists) (t : Option Expression) → BlocksFit g (length c.records) b
-      → IsBefore g c (Seen g w ls (walk_of_option g.untagged own labelled o)) → IsPlainIfAny o (outer g w ls b) t → IsCondition (declared (outer g w ls b)) (AsTyped t)
+      → IsBefore g c (Seen g w ls (walk_of_option g.untagged own o)) → IsPlainIfAny o (outer g w ls b) t → IsCondition (declared (outer g w ls b)) (AsTyped t)
       → FoundOption b l c o (condition_if_any o (inner g w ls b l c)) t
   test_complete None b l c t f e h k = record { lists = c; is = ap (λ t. ok (t, inner g w ls b l c)) (sym h); after = none_after g c [] e refl refl refl }
   test_complete (Some a) b l c t f e h k =
@@ -58,8 +59,9 @@ module _ (g : FileScope) (w : IsWhole g) (ls : List ALocal) (result : CType) (ow
         after = z.after;
       }
 
-  effect_complete : (o : Option Trees.Expression) (b : List (List Bound)) (l : List ALocal) (c : Lists) (t : Option Expression) → BlocksFit g (length c.records) b
-      → IsBefore g c (Seen g w ls (walk_of_option g.untagged own labelled o)) → IsPlainIfAny o (outer g w ls b) t → IsEffect (declared (outer g w ls b)) (AsTyped t)
+  effect_complete : (o : Option Trees.Expression) (b : List (List Bound)) (l : List ALocal) (c : Lists) (t : Option Expression)
+      → BlocksFit g (length c.records) b
+      → IsBefore g c (Seen g w ls (walk_of_option g.untagged own o)) → IsPlainIfAny o (outer g w ls b) t → IsEffect (declared (outer g w ls b)) (AsTyped t)
       → FoundOption b l c o (value_if_any o (inner g w ls b l c)) t
   effect_complete None b l c t f e h k = record { lists = c; is = ap (λ t. ok (t, inner g w ls b l c)) (sym h); after = none_after g c [] e refl refl refl }
   effect_complete (Some a) b l c t f e h k =
@@ -74,11 +76,11 @@ module _ (g : FileScope) (w : IsWhole g) (ls : List ALocal) (result : CType) (ow
 
   -- ---- what stands first
 
-  start_complete : (start : Trees.ForStart) → ((d : Trees.Declaration) → CompletesDeclaration g w ls result own labelled d)
+  start_complete : (start : Trees.ForStart) → ((d : Trees.Declaration) → CompletesDeclaration g w ls result own d)
       → (b : List (List Bound)) (l : List ALocal) (c : Lists) (all : Statements) (after : Scope) → BlocksFit g (length c.records) b
-      → IsBefore g c (Seen g w ls (walk_of_start g.untagged own labelled start)) → (more : List ALocal) × (ls ≡ l ++ more)
-      → IsStart start (outer g w ls b) all after → AreTypedHere g w ls result own labelled b false false all → AreNumbered (length l) (all_declared_by all)
-      → FoundAll g w ls result own labelled b l c (walk_of_start g.untagged own labelled start) (start_of start (inner g w ls b l c)) all after
+      → IsBefore g c (Seen g w ls (walk_of_start g.untagged own start)) → (more : List ALocal) × (ls ≡ l ++ more)
+      → IsStart start (outer g w ls b) all after → AreTypedHere g w ls result own b false false all → AreNumbered (length l) (all_declared_by all)
+      → FoundAll g w ls result own b l c (walk_of_start g.untagged own start) (start_of start (inner g w ls b l c)) all after
   start_complete (Trees.starts_with None semicolon) d b l c all after f e p h k n = record {
     blocks = b;
     is_after = h.1;
@@ -93,7 +95,7 @@ module _ (g : FileScope) (w : IsWhole g) (ls : List ALocal) (result : CType) (ow
     fit = f;
   }
   start_complete (Trees.starts_with (Some a) semicolon) d b l c all after f e p h k n =
-      let k = subst (AreTypedHere g w ls result own labelled b false false) h.1 k in
+      let k = subst (AreTypedHere g w ls result own b false false) h.1 k in
       let z = found_plain g w ls a b l c h.0 f e h.2.0 k.0.0 in
       record {
         blocks = b;
@@ -136,34 +138,35 @@ module _ (g : FileScope) (w : IsWhole g) (ls : List ALocal) (result : CType) (ow
   for_joined at begin start test semicolon step end body loop switch s s1 s2 s3 s4 all t e x a b c d = rw (a, b, c, d) refl
 
   pub for_complete : (at begin : ℕ) (start : Trees.ForStart) (test : Option Trees.Expression) (semicolon : ℕ) (step : Option Trees.Expression) (end : ℕ)
-      (body : Trees.Statement) → ((d : Trees.Declaration) → CompletesDeclaration g w ls result own labelled d) → Is g w ls result own labelled body
-      → Is g w ls result own labelled (Trees.for at begin start test semicolon step end body)
+      (body : Trees.Statement) → ((d : Trees.Declaration) → CompletesDeclaration g w ls result own d) → Is g w ls result own body
+      → Is g w ls result own (Trees.for at begin start test semicolon step end body)
   for_complete at begin start test semicolon step end body d i b l c t loop switch f e p h k n =
-      by_statement g w ls result own labelled (Trees.for at begin start test semicolon step end body) b l c loop switch t _ h.5
+      by_statement g w ls result own (Trees.for at begin start test semicolon step end body) b l c loop switch t _ h.5
       (λ k n.
-      let w1 = walk_of_start g.untagged own labelled start in
-      let e3 = left_seen g true in_full c (walk_of_start g.untagged own labelled start ++ walk_of_option g.untagged own labelled test
-      ++ walk_of_option g.untagged own labelled step) (walk_of_statement g.untagged own labelled body) e in
-      let e2 = left_seen g true in_full c (walk_of_start g.untagged own labelled start ++ walk_of_option g.untagged own labelled test)
-      (walk_of_option g.untagged own labelled step) e3 in
-      let e1 = left_seen g true in_full c (walk_of_start g.untagged own labelled start) (walk_of_option g.untagged own labelled test) e2 in
-      let z = start_complete start d ([] ∷ b) l c h.0 h.1 (λ x y q. f x y q) e1 p h.6 k.1 (numbered_left (length l) (all_declared_by h.0) (all_declared h.4) n) in
+      let w1 = walk_of_start g.untagged own start in
+      let e3 = left_seen g true in_full c (walk_of_start g.untagged own start ++ walk_of_option g.untagged own test
+      ++ walk_of_option g.untagged own step) (walk_of_statement g.untagged own body) e in
+      let e2 = left_seen g true in_full c (walk_of_start g.untagged own start ++ walk_of_option g.untagged own test)
+      (walk_of_option g.untagged own step) e3 in
+      let e1 = left_seen g true in_full c (walk_of_start g.untagged own start) (walk_of_option g.untagged own test) e2 in
+      let z = start_complete start d ([] ∷ b) l c h.0 h.1 (λ x y q. f x y q) e1 p h.6 k.1
+      (numbered_left (length l) (all_declared_by h.0) (all_declared h.4) n) in
       let q = z.performs in
       let r = test_complete test z.blocks q.locals q.lists h.2 z.fit
-      (right_seen g true in_full c q.lists (walk_of_start g.untagged own labelled start) (walk_of_option g.untagged own labelled test) e2 q.after)
+      (right_seen g true in_full c q.lists (walk_of_start g.untagged own start) (walk_of_option g.untagged own test) e2 q.after)
       (subst (λ s. IsPlainIfAny test s h.2) z.is_after h.7) k.2 in
-      let a2 = then_seen g true in_full c q.lists r.lists (walk_of_start g.untagged own labelled start) (walk_of_option g.untagged own labelled test) q.after r.after in
+      let a2 = then_seen g true in_full c q.lists r.lists (walk_of_start g.untagged own start) (walk_of_option g.untagged own test) q.after r.after in
       let fit2 = blocks_stay g (length q.lists.records) (length r.lists.records) z.blocks (grown r.after) z.fit in
       let v = effect_complete step z.blocks q.locals r.lists h.3 fit2
-      (right_seen g true in_full c r.lists (walk_of_start g.untagged own labelled start ++ walk_of_option g.untagged own labelled test)
-      (walk_of_option g.untagged own labelled step) e3 a2)
+      (right_seen g true in_full c r.lists (walk_of_start g.untagged own start ++ walk_of_option g.untagged own test)
+      (walk_of_option g.untagged own step) e3 a2)
       (subst (λ s. IsPlainIfAny step s h.3) z.is_after h.8) k.3 in
-      let a3 = then_seen g true in_full c r.lists v.lists (walk_of_start g.untagged own labelled start ++ walk_of_option g.untagged own labelled test)
-      (walk_of_option g.untagged own labelled step) a2 v.after in
+      let a3 = then_seen g true in_full c r.lists v.lists (walk_of_start g.untagged own start ++ walk_of_option g.untagged own test)
+      (walk_of_option g.untagged own step) a2 v.after in
       let fit3 = blocks_stay g (length r.lists.records) (length v.lists.records) z.blocks (grown v.after) fit2 in
       let m = i z.blocks q.locals v.lists h.4 true switch fit3
-      (right_seen g true in_full c v.lists (walk_of_start g.untagged own labelled start ++ walk_of_option g.untagged own labelled test
-      ++ walk_of_option g.untagged own labelled step) (walk_of_statement g.untagged own labelled body) e a3)
+      (right_seen g true in_full c v.lists (walk_of_start g.untagged own start ++ walk_of_option g.untagged own test
+      ++ walk_of_option g.untagged own step) (walk_of_statement g.untagged own body) e a3)
       q.rest (subst (λ s. ErasesStatement body s h.4) z.is_after h.9) k.4
       (numbered_right (length l) (length q.locals) (all_declared_by h.0) (all_declared h.4) q.count n) in
       let y = length-append (all_declared_by h.0) (all_declared h.4) in
@@ -173,8 +176,8 @@ module _ (g : FileScope) (w : IsWhole g) (ls : List ALocal) (result : CType) (ow
         is = for_joined at begin start test semicolon step end body loop switch (inner g w ls b l c) (inner g w ls z.blocks q.locals q.lists)
             (inner g w ls z.blocks q.locals r.lists) (inner g w ls z.blocks q.locals v.lists) (inner g w ls z.blocks m.locals m.lists)
             h.0 h.2 h.3 h.4 q.is r.is v.is m.is;
-        after = then_seen g true in_full c v.lists m.lists (walk_of_start g.untagged own labelled start ++ walk_of_option g.untagged own labelled test
-            ++ walk_of_option g.untagged own labelled step) (walk_of_statement g.untagged own labelled body) a3 m.after;
+        after = then_seen g true in_full c v.lists m.lists (walk_of_start g.untagged own start ++ walk_of_option g.untagged own test
+            ++ walk_of_option g.untagged own step) (walk_of_statement g.untagged own body) a3 m.after;
         count = omega (arith, q.count, m.count, y);
         rest = m.rest;
       }) k n

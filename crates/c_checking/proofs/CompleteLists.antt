@@ -212,7 +212,8 @@ looked : (g : FileScope) (n r o low : ℕ) (e : Event) (all : List Event) (high 
 unfolding AreFrom AreBelow
 looked g n r o low e all high at p l i q =
     let h = low_high at all high i in
-    let from : AreFrom at (rights_of all ++ p.after) = from_both at (rights_of all) p.after (rights_in_order at all high i) (from_lower at high p.after h p.ends_after) in
+    let from : AreFrom at (rights_of all ++ p.after) = from_both at (rights_of all) p.after (rights_in_order at all high i)
+    (from_lower at high p.after h p.ends_after) in
     let before : AreBelow at p.before = below_higher low at p.before l p.ends_before in
     ap (λ all. ended all at) (p.ends ∙ ap (λ z. p.before ++ (z ++ p.after)) q) ∙ some_ended p.before (rights_of all ++ p.after) at before from ∙ p.ended_before
 

@@ -58,7 +58,8 @@ module _ (u : ℕ → List ℕ) where
   none_in_enumerators : (t : Trees.Enumerators) (after : ℕ) → made_at (walk_of_enumerators u t after) ≡ []
   none_in_enumerators Trees.no_enumerators after = refl
   none_in_enumerators (Trees.and_enumerator comma x value more) after =
-      none_in_both (walk_of_value u value) (a_name (comma_or more after) ∷ walk_of_enumerators u more after) (none_in_value value) (none_in_enumerators more after)
+      none_in_both (walk_of_value u value) (a_name (comma_or more after) ∷ walk_of_enumerators u more after) (none_in_value value)
+      (none_in_enumerators more after)
 
   none_in_enumeration : (x : Option Spelling) (right : ℕ) → made_at (an_enumeration u x right) ≡ []
   none_in_enumeration None right = refl

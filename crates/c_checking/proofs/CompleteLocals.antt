@@ -93,7 +93,8 @@ module _ (g : FileScope) (w : IsWhole g) (ls : List ALocal) where
       let same = size_same g w ls c t p o in
       let bytes = h.2.bytes in
       let k = small_back c.records (first value.1) t (omega (arith, same, bytes)) h.2.parts in
-      counted_back c.records (first value.1) u (length_of u (texts_of value.1) value.1) h.1 (subst (λ t. small c.records (first value.1) t ≡ Ok t) h.0 k) ∙ ap ok (sym h.0)
+      counted_back c.records (first value.1) u (length_of u (texts_of value.1) value.1) h.1 (subst (λ t. small c.records (first value.1) t ≡ Ok t) h.0 k)
+      ∙ ap ok (sym h.0)
 
   variable_joined : (b : List (List Bound)) (l : List ALocal) (c m n : Lists) (base : CType) (d : Trees.InitDeclarator) (x : Spelling) (steps : List Derivation)
       (shape : Shape) (t : CType) → derivations d.declarator (inner g w ls b l c) ≡ Ok (steps, part g m) → derived m.records steps base ≡ Ok shape
@@ -115,7 +116,8 @@ module _ (g : FileScope) (w : IsWhole g) (ls : List ALocal) where
       let k = z.derive z.lists z.after.extends (omega arith) in
       let s = sized_back b z.lists x.from h.0 d.value t z.after.extends o h.3 in
       let v = type_back z.lists.records (ended g.ends x.from) x.from t h.4 o in
-      let m = mentioned g ls (inner g w ls b l c) c z.lists (Seen g w ls (a_look x.from ∷ walk_of_declarator g.untagged d.declarator)) (mentions_in (part g c)) Object t
+      let m = mentioned g ls (inner g w ls b l c) c z.lists (Seen g w ls (a_look x.from ∷ walk_of_declarator g.untagged d.declarator))
+      (mentions_in (part g c)) Object t
       (first_declarator d.declarator x.from) h.6 (after_look g w ls c z.lists x.from (Seen g w ls (walk_of_declarator g.untagged d.declarator)) z.after) in
       record { lists = m.0; is = variable_joined b l c z.lists m.0 base d x z.steps h.0 t z.is k s v h.5 m.1; after = m.3 }
 
@@ -129,7 +131,8 @@ module _ (g : FileScope) (w : IsWhole g) (ls : List ALocal) where
       → IsBefore g c (Seen g w ls (walk g.untagged a)) → IsInitializer a (outer g w ls b) t i → IsTypedInitializer (declared (outer g w ls b)) t (AsTyped i)
       → Done g c (Seen g w ls (walk g.untagged a)) (initializer a (inner g w ls b l c) t) i
 
-  initial_complete : (value : Option (ℕ × Trees.Expression)) → ((a : Trees.Expression) → CompletesInitializer a) → (b : List (List Bound)) (l : List ALocal) (c : Lists)
+  initial_complete : (value : Option (ℕ × Trees.Expression)) → ((a : Trees.Expression) → CompletesInitializer a)
+      → (b : List (List Bound)) (l : List ALocal) (c : Lists)
       (t : CType) (i : Option (Typed.Initializer Noted)) → BlocksFit g (length c.records) b → IsBefore g c (Seen g w ls (walk_of_initial g.untagged value))
       → HasInitializer (outer g w ls b) t value i → IsInitialized (declared (outer g w ls b)) t (option_map AsTyped i)
       → Done g c (Seen g w ls (walk_of_initial g.untagged value)) (initial_if_any value (inner g w ls b l c) t) i
@@ -151,7 +154,8 @@ module _ (g : FileScope) (w : IsWhole g) (ls : List ALocal) where
   abbrev with_one_local : List ALocal → Spelling → CType → List ALocal
   with_one_local l x t = l ++ record { name = x.text; ty = t } ∷ []
 
-  local_joined : (b : List (List Bound)) (l : List ALocal) (c m n : Lists) (base : CType) (d : Trees.InitDeclarator) (more : List Trees.InitDeclarator) (x : Spelling)
+  local_joined : (b : List (List Bound)) (l : List ALocal) (c m n : Lists) (base : CType) (d : Trees.InitDeclarator) (more : List Trees.InitDeclarator)
+      (x : Spelling)
       (t : CType) (i : Option (Typed.Initializer Noted)) (rest : Statements) (s : Scope) → declared_name d.declarator ≡ Some x
       → variable_of (inner g w ls b l c) base d x ≡ Ok (t, part g m)
       → initial_if_any d.value (inner g w ls (with_name b (local_named l x t)) (with_one_local l x t) m) t ≡ Ok (i, part g n)
@@ -168,12 +172,14 @@ module _ (g : FileScope) (w : IsWhole g) (ls : List ALocal) where
       let z = split_at l more x h in
       (z.0, e ∙ ap (λ more. l ++ more) z.1 ∙ sym (append_assoc l (x ∷ []) z.0))
 
-  module _ (result : CType) (own : Trees.Declaration → List Event) (labelled : Trees.SwitchItems → List Event) (initials : (a : Trees.Expression) → CompletesInitializer a) where
-    pub locals_complete : (all : List Trees.InitDeclarator) (b : List (List Bound)) (l : List ALocal) (c : Lists) (base : CType) (found : Statements) (after : Scope)
-        (loop switch : Bool) → BlocksFit g (length c.records) b → IsBefore g c (Seen g w ls (walk_of_locals g.untagged all)) → (more : List ALocal) × (ls ≡ l ++ more)
-        → DeclareAll all (outer g w ls b) false base found after → AreTypedHere g w ls result own labelled b loop switch found
+  module _ (result : CType) (own : Trees.Declaration → List Event) (initials : (a : Trees.Expression) → CompletesInitializer a) where
+    pub locals_complete : (all : List Trees.InitDeclarator) (b : List (List Bound)) (l : List ALocal) (c : Lists) (base : CType) (found : Statements)
+        (after : Scope)
+        (loop switch : Bool) → BlocksFit g (length c.records) b → IsBefore g c (Seen g w ls (walk_of_locals g.untagged all))
+        → (more : List ALocal) × (ls ≡ l ++ more)
+        → DeclareAll all (outer g w ls b) false base found after → AreTypedHere g w ls result own b loop switch found
         → AreNumbered (length l) (all_declared_by found)
-        → FoundAll g w ls result own labelled b l c (walk_of_locals g.untagged all) (declare_all all (inner g w ls b l c) false base) found after
+        → FoundAll g w ls result own b l c (walk_of_locals g.untagged all) (declare_all all (inner g w ls b l c) false base) found after
     unfolding declare_all
     locals_complete [] b l c base found after loop switch f e p h k n = record {
       blocks = b;
@@ -191,7 +197,7 @@ module _ (g : FileScope) (w : IsWhole g) (ls : List ALocal) where
     locals_complete (d ∷ all) b l c base found after loop switch f e p h k n =
         let x = h.0 in
         let t = h.1 in
-        let k = subst (AreTypedHere g w ls result own labelled b loop switch) h.7 k in
+        let k = subst (AreTypedHere g w ls result own b loop switch) h.7 k in
         let n = subst (λ found. AreNumbered (length l) (all_declared_by found)) h.7 n in
         let number : h.2 ≡ length l = n.0 in
         let stood : slice_get (map (λ x. x.ty) ls) h.2 ≡ Some h.1 = mapped_at (λ (x : ALocal). x.ty) ls h.2 (record { name = h.0.text; ty = h.1 }) h.6 in
@@ -201,7 +207,8 @@ module _ (g : FileScope) (w : IsWhole g) (ls : List ALocal) where
         ap (λ o. look_at g.untagged o ++ walk_of_declarator g.untagged d.declarator) h.5.1 in
         let e2 = left_seen g true in_full c (walk_of_declared g.untagged d ++ walk_of_initial g.untagged d.value) (walk_of_locals g.untagged all) e in
         let e1 = left_seen g true in_full c (walk_of_declared g.untagged d) (walk_of_initial g.untagged d.value) e2 in
-        let e0 : IsBefore g c (Seen g w ls (a_look h.0.from ∷ walk_of_declarator g.untagged d.declarator)) = subst (λ u. IsBefore g c (Seen g w ls u)) name e1 in
+        let e0 : IsBefore g c (Seen g w ls (a_look h.0.from ∷ walk_of_declarator g.untagged d.declarator)) = subst (λ u. IsBefore g c (Seen g w ls u)) name
+        e1 in
         let z = variable_complete b l c base d h.0 h.1 f e0 h.5 in
         let a1 : IsAfter g c (Seen g w ls (walk_of_declared g.untagged d)) z.lists = subst (λ u. IsAfter g c (Seen g w ls u) z.lists) (sym name) z.after in
         let o = complete_stays (ended g.ends h.0.from) (length z.lists.records) h.1 (omega (arith, e0.follows.0, z.after.records)) h.5.4 in
@@ -230,7 +237,8 @@ module _ (g : FileScope) (w : IsWhole g) (ls : List ALocal) where
             locals = r.locals;
             is = local_joined b l c z.lists m.lists base d all h.0 h.1 h.3 h.4 (inner g w ls q.blocks r.locals r.lists) h.5.1 z.is m.is r.is
                 ∙ ap (λ found. ok (found, inner g w ls q.blocks r.locals r.lists)) (sym made);
-            after = then_seen g true in_full c m.lists r.lists (walk_of_declared g.untagged d ++ walk_of_initial g.untagged d.value) (walk_of_locals g.untagged all) a2 r.after;
+            after = then_seen g true in_full c m.lists r.lists (walk_of_declared g.untagged d ++ walk_of_initial g.untagged d.value)
+                (walk_of_locals g.untagged all) a2 r.after;
             count = omega (arith, r.count, long, counted);
             rest = r.rest;
           };

@@ -163,10 +163,12 @@ module _ (u : ℕ → List ℕ) where
     marks_same_members Trees.no_member_declarations = refl
     marks_same_members (Trees.and_member_declaration specs ds semicolon more) =
         joined (walk_of_specifiers u specs ++ walk_of_member_declarators u ds semicolon) (walk_of_members u more) _ _
-        (joined (walk_of_specifiers u specs) (walk_of_member_declarators u ds semicolon) _ _ (marks_same_specifiers specs) (marks_same_declarators ds semicolon))
+        (joined (walk_of_specifiers u specs) (walk_of_member_declarators u ds semicolon) _ _ (marks_same_specifiers specs)
+        (marks_same_declarators ds semicolon))
         (marks_same_members more)
 
-    marks_same_declarators : (t : Trees.MemberDeclarators) (semicolon : ℕ) → marks_in (walk_of_member_declarators u t semicolon) ≡ marks_of_member_declarators u t
+    marks_same_declarators : (t : Trees.MemberDeclarators) (semicolon : ℕ)
+        → marks_in (walk_of_member_declarators u t semicolon) ≡ marks_of_member_declarators u t
     marks_same_declarators Trees.no_member_declarators semicolon = refl
     marks_same_declarators (Trees.and_member_declarator comma d more) semicolon =
         joined (walk_of_declarator u d) (walk_of_member_declarators u more semicolon) _ _ (marks_same_declarator d) (marks_same_declarators more semicolon)

@@ -169,7 +169,8 @@ module _ (g : FileScope) (w : IsWhole g) (ls : List ALocal) where
   erased_sound (Trees.sizeof_expression at a) s r b th h = subst (IsSound g) (sym h.2.2) refl
   erased_sound (Trees.sizeof_type at left n right) s r b th h = subst (IsSound g) (sym h.3.2) refl
   erased_sound (Trees.cast left n right a) s r b th h = subst (IsSound g) (sym h.5) refl
-  erased_sound (Trees.binary a op at c) s r b th h = subst (IsSound g) (sym h.7) (joined_bare (kind_of op) h.0 (place_in (whole g ls s) (first a)) h.1 h.2 h.3 h.6)
+  erased_sound (Trees.binary a op at c) s r b th h = subst (IsSound g) (sym h.7)
+      (joined_bare (kind_of op) h.0 (place_in (whole g ls s) (first a)) h.1 h.2 h.3 h.6)
   erased_sound (Trees.cond a question c colon d) s r b th h = subst (IsSound g) (sym h.4) refl
   erased_sound (Trees.assign a op at c) s r b th (inl h) = subst (IsSound g) (sym h.4) refl
   erased_sound (Trees.assign a op at c) s r b th (inr (inl h)) = subst (IsSound g) (sym h.4) refl

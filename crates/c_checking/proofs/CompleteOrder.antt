@@ -146,7 +146,8 @@ tag_apart : (x : Option Spelling) (low : ℕ) (rest : List Lexeme) → AreApart 
 tag_apart None low rest h = none h
 tag_apart (Some x) low rest h = earlier (pass h.0 h.1) (none h.2)
 
-enumeration_apart : (u : ℕ → List ℕ) (x : Option Spelling) (right : ℕ) {low : ℕ} {rest : List Lexeme} → Walked low [] rest → Walked low (an_enumeration u x right) rest
+enumeration_apart : (u : ℕ → List ℕ) (x : Option Spelling) (right : ℕ) {low : ℕ} {rest : List Lexeme} → Walked low [] rest
+    → Walked low (an_enumeration u x right) rest
 enumeration_apart u None right p = p
 enumeration_apart u (Some x) right p = tagged p
 
@@ -242,7 +243,8 @@ module _ (u : ℕ → List ℕ) (types : List (List ℕ)) where
         let p = walked a w.1 low _ h in both p (earlier (pass p.apart.0 p.apart.1) (walked b w.2 _ rest p.apart.2))
     walked (Trees.braces left all comma right) w low rest h = absurd w
 
-    pub walked_all : (start : Bool) (t : Trees.Arguments) → AreArguments types start t → (low : ℕ) (rest : List Lexeme) → AreApart low (spelled_arguments t rest)
+    pub walked_all : (start : Bool) (t : Trees.Arguments) → AreArguments types start t → (low : ℕ) (rest : List Lexeme)
+        → AreApart low (spelled_arguments t rest)
         → Walked low (walk_of_all u t) rest
     walked_all start Trees.no_arguments w low rest h = none h
     walked_all start (Trees.and_argument comma a more) w low rest h =
@@ -305,7 +307,8 @@ module _ (u : ℕ → List ℕ) (types : List (List ℕ)) where
         let q = both p (walked_member_declarators true all w.2 semicolon p.high _ p.apart) in
         both q (earlier (pass q.apart.0 q.apart.1) (walked_members more w.3 _ rest q.apart.2))
 
-    walked_member_declarators : (start : Bool) (t : Trees.MemberDeclarators) → AreMemberDeclarators types start t → (semicolon : ℕ) (low : ℕ) (rest : List Lexeme)
+    walked_member_declarators : (start : Bool) (t : Trees.MemberDeclarators) → AreMemberDeclarators types start t
+        → (semicolon : ℕ) (low : ℕ) (rest : List Lexeme)
         → AreApart low (spelled_member_declarators t rest) → Walked low (walk_of_member_declarators u t semicolon) rest
     walked_member_declarators start Trees.no_member_declarators w semicolon low rest h = none h
     walked_member_declarators start (Trees.and_member_declarator comma d more) w semicolon low rest h =

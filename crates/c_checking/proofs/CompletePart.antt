@@ -328,7 +328,8 @@ module _ (g : FileScope) where
   object_typed s p (structure r) y v h = cc
 
   -- what has a typed value is typed
-  pub value_typed : (ls : List ALocal) (s : Scope) (th : Thing) (y : Expression) → IsSound th → value_of th ≡ Some y → IsTyped (declared (whole g ls s)) (typed y)
+  pub value_typed : (ls : List ALocal) (s : Scope) (th : Thing) (y : Expression) → IsSound th → value_of th ≡ Some y
+      → IsTyped (declared (whole g ls s)) (typed y)
       → IsTypedThing (whole g ls s) th
   value_typed ls s (an_object p) y k v h = object_typed (whole g ls s) p (type_of_path p) y v h
   value_typed ls s (a_value x) y k v h = subst (λ y. IsTyped (declared (whole g ls s)) (typed y)) (sym (some_is x y v)) h

@@ -153,7 +153,8 @@ module _ (g : FileScope) (w : IsWhole g) (ls : List ALocal) where
   one_struct_body at x left all right more i s c t f b h = one_complete (Trees.struct_body at x left all right) more i s c t f b h refl
 
   pub one_enum_body : (at : ℕ) (x : Option Spelling) (left : ℕ) (all : Trees.Enumerators) (comma : Option ℕ) (right : ℕ) (more : Trees.Specifiers)
-      → CompletesSpecifier (Trees.enum_body at x left all comma right) → CompletesOne g w ls (Trees.and_specifier (Trees.enum_body at x left all comma right) more)
+      → CompletesSpecifier (Trees.enum_body at x left all comma right)
+      → CompletesOne g w ls (Trees.and_specifier (Trees.enum_body at x left all comma right) more)
   unfolding one_of
   one_enum_body at x left all comma right more i s c t f b h = one_complete (Trees.enum_body at x left all comma right) more i s c t f b h refl
 

@@ -1,5 +1,5 @@
 -- Statements without declarations and labels: the typed statement is the one that is found, where those of its parts are (C99 6.8).
-use Rattle.std.proofs.Common.{◌≡◌, ℕ, suc, ◌+◌, Bool, true, List, [], ◌∷◌, ◌++◌, length, length-append, refl, sym, ap, ◌∙◌}
+use Rattle.std.proofs.Common.{◌≡◌, ℕ, suc, ◌+◌, Bool, true, false, List, [], ◌∷◌, ◌++◌, length, length-append, refl, sym, ap, ◌∙◌}
 use Rattle.std.proofs.Common.{subst, cond, arith}
 use Rattle.std.specs.Prelude.{Option, Some, None, Ok}
 use Rattle.lay_base.specs.declared.faults.Rule.TheVariants as R
@@ -13,7 +13,7 @@ use Rattle.c_typed.specs.Typed.{IsTyped, IsTested}
 use Rattle.c_typed.specs.TypedStatements.{all_declared, IsTypedStatement}
 use Rattle.c_erasure.specs.Erasure.{typed, Values, Erases}
 use Rattle.c_erasure.specs.Noted.{Expression, type_of, unconverted}
-use Rattle.c_erasure.specs.Scopes.{ALocal, Bound, FileScope, Scope, in_full, declared}
+use Rattle.c_erasure.specs.Scopes.{ALocal, Bound, FileScope, Scope, in_full, value_alone, declared}
 use Rattle.c_erasure.specs.Statements.{Statement, IsPlain, ErasesStatement}
 use Rattle.c_checking.specs.Answers.{◌>>=◌, refused}
 use Rattle.c_checking.specs.Statements.{Performed, in_scope, value_of_expression, condition_in, in_same_scope, condition, jump}
@@ -28,9 +28,9 @@ use Rattle.c_checking.proofs.CompletePart.{left_seen, right_seen, then_seen}
 use Rattle.c_checking.proofs.CompleteOperands.{operand}
 use Rattle.c_checking.proofs.CompleteTrees.{complete}
 
--- ---- what stands in statements; `own` says it of declarations, and `labelled` of the items of a switch
+-- ---- what stands in statements; `own` says it of declarations
 
-module _ (u : ℕ → List ℕ) (own : Trees.Declaration → List Event) (labelled : Trees.SwitchItems → List Event) where
+module _ (u : ℕ → List ℕ) (own : Trees.Declaration → List Event) where
   abbrev pub walk_of_option : Option Trees.Expression → List Event
   walk_of_option None = []
   walk_of_option (Some a) = walk u a
@@ -38,6 +38,11 @@ module _ (u : ℕ → List ℕ) (own : Trees.Declaration → List Event) (labell
   abbrev pub walk_of_start : Trees.ForStart → List Event
   walk_of_start (Trees.starts_with a semicolon) = walk_of_option a
   walk_of_start (Trees.declares d) = own d
+
+  abbrev pub walk_of_labels : List Trees.Label → List Event
+  walk_of_labels [] = []
+  walk_of_labels (Trees.case at a colon ∷ more) = seen false value_alone (walk u a) ++ walk_of_labels more
+  walk_of_labels (Trees.default at colon ∷ more) = walk_of_labels more
 
   abbrev mutual
     pub walk_of_statement : Trees.Statement → List Event
@@ -49,7 +54,7 @@ module _ (u : ℕ → List ℕ) (own : Trees.Declaration → List Event) (labell
     walk_of_statement (Trees.do_while at body while left a right semicolon) = walk_of_statement body ++ walk u a
     walk_of_statement (Trees.for at left start test semicolon step right body) =
         walk_of_start start ++ walk_of_option test ++ walk_of_option step ++ walk_of_statement body
-    walk_of_statement (Trees.switch at left a right begin items end) = walk u a ++ labelled items
+    walk_of_statement (Trees.switch at left a right begin items end) = walk u a ++ walk_of_switch_items items
     walk_of_statement (Trees.break at semicolon) = []
     walk_of_statement (Trees.continue at semicolon) = []
     walk_of_statement (Trees.return at a semicolon) = walk_of_option a
@@ -61,6 +66,14 @@ module _ (u : ℕ → List ℕ) (own : Trees.Declaration → List Event) (labell
     pub walk_of_items : Trees.BlockItems → List Event
     walk_of_items Trees.no_block_items = []
     walk_of_items (Trees.and_block_item e more) = walk_of_item e ++ walk_of_items more
+
+    pub walk_of_switch_item : Trees.SwitchItem → List Event
+    walk_of_switch_item (Trees.local_switch_item d) = own d
+    walk_of_switch_item (Trees.labelled labels a) = walk_of_labels labels ++ walk_of_statement a
+
+    pub walk_of_switch_items : Trees.SwitchItems → List Event
+    walk_of_switch_items Trees.no_switch_items = []
+    walk_of_switch_items (Trees.and_switch_item e more) = walk_of_switch_item e ++ walk_of_switch_items more
 
 -- ---- numbers of locals, one after the other
 
@@ -88,13 +101,14 @@ module _ (g : FileScope) (w : IsWhole g) (ls : List ALocal) where
   Seen all = seen true in_full all
 
   -- what is found, with the blocks, the locals and the file after it
-  pub record Performs {A : Type 0} (c : Lists) (l : List ALocal) (all : List Event) (own : List ℕ) (r : Performed A) (a : A) (b : List (List Bound)) : Type 0 where
-    pub lists : Lists
-    pub locals : List ALocal
-    pub is : r ≡ Ok (a, inner b locals lists)
-    pub after : IsAfter g c (Seen all) lists
-    pub count : length locals ≡ length l + length own
-    pub rest : (more : List ALocal) × (ls ≡ locals ++ more)
+  pub record Performs {A : Type 0} (c : Lists) (l : List ALocal) (all : List Event) (own : List ℕ) (r : Performed A) (a : A) (b : List (List Bound)) : Type 0
+    where
+      pub lists : Lists
+      pub locals : List ALocal
+      pub is : r ≡ Ok (a, inner b locals lists)
+      pub after : IsAfter g c (Seen all) lists
+      pub count : length locals ≡ length l + length own
+      pub rest : (more : List ALocal) × (ls ≡ locals ++ more)
 
   -- ---- expressions
 
@@ -129,9 +143,9 @@ module _ (g : FileScope) (w : IsWhole g) (ls : List ALocal) where
         after = z.after;
       }
 
-  module _ (result : CType) (own : Trees.Declaration → List Event) (labelled : Trees.SwitchItems → List Event) where
+  module _ (result : CType) (own : Trees.Declaration → List Event) where
     abbrev pub walk_in : Trees.Statement → List Event
-    walk_in st = walk_of_statement g.untagged own labelled st
+    walk_in st = walk_of_statement g.untagged own st
 
     abbrev pub IsTypedHere : List (List Bound) → (loop switch : Bool) → Statement → Type 0
     IsTypedHere b loop switch t = IsTypedStatement (declared (outer b)) result loop switch (mapped_statement (of_types (λ t. t.ty)) t)

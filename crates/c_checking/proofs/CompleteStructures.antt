@@ -57,7 +57,7 @@ next_after all xs more y e h =
     let z = split_at xs more y (subst (λ all. slice_get all (length xs) ≡ Some y) e h) in
     (z.0, e ∙ ap (λ more. xs ++ more) z.1)
 
-below_length : {X : Type 0} (xs : List X) (k : ℕ) (x : X) → slice_get xs k ≡ Some x → k < length xs
+pub below_length : {X : Type 0} (xs : List X) (k : ℕ) (x : X) → slice_get xs k ≡ Some x → k < length xs
 below_length [] k x h = cc
 below_length (y ∷ xs) zero x h = omega arith
 below_length (y ∷ xs) (suc k) x h = let l = below_length xs k x h in omega (arith, l)
@@ -274,7 +274,8 @@ module _ (g : FileScope) (w : IsWhole g) (ls : List ALocal) where
   unfolding member_declarators
   member_joined comma d more s c l m n base semicolon x t steps rest na a k o me r = rw (a, k, o, na, me, r) refl
 
-  pub member_complete : (comma : Option ℕ) (d : Trees.Declarator) (more : Trees.MemberDeclarators) → CompletesDeclarator g w ls d → CompletesMemberDeclarators more
+  pub member_complete : (comma : Option ℕ) (d : Trees.Declarator) (more : Trees.MemberDeclarators) → CompletesDeclarator g w ls d
+      → CompletesMemberDeclarators more
       → CompletesMemberDeclarators (Trees.and_member_declarator comma d more)
   member_complete comma d more i j s c base semicolon fields f b h =
       let at = first_declarator d semicolon in
@@ -472,7 +473,8 @@ module _ (g : FileScope) (w : IsWhole g) (ls : List ALocal) where
             (known_back s c at x out.follows.0) z.is
             (ap (λ r. Declaring.completed_in (part g z.lists) (tag_place at x) (member_names all) r) is_made ∙ k)
             ∙ ap (λ t. ok (t, part g (with_one_record z.lists h.1))) (sym (h.3 ∙ ap structure same));
-        after = subst (λ i. IsAfter g c (seen i s.purpose (a_structure g.untagged at x ∷ body all (tag_name g.untagged at x) end)) (with_one_record z.lists h.1))
+        after = subst (λ i. IsAfter g c (seen i s.purpose (a_structure g.untagged at x ∷ body all (tag_name g.untagged at x) end))
+            (with_one_record z.lists h.1))
             (sym h.2)
             (record { extends = all_after.extends; names = all_after.names; records = all_after.records; objects = all_after.objects });
       }

@@ -53,7 +53,8 @@ module _ (g : FileScope) (w : IsWhole g) (ls : List ALocal) where
     complete_one (Trees.and_specifier (Trees.typename x) more) = CompleteSpecifiers.one_typename g w ls x more
     complete_one (Trees.and_specifier (Trees.struct_named at x) more) = CompleteSpecifiers.one_struct_named g w ls at x more
     complete_one (Trees.and_specifier (Trees.struct_body at x left all right) more) =
-        CompleteSpecifiers.one_struct_body g w ls at x left all right more (CompleteStructures.struct_body_complete g w ls at x left all right (complete_members all))
+        CompleteSpecifiers.one_struct_body g w ls at x left all right more
+        (CompleteStructures.struct_body_complete g w ls at x left all right (complete_members all))
     complete_one (Trees.and_specifier (Trees.enum_named at x) more) = CompleteSpecifiers.one_enum_named g w ls at x more
     complete_one (Trees.and_specifier (Trees.enum_body at x left all comma right) more) =
         CompleteSpecifiers.one_enum_body g w ls at x left all comma right more

@@ -48,3 +48,7 @@ pub mod CompleteBlocks
 pub mod CompleteFor
 pub mod CompleteLocals
 pub mod CompleteBodies
+mod FaultExample
+pub mod CompleteSwitches
+pub mod CompleteArms
+mod CompleteExamples

@@ -1,43 +1,31 @@
 -- What is found for declarations in blocks (C99 6.7).
-use Rattle.std.proofs.Common.{◌≡◌, ◌≢◌, ℕ, zero, suc, ◌+◌, Bool, true, false, refl, sym, ap, ◌∙◌, subst, List, [], ◌∷◌, ◌++◌, length, append-nil, append_assoc}
-use Rattle.std.proofs.Common.{inl, inr}
+use Rattle.std.proofs.Common.{◌≡◌, ℕ, zero, suc, Bool, true, false, refl, sym, ap, ◌∙◌, subst, List, [], ◌∷◌, ◌++◌, length, append-nil, append_assoc}
 use Rattle.std.specs.Prelude.{◌⊎◌, Option, Some, None, Ok, slice_get}
 use Rattle.c_types.specs.Types.{CType}
 use Rattle.c_ast.specs.declared.words.Spelling.{Spelling}
 use Rattle.c_ast.specs.Trees
-use Rattle.c_ast.specs.Places.{first_specifiers, first_declarator}
+use Rattle.c_ast.specs.Places.{first_declarator}
 use Rattle.c_typed.specs.Trees as Typed
 use Rattle.c_typed.specs.Mapped.{of_types, mapped_statements}
 use Rattle.c_typed.specs.Typed.{Declared}
 use Rattle.c_typed.specs.TypedStatements.{AreTyped, all_declared_by, all_declared}
 use Rattle.c_erasure.specs.Declarators.{declared_name}
-use Rattle.c_erasure.specs.Erasure.{IsBase, IsOne}
-use Rattle.c_erasure.specs.Literals.{literals_of_value, place_if_static, made_by_declarators, made_by_declaration}
-use Rattle.c_erasure.specs.Marks.{marks_of_specifiers}
-use Rattle.c_erasure.specs.MentionPlaces.{spoken_by_value, spoken_of_declarator, spoken_of_declarators, spoken_of_declaration, spoken_of_specifiers}
-use Rattle.c_erasure.specs.Noted.{Noted}
+use Rattle.c_erasure.specs.Literals.{literals_of_value, place_if_static, made_by_declarators}
+use Rattle.c_erasure.specs.MentionPlaces.{spoken_by_value, spoken_of_declarator, spoken_of_declarators}
 use Rattle.c_erasure.specs.Scopes.{FileScope, Scope, ALocal, declared}
-use Rattle.c_erasure.specs.Specifiers.{Storage, no_storage, a_typedef, is_extern, is_static, is_auto, is_register, several, storage_of}
-use Rattle.c_erasure.specs.Statements.{Statements, followed_by, DeclareAll, IsVariable, IsLocalDeclaration, with_object, with_variable}
-use Rattle.c_checking.specs.Answers.{Answer, ◌>>=◌, refused, moved}
-use Rattle.c_checking.specs.Declaring.{base_kind}
-use Rattle.c_checking.specs.Finding.{base_type, one_of}
+use Rattle.c_erasure.specs.Specifiers.{Storage}
+use Rattle.c_erasure.specs.Statements.{Statements, followed_by, DeclareAll, IsVariable, with_object}
+use Rattle.c_checking.specs.Answers.{moved}
 use Rattle.c_checking.specs.Statements.{Performed, in_scope, objects_in, variable_of, declare_static, declare_local, declare_as, declare_named, declare_all}
 use Rattle.c_checking.specs.Statements.{local_storage, some_declared, local_declaration}
 use Rattle.c_checking.proofs.Results.{bound_ok, given}
-use Rattle.c_checking.proofs.Extends.{Extends, further}
 use Rattle.c_checking.proofs.InRange.{AreSpecifiersInRange, IsDeclaratorInRange}
-use Rattle.c_checking.proofs.FoundTypes.{FoundBase}
-use Rattle.c_checking.proofs.Sound.{sound_base}
-use Rattle.c_checking.proofs.Growth.{grow_base}
-use Rattle.c_checking_files.proofs.Layouts.{IsLaid}
 use Rattle.c_checking_files.proofs.Parts.{none}
-use Rattle.c_checking_files.proofs.SameLocals.{with_locals, same_one_of}
-use Rattle.c_checking_files.proofs.Longer.{seen, GoesOn}
-use Rattle.c_checking_files.proofs.Scoped.{IsWithin, ready_for, inside_grows, within_moved, IsLater, FoundIn, then_in, as_said, nothing_in}
+use Rattle.c_checking_files.proofs.Longer.{seen}
+use Rattle.c_checking_files.proofs.Scoped.{IsWithin, FoundIn, then_in, as_said, nothing_in}
 use Rattle.c_checking_files.proofs.Locals.{FoundVariable, variable_found}
-use Rattle.c_checking_files.proofs.LocalObjects.{IsValueInRange, IsDeclared, local_found}
-use Rattle.c_checking_files.proofs.StaticLocals.{IsStatic, static_found}
+use Rattle.c_checking_files.proofs.LocalObjects.{IsValueInRange, local_found}
+use Rattle.c_checking_files.proofs.StaticLocals.{static_found}
 
 -- ---- literals in range
 
@@ -72,15 +60,17 @@ first_named (Trees.enclosed left d right) x h a b = refl
 first_named (Trees.array d left length right) x h a b = refl
 first_named (Trees.function d left all right) x h a b = refl
 
-abbrev static_places : Bool → ℕ → List ℕ
+abbrev pub static_places : Bool → ℕ → List ℕ
 static_places true at = at ∷ []
 static_places false at = []
 
-abbrev made_by : Bool → List Trees.InitDeclarator → ℕ → List ℕ
+abbrev pub made_by : Bool → List Trees.InitDeclarator → ℕ → List ℕ
 made_by static [] semicolon = []
-made_by static (d ∷ more) semicolon = static_places static (first_declarator d.declarator semicolon) ++ literals_of_value d.value ++ made_by static more semicolon
+made_by static (d ∷ more) semicolon =
+    static_places static (first_declarator d.declarator semicolon) ++ literals_of_value d.value ++ made_by static more semicolon
 
-made_same : (static : Bool) (words : Storage) → ((at : ℕ) → place_if_static words at ≡ static_places static at) → (all : List Trees.InitDeclarator) (semicolon : ℕ)
+pub made_same : (static : Bool) (words : Storage) → ((at : ℕ) → place_if_static words at ≡ static_places static at)
+    → (all : List Trees.InitDeclarator) (semicolon : ℕ)
     → made_by static all semicolon ≡ made_by_declarators words all semicolon
 made_same static words e [] semicolon = refl
 made_same static words e (d ∷ more) semicolon = rw (e (first_declarator d.declarator semicolon), made_same static words e more semicolon) refl
@@ -115,7 +105,8 @@ module _ (untagged : ℕ → List ℕ) (f : FileScope) where
   abbrev FoundDeclarator : Bool → Scope → CType → Trees.InitDeclarator → ℕ → Statements × Scope → Type 0
   FoundDeclarator static s base d semicolon z =
       FoundIn untagged f s (first_declarator d.declarator semicolon ∷ spoken_of_declarator d.declarator ++ spoken_by_value d.value)
-      (static_places static (first_declarator d.declarator semicolon) ++ literals_of_value d.value) (IsDeclarator static s base d z.0 z.1) (all_declared_by z.0) z.1
+      (static_places static (first_declarator d.declarator semicolon) ++ literals_of_value d.value) (IsDeclarator static s base d z.0 z.1)
+      (all_declared_by z.0) z.1
 
   declarator_by : (static : Bool) (s : Scope) (base : CType) (d : Trees.InitDeclarator) (x : Spelling) (semicolon : ℕ) → IsValueInRange d.value
       → (t : CType × FileScope) → FoundVariable untagged f s base d x t → (z : Statements × Scope) → declare_as static (moved s t.1) d x t.0 ≡ Ok z
@@ -124,26 +115,42 @@ module _ (untagged : ℕ → List ℕ) (f : FileScope) where
       let o = static_found untagged f (moved s t.1) d x t.0 n v.within v.complete z h in
       let b = then_in untagged f s (moved s t.1) z.1 _ _ [] _ _ _ (IsDeclarator true s base d z.0 z.1) _ _ (variable_part s base d x t v) o
       (λ g l e laid goes is made. record {
-        declares = λ more rest last h.
-            (x, t.0, objects_in (moved s t.1), is, made.object,
-            subst (λ all. DeclareAll more (with_object (seen s g l) x (objects_in (moved s t.1)) t.0) true base all last)
-            (sym (ap (λ all. followed_by all rest) made.all_is))
-            (subst (λ c. DeclareAll more c true base rest last) made.after_is h));
+        declares = λ more rest last h. (
+          x,
+          t.0,
+          objects_in (moved s t.1),
+          is,
+          made.object,
+          subst (λ all. DeclareAll more (with_object (seen s g l) x (objects_in (moved s t.1)) t.0) true base all last)
+              (sym (ap (λ all. followed_by all rest) made.all_is))
+              (subst (λ c. DeclareAll more c true base rest last) made.after_is h),
+        );
         is_typed = λ result loop switch. subst (λ all. AreTyped (declared (seen s g l)) result loop switch (typed_statements all)) (sym made.all_is) tt;
       }) in
-      as_said untagged f s z.1 _ _ (IsDeclarator true s base d z.0 z.1) (IsDeclarator true s base d z.0 z.1) [] (all_declared_by z.0) b (no_locals z.0 z.1 t.1 t.0 h) (λ g l e laid goes h. h)
+      as_said untagged f s z.1 _ _ (IsDeclarator true s base d z.0 z.1) (IsDeclarator true s base d z.0 z.1) [] (all_declared_by z.0) b
+      (no_locals z.0 z.1 t.1 t.0 h) (λ g l e laid goes h. h)
     where
       no_locals : (all : Statements) (after : Scope) (g : FileScope) (u : CType) → declare_static (moved s g) d x u ≡ Ok (all, after) → [] ≡ all_declared_by all
       no_locals all after g u h =
-          let i = bound_ok (Rattle.c_checking.specs.Statements.constants_if_any d.value (Rattle.c_checking.specs.Statements.with_static (moved s g) d x u) u) _ (all, after) h in
+          let i = bound_ok (Rattle.c_checking.specs.Statements.constants_if_any d.value
+          (Rattle.c_checking.specs.Statements.with_static (moved s g) d x u) u) _ (all, after) h in
           given (λ (z : Statements × Scope). [] ≡ all_declared_by z.0) _ (all, after) i.2 refl
   declarator_by false s base d x semicolon n t v z h =
       let o = local_found untagged f (moved s t.1) d x t.0 n v.within v.complete z h in
       then_in untagged f s (moved s t.1) z.1 _ _ [] _ _ _ (IsDeclarator false s base d z.0 z.1) [] _ (variable_part s base d x t v) o
       (λ g l e laid goes is made. record {
-        declares = λ more rest last h.
-            (x, t.0, length s.locals, made.initial, rest, is, made.local, ap (λ all. followed_by all rest) made.all_is, made.initializer,
-            subst (λ c. DeclareAll more c false base rest last) made.after_is h);
+        declares = λ more rest last h. (
+          x,
+          t.0,
+          length s.locals,
+          made.initial,
+          rest,
+          is,
+          made.local,
+          ap (λ all. followed_by all rest) made.all_is,
+          made.initializer,
+          subst (λ c. DeclareAll more c false base rest last) made.after_is h,
+        );
         is_typed = λ result loop switch.
             subst (λ all. AreTyped (declared (seen s g l)) result loop switch (typed_statements all)) (sym made.all_is)
             ((t.0, type_there l (length s.locals) _ made.local, made.complete, made.is_typed), tt);
@@ -176,9 +183,10 @@ module _ (untagged : ℕ → List ℕ) (f : FileScope) where
 
   abbrev pub FoundDeclarators : Bool → List Trees.InitDeclarator → Scope → CType → ℕ → Statements × Scope → Type 0
   FoundDeclarators static all s base semicolon z =
-      FoundIn untagged f s (spoken_of_declarators all semicolon) (made_by static all semicolon) (AreDeclared static all s base z.0 z.1) (all_declared_by z.0) z.1
+      FoundIn untagged f s (spoken_of_declarators all semicolon) (made_by static all semicolon) (AreDeclared static all s base z.0 z.1)
+      (all_declared_by z.0) z.1
 
-  declarators_found : (all : List Trees.InitDeclarator) (s : Scope) (static : Bool) (base : CType) (semicolon : ℕ) → AreDeclaratorsInRange all
+  pub declarators_found : (all : List Trees.InitDeclarator) (s : Scope) (static : Bool) (base : CType) (semicolon : ℕ) → AreDeclaratorsInRange all
       → IsWithin untagged f s → (z : Statements × Scope) → declare_all all s static base ≡ Ok z → FoundDeclarators static all s base semicolon z
   unfolding declare_all
   declarators_found [] s static base semicolon n w z h =

@@ -1,10 +1,9 @@
 -- What is found for initializers, in each file that goes on from the one that finding leaves (C99 6.7.8).
-use Rattle.std.proofs.Common.{◌≡◌, ◌≢◌, ℕ, zero, suc, ◌+◌, ◌*◌, ◌≤◌, ◌<◌, Bool, true, false, refl, sym, ap, ◌∙◌, subst, List, [], ◌∷◌, ◌++◌, length}
-use Rattle.std.proofs.Common.{append-nil, append_assoc, arith, inl, inr}
+use Rattle.std.proofs.Common.{◌≡◌, ℕ, zero, suc, ◌+◌, ◌*◌, ◌≤◌, ◌<◌, Bool, true, false, refl, sym, ap, ◌∙◌, subst, List, [], ◌∷◌, ◌++◌, length}
+use Rattle.std.proofs.Common.{append-nil, arith, inl, inr}
 use Rattle.std.proofs.Math.Nat.{suc-mul, mul-suc, zero-mul}
 use Rattle.std.proofs.lemmas.Bool.{and_parts}
 use Rattle.std.specs.Prelude.{◌⊎◌, Option, Some, None, Ok, slice_get, nat_lt, ◌&&◌, is_some}
-use Rattle.c_types.specs.declared.ty.IntKind.{IntKind}
 use Rattle.c_types.specs.Types.{CType, void, integer, pointer, array, function, structure, Field, Record}
 use Rattle.c_types.specs.Layouts.{size_of, offset_of}
 use Rattle.c_types.specs.Limits.{AreComplete}
@@ -17,23 +16,24 @@ use Rattle.c_typed.specs.Conversions.{is_scalar}
 use Rattle.c_typed.specs.Mapped.{of_types, mapped_value}
 use Rattle.c_typed.specs.Parts as Lying
 use Rattle.c_typed.specs.Parts.{IsPart}
-use Rattle.c_typed.specs.Typed.{Declared, IsTyped, IsConverted, field_type}
+use Rattle.c_typed.specs.Typed.{Declared, field_type}
 use Rattle.c_typed.specs.TypedStatements.{IsTypedValue}
-use Rattle.c_erasure.specs.Erasure.{typed, Values, Erases}
-use Rattle.c_erasure.specs.Initializers.{Part, part_at, texts_of, is_braces, is_character, IsText, IsNoText, Initializes, IsOneValue, InitializeElements, InitializeFields}
+use Rattle.c_erasure.specs.Erasure.{Values, Erases}
+use Rattle.c_erasure.specs.Initializers.{Part, part_at, texts_of, is_braces, is_character, IsText, IsNoText, Initializes, IsOneValue, InitializeElements}
+use Rattle.c_erasure.specs.Initializers.{InitializeFields}
 use Rattle.c_erasure.specs.Literals.{literals, literals_of_all}
 use Rattle.c_erasure.specs.Marks.{Mark, marks, marks_of_all}
 use Rattle.c_erasure.specs.MentionPlaces.{spoken, spoken_of_all}
-use Rattle.c_erasure.specs.Noted.{Noted, Expression, Thing, an_object, type_of_path}
+use Rattle.c_erasure.specs.Noted.{Noted, Expression, Thing, an_object, type_of, type_of_path}
 use Rattle.c_erasure.specs.Scopes.{ALocal, FileScope, Scope, declared, is_measured}
-use Rattle.c_checking.specs.Answers.{◌>>=◌, Checked, with_file, moved}
+use Rattle.c_checking.specs.Answers.{◌>>=◌, with_file, moved}
 use Rattle.c_checking.specs.Finding.{value_at, find}
-use Rattle.c_checking.specs.Initializers.{initial_value_in, value_part, initial_record_in, text_of_array, is_text, fields_of, without_braces, in_braces}
+use Rattle.c_checking.specs.Initializers.{initial_value_in, value_part, initial_record_in, text_of_array, is_text, fields_of, without_braces}
 use Rattle.c_checking.specs.Initializers.{initialized, one_value, elements, fields_from}
-use Rattle.c_checking.proofs.Results.{bound_ok, bound_with, ok, given, with_file_ok, chosen}
-use Rattle.c_checking.proofs.Extends.{Extends, itself, further, record_stays}
+use Rattle.c_checking.proofs.Results.{bound_ok, bound_with, given, with_file_ok, chosen}
+use Rattle.c_checking.proofs.Extends.{Extends, further, record_stays}
 use Rattle.c_checking.proofs.Agreement.{Ready, Grew, then, left, right}
-use Rattle.c_checking.proofs.Values.{IsValue, Stands, path_type_same}
+use Rattle.c_checking.proofs.Values.{Stands, type_same, path_type_same}
 use Rattle.c_checking.proofs.InRange.{IsInRange, AreInRange}
 use Rattle.c_checking.proofs.Declared.{nothing_grown}
 use Rattle.c_checking.proofs.Adding.{Grows, makes_none, adds_nothing, adds_then}
@@ -44,8 +44,9 @@ use Rattle.c_checking_files.proofs.SameLocals.{with_locals, same_find}
 use Rattle.c_checking_files.proofs.Longer.{seen, GoesOn, ready_longer}
 use Rattle.c_checking_files.proofs.Layouts.{IsLaid, object_stays, size_stays, offset_stays, AreFields, fields_are, later_fields, first_field}
 use Rattle.c_checking_files.proofs.Layouts.{field_within, fields_apart, field_stays, field_object, record_in}
-use Rattle.c_checking_files.proofs.Parts.{Rise, rise_from, rise_to, rise_then, one_rises, AreOver, over_then, over_within, Parted, none, is_bytes, all_made, parted_then}
-use Rattle.c_checking_files.proofs.Parts.{NoneBegins, none_left, none_right, initial_value_made, initial_record_is, IsTextPart, text_made}
+use Rattle.c_checking_files.proofs.Parts.{Rise, rise_from, rise_to, rise_then, one_rises, AreOver, over_then, over_within, Parted, none, is_bytes}
+use Rattle.c_checking_files.proofs.Parts.{all_made, parted_then}
+use Rattle.c_checking_files.proofs.Parts.{NoneBegins, none_left, none_right, initial_value_made, initial_record_is, text_made}
 
 pub nothing : (s : Scope) → Grows s [] [] [] s.file
 nothing s = adds_nothing s.file s.is_inside (is_measured s.purpose) (makes_none s.purpose)
@@ -121,7 +122,8 @@ module _ (untagged : ℕ → List ℕ) where
   -- a value
   scalar_found : (a : Trees.Expression) (s : Scope) (t : CType) (at from : ℕ) → is_scalar t ≡ true → is_object (length s.file.records) t ≡ true
       → (Is : Scope → List Part → Type 0)
-      → ((s : Scope) (x : Expression) → Values (Erases a s) x → Is s (part_at at (Typed.value x))) → ((l : List ALocal) → GoesOn s.locals l → (y : Expression × FileScope)
+      → ((s : Scope) (x : Expression) → type_of x ≡ t → Values (Erases a s) x → Is s (part_at at (Typed.value x)))
+      → ((l : List ALocal) → GoesOn s.locals l → (y : Expression × FileScope)
       → value_at from (find a s) ≡ Ok y → FoundValue untagged (with_locals l s) a y × Grows s (marks untagged a) (spoken a) (literals a) y.1)
       → (z : List Part × FileScope)
       → (value_at from (find a s) >>= λ x. with_file x.1 (initial_value_in from t x.0) >>= λ y. Ok (value_part at y.0, y.1)) ≡ Ok z
@@ -137,7 +139,8 @@ module _ (untagged : ℕ → List ℕ) where
         parted = all_made (literals a);
         grows = v.1;
         holds = λ g l p b n.
-            stands (seen s g l) y.0 (initial_value_made (Erases a (seen s g l)) (seen s g l) from t x.0.0 ((sound l b x.0 x.1).0.holds g p) y.0 y.1).0;
+            let m = initial_value_made (Erases a (seen s g l)) (seen s g l) from t x.0.0 ((sound l b x.0 x.1).0.holds g p) y.0 y.1 in
+            stands (seen s g l) y.0 (sym (type_same y.0) ∙ m.2.1) m.0;
         typed = λ g l p b.
             let m = initial_value_made (Erases a (seen s g l)) (seen s g l) from t x.0.0 ((sound l b x.0 x.1).0.holds g p) y.0 y.1 in
             one_over t at (declared (seen s g l)) g (Typed.value y.0) (m.1, i, m.2);
@@ -147,7 +150,8 @@ module _ (untagged : ℕ → List ℕ) where
   -- a record of the same type
   record_found : (a : Trees.Expression) (s : Scope) (r at from : ℕ) → is_object (length s.file.records) (structure r) ≡ true
       → (Is : Scope → List Part → Type 0)
-      → ((s : Scope) (p : Typed.Path Noted) → Erases a s (an_object p) → Is s (part_at at (Typed.record_of p))) → ((l : List ALocal) → GoesOn s.locals l → (y : Thing × FileScope)
+      → ((s : Scope) (p : Typed.Path Noted) → type_of_path p ≡ structure r → Erases a s (an_object p) → Is s (part_at at (Typed.record_of p)))
+      → ((l : List ALocal) → GoesOn s.locals l → (y : Thing × FileScope)
       → find a s ≡ Ok y → Found untagged (with_locals l s) a y × Grows s (marks untagged a) (spoken a) (literals a) y.1)
       → (z : List Part × FileScope)
       → (find a s >>= λ x. with_file x.1 (initial_record_in from at (structure r) x.0)) ≡ Ok z
@@ -166,7 +170,7 @@ module _ (untagged : ℕ → List ℕ) where
         grows = subst (λ f. Grows s (marks untagged a) (spoken a) (literals a) f) w.1 v.1;
         holds = λ g l p b n.
             subst (λ parts. Is (seen s g l) parts) (sym q.3)
-            (stands (seen s g l) q.0 (subst (Erases a (seen s g l)) q.1 ((sound l b x.0 x.1).0.holds g (e g p)).0));
+            (stands (seen s g l) q.0 q.2 (subst (Erases a (seen s g l)) q.1 ((sound l b x.0 x.1).0.holds g (e g p)).0));
         typed = λ g l p b.
             let t = subst (Stands (Erases a (seen s g l)) (seen s g l)) q.1 ((sound l b x.0 x.1).0.holds g (e g p)) in
             subst (λ parts. AreOver (OfObject (structure r) at g) (declared (seen s g l)) parts) (sym q.3)
@@ -237,7 +241,8 @@ module _ (untagged : ℕ → List ℕ) where
 
   -- nothing is left to say
   none_found : (s : Scope) (Is : Scope → List Part → Type 0) (P : FileScope → ℕ → CType → Type 0) (A : FileScope → List Part → Type 0)
-      → ((g : FileScope) (l : List ALocal) → Is (seen s g l) []) → ((g : FileScope) → Extends s.file g → IsLaid g → A g []) → FoundParts s [] [] [] Is P A ([], s.file)
+      → ((g : FileScope) (l : List ALocal) → Is (seen s g l) []) → ((g : FileScope) → Extends s.file g → IsLaid g → A g [])
+      → FoundParts s [] [] [] Is P A ([], s.file)
   none_found s Is P A is rise = record {
     grew = nothing_grown s.file s.is_inside;
     made = [];
@@ -271,8 +276,8 @@ module _ (untagged : ℕ → List ℕ) where
 
   abbrev pub Plainly : Trees.Expression → Scope → CType → ℕ → List Part → Type 0
   Plainly a s t at parts =
-      ((x : Expression) × (is_scalar t ≡ true) × (parts ≡ part_at at (Typed.value x)) × Values (Erases a s) x)
-      ⊎ ((r : ℕ) × (p : Typed.Path Noted) × (t ≡ structure r) × (parts ≡ part_at at (Typed.record_of p)) × Erases a s (an_object p))
+      ((x : Expression) × (is_scalar t ≡ true) × (type_of x ≡ t) × (parts ≡ part_at at (Typed.value x)) × Values (Erases a s) x)
+      ⊎ ((r : ℕ) × (p : Typed.Path Noted) × (t ≡ structure r) × (type_of_path p ≡ t) × (parts ≡ part_at at (Typed.record_of p)) × Erases a s (an_object p))
       ⊎ IsText (texts_of a) s t at parts
 
   abbrev pub AreBytes : Trees.Expression → Type 0
@@ -303,10 +308,12 @@ module _ (untagged : ℕ → List ℕ) where
   plain (Trees.pre op at a) h = record { found = λ s t at. refl; stands = λ s t at parts p. p; bytes = λ all e. cc; one = λ from comma s t at. refl }
   plain (Trees.unary op at a) h = record { found = λ s t at. refl; stands = λ s t at parts p. p; bytes = λ all e. cc; one = λ from comma s t at. refl }
   plain (Trees.sizeof_expression at a) h = record { found = λ s t at. refl; stands = λ s t at parts p. p; bytes = λ all e. cc; one = λ from comma s t at. refl }
-  plain (Trees.sizeof_type at from m to) h = record { found = λ s t at. refl; stands = λ s t at parts p. p; bytes = λ all e. cc; one = λ from comma s t at. refl }
+  plain (Trees.sizeof_type at from m to) h =
+      record { found = λ s t at. refl; stands = λ s t at parts p. p; bytes = λ all e. cc; one = λ from comma s t at. refl }
   plain (Trees.cast from m to a) h = record { found = λ s t at. refl; stands = λ s t at parts p. p; bytes = λ all e. cc; one = λ from comma s t at. refl }
   plain (Trees.binary a op at b) h = record { found = λ s t at. refl; stands = λ s t at parts p. p; bytes = λ all e. cc; one = λ from comma s t at. refl }
-  plain (Trees.cond a question b colon c) h = record { found = λ s t at. refl; stands = λ s t at parts p. p; bytes = λ all e. cc; one = λ from comma s t at. refl }
+  plain (Trees.cond a question b colon c) h =
+      record { found = λ s t at. refl; stands = λ s t at parts p. p; bytes = λ all e. cc; one = λ from comma s t at. refl }
   plain (Trees.assign a op at b) h = record { found = λ s t at. refl; stands = λ s t at parts p. p; bytes = λ all e. cc; one = λ from comma s t at. refl }
   plain (Trees.comma a at b) h = record { found = λ s t at. refl; stands = λ s t at parts p. p; bytes = λ all e. cc; one = λ from comma s t at. refl }
   plain (Trees.braces from all comma to) h = cc
@@ -320,28 +327,30 @@ module _ (untagged : ℕ → List ℕ) where
   pub behind : {f : FileScope} {s : Scope} {u : List Mark} {g : FileScope} → ReadFrom f s → Grew s u g → ReadFrom f (moved s g)
   behind q p = record { complete = q.complete; extends = further q.extends p.extends; same = p.extends.untagged ∙ q.same }
 
-  plain_found : (f : FileScope) (a : Trees.Expression) → IsPlain a → (s : Scope) → IsInRange a → Ready s (marks untagged a) → ReadFrom f s → (t : CType) (at : ℕ)
+  plain_found : (f : FileScope) (a : Trees.Expression) → IsPlain a → (s : Scope) → IsInRange a → Ready s (marks untagged a) → ReadFrom f s
+      → (t : CType) (at : ℕ)
       → IsKnown f t → (o : Option (List Spelling)) → (texts_of a ≡ o) ⊎ (o ≡ None) → (z : List Part × FileScope)
       → without_braces (first a) at t o s.file (find a s) ≡ Ok z → FoundInitial s a t at z
   plain_found f a p s n r q void at k o w z h = cc
   plain_found f a p s n r q (integer kind) at k o w z h =
       scalar_found a s (integer kind) at (first a) refl refl (λ s parts. Initializes a s (integer kind) at parts)
-      (λ s x v. p.stands s (integer kind) at _ (inl (x, refl, refl, v)))
+      (λ s x e v. p.stands s (integer kind) at _ (inl (x, refl, e, refl, v)))
       (λ l b y j. (value_longer a s n r l b (first a) y j, grow_value_of untagged a s q.same (first a) y j)) z h
   plain_found f a p s n r q (pointer t) at k o w z h =
       scalar_found a s (pointer t) at (first a) refl refl (λ s parts. Initializes a s (pointer t) at parts)
-      (λ s x v. p.stands s (pointer t) at _ (inl (x, refl, refl, v)))
+      (λ s x e v. p.stands s (pointer t) at _ (inl (x, refl, e, refl, v)))
       (λ l b y j. (value_longer a s n r l b (first a) y j, grow_value_of untagged a s q.same (first a) y j)) z h
   plain_found f a p s n r q (function t all) at k o w z h = cc
   plain_found f a p s n r q (structure i) at k o w z h =
       record_found a s i at (first a) (object_stays q.extends (structure i) k) (λ s parts. Initializes a s (structure i) at parts)
-      (λ s path v. p.stands s (structure i) at _ (inr (inl (i, path, refl, refl, v))))
+      (λ s path e v. p.stands s (structure i) at _ (inr (inl (i, path, refl, e, refl, v))))
       (λ l b y j. (sound_longer a s n r l b y j, grow untagged a s q.same y j)) z h
   plain_found f a p s n r q (array u m) at k o (inl w) z h =
       text_found a s u m at (first a) (object_stays q.extends (array u m) k) (texts_of a) p.bytes (λ s parts. Initializes a s (array u m) at parts)
       (λ s parts b. p.stands s (array u m) at parts (inr (inr b))) (is_character u) refl z
       (subst (λ o. with_file s.file (text_of_array (first a) at m (is_character u) o) ≡ Ok z) (sym w) h)
-  plain_found f a p s n r q (array u m) at k o (inr w) z h = none_there (is_character u) (subst (λ o. with_file s.file (text_of_array (first a) at m (is_character u) o) ≡ Ok z) w h)
+  plain_found f a p s n r q (array u m) at k o (inr w) z h =
+      none_there (is_character u) (subst (λ o. with_file s.file (text_of_array (first a) at m (is_character u) o) ≡ Ok z) w h)
     where
       none_there : (b : Bool) → with_file s.file (text_of_array (first a) at m b None) ≡ Ok z → FoundInitial s a (array u m) at z
       none_there true h = cc
@@ -358,13 +367,15 @@ module _ (untagged : ℕ → List ℕ) where
       of_test false h = refl
 
   abbrev IsOnePart : Trees.Arguments → CType → ℕ → Scope → List Part → Type 0
-  IsOnePart all t at s parts = (x : Expression) × (parts ≡ part_at at (Typed.value x)) × IsOneValue all s x
+  IsOnePart all t at s parts = (x : Expression) × (type_of x ≡ t) × (parts ≡ part_at at (Typed.value x)) × IsOneValue all s x
 
   abbrev FoundOne : Scope → Trees.Arguments → CType → ℕ → List Part × FileScope → Type 0
   FoundOne s all t at z =
-      FoundParts s (marks_of_all untagged all) (spoken_of_all all) (literals_of_all all) (λ s parts. IsOnePart all t at s parts) (OfObject t at) (RisesIn t at) z
+      FoundParts s (marks_of_all untagged all) (spoken_of_all all) (literals_of_all all) (λ s parts. IsOnePart all t at s parts) (OfObject t at)
+      (RisesIn t at) z
 
-  one_found : (f : FileScope) (comma : Option ℕ) (a : Trees.Expression) (s : Scope) → IsInRange a → Ready s (marks untagged a ++ []) → ReadFrom f s → (t : CType)
+  one_found : (f : FileScope) (comma : Option ℕ) (a : Trees.Expression) (s : Scope) → IsInRange a → Ready s (marks untagged a ++ []) → ReadFrom f s
+      → (t : CType)
       (at : ℕ) → is_scalar t ≡ true → (z : List Part × FileScope) → without_braces (first a) at t None s.file (find a s) ≡ Ok z
       → FoundOne s (Trees.and_argument comma a Trees.no_arguments) t at z
   one_found f comma a s n r q t at i z h = lengthened (by_type t i h)
@@ -375,7 +386,7 @@ module _ (untagged : ℕ → List ℕ) where
           (OfObject t at) (RisesIn t at) z
       by_value t i o h =
           scalar_found a s t at (first a) i o (λ s parts. IsOnePart (Trees.and_argument comma a Trees.no_arguments) t at s parts)
-          (λ s x v. (x, refl, v))
+          (λ s x e v. (x, e, refl, v))
           (λ l b y j. (value_longer a s n (left (marks untagged a) [] r) l b (first a) y j, grow_value_of untagged a s q.same (first a) y j)) z h
 
       by_type : (t : CType) → is_scalar t ≡ true → without_braces (first a) at t None s.file (find a s) ≡ Ok z
@@ -429,7 +440,8 @@ module _ (untagged : ℕ → List ℕ) where
   braces_bytes from (Trees.and_argument comma (Trees.braces b all c d) more) last to texts h = cc
 
   -- more than one is none
-  many_refused : (from : ℕ) (comma : Option ℕ) (a : Trees.Expression) (c : Option ℕ) (b : Trees.Expression) (more : Trees.Arguments) (s : Scope) (t : CType) (at : ℕ)
+  many_refused : (from : ℕ) (comma : Option ℕ) (a : Trees.Expression) (c : Option ℕ) (b : Trees.Expression) (more : Trees.Arguments) (s : Scope) (t : CType)
+      (at : ℕ)
       (z : List Part × FileScope) → one_value from (Trees.and_argument comma a (Trees.and_argument c b more)) s t at ≡ Ok z → ⊥
   unfolding one_value
   many_refused from comma (Trees.name y) c' b' more s t at z h = cc
@@ -466,24 +478,40 @@ module _ (untagged : ℕ → List ℕ) where
   sound_one f from (Trees.and_argument comma (Trees.braces inner all last to) Trees.no_arguments) s n r q t at i z h =
       absurd (braces_alone from comma inner all last to s t at z h)
   sound_one f from (Trees.and_argument comma (Trees.name y) Trees.no_arguments) s n r q t at i z h = one_found f comma (Trees.name y) s n.0 r q t at i z h
-  sound_one f from (Trees.and_argument comma (Trees.number y v kind) Trees.no_arguments) s n r q t at i z h = one_found f comma (Trees.number y v kind) s n.0 r q t at i z h
-  sound_one f from (Trees.and_argument comma (Trees.character y v) Trees.no_arguments) s n r q t at i z h = one_found f comma (Trees.character y v) s n.0 r q t at i z h
+  sound_one f from (Trees.and_argument comma (Trees.number y v kind) Trees.no_arguments) s n r q t at i z h =
+      one_found f comma (Trees.number y v kind) s n.0 r q t at i z h
+  sound_one f from (Trees.and_argument comma (Trees.character y v) Trees.no_arguments) s n r q t at i z h =
+      one_found f comma (Trees.character y v) s n.0 r q t at i z h
   sound_one f from (Trees.and_argument comma (Trees.texts ts) Trees.no_arguments) s n r q t at i z h = one_found f comma (Trees.texts ts) s n.0 r q t at i z h
-  sound_one f from (Trees.and_argument comma (Trees.paren b a c) Trees.no_arguments) s n r q t at i z h = one_found f comma (Trees.paren b a c) s n.0 r q t at i z h
-  sound_one f from (Trees.and_argument comma (Trees.index a b d c) Trees.no_arguments) s n r q t at i z h = one_found f comma (Trees.index a b d c) s n.0 r q t at i z h
-  sound_one f from (Trees.and_argument comma (Trees.call d b ds c) Trees.no_arguments) s n r q t at i z h = one_found f comma (Trees.call d b ds c) s n.0 r q t at i z h
+  sound_one f from (Trees.and_argument comma (Trees.paren b a c) Trees.no_arguments) s n r q t at i z h =
+      one_found f comma (Trees.paren b a c) s n.0 r q t at i z h
+  sound_one f from (Trees.and_argument comma (Trees.index a b d c) Trees.no_arguments) s n r q t at i z h =
+      one_found f comma (Trees.index a b d c) s n.0 r q t at i z h
+  sound_one f from (Trees.and_argument comma (Trees.call d b ds c) Trees.no_arguments) s n r q t at i z h =
+      one_found f comma (Trees.call d b ds c) s n.0 r q t at i z h
   sound_one f from (Trees.and_argument comma (Trees.dot a b y) Trees.no_arguments) s n r q t at i z h = one_found f comma (Trees.dot a b y) s n.0 r q t at i z h
-  sound_one f from (Trees.and_argument comma (Trees.arrow a b y) Trees.no_arguments) s n r q t at i z h = one_found f comma (Trees.arrow a b y) s n.0 r q t at i z h
-  sound_one f from (Trees.and_argument comma (Trees.post a op b) Trees.no_arguments) s n r q t at i z h = one_found f comma (Trees.post a op b) s n.0 r q t at i z h
-  sound_one f from (Trees.and_argument comma (Trees.pre op b a) Trees.no_arguments) s n r q t at i z h = one_found f comma (Trees.pre op b a) s n.0 r q t at i z h
-  sound_one f from (Trees.and_argument comma (Trees.unary op b a) Trees.no_arguments) s n r q t at i z h = one_found f comma (Trees.unary op b a) s n.0 r q t at i z h
-  sound_one f from (Trees.and_argument comma (Trees.sizeof_expression b a) Trees.no_arguments) s n r q t at i z h = one_found f comma (Trees.sizeof_expression b a) s n.0 r q t at i z h
-  sound_one f from (Trees.and_argument comma (Trees.sizeof_type b c m d) Trees.no_arguments) s n r q t at i z h = one_found f comma (Trees.sizeof_type b c m d) s n.0 r q t at i z h
-  sound_one f from (Trees.and_argument comma (Trees.cast b m c a) Trees.no_arguments) s n r q t at i z h = one_found f comma (Trees.cast b m c a) s n.0 r q t at i z h
-  sound_one f from (Trees.and_argument comma (Trees.binary a op b c) Trees.no_arguments) s n r q t at i z h = one_found f comma (Trees.binary a op b c) s n.0 r q t at i z h
-  sound_one f from (Trees.and_argument comma (Trees.cond a b c d e) Trees.no_arguments) s n r q t at i z h = one_found f comma (Trees.cond a b c d e) s n.0 r q t at i z h
-  sound_one f from (Trees.and_argument comma (Trees.assign a op b c) Trees.no_arguments) s n r q t at i z h = one_found f comma (Trees.assign a op b c) s n.0 r q t at i z h
-  sound_one f from (Trees.and_argument comma (Trees.comma a b c) Trees.no_arguments) s n r q t at i z h = one_found f comma (Trees.comma a b c) s n.0 r q t at i z h
+  sound_one f from (Trees.and_argument comma (Trees.arrow a b y) Trees.no_arguments) s n r q t at i z h =
+      one_found f comma (Trees.arrow a b y) s n.0 r q t at i z h
+  sound_one f from (Trees.and_argument comma (Trees.post a op b) Trees.no_arguments) s n r q t at i z h =
+      one_found f comma (Trees.post a op b) s n.0 r q t at i z h
+  sound_one f from (Trees.and_argument comma (Trees.pre op b a) Trees.no_arguments) s n r q t at i z h =
+      one_found f comma (Trees.pre op b a) s n.0 r q t at i z h
+  sound_one f from (Trees.and_argument comma (Trees.unary op b a) Trees.no_arguments) s n r q t at i z h =
+      one_found f comma (Trees.unary op b a) s n.0 r q t at i z h
+  sound_one f from (Trees.and_argument comma (Trees.sizeof_expression b a) Trees.no_arguments) s n r q t at i z h =
+      one_found f comma (Trees.sizeof_expression b a) s n.0 r q t at i z h
+  sound_one f from (Trees.and_argument comma (Trees.sizeof_type b c m d) Trees.no_arguments) s n r q t at i z h =
+      one_found f comma (Trees.sizeof_type b c m d) s n.0 r q t at i z h
+  sound_one f from (Trees.and_argument comma (Trees.cast b m c a) Trees.no_arguments) s n r q t at i z h =
+      one_found f comma (Trees.cast b m c a) s n.0 r q t at i z h
+  sound_one f from (Trees.and_argument comma (Trees.binary a op b c) Trees.no_arguments) s n r q t at i z h =
+      one_found f comma (Trees.binary a op b c) s n.0 r q t at i z h
+  sound_one f from (Trees.and_argument comma (Trees.cond a b c d e) Trees.no_arguments) s n r q t at i z h =
+      one_found f comma (Trees.cond a b c d e) s n.0 r q t at i z h
+  sound_one f from (Trees.and_argument comma (Trees.assign a op b c) Trees.no_arguments) s n r q t at i z h =
+      one_found f comma (Trees.assign a op b c) s n.0 r q t at i z h
+  sound_one f from (Trees.and_argument comma (Trees.comma a b c) Trees.no_arguments) s n r q t at i z h =
+      one_found f comma (Trees.comma a b c) s n.0 r q t at i z h
 
   -- ---- elements and fields
 
@@ -496,9 +524,15 @@ module _ (untagged : ℕ → List ℕ) where
       (OfElements t (suc n) at) (RisesInElements t (suc n) at) (own.0 ++ rest.0, rest.1)
   element_then s u v x y k l comma a more t n at own o p rest q =
       joined s u v x y k l _ _ _ _ _ _ _ _ _ own p rest q
-      (λ g l e is js.
-      (n, own.0, rest.0, omega arith, refl, is,
-      subst (λ z. InitializeElements more (seen s g l) t n (at + z) rest.0) (sym (size_stays e t o)) js))
+      (λ g l e is js. (
+        n,
+        own.0,
+        rest.0,
+        omega arith,
+        refl,
+        is,
+        subst (λ z. InitializeElements more (seen s g l) t n (at + z) rest.0) (sym (size_stays e t o)) js,
+      ))
       (λ g e b w h. (0, h.0, omega arith, first g b h.0 h.1, h.2))
       (λ g e b w h. (suc h.0, h.1, let lt = h.2 in omega (arith, lt), later g e b h.0 h.1 h.3, h.4))
       (λ g e l is js.
@@ -560,32 +594,52 @@ module _ (untagged : ℕ → List ℕ) where
 
     pub sound_initial : (f : FileScope) (a : Trees.Expression) (s : Scope) → IsInRange a → Ready s (marks untagged a) → ReadFrom f s → (t : CType) (at : ℕ)
         → IsKnown f t → (z : List Part × FileScope) → initialized a s t at ≡ Ok z → FoundInitial s a t at z
-    sound_initial f (Trees.name y) s n r q t at k z h = plain_found f (Trees.name y) (plain (Trees.name y) refl) s n r q t at k (texts_of (Trees.name y)) (inl refl) z h
-    sound_initial f (Trees.number y v kind) s n r q t at k z h = plain_found f (Trees.number y v kind) (plain (Trees.number y v kind) refl) s n r q t at k (texts_of (Trees.number y v kind)) (inl refl) z h
-    sound_initial f (Trees.character y v) s n r q t at k z h = plain_found f (Trees.character y v) (plain (Trees.character y v) refl) s n r q t at k (texts_of (Trees.character y v)) (inl refl) z h
-    sound_initial f (Trees.texts ts) s n r q t at k z h = plain_found f (Trees.texts ts) (plain (Trees.texts ts) refl) s n r q t at k (texts_of (Trees.texts ts)) (inl refl) z h
-    sound_initial f (Trees.paren b a c) s n r q t at k z h = plain_found f (Trees.paren b a c) (plain (Trees.paren b a c) refl) s n r q t at k (texts_of (Trees.paren b a c)) (inl refl) z h
-    sound_initial f (Trees.index a b d c) s n r q t at k z h = plain_found f (Trees.index a b d c) (plain (Trees.index a b d c) refl) s n r q t at k (texts_of (Trees.index a b d c)) (inl refl) z h
-    sound_initial f (Trees.call d b ds c) s n r q t at k z h = plain_found f (Trees.call d b ds c) (plain (Trees.call d b ds c) refl) s n r q t at k (texts_of (Trees.call d b ds c)) (inl refl) z h
-    sound_initial f (Trees.dot a b y) s n r q t at k z h = plain_found f (Trees.dot a b y) (plain (Trees.dot a b y) refl) s n r q t at k (texts_of (Trees.dot a b y)) (inl refl) z h
-    sound_initial f (Trees.arrow a b y) s n r q t at k z h = plain_found f (Trees.arrow a b y) (plain (Trees.arrow a b y) refl) s n r q t at k (texts_of (Trees.arrow a b y)) (inl refl) z h
-    sound_initial f (Trees.post a op b) s n r q t at k z h = plain_found f (Trees.post a op b) (plain (Trees.post a op b) refl) s n r q t at k (texts_of (Trees.post a op b)) (inl refl) z h
-    sound_initial f (Trees.pre op b a) s n r q t at k z h = plain_found f (Trees.pre op b a) (plain (Trees.pre op b a) refl) s n r q t at k (texts_of (Trees.pre op b a)) (inl refl) z h
-    sound_initial f (Trees.unary op b a) s n r q t at k z h = plain_found f (Trees.unary op b a) (plain (Trees.unary op b a) refl) s n r q t at k (texts_of (Trees.unary op b a)) (inl refl) z h
-    sound_initial f (Trees.sizeof_expression b a) s n r q t at k z h = plain_found f (Trees.sizeof_expression b a) (plain (Trees.sizeof_expression b a) refl) s n r q t at k (texts_of (Trees.sizeof_expression b a)) (inl refl) z h
-    sound_initial f (Trees.sizeof_type b c m d) s n r q t at k z h = plain_found f (Trees.sizeof_type b c m d) (plain (Trees.sizeof_type b c m d) refl) s n r q t at k (texts_of (Trees.sizeof_type b c m d)) (inl refl) z h
-    sound_initial f (Trees.cast b m c a) s n r q t at k z h = plain_found f (Trees.cast b m c a) (plain (Trees.cast b m c a) refl) s n r q t at k (texts_of (Trees.cast b m c a)) (inl refl) z h
-    sound_initial f (Trees.binary a op b c) s n r q t at k z h = plain_found f (Trees.binary a op b c) (plain (Trees.binary a op b c) refl) s n r q t at k (texts_of (Trees.binary a op b c)) (inl refl) z h
-    sound_initial f (Trees.cond a b c d e) s n r q t at k z h = plain_found f (Trees.cond a b c d e) (plain (Trees.cond a b c d e) refl) s n r q t at k (texts_of (Trees.cond a b c d e)) (inl refl) z h
-    sound_initial f (Trees.assign a op b c) s n r q t at k z h = plain_found f (Trees.assign a op b c) (plain (Trees.assign a op b c) refl) s n r q t at k (texts_of (Trees.assign a op b c)) (inl refl) z h
-    sound_initial f (Trees.comma a b c) s n r q t at k z h = plain_found f (Trees.comma a b c) (plain (Trees.comma a b c) refl) s n r q t at k (texts_of (Trees.comma a b c)) (inl refl) z h
+    sound_initial f (Trees.name y) s n r q t at k z h =
+        plain_found f (Trees.name y) (plain (Trees.name y) refl) s n r q t at k (texts_of (Trees.name y)) (inl refl) z h
+    sound_initial f (Trees.number y v kind) s n r q t at k z h =
+        plain_found f (Trees.number y v kind) (plain (Trees.number y v kind) refl) s n r q t at k (texts_of (Trees.number y v kind)) (inl refl) z h
+    sound_initial f (Trees.character y v) s n r q t at k z h =
+        plain_found f (Trees.character y v) (plain (Trees.character y v) refl) s n r q t at k (texts_of (Trees.character y v)) (inl refl) z h
+    sound_initial f (Trees.texts ts) s n r q t at k z h =
+        plain_found f (Trees.texts ts) (plain (Trees.texts ts) refl) s n r q t at k (texts_of (Trees.texts ts)) (inl refl) z h
+    sound_initial f (Trees.paren b a c) s n r q t at k z h =
+        plain_found f (Trees.paren b a c) (plain (Trees.paren b a c) refl) s n r q t at k (texts_of (Trees.paren b a c)) (inl refl) z h
+    sound_initial f (Trees.index a b d c) s n r q t at k z h =
+        plain_found f (Trees.index a b d c) (plain (Trees.index a b d c) refl) s n r q t at k (texts_of (Trees.index a b d c)) (inl refl) z h
+    sound_initial f (Trees.call d b ds c) s n r q t at k z h =
+        plain_found f (Trees.call d b ds c) (plain (Trees.call d b ds c) refl) s n r q t at k (texts_of (Trees.call d b ds c)) (inl refl) z h
+    sound_initial f (Trees.dot a b y) s n r q t at k z h =
+        plain_found f (Trees.dot a b y) (plain (Trees.dot a b y) refl) s n r q t at k (texts_of (Trees.dot a b y)) (inl refl) z h
+    sound_initial f (Trees.arrow a b y) s n r q t at k z h =
+        plain_found f (Trees.arrow a b y) (plain (Trees.arrow a b y) refl) s n r q t at k (texts_of (Trees.arrow a b y)) (inl refl) z h
+    sound_initial f (Trees.post a op b) s n r q t at k z h =
+        plain_found f (Trees.post a op b) (plain (Trees.post a op b) refl) s n r q t at k (texts_of (Trees.post a op b)) (inl refl) z h
+    sound_initial f (Trees.pre op b a) s n r q t at k z h =
+        plain_found f (Trees.pre op b a) (plain (Trees.pre op b a) refl) s n r q t at k (texts_of (Trees.pre op b a)) (inl refl) z h
+    sound_initial f (Trees.unary op b a) s n r q t at k z h =
+        plain_found f (Trees.unary op b a) (plain (Trees.unary op b a) refl) s n r q t at k (texts_of (Trees.unary op b a)) (inl refl) z h
+    sound_initial f (Trees.sizeof_expression b a) s n r q t at k z h =
+        plain_found f (Trees.sizeof_expression b a) (plain (Trees.sizeof_expression b a) refl) s n r q t at k (texts_of (Trees.sizeof_expression b a))
+        (inl refl) z h
+    sound_initial f (Trees.sizeof_type b c m d) s n r q t at k z h =
+        plain_found f (Trees.sizeof_type b c m d) (plain (Trees.sizeof_type b c m d) refl) s n r q t at k (texts_of (Trees.sizeof_type b c m d)) (inl refl) z h
+    sound_initial f (Trees.cast b m c a) s n r q t at k z h =
+        plain_found f (Trees.cast b m c a) (plain (Trees.cast b m c a) refl) s n r q t at k (texts_of (Trees.cast b m c a)) (inl refl) z h
+    sound_initial f (Trees.binary a op b c) s n r q t at k z h =
+        plain_found f (Trees.binary a op b c) (plain (Trees.binary a op b c) refl) s n r q t at k (texts_of (Trees.binary a op b c)) (inl refl) z h
+    sound_initial f (Trees.cond a b c d e) s n r q t at k z h =
+        plain_found f (Trees.cond a b c d e) (plain (Trees.cond a b c d e) refl) s n r q t at k (texts_of (Trees.cond a b c d e)) (inl refl) z h
+    sound_initial f (Trees.assign a op b c) s n r q t at k z h =
+        plain_found f (Trees.assign a op b c) (plain (Trees.assign a op b c) refl) s n r q t at k (texts_of (Trees.assign a op b c)) (inl refl) z h
+    sound_initial f (Trees.comma a b c) s n r q t at k z h =
+        plain_found f (Trees.comma a b c) (plain (Trees.comma a b c) refl) s n r q t at k (texts_of (Trees.comma a b c)) (inl refl) z h
     sound_initial f (Trees.braces from all last to) s n r q void at k z h = cc
     sound_initial f (Trees.braces from all last to) s n r q (integer kind) at k z h =
         as_other s _ _ _ (λ s parts. IsOnePart all (integer kind) at s parts) _ _ _ _ _ z (sound_one f from all s n r q (integer kind) at refl z h)
-        (λ g l e i. inl (i.0, refl, i.1, i.2)) (λ g e o t h. h) (λ g e l h. h)
+        (λ g l e i. inl (i.0, refl, i.1, i.2, i.3)) (λ g e o t h. h) (λ g e l h. h)
     sound_initial f (Trees.braces from all last to) s n r q (pointer t) at k z h =
         as_other s _ _ _ (λ s parts. IsOnePart all (pointer t) at s parts) _ _ _ _ _ z (sound_one f from all s n r q (pointer t) at refl z h)
-        (λ g l e i. inl (i.0, refl, i.1, i.2)) (λ g e o t h. h) (λ g e l h. h)
+        (λ g l e i. inl (i.0, refl, i.1, i.2, i.3)) (λ g e o t h. h) (λ g e l h. h)
     sound_initial f (Trees.braces from all last to) s n r q (function t types) at k z h = cc
     sound_initial f (Trees.braces from all last to) s n r q (array u m) at k z h =
         let a = Trees.braces from all last to in

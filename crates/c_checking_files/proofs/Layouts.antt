@@ -1,9 +1,9 @@
 -- Where parts of objects lie, over a list of records that grows (C99 6.7.2.1).
-use Rattle.std.proofs.Common.{◌≡◌, ℕ, zero, suc, ◌+◌, ◌*◌, ◌≤◌, ◌<◌, Bool, true, false, refl, sym, ap, ◌∙◌, subst, List, [], ◌∷◌, ◌++◌, length}
-use Rattle.std.proofs.Common.{length-append, IsTrue, arith}
+use Rattle.std.proofs.Common.{◌≡◌, ℕ, zero, suc, ◌+◌, ◌≤◌, ◌<◌, true, refl, sym, ap, ◌∙◌, subst, List, [], ◌∷◌, length}
+use Rattle.std.proofs.Common.{length-append, arith}
 use Rattle.std.proofs.lemmas.Bool.{and_from, and_parts, lt-ltb, ltb-true}
 use Rattle.std.proofs.lemmas.Option.{slice_get_within, get_or_from_slice_get}
-use Rattle.std.specs.Prelude.{map, Option, Some, None, slice_get, nat_lt, ◌&&◌, IsSomeAnd}
+use Rattle.std.specs.Prelude.{map, Option, Some, None, slice_get, nat_lt, IsSomeAnd}
 use Rattle.std.specs.Option.{option_map}
 use Rattle.c_types.specs.Types.{CType, void, integer, pointer, array, function, structure, Field, Record, field_types}
 use Rattle.c_types.specs.Layouts.{size_of, offset_of}
@@ -42,7 +42,8 @@ object_stays {f} {g} p t h = object_more (length f.records) (length g.records) (
 pub size_stays : {f g : FileScope} → Extends f g → (t : CType) → is_object (length f.records) t ≡ true → size_of g.records t ≡ size_of f.records t
 size_stays {f} {g} p t h = ap (λ all. size_of all t) p.records.1 ∙ (layouts_stay f.records p.records.0).sizes t h
 
-pub offset_stays : {f g : FileScope} → Extends f g → (r k : ℕ) (rec : Record) → slice_get f.records r ≡ Some rec → offset_of g.records r k ≡ offset_of f.records r k
+pub offset_stays : {f g : FileScope} → Extends f g → (r k : ℕ) (rec : Record) → slice_get f.records r ≡ Some rec
+    → offset_of g.records r k ≡ offset_of f.records r k
 offset_stays {f} {g} p r k rec h =
     ap (λ all. offset_of all r k) p.records.1 ∙ (layouts_stay f.records p.records.0).offsets r k (slice_get_within f.records r rec h)
 

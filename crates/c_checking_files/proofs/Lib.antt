@@ -9,3 +9,13 @@ pub mod Locals
 pub mod LocalObjects
 pub mod StaticLocals
 pub mod Declarations
+pub mod StatementParts
+pub mod Labels
+pub mod StatementLaws
+pub mod Statements
+pub mod Bodies
+pub mod FileScopes
+pub mod FileObjects
+pub mod FileFunctions
+pub mod FileDeclarators
+pub mod FileObjectDeclarators

@@ -1,15 +1,13 @@
 -- What is found for the objects of a block and their initializers (C99 6.7, 6.7.8).
-use Rattle.std.proofs.Common.{◌≡◌, ℕ, zero, suc, ◌+◌, Bool, true, false, refl, sym, ap, ◌∙◌, subst, List, [], ◌∷◌, ◌++◌, length, append-nil, append_assoc, arith}
+use Rattle.std.proofs.Common.{◌≡◌, ℕ, true, false, refl, sym, subst, List, [], ◌∷◌, ◌++◌, length, append-nil}
 use Rattle.std.proofs.lemmas.List.Elements.{All-cons, All-nil, All-head, All-tail}
-use Rattle.std.proofs.lemmas.List.{map-append}
-use Rattle.std.specs.Prelude.{All, map, Option, Some, None, Ok, slice_get, slice_set}
+use Rattle.std.specs.Prelude.{All, map, Option, Some, None, Ok, slice_get}
 use Rattle.std.specs.Option.{option_map}
-use Rattle.c_types.specs.Limits.{AreComplete}
 use Rattle.c_types.specs.Types.{CType}
 use Rattle.c_types.specs.Objects.{is_object}
 use Rattle.c_ast.specs.declared.words.Spelling.{Spelling}
 use Rattle.c_ast.specs.Trees
-use Rattle.c_ast.specs.Places.{first, first_declarator}
+use Rattle.c_ast.specs.Places.{first}
 use Rattle.c_typed.specs.Trees as Typed
 use Rattle.c_typed.specs.InitialValues.{InitialValue, initial_value}
 use Rattle.c_typed.specs.Mapped.{of_types, mapped_value, mapped_part}
@@ -18,28 +16,26 @@ use Rattle.c_typed.specs.TypedStatements.{IsTypedPart, IsTypedValue, IsTypedInit
 use Rattle.c_erasure.specs.Erasure.{typed}
 use Rattle.c_erasure.specs.Initializers.{Part, HasConstant, AreConstants, IsInitializer}
 use Rattle.c_erasure.specs.Literals.{literals, literals_of_value}
-use Rattle.c_erasure.specs.Marks.{Mark, marks}
+use Rattle.c_erasure.specs.Marks.{marks}
 use Rattle.c_erasure.specs.MentionPlaces.{spoken_by_value, spoken}
 use Rattle.c_erasure.specs.Noted.{Noted, Expression}
-use Rattle.c_erasure.specs.Scopes.{FileScope, Scope, Bound, ALocal, AnObject, a_local, an_object, defines, with_name, declared}
-use Rattle.c_erasure.specs.Statements.{Statements, HasInitializer, HasConstants, IsStaticLocal, with_object, with_variable}
-use Rattle.c_checking.specs.Answers.{◌>>=◌, with_file, moved}
-use Rattle.c_checking.specs.Declaring as Files
+use Rattle.c_erasure.specs.Scopes.{FileScope, Scope, Bound, ALocal, with_name, declared}
+use Rattle.c_erasure.specs.Statements.{Statements, HasInitializer, HasConstants, with_variable}
+use Rattle.c_checking.specs.Answers.{moved}
 use Rattle.c_checking.specs.Initializers.{initializer, constants_in}
-use Rattle.c_checking.specs.Statements.{initial_if_any, constants_if_any, static_object, replaced_object, objects_in, with_static, declare_static, with_new_local}
+use Rattle.c_checking.specs.Statements.{initial_if_any, constants_if_any, with_new_local}
 use Rattle.c_checking.specs.Statements.{Performed, in_scope, declare_local}
 use Rattle.c_checking.proofs.Results.{bound_ok, given, with_file_ok}
 use Rattle.c_checking.proofs.Extends.{Extends, itself, further, kept, at_end}
-use Rattle.c_checking.proofs.Agreement.{IsFit, AreFit, BlocksAreFit, fits_stay, blocks_stay, one_more_fits, IsReady}
+use Rattle.c_checking.proofs.Agreement.{IsFit, BlocksAreFit, one_more_fits}
 use Rattle.c_checking.proofs.InRange.{IsInRange}
-use Rattle.c_checking.proofs.Adding.{Adds, adds_nothing, adds_then}
-use Rattle.c_checking_files.proofs.Layouts.{IsLaid, object_stays}
-use Rattle.c_checking_files.proofs.Parts.{Parted, none, is_made, NoneBegins}
+use Rattle.c_checking.proofs.Adding.{adds_nothing}
+use Rattle.c_checking_files.proofs.Layouts.{object_stays}
+use Rattle.c_checking_files.proofs.Parts.{Parted, none}
 use Rattle.c_checking_files.proofs.Initials.{ReadFrom}
-use Rattle.c_checking_files.proofs.Wholes.{typed_initial, FoundWhole, sound_whole, constants_are}
-use Rattle.c_checking_files.proofs.SameLocals.{with_locals}
-use Rattle.c_checking_files.proofs.Longer.{seen, GoesOn, goes_further, fits_longer, blocks_longer}
-use Rattle.c_checking_files.proofs.Scoped.{IsWithin, ready_for, AddsInside, inside_grows, within_moved, IsLater, KeepsConstants, FoundIn}
+use Rattle.c_checking_files.proofs.Wholes.{typed_initial, sound_whole, constants_are}
+use Rattle.c_checking_files.proofs.Longer.{seen, fits_longer, blocks_longer}
+use Rattle.c_checking_files.proofs.Scoped.{IsWithin, ready_for, AddsInside, inside_grows, within_moved, IsLater, FoundIn}
 
 -- the initializer of a declarator
 abbrev pub IsValueInRange : Option (ℕ × Trees.Expression) → Type 0
@@ -140,7 +136,8 @@ module _ (untagged : ℕ → List ℕ) (f : FileScope) where
   initial_in (Some value) s t n w o z h =
       let x = bound_ok (initializer value.1 s t) _ z h in
       let v = whole_in value.1 s t n w o x.0 x.1 in
-      given (λ (z : Option (Typed.Initializer Noted) × FileScope). FoundInitializer s (spoken value.1) (literals value.1) (IsInitialIn s t (Some value) z.0) z.1)
+      given (λ (z : Option (Typed.Initializer Noted) × FileScope). FoundInitializer s (spoken value.1) (literals value.1)
+      (IsInitialIn s t (Some value) z.0) z.1)
       (Some x.0.0, x.0.1) z x.2 (record {
         within = v.within;
         extends = v.extends;
@@ -183,10 +180,11 @@ module _ (untagged : ℕ → List ℕ) (f : FileScope) where
         holds = λ g l e.
             let b = v.holds g l e in
             let i = subst (λ i. IsInitializer value.1 (seen s g l) t i) k.0 b.0 in
-            let d = subst (λ i. IsTypedInitializer (declared (seen s g l)) t (typed_initial i)) k.0 b.1 in
-            (i,
-            constants_later (declared (moved s x.0.1)) (declared (seen s g l)) t z.0
-            (λ y u is_typed is. e.constants x.0.1 v.within.extends e.extends s l y u is_typed is) d k.1);
+            let d = subst (λ i. IsTypedInitializer (declared (seen s g l)) t (typed_initial i)) k.0 b.1 in (
+              i,
+              constants_later (declared (moved s x.0.1)) (declared (seen s g l)) t z.0
+                  (λ y u is_typed is. e.constants x.0.1 v.within.extends e.extends s l y u is_typed is) d k.1,
+            );
       })
     where
       moved_to : {g : FileScope} → g ≡ z.1 → FoundInitializer s (spoken value.1) (literals value.1) (AreConstantsIn s t (Some value) z.0) g
@@ -229,7 +227,8 @@ module _ (untagged : ℕ → List ℕ) (f : FileScope) where
       let i = bound_ok (in_scope b (initial_if_any d.value b t)) _ z h in
       let j = bound_ok (initial_if_any d.value b t) _ i.0 i.1 in
       let v = initial_in d.value b t n (new_within s x t w) o j.0 j.1 in
-      let r = given (λ (i : Option (Typed.Initializer Noted) × Scope). made_of i ≡ Ok z → FoundIn untagged f s (spoken_by_value d.value) (literals_of_value d.value)
+      let r = given (λ (i : Option (Typed.Initializer Noted) × Scope). made_of i ≡ Ok z
+      → FoundIn untagged f s (spoken_by_value d.value) (literals_of_value d.value)
       (IsDeclared s d x t z.0 z.1) (all_declared_by z.0) z.1) (j.0.0, moved b j.0.1) i.0 j.2
       (λ h. given (λ (z : Statements × Scope). FoundIn untagged f s (spoken_by_value d.value) (literals_of_value d.value) (IsDeclared s d x t z.0 z.1)
       (all_declared_by z.0) z.1) (Typed.and_statement (Typed.declare (length s.locals) j.0.0) Typed.no_statements, moved b j.0.1) z h (record {
@@ -248,7 +247,8 @@ module _ (untagged : ℕ → List ℕ) (f : FileScope) where
               initial = j.0.0;
               all_is = refl;
               local = subst (λ l. slice_get l (length s.locals) ≡ Some (record { name = x.text; ty = t })) (sym e.locals.1)
-                  (kept (s.locals ++ record { name = x.text; ty = t } ∷ []) e.locals.0 (length s.locals) _ (at_end s.locals (record { name = x.text; ty = t })));
+                  (kept (s.locals ++ record { name = x.text; ty = t } ∷ []) e.locals.0 (length s.locals) _
+                  (at_end s.locals (record { name = x.text; ty = t })));
               initializer = m.0;
               after_is = refl;
               complete = object_stays (further v.extends e.extends) t o;

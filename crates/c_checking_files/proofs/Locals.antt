@@ -1,6 +1,6 @@
 -- What is found for declarations in blocks (C99 6.7).
-use Rattle.std.proofs.Common.{◌≡◌, ◌≢◌, ℕ, zero, suc, ◌+◌, ◌≤◌, Bool, true, false, refl, sym, ap, ◌∙◌, subst, List, [], ◌∷◌, ◌++◌, length, append-nil}
-use Rattle.std.proofs.Common.{append_assoc, length-append, arith, inl, inr, cond}
+use Rattle.std.proofs.Common.{◌≡◌, ℕ, zero, suc, ◌≤◌, Bool, true, false, refl, sym, ◌∙◌, subst, List, [], ◌∷◌, length, append-nil}
+use Rattle.std.proofs.Common.{arith, cond}
 use Rattle.std.proofs.lemmas.Bool.{and_parts, leb-true}
 use Rattle.std.specs.Prelude.{◌⊎◌, map, Option, Some, None, Ok, slice_get, slice_set, nat_le, ◌&&◌}
 use Rattle.c_types.specs.Types.{CType, array, Record}
@@ -10,33 +10,29 @@ use Rattle.c_ast.specs.declared.words.Spelling.{Spelling}
 use Rattle.c_ast.specs.Trees
 use Rattle.c_ast.specs.Places.{first, first_declarator}
 use Rattle.c_typed.specs.declared.program.MentionKind.TheVariants.{Object}
-use Rattle.c_typed.specs.Trees as Typed
 use Rattle.c_typed.specs.Conversions.{is_function}
 use Rattle.c_erasure.specs.Declarators.{declared_name, Shape, closed, open_array, IsSmall}
-use Rattle.c_erasure.specs.Erasure.{Declares, IsNew}
 use Rattle.c_erasure.specs.Initializers.{texts_of, length_of}
-use Rattle.c_erasure.specs.Marks.{Mark, marks_of_declarator}
+use Rattle.c_erasure.specs.Marks.{marks_of_declarator}
 use Rattle.c_erasure.specs.MentionPlaces.{spoken_of_declarator}
-use Rattle.c_erasure.specs.Scopes.{FileScope, Scope, Bound, ALocal, here, ended, IsMentioned}
+use Rattle.c_erasure.specs.Scopes.{FileScope, Scope, ALocal, ended}
 use Rattle.c_erasure.specs.Statements.{IsSized, IsVariable}
-use Rattle.c_checking.specs.Answers.{◌>>=◌, with_file, moved}
-use Rattle.c_checking.specs.Declaring.{with_mention, mentions_in, Derivation, derived, is_small, small, object_at, new_here}
+use Rattle.c_checking.specs.Answers.{moved}
+use Rattle.c_checking.specs.Declaring.{with_mention, mentions_in, derived, is_small, small, object_at}
 use Rattle.c_checking.specs.Finding.{complete, derivations}
 use Rattle.c_checking.specs.Nodes.{is_complete}
 use Rattle.c_checking.specs.Statements.{counted_array, sized_in, variable_type, variable_of}
 use Rattle.c_checking.proofs.Results.{bound_ok, bound_with, given, only_if, chosen}
 use Rattle.c_checking.proofs.Extends.{Extends, itself, further}
-use Rattle.c_checking.proofs.Agreement.{Ready, IsGrown, Grew}
 use Rattle.c_checking.proofs.InRange.{IsDeclaratorInRange}
 use Rattle.c_checking.proofs.NodesOfParts.{complete_is}
 use Rattle.c_checking.proofs.Declared.{mentioned, is_mentioned, before_mention, new_is}
-use Rattle.c_checking.proofs.Adding.{Adds, Grows, mention_before}
-use Rattle.c_checking.proofs.FoundTypes.{FoundSteps}
+use Rattle.c_checking.proofs.Adding.{mention_before}
 use Rattle.c_checking.proofs.Sound.{sound_steps}
 use Rattle.c_checking.proofs.Growth.{grow_steps}
 use Rattle.c_checking_files.proofs.Layouts.{object_stays, size_stays}
 use Rattle.c_checking_files.proofs.SameLocals.{with_locals, same_derivations}
-use Rattle.c_checking_files.proofs.Longer.{seen, GoesOn, goes_further, fits_longer, blocks_longer}
+use Rattle.c_checking_files.proofs.Longer.{seen, GoesOn}
 use Rattle.c_checking_files.proofs.Scoped.{IsWithin, ready_for, AddsInside, inside_grows, within_moved}
 
 -- ---- types of objects
@@ -51,7 +47,7 @@ small_so records at t u h =
     only_small true h = (refl, given (λ u. t ≡ u) t u h refl)
     only_small false h = cc
 
-abbrev IsSizedOver : List Record → Shape → Option (ℕ × Trees.Expression) → CType → Type 0
+abbrev pub IsSizedOver : List Record → Shape → Option (ℕ × Trees.Expression) → CType → Type 0
 IsSizedOver records (closed u) value t = t ≡ u
 IsSizedOver records (open_array u) None t = ⊥
 IsSizedOver records (open_array u) (Some value) t = (t ≡ array u (length_of u (texts_of value.1) value.1)) × (1 ≤ length_of u (texts_of value.1) value.1)
@@ -122,12 +118,14 @@ module _ (untagged : ℕ → List ℕ) (f : FileScope) where
         holds = λ g l e p.
             let b = before_mention s steps.0.1 g (mentions_in s.file) Object v.0 at e in
             let same : derivations d.declarator (with_locals l s) ≡ Ok steps.0 = same_derivations l d.declarator s ∙ steps.1 in
-            let made = sound_steps untagged d.declarator (with_locals l s) n (ready_for w l p u) steps.0 same in
-            (shape.0, name,
-            made.holds g b steps.0.1.records b.records.0 b.records.1 base shape.0 shape.1,
-            sized_later b (seen s g l) refl shape.0 d.value v.0 c.1
-            (subst (IsSizedOver steps.0.1.records shape.0 d.value) c.2 (sized_so steps.0.1.records x.from shape.0 d.value t.0 t.1)),
-            subst (λ ends. is_object (ended ends x.from) v.0 ≡ true) (sym (further own.grew.extends b).ends) c.0,
-            k.0,
-            is_mentioned (with_locals l s) steps.0.1 g (mentions_in s.file) Object v.0 at e);
+            let made = sound_steps untagged d.declarator (with_locals l s) n (ready_for w l p u) steps.0 same in (
+              shape.0,
+              name,
+              made.holds g b steps.0.1.records b.records.0 b.records.1 base shape.0 shape.1,
+              sized_later b (seen s g l) refl shape.0 d.value v.0 c.1
+                  (subst (IsSizedOver steps.0.1.records shape.0 d.value) c.2 (sized_so steps.0.1.records x.from shape.0 d.value t.0 t.1)),
+              subst (λ ends. is_object (ended ends x.from) v.0 ≡ true) (sym (further own.grew.extends b).ends) c.0,
+              k.0,
+              is_mentioned (with_locals l s) steps.0.1 g (mentions_in s.file) Object v.0 at e,
+            );
       })

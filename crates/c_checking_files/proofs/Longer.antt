@@ -1,11 +1,10 @@
 -- A scope as the whole function sees it: in a later file, with all locals.
-use Rattle.std.proofs.Common.{◌≡◌, ℕ, zero, suc, Bool, refl, sym, ap, ◌∙◌, subst, List, [], ◌∷◌, ◌++◌, append_assoc}
+use Rattle.std.proofs.Common.{◌≡◌, ℕ, zero, suc, Bool, sym, ap, ◌∙◌, subst, List, [], ◌∷◌, ◌++◌, append_assoc}
 use Rattle.std.specs.Prelude.{map, Some, slice_get}
-use Rattle.c_types.specs.Types.{CType}
 use Rattle.c_erasure.specs.Marks.{Mark}
-use Rattle.c_erasure.specs.Scopes.{FileScope, Scope, Bound, ALocal, Entity, typedef, enumerator, an_object, a_function, a_library_function, a_local, a_parameter}
-use Rattle.c_checking.proofs.Agreement.{IsFit, AreFit, BlocksAreFit, IsReady, Ready}
-use Rattle.c_checking_files.proofs.SameLocals.{with_locals}
+use Rattle.c_erasure.specs.Scopes.{FileScope, Scope, Bound, ALocal, Entity, typedef, enumerator, an_object, a_function, a_library_function, a_local}
+use Rattle.c_erasure.specs.Scopes.{a_parameter}
+use Rattle.c_checking.proofs.Agreement.{IsFit, AreFit, BlocksAreFit, IsReady}
 
 -- in a later file, with all locals
 abbrev pub seen : Scope → FileScope → List ALocal → Scope

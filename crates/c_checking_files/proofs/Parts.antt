@@ -1,32 +1,29 @@
 -- Parts of initializers: their types, their order, and the values of one part (C99 6.7.8).
 use Rattle.std.proofs.Common.{◌≡◌, ◌≢◌, ℕ, zero, suc, ◌+◌, ◌≤◌, ◌<◌, Bool, true, false, refl, sym, ap, ◌∙◌, subst, List, [], ◌∷◌, ◌++◌, length}
-use Rattle.std.proofs.Common.{append-nil, append_assoc, length-append, arith, inl, inr, cond, take}
-use Rattle.std.proofs.lemmas.Bool.{and_parts, leb-true, eqb-true}
+use Rattle.std.proofs.Common.{append_assoc, length-append, arith, inl, inr, take}
+use Rattle.std.proofs.lemmas.Bool.{leb-true, eqb-true}
 use Rattle.std.proofs.lemmas.List.Elements.{All-cons, All-nil}
-use Rattle.std.specs.Prelude.{◌⊎◌, All, map, Option, Some, None, Ok, ◌==◌, nat_le, is_some}
+use Rattle.std.specs.Prelude.{◌⊎◌, All, map, Option, Some, None, Ok, ◌==◌, nat_le}
 use Rattle.c_types.specs.declared.ty.IntKind.{IntKind}
 use Rattle.c_types.specs.Types.{CType, void, integer, pointer, array, function, structure}
 use Rattle.c_types.specs.IntKinds.{width}
-use Rattle.c_types.specs.Layouts.{size_of}
 use Rattle.c_types.specs.Sameness.{same_type}
 use Rattle.c_types.proofs.SameTypes.{same_is}
 use Rattle.c_lexer.specs.QuotedScan.{string_bytes}
 use Rattle.c_ast.specs.declared.words.Spelling.{Spelling}
-use Rattle.c_ast.specs.Places.{first_text}
 use Rattle.c_typed.specs.Trees as Typed
-use Rattle.c_typed.specs.Conversions.{is_scalar}
 use Rattle.c_typed.specs.Fits.{assigns}
 use Rattle.c_typed.specs.Mapped.{of_types, mapped_value, mapped_part}
-use Rattle.c_typed.specs.Typed.{Declared, IsTyped, IsTypedPath, IsConverted}
+use Rattle.c_typed.specs.Typed.{Declared, IsTyped, IsConverted}
 use Rattle.c_typed.specs.TypedStatements.{IsTypedValue, AreRising}
 use Rattle.c_erasure.specs.Erasure.{typed, literal_of, Values}
 use Rattle.c_erasure.specs.Initializers.{Part, part_at, IsTextOf, is_character}
 use Rattle.c_erasure.specs.Noted.{Noted, Expression, Thing, an_object, a_value, a_function, a_function_at, a_library_function, type_of, type_of_path}
-use Rattle.c_erasure.specs.Scopes.{AnObject, FileScope, Scope, declared}
-use Rattle.c_checking.specs.Nodes.{null, converted}
+use Rattle.c_erasure.specs.Scopes.{FileScope, Scope, declared}
+use Rattle.c_checking.specs.Nodes.{null}
 use Rattle.c_checking.specs.Initializers.{initial_value_in, initial_record_in, bytes_in, text_of_array, text_part}
 use Rattle.c_checking.proofs.Results.{bound_ok, given, only_if, chosen}
-use Rattle.c_checking.proofs.Values.{IsValue, Stands, operand, path_type_same, typed_path}
+use Rattle.c_checking.proofs.Values.{IsValue, operand}
 
 -- ---- parts in their order, from one byte to another
 
@@ -77,7 +74,8 @@ over_within P Q d [] into h = tt
 over_within P Q d (part ∷ more) into h = ((h.0.0, into part.offset h.0.0 h.0.1, h.0.2), over_within P Q d more into h.1)
 
 pub all_over : (P : ℕ → CType → Type 0) (d : Declared) (parts : List Part) (Q : Typed.Part CType → Type 0)
-    → ((part : Part) (u : CType) → P part.offset u → IsTypedValue d u (mapped_value (of_types (λ t. t.ty)) part.value) → Q (mapped_part (of_types (λ t. t.ty)) part))
+    → ((part : Part) (u : CType) → P part.offset u → IsTypedValue d u (mapped_value (of_types (λ t. t.ty)) part.value)
+    → Q (mapped_part (of_types (λ t. t.ty)) part))
     → AreOver P d parts → All Q (typed_parts parts)
 all_over P d [] Q into h = All-nil Q
 all_over P d (part ∷ more) Q into h =

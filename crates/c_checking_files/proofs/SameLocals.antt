@@ -2,38 +2,35 @@
 use Rattle.std.proofs.Common.{◌≡◌, Bool, refl, ap, ◌∙◌}
 use Rattle.c_erasure.specs.Scopes.{tag_at}
 use Rattle.c_checking.specs.Declaring.{literal_for, tagged}
-use Rattle.std.specs.Prelude.{ℕ, ◌+◌, ◌%◌, ◌^◌, true, false, if◌then◌else◌, List, [], ◌∷◌, ◌++◌, Option, Some, None, Ok}
+use Rattle.std.specs.Prelude.{ℕ, ◌+◌, ◌%◌, ◌^◌, true, false, if◌then◌else◌, List, ◌∷◌, ◌++◌, Option, Some, None, Ok}
 use Rattle.lay_base.specs.declared.faults.Rule.TheVariants as R
 use Rattle.lay_base.specs.declared.place.Place.{Place}
-use Rattle.c_types.specs.declared.ty.IntKind.{IntKind}
-use Rattle.c_types.specs.declared.ty.IntKind.TheVariants.{Int}
-use Rattle.c_types.specs.Types.{CType, CTypes, integer, no_types, and_type, Field}
+use Rattle.c_types.specs.Types.{CType, CTypes, no_types, and_type}
 use Rattle.c_ast.specs.declared.words.Spelling.{Spelling}
 use Rattle.c_ast.specs.declared.operators.UnaryOp.{UnaryOp}
 use Rattle.c_ast.specs.declared.operators.UnaryOp.TheVariants as U
 use Rattle.c_ast.specs.Trees
 use Rattle.c_ast.specs.Places.{first, first_specifiers, first_declarator}
-use Rattle.c_typed.specs.declared.operators.UnaryOp.TheVariants as TU
-use Rattle.c_typed.specs.declared.operators.BinaryOp.{BinaryOp}
 use Rattle.c_typed.specs.declared.program.MentionKind.TheVariants.{Named, Sizeof}
 use Rattle.c_typed.specs.Trees as Typed
 use Rattle.c_erasure.specs.Broken.{member_names, tag_place}
 use Rattle.c_erasure.specs.Declarators.{declared_name, parameter_type}
 use Rattle.c_erasure.specs.Erasure.{place_in, literal_of, tag_text, comma_or, after_all, with_parameter_if_named}
-use Rattle.c_erasure.specs.Noted.{Noted, nothing, Expression, Thing, a_value}
+use Rattle.c_erasure.specs.Noted.{Thing}
 use Rattle.c_erasure.specs.Operators.{kind_of, update_of, step_of}
-use Rattle.c_erasure.specs.Scopes.{ALocal, FileScope, Scope, Purpose, in_full, value_alone, type_alone, inside, measured, for_value, named, ended, defines, enumerator}
+use Rattle.c_erasure.specs.Scopes.{ALocal, Scope, Purpose, in_full, value_alone, type_alone, inside, measured, for_value, defines, enumerator}
 use Rattle.c_erasure.specs.Specifiers.{storage_of}
 use Rattle.c_checking.specs.Answers.{Answer, ◌>>=◌, refused, Checked, with_file, moved}
-use Rattle.c_checking.specs.Nodes.{worth, named_in, array_of, element_in, index_in, signature_in, argument_in, call_in, dot_in, arrow_in, step_in}
-use Rattle.c_checking.specs.Nodes.{address_in, deref_in, unary_in, not_in, size_node, sized_type, measured_in, cast_in, binary_in, tested, chosen_in}
-use Rattle.c_checking.specs.Nodes.{Target, scalar_at, record_at, path_of, target_in, assigned_in, copied_in, updated_in, comma_in}
-use Rattle.c_checking.specs.Declaring.{with_mention, mentions_in, literal_in, constant_in, tagged_in, enumerated_in, type_named, known_tag, definable}
-use Rattle.c_checking.specs.Declaring.{unless, completed_in, enumerator_in, int_value, next_value, enumeration_of, Derivation, to_pointer, to_array}
-use Rattle.c_checking.specs.Declaring.{to_open_array, to_function, derived, length_value, closed_at, object_at, Base, by_words, by_one, no_type, base_kind}
+use Rattle.c_checking.specs.Nodes.{array_of, signature_in, argument_in, call_in, dot_in, arrow_in, step_in}
+use Rattle.c_checking.specs.Nodes.{size_node, sized_type, measured_in, cast_in, binary_in, chosen_in}
+use Rattle.c_checking.specs.Nodes.{target_in, comma_in}
+use Rattle.c_checking.specs.Declaring.{with_mention, mentions_in, literal_in, tagged_in, known_tag, definable}
+use Rattle.c_checking.specs.Declaring.{unless, completed_in, enumerator_in, int_value, enumeration_of, Derivation, to_pointer, to_array}
+use Rattle.c_checking.specs.Declaring.{to_function, derived, length_value, object_at, base_kind}
 use Rattle.c_checking.specs.Declaring.{without_storage, parameter_storage, new_if_named, scalar_parameter}
-use Rattle.c_checking.specs.Finding.{complete, value_at, tested_at, on_value, unary_on, constant_at, type_of_derived, subscripted, assigned, base_type, with_member}
-use Rattle.c_checking.specs.Finding.{find, arguments, type_name, one_of, specified, members, member_declarators, enumerators, enumerator_value, derivations, array_step, parameter_list, parameters}
+use Rattle.c_checking.specs.Finding.{complete, value_at, tested_at, unary_on, constant_at, type_of_derived, subscripted, assigned, base_type, with_member}
+use Rattle.c_checking.specs.Finding.{find, arguments, type_name, one_of, specified, members, member_declarators, enumerators, enumerator_value}
+use Rattle.c_checking.specs.Finding.{derivations, array_step, parameter_list, parameters}
 
 module _ (l : List ALocal) where
   -- the scope with those locals
@@ -58,7 +55,8 @@ module _ (l : List ALocal) where
       by_tag (Some false) = refl
       by_tag None = refl
 
-  definable_locals : (s : Scope) (at : ℕ) (x : Option Spelling) → definable (with_locals s) at x (known_tag (with_locals s) x) ≡ definable s at x (known_tag s x)
+  definable_locals : (s : Scope) (at : ℕ) (x : Option Spelling)
+      → definable (with_locals s) at x (known_tag (with_locals s) x) ≡ definable s at x (known_tag s x)
   definable_locals s at None = refl
   definable_locals s at (Some x) = by_tag (tag_at s.file.tags x.text x.from)
     where
@@ -95,22 +93,27 @@ module _ (l : List ALocal) where
     same_find (Trees.paren left a right) s = λ i. same_find a s i
     same_find (Trees.index a left b right) s = λ i. same_find a s i >>= λ x. subscripted (complete s (first a)) (first a) left (place_in s (first a)) x.0 x.1
         (λ f. value_at (first b) (same_find b (moved s f) i)) (array_of x.0)
-    same_find (Trees.call g left all right) s = λ i. same_find g s i >>= λ x. with_file x.1 (signature_in (first g) x.0) >>= λ t. same_arguments right t.0.0 all (moved s t.1) i
+    same_find (Trees.call g left all right) s =
+        λ i. same_find g s i >>= λ x. with_file x.1 (signature_in (first g) x.0) >>= λ t. same_arguments right t.0.0 all (moved s t.1) i
         >>= λ xs. with_file xs.1 (call_in (place_in s (first g)) x.0 t.0.1 xs.0)
     same_find (Trees.dot a at x) s = λ i. same_find a s i >>= λ p. with_file p.1 (dot_in p.1.records (complete s at) x.from (place_in s (first a)) p.0 x.text)
     same_find (Trees.arrow a at x) s = λ i. value_at (first a) (same_find a s i)
         >>= λ e. with_file e.1 (arrow_in e.1.records (complete s (first a)) x.from (place_in s (first a)) e.0 x.text)
-    same_find (Trees.post a op at) s = λ i. same_find a s i >>= λ p. with_file p.1 (step_in (complete s (first a)) (first a) at (place_in s (first a)) (step_of op) false p.0)
+    same_find (Trees.post a op at) s =
+        λ i. same_find a s i >>= λ p. with_file p.1 (step_in (complete s (first a)) (first a) at (place_in s (first a)) (step_of op) false p.0)
     same_find (Trees.pre op at a) s = λ i. same_find a s i >>= λ p. with_file p.1 (step_in (complete s at) (first a) at (place_in s at) (step_of op) true p.0)
-    same_find (Trees.unary op at a) s = unary_locals op (complete s at) (first a) at s (find a (with_locals s)) ∙ (λ i. unary_on op (complete s at) (first a) at s (same_find a s i))
+    same_find (Trees.unary op at a) s =
+        unary_locals op (complete s at) (first a) at s (find a (with_locals s)) ∙ (λ i. unary_on op (complete s at) (first a) at s (same_find a s i))
     same_find (Trees.sizeof_expression at a) s = λ i. same_find a (measured s) i >>= λ x. with_file x.1 (measured_in x.1.records (complete s at) at x.0)
         >>= λ t. Ok (size_node t.1.records (place_in s at) t.0, with_mention s (mentions_in t.1) Sizeof t.0 at t.1)
     same_find (Trees.sizeof_type at left n right) s = λ i. same_type_name n s i >>= λ n. with_file n.1 (sized_type n.1.records (complete s right) at n.0)
         >>= λ t. Ok (size_node t.1.records (place_in s at) t.0, with_mention s (mentions_in s.file) Sizeof t.0 at t.1)
-    same_find (Trees.cast left n right a) s = λ i. same_type_name n s i >>= λ t. value_at (first a) (same_find a (moved s t.1) i) >>= λ x. with_file x.1 (cast_in (place_in s left) t.0 x.0)
+    same_find (Trees.cast left n right a) s =
+        λ i. same_type_name n s i >>= λ t. value_at (first a) (same_find a (moved s t.1) i) >>= λ x. with_file x.1 (cast_in (place_in s left) t.0 x.0)
     same_find (Trees.binary a op at b) s = λ i. value_at (first a) (same_find a s i) >>= λ x. value_at (first b) (same_find b (moved s x.1) i)
         >>= λ y. with_file y.1 (binary_in (complete s (first a)) at (place_in s (first a)) (kind_of op) x.0 y.0)
-    same_find (Trees.cond a question b colon c) s = λ i. tested_at question (value_at (first a) (same_find a s i)) >>= λ x. value_at (first b) (same_find b (moved s x.1) i)
+    same_find (Trees.cond a question b colon c) s =
+        λ i. tested_at question (value_at (first a) (same_find a s i)) >>= λ x. value_at (first b) (same_find b (moved s x.1) i)
         >>= λ y. value_at (first c) (same_find c (moved s y.1) i) >>= λ z. with_file z.1 (chosen_in colon (place_in s (first a)) x.0 y.0 z.0)
     same_find (Trees.assign a op at b) s = λ i. same_find a s i >>= λ p. with_file p.1 (target_in (first a) p.0)
         >>= λ t. assigned (complete s (first a)) at (first b) (place_in s (first a)) t.0 t.1 (λ f. same_find b (moved s f) i) (update_of op)
@@ -123,11 +126,14 @@ module _ (l : List ALocal) where
     same_arguments right (and_type t more) Trees.no_arguments s = refl
     same_arguments right no_types (Trees.and_argument comma a rest) s = refl
     same_arguments right (and_type t more) (Trees.and_argument comma a rest) s = λ i. value_at (first a) (same_find a s i)
-        >>= λ x. with_file x.1 (argument_in (first a) t x.0) >>= λ y. same_arguments right more rest (moved s y.1) i >>= λ ys. Ok (Typed.and_expression y.0 ys.0, ys.1)
+        >>= λ x. with_file x.1 (argument_in (first a) t x.0) >>= λ y. same_arguments right more rest (moved s y.1) i >>= λ ys. Ok
+        (Typed.and_expression y.0 ys.0, ys.1)
 
     pub same_type_name : (n : Trees.TypeName) (s : Scope) → type_name n (with_locals s) ≡ type_name n s
-    same_type_name (Trees.type_name specs d) s = λ i. without_storage (first_specifiers specs) (storage_of specs) (base_type (base_kind specs) (first_specifiers specs) s.file (same_one_of specs s i))
-        >>= λ b. same_derivations d (moved s b.1) i >>= λ steps. with_file steps.1 (type_of_derived (first_declarator d (first_specifiers specs)) steps.1 steps.0 b.0)
+    same_type_name (Trees.type_name specs d) s =
+        λ i. without_storage (first_specifiers specs) (storage_of specs) (base_type (base_kind specs) (first_specifiers specs) s.file (same_one_of specs s i))
+        >>= λ b. same_derivations d (moved s b.1) i >>= λ steps. with_file steps.1
+        (type_of_derived (first_declarator d (first_specifiers specs)) steps.1 steps.0 b.0)
         >>= λ t. Ok (t.0, with_mention s (mentions_in b.1) Named t.0 (first_declarator d (first_specifiers specs)) t.1)
 
     pub same_one_of : (x : Trees.Specifiers) (s : Scope) → one_of x (with_locals s) ≡ one_of x s
@@ -143,7 +149,8 @@ module _ (l : List ALocal) where
     same_specified (Trees.plain word at) s = refl
     same_specified (Trees.typename x) s = refl
     same_specified (Trees.struct_named at x) s = λ i. with_file s.file (tagged_locals s at x i)
-    same_specified (Trees.struct_body at x left all right) s = λ i. if s.is_inside then refused R.Scope at else unless (definable_locals s at x i) (same_members all s i
+    same_specified (Trees.struct_body at x left all right) s =
+        λ i. if s.is_inside then refused R.Scope at else unless (definable_locals s at x i) (same_members all s i
         >>= λ m. completed_in m.1 (tag_place at x) (member_names all) (record { tag = tag_text s at x; place = place_in s at; fields = m.0 }))
     same_specified (Trees.enum_named at x) s = refl
     same_specified (Trees.enum_body at x left all comma right) s = λ i. if s.is_inside then refused R.Scope at
@@ -151,11 +158,13 @@ module _ (l : List ALocal) where
 
     pub same_members : (a : Trees.MemberDeclarations) (s : Scope) → members a (with_locals s) ≡ members a s
     same_members Trees.no_member_declarations s = refl
-    same_members (Trees.and_member_declaration specs ds semicolon more) s = λ i. without_storage (first_specifiers specs) (storage_of specs) (base_type (base_kind specs) (first_specifiers specs) s.file (same_one_of specs s i))
-        >>= λ b. same_member_declarators ds b.0 semicolon (moved s b.1) i >>= λ own. same_members more (moved s own.1) i >>= λ rest. Ok (own.0 ++ rest.0, rest.1)
+    same_members (Trees.and_member_declaration specs ds semicolon more) s =
+        λ i. without_storage (first_specifiers specs) (storage_of specs) (base_type (base_kind specs) (first_specifiers specs) s.file (same_one_of specs s i))
+        >>= λ b. same_member_declarators ds b.0 semicolon (moved s b.1) i >>= λ own. same_members more (moved s own.1) i >>= λ rest. Ok
+        (own.0 ++ rest.0, rest.1)
 
     pub same_member_declarators : (a : Trees.MemberDeclarators) (base : CType) (semicolon : ℕ) (s : Scope)
-      → member_declarators a base semicolon (with_locals s) ≡ member_declarators a base semicolon s
+        → member_declarators a base semicolon (with_locals s) ≡ member_declarators a base semicolon s
     same_member_declarators Trees.no_member_declarators base semicolon s = refl
     same_member_declarators (Trees.and_member_declarator comma d more) base semicolon s = λ i. same_derivations d s i
         >>= λ steps. with_file steps.1 (type_of_derived (first_declarator d semicolon) steps.1 steps.0 base)
@@ -169,7 +178,8 @@ module _ (l : List ALocal) where
         >>= λ v. enumerator_in v.1 (record { name = x.text; place = x.from; from = comma_or more after; how = defines; entity = enumerator v.0 })
         >>= λ f. same_enumerators more (moved s f) ((v.0 + 1) % 2 ^ 32) after i
 
-    pub same_enumerator_value : (a : Trees.EnumeratorValue) (s : Scope) (at next : ℕ) → enumerator_value a (with_locals s) at next ≡ enumerator_value a s at next
+    pub same_enumerator_value : (a : Trees.EnumeratorValue) (s : Scope) (at next : ℕ)
+        → enumerator_value a (with_locals s) at next ≡ enumerator_value a s at next
     same_enumerator_value Trees.no_value s at next = refl
     same_enumerator_value (Trees.valued equal a) s at next = λ i. constant_at (first a) (value_at (first a) (same_find a (for_value s) i))
         >>= λ c. with_file c.1 (int_value (first a) c.0)
@@ -179,11 +189,13 @@ module _ (l : List ALocal) where
     same_derivations (Trees.named x) s = refl
     same_derivations (Trees.pointer at consts d) s = λ i. same_derivations d s i >>= λ steps. Ok (to_pointer at ∷ steps.0, steps.1)
     same_derivations (Trees.enclosed left d right) s = λ i. same_derivations d s i
-    same_derivations (Trees.array d left number right) s = λ i. same_derivations d s i >>= λ steps. same_array_step number left (complete s left) steps.0 (moved s steps.1) i
+    same_derivations (Trees.array d left number right) s =
+        λ i. same_derivations d s i >>= λ steps. same_array_step number left (complete s left) steps.0 (moved s steps.1) i
     same_derivations (Trees.function d left all right) s = λ i. same_derivations d s i >>= λ steps. same_parameter_list all (inside (moved s steps.1)) i
         >>= λ types. Ok (to_function left types.0 ∷ steps.0, types.1)
 
-    pub same_array_step : (n : Trees.OptionalExpression) (left count : ℕ) (steps : List Derivation) (s : Scope) → array_step n left count steps (with_locals s) ≡ array_step n left count steps s
+    pub same_array_step : (n : Trees.OptionalExpression) (left count : ℕ) (steps : List Derivation) (s : Scope)
+        → array_step n left count steps (with_locals s) ≡ array_step n left count steps s
     same_array_step Trees.no_expression left count steps s = refl
     same_array_step (Trees.some_expression a) left count steps s = λ i. constant_at (first a) (value_at (first a) (same_find a (for_value s) i))
         >>= λ c. with_file c.1 (length_value (first a) c.0) >>= λ n. Ok (to_array count left n.0 ∷ steps, n.1)
@@ -194,9 +206,14 @@ module _ (l : List ALocal) where
 
     pub same_parameters : (a : Trees.Parameters) (s : Scope) → parameters a (with_locals s) ≡ parameters a s
     same_parameters Trees.no_parameters s = refl
-    same_parameters (Trees.and_parameter comma specs d more) s = λ i. parameter_storage (first_specifiers specs) (storage_of specs) (base_type (base_kind specs) (first_specifiers specs) s.file (same_one_of specs s i))
+    same_parameters (Trees.and_parameter comma specs d more) s =
+        λ i. parameter_storage (first_specifiers specs) (storage_of specs) (base_type (base_kind specs) (first_specifiers specs) s.file (same_one_of specs s i))
         >>= λ b. same_derivations d (moved s b.1) i >>= λ steps. with_file steps.1 (derived steps.1.records steps.0 b.0)
-        >>= λ shape. new_locals s (declared_name d) (with_file shape.1 (scalar_parameter (first_declarator d (first_specifiers specs)) (parameter_type shape.0))) i
-        >>= λ t. (ap (parameters more) (parameter_locals (moved s (with_mention s (mentions_in b.1) Named t.0 (first_declarator d (first_specifiers specs)) t.1)) (declared_name d) t.0) ∙ same_parameters more (with_parameter_if_named (moved s (with_mention s (mentions_in b.1) Named t.0 (first_declarator d (first_specifiers specs)) t.1))
+        >>= λ shape. new_locals s (declared_name d)
+        (with_file shape.1 (scalar_parameter (first_declarator d (first_specifiers specs)) (parameter_type shape.0))) i
+        >>= λ t. (ap (parameters more) (parameter_locals
+        (moved s (with_mention s (mentions_in b.1) Named t.0 (first_declarator d (first_specifiers specs)) t.1))
+        (declared_name d) t.0) ∙ same_parameters more
+        (with_parameter_if_named (moved s (with_mention s (mentions_in b.1) Named t.0 (first_declarator d (first_specifiers specs)) t.1))
         (declared_name d) t.0)) i
         >>= λ rest. Ok (and_type t.0 rest.0, rest.1)

@@ -1,32 +1,30 @@
 -- What is found inside of a function, in each file that goes on from the one that finding leaves and with each longer list of locals.
 use Rattle.std.proofs.Common.{◌≡◌, ℕ, zero, suc, ◌+◌, Bool, true, false, refl, sym, ap, ◌∙◌, subst, List, [], ◌∷◌, ◌++◌, length, append-nil, append_assoc}
 use Rattle.std.proofs.Common.{length-append, arith}
-use Rattle.std.specs.Prelude.{map, Option, Some, None, Ok, slice_get}
+use Rattle.std.specs.Prelude.{Some, Ok}
 use Rattle.c_types.specs.Limits.{AreComplete}
-use Rattle.c_types.specs.Types.{CType}
 use Rattle.c_ast.specs.Trees
 use Rattle.c_ast.specs.Places.{first}
 use Rattle.c_typed.specs.InitialValues.{InitialValue, initial_value}
-use Rattle.c_typed.specs.Typed.{Declared, IsTyped}
+use Rattle.c_typed.specs.Typed.{IsTyped}
 use Rattle.c_erasure.specs.Erasure.{typed, Erases}
 use Rattle.c_erasure.specs.Files.{count_up}
 use Rattle.c_erasure.specs.Literals.{literals}
-use Rattle.c_erasure.specs.Marks.{Mark, marks, scope_beginnings, defined_in}
+use Rattle.c_erasure.specs.Marks.{Mark, marks}
 use Rattle.c_erasure.specs.MentionPlaces.{spoken}
 use Rattle.c_erasure.specs.Noted.{Expression}
-use Rattle.c_erasure.specs.Scopes.{FileScope, Scope, Bound, ALocal, Entity, typedef, enumerator, an_object, a_function, a_library_function, a_local, a_parameter}
-use Rattle.c_erasure.specs.Scopes.{Purpose, in_full, is_measured, declared}
+use Rattle.c_erasure.specs.Scopes.{FileScope, Scope, ALocal}
+use Rattle.c_erasure.specs.Scopes.{in_full, is_measured, declared}
 use Rattle.c_checking.specs.Answers.{moved}
 use Rattle.c_checking.specs.Finding.{value_at, find}
-use Rattle.c_checking.specs.Statements.{Performed, in_scope, leaving, value_of_expression}
+use Rattle.c_checking.specs.Statements.{leaving, value_of_expression}
 use Rattle.c_checking.proofs.Results.{bound_ok, given}
-use Rattle.c_checking.proofs.Extends.{Extends, itself, further, kept}
-use Rattle.c_checking.proofs.Agreement.{added, IsFit, AreFit, BlocksAreFit, blocks_stay, IsReady, Ready, IsGrown, Grew}
+use Rattle.c_checking.proofs.Extends.{Extends, itself, further}
+use Rattle.c_checking.proofs.Agreement.{added, blocks_stay, IsReady, Ready, IsGrown, Grew}
 use Rattle.c_checking.proofs.Values.{IsValue}
 use Rattle.c_checking.proofs.InRange.{IsInRange}
 use Rattle.c_checking.proofs.Adding.{Adds, Grows, makes_none, adds_nothing, adds_then, as_inside}
 use Rattle.c_checking.proofs.FoundTypes.{ready_inside, added_inside}
-use Rattle.c_checking.proofs.Found.{FoundValue}
 use Rattle.c_checking.proofs.Sound.{sound_value_of}
 use Rattle.c_checking.proofs.Growth.{grow_value_of}
 use Rattle.c_checking_files.proofs.Layouts.{IsLaid}
@@ -119,7 +117,8 @@ module _ (untagged : ℕ → List ℕ) (f : FileScope) where
     locals = q.locals ∙ ap (λ z. z ++ q.more) p.locals ∙ append_assoc s.locals p.more q.more;
     numbered =
         ap (λ z. z ++ j) p.numbered
-        ∙ ap (λ z. count_up (length s.locals) (length p.more) ++ z) (q.numbered ∙ ap (λ b. count_up b (length q.more)) (ap length p.locals ∙ length-append s.locals p.more))
+        ∙ ap (λ z. count_up (length s.locals) (length p.more) ++ z)
+        (q.numbered ∙ ap (λ b. count_up b (length q.more)) (ap length p.locals ∙ length-append s.locals p.more))
         ∙ counted (length s.locals) (length p.more) (length q.more)
         ∙ ap (count_up (length s.locals)) (sym (length-append p.more q.more));
     made = p.made ++ q.made;

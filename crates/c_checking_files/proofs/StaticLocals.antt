@@ -1,6 +1,6 @@
 -- What is found for `static` locals: objects of the file (C99 6.2.4, 6.7.1).
-use Rattle.std.proofs.Common.{◌≡◌, ℕ, zero, suc, ◌+◌, Bool, true, false, refl, sym, ap, ◌∙◌, subst, List, [], ◌∷◌, ◌++◌, length, append-nil, append_assoc, arith}
-use Rattle.std.specs.Prelude.{map, Option, Some, None, Ok, slice_get, slice_set}
+use Rattle.std.proofs.Common.{◌≡◌, ℕ, zero, suc, true, false, refl, sym, ap, ◌∙◌, subst, List, [], ◌∷◌, ◌++◌, length, append-nil}
+use Rattle.std.specs.Prelude.{map, Some, None, Ok, slice_get, slice_set}
 use Rattle.std.specs.Option.{IsSome}
 use Rattle.c_types.specs.Types.{CType}
 use Rattle.c_types.specs.Objects.{is_object}
@@ -8,22 +8,20 @@ use Rattle.c_ast.specs.declared.words.Spelling.{Spelling}
 use Rattle.c_ast.specs.Trees
 use Rattle.c_ast.specs.Places.{first_declarator}
 use Rattle.c_typed.specs.Trees as Typed
-use Rattle.c_erasure.specs.Erasure.{place_in}
 use Rattle.c_erasure.specs.Literals.{literals_of_value}
 use Rattle.c_erasure.specs.MentionPlaces.{spoken_by_value}
 use Rattle.c_erasure.specs.Noted.{Noted}
-use Rattle.c_erasure.specs.Scopes.{FileScope, Scope, ALocal, AnObject, an_object, defines}
+use Rattle.c_erasure.specs.Scopes.{FileScope, Scope, ALocal, AnObject}
 use Rattle.c_erasure.specs.Statements.{Statements, IsStaticLocal, with_object}
-use Rattle.c_checking.specs.Answers.{◌>>=◌, moved}
+use Rattle.c_checking.specs.Answers.{moved}
 use Rattle.c_checking.specs.Declaring as Files
 use Rattle.c_checking.specs.Statements.{constants_if_any, static_object, replaced_object, objects_in, with_static, declare_static}
 use Rattle.c_checking.proofs.Results.{bound_ok, given}
 use Rattle.c_checking.proofs.Extends.{Extends, itself, further, kept}
 use Rattle.c_checking.proofs.Agreement.{fits_stay, blocks_stay}
-use Rattle.c_checking.proofs.Adding.{Adds}
-use Rattle.c_checking_files.proofs.Parts.{Parted, is_made}
-use Rattle.c_checking_files.proofs.Longer.{seen, GoesOn}
-use Rattle.c_checking_files.proofs.Scoped.{IsWithin, AddsInside, IsLater, FoundIn}
+use Rattle.c_checking_files.proofs.Parts.{is_made}
+use Rattle.c_checking_files.proofs.Longer.{seen}
+use Rattle.c_checking_files.proofs.Scoped.{IsWithin, AddsInside, FoundIn}
 use Rattle.c_checking_files.proofs.LocalObjects.{IsValueInRange, named_fits, last_mapped, FoundInitializer, AreConstantsIn, constants_found}
 
 -- ---- an object takes the place of another
@@ -144,7 +142,8 @@ module _ (untagged : ℕ → List ℕ) (f : FileScope) where
       let whole = further (object_put s.file old) (further v.extends last) in
       let m = adds_there s old i.1 g more new v.made v.grows there v.grows.objects.2 in
       record {
-        within = within_file (moved (with_static s d x t) i.1) g v.within last (ap (λ (g : FileScope). g.names) there) (ap (λ (g : FileScope). g.records) there);
+        within = within_file (moved (with_static s d x t) i.1) g v.within last (ap (λ (g : FileScope). g.names) there)
+            (ap (λ (g : FileScope). g.records) there);
         extends = whole;
         more = [];
         locals = sym (append-nil s.locals);
@@ -166,15 +165,19 @@ module _ (untagged : ℕ → List ℕ) (f : FileScope) where
             let number = (further whole e.extends).file in
             record {
               all_is = refl;
-              object = (i.0, c, subst (λ file. slice_get h.objects (objects_in s) ≡ Some (record {
-                name = x.text;
-                place = record { file = file; at = first_declarator d.declarator x.from };
-                first = first_declarator d.declarator x.from;
-                ty = t;
-                is_linked = false;
-                literal = None;
-                initial = Some i.0;
-              })) (sym number) stands);
+              object = (
+                i.0,
+                c,
+                subst (λ file. slice_get h.objects (objects_in s) ≡ Some (record {
+                  name = x.text;
+                  place = record { file = file; at = first_declarator d.declarator x.from };
+                  first = first_declarator d.declarator x.from;
+                  ty = t;
+                  is_linked = false;
+                  literal = None;
+                  initial = Some i.0;
+                })) (sym number) stands,
+              );
               after_is = refl;
             };
       }

@@ -14,20 +14,21 @@ use Rattle.c_typed.specs.InitialValues.{InitialValue, initial_value}
 use Rattle.c_typed.specs.Mapped.{of_types, mapped_initializer, mapped_part, mapped_value}
 use Rattle.c_typed.specs.Parts as Lying
 use Rattle.c_typed.specs.Parts.{IsPart}
-use Rattle.c_typed.specs.Typed.{Declared, IsTyped}
+use Rattle.c_typed.specs.Typed.{Declared}
 use Rattle.c_typed.specs.TypedStatements.{IsTypedPart, IsTypedValue, IsTypedInitializer}
 use Rattle.c_erasure.specs.Erasure.{typed, Values, Erases}
-use Rattle.c_erasure.specs.Initializers.{Part, part_at, texts_of, is_braces, IsText, IsTextOf, Initializes, IsInitializer, HasConstant, AreConstants}
+use Rattle.c_erasure.specs.Initializers.{Part, part_at, texts_of, is_braces, IsText, Initializes, IsInitializer, HasConstant, AreConstants}
 use Rattle.c_erasure.specs.Literals.{literals}
-use Rattle.c_erasure.specs.Marks.{Mark, marks}
+use Rattle.c_erasure.specs.Marks.{marks}
 use Rattle.c_erasure.specs.MentionPlaces.{spoken}
-use Rattle.c_erasure.specs.Noted.{Noted, Expression, Thing, an_object, type_of_path}
+use Rattle.c_erasure.specs.Noted.{Noted, Expression, an_object, type_of, type_of_path}
 use Rattle.c_erasure.specs.Scopes.{ALocal, FileScope, Scope, declared}
-use Rattle.c_checking.specs.Answers.{◌>>=◌, with_file, moved}
+use Rattle.c_checking.specs.Answers.{◌>>=◌, with_file}
 use Rattle.c_checking.specs.Finding.{find}
-use Rattle.c_checking.specs.Initializers.{initial_record_in, without_braces, initialized, initializer, whole_of, is_constant_part, are_constant_parts, are_constants, constants_in}
-use Rattle.c_checking.proofs.Results.{bound_ok, bound_with, given, with_file_ok, only_if}
-use Rattle.c_checking.proofs.Extends.{Extends, itself, further}
+use Rattle.c_checking.specs.Initializers.{initial_record_in, without_braces, initialized, initializer, whole_of, is_constant_part, are_constant_parts}
+use Rattle.c_checking.specs.Initializers.{are_constants, constants_in}
+use Rattle.c_checking.proofs.Results.{bound_ok, given, with_file_ok, only_if}
+use Rattle.c_checking.proofs.Extends.{Extends}
 use Rattle.c_checking.proofs.Agreement.{Ready, Grew}
 use Rattle.c_checking.proofs.Values.{Stands, path_type_same}
 use Rattle.c_checking.proofs.InRange.{IsInRange}
@@ -37,7 +38,7 @@ use Rattle.c_checking_files.proofs.SameLocals.{with_locals, same_find}
 use Rattle.c_checking_files.proofs.Longer.{seen, GoesOn, ready_longer}
 use Rattle.c_checking_files.proofs.Layouts.{IsLaid}
 use Rattle.c_checking_files.proofs.Parts.{Rise, are_rising, AreOver, all_over, Parted, NoneBegins, initial_record_is}
-use Rattle.c_checking_files.proofs.Initials.{FoundParts, FoundInitial, OfObject, RisesIn, ReadFrom, IsKnown, Plainly, plain, sound_initial}
+use Rattle.c_checking_files.proofs.Initials.{OfObject, ReadFrom, IsKnown, plain, sound_initial}
 
 -- ---- what parts stand for an object of a type
 
@@ -52,11 +53,11 @@ text_outline None s t at parts h = absurd h
 text_outline (Some all) s t at parts h = let e = h.1.2 in ap is_array e
 
 plain_outline : (a : Trees.Expression) (o : Option (List Spelling)) (s : Scope) (t : CType) (at : ℕ) (parts : List Part)
-    → ((x : Expression) × (is_scalar t ≡ true) × (parts ≡ part_at at (Typed.value x)) × Values (Erases a s) x)
-    ⊎ ((r : ℕ) × (p : Typed.Path Noted) × (t ≡ structure r) × (parts ≡ part_at at (Typed.record_of p)) × Erases a s (an_object p))
+    → ((x : Expression) × (is_scalar t ≡ true) × (type_of x ≡ t) × (parts ≡ part_at at (Typed.value x)) × Values (Erases a s) x)
+    ⊎ ((r : ℕ) × (p : Typed.Path Noted) × (t ≡ structure r) × (type_of_path p ≡ t) × (parts ≡ part_at at (Typed.record_of p)) × Erases a s (an_object p))
     ⊎ IsText o s t at parts → Outline false t at parts
-plain_outline a o s t at parts (inl h) = inl (h.0, h.1, h.2)
-plain_outline a o s t at parts (inr (inl h)) = inr (inl (h.0, h.1, refl, h.2, h.3))
+plain_outline a o s t at parts (inl h) = inl (h.0, h.1, h.3)
+plain_outline a o s t at parts (inr (inl h)) = inr (inl (h.0, h.1, refl, h.2, h.4))
 plain_outline a o s t at parts (inr (inr h)) = inr (inr (inl (text_outline o s t at parts h)))
 
 outline : (a : Trees.Expression) (s : Scope) (t : CType) (at : ℕ) (parts : List Part) → Initializes a s t at parts → Outline (is_braces a) t at parts
@@ -82,7 +83,7 @@ outline (Trees.comma a b c) s t at parts h = plain_outline (Trees.comma a b c) (
 outline (Trees.braces from all last to) s t at parts h = of_braces h
   where
     of_braces : Initializes (Trees.braces from all last to) s t at parts → Outline true t at parts
-    of_braces (inl h) = inl (h.0, h.1, h.2)
+    of_braces (inl h) = inl (h.0, h.1, h.3)
     of_braces (inr (inl h)) = inr (inr (inl (ap is_array h.2)))
     of_braces (inr (inr (inl h))) = inr (inr (inr (ap is_record h.2, refl)))
     of_braces (inr (inr (inr h))) = inr (inr (inl (text_outline (texts_of (Trees.braces from all last to)) s t at parts h)))
@@ -122,9 +123,12 @@ whole_is a s t parts h = by_outline (outline a s t 0 parts h)
 
     by_outline : Outline (is_braces a) t 0 parts → IsInitializer a s t (whole_of t (is_braces a) parts)
     by_outline (inl x) =
-        inl (x.0,
-        ap (whole_of t (is_braces a)) x.2 ∙ chosen_first (is_scalar t || (is_record t && not (is_braces a))) (scalar_or (is_scalar t) x.1 _) _ _,
-        x.1, subst (Initializes a s t 0) x.2 h)
+        inl (
+          x.0,
+          ap (whole_of t (is_braces a)) x.2 ∙ chosen_first (is_scalar t || (is_record t && not (is_braces a))) (scalar_or (is_scalar t) x.1 _) _ _,
+          x.1,
+          subst (Initializes a s t 0) x.2 h,
+        )
     by_outline (inr (inl x)) =
         let e : whole_of t (is_braces a) (part_at 0 (Typed.record_of x.1)) ≡ Typed.whole_record x.1 = rw (x.2, x.3) refl in
         inr (inl (x.1, ap (whole_of t (is_braces a)) x.4 ∙ e, ap is_record x.3, x.2, subst (Initializes a s t 0) x.4 h))
@@ -166,7 +170,8 @@ module _ (d : Declared) (g : FileScope) (records_are : d.records ≡ g.records) 
   abbrev IsTypedWhole : Typed.Initializer Noted → Type 0
   IsTypedWhole i = IsTypedInitializer d t (typed_initial i)
 
-  scalar_whole : (b braces : Bool) (x : Expression) → is_scalar t ≡ true → IsTypedWhole (Typed.whole x) → IsTypedWhole (whole_of t braces (part_at 0 (Typed.value x)))
+  scalar_whole : (b braces : Bool) (x : Expression) → is_scalar t ≡ true → IsTypedWhole (Typed.whole x)
+      → IsTypedWhole (whole_of t braces (part_at 0 (Typed.value x)))
   scalar_whole b braces x i h = subst IsTypedWhole (sym (whole_there (is_scalar t) i (is_record t && not braces))) h
     where
       whole_there : (b : Bool) → b ≡ true → (c : Bool) → cond (b || c) (Typed.whole x) (Typed.parts (part_at 0 (Typed.value x))) ≡ Typed.whole x
@@ -268,10 +273,11 @@ module _ (untagged : ℕ → List ℕ) where
         parted = v.parted;
         grows = v.grows;
         holds = λ g l e b laid m.
-            let i = v.holds g l e b m in
-            (whole_is a (seen s g l) t x.0.0 i,
-            whole_typed (declared (seen s g l)) g refl t (is_braces a) x.0.0 (outline a (seen s g l) t 0 x.0.0 i) (v.typed g l e b) (0 + size_of g.records t)
-            (v.rises g e laid) (record_here a s n r t x.0 x.1 g l e b));
+            let i = v.holds g l e b m in (
+              whole_is a (seen s g l) t x.0.0 i,
+              whole_typed (declared (seen s g l)) g refl t (is_braces a) x.0.0 (outline a (seen s g l) t 0 x.0.0 i) (v.typed g l e b) (0 + size_of g.records t)
+                  (v.rises g e laid) (record_here a s n r t x.0 x.1 g l e b),
+            );
       })
 
 -- ---- constants

@@ -1,14 +1,14 @@
 -- Definitions of structures that end ahead of a byte.
-use Rattle.std.proofs.Common.{◌≡◌, ℕ, zero, suc, ◌+◌, ◌-◌, ◌≤◌, ◌<◌, Bool, true, false, refl, sym, ap, ◌∙◌, subst, cond, List, [], ◌∷◌, ◌++◌, length, length-append, arith, inl, inr}
+use Rattle.std.proofs.Common.{◌≡◌, ℕ, zero, suc, ◌+◌, ◌-◌, ◌≤◌, ◌<◌, Bool, true, false, refl, sym, ap, ◌∙◌, subst, cond, List, [], ◌∷◌}
+use Rattle.std.proofs.Common.{◌++◌, length, length-append, arith}
 use Rattle.std.proofs.lemmas.Bool.Decides.{nat_tests}
 use Rattle.std.proofs.lemmas.List.Elements.{recursion_from_All}
-use Rattle.std.specs.List.{All, AllByRecursion}
-use Rattle.std.specs.Prelude.{Option, Some, None, slice_get, nat_lt, ◌⊎◌}
+use Rattle.std.specs.List.{AllByRecursion}
+use Rattle.std.specs.Prelude.{Some, slice_get, nat_lt}
 use Rattle.c_ast.specs.Spelling.{Lexeme}
 use Rattle.c_erasure.specs.Marks.{Mark, a_tag, an_end, a_name, ends_in}
 use Rattle.c_erasure.specs.Scopes.{ended}
 use Rattle.c_order.specs.Places.{AreOrdered, Along}
-use Rattle.c_order.specs.Order.{StandBetween}
 use Rattle.c_order.proofs.Ordered.{ends_between}
 use Rattle.c_checking.proofs.Extends.{kept, behind}
 use Rattle.c_checking.proofs.Agreement.{added}
@@ -118,3 +118,12 @@ module _ (ends : List ℕ) where
   -- the same number, put together otherwise
   pub ahead_same : (n m : ℕ) (tokens : List Lexeme) → n ≡ m → Ahead n tokens → Ahead m tokens
   ahead_same n m tokens e h = subst (λ n. Ahead n tokens) e h
+
+-- behind the last token of a file none ends
+pub none_left : (ends : List ℕ) → Ahead ends (length ends) []
+none_left ends to o k end e l = absurd (outside ends k end e l)
+  where
+    outside : (all : List ℕ) (k end : ℕ) → slice_get all k ≡ Some end → length all ≤ k → ⊥
+    outside [] k end e l = cc
+    outside (x ∷ all) zero end e l = absurd (omega (arith, l))
+    outside (x ∷ all) (suc k) end e l = outside all k end e (omega (arith, l))

@@ -219,7 +219,7 @@ no_constant = record {
               the_n,
               refl,
               refl,
-              inl (the_n, refl, refl, (an_object (way int (place 15) (Typed.object 0)), refl, (Scopes.an_object 0 int, refl, refl))),
+              inl (the_n, refl, refl, refl, (an_object (way int (place 15) (Typed.object 0)), refl, (Scopes.an_object 0 int, refl, refl))),
             ),
             ((refl, refl, refl, refl), refl, (refl, refl)),
             (λ w. cc (w.1)),

@@ -286,7 +286,7 @@ x_defined = (
       (1, refl),
       (
         Typed.whole (number 15 3),
-        (inl (number 15 3, refl, refl, inl (number 15 3, refl, refl, (a_value (number 15 3), refl, refl))), (a_number Int 3, refl)),
+        (inl (number 15 3, refl, refl, inl (number 15 3, refl, refl, refl, (a_value (number 15 3), refl, refl))), (a_number Int 3, refl)),
         refl,
         refl,
       ),

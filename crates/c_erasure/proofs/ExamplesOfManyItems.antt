@@ -311,7 +311,7 @@ t_defined = (
                 part_at 4 (Typed.value g_value),
                 refl,
                 refl,
-                inl (ab_value, refl, refl, (an_object ab_path, refl, (1, refl, refl))),
+                inl (ab_value, refl, refl, refl, (an_object ab_path, refl, (1, refl, refl))),
                 (
                   f_field,
                   [],
@@ -319,7 +319,7 @@ t_defined = (
                   [],
                   refl,
                   refl,
-                  inl (g_value, refl, refl, (Noted.a_function (place 132) 0 g_type, refl, (Scopes.a_function 0 g_type, refl, refl))),
+                  inl (g_value, refl, refl, refl, (Noted.a_function (place 132) 0 g_type, refl, (Scopes.a_function 0 g_type, refl, refl))),
                   refl,
                 ),
               ),
@@ -429,7 +429,7 @@ main_erased = (
         int,
         3,
         (closed int, refl, refl, refl, refl, refl, inr (9, refl)),
-        (Typed.whole n_value, (inl (n_value, refl, refl, inl (n_value, refl, refl, size_stands)), (a_number Int 3, refl)), refl),
+        (Typed.whole n_value, (inl (n_value, refl, refl, inl (n_value, refl, refl, refl, size_stands)), (a_number Int 3, refl)), refl),
         (refl, refl),
       ),
     ),
@@ -457,7 +457,7 @@ main_erased = (
           (
             Typed.whole_record (t_path 199),
             refl,
-            inr (inl (t_path 199, refl, refl, refl, inr (inl (0, t_path 199, refl, refl, (Scopes.an_object 0 the_type, refl, refl))))),
+            inr (inl (t_path 199, refl, refl, refl, inr (inl (0, t_path 199, refl, refl, refl, (Scopes.an_object 0 the_type, refl, refl))))),
           ),
           (refl, refl),
         ),
@@ -492,6 +492,7 @@ main_erased = (
                 refl,
                 inl (
                   u_address,
+                  refl,
                   refl,
                   refl,
                   (a_value u_address, refl, (an_object u_path, (pointer the_type, omega arith, refl), (a_local 0 the_type, refl, refl))),

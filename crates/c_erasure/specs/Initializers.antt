@@ -13,7 +13,7 @@ use Rattle.c_typed.specs.Trees as Typed
 use Rattle.c_typed.specs.Conversions.{is_scalar, is_array, is_record}
 use Rattle.c_typed.specs.InitialValues.{InitialValue, initial_value}
 use Rattle.c_typed.specs.Typed.{Declared}
-use Rattle.c_erasure.specs.Noted.{Noted, Expression, an_object}
+use Rattle.c_erasure.specs.Noted.{Noted, Expression, an_object, type_of, type_of_path}
 use Rattle.c_erasure.specs.Scopes.{Scope}
 use Rattle.c_erasure.specs.Erasure.{typed, literal_of, Values, Erases}
 
@@ -56,13 +56,13 @@ abbrev mutual
   pub Initializes : Trees.Expression → Scope → CType → ℕ → List Part → Type 0
   Initializes (Trees.braces left all last right) s t at parts =
       -- one value in braces
-      ((x : Expression) × (is_scalar t ≡ true) × (parts ≡ part_at at (Typed.value x)) × IsOneValue all s x)
+      ((x : Expression) × (is_scalar t ≡ true) × (type_of x ≡ t) × (parts ≡ part_at at (Typed.value x)) × IsOneValue all s x)
       ⊎ ((n : ℕ) × (u : CType) × (t ≡ array u n) × IsNoText u (texts_of (Trees.braces left all last right)) × InitializeElements all s u n at parts)
       ⊎ ((r : ℕ) × (rec : Record) × (t ≡ structure r) × (slice_get s.file.records r ≡ Some rec) × InitializeFields all s r 0 rec.fields at parts)
       ⊎ IsText (texts_of (Trees.braces left all last right)) s t at parts
   Initializes a s t at parts =
-      ((x : Expression) × (is_scalar t ≡ true) × (parts ≡ part_at at (Typed.value x)) × Values (Erases a s) x)
-      ⊎ ((r : ℕ) × (p : Typed.Path Noted) × (t ≡ structure r) × (parts ≡ part_at at (Typed.record_of p)) × Erases a s (an_object p))
+      ((x : Expression) × (is_scalar t ≡ true) × (type_of x ≡ t) × (parts ≡ part_at at (Typed.value x)) × Values (Erases a s) x)
+      ⊎ ((r : ℕ) × (p : Typed.Path Noted) × (t ≡ structure r) × (type_of_path p ≡ t) × (parts ≡ part_at at (Typed.record_of p)) × Erases a s (an_object p))
       ⊎ IsText (texts_of a) s t at parts
 
   -- one expression, which is no initializer in braces

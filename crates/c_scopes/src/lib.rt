@@ -6,6 +6,10 @@
 
 mod block;
 mod bound_names;
+mod file_scope;
+mod scope;
 
 pub use block::Block;
 pub use bound_names::BoundNames;
+pub use file_scope::FileScope;
+pub use scope::{Purpose, Scope, for_value, here, measured, named, place_in};

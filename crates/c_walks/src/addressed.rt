@@ -30,7 +30,9 @@ fn addressed_by_node(found: &mut List<u32>, node: &ExpressionNode) -> Result<(),
     ensures { OnOk result (found.new ≡ found.old ++ addressed_by_node (node_of node.now)) }
 {
     match node {
-        ExpressionNode::Constant(_) | ExpressionNode::Null | ExpressionNode::FunctionName(_) => Ok(()),
+        ExpressionNode::Constant(_) | ExpressionNode::Null | ExpressionNode::FunctionName(_) => Ok(
+            (),
+        ),
         ExpressionNode::Load(p) | ExpressionNode::Decay(p) | ExpressionNode::Step(_, _, p) => {
             addressed_by_path(found, p.get())
         }
@@ -64,7 +66,10 @@ fn addressed_by_node(found: &mut List<u32>, node: &ExpressionNode) -> Result<(),
             addressed_by_path(found, p.get())?;
             addressed_by_path(found, from.get())
         }
-        ExpressionNode::Call(_, all) | ExpressionNode::Library(_, all) => addressed_by_all(found, all.as_slice()),
+        ExpressionNode::Call(_, all) | ExpressionNode::Library(_, all) => addressed_by_all(
+            found,
+            all.as_slice(),
+        ),
         ExpressionNode::CallThrough(x, all) => {
             addressed_by_expression(found, x.get())?;
             addressed_by_all(found, all.as_slice())

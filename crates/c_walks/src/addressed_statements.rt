@@ -31,7 +31,10 @@ fn addressed_by_parts(found: &mut List<u32>, all: &[InitializerPart]) -> Result<
 }
 
 /// Those of an initializer.
-pub fn addressed_by_initializer(found: &mut List<u32>, initial: &Initializer) -> Result<(), NoMemory>
+pub fn addressed_by_initializer(
+    found: &mut List<u32>,
+    initial: &Initializer,
+) -> Result<(), NoMemory>
     ensures { OnOk result (found.new ≡ found.old ++ addressed_by_initializer (initializer_of initial.now)) }
 {
     match initial {
@@ -41,7 +44,10 @@ pub fn addressed_by_initializer(found: &mut List<u32>, initial: &Initializer) ->
     }
 }
 
-fn addressed_by_initial(found: &mut List<u32>, initial: &Option<Initializer>) -> Result<(), NoMemory>
+fn addressed_by_initial(
+    found: &mut List<u32>,
+    initial: &Option<Initializer>,
+) -> Result<(), NoMemory>
     ensures { OnOk result (found.new ≡ found.old ++ addressed_by_initial (option_map initializer_of initial.now)) }
 {
     match initial {

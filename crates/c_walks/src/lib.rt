@@ -5,8 +5,8 @@
 
 mod addressed;
 mod addressed_statements;
-mod types_of_expressions;
 mod nodes;
+mod types_of_expressions;
 mod types_of_statements;
 
 pub use addressed_statements::addressed_by_statement;

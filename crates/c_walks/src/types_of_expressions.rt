@@ -23,7 +23,9 @@ fn node_types<'a>(found: &mut Nodes<'a>, node: &'a ExpressionNode) -> Result<(),
     ensures { OnOk result (nodes_in found.new ≡ nodes_in found.old ++ types_in_node (node_of node.now)) }
 {
     match node {
-        ExpressionNode::Constant(_) | ExpressionNode::Null | ExpressionNode::FunctionName(_) => Ok(()),
+        ExpressionNode::Constant(_) | ExpressionNode::Null | ExpressionNode::FunctionName(_) => Ok(
+            (),
+        ),
         ExpressionNode::Load(p)
         | ExpressionNode::AddressOf(p)
         | ExpressionNode::Decay(p)
@@ -54,7 +56,10 @@ fn node_types<'a>(found: &mut Nodes<'a>, node: &'a ExpressionNode) -> Result<(),
             path_types(found, p.get())?;
             path_types(found, from.get())
         }
-        ExpressionNode::Call(_, all) | ExpressionNode::Library(_, all) => all_types(found, all.as_slice()),
+        ExpressionNode::Call(_, all) | ExpressionNode::Library(_, all) => all_types(
+            found,
+            all.as_slice(),
+        ),
         ExpressionNode::CallThrough(x, all) => {
             expression_types(found, x.get())?;
             all_types(found, all.as_slice())

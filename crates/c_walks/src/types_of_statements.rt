@@ -8,8 +8,8 @@ ghost use Rattle.c_typed.specs.Walk.{types_if_any, types_in_arms, types_in_initi
 ghost use Rattle.c_typed.specs.Walk.{types_in_statements, types_in_value};
 ghost use Rattle.c_walks.specs.NodeTypes.{nodes_in};
 
-use crate::types_of_expressions::{expression_types, path_types};
 use crate::nodes::Nodes;
+use crate::types_of_expressions::{expression_types, path_types};
 use c_annotated::{Arm, Expression, Initializer, InitializerPart, PartValue, Statement};
 use lay_base::{Boxed, NoMemory};
 
@@ -33,7 +33,10 @@ fn parts_types<'a>(found: &mut Nodes<'a>, all: &'a [InitializerPart]) -> Result<
 }
 
 /// Those of an initializer.
-pub fn initializer_types<'a>(found: &mut Nodes<'a>, initial: &'a Initializer) -> Result<(), NoMemory>
+pub fn initializer_types<'a>(
+    found: &mut Nodes<'a>,
+    initial: &'a Initializer,
+) -> Result<(), NoMemory>
     ensures { OnOk result (nodes_in found.new ≡ nodes_in found.old ++ types_in_initializer (initializer_of initial.now)) }
 {
     match initial {
@@ -43,7 +46,10 @@ pub fn initializer_types<'a>(found: &mut Nodes<'a>, initial: &'a Initializer) ->
     }
 }
 
-fn initial_types<'a>(found: &mut Nodes<'a>, initial: &'a Option<Initializer>) -> Result<(), NoMemory>
+fn initial_types<'a>(
+    found: &mut Nodes<'a>,
+    initial: &'a Option<Initializer>,
+) -> Result<(), NoMemory>
     ensures { OnOk result (nodes_in found.new ≡ nodes_in found.old ++ types_in_initial (option_map initializer_of initial.now)) }
 {
     match initial {

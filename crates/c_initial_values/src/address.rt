@@ -1,0 +1,149 @@
+//! Bytes of objects, and moves from one to another.
+
+ghost use Rattle.std.specs.Prelude.{◌≡◌, IfOk, IfSome};
+ghost use Rattle.std.specs.Option.{option_map};
+ghost use Rattle.c_typed.specs.AnswerViews.{constant_view};
+ghost use Rattle.c_typed.specs.InitialValues.{moved, number_in, or_negated, subscripted, within};
+ghost use Rattle.c_initial_values.specs.Values.{address_of, declared_by};
+ghost use Rattle.c_typed.specs.Constants.{kind_of};
+ghost use Rattle.c_typed.specs.Conversions.{number_of};
+ghost use Rattle.c_types.specs.Types.{array};
+ghost use Rattle.c_types.specs.Views.{type_of};
+
+use crate::sizes::{object_size, size};
+use c_typed::{Constant, PointerOp, is_signed};
+use c_types::{Records, Ty};
+use lay_base::NoMemory;
+
+/// A byte of an object, or the end of it.
+#[derive(Clone, Copy, Debug, PartialEq, Eq)]
+pub struct Address {
+    /// The number of the object.
+    pub object: u32,
+    pub offset: u32,
+}
+
+/// The number that a constant of a type stands for.
+pub fn number_in(t: &Ty, c: Constant) -> Option<i64>
+    ensures { result ≡ number_in (type_of t.now) (constant_view c) }
+{
+    match c {
+        Constant::Valued(v) => Some(number_of(t, v)),
+        _ => None,
+    }
+}
+
+/// The number for which 32 bits stand; of a type that is no integer type they stand for an `int`.
+fn number_of(t: &Ty, v: u32) -> i64
+    ensures { result ≡ number_of (kind_of (type_of t.now)) v }
+{
+    let is_unsigned = match t {
+        Ty::Int(kind) => !is_signed(*kind),
+        _ => false,
+    };
+    if is_unsigned {
+        i64::from(v)
+    } else {
+        i64::from(v.cast_signed())
+    }
+}
+
+/// The byte of an object at an offset.
+fn within(
+    records: &Records,
+    objects: &[Ty],
+    n: u32,
+    offset: i64,
+) -> Result<Option<Address>, NoMemory>
+    ensures { IfOk result (λ a. option_map address_of a ≡ within (declared_by records.now objects.now) n offset) }
+{
+    let size = object_size(records, objects, n).ok_or(NoMemory)?;
+    if offset < 0 || offset > i64::from(size) {
+        Ok(None)
+    } else {
+        Ok(Some(Address {
+            object: n,
+            offset: offset as u32,
+        }))
+    }
+}
+
+/// So many elements further on in the object.
+pub fn moved(
+    records: &Records,
+    objects: &[Ty],
+    a: Option<Address>,
+    k: Option<i64>,
+    size: u32,
+) -> Result<Option<Address>, NoMemory>
+    ensures { IfOk result (λ r. option_map address_of r ≡ moved (declared_by records.now objects.now) (option_map address_of a) k size) }
+{
+    match (a, k) {
+        (Some(a), Some(k)) => {
+            let step = k.checked_mul(i64::from(size)).ok_or(NoMemory)?;
+            let offset = i64::from(a.offset).checked_add(step).ok_or(NoMemory)?;
+            within(records, objects, a.object, offset)
+        }
+        _ => Ok(None),
+    }
+}
+
+/// So many elements further on or back in the object.
+pub fn moved_by(
+    records: &Records,
+    objects: &[Ty],
+    op: PointerOp,
+    a: Option<Address>,
+    k: Option<i64>,
+    size: u32,
+) -> Result<Option<Address>, NoMemory>
+    ensures { IfOk result (λ r. option_map address_of r
+        ≡ moved (declared_by records.now objects.now) (option_map address_of a) (or_negated (declared_by records.now objects.now) op k) size) }
+{
+    match (op, k) {
+        (PointerOp::Subtract, Some(k)) => {
+            let negated = (-1_i64).checked_mul(k).ok_or(NoMemory)?;
+            moved(records, objects, a, Some(negated), size)
+        }
+        (_, k) => moved(records, objects, a, k, size),
+    }
+}
+
+/// An element of an array, or its end.
+pub fn subscripted(
+    records: &Records,
+    objects: &[Ty],
+    t: &Ty,
+    a: Option<Address>,
+    k: Option<i64>,
+) -> Result<Option<Address>, NoMemory>
+    ensures { IfOk result (λ r. option_map address_of r ≡ subscripted (declared_by records.now objects.now) (type_of t.now) (option_map address_of a) k) }
+{
+    match t {
+        Ty::Array(element, length) => element_at(records, objects, element.get(), *length, a, k),
+        _ => Ok(None),
+    }
+}
+
+/// An element of an array of that length, or its end.
+fn element_at(
+    records: &Records,
+    objects: &[Ty],
+    element: &Ty,
+    length: u32,
+    a: Option<Address>,
+    k: Option<i64>,
+) -> Result<Option<Address>, NoMemory>
+    ensures { IfOk result (λ r. option_map address_of r ≡ subscripted (declared_by records.now objects.now) (array (type_of element.now) length) (option_map address_of a) k) }
+{
+    match (a, k) {
+        (Some(a), Some(k)) => {
+            if k < 0 || k > i64::from(length) {
+                return Ok(None);
+            }
+            let size = size(records, element).ok_or(NoMemory)?;
+            moved(records, objects, Some(a), Some(k), size)
+        }
+        _ => Ok(None),
+    }
+}

@@ -1,0 +1,16 @@
+//! What objects of a file hold at first: the values of constant expressions, and the types of which initializers speak.
+//!
+//! It stands on `c_annotated`, whose trees it reads, and on `c_types` for sizes. It promises the values of `initial_value` and the mentions of
+//! `told_by_initial`.
+#![tactic(auto)]
+
+mod address;
+mod mentions;
+mod sizes;
+mod stores;
+mod values;
+
+pub use address::Address;
+pub use mentions::told_by_initial;
+pub use stores::{Store, stores_of};
+pub use values::{Value, initial_value};
