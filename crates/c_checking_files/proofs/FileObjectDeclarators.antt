@@ -1,5 +1,5 @@
 -- Objects that a declarator of the file scope declares and may define (C99 6.9.2).
-use Rattle.std.proofs.Common.{◌≡◌, ℕ, Bool, true, false, refl, sym, ap, ◌∙◌, subst, List, [], length}
+use Rattle.std.proofs.Common.{◌≡◌, ℕ, Bool, true, refl, sym, ◌∙◌, subst, List, [], length}
 use Rattle.std.specs.Prelude.{Option, Some, None, Ok, slice_get, is_none}
 use Rattle.c_types.specs.Limits.{AreComplete}
 use Rattle.c_types.specs.Objects.{is_object}
@@ -14,12 +14,12 @@ use Rattle.c_erasure.specs.Files.{is_first, IsObject, IsOwnName, IsLinkage, IsFi
 use Rattle.c_erasure.specs.Marks.{marks_of_initial, marks_of_declarator}
 use Rattle.c_erasure.specs.Scopes.{FileScope, Bound, AnObject, an_object, at_file_scope, ended}
 use Rattle.c_erasure.specs.Specifiers.{Storage}
-use Rattle.c_checking.specs.Answers.{Answer, ◌>>=◌}
+use Rattle.c_checking.specs.Answers.{Answer}
 use Rattle.c_checking.specs.Declaring.{declared_among, with_bound, with_mention, mentions_in, Derivation, derived, object_at}
 use Rattle.c_checking.specs.Finding.{derivations}
 use Rattle.c_checking.specs.Nodes.{is_complete}
 use Rattle.c_checking.specs.Statements.{sized_in}
-use Rattle.c_checking.specs.Files.{library_named, once, defined_among, object_of, define_object, defined_once, declare_object}
+use Rattle.c_checking.specs.Files.{library_named, defined_among, object_of, define_object, defined_once, declare_object}
 use Rattle.c_checking.proofs.Results.{bound_ok, given, only_if}
 use Rattle.c_checking.proofs.Extends.{Extends, further}
 use Rattle.c_checking.proofs.Agreement.{Ready}
@@ -28,12 +28,11 @@ use Rattle.c_checking.proofs.NodesOfParts.{complete_is}
 use Rattle.c_checking.proofs.Declared.{is_mentioned, before_mention}
 use Rattle.c_checking.proofs.Sound.{sound_steps}
 use Rattle.c_checking_files.proofs.Locals.{IsSizedOver, sized_so, sized_later}
-use Rattle.c_checking_files.proofs.Layouts.{IsLaid}
-use Rattle.c_checking_files.proofs.Parts.{NoneBegins}
 use Rattle.c_checking_files.proofs.Scoped.{KeepsConstants}
 use Rattle.c_checking_files.proofs.LocalObjects.{IsValueInRange}
-use Rattle.c_checking_files.proofs.FileScopes.{Continues, continues_then, MayDeclare, StandsFor, own_answer, own_is, once_answer, bound_there, bound_put, first_later}
-use Rattle.c_checking_files.proofs.FileObjects.{IsTheObject, object_is, IsLaterFile, FoundDefinition, definition_found}
+use Rattle.c_checking_files.proofs.FileScopes.{Continues, continues_then, MayDeclare, StandsFor, own_answer, own_is, once_answer, bound_there, bound_put}
+use Rattle.c_checking_files.proofs.FileScopes.{first_later}
+use Rattle.c_checking_files.proofs.FileObjects.{IsTheObject, object_is, IsLaterFile, definition_found}
 
 -- one definition at most: what is read stands behind the test
 once_defined : {A : Type 0} (f : FileScope) (x : Spelling) (value : Option (ℕ × Trees.Expression)) (r : Answer A) (z : A) → defined_once f x value r ≡ Ok z
@@ -103,7 +102,8 @@ module _ (untagged : ℕ → List ℕ) where
   object_read f words x place from t (Some value) own range n v may g h =
       let b = bound x from (object_how words (Some value)) (an_object n.0 t) in
       let file = with_bound n.1 b in
-      let d = definition_found untagged file n.0 place value t v.object v.stands (may.undefined value refl v.object v.stands) range may.ready may.complete may.same
+      let d = definition_found untagged file n.0 place value t v.object v.stands
+      (may.undefined value refl v.object v.stands) range may.ready may.complete may.same
       may.known g h in
       record {
         own = own;
@@ -168,15 +168,23 @@ module _ (untagged : ℕ → List ℕ) (f : FileScope) (d : Trees.InitDeclarator
       let v = sound_steps untagged d.declarator s n r steps is_steps in
       let k = object_whole steps.1.records (ended f.ends x.from) x.from t u is_object_type in
       let back : Extends spoken_of later = further o.continues.extends c.extends in
-      let before = before_mention s steps.1 later (mentions_in f) Object u place_of back in
-      (shape, u, q.number, q.object,
-      v.holds later before steps.1.records before.records.0 before.records.1 base shape is_shape,
-      sized_later before (at_file_scope later) refl shape d.value u k.1
-      (subst (IsSizedOver steps.1.records shape d.value) k.2 (sized_so steps.1.records x.from shape d.value t is_sized)),
-      subst (λ ends. is_object (ended ends x.from) u ≡ true) (sym (further v.grew.extends before).ends) k.0,
-      o.own,
-      is_mentioned s steps.1 later (mentions_in f) Object u place_of back,
-      q.stands, q.name, q.ty, q.literal,
-      subst (λ b. IsLinkage words b q.object.is_linked) (sym first) q.linkage,
-      subst (λ b. IsFirst b q.object.first place_of) (sym first) q.first_place,
-      q.binds, q.defined)
+      let before = before_mention s steps.1 later (mentions_in f) Object u place_of back in (
+        shape,
+        u,
+        q.number,
+        q.object,
+        v.holds later before steps.1.records before.records.0 before.records.1 base shape is_shape,
+        sized_later before (at_file_scope later) refl shape d.value u k.1
+            (subst (IsSizedOver steps.1.records shape d.value) k.2 (sized_so steps.1.records x.from shape d.value t is_sized)),
+        subst (λ ends. is_object (ended ends x.from) u ≡ true) (sym (further v.grew.extends before).ends) k.0,
+        o.own,
+        is_mentioned s steps.1 later (mentions_in f) Object u place_of back,
+        q.stands,
+        q.name,
+        q.ty,
+        q.literal,
+        subst (λ b. IsLinkage words b q.object.is_linked) (sym first) q.linkage,
+        subst (λ b. IsFirst b q.object.first place_of) (sym first) q.first_place,
+        q.binds,
+        q.defined,
+      )
