@@ -36,7 +36,6 @@ use Rattle.c_checking_files.proofs.Layouts.{IsLaid}
 use Rattle.c_checking_files.proofs.Parts.{NoneBegins}
 use Rattle.c_checking_files.proofs.Scoped.{KeepsConstants}
 use Rattle.c_checking_files.proofs.Wholes.{typed_initial, FoundWhole, sound_whole, constants_are}
-use Rattle.c_checking_files.proofs.LocalObjects.{constants_later}
 use Rattle.c_checking_files.proofs.FileScopes.{IsSameObject, Continues, continues_itself, continues_then, adds_continues, MayDeclare, StandsFor}
 
 -- ---- declared for the first time, or again

@@ -1,7 +1,7 @@
 -- What is found inside of a function, in each file that goes on from the one that finding leaves and with each longer list of locals.
 use Rattle.std.proofs.Common.{◌≡◌, ℕ, zero, suc, ◌+◌, Bool, true, false, refl, sym, ap, ◌∙◌, subst, List, [], ◌∷◌, ◌++◌, length, append-nil, append_assoc}
 use Rattle.std.proofs.Common.{length-append, arith}
-use Rattle.std.specs.Prelude.{Some, Ok}
+use Rattle.std.specs.Prelude.{Ok}
 use Rattle.c_types.specs.Limits.{AreComplete}
 use Rattle.c_ast.specs.Trees
 use Rattle.c_types.specs.Types.{CType}
@@ -12,9 +12,7 @@ use Rattle.c_erasure.specs.Noted.{Noted}
 use Rattle.c_checking.specs.Initializers.{initializer}
 use Rattle.c_checking_files.proofs.Wholes.{typed_initial}
 use Rattle.c_ast.specs.Places.{first}
-use Rattle.c_typed.specs.InitialValues.{InitialValue, initial_value}
-use Rattle.c_typed.specs.Typed.{IsTyped}
-use Rattle.c_erasure.specs.Erasure.{typed, Erases}
+use Rattle.c_erasure.specs.Erasure.{Erases}
 use Rattle.c_erasure.specs.Files.{count_up}
 use Rattle.c_erasure.specs.Literals.{literals}
 use Rattle.c_erasure.specs.Marks.{Mark, marks}
