@@ -118,7 +118,8 @@ module _ (untagged : ℕ → List ℕ) where
       → IsDeclaratorInRange d.declarator → Ready (at_file_scope f) (marks_of_declarator untagged d.declarator)
       → (steps : List Derivation × FileScope) → derivations d.declarator (at_file_scope f) ≡ Ok steps → (shape : Shape)
       → derived steps.1.records steps.0 base ≡ Ok shape → (t : CType) → sized_in steps.1.records x.from shape d.value ≡ Ok t → is_function t ≡ true
-      → ((b : Bound) → declared_among (with_mention (at_file_scope f) (mentions_in f) Named t (first_declarator d.declarator x.from) steps.1).names x.text ≡ Some b
+      → ((b : Bound)
+      → declared_among (with_mention (at_file_scope f) (mentions_in f) Named t (first_declarator d.declarator x.from) steps.1).names x.text ≡ Some b
       → StandsFor (with_mention (at_file_scope f) (mentions_in f) Named t (first_declarator d.declarator x.from) steps.1) x
       (first_declarator d.declarator x.from) b)
       → (g : FileScope)

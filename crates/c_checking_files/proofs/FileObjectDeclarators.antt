@@ -1,28 +1,38 @@
 -- Objects that a declarator of the file scope declares and may define (C99 6.9.2).
-use Rattle.std.proofs.Common.{◌≡◌, ℕ, Bool, true, false, refl, sym, ap, ◌∙◌, subst, List, [], length}
+use Rattle.std.proofs.Common.{◌≡◌, ℕ, Bool, true, refl, sym, ◌∙◌, subst, List, [], length}
 use Rattle.std.specs.Prelude.{Option, Some, None, Ok, slice_get, is_none}
 use Rattle.c_types.specs.Limits.{AreComplete}
 use Rattle.c_types.specs.Objects.{is_object}
-use Rattle.c_types.specs.Types.{CType}
+use Rattle.c_types.specs.Types.{CType, Record}
 use Rattle.c_ast.specs.declared.words.Spelling.{Spelling}
 use Rattle.c_ast.specs.Trees
 use Rattle.c_erasure.specs.Erasure.{IsBound}
-use Rattle.c_erasure.specs.Files.{IsOwnName, IsLinkage, IsFirst, IsDefinition, object_how, bound}
-use Rattle.c_erasure.specs.Marks.{marks_of_initial}
-use Rattle.c_erasure.specs.Scopes.{FileScope, Bound, AnObject, an_object, at_file_scope}
+use Rattle.c_typed.specs.declared.program.MentionKind.TheVariants.{Object}
+use Rattle.c_ast.specs.Places.{first_declarator}
+use Rattle.c_erasure.specs.Declarators.{Shape}
+use Rattle.c_erasure.specs.Files.{is_first, IsObject, IsOwnName, IsLinkage, IsFirst, IsDefinition, object_how, bound}
+use Rattle.c_erasure.specs.Marks.{marks_of_initial, marks_of_declarator}
+use Rattle.c_erasure.specs.Scopes.{FileScope, Bound, AnObject, an_object, at_file_scope, ended}
 use Rattle.c_erasure.specs.Specifiers.{Storage}
-use Rattle.c_checking.specs.Answers.{Answer, ◌>>=◌}
-use Rattle.c_checking.specs.Declaring.{declared_among, with_bound}
-use Rattle.c_checking.specs.Files.{library_named, once, defined_among, object_of, define_object, defined_once, declare_object}
-use Rattle.c_checking.proofs.Results.{bound_ok, given}
+use Rattle.c_checking.specs.Answers.{Answer}
+use Rattle.c_checking.specs.Declaring.{declared_among, with_bound, with_mention, mentions_in, Derivation, derived, object_at}
+use Rattle.c_checking.specs.Finding.{derivations}
+use Rattle.c_checking.specs.Nodes.{is_complete}
+use Rattle.c_checking.specs.Statements.{sized_in}
+use Rattle.c_checking.specs.Files.{library_named, defined_among, object_of, define_object, defined_once, declare_object}
+use Rattle.c_checking.proofs.Results.{bound_ok, given, only_if}
 use Rattle.c_checking.proofs.Extends.{Extends, further}
 use Rattle.c_checking.proofs.Agreement.{Ready}
-use Rattle.c_checking_files.proofs.Layouts.{IsLaid}
-use Rattle.c_checking_files.proofs.Parts.{NoneBegins}
+use Rattle.c_checking.proofs.InRange.{IsDeclaratorInRange}
+use Rattle.c_checking.proofs.NodesOfParts.{complete_is}
+use Rattle.c_checking.proofs.Declared.{is_mentioned, before_mention}
+use Rattle.c_checking.proofs.Sound.{sound_steps}
+use Rattle.c_checking_files.proofs.Locals.{IsSizedOver, sized_so, sized_later}
 use Rattle.c_checking_files.proofs.Scoped.{KeepsConstants}
 use Rattle.c_checking_files.proofs.LocalObjects.{IsValueInRange}
-use Rattle.c_checking_files.proofs.FileScopes.{Continues, continues_then, MayDeclare, StandsFor, own_answer, own_is, once_answer, bound_there, bound_put, first_later}
-use Rattle.c_checking_files.proofs.FileObjects.{IsTheObject, object_is, IsLaterFile, FoundDefinition, definition_found}
+use Rattle.c_checking_files.proofs.FileScopes.{Continues, continues_then, MayDeclare, StandsFor, own_answer, own_is, once_answer, bound_there, bound_put}
+use Rattle.c_checking_files.proofs.FileScopes.{first_later}
+use Rattle.c_checking_files.proofs.FileObjects.{IsTheObject, object_is, IsLaterFile, definition_found}
 
 -- one definition at most: what is read stands behind the test
 once_defined : {A : Type 0} (f : FileScope) (x : Spelling) (value : Option (ℕ × Trees.Expression)) (r : Answer A) (z : A) → defined_once f x value r ≡ Ok z
@@ -92,7 +102,8 @@ module _ (untagged : ℕ → List ℕ) where
   object_read f words x place from t (Some value) own range n v may g h =
       let b = bound x from (object_how words (Some value)) (an_object n.0 t) in
       let file = with_bound n.1 b in
-      let d = definition_found untagged file n.0 place value t v.object v.stands (may.undefined value refl v.object v.stands) range may.ready may.complete may.same
+      let d = definition_found untagged file n.0 place value t v.object v.stands
+      (may.undefined value refl v.object v.stands) range may.ready may.complete may.same
       may.known g h in
       record {
         own = own;
@@ -127,3 +138,53 @@ module _ (untagged : ℕ → List ℕ) where
       let n = bound_ok (object_of f words x place t (declared_among f.names x.text)) _ g a.1 in
       let v = object_is f words m x place t (declared_among f.names x.text) k n.0 n.1 in
       object_read f words x place from t value (own_is x.text a.0) range n.0 v (may n.0 v) g (once_defined f x value _ g n.2)
+
+-- an object is complete, also in the list of records
+object_whole : (records : List Record) (count at : ℕ) (t u : CType) → object_at records count at t ≡ Ok u
+    → (is_object count u ≡ true) × (is_object (length records) u ≡ true) × (t ≡ u)
+unfolding object_at
+object_whole records count at t u h =
+    let c = only_if (is_complete records count t) _ _ _ u h in
+    let d = complete_is records count t c.0 in
+    given (λ u. (is_object count u ≡ true) × (is_object (length records) u ≡ true) × (t ≡ u)) t u c.1 (d.0, d.1, refl)
+
+module _ (untagged : ℕ → List ℕ) (f : FileScope) (d : Trees.InitDeclarator) (x : Spelling) (u : CType) (steps : List Derivation × FileScope) where
+  abbrev place_of : ℕ
+  place_of = first_declarator d.declarator x.from
+
+  -- the file that has spoken of the object's type
+  abbrev pub spoken_of : FileScope
+  spoken_of = with_mention (at_file_scope f) (mentions_in f) Object u place_of steps.1
+
+  pub object_found : (words : Storage) (base : CType) (from : ℕ) → IsDeclaratorInRange d.declarator
+      → Ready (at_file_scope f) (marks_of_declarator untagged d.declarator) → derivations d.declarator (at_file_scope f) ≡ Ok steps → (shape : Shape)
+      → derived steps.1.records steps.0 base ≡ Ok shape → (t : CType) → sized_in steps.1.records x.from shape d.value ≡ Ok t
+      → object_at steps.1.records (ended f.ends x.from) x.from t ≡ Ok u → (g : FileScope)
+      → FoundObject untagged spoken_of words x place_of from u d.value g → (h : FileScope) → Continues g h
+      → IsObjectDeclared untagged words x place_of from u d.value (is_none (declared_among spoken_of.names x.text)) h
+      → is_first h x ≡ is_none (declared_among spoken_of.names x.text) → IsObject h words base d x place_of from
+  object_found words base from n r is_steps shape is_shape t is_sized is_object_type g o later c q first =
+      let s = at_file_scope f in
+      let v = sound_steps untagged d.declarator s n r steps is_steps in
+      let k = object_whole steps.1.records (ended f.ends x.from) x.from t u is_object_type in
+      let back : Extends spoken_of later = further o.continues.extends c.extends in
+      let before = before_mention s steps.1 later (mentions_in f) Object u place_of back in (
+        shape,
+        u,
+        q.number,
+        q.object,
+        v.holds later before steps.1.records before.records.0 before.records.1 base shape is_shape,
+        sized_later before (at_file_scope later) refl shape d.value u k.1
+            (subst (IsSizedOver steps.1.records shape d.value) k.2 (sized_so steps.1.records x.from shape d.value t is_sized)),
+        subst (λ ends. is_object (ended ends x.from) u ≡ true) (sym (further v.grew.extends before).ends) k.0,
+        o.own,
+        is_mentioned s steps.1 later (mentions_in f) Object u place_of back,
+        q.stands,
+        q.name,
+        q.ty,
+        q.literal,
+        subst (λ b. IsLinkage words b q.object.is_linked) (sym first) q.linkage,
+        subst (λ b. IsFirst b q.object.first place_of) (sym first) q.first_place,
+        q.binds,
+        q.defined,
+      )

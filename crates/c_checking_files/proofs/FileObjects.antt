@@ -36,7 +36,6 @@ use Rattle.c_checking_files.proofs.Layouts.{IsLaid}
 use Rattle.c_checking_files.proofs.Parts.{NoneBegins}
 use Rattle.c_checking_files.proofs.Scoped.{KeepsConstants}
 use Rattle.c_checking_files.proofs.Wholes.{typed_initial, FoundWhole, sound_whole, constants_are}
-use Rattle.c_checking_files.proofs.LocalObjects.{constants_later}
 use Rattle.c_checking_files.proofs.FileScopes.{IsSameObject, Continues, continues_itself, continues_then, adds_continues, MayDeclare, StandsFor}
 
 -- ---- declared for the first time, or again
@@ -265,8 +264,7 @@ module _ (untagged : ℕ → List ℕ) where
                 i.0.0,
                 (
                   b.0,
-                  constants_later (declared (moved s i.0.1)) (declared (at_file_scope h)) t i.0.0
-                      (λ y m is_typed has. keeps s [] y m is_typed has) b.1
+                  keeps value.1 s t i.0.0 [] (x.1 ∙ ap (λ z. Ok z) (pair_is x.0 i.0 d.0 w.1)) b.1
                       (subst (λ file. Rattle.c_erasure.specs.Initializers.AreConstants (declared (moved s file)) i.0.0) w.1 d.1),
                 ),
                 ap (λ (o : AnObject). o.initial) is,

@@ -19,3 +19,4 @@ pub mod FileObjects
 pub mod FileFunctions
 pub mod FileDeclarators
 pub mod FileObjectDeclarators
+pub mod FileDefinitions

@@ -180,11 +180,8 @@ module _ (untagged : ℕ → List ℕ) (f : FileScope) where
         holds = λ g l e.
             let b = v.holds g l e in
             let i = subst (λ i. IsInitializer value.1 (seen s g l) t i) k.0 b.0 in
-            let d = subst (λ i. IsTypedInitializer (declared (seen s g l)) t (typed_initial i)) k.0 b.1 in (
-              i,
-              constants_later (declared (moved s x.0.1)) (declared (seen s g l)) t z.0
-                  (λ y u is_typed is. e.constants x.0.1 v.within.extends e.extends s l y u is_typed is) d k.1,
-            );
+            let d = subst (AreConstants (declared (moved s x.0.1))) (sym k.0) k.1 in
+            (i, subst (AreConstants (declared (seen s g l))) k.0 (e.constants x.0.1 v.within.extends e.extends value.1 s t x.0.0 l x.1 b.1 d));
       })
     where
       moved_to : {g : FileScope} → g ≡ z.1 → FoundInitializer s (spoken value.1) (literals value.1) (AreConstantsIn s t (Some value) z.0) g

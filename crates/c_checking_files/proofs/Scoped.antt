@@ -1,13 +1,18 @@
 -- What is found inside of a function, in each file that goes on from the one that finding leaves and with each longer list of locals.
 use Rattle.std.proofs.Common.{◌≡◌, ℕ, zero, suc, ◌+◌, Bool, true, false, refl, sym, ap, ◌∙◌, subst, List, [], ◌∷◌, ◌++◌, length, append-nil, append_assoc}
 use Rattle.std.proofs.Common.{length-append, arith}
-use Rattle.std.specs.Prelude.{Some, Ok}
+use Rattle.std.specs.Prelude.{Ok}
 use Rattle.c_types.specs.Limits.{AreComplete}
 use Rattle.c_ast.specs.Trees
+use Rattle.c_types.specs.Types.{CType}
+use Rattle.c_typed.specs.Trees as Typed
+use Rattle.c_typed.specs.TypedStatements.{IsTypedInitializer}
+use Rattle.c_erasure.specs.Initializers.{AreConstants}
+use Rattle.c_erasure.specs.Noted.{Noted}
+use Rattle.c_checking.specs.Initializers.{initializer}
+use Rattle.c_checking_files.proofs.Wholes.{typed_initial}
 use Rattle.c_ast.specs.Places.{first}
-use Rattle.c_typed.specs.InitialValues.{InitialValue, initial_value}
-use Rattle.c_typed.specs.Typed.{IsTyped}
-use Rattle.c_erasure.specs.Erasure.{typed, Erases}
+use Rattle.c_erasure.specs.Erasure.{Erases}
 use Rattle.c_erasure.specs.Files.{count_up}
 use Rattle.c_erasure.specs.Literals.{literals}
 use Rattle.c_erasure.specs.Marks.{Mark, marks}
@@ -71,10 +76,10 @@ grown_none e p = omega (arith, e, p.counted)
 
 -- ---- what is asked of a later file and its locals
 
--- constants have their values in later files too
+-- the constants of an initializer that is found have their values in a later file too
 abbrev pub KeepsConstants : FileScope → FileScope → Type 0
-KeepsConstants f g = (s : Scope) (l : List ALocal) (x : Expression) (v : InitialValue) → IsTyped (declared (seen s g l)) (typed x)
-    → initial_value (declared (moved s f)) (typed x) ≡ Some v → initial_value (declared (seen s g l)) (typed x) ≡ Some v
+KeepsConstants f g = (a : Trees.Expression) (s : Scope) (t : CType) (i : Typed.Initializer Noted) (l : List ALocal) → initializer a s t ≡ Ok (i, f)
+    → IsTypedInitializer (declared (seen s g l)) t (typed_initial i) → AreConstants (declared (moved s f)) i → AreConstants (declared (seen s g l)) i
 
 pub record IsLater (f : FileScope) (after : Scope) (texts : List ℕ) (g : FileScope) (l : List ALocal) : Type 0 where
   pub extends : Extends after.file g
