@@ -36,17 +36,20 @@ fn is_note_of(r: u32, note: &Option<Boxed<SizeOf>>) -> bool
     }
 }
 
-/// An expression without the implicit conversion at its top.
+/// An expression without the implicit conversion at its top, where no note stands beside that.
 fn lent_unconverted(e: &Expression) -> &Expression
     ensures { expression_of result.now ≡ unconverted (expression_of e.now) }
 {
     match &e.node {
-        ExpressionNode::Convert(x, false) => x.get(),
+        ExpressionNode::Convert(x, false) => match &e.note {
+            None => x.get(),
+            Some(_) => e,
+        },
         _ => e,
     }
 }
 
-/// An expression without the implicit conversion at its top.
+/// An expression without the implicit conversion at its top, where no note stands beside that.
 pub fn unconverted(e: Expression) -> Expression
     ensures { expression_of result ≡ unconverted (expression_of e) }
 {
@@ -57,7 +60,15 @@ pub fn unconverted(e: Expression) -> Expression
         node,
     } = e;
     match node {
-        ExpressionNode::Convert(x, false) => x.into_inner(),
+        ExpressionNode::Convert(x, false) => match note {
+            None => x.into_inner(),
+            Some(size) => Expression {
+                ty,
+                note: Some(size),
+                place,
+                node: ExpressionNode::Convert(x, false),
+            },
+        },
         node => Expression {
             ty,
             note,
