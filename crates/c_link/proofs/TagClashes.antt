@@ -1,10 +1,10 @@
 -- The troubles that are found record after record are those with tags.
-use Rattle.std.proofs.Common.{◌≡◌, Bor, ℕ, ◌+◌, ◌⊎◌, inl, inr, Bool, true, false, ◌&&◌, List, [], ◌∷◌, ◌++◌, Option, Some, None, fold, map, flat_map, refl, sym, ap, ◌∙◌, subst, append_assoc, get_or, length}
+use Rattle.std.proofs.Common.{◌≡◌, Bor, ℕ, ◌⊎◌, inl, inr, Bool, true, false, ◌&&◌, List, [], ◌∷◌, ◌++◌, Option, Some, None, fold, map, flat_map, refl, sym, ap, ◌∙◌, subst, append_assoc, get_or, length}
 use Rattle.std.specs.Prelude.{if◌then◌else◌, is_some, nat_lt, slice_get, IfSome, MatchOption}
 use Rattle.std.specs.Option.{option_copied, option_map}
 use Rattle.std.specs.Str.{bytes_eq}
 use Rattle.std.proofs.lemmas.Bool.{and_parts, ltb-false, ltb-true}
-use Rattle.std.proofs.lemmas.List.{append-nil, map-append}
+use Rattle.std.proofs.lemmas.List.{map-append}
 use Rattle.std.proofs.lemmas.List.Sums.{fold-append}
 use Rattle.std.proofs.lemmas.Option.{slice_get-get_or, slice_get-map, slice_get_past}
 use Rattle.std.proofs.lemmas.Slice.Eq.{bytes_eq-Decides}
@@ -19,7 +19,7 @@ use Rattle.numbering.specs.Keys.{new_keys, position, with_key}
 use Rattle.c_link.specs.Clashes.{clash, clashes, same_fields, trouble_of}
 use Rattle.c_link.specs.declared.troubles.Trouble as troubles
 use Rattle.c_link.specs.Earliest.{earliest, earliest_of}
-use Rattle.c_link.specs.Gaps.{HasNone, HaveSameMembers, IsEarliest, IsIn, IsTagClash, Trouble}
+use Rattle.c_link.specs.Gaps.{HasNone, IsEarliest, IsIn, IsTagClash, Trouble}
 use Rattle.c_link.specs.Joining.{all_records_in, all_tags, complete_tags, if_any, with_tag}
 use Rattle.c_link.specs.Placing.{place, placed, put, replaces_one}
 use Rattle.c_link.specs.Views.{tagged}

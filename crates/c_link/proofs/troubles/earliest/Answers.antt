@@ -1,5 +1,4 @@
-use Rattle.std.proofs.Common.{◌≡◌, ◌∙◌, ◌∷◌, [], Some, ap, map, sym, rules}
-use Rattle.std.specs.Option.{option_map}
+use Rattle.std.proofs.Common.{◌∙◌, ◌∷◌, [], Some, ap, map, sym}
 use Rattle.std.proofs.lemmas.List.{map-append}
 use Rattle.c_link.specs.Clashes.{trouble_of}
 use Rattle.c_link.specs.Earliest.{earlier_of, earliest_of}
