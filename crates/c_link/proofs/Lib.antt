@@ -1,11 +1,5 @@
-pub mod NumberLists
 pub mod Earliest
 pub mod MainFunction
 pub mod OneProgram
-pub mod Pairs
-pub mod Placed
-pub mod RecordLists
-pub mod Whole
 pub mod TagClashes
-pub mod UnderKeys
 pub mod Unlike

@@ -20,14 +20,14 @@ use Rattle.c_link.specs.Clashes.{clash, clashes, same_fields, trouble_of}
 use Rattle.c_link.specs.declared.troubles.Trouble as troubles
 use Rattle.c_link.specs.Earliest.{earliest, earliest_of}
 use Rattle.c_link.specs.Gaps.{HasNone, IsEarliest, IsIn, IsTagClash, Trouble}
-use Rattle.c_link.specs.Joining.{all_records_in, all_tags, complete_tags, if_any, with_tag}
-use Rattle.c_link.specs.Placing.{place, placed, put, replaces_one}
-use Rattle.c_link.specs.Views.{tagged}
+use Rattle.c_joining.specs.Joining.{all_records_in, all_tags, complete_tags, if_any, with_tag}
+use Rattle.c_joining.specs.Placing.{place, placed, put, replaces_one}
+use Rattle.c_joining.specs.Views.{tagged}
 use Rattle.c_link.proofs.Earliest.{earliest_is}
-use Rattle.c_link.proofs.Pairs.{placed_append}
-use Rattle.c_link.proofs.Placed.{put_mapped}
-use Rattle.c_link.proofs.UnderKeys.{found_at}
-use Rattle.c_link.proofs.Whole.{tags_of_all, with_tag_is}
+use Rattle.c_joining.proofs.Pairs.{placed_append}
+use Rattle.c_joining.proofs.Placed.{put_mapped}
+use Rattle.c_joining.proofs.UnderKeys.{found_at}
+use Rattle.c_joining.proofs.Whole.{tags_of_all, with_tag_is}
 
 -- ---- members
 

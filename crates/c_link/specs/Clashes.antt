@@ -6,7 +6,7 @@ use Rattle.c_types.specs.Types.{Field, Record}
 use Rattle.numbering.specs.Keys.{position}
 use Rattle.c_link.specs.declared.troubles.Trouble as declared
 use Rattle.c_link.specs.Gaps.{Trouble}
-use Rattle.c_link.specs.Placing.{place}
+use Rattle.c_joining.specs.Placing.{place}
 
 abbrev pub trouble_of : declared.Trouble → Trouble
 trouble_of t = record { name = t.name; place = t.place; first = t.first }

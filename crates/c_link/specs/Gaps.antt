@@ -17,7 +17,7 @@ use Rattle.c_typed.specs.declared.program.InitialValue.TheVariants as V
 use Rattle.c_typed.specs.References.{Reference, an_object, a_function, references_by_statement}
 use Rattle.c_typed.specs.Walk.{types_in_statement}
 use Rattle.c_typed.specs.Programs.{FunctionData, UnitData, ProgramData}
-use Rattle.c_link.specs.Joining.{joined, type_in, all_records_in, all_tags, with_tag, if_any}
+use Rattle.c_joining.specs.Joining.{joined, type_in, all_records_in, all_tags, with_tag, if_any}
 
 -- ---- places, in the order of the files and then of their bytes
 

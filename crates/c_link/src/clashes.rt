@@ -7,10 +7,8 @@ ghost use Rattle.c_typed.specs.Programs.{unit_data};
 ghost use Rattle.c_types.specs.Views.{field_of, record_of, records_of};
 ghost use Rattle.std.specs.Option.{option_copied, option_map};
 
-use crate::placing::put;
-use crate::records::{all_records, copy_of_name};
-use crate::tags::{all_tags, number_of};
 use crate::troubles::{Trouble, earliest};
+use c_joining::{all_records, all_tags, copy_of_name, number_of, put};
 use c_typed::Unit;
 use c_types::{Field, Record, same};
 use lay_base::{List, NoMemory, add};

@@ -1,23 +1,13 @@
-//! Joining the files of a program by the names of what they declare (C99 6.2.2, 6.9).
+//! The program of several files, or why they are none (C99 6.2.7, 6.9).
 //!
-//! It stands on `c_typed` and `c_erasure`, on `numbering` for the tables of names, and on `c_renumbering` and `c_type_table` for
-//! the numbers that a unit's parts get in the program. It promises that what it joins is the program that `joined` defines.
+//! It stands on `c_joining`, which joins units, and on `c_typed` and `c_erasure`. It promises that what it answers is the program of the units, or
+//! the first gap in the order in which gaps are looked for.
 #![tactic(auto)]
 
 mod clashes;
-mod identities;
-mod joining;
-mod keys;
-mod placing;
-mod program;
-mod records;
-mod tables;
-mod tags;
 mod troubles;
-mod types;
 mod whole_program;
 
 pub use clashes::tag_clash;
-pub use program::join;
 pub use troubles::Trouble;
 pub use whole_program::{fields_past, has_main, nodes_past};

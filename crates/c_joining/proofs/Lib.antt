@@ -1,0 +1,6 @@
+pub mod NumberLists
+pub mod Pairs
+pub mod Placed
+pub mod RecordLists
+pub mod UnderKeys
+pub mod Whole

@@ -1,0 +1,8 @@
+use Rattle.std.proofs.Common.{◌≡◌, drop, fold}
+use Rattle.numbering.specs.Keys.{with_key}
+use Rattle.c_joining.specs.Joining.{object_identities}
+use Rattle.c_joining.proofs.identities.add_objects.Given as goal
+
+abbrev pub invariant-loop-o : goal.invariant-loop-o
+invariant-loop-o l = fold with_key l.keys (object_identities l.unit l.n (drop l.o-index l.objects))
+    ≡ fold with_key l.initial.keys (object_identities l.unit 0 l.objects)

@@ -1,0 +1,14 @@
+use Rattle.std.proofs.Common.{◌∙◌, ap, fold, map, sym}
+use Rattle.std.specs.Prelude.{flat_map}
+use Rattle.std.proofs.lemmas.List.{drop_all}
+use Rattle.c_typed.specs.Programs.{unit_data}
+use Rattle.numbering.proofs.Laws.{all_new}
+use Rattle.numbering.specs.Keys.{with_key}
+use Rattle.c_joining.specs.Joining.{object_identities, numbered_from}
+use Rattle.c_joining.proofs.identities.all_objects.Goals as goal
+
+pub returns : goal.returns
+returns c =
+    let e = drop_all c.loop-u.u-index c.args.units.now c.loop-u-test.false in
+    ap (λ rest. fold with_key c.loop-u.keys (flat_map (λ u. object_identities u.0 0 u.1.objects) (numbered_from c.loop-u.k (map unit_data rest)))) (sym e)
+    ∙ c.loop-u.invariant ∙ all_new _

@@ -1,0 +1,15 @@
+use Rattle.std.proofs.Common.{◌≡◌, length, map}
+use Rattle.c_renumbering.specs.Numbers.{renaming_of}
+use Rattle.c_renumbering.specs.Parts.{function_in}
+use Rattle.c_typed.specs.Programs.{data_of}
+use Rattle.c_joining.specs.Joining.{is_function_defined, function_identities, paired}
+use Rattle.c_joining.specs.Placing.{placed}
+use Rattle.c_joining.proofs.joining.join_functions.Given as goal
+
+abbrev pub invariant-loop-f : goal.invariant-loop-f
+invariant-loop-f l = record {
+  number : l.n ≡ length l.yielded;
+  functions : map data_of l.all.items
+      ≡ placed is_function_defined l.keys (map data_of l.initial.all.items) (paired (function_identities l.unit 0 (map data_of l.yielded))
+      (map (function_in (renaming_of l.to)) (map data_of l.yielded)));
+}

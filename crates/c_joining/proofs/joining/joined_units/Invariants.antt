@@ -1,0 +1,11 @@
+use Rattle.std.proofs.Common.{◌≡◌, fold, length, map}
+use Rattle.c_typed.specs.Programs.{unit_data}
+use Rattle.c_joining.specs.Joining.{numbered_from}
+use Rattle.c_joining.specs.Views.{joined_of, nothing, tables_of, with_unit}
+use Rattle.c_joining.proofs.joining.joined_units.Given as goal
+
+abbrev pub invariant-loop-u : goal.invariant-loop-u
+invariant-loop-u l = record {
+  number : l.k ≡ length l.yielded;
+  joined : joined_of l.joined ≡ fold (with_unit (tables_of l.tables)) nothing (numbered_from 0 (map unit_data l.yielded));
+}

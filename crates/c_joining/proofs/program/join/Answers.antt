@@ -1,0 +1,26 @@
+use Rattle.std.proofs.Common.{◌≡◌, ◌∙◌, [], true, ap, fold, map}
+use Rattle.std.specs.Prelude.{codes, flat_map}
+use Rattle.c_typed.specs.Programs.{ProgramData, unit_data}
+use Rattle.numbering.specs.Keys.{position}
+use Rattle.c_joining.specs.Joining.{Tables, named, numbered_from, records_in, tables}
+use Rattle.c_joining.specs.Placing.{placed}
+use Rattle.c_joining.specs.Views.{assembled, joined_of, nothing, tables_of, tagged, with_unit}
+use Rattle.c_joining.proofs.Whole.{assembled_is}
+use Rattle.c_joining.proofs.program.join.Goals as goal
+
+pub returns : goal.returns
+returns c =
+    let units = map unit_data c.args.units in
+    let t = tables_of c.in_ok-tables.tables in
+    let whole : Tables → ProgramData =
+    λ them. assembled (placed (λ r. true) them.tags [] (map tagged (flat_map (records_in them.tags) units))) them.types
+    (fold (with_unit them) nothing (numbered_from 0 units)) (position them.functions (named (codes "main"))) in
+    let e : t ≡ tables units = c.in_ok-tables.ensures ∙ ap (λ them. tables (map unit_data them)) c.as_slice.ensures in
+    let a = c.in_ok-all.ensures ∙ ap (λ them. flat_map (records_in t.tags) (map unit_data them)) c.as_slice-2.ensures in
+    let r = c.in_ok-records.ensures ∙ ap (λ them. placed (λ r. true) t.tags [] (map tagged them)) a in
+    c.assembled.ensures
+    ∙ ap (λ them. assembled them t.types (joined_of c.in_ok-joined.joined) c.in_ok-main.main) r
+    ∙ ap (λ j. assembled (placed (λ r. true) t.tags [] (map tagged (flat_map (records_in t.tags) units))) t.types j c.in_ok-main.main) c.in_ok-joined.ensures
+    ∙ ap (assembled (placed (λ r. true) t.tags [] (map tagged (flat_map (records_in t.tags) units))) t.types (fold (with_unit t) nothing (numbered_from 0 units)))
+    c.in_ok-main.ensures
+    ∙ ap whole e ∙ assembled_is units

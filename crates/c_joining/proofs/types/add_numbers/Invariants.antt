@@ -1,0 +1,10 @@
+use Rattle.std.proofs.Common.{◌≡◌, ◌++◌, drop, map}
+use Rattle.c_erasure.specs.Units.{number_in}
+use Rattle.c_renumbering.specs.Numbers.{number_at}
+use Rattle.c_type_table.specs.Renumbered.{renumbered}
+use Rattle.c_types.specs.Views.{type_of}
+use Rattle.c_joining.proofs.types.add_numbers.Given as goal
+
+abbrev pub invariant-loop-t : goal.invariant-loop-t
+invariant-loop-t l = l.numbers ++ map (λ t. number_in (map type_of l.types) (renumbered (number_at l.records) t)) (map type_of (drop l.t-index l.all))
+    ≡ l.initial.numbers ++ map (λ t. number_in (map type_of l.types) (renumbered (number_at l.records) t)) (map type_of l.all)

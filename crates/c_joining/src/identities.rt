@@ -1,0 +1,168 @@
+//! The objects and functions of a program, and the numbers that those of a unit have among them.
+
+ghost use Rattle.std.specs.Prelude.{◌≡◌, ◌+◌, [], IfOk, OnOk, fold, get_or, map};
+ghost use Rattle.c_joining.specs.Joining.{all_functions, all_objects, function_identities, identity, object_identities};
+ghost use Rattle.c_renumbering.specs.Numbers.{number_at};
+ghost use Rattle.c_typed.specs.Programs.{data_of, unit_data};
+ghost use Rattle.numbering.specs.Keys.{position, with_key};
+
+use crate::keys::identity_key;
+use c_renumbering::Numbers;
+use c_typed::{Function, Object, Unit};
+use lay_base::{List, Name, NoMemory, add};
+use numbering::KeyTable;
+use std::alloc::Global;
+
+/// The number after one.
+pub fn next(number: u32) -> Result<u32, NoMemory>
+    ensures { IfOk result (λ n. n ≡ number + 1) }
+{
+    match number.checked_add(1) {
+        Some(n) => Ok(n),
+        None => Err(NoMemory),
+    }
+}
+
+fn add_objects(
+    alloc: Global,
+    keys: &mut KeyTable,
+    unit: u32,
+    objects: &[Object],
+) -> Result<(), NoMemory>
+    ensures { OnOk result (keys.new ≡ fold with_key keys.old (object_identities unit 0 objects.now)) }
+{
+    let mut n: u32 = 0;
+    for o in objects {
+        keys.add(identity_key(alloc, unit, o.linked, &o.name, n)?)?;
+        n = next(n)?;
+    }
+    Ok(())
+}
+
+fn add_functions(
+    alloc: Global,
+    keys: &mut KeyTable,
+    unit: u32,
+    functions: &[Function],
+) -> Result<(), NoMemory>
+    ensures { OnOk result (keys.new ≡ fold with_key keys.old (function_identities unit 0 (map data_of functions.now))) }
+{
+    let mut n: u32 = 0;
+    for f in functions {
+        keys.add(identity_key(alloc, unit, f.linked, &f.name, n)?)?;
+        n = next(n)?;
+    }
+    Ok(())
+}
+
+/// The objects of the units, each once, by their keys.
+pub fn all_objects(alloc: Global, units: &[Unit]) -> Result<KeyTable, NoMemory>
+    ensures { IfOk result (λ keys. keys ≡ all_objects (map unit_data units.now)) }
+{
+    let mut keys = KeyTable::new(alloc);
+    let mut k: u32 = 0;
+    for u in units {
+        add_objects(alloc, &mut keys, k, u.objects.as_slice())?;
+        k = next(k)?;
+    }
+    Ok(keys)
+}
+
+/// The functions of the units, each once, by their keys.
+pub fn all_functions(alloc: Global, units: &[Unit]) -> Result<KeyTable, NoMemory>
+    ensures { IfOk result (λ keys. keys ≡ all_functions (map unit_data units.now)) }
+{
+    let mut keys = KeyTable::new(alloc);
+    let mut k: u32 = 0;
+    for u in units {
+        add_functions(alloc, &mut keys, k, u.functions.as_slice())?;
+        k = next(k)?;
+    }
+    Ok(keys)
+}
+
+pub fn number_of(
+    alloc: Global,
+    keys: &KeyTable,
+    unit: u32,
+    linked: bool,
+    name: &Name,
+    number: u32,
+) -> Result<u32, NoMemory>
+    ensures { IfOk result (λ n. n ≡ position keys.now (identity unit linked name.now number)) }
+{
+    let key = identity_key(alloc, unit, linked, name, number)?;
+    Ok(keys.number(&key))
+}
+
+fn entries_of_objects(
+    alloc: Global,
+    keys: &KeyTable,
+    unit: u32,
+    objects: &[Object],
+) -> Result<List<u32>, NoMemory>
+    ensures { IfOk result (λ numbers. numbers ≡ map (position keys.now) (object_identities unit 0 objects.now)) }
+{
+    let mut numbers = List::new(alloc);
+    let mut n: u32 = 0;
+    for o in objects {
+        add(
+            &mut numbers,
+            number_of(alloc, keys, unit, o.linked, &o.name, n)?,
+        )?;
+        n = next(n)?;
+    }
+    Ok(numbers)
+}
+
+fn entries_of_functions(
+    alloc: Global,
+    keys: &KeyTable,
+    unit: u32,
+    functions: &[Function],
+) -> Result<List<u32>, NoMemory>
+    ensures { IfOk result (λ numbers. numbers ≡ map (position keys.now) (function_identities unit 0 (map data_of functions.now))) }
+{
+    let mut numbers = List::new(alloc);
+    let mut n: u32 = 0;
+    for f in functions {
+        add(
+            &mut numbers,
+            number_of(alloc, keys, unit, f.linked, &f.name, n)?,
+        )?;
+        n = next(n)?;
+    }
+    Ok(numbers)
+}
+
+/// The numbers of a unit's objects.
+pub fn numbers_of_objects(
+    alloc: Global,
+    keys: &KeyTable,
+    unit: u32,
+    objects: &[Object],
+) -> Result<Numbers, NoMemory>
+    ensures { IfOk result (λ numbers. number_at numbers ≡ (λ n. position keys.now (get_or (object_identities unit 0 objects.now) n []))) }
+{
+    let entries = entries_of_objects(alloc, keys, unit, objects)?;
+    Ok(Numbers {
+        entries,
+        otherwise: keys.number(&[]),
+    })
+}
+
+/// The numbers of a unit's functions.
+pub fn numbers_of_functions(
+    alloc: Global,
+    keys: &KeyTable,
+    unit: u32,
+    functions: &[Function],
+) -> Result<Numbers, NoMemory>
+    ensures { IfOk result (λ numbers. number_at numbers ≡ (λ n. position keys.now (get_or (function_identities unit 0 (map data_of functions.now)) n []))) }
+{
+    let entries = entries_of_functions(alloc, keys, unit, functions)?;
+    Ok(Numbers {
+        entries,
+        otherwise: keys.number(&[]),
+    })
+}

@@ -1,0 +1,200 @@
+//! The objects, functions and mentions of the units, one after another.
+
+ghost use Rattle.std.specs.Prelude.{◌≡◌, ◌+◌, ◌++◌, [], IfOk, OnOk, fold, map};
+ghost use Rattle.c_joining.specs.Joining.{function_identities, identity, is_function_defined, is_object_defined, numbered_from, object_identities, paired};
+ghost use Rattle.c_joining.specs.Placing.{place, placed};
+ghost use Rattle.c_joining.specs.Views.{joined_of, nothing, tables_of, with_unit};
+ghost use Rattle.c_renumbering.specs.Numbers.{renaming_of};
+ghost use Rattle.c_renumbering.specs.Parts.{function_in, mention_in, object_in};
+ghost use Rattle.c_typed.specs.Programs.{data_of, unit_data};
+ghost use Rattle.numbering.specs.Keys.{position};
+
+use crate::identities::{next, number_of};
+use crate::placing::{place_function, place_object};
+use crate::tables::{Tables, renumbering};
+use c_renumbering::{Renumbering, renumbered_function, renumbered_mention, renumbered_object};
+use c_typed::{Function, Mention, Object, Unit};
+use lay_base::{List, NoMemory, add};
+use numbering::KeyTable;
+use std::alloc::Global;
+
+/// What the units before gave to the program.
+#[derive(Drop)]
+pub struct Joined {
+    pub objects: Vec<Object>,
+    pub functions: Vec<Function>,
+    pub mentions: List<Mention>,
+    pub nodes: u64,
+}
+
+fn join_object(
+    alloc: Global,
+    keys: &KeyTable,
+    to: &Renumbering,
+    unit: u32,
+    n: u32,
+    all: &mut Vec<Object>,
+    o: Object,
+) -> Result<(), NoMemory>
+    ensures { OnOk result (all.new.items ≡ place is_object_defined all.old.items (position keys.now (identity unit o.linked o.name n)) (object_in (renaming_of to.now) o)) }
+{
+    let number = number_of(alloc, keys, unit, o.linked, &o.name, n)?;
+    let o = renumbered_object(alloc, to, o)?;
+    place_object(all, number, o)
+}
+
+fn join_objects(
+    alloc: Global,
+    keys: &KeyTable,
+    to: &Renumbering,
+    unit: u32,
+    all: &mut Vec<Object>,
+    objects: List<Object>,
+) -> Result<(), NoMemory>
+    ensures { OnOk result (all.new.items ≡ placed is_object_defined keys.now all.old.items (paired (object_identities unit 0 objects) (map (object_in (renaming_of to.now)) objects))) }
+{
+    let mut n: u32 = 0;
+    for o in objects.into_vec() {
+        join_object(alloc, keys, to, unit, n, all, o)?;
+        n = next(n)?;
+    }
+    Ok(())
+}
+
+fn join_function(
+    alloc: Global,
+    keys: &KeyTable,
+    to: &Renumbering,
+    unit: u32,
+    n: u32,
+    all: &mut Vec<Function>,
+    f: Function,
+) -> Result<(), NoMemory>
+    ensures { OnOk result (map data_of all.new.items ≡ place is_function_defined (map data_of all.old.items) (position keys.now (identity unit f.linked f.name n)) (function_in (renaming_of to.now) (data_of f))) }
+{
+    let number = number_of(alloc, keys, unit, f.linked, &f.name, n)?;
+    let f = renumbered_function(alloc, to, f)?;
+    place_function(all, number, f)
+}
+
+fn join_functions(
+    alloc: Global,
+    keys: &KeyTable,
+    to: &Renumbering,
+    unit: u32,
+    all: &mut Vec<Function>,
+    functions: List<Function>,
+) -> Result<(), NoMemory>
+    ensures { OnOk result (map data_of all.new.items ≡ placed is_function_defined keys.now (map data_of all.old.items) (paired (function_identities unit 0 (map data_of functions)) (map (function_in (renaming_of to.now)) (map data_of functions)))) }
+{
+    let mut n: u32 = 0;
+    for f in functions.into_vec() {
+        join_function(alloc, keys, to, unit, n, all, f)?;
+        n = next(n)?;
+    }
+    Ok(())
+}
+
+fn join_mentions(
+    to: &Renumbering,
+    all: &mut List<Mention>,
+    mentions: List<Mention>,
+) -> Result<(), NoMemory>
+    ensures { OnOk result (all.new ≡ all.old ++ map (mention_in (renaming_of to.now)) mentions) }
+{
+    for it in mentions.into_vec() {
+        add(all, renumbered_mention(to, it))?;
+    }
+    Ok(())
+}
+
+/// The sum of two numbers of nodes.
+fn sum(n: u64, m: u64) -> Result<u64, NoMemory>
+    ensures { IfOk result (λ s. s ≡ n + m) }
+{
+    match n.checked_add(m) {
+        Some(s) => Ok(s),
+        None => Err(NoMemory),
+    }
+}
+
+/// What a unit gives to the program by its numbers.
+#[derive(Drop)]
+struct Given {
+    objects: List<Object>,
+    functions: List<Function>,
+    mentions: List<Mention>,
+}
+
+/// What a unit gives, without its records and types.
+fn parts_of(u: Unit) -> Given
+    ensures objects { result.objects ≡ u.objects }
+    ensures functions { result.functions ≡ u.functions }
+    ensures mentions { result.mentions ≡ u.mentions }
+{
+    let Unit {
+        objects,
+        functions,
+        mentions,
+        ..
+    } = u;
+    Given {
+        objects,
+        functions,
+        mentions,
+    }
+}
+
+/// Adds what a unit gives to what those before it gave.
+fn join_unit(
+    alloc: Global,
+    tables: &Tables,
+    unit: u32,
+    joined: &mut Joined,
+    u: Unit,
+) -> Result<(), NoMemory>
+    ensures { OnOk result (joined_of joined.new ≡ with_unit (tables_of tables.now) (joined_of joined.old) (unit, unit_data u)) }
+{
+    let to = renumbering(alloc, tables, unit, &u)?;
+    joined.nodes = sum(joined.nodes, u.nodes)?;
+    let Given {
+        objects,
+        functions,
+        mentions,
+    } = parts_of(u);
+    join_objects(
+        alloc,
+        &tables.objects,
+        &to,
+        unit,
+        &mut joined.objects,
+        objects,
+    )?;
+    join_functions(
+        alloc,
+        &tables.functions,
+        &to,
+        unit,
+        &mut joined.functions,
+        functions,
+    )?;
+    join_mentions(&to, &mut joined.mentions, mentions)
+}
+
+/// What the units give to the program.
+pub fn joined_units(alloc: Global, tables: &Tables, units: List<Unit>) -> Result<Joined, NoMemory>
+    ensures { IfOk result (λ j. joined_of j ≡ fold (with_unit (tables_of tables.now)) nothing (numbered_from 0 (map unit_data units))) }
+{
+    let mut joined = Joined {
+        objects: Vec::new(alloc),
+        functions: Vec::new(alloc),
+        mentions: List::new(alloc),
+        nodes: 0,
+    };
+    let mut k: u32 = 0;
+    for u in units.into_vec() {
+        join_unit(alloc, tables, k, &mut joined, u)?;
+        k = next(k)?;
+    }
+    Ok(joined)
+}

@@ -1,0 +1,59 @@
+//! Names and identities as keys.
+
+ghost use Rattle.std.specs.Prelude.{◌≡◌, ◌++◌, IfOk, OnOk};
+ghost use Rattle.c_joining.specs.Joining.{identity, named, own};
+
+use lay_base::{Name, NoMemory};
+use std::alloc::Global;
+
+fn append(key: &mut Vec<u32>, name: &Name) -> Result<(), NoMemory>
+    ensures { OnOk result (key.new.items ≡ key.old.items ++ name.now) }
+{
+    for byte in name.as_slice() {
+        key.push(u32::from(*byte)).map_err(|_| NoMemory)?;
+    }
+    Ok(())
+}
+
+/// The key of a name.
+pub fn name_key(alloc: Global, name: &Name) -> Result<Vec<u32>, NoMemory>
+    ensures { IfOk result (λ key. key.items ≡ name.now) }
+{
+    let mut key = Vec::new(alloc);
+    append(&mut key, name)?;
+    Ok(key)
+}
+
+/// The key of what has linkage under a name.
+pub fn named_key(alloc: Global, name: &Name) -> Result<Vec<u32>, NoMemory>
+    ensures { IfOk result (λ key. key.items ≡ named name.now) }
+{
+    let mut key = Vec::new(alloc);
+    key.push(0).map_err(|_| NoMemory)?;
+    append(&mut key, name)?;
+    Ok(key)
+}
+
+/// The key of what is a unit's own.
+pub fn own_key(alloc: Global, unit: u32, number: u32) -> Result<Vec<u32>, NoMemory>
+    ensures { IfOk result (λ key. key.items ≡ own unit number) }
+{
+    Vec::from_slice(alloc, &[1, unit, number]).map_err(|_| NoMemory)
+}
+
+/// The key of what a unit has under that number.
+pub fn identity_key(
+    alloc: Global,
+    unit: u32,
+    linked: bool,
+    name: &Name,
+    number: u32,
+) -> Result<Vec<u32>, NoMemory>
+    ensures { IfOk result (λ key. key.items ≡ identity unit linked name.now number) }
+{
+    if linked {
+        named_key(alloc, name)
+    } else {
+        own_key(alloc, unit, number)
+    }
+}

@@ -1,0 +1,102 @@
+//! The records of the units, with the numbers of the program.
+
+ghost use Rattle.std.specs.Prelude.{◌≡◌, ◌++◌, IfOk, OnOk, flat_map, map};
+ghost use Rattle.c_joining.specs.Joining.{records_in};
+ghost use Rattle.c_renumbering.specs.Numbers.{number_at};
+ghost use Rattle.c_type_table.specs.Renumbered.{field_in, record_in};
+ghost use Rattle.c_typed.specs.Programs.{unit_data};
+ghost use Rattle.c_types.specs.Views.{field_of, record_of, records_of};
+
+use crate::tags::numbers_of_structures;
+use c_renumbering::Numbers;
+use c_type_table::renumbered_type;
+use c_typed::Unit;
+use c_types::{Field, Record};
+use lay_base::{List, Name, NoMemory, add};
+use numbering::KeyTable;
+use std::alloc::Global;
+
+/// A copy of a name.
+pub fn copy_of_name(alloc: Global, name: &Name) -> Result<Name, NoMemory>
+    ensures { IfOk result (λ copy. copy ≡ name.now) }
+{
+    match Vec::from_slice(alloc, name.as_slice()) {
+        Ok(bytes) => Ok(Name::of(bytes)),
+        Err(_) => Err(NoMemory),
+    }
+}
+
+fn renumbered_field(alloc: Global, numbers: &Numbers, f: &Field) -> Result<Field, NoMemory>
+    ensures { IfOk result (λ r. field_of r ≡ field_in (number_at numbers.now) (field_of f.now)) }
+{
+    let name = copy_of_name(alloc, &f.name)?;
+    let ty = renumbered_type(alloc, numbers, &f.ty)?;
+    Ok(Field {
+        name,
+        ty,
+        place: f.place,
+    })
+}
+
+fn renumbered_fields(
+    alloc: Global,
+    numbers: &Numbers,
+    fields: &[Field],
+) -> Result<List<Field>, NoMemory>
+    ensures { IfOk result (λ r. map field_of r ≡ map (field_in (number_at numbers.now)) (map field_of fields.now)) }
+{
+    let mut done = List::new(alloc);
+    for f in fields {
+        add(&mut done, renumbered_field(alloc, numbers, f)?)?;
+    }
+    Ok(done)
+}
+
+fn renumbered_record(alloc: Global, numbers: &Numbers, it: &Record) -> Result<Record, NoMemory>
+    ensures { IfOk result (λ r. record_of r ≡ record_in (number_at numbers.now) (record_of it.now)) }
+{
+    let tag = copy_of_name(alloc, &it.tag)?;
+    let fields = renumbered_fields(alloc, numbers, it.fields.as_slice())?;
+    Ok(Record {
+        tag,
+        place: it.place,
+        fields,
+    })
+}
+
+fn add_records(
+    alloc: Global,
+    numbers: &Numbers,
+    all: &mut List<Record>,
+    records: &[Record],
+) -> Result<(), NoMemory>
+    ensures { OnOk result (records_of all.new ≡ records_of all.old ++ map (record_in (number_at numbers.now)) (records_of records.now)) }
+{
+    for it in records {
+        add(all, renumbered_record(alloc, numbers, it)?)?;
+    }
+    Ok(())
+}
+
+fn add_records_of(
+    alloc: Global,
+    tags: &KeyTable,
+    all: &mut List<Record>,
+    u: &Unit,
+) -> Result<(), NoMemory>
+    ensures { OnOk result (records_of all.new ≡ records_of all.old ++ records_in tags.now (unit_data u.now)) }
+{
+    let numbers = numbers_of_structures(alloc, tags, u)?;
+    add_records(alloc, &numbers, all, u.records.as_slice())
+}
+
+/// All records of the units.
+pub fn all_records(alloc: Global, tags: &KeyTable, units: &[Unit]) -> Result<List<Record>, NoMemory>
+    ensures { IfOk result (λ all. records_of all ≡ flat_map (records_in tags.now) (map unit_data units.now)) }
+{
+    let mut all = List::new(alloc);
+    for u in units {
+        add_records_of(alloc, tags, &mut all, u)?;
+    }
+    Ok(all)
+}

@@ -1,9 +1,0 @@
-use Rattle.std.proofs.Common.{◌≡◌, drop, fold, map}
-use Rattle.numbering.specs.Keys.{with_key}
-use Rattle.c_typed.specs.Programs.{data_of}
-use Rattle.c_link.specs.Joining.{function_identities}
-use Rattle.c_link.proofs.identities.add_functions.Given as goal
-
-abbrev pub invariant-loop-f : goal.invariant-loop-f
-invariant-loop-f l = fold with_key l.keys (function_identities l.unit l.n (map data_of (drop l.f-index l.functions)))
-    ≡ fold with_key l.initial.keys (function_identities l.unit 0 (map data_of l.functions))

@@ -1,9 +1,0 @@
-use Rattle.std.proofs.Common.{◌≡◌, ◌++◌, drop, map}
-use Rattle.numbering.specs.Keys.{position}
-use Rattle.c_typed.specs.Programs.{data_of}
-use Rattle.c_link.specs.Joining.{function_identities}
-use Rattle.c_link.proofs.identities.entries_of_functions.Given as goal
-
-abbrev pub invariant-loop-f : goal.invariant-loop-f
-invariant-loop-f l = l.numbers ++ map (position l.keys) (function_identities l.unit l.n (map data_of (drop l.f-index l.functions)))
-    ≡ map (position l.keys) (function_identities l.unit 0 (map data_of l.functions))

@@ -1,0 +1,8 @@
+//! What a typed tree refers to.
+
+/// An object or a function of the program, by its number.
+#[derive(Clone, Copy, Debug, PartialEq, Eq)]
+pub enum Reference {
+    Object(u32),
+    Function(u32),
+}
