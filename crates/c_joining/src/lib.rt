@@ -14,6 +14,7 @@ mod tables;
 mod tags;
 mod types;
 
+pub use identities::next;
 pub use keys::name_key;
 pub use placing::put;
 pub use program::join;

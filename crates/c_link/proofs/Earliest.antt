@@ -1,10 +1,13 @@
 -- The earliest of some troubles: of a list, one that stands at no later place than any.
-use Rattle.std.proofs.Common.{◌≡◌, ◌++◌, Some, ap, ℕ, ◌<◌, ◌≤◌, ◌⊎◌, inl, inr, Bool, true, false, ◌||◌, ◌&&◌, ◌==◌, nat_lt, List, [], ◌∷◌, refl, sym, ◌∙◌, subst, arith}
-use Rattle.std.specs.Prelude.{if◌then◌else◌}
+use Rattle.std.proofs.Common.{◌≡◌, ◌++◌, Option, Some, None, ap, ℕ, ◌<◌, ◌≤◌, ◌⊎◌, inl, inr, Bool, true, false, ◌||◌, ◌&&◌, ◌==◌, nat_lt, List, [], ◌∷◌, refl, sym, ◌∙◌, subst, arith}
+use Rattle.std.specs.Prelude.{if◌then◌else◌, MatchOption}
 use Rattle.std.proofs.lemmas.Bool.{eqb-true, eqb-false, ltb-true, ltb-false}
 use Rattle.lay_base.specs.declared.place.Place.{Place}
 use Rattle.c_link.specs.Earliest.{earlier, earlier_of, earliest, earliest_of, is_earlier}
-use Rattle.c_link.specs.Gaps.{IsBefore, IsEarliest, IsIn, IsNotAfter, Trouble}
+use Rattle.std.specs.Option.{option_map}
+use Rattle.c_link.specs.Clashes.{trouble_of}
+use Rattle.c_link.specs.declared.troubles.Trouble as troubles
+use Rattle.c_link.specs.Gaps.{HasNone, IsBefore, IsEarliest, IsIn, IsNotAfter, Trouble}
 
 earlier_is : (p q : Place) → is_earlier p q ≡ true → IsBefore p q
 earlier_is p q h =
@@ -101,3 +104,15 @@ one_after t (x ∷ more) u = one_after (earlier t x) more u
 pub one_more_trouble : (all : List Trouble) (u : Trouble) → Some (earlier_of (earliest_of all) u) ≡ earliest_of (all ++ u ∷ [])
 one_more_trouble [] u = refl
 one_more_trouble (t ∷ more) u = ap Some (sym (one_after t more u))
+
+-- ---- the earliest of all, or none
+
+pub earliest_or_none : (Is : Trouble → Type 0) (all : List Trouble) → ((t : Trouble) → Is t → IsIn t all) → ((t : Trouble) → IsIn t all → Is t)
+    → (o : Option troubles.Trouble) → option_map trouble_of o ≡ earliest_of all → MatchOption o (HasNone Is) (λ t. IsEarliest Is (trouble_of t))
+earliest_or_none Is [] f g None e = f
+earliest_or_none Is [] f g (Some t) e = absurd (let k : Some (trouble_of t) ≡ None = e in cc)
+earliest_or_none Is (t ∷ more) f g None e = absurd (let k : None ≡ Some (earliest t more) = e in cc)
+earliest_or_none Is (t ∷ more) f g (Some u) e =
+    let is : trouble_of u ≡ earliest t more = let k : Some (trouble_of u) ≡ Some (earliest t more) = e in cc in
+    let first = earliest_is t more in
+    subst (IsEarliest Is) (sym is) (record { here = g (earliest t more) first.here; earliest = λ other w. first.earliest other (f other w) })

@@ -1,5 +1,12 @@
 pub mod Earliest
+pub mod JoinedRecords
+pub mod Layouts
+pub mod LookUps
 pub mod MainFunction
+pub mod MissingNames
+pub mod NameTroubles
 pub mod OneProgram
+pub mod OpenStructures
+pub mod Repeats
 pub mod TagClashes
 pub mod Unlike

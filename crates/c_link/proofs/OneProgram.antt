@@ -15,12 +15,12 @@ false_is_true : false ≡ true → ⊥
 false_is_true h = cc
 
 pub no_program_with_a_gap : (units : List UnitData) (p : ProgramData) (g : Gap) → IsProgramOfUnits units p → IsGap units g → ⊥
-no_program_with_a_gap units p (tag_clash t) f g = f.whole.agree.tags t g.here
-no_program_with_a_gap units p (name_clash t) f g = f.whole.agree.names t g.1.here
-no_program_with_a_gap units p (twice t) f g = f.whole.agree.once t g.2.here
+no_program_with_a_gap units p (tag_clash t) f g = f.agree.tags t g.here
+no_program_with_a_gap units p (name_clash t) f g = f.agree.names t g.1.here
+no_program_with_a_gap units p (twice t) f g = f.agree.once t g.2.here
 no_program_with_a_gap units p (missing x) f g = elim g.1 [
-  | inl w ↦ f.whole.names w.0 w.1.here
-  | inr w ↦ false_is_true (sym (ap (list_any (λ m. m == w.0)) f.whole.structures) ∙ w.2.0)
+  | inl w ↦ f.complete.names w.0 w.1.here
+  | inr w ↦ false_is_true (sym (ap (list_any (λ m. m == w.0)) f.complete.structures) ∙ w.2.0)
 ]
-no_program_with_a_gap units p no_main f g = g.3 f.whole.main
-no_program_with_a_gap units p (limit which n) f g = some_is_none (which, n) (sym g.1 ∙ f.within_limits)
+no_program_with_a_gap units p no_main f g = g.1.2 f.complete.main
+no_program_with_a_gap units p (limit which n) f g = some_is_none (which, n) (sym g.2 ∙ f.within_limits)

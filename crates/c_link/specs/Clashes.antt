@@ -3,10 +3,9 @@ use Rattle.std.specs.Prelude.{ℕ, Bool, true, false, ◌&&◌, if◌then◌else
 use Rattle.std.specs.Str.{bytes_eq}
 use Rattle.c_types.specs.Sameness.{same_type}
 use Rattle.c_types.specs.Types.{Field, Record}
-use Rattle.numbering.specs.Keys.{position}
 use Rattle.c_link.specs.declared.troubles.Trouble as declared
 use Rattle.c_link.specs.Gaps.{Trouble}
-use Rattle.c_joining.specs.Placing.{place}
+use Rattle.c_link.specs.Repeats.{repeats}
 
 abbrev pub trouble_of : declared.Trouble → Trouble
 trouble_of t = record { name = t.name; place = t.place; first = t.first }
@@ -19,11 +18,10 @@ same_fields [] [] = true
 same_fields (f ∷ more) (g ∷ others) = same_field f g && same_fields more others
 same_fields all others = false
 
--- a record and the first of its tag, where there is one
-abbrev pub clash : Option Record → Record → List Trouble
-clash None r = []
-clash (Some first) r = if same_fields r.fields first.fields then [] else record { name = r.tag; place = r.place; first = first.place } ∷ []
+-- of other members than the first
+abbrev pub differing : Record → Record → List Trouble
+differing first r = if same_fields r.fields first.fields then [] else record { name = r.tag; place = r.place; first = first.place } ∷ []
 
+-- what is told of records one after another, whose tags have these numbers
 abbrev pub clashes : (tags : List (List ℕ)) → (firsts : List Record) → List Record → List Trouble
-clashes tags firsts [] = []
-clashes tags firsts (r ∷ more) = clash (slice_get firsts (position tags r.tag)) r ++ clashes tags (place (λ r. true) firsts (position tags r.tag) r) more
+clashes tags firsts all = repeats (λ r. r.tag) (λ r. true) differing tags firsts all

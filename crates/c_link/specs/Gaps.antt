@@ -8,7 +8,7 @@ use Rattle.std.specs.Str.{bytes_eq}
 use Rattle.lay_base.specs.declared.place.Place.{Place}
 use Rattle.lay_base.specs.declared.faults.LimitKind.{LimitKind}
 use Rattle.lay_base.specs.declared.faults.LimitKind.TheVariants.{Nodes, Fields, Frame, Globals}
-use Rattle.c_types.specs.Types.{CType, CTypes, void, integer, pointer, array, function, structure, no_types, and_type, Record}
+use Rattle.c_types.specs.Types.{CType, CTypes, void, integer, pointer, array, function, structure, no_types, and_type, Record, field_types}
 use Rattle.c_types.specs.Layouts.{size_of}
 use Rattle.c_typed.specs.declared.program.Object.{Object}
 use Rattle.c_typed.specs.declared.program.Initial.{Initial}
@@ -17,7 +17,8 @@ use Rattle.c_typed.specs.declared.program.InitialValue.TheVariants as V
 use Rattle.c_typed.specs.References.{Reference, an_object, a_function, references_by_statement}
 use Rattle.c_typed.specs.Walk.{types_in_statement}
 use Rattle.c_typed.specs.Programs.{FunctionData, UnitData, ProgramData}
-use Rattle.c_joining.specs.Joining.{joined, type_in, all_records_in, all_tags, with_tag, if_any}
+use Rattle.c_type_table.specs.Renumbered.{renumbered}
+use Rattle.c_joining.specs.Joining.{joined, structure_in, all_records_in, all_tags, with_tag, if_any}
 
 -- ---- places, in the order of the files and then of their bytes
 
@@ -56,18 +57,23 @@ pub record Linked : Type 0 where
   pub ty : CType
   pub is_defined : Bool
 
-abbrev pub linked_object : List UnitData → UnitData → Object → List Linked
-linked_object units u o = if o.linked
-    then record { name = o.name; place = o.place; ty = type_in (all_tags units) u (get_or u.types o.ty void); is_defined = is_some o.initial } ∷ []
+-- what an object or a function declares; `number` gives a structure's number in the program
+abbrev pub linked_object_in : (number : ℕ → ℕ) → List CType → Object → List Linked
+linked_object_in number types o = if o.linked
+    then record { name = o.name; place = o.place; ty = renumbered number (get_or types o.ty void); is_defined = is_some o.initial } ∷ []
     else []
 
-abbrev pub linked_function : List UnitData → UnitData → FunctionData → List Linked
-linked_function units u f = if f.is_linked
-    then record { name = f.name; place = f.place; ty = type_in (all_tags units) u (get_or u.types f.ty void); is_defined = is_some f.body } ∷ []
+abbrev pub linked_function_in : (number : ℕ → ℕ) → List CType → FunctionData → List Linked
+linked_function_in number types f = if f.is_linked
+    then record { name = f.name; place = f.place; ty = renumbered number (get_or types f.ty void); is_defined = is_some f.body } ∷ []
     else []
+
+abbrev pub linked_by : (tags : List (List ℕ)) → UnitData → List Linked
+linked_by tags u = flat_map (linked_object_in (structure_in tags u) u.types) u.objects
+    ++ flat_map (linked_function_in (structure_in tags u) u.types) u.functions
 
 abbrev pub linked_in : List UnitData → List Linked
-linked_in units = flat_map (λ u. flat_map (linked_object units u) u.objects ++ flat_map (linked_function units u) u.functions) units
+linked_in units = flat_map (linked_by (all_tags units)) units
 
 abbrev pub of_name : List ℕ → List Linked → List Linked
 of_name x all = filter (λ l. bytes_eq l.name x) all
@@ -107,33 +113,34 @@ abbrev pub is_function : ℕ → Reference → Bool
 is_function n (a_function m) = n == m
 is_function n reference = false
 
-abbrev pub is_used : (Reference → Bool) → ProgramData → Bool
-is_used is p = list_any is (all_references p)
-
-abbrev pub missing_object : ProgramData → ℕ → Object → List Trouble
-missing_object p n o = if is_used (is_object n) p && not (is_some o.initial)
+abbrev pub missing_object : List Reference → ℕ → Object → List Trouble
+missing_object all n o = if list_any (is_object n) all && not (is_some o.initial)
     then record { name = o.name; place = o.place; first = o.place } ∷ []
     else []
 
-abbrev pub missing_function : ProgramData → ℕ → FunctionData → List Trouble
-missing_function p n f = if is_used (is_function n) p && not (is_some f.body)
+abbrev pub missing_function : List Reference → ℕ → FunctionData → List Trouble
+missing_function all n f = if list_any (is_function n) all && not (is_some f.body)
     then record { name = f.name; place = f.place; first = f.place } ∷ []
     else []
 
-abbrev pub missing_objects : ProgramData → ℕ → List Object → List Trouble
-missing_objects p n [] = []
-missing_objects p n (o ∷ more) = missing_object p n o ++ missing_objects p (n + 1) more
+-- of objects and functions from a number on
+abbrev pub missing_objects : List Reference → ℕ → List Object → List Trouble
+missing_objects all n [] = []
+missing_objects all n (o ∷ more) = missing_object all n o ++ missing_objects all (n + 1) more
 
-abbrev pub missing_functions : ProgramData → ℕ → List FunctionData → List Trouble
-missing_functions p n [] = []
-missing_functions p n (f ∷ more) = missing_function p n f ++ missing_functions p (n + 1) more
+abbrev pub missing_functions : List Reference → ℕ → List FunctionData → List Trouble
+missing_functions all n [] = []
+missing_functions all n (f ∷ more) = missing_function all n f ++ missing_functions all (n + 1) more
+
+abbrev pub all_missing : ProgramData → List Trouble
+all_missing p = missing_objects (all_references p) 0 p.objects ++ missing_functions (all_references p) 0 p.functions
 
 abbrev pub IsIn : Trouble → List Trouble → Type 0
 IsIn t [] = ⊥
 IsIn t (u ∷ more) = (t ≡ u) ⊎ IsIn t more
 
 abbrev pub IsMissing : ProgramData → Trouble → Type 0
-IsMissing p t = IsIn t (missing_objects p 0 p.objects ++ missing_functions p 0 p.functions)
+IsMissing p t = IsIn t (all_missing p)
 
 -- ---- structures that no file completes, where a type of a field, of an expression, or of a defined object or function holds them
 
@@ -153,16 +160,15 @@ abbrev mutual
 abbrev pub type_at : ProgramData → ℕ → CType
 type_at p i = get_or p.types i void
 
-abbrev pub held_by_function : ProgramData → FunctionData → List CType
-held_by_function p f = if is_some f.body
-    then map (type_at p) (f.ty ∷ map (λ l. l.ty) (f.parameters ++ f.locals) ++ flat_map types_in_statement (if_any f.body))
-    else []
+-- the numbers of the types of an object and of a function that are defined, with those at the nodes of its body
+abbrev pub types_of_object : Object → List ℕ
+types_of_object o = if is_some o.initial then o.ty ∷ [] else []
 
-abbrev pub held_by_object : ProgramData → Object → List CType
-held_by_object p o = if is_some o.initial then type_at p o.ty ∷ [] else []
+abbrev pub types_of_function : FunctionData → List ℕ
+types_of_function f = if is_some f.body then f.ty ∷ map (λ l. l.ty) (f.parameters ++ f.locals) ++ flat_map types_in_statement (if_any f.body) else []
 
 abbrev pub held_types : ProgramData → List CType
-held_types p = flat_map (λ r. map (λ f. f.ty) r.fields) p.records ++ flat_map (held_by_object p) p.objects ++ flat_map (held_by_function p) p.functions
+held_types p = flat_map field_types p.records ++ map (type_at p) (flat_map types_of_object p.objects ++ flat_map types_of_function p.functions)
 
 abbrev pub is_open : ProgramData → ℕ → Bool
 is_open p r = nat_le (length p.records) r
@@ -230,26 +236,32 @@ pub record Agree (units : List UnitData) : Type 0 where
   pub names : HasNone (IsNameClash units)
   pub once : HasNone (IsTwice units)
 
--- all that is used is there
-pub record IsWhole (units : List UnitData) : Type 0 where
-  pub agree : Agree units
-  pub names : HasNone (IsMissing (joined units))
-  pub structures : open_structures (joined units) ≡ []
-  pub main : HasMain (joined units)
+-- all that a program uses is there, its function `main` too
+pub record IsComplete (p : ProgramData) : Type 0 where
+  pub names : HasNone (IsMissing p)
+  pub structures : open_structures p ≡ []
+  pub main : HasMain p
+
+-- what is missing of a program whose structures have these tags: a name before a tag
+abbrev pub IsMissingOf : (tags : List (List ℕ)) → ProgramData → List ℕ → Type 0
+IsMissingOf tags p x = ((t : Trouble) × IsEarliest (IsMissing p) t × (x ≡ t.name))
+    ⊎ ((r : ℕ) × HasNone (IsMissing p) × IsLeast (open_structures p) r × (x ≡ get_or tags r []))
+
+abbrev pub HasNoMain : ProgramData → Type 0
+HasNoMain p = HasNone (IsMissing p) × (open_structures p ≡ []) × (HasMain p → ⊥)
 
 abbrev pub IsGap : List UnitData → Gap → Type 0
 IsGap units (tag_clash t) = IsEarliest (IsTagClash units) t
 IsGap units (name_clash t) = HasNone (IsTagClash units) × IsEarliest (IsNameClash units) t
 IsGap units (twice t) = HasNone (IsTagClash units) × HasNone (IsNameClash units) × IsEarliest (IsTwice units) t
--- a name before a tag
-IsGap units (missing x) = Agree units × (((t : Trouble) × IsEarliest (IsMissing (joined units)) t × (x ≡ t.name))
-    ⊎ ((r : ℕ) × HasNone (IsMissing (joined units)) × IsLeast (open_structures (joined units)) r × (x ≡ get_or (all_tags units) r [])))
-IsGap units no_main = Agree units × HasNone (IsMissing (joined units)) × (open_structures (joined units) ≡ []) × (HasMain (joined units) → ⊥)
-IsGap units (limit which counted) = IsWhole units × (first_limit (joined units) limits ≡ Some (which, counted))
+IsGap units (missing x) = Agree units × IsMissingOf (all_tags units) (joined units) x
+IsGap units no_main = Agree units × HasNoMain (joined units)
+IsGap units (limit which counted) = Agree units × IsComplete (joined units) × (first_limit (joined units) limits ≡ Some (which, counted))
 
 -- ---- the program of units: they have no gap
 
 pub record IsProgramOfUnits (units : List UnitData) (p : ProgramData) : Type 0 where
-  pub whole : IsWhole units
+  pub agree : Agree units
+  pub complete : IsComplete (joined units)
   pub within_limits : first_limit (joined units) limits ≡ None
   pub joined_units : p ≡ joined units

@@ -1,4 +1,9 @@
 pub mod Clashes
+pub mod Counting
 pub mod Earliest
 pub mod Gaps
+pub mod Linking
+pub mod Missing
+pub mod Names
 pub mod Programs
+pub mod Repeats

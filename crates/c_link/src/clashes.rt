@@ -1,8 +1,9 @@
 //! Structures of one tag whose members differ (C99 6.2.7).
 
 ghost use Rattle.std.specs.Prelude.{◌≡◌, ◌++◌, [], IfOk, MatchOption, OnOk, map};
-ghost use Rattle.c_link.specs.Clashes.{clash, clashes, same_field, same_fields, trouble_of};
+ghost use Rattle.c_link.specs.Clashes.{clashes, differing, same_field, same_fields, trouble_of};
 ghost use Rattle.c_link.specs.Gaps.{HasNone, IsEarliest, IsTagClash};
+ghost use Rattle.c_link.specs.Repeats.{told_if_any};
 ghost use Rattle.c_typed.specs.Programs.{unit_data};
 ghost use Rattle.c_types.specs.Views.{field_of, record_of, records_of};
 ghost use Rattle.std.specs.Option.{option_copied, option_map};
@@ -41,7 +42,7 @@ fn add_clash(
     first: Option<&Record>,
     r: &Record,
 ) -> Result<(), NoMemory>
-    ensures { OnOk result (map trouble_of troubles.new ≡ map trouble_of troubles.old ++ clash (option_map record_of (option_copied first.entry)) (record_of r.now)) }
+    ensures { OnOk result (map trouble_of troubles.new ≡ map trouble_of troubles.old ++ told_if_any differing (option_map record_of (option_copied first.entry)) (record_of r.now)) }
 {
     match first {
         None => Ok(()),

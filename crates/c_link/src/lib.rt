@@ -5,9 +5,19 @@
 #![tactic(auto)]
 
 mod clashes;
+mod gap;
+mod limits;
+mod linked;
+mod linking;
+mod main_function;
+mod missing;
+mod names;
+mod references;
+mod structures;
+mod tag_names;
 mod troubles;
-mod whole_program;
 
-pub use clashes::tag_clash;
+pub use gap::Gap;
+pub use limits::Passed;
+pub use linking::link;
 pub use troubles::Trouble;
-pub use whole_program::{fields_past, has_main, nodes_past};

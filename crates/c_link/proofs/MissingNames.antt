@@ -1,0 +1,99 @@
+-- What is looked for among the keys of all references is what is used and not defined.
+use Rattle.std.proofs.Common.{◌≡◌, ℕ, ◌+◌, ◌==◌, Bool, true, false, not, ◌&&◌, ◌||◌, List, [], ◌∷◌, ◌++◌, Option, fold, map, refl, sym, ap, ◌∙◌}
+use Rattle.std.specs.Prelude.{if◌then◌else◌, is_some, MatchOption}
+use Rattle.std.specs.List.{list_any}
+use Rattle.std.specs.Option.{option_map}
+use Rattle.std.specs.Str.{bytes_eq}
+use Rattle.std.proofs.lemmas.List.Folds.{list_any-append}
+use Rattle.std.proofs.lemmas.Slice.Eq.{bytes_eq-Decides}
+use Rattle.c_typed.specs.declared.program.Object.{Object}
+use Rattle.c_typed.specs.Programs.{FunctionData, ProgramData}
+use Rattle.c_typed.specs.References.{Reference, an_object, a_function}
+use Rattle.numbering.specs.Keys.{is_among, with_key}
+use Rattle.c_link.specs.Clashes.{trouble_of}
+use Rattle.c_link.specs.declared.troubles.Trouble as troubles
+use Rattle.c_link.specs.Earliest.{earliest_of}
+use Rattle.c_link.specs.Gaps.{HasNone, IsEarliest, IsMissing, Trouble, all_missing, all_references, is_function, is_object, missing_functions, missing_objects}
+use Rattle.c_link.specs.Missing.{functions_nowhere, key_of, keys_of, nowhere, objects_nowhere}
+use Rattle.c_link.proofs.Earliest.{earliest_or_none}
+
+-- ---- what is among keys that are added one after another
+
+or_false : (a : Bool) → a ≡ (a || false)
+or_false true = refl
+or_false false = refl
+
+or_true : (a : Bool) → true ≡ (a || true)
+or_true true = refl
+or_true false = refl
+
+or_assoc : (a b c : Bool) → ((a || b) || c) ≡ (a || (b || c))
+or_assoc true b c = refl
+or_assoc false b c = refl
+
+with_one : (known : List (List ℕ)) (x y : List ℕ) → is_among (with_key known y) x ≡ (is_among known x || bytes_eq x y)
+with_one known x y = go (is_among known y) refl
+  where
+    there : (b : Bool) → bytes_eq x y ≡ b → is_among known y ≡ true → is_among known x ≡ (is_among known x || b)
+    there false e h = or_false (is_among known x)
+    there true e h = ap (is_among known) ((bytes_eq-Decides x y).0 e) ∙ h ∙ or_true (is_among known x)
+
+    go : (b : Bool) → is_among known y ≡ b → is_among (if b then known else known ++ y ∷ []) x ≡ (is_among known x || bytes_eq x y)
+    go true h = there (bytes_eq x y) refl h
+    go false h = list_any-append (bytes_eq x) known (y ∷ []) ∙ ap (λ b. is_among known x || b) (sym (or_false (bytes_eq x y)))
+
+among_all : (x : List ℕ) (xs known : List (List ℕ)) → is_among (fold with_key known xs) x ≡ (is_among known x || list_any (bytes_eq x) xs)
+among_all x [] known = or_false (is_among known x)
+among_all x (y ∷ more) known =
+    among_all x more (with_key known y) ∙ ap (λ b. b || list_any (bytes_eq x) more) (with_one known x y)
+    ∙ or_assoc (is_among known x) (bytes_eq x y) (list_any (bytes_eq x) more)
+
+-- ---- references
+
+and_true : (a : Bool) → (a && true) ≡ a
+and_true true = refl
+and_true false = refl
+
+any_object : (n : ℕ) (all : List Reference) → list_any (bytes_eq (key_of (an_object n))) (map key_of all) ≡ list_any (is_object n) all
+any_object n [] = refl
+any_object n (an_object m ∷ more) = ap (λ b. b || list_any (bytes_eq (key_of (an_object n))) (map key_of more)) (and_true (n == m))
+    ∙ ap (λ b. (n == m) || b) (any_object n more)
+any_object n (a_function m ∷ more) = any_object n more
+
+any_function : (n : ℕ) (all : List Reference) → list_any (bytes_eq (key_of (a_function n))) (map key_of all) ≡ list_any (is_function n) all
+any_function n [] = refl
+any_function n (a_function m ∷ more) = ap (λ b. b || list_any (bytes_eq (key_of (a_function n))) (map key_of more)) (and_true (n == m))
+    ∙ ap (λ b. (n == m) || b) (any_function n more)
+any_function n (an_object m ∷ more) = any_function n more
+
+object_is_used : (n : ℕ) (all : List Reference) → is_among (keys_of all) (key_of (an_object n)) ≡ list_any (is_object n) all
+object_is_used n all = among_all (key_of (an_object n)) (map key_of all) [] ∙ any_object n all
+
+function_is_used : (n : ℕ) (all : List Reference) → is_among (keys_of all) (key_of (a_function n)) ≡ list_any (is_function n) all
+function_is_used n all = among_all (key_of (a_function n)) (map key_of all) [] ∙ any_function n all
+
+objects_are : (all : List Reference) (n : ℕ) (os : List Object) → objects_nowhere (keys_of all) n os ≡ missing_objects all n os
+objects_are all n [] = refl
+objects_are all n (o ∷ more) =
+    let t : Trouble = record { name = o.name; place = o.place; first = o.place } in
+    ap (λ b. nowhere b (is_some o.initial) t ++ objects_nowhere (keys_of all) (n + 1) more) (object_is_used n all)
+    ∙ ap (λ rest. nowhere (list_any (is_object n) all) (is_some o.initial) t ++ rest) (objects_are all (n + 1) more)
+
+functions_are : (all : List Reference) (n : ℕ) (fs : List FunctionData) → functions_nowhere (keys_of all) n fs ≡ missing_functions all n fs
+functions_are all n [] = refl
+functions_are all n (f ∷ more) =
+    let t : Trouble = record { name = f.name; place = f.place; first = f.place } in
+    ap (λ b. nowhere b (is_some f.body) t ++ functions_nowhere (keys_of all) (n + 1) more) (function_is_used n all)
+    ∙ ap (λ rest. nowhere (list_any (is_function n) all) (is_some f.body) t ++ rest) (functions_are all (n + 1) more)
+
+pub nowhere_is : (p : ProgramData) (used : List (List ℕ)) → used ≡ keys_of (all_references p)
+    → objects_nowhere used 0 p.objects ++ functions_nowhere used 0 p.functions ≡ all_missing p
+nowhere_is p used h =
+    let all = all_references p in
+    ap (λ them. objects_nowhere them 0 p.objects ++ functions_nowhere them 0 p.functions) h
+    ∙ ap (λ os. os ++ functions_nowhere (keys_of all) 0 p.functions) (objects_are all 0 p.objects)
+    ∙ ap (λ fs. missing_objects all 0 p.objects ++ fs) (functions_are all 0 p.functions)
+
+pub missing_or_none : (p : ProgramData) (o : Option troubles.Trouble) → option_map trouble_of o ≡ earliest_of (all_missing p)
+    → MatchOption o (HasNone (IsMissing p)) (λ t. IsEarliest (IsMissing p) (trouble_of t))
+missing_or_none p o h = earliest_or_none (IsMissing p) (all_missing p) (λ t w. w) (λ t w. w) o h

@@ -1,0 +1,11 @@
+use Rattle.std.proofs.Common.{◌≡◌, ◌++◌, drop, map}
+use Rattle.std.specs.Prelude.{flat_map}
+use Rattle.c_renumbering.specs.Numbers.{number_at}
+use Rattle.c_types.specs.Views.{type_of}
+use Rattle.c_link.specs.Gaps.{linked_object_in}
+use Rattle.c_link.specs.Names.{linked_of}
+use Rattle.c_link.proofs.linked.add_objects.Given as goal
+
+abbrev pub invariant-loop-o : goal.invariant-loop-o
+invariant-loop-o l = map linked_of l.all ++ flat_map (linked_object_in (number_at l.records) (map type_of l.types)) (drop l.o-index l.objects)
+    ≡ map linked_of l.initial.all ++ flat_map (linked_object_in (number_at l.records) (map type_of l.types)) l.objects

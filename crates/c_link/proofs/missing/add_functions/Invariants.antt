@@ -1,0 +1,8 @@
+use Rattle.std.proofs.Common.{◌≡◌, ◌++◌, drop, map}
+use Rattle.c_link.specs.Clashes.{trouble_of}
+use Rattle.c_typed.specs.Programs.{data_of}
+use Rattle.c_link.specs.Missing.{functions_nowhere}
+use Rattle.c_link.proofs.missing.add_functions.Given as goal
+
+abbrev pub invariant-loop-f : goal.invariant-loop-f
+invariant-loop-f l = map trouble_of l.missing ++ functions_nowhere l.used l.n (map data_of (drop l.f-index l.functions)) ≡ map trouble_of l.initial.missing ++ functions_nowhere l.used 0 (map data_of l.functions)

@@ -1,0 +1,7 @@
+use Rattle.std.proofs.Common.{◌≡◌, ◌++◌, drop, map}
+use Rattle.c_link.specs.Clashes.{trouble_of}
+use Rattle.c_link.specs.Missing.{objects_nowhere}
+use Rattle.c_link.proofs.missing.add_objects.Given as goal
+
+abbrev pub invariant-loop-o : goal.invariant-loop-o
+invariant-loop-o l = map trouble_of l.missing ++ objects_nowhere l.used l.n (drop l.o-index l.objects) ≡ map trouble_of l.initial.missing ++ objects_nowhere l.used 0 l.objects

@@ -1,0 +1,11 @@
+use Rattle.std.proofs.Common.{◌≡◌, ◌++◌, drop, map}
+use Rattle.std.specs.Prelude.{flat_map}
+use Rattle.c_typed.specs.Programs.{data_of}
+use Rattle.c_uses.specs.Uses.{reference_of}
+use Rattle.c_typed.specs.References.{references_by_statement}
+use Rattle.c_joining.specs.Joining.{if_any}
+use Rattle.c_link.proofs.references.add_functions.Given as goal
+
+abbrev pub invariant-loop-f : goal.invariant-loop-f
+invariant-loop-f l = map reference_of l.all ++ flat_map (λ f. flat_map references_by_statement (if_any f.body)) (map data_of (drop l.f-index l.functions))
+    ≡ map reference_of l.initial.all ++ flat_map (λ f. flat_map references_by_statement (if_any f.body)) (map data_of l.functions)

@@ -1,0 +1,12 @@
+use Rattle.std.proofs.Common.{◌≡◌, [], drop, fold, map}
+use Rattle.std.specs.Prelude.{flat_map}
+use Rattle.c_typed.specs.Programs.{unit_data}
+use Rattle.numbering.specs.Keys.{with_key}
+use Rattle.c_joining.specs.Joining.{complete_in, complete_tags}
+use Rattle.c_link.proofs.tag_names.add_complete.Given as goal
+
+abbrev pub invariant-loop-u : goal.invariant-loop-u
+invariant-loop-u l = record {
+  names : fold with_key l.names (flat_map complete_in (map unit_data (drop l.u-index l.units))) ≡ fold with_key l.initial.names (flat_map complete_in (map unit_data l.units));
+  keys : l.keys ≡ l.names;
+}

@@ -1,0 +1,12 @@
+use Rattle.std.proofs.Common.{◌≡◌, [], drop, fold, map}
+use Rattle.std.specs.Prelude.{flat_map}
+use Rattle.c_typed.specs.Programs.{unit_data}
+use Rattle.numbering.specs.Keys.{with_key}
+use Rattle.c_joining.specs.Joining.{complete_in, complete_tags}
+use Rattle.c_link.proofs.tag_names.add_names.Given as goal
+
+abbrev pub invariant-loop-name : goal.invariant-loop-name
+invariant-loop-name l = record {
+  names : fold with_key l.names (drop l.name-index l.all) ≡ fold with_key l.initial.names l.all;
+  keys : l.keys ≡ l.names;
+}

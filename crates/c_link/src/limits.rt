@@ -1,0 +1,146 @@
+//! The limits of a program: its nodes, the fields of its structures, and the bytes of its objects.
+
+ghost use Rattle.std.specs.Prelude.{◌≡◌, ◌+◌, ◌++◌, All, IfOk, fold, length, map, get_or};
+ghost use Rattle.std.specs.Int.{next_multiple_of};
+ghost use Rattle.std.specs.Option.{option_map};
+ghost use Rattle.c_link.specs.Counting.{AreLocalsMeasured, AreMeasured, IsMeasured, passed_of};
+ghost use Rattle.c_link.specs.Gaps.{first_limit, first_past, global_bytes, limits, local_bytes, past_alone};
+ghost use Rattle.c_typed.specs.Programs.{data_of, program_data};
+ghost use Rattle.c_types.specs.Layouts.{size_of};
+ghost use Rattle.c_types.specs.Types.{void};
+ghost use Rattle.c_types.specs.Views.{records_of, type_of};
+
+use c_typed::{Function, Local, Object, Typed};
+use c_types::{Record, Records, Ty, size_of};
+use lay_base::{LimitKind, NoMemory};
+
+/// A limit that is passed, and the number that passes it.
+#[derive(Clone, Copy, Debug, PartialEq, Eq)]
+pub struct Passed {
+    pub which: LimitKind,
+    pub counted: u64,
+}
+
+fn past_alone(most: u64, count: u64) -> Option<u64>
+    ensures { result ≡ past_alone most count }
+{
+    if count > most { Some(count) } else { None }
+}
+
+/// The number of fields of the first record that has more than are allowed.
+fn fields_past(records: &[Record]) -> Option<u64>
+    ensures { result ≡ first_past 64 (map (λ r. length r.fields) (records_of records.now)) }
+{
+    for r in records {
+        let count = r.fields.len() as u64;
+        if count > 64 {
+            return Some(count);
+        }
+    }
+    None
+}
+
+/// The size of the type with a number.
+fn size_of_number(records: &Records, types: &[Ty], number: u32) -> u32
+    requires { IsMeasured (records_of records.now) (get_or (map type_of types.now) number void) }
+    ensures { result ≡ size_of (records_of records.now) (get_or (map type_of types.now) number void) }
+{
+    match types.get(number as usize) {
+        Some(t) => size_of(records, t),
+        None => 0,
+    }
+}
+
+/// A sum, where it is one of 64 bits: no memory holds more objects.
+fn sum(n: u64, m: u32) -> Result<u64, NoMemory>
+    ensures { IfOk result (λ s. s ≡ n + m) }
+{
+    n.checked_add(u64::from(m)).ok_or(NoMemory)
+}
+
+/// The bytes of locals, and others before them.
+fn with_locals(p: &Typed, before: u64, locals: &[Local]) -> Result<u64, NoMemory>
+    requires { All (λ l. IsMeasured (records_of p.now.records) (get_or (map type_of p.now.types) l.ty void)) locals.now }
+    ensures { IfOk result (λ n. n ≡ fold (λ n l. n + size_of (records_of p.now.records) (get_or (map type_of p.now.types) l.ty void)) before locals.now) }
+{
+    let mut bytes = before;
+    for l in locals {
+        bytes = sum(bytes, size_of_number(&p.records, p.types.as_slice(), l.ty))?;
+    }
+    Ok(bytes)
+}
+
+/// The bytes of a function's parameters and locals.
+fn local_bytes(p: &Typed, f: &Function) -> Result<u64, NoMemory>
+    requires { AreLocalsMeasured (program_data p.now) (data_of f.now) }
+    ensures { IfOk result (λ n. n ≡ local_bytes (program_data p.now) (data_of f.now)) }
+{
+    let bytes = with_locals(p, 0, f.parameters.as_slice())?;
+    with_locals(p, bytes, f.locals.as_slice())
+}
+
+/// The bytes of the locals of the first function that has more than are allowed.
+fn frame_past(p: &Typed, functions: &[Function]) -> Result<Option<u64>, NoMemory>
+    requires { All (λ f. AreLocalsMeasured (program_data p.now) (data_of f)) functions.now }
+    ensures { IfOk result (λ it. it ≡ first_past 16777216 (map (local_bytes (program_data p.now)) (map data_of functions.now))) }
+{
+    for f in functions {
+        let bytes = local_bytes(p, f)?;
+        if bytes > 16_777_216 {
+            return Ok(Some(bytes));
+        }
+    }
+    Ok(None)
+}
+
+/// The bytes of an object, rounded up to a multiple of 4.
+fn object_bytes(p: &Typed, o: &Object) -> u32
+    requires { IsMeasured (records_of p.now.records) (get_or (map type_of p.now.types) o.now.ty void) }
+    ensures { result ≡ next_multiple_of (size_of (records_of p.now.records) (get_or (map type_of p.now.types) o.now.ty void)) 4 }
+{
+    size_of_number(&p.records, p.types.as_slice(), o.ty).next_multiple_of(4)
+}
+
+/// The bytes of all objects.
+fn global_bytes(p: &Typed, objects: &[Object]) -> Result<u64, NoMemory>
+    requires { All (λ o. IsMeasured (records_of p.now.records) (get_or (map type_of p.now.types) o.ty void)) objects.now }
+    ensures { IfOk result (λ n. n ≡ fold (λ n o. n + next_multiple_of (size_of (records_of p.now.records) (get_or (map type_of p.now.types) o.ty void)) 4) 0 objects.now) }
+{
+    let mut bytes: u64 = 0;
+    for o in objects {
+        bytes = sum(bytes, object_bytes(p, o))?;
+    }
+    Ok(bytes)
+}
+
+/// The first limit that a program passes.
+pub fn limit_past(p: &Typed) -> Result<Option<Passed>, NoMemory>
+    requires { AreMeasured (program_data p.now) }
+    ensures { IfOk result (λ it. option_map passed_of it ≡ first_limit (program_data p.now) limits) }
+{
+    if let Some(counted) = past_alone(131_072, p.nodes) {
+        return Ok(Some(Passed {
+            which: LimitKind::Nodes,
+            counted,
+        }));
+    }
+    if let Some(counted) = fields_past(p.records.as_slice()) {
+        return Ok(Some(Passed {
+            which: LimitKind::Fields,
+            counted,
+        }));
+    }
+    if let Some(counted) = frame_past(p, p.functions.as_slice())? {
+        return Ok(Some(Passed {
+            which: LimitKind::Frame,
+            counted,
+        }));
+    }
+    match past_alone(16_777_216, global_bytes(p, p.objects.as_slice())?) {
+        Some(counted) => Ok(Some(Passed {
+            which: LimitKind::Globals,
+            counted,
+        })),
+        None => Ok(None),
+    }
+}

@@ -1,0 +1,78 @@
+//! The program of units, or their first gap.
+
+ghost use Rattle.std.specs.Prelude.{◌≡◌, [], IfOk, get_or, map};
+ghost use Rattle.c_link.specs.Linking.{AgreeGives, AreCountable, CompleteGives, LinkGives};
+ghost use Rattle.c_typed.specs.Programs.{program_data, unit_data};
+
+use crate::clashes::tag_clash;
+use crate::gap::Gap;
+use crate::limits::limit_past;
+use crate::linked::linked_names;
+use crate::main_function::has_main;
+use crate::missing::missing_name;
+use crate::names::{defined_twice, name_clash};
+use crate::structures::least_open;
+use crate::tag_names::tag_names;
+use c_joining::{copy_of_name, join};
+use c_typed::{Typed, Unit};
+use lay_base::{List, Name, NoMemory};
+use std::alloc::Global;
+
+/// Whether the units agree on tags, on types of names, and on what is defined.
+fn agree(alloc: Global, units: &[Unit]) -> Result<(), Gap>
+    ensures { AgreeGives (map unit_data units.now) result }
+{
+    let linked = linked_names(alloc, units)?;
+    if let Some(t) = tag_clash(alloc, units)? {
+        return Err(Gap::TagClash(t));
+    }
+    if let Some(t) = name_clash(alloc, units, linked.as_slice())? {
+        return Err(Gap::NameClash(t));
+    }
+    match defined_twice(alloc, units, linked.as_slice())? {
+        Some(t) => Err(Gap::Twice(t)),
+        None => Ok(()),
+    }
+}
+
+/// A copy of the tag with a number; there is none past the list's end.
+fn tag_of(alloc: Global, tags: &[Name], number: u32) -> Result<Name, NoMemory>
+    ensures { IfOk result (λ x. x ≡ get_or tags.now number []) }
+{
+    match tags.get(number as usize) {
+        Some(tag) => copy_of_name(alloc, tag),
+        None => Ok(Name::of(Vec::new(alloc))),
+    }
+}
+
+/// Whether all that a program uses is there. Its structures have these tags.
+fn complete(alloc: Global, tags: &[Name], p: &Typed) -> Result<(), Gap>
+    ensures { CompleteGives tags.now (program_data p.now) result }
+{
+    if let Some(t) = missing_name(alloc, p)? {
+        return Err(Gap::Missing(t.name));
+    }
+    if let Some(number) = least_open(alloc, p)? {
+        return Err(Gap::Missing(tag_of(alloc, tags, number)?));
+    }
+    if has_main(p) {
+        Ok(())
+    } else {
+        Err(Gap::NoMain)
+    }
+}
+
+/// The program of units, or their first gap.
+pub fn link(alloc: Global, units: List<Unit>) -> Result<Typed, Gap>
+    requires { AreCountable (map unit_data units) }
+    ensures { LinkGives (map unit_data units) result }
+{
+    agree(alloc, units.as_slice())?;
+    let tags = tag_names(alloc, units.as_slice())?;
+    let p = join(alloc, units)?;
+    complete(alloc, tags.as_slice(), &p)?;
+    match limit_past(&p)? {
+        Some(it) => Err(Gap::Limit(it)),
+        None => Ok(p),
+    }
+}

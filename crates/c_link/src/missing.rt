@@ -1,0 +1,141 @@
+//! Objects and functions that are used and not defined (C99 6.9).
+
+ghost use Rattle.std.specs.Prelude.{◌≡◌, ◌++◌, ◌∷◌, [], IfOk, MatchOption, OnOk, if◌then◌else◌, map};
+ghost use Rattle.c_link.specs.Clashes.{trouble_of};
+ghost use Rattle.c_link.specs.Gaps.{HasNone, IsEarliest, IsMissing};
+ghost use Rattle.c_link.specs.Missing.{function_nowhere, functions_nowhere, key_of, keys_of, nowhere, object_nowhere, objects_nowhere};
+ghost use Rattle.c_typed.specs.Programs.{data_of, program_data};
+ghost use Rattle.c_uses.specs.Uses.{reference_of};
+ghost use Rattle.numbering.specs.Keys.{is_among};
+
+use crate::references::all_references;
+use crate::troubles::{Trouble, earliest};
+use c_joining::{copy_of_name, next};
+use c_typed::{Function, Object, Typed};
+use c_uses::Reference;
+use lay_base::{List, Name, NoMemory, Place, add};
+use numbering::KeyTable;
+use std::alloc::Global;
+
+/// The key of a reference.
+fn key_of(alloc: Global, reference: Reference) -> Result<Vec<u32>, NoMemory>
+    ensures { IfOk result (λ key. key.items ≡ key_of (reference_of reference)) }
+{
+    let key = match reference {
+        Reference::Object(n) => [0, n],
+        Reference::Function(f) => [1, f],
+    };
+    Vec::from_slice(alloc, &key).map_err(|_| NoMemory)
+}
+
+/// What is referred to, each once.
+fn keys_of(alloc: Global, all: &[Reference]) -> Result<KeyTable, NoMemory>
+    ensures { IfOk result (λ used. used ≡ keys_of (map reference_of all.now)) }
+{
+    let mut used = KeyTable::new(alloc);
+    for reference in all {
+        used.add(key_of(alloc, *reference)?)?;
+    }
+    Ok(used)
+}
+
+fn is_used(alloc: Global, used: &KeyTable, reference: Reference) -> Result<bool, NoMemory>
+    ensures { IfOk result (λ it. it ≡ is_among used.now (key_of (reference_of reference))) }
+{
+    let key = key_of(alloc, reference)?;
+    Ok(used.number(&key) < used.len())
+}
+
+/// Adds what is used and not defined.
+fn add_missing(
+    alloc: Global,
+    missing: &mut List<Trouble>,
+    is_missing: bool,
+    name: &Name,
+    place: Place,
+) -> Result<(), NoMemory>
+    ensures { OnOk result (map trouble_of missing.new ≡ map trouble_of missing.old ++ (if is_missing then record { name = name.now; place = place; first = place } ∷ [] else [])) }
+{
+    if !is_missing {
+        return Ok(());
+    }
+    let name = copy_of_name(alloc, name)?;
+    add(
+        missing,
+        Trouble {
+            name,
+            place,
+            first: place,
+        },
+    )
+}
+
+fn add_object(
+    alloc: Global,
+    used: &KeyTable,
+    n: u32,
+    o: &Object,
+    missing: &mut List<Trouble>,
+) -> Result<(), NoMemory>
+    ensures { OnOk result (map trouble_of missing.new ≡ map trouble_of missing.old ++ object_nowhere used.now n o.now) }
+{
+    let is_missing = is_used(alloc, used, Reference::Object(n))? && o.initial.is_none();
+    add_missing(alloc, missing, is_missing, &o.name, o.place)
+}
+
+fn add_function(
+    alloc: Global,
+    used: &KeyTable,
+    n: u32,
+    f: &Function,
+    missing: &mut List<Trouble>,
+) -> Result<(), NoMemory>
+    ensures { OnOk result (map trouble_of missing.new ≡ map trouble_of missing.old ++ function_nowhere used.now n (data_of f.now)) }
+{
+    let is_missing = is_used(alloc, used, Reference::Function(n))? && f.body.is_none();
+    add_missing(alloc, missing, is_missing, &f.name, f.place)
+}
+
+fn add_objects(
+    alloc: Global,
+    used: &KeyTable,
+    objects: &[Object],
+    missing: &mut List<Trouble>,
+) -> Result<(), NoMemory>
+    ensures { OnOk result (map trouble_of missing.new ≡ map trouble_of missing.old ++ objects_nowhere used.now 0 objects.now) }
+{
+    let mut n: u32 = 0;
+    for o in objects {
+        add_object(alloc, used, n, o, missing)?;
+        n = next(n)?;
+    }
+    Ok(())
+}
+
+fn add_functions(
+    alloc: Global,
+    used: &KeyTable,
+    functions: &[Function],
+    missing: &mut List<Trouble>,
+) -> Result<(), NoMemory>
+    ensures { OnOk result (map trouble_of missing.new ≡ map trouble_of missing.old ++ functions_nowhere used.now 0 (map data_of functions.now)) }
+{
+    let mut n: u32 = 0;
+    for f in functions {
+        add_function(alloc, used, n, f, missing)?;
+        n = next(n)?;
+    }
+    Ok(())
+}
+
+/// The earliest object or function of a program that is used and not defined, if there is one.
+pub fn missing_name(alloc: Global, p: &Typed) -> Result<Option<Trouble>, NoMemory>
+    ensures { IfOk result (λ found. MatchOption found (HasNone (IsMissing (program_data p.now))) (λ t. IsEarliest (IsMissing (program_data p.now)) (trouble_of t))) }
+{
+    let references = all_references(alloc, p)?;
+    let used = keys_of(alloc, references.as_slice())?;
+    let mut missing = List::new(alloc);
+    add_objects(alloc, &used, p.objects.as_slice(), &mut missing)?;
+    add_functions(alloc, &used, p.functions.as_slice(), &mut missing)?;
+    Ok(earliest(missing))
+}

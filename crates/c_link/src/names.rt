@@ -1,0 +1,161 @@
+//! Names with two types, and names that are defined twice (C99 6.2.7, 6.9).
+
+ghost use Rattle.std.specs.Prelude.{◌≡◌, ◌++◌, ◌∷◌, [], IfOk, MatchOption, OnOk, fold, if◌then◌else◌, map};
+ghost use Rattle.std.specs.Option.{option_copied, option_map};
+ghost use Rattle.c_link.specs.Clashes.{trouble_of};
+ghost use Rattle.c_link.specs.Gaps.{HasNone, IsEarliest, IsNameClash, IsTwice, linked_in, trouble};
+ghost use Rattle.c_typed.specs.Programs.{unit_data};
+ghost use Rattle.c_link.specs.Names.{counts, linked_of, told_by, troubles_with_names};
+ghost use Rattle.c_link.specs.Earliest.{earliest_of};
+ghost use Rattle.c_link.specs.Repeats.{repeats, told_if_any};
+ghost use Rattle.c_joining.specs.Placing.{replaces_one};
+ghost use Rattle.numbering.specs.Keys.{with_key};
+
+use crate::linked::Linked;
+use crate::troubles::{Trouble, earliest};
+use c_joining::{copy_of_name, name_key, number_of, put};
+use c_typed::Unit;
+use c_types::same;
+use lay_base::{List, NoMemory, add};
+use numbering::KeyTable;
+use std::alloc::Global;
+
+/// What is asked of a name that several units declare.
+#[derive(Clone, Copy, Debug, PartialEq, Eq)]
+enum Asked {
+    OneType,
+    OneDefinition,
+}
+
+/// The names, each once.
+fn names_of(alloc: Global, all: &[Linked]) -> Result<KeyTable, NoMemory>
+    ensures { IfOk result (λ names. names ≡ fold with_key [] (map (λ l. l.name) (map linked_of all.now))) }
+{
+    let mut names = KeyTable::new(alloc);
+    for l in all {
+        names.add(name_key(alloc, &l.name)?)?;
+    }
+    Ok(names)
+}
+
+fn add_trouble(
+    alloc: Global,
+    troubles: &mut List<Trouble>,
+    first: &Linked,
+    l: &Linked,
+) -> Result<(), NoMemory>
+    ensures { OnOk result (map trouble_of troubles.new ≡ map trouble_of troubles.old ++ trouble (linked_of l.now) (linked_of first.now) ∷ []) }
+{
+    let name = copy_of_name(alloc, &l.name)?;
+    add(
+        troubles,
+        Trouble {
+            name,
+            place: l.place,
+            first: first.place,
+        },
+    )
+}
+
+/// Whether two of one name are at odds.
+fn differ(asked: Asked, first: &Linked, l: &Linked) -> bool
+    ensures { told_by asked (linked_of first.now) (linked_of l.now) ≡ (if result then trouble (linked_of l.now) (linked_of first.now) ∷ [] else []) }
+{
+    match asked {
+        Asked::OneType => !same(&l.ty, &first.ty),
+        Asked::OneDefinition => first.is_defined && l.is_defined,
+    }
+}
+
+fn tell(
+    alloc: Global,
+    asked: Asked,
+    troubles: &mut List<Trouble>,
+    first: Option<&Linked>,
+    l: &Linked,
+) -> Result<(), NoMemory>
+    ensures { OnOk result (map trouble_of troubles.new ≡ map trouble_of troubles.old ++ told_if_any (told_by asked) (option_map linked_of (option_copied first.entry)) (linked_of l.now)) }
+{
+    match first {
+        None => Ok(()),
+        Some(first) => {
+            if differ(asked, first, l) {
+                add_trouble(alloc, troubles, first, l)
+            } else {
+                Ok(())
+            }
+        }
+    }
+}
+
+/// Whether a declaration takes the place of the one that stands for those of its name.
+fn takes_place(asked: Asked, first: Option<&Linked>, l: &Linked) -> bool
+    ensures { result ≡ replaces_one (counts asked) (option_map linked_of (option_copied first.entry)) (linked_of l.now) }
+{
+    match first {
+        None => false,
+        Some(first) => match asked {
+            Asked::OneType => false,
+            Asked::OneDefinition => !first.is_defined && l.is_defined,
+        },
+    }
+}
+
+/// The troubles with names, in their order.
+fn name_troubles(
+    alloc: Global,
+    asked: Asked,
+    names: &KeyTable,
+    all: &[Linked],
+) -> Result<List<Trouble>, NoMemory>
+    ensures { IfOk result (λ troubles. map trouble_of troubles ≡ repeats (λ l. l.name) (counts asked) (told_by asked) names.now [] (map linked_of all.now)) }
+{
+    let mut troubles = List::new(alloc);
+    let mut firsts: Vec<&Linked> = Vec::new(alloc);
+    for l in all {
+        let number = number_of(alloc, names, &l.name)?;
+        let first = firsts.get(number as usize).copied();
+        tell(alloc, asked, &mut troubles, first, l)?;
+        put(&mut firsts, number, takes_place(asked, first, l), l)?;
+    }
+    Ok(troubles)
+}
+
+/// The earliest trouble with a name, if there is one.
+fn earliest_trouble(
+    alloc: Global,
+    asked: Asked,
+    all: &[Linked],
+) -> Result<Option<Trouble>, NoMemory>
+    ensures { IfOk result (λ found. option_map trouble_of found ≡ earliest_of (troubles_with_names asked (map linked_of all.now))) }
+{
+    let names = names_of(alloc, all)?;
+    let troubles = name_troubles(alloc, asked, &names, all)?;
+    Ok(earliest(troubles))
+}
+
+/// The earliest name of units that has two types, if there is one. The names are those of the units.
+#[tactic(auto, using(crate::proofs::NameTroubles::clash_or_none))]
+pub fn name_clash(
+    alloc: Global,
+    units: &[Unit],
+    all: &[Linked],
+) -> Result<Option<Trouble>, NoMemory>
+    requires { map linked_of all.now ≡ linked_in (map unit_data units.now) }
+    ensures { IfOk result (λ found. MatchOption found (HasNone (IsNameClash (map unit_data units.now))) (λ t. IsEarliest (IsNameClash (map unit_data units.now)) (trouble_of t))) }
+{
+    earliest_trouble(alloc, Asked::OneType, all)
+}
+
+/// The earliest name of units that is defined twice, if there is one. The names are those of the units.
+#[tactic(auto, using(crate::proofs::NameTroubles::twice_or_none))]
+pub fn defined_twice(
+    alloc: Global,
+    units: &[Unit],
+    all: &[Linked],
+) -> Result<Option<Trouble>, NoMemory>
+    requires { map linked_of all.now ≡ linked_in (map unit_data units.now) }
+    ensures { IfOk result (λ found. MatchOption found (HasNone (IsTwice (map unit_data units.now))) (λ t. IsEarliest (IsTwice (map unit_data units.now)) (trouble_of t))) }
+{
+    earliest_trouble(alloc, Asked::OneDefinition, all)
+}

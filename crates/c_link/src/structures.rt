@@ -1,0 +1,181 @@
+//! Structures that no file completes, where a type of the program holds them (C99 6.2.5).
+
+ghost use Rattle.std.specs.Prelude.{◌≡◌, ◌++◌, [], IfOk, MatchOption, None, OnOk, flat_map, fold, map};
+ghost use Rattle.c_link.specs.Gaps.{IsLeast, open_structures, structures_in, types_of_function, types_of_object};
+ghost use Rattle.c_link.specs.Missing.{least_among, least_in, lesser, lesser_at, lesser_if_any, lesser_of};
+ghost use Rattle.c_typed.specs.Programs.{data_of, program_data};
+ghost use Rattle.c_types.specs.Types.{field_types};
+ghost use Rattle.c_types.specs.Views.{field_of, records_of, type_of};
+
+use c_typed::{Function, Local, Object, Statement, Typed};
+use c_types::{Field, Record, Ty};
+use c_uses::statement_types;
+use lay_base::{List, NoMemory, add};
+use std::alloc::Global;
+
+fn lesser_of(best: Option<u32>, n: u32) -> Option<u32>
+    ensures { result ≡ lesser_of best n }
+{
+    match best {
+        None => Some(n),
+        Some(m) => { if n < m { Some(n) } else { Some(m) } }
+    }
+}
+
+fn lesser(count: u32, best: Option<u32>, n: u32) -> Option<u32>
+    ensures { result ≡ lesser count best n }
+{
+    if count <= n { lesser_of(best, n) } else { best }
+}
+
+/// The least number of a structure from `count` on, among those in a type and one found before.
+fn least_among(count: u32, best: Option<u32>, t: &Ty) -> Option<u32>
+    ensures { result ≡ least_among count best (structures_in (type_of t.now)) }
+{
+    match t {
+        Ty::Void | Ty::Int(_) => best,
+        Ty::Pointer(to) => least_among(count, best, to.get()),
+        Ty::Array(element, _) => least_among(count, best, element.get()),
+        Ty::Function(result, parameters) => {
+            let mut best = least_among(count, best, result.get());
+            for parameter in parameters.as_slice() {
+                best = least_among(count, best, parameter);
+            }
+            best
+        }
+        Ty::Record(number) => lesser(count, best, *number),
+    }
+}
+
+/// The least number in each type.
+fn least_of_each(alloc: Global, count: u32, types: &[Ty]) -> Result<Vec<Option<u32>>, NoMemory>
+    ensures { IfOk result (λ leasts. leasts.items ≡ map (least_in count) (map type_of types.now)) }
+{
+    let mut leasts = Vec::new(alloc);
+    for t in types {
+        leasts
+            .push(least_among(count, None, t))
+            .map_err(|_| NoMemory)?;
+    }
+    Ok(leasts)
+}
+
+fn lesser_if_any(best: Option<u32>, other: Option<u32>) -> Option<u32>
+    ensures { result ≡ lesser_if_any best other }
+{
+    match other {
+        None => best,
+        Some(n) => lesser_of(best, n),
+    }
+}
+
+fn add_locals(all: &mut List<u32>, locals: &[Local]) -> Result<(), NoMemory>
+    ensures { OnOk result (all.new ≡ all.old ++ map (λ l. l.ty) locals.now) }
+{
+    for l in locals {
+        add(all, l.ty)?;
+    }
+    Ok(())
+}
+
+fn add_object(all: &mut List<u32>, o: &Object) -> Result<(), NoMemory>
+    ensures { OnOk result (all.new ≡ all.old ++ types_of_object o.now) }
+{
+    if o.initial.is_some() {
+        add(all, o.ty)
+    } else {
+        Ok(())
+    }
+}
+
+fn add_objects(all: &mut List<u32>, objects: &[Object]) -> Result<(), NoMemory>
+    ensures { OnOk result (all.new ≡ all.old ++ flat_map types_of_object objects.now) }
+{
+    for o in objects {
+        add_object(all, o)?;
+    }
+    Ok(())
+}
+
+fn add_function(all: &mut List<u32>, f: &Function) -> Result<(), NoMemory>
+    ensures { OnOk result (all.new ≡ all.old ++ types_of_function (data_of f.now)) }
+{
+    match &f.body {
+        None => Ok(()),
+        Some(body) => {
+            add(all, f.ty)?;
+            add_locals(all, f.parameters.as_slice())?;
+            add_locals(all, f.locals.as_slice())?;
+            statement_types(all, body)
+        }
+    }
+}
+
+fn add_functions(all: &mut List<u32>, functions: &[Function]) -> Result<(), NoMemory>
+    ensures { OnOk result (all.new ≡ all.old ++ flat_map types_of_function (map data_of functions.now)) }
+{
+    for f in functions {
+        add_function(all, f)?;
+    }
+    Ok(())
+}
+
+/// The numbers of the types of what is defined, and of those at the nodes of bodies.
+fn held_numbers(alloc: Global, p: &Typed) -> Result<List<u32>, NoMemory>
+    ensures { IfOk result (λ all. all ≡ flat_map types_of_object (program_data p.now).objects ++ flat_map types_of_function (program_data p.now).functions) }
+{
+    let mut all = List::new(alloc);
+    add_objects(&mut all, p.objects.as_slice())?;
+    add_functions(&mut all, p.functions.as_slice())?;
+    Ok(all)
+}
+
+fn least_in_fields(count: u32, best: Option<u32>, fields: &[Field]) -> Option<u32>
+    ensures { result ≡ least_among count best (flat_map structures_in (map (λ f. f.ty) (map field_of fields.now))) }
+{
+    let mut best = best;
+    for f in fields {
+        best = least_among(count, best, &f.ty);
+    }
+    best
+}
+
+fn least_in_records(count: u32, records: &[Record]) -> Option<u32>
+    ensures { result ≡ least_among count None (flat_map structures_in (flat_map field_types (records_of records.now))) }
+{
+    let mut best = None;
+    for r in records {
+        best = least_in_fields(count, best, r.fields.as_slice());
+    }
+    best
+}
+
+fn least_of_number(best: Option<u32>, leasts: &[Option<u32>], number: u32) -> Option<u32>
+    ensures { result ≡ lesser_at leasts.now best number }
+{
+    match leasts.get(number as usize) {
+        Some(least) => lesser_if_any(best, *least),
+        None => best,
+    }
+}
+
+fn least_in_numbers(best: Option<u32>, leasts: &[Option<u32>], numbers: &[u32]) -> Option<u32>
+    ensures { result ≡ fold (lesser_at leasts.now) best numbers.now }
+{
+    let mut best = best;
+    for number in numbers {
+        best = least_of_number(best, leasts, *number);
+    }
+    best
+}
+
+/// The least number of a structure that no file completes, where a type of the program holds one.
+pub fn least_open(alloc: Global, p: &Typed) -> Result<Option<u32>, NoMemory>
+    ensures { IfOk result (λ found. MatchOption found (open_structures (program_data p.now) ≡ []) (λ r. IsLeast (open_structures (program_data p.now)) r)) }
+{
+    let count = p.records.len();
+    let leasts = least_of_each(alloc, count, p.types.as_slice())?;
+    let numbers = held_numbers(alloc, p)?;
+    let best = least_in_records(count, p.records.as_slice());
+    Ok(least_in_numbers(best, leasts.as_slice(), numbers.as_slice()))
+}
