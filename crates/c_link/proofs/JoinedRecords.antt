@@ -1,21 +1,20 @@
 -- Of units without a clash of tags, the structures of each stand among the program's with the same members.
-use Rattle.std.proofs.Common.{◌≡◌, ℕ, zero, suc, ◌⊎◌, inl, inr, Bool, true, false, List, [], ◌∷◌, ◌++◌, Option, Some, None, fold, map, flat_map, get_or, refl, sym, ap, ◌∙◌, subst, append_assoc}
+use Rattle.std.proofs.Common.{◌≡◌, ℕ, zero, suc, ◌⊎◌, inl, inr, Bool, true, false, List, [], ◌∷◌, ◌++◌, Option, Some, None, fold, map, flat_map, get_or, refl, sym, ap, ◌∙◌, subst}
 use Rattle.std.specs.Prelude.{if◌then◌else◌, slice_get}
 use Rattle.std.specs.Str.{bytes_eq}
-use Rattle.std.proofs.lemmas.List.{map-append}
 use Rattle.std.proofs.lemmas.Slice.Eq.{bytes_eq-Decides}
 use Rattle.c_type_table.specs.Renumbered.{field_in, record_in, renumbered}
 use Rattle.c_types.specs.Types.{CType, Field, Record, field_types}
 use Rattle.c_typed.specs.Programs.{UnitData}
 use Rattle.numbering.proofs.Laws.{all_new}
 use Rattle.numbering.specs.Keys.{new_keys, position, with_key}
-use Rattle.c_joining.specs.Joining.{all_records_in, all_tags, chosen, complete_in, complete_tags, if_any, records, records_in, structure_in, tags_of_unit, under, with_tag}
+use Rattle.c_joining.specs.Joining.{all_records_in, all_tags, chosen, complete_in, complete_tags, if_any, records, records_in, structure_in, under, with_tag}
 use Rattle.c_joining.specs.Placing.{placed}
 use Rattle.c_joining.specs.Views.{tagged}
 use Rattle.c_joining.proofs.UnderKeys.{found_at}
 use Rattle.c_joining.proofs.Whole.{records_are, tags_of_all, with_tag_is}
 use Rattle.c_link.specs.Clashes.{same_fields}
-use Rattle.c_link.specs.Gaps.{HasNone, HaveSameMembers, IsTagClash, Trouble}
+use Rattle.c_link.specs.Gaps.{HasNone, IsTagClash}
 use Rattle.c_link.proofs.Layouts.{StandAmong}
 use Rattle.c_link.proofs.TagClashes.{same_then, then_same}
 

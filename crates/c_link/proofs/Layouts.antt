@@ -1,17 +1,20 @@
 -- Types lie alike over two lists of records, where the records of one are among those of the other under other numbers.
-use Rattle.std.proofs.Common.{◌≡◌, ◌*◌, ℕ, zero, suc, ◌+◌, ◌<◌, ◌≤◌, List, [], ◌∷◌, ◌++◌, drop, length, take, map, fold, IsTrue, refl, sym, ap, ◌∙◌, subst, arith}
-use Rattle.std.specs.Prelude.{All, Option, Some, None, max, nat_lt, slice_get, unwrap_or}
+use Rattle.std.proofs.Common.{◌≡◌, ◌*◌, true, false, ℕ, zero, suc, ◌+◌, ◌<◌, ◌≤◌, List, [], ◌∷◌, ◌++◌, drop, length, take, map, fold, IsTrue, refl, sym, ap, ◌∙◌, subst, arith}
+use Rattle.std.specs.Prelude.{All, Option, Some, max, nat_lt, slice_get, unwrap_or}
 use Rattle.std.specs.Int.{next_multiple_of}
 use Rattle.std.proofs.lemmas.Bool.{and_from, and_parts, lt-ltb, ltb-true}
+use Rattle.std.proofs.lemmas.List.Elements.{All-head, All-tail}
 use Rattle.c_type_table.specs.Renumbered.{renumbered}
 use Rattle.c_types.specs.declared.layout.Layout.{Layout}
-use Rattle.c_types.specs.Laws.{LayoutsStay}
-use Rattle.c_types.specs.Layouts.{align_of, alignment_in, begin_after, end_after, greatest_alignment, layout, layout_at, layouts, size_in, size_of}
+use Rattle.c_types.specs.Layouts.{alignment_in, begin_after, end_after, greatest_alignment, layout, layout_at, layouts, size_in}
 use Rattle.c_types.specs.Limits.{AreComplete}
 use Rattle.c_types.specs.Objects.{is_object}
 use Rattle.c_types.specs.Types.{CType, Record, field_types, void, integer, pointer, array, function, structure}
 use Rattle.c_types.proofs.Before.{layout_of}
 use Rattle.c_types.proofs.Growing.{layouts_stay}
+
+false_is_true : false ≡ true → ⊥
+false_is_true h = cc
 
 -- ---- types that lie alike make layouts that are alike
 
@@ -64,7 +67,9 @@ stay_alike : (records more : List Record) (types : List CType) → All (λ t. Is
 stay_alike records more [] h = tt
 stay_alike records more (t ∷ types) h =
     let stay = layouts_stay records more in
-    (record { sizes = stay.sizes t h.0; alignments = stay.alignments t h.0 }, stay_alike records more types h.1)
+    let P : CType → Type 0 = λ t. IsTrue (is_object (length records) t) in
+    let k = All-head P t types h in
+    (record { sizes = stay.sizes t k; alignments = stay.alignments t k }, stay_alike records more types (All-tail P t types h))
 
 parted : {X : Type 0} (n : ℕ) (xs : List X) → take n xs ++ drop n xs ≡ xs
 parted zero xs = refl
@@ -117,54 +122,66 @@ pub record LiesAlike (records others : List Record) (t u : CType) : Type 0 where
   pub object : IsTrue (is_object (length others) u)
   pub alike : AreAlike (layouts records) (layouts others) t u
 
+more_complete : (n m : ℕ) (t : CType) → n ≤ m → IsTrue (is_object n t) → IsTrue (is_object m t)
+more_complete n m void h k = k
+more_complete n m (integer kind) h k = k
+more_complete n m (pointer t) h k = k
+more_complete n m (array t l) h k =
+    let p = and_parts (nat_lt 0 l) (is_object n t) k in
+    and_from (nat_lt 0 l) (is_object m t) p.0 (more_complete n m t h p.1)
+more_complete n m (function t all) h k = k
+more_complete n m (structure number) h k = let b = ltb-true number n k in lt-ltb number m (omega (arith, b, h))
+
 module _ (f : ℕ → ℕ) (records others : List Record) (complete : AreComplete records) (whole : AreComplete others) (among : StandAmong f records others) where
-  mutual
-    alike_below : (n : ℕ) (t : CType) → n ≤ length records → IsTrue (is_object n t) → LiesAlike records others t (renumbered f t)
-    alike_below n void room h = absurd h
-    alike_below n (integer kind) room h = record { object = refl; alike = record { sizes = refl; alignments = refl } }
-    alike_below n (pointer t) room h = record { object = refl; alike = record { sizes = refl; alignments = refl } }
-    alike_below n (array t k) room h =
-        let p = and_parts (nat_lt 0 k) (is_object n t) h in
-        let it = alike_below n t room p.1 in
-        record {
-          object = and_from (nat_lt 0 k) (is_object (length others) (renumbered f t)) p.0 it.object;
-          alike = record { sizes = ap (λ s. s * k) it.alike.sizes; alignments = it.alike.alignments };
-        }
-    alike_below n (function t all) room h = absurd h
-    alike_below zero (structure number) room h = absurd (let k = ltb-true number 0 h in omega (arith, k))
-    alike_below (suc m) (structure number) room h =
-        let k : number < suc m = ltb-true number (suc m) h in
-        let b = below records number (omega (arith, k, room)) in
-        let r = b.0 in
-        let q = among number r b.1 in
-        let types = all_below m number (field_types r) (omega (arith, room)) (omega (arith, k)) (complete number r b.1) in
-        let a = layouts_alike (layouts records) (layouts others) (renumbered f) (field_types r) types in
-        let w = over_the_whole records complete number r b.1 in
-        let v = over_the_whole others whole (f number) q.0 q.1 in
-        let e : layout (layouts others) (field_types q.0) ≡ layout (layouts others) (map (renumbered f) (field_types r)) = ap (layout (layouts others)) q.2 in
-        record {
-          object = lt-ltb (f number) (length others) (is_below others (f number) q.0 q.1);
-          alike = record {
-            sizes = sym v.0 ∙ ap (λ (l : Layout). l.size) e ∙ a.0 ∙ w.0;
-            alignments = sym v.1 ∙ ap (λ (l : Layout). l.alignment) e ∙ a.1 ∙ w.1;
-          };
-        }
+  -- where so many records are complete
+  abbrev Below : ℕ → Type 0
+  Below n = (t : CType) → IsTrue (is_object n t) → LiesAlike records others t (renumbered f t)
 
-    all_below : (m number : ℕ) (types : List CType) → m ≤ length records → number ≤ m → All (λ t. IsTrue (is_object number t)) types
-        → AllAlike (layouts records) (layouts others) (renumbered f) types
-    all_below m number [] room h all = tt
-    all_below m number (t ∷ more) room h all =
-        ((alike_below m t room (more_complete number m t h all.0)).alike, all_below m number more room h all.1)
+  all_below : (m number : ℕ) → Below m → (types : List CType) → number ≤ m → All (λ t. IsTrue (is_object number t)) types
+      → AllAlike (layouts records) (layouts others) (renumbered f) types
+  all_below m number below_m [] k all = tt
+  all_below m number below_m (t ∷ more) k all =
+      let P : CType → Type 0 = λ t. IsTrue (is_object number t) in
+      ((below_m t (more_complete number m t k (All-head P t more all))).alike, all_below m number below_m more k (All-tail P t more all))
 
-    more_complete : (n m : ℕ) (t : CType) → n ≤ m → IsTrue (is_object n t) → IsTrue (is_object m t)
-    more_complete n m void h k = k
-    more_complete n m (integer kind) h k = k
-    more_complete n m (pointer t) h k = k
-    more_complete n m (array t l) h k =
-        let p = and_parts (nat_lt 0 l) (is_object n t) k in
-        and_from (nat_lt 0 l) (is_object m t) p.0 (more_complete n m t h p.1)
-    more_complete n m (function t all) h k = k
-    more_complete n m (structure number) h k = let b = ltb-true number n k in lt-ltb number m (omega (arith, b, h))
+  -- a record, where those before it lie alike
+  record_alike : (m number : ℕ) → m < length records → number ≤ m → Below m → LiesAlike records others (structure number) (structure (f number))
+  record_alike m number room k below_m =
+      let b = below records number (omega (arith, k, room)) in
+      let r = b.0 in
+      let q = among number r b.1 in
+      let types = all_below m number below_m (field_types r) k (complete number r b.1) in
+      let a = layouts_alike (layouts records) (layouts others) (renumbered f) (field_types r) types in
+      let w = over_the_whole records complete number r b.1 in
+      let v = over_the_whole others whole (f number) q.0 q.1 in
+      let e : layout (layouts others) (field_types q.0) ≡ layout (layouts others) (map (renumbered f) (field_types r)) = ap (layout (layouts others)) q.2 in
+      record {
+        object = lt-ltb (f number) (length others) (is_below others (f number) q.0 q.1);
+        alike = record {
+          sizes = sym v.0 ∙ ap (λ (l : Layout). l.size) e ∙ a.0 ∙ w.0;
+          alignments = sym v.1 ∙ ap (λ (l : Layout). l.alignment) e ∙ a.1 ∙ w.1;
+        };
+      }
+
+  -- types, by what is known of the records in them
+  types_alike : (n : ℕ) → ((number : ℕ) → number < n → LiesAlike records others (structure number) (structure (f number))) → Below n
+  types_alike n known void h = absurd (false_is_true h)
+  types_alike n known (integer kind) h = record { object = refl; alike = record { sizes = refl; alignments = refl } }
+  types_alike n known (pointer t) h = record { object = refl; alike = record { sizes = refl; alignments = refl } }
+  types_alike n known (array t k) h =
+      let p = and_parts (nat_lt 0 k) (is_object n t) h in
+      let it = types_alike n known t p.1 in
+      record {
+        object = and_from (nat_lt 0 k) (is_object (length others) (renumbered f t)) p.0 it.object;
+        alike = record { sizes = ap (λ s. s * k) it.alike.sizes; alignments = it.alike.alignments };
+      }
+  types_alike n known (function t all) h = absurd (false_is_true h)
+  types_alike n known (structure number) h = known number (ltb-true number n h)
+
+  alike_below : (n : ℕ) → n ≤ length records → Below n
+  alike_below zero room = types_alike 0 (λ number h. absurd (omega (arith, h)))
+  alike_below (suc m) room =
+      types_alike (suc m) (λ number h. record_alike m number (omega (arith, room)) (omega (arith, h)) (alike_below m (omega (arith, room))))
 
   pub lies_alike : (t : CType) → IsTrue (is_object (length records) t) → LiesAlike records others t (renumbered f t)
-  lies_alike t h = alike_below (length records) t (omega arith) h
+  lies_alike t h = alike_below (length records) (omega arith) t h

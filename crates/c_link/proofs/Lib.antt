@@ -1,8 +1,11 @@
+pub mod Counted
 pub mod Earliest
 pub mod JoinedRecords
+pub mod Lacks
 pub mod Layouts
 pub mod LookUps
 pub mod MainFunction
+pub mod Measures
 pub mod MissingNames
 pub mod NameTroubles
 pub mod OneProgram

@@ -1,6 +1,6 @@
 -- What is looked for among the keys of all references is what is used and not defined.
-use Rattle.std.proofs.Common.{◌≡◌, ℕ, ◌+◌, ◌==◌, Bool, true, false, not, ◌&&◌, ◌||◌, List, [], ◌∷◌, ◌++◌, Option, fold, map, refl, sym, ap, ◌∙◌}
-use Rattle.std.specs.Prelude.{if◌then◌else◌, is_some, MatchOption}
+use Rattle.std.proofs.Common.{◌≡◌, ℕ, ◌+◌, ◌<◌, ◌≤◌, ◌==◌, length, Bool, true, false, ◌&&◌, ◌||◌, List, [], ◌∷◌, ◌++◌, Option, fold, map, refl, sym, ap, ◌∙◌}
+use Rattle.std.specs.Prelude.{if◌then◌else◌, is_some, nat_lt, MatchOption}
 use Rattle.std.specs.List.{list_any}
 use Rattle.std.specs.Option.{option_map}
 use Rattle.std.specs.Str.{bytes_eq}
@@ -9,7 +9,9 @@ use Rattle.std.proofs.lemmas.Slice.Eq.{bytes_eq-Decides}
 use Rattle.c_typed.specs.declared.program.Object.{Object}
 use Rattle.c_typed.specs.Programs.{FunctionData, ProgramData}
 use Rattle.c_typed.specs.References.{Reference, an_object, a_function}
-use Rattle.numbering.specs.Keys.{is_among, with_key}
+use Rattle.std.proofs.lemmas.Bool.{ltb-false, ltb-true}
+use Rattle.numbering.proofs.Laws.{absent, found}
+use Rattle.numbering.specs.Keys.{is_among, position, with_key}
 use Rattle.c_link.specs.Clashes.{trouble_of}
 use Rattle.c_link.specs.declared.troubles.Trouble as troubles
 use Rattle.c_link.specs.Earliest.{earliest_of}
@@ -47,6 +49,20 @@ among_all x [] known = or_false (is_among known x)
 among_all x (y ∷ more) known =
     among_all x more (with_key known y) ∙ ap (λ b. b || list_any (bytes_eq x) more) (with_one known x y)
     ∙ or_assoc (is_among known x) (bytes_eq x y) (list_any (bytes_eq x) more)
+
+-- a key is there where it has a place
+pub among_is : (keys : List (List ℕ)) (x : List ℕ) → nat_lt (position keys x) (length keys) ≡ is_among keys x
+among_is keys x = go (nat_lt (position keys x) (length keys)) refl
+  where
+    go : (b : Bool) → nat_lt (position keys x) (length keys) ≡ b → b ≡ is_among keys x
+    go true e = sym (found keys x (ltb-true (position keys x) (length keys) e))
+    go false e = sym (absent keys x (ltb-false (position keys x) (length keys) e))
+
+pub stays_with : (keys : List (List ℕ)) (x : List ℕ) → position keys x < length keys → keys ≡ with_key keys x
+stays_with keys x h = ap (λ b. if b then keys else keys ++ x ∷ []) (sym (found keys x h))
+
+pub grows_with : (keys : List (List ℕ)) (x : List ℕ) → length keys ≤ position keys x → keys ++ x ∷ [] ≡ with_key keys x
+grows_with keys x h = ap (λ b. if b then keys else keys ++ x ∷ []) (sym (absent keys x h))
 
 -- ---- references
 

@@ -1,6 +1,7 @@
 -- What is told of names is what is wrong with them: a name of two types, and one that is defined twice.
-use Rattle.std.proofs.Common.{◌≡◌, ◌≢◌, inl, inr, Bool, true, false, ◌&&◌, List, [], ◌∷◌, ◌++◌, Option, Some, None, fold, map, refl, sym, ap, ◌∙◌, subst}
-use Rattle.std.specs.Prelude.{if◌then◌else◌, filter, MatchOption}
+use Rattle.std.proofs.Common.{◌≡◌, ◌≢◌, ℕ, inl, inr, Bool, true, false, ◌&&◌, List, [], ◌∷◌, ◌++◌, Option, Some, None, fold, map, refl, sym, ap, ◌∙◌, subst}
+use Rattle.std.specs.Prelude.{if◌then◌else◌, filter, IfOk, MatchOption, Result, Ok, Err}
+use Rattle.lay_base.specs.declared.no_memory.NoMemory.{NoMemory}
 use Rattle.std.specs.Option.{option_map}
 use Rattle.std.specs.Str.{bytes_eq}
 use Rattle.std.proofs.lemmas.Bool.{and_parts}
@@ -120,11 +121,11 @@ is_defined (x ∷ more) rest f h =
 first_defined : (xs rest : List Linked) (f : Linked) → filter d xs ≡ f ∷ rest → d f ≡ true
 first_defined [] rest f h = absurd (nil_is_no_cons f rest h)
 first_defined (x ∷ more) rest f h =
-    go (d x) refl h
+    go (d x) refl h (first_defined more rest f)
   where
-    go : (b : Bool) → d x ≡ b → (if b then x ∷ filter d more else filter d more) ≡ f ∷ rest → d f ≡ true
-    go true e k = ap d (sym (heads_are x f (filter d more) rest k)) ∙ e
-    go false e k = first_defined more rest f k
+    go : (b : Bool) → d x ≡ b → (if b then x ∷ filter d more else filter d more) ≡ f ∷ rest → (filter d more ≡ f ∷ rest → d f ≡ true) → d f ≡ true
+    go true e k later = ap d (sym (heads_are x f (filter d more) rest k)) ∙ e
+    go false e k later = later k
 
 -- ---- names of two types
 
@@ -205,7 +206,7 @@ told_is_twice units t w =
 all_keys : (all : List Linked) → fold with_key [] (map (λ l. l.name) all) ≡ fold with_key [] (map (λ l. l.name) all) ++ []
 all_keys all = sym (append-nil (fold with_key [] (map (λ l. l.name) all)))
 
-pub clash_or_none : (units : List UnitData) (o : Option troubles.Trouble) → option_map trouble_of o ≡ earliest_of (troubles_with_names OneType (linked_in units))
+clash_or_none : (units : List UnitData) (o : Option troubles.Trouble) → option_map trouble_of o ≡ earliest_of (troubles_with_names OneType (linked_in units))
     → MatchOption o (HasNone (IsNameClash units)) (λ t. IsEarliest (IsNameClash units) (trouble_of t))
 clash_or_none units o h =
     let all = linked_in units in
@@ -214,7 +215,7 @@ clash_or_none units o h =
     (λ t w. told_is_in (λ (l : Linked). l.name) (counts OneType) (told_by OneType) keys [] all (all_keys all) t (clash_is_told units t w))
     (λ t w. told_is_clash units t (in_is_told (λ (l : Linked). l.name) (counts OneType) (told_by OneType) keys [] all (all_keys all) t w)) o h
 
-pub twice_or_none : (units : List UnitData) (o : Option troubles.Trouble) → option_map trouble_of o ≡ earliest_of (troubles_with_names OneDefinition (linked_in units))
+twice_or_none : (units : List UnitData) (o : Option troubles.Trouble) → option_map trouble_of o ≡ earliest_of (troubles_with_names OneDefinition (linked_in units))
     → MatchOption o (HasNone (IsTwice units)) (λ t. IsEarliest (IsTwice units) (trouble_of t))
 twice_or_none units o h =
     let all = linked_in units in
@@ -222,3 +223,15 @@ twice_or_none units o h =
     earliest_or_none (IsTwice units) (troubles_with_names OneDefinition all)
     (λ t w. told_is_in (λ (l : Linked). l.name) (counts OneDefinition) (told_by OneDefinition) keys [] all (all_keys all) t (twice_is_told units t w))
     (λ t w. told_is_twice units t (in_is_told (λ (l : Linked). l.name) (counts OneDefinition) (told_by OneDefinition) keys [] all (all_keys all) t w)) o h
+
+pub clash_by : (units : List UnitData) (all : List Linked) (r : Result (Option troubles.Trouble) NoMemory) → all ≡ linked_in units
+    → IfOk r (λ found. option_map trouble_of found ≡ earliest_of (troubles_with_names OneType all))
+    → IfOk r (λ found. MatchOption found (HasNone (IsNameClash units)) (λ t. IsEarliest (IsNameClash units) (trouble_of t)))
+clash_by units all (Ok found) e h = clash_or_none units found (h ∙ ap (λ them. earliest_of (troubles_with_names OneType them)) e)
+clash_by units all (Err want) e h = tt
+
+pub twice_by : (units : List UnitData) (all : List Linked) (r : Result (Option troubles.Trouble) NoMemory) → all ≡ linked_in units
+    → IfOk r (λ found. option_map trouble_of found ≡ earliest_of (troubles_with_names OneDefinition all))
+    → IfOk r (λ found. MatchOption found (HasNone (IsTwice units)) (λ t. IsEarliest (IsTwice units) (trouble_of t)))
+twice_by units all (Ok found) e h = twice_or_none units found (h ∙ ap (λ them. earliest_of (troubles_with_names OneDefinition them)) e)
+twice_by units all (Err want) e h = tt

@@ -1,13 +1,14 @@
 -- The least number that is found is that of the open structure whose tag stands first.
-use Rattle.std.proofs.Common.{◌≡◌, ℕ, zero, suc, ◌≤◌, ◌<◌, ◌==◌, Bool, true, false, ◌||◌, List, [], ◌∷◌, ◌++◌, Option, Some, None, All, fold, map, flat_map, get_or, length, refl, sym, ap, ◌∙◌, subst, arith}
+use Rattle.std.proofs.Common.{◌≡◌, ℕ, ◌≤◌, ◌==◌, Bool, true, false, ◌||◌, List, [], ◌∷◌, ◌++◌, Option, Some, None, All, fold, map, flat_map, get_or, length, refl, sym, ap, ◌∙◌, subst, arith}
 use Rattle.std.specs.Prelude.{if◌then◌else◌, nat_le, nat_lt, filter, MatchOption}
 use Rattle.std.specs.List.{list_any}
-use Rattle.std.proofs.lemmas.Bool.{ltb-false, ltb-true}
+use Rattle.std.proofs.lemmas.Bool.{eq-eqb, ltb-false, ltb-true}
+use Rattle.std.proofs.lemmas.List.Elements.{All-cons, All-head, All-nil, All-tail}
 use Rattle.std.proofs.lemmas.List.Sums.{fold-append}
 use Rattle.std.proofs.Math.ListN.{get_or-map}
-use Rattle.c_types.specs.Types.{CType, field_types, void}
+use Rattle.c_types.specs.Types.{CType, void}
 use Rattle.c_typed.specs.Programs.{ProgramData}
-use Rattle.c_link.specs.Gaps.{IsLeast, held_types, is_open, open_structures, structures_in, type_at, types_of_function, types_of_object}
+use Rattle.c_link.specs.Gaps.{IsLeast, held_types, open_structures, structures_in}
 use Rattle.c_link.specs.Missing.{least_among, least_in, lesser, lesser_at, lesser_if_any, lesser_of}
 
 -- ---- the lesser of two, one after another
@@ -45,6 +46,9 @@ all_joined count best other [] = refl
 all_joined count best other (n ∷ more) =
     ap (λ o. least_among count o more) (joined count best other n) ∙ all_joined count best (lesser count other n) more
 
+pub least_append : (count : ℕ) (best : Option ℕ) (xs ys : List ℕ) → least_among count best (xs ++ ys) ≡ least_among count (least_among count best xs) ys
+least_append count best xs ys = fold-append (lesser count) best xs ys
+
 -- the numbers of types, each by the least of its type
 pub by_numbers : (count : ℕ) (types : List CType) (best : Option ℕ) (numbers : List ℕ)
     → fold (lesser_at (map (least_in count) types)) best numbers ≡ least_among count best (flat_map structures_in (map (λ i. get_or types i void) numbers))
@@ -66,24 +70,29 @@ false_is_true : false ≡ true → ⊥
 false_is_true h = cc
 
 same : (n : ℕ) → (n == n) ≡ true
-same zero = refl
-same (suc n) = same n
+same n = eq-eqb n n refl
 
 all_more : (r n : ℕ) (all : List ℕ) → All (λ m. n ≤ m) all → r ≤ n → All (λ m. r ≤ m) all
-all_more r n [] h k = tt
-all_more r n (m ∷ more) h k = let a = h.0 in (omega (arith, a, k), all_more r n more h.1 k)
+all_more r n [] h k = All-nil (λ m. r ≤ m)
+all_more r n (m ∷ more) h k =
+    let a : n ≤ m = All-head (λ m. n ≤ m) m more h in
+    All-cons (λ m. r ≤ m) m more (omega (arith, a, k)) (all_more r n more (All-tail (λ m. n ≤ m) m more h) k)
 
-least_of : (all : List ℕ) → Option ℕ → Type 0
+abbrev least_of : (all : List ℕ) → Option ℕ → Type 0
 least_of all None = all ≡ []
 least_of all (Some r) = IsLeast all r
 
 -- one more in front
 with_one : (n : ℕ) (all : List ℕ) (o : Option ℕ) → least_of all o → (m : ℕ) × (lesser_if_any (Some n) o ≡ Some m) × IsLeast (n ∷ all) m
-with_one n all None h =
-    (n, refl, (ap (λ b. b || list_any (λ m. m == n) all) (same n), (arith_refl n, subst (All (λ m. n ≤ m)) (sym h) tt)))
-  where
-    arith_refl : (n : ℕ) → n ≤ n
-    arith_refl n = omega arith
+with_one n all None h = (
+  n,
+  refl,
+  (
+    ap (λ b. b || list_any (λ m. m == n) all) (same n),
+    All-cons (λ m. n ≤ m) n all (omega arith)
+        (subst (All (λ m. n ≤ m)) (sym h) (All-nil (λ m. n ≤ m))),
+  ),
+)
 with_one n all (Some r) h =
     go (nat_lt r n) refl
   where
@@ -92,9 +101,9 @@ with_one n all (Some r) h =
     or_right false b e = e
 
     go : (b : Bool) → nat_lt r n ≡ b → (m : ℕ) × ((if b then Some r else Some n) ≡ Some m) × IsLeast (n ∷ all) m
-    go true e = let k = ltb-true r n e in (r, refl, (or_right (n == r) (list_any (λ m. m == r) all) h.0, (omega (arith, k), h.1)))
+    go true e = let k = ltb-true r n e in (r, refl, (or_right (n == r) (list_any (λ m. m == r) all) h.0, All-cons (λ m. r ≤ m) n all (omega (arith, k)) h.1))
     go false e = let k : n ≤ r = ltb-false r n e in
-        (n, refl, (ap (λ b. b || list_any (λ m. m == n) all) (same n), (omega arith, all_more n r all h.1 k)))
+        (n, refl, (ap (λ b. b || list_any (λ m. m == n) all) (same n), All-cons (λ m. n ≤ m) n all (omega arith) (all_more n r all h.1 k)))
 
 least_is : (count : ℕ) (all : List ℕ) → least_of (opens count all) (least_among count None all)
 least_is count [] = refl

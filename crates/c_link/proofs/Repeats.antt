@@ -1,9 +1,9 @@
 -- What is found of things one after another is what is told of each and of the one of its name before it.
-use Rattle.std.proofs.Common.{◌≡◌, ℕ, ◌⊎◌, inl, inr, Bool, true, false, List, [], ◌∷◌, ◌++◌, Option, Some, None, fold, map, refl, sym, ap, ◌∙◌, subst, append_assoc}
+use Rattle.std.proofs.Common.{◌≡◌, ℕ, ◌⊎◌, inl, inr, Bool, List, [], ◌∷◌, ◌++◌, Option, Some, None, fold, map, refl, sym, ap, ◌∙◌, subst, append_assoc}
 use Rattle.std.specs.Prelude.{slice_get}
 use Rattle.std.proofs.lemmas.List.{map-append}
 use Rattle.std.proofs.lemmas.List.Sums.{fold-append}
-use Rattle.numbering.proofs.Laws.{all_after, all_new}
+use Rattle.numbering.proofs.Laws.{all_after}
 use Rattle.numbering.specs.Keys.{new_keys, position, with_key}
 use Rattle.c_joining.specs.Placing.{place, placed, put, replaces_one}
 use Rattle.c_joining.proofs.Placed.{put_mapped}

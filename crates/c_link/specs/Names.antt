@@ -1,5 +1,5 @@
 -- What is told of two names with linkage, and what names of the program stand for.
-use Rattle.std.specs.Prelude.{Bool, true, false, ◌&&◌, if◌then◌else◌, List, [], ◌∷◌, map, fold}
+use Rattle.std.specs.Prelude.{Bool, true, ◌&&◌, if◌then◌else◌, List, [], ◌∷◌, map, fold}
 use Rattle.c_types.specs.Sameness.{same_type}
 use Rattle.c_types.specs.Views.{type_of}
 use Rattle.numbering.specs.Keys.{with_key}

@@ -59,11 +59,11 @@ fn sum(n: u64, m: u32) -> Result<u64, NoMemory>
 }
 
 /// The bytes of locals, and others before them.
-fn with_locals(p: &Typed, before: u64, locals: &[Local]) -> Result<u64, NoMemory>
+fn with_locals(p: &Typed, start: u64, locals: &[Local]) -> Result<u64, NoMemory>
     requires { All (λ l. IsMeasured (records_of p.now.records) (get_or (map type_of p.now.types) l.ty void)) locals.now }
-    ensures { IfOk result (λ n. n ≡ fold (λ n l. n + size_of (records_of p.now.records) (get_or (map type_of p.now.types) l.ty void)) before locals.now) }
+    ensures { IfOk result (λ n. n ≡ fold (λ n l. n + size_of (records_of p.now.records) (get_or (map type_of p.now.types) l.ty void)) start locals.now) }
 {
-    let mut bytes = before;
+    let mut bytes = start;
     for l in locals {
         bytes = sum(bytes, size_of_number(&p.records, p.types.as_slice(), l.ty))?;
     }

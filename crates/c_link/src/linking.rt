@@ -1,7 +1,9 @@
 //! The program of units, or their first gap.
 
-ghost use Rattle.std.specs.Prelude.{◌≡◌, [], IfOk, get_or, map};
-ghost use Rattle.c_link.specs.Linking.{AgreeGives, AreCountable, CompleteGives, LinkGives};
+ghost use Rattle.std.specs.Prelude.{◌≡◌, [], All, IfOk, get_or, map};
+ghost use Rattle.c_link.specs.Counting.{AreMeasured, IsCountable};
+ghost use Rattle.c_link.specs.Gaps.{Agree};
+ghost use Rattle.c_link.specs.Linking.{AgreeGives, CompleteGives, LinkGives, WithinGives};
 ghost use Rattle.c_typed.specs.Programs.{program_data, unit_data};
 
 use crate::clashes::tag_clash;
@@ -15,6 +17,7 @@ use crate::structures::least_open;
 use crate::tag_names::tag_names;
 use c_joining::{copy_of_name, join};
 use c_typed::{Typed, Unit};
+use c_types::records_are_complete;
 use lay_base::{List, Name, NoMemory};
 use std::alloc::Global;
 
@@ -62,17 +65,40 @@ fn complete(alloc: Global, tags: &[Name], p: &Typed) -> Result<(), Gap>
     }
 }
 
-/// The program of units, or their first gap.
-pub fn link(alloc: Global, units: List<Unit>) -> Result<Typed, Gap>
-    requires { AreCountable (map unit_data units) }
-    ensures { LinkGives (map unit_data units) result }
+/// A program whose limits are not passed.
+fn within_limits(p: Typed) -> Result<Typed, Gap>
+    requires { AreMeasured (program_data p) }
+    ensures { WithinGives (program_data p) result }
 {
-    agree(alloc, units.as_slice())?;
-    let tags = tag_names(alloc, units.as_slice())?;
-    let p = join(alloc, units)?;
-    complete(alloc, tags.as_slice(), &p)?;
     match limit_past(&p)? {
         Some(it) => Err(Gap::Limit(it)),
         None => Ok(p),
+    }
+}
+
+/// The program of units that agree, or what it lacks.
+#[tactic(auto, using(crate::proofs::Lacks::lack_is_gap, crate::proofs::Lacks::within_is_program))]
+fn whole_program(alloc: Global, units: List<Unit>) -> Result<Typed, Gap>
+    requires agree { Agree (map unit_data units) }
+    requires countable { All IsCountable (map unit_data units) }
+    ensures { LinkGives (map unit_data units) result }
+{
+    let tags = tag_names(alloc, units.as_slice())?;
+    let p = join(alloc, units)?;
+    records_are_complete(&p.records);
+    match complete(alloc, tags.as_slice(), &p) {
+        Err(gap) => Err(gap),
+        Ok(()) => within_limits(p),
+    }
+}
+
+/// The program of units, or their first gap.
+pub fn link(alloc: Global, units: List<Unit>) -> Result<Typed, Gap>
+    requires { All IsCountable (map unit_data units) }
+    ensures { LinkGives (map unit_data units) result }
+{
+    match agree(alloc, units.as_slice()) {
+        Err(gap) => Err(gap),
+        Ok(()) => whole_program(alloc, units),
     }
 }

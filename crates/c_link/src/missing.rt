@@ -39,6 +39,7 @@ fn keys_of(alloc: Global, all: &[Reference]) -> Result<KeyTable, NoMemory>
     Ok(used)
 }
 
+#[tactic(auto, using(crate::proofs::MissingNames::among_is))]
 fn is_used(alloc: Global, used: &KeyTable, reference: Reference) -> Result<bool, NoMemory>
     ensures { IfOk result (λ it. it ≡ is_among used.now (key_of (reference_of reference))) }
 {

@@ -135,7 +135,6 @@ fn earliest_trouble(
 }
 
 /// The earliest name of units that has two types, if there is one. The names are those of the units.
-#[tactic(auto, using(crate::proofs::NameTroubles::clash_or_none))]
 pub fn name_clash(
     alloc: Global,
     units: &[Unit],
@@ -148,7 +147,6 @@ pub fn name_clash(
 }
 
 /// The earliest name of units that is defined twice, if there is one. The names are those of the units.
-#[tactic(auto, using(crate::proofs::NameTroubles::twice_or_none))]
 pub fn defined_twice(
     alloc: Global,
     units: &[Unit],

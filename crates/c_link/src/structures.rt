@@ -29,6 +29,7 @@ fn lesser(count: u32, best: Option<u32>, n: u32) -> Option<u32>
 }
 
 /// The least number of a structure from `count` on, among those in a type and one found before.
+#[tactic(auto, using(crate::proofs::OpenStructures::least_append))]
 fn least_among(count: u32, best: Option<u32>, t: &Ty) -> Option<u32>
     ensures { result ≡ least_among count best (structures_in (type_of t.now)) }
 {
@@ -130,6 +131,7 @@ fn held_numbers(alloc: Global, p: &Typed) -> Result<List<u32>, NoMemory>
     Ok(all)
 }
 
+#[tactic(auto, using(crate::proofs::OpenStructures::least_append))]
 fn least_in_fields(count: u32, best: Option<u32>, fields: &[Field]) -> Option<u32>
     ensures { result ≡ least_among count best (flat_map structures_in (map (λ f. f.ty) (map field_of fields.now))) }
 {
@@ -140,6 +142,7 @@ fn least_in_fields(count: u32, best: Option<u32>, fields: &[Field]) -> Option<u3
     best
 }
 
+#[tactic(auto, using(crate::proofs::OpenStructures::least_append))]
 fn least_in_records(count: u32, records: &[Record]) -> Option<u32>
     ensures { result ≡ least_among count None (flat_map structures_in (flat_map field_types (records_of records.now))) }
 {

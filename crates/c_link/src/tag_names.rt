@@ -13,6 +13,7 @@ use numbering::KeyTable;
 use std::alloc::Global;
 
 /// Adds a name that is not among those before. The keys are those of the names.
+#[tactic(auto, using(crate::proofs::MissingNames::stays_with, crate::proofs::MissingNames::grows_with))]
 fn add_name(
     alloc: Global,
     keys: &mut KeyTable,

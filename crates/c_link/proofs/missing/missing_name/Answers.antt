@@ -1,9 +1,9 @@
-use Rattle.std.proofs.Common.{◌≡◌, ◌++◌, ◌∙◌, ap, map, sym, rules}
+use Rattle.std.proofs.Common.{◌≡◌, ◌++◌, ◌∙◌, ap, rules}
 use Rattle.std.specs.Option.{option_map}
 use Rattle.c_typed.specs.Programs.{program_data}
 use Rattle.c_link.specs.Clashes.{trouble_of}
 use Rattle.c_link.specs.Earliest.{earliest_of}
-use Rattle.c_link.specs.Gaps.{all_missing, all_references}
+use Rattle.c_link.specs.Gaps.{all_references}
 use Rattle.c_link.specs.Missing.{functions_nowhere, keys_of, objects_nowhere}
 use Rattle.c_link.proofs.MissingNames.{missing_or_none, nowhere_is}
 use Rattle.c_link.proofs.missing.missing_name.Goals as goal

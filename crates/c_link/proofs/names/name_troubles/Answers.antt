@@ -24,9 +24,9 @@ loop-l-preserved c =
     let n : number ≡ position names l.name = search rules in
     let at = c.get.ensures.lookup in
     let k = looked_up c.get.result c.deref.result.now number at.0 at.1 in
-    let q = c.copied.ensures ∙ k ∙ ap (λ them. slice_get them number) c.deref.ensures.value in
-    let found = option_map linked_of (option_copied c.copied.result) in
-    let f = found_is linked_of firsts number c.copied.result q in
+    let q = c.copied-first.ensures ∙ k ∙ ap (λ them. slice_get them number) c.deref.ensures.value in
+    let found = option_map linked_of (option_copied c.copied-first.result) in
+    let f = found_is linked_of firsts number c.copied-first.result q in
     let left = λ (them : List Linked). map trouble_of c.loop-l.troubles
     ++ repeats (λ (l : Gaps.Linked). l.name) (counts asked) (told_by asked) names (map (λ (it : Bor Linked). linked_of it.now) firsts) (map linked_of them) in
     one_more_told (λ (l : Gaps.Linked). l.name) (counts asked) (told_by asked) (λ (it : Bor Linked). linked_of it.now) names firsts _ number c.takes_place.result

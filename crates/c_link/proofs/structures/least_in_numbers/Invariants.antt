@@ -1,4 +1,4 @@
-use Rattle.std.proofs.Common.{◌≡◌, drop, fold, map}
+use Rattle.std.proofs.Common.{◌≡◌, drop, fold}
 use Rattle.c_link.specs.Missing.{lesser_at}
 use Rattle.c_link.proofs.structures.least_in_numbers.Given as goal
 

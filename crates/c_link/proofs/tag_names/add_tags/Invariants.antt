@@ -1,8 +1,5 @@
-use Rattle.std.proofs.Common.{◌≡◌, [], drop, fold, map}
-use Rattle.std.specs.Prelude.{flat_map}
-use Rattle.c_typed.specs.Programs.{unit_data}
+use Rattle.std.proofs.Common.{◌≡◌, drop, fold, map}
 use Rattle.numbering.specs.Keys.{with_key}
-use Rattle.c_joining.specs.Joining.{complete_in, complete_tags}
 use Rattle.c_link.proofs.tag_names.add_tags.Given as goal
 
 abbrev pub invariant-loop-r : goal.invariant-loop-r
