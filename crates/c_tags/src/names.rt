@@ -70,6 +70,14 @@ impl Names {
         self.names.len()
     }
 
+    /// The names, in order, with no memory taken.
+    pub fn into_vec(self) -> Vec<Name>
+        ensures { result.items ≡ self }
+    {
+        let Names { names, .. } = self;
+        names
+    }
+
     /// The first place of a name.
     pub fn number_of(&self, name: &[u8]) -> Option<u32>
         ensures { result ≡ number_in self.now name.now }

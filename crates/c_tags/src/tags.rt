@@ -18,7 +18,7 @@ use crate::tables::{Tables, tables_of};
 use crate::untagged::{Untagged, untagged_of};
 use c_ast::Tree;
 use c_lexer::tokens_have_places;
-use lay_base::{File, NoMemory};
+use lay_base::{File, Name, NoMemory};
 use std::alloc::Global;
 use std::marker::Model;
 
@@ -120,5 +120,13 @@ impl Tags {
         ensures { result ≡ length self.now.numbered }
     {
         self.numbered.len()
+    }
+
+    /// The tags of the structures by their numbers, with no memory taken.
+    pub fn into_structures(self) -> Vec<Name>
+        ensures { result.items ≡ self.numbered }
+    {
+        let Tags { numbered, .. } = self;
+        numbered.into_vec()
     }
 }

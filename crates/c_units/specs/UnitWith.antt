@@ -1,0 +1,54 @@
+-- A unit whose tree has that number of nodes.
+use Rattle.std.specs.Prelude.{ℕ, List, [], drop, length, map}
+use Rattle.c_types.specs.Types.{CType}
+use Rattle.c_types.specs.Views.{type_of}
+use Rattle.c_typed.specs.Programs.{FunctionData, UnitData, data_of}
+use Rattle.c_typed.specs.declared.program.Mention.{Mention}
+use Rattle.c_typed.specs.declared.program.Object.{Object}
+use Rattle.c_erasure.specs.Scopes.{AFunction, AMention, FileScope}
+use Rattle.c_erasure.specs.Units.{function, mention, mentions, new_among, object, types}
+use Rattle.c_units.specs.CollectedTypes.{all_types}
+use Rattle.c_units.specs.NumberedParts.{function_in, mention_in, object_in}
+use Rattle.c_units.specs.ValuedObjects.{ValuedObject}
+use Rattle.c_units.specs.declared.unit.Given.{Given}
+
+abbrev pub unit_with : ℕ → FileScope → UnitData
+unit_with nodes f = record {
+  records = f.records;
+  incomplete = drop (length f.records) f.numbered;
+  types = types f;
+  objects = map (object f) f.objects;
+  functions = map (function f) f.functions;
+  mentions = map (mention f) (mentions f);
+  nodes = nodes;
+}
+
+-- ---- what a file gives by the numbers of its types
+
+pub record GivenParts : Type 0 where
+  pub types : List CType
+  pub objects : List Object
+  pub functions : List FunctionData
+  pub mentions : List Mention
+
+abbrev pub parts_of : Given → GivenParts
+parts_of g = record { types = map type_of g.types; objects = g.objects; functions = map data_of g.functions; mentions = g.mentions }
+
+abbrev pub numbered : List CType → ℕ → List ValuedObject → List AFunction → List AMention → GivenParts
+numbered all file os gs ms = record {
+  types = all;
+  objects = map (object_in all) os;
+  functions = map (function_in all) gs;
+  mentions = map (mention_in all file) ms;
+}
+
+abbrev pub given : ℕ → List ValuedObject → List AFunction → List AMention → GivenParts
+given file os gs ms = numbered (new_among [] (all_types os gs ms)) file os gs ms
+
+abbrev pub given_by : FileScope → GivenParts
+given_by f = record {
+  types = types f;
+  objects = map (object f) f.objects;
+  functions = map (function f) f.functions;
+  mentions = map (mention f) (mentions f);
+}

@@ -1,0 +1,143 @@
+//! The types of a file, each once.
+
+ghost use Rattle.std.specs.Prelude.{◌≡◌, ◌++◌, ◌∷◌, [], IfOk, OnOk, flat_map, fold, map};
+ghost use Rattle.std.specs.Option.{option_map};
+ghost use Rattle.c_annotated.specs.FileViews.{function_of, local_of, mention_of};
+ghost use Rattle.c_annotated.specs.Views.{statement_of};
+ghost use Rattle.c_erasure.specs.Units.{if_any, new_among, type_if_pointer};
+ghost use Rattle.c_initial_values.specs.Values.{store_of, stores_in};
+ghost use Rattle.c_type_table.specs.Adding.{with_type};
+ghost use Rattle.c_typed.specs.Walk.{types_in_statement};
+ghost use Rattle.c_types.specs.Views.{type_of};
+ghost use Rattle.c_units.specs.CollectedTypes.{all_types, function_types, object_types, types_in};
+ghost use Rattle.c_units.specs.ValuedObjects.{valued_of};
+ghost use Rattle.c_walks.specs.NodeTypes.{noted_of, nodes_in};
+
+use crate::places::add_body;
+use crate::values::Valued;
+use c_annotated::{Function, Local, Mention, Statement};
+use c_initial_values::Store;
+use c_type_table::TypeTable;
+use c_typed::is_pointer;
+use c_types::{Ty, copy};
+use c_walks::{NodeType, Nodes};
+use lay_base::{List, NoMemory};
+use std::alloc::Global;
+
+#[tactic(auto, unfolding(crate::specs::CollectedTypes::types_in))]
+fn add_type<'a>(found: &mut Nodes<'a>, t: &'a Ty) -> Result<(), NoMemory>
+    ensures { OnOk result (types_in found.new ≡ types_in found.old ++ type_of t.now ∷ []) }
+{
+    found.add(t, None)
+}
+
+#[tactic(auto, unfolding(crate::specs::CollectedTypes::types_in))]
+fn add_body_types<'a>(found: &mut Nodes<'a>, body: &'a Option<Statement>) -> Result<(), NoMemory>
+    ensures { OnOk result (types_in found.new
+        ≡ types_in found.old ++ flat_map (λ s. map (λ t. t.ty) (types_in_statement s)) (if_any (option_map statement_of body.now))) }
+{
+    add_body(found, body)
+}
+
+fn add_store_type<'a>(found: &mut Nodes<'a>, s: &'a Store) -> Result<(), NoMemory>
+    ensures { OnOk result (types_in found.new ≡ types_in found.old ++ type_if_pointer (store_of s.now)) }
+{
+    if is_pointer(&s.ty) {
+        add_type(found, &s.ty)
+    } else {
+        Ok(())
+    }
+}
+
+#[tactic(auto, unfolding(c_initial_values::specs::Values::stores_in))]
+fn add_store_types<'a>(found: &mut Nodes<'a>, all: &'a [Store]) -> Result<(), NoMemory>
+    ensures { OnOk result (types_in found.new ≡ types_in found.old ++ flat_map type_if_pointer (stores_in all.now)) }
+{
+    for s in all {
+        add_store_type(found, s)?;
+    }
+    Ok(())
+}
+
+fn add_object_types<'a>(found: &mut Nodes<'a>, o: &'a Valued) -> Result<(), NoMemory>
+    ensures { OnOk result (types_in found.new ≡ types_in found.old ++ object_types (valued_of o.now)) }
+{
+    add_type(found, &o.ty)?;
+    match &o.initial {
+        None => Ok(()),
+        Some(stores) => add_store_types(found, stores.as_slice()),
+    }
+}
+
+fn add_types_of_objects<'a>(found: &mut Nodes<'a>, all: &'a [Valued]) -> Result<(), NoMemory>
+    ensures { OnOk result (types_in found.new ≡ types_in found.old ++ flat_map object_types (map valued_of all.now)) }
+{
+    for o in all {
+        add_object_types(found, o)?;
+    }
+    Ok(())
+}
+
+fn add_local_types<'a>(found: &mut Nodes<'a>, all: &'a [Local]) -> Result<(), NoMemory>
+    ensures { OnOk result (types_in found.new ≡ types_in found.old ++ map (λ l. l.ty) (map local_of all.now)) }
+{
+    for l in all {
+        add_type(found, &l.ty)?;
+    }
+    Ok(())
+}
+
+fn add_function_types<'a>(found: &mut Nodes<'a>, f: &'a Function) -> Result<(), NoMemory>
+    ensures { OnOk result (types_in found.new ≡ types_in found.old ++ function_types (function_of f.now)) }
+{
+    add_type(found, &f.ty)?;
+    add_local_types(found, f.parameters.as_slice())?;
+    add_local_types(found, f.locals.as_slice())?;
+    add_body_types(found, &f.body)
+}
+
+fn add_types_of_functions<'a>(found: &mut Nodes<'a>, all: &'a [Function]) -> Result<(), NoMemory>
+    ensures { OnOk result (types_in found.new ≡ types_in found.old ++ flat_map function_types (map function_of all.now)) }
+{
+    for f in all {
+        add_function_types(found, f)?;
+    }
+    Ok(())
+}
+
+fn add_mention_types<'a>(found: &mut Nodes<'a>, all: &'a [Mention]) -> Result<(), NoMemory>
+    ensures { OnOk result (types_in found.new ≡ types_in found.old ++ map (λ m. m.ty) (map mention_of all.now)) }
+{
+    for m in all {
+        add_type(found, &m.ty)?;
+    }
+    Ok(())
+}
+
+fn table_of(alloc: Global, nodes: &[NodeType]) -> Result<TypeTable, NoMemory>
+    ensures { IfOk result (λ types. map type_of types ≡ new_among [] (map (λ t. t.ty) (map noted_of nodes.now))) }
+{
+    let mut types = TypeTable::new(alloc);
+    for node in nodes {
+        types.add(alloc, copy(alloc, node.ty)?)?;
+    }
+    Ok(types)
+}
+
+/// The types of a file, each once, in the order in which they stand first: in objects, functions and mentions.
+#[tactic(auto, unfolding(crate::specs::CollectedTypes::types_in, c_walks::specs::NodeTypes::nodes_in))]
+pub fn types_of(
+    alloc: Global,
+    objects: &[Valued],
+    functions: &[Function],
+    mentions: &[Mention],
+) -> Result<TypeTable, NoMemory>
+    ensures { IfOk result (λ types. map type_of types
+        ≡ new_among [] (all_types (map valued_of objects.now) (map function_of functions.now) (map mention_of mentions.now))) }
+{
+    let mut found = Nodes::new(alloc);
+    add_types_of_objects(&mut found, objects)?;
+    add_types_of_functions(&mut found, functions)?;
+    add_mention_types(&mut found, mentions)?;
+    table_of(alloc, found.list.as_slice())
+}
