@@ -1,0 +1,18 @@
+//! The checker of expressions, and of what they lead to: type names, specifiers and declarators (C99 6.5, 6.6, 6.7.2 to 6.7.6).
+//!
+//! It stands on `c_declaring` and `c_nodes`, and mirrors the recursion of `c_checking` over the tree, function by function. It promises that
+//! each answers what the definition of its name says of the tree and of the file up to there, with the file after it, or that no memory was
+//! left.
+#![tactic(auto)]
+
+mod declarators;
+mod expressions;
+mod operators;
+mod places;
+mod start;
+mod types;
+
+pub use c_declaring::{mention, mentions_in};
+pub use declarators::derivations;
+pub use expressions::{constant, find, value};
+pub use types::base;

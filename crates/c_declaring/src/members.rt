@@ -1,0 +1,140 @@
+//! Types that are named, and members of structures (C99 6.7.2.1, 6.7.6).
+
+ghost use Rattle.std.specs.Prelude.{◌≡◌, ◌++◌, Ok, OnOk};
+ghost use Rattle.c_types.specs.Views.{field_of, type_of};
+ghost use Rattle.c_typed.specs.declared.program.MentionKind.TheVariants.{Named};
+ghost use Rattle.c_ast.specs.Views.{declarator_of};
+ghost use Rattle.c_erasure.specs.Declarators.{declared_name};
+ghost use Rattle.c_checking.specs.Declaring.{with_mention};
+ghost use Rattle.c_checking.specs.Finding.{type_of_derived};
+ghost use Rattle.c_declarators.specs.DeclaratorViews.{derivations_of};
+ghost use Rattle.c_nodes.specs.Gives.{Gives};
+ghost use Rattle.c_scopes.specs.Scoping.{file_of, scope_of};
+ghost use Rattle.c_declaring.specs.Adding.{field_in, field_with, type_name_in};
+ghost use Rattle.c_declaring.specs.Finds.{Finds};
+
+use crate::mentions::mention;
+use crate::repeated::declared_name;
+use c_ast::Declarator;
+use c_declarators::{Derivation, closed, derived, object};
+use c_nodes::{Fault, name};
+use c_scopes::{FileScope, Scope};
+use c_typed::MentionKind;
+use c_types::{Field, Ty, copy};
+use lay_base::{Boxed, List, NoMemory, Place, Rule, add};
+use std::alloc::Global;
+
+/// The type that steps make of a type, where no length is left out. The declarator stands at `at`.
+fn derived_type(
+    alloc: Global,
+    file: &FileScope,
+    at: u32,
+    steps: List<Derivation>,
+    base: Ty,
+) -> Result<Ty, Fault>
+    ensures { Gives type_of result (type_of_derived at (file_of file.now) (derivations_of steps) (type_of base)) }
+{
+    match derived(alloc, &file.records, steps, base) {
+        Err(fault) => Err(fault),
+        Ok(shape) => closed(at, shape),
+    }
+}
+
+/// Lists a type that is named.
+pub fn listed(
+    alloc: Global,
+    file: &mut FileScope,
+    scope: Scope,
+    before: usize,
+    at: u32,
+    t: Ty,
+) -> Result<Ty, Fault>
+    ensures { Finds type_of result
+        (Ok (type_of t, with_mention (scope_of file.old scope.entry) before Named (type_of t) at (file_of file.old))) file.new }
+{
+    match mention(alloc, file, scope, before, MentionKind::Named, &t, at) {
+        Ok(()) => Ok(t),
+        Err(_) => Err(Fault::Memory),
+    }
+}
+
+/// The type that a type name names, by the steps of its declarator, which stands at `at`. It is listed before those from that place of the
+/// list on.
+pub fn named_type(
+    alloc: Global,
+    file: &mut FileScope,
+    scope: Scope,
+    before: usize,
+    at: u32,
+    steps: List<Derivation>,
+    base: Boxed<Ty>,
+) -> Result<Ty, Fault>
+    ensures { Finds type_of result (type_name_in (scope_of file.old scope.entry) before at (file_of file.old) (derivations_of steps) (type_of base)) file.new }
+{
+    match derived_type(alloc, file, at, steps, base.into_inner()) {
+        Err(fault) => Err(fault),
+        Ok(t) => listed(alloc, file, scope, before, at, t),
+    }
+}
+
+/// A field of a type, which is listed.
+fn field(
+    alloc: Global,
+    file: &mut FileScope,
+    scope: Scope,
+    before: usize,
+    place: Place,
+    d: &Declarator,
+    t: Ty,
+) -> Result<Field, Fault>
+    ensures { Finds field_of result (field_with place (type_of t) (declared_name (declarator_of d.now))
+        (with_mention (scope_of file.old scope.entry) before Named (type_of t) place.at (file_of file.old))) file.new }
+{
+    let Some(x) = declared_name(d) else {
+        return Err(Fault::IllTyped(Rule::Specifiers, place.at));
+    };
+    match listed(alloc, file, scope, before, place.at, t) {
+        Err(fault) => Err(fault),
+        Ok(ty) => Ok(Field {
+            name: name(alloc, x.text.as_slice())?,
+            ty,
+            place,
+        }),
+    }
+}
+
+/// A field, by the steps of its declarator, which stands at `place`, where `count` records are complete. Its type is listed before those
+/// from that place of the list on.
+pub fn member(
+    alloc: Global,
+    file: &mut FileScope,
+    scope: Scope,
+    before: usize,
+    count: u32,
+    place: Place,
+    d: &Declarator,
+    steps: List<Derivation>,
+    base: &Ty,
+) -> Result<Field, Fault>
+    ensures { Finds field_of result (field_in (scope_of file.old scope.entry) before count place (declared_name (declarator_of d.now))
+        (file_of file.old) (derivations_of steps) (type_of base.now)) file.new }
+{
+    let base = copy(alloc, base)?;
+    match derived_type(alloc, file, place.at, steps, base) {
+        Err(fault) => Err(fault),
+        Ok(t) => match object(&file.records, count, place.at, t) {
+            Err(fault) => Err(fault),
+            Ok(t) => field(alloc, file, scope, before, place, d, t),
+        },
+    }
+}
+
+/// Adds the fields of a line to those before.
+pub fn add_members(all: &mut List<Field>, more: List<Field>) -> Result<(), NoMemory>
+    ensures { OnOk result (all.new ≡ all.old ++ more) }
+{
+    for field in more.into_vec() {
+        add(all, field)?;
+    }
+    Ok(())
+}
