@@ -3,8 +3,11 @@
 ghost use Rattle.std.specs.Prelude.{◌≡◌, ◌+◌, ◌++◌, IfOk, OnOk, flat_map, length, map};
 ghost use Rattle.std.specs.Option.{option_map};
 ghost use Rattle.c_annotated.specs.FileViews.{function_of, local_of, mention_of};
-ghost use Rattle.c_annotated.specs.Views.{statement_of};
-ghost use Rattle.c_erasure.specs.Units.{if_any, is_among};
+ghost use Rattle.c_annotated.specs.Views.{statement_of as noted_statement};
+ghost use Rattle.c_numbered.specs.Numbered.{numbered};
+ghost use Rattle.c_typed.specs.Mapped.{mapped_statement};
+ghost use Rattle.c_typed.specs.Views.{statement_of};
+ghost use Rattle.c_erasure.specs.Units.{if_any, is_among, number_in};
 ghost use Rattle.c_initial_values.specs.Values.{store_of, stores_in};
 ghost use Rattle.c_typed.specs.Addressed.{addressed_by_statement};
 ghost use Rattle.c_typed.specs.Programs.{data_of};
@@ -18,8 +21,8 @@ use crate::values::Valued;
 use c_initial_values::{Store, Value};
 use c_numbered::{number_of, optional_statement};
 use c_type_table::TypeTable;
-use c_typed::{Function, Initial, InitialValue, Local, Mention, Object, is_scalar};
-use c_types::IntKind;
+use c_typed::{Function, Initial, InitialValue, Local, Mention, Object, Statement, is_scalar};
+use c_types::{IntKind, Ty};
 use c_walks::addressed_by_statement;
 use lay_base::{List, NoMemory, Place, add};
 use numbering::KeyTable;
@@ -178,7 +181,7 @@ fn locals(
 }
 
 fn add_taken(found: &mut List<u32>, body: &Option<c_annotated::Statement>) -> Result<(), NoMemory>
-    ensures { OnOk result (found.new ≡ found.old ++ flat_map addressed_by_statement (if_any (option_map statement_of body.now))) }
+    ensures { OnOk result (found.new ≡ found.old ++ flat_map addressed_by_statement (if_any (option_map noted_statement body.now))) }
 {
     match body {
         None => Ok(()),
@@ -188,7 +191,7 @@ fn add_taken(found: &mut List<u32>, body: &Option<c_annotated::Statement>) -> Re
 
 /// The locals whose address a body takes.
 fn taken_in(alloc: Global, body: &Option<c_annotated::Statement>) -> Result<KeyTable, NoMemory>
-    ensures { IfOk result (λ keys. holds keys ≡ is_among (flat_map addressed_by_statement (if_any (option_map statement_of body.now)))) }
+    ensures { IfOk result (λ keys. holds keys ≡ is_among (flat_map addressed_by_statement (if_any (option_map noted_statement body.now)))) }
 {
     let mut found = List::new(alloc);
     add_taken(&mut found, body)?;
@@ -204,15 +207,31 @@ fn parameters_and_locals(
     others: List<c_annotated::Local>,
 ) -> Result<(List<Local>, List<Local>), NoMemory>
     ensures parameters { IfOk result (λ r. r.0
-        ≡ locals_in (map type_of types.now) (is_among (flat_map addressed_by_statement (if_any (option_map statement_of body.now)))) 0 (map local_of parameters)) }
+        ≡ locals_in (map type_of types.now) (is_among (flat_map addressed_by_statement (if_any (option_map noted_statement body.now)))) 0 (map local_of parameters)) }
     ensures locals { IfOk result (λ r. r.1
-        ≡ locals_in (map type_of types.now) (is_among (flat_map addressed_by_statement (if_any (option_map statement_of body.now)))) (length parameters) (map local_of others)) }
+        ≡ locals_in (map type_of types.now) (is_among (flat_map addressed_by_statement (if_any (option_map noted_statement body.now)))) (length parameters) (map local_of others)) }
 {
     let taken = taken_in(alloc, body)?;
     let first = count(parameters.as_slice())?;
     let parameters = locals(alloc, types, &taken, 0, parameters)?;
     let others = locals(alloc, types, &taken, first, others)?;
     Ok((parameters, others))
+}
+
+/// The type of a function, and its body.
+fn type_and_body(
+    alloc: Global,
+    types: &TypeTable,
+    ty: Ty,
+    body: Option<c_annotated::Statement>,
+) -> Result<(u32, Option<Statement>), NoMemory>
+    ensures ty { IfOk result (λ r. r.0 ≡ number_in (map type_of types.now) (type_of ty)) }
+    ensures body { IfOk result (λ r. option_map statement_of r.1
+        ≡ option_map (mapped_statement (numbered types.now)) (option_map noted_statement body)) }
+{
+    let ty = number_of(alloc, types, ty)?;
+    let body = optional_statement(alloc, types, body)?;
+    Ok((ty, body))
 }
 
 fn function(
@@ -234,8 +253,7 @@ fn function(
         ..
     } = f;
     let (parameters, locals) = parameters_and_locals(alloc, types, &body, parameters, locals)?;
-    let ty = number_of(alloc, types, ty)?;
-    let body = optional_statement(alloc, types, body)?;
+    let (ty, body) = type_and_body(alloc, types, ty, body)?;
     Ok(Function {
         name,
         place,
