@@ -8,11 +8,13 @@ ghost use Rattle.c_checking.specs.Initializers.{are_constant_parts, are_constant
 ghost use Rattle.c_initial_values.specs.Values.{declared_by};
 ghost use Rattle.c_nodes.specs.Gives.{Gives};
 ghost use Rattle.c_scopes.specs.Scoping.{scope_of};
+ghost use Rattle.c_check_initializers.specs.Parts.{are_plain, is_plain, is_plain_value};
 
 use c_annotated::{Expression, Initializer, InitializerPart, Object, PartValue};
 use c_initial_values::initial_value;
 use c_nodes::Fault;
 use c_scopes::{FileScope, Scope};
+use c_typed::is_integer;
 use c_types::{Records, Ty, copy};
 use lay_base::{List, NoMemory, Rule, add};
 use std::alloc::Global;
@@ -65,8 +67,55 @@ fn types_of_objects(alloc: Global, objects: &[Object]) -> Result<List<Ty>, NoMem
     Ok(types)
 }
 
+/// Whether it matters for a part which objects there are: only an address may be one of an object.
+fn is_plain_value(value: &PartValue) -> bool
+    ensures { result ≡ is_plain_value (part_value_of value.now) }
+{
+    match value {
+        PartValue::Value(x) => is_integer(&x.get().ty),
+        PartValue::Record(_) | PartValue::Text(_) => true,
+    }
+}
+
+fn are_plain(all: &[InitializerPart]) -> bool
+    ensures { result ≡ are_plain (map part_of all.now) }
+{
+    for part in all {
+        if !is_plain_value(&part.value) {
+            return false;
+        }
+    }
+    true
+}
+
+fn is_plain(initial: &Initializer) -> bool
+    ensures { result ≡ is_plain (initializer_of initial.now) }
+{
+    match initial {
+        Initializer::Value(x) => is_integer(&x.get().ty),
+        Initializer::Record(_) => true,
+        Initializer::Parts(all) => are_plain(all.as_slice()),
+    }
+}
+
+/// Whether each value is a constant, with what is declared there. Types of objects are copied only where some value may be an address.
+fn are_constants_in(
+    alloc: Global,
+    file: &FileScope,
+    scope: Scope,
+    initial: &Initializer,
+) -> Result<bool, NoMemory>
+    ensures { IfOk result (λ are. are ≡ are_constants (declared (scope_of file.now scope.entry)) (initializer_of initial.now)) }
+{
+    if is_plain(initial) {
+        return are_constants(&file.records, &[], initial);
+    }
+    let types = types_of_objects(alloc, file.objects.as_slice())?;
+    are_constants(&file.records, types.as_slice(), initial)
+}
+
 /// An initializer of constants. It begins at `at`.
-#[tactic(auto, unfolding(c_checking::specs::Initializers::constants_in), using(crate::proofs::Alike::constants_alike))]
+#[tactic(auto, unfolding(c_checking::specs::Initializers::constants_in))]
 pub fn constants(
     alloc: Global,
     file: &FileScope,
@@ -76,8 +125,7 @@ pub fn constants(
 ) -> Result<Initializer, Fault>
     ensures { Gives initializer_of result (constants_in (declared (scope_of file.now scope.entry)) at (initializer_of initial)) }
 {
-    let types = types_of_objects(alloc, file.objects.as_slice())?;
-    if are_constants(&file.records, types.as_slice(), &initial)? {
+    if are_constants_in(alloc, file, scope, &initial)? {
         Ok(initial)
     } else {
         Err(Fault::IllTyped(Rule::Init, at))
