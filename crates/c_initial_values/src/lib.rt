@@ -12,5 +12,6 @@ mod values;
 
 pub use address::Address;
 pub use mentions::told_by_initial;
+pub use sizes::{field_offset, size};
 pub use stores::{Store, stores_of};
 pub use values::{Value, initial_value};
