@@ -13,4 +13,5 @@ mod parts;
 mod places;
 mod recursion;
 
+pub use making::block_of;
 pub use recursion::{Around, block_items};

@@ -70,6 +70,13 @@ impl BoundNames {
         self.bounds.len()
     }
 
+    /// All names, in the order of their declarations.
+    pub fn as_slice(&self) -> &[Bound]
+        ensures { result.now ≡ self.now }
+    {
+        self.bounds.as_slice()
+    }
+
     /// The first declaration of a name.
     #[tactic(auto, using(crate::proofs::FirstBounds::found, crate::proofs::FirstBounds::missing))]
     pub fn first(&self, x: &[u8]) -> Option<&Bound>
