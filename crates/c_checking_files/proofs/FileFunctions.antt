@@ -100,14 +100,15 @@ module _ (untagged : ℕ → List ℕ) where
         → IsFunctionDefined words x place left nodes result types list items (is_none (declared_among f.names x.text)) h
 
   pub function_found : (f : FileScope) (words : Storage) → MayDeclare words → (x : Spelling) (at place left nodes : ℕ) (result : CType) (types : CTypes)
-      (list : Option Trees.ParameterList) (items : Trees.BlockItems) (p : Received) → received_by list types ≡ Some p → AreItemsInRange items
+      (list : Option Trees.ParameterList) (items : Trees.BlockItems) (p : Received) → received_by list types ≡ Some p
       → ((b : Bound) → declared_among f.names x.text ≡ Some b → StandsFor f x place b)
       → ((n : ℕ × FileScope) → IsTheFunction f words x place (function result types) (is_none (declared_among f.names x.text)) n
       → IsReadyFile untagged (with_bound n.1 (bound x left defines (a_function n.0 (function result types))))
+      × AreItemsInRange (with_bound n.1 (bound x left defines (a_function n.0 (function result types)))) items
       × ((o : AFunction) → slice_get n.1.functions n.0 ≡ Some o → o.body ≡ None))
       → (g : FileScope) → define_function f words x at place left nodes result types items (Some p) ≡ Ok g
       → FoundFunction f words x place left nodes result types list items g
-  function_found f words m x at place left nodes result types list items p e range k ready g h =
+  function_found f words m x at place left nodes result types list items p e k ready g h =
       let t = function result types in
       let a = own_answer x.from (library_named x.text) _ g h in
       let b = main_answer x.text x.from t _ g a.1 in
@@ -118,12 +119,12 @@ module _ (untagged : ℕ → List ℕ) where
       let file = with_bound n.0.1 name in
       let r = ready n.0 v in
       let all = bound_ok (items_in result items (in_body file p.bounds p.locals) false false) _ g c.1 in
-      let u = body_found untagged file place nodes result items list types p e range r.0 all.0 all.1 in
+      let u = body_found untagged file place nodes result items list types p e r.1 r.0 all.0 all.1 in
       let step = adds_continues u.extends u.grows in
       let known : slice_get all.0.1.file.functions n.0.0 ≡ Some v.function = subst (λ all. slice_get all n.0.0 ≡ Some v.function)
       (sym u.grows.functions) v.stands in
       let new = defined_function all.0.1.file place (length p.locals) nodes all.0.0 all.0.1.locals v.function in
-      let none = r.1 v.function v.stands in
+      let none = r.2 v.function v.stands in
       let last = function_defined all.0.1.file n.0.0 v.function new known none
       (record { name = refl; first = refl; ty = refl; is_linked = refl; settled = λ s. absurd (nothing_settled v.function v.function none refl s) }) in
       let there : g ≡ replaced_function all.0.1.file n.0.0 new =

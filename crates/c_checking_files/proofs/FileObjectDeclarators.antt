@@ -28,17 +28,20 @@ use Rattle.c_checking.proofs.NodesOfParts.{complete_is}
 use Rattle.c_checking.proofs.Declared.{is_mentioned, before_mention}
 use Rattle.c_checking.proofs.Sound.{sound_steps}
 use Rattle.c_checking_files.proofs.Locals.{IsSizedOver, sized_so, sized_later}
-use Rattle.c_checking_files.proofs.Scoped.{KeepsConstants}
-use Rattle.c_checking_files.proofs.LocalObjects.{IsValueInRange}
+use Rattle.c_checking.proofs.InRange.{IsInRange}
 use Rattle.c_checking_files.proofs.FileScopes.{Continues, continues_then, MayDeclare, StandsFor, own_answer, own_is, once_answer, bound_there, bound_put}
 use Rattle.c_checking_files.proofs.FileScopes.{first_later}
-use Rattle.c_checking_files.proofs.FileObjects.{IsTheObject, object_is, IsLaterFile, definition_found}
+use Rattle.c_checking_files.proofs.FileObjects.{IsTheObject, object_is, IsLaterFile, KeepsValue, definition_found}
 
 -- one definition at most: what is read stands behind the test
 once_defined : {A : Type 0} (f : FileScope) (x : Spelling) (value : Option (ℕ × Trees.Expression)) (r : Answer A) (z : A) → defined_once f x value r ≡ Ok z
     → r ≡ Ok z
 once_defined f x None r z h = h
 once_defined f x (Some value) r z h = (once_answer x (defined_among f.names x.text) r z h).1
+
+abbrev pub IsInitialInRange : Option (ℕ × Trees.Expression) → Type 0
+IsInitialInRange None = Unit {0}
+IsInitialInRange (Some value) = IsInRange value.1
 
 module _ (untagged : ℕ → List ℕ) where
   -- what is asked of the file in which an object is defined: it has no initializer yet
@@ -69,11 +72,11 @@ module _ (untagged : ℕ → List ℕ) where
     pub continues : Continues f g
     pub after : FileScope
     pub texts : List ℕ
-    pub holds : (h : FileScope) → IsLaterFile untagged g texts h → KeepsConstants after h
+    pub holds : (h : FileScope) → IsLaterFile untagged g texts h → KeepsValue untagged after value h
         → IsObjectDeclared words x place from t value (is_none (declared_among f.names x.text)) h
 
   object_read : (f : FileScope) (words : Storage) (x : Spelling) (place from : ℕ) (t : CType) (value : Option (ℕ × Trees.Expression)) → IsOwnName x.text
-      → IsValueInRange value → (n : ℕ × FileScope) → IsTheObject f words x place t (is_none (declared_among f.names x.text)) n
+      → IsInitialInRange value → (n : ℕ × FileScope) → IsTheObject f words x place t (is_none (declared_among f.names x.text)) n
       → MayDefine (with_bound n.1 (bound x from (object_how words value) (an_object n.0 t))) n.0 value t → (g : FileScope)
       → define_object (with_bound n.1 (bound x from (object_how words value) (an_object n.0 t))) n.0 place value t ≡ Ok g
       → FoundObject f words x place from t value g
@@ -128,7 +131,7 @@ module _ (untagged : ℕ → List ℕ) where
       }
 
   pub object_declared : (f : FileScope) (words : Storage) → MayDeclare words → (x : Spelling) (place from : ℕ) (t : CType)
-      (value : Option (ℕ × Trees.Expression)) → IsValueInRange value
+      (value : Option (ℕ × Trees.Expression)) → IsInitialInRange value
       → ((b : Bound) → declared_among f.names x.text ≡ Some b → StandsFor f x place b)
       → ((n : ℕ × FileScope) → IsTheObject f words x place t (is_none (declared_among f.names x.text)) n
       → MayDefine (with_bound n.1 (bound x from (object_how words value) (an_object n.0 t))) n.0 value t)

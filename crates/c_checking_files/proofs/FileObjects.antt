@@ -34,6 +34,8 @@ use Rattle.c_checking.proofs.Agreement.{Ready}
 use Rattle.c_checking.proofs.InRange.{IsInRange}
 use Rattle.c_checking_files.proofs.Layouts.{IsLaid}
 use Rattle.c_checking_files.proofs.Parts.{NoneBegins}
+use Rattle.c_checking_files.proofs.InTime.{IsTimely}
+use Rattle.c_checking_files.proofs.Kept.{AreObjectsWhole}
 use Rattle.c_checking_files.proofs.Scoped.{KeepsConstants}
 use Rattle.c_checking_files.proofs.Wholes.{typed_initial, FoundWhole, sound_whole, constants_are}
 use Rattle.c_checking_files.proofs.FileScopes.{IsSameObject, Continues, continues_itself, continues_then, adds_continues, MayDeclare, StandsFor}
@@ -219,6 +221,11 @@ module _ (untagged : ℕ → List ℕ) where
     pub laid : IsLaid g
     pub none_begins : NoneBegins g texts
 
+  -- what is asked for the constants of an initializer
+  abbrev pub KeepsValue : FileScope → Option (ℕ × Trees.Expression) → FileScope → Type 0
+  KeepsValue f None g = Unit {0}
+  KeepsValue f (Some value) g = KeepsConstants f g × AreComplete f.records × AreObjectsWhole f.records f.objects × IsTimely f value.1
+
   -- an object is defined by an initializer of constants, which is typed
   pub record FoundDefinition (f : FileScope) (n place : ℕ) (value : ℕ × Trees.Expression) (t : CType) (o : AnObject) (g : FileScope) : Type 0 where
     pub after : FileScope
@@ -226,7 +233,7 @@ module _ (untagged : ℕ → List ℕ) where
     pub whole : FoundWhole untagged (at_file_scope f) value.1 t (initial, after)
     pub file_is : g ≡ replaced_object after n (with_initial f place initial o)
     pub continues : Continues f g
-    pub holds : (h : FileScope) → IsLaterFile g whole.texts h → KeepsConstants after h → (p : AnObject) → slice_get h.objects n ≡ Some p
+    pub holds : (h : FileScope) → IsLaterFile g whole.texts h → KeepsValue after (Some value) h → (p : AnObject) → slice_get h.objects n ≡ Some p
         → IsDefinition (at_file_scope h) place t (Some value) p × IsTypedInitializer (declared (at_file_scope h)) t (typed_initial initial)
 
   pub definition_found : (f : FileScope) (n place : ℕ) (value : ℕ × Trees.Expression) (t : CType) (o : AnObject) → slice_get f.objects n ≡ Some o
@@ -264,7 +271,7 @@ module _ (untagged : ℕ → List ℕ) where
                 i.0.0,
                 (
                   b.0,
-                  keeps value.1 s t i.0.0 [] (x.1 ∙ ap (λ z. Ok z) (pair_is x.0 i.0 d.0 w.1)) b.1
+                  keeps.0 keeps.1 keeps.2 value.1 s t i.0.0 [] keeps.3 (x.1 ∙ ap (λ z. Ok z) (pair_is x.0 i.0 d.0 w.1)) b.0 b.1
                       (subst (λ file. Rattle.c_erasure.specs.Initializers.AreConstants (declared (moved s file)) i.0.0) w.1 d.1),
                 ),
                 ap (λ (o : AnObject). o.initial) is,

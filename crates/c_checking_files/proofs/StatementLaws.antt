@@ -21,6 +21,7 @@ use Rattle.c_checking.specs.Statements.{unless_static}
 use Rattle.c_checking.specs.Statements.{arranged, jump, returned_nothing, unless_void}
 use Rattle.c_checking.proofs.Results.{given, only_if, chosen}
 use Rattle.c_checking.proofs.InRange.{IsInRange}
+use Rattle.c_erasure.specs.Scopes.{FileScope}
 use Rattle.c_checking_files.proofs.Declarations.{IsDeclarationInRange, typed_statements}
 use Rattle.c_checking_files.proofs.Labels.{AreFresh, fresh_then, AreCounted, AreLabelsInRange}
 
@@ -30,40 +31,40 @@ abbrev pub IsInRangeIfAny : Option Trees.Expression → Type 0
 IsInRangeIfAny None = Unit {0}
 IsInRangeIfAny (Some a) = IsInRange a
 
-abbrev pub IsStartInRange : Trees.ForStart → Type 0
-IsStartInRange (Trees.starts_with a semicolon) = IsInRangeIfAny a
-IsStartInRange (Trees.declares d) = IsDeclarationInRange d
+abbrev pub IsStartInRange : FileScope → Trees.ForStart → Type 0
+IsStartInRange f (Trees.starts_with a semicolon) = IsInRangeIfAny a
+IsStartInRange f (Trees.declares d) = IsDeclarationInRange f d
 
 abbrev mutual
-  pub IsStatementInRange : Trees.Statement → Type 0
-  IsStatementInRange (Trees.block left items right) = AreItemsInRange items
-  IsStatementInRange (Trees.evaluate a semicolon) = IsInRangeIfAny a
-  IsStatementInRange (Trees.when at left a right one) = IsInRange a × IsStatementInRange one
-  IsStatementInRange (Trees.choose at left a right one middle other) = IsInRange a × IsStatementInRange one × IsStatementInRange other
-  IsStatementInRange (Trees.while at left a right body) = IsInRange a × IsStatementInRange body
-  IsStatementInRange (Trees.do_while at body while left a right semicolon) = IsInRange a × IsStatementInRange body
-  IsStatementInRange (Trees.for at left start test semicolon step right body) =
-      IsStartInRange start × IsInRangeIfAny test × IsInRangeIfAny step × IsStatementInRange body
-  IsStatementInRange (Trees.switch at left a right begin items end) = IsInRange a × AreSwitchItemsInRange items
-  IsStatementInRange (Trees.break at semicolon) = Unit {0}
-  IsStatementInRange (Trees.continue at semicolon) = Unit {0}
-  IsStatementInRange (Trees.return at a semicolon) = IsInRangeIfAny a
+  pub IsStatementInRange : FileScope → Trees.Statement → Type 0
+  IsStatementInRange f (Trees.block left items right) = AreItemsInRange f items
+  IsStatementInRange f (Trees.evaluate a semicolon) = IsInRangeIfAny a
+  IsStatementInRange f (Trees.when at left a right one) = IsInRange a × IsStatementInRange f one
+  IsStatementInRange f (Trees.choose at left a right one middle other) = IsInRange a × IsStatementInRange f one × IsStatementInRange f other
+  IsStatementInRange f (Trees.while at left a right body) = IsInRange a × IsStatementInRange f body
+  IsStatementInRange f (Trees.do_while at body while left a right semicolon) = IsInRange a × IsStatementInRange f body
+  IsStatementInRange f (Trees.for at left start test semicolon step right body) =
+      IsStartInRange f start × IsInRangeIfAny test × IsInRangeIfAny step × IsStatementInRange f body
+  IsStatementInRange f (Trees.switch at left a right begin items end) = IsInRange a × AreSwitchItemsInRange f items
+  IsStatementInRange f (Trees.break at semicolon) = Unit {0}
+  IsStatementInRange f (Trees.continue at semicolon) = Unit {0}
+  IsStatementInRange f (Trees.return at a semicolon) = IsInRangeIfAny a
 
-  pub IsItemInRange : Trees.BlockItem → Type 0
-  IsItemInRange (Trees.local d) = IsDeclarationInRange d
-  IsItemInRange (Trees.statement a) = IsStatementInRange a
+  pub IsItemInRange : FileScope → Trees.BlockItem → Type 0
+  IsItemInRange f (Trees.local d) = IsDeclarationInRange f d
+  IsItemInRange f (Trees.statement a) = IsStatementInRange f a
 
-  pub AreItemsInRange : Trees.BlockItems → Type 0
-  AreItemsInRange Trees.no_block_items = Unit {0}
-  AreItemsInRange (Trees.and_block_item e more) = IsItemInRange e × AreItemsInRange more
+  pub AreItemsInRange : FileScope → Trees.BlockItems → Type 0
+  AreItemsInRange f Trees.no_block_items = Unit {0}
+  AreItemsInRange f (Trees.and_block_item e more) = IsItemInRange f e × AreItemsInRange f more
 
-  pub IsSwitchItemInRange : Trees.SwitchItem → Type 0
-  IsSwitchItemInRange (Trees.local_switch_item d) = IsDeclarationInRange d
-  IsSwitchItemInRange (Trees.labelled labels a) = AreLabelsInRange labels × IsStatementInRange a
+  pub IsSwitchItemInRange : FileScope → Trees.SwitchItem → Type 0
+  IsSwitchItemInRange f (Trees.local_switch_item d) = IsDeclarationInRange f d
+  IsSwitchItemInRange f (Trees.labelled labels a) = AreLabelsInRange labels × IsStatementInRange f a
 
-  pub AreSwitchItemsInRange : Trees.SwitchItems → Type 0
-  AreSwitchItemsInRange Trees.no_switch_items = Unit {0}
-  AreSwitchItemsInRange (Trees.and_switch_item item more) = IsSwitchItemInRange item × AreSwitchItemsInRange more
+  pub AreSwitchItemsInRange : FileScope → Trees.SwitchItems → Type 0
+  AreSwitchItemsInRange f Trees.no_switch_items = Unit {0}
+  AreSwitchItemsInRange f (Trees.and_switch_item item more) = IsSwitchItemInRange f item × AreSwitchItemsInRange f more
 
 -- ---- locals and labels stay in the tree without notes
 

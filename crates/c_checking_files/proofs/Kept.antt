@@ -286,7 +286,7 @@ one_only : {X : Type 0} (P : X → Type 0) (y : X) → P y → (k : ℕ) (x : X)
 one_only P y p zero x e = let f : y ≡ x = cc in subst P f p
 one_only P y p (suc k) x e = cc
 
-objects_more : (records : List Record) (objects : List AnObject) (o : AnObject) → is_object (length records) o.ty ≡ true → AreObjectsWhole records objects
+pub objects_more : (records : List Record) (objects : List AnObject) (o : AnObject) → is_object (length records) o.ty ≡ true → AreObjectsWhole records objects
     → AreObjectsWhole records (objects ++ o ∷ [])
 objects_more records objects o is h n p e = of_one (last_or objects o n p e)
   where

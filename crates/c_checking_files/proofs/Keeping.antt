@@ -55,8 +55,8 @@ use Rattle.c_checking.proofs.FoundTypes.{bound_of}
 use Rattle.c_checking.proofs.FoundDeclarators.{new_bound, parameter_inside}
 use Rattle.c_checking.proofs.Adding.{file_beside, file_of, file_of_value, file_of_tested, file_of_constant}
 use Rattle.c_checking_files.proofs.Layouts.{object_more}
-use Rattle.c_checking_items.proofs.Kept.{AreWhole, IsTagFit, completed_adds, enumerator_adds, Keeps, keeps_nothing, keeps_then, keeps_inside, keeps_mention}
-use Rattle.c_checking_items.proofs.Kept.{keeps_object, keeps_record, keeps_name, keeps_tag}
+use Rattle.c_checking_files.proofs.Kept.{AreWhole, IsTagFit, completed_adds, enumerator_adds, Keeps, keeps_nothing, keeps_then, keeps_inside, keeps_mention}
+use Rattle.c_checking_files.proofs.Kept.{keeps_object, keeps_record, keeps_name, keeps_tag}
 
 abbrev Stays : Scope → List Mark → (types made : List ℕ) → FileScope → Type 0
 Stays s u types made g = Keeps s.file s.is_inside u g
@@ -66,7 +66,7 @@ nothing s = keeps_nothing s.file s.is_inside
 
 -- ---- literals
 
-literal_is_whole : (count : ℕ) (all : List Spelling) → is_object count (array (integer Char) (length (literal_of all))) ≡ true
+pub literal_is_whole : (count : ℕ) (all : List Spelling) → is_object count (array (integer Char) (length (literal_of all))) ≡ true
 literal_is_whole count all = and_from (nat_lt 0 (length (literal_of all))) true (lt-ltb 0 (length (literal_of all)) (literal_length all)) refl
   where
     literal_length : (all : List Spelling) → 0 < length (literal_of all)

@@ -19,8 +19,8 @@ use Rattle.c_checking.specs.Initializers.{fields_from, initializer}
 use Rattle.c_checking.proofs.Results.{bound_ok, chosen, with_file_ok}
 use Rattle.c_checking.proofs.Adding.{file_beside, file_of, file_of_value}
 use Rattle.c_checking_files.proofs.Initials.{AreBytes, IsPlain, plain, braces_bytes, many_refused, braces_alone}
-use Rattle.c_checking_items.proofs.Kept.{Keeps, keeps_nothing, keeps_then}
-use Rattle.c_checking_items.proofs.Keeping.{keep}
+use Rattle.c_checking_files.proofs.Kept.{Keeps, keeps_nothing, keeps_then}
+use Rattle.c_checking_files.proofs.Keeping.{keep}
 
 text_some : (from at n : ℕ) (b : Bool) (o : Option (List Spelling)) (parts : List Part) → text_of_array from at n b o ≡ Ok parts
     → (all : List Spelling) × (o ≡ Some all)
