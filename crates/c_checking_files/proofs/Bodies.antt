@@ -136,7 +136,7 @@ module _ (untagged : ℕ → List ℕ) where
   -- the body of a function, as the checker keeps it: its parameters and locals are those of its last scope
   pub body_found : (f : FileScope) (place nodes : ℕ) (result : CType) (items : Trees.BlockItems) (list : Option Trees.ParameterList) (types : CTypes)
       (p : Received)
-      → received_by list types ≡ Some p → AreItemsInRange f items → IsReadyFile untagged f → (z : Statements × Scope)
+      → received_by list types ≡ Some p → AreItemsInRange f.ends (length f.records) items → IsReadyFile untagged f → (z : Statements × Scope)
       → items_in result items (in_body f p.bounds p.locals) false false ≡ Ok z
       → FoundIn untagged f (in_body f p.bounds p.locals) (spoken_by_items items) (made_by_items items)
       (λ g l. (old : AFunction) → l ≡ z.1.locals

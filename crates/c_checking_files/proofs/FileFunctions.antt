@@ -104,7 +104,7 @@ module _ (untagged : ℕ → List ℕ) where
       → ((b : Bound) → declared_among f.names x.text ≡ Some b → StandsFor f x place b)
       → ((n : ℕ × FileScope) → IsTheFunction f words x place (function result types) (is_none (declared_among f.names x.text)) n
       → IsReadyFile untagged (with_bound n.1 (bound x left defines (a_function n.0 (function result types))))
-      × AreItemsInRange (with_bound n.1 (bound x left defines (a_function n.0 (function result types)))) items
+      × AreItemsInRange n.1.ends (length n.1.records) items
       × ((o : AFunction) → slice_get n.1.functions n.0 ≡ Some o → o.body ≡ None))
       → (g : FileScope) → define_function f words x at place left nodes result types items (Some p) ≡ Ok g
       → FoundFunction f words x place left nodes result types list items g

@@ -39,15 +39,15 @@ use Rattle.c_checking_files.proofs.Scoped.{IsWithin, ready_for, AddsInside, insi
 use Rattle.std.proofs.Common.{inl, inr}
 use Rattle.std.specs.Prelude.{◌⊎◌}
 use Rattle.c_erasure.specs.Scopes.{AnObject}
-use Rattle.c_checking_files.proofs.InTime.{IsTimely, timely_later}
+use Rattle.c_checking_files.proofs.InTime.{IsInTime, timely_later}
 use Rattle.c_checking_files.proofs.Kept.{IsALiteral}
 use Rattle.c_checking_files.proofs.KeepingInitials.{keep_initializer}
 use Rattle.c_checking_files.proofs.Scoped.{outside, new_of, IsMadeTyped, IsInner, literal_inner}
 
 -- the initializer of a declarator
-abbrev pub IsValueInRange : FileScope → Option (ℕ × Trees.Expression) → Type 0
-IsValueInRange f None = Unit {0}
-IsValueInRange f (Some value) = IsInRange value.1 × IsTimely f value.1
+abbrev pub IsValueInRange : (ends : List ℕ) → ℕ → Option (ℕ × Trees.Expression) → Type 0
+IsValueInRange ends n None = Unit {0}
+IsValueInRange ends n (Some value) = IsInRange value.1 × IsInTime ends n value.1
 
 abbrev pub typed_initial_if_any : Option (Typed.Initializer Noted) → Option (Typed.Initializer CType)
 typed_initial_if_any i = option_map typed_initial i
@@ -130,7 +130,7 @@ module _ (untagged : ℕ → List ℕ) (f : FileScope) where
       }
 
   -- none, or one
-  pub initial_in : (value : Option (ℕ × Trees.Expression)) (s : Scope) (t : CType) → IsValueInRange f value → IsWithin untagged f s
+  pub initial_in : (value : Option (ℕ × Trees.Expression)) (s : Scope) (t : CType) → IsValueInRange f.ends (length f.records) value → IsWithin untagged f s
       → is_object (length s.file.records) t ≡ true → (z : Option (Typed.Initializer Noted) × FileScope) → initial_if_any value s t ≡ Ok z
       → FoundInitializer s (spoken_by_value value) (literals_of_value value) (IsInitialIn s t value z.0) z.1
   initial_in None s t n w o z h =
@@ -164,7 +164,7 @@ module _ (untagged : ℕ → List ℕ) (f : FileScope) where
   AreConstantsIn s t value i g l = HasConstants (seen s g l) t value i × IsMadeTyped (declared (seen s g l)) t i
 
   -- constants, or none
-  pub constants_found : (value : Option (ℕ × Trees.Expression)) (s : Scope) (t : CType) → IsValueInRange f value → IsWithin untagged f s
+  pub constants_found : (value : Option (ℕ × Trees.Expression)) (s : Scope) (t : CType) → IsValueInRange f.ends (length f.records) value → IsWithin untagged f s
       → is_object (length s.file.records) t ≡ true → (z : Typed.Initializer Noted × FileScope) → constants_if_any value s t ≡ Ok z
       → FoundInitializer s (spoken_by_value value) (literals_of_value value) (AreConstantsIn s t value z.0) z.1
   constants_found None s t n w o z h =
@@ -234,7 +234,7 @@ module _ (untagged : ℕ → List ℕ) (f : FileScope) where
     pub complete : is_object (length g.records) t ≡ true
     pub is_typed : IsInitialized (declared (seen s g l)) t (typed_initial_if_any initial)
 
-  pub local_found : (s : Scope) (d : Trees.InitDeclarator) (x : Spelling) (t : CType) → IsValueInRange f d.value → IsWithin untagged f s
+  pub local_found : (s : Scope) (d : Trees.InitDeclarator) (x : Spelling) (t : CType) → IsValueInRange f.ends (length f.records) d.value → IsWithin untagged f s
       → is_object (length s.file.records) t ≡ true → (z : Statements × Scope) → declare_local s d x t ≡ Ok z
       → FoundIn untagged f s (spoken_by_value d.value) (literals_of_value d.value) (IsDeclared s d x t z.0 z.1) (all_declared_by z.0) z.1
   local_found s d x t n w o z h =

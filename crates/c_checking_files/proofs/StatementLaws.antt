@@ -21,7 +21,6 @@ use Rattle.c_checking.specs.Statements.{unless_static}
 use Rattle.c_checking.specs.Statements.{arranged, jump, returned_nothing, unless_void}
 use Rattle.c_checking.proofs.Results.{given, only_if, chosen}
 use Rattle.c_checking.proofs.InRange.{IsInRange}
-use Rattle.c_erasure.specs.Scopes.{FileScope}
 use Rattle.c_checking_files.proofs.Declarations.{IsDeclarationInRange, typed_statements}
 use Rattle.c_checking_files.proofs.Labels.{AreFresh, fresh_then, AreCounted, AreLabelsInRange}
 
@@ -31,40 +30,40 @@ abbrev pub IsInRangeIfAny : Option Trees.Expression → Type 0
 IsInRangeIfAny None = Unit {0}
 IsInRangeIfAny (Some a) = IsInRange a
 
-abbrev pub IsStartInRange : FileScope → Trees.ForStart → Type 0
-IsStartInRange f (Trees.starts_with a semicolon) = IsInRangeIfAny a
-IsStartInRange f (Trees.declares d) = IsDeclarationInRange f d
+abbrev pub IsStartInRange : (ends : List ℕ) → ℕ → Trees.ForStart → Type 0
+IsStartInRange ends n (Trees.starts_with a semicolon) = IsInRangeIfAny a
+IsStartInRange ends n (Trees.declares d) = IsDeclarationInRange ends n d
 
 abbrev mutual
-  pub IsStatementInRange : FileScope → Trees.Statement → Type 0
-  IsStatementInRange f (Trees.block left items right) = AreItemsInRange f items
-  IsStatementInRange f (Trees.evaluate a semicolon) = IsInRangeIfAny a
-  IsStatementInRange f (Trees.when at left a right one) = IsInRange a × IsStatementInRange f one
-  IsStatementInRange f (Trees.choose at left a right one middle other) = IsInRange a × IsStatementInRange f one × IsStatementInRange f other
-  IsStatementInRange f (Trees.while at left a right body) = IsInRange a × IsStatementInRange f body
-  IsStatementInRange f (Trees.do_while at body while left a right semicolon) = IsInRange a × IsStatementInRange f body
-  IsStatementInRange f (Trees.for at left start test semicolon step right body) =
-      IsStartInRange f start × IsInRangeIfAny test × IsInRangeIfAny step × IsStatementInRange f body
-  IsStatementInRange f (Trees.switch at left a right begin items end) = IsInRange a × AreSwitchItemsInRange f items
-  IsStatementInRange f (Trees.break at semicolon) = Unit {0}
-  IsStatementInRange f (Trees.continue at semicolon) = Unit {0}
-  IsStatementInRange f (Trees.return at a semicolon) = IsInRangeIfAny a
+  pub IsStatementInRange : (ends : List ℕ) → ℕ → Trees.Statement → Type 0
+  IsStatementInRange ends n (Trees.block left items right) = AreItemsInRange ends n items
+  IsStatementInRange ends n (Trees.evaluate a semicolon) = IsInRangeIfAny a
+  IsStatementInRange ends n (Trees.when at left a right one) = IsInRange a × IsStatementInRange ends n one
+  IsStatementInRange ends n (Trees.choose at left a right one middle other) = IsInRange a × IsStatementInRange ends n one × IsStatementInRange ends n other
+  IsStatementInRange ends n (Trees.while at left a right body) = IsInRange a × IsStatementInRange ends n body
+  IsStatementInRange ends n (Trees.do_while at body while left a right semicolon) = IsInRange a × IsStatementInRange ends n body
+  IsStatementInRange ends n (Trees.for at left start test semicolon step right body) =
+      IsStartInRange ends n start × IsInRangeIfAny test × IsInRangeIfAny step × IsStatementInRange ends n body
+  IsStatementInRange ends n (Trees.switch at left a right begin items end) = IsInRange a × AreSwitchItemsInRange ends n items
+  IsStatementInRange ends n (Trees.break at semicolon) = Unit {0}
+  IsStatementInRange ends n (Trees.continue at semicolon) = Unit {0}
+  IsStatementInRange ends n (Trees.return at a semicolon) = IsInRangeIfAny a
 
-  pub IsItemInRange : FileScope → Trees.BlockItem → Type 0
-  IsItemInRange f (Trees.local d) = IsDeclarationInRange f d
-  IsItemInRange f (Trees.statement a) = IsStatementInRange f a
+  pub IsItemInRange : (ends : List ℕ) → ℕ → Trees.BlockItem → Type 0
+  IsItemInRange ends n (Trees.local d) = IsDeclarationInRange ends n d
+  IsItemInRange ends n (Trees.statement a) = IsStatementInRange ends n a
 
-  pub AreItemsInRange : FileScope → Trees.BlockItems → Type 0
-  AreItemsInRange f Trees.no_block_items = Unit {0}
-  AreItemsInRange f (Trees.and_block_item e more) = IsItemInRange f e × AreItemsInRange f more
+  pub AreItemsInRange : (ends : List ℕ) → ℕ → Trees.BlockItems → Type 0
+  AreItemsInRange ends n Trees.no_block_items = Unit {0}
+  AreItemsInRange ends n (Trees.and_block_item e more) = IsItemInRange ends n e × AreItemsInRange ends n more
 
-  pub IsSwitchItemInRange : FileScope → Trees.SwitchItem → Type 0
-  IsSwitchItemInRange f (Trees.local_switch_item d) = IsDeclarationInRange f d
-  IsSwitchItemInRange f (Trees.labelled labels a) = AreLabelsInRange labels × IsStatementInRange f a
+  pub IsSwitchItemInRange : (ends : List ℕ) → ℕ → Trees.SwitchItem → Type 0
+  IsSwitchItemInRange ends n (Trees.local_switch_item d) = IsDeclarationInRange ends n d
+  IsSwitchItemInRange ends n (Trees.labelled labels a) = AreLabelsInRange labels × IsStatementInRange ends n a
 
-  pub AreSwitchItemsInRange : FileScope → Trees.SwitchItems → Type 0
-  AreSwitchItemsInRange f Trees.no_switch_items = Unit {0}
-  AreSwitchItemsInRange f (Trees.and_switch_item item more) = IsSwitchItemInRange f item × AreSwitchItemsInRange f more
+  pub AreSwitchItemsInRange : (ends : List ℕ) → ℕ → Trees.SwitchItems → Type 0
+  AreSwitchItemsInRange ends n Trees.no_switch_items = Unit {0}
+  AreSwitchItemsInRange ends n (Trees.and_switch_item item more) = IsSwitchItemInRange ends n item × AreSwitchItemsInRange ends n more
 
 -- ---- locals and labels stay in the tree without notes
 

@@ -1,5 +1,6 @@
 -- What is found for declarations in blocks, and for parts of statements (C99 6.7, 6.8).
 use Rattle.std.proofs.Common.{◌≡◌, ◌≢◌, ℕ, Bool, true, false, refl, sym, ap, ◌∙◌, subst, List, [], ◌∷◌, ◌++◌, append-nil}
+use Rattle.std.proofs.Common.{length}
 use Rattle.std.proofs.Common.{inl, inr}
 use Rattle.std.specs.Prelude.{◌⊎◌, ◌^◌, Some, Ok}
 use Rattle.std.proofs.Math.Nat.{mod-mod}
@@ -267,7 +268,7 @@ module _ (untagged : ℕ → List ℕ) (f : FileScope) where
     pub declares : IsLocalDeclaration d (seen s g l) all (seen after g l)
     pub is_typed : AreTypedIn untagged f all g l s
 
-  pub declaration_found : (d : Trees.Declaration) (s : Scope) → IsDeclarationInRange f d → IsWithin untagged f s → (z : Statements × Scope)
+  pub declaration_found : (d : Trees.Declaration) (s : Scope) → IsDeclarationInRange f.ends (length f.records) d → IsWithin untagged f s → (z : Statements × Scope)
       → local_declaration d s ≡ Ok z
       → FoundIn untagged f s (spoken_of_declaration d) (made_by_declaration d) (IsDeclaration d s z.0 z.1) (all_declared_by z.0) z.1
   declaration_found d s n w z h =

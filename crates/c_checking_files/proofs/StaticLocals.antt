@@ -261,7 +261,7 @@ module _ (untagged : ℕ → List ℕ) (f : FileScope) where
             objects = (new ∷ more, ap (λ (g : FileScope). g.objects) there, ap (λ all. new.first ∷ all) firsts);
           }
 
-  pub static_found : (s : Scope) (d : Trees.InitDeclarator) (x : Spelling) (t : CType) → IsValueInRange f d.value → IsWithin untagged f s
+  pub static_found : (s : Scope) (d : Trees.InitDeclarator) (x : Spelling) (t : CType) → IsValueInRange f.ends (length f.records) d.value → IsWithin untagged f s
       → is_object (length s.file.records) t ≡ true → (z : Statements × Scope) → declare_static s d x t ≡ Ok z
       → FoundIn untagged f s (spoken_by_value d.value) (first_declarator d.declarator x.from ∷ literals_of_value d.value) (IsStatic s d x t z.0 z.1) [] z.1
   static_found s d x t n w o z h =
