@@ -1,18 +1,17 @@
 -- What is known of a file between parts of its items: what its names are bound to, and of each object and function where it stands and whether it
 -- is defined (C99 6.2.2, 6.7, 6.9).
-use Rattle.std.proofs.Common.{◌≡◌, ◌≢◌, ℕ, zero, suc, ◌+◌, ◌<◌, Bool, true, false, refl, sym, ap, ◌∙◌, subst, List, [], ◌∷◌, ◌++◌, length, arith}
+use Rattle.std.proofs.Common.{◌≡◌, ◌≢◌, ℕ, zero, suc, ◌+◌, true, false, subst, List, [], ◌∷◌, ◌++◌, length, arith}
 use Rattle.std.proofs.Common.{inl, inr}
-use Rattle.std.proofs.lemmas.Bool.{eqb-true, eq-eqb}
 use Rattle.std.proofs.lemmas.Option.{slice_get_within}
-use Rattle.std.specs.Prelude.{◌⊎◌, ◌==◌, map, Option, Some, None, slice_get, codes}
+use Rattle.std.specs.Prelude.{◌⊎◌, Some, None, slice_get, codes}
 use Rattle.std.specs.Option.{IsSome}
 use Rattle.c_types.specs.Types.{CType}
-use Rattle.c_erasure.specs.Files.{IsMade, IsMainType, AreConsistent, MayStandTogether}
-use Rattle.c_erasure.specs.Scopes.{FileScope, Bound, How, defines, Entity, enumerator, an_object, a_function, AnObject, AFunction}
-use Rattle.c_checking.specs.Declaring.{with_bound}
-use Rattle.c_checking.specs.Files.{with_new_object, with_new_function}
+use Rattle.c_erasure.specs.Files.{IsMade, IsMainType, AreConsistent}
+use Rattle.c_erasure.specs.Scopes.{FileScope, Bound, defines, Entity, an_object, a_function, a_library_function, AnObject, AFunction}
+use Rattle.c_typed.specs.declared.operators.LibraryFunction.{LibraryFunction}
+use Rattle.c_checking.specs.Files.{library_named}
 use Rattle.c_checking.proofs.Agreement.{AreFit}
-use Rattle.c_checking.proofs.Extends.{kept, at_end, last_or, one_of_both}
+use Rattle.c_checking.proofs.Extends.{kept, one_of_both}
 use Rattle.c_checking_files.proofs.Kept.{AreSettled, AreObjectsWhole}
 
 -- ---- names that are bound to a thing
@@ -105,6 +104,19 @@ abbrev pub AreFunctionsBound : List Bound → List AFunction → Type 0
 AreFunctionsBound names functions = (k : ℕ) (b : Bound) → slice_get names k ≡ Some b → (n : ℕ) (t : CType) → b.entity ≡ a_function n t
     → (g : AFunction) × (slice_get functions n ≡ Some g) × (g.name ≡ b.name) × (g.ty ≡ t)
 
+-- a function of the library has its name
+abbrev pub AreLibrariesBound : List Bound → Type 0
+AreLibrariesBound names = (k : ℕ) (b : Bound) → slice_get names k ≡ Some b → (which : LibraryFunction) → b.entity ≡ a_library_function which
+    → library_named b.name ≡ Some which
+
+pub libraries_bound_more : (names more : List Bound) → AreLibrariesBound names → AreLibrariesBound more → AreLibrariesBound (names ++ more)
+libraries_bound_more names more h i k b g = by_part (one_of_both names more k b g)
+  where
+    by_part : (slice_get names k ≡ Some b) ⊎ ((j : ℕ) × (k ≡ length names + j) × (slice_get more j ≡ Some b)) → (which : LibraryFunction)
+        → b.entity ≡ a_library_function which → library_named b.name ≡ Some which
+    by_part (inl g) = h k b g
+    by_part (inr g) = i g.0 b g.2
+
 pub record IsKnown (nodes_at : ℕ → ℕ) (made : List ℕ) (IsNewObject IsNewFunction : ℕ → Type 0) (f : FileScope) : Type 0 where
   pub fits : AreFit f [] f.names
   pub settled : AreSettled f.numbered f.records
@@ -112,6 +124,7 @@ pub record IsKnown (nodes_at : ℕ → ℕ) (made : List ℕ) (IsNewObject IsNew
   pub consistent : AreConsistent f.names
   pub objects_bound : AreObjectsBound f.names f.objects
   pub functions_bound : AreFunctionsBound f.names f.functions
+  pub libraries_bound : AreLibrariesBound f.names
   pub objects : (n : ℕ) (o : AnObject) → slice_get f.objects n ≡ Some o → IsNewObject n ⊎ IsObjectKnown f.file f.names made n o
   pub functions : (n : ℕ) (g : AFunction) → slice_get f.functions n ≡ Some g → IsNewFunction n ⊎ IsFunctionKnown nodes_at f.file f.names n g
 

@@ -1,2 +1,4 @@
 pub mod Known
 pub mod Making
+pub mod Names
+pub mod Declaring

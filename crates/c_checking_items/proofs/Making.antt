@@ -5,14 +5,15 @@ use Rattle.std.specs.Option.{IsSome}
 use Rattle.c_types.specs.Types.{CType}
 use Rattle.c_erasure.specs.Files.{IsMade, AreConsistent}
 use Rattle.c_erasure.specs.Marks.{Mark}
-use Rattle.c_erasure.specs.Scopes.{FileScope, Bound, an_object, a_function, AnObject, AFunction, Entity, enumerator}
+use Rattle.c_erasure.specs.Scopes.{FileScope, Bound, an_object, a_function, AnObject, AFunction, enumerator, a_library_function}
+use Rattle.c_typed.specs.declared.operators.LibraryFunction.{LibraryFunction}
 use Rattle.c_checking.proofs.Adding.{Adds}
 use Rattle.c_checking.proofs.Agreement.{AreFit, IsGrown}
 use Rattle.c_checking.proofs.Extends.{one_of_both}
 use Rattle.c_checking_files.proofs.Kept.{AreSettled, AreObjectsWhole, Keeps, IsAnEnumerator, IsALiteral}
 use Rattle.c_checking_files.proofs.Scoped.{new_of}
-use Rattle.c_checking_items.proofs.Known.{HasNoDefinition, others_define_none, AreOthers, IsObjectKnown, made_right, object_later, IsFunctionKnown, function_later}
-use Rattle.c_checking_items.proofs.Known.{AreObjectsBound, AreFunctionsBound, IsKnown, objects_bound_more, functions_bound_more, objects_bound_longer}
+use Rattle.c_checking_items.proofs.Known.{others_define_none, AreOthers, IsObjectKnown, made_right, object_later, IsFunctionKnown, function_later}
+use Rattle.c_checking_items.proofs.Known.{AreLibrariesBound, libraries_bound_more, AreObjectsBound, AreFunctionsBound, IsKnown, objects_bound_more, functions_bound_more, objects_bound_longer}
 
 -- objects at places
 pub at_places : (more : List AnObject) (k : ℕ) (o : AnObject) → slice_get more k ≡ Some o → IsMade (map (λ o. o.first) more) o.first
@@ -27,6 +28,9 @@ enumerators_are_others names h n t k b g e = let v = h k b g in let f : enumerat
 no_functions : (names : List Bound) → ((k : ℕ) (b : Bound) → slice_get names k ≡ Some b → IsAnEnumerator b) → (n : ℕ) (t : CType)
     → AreOthers names (a_function n t)
 no_functions names h n t k b g e = let v = h k b g in let f : enumerator v.0 ≡ a_function n t = sym v.1 ∙ e in cc
+
+no_library : (b : Bound) (which : LibraryFunction) → IsAnEnumerator b → b.entity ≡ a_library_function which → ⊥
+no_library b which v e = let f : enumerator v.0 ≡ a_library_function which = sym v.1 ∙ e in cc
 
 -- what a part adds: names of enumerators, and objects that it makes
 pub record Makes (f : FileScope) (made : List ℕ) (g : FileScope) : Type 0 where
@@ -67,6 +71,9 @@ module _ (nodes_at : ℕ → ℕ) (P Q : ℕ → Type 0) where
         (subst (AreFunctionsBound (f.names ++ m.names.0)) (sym m.functions)
         (functions_bound_more f.names m.names.0 f.functions k.functions_bound
         (λ j b e n t is. absurd (no_functions m.names.0 m.names.2 n t j b e is))));
+    libraries_bound = subst AreLibrariesBound (sym m.names.1)
+        (libraries_bound_more f.names m.names.0 k.libraries_bound
+        (λ j b e which is. absurd (no_library b which (m.names.2 j b e) is)));
     objects = λ n o e. one n o e (m.new n o e);
     functions = λ n o e. function n o (k.functions n o (subst (λ all. slice_get all n ≡ Some o) m.functions e));
   }
