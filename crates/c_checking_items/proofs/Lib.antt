@@ -2,3 +2,5 @@ pub mod Known
 pub mod Making
 pub mod Names
 pub mod Declaring
+pub mod DeclaringFunctions
+pub mod Stepping
