@@ -230,6 +230,7 @@ module _ (untagged : ℕ → List ℕ) where
   pub record FoundDefinition (f : FileScope) (n place : ℕ) (value : ℕ × Trees.Expression) (t : CType) (o : AnObject) (g : FileScope) : Type 0 where
     pub after : FileScope
     pub initial : Typed.Initializer Noted
+    pub found : initializer value.1 (at_file_scope f) t ≡ Ok (initial, after)
     pub whole : FoundWhole untagged (at_file_scope f) value.1 t (initial, after)
     pub file_is : g ≡ replaced_object after n (with_initial f place initial o)
     pub continues : Continues f g
@@ -258,6 +259,7 @@ module _ (untagged : ℕ → List ℕ) where
       record {
         after = i.0.1;
         initial = i.0.0;
+        found = x.1 ∙ ap (λ z. Ok z) (pair_is x.0 i.0 d.0 w.1);
         whole = u;
         file_is = file;
         continues = whole;

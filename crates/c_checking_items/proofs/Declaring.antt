@@ -25,7 +25,7 @@ no_more : (file : ℕ) (names more : List Bound) (made : List ℕ) (n : ℕ) (o 
     → IsObjectKnown file names made n o → IsObjectKnown file (names ++ more) made n o
 no_more file names more made n o h k =
     subst (λ made. IsObjectKnown file (names ++ more) made n o) (Rattle.std.proofs.Common.append-nil made)
-    (object_later file names more made [] n o (others_define_none more (an_object n o.ty) h) k)
+    (object_later file names more made [] n o h k)
 
 -- what a bound name stands for is among the objects and functions of the file
 pub record IsBoundIn (f : FileScope) (b : Bound) : Type 0 where

@@ -44,6 +44,13 @@ no_definition_more names more e h i k b g = by_part (one_of_both names more k b 
 pub others_define_none : (names : List Bound) (e : Entity) → AreOthers names e → HasNoDefinition names e
 others_define_none names e h k b g is = absurd (h k b g is)
 
+pub others_more : (names more : List Bound) (e : Entity) → AreOthers names e → AreOthers more e → AreOthers (names ++ more) e
+others_more names more e h i k b g = by_part (one_of_both names more k b g)
+  where
+    by_part : (slice_get names k ≡ Some b) ⊎ ((j : ℕ) × (k ≡ length names + j) × (slice_get more j ≡ Some b)) → b.entity ≢ e
+    by_part (inl g) = h k b g
+    by_part (inr g) = i g.0 b g.2
+
 -- ---- objects
 
 -- one that a declarator of the file scope declares, by its number
@@ -55,7 +62,8 @@ pub record IsADeclaredObject (file : ℕ) (names : List Bound) (n : ℕ) (o : An
 
 -- or one that is made at one of some places
 abbrev pub IsObjectKnown : (file : ℕ) → List Bound → (made : List ℕ) → (n : ℕ) → AnObject → Type 0
-IsObjectKnown file names made n o = (IsMade made o.first × IsSome o.initial × (o.is_linked ≡ false)) ⊎ IsADeclaredObject file names n o
+IsObjectKnown file names made n o = (IsMade made o.first × IsSome o.initial × (o.is_linked ≡ false) × AreOthers names (an_object n o.ty))
+    ⊎ IsADeclaredObject file names n o
 
 pub made_left : (u v : List ℕ) (at : ℕ) → IsMade u at → IsMade (u ++ v) at
 made_left [] v at h = absurd h
@@ -66,12 +74,13 @@ pub made_right : (u v : List ℕ) (at : ℕ) → IsMade v at → IsMade (u ++ v)
 made_right [] v at h = h
 made_right (p ∷ u) v at h = inr (made_right u v at h)
 
-pub object_later : (file : ℕ) (names more : List Bound) (made new : List ℕ) (n : ℕ) (o : AnObject) → HasNoDefinition more (an_object n o.ty)
+pub object_later : (file : ℕ) (names more : List Bound) (made new : List ℕ) (n : ℕ) (o : AnObject) → AreOthers more (an_object n o.ty)
     → IsObjectKnown file names made n o → IsObjectKnown file (names ++ more) (made ++ new) n o
-object_later file names more made new n o h (inl k) = inl (made_left made new o.first k.0, k.1, k.2)
+object_later file names more made new n o h (inl k) =
+    inl (made_left made new o.first k.0, k.1, k.2, others_more names more (an_object n o.ty) k.3 h)
 object_later file names more made new n o h (inr k) = inr (record {
   declared = bound_more names more (an_object n o.ty) k.declared;
-  left = λ e. let l = k.left e in (l.0, no_definition_more names more (an_object n o.ty) l.1 h);
+  left = λ e. let l = k.left e in (l.0, no_definition_more names more (an_object n o.ty) l.1 (others_define_none more (an_object n o.ty) h));
   defined = λ s. definition_more names more (an_object n o.ty) (k.defined s);
   not_main = k.not_main;
 })
@@ -149,6 +158,26 @@ other_function names functions h t k b g e =
     let o = h k b g (length functions) t e in
     let l = slice_get_within functions (length functions) o.0 o.1 in
     omega (arith, l)
+
+-- where more objects may have been made
+pub known_more : (nodes_at : ℕ → ℕ) (u v : List ℕ) (P Q : ℕ → Type 0) (f : FileScope) → ((at : ℕ) → IsMade u at → IsMade v at) → IsKnown nodes_at u P Q f
+    → IsKnown nodes_at v P Q f
+known_more nodes_at u v P Q f into k = record {
+  fits = k.fits;
+  settled = k.settled;
+  whole = k.whole;
+  consistent = k.consistent;
+  objects_bound = k.objects_bound;
+  functions_bound = k.functions_bound;
+  libraries_bound = k.libraries_bound;
+  objects = λ n o e. one n o (k.objects n o e);
+  functions = k.functions;
+}
+  where
+    one : (n : ℕ) (o : AnObject) → P n ⊎ IsObjectKnown f.file f.names u n o → P n ⊎ IsObjectKnown f.file f.names v n o
+    one n o (inl h) = inl h
+    one n o (inr (inl h)) = inr (inl (into o.first h.0, h.1, h.2, h.3))
+    one n o (inr (inr h)) = inr (inr h)
 
 -- ---- one more name
 

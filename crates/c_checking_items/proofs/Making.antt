@@ -1,5 +1,7 @@
 -- What is known of a file stays known where a part of the text makes objects at its places, and binds names of enumerators alone.
 use Rattle.std.proofs.Common.{◌≡◌, ℕ, zero, suc, ◌+◌, false, refl, sym, ap, ◌∙◌, subst, List, [], ◌∷◌, ◌++◌, length, inl, inr}
+use Rattle.std.proofs.Common.{arith}
+use Rattle.std.proofs.lemmas.Option.{slice_get_within}
 use Rattle.std.specs.Prelude.{◌⊎◌, map, Some, slice_get}
 use Rattle.std.specs.Option.{IsSome}
 use Rattle.c_types.specs.Types.{CType}
@@ -12,7 +14,7 @@ use Rattle.c_checking.proofs.Agreement.{AreFit, IsGrown}
 use Rattle.c_checking.proofs.Extends.{one_of_both}
 use Rattle.c_checking_files.proofs.Kept.{AreSettled, AreObjectsWhole, Keeps, IsAnEnumerator, IsALiteral}
 use Rattle.c_checking_files.proofs.Scoped.{new_of}
-use Rattle.c_checking_items.proofs.Known.{others_define_none, AreOthers, IsObjectKnown, made_right, object_later, IsFunctionKnown, function_later}
+use Rattle.c_checking_items.proofs.Known.{others_more, others_define_none, AreOthers, IsObjectKnown, made_right, object_later, IsFunctionKnown, function_later}
 use Rattle.c_checking_items.proofs.Known.{AreLibrariesBound, libraries_bound_more, AreObjectsBound, AreFunctionsBound, IsKnown, objects_bound_more, functions_bound_more, objects_bound_longer}
 
 -- objects at places
@@ -85,7 +87,13 @@ module _ (nodes_at : ℕ → ℕ) (P Q : ℕ → Type 0) where
       old : (n : ℕ) (o : AnObject) → P n ⊎ IsObjectKnown f.file f.names made n o → P n ⊎ IsObjectKnown g.file g.names (made ++ new) n o
       old n o (inl h) = inl h
       old n o (inr h) = inr (there n o (object_later f.file f.names m.names.0 made new n o
-          (others_define_none m.names.0 (an_object n o.ty) (enumerators_are_others m.names.0 m.names.2 n o.ty)) h))
+          (enumerators_are_others m.names.0 m.names.2 n o.ty) h))
+
+      unbound : (n : ℕ) (o : AnObject) → (j : ℕ) × (n ≡ length f.objects + j) × (slice_get m.objects.0 j ≡ Some o) → AreOthers f.names (an_object n o.ty)
+      unbound n o e j b g is =
+          let q = k.objects_bound j b g n o.ty is in
+          let l = slice_get_within f.objects n q.0 q.1 in
+          omega (arith, l, e.1)
 
       by_place : (n : ℕ) (o : AnObject) → IsSome o.initial × (o.is_linked ≡ false)
           → (slice_get f.objects n ≡ Some o) ⊎ ((j : ℕ) × (n ≡ length f.objects + j) × (slice_get m.objects.0 j ≡ Some o))
@@ -95,6 +103,8 @@ module _ (nodes_at : ℕ → ℕ) (P Q : ℕ → Type 0) where
         made_right made new o.first (subst (λ all. IsMade all o.first) m.objects.2 (at_places m.objects.0 e.0 o e.2)),
         i.0,
         i.1,
+        subst (λ names. AreOthers names (an_object n o.ty)) (sym m.names.1)
+            (others_more f.names m.names.0 (an_object n o.ty) (unbound n o e) (enumerators_are_others m.names.0 m.names.2 n o.ty)),
       ))
 
       one : (n : ℕ) (o : AnObject) → slice_get g.objects n ≡ Some o → (slice_get f.objects n ≡ Some o) ⊎ (IsSome o.initial × (o.is_linked ≡ false))
