@@ -4,3 +4,4 @@ pub mod Names
 pub mod Declaring
 pub mod DeclaringFunctions
 pub mod Stepping
+pub mod ObjectSteps
