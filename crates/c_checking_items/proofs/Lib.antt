@@ -5,3 +5,4 @@ pub mod Declaring
 pub mod DeclaringFunctions
 pub mod Stepping
 pub mod ObjectSteps
+pub mod ObjectDeclared

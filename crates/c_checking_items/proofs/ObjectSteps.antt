@@ -66,19 +66,19 @@ known_is f words x t old (a_library_function which) e z h = cc
 known_is f words x t old (a_local n u) e z h = cc
 known_is f words x t old (a_parameter u) e z h = cc
 
-entered : (f : FileScope) (words : Storage) (x : Spelling) (place : ℕ) (t : CType) (o : Option Bound) → declared_among f.names x.text ≡ o
+pub entered : (f : FileScope) (words : Storage) (x : Spelling) (place : ℕ) (t : CType) (o : Option Bound) → declared_among f.names x.text ≡ o
     → (z : ℕ × FileScope) → object_of f words x place t o ≡ Ok z → IsNew f words x place t z ⊎ IsOld f x t z
 unfolding object_of
 entered f words x place t None e z h =
     let m = main_answer x.text x.from (links words) (length f.objects, with_new_object f (new_object f words x place t)) z h in inl (e, m.0, m.1)
 entered f words x place t (Some a) e z h = let k = known_is f words x t a a.entity refl z h in inr (a, e, k.0, k.1)
 
-once_is : {A : Type 0} (f : FileScope) (x : Spelling) (value : Option (ℕ × Trees.Expression)) (r : Answer A) (z : A) → defined_once f x value r ≡ Ok z
+pub once_is : {A : Type 0} (f : FileScope) (x : Spelling) (value : Option (ℕ × Trees.Expression)) (r : Answer A) (z : A) → defined_once f x value r ≡ Ok z
     → (r ≡ Ok z) × ((v : ℕ × Trees.Expression) → value ≡ Some v → defined_among f.names x.text ≡ None)
 once_is f x None r z h = (h, λ v e. cc)
 once_is f x (Some value) r z h = let o = once_answer x (defined_among f.names x.text) r z h in (o.1, λ v e. o.0)
 
-how_none : (words : Storage) → object_how words None ≢ defines
+pub how_none : (words : Storage) → object_how words None ≢ defines
 how_none no_storage e = cc
 how_none a_typedef e = cc
 how_none is_extern e = cc
@@ -175,7 +175,7 @@ module _ (nodes_at : ℕ → ℕ) (before : List ℕ) where
   }
 
   -- the name is bound to a new object
-  new_in_making : (f : FileScope) (words : Storage) → MayDeclare words → (x : Spelling) (place : ℕ) (t : CType) (how : How) (from : ℕ)
+  pub new_in_making : (f : FileScope) (words : Storage) → MayDeclare words → (x : Spelling) (place : ℕ) (t : CType) (how : How) (from : ℕ)
       → is_object (length f.records) t ≡ true → IsKnown nodes_at before none_new none_new f → (n : ℕ × FileScope) → IsNew f words x place t n
       → (v : IsTheObject f words x place t (is_none (declared_among f.names x.text)) n) → InMaking f words x place t how from n.0 n.1 v.object
   new_in_making f words m x place t how from whole k n is v =
@@ -221,7 +221,7 @@ module _ (nodes_at : ℕ → ℕ) (before : List ℕ) where
       one_object p q e = cc
 
   -- or to one that was declared
-  old_in_making : (f : FileScope) (words : Storage) → MayDeclare words → (x : Spelling) (place : ℕ) (t : CType) (how : How) (from : ℕ)
+  pub old_in_making : (f : FileScope) (words : Storage) → MayDeclare words → (x : Spelling) (place : ℕ) (t : CType) (how : How) (from : ℕ)
       → (how ≡ defines → defined_among f.names x.text ≡ None) → IsKnown nodes_at before none_new none_new f → (n : ℕ × FileScope) → IsOld f x t n
       → (v : IsTheObject f words x place t (is_none (declared_among f.names x.text)) n) → InMaking f words x place t how from n.0 n.1 v.object
   old_in_making f words m x place t how from once k n is v =
