@@ -6,3 +6,5 @@ pub mod DeclaringFunctions
 pub mod Stepping
 pub mod ObjectSteps
 pub mod ObjectDeclared
+pub mod FunctionSteps
+pub mod FunctionDeclared
