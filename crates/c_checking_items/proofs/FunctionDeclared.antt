@@ -17,6 +17,7 @@ use Rattle.c_erasure.specs.Specifiers.{Storage}
 use Rattle.c_checking.specs.Declaring.{declared_among, with_bound}
 use Rattle.c_checking.specs.Files.{library_named, declare_typedef, function_of, declare_own, library_again, links, declare_library}
 use Rattle.c_checking.proofs.Results.{bound_ok, given, chosen}
+use Rattle.c_checking_files.proofs.FileFunctions.{main_type_is}
 use Rattle.c_checking_files.proofs.FileScopes.{Continues, continues_then, MayDeclare, typedef_declared, IsTheFunction, function_is, IsFunctionDeclared}
 use Rattle.c_checking_files.proofs.FileScopes.{bound_there, bound_put, first_later}
 use Rattle.c_checking_items.proofs.Known.{IsFunctionKnown, IsKnown, none_new}
@@ -25,7 +26,7 @@ use Rattle.c_checking_items.proofs.Declaring.{IsBoundIn, bind_known}
 use Rattle.c_checking_items.proofs.DeclaringFunctions.{settle_function}
 use Rattle.c_checking_items.proofs.Stepping.{Stepped, all_bytes}
 use Rattle.c_checking_items.proofs.ObjectSteps.{stands_for}
-use Rattle.c_checking_items.proofs.FunctionSteps.{main_type_is, IsNewFunction, IsOldFunction, function_entered, FunctionInMaking, new_function_in_making}
+use Rattle.c_checking_items.proofs.FunctionSteps.{IsNewFunction, IsOldFunction, function_entered, FunctionInMaking, new_function_in_making}
 use Rattle.c_checking_items.proofs.FunctionSteps.{old_function_in_making}
 
 no_declares : declares ≢ defines

@@ -1,9 +1,9 @@
 -- Functions at file scope: declared for the first time, or again (C99 6.7, 6.9.1).
-use Rattle.std.proofs.Common.{◌≡◌, ◌≢◌, ℕ, zero, suc, Bool, true, false, refl, sym, ap, ◌∙◌, subst, List, [], ◌∷◌, ◌++◌, length}
+use Rattle.std.proofs.Common.{◌≡◌, ◌≢◌, ℕ, zero, suc, refl, sym, ap, ◌∙◌, subst, List, [], ◌∷◌, ◌++◌, length}
 use Rattle.std.proofs.Common.{append-nil, inl, inr}
-use Rattle.std.proofs.lemmas.Bool.{and_parts, and_from}
+use Rattle.std.proofs.lemmas.Bool.{and_parts}
 use Rattle.std.proofs.lemmas.List.{map-append}
-use Rattle.std.specs.Prelude.{◌⊎◌, map, Option, Some, None, Ok, slice_get, is_none, codes, ◌&&◌, not}
+use Rattle.std.specs.Prelude.{◌⊎◌, map, Option, Some, None, Ok, slice_get, is_none, ◌&&◌}
 use Rattle.std.specs.Option.{IsSome}
 use Rattle.c_types.specs.Sameness.{same_type}
 use Rattle.c_types.specs.Types.{CType}
@@ -15,9 +15,8 @@ use Rattle.c_erasure.specs.Noted.{Noted}
 use Rattle.c_erasure.specs.Scopes.{FileScope, Bound, How, defines, Entity, typedef, enumerator, an_object, a_function, a_library_function, a_local, a_parameter}
 use Rattle.c_erasure.specs.Scopes.{AFunction}
 use Rattle.c_erasure.specs.Specifiers.{Storage}
-use Rattle.c_checking.specs.Answers.{Answer}
 use Rattle.c_checking.specs.Declaring.{declared_among, with_bound}
-use Rattle.c_checking.specs.Files.{is_main, main_type, main_function, function_linked_before, function_linkage_agrees, new_function, with_new_function}
+use Rattle.c_checking.specs.Files.{function_linked_before, function_linkage_agrees, new_function, with_new_function}
 use Rattle.c_checking.specs.Files.{known_function, function_of, defined_among}
 use Rattle.c_checking.proofs.Extends.{Extends, at_end}
 use Rattle.c_checking.proofs.Results.{given, chosen}
@@ -25,23 +24,9 @@ use Rattle.c_checking_files.proofs.FileScopes.{MayDeclare, IsTheFunction}
 use Rattle.c_checking_files.proofs.Parts.{Parted, none, is_made, is_bytes}
 use Rattle.c_checking_items.proofs.Known.{AreOthers, IsFunctionKnown, IsKnown, none_new, this_one, other_function, others_define_none, one_defines_none}
 use Rattle.c_checking_items.proofs.Known.{no_definition_more, bound_more, definition_more}
-use Rattle.c_checking_items.proofs.Names.{none_defines, names_equal}
+use Rattle.c_checking_items.proofs.Names.{none_defines}
 use Rattle.c_checking_items.proofs.Declaring.{IsBoundIn, bind_known}
 use Rattle.c_checking_items.proofs.DeclaringFunctions.{new_function_known}
-
-pub main_type_is : {A : Type 0} (x : List ℕ) (at : ℕ) (t : CType) (r : Answer A) (z : A) → main_function x at t r ≡ Ok z
-    → (r ≡ Ok z) × IsMainType x t
-unfolding is_main
-main_type_is x at t r z h =
-    chosen (is_main x && not (same_type t main_type)) _ _ z ((r ≡ Ok z) × IsMainType x t) h (λ b h. cc)
-    (λ b h. (h, λ e. of_type (same_type t main_type) refl (names_equal (codes "main") x (sym e)) b))
-  where
-    of_type : (c : Bool) → same_type t main_type ≡ c → is_main x ≡ true → (is_main x && not (same_type t main_type)) ≡ false → t ≡ main_type
-    of_type true e m b = same_is t main_type e
-    of_type false e m b =
-        let all = and_from (is_main x) (not (same_type t main_type)) m (ap not e) in
-        let true_is_false = sym all ∙ b in
-        cc
 
 abbrev pub IsNewFunction : FileScope → Storage → Spelling → (place : ℕ) → CType → (nodes : ℕ) → ℕ × FileScope → Type 0
 IsNewFunction f words x place t nodes z = (declared_among f.names x.text ≡ None)

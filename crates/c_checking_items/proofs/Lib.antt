@@ -8,3 +8,4 @@ pub mod ObjectSteps
 pub mod ObjectDeclared
 pub mod FunctionSteps
 pub mod FunctionDeclared
+pub mod FunctionDefined
