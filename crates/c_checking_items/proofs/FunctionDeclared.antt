@@ -100,14 +100,15 @@ module _ (nodes_at : ℕ → ℕ) where
 
   pub library_step : (f : FileScope) (words : Storage) (x : Spelling) (place from : ℕ) (t : CType) (which : LibraryFunction)
       → library_named x.text ≡ Some which → (g : FileScope) → declare_library f words x from t which ≡ Ok g
-      → Stepped nodes_at (a_name from ∷ []) [] (place ∷ []) [] f (λ h. Unit {0}) g
+      → Stepped nodes_at (a_name from ∷ []) [] (place ∷ []) [] f
+      (λ h. IsBound (at_file_scope h) (bound x from declares (a_library_function which))) g
   library_step f words x place from t which named g h =
       let d = library_again_is f words x from t which g h in
       let b = bound x from declares (a_library_function which) in
-      subst (Stepped nodes_at (a_name from ∷ []) [] (place ∷ []) [] f (λ h. Unit {0})) d.1
-      (name_step f b place (λ h. Unit {0}) (λ n u e. cc) (λ n u e. cc) (λ before k. may before k d.0 (declared_among f.names x.text) refl)
+      subst (Stepped nodes_at (a_name from ∷ []) [] (place ∷ []) [] f (λ h. IsBound (at_file_scope h) b)) d.1
+      (name_step f b place (λ h. IsBound (at_file_scope h) b) (λ n u e. cc) (λ n u e. cc) (λ before k. may before k d.0 (declared_among f.names x.text) refl)
       (record { fit = tt; object = λ n u e. cc; function = λ n u e. cc; library = λ other e. let i : which ≡ other = cc in named ∙ ap Some i })
-      (λ h c. tt))
+      (λ h c. bound_there f h b c.extends))
     where
       may : (before : List ℕ) → IsKnown nodes_at before none_new none_new f → library_again which (declared_among f.names x.text) ≡ true → (o : Option Bound)
           → declared_among f.names x.text ≡ o → MayBind f.names (bound x from declares (a_library_function which))

@@ -9,3 +9,4 @@ pub mod ObjectDeclared
 pub mod FunctionSteps
 pub mod FunctionDeclared
 pub mod FunctionDefined
+pub mod FirstNames

@@ -2,6 +2,7 @@
 use Rattle.std.proofs.Common.{◌≡◌, ℕ, suc, ◌+◌, ◌<◌, false, refl, sym, ap, ◌∙◌, subst, List, [], ◌∷◌, ◌++◌, length}
 use Rattle.std.proofs.Common.{append-nil, append_assoc, length-append, arith}
 use Rattle.std.specs.Prelude.{map, Some, slice_get}
+use Rattle.c_erasure.specs.Files.{AreConsistent}
 use Rattle.c_erasure.specs.Marks.{Mark, a_tag, an_end, a_name, scope_beginnings, defined_in, ends_in, tags_in}
 use Rattle.c_erasure.specs.Scopes.{FileScope, Bound, at_file_scope}
 use Rattle.c_checking.proofs.Adding.{Adds}
@@ -43,16 +44,17 @@ pub record IsFinal (others : List ℕ) (h : FileScope) : Type 0 where
   pub laid : IsLaid h
   pub none_begins : NoneBegins h others
   pub constants : (b : FileScope) → Extends b h → KeepsConstants b h
+  pub consistent : AreConsistent h.names
   -- names begin to be in scope one after the other
   pub rising : (j k : ℕ) (a b : Bound) → j < k → slice_get h.names j ≡ Some a → slice_get h.names k ≡ Some b → a.from < b.from
 
 pub final_left : (u v : List ℕ) {h : FileScope} → IsFinal (u ++ v) h → IsFinal u h
 final_left u v {h} p =
-    record { laid = p.laid; none_begins = none_left h u v p.none_begins; constants = p.constants; rising = p.rising }
+    record { laid = p.laid; none_begins = none_left h u v p.none_begins; constants = p.constants; consistent = p.consistent; rising = p.rising }
 
 pub final_right : (u v : List ℕ) {h : FileScope} → IsFinal (u ++ v) h → IsFinal v h
 final_right u v {h} p =
-    record { laid = p.laid; none_begins = none_right h u v p.none_begins; constants = p.constants; rising = p.rising }
+    record { laid = p.laid; none_begins = none_right h u v p.none_begins; constants = p.constants; consistent = p.consistent; rising = p.rising }
 
 module _ (nodes_at : ℕ → ℕ) where
   -- the marks, the types of which it speaks, the places of its declarators and literals, and those at which it makes objects of its own
