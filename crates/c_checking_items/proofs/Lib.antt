@@ -10,3 +10,4 @@ pub mod FunctionSteps
 pub mod FunctionDeclared
 pub mod FunctionDefined
 pub mod FirstNames
+pub mod DeclaratorSteps

@@ -78,8 +78,8 @@ module _ (nodes_at : ℕ → ℕ) where
   longer : {X : Type 0} (a b c u v : List X) → b ≡ a ++ u → c ≡ b ++ v → c ≡ a ++ (u ++ v)
   longer a b c u v p q = q ∙ ap (λ z. z ++ v) p ∙ append_assoc a u v
 
-  pub stepped_then : {u v : List Mark} {x y k l m n : List ℕ} {A B C : FileScope → Type 0} (f g h : FileScope) → Stepped u x k m f A g → Stepped v y l n g B h
-      → ((i : FileScope) → Continues h i → A i → B i → C i) → Stepped (u ++ v) (x ++ y) (k ++ l) (m ++ n) f C h
+  pub stepped_then : {u v : List Mark} {x y k l m n : List ℕ} {A B C : FileScope → Type 0} (f g h : FileScope) → (p : Stepped u x k m f A g) → (q : Stepped v y l n g B h)
+      → ((i : FileScope) → Continues h i → IsFinal (p.others ++ q.others) i → A i → B i → C i) → Stepped (u ++ v) (x ++ y) (k ++ l) (m ++ n) f C h
   stepped_then {u} {v} {x} {y} {k} {l} {m} {n} {A} {B} {C} f g h p q both = record {
     continues = continues_then p.continues q.continues;
     fit = subst (AreTagsFit f.untagged f.tags) (sym (tags_append u v))
@@ -99,11 +99,11 @@ module _ (nodes_at : ℕ → ℕ) where
     functions_parted = parted_then p.functions_parted q.functions_parted;
     functions_are = longer _ _ _ p.functions q.functions p.functions_are q.functions_are;
     known = λ before i. subst (λ made. IsKnown nodes_at made none_new none_new h) (append_assoc before m n) (q.known (before ++ m) (p.known before i));
-    holds = λ i c e. both i c (p.holds i (continues_then q.continues c) (final_left p.others q.others e)) (q.holds i c (final_right p.others q.others e));
+    holds = λ i c e. both i c e (p.holds i (continues_then q.continues c) (final_left p.others q.others e)) (q.holds i c (final_right p.others q.others e));
   }
 
-  pub said_otherwise : {u : List Mark} {x k m : List ℕ} {A B : FileScope → Type 0} (f g : FileScope) → Stepped u x k m f A g
-      → ((i : FileScope) → Continues g i → A i → B i) → Stepped u x k m f B g
+  pub said_otherwise : {u : List Mark} {x k m : List ℕ} {A B : FileScope → Type 0} (f g : FileScope) → (p : Stepped u x k m f A g)
+      → ((i : FileScope) → Continues g i → IsFinal p.others i → A i → B i) → Stepped u x k m f B g
   said_otherwise f g p is = record {
     continues = p.continues;
     fit = p.fit;
@@ -119,7 +119,7 @@ module _ (nodes_at : ℕ → ℕ) where
     functions_parted = p.functions_parted;
     functions_are = p.functions_are;
     known = p.known;
-    holds = λ h c e. is h c (p.holds h c e);
+    holds = λ h c e. is h c e (p.holds h c e);
   }
 
   pub no_step : (f : FileScope) (A : FileScope → Type 0) → ((h : FileScope) → Continues f h → A h) → Stepped [] [] [] [] f A f
