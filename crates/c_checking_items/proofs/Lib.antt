@@ -11,3 +11,4 @@ pub mod FunctionDeclared
 pub mod FunctionDefined
 pub mod FirstNames
 pub mod DeclaratorSteps
+pub mod Rises
