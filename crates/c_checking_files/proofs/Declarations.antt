@@ -52,7 +52,7 @@ typed_then d result loop switch Typed.no_statements rest h k = k
 typed_then d result loop switch (Typed.and_statement s more) rest h k = (h.0, typed_then d result loop switch more rest h.1 k)
 
 -- where a declarator begins that has a name
-first_named : (d : Trees.Declarator) (x : Spelling) → declared_name d ≡ Some x → (a b : ℕ) → first_declarator d a ≡ first_declarator d b
+pub first_named : (d : Trees.Declarator) (x : Spelling) → declared_name d ≡ Some x → (a b : ℕ) → first_declarator d a ≡ first_declarator d b
 first_named Trees.nothing x h a b = cc
 first_named (Trees.named y) x h a b = refl
 first_named (Trees.pointer at consts d) x h a b = refl

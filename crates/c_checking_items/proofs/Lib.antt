@@ -12,3 +12,5 @@ pub mod FunctionDefined
 pub mod FirstNames
 pub mod DeclaratorSteps
 pub mod Rises
+pub mod DeclarationItems
+pub mod DefinitionItems
