@@ -14,3 +14,5 @@ pub mod DeclaratorSteps
 pub mod Rises
 pub mod DeclarationItems
 pub mod DefinitionItems
+pub mod Beginnings
+pub mod Items
