@@ -16,3 +16,4 @@ pub mod DeclarationItems
 pub mod DefinitionItems
 pub mod Beginnings
 pub mod Items
+pub mod NoLocals
