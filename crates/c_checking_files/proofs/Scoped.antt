@@ -139,7 +139,7 @@ new_of {f} {g} p n o e = by_part (one_of_both f.objects p.objects.0 n o (subst (
     by_part (inl h) = inl h
     by_part (inr h) = inr (p.objects.2 h.0 o h.2)
 
-literal_typed : (d : Declared) (file at : ℕ) (all : List Spelling)
+pub literal_typed : (d : Declared) (file at : ℕ) (all : List Spelling)
     → IsMadeTyped d (literal_object (record { file = file; at = at }) (literal_of all)).ty
     (Typed.parts (record { offset = 0; value = Typed.text (literal_of all) } ∷ []))
 literal_typed d file at all =

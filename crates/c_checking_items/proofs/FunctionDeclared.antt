@@ -55,6 +55,7 @@ module _ (nodes_at : ℕ → ℕ) where
     known = λ before k. subst (λ made. IsKnown nodes_at made none_new none_new (with_bound f b)) (sym (append-nil before))
         (bind_known nodes_at before none_new none_new none_new none_new f b (λ j h. h) (λ j h. h) o n (may before k) is k);
     holds = λ h c e. holds h c;
+    typed = λ h c e n o there. inl there;
   }
 
   pub typedef_step : (f : FileScope) (x : Spelling) (place from : ℕ) (t : CType) (g : FileScope) → declare_typedef f x from t ≡ Ok g
@@ -177,6 +178,7 @@ module _ (nodes_at : ℕ → ℕ) where
               first_place = first_later (is_none (declared_among f.names x.text)) q.0.first v.function.first place q.2.first v.first_place;
               binds = bound_there n.0.1 h b c.extends;
             };
+        typed = λ h c e m o there. inl (subst (λ (g : FileScope). slice_get g.objects m ≡ Some o) i.same there);
       })
     where
       in_making : IsMainType x.text t → {n : ℕ × FileScope} → IsNewFunction f words x place t nodes n ⊎ IsOldFunction f x t n

@@ -23,12 +23,12 @@ use Rattle.c_checking_files.proofs.FileObjects.{set_same, set_types}
 use Rattle.c_checking_files.proofs.FileScopes.{IsSameFunction, Continues, IsTheFunction}
 use Rattle.c_checking_files.proofs.Kept.{AreSettled, are_complete}
 use Rattle.c_checking_files.proofs.Parts.{parted_then, none_right}
-use Rattle.c_checking_files.proofs.Scoped.{records_same, IsInner}
+use Rattle.c_checking_files.proofs.Scoped.{records_same, IsInner, IsLater}
 use Rattle.c_checking_files.proofs.StatementLaws.{AreItemsInRange}
 use Rattle.c_checking_items.proofs.Known.{IsFunctionKnown, IsKnown, none_new, this_one, known_more}
 use Rattle.c_checking_items.proofs.Making.{making_known}
 use Rattle.c_checking_items.proofs.DeclaringFunctions.{replaced_function_known, settle_function}
-use Rattle.c_checking_items.proofs.Stepping.{Stepped, all_bytes}
+use Rattle.c_checking_items.proofs.Stepping.{Stepped, all_bytes, IsWellHeld, held_so, made_held}
 use Rattle.c_checking_items.proofs.ObjectSteps.{stands_for, made_of_parts, made_both}
 use Rattle.c_checking_items.proofs.FunctionSteps.{IsNewFunction, IsOldFunction, function_entered, FunctionInMaking, new_function_in_making}
 use Rattle.c_checking_items.proofs.FunctionSteps.{old_function_in_making}
@@ -124,8 +124,24 @@ module _ (untagged : ℕ → List ℕ) (nodes_at : ℕ → ℕ) where
             none_begins = none_right h (place ∷ []) u.texts e.none_begins;
             constants = λ b from to. e.constants b to;
           });
+          typed = λ h c e m q there. held h (record {
+            extends = further swap.extends (subst (λ g. Extends g h) o.file_is c.extends);
+            locals = ([], sym (append-nil o.all.1.locals));
+            laid = e.laid;
+            none_begins = none_right h (place ∷ []) u.texts e.none_begins;
+            constants = λ b from to. e.constants b to;
+          }) m q i.same (u.inner m q (subst (λ (g : FileScope). slice_get g.objects m ≡ Some q) o.file_is there));
         }
       where
+        held : (h : FileScope)
+            → IsLater (with_bound o.number.1 (bound x left defines (a_function o.number.0 (function result types)))) o.all.1 o.read.texts h o.all.1.locals
+            → (m : ℕ) (q : AnObject) → o.number.1 ≡ record f { functions = o.number.1.functions }
+            → (slice_get o.number.1.objects m ≡ Some q)
+            ⊎ IsInner (with_bound o.number.1 (bound x left defines (a_function o.number.0 (function result types)))) o.all.1 o.read.texts q
+            → (slice_get f.objects m ≡ Some q) ⊎ IsWellHeld h q
+        held h later m q same (inl e) = inl (subst (λ (g : FileScope). slice_get g.objects m ≡ Some q) same e)
+        held h later m q same (inr e) = inr (held_so h q e.initial e.initial_is (made_held h o.all.1.locals q.ty e.initial (e.typed h o.all.1.locals later)))
+
         same_function : o.the.function.body ≡ None → (file : FileScope) (all : Rattle.c_erasure.specs.Statements.Statements)
             (locals : List Rattle.c_erasure.specs.Scopes.ALocal)
             → IsSameFunction o.the.function (defined_function file place (length p.locals) nodes all locals o.the.function)

@@ -1,4 +1,5 @@
 -- A declarator of an object at file scope: what it adds to the file, and what it declares (C99 6.7.8, 6.9.2).
+use Rattle.std.proofs.Common.{false}
 use Rattle.std.proofs.Common.{◌≡◌, ℕ, ◌+◌, ◌<◌, true, refl, sym, ap, ◌∙◌, subst, List, [], ◌∷◌, ◌++◌, length}
 use Rattle.std.proofs.Common.{append-nil, append_assoc, arith, inl, inr}
 use Rattle.std.proofs.lemmas.List.{map-append}
@@ -34,7 +35,10 @@ use Rattle.c_checking_files.proofs.Parts.{parted_then}
 use Rattle.c_checking_items.proofs.Known.{IsADeclaredObject, IsKnown, none_new, this_one, known_more}
 use Rattle.c_checking_items.proofs.Making.{finding_known}
 use Rattle.c_checking_items.proofs.Declaring.{replaced_known, settle_object}
-use Rattle.c_checking_items.proofs.Stepping.{Stepped, all_bytes, ready_behind}
+use Rattle.c_checking_items.proofs.Stepping.{Stepped, all_bytes, ready_behind, IsWellHeld, as_typed_object, held_so, nothing_held, literal_held, from_set}
+use Rattle.c_erasure.specs.Files.{IsTypedObject}
+use Rattle.c_checking_files.proofs.Kept.{IsALiteral, Keeps}
+use Rattle.c_checking_files.proofs.Scoped.{new_of}
 use Rattle.c_checking_items.proofs.ObjectSteps.{IsNew, IsOld, entered, once_is, how_none, made_of_parts, made_both, stands_for, InMaking, new_in_making}
 use Rattle.c_checking_items.proofs.ObjectSteps.{old_in_making}
 
@@ -98,9 +102,15 @@ module _ (untagged : ℕ → List ℕ) (types : List (List ℕ)) (nodes_at : ℕ
                   binds = bound_there n.1 h b c.extends;
                   defined = tt;
                 };
+            typed = λ h c e m q there. held h m q (i.only m q there);
           },
         )
       where
+        held : (h : FileScope) (m : ℕ) (q : AnObject) → (slice_get f.objects m ≡ Some q) ⊎ (q.initial ≡ None)
+            → (slice_get f.objects m ≡ Some q) ⊎ IsWellHeld h q
+        held h m q (inl e) = inl e
+        held h m q (inr e) = inr (nothing_held h q e)
+
         known_after : (before : List ℕ) → IsKnown nodes_at before none_new none_new f
             → InMaking nodes_at before f words x place t (object_how words None) from n.0 n.1 v.object
             → IsKnown nodes_at (before ++ []) none_new none_new (with_bound n.1 (bound x from (object_how words None) (an_object n.0 t)))
@@ -199,9 +209,36 @@ module _ (untagged : ℕ → List ℕ) (types : List (List ℕ)) (nodes_at : ℕ
                     (e.constants d.after (further swap.extends (subst (λ g. Extends g h) d.file_is c.extends)),
                     are_complete (keeps.settled i.known.settled), keeps.whole i.known.whole, timely) q.0 q.1).0;
                 };
+            typed = λ h c e m q there.
+                let all = continues_then d.continues c in
+                let r = all.objects n.0 v.object v.stands in
+                let own = (d.holds h (record { continues = c; laid = e.laid;
+                  none_begins = Rattle.c_checking_files.proofs.Parts.none_right h i.others d.whole.texts e.none_begins })
+                  (e.constants d.after (further swap.extends (subst (λ g. Extends g h) d.file_is c.extends)),
+                  are_complete (keeps.settled i.known.settled), keeps.whole i.known.whole, timely) r.0 r.1).1 in
+                held h m q d.initial (as_typed_object h t d.initial own) d.after keeps i.only
+                (from_set d.after.objects n.0 m new q (subst (λ (g : FileScope). slice_get g.objects m ≡ Some q) d.file_is there));
           },
         )
       where
+        held : (h : FileScope) (m : ℕ) (q : AnObject) (j : Typed.Initializer Noted) → IsTypedObject h t j → (after : FileScope)
+            → Keeps (with_bound n.1 (bound x from defines (an_object n.0 t))) false (marks untagged value.1) after
+            → ((m : ℕ) (q : AnObject) → slice_get n.1.objects m ≡ Some q → (slice_get f.objects m ≡ Some q) ⊎ (q.initial ≡ None))
+            → ((m ≡ n.0) × (q ≡ with_initial (with_bound n.1 (bound x from defines (an_object n.0 t))) place j v.object)) ⊎ (slice_get after.objects m ≡ Some q)
+            → (slice_get f.objects m ≡ Some q) ⊎ IsWellHeld h q
+        held h m q j w after keeps only (inl e) =
+            let new = with_initial (with_bound n.1 (bound x from defines (an_object n.0 t))) place j v.object in
+            inr (subst (IsWellHeld h) (sym e.1) (held_so h new j refl (subst (λ t. IsTypedObject h t j) (sym v.ty) w)))
+        held h m q j w after keeps only (inr e) = by_kind (new_of keeps m q e)
+          where
+            by_age : (slice_get f.objects m ≡ Some q) ⊎ (q.initial ≡ None) → (slice_get f.objects m ≡ Some q) ⊎ IsWellHeld h q
+            by_age (inl e) = inl e
+            by_age (inr e) = inr (nothing_held h q e)
+
+            by_kind : (slice_get n.1.objects m ≡ Some q) ⊎ IsALiteral n.1.file q → (slice_get f.objects m ≡ Some q) ⊎ IsWellHeld h q
+            by_kind (inl e) = by_age (only m q e)
+            by_kind (inr e) = inr (literal_held h n.1.file q e)
+
         same_object : (i : Typed.Initializer Noted) → IsSameObject v.object (with_initial (with_bound n.1 (bound x from defines (an_object n.0 t))) place i v.object)
         same_object i = record { name = refl; first = refl; ty = refl; is_linked = refl; literal = refl; settled = λ s. absurd (no_initial s) }
           where

@@ -157,6 +157,7 @@ module _ (nodes_at : ℕ → ℕ) (before : List ℕ) where
     pub others : List ℕ
     pub parted : Parted (place ∷ []) objects others
     pub objects_are : map (λ o. o.first) f1.objects ≡ map (λ o. o.first) f.objects ++ objects
+    pub only : (m : ℕ) (q : AnObject) → slice_get f1.objects m ≡ Some q → (slice_get f.objects m ≡ Some q) ⊎ (q.initial ≡ None)
     -- it is not defined yet where it is to be, and else as it was declared
     pub undefined : (how ≡ defines) → o.initial ≡ None
     pub not_main : o.is_linked ≡ true → o.name ≢ codes "main"
@@ -202,6 +203,7 @@ module _ (nodes_at : ℕ → ℕ) (before : List ℕ) where
         parted = is_made place [] [] [] none;
         objects_are = subst (λ (g : FileScope). map (λ o. o.first) g.objects ≡ map (λ o. o.first) f.objects ++ place ∷ []) file
             (map-append (λ o. o.first) f.objects (new ∷ []));
+        only = λ m q e. one m q (Rattle.c_checking.proofs.Extends.last_or f.objects new m q (subst (λ (g : FileScope). slice_get g.objects m ≡ Some q) (sym file) e));
         undefined = λ d. ap (λ (o : AnObject). o.initial) (sym object);
         not_main = subst (λ (o : AnObject). o.is_linked ≡ true → o.name ≢ codes "main") object is.2;
         as_declared = λ d. subst (IsADeclaredObject f.file (f.names ++ b ∷ []) n.0) object (record {
@@ -217,6 +219,11 @@ module _ (nodes_at : ℕ → ℕ) (before : List ℕ) where
         });
       }
     where
+      one : (m : ℕ) (q : AnObject) → (slice_get f.objects m ≡ Some q) ⊎ ((m ≡ length f.objects) × (new_object f words x place t ≡ q))
+          → (slice_get f.objects m ≡ Some q) ⊎ (q.initial ≡ None)
+      one m q (inl e) = inl e
+      one m q (inr e) = inr (ap (λ (o : AnObject). o.initial) (sym e.1))
+
       one_object : (p q : AnObject) → Some p ≡ Some q → p ≡ q
       one_object p q e = cc
 
@@ -239,6 +246,7 @@ module _ (nodes_at : ℕ → ℕ) (before : List ℕ) where
         others = place ∷ [];
         parted = is_bytes place [] [] [] none;
         objects_are = subst (λ (g : FileScope). map (λ o. o.first) g.objects ≡ map (λ o. o.first) f.objects ++ []) is.3 (sym (append-nil _));
+        only = λ m q e. inl (subst (λ (g : FileScope). slice_get g.objects m ≡ Some q) (sym is.3) e);
         undefined = λ d. none_yet d o (v.object.initial) refl;
         not_main = o.not_main;
         as_declared = λ d. record {

@@ -1,4 +1,6 @@
 -- One part of an item after another: what each adds to the file, and what holds of it in the whole file.
+use Rattle.std.proofs.Common.{zero, suc}
+use Rattle.std.specs.Prelude.{None}
 use Rattle.std.proofs.Common.{◌≡◌, ℕ, suc, ◌+◌, ◌<◌, false, refl, sym, ap, ◌∙◌, subst, List, [], ◌∷◌, ◌++◌, length}
 use Rattle.std.proofs.Common.{append-nil, append_assoc, length-append, arith}
 use Rattle.std.specs.Prelude.{map, Some, slice_get}
@@ -12,7 +14,21 @@ use Rattle.c_checking_files.proofs.FileScopes.{Continues, continues_itself, cont
 use Rattle.c_checking_files.proofs.Kept.{AreTagsFit, fit_then, tags_append, Keeps}
 use Rattle.c_checking_files.proofs.Layouts.{IsLaid}
 use Rattle.c_checking_files.proofs.Parts.{Parted, none, is_bytes, parted_then, NoneBegins, none_left, none_right}
-use Rattle.c_checking_files.proofs.Scoped.{KeepsConstants}
+use Rattle.std.proofs.Common.{inl, inr}
+use Rattle.std.specs.Prelude.{◌⊎◌, slice_set}
+use Rattle.c_erasure.specs.Scopes.{AnObject}
+use Rattle.c_types.specs.Types.{CType}
+use Rattle.c_typed.specs.Trees as Typed
+use Rattle.c_typed.specs.TypedStatements.{IsTypedInitializer}
+use Rattle.c_erasure.specs.Erasure.{literal_of, literal_object}
+use Rattle.c_erasure.specs.Files.{IsTypedObject}
+use Rattle.c_erasure.specs.Noted.{Noted}
+use Rattle.c_erasure.specs.Scopes.{ALocal, declared}
+use Rattle.c_checking_files.proofs.Kept.{IsALiteral}
+use Rattle.c_checking_files.proofs.SameLocals.{with_locals}
+use Rattle.c_checking_files.proofs.Wholes.{typed_initial}
+use Rattle.c_checking_items.proofs.NoLocals.{constants_typed}
+use Rattle.c_checking_files.proofs.Scoped.{KeepsConstants, IsMadeTyped, literal_typed, new_of}
 use Rattle.c_checking_items.proofs.Known.{IsKnown, none_new}
 use Rattle.c_checking_items.proofs.Making.{finding_known}
 
@@ -56,6 +72,49 @@ pub final_right : (u v : List ℕ) {h : FileScope} → IsFinal (u ++ v) h → Is
 final_right u v {h} p =
     record { laid = p.laid; none_begins = none_right h u v p.none_begins; constants = p.constants; consistent = p.consistent; rising = p.rising }
 
+-- ---- what objects hold at first
+
+abbrev pub IsWellHeld : FileScope → AnObject → Type 0
+IsWellHeld h o = (i : Typed.Initializer Noted) → o.initial ≡ Some i → IsTypedObject h o.ty i
+
+pub as_typed_object : (h : FileScope) (t : CType) (i : Typed.Initializer Noted) → IsTypedInitializer (declared (at_file_scope h)) t (typed_initial i)
+    → IsTypedObject h t i
+as_typed_object h t (Typed.parts []) w = tt
+as_typed_object h t (Typed.parts (part ∷ more)) w = w
+as_typed_object h t (Typed.whole x) w = w
+as_typed_object h t (Typed.whole_record p) w = w
+
+pub made_held : (h : FileScope) (l : List ALocal) (t : CType) (i : Typed.Initializer Noted)
+    → IsMadeTyped (declared (with_locals l (at_file_scope h))) t i → IsTypedObject h t i
+made_held h l t i (inl e) = subst (IsTypedObject h t) (sym e) tt
+made_held h l t i (inr w) = as_typed_object h t i (constants_typed (declared (with_locals l (at_file_scope h))) t i w.1 w.0)
+
+one_initial : (i j : Typed.Initializer Noted) → Some i ≡ Some j → i ≡ j
+one_initial i j e = cc
+
+pub held_so : (h : FileScope) (o : AnObject) (j : Typed.Initializer Noted) → o.initial ≡ Some j → IsTypedObject h o.ty j → IsWellHeld h o
+held_so h o j e w i g = subst (IsTypedObject h o.ty) (one_initial j i (sym e ∙ g)) w
+
+pub nothing_held : (h : FileScope) (o : AnObject) → o.initial ≡ None → IsWellHeld h o
+nothing_held h o e i g = let some_is_none = sym g ∙ e in cc
+
+pub literal_held : (h : FileScope) (file : ℕ) (o : AnObject) → IsALiteral file o → IsWellHeld h o
+literal_held h file o e =
+    subst (IsWellHeld h) (sym e.2)
+    (held_so h (literal_object (record { file = file; at = e.0 }) (literal_of e.1)) (Typed.parts (record { offset = 0; value = Typed.text (literal_of e.1) } ∷ []))
+    refl (made_held h [] _ _ (literal_typed (declared (at_file_scope h)) file e.0 e.1)))
+
+pub from_set : {X : Type 0} (xs : List X) (n m : ℕ) (p q : X) → slice_get (slice_set xs n p) m ≡ Some q → ((m ≡ n) × (q ≡ p)) ⊎ (slice_get xs m ≡ Some q)
+from_set [] n m p q g = inr g
+from_set (x ∷ xs) zero zero p q g = let f : p ≡ q = cc in inl (refl, sym f)
+from_set (x ∷ xs) zero (suc m) p q g = inr g
+from_set (x ∷ xs) (suc n) zero p q g = inr g
+from_set (x ∷ xs) (suc n) (suc m) p q g = next (from_set xs n m p q g)
+  where
+    next : ((m ≡ n) × (q ≡ p)) ⊎ (slice_get xs m ≡ Some q) → ((suc m ≡ suc n) × (q ≡ p)) ⊎ (slice_get (x ∷ xs) (suc m) ≡ Some q)
+    next (inl e) = inl (ap suc e.0, e.1)
+    next (inr e) = inr e
+
 module _ (nodes_at : ℕ → ℕ) where
   -- the marks, the types of which it speaks, the places of its declarators and literals, and those at which it makes objects of its own
   pub record Stepped (all : List Mark) (types places made : List ℕ) (f : FileScope) (Holds : FileScope → Type 0) (g : FileScope) : Type 0 where
@@ -74,6 +133,9 @@ module _ (nodes_at : ℕ → ℕ) where
     pub functions_are : map (λ o. o.first) g.functions ≡ map (λ o. o.first) f.functions ++ functions
     pub known : (before : List ℕ) → IsKnown nodes_at before none_new none_new f → IsKnown nodes_at (before ++ made) none_new none_new g
     pub holds : (h : FileScope) → Continues g h → IsFinal others h → Holds h
+    -- what a new object holds at first is well typed
+    pub typed : (h : FileScope) → Continues g h → IsFinal others h → (n : ℕ) (o : AnObject) → slice_get g.objects n ≡ Some o
+        → (slice_get f.objects n ≡ Some o) ⊎ IsWellHeld h o
 
   longer : {X : Type 0} (a b c u v : List X) → b ≡ a ++ u → c ≡ b ++ v → c ≡ a ++ (u ++ v)
   longer a b c u v p q = q ∙ ap (λ z. z ++ v) p ∙ append_assoc a u v
@@ -100,7 +162,14 @@ module _ (nodes_at : ℕ → ℕ) where
     functions_are = longer _ _ _ p.functions q.functions p.functions_are q.functions_are;
     known = λ before i. subst (λ made. IsKnown nodes_at made none_new none_new h) (append_assoc before m n) (q.known (before ++ m) (p.known before i));
     holds = λ i c e. both i c e (p.holds i (continues_then q.continues c) (final_left p.others q.others e)) (q.holds i c (final_right p.others q.others e));
+    typed = λ i c e j o there. first i (continues_then q.continues c) (final_left p.others q.others e) j o
+        (q.typed i c (final_right p.others q.others e) j o there);
   }
+    where
+      first : (i : FileScope) → Continues g i → IsFinal p.others i → (j : ℕ) (o : AnObject) → (slice_get g.objects j ≡ Some o) ⊎ IsWellHeld i o
+          → (slice_get f.objects j ≡ Some o) ⊎ IsWellHeld i o
+      first i c e j o (inl there) = p.typed i c e j o there
+      first i c e j o (inr well) = inr well
 
   pub said_otherwise : {u : List Mark} {x k m : List ℕ} {A B : FileScope → Type 0} (f g : FileScope) → (p : Stepped u x k m f A g)
       → ((i : FileScope) → Continues g i → IsFinal p.others i → A i → B i) → Stepped u x k m f B g
@@ -120,6 +189,7 @@ module _ (nodes_at : ℕ → ℕ) where
     functions_are = p.functions_are;
     known = p.known;
     holds = λ h c e. is h c e (p.holds h c e);
+    typed = p.typed;
   }
 
   pub no_step : (f : FileScope) (A : FileScope → Type 0) → ((h : FileScope) → Continues f h → A h) → Stepped [] [] [] [] f A f
@@ -139,6 +209,7 @@ module _ (nodes_at : ℕ → ℕ) where
     functions_are = sym (append-nil _);
     known = λ before k. subst (λ made. IsKnown nodes_at made none_new none_new f) (sym (append-nil before)) k;
     holds = λ h c e. is h c;
+    typed = λ h c e n o there. inl there;
   }
 
   -- a part that is found, without objects of its own
@@ -161,7 +232,14 @@ module _ (nodes_at : ℕ → ℕ) where
     functions_are = ap (λ all. map (λ o. o.first) all) a.functions ∙ sym (append-nil _);
     known = λ before k. finding_known nodes_at none_new none_new before w p a k;
     holds = λ h c e. is h c.extends;
+    typed = λ h c e n o there. one h n o (new_of p n o there);
   }
+    where
+      one : (h : FileScope) (n : ℕ) (o : AnObject) → (slice_get f.objects n ≡ Some o) ⊎ IsALiteral f.file o
+          → (slice_get f.objects n ≡ Some o) ⊎ IsWellHeld h o
+      one h n o (inl e) = inl e
+      one h n o (inr e) = inr (literal_held h f.file o e)
+
 
 -- ---- what stands behind a part
 
