@@ -16,4 +16,7 @@ pub mod DeclarationItems
 pub mod DefinitionItems
 pub mod Beginnings
 pub mod Items
+pub mod Orders
+pub mod FileTags
+pub mod Closing
 pub mod NoLocals
