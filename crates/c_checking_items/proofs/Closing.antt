@@ -18,7 +18,7 @@ use Rattle.c_checking_items.proofs.Known.{HasBound, HasDefinition, HasNoDefiniti
 
 -- ---- objects of a closed file
 
-settled_is : (names : List Bound) (n : ℕ) (o : AnObject) → (settled names n o ≡ o) ⊎ ((o.initial ≡ None) × (list_any (is_tentative n) names ≡ true)
+pub settled_is : (names : List Bound) (n : ℕ) (o : AnObject) → (settled names n o ≡ o) ⊎ ((o.initial ≡ None) × (list_any (is_tentative n) names ≡ true)
     × (settled names n o ≡ record o { initial = Some (Typed.parts []) }))
 settled_is names n o = by_initial o.initial refl
   where

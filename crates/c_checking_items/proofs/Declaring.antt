@@ -42,7 +42,7 @@ equal_or_not n m = by_test (n == m) refl
     by_test true e = inl (eqb-true n m e)
     by_test false e = inr (λ f. let g = Rattle.std.proofs.lemmas.Bool.eq-eqb n m f in cc)
 
-object_or_not : (e : Entity) (n : ℕ) (t : CType) → ((u : CType) × (e ≡ an_object n u)) ⊎ (e ≢ an_object n t)
+pub object_or_not : (e : Entity) (n : ℕ) (t : CType) → ((u : CType) × (e ≡ an_object n u)) ⊎ (e ≢ an_object n t)
 object_or_not (an_object m u) n t = by_number (equal_or_not m n)
   where
     by_number : (m ≡ n) ⊎ (m ≢ n) → ((v : CType) × (an_object m u ≡ an_object n v)) ⊎ (an_object m u ≢ an_object n t)
@@ -50,7 +50,7 @@ object_or_not (an_object m u) n t = by_number (equal_or_not m n)
     by_number (inr e) = inr (λ f. let g : m ≡ n = cc in e g)
 object_or_not e n t = inr (λ f. cc)
 
-function_or_not : (e : Entity) (n : ℕ) (t : CType) → ((u : CType) × (e ≡ a_function n u)) ⊎ (e ≢ a_function n t)
+pub function_or_not : (e : Entity) (n : ℕ) (t : CType) → ((u : CType) × (e ≡ a_function n u)) ⊎ (e ≢ a_function n t)
 function_or_not (a_function m u) n t = by_number (equal_or_not m n)
   where
     by_number : (m ≡ n) ⊎ (m ≢ n) → ((v : CType) × (a_function m u ≡ a_function n v)) ⊎ (a_function m u ≢ a_function n t)

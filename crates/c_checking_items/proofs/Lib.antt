@@ -19,4 +19,6 @@ pub mod Items
 pub mod Orders
 pub mod FileTags
 pub mod Closing
+pub mod FileFacts
+pub mod SoundFiles
 pub mod NoLocals
