@@ -25,8 +25,12 @@ settled_is names n o = by_initial o.initial refl
     by_names : (b : Bool) → list_any (is_tentative n) names ≡ b → o.initial ≡ None
         → (settled names n o ≡ o) ⊎ ((o.initial ≡ None) × (list_any (is_tentative n) names ≡ true)
         × (settled names n o ≡ record o { initial = Some (Typed.parts []) }))
-    by_names true e i = inr (i, e, ap (λ c. cond c (record o { initial = Some (Typed.parts []) }) o)
-        (ap (λ i. is_none i && list_any (is_tentative n) names) i ∙ e))
+    by_names true e i = inr (
+      i,
+      e,
+      ap (λ c. cond c (record o { initial = Some (Typed.parts []) }) o)
+          (ap (λ i. is_none i && list_any (is_tentative n) names) i ∙ e),
+    )
     by_names false e i = inl (ap (λ c. cond c (record o { initial = Some (Typed.parts []) }) o)
         (ap (λ i. is_none i && list_any (is_tentative n) names) i ∙ e))
 

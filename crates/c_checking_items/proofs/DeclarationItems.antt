@@ -260,7 +260,7 @@ module _ (untagged : ℕ → List ℕ) (types : List (List ℕ)) (nodes_at : ℕ
         counted = may.counted;
         places = may.places;
         objects_before = λ n o e. let l = below_then (λ o. o.first) f.objects b.0.1.objects first.objects at at first.objects_are (omega arith) may.objects_before
-        (λ k r e. none_there first.objects first.others first.objects_parted k r e) n o e in l;
+            (λ k r e. none_there first.objects first.others first.objects_parted k r e) n o e in l;
         functions_before = λ n o e. may.functions_before n o (subst (λ all. slice_get all n ≡ Some o) adds.functions e);
         names = p.rest;
         begun = below_then (λ b. b.from) f.names b.0.1.names (scope_beginnings u) in_scope p.to first.names p.later may.begun p.below;

@@ -21,4 +21,5 @@ pub mod FileTags
 pub mod Closing
 pub mod FileFacts
 pub mod SoundFiles
+pub mod AddressesStay
 pub mod NoLocals

@@ -93,24 +93,43 @@ module _ (d : Declared) where
     constant_typed (expression t at (Trees.convert e true)) n h =
         (constant_typed e (λ k. n (ap (converted_constant t) k ∙ converted_none t)) h.0, h.1, h.2)
     constant_typed (expression t at (Trees.unary op x)) n h = (constant_typed x (λ k. n (ap (unary_constant op) k)) h.0, h.1, h.2)
-    constant_typed (expression t at (Trees.binary op x y)) n h =
-        (constant_typed x (λ k. n (ap (λ c. with_both c (constant_of y) (λ v w. of_value (binary_value op (kind_of t) v (kind_of (ty y)) w))) k)) h.0,
-        constant_typed y (λ k. n (ap (λ c. with_both (constant_of x) c (λ v w. of_value (binary_value op (kind_of t) v (kind_of (ty y)) w))) k ∙ both_none (constant_of x) (λ v w. of_value (binary_value op (kind_of t) v (kind_of (ty y)) w)))) h.1, h.2, h.3)
-    constant_typed (expression t at (Trees.compare op x y)) n h =
-        (constant_typed x (λ k. n (ap (λ c. with_both c (constant_of y) (λ v w. valued (truth (holds op (kind_of (ty x)) v w)))) k)) h.0,
-        constant_typed y (λ k. n (ap (λ c. with_both (constant_of x) c (λ v w. valued (truth (holds op (kind_of (ty x)) v w)))) k ∙ both_none (constant_of x) (λ v w. valued (truth (holds op (kind_of (ty x)) v w))))) h.1, h.2, h.3, h.4)
-    constant_typed (expression t at (Trees.both x y)) n h =
-        (constant_typed x (λ k. n (ap (λ c. decided_by false c (constant_of y)) k ∙ decided_first false (constant_of y))) h.0,
-        constant_typed y (λ k. n (ap (λ c. decided_by false (constant_of x) c) k ∙ decided_none false (constant_of x))) h.1, h.2, h.3, h.4)
-    constant_typed (expression t at (Trees.either x y)) n h =
-        (constant_typed x (λ k. n (ap (λ c. decided_by true c (constant_of y)) k ∙ decided_first true (constant_of y))) h.0,
-        constant_typed y (λ k. n (ap (λ c. decided_by true (constant_of x) c) k ∙ decided_none true (constant_of x))) h.1, h.2, h.3, h.4)
+    constant_typed (expression t at (Trees.binary op x y)) n h = (
+      constant_typed x (λ k. n (ap (λ c. with_both c (constant_of y) (λ v w. of_value (binary_value op (kind_of t) v (kind_of (ty y)) w))) k)) h.0,
+      constant_typed y (λ k. n (ap (λ c. with_both (constant_of x) c (λ v w. of_value (binary_value op (kind_of t) v (kind_of (ty y)) w))) k ∙ both_none (constant_of x) (λ v w. of_value (binary_value op (kind_of t) v (kind_of (ty y)) w)))) h.1,
+      h.2,
+      h.3,
+    )
+    constant_typed (expression t at (Trees.compare op x y)) n h = (
+      constant_typed x (λ k. n (ap (λ c. with_both c (constant_of y) (λ v w. valued (truth (holds op (kind_of (ty x)) v w)))) k)) h.0,
+      constant_typed y (λ k. n (ap (λ c. with_both (constant_of x) c (λ v w. valued (truth (holds op (kind_of (ty x)) v w)))) k ∙ both_none (constant_of x) (λ v w. valued (truth (holds op (kind_of (ty x)) v w))))) h.1,
+      h.2,
+      h.3,
+      h.4,
+    )
+    constant_typed (expression t at (Trees.both x y)) n h = (
+      constant_typed x (λ k. n (ap (λ c. decided_by false c (constant_of y)) k ∙ decided_first false (constant_of y))) h.0,
+      constant_typed y (λ k. n (ap (λ c. decided_by false (constant_of x) c) k ∙ decided_none false (constant_of x))) h.1,
+      h.2,
+      h.3,
+      h.4,
+    )
+    constant_typed (expression t at (Trees.either x y)) n h = (
+      constant_typed x (λ k. n (ap (λ c. decided_by true c (constant_of y)) k ∙ decided_first true (constant_of y))) h.0,
+      constant_typed y (λ k. n (ap (λ c. decided_by true (constant_of x) c) k ∙ decided_none true (constant_of x))) h.1,
+      h.2,
+      h.3,
+      h.4,
+    )
     constant_typed (expression t at (Trees.not x)) n h = (constant_typed x (λ k. n (ap negated k)) h.0, h.1, h.2)
-    constant_typed (expression t at (Trees.choose x y z)) n h =
-        (constant_typed x (λ k. n (ap (λ c. chosen c (constant_of y) (constant_of z)) k)) h.0,
-        constant_typed y (λ k. n (ap (λ c. chosen (constant_of x) c (constant_of z)) k ∙ second_none (constant_of x) (constant_of z))) h.1,
-        constant_typed z (λ k. n (ap (λ c. chosen (constant_of x) (constant_of y) c) k ∙ third_none (constant_of x) (constant_of y))) h.2,
-        h.3, h.4, h.5, h.6)
+    constant_typed (expression t at (Trees.choose x y z)) n h = (
+      constant_typed x (λ k. n (ap (λ c. chosen c (constant_of y) (constant_of z)) k)) h.0,
+      constant_typed y (λ k. n (ap (λ c. chosen (constant_of x) c (constant_of z)) k ∙ second_none (constant_of x) (constant_of z))) h.1,
+      constant_typed z (λ k. n (ap (λ c. chosen (constant_of x) (constant_of y) c) k ∙ third_none (constant_of x) (constant_of y))) h.2,
+      h.3,
+      h.4,
+      h.5,
+      h.6,
+    )
     constant_typed (expression t at node) n h = absurd (n refl)
 
   null_typed : (e : Expression CType) → is_null e ≡ true → IsTyped d e → IsTyped (without_locals d) e

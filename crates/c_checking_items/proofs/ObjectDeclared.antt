@@ -204,18 +204,30 @@ module _ (untagged : ℕ → List ℕ) (types : List (List ℕ)) (nodes_at : ℕ
                   linkage = subst (IsLinkage words (is_none (declared_among f.names x.text))) (sym q.2.is_linked) v.linkage;
                   first_place = first_later (is_none (declared_among f.names x.text)) q.0.first v.object.first place q.2.first v.first_place;
                   binds = bound_there n.1 h b all.extends;
-                  defined = (d.holds h (record { continues = c; laid = e.laid;
-                    none_begins = Rattle.c_checking_files.proofs.Parts.none_right h i.others d.whole.texts e.none_begins })
-                    (e.constants d.after (further swap.extends (subst (λ g. Extends g h) d.file_is c.extends)),
-                    are_complete (keeps.settled i.known.settled), keeps.whole i.known.whole, timely) q.0 q.1).0;
+                  defined = (d.holds h (record {
+                    continues = c;
+                    laid = e.laid;
+                    none_begins = Rattle.c_checking_files.proofs.Parts.none_right h i.others d.whole.texts e.none_begins;
+                  }) (
+                    e.constants d.after (further swap.extends (subst (λ g. Extends g h) d.file_is c.extends)),
+                    are_complete (keeps.settled i.known.settled),
+                    keeps.whole i.known.whole,
+                    timely,
+                  ) q.0 q.1).0;
                 };
             typed = λ h c e m q there.
                 let all = continues_then d.continues c in
                 let r = all.objects n.0 v.object v.stands in
-                let own = (d.holds h (record { continues = c; laid = e.laid;
-                  none_begins = Rattle.c_checking_files.proofs.Parts.none_right h i.others d.whole.texts e.none_begins })
-                  (e.constants d.after (further swap.extends (subst (λ g. Extends g h) d.file_is c.extends)),
-                  are_complete (keeps.settled i.known.settled), keeps.whole i.known.whole, timely) r.0 r.1).1 in
+                let own = (d.holds h (record {
+                  continues = c;
+                  laid = e.laid;
+                  none_begins = Rattle.c_checking_files.proofs.Parts.none_right h i.others d.whole.texts e.none_begins;
+                }) (
+                  e.constants d.after (further swap.extends (subst (λ g. Extends g h) d.file_is c.extends)),
+                  are_complete (keeps.settled i.known.settled),
+                  keeps.whole i.known.whole,
+                  timely,
+                ) r.0 r.1).1 in
                 held h m q d.initial (as_typed_object h t d.initial own) d.after keeps i.only
                 (from_set d.after.objects n.0 m new q (subst (λ (g : FileScope). slice_get g.objects m ≡ Some q) d.file_is there));
           },

@@ -39,10 +39,13 @@ main_answer : (x : List ℕ) (at : ℕ) (linked : Bool) (z w : ℕ × FileScope)
 unfolding is_main
 main_answer x at linked z w h =
     chosen (is_main x && linked) _ _ w ((z ≡ w) × (linked ≡ true → x ≢ codes "main")) h (λ b h. cc)
-    (λ b h. given (λ w. (z ≡ w) × (linked ≡ true → x ≢ codes "main")) z w h (refl, λ l e.
-    let t : is_main x ≡ true = Rattle.c_checking_items.proofs.Names.names_equal (codes "main") x (sym e) in
-    let true_is_false = sym (and_from (is_main x) linked t l) ∙ b in
-    cc))
+    (λ b h. given (λ w. (z ≡ w) × (linked ≡ true → x ≢ codes "main")) z w h (
+      refl,
+      λ l e.
+          let t : is_main x ≡ true = Rattle.c_checking_items.proofs.Names.names_equal (codes "main") x (sym e) in
+          let true_is_false = sym (and_from (is_main x) linked t l) ∙ b in
+          cc,
+    ))
 
 abbrev pub IsNew : FileScope → Storage → Spelling → (place : ℕ) → CType → ℕ × FileScope → Type 0
 IsNew f words x place t z = (declared_among f.names x.text ≡ None) × ((length f.objects, with_new_object f (new_object f words x place t)) ≡ z)

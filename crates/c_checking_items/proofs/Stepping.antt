@@ -240,7 +240,6 @@ module _ (nodes_at : ℕ → ℕ) where
       one h n o (inl e) = inl e
       one h n o (inr e) = inr (literal_held h f.file o e)
 
-
 -- ---- what stands behind a part
 
 map_length : {X Y : Type 0} (v : X → Y) (xs : List X) → length (map v xs) ≡ length xs
