@@ -9,23 +9,32 @@ use Rattle.lay_base.specs.declared.place.Place.{Place}
 use Rattle.c_types.specs.Layouts.{size_of, offset_of}
 use Rattle.c_types.specs.Limits.{AreComplete}
 use Rattle.c_types.specs.Objects.{is_object}
+use Rattle.c_types.specs.declared.ty.IntKind.TheVariants.{Int, Char}
 use Rattle.c_types.specs.Types.{CType, void, integer, pointer, array, function, structure}
+use Rattle.c_ast.specs.declared.operators.UnaryOp.TheVariants as U
+use Rattle.c_ast.specs.Trees
+use Rattle.c_ast.specs.Places.{first}
+use Rattle.c_typed.specs.declared.operators.BinaryOp.{BinaryOp}
+use Rattle.c_typed.specs.declared.operators.BinaryOp.TheVariants as B
 use Rattle.c_typed.specs.declared.operators.PointerOp.{PointerOp}
 use Rattle.c_typed.specs.declared.operators.PointerOp.TheVariants as P
 use Rattle.c_typed.specs.Trees as Typed
 use Rattle.c_typed.specs.Constants.{ty, constant_of}
-use Rattle.c_typed.specs.Conversions.{is_pointer, pointed}
+use Rattle.c_typed.specs.Conversions.{is_pointer, pointed, element_of}
 use Rattle.c_typed.specs.InitialValues.{Address, element_size, number_in, within, moved as moved_to, subscripted, or_negated, address_of_path, address_in}
 use Rattle.c_typed.specs.Mapped.{of_types, mapped_path}
 use Rattle.c_typed.specs.Rules.{moving}
 use Rattle.c_typed.specs.Typed.{Declared, IsTyped, IsTypedPath, IsMove, bare_ty}
-use Rattle.c_erasure.specs.Erasure.{typed, Values}
+use Rattle.c_erasure.specs.Erasure.{typed, Values, Erases, IsNamed, IsLiteralFor, IsAddress, IsPointed, IsSum, IsJoined, IsCall, IsSize, literal_of, place_in}
 use Rattle.c_erasure.specs.Noted.{Noted, nothing, size_of as sized, Expression, Path, Thing, an_object, a_value, a_function, a_function_at, a_library_function}
 use Rattle.c_erasure.specs.Noted.{type_of_path, value_of, object_value, unconverted, value, way, Node}
-use Rattle.c_erasure.specs.Scopes.{FileScope, Scope, ALocal, declared, ended}
+use Rattle.c_erasure.specs.Operators.{Kind, computes, compares, all_of, any_of, kind_of}
+use Rattle.c_erasure.specs.Scopes as Scopes
+use Rattle.c_erasure.specs.Scopes.{FileScope, Scope, ALocal, AnObject, Entity, Purpose, in_full, value_alone, type_alone, declared, ended}
 use Rattle.c_checking.specs.Answers.{moved}
 use Rattle.c_checking.proofs.Extends.{Extends}
 use Rattle.c_checking.proofs.Values.{path_type_same}
+use Rattle.c_checking_files.proofs.InTime.{IsInTime}
 use Rattle.c_checking_files.proofs.Kept.{AreObjectsWhole}
 use Rattle.c_checking_files.proofs.Layouts.{size_stays, offset_stays, object_more, record_in, field_object}
 use Rattle.c_checking_files.proofs.Longer.{seen}
@@ -226,3 +235,157 @@ module _ (f g : FileScope) (p : Extends f g) (complete : AreComplete f.records) 
       moved_parts None k size a h = cc
       moved_parts (Some b) None size a h = cc
       moved_parts (Some b) (Some z) size a h = (b, refl)
+
+  -- an element behind a pointer
+  index_stays : (t : CType) (at : Place) (e i : Expression) → ended f.ends at.at ≤ n → ValueStays e → PathStays (way t at (Typed.index e i))
+  index_stays t at e i l h w a k = (
+    moved_stays (address_in D (typed e)) (address_in E (typed e)) (number_in (ty (typed i)) (constant_of (typed i))) (element_size f.records (ty (typed e)))
+        (element_size g.records (ty (typed e))) a (λ b c. h w.0 b c) (pointed_size (ty (typed e)) t w.5 (object_more (ended f.ends at.at) n l t w.6)) k,
+    object_more (ended f.ends at.at) n l t w.6,
+  )
+
+  subscripted_parts : (t : CType) (o : Option Address) (k : Option ℤ) (a : Address) → subscripted D t o k ≡ Some a → (b : Address) × (o ≡ Some b)
+  subscripted_parts (array t m) (Some b) k a h = (b, refl)
+  subscripted_parts (array t m) None k a h = cc
+  subscripted_parts void o k a h = cc
+  subscripted_parts (integer kind) o k a h = cc
+  subscripted_parts (pointer t) o k a h = cc
+  subscripted_parts (function t all) o k a h = cc
+  subscripted_parts (structure r) o k a h = cc
+
+  element_object : (t u : CType) → element_of t ≡ Some u → is_object n t ≡ true → is_object n u ≡ true
+  element_object (array t m) u e i = let same : t ≡ u = cc in subst (λ t. is_object n t ≡ true) same (and_parts (nat_lt 0 m) (is_object n t) i).1
+  element_object void u e i = cc
+  element_object (integer kind) u e i = cc
+  element_object (pointer t) u e i = cc
+  element_object (function t all) u e i = cc
+  element_object (structure r) u e i = cc
+
+  element_stays : (t : CType) (at : Place) (q : Path) (i : Expression) → PathStays q → PathStays (way t at (Typed.element q i))
+  element_stays t at (Typed.path u from step) i h w a k =
+      let q : Path = Typed.path u from step in
+      let m = subscripted_parts u.ty (address_of_path D (mp q)) (number_in (ty (typed i)) (constant_of (typed i))) a k in
+      let b = h w.0 m.0 m.1 in (
+        subscripted_stays u.ty (address_of_path D (mp q)) (address_of_path E (mp q)) (number_in (ty (typed i)) (constant_of (typed i))) a b.1
+            (λ c e. (h w.0 c e).0) k,
+        element_object u.ty t w.3 b.1,
+      )
+
+  object_stays : (t : CType) (at : Place) (m : ℕ) → PathStays (way t at (Typed.object m))
+  object_stays t at m w a k =
+      let o = map_back (λ o. o.ty) f.objects m t w in
+      (k, subst (λ t. is_object n t ≡ true) o.2 (whole m o.0 o.1))
+
+  unmade_stays : (t : CType) (at : Place) → PathStays (way t at (Typed.deref (value (pointer t) at Typed.null)))
+  unmade_stays t at w a k = cc
+
+  cast_stays : (t : CType) (at : Place) (e : Expression) → ValueStays e → ValueStays (value t at (Typed.convert e true))
+  cast_stays t at e h w a i =
+      let c = if_some (is_pointer t) (address_in D (typed e)) a i in
+      ap (λ b. cond b (address_in E (typed e)) None) c.0 ∙ h w.0 a c.1
+
+  named_stays : (at : Place) (e : Entity) (th : Thing) → IsNamed at e th → ThingStays th
+  named_stays at (Scopes.typedef t) th h = absurd h
+  named_stays at (Scopes.enumerator v) th h = subst ThingStays (sym h) (none_here (value (integer Int) at (Typed.constant v)) refl)
+  named_stays at (Scopes.an_object m t) th h = subst ThingStays (sym h) (object_stays t at m)
+  named_stays at (Scopes.a_function m t) th h = subst ThingStays (sym h) tt
+  named_stays at (Scopes.a_library_function which) th h = subst ThingStays (sym h) tt
+  named_stays at (Scopes.a_local m t) th h = subst ThingStays (sym h) (λ w a k. cc)
+  named_stays at (Scopes.a_parameter t) th h = subst ThingStays (sym h) (unmade_stays t at)
+
+  literal_stays : (p : Purpose) (sc : Scope) (at : Place) (bytes : List ℕ) (th : Thing) → IsLiteralFor p sc at bytes th → ThingStays th
+  literal_stays in_full sc at bytes th h = subst ThingStays (sym h.1) (object_stays (array (integer Char) (length bytes)) at h.0)
+  literal_stays value_alone sc at bytes th h = subst ThingStays (sym h) (unmade_stays (array (integer Char) (length bytes)) at)
+  literal_stays type_alone sc at bytes th h = subst ThingStays (sym h) (unmade_stays (array (integer Char) (length bytes)) at)
+
+  address_stays : (at : Place) (operand th : Thing) → IsAddress at operand th → ThingStays operand → ThingStays th
+  address_stays at (an_object q) th h k = subst ThingStays (sym h.2) (λ w a i. (k w.0 a i).0)
+  address_stays at (a_function from m t) th h k = subst ThingStays (sym h) (none_here (value (pointer t) at (Typed.function_name m)) refl)
+  address_stays at (a_function_at e) th h k = subst ThingStays (sym h) k
+  address_stays at (a_value e) th h k = absurd h
+  address_stays at (a_library_function from which) th h k = absurd h
+
+  pointed_stays : (at : Place) (e : Expression) (th : Thing) → ended f.ends at.at ≤ n → IsPointed at e th → ValueStays e → ThingStays th
+  pointed_stays at e th l (inl h) k = subst ThingStays (sym h.2) (deref_stays h.0 at e l k)
+  pointed_stays at e th l (inr h) k = subst ThingStays (sym h.4) k
+
+  size_stays_here : (sc : Scope) (at by : ℕ) (t : CType) (th : Thing) → IsSize sc at by t th → ThingStays th
+  size_stays_here sc at by t th h = subst ThingStays (sym h.2) (λ w a k. cc)
+
+  call_stays : (c : Thing) (t : CType) (at : Place) (xs : Typed.Expressions Noted) (node : Node) → IsCall c xs node → ValueStays (value t at node)
+  call_stays (a_function from m u) t at xs node h = subst (λ node. ValueStays (value t at node)) (sym h) (λ w a i. cc)
+  call_stays (a_library_function from which) t at xs node h = subst (λ node. ValueStays (value t at node)) (sym h) (λ w a i. cc)
+  call_stays (a_value e) t at xs node h = subst (λ node. ValueStays (value t at node)) (sym h) (λ w a i. cc)
+  call_stays (a_function_at e) t at xs node h = subst (λ node. ValueStays (value t at node)) (sym h) (λ w a i. cc)
+  call_stays (an_object p) t at xs node h = subst (λ node. ValueStays (value t at node)) (sym h.2) (λ w a i. cc)
+
+  sum_stays : (op : BinaryOp) (t : CType) (at : Place) (x y : Expression) (node : Node) → ended f.ends at.at ≤ n → IsSum op x y node
+      → ValueStays x → ValueStays y → ValueStays (value t at node)
+  sum_stays B.Add t at x y node l (inl h) hx hy = subst (λ node. ValueStays (value t at node)) (sym h) (λ w a i. cc)
+  sum_stays B.Add t at x y node l (inr h) hx hy = subst (λ node. ValueStays (value t at node)) (sym h) (pointer_add_stays t at P.Add x y l hx hy)
+  sum_stays B.Subtract t at x y node l (inl h) hx hy = subst (λ node. ValueStays (value t at node)) (sym h) (λ w a i. cc)
+  sum_stays B.Subtract t at x y node l (inr (inl h)) hx hy =
+      subst (λ node. ValueStays (value t at node)) (sym h) (pointer_add_stays t at P.Subtract x y l hx hy)
+  sum_stays B.Subtract t at x y node l (inr (inr h)) hx hy = subst (λ node. ValueStays (value t at node)) (sym h) (λ w a i. cc)
+  sum_stays op t at x y node l h hx hy = subst (λ node. ValueStays (value t at node)) (sym h) (λ w a i. cc)
+
+  joined_stays : (kind : Kind) (t : CType) (at : Place) (x y : Expression) (node : Node) → ended f.ends at.at ≤ n → IsJoined kind x y node
+      → ValueStays x → ValueStays y → ValueStays (value t at node)
+  joined_stays (computes op) t at x y node l h hx hy = sum_stays op t at x y node l h hx hy
+  joined_stays (compares op) t at x y node l h hx hy = subst (λ node. ValueStays (value t at node)) (sym h) (λ w a i. cc)
+  joined_stays all_of t at x y node l h hx hy = subst (λ node. ValueStays (value t at node)) (sym h) (λ w a i. cc)
+  joined_stays any_of t at x y node l h hx hy = subst (λ node. ValueStays (value t at node)) (sym h) (λ w a i. cc)
+
+  -- ---- expressions
+
+  abbrev S : Scope
+  S = seen s g l
+
+  erased_stays : (a : Trees.Expression) (th : Thing) → Erases a S th → IsInTime f.ends n a → ThingStays th
+  erased_stays (Trees.name x) th h i = named_stays (place_in S x.from) h.0 th h.2
+  erased_stays (Trees.number x v kind) th h i = subst ThingStays (sym h) (λ w a k. cc)
+  erased_stays (Trees.character x v) th h i = subst ThingStays (sym h) (λ w a k. cc)
+  erased_stays (Trees.texts all) th h i = literal_stays S.purpose S (place_in S (first (Trees.texts all))) (literal_of all) th h
+  erased_stays (Trees.paren left a right) th h i = erased_stays a th h i
+  erased_stays (Trees.index a left b right) th (inl h) i =
+      subst ThingStays (sym h.4) (element_stays h.0 (place_in S (first a)) h.1 h.2 (erased_stays a (an_object h.1) h.5 i.1))
+  erased_stays (Trees.index a left b right) th (inr (inl h)) i =
+      subst ThingStays (sym h.3)
+      (index_stays h.0 (place_in S (first a)) h.1 h.2 i.0 (value_stays (Erases a S) h.1 h.4 (λ th k. erased_stays a th k i.1)))
+  erased_stays (Trees.index a left b right) th (inr (inr h)) i =
+      subst ThingStays (sym h.7)
+      (deref_stays h.0 (place_in S (first a)) (value h.1 (place_in S (first a)) (Typed.pointer_add P.Add h.2 h.3)) i.0
+      (pointer_add_stays h.1 (place_in S (first a)) P.Add h.2 h.3 i.0
+      (value_stays (Erases a S) h.2 h.5 (λ th k. erased_stays a th k i.1))
+      (value_stays (Erases b S) h.3 h.6 (λ th k. erased_stays b th k i.2))))
+  erased_stays (Trees.call m left all right) th h i = subst ThingStays (sym h.7) (call_stays h.1 h.0 (place_in S (first m)) h.2 h.3 h.6)
+  erased_stays (Trees.dot a at x) th h i =
+      subst ThingStays (sym h.4) (member_stays h.0 (place_in S (first a)) h.1 h.2 h.3 (erased_stays a (an_object h.1) h.6 i))
+  erased_stays (Trees.arrow a at x) th h i =
+      subst ThingStays (sym h.7)
+      (member_stays h.0 (place_in S (first a)) (way h.1 (place_in S (first a)) (Typed.deref h.2)) h.3 h.4
+      (deref_stays h.1 (place_in S (first a)) h.2 i.0 (value_stays (Erases a S) h.2 h.6 (λ th k. erased_stays a th k i.1))))
+  erased_stays (Trees.post a op at) th h i = subst ThingStays (sym h.2) (λ w a k. cc)
+  erased_stays (Trees.pre op at a) th h i = subst ThingStays (sym h.2) (λ w a k. cc)
+  erased_stays (Trees.unary U.Address at a) th h i = address_stays (place_in S at) h.0 th h.1 (erased_stays a h.0 h.2 i.1)
+  erased_stays (Trees.unary U.Deref at a) th h i =
+      pointed_stays (place_in S at) h.0 th i.0 h.1 (value_stays (Erases a S) h.0 h.2 (λ th k. erased_stays a th k i.1))
+  erased_stays (Trees.unary U.Plus at a) th h i = subst ThingStays (sym h.2) (λ w a k. cc)
+  erased_stays (Trees.unary U.Minus at a) th h i = subst ThingStays (sym h.2) (λ w a k. cc)
+  erased_stays (Trees.unary U.Complement at a) th h i = subst ThingStays (sym h.2) (λ w a k. cc)
+  erased_stays (Trees.unary U.Not at a) th h i = subst ThingStays (sym h.2) (λ w a k. cc)
+  erased_stays (Trees.sizeof_expression at a) th h i = size_stays_here S at at h.0 th h.2
+  erased_stays (Trees.sizeof_type at left m right) th h i = size_stays_here S at right h.0 th h.3
+  erased_stays (Trees.cast left m right a) th h i =
+      subst ThingStays (sym h.5) (cast_stays h.0 (place_in S left) h.1 (value_stays (Erases a S) h.1 h.4 (λ th k. erased_stays a th k i)))
+  erased_stays (Trees.binary a op at b) th h i =
+      subst ThingStays (sym h.7)
+      (joined_stays (kind_of op) h.0 (place_in S (first a)) h.1 h.2 h.3 i.0 h.6
+      (value_stays (Erases a S) h.1 h.4 (λ th k. erased_stays a th k i.1))
+      (value_stays (Erases b S) h.2 h.5 (λ th k. erased_stays b th k i.2)))
+  erased_stays (Trees.cond a question b colon c) th h i = subst ThingStays (sym h.4) (λ w a k. cc)
+  erased_stays (Trees.assign a op at b) th (inl h) i = subst ThingStays (sym h.4) (λ w a k. cc)
+  erased_stays (Trees.assign a op at b) th (inr (inl h)) i = subst ThingStays (sym h.4) (λ w a k. cc)
+  erased_stays (Trees.assign a op at b) th (inr (inr h)) i = subst ThingStays (sym h.5) (λ w a k. cc)
+  erased_stays (Trees.comma a at b) th h i = subst ThingStays (sym h.3) (λ w a k. cc)
+  erased_stays (Trees.braces left all comma right) th h i = absurd h
