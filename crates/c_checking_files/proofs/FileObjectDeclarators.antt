@@ -1,7 +1,6 @@
 -- Objects that a declarator of the file scope declares and may define (C99 6.9.2).
-use Rattle.std.proofs.Common.{◌≡◌, ℕ, Bool, true, refl, sym, ◌∙◌, subst, List, [], length}
+use Rattle.std.proofs.Common.{◌≡◌, ℕ, Bool, true, refl, sym, subst, List, length}
 use Rattle.std.specs.Prelude.{Option, Some, None, Ok, slice_get, is_none}
-use Rattle.c_types.specs.Limits.{AreComplete}
 use Rattle.c_types.specs.Objects.{is_object}
 use Rattle.c_types.specs.Types.{CType, Record}
 use Rattle.c_ast.specs.declared.words.Spelling.{Spelling}
@@ -11,16 +10,14 @@ use Rattle.c_typed.specs.declared.program.MentionKind.TheVariants.{Object}
 use Rattle.c_ast.specs.Places.{first_declarator}
 use Rattle.c_erasure.specs.Declarators.{Shape}
 use Rattle.c_erasure.specs.Files.{is_first, IsObject, IsOwnName, IsLinkage, IsFirst, IsDefinition, object_how, bound}
-use Rattle.c_erasure.specs.Marks.{marks_of_initial, marks_of_declarator}
-use Rattle.c_erasure.specs.Scopes.{FileScope, Bound, AnObject, an_object, at_file_scope, ended}
+use Rattle.c_erasure.specs.Marks.{marks_of_declarator}
+use Rattle.c_erasure.specs.Scopes.{FileScope, AnObject, an_object, at_file_scope, ended}
 use Rattle.c_erasure.specs.Specifiers.{Storage}
-use Rattle.c_checking.specs.Answers.{Answer}
-use Rattle.c_checking.specs.Declaring.{declared_among, with_bound, with_mention, mentions_in, Derivation, derived, object_at}
+use Rattle.c_checking.specs.Declaring.{declared_among, with_mention, mentions_in, Derivation, derived, object_at}
 use Rattle.c_checking.specs.Finding.{derivations}
 use Rattle.c_checking.specs.Nodes.{is_complete}
 use Rattle.c_checking.specs.Statements.{sized_in}
-use Rattle.c_checking.specs.Files.{library_named, defined_among, object_of, define_object, defined_once, declare_object}
-use Rattle.c_checking.proofs.Results.{bound_ok, given, only_if}
+use Rattle.c_checking.proofs.Results.{given, only_if}
 use Rattle.c_checking.proofs.Extends.{Extends, further}
 use Rattle.c_checking.proofs.Agreement.{Ready}
 use Rattle.c_checking.proofs.InRange.{IsDeclaratorInRange}
@@ -28,10 +25,7 @@ use Rattle.c_checking.proofs.NodesOfParts.{complete_is}
 use Rattle.c_checking.proofs.Declared.{is_mentioned, before_mention}
 use Rattle.c_checking.proofs.Sound.{sound_steps}
 use Rattle.c_checking_files.proofs.Locals.{IsSizedOver, sized_so, sized_later}
-use Rattle.c_checking.proofs.InRange.{IsInRange}
-use Rattle.c_checking_files.proofs.FileScopes.{Continues, continues_then, MayDeclare, StandsFor, own_answer, own_is, once_answer, bound_there, bound_put}
-use Rattle.c_checking_files.proofs.FileScopes.{first_later}
-use Rattle.c_checking_files.proofs.FileObjects.{IsTheObject, object_is, IsLaterFile, KeepsValue, definition_found}
+use Rattle.c_checking_files.proofs.FileScopes.{Continues}
 
 module _ (untagged : ℕ → List ℕ) where
   -- an object of a later file

@@ -4,6 +4,7 @@ pub mod SameLocals
 pub mod Longer
 pub mod Initials
 pub mod Wholes
+pub mod TypedValues
 pub mod InTime
 pub mod Kept
 pub mod Keeping

@@ -33,6 +33,7 @@ use Rattle.c_checking.proofs.Adding.{adds_nothing}
 use Rattle.c_checking_files.proofs.Layouts.{object_stays}
 use Rattle.c_checking_files.proofs.Parts.{Parted, none}
 use Rattle.c_checking_files.proofs.Initials.{ReadFrom}
+use Rattle.c_checking_files.proofs.TypedValues.{values_typed}
 use Rattle.c_checking_files.proofs.Wholes.{typed_initial, sound_whole, constants_are}
 use Rattle.c_checking_files.proofs.Longer.{seen, fits_longer, blocks_longer}
 use Rattle.c_checking_files.proofs.Scoped.{IsWithin, ready_for, AddsInside, inside_grows, within_moved, IsLater, FoundIn}
@@ -196,7 +197,9 @@ module _ (untagged : ℕ → List ℕ) (f : FileScope) where
             let i = subst (λ i. IsInitializer value.1 (seen s g l) t i) k.0 b.0 in
             let d = subst (AreConstants (declared (moved s x.0.1))) (sym k.0) k.1 in
             let timely = timely_later v.within.extends value.1 n.1 in
-            let all = e.constants x.0.1 v.within.extends e.extends v.within.complete v.within.whole value.1 s t x.0.0 l timely x.1 b.0 b.1 d in
+            let values = values_typed untagged s.file value.1 s n.0 (ready_for w s.locals ([], sym (append-nil s.locals)) (marks untagged value.1)) (read_from s w)
+            t o x.0 x.1 in
+            let all = e.constants x.0.1 v.within.extends e.extends v.within.complete v.within.whole value.1 s t x.0.0 l timely x.1 b.0 b.1 values d in
             let there = subst (AreConstants (declared (seen s g l))) k.0 all in
             ((i, there), inr (subst (λ i. IsTypedInitializer (declared (seen s g l)) t (typed_initial i)) k.0 b.1, there));
       })

@@ -11,6 +11,7 @@ use Rattle.c_erasure.specs.Initializers.{AreConstants}
 use Rattle.c_erasure.specs.Noted.{Noted}
 use Rattle.c_checking.specs.Initializers.{initializer}
 use Rattle.c_checking_files.proofs.Wholes.{typed_initial}
+use Rattle.c_checking_files.proofs.TypedValues.{AreValuesTyped}
 use Rattle.c_ast.specs.Places.{first}
 use Rattle.c_erasure.specs.Erasure.{Erases}
 use Rattle.c_erasure.specs.Files.{count_up}
@@ -102,7 +103,7 @@ grown_none e p = omega (arith, e, p.counted)
 abbrev pub KeepsConstants : FileScope → FileScope → Type 0
 KeepsConstants f g = AreComplete f.records → AreObjectsWhole f.records f.objects → (a : Trees.Expression) (s : Scope) (t : CType)
     (i : Typed.Initializer Noted) (l : List ALocal) → IsTimely f a → initializer a s t ≡ Ok (i, f)
-    → IsInitializer a (seen s g l) t i → IsTypedInitializer (declared (seen s g l)) t (typed_initial i) → AreConstants (declared (moved s f)) i
+    → IsInitializer a (seen s g l) t i → IsTypedInitializer (declared (seen s g l)) t (typed_initial i) → AreValuesTyped (declared (moved s f)) i → AreConstants (declared (moved s f)) i
     → AreConstants (declared (seen s g l)) i
 
 pub record IsLater (f : FileScope) (after : Scope) (texts : List ℕ) (g : FileScope) (l : List ALocal) : Type 0 where

@@ -1,9 +1,11 @@
 -- The address that an initializer stands for is the same in a later file, where it asks for records in time (C99 6.6).
 use Rattle.std.proofs.Common.{◌≡◌, ℕ, zero, suc, ◌≤◌, Bool, true, false, refl, sym, ap, ◌∙◌, subst, cond, List, [], ◌∷◌, length, arith}
-use Rattle.std.proofs.Common.{inl, inr}
+use Rattle.std.proofs.Common.{inl, inr, ◌+◌}
 use Rattle.std.proofs.lemmas.Bool.{leb-true, and_parts}
 use Rattle.std.proofs.lemmas.Bool.Decides.{nat_tests}
 use Rattle.std.proofs.lemmas.Option.{get_or_from_slice_get}
+use Rattle.std.proofs.lemmas.List.Elements.{All-cons, All-nil, All-head, All-tail}
+use Rattle.std.specs.Prelude.{All, ◌++◌, ◌&&◌}
 use Rattle.std.specs.Prelude.{◌⊎◌, map, get_or, nat_le, nat_lt, Option, Some, None, slice_get, ℤ, pos, negsuc}
 use Rattle.lay_base.specs.declared.place.Place.{Place}
 use Rattle.c_types.specs.Layouts.{size_of, offset_of}
@@ -22,6 +24,17 @@ use Rattle.c_typed.specs.Trees as Typed
 use Rattle.c_typed.specs.Constants.{ty, constant_of}
 use Rattle.c_typed.specs.Conversions.{is_pointer, pointed, element_of}
 use Rattle.c_typed.specs.InitialValues.{Address, element_size, number_in, within, moved as moved_to, subscripted, or_negated, address_of_path, address_in}
+use Rattle.c_typed.specs.InitialValues.{InitialValue, an_address, a_null, as_address, as_function, as_number, function_in, is_null_in, initial_in}
+use Rattle.c_typed.specs.Constants.{Constant, valued}
+use Rattle.c_typed.specs.Constants.{is_null}
+use Rattle.c_typed.specs.Conversions.{is_scalar}
+use Rattle.c_types.specs.Types.{Field}
+use Rattle.c_ast.specs.declared.words.Spelling.{Spelling}
+use Rattle.c_erasure.specs.Noted.{type_of}
+use Rattle.c_erasure.specs.Initializers.{Part, part_at, texts_of, IsText, IsOneValue, Initializes, InitializeElements, InitializeFields, IsInitializer, HasConstant, AreConstants}
+use Rattle.c_checking_files.proofs.InTime.{AreInTime}
+use Rattle.c_checking_files.proofs.Scoped.{KeepsConstants}
+use Rattle.c_checking_files.proofs.TypedValues.{IsValueTyped, AreValuesTyped}
 use Rattle.c_typed.specs.Mapped.{of_types, mapped_path}
 use Rattle.c_typed.specs.Rules.{moving}
 use Rattle.c_typed.specs.Typed.{Declared, IsTyped, IsTypedPath, IsMove, bare_ty}
@@ -389,3 +402,154 @@ module _ (f g : FileScope) (p : Extends f g) (complete : AreComplete f.records) 
   erased_stays (Trees.assign a op at b) th (inr (inr h)) i = subst ThingStays (sym h.5) (λ w a k. cc)
   erased_stays (Trees.comma a at b) th h i = subst ThingStays (sym h.3) (λ w a k. cc)
   erased_stays (Trees.braces left all comma right) th h i = absurd h
+
+  -- ---- initial values
+
+  null_same : (e : Typed.Expression CType) → is_null_in D e ≡ is_null_in E e
+  null_same (Typed.expression t at (Typed.convert e w)) = ap (λ b. is_pointer t && cond (is_null e) true b) (null_same e)
+  null_same (Typed.expression t at node) = refl
+
+  function_same : (e : Typed.Expression CType) → function_in D e ≡ function_in E e
+  function_same (Typed.expression t at (Typed.convert e w)) = ap (λ o. cond (is_pointer t) o None) (function_same e)
+  function_same (Typed.expression t at node) = refl
+
+  address_or : (o q : Option Address) (other : Option InitialValue) (v : InitialValue) → ((a : Address) → o ≡ Some a → q ≡ Some a)
+      → as_address D o other ≡ Some v → (w : InitialValue) × (as_address E q other ≡ Some w)
+  address_or None None other v into h = (v, h)
+  address_or None (Some a) other v into h = (an_address a, refl)
+  address_or (Some a) q other v into h = (an_address a, ap (λ q. as_address E q other) (into a refl))
+
+  function_as : (o : Option ℕ) → as_function D o ≡ as_function E o
+  function_as None = refl
+  function_as (Some k) = refl
+
+  -- one that is no integer
+  other_value : (e : Expression) → ValueStays e → IsTyped D (typed e) → (v : InitialValue)
+      → cond (is_null_in D (typed e)) (Some a_null) (as_address D (address_in D (typed e)) (as_function D (function_in D (typed e)))) ≡ Some v
+      → (w : InitialValue) × (cond (is_null_in E (typed e)) (Some a_null) (as_address E (address_in E (typed e)) (as_function E (function_in E (typed e)))) ≡ Some w)
+  other_value e stays w v h = by_null (is_null_in D (typed e)) (is_null_in E (typed e)) (null_same (typed e)) h
+    where
+      by_null : (b c : Bool) → b ≡ c
+          → cond b (Some a_null) (as_address D (address_in D (typed e)) (as_function D (function_in D (typed e)))) ≡ Some v
+          → (w : InitialValue) × (cond c (Some a_null) (as_address E (address_in E (typed e)) (as_function E (function_in E (typed e)))) ≡ Some w)
+      by_null true true q h = (a_null, refl)
+      by_null false false q h =
+          let same : as_function D (function_in D (typed e)) ≡ as_function E (function_in E (typed e)) =
+          function_as (function_in D (typed e)) ∙ ap (as_function E) (function_same (typed e)) in
+          address_or (address_in D (typed e)) (address_in E (typed e)) (as_function E (function_in E (typed e))) v (λ a i. stays w a i)
+          (ap (as_address D (address_in D (typed e))) (sym same) ∙ h)
+      by_null true false q h = cc
+      by_null false true q h = cc
+
+  abbrev Has : (d : Declared) → CType → Expression → Type 0
+  Has d t e = (v : InitialValue) × (initial_in d t (typed e) ≡ Some v)
+
+  value_has : (t : CType) (e : Expression) → ValueStays e → IsTyped D (typed e) → Has D t e → Has E t e
+  value_has (integer kind) e stays w h = number_has (constant_of (typed e)) h
+    where
+      number_has : (c : Constant) → (v : InitialValue) × (as_number D kind c ≡ Some v) → (v : InitialValue) × (as_number E kind c ≡ Some v)
+      number_has (valued v) h = h
+      number_has c h = let e = h.1 in cc
+  value_has void e stays w h = other_value e stays w h.0 h.1
+  value_has (pointer t) e stays w h = other_value e stays w h.0 h.1
+  value_has (array t m) e stays w h = other_value e stays w h.0 h.1
+  value_has (function t all) e stays w h = other_value e stays w h.0 h.1
+  value_has (structure r) e stays w h = other_value e stays w h.0 h.1
+
+  -- ---- parts
+
+  abbrev Was : Part → Type 0
+  Was part = IsValueTyped D part.value × HasConstant D part.value
+
+  abbrev Will : Part → Type 0
+  Will part = HasConstant E part.value
+
+  one_part : (at : ℕ) (x : Expression) → ValueStays x → All Was (part_at at (Typed.value x)) → All Will (part_at at (Typed.value x))
+  one_part at x stays k =
+      let h = All-head Was (record { offset = at; value = Typed.value x }) [] k in
+      All-cons Will (record { offset = at; value = Typed.value x }) [] (value_has (ty (typed x)) x stays h.0 h.1) (All-nil Will)
+
+  text_part : (o : Option (List Spelling)) (t : CType) (at : ℕ) (parts : List Part) → IsText o S t at parts → All Will parts
+  text_part None t at parts h = absurd h
+  text_part (Some all) t at parts h =
+      subst (All Will) (sym h.3) (All-cons Will (record { offset = at; value = Typed.text h.0 }) [] tt (All-nil Will))
+
+  plain_stays : (a : Trees.Expression) (o : Option (List Spelling)) (t : CType) (at : ℕ) (parts : List Part)
+      → ((x : Expression) × (is_scalar t ≡ true) × (type_of x ≡ t) × (parts ≡ part_at at (Typed.value x)) × Values (Erases a S) x)
+      ⊎ ((r : ℕ) × (p : Path) × (t ≡ structure r) × (type_of_path p ≡ t) × (parts ≡ part_at at (Typed.record_of p)) × Erases a S (an_object p))
+      ⊎ IsText o S t at parts → IsInTime f.ends n a → All Was parts → All Will parts
+  plain_stays a o t at parts (inl h) i k =
+      subst (All Will) (sym h.3)
+      (one_part at h.0 (value_stays (Erases a S) h.0 h.4 (λ th k. erased_stays a th k i)) (subst (All Was) h.3 k))
+  plain_stays a o t at parts (inr (inl h)) i k =
+      absurd (All-head Was (record { offset = at; value = Typed.record_of h.1 }) [] (subst (All Was) h.4 k)).1
+  plain_stays a o t at parts (inr (inr h)) i k = text_part o t at parts h
+
+  one_value_stays : (all : Trees.Arguments) (x : Expression) → IsOneValue all S x → AreInTime f.ends n all → ValueStays x
+  one_value_stays Trees.no_arguments x h i = absurd h
+  one_value_stays (Trees.and_argument comma a Trees.no_arguments) x h i = value_stays (Erases a S) x h (λ th k. erased_stays a th k i.0)
+  one_value_stays (Trees.and_argument comma a (Trees.and_argument comma2 b more)) x h i = absurd h
+
+  joined_parts : (own rest : List Part) → (All Was own → All Will own) → (All Was rest → All Will rest) → All Was (own ++ rest) → All Will (own ++ rest)
+  joined_parts [] rest h k all = k all
+  joined_parts (part ∷ own) rest h k all =
+      All-cons Will part (own ++ rest) (All-head Will part own (h (firsts (part ∷ own) rest all)))
+      (joined_parts own rest (λ w. All-tail Will part own (h (All-cons Was part own (All-head Was part (own ++ rest) all) w))) k
+      (All-tail Was part (own ++ rest) all))
+    where
+      firsts : (xs ys : List Part) → All Was (xs ++ ys) → All Was xs
+      firsts [] ys h = All-nil Was
+      firsts (x ∷ xs) ys h = All-cons Was x xs (All-head Was x (xs ++ ys) h) (firsts xs ys (All-tail Was x (xs ++ ys) h))
+
+  mutual
+    initial_stays : (a : Trees.Expression) (t : CType) (at : ℕ) (parts : List Part) → Initializes a S t at parts → IsInTime f.ends n a
+        → All Was parts → All Will parts
+    initial_stays (Trees.braces left all last right) t at parts (inl h) i k =
+        subst (All Will) (sym h.3) (one_part at h.0 (one_value_stays all h.0 h.4 i) (subst (All Was) h.3 k))
+    initial_stays (Trees.braces left all last right) t at parts (inr (inl h)) i k = elements_stay all h.1 h.0 at parts h.4 i k
+    initial_stays (Trees.braces left all last right) t at parts (inr (inr (inl h))) i k = fields_stay all h.0 0 h.1.fields at parts h.4 i k
+    initial_stays (Trees.braces left all last right) t at parts (inr (inr (inr h))) i k =
+        text_part (texts_of (Trees.braces left all last right)) t at parts h
+    initial_stays a t at parts h i k = plain_stays a (texts_of a) t at parts h i k
+
+    elements_stay : (all : Trees.Arguments) (u : CType) (m at : ℕ) (parts : List Part) → InitializeElements all S u m at parts → AreInTime f.ends n all
+        → All Was parts → All Will parts
+    elements_stay Trees.no_arguments u m at parts h i k = subst (All Will) (sym h) (All-nil Will)
+    elements_stay (Trees.and_argument comma a more) u m at parts h i k =
+        subst (All Will) (sym h.4)
+        (joined_parts h.1 h.2 (initial_stays a u at h.1 h.5 i.0) (elements_stay more u h.0 (at + size_of g.records u) h.2 h.6 i.1) (subst (All Was) h.4 k))
+
+    fields_stay : (all : Trees.Arguments) (r j : ℕ) (fields : List Field) (at : ℕ) (parts : List Part) → InitializeFields all S r j fields at parts
+        → AreInTime f.ends n all → All Was parts → All Will parts
+    fields_stay Trees.no_arguments r j fields at parts h i k = subst (All Will) (sym h) (All-nil Will)
+    fields_stay (Trees.and_argument comma a more) r j fields at parts h i k =
+        subst (All Will) (sym h.5)
+        (joined_parts h.2 h.3 (initial_stays a h.0.ty (at + offset_of g.records r j) h.2 h.6 i.0) (fields_stay more r (j + 1) h.1 at h.3 h.7 i.1)
+        (subst (All Was) h.5 k))
+
+  -- ---- whole initializers
+
+  both_parts : (parts : List Part) → All (λ part. IsValueTyped D part.value) parts → All (λ part. HasConstant D part.value) parts → All Was parts
+  both_parts [] h k = All-nil Was
+  both_parts (part ∷ more) h k =
+      All-cons Was part more (All-head (λ (part : Part). IsValueTyped D part.value) part more h, All-head (λ (part : Part). HasConstant D part.value) part more k)
+      (both_parts more (All-tail (λ (part : Part). IsValueTyped D part.value) part more h) (All-tail (λ (part : Part). HasConstant D part.value) part more k))
+
+  pub constants_stay : (a : Trees.Expression) (t : CType) (i : Typed.Initializer Noted) → IsInTime f.ends n a → IsInitializer a S t i
+      → AreValuesTyped D i → AreConstants D i → AreConstants E i
+  constants_stay a t i timely (inl h) v k =
+      let w = subst (AreValuesTyped D) h.1 v in
+      let c = subst (AreConstants D) h.1 k in
+      let was : All Was (part_at 0 (Typed.value h.0)) = All-cons Was (record { offset = 0; value = Typed.value h.0 }) [] (w, c) (All-nil Was) in
+      let will = initial_stays a t 0 (part_at 0 (Typed.value h.0)) h.3 timely was in
+      subst (AreConstants E) (sym h.1) (All-head Will (record { offset = 0; value = Typed.value h.0 }) [] will)
+  constants_stay a t i timely (inr (inl h)) v k = absurd (subst (AreConstants D) h.1 k)
+  constants_stay a t i timely (inr (inr h)) v k =
+      let w = subst (AreValuesTyped D) h.1 v in
+      let c = subst (AreConstants D) h.1 k in
+      subst (AreConstants E) (sym h.1) (initial_stays a t 0 h.0 h.3 timely (both_parts h.0 w c))
+
+-- the constants of an initializer are constants in a later file
+pub keeps_constants : (f g : FileScope) → Extends f g → KeepsConstants f g
+keeps_constants f g p complete whole a s t i l timely found is typed_so values constants =
+    constants_stay f g p complete whole s l a t i timely is values constants

@@ -20,6 +20,6 @@ pub mod Orders
 pub mod FileTags
 pub mod Closing
 pub mod FileFacts
-pub mod SoundFiles
 pub mod AddressesStay
+pub mod SoundFiles
 pub mod NoLocals

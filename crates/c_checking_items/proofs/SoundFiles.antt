@@ -16,9 +16,8 @@ use Rattle.c_erasure.specs.Marks.{marks_of_file, firsts, tags_in, ends_in, defin
 use Rattle.c_erasure.specs.Noted.{Noted}
 use Rattle.c_erasure.specs.Scopes.{FileScope, Bound, Tag, an_object, a_function, AnObject, AFunction}
 use Rattle.c_checking.specs.Files.{unread, is_tentative, settled, closed_file, filed, annotated}
-use Rattle.c_checking.proofs.Extends.{Extends}
 use Rattle.c_checking.proofs.Results.{bound_ok, given}
-use Rattle.c_checking_files.proofs.Scoped.{KeepsConstants}
+use Rattle.c_checking_items.proofs.AddressesStay.{keeps_constants}
 use Rattle.c_checking_items.specs.TextOrder.{AreInTextOrder}
 use Rattle.c_checking_items.proofs.Known.{IsADeclaredObject, IsObjectKnown, IsFunctionKnown, IsKnown, none_new}
 use Rattle.c_checking_items.proofs.Names.{all_at}
@@ -66,8 +65,7 @@ nothing_known nodes file untagged items = record {
   functions = λ n g e. cc;
 }
 
-module _ (file : ℕ) (untagged : ℕ → List ℕ) (items : List Trees.Item) (fit : AreFitItems untagged items)
-    (constants : (b h : FileScope) → Extends b h → KeepsConstants b h) where
+module _ (file : ℕ) (untagged : ℕ → List ℕ) (items : List Trees.Item) (fit : AreFitItems untagged items) where
   abbrev start : FileScope
   start = unread file untagged items
 
@@ -104,7 +102,7 @@ module _ (file : ℕ) (untagged : ℕ → List ℕ) (items : List Trees.Item) (f
       laid = laid_file (closed_file g) known.settled;
       none_begins = none_begins_there (closed_file g) 0 (places_in items) s.step.objects s.step.others (rising_in items 0 fit.order.places)
           s.step.objects_parted spots;
-      constants = λ b p. constants b (closed_file g) p;
+      constants = λ b p. keeps_constants b (closed_file g) p;
       consistent = known.consistent;
       rising = λ j k a b l e f.
           ascending_at (scope_beginnings (marks_of_file untagged items)) fit.beginnings j k a.from b.from l
