@@ -22,4 +22,5 @@ pub mod Closing
 pub mod FileFacts
 pub mod AddressesStay
 pub mod SoundFiles
+pub mod InTextTime
 pub mod NoLocals
