@@ -23,7 +23,7 @@ from_first from [] o = tt
 from_first from (t ∷ tokens) o = (omega arith, o.1, o.2)
 
 module _ (untagged : ℕ → List ℕ) (types : List (List ℕ)) (ends : List ℕ) (n : ℕ) (law : TreesBeginFirst) where
-  behind_part : {u : List Mark} {tokens rest : List Lexeme} (from : ℕ) → Along u tokens rest → AreOrdered from tokens → (to : ℕ) × AreOrdered to rest
+  pub behind_part : {u : List Mark} {tokens rest : List Lexeme} (from : ℕ) → Along u tokens rest → AreOrdered from tokens → (to : ℕ) × AreOrdered to rest
   behind_part from a o = let b = ends_between from a o in (b.to, b.ordered)
 
   ahead_of : (t : Lexeme) (rest : List Lexeme) → Ahead ends n rest → Ahead ends n (t ∷ rest)

@@ -23,4 +23,5 @@ pub mod FileFacts
 pub mod AddressesStay
 pub mod SoundFiles
 pub mod InTextTime
+pub mod DeclarationsInTime
 pub mod NoLocals
