@@ -26,7 +26,7 @@ module _ (untagged : ℕ → List ℕ) (types : List (List ℕ)) (ends : List �
   behind from a o = behind_part untagged types ends 0 law from a o
 
   -- an initializer, or none, and what lies behind it
-  value_fit : (value : Option (ℕ × Trees.Expression)) → IsValue types value → (n m from : ℕ) (rest : List Lexeme) → AreOrdered from (spelled_value value rest)
+  pub value_fit : (value : Option (ℕ × Trees.Expression)) → IsValue types value → (n m from : ℕ) (rest : List Lexeme) → AreOrdered from (spelled_value value rest)
       → Ahead ends n rest → IsValueInRange [] m value → IsValueInRange ends n value × ((to : ℕ) × AreOrdered to rest)
   value_fit None w n m f rest o h r = (tt, (f, o))
   value_fit (Some value) w n m f rest o h r =

@@ -26,7 +26,7 @@ module _ (untagged : ℕ → List ℕ) (types : List (List ℕ)) (ends : List �
   pub behind_part : {u : List Mark} {tokens rest : List Lexeme} (from : ℕ) → Along u tokens rest → AreOrdered from tokens → (to : ℕ) × AreOrdered to rest
   behind_part from a o = let b = ends_between from a o in (b.to, b.ordered)
 
-  ahead_of : (t : Lexeme) (rest : List Lexeme) → Ahead ends n rest → Ahead ends n (t ∷ rest)
+  pub ahead_of : (t : Lexeme) (rest : List Lexeme) → Ahead ends n rest → Ahead ends n (t ∷ rest)
   ahead_of t rest h = earlier ends n (skip {t = t} (none {rest = rest})) h
 
   known_here : (t : Lexeme) (rest : List Lexeme) → Ahead ends n (t ∷ rest) → (from : ℕ) → AreOrdered from (t ∷ rest) → ended ends t.from ≤ n

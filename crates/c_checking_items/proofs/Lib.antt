@@ -24,4 +24,5 @@ pub mod AddressesStay
 pub mod SoundFiles
 pub mod InTextTime
 pub mod DeclarationsInTime
+pub mod BodiesInTime
 pub mod NoLocals
