@@ -20,7 +20,7 @@ use Rattle.c_checking_files.proofs.StatementLaws.{IsStartInRange, IsStatementInR
 use Rattle.c_checking_items.proofs.DeclarationsInTime.{value_fit}
 use Rattle.c_checking_items.proofs.InTextTime as Text
 
-module _ (untagged : ℕ → List ℕ) (types : List (List ℕ)) (ends : List ℕ) (n : ℕ) (law : TreesBeginFirst) where
+module _ (untagged : ℕ → List ℕ) (types : List (List ℕ)) (ends : List ℕ) (n m : ℕ) (law : TreesBeginFirst) where
   behind : {u : List Mark} {tokens rest : List Lexeme} (from : ℕ) → Along u tokens rest → AreOrdered from tokens → (to : ℕ) × AreOrdered to rest
   behind from a o = Text.behind_part untagged types ends n law from a o
 
@@ -28,7 +28,7 @@ module _ (untagged : ℕ → List ℕ) (types : List (List ℕ)) (ends : List �
   ahead_of t rest h = Text.ahead_of untagged types ends n law t rest h
 
   declarators_timely : (lead : Bool) (all : List Trees.InitDeclarator) → AreInitDeclarators types lead all → (semicolon from : ℕ) (rest : List Lexeme)
-      → AreOrdered from (spelled_init_declarators all (punctuator M.Semicolon semicolon ∷ rest)) → Ahead ends n rest → AreDeclaratorsInRange [] 0 all
+      → AreOrdered from (spelled_init_declarators all (punctuator M.Semicolon semicolon ∷ rest)) → Ahead ends n rest → AreDeclaratorsInRange [] m all
       → AreDeclaratorsInRange ends n all
   declarators_timely lead [] w semicolon f rest o h r = tt
   declarators_timely lead (d ∷ more) w semicolon f rest o h r =
@@ -36,24 +36,24 @@ module _ (untagged : ℕ → List ℕ) (types : List (List ℕ)) (ends : List �
       let hm : Ahead ends n tokens = earlier ends n (declarators_along untagged types false more w.4 semicolon {rest = rest}) h in
       let c = behind f (comma_along d.comma {rest = spelled_declarator d.declarator (spelled_value d.value tokens)}) o in
       let e = behind c.0 (declarator_along untagged types d.declarator w.1 {rest = spelled_value d.value tokens}) c.1 in
-      let b = value_fit untagged types ends law d.value w.3 n 0 e.0 tokens e.1 hm r.1 in
+      let b = value_fit untagged types ends law d.value w.3 n m e.0 tokens e.1 hm r.1 in
       (r.0, b.0, declarators_timely false more w.4 semicolon b.1.0 rest b.1.1 h r.2)
 
   declaration_timely : (d : Trees.Declaration) → IsDeclaration types d → (from : ℕ) (rest : List Lexeme) → AreOrdered from (spelled_declaration d rest)
-      → Ahead ends n rest → IsDeclarationInRange [] 0 d → IsDeclarationInRange ends n d
+      → Ahead ends n rest → IsDeclarationInRange [] m d → IsDeclarationInRange ends n d
   declaration_timely d w f rest o h r =
       let tokens : List Lexeme = spelled_init_declarators d.all (punctuator M.Semicolon d.semicolon ∷ rest) in
       let c = behind f (specifiers_along untagged types d.specs w.0 {rest = tokens}) o in
       (r.0, declarators_timely true d.all w.1 d.semicolon c.0 rest c.1 h r.1)
 
   start_timely : (t : Trees.ForStart) → IsForStart types t → (from : ℕ) (rest : List Lexeme) → AreOrdered from (spelled_for_start t rest)
-      → Ahead ends n rest → IsStartInRange [] 0 t → IsStartInRange ends n t
+      → Ahead ends n rest → IsStartInRange [] m t → IsStartInRange ends n t
   start_timely (Trees.starts_with a semicolon) w f rest o h r = r
   start_timely (Trees.declares d) w f rest o h r = declaration_timely d w.1 f rest o h r
 
   mutual
     statement_timely : (t : Trees.Statement) → IsStatement types t → (from : ℕ) (rest : List Lexeme) → AreOrdered from (spelled_statement t rest)
-        → Ahead ends n rest → IsStatementInRange [] 0 t → IsStatementInRange ends n t
+        → Ahead ends n rest → IsStatementInRange [] m t → IsStatementInRange ends n t
     statement_timely (Trees.block left items right) w f rest o h r =
         items_timely items w _ (punctuator M.CloseBrace right ∷ rest) o.2 (ahead_of (punctuator M.CloseBrace right) rest h) r
     statement_timely (Trees.evaluate a semicolon) w f rest o h r = r
@@ -101,12 +101,12 @@ module _ (untagged : ℕ → List ℕ) (types : List (List ℕ)) (ends : List �
     statement_timely (Trees.return at a semicolon) w f rest o h r = r
 
     item_timely : (t : Trees.BlockItem) → IsBlockItem types t → (from : ℕ) (rest : List Lexeme) → AreOrdered from (spelled_block_item t rest)
-        → Ahead ends n rest → IsItemInRange [] 0 t → IsItemInRange ends n t
+        → Ahead ends n rest → IsItemInRange [] m t → IsItemInRange ends n t
     item_timely (Trees.local d) w f rest o h r = declaration_timely d w f rest o h r
     item_timely (Trees.statement a) w f rest o h r = statement_timely a w f rest o h r
 
     pub items_timely : (t : Trees.BlockItems) → AreBlockItems types t → (from : ℕ) (rest : List Lexeme) → AreOrdered from (spelled_block_items t rest)
-        → Ahead ends n rest → AreItemsInRange [] 0 t → AreItemsInRange ends n t
+        → Ahead ends n rest → AreItemsInRange [] m t → AreItemsInRange ends n t
     items_timely Trees.no_block_items w f rest o h r = tt
     items_timely (Trees.and_block_item e more) w f rest o h r =
         let tokens : List Lexeme = spelled_block_items more rest in
@@ -116,14 +116,14 @@ module _ (untagged : ℕ → List ℕ) (types : List (List ℕ)) (ends : List �
         )
 
     switch_item_timely : (t : Trees.SwitchItem) → IsSwitchItem types t → (from : ℕ) (rest : List Lexeme) → AreOrdered from (spelled_switch_item t rest)
-        → Ahead ends n rest → IsSwitchItemInRange [] 0 t → IsSwitchItemInRange ends n t
+        → Ahead ends n rest → IsSwitchItemInRange [] m t → IsSwitchItemInRange ends n t
     switch_item_timely (Trees.local_switch_item d) w f rest o h r = declaration_timely d w.1 f rest o h r
     switch_item_timely (Trees.labelled labels a) w f rest o h r =
         let c = behind f (labels_along untagged types labels w.0 {rest = spelled_statement a rest}) o in
         (r.0, statement_timely a w.1 c.0 rest c.1 h r.1)
 
     switch_items_timely : (t : Trees.SwitchItems) → AreSwitchItems types t → (from : ℕ) (rest : List Lexeme) → AreOrdered from (spelled_switch_items t rest)
-        → Ahead ends n rest → AreSwitchItemsInRange [] 0 t → AreSwitchItemsInRange ends n t
+        → Ahead ends n rest → AreSwitchItemsInRange [] m t → AreSwitchItemsInRange ends n t
     switch_items_timely Trees.no_switch_items w f rest o h r = tt
     switch_items_timely (Trees.and_switch_item item more) w f rest o h r =
         let tokens : List Lexeme = spelled_switch_items more rest in

@@ -25,4 +25,5 @@ pub mod SoundFiles
 pub mod InTextTime
 pub mod DeclarationsInTime
 pub mod BodiesInTime
+pub mod ItemsInTime
 pub mod NoLocals
