@@ -73,19 +73,19 @@ module _ (untagged : ℕ → List ℕ) (types : List (List ℕ)) (ends : List �
     statement_timely (Trees.do_while at body while left a right semicolon) w f rest o h r =
         let last : List Lexeme = punctuator M.Close right ∷ punctuator M.Semicolon semicolon ∷ rest in
         let hl : Ahead ends n last = ahead_of (punctuator M.Close right) (punctuator M.Semicolon semicolon ∷ rest)
-            (ahead_of (punctuator M.Semicolon semicolon) rest h) in
+        (ahead_of (punctuator M.Semicolon semicolon) rest h) in
         let tokens : List Lexeme = keyword W.While while ∷ punctuator M.Open left ∷ spelled a last in
         let hb : Ahead ends n tokens = ahead_of (keyword W.While while) (punctuator M.Open left ∷ spelled a last)
-            (ahead_of (punctuator M.Open left) (spelled a last) (earlier ends n (along untagged types a w.1 {rest = last}) hl)) in
+        (ahead_of (punctuator M.Open left) (spelled a last) (earlier ends n (along untagged types a w.1 {rest = last}) hl)) in
         (r.0, statement_timely body w.0 _ tokens o.2 hb r.1)
     statement_timely (Trees.for at left start test semicolon step right body) w f rest o h r =
         let third : List Lexeme = punctuator M.Close right ∷ spelled_statement body rest in
         let second : List Lexeme = punctuator M.Semicolon semicolon ∷ spelled_if_any step third in
         let one : List Lexeme = spelled_if_any test second in
         let h3 : Ahead ends n third = ahead_of (punctuator M.Close right) (spelled_statement body rest)
-            (earlier ends n (statement_along untagged types body w.3 {rest = rest}) h) in
+        (earlier ends n (statement_along untagged types body w.3 {rest = rest}) h) in
         let h2 : Ahead ends n second = ahead_of (punctuator M.Semicolon semicolon) (spelled_if_any step third)
-            (earlier ends n (if_any_along untagged types step w.2 {rest = third}) h3) in
+        (earlier ends n (if_any_along untagged types step w.2 {rest = third}) h3) in
         let h1 : Ahead ends n one = earlier ends n (if_any_along untagged types test w.1 {rest = second}) h2 in
         let c1 = behind _ (for_start_along untagged types start w.0 {rest = one}) o.2.2 in
         let c2 = behind c1.0 (if_any_along untagged types test w.1 {rest = second}) c1.1 in

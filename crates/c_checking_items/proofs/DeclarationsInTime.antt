@@ -50,12 +50,15 @@ module _ (untagged : ℕ → List ℕ) (types : List (List ℕ)) (ends : List �
       let sm = subst (λ n. Standing ends false n k) number (standing_right ends false n (u ++ v) k st) in
       let whole : n + added false ((u ++ v) ++ k) ≡ N + added false k = omega (arith, all, own) in
       let hm : Ahead ends N tokens = back ends false N (declarators_along untagged types false more w.4 semicolon {rest = rest}) sm
-          (ahead_same ends (n + added false ((u ++ v) ++ k)) (N + added false k) rest whole h) in
+      (ahead_same ends (n + added false ((u ++ v) ++ k)) (N + added false k) rest whole h) in
       let c = behind f (comma_along d.comma {rest = spelled_declarator d.declarator (spelled_value d.value tokens)}) o in
       let e = behind c.0 (declarator_along untagged types d.declarator w.1 {rest = spelled_value d.value tokens}) c.1 in
-      let b = value_fit d.value w.3 N _ e.0 tokens e.1 hm r.1 in
-      (r.0, b.0, declarators_fit false more w.4 semicolon N _ b.1.0 rest b.1.1 sm
-          (ahead_same ends (n + added false ((u ++ v) ++ k)) (N + added false k) rest whole h) r.2)
+      let b = value_fit d.value w.3 N _ e.0 tokens e.1 hm r.1 in (
+        r.0,
+        b.0,
+        declarators_fit false more w.4 semicolon N _ b.1.0 rest b.1.1 sm
+            (ahead_same ends (n + added false ((u ++ v) ++ k)) (N + added false k) rest whole h) r.2,
+      )
 
   -- a declaration
   pub declaration_fit : (d : Trees.Declaration) → IsDeclaration types d → (n m from : ℕ) (rest : List Lexeme) → AreOrdered from (spelled_declaration d rest)
@@ -67,6 +70,8 @@ module _ (untagged : ℕ → List ℕ) (types : List (List ℕ)) (ends : List �
       let tokens : List Lexeme = spelled_init_declarators d.all (punctuator M.Semicolon d.semicolon ∷ rest) in
       let all = added_both false u k in
       let whole : n + added false (u ++ k) ≡ n + added false u + added false k = omega (arith, all) in
-      let c = behind f (specifiers_along untagged types d.specs w.0 {rest = tokens}) o in
-      (r.0, declarators_fit true d.all w.1 d.semicolon (n + added false u) _ c.0 rest c.1 (standing_right ends false n u k st)
-          (ahead_same ends (n + added false (u ++ k)) (n + added false u + added false k) rest whole h) r.1)
+      let c = behind f (specifiers_along untagged types d.specs w.0 {rest = tokens}) o in (
+        r.0,
+        declarators_fit true d.all w.1 d.semicolon (n + added false u) _ c.0 rest c.1 (standing_right ends false n u k st)
+            (ahead_same ends (n + added false (u ++ k)) (n + added false u + added false k) rest whole h) r.1,
+      )

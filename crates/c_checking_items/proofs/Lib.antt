@@ -26,4 +26,5 @@ pub mod InTextTime
 pub mod DeclarationsInTime
 pub mod BodiesInTime
 pub mod ItemsInTime
+pub mod TextFits
 pub mod NoLocals

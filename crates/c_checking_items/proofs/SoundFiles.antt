@@ -40,6 +40,12 @@ pub record AreFitItems (untagged : ℕ → List ℕ) (items : List Trees.Item) :
   pub spelled : (k : ℕ) (t : Tag) → slice_get (tags_in (marks_of_file untagged items)) k ≡ Some t → t.is_enumeration ≡ true → (at : ℕ)
       → t.name ≢ untagged at
 
+-- the annotated file of the items, with that number and those names
+pub record IsFound (file : ℕ) (untagged : ℕ → List ℕ) (items : List Trees.Item) (f : FileScope) : Type 0 where
+  pub is_file : IsFileOf items f
+  pub number : f.file ≡ file
+  pub untagged_are : f.untagged ≡ untagged
+
 ascending_at : (all : List ℕ) → AreAscending all → (j k a b : ℕ) → j < k → slice_get all j ≡ Some a → slice_get all k ≡ Some b → a < b
 ascending_at [] h j k a b l e f = cc
 ascending_at (p ∷ all) h j zero a b l e f = absurd (omega (arith, l))
@@ -259,17 +265,12 @@ module _ (file : ℕ) (untagged : ℕ → List ℕ) (items : List Trees.Item) (f
         place (r ∷ xs) zero l = (r, refl)
         place (r ∷ xs) (suc k) l = place xs k (omega (arith, l))
 
-  pub record IsFound (f : FileScope) : Type 0 where
-    pub is_file : IsFileOf items f
-    pub number : f.file ≡ file
-    pub untagged_are : f.untagged ≡ untagged
-
-  pub sound_file : (f : FileScope) → annotated file untagged items ≡ Ok f → IsFound f
+  pub sound_file : (f : FileScope) → annotated file untagged items ≡ Ok f → IsFound file untagged items f
   unfolding annotated
   sound_file f h =
       let g = bound_ok (filed items start) _ f h in
       let s = all_filed untagged (nodes_at items) items [] [] start 0 0 start_may (nothing_known (nodes_at items) file untagged items) g.0 g.1 in
-      given IsFound (closed_file g.0) f g.2 (record {
+      given (IsFound file untagged items) (closed_file g.0) f g.2 (record {
         is_file = is_file g.0 s;
         number = s.step.continues.extends.file;
         untagged_are = s.step.continues.extends.untagged;
