@@ -27,4 +27,5 @@ pub mod DeclarationsInTime
 pub mod BodiesInTime
 pub mod ItemsInTime
 pub mod TextFits
+pub mod RangedParts
 pub mod NoLocals
