@@ -28,4 +28,5 @@ pub mod BodiesInTime
 pub mod ItemsInTime
 pub mod TextFits
 pub mod RangedParts
+pub mod RangedItems
 pub mod NoLocals
