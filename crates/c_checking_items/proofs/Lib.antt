@@ -26,7 +26,8 @@ pub mod InTextTime
 pub mod DeclarationsInTime
 pub mod BodiesInTime
 pub mod ItemsInTime
-pub mod TextFits
 pub mod RangedParts
 pub mod RangedItems
+pub mod RangedTokens
+pub mod TextFits
 pub mod NoLocals
