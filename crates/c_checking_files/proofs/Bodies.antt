@@ -18,6 +18,7 @@ use Rattle.c_checking.specs.Files.{Received, received_if_named, named_parameters
 use Rattle.c_checking.specs.Statements.{items_in}
 use Rattle.c_checking.proofs.Extends.{itself}
 use Rattle.c_checking.proofs.Agreement.{AreFit}
+use Rattle.c_checking_files.proofs.Kept.{AreObjectsWhole}
 use Rattle.c_checking_files.proofs.Longer.{seen, fits_longer}
 use Rattle.c_checking_files.proofs.Scoped.{IsWithin, FoundIn}
 use Rattle.c_checking_files.proofs.Declarations.{typed_statements}
@@ -117,6 +118,7 @@ drop_own (x ∷ xs) ys = drop_own xs ys
 pub record IsReadyFile (untagged : ℕ → List ℕ) (f : FileScope) : Type 0 where
   pub names_fit : AreFit f [] f.names
   pub complete : AreComplete f.records
+  pub whole : AreObjectsWhole f.records f.objects
   pub same : f.untagged ≡ untagged
 
 module _ (untagged : ℕ → List ℕ) where
@@ -126,6 +128,7 @@ module _ (untagged : ℕ → List ℕ) where
     full = refl;
     ready = record { names_fit = fits_longer f [] p.locals f.names r.names_fit; blocks_fit = (fit, tt); ends_stand = λ j n right h. cc };
     complete = r.complete;
+    whole = r.whole;
     extends = itself f;
     same = r.same;
   }
@@ -133,7 +136,7 @@ module _ (untagged : ℕ → List ℕ) where
   -- the body of a function, as the checker keeps it: its parameters and locals are those of its last scope
   pub body_found : (f : FileScope) (place nodes : ℕ) (result : CType) (items : Trees.BlockItems) (list : Option Trees.ParameterList) (types : CTypes)
       (p : Received)
-      → received_by list types ≡ Some p → AreItemsInRange items → IsReadyFile untagged f → (z : Statements × Scope)
+      → received_by list types ≡ Some p → AreItemsInRange f.ends (length f.records) items → IsReadyFile untagged f → (z : Statements × Scope)
       → items_in result items (in_body f p.bounds p.locals) false false ≡ Ok z
       → FoundIn untagged f (in_body f p.bounds p.locals) (spoken_by_items items) (made_by_items items)
       (λ g l. (old : AFunction) → l ≡ z.1.locals
@@ -151,6 +154,7 @@ module _ (untagged : ℕ → List ℕ) where
         texts = v.texts;
         parted = v.parted;
         grows = v.grows;
+        inner = v.inner;
         holds = λ g l later old same.
             let i = v.holds g l later in
             let own : take (length p.locals) z.1.locals ≡ p.locals = ap (take (length p.locals)) v.locals ∙ take_own p.locals v.more in

@@ -29,12 +29,12 @@ use Rattle.c_checking_files.proofs.StaticLocals.{static_found}
 
 -- ---- literals in range
 
-abbrev pub AreDeclaratorsInRange : List Trees.InitDeclarator → Type 0
-AreDeclaratorsInRange [] = Unit {0}
-AreDeclaratorsInRange (d ∷ more) = IsDeclaratorInRange d.declarator × IsValueInRange d.value × AreDeclaratorsInRange more
+abbrev pub AreDeclaratorsInRange : (ends : List ℕ) → ℕ → List Trees.InitDeclarator → Type 0
+AreDeclaratorsInRange ends n [] = Unit {0}
+AreDeclaratorsInRange ends n (d ∷ more) = IsDeclaratorInRange d.declarator × IsValueInRange ends n d.value × AreDeclaratorsInRange ends n more
 
-abbrev pub IsDeclarationInRange : Trees.Declaration → Type 0
-IsDeclarationInRange d = AreSpecifiersInRange d.specs × AreDeclaratorsInRange d.all
+abbrev pub IsDeclarationInRange : (ends : List ℕ) → ℕ → Trees.Declaration → Type 0
+IsDeclarationInRange ends n d = AreSpecifiersInRange d.specs × AreDeclaratorsInRange ends n d.all
 
 -- ---- statements one after the other
 
@@ -52,7 +52,7 @@ typed_then d result loop switch Typed.no_statements rest h k = k
 typed_then d result loop switch (Typed.and_statement s more) rest h k = (h.0, typed_then d result loop switch more rest h.1 k)
 
 -- where a declarator begins that has a name
-first_named : (d : Trees.Declarator) (x : Spelling) → declared_name d ≡ Some x → (a b : ℕ) → first_declarator d a ≡ first_declarator d b
+pub first_named : (d : Trees.Declarator) (x : Spelling) → declared_name d ≡ Some x → (a b : ℕ) → first_declarator d a ≡ first_declarator d b
 first_named Trees.nothing x h a b = cc
 first_named (Trees.named y) x h a b = refl
 first_named (Trees.pointer at consts d) x h a b = refl
@@ -99,6 +99,7 @@ module _ (untagged : ℕ → List ℕ) (f : FileScope) where
     texts = [];
     parted = none;
     grows = v.grows;
+    inner = v.inner;
     holds = λ g l e. v.holds g l e.extends e.locals;
   }
 
@@ -108,7 +109,7 @@ module _ (untagged : ℕ → List ℕ) (f : FileScope) where
       (static_places static (first_declarator d.declarator semicolon) ++ literals_of_value d.value) (IsDeclarator static s base d z.0 z.1)
       (all_declared_by z.0) z.1
 
-  declarator_by : (static : Bool) (s : Scope) (base : CType) (d : Trees.InitDeclarator) (x : Spelling) (semicolon : ℕ) → IsValueInRange d.value
+  declarator_by : (static : Bool) (s : Scope) (base : CType) (d : Trees.InitDeclarator) (x : Spelling) (semicolon : ℕ) → IsValueInRange f.ends (length f.records) d.value
       → (t : CType × FileScope) → FoundVariable untagged f s base d x t → (z : Statements × Scope) → declare_as static (moved s t.1) d x t.0 ≡ Ok z
       → FoundDeclarator static s base d x.from z
   declarator_by true s base d x semicolon n t v z h =
@@ -162,7 +163,7 @@ module _ (untagged : ℕ → List ℕ) (f : FileScope) where
       type_there (b ∷ more) (suc n) a h = type_there more n a h
 
   declarator_named : (static : Bool) (s : Scope) (base : CType) (d : Trees.InitDeclarator) (semicolon : ℕ) → IsDeclaratorInRange d.declarator
-      → IsValueInRange d.value → IsWithin untagged f s → (o : Option Spelling) → declared_name d.declarator ≡ o → (z : Statements × Scope)
+      → IsValueInRange f.ends (length f.records) d.value → IsWithin untagged f s → (o : Option Spelling) → declared_name d.declarator ≡ o → (z : Statements × Scope)
       → declare_named static s base d o ≡ Ok z → FoundDeclarator static s base d semicolon z
   declarator_named static s base d semicolon n k w None e z h = cc
   declarator_named static s base d semicolon n k w (Some x) e z h =
@@ -186,7 +187,7 @@ module _ (untagged : ℕ → List ℕ) (f : FileScope) where
       FoundIn untagged f s (spoken_of_declarators all semicolon) (made_by static all semicolon) (AreDeclared static all s base z.0 z.1)
       (all_declared_by z.0) z.1
 
-  pub declarators_found : (all : List Trees.InitDeclarator) (s : Scope) (static : Bool) (base : CType) (semicolon : ℕ) → AreDeclaratorsInRange all
+  pub declarators_found : (all : List Trees.InitDeclarator) (s : Scope) (static : Bool) (base : CType) (semicolon : ℕ) → AreDeclaratorsInRange f.ends (length f.records) all
       → IsWithin untagged f s → (z : Statements × Scope) → declare_all all s static base ≡ Ok z → FoundDeclarators static all s base semicolon z
   unfolding declare_all
   declarators_found [] s static base semicolon n w z h =

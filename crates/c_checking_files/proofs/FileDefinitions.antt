@@ -13,6 +13,7 @@ use Rattle.c_erasure.specs.Marks.{marks_of_declarator}
 use Rattle.c_erasure.specs.Scopes.{FileScope, a_function, defines, at_file_scope}
 use Rattle.c_erasure.specs.Specifiers.{no_storage, is_extern, is_static, storage_of}
 use Rattle.c_checking.specs.Declaring.{declared_among, with_mention, mentions_in, Derivation, derived}
+use Rattle.c_checking.specs.Files.{Received}
 use Rattle.c_checking.specs.Finding.{derivations}
 use Rattle.c_checking.proofs.Extends.{Extends, further}
 use Rattle.c_checking.proofs.Agreement.{Ready}
@@ -35,12 +36,12 @@ module _ (untagged : ℕ → List ℕ) (f : FileScope) (specs : Trees.Specifiers
   pub definition_stands : (left nodes : ℕ) (items : Trees.BlockItems) → declared_name d ≡ Some x
       → (storage_of specs ≡ no_storage) ⊎ (storage_of specs ≡ is_extern) ⊎ (storage_of specs ≡ is_static)
       → FoundBase untagged (at_file_scope f) specs base → IsDeclaratorInRange d → Ready (at_file_scope base.1) (marks_of_declarator untagged d)
-      → derivations d (at_file_scope base.1) ≡ Ok steps → derived steps.1.records steps.0 base.0 ≡ Ok (closed (function result types)) → (g : FileScope)
-      → FoundFunction untagged spoken_of (storage_of specs) x place_of left nodes result types (parameters_of d) items g → (h : FileScope) → Continues g h
+      → derivations d (at_file_scope base.1) ≡ Ok steps → derived steps.1.records steps.0 base.0 ≡ Ok (closed (function result types)) → (p : Received) (g : FileScope)
+      → FoundFunction untagged spoken_of (storage_of specs) x place_of left nodes result types (parameters_of d) items p g → (h : FileScope) → Continues g h
       → IsFunctionDefined untagged (storage_of specs) x place_of left nodes result types (parameters_of d) items
       (is_none (declared_among spoken_of.names x.text)) h
       → is_first h x ≡ is_none (declared_among spoken_of.names x.text) → IsDefined h specs d left items nodes
-  definition_stands left nodes items name words b n r is_steps is_shape g o later c q first =
+  definition_stands left nodes items name words b n r is_steps is_shape p g o later c q first =
       let s = at_file_scope base.1 in
       let v = sound_steps untagged d s n r steps is_steps in
       let back : Extends spoken_of later = further o.continues.extends c.extends in

@@ -1,5 +1,10 @@
 -- Definitions of functions at file scope (C99 6.9.1).
-use Rattle.std.proofs.Common.{◌≡◌, ℕ, Bool, false, refl, sym, ap, ◌∙◌, subst, List, ◌++◌, length, inl, inr}
+use Rattle.std.proofs.lemmas.Bool.{and_from}
+use Rattle.std.proofs.lemmas.Slice.Eq.{bytes_eq-Decides}
+use Rattle.std.specs.Prelude.{codes}
+use Rattle.c_types.proofs.SameTypes.{same_is}
+use Rattle.c_erasure.specs.Files.{IsMainType}
+use Rattle.std.proofs.Common.{◌≡◌, ℕ, Bool, true, false, refl, sym, ap, ◌∙◌, subst, List, ◌++◌, length, inl, inr}
 use Rattle.std.specs.Prelude.{◌⊎◌, map, Option, Some, None, Ok, slice_get, slice_set, is_none, not, ◌&&◌}
 use Rattle.std.specs.Option.{IsSome}
 use Rattle.c_types.specs.Sameness.{same_type}
@@ -18,7 +23,11 @@ use Rattle.c_checking.specs.Files.{with_body, define_function}
 use Rattle.c_checking.specs.Statements.{items_in}
 use Rattle.c_checking.proofs.Results.{bound_ok, given, chosen}
 use Rattle.c_checking.proofs.Extends.{itself, further}
-use Rattle.c_checking_files.proofs.Scoped.{IsLater}
+use Rattle.c_typed.specs.TypedStatements.{all_declared_by}
+use Rattle.c_erasure.specs.Literals.{made_by_items}
+use Rattle.c_erasure.specs.MentionPlaces.{spoken_by_items}
+use Rattle.c_erasure.specs.Statements.{Statements}
+use Rattle.c_checking_files.proofs.Scoped.{IsLater, FoundIn}
 use Rattle.c_checking_files.proofs.StatementLaws.{AreItemsInRange}
 use Rattle.c_checking_files.proofs.Bodies.{IsReadyFile, AreParametersOf, parameters_are, body_found}
 use Rattle.c_checking_files.proofs.FileScopes.{IsSameFunction, Continues, continues_itself, continues_then, adds_continues, MayDeclare, StandsFor}
@@ -28,7 +37,7 @@ use Rattle.c_checking_files.proofs.FileObjects.{set_same, set_other, set_types}
 
 -- ---- a function that is defined takes the place of the one that was declared
 
-abbrev replaced_function : FileScope → ℕ → AFunction → FileScope
+abbrev pub replaced_function : FileScope → ℕ → AFunction → FileScope
 replaced_function f n p = record f { functions = slice_set f.functions n p }
 
 same_function : (o : AFunction) → IsSameFunction o o
@@ -70,6 +79,20 @@ function_defined f n o p h e same = record {
 main_answer : {A : Type 0} (x : List ℕ) (at : ℕ) (t : CType) (r : Answer A) (z : A) → main_function x at t r ≡ Ok z → r ≡ Ok z
 main_answer x at t r z h = chosen (is_main x && not (same_type t main_type)) _ _ z (r ≡ Ok z) h (λ b h. cc) (λ b h. h)
 
+pub main_type_is : {A : Type 0} (x : List ℕ) (at : ℕ) (t : CType) (r : Answer A) (z : A) → main_function x at t r ≡ Ok z
+    → (r ≡ Ok z) × IsMainType x t
+unfolding is_main
+main_type_is x at t r z h =
+    chosen (is_main x && not (same_type t main_type)) _ _ z ((r ≡ Ok z) × IsMainType x t) h (λ b h. cc)
+    (λ b h. (h, λ e. of_type (same_type t main_type) refl ((bytes_eq-Decides (codes "main") x).1 (sym e)) b))
+  where
+    of_type : (c : Bool) → same_type t main_type ≡ c → is_main x ≡ true → (is_main x && not (same_type t main_type)) ≡ false → t ≡ main_type
+    of_type true e m b = same_is t main_type e
+    of_type false e m b =
+        let all = and_from (is_main x) (not (same_type t main_type)) m (ap not e) in
+        let true_is_false = sym all ∙ b in
+        cc
+
 module _ (untagged : ℕ → List ℕ) where
   -- a function as a definition leaves it
   pub record IsFunctionDefined (words : Storage) (x : Spelling) (place left nodes : ℕ) (result : CType) (types : CTypes) (list : Option Trees.ParameterList)
@@ -90,24 +113,37 @@ module _ (untagged : ℕ → List ℕ) where
 
   -- the file in which the body is read, and the scope after it
   pub record FoundFunction (f : FileScope) (words : Storage) (x : Spelling) (place left nodes : ℕ) (result : CType) (types : CTypes)
-      (list : Option Trees.ParameterList) (items : Trees.BlockItems) (g : FileScope) : Type 0 where
-    pub before : FileScope
-    pub after : Scope
-    pub texts : List ℕ
+      (list : Option Trees.ParameterList) (items : Trees.BlockItems) (p : Received) (g : FileScope) : Type 0 where
+    pub number : ℕ × FileScope
+    pub number_is : function_of f words x place (function result types) nodes (declared_among f.names x.text) ≡ Ok number
+    pub the : IsTheFunction f words x place (function result types) (is_none (declared_among f.names x.text)) number
+    pub main : IsMainType x.text (function result types)
+    pub once : defined_among f.names x.text ≡ None
+    pub all : Statements × Scope
+    pub read : FoundIn untagged (with_bound number.1 (bound x left defines (a_function number.0 (function result types))))
+        (in_body (with_bound number.1 (bound x left defines (a_function number.0 (function result types)))) p.bounds p.locals)
+        (spoken_by_items items) (made_by_items items)
+        (λ g l. (old : AFunction) → l ≡ all.1.locals → IsBody g result p.bounds
+        (defined_function all.1.file place (length p.locals) nodes all.0 all.1.locals old) items) (all_declared_by all.0) all.1
+    pub file_is : g ≡ replaced_function all.1.file number.0 (defined_function all.1.file place (length p.locals) nodes all.0 all.1.locals the.function)
     pub own : IsOwnName x.text
     pub continues : Continues f g
-    pub holds : (h : FileScope) → Continues g h → IsLater before after texts h after.locals
+    pub holds : (h : FileScope) → Continues g h
+        → IsLater (with_bound number.1 (bound x left defines (a_function number.0 (function result types)))) all.1 read.texts h all.1.locals
         → IsFunctionDefined words x place left nodes result types list items (is_none (declared_among f.names x.text)) h
 
   pub function_found : (f : FileScope) (words : Storage) → MayDeclare words → (x : Spelling) (at place left nodes : ℕ) (result : CType) (types : CTypes)
-      (list : Option Trees.ParameterList) (items : Trees.BlockItems) (p : Received) → received_by list types ≡ Some p → AreItemsInRange items
+      (list : Option Trees.ParameterList) (items : Trees.BlockItems) (p : Received) → received_by list types ≡ Some p
       → ((b : Bound) → declared_among f.names x.text ≡ Some b → StandsFor f x place b)
-      → ((n : ℕ × FileScope) → IsTheFunction f words x place (function result types) (is_none (declared_among f.names x.text)) n
+      → ((n : ℕ × FileScope) → function_of f words x place (function result types) nodes (declared_among f.names x.text) ≡ Ok n
+      → defined_among f.names x.text ≡ None → IsMainType x.text (function result types)
+      → IsTheFunction f words x place (function result types) (is_none (declared_among f.names x.text)) n
       → IsReadyFile untagged (with_bound n.1 (bound x left defines (a_function n.0 (function result types))))
+      × AreItemsInRange n.1.ends (length n.1.records) items
       × ((o : AFunction) → slice_get n.1.functions n.0 ≡ Some o → o.body ≡ None))
       → (g : FileScope) → define_function f words x at place left nodes result types items (Some p) ≡ Ok g
-      → FoundFunction f words x place left nodes result types list items g
-  function_found f words m x at place left nodes result types list items p e range k ready g h =
+      → FoundFunction f words x place left nodes result types list items p g
+  function_found f words m x at place left nodes result types list items p e k ready g h =
       let t = function result types in
       let a = own_answer x.from (library_named x.text) _ g h in
       let b = main_answer x.text x.from t _ g a.1 in
@@ -116,23 +152,28 @@ module _ (untagged : ℕ → List ℕ) where
       let c = once_answer x (defined_among f.names x.text) _ g n.2 in
       let name = bound x left defines (a_function n.0.0 t) in
       let file = with_bound n.0.1 name in
-      let r = ready n.0 v in
+      let r = ready n.0 n.1 c.0 (main_type_is x.text x.from t _ g a.1).1 v in
       let all = bound_ok (items_in result items (in_body file p.bounds p.locals) false false) _ g c.1 in
-      let u = body_found untagged file place nodes result items list types p e range r.0 all.0 all.1 in
+      let u = body_found untagged file place nodes result items list types p e r.1 r.0 all.0 all.1 in
       let step = adds_continues u.extends u.grows in
       let known : slice_get all.0.1.file.functions n.0.0 ≡ Some v.function = subst (λ all. slice_get all n.0.0 ≡ Some v.function)
       (sym u.grows.functions) v.stands in
       let new = defined_function all.0.1.file place (length p.locals) nodes all.0.0 all.0.1.locals v.function in
-      let none = r.1 v.function v.stands in
+      let none = r.2 v.function v.stands in
       let last = function_defined all.0.1.file n.0.0 v.function new known none
       (record { name = refl; first = refl; ty = refl; is_linked = refl; settled = λ s. absurd (nothing_settled v.function v.function none refl s) }) in
       let there : g ≡ replaced_function all.0.1.file n.0.0 new =
       given (λ g. g ≡ replaced_function all.0.1.file n.0.0 new) _ g all.2
       (ap (λ o. with_body all.0.1.file n.0.0 place (length p.locals) nodes all.0.0 all.0.1.locals o) known) in
       record {
-        before = file;
-        after = all.0.1;
-        texts = u.texts;
+        number = n.0;
+        number_is = n.1;
+        the = v;
+        main = (main_type_is x.text x.from t _ g a.1).1;
+        once = c.0;
+        all = all.0;
+        read = u;
+        file_is = there;
         own = own_is x.text a.0;
         continues = subst (Continues f) (sym there) (continues_then v.continues (continues_then (bound_put n.0.1 name) (continues_then step last)));
         holds = λ h later read.

@@ -34,7 +34,10 @@ use Rattle.c_checking.proofs.Agreement.{Ready}
 use Rattle.c_checking.proofs.InRange.{IsInRange}
 use Rattle.c_checking_files.proofs.Layouts.{IsLaid}
 use Rattle.c_checking_files.proofs.Parts.{NoneBegins}
+use Rattle.c_checking_files.proofs.InTime.{IsTimely}
+use Rattle.c_checking_files.proofs.Kept.{AreObjectsWhole}
 use Rattle.c_checking_files.proofs.Scoped.{KeepsConstants}
+use Rattle.c_checking_files.proofs.TypedValues.{AreValuesTyped, values_typed}
 use Rattle.c_checking_files.proofs.Wholes.{typed_initial, FoundWhole, sound_whole, constants_are}
 use Rattle.c_checking_files.proofs.FileScopes.{IsSameObject, Continues, continues_itself, continues_then, adds_continues, MayDeclare, StandsFor}
 
@@ -219,14 +222,20 @@ module _ (untagged : ℕ → List ℕ) where
     pub laid : IsLaid g
     pub none_begins : NoneBegins g texts
 
+  -- what is asked for the constants of an initializer
+  abbrev pub KeepsValue : FileScope → Option (ℕ × Trees.Expression) → FileScope → Type 0
+  KeepsValue f None g = Unit {0}
+  KeepsValue f (Some value) g = KeepsConstants f g × AreComplete f.records × AreObjectsWhole f.records f.objects × IsTimely f value.1
+
   -- an object is defined by an initializer of constants, which is typed
   pub record FoundDefinition (f : FileScope) (n place : ℕ) (value : ℕ × Trees.Expression) (t : CType) (o : AnObject) (g : FileScope) : Type 0 where
     pub after : FileScope
     pub initial : Typed.Initializer Noted
+    pub found : initializer value.1 (at_file_scope f) t ≡ Ok (initial, after)
     pub whole : FoundWhole untagged (at_file_scope f) value.1 t (initial, after)
     pub file_is : g ≡ replaced_object after n (with_initial f place initial o)
     pub continues : Continues f g
-    pub holds : (h : FileScope) → IsLaterFile g whole.texts h → KeepsConstants after h → (p : AnObject) → slice_get h.objects n ≡ Some p
+    pub holds : (h : FileScope) → IsLaterFile g whole.texts h → KeepsValue after (Some value) h → (p : AnObject) → slice_get h.objects n ≡ Some p
         → IsDefinition (at_file_scope h) place t (Some value) p × IsTypedInitializer (declared (at_file_scope h)) t (typed_initial initial)
 
   pub definition_found : (f : FileScope) (n place : ℕ) (value : ℕ × Trees.Expression) (t : CType) (o : AnObject) → slice_get f.objects n ≡ Some o
@@ -240,6 +249,8 @@ module _ (untagged : ℕ → List ℕ) where
       let d = constants_are (declared (moved s x.0.1)) (first value.1) x.0.0 i.0.0 w.0 in
       let v = sound_whole untagged f value.1 s range r (record { complete = c; extends = itself f; same = same }) t k x.0 x.1 in
       let u = subst (λ z. FoundWhole untagged s value.1 t z) (pair_is x.0 i.0 d.0 w.1) v in
+      let typed_so = values_typed untagged f value.1 s range r (record { complete = c; extends = itself f; same = same }) t k x.0 x.1 in
+      let values = subst (λ (z : Typed.Initializer Noted × FileScope). AreValuesTyped (declared (moved s z.1)) z.0) (pair_is x.0 i.0 d.0 w.1) typed_so in
       let step = adds_continues u.grew.extends u.grows in
       let there : slice_get i.0.1.objects n ≡ Some o =
       subst (λ all. slice_get all n ≡ Some o) (sym u.grows.objects.1) (kept f.objects u.grows.objects.0 n o stands) in
@@ -251,6 +262,7 @@ module _ (untagged : ℕ → List ℕ) where
       record {
         after = i.0.1;
         initial = i.0.0;
+        found = x.1 ∙ ap (λ z. Ok z) (pair_is x.0 i.0 d.0 w.1);
         whole = u;
         file_is = file;
         continues = whole;
@@ -264,7 +276,7 @@ module _ (untagged : ℕ → List ℕ) where
                 i.0.0,
                 (
                   b.0,
-                  keeps value.1 s t i.0.0 [] (x.1 ∙ ap (λ z. Ok z) (pair_is x.0 i.0 d.0 w.1)) b.1
+                  keeps.0 keeps.1 keeps.2 value.1 s t i.0.0 [] keeps.3 (x.1 ∙ ap (λ z. Ok z) (pair_is x.0 i.0 d.0 w.1)) b.0 b.1 values
                       (subst (λ file. Rattle.c_erasure.specs.Initializers.AreConstants (declared (moved s file)) i.0.0) w.1 d.1),
                 ),
                 ap (λ (o : AnObject). o.initial) is,

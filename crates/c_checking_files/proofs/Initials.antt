@@ -414,7 +414,7 @@ module _ (untagged : ℕ → List ℕ) where
       }
 
   -- literals in braces
-  braces_bytes : (from : ℕ) (all : Trees.Arguments) (last : Option ℕ) (to : ℕ) → AreBytes (Trees.braces from all last to)
+  pub braces_bytes : (from : ℕ) (all : Trees.Arguments) (last : Option ℕ) (to : ℕ) → AreBytes (Trees.braces from all last to)
   braces_bytes from Trees.no_arguments last to texts h = cc
   braces_bytes from (Trees.and_argument comma (Trees.texts ts) Trees.no_arguments) last to texts e =
       let f : ts ≡ texts = cc in (refl, refl, ap (λ all. first_text all ∷ []) f)
@@ -440,7 +440,7 @@ module _ (untagged : ℕ → List ℕ) where
   braces_bytes from (Trees.and_argument comma (Trees.braces b all c d) more) last to texts h = cc
 
   -- more than one is none
-  many_refused : (from : ℕ) (comma : Option ℕ) (a : Trees.Expression) (c : Option ℕ) (b : Trees.Expression) (more : Trees.Arguments) (s : Scope) (t : CType)
+  pub many_refused : (from : ℕ) (comma : Option ℕ) (a : Trees.Expression) (c : Option ℕ) (b : Trees.Expression) (more : Trees.Arguments) (s : Scope) (t : CType)
       (at : ℕ)
       (z : List Part × FileScope) → one_value from (Trees.and_argument comma a (Trees.and_argument c b more)) s t at ≡ Ok z → ⊥
   unfolding one_value
@@ -465,7 +465,7 @@ module _ (untagged : ℕ → List ℕ) where
   many_refused from comma (Trees.comma a b c) c' b' more s t at z h = cc
   many_refused from comma (Trees.braces b all c d) c' b' more s t at z h = cc
 
-  braces_alone : (from : ℕ) (comma : Option ℕ) (inner : ℕ) (all : Trees.Arguments) (last : Option ℕ) (to : ℕ) (s : Scope) (t : CType) (at : ℕ)
+  pub braces_alone : (from : ℕ) (comma : Option ℕ) (inner : ℕ) (all : Trees.Arguments) (last : Option ℕ) (to : ℕ) (s : Scope) (t : CType) (at : ℕ)
       (z : List Part × FileScope) → one_value from (Trees.and_argument comma (Trees.braces inner all last to) Trees.no_arguments) s t at ≡ Ok z → ⊥
   unfolding one_value
   braces_alone from comma inner all last to s t at z h = cc

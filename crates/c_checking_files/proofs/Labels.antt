@@ -25,7 +25,8 @@ use Rattle.c_checking.proofs.Sound.{sound_constant}
 use Rattle.c_checking.proofs.Growth.{grow_constant}
 use Rattle.c_checking_files.proofs.Parts.{none}
 use Rattle.c_checking_files.proofs.SameLocals.{with_locals, same_find}
-use Rattle.c_checking_files.proofs.Scoped.{IsWithin, ready_for, inside_grows, within_moved}
+use Rattle.c_checking_files.proofs.Scoped.{IsWithin, ready_for, inside_grows, within_moved, inner_of, outside}
+use Rattle.c_checking_files.proofs.Keeping.{keep_constant}
 use Rattle.c_checking_files.proofs.StatementParts.{FoundAs, then_as, change_as, nothing_as}
 
 -- ---- case values, each of which is none of those before
@@ -135,9 +136,10 @@ module _ (untagged : ℕ → List ℕ) (f : FileScope) where
   constant_as a s n w z h =
       let u = marks untagged a in
       let v = sound_constant untagged a s n (ready_for w s.locals ([], sym (append-nil s.locals)) u) z h in
+      let keeps = keep_constant untagged [] a s w.same (λ i. outside w.inside i) z h in
       record {
         found = record {
-          within = within_moved untagged f s u z.1 w v.grew;
+          within = within_moved untagged f s u z.1 w v.grew keeps;
           extends = v.grew.extends;
           more = [];
           locals = sym (append-nil s.locals);
@@ -146,6 +148,7 @@ module _ (untagged : ℕ → List ℕ) (f : FileScope) where
           texts = [];
           parted = none;
           grows = inside_grows s u (spoken a) [] z.1 w.inside w.full (grow_constant untagged a s w.same z h);
+          inner = inner_of f s (moved s z.1) [] keeps;
           holds = λ g l e.
               let same = ap (λ r. constant_at (first a) (value_at (first a) r)) (same_find l a (for_value s)) ∙ h in
               (sound_constant untagged a (with_locals l s) n (ready_for w l e.locals u) z same).holds g e.extends;

@@ -4,6 +4,11 @@ pub mod SameLocals
 pub mod Longer
 pub mod Initials
 pub mod Wholes
+pub mod TypedValues
+pub mod InTime
+pub mod Kept
+pub mod Keeping
+pub mod KeepingInitials
 pub mod Scoped
 pub mod Locals
 pub mod LocalObjects

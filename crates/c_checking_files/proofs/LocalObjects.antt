@@ -33,14 +33,22 @@ use Rattle.c_checking.proofs.Adding.{adds_nothing}
 use Rattle.c_checking_files.proofs.Layouts.{object_stays}
 use Rattle.c_checking_files.proofs.Parts.{Parted, none}
 use Rattle.c_checking_files.proofs.Initials.{ReadFrom}
+use Rattle.c_checking_files.proofs.TypedValues.{values_typed}
 use Rattle.c_checking_files.proofs.Wholes.{typed_initial, sound_whole, constants_are}
 use Rattle.c_checking_files.proofs.Longer.{seen, fits_longer, blocks_longer}
 use Rattle.c_checking_files.proofs.Scoped.{IsWithin, ready_for, AddsInside, inside_grows, within_moved, IsLater, FoundIn}
+use Rattle.std.proofs.Common.{inl, inr}
+use Rattle.std.specs.Prelude.{◌⊎◌}
+use Rattle.c_erasure.specs.Scopes.{AnObject}
+use Rattle.c_checking_files.proofs.InTime.{IsInTime, timely_later}
+use Rattle.c_checking_files.proofs.Kept.{IsALiteral}
+use Rattle.c_checking_files.proofs.KeepingInitials.{keep_initializer}
+use Rattle.c_checking_files.proofs.Scoped.{outside, new_of, IsMadeTyped, IsInner, literal_inner}
 
 -- the initializer of a declarator
-abbrev pub IsValueInRange : Option (ℕ × Trees.Expression) → Type 0
-IsValueInRange None = Unit {0}
-IsValueInRange (Some value) = IsInRange value.1
+abbrev pub IsValueInRange : (ends : List ℕ) → ℕ → Option (ℕ × Trees.Expression) → Type 0
+IsValueInRange ends n None = Unit {0}
+IsValueInRange ends n (Some value) = IsInRange value.1 × IsInTime ends n value.1
 
 abbrev pub typed_initial_if_any : Option (Typed.Initializer Noted) → Option (Typed.Initializer CType)
 typed_initial_if_any i = option_map typed_initial i
@@ -98,6 +106,7 @@ module _ (untagged : ℕ → List ℕ) (f : FileScope) where
     pub texts : List ℕ
     pub parted : Parted k made texts
     pub grows : AddsInside s.file x made g
+    pub literals : (n : ℕ) (o : AnObject) → slice_get g.objects n ≡ Some o → (slice_get s.file.objects n ≡ Some o) ⊎ IsALiteral s.file.file o
     pub holds : (h : FileScope) (l : List ALocal) → IsLater f (moved s g) texts h l → Holds h l
 
   abbrev pub IsInitialIn : Scope → CType → Option (ℕ × Trees.Expression) → Option (Typed.Initializer Noted) → FileScope → List ALocal → Type 0
@@ -109,18 +118,20 @@ module _ (untagged : ℕ → List ℕ) (f : FileScope) where
       (λ g l. IsInitializer a (seen s g l) t z.0 × IsTypedInitializer (declared (seen s g l)) t (typed_initial z.0)) z.1
   whole_in a s t n w o z h =
       let v = sound_whole untagged s.file a s n (ready_for w s.locals ([], sym (append-nil s.locals)) (marks untagged a)) (read_from s w) t o z h in
+      let keeps = keep_initializer untagged [] a s w.same (λ i. outside w.inside i) t z h in
       record {
-        within = within_moved untagged f s (marks untagged a) z.1 w v.grew;
+        within = within_moved untagged f s (marks untagged a) z.1 w v.grew keeps;
         extends = v.grew.extends;
         made = v.made;
         texts = v.texts;
         parted = v.parted;
         grows = inside_grows s (marks untagged a) (spoken a) v.made z.1 w.inside w.full v.grows;
+        literals = new_of keeps;
         holds = λ g l e. v.holds g l e.extends e.locals e.laid e.none_begins;
       }
 
   -- none, or one
-  pub initial_in : (value : Option (ℕ × Trees.Expression)) (s : Scope) (t : CType) → IsValueInRange value → IsWithin untagged f s
+  pub initial_in : (value : Option (ℕ × Trees.Expression)) (s : Scope) (t : CType) → IsValueInRange f.ends (length f.records) value → IsWithin untagged f s
       → is_object (length s.file.records) t ≡ true → (z : Option (Typed.Initializer Noted) × FileScope) → initial_if_any value s t ≡ Ok z
       → FoundInitializer s (spoken_by_value value) (literals_of_value value) (IsInitialIn s t value z.0) z.1
   initial_in None s t n w o z h =
@@ -131,11 +142,12 @@ module _ (untagged : ℕ → List ℕ) (f : FileScope) where
         texts = [];
         parted = none;
         grows = adds_nothing s.file true false false;
+        literals = λ n o h. inl h;
         holds = λ g l e. (refl, tt);
       })
   initial_in (Some value) s t n w o z h =
       let x = bound_ok (initializer value.1 s t) _ z h in
-      let v = whole_in value.1 s t n w o x.0 x.1 in
+      let v = whole_in value.1 s t n.0 w o x.0 x.1 in
       given (λ (z : Option (Typed.Initializer Noted) × FileScope). FoundInitializer s (spoken value.1) (literals value.1)
       (IsInitialIn s t (Some value) z.0) z.1)
       (Some x.0.0, x.0.1) z x.2 (record {
@@ -145,14 +157,15 @@ module _ (untagged : ℕ → List ℕ) (f : FileScope) where
         texts = v.texts;
         parted = v.parted;
         grows = v.grows;
+        literals = v.literals;
         holds = λ g l e. let b = v.holds g l e in ((x.0.0, refl, b.0), b.1);
       })
 
   abbrev pub AreConstantsIn : Scope → CType → Option (ℕ × Trees.Expression) → Typed.Initializer Noted → FileScope → List ALocal → Type 0
-  AreConstantsIn s t value i g l = HasConstants (seen s g l) t value i
+  AreConstantsIn s t value i g l = HasConstants (seen s g l) t value i × IsMadeTyped (declared (seen s g l)) t i
 
   -- constants, or none
-  pub constants_found : (value : Option (ℕ × Trees.Expression)) (s : Scope) (t : CType) → IsValueInRange value → IsWithin untagged f s
+  pub constants_found : (value : Option (ℕ × Trees.Expression)) (s : Scope) (t : CType) → IsValueInRange f.ends (length f.records) value → IsWithin untagged f s
       → is_object (length s.file.records) t ≡ true → (z : Typed.Initializer Noted × FileScope) → constants_if_any value s t ≡ Ok z
       → FoundInitializer s (spoken_by_value value) (literals_of_value value) (AreConstantsIn s t value z.0) z.1
   constants_found None s t n w o z h =
@@ -163,11 +176,12 @@ module _ (untagged : ℕ → List ℕ) (f : FileScope) where
         texts = [];
         parted = none;
         grows = adds_nothing s.file true false false;
-        holds = λ g l e. refl;
+        literals = λ n o h. inl h;
+        holds = λ g l e. (refl, inl refl);
       })
   constants_found (Some value) s t n w o z h =
       let x = bound_ok (initializer value.1 s t) _ z h in
-      let v = whole_in value.1 s t n w o x.0 x.1 in
+      let v = whole_in value.1 s t n.0 w o x.0 x.1 in
       let c = with_file_ok x.0.1 (constants_in (declared (moved s x.0.1)) (first value.1) x.0.0) z x.2 in
       let k = constants_are (declared (moved s x.0.1)) (first value.1) x.0.0 z.0 c.0 in
       moved_to c.1 (record {
@@ -177,11 +191,17 @@ module _ (untagged : ℕ → List ℕ) (f : FileScope) where
         texts = v.texts;
         parted = v.parted;
         grows = v.grows;
+        literals = v.literals;
         holds = λ g l e.
             let b = v.holds g l e in
             let i = subst (λ i. IsInitializer value.1 (seen s g l) t i) k.0 b.0 in
             let d = subst (AreConstants (declared (moved s x.0.1))) (sym k.0) k.1 in
-            (i, subst (AreConstants (declared (seen s g l))) k.0 (e.constants x.0.1 v.within.extends e.extends value.1 s t x.0.0 l x.1 b.1 d));
+            let timely = timely_later v.within.extends value.1 n.1 in
+            let values = values_typed untagged s.file value.1 s n.0 (ready_for w s.locals ([], sym (append-nil s.locals)) (marks untagged value.1)) (read_from s w)
+            t o x.0 x.1 in
+            let all = e.constants x.0.1 v.within.extends e.extends v.within.complete v.within.whole value.1 s t x.0.0 l timely x.1 b.0 b.1 values d in
+            let there = subst (AreConstants (declared (seen s g l))) k.0 all in
+            ((i, there), inr (subst (λ i. IsTypedInitializer (declared (seen s g l)) t (typed_initial i)) k.0 b.1, there));
       })
     where
       moved_to : {g : FileScope} → g ≡ z.1 → FoundInitializer s (spoken value.1) (literals value.1) (AreConstantsIn s t (Some value) z.0) g
@@ -201,6 +221,7 @@ module _ (untagged : ℕ → List ℕ) (f : FileScope) where
       ends_stand = λ j n right h. cc;
     };
     complete = w.complete;
+    whole = w.whole;
     extends = w.extends;
     same = w.same;
   }
@@ -216,7 +237,7 @@ module _ (untagged : ℕ → List ℕ) (f : FileScope) where
     pub complete : is_object (length g.records) t ≡ true
     pub is_typed : IsInitialized (declared (seen s g l)) t (typed_initial_if_any initial)
 
-  pub local_found : (s : Scope) (d : Trees.InitDeclarator) (x : Spelling) (t : CType) → IsValueInRange d.value → IsWithin untagged f s
+  pub local_found : (s : Scope) (d : Trees.InitDeclarator) (x : Spelling) (t : CType) → IsValueInRange f.ends (length f.records) d.value → IsWithin untagged f s
       → is_object (length s.file.records) t ≡ true → (z : Statements × Scope) → declare_local s d x t ≡ Ok z
       → FoundIn untagged f s (spoken_by_value d.value) (literals_of_value d.value) (IsDeclared s d x t z.0 z.1) (all_declared_by z.0) z.1
   local_found s d x t n w o z h =
@@ -238,6 +259,7 @@ module _ (untagged : ℕ → List ℕ) (f : FileScope) where
         texts = v.texts;
         parted = v.parted;
         grows = v.grows;
+        inner = λ k o e. by_part k o (v.literals k o e);
         holds = λ g l e.
             let m = v.holds g l e in
             record {
@@ -254,5 +276,10 @@ module _ (untagged : ℕ → List ℕ) (f : FileScope) where
       })) in
       r i.2
     where
+      by_part : {after : Scope} {texts : List ℕ} (k : ℕ) (o : AnObject) → (slice_get s.file.objects k ≡ Some o) ⊎ IsALiteral s.file.file o
+          → (slice_get s.file.objects k ≡ Some o) ⊎ IsInner f after texts o
+      by_part k o (inl e) = inl e
+      by_part {after} {texts} k o (inr e) = inr (literal_inner f after texts s.file.file o e)
+
       made_of : Option (Typed.Initializer Noted) × Scope → Performed Statements
       made_of i = Ok (Typed.and_statement (Typed.declare (length s.locals) i.0) Typed.no_statements, i.1)

@@ -33,7 +33,9 @@ use Rattle.c_checking.proofs.Growth.{grow_steps}
 use Rattle.c_checking_files.proofs.Layouts.{object_stays, size_stays}
 use Rattle.c_checking_files.proofs.SameLocals.{with_locals, same_derivations}
 use Rattle.c_checking_files.proofs.Longer.{seen, GoesOn}
-use Rattle.c_checking_files.proofs.Scoped.{IsWithin, ready_for, AddsInside, inside_grows, within_moved}
+use Rattle.c_checking_files.proofs.Scoped.{IsWithin, ready_for, AddsInside, inside_grows, within_moved, AreInner, inner_of, outside}
+use Rattle.c_checking_files.proofs.Kept.{keeps_mention}
+use Rattle.c_checking_files.proofs.Keeping.{keep_steps}
 
 -- ---- types of objects
 
@@ -93,6 +95,7 @@ module _ (untagged : ℕ → List ℕ) (f : FileScope) where
     pub within : IsWithin untagged f (moved s z.1)
     pub extends : Extends s.file z.1
     pub complete : is_object (length z.1.records) z.0 ≡ true
+    pub inner : AreInner f s (moved s z.1) []
     pub grows : AddsInside s.file (first_declarator d.declarator x.from ∷ spoken_of_declarator d.declarator) [] z.1
     pub holds : (g : FileScope) (l : List ALocal) → Extends z.1 g → GoesOn s.locals l → IsVariable (seen s g l) base d x z.0
 
@@ -106,13 +109,16 @@ module _ (untagged : ℕ → List ℕ) (f : FileScope) where
       let shape = bound_with steps.0.1 (derived steps.0.1.records steps.0.0 base) _ z steps.2 in
       let t = bound_with steps.0.1 (sized_in steps.0.1.records x.from shape.0 d.value) _ z shape.2 in
       let v = bound_with steps.0.1 (variable_type steps.0.1.records (complete s x.from) x.from t.0) _ z t.2 in
+      let keeps = keeps_mention s (mentions_in s.file) Object v.0 at
+      (keep_steps untagged [] d.declarator s w.same (λ i. outside w.inside i) steps.0 steps.1) in
       let k = new_is s (Some x) (Ok (v.0, with_mention s (mentions_in s.file) Object v.0 at steps.0.1)) z v.2 in
       let c = variable_is steps.0.1.records (complete s x.from) x.from t.0 v.0 v.1 in
       given (FoundVariable s base d x) (v.0, with_mention s (mentions_in s.file) Object v.0 at steps.0.1) z k.1 (record {
         within = within_moved untagged f s u (with_mention s (mentions_in s.file) Object v.0 at steps.0.1) w
-            (mentioned s (mentions_in s.file) Object v.0 at own.grew);
+            (mentioned s (mentions_in s.file) Object v.0 at own.grew) keeps;
         extends = (mentioned s (mentions_in s.file) Object v.0 at own.grew).extends;
         complete = object_stays (before_mention s steps.0.1 _ (mentions_in s.file) Object v.0 at (itself _)) v.0 c.1;
+        inner = inner_of f s (moved s (with_mention s (mentions_in s.file) Object v.0 at steps.0.1)) [] keeps;
         grows = inside_grows s u (at ∷ spoken_of_declarator d.declarator) [] (with_mention s (mentions_in s.file) Object v.0 at steps.0.1) w.inside w.full
             (mention_before s Object v.0 at (grow_steps untagged d.declarator s w.same steps.0 steps.1));
         holds = λ g l e p.

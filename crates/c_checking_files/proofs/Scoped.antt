@@ -11,6 +11,7 @@ use Rattle.c_erasure.specs.Initializers.{AreConstants}
 use Rattle.c_erasure.specs.Noted.{Noted}
 use Rattle.c_checking.specs.Initializers.{initializer}
 use Rattle.c_checking_files.proofs.Wholes.{typed_initial}
+use Rattle.c_checking_files.proofs.TypedValues.{AreValuesTyped}
 use Rattle.c_ast.specs.Places.{first}
 use Rattle.c_erasure.specs.Erasure.{Erases}
 use Rattle.c_erasure.specs.Files.{count_up}
@@ -32,6 +33,24 @@ use Rattle.c_checking.proofs.Adding.{Adds, Grows, makes_none, adds_nothing, adds
 use Rattle.c_checking.proofs.FoundTypes.{ready_inside, added_inside}
 use Rattle.c_checking.proofs.Sound.{sound_value_of}
 use Rattle.c_checking.proofs.Growth.{grow_value_of}
+use Rattle.std.proofs.Common.{◌<◌, inl, inr}
+use Rattle.std.proofs.lemmas.List.Elements.{All-cons, All-nil}
+use Rattle.std.specs.Prelude.{◌⊎◌, Some, slice_get}
+use Rattle.c_types.specs.declared.ty.IntKind.TheVariants.{Char}
+use Rattle.c_types.specs.Objects.{is_object}
+use Rattle.c_types.specs.Types.{integer, array}
+use Rattle.c_ast.specs.declared.words.Spelling.{Spelling}
+use Rattle.c_typed.specs.Parts.{itself as itself_part}
+use Rattle.c_typed.specs.Typed.{Declared}
+use Rattle.c_typed.specs.TypedStatements.{IsTypedPart}
+use Rattle.c_erasure.specs.Erasure.{literal_of, literal_object}
+use Rattle.c_erasure.specs.Initializers.{Part, HasConstant, IsInitializer}
+use Rattle.c_erasure.specs.Scopes.{AnObject, at_file_scope}
+use Rattle.c_checking.proofs.Extends.{one_of_both}
+use Rattle.c_checking_files.proofs.Layouts.{object_stays}
+use Rattle.c_checking_files.proofs.InTime.{IsTimely}
+use Rattle.c_checking_files.proofs.Kept.{Keeps, AreObjectsWhole, IsALiteral}
+use Rattle.c_checking_files.proofs.Keeping.{keep_value_of, literal_is_whole}
 use Rattle.c_checking_files.proofs.Layouts.{IsLaid}
 use Rattle.c_checking_files.proofs.Parts.{Parted, none, all_made, parted_then, NoneBegins, none_left, none_right}
 use Rattle.c_checking_files.proofs.Longer.{seen, GoesOn, goes_further, ready_longer}
@@ -44,6 +63,7 @@ pub record IsWithin (untagged : ℕ → List ℕ) (f : FileScope) (s : Scope) : 
   pub full : s.purpose ≡ in_full
   pub ready : IsReady s.file s.locals s.blocks true []
   pub complete : AreComplete s.file.records
+  pub whole : AreObjectsWhole s.file.records s.file.objects
   pub extends : Extends f s.file
   pub same : s.file.untagged ≡ untagged
 
@@ -52,6 +72,9 @@ pub ready_for : {untagged : ℕ → List ℕ} {f : FileScope} {s : Scope} → Is
 ready_for {s} w l p u =
     ready_inside w.inside [] u
     (subst (λ b. IsReady s.file l s.blocks b []) (sym w.inside) (ready_longer p w.ready))
+
+pub outside : {P : Type 0} {b : Bool} → b ≡ true → b ≡ false → P
+outside e f = let true_is_false : true ≡ false = sym e ∙ f in cc
 
 -- inside nothing is declared at file scope
 abbrev pub AddsInside : FileScope → (types made : List ℕ) → FileScope → Type 0
@@ -76,10 +99,12 @@ grown_none e p = omega (arith, e, p.counted)
 
 -- ---- what is asked of a later file and its locals
 
--- the constants of an initializer that is found have their values in a later file too
+-- the constants of an initializer that is found, and asks for records in time, have their values in a later file too
 abbrev pub KeepsConstants : FileScope → FileScope → Type 0
-KeepsConstants f g = (a : Trees.Expression) (s : Scope) (t : CType) (i : Typed.Initializer Noted) (l : List ALocal) → initializer a s t ≡ Ok (i, f)
-    → IsTypedInitializer (declared (seen s g l)) t (typed_initial i) → AreConstants (declared (moved s f)) i → AreConstants (declared (seen s g l)) i
+KeepsConstants f g = AreComplete f.records → AreObjectsWhole f.records f.objects → (a : Trees.Expression) (s : Scope) (t : CType)
+    (i : Typed.Initializer Noted) (l : List ALocal) → IsTimely f a → initializer a s t ≡ Ok (i, f)
+    → IsInitializer a (seen s g l) t i → IsTypedInitializer (declared (seen s g l)) t (typed_initial i) → AreValuesTyped (declared (moved s f)) i → AreConstants (declared (moved s f)) i
+    → AreConstants (declared (seen s g l)) i
 
 pub record IsLater (f : FileScope) (after : Scope) (texts : List ℕ) (g : FileScope) (l : List ALocal) : Type 0 where
   pub extends : Extends after.file g
@@ -87,6 +112,75 @@ pub record IsLater (f : FileScope) (after : Scope) (texts : List ℕ) (g : FileS
   pub laid : IsLaid g
   pub none_begins : NoneBegins g texts
   pub constants : (h : FileScope) → Extends f h → Extends h g → KeepsConstants h g
+
+-- ---- objects that a function makes
+
+abbrev pub IsMadeTyped : Declared → CType → Typed.Initializer Noted → Type 0
+IsMadeTyped d t i = (i ≡ Typed.parts []) ⊎ (IsTypedInitializer d t (typed_initial i) × AreConstants d i)
+
+-- one that no other file can name, and that holds constants of its type
+pub record IsInner (f : FileScope) (after : Scope) (texts : List ℕ) (o : AnObject) : Type 0 where
+  pub linked : o.is_linked ≡ false
+  pub initial : Typed.Initializer Noted
+  pub initial_is : o.initial ≡ Some initial
+  pub whole : is_object (length after.file.records) o.ty ≡ true
+  pub typed : (g : FileScope) (l : List ALocal) → IsLater f after texts g l → IsMadeTyped (declared (with_locals l (at_file_scope g))) o.ty initial
+
+abbrev pub AreInner : FileScope → Scope → Scope → List ℕ → Type 0
+AreInner f s after texts = (n : ℕ) (o : AnObject) → slice_get after.file.objects n ≡ Some o
+    → (slice_get s.file.objects n ≡ Some o) ⊎ IsInner f after texts o
+
+-- what is new where a part of the text keeps the rest
+pub new_of : {f g : FileScope} {i : Bool} {u : List Mark} → Keeps f i u g → (n : ℕ) (o : AnObject) → slice_get g.objects n ≡ Some o
+    → (slice_get f.objects n ≡ Some o) ⊎ IsALiteral f.file o
+new_of {f} {g} p n o e = by_part (one_of_both f.objects p.objects.0 n o (subst (λ all. slice_get all n ≡ Some o) p.objects.1 e))
+  where
+    by_part : (slice_get f.objects n ≡ Some o) ⊎ ((j : ℕ) × (n ≡ length f.objects + j) × (slice_get p.objects.0 j ≡ Some o))
+        → (slice_get f.objects n ≡ Some o) ⊎ IsALiteral f.file o
+    by_part (inl h) = inl h
+    by_part (inr h) = inr (p.objects.2 h.0 o h.2)
+
+pub literal_typed : (d : Declared) (file at : ℕ) (all : List Spelling)
+    → IsMadeTyped d (literal_object (record { file = file; at = at }) (literal_of all)).ty
+    (Typed.parts (record { offset = 0; value = Typed.text (literal_of all) } ∷ []))
+literal_typed d file at all =
+    let t = array (integer Char) (length (literal_of all)) in
+    let part : Typed.Part CType = record { offset = 0; value = Typed.text (literal_of all) } in
+    inr (
+      (
+        refl,
+        All-cons (IsTypedPart d t) part [] (t, itself_part t, (Char, length (literal_of all), refl, refl, omega arith)) (All-nil (IsTypedPart d t)),
+        (All-nil (λ (next : Typed.Part CType). 0 < next.offset), tt),
+      ),
+      All-cons (λ (part : Part). HasConstant d part.value) (record { offset = 0; value = Typed.text (literal_of all) }) [] tt
+          (All-nil (λ (part : Part). HasConstant d part.value)),
+    )
+
+pub literal_inner : (f : FileScope) (after : Scope) (texts : List ℕ) (file : ℕ) (o : AnObject) → IsALiteral file o → IsInner f after texts o
+literal_inner f after texts file o h = subst (IsInner f after texts) (sym h.2) (record {
+  linked = refl;
+  initial = Typed.parts (record { offset = 0; value = Typed.text (literal_of h.1) } ∷ []);
+  initial_is = refl;
+  whole = literal_is_whole (length after.file.records) h.1;
+  typed = λ g l e. literal_typed (declared (with_locals l (at_file_scope g))) file h.0 h.1;
+})
+
+pub inner_of : (f : FileScope) (s after : Scope) (texts : List ℕ) {i : Bool} {u : List Mark} → Keeps s.file i u after.file → AreInner f s after texts
+inner_of f s after texts k n o e = by_part (new_of k n o e)
+  where
+    by_part : (slice_get s.file.objects n ≡ Some o) ⊎ IsALiteral s.file.file o → (slice_get s.file.objects n ≡ Some o) ⊎ IsInner f after texts o
+    by_part (inl h) = inl h
+    by_part (inr h) = inr (literal_inner f after texts s.file.file o h)
+
+pub inner_later : (f : FileScope) (m n : Scope) (u v : List ℕ) → Extends m.file n.file
+    → ((g : FileScope) (l : List ALocal) → IsLater f n v g l → IsLater f m u g l) → (o : AnObject) → IsInner f m u o → IsInner f n v o
+inner_later f m n u v p into o h = record {
+  linked = h.linked;
+  initial = h.initial;
+  initial_is = h.initial_is;
+  whole = object_stays p o.ty h.whole;
+  typed = λ g l e. h.typed g l (into g l e);
+}
 
 -- ---- locals are numbered in their order
 
@@ -109,6 +203,7 @@ module _ (untagged : ℕ → List ℕ) (f : FileScope) where
     pub texts : List ℕ
     pub parted : Parted k made texts
     pub grows : AddsInside s.file x made after.file
+    pub inner : AreInner f s after texts
     pub holds : (g : FileScope) (l : List ALocal) → IsLater f after texts g l → Holds g l
 
   -- one part after another
@@ -130,23 +225,37 @@ module _ (untagged : ℕ → List ℕ) (f : FileScope) where
     texts = p.texts ++ q.texts;
     parted = parted_then p.parted q.parted;
     grows = adds_then p.grows q.grows;
-    holds = λ g l h.
-        both g l h.extends h.laid h.locals
-        (p.holds g l (record {
-          extends = further q.extends h.extends;
-          locals = goes_further m.locals n.locals l (q.more, q.locals) h.locals;
-          laid = h.laid;
-          none_begins = none_left g p.texts q.texts h.none_begins;
-          constants = h.constants;
-        }))
-        (q.holds g l (record {
-          extends = h.extends;
-          locals = h.locals;
-          laid = h.laid;
-          none_begins = none_right g p.texts q.texts h.none_begins;
-          constants = h.constants;
-        }));
+    inner = λ k o e. by_part k o (q.inner k o e);
+    holds = λ g l h. both g l h.extends h.laid h.locals (p.holds g l (first g l h)) (q.holds g l (second g l h));
   }
+    where
+      first : (g : FileScope) (l : List ALocal) → IsLater f n (p.texts ++ q.texts) g l → IsLater f m p.texts g l
+      first g l h = record {
+        extends = further q.extends h.extends;
+        locals = goes_further m.locals n.locals l (q.more, q.locals) h.locals;
+        laid = h.laid;
+        none_begins = none_left g p.texts q.texts h.none_begins;
+        constants = h.constants;
+      }
+
+      second : (g : FileScope) (l : List ALocal) → IsLater f n (p.texts ++ q.texts) g l → IsLater f n q.texts g l
+      second g l h = record {
+        extends = h.extends;
+        locals = h.locals;
+        laid = h.laid;
+        none_begins = none_right g p.texts q.texts h.none_begins;
+        constants = h.constants;
+      }
+
+      before : (k : ℕ) (o : AnObject) → (slice_get s.file.objects k ≡ Some o) ⊎ IsInner f m p.texts o
+          → (slice_get s.file.objects k ≡ Some o) ⊎ IsInner f n (p.texts ++ q.texts) o
+      before k o (inl e) = inl e
+      before k o (inr e) = inr (inner_later f m n p.texts (p.texts ++ q.texts) q.extends first o e)
+
+      by_part : (k : ℕ) (o : AnObject) → (slice_get m.file.objects k ≡ Some o) ⊎ IsInner f n q.texts o
+          → (slice_get s.file.objects k ≡ Some o) ⊎ IsInner f n (p.texts ++ q.texts) o
+      by_part k o (inl e) = before k o (p.inner k o e)
+      by_part k o (inr e) = inr (inner_later f n n q.texts (p.texts ++ q.texts) (itself n.file) second o e)
 
   -- what holds of one part, said in another way
   pub as_said : (s after : Scope) (x k : List ℕ) (A B : FileScope → List ALocal → Type 0) (i j : List ℕ) → FoundIn s x k A i after → i ≡ j
@@ -161,6 +270,7 @@ module _ (untagged : ℕ → List ℕ) (f : FileScope) where
     texts = p.texts;
     parted = p.parted;
     grows = p.grows;
+    inner = p.inner;
     holds = λ g l h. is g l h.extends h.laid h.locals (p.holds g l h);
   }
 
@@ -176,12 +286,14 @@ module _ (untagged : ℕ → List ℕ) (f : FileScope) where
     texts = [];
     parted = none;
     grows = adds_nothing s.file true false false;
+    inner = λ n o h. inl h;
     holds = λ g l h. is g l;
   }
 
   -- the scope that a part of an expression leaves
-  pub within_moved : (s : Scope) (u : List Mark) (g : FileScope) → IsWithin untagged f s → Grew s u g → IsWithin untagged f (moved s g)
-  within_moved s u g w p = record {
+  pub within_moved : (s : Scope) (u : List Mark) (g : FileScope) → IsWithin untagged f s → Grew s u g → Keeps s.file s.is_inside u g
+      → IsWithin untagged f (moved s g)
+  within_moved s u g w p k = record {
     inside = w.inside;
     full = w.full;
     ready = record {
@@ -190,6 +302,7 @@ module _ (untagged : ℕ → List ℕ) (f : FileScope) where
       ends_stand = λ j n right h. cc;
     };
     complete = subst AreComplete (sym (records_same p.extends (grown_none (added_inside w.inside u) p))) w.complete;
+    whole = k.whole w.whole;
     extends = further w.extends p.extends;
     same = p.extends.untagged ∙ w.same;
   }
@@ -209,7 +322,8 @@ module _ (untagged : ℕ → List ℕ) (f : FileScope) where
   value_in a s n w z h =
       let x = bound_ok (value_at (first a) (find a s)) _ z h in
       let own = sound_value_of untagged a s n (ready_for w s.locals ([], sym (append-nil s.locals)) (marks untagged a)) (first a) x.0 x.1 in
-      let after = within_moved s (marks untagged a) x.0.1 w own.grew in
+      let keeps = keep_value_of untagged [] a s w.same (λ i. outside w.inside i) (first a) x.0 x.1 in
+      let after = within_moved s (marks untagged a) x.0.1 w own.grew keeps in
       given (λ (z : Expression × Scope). FoundBeside s (spoken a) (literals a) (IsFoundValue a s z.0) [] z.1) (x.0.0, moved s x.0.1) z x.2 (record {
         found = record {
           within = after;
@@ -221,6 +335,7 @@ module _ (untagged : ℕ → List ℕ) (f : FileScope) where
           texts = [];
           parted = all_made (literals a);
           grows = inside_grows s (marks untagged a) (spoken a) (literals a) x.0.1 w.inside w.full (grow_value_of untagged a s w.same (first a) x.0 x.1);
+          inner = inner_of f s (moved s x.0.1) [] keeps;
           holds = λ g l h.
               let e : value_at (first a) (find a (with_locals l s)) ≡ Ok x.0 = ap (value_at (first a)) (same_find l a s) ∙ x.1 in
               (sound_value_of untagged a (with_locals l s) n (ready_for w l h.locals (marks untagged a)) (first a) x.0 e).holds g h.extends;

@@ -30,40 +30,40 @@ abbrev pub IsInRangeIfAny : Option Trees.Expression → Type 0
 IsInRangeIfAny None = Unit {0}
 IsInRangeIfAny (Some a) = IsInRange a
 
-abbrev pub IsStartInRange : Trees.ForStart → Type 0
-IsStartInRange (Trees.starts_with a semicolon) = IsInRangeIfAny a
-IsStartInRange (Trees.declares d) = IsDeclarationInRange d
+abbrev pub IsStartInRange : (ends : List ℕ) → ℕ → Trees.ForStart → Type 0
+IsStartInRange ends n (Trees.starts_with a semicolon) = IsInRangeIfAny a
+IsStartInRange ends n (Trees.declares d) = IsDeclarationInRange ends n d
 
 abbrev mutual
-  pub IsStatementInRange : Trees.Statement → Type 0
-  IsStatementInRange (Trees.block left items right) = AreItemsInRange items
-  IsStatementInRange (Trees.evaluate a semicolon) = IsInRangeIfAny a
-  IsStatementInRange (Trees.when at left a right one) = IsInRange a × IsStatementInRange one
-  IsStatementInRange (Trees.choose at left a right one middle other) = IsInRange a × IsStatementInRange one × IsStatementInRange other
-  IsStatementInRange (Trees.while at left a right body) = IsInRange a × IsStatementInRange body
-  IsStatementInRange (Trees.do_while at body while left a right semicolon) = IsInRange a × IsStatementInRange body
-  IsStatementInRange (Trees.for at left start test semicolon step right body) =
-      IsStartInRange start × IsInRangeIfAny test × IsInRangeIfAny step × IsStatementInRange body
-  IsStatementInRange (Trees.switch at left a right begin items end) = IsInRange a × AreSwitchItemsInRange items
-  IsStatementInRange (Trees.break at semicolon) = Unit {0}
-  IsStatementInRange (Trees.continue at semicolon) = Unit {0}
-  IsStatementInRange (Trees.return at a semicolon) = IsInRangeIfAny a
+  pub IsStatementInRange : (ends : List ℕ) → ℕ → Trees.Statement → Type 0
+  IsStatementInRange ends n (Trees.block left items right) = AreItemsInRange ends n items
+  IsStatementInRange ends n (Trees.evaluate a semicolon) = IsInRangeIfAny a
+  IsStatementInRange ends n (Trees.when at left a right one) = IsInRange a × IsStatementInRange ends n one
+  IsStatementInRange ends n (Trees.choose at left a right one middle other) = IsInRange a × IsStatementInRange ends n one × IsStatementInRange ends n other
+  IsStatementInRange ends n (Trees.while at left a right body) = IsInRange a × IsStatementInRange ends n body
+  IsStatementInRange ends n (Trees.do_while at body while left a right semicolon) = IsInRange a × IsStatementInRange ends n body
+  IsStatementInRange ends n (Trees.for at left start test semicolon step right body) =
+      IsStartInRange ends n start × IsInRangeIfAny test × IsInRangeIfAny step × IsStatementInRange ends n body
+  IsStatementInRange ends n (Trees.switch at left a right begin items end) = IsInRange a × AreSwitchItemsInRange ends n items
+  IsStatementInRange ends n (Trees.break at semicolon) = Unit {0}
+  IsStatementInRange ends n (Trees.continue at semicolon) = Unit {0}
+  IsStatementInRange ends n (Trees.return at a semicolon) = IsInRangeIfAny a
 
-  pub IsItemInRange : Trees.BlockItem → Type 0
-  IsItemInRange (Trees.local d) = IsDeclarationInRange d
-  IsItemInRange (Trees.statement a) = IsStatementInRange a
+  pub IsItemInRange : (ends : List ℕ) → ℕ → Trees.BlockItem → Type 0
+  IsItemInRange ends n (Trees.local d) = IsDeclarationInRange ends n d
+  IsItemInRange ends n (Trees.statement a) = IsStatementInRange ends n a
 
-  pub AreItemsInRange : Trees.BlockItems → Type 0
-  AreItemsInRange Trees.no_block_items = Unit {0}
-  AreItemsInRange (Trees.and_block_item e more) = IsItemInRange e × AreItemsInRange more
+  pub AreItemsInRange : (ends : List ℕ) → ℕ → Trees.BlockItems → Type 0
+  AreItemsInRange ends n Trees.no_block_items = Unit {0}
+  AreItemsInRange ends n (Trees.and_block_item e more) = IsItemInRange ends n e × AreItemsInRange ends n more
 
-  pub IsSwitchItemInRange : Trees.SwitchItem → Type 0
-  IsSwitchItemInRange (Trees.local_switch_item d) = IsDeclarationInRange d
-  IsSwitchItemInRange (Trees.labelled labels a) = AreLabelsInRange labels × IsStatementInRange a
+  pub IsSwitchItemInRange : (ends : List ℕ) → ℕ → Trees.SwitchItem → Type 0
+  IsSwitchItemInRange ends n (Trees.local_switch_item d) = IsDeclarationInRange ends n d
+  IsSwitchItemInRange ends n (Trees.labelled labels a) = AreLabelsInRange labels × IsStatementInRange ends n a
 
-  pub AreSwitchItemsInRange : Trees.SwitchItems → Type 0
-  AreSwitchItemsInRange Trees.no_switch_items = Unit {0}
-  AreSwitchItemsInRange (Trees.and_switch_item item more) = IsSwitchItemInRange item × AreSwitchItemsInRange more
+  pub AreSwitchItemsInRange : (ends : List ℕ) → ℕ → Trees.SwitchItems → Type 0
+  AreSwitchItemsInRange ends n Trees.no_switch_items = Unit {0}
+  AreSwitchItemsInRange ends n (Trees.and_switch_item item more) = IsSwitchItemInRange ends n item × AreSwitchItemsInRange ends n more
 
 -- ---- locals and labels stay in the tree without notes
 

@@ -1,5 +1,6 @@
 -- What is found for declarations in blocks, and for parts of statements (C99 6.7, 6.8).
 use Rattle.std.proofs.Common.{◌≡◌, ◌≢◌, ℕ, Bool, true, false, refl, sym, ap, ◌∙◌, subst, List, [], ◌∷◌, ◌++◌, append-nil}
+use Rattle.std.proofs.Common.{length}
 use Rattle.std.proofs.Common.{inl, inr}
 use Rattle.std.specs.Prelude.{◌⊎◌, ◌^◌, Some, Ok}
 use Rattle.std.proofs.Math.Nat.{mod-mod}
@@ -37,6 +38,11 @@ use Rattle.c_checking.proofs.Growth.{grow_base}
 use Rattle.c_checking_files.proofs.Parts.{none}
 use Rattle.c_checking_files.proofs.SameLocals.{with_locals, same_one_of}
 use Rattle.c_checking_files.proofs.Longer.{seen, blocks_longer}
+use Rattle.c_erasure.specs.Scopes.{AnObject}
+use Rattle.std.specs.Prelude.{slice_get}
+use Rattle.c_checking.proofs.Extends.{itself}
+use Rattle.c_checking_files.proofs.Keeping.{keep_base}
+use Rattle.c_checking_files.proofs.Scoped.{IsLater, IsInner, inner_of, inner_later, outside}
 use Rattle.c_checking_files.proofs.Scoped.{IsWithin, ready_for, inside_grows, within_moved, FoundIn, then_in, as_said, nothing_in, FoundBeside, value_in}
 use Rattle.c_checking_files.proofs.Declarations.{IsDeclarationInRange, static_places, made_same, AreTypedIn, declarators_found}
 
@@ -189,6 +195,7 @@ module _ (untagged : ℕ → List ℕ) (f : FileScope) where
     inside = refl;
     full = w.full;
     ready = record { names_fit = w.ready.names_fit; blocks_fit = (tt, w.ready.blocks_fit); ends_stand = λ j n right h. cc };
+    whole = w.whole;
     complete = w.complete;
     extends = w.extends;
     same = w.same;
@@ -208,6 +215,7 @@ module _ (untagged : ℕ → List ℕ) (f : FileScope) where
         ends_stand = λ j m right h. cc;
       };
       complete = p.within.complete;
+      whole = p.within.whole;
       extends = p.within.extends;
       same = p.within.same;
     };
@@ -219,9 +227,17 @@ module _ (untagged : ℕ → List ℕ) (f : FileScope) where
     texts = p.texts;
     parted = p.parted;
     grows = p.grows;
-    holds = λ g l e.
-        p.holds g l (record { extends = e.extends; locals = e.locals; laid = e.laid; none_begins = e.none_begins; constants = e.constants });
+    inner = λ k o e. by_part k o (p.inner k o e);
+    holds = λ g l e. p.holds g l (as_later g l e);
   }
+    where
+      as_later : (g : FileScope) (l : List ALocal) → IsLater f (leaving s n) p.texts g l → IsLater f n p.texts g l
+      as_later g l e = record { extends = e.extends; locals = e.locals; laid = e.laid; none_begins = e.none_begins; constants = e.constants }
+
+      by_part : (k : ℕ) (o : AnObject) → (slice_get s.file.objects k ≡ Some o) ⊎ IsInner f n p.texts o
+          → (slice_get s.file.objects k ≡ Some o) ⊎ IsInner f (leaving s n) p.texts o
+      by_part k o (inl e) = inl e
+      by_part k o (inr e) = inr (inner_later f n (leaving s n) p.texts p.texts (itself n.file) as_later o e)
 
   -- ---- declarations
 
@@ -231,8 +247,9 @@ module _ (untagged : ℕ → List ℕ) (f : FileScope) where
   base_in specs s n w b h =
       let u = marks_of_specifiers untagged specs in
       let v = sound_base untagged specs s n (ready_for w s.locals ([], sym (append-nil s.locals)) u) (first_specifiers specs) b h in
+      let keeps = keep_base untagged [] specs s w.same (λ i. outside w.inside i) (first_specifiers specs) b h in
       record {
-        within = within_moved untagged f s u b.1 w v.grew;
+        within = within_moved untagged f s u b.1 w v.grew keeps;
         extends = v.grew.extends;
         more = [];
         locals = sym (append-nil s.locals);
@@ -241,6 +258,7 @@ module _ (untagged : ℕ → List ℕ) (f : FileScope) where
         texts = [];
         parted = none;
         grows = inside_grows s u (spoken_of_specifiers specs) [] b.1 w.inside w.full (grow_base untagged specs s w.same (first_specifiers specs) b h);
+        inner = inner_of f s (moved s b.1) [] keeps;
         holds = λ g l e.
             let same = ap (base_type (base_kind specs) (first_specifiers specs) s.file) (same_one_of l specs s) ∙ h in
             (sound_base untagged specs (with_locals l s) n (ready_for w l e.locals u) (first_specifiers specs) b same).holds g e.extends;
@@ -250,7 +268,7 @@ module _ (untagged : ℕ → List ℕ) (f : FileScope) where
     pub declares : IsLocalDeclaration d (seen s g l) all (seen after g l)
     pub is_typed : AreTypedIn untagged f all g l s
 
-  pub declaration_found : (d : Trees.Declaration) (s : Scope) → IsDeclarationInRange d → IsWithin untagged f s → (z : Statements × Scope)
+  pub declaration_found : (d : Trees.Declaration) (s : Scope) → IsDeclarationInRange f.ends (length f.records) d → IsWithin untagged f s → (z : Statements × Scope)
       → local_declaration d s ≡ Ok z
       → FoundIn untagged f s (spoken_of_declaration d) (made_by_declaration d) (IsDeclaration d s z.0 z.1) (all_declared_by z.0) z.1
   declaration_found d s n w z h =

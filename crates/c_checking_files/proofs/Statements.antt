@@ -2,6 +2,7 @@
 use Rattle.std.proofs.Common.{◌≡◌, ℕ, ◌+◌, ◌≤◌, Bool, true, false, refl, sym, ap, ◌∙◌, subst, List, [], ◌++◌, append-nil}
 use Rattle.std.proofs.Common.{append_assoc, arith}
 use Rattle.std.proofs.lemmas.List.Elements.{All-nil}
+use Rattle.std.proofs.Common.{length}
 use Rattle.std.specs.Prelude.{All, Option, Some, None, Ok, ◌||◌}
 use Rattle.std.specs.Option.{option_map}
 use Rattle.c_types.specs.declared.ty.IntKind.{IntKind}
@@ -82,7 +83,7 @@ module _ (untagged : ℕ → List ℕ) (f : FileScope) where
     pub starts : IsStart start (seen s g l) all (seen after g l)
     pub is_typed : AreTyped (declared (seen s g l)) result false false (typed_statements all)
 
-  start_found : (result : CType) (start : Trees.ForStart) (s : Scope) → IsStartInRange start → IsWithin untagged f s → (z : Statements × Scope)
+  start_found : (result : CType) (start : Trees.ForStart) (s : Scope) → IsStartInRange f.ends (length f.records) start → IsWithin untagged f s → (z : Statements × Scope)
       → start_of start s ≡ Ok z
       → FoundIn untagged f s (spoken_of_start start) (made_by_start start) (IsStartFound start result s z.0 z.1) (all_declared_by z.0) z.1
   start_found result (Trees.starts_with None semicolon) s n w z h =
@@ -264,7 +265,7 @@ module _ (untagged : ℕ → List ℕ) (f : FileScope) where
     mutual
       unfolding performed item_in items_in switch_items switch_item
 
-      pub sound_statement : (a : Trees.Statement) (s : Scope) (loop switch : Bool) → IsStatementInRange a → IsWithin untagged f s → (z : Statement × Scope)
+      pub sound_statement : (a : Trees.Statement) (s : Scope) (loop switch : Bool) → IsStatementInRange f.ends (length f.records) a → IsWithin untagged f s → (z : Statement × Scope)
           → performed result a s loop switch ≡ Ok z → FoundStatement a s loop switch z
       sound_statement (Trees.block from items to) s loop switch n w z h =
           let b = bound_ok (items_in result items (inside s) loop switch) _ z h in
@@ -379,7 +380,7 @@ module _ (untagged : ℕ → List ℕ) (f : FileScope) where
           let r = returned_made (Erases a c) c at result x.0.0 v y.0 y.1 in
           ((y.0, refl, r.0), (r.1, r.2))))
 
-      pub sound_item : (e : Trees.BlockItem) (s : Scope) (loop switch : Bool) → IsItemInRange e → IsWithin untagged f s → (z : Statements × Scope)
+      pub sound_item : (e : Trees.BlockItem) (s : Scope) (loop switch : Bool) → IsItemInRange f.ends (length f.records) e → IsWithin untagged f s → (z : Statements × Scope)
           → item_in result e s loop switch ≡ Ok z → FoundItem e s loop switch z
       sound_item (Trees.local d) s loop switch n w z h =
           as_said untagged f s z.1 _ _ _ (IsItemFound (Trees.local d) s loop switch z.0 z.1) _ _ (declaration_found untagged f d s n w z h) refl
@@ -395,7 +396,7 @@ module _ (untagged : ℕ → List ℕ) (f : FileScope) where
             is_typed = (p.1, tt);
           }))
 
-      pub sound_items : (items : Trees.BlockItems) (s : Scope) (loop switch : Bool) → AreItemsInRange items → IsWithin untagged f s → (z : Statements × Scope)
+      pub sound_items : (items : Trees.BlockItems) (s : Scope) (loop switch : Bool) → AreItemsInRange f.ends (length f.records) items → IsWithin untagged f s → (z : Statements × Scope)
           → items_in result items s loop switch ≡ Ok z → FoundItems items s loop switch z
       sound_items Trees.no_block_items s loop switch n w z h =
           given (FoundItems Trees.no_block_items s loop switch) (Typed.no_statements, s) z h
@@ -415,7 +416,7 @@ module _ (untagged : ℕ → List ℕ) (f : FileScope) where
           })) (sym (declared_then own.0.0 rest.0.0)) (λ g l e laid goes a. a))
 
       sound_switch_items : (items : Trees.SwitchItems) (s : Scope) (loop : Bool) (kind : IntKind) → ((v : ℕ) → as_kind kind (as_kind kind v) ≡ as_kind kind v)
-          → (before : Labels) → before.defaults ≤ 1 → AreSwitchItemsInRange items → IsWithin untagged f s → (z : (Statements × Arms) × Scope)
+          → (before : Labels) → before.defaults ≤ 1 → AreSwitchItemsInRange f.ends (length f.records) items → IsWithin untagged f s → (z : (Statements × Arms) × Scope)
           → switch_items result items s loop kind before ≡ Ok z → FoundSwitchItems items s loop kind before z
       sound_switch_items Trees.no_switch_items s loop kind k before few n w z h =
           given (FoundSwitchItems Trees.no_switch_items s loop kind before) ((Typed.no_statements, Typed.no_arms), s) z h (record {
@@ -431,7 +432,7 @@ module _ (untagged : ℕ → List ℕ) (f : FileScope) where
           (switch_items_then item more s loop kind before few own.0 v rest.0 u)
 
       sound_switch_item : (item : Trees.SwitchItem) (s : Scope) (loop : Bool) (kind : IntKind) → ((v : ℕ) → as_kind kind (as_kind kind v) ≡ as_kind kind v)
-          → (before : Labels) → IsSwitchItemInRange item → IsWithin untagged f s → (z : (Statements × Found) × Scope)
+          → (before : Labels) → IsSwitchItemInRange f.ends (length f.records) item → IsWithin untagged f s → (z : (Statements × Found) × Scope)
           → switch_item result item s loop kind before ≡ Ok z → FoundSwitchItem item s loop kind before z
       sound_switch_item (Trees.local_switch_item d) s loop kind k before n w z h =
           let own = bound_ok (local_declaration d s) _ z h in

@@ -21,6 +21,13 @@ use Rattle.c_checking.proofs.Extends.{Extends, itself, further, kept}
 use Rattle.c_checking.proofs.Agreement.{fits_stay, blocks_stay}
 use Rattle.c_checking_files.proofs.Parts.{is_made}
 use Rattle.c_checking_files.proofs.Longer.{seen}
+use Rattle.std.proofs.Common.{◌+◌, arith, inl, inr}
+use Rattle.std.proofs.lemmas.Option.{slice_get_within}
+use Rattle.std.specs.Prelude.{◌⊎◌}
+use Rattle.c_checking.proofs.Extends.{at_end, behind, one_of_both}
+use Rattle.c_checking_files.proofs.Layouts.{object_stays}
+use Rattle.c_checking_files.proofs.Kept.{AreObjectsWhole, IsALiteral, objects_more}
+use Rattle.c_checking_files.proofs.Scoped.{IsLater, IsInner, literal_inner}
 use Rattle.c_checking_files.proofs.Scoped.{IsWithin, AddsInside, FoundIn}
 use Rattle.c_checking_files.proofs.LocalObjects.{IsValueInRange, named_fits, last_mapped, FoundInitializer, AreConstantsIn, constants_found}
 
@@ -85,10 +92,24 @@ object_replaced f xs more x y is e t = record {
   functions = λ n t h. h;
 }
 
+-- objects are of complete types also where one takes the place of another
+whole_there : (records : List Rattle.c_types.specs.Types.Record) (xs : List AnObject) (x y : AnObject) (more : List AnObject) → x.ty ≡ y.ty
+    → AreObjectsWhole records ((xs ++ x ∷ []) ++ more) → AreObjectsWhole records (xs ++ y ∷ more)
+whole_there records xs x y more t h n o e = by_part (one_of_both xs (y ∷ more) n o e)
+  where
+    by_part : (slice_get xs n ≡ Some o) ⊎ ((j : ℕ) × (n ≡ length xs + j) × (slice_get (y ∷ more) j ≡ Some o))
+        → is_object (length records) o.ty ≡ true
+    by_part (inl e) = h n o (kept (xs ++ x ∷ []) more n o (kept xs (x ∷ []) n o e))
+    by_part (inr (zero, e, g)) =
+        let same : y ≡ o = cc in
+        subst (λ t. is_object (length records) t ≡ true) (t ∙ ap (λ (o : AnObject). o.ty) same)
+        (h (length xs) x (kept (xs ++ x ∷ []) more (length xs) x (at_end xs x)))
+    by_part (inr (suc j, e, g)) = h (length (xs ++ x ∷ []) + j) o (behind (xs ++ x ∷ []) more j (length (xs ++ x ∷ []) + j) o refl g)
+
 module _ (untagged : ℕ → List ℕ) (f : FileScope) where
   within_file : (s : Scope) (g : FileScope) → IsWithin untagged f s → Extends s.file g → g.names ≡ s.file.names → g.records ≡ s.file.records
-      → IsWithin untagged f (moved s g)
-  within_file s g w p names records = record {
+      → AreObjectsWhole g.records g.objects → IsWithin untagged f (moved s g)
+  within_file s g w p names records whole = record {
     inside = w.inside;
     full = w.full;
     ready = record {
@@ -97,14 +118,17 @@ module _ (untagged : ℕ → List ℕ) (f : FileScope) where
       ends_stand = λ j n right h. cc;
     };
     complete = subst Rattle.c_types.specs.Limits.AreComplete (sym records) w.complete;
+    whole = whole;
     extends = further w.extends p;
     same = p.untagged ∙ w.same;
   }
 
-  static_within : (s : Scope) (d : Trees.InitDeclarator) (x : Spelling) (t : CType) → IsWithin untagged f s → IsWithin untagged f (with_static s d x t)
-  static_within s d x t w =
+  static_within : (s : Scope) (d : Trees.InitDeclarator) (x : Spelling) (t : CType) → IsWithin untagged f s
+      → is_object (length s.file.records) t ≡ true → IsWithin untagged f (with_static s d x t)
+  static_within s d x t w is =
       let o = static_object s d x t None in
-      let v = within_file s (Files.with_object s.file o) w (object_put s.file o) refl refl in
+      let v = within_file s (Files.with_object s.file o) w (object_put s.file o) refl refl
+      (objects_more s.file.records s.file.objects o is w.whole) in
       record {
         inside = refl;
         full = v.full;
@@ -114,6 +138,7 @@ module _ (untagged : ℕ → List ℕ) (f : FileScope) where
           ends_stand = λ j n right h. cc;
         };
         complete = v.complete;
+        whole = v.whole;
         extends = v.extends;
         same = v.same;
       }
@@ -126,11 +151,11 @@ module _ (untagged : ℕ → List ℕ) (f : FileScope) where
 
   static_made : (s : Scope) (d : Trees.InitDeclarator) (x : Spelling) (t : CType) → IsWithin untagged f s → (i : Typed.Initializer Noted × FileScope)
       → FoundInitializer untagged f (with_static s d x t) (spoken_by_value d.value) (literals_of_value d.value)
-      (AreConstantsIn untagged f (with_static s d x t) t d.value i.0) i.1 → (g : FileScope)
+      (AreConstantsIn untagged f (with_static s d x t) t d.value i.0) i.1 → is_object (length s.file.records) t ≡ true → (g : FileScope)
       → g ≡ replaced_object i.1 (objects_in s) (static_object s d x t (Some i.0))
       → FoundIn untagged f s (spoken_by_value d.value) (first_declarator d.declarator x.from ∷ literals_of_value d.value)
       (IsStatic s d x t Typed.no_statements (moved (with_static s d x t) g)) [] (moved (with_static s d x t) g)
-  static_made s d x t w i v g is =
+  static_made s d x t w i v known g is =
       let old = static_object s d x t None in
       let new = static_object s d x t (Some i.0) in
       let more = v.grows.objects.0 in
@@ -143,7 +168,10 @@ module _ (untagged : ℕ → List ℕ) (f : FileScope) where
       let m = adds_there s old i.1 g more new v.made v.grows there v.grows.objects.2 in
       record {
         within = within_file (moved (with_static s d x t) i.1) g v.within last (ap (λ (g : FileScope). g.names) there)
-            (ap (λ (g : FileScope). g.records) there);
+            (ap (λ (g : FileScope). g.records) there)
+            (subst (λ records. AreObjectsWhole records g.objects) (sym (ap (λ (g : FileScope). g.records) there))
+            (subst (AreObjectsWhole i.1.records) (sym objects)
+            (whole_there i.1.records s.file.objects old new more refl (subst (AreObjectsWhole i.1.records) v.grows.objects.1 v.within.whole))));
         extends = whole;
         more = [];
         locals = sym (append-nil s.locals);
@@ -152,14 +180,10 @@ module _ (untagged : ℕ → List ℕ) (f : FileScope) where
         texts = v.texts;
         parted = is_made (first_declarator d.declarator x.from) (literals_of_value d.value) v.made v.texts v.parted;
         grows = m;
+        inner = λ k o e.
+            by_part last whole k o (one_of_both s.file.objects (new ∷ more) k o (subst (λ all. slice_get all k ≡ Some o) objects e));
         holds = λ h l e.
-            let c = v.holds h l (record {
-              extends = further last e.extends;
-              locals = e.locals;
-              laid = e.laid;
-              none_begins = e.none_begins;
-              constants = e.constants;
-            }) in
+            let c = (v.holds h l (as_later last h l e)).0 in
             let found = subst (λ all. slice_get all (objects_in s) ≡ Some new) (sym objects) (get_there s.file.objects new more) in
             let stands = e.extends.objects (objects_in s) new found refl in
             let number = (further whole e.extends).file in
@@ -182,6 +206,45 @@ module _ (untagged : ℕ → List ℕ) (f : FileScope) where
             };
       }
     where
+      as_later : Extends i.1 g → (h : FileScope) (l : List ALocal) → IsLater f (moved (with_static s d x t) g) v.texts h l
+          → IsLater f (moved (with_static s d x t) i.1) v.texts h l
+      as_later last h l e = record {
+        extends = further last e.extends;
+        locals = e.locals;
+        laid = e.laid;
+        none_begins = e.none_begins;
+        constants = e.constants;
+      }
+
+      by_part : Extends i.1 g → Extends s.file g → (k : ℕ) (o : AnObject)
+          → (slice_get s.file.objects k ≡ Some o)
+          ⊎ ((j : ℕ) × (k ≡ length s.file.objects + j) × (slice_get (static_object s d x t (Some i.0) ∷ v.grows.objects.0) j ≡ Some o))
+          → (slice_get s.file.objects k ≡ Some o) ⊎ IsInner f (moved (with_static s d x t) g) v.texts o
+      by_part last whole k o (inl e) = inl e
+      by_part last whole k o (inr (zero, n, e)) =
+          let same : static_object s d x t (Some i.0) ≡ o = cc in
+          inr (subst (IsInner f (moved (with_static s d x t) g) v.texts) same (record {
+            linked = refl;
+            initial = i.0;
+            initial_is = refl;
+            whole = object_stays whole t known;
+            typed = λ h l e. (v.holds h l (as_later last h l e)).1;
+          }))
+      by_part last whole k o (inr (suc j, n, e)) =
+          let old = static_object s d x t None in
+          let first = s.file.objects ++ old ∷ [] in
+          let at = length first + j in
+          let there = subst (λ all. slice_get all at ≡ Some o) (sym v.grows.objects.1) (behind first v.grows.objects.0 j at o refl e) in
+          by_kind (v.literals at o there)
+        where
+          by_kind : (slice_get (s.file.objects ++ static_object s d x t None ∷ []) (length (s.file.objects ++ static_object s d x t None ∷ []) + j) ≡ Some o)
+              ⊎ IsALiteral s.file.file o
+              → (slice_get s.file.objects k ≡ Some o) ⊎ IsInner f (moved (with_static s d x t) g) v.texts o
+          by_kind (inl e) =
+              let n = slice_get_within (s.file.objects ++ static_object s d x t None ∷ []) _ o e in
+              absurd (omega (arith, n))
+          by_kind (inr e) = inr (literal_inner f (moved (with_static s d x t) g) v.texts s.file.file o e)
+
       adds_there : (s : Scope) (old : AnObject) (b g : FileScope) (more : List AnObject) (new : AnObject) (made : List ℕ)
           → (p : AddsInside (Files.with_object s.file old) (spoken_by_value d.value) made b) → g ≡ record b { objects = s.file.objects ++ new ∷ more }
           → map (λ o. o.first) more ≡ made → AddsInside s.file (spoken_by_value d.value) (new.first ∷ made) g
@@ -198,11 +261,11 @@ module _ (untagged : ℕ → List ℕ) (f : FileScope) where
             objects = (new ∷ more, ap (λ (g : FileScope). g.objects) there, ap (λ all. new.first ∷ all) firsts);
           }
 
-  pub static_found : (s : Scope) (d : Trees.InitDeclarator) (x : Spelling) (t : CType) → IsValueInRange d.value → IsWithin untagged f s
+  pub static_found : (s : Scope) (d : Trees.InitDeclarator) (x : Spelling) (t : CType) → IsValueInRange f.ends (length f.records) d.value → IsWithin untagged f s
       → is_object (length s.file.records) t ≡ true → (z : Statements × Scope) → declare_static s d x t ≡ Ok z
       → FoundIn untagged f s (spoken_by_value d.value) (first_declarator d.declarator x.from ∷ literals_of_value d.value) (IsStatic s d x t z.0 z.1) [] z.1
   static_found s d x t n w o z h =
       let i = bound_ok (constants_if_any d.value (with_static s d x t) t) _ z h in
-      let v = constants_found untagged f d.value (with_static s d x t) t n (static_within s d x t w) o i.0 i.1 in
+      let v = constants_found untagged f d.value (with_static s d x t) t n (static_within s d x t w o) o i.0 i.1 in
       given (λ (z : Statements × Scope). FoundIn untagged f s (spoken_by_value d.value) (first_declarator d.declarator x.from ∷ literals_of_value d.value)
-      (IsStatic s d x t z.0 z.1) [] z.1) _ z i.2 (static_made s d x t w i.0 v _ refl)
+      (IsStatic s d x t z.0 z.1) [] z.1) _ z i.2 (static_made s d x t w i.0 v o _ refl)

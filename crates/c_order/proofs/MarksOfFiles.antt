@@ -81,21 +81,21 @@ module _ (u : ℕ → List ℕ) (types : List (List ℕ)) where
 
   -- ---- statements, in which nothing is marked
 
-  if_any_along : (t : Option Trees.Expression) → IsExpressionIfAny types t → {rest : List Lexeme} → Along [] (spelled_if_any t rest) rest
+  pub if_any_along : (t : Option Trees.Expression) → IsExpressionIfAny types t → {rest : List Lexeme} → Along [] (spelled_if_any t rest) rest
   if_any_along None w = none
   if_any_along (Some a) w = bare (along u types a w)
 
-  labels_along : (t : List Trees.Label) → AreLabels types t → {rest : List Lexeme} → Along [] (spelled_labels t rest) rest
+  pub labels_along : (t : List Trees.Label) → AreLabels types t → {rest : List Lexeme} → Along [] (spelled_labels t rest) rest
   labels_along [] w = none
   labels_along (Trees.case at a colon ∷ more) w = skip (after (along u types a w.1) (skip (labels_along more w.2)))
   labels_along (Trees.default at colon ∷ more) w = skip (skip (labels_along more w))
 
-  for_start_along : (t : Trees.ForStart) → IsForStart types t → {rest : List Lexeme} → Along [] (spelled_for_start t rest) rest
+  pub for_start_along : (t : Trees.ForStart) → IsForStart types t → {rest : List Lexeme} → Along [] (spelled_for_start t rest) rest
   for_start_along (Trees.starts_with a semicolon) w = after (if_any_along a w) (skip none)
   for_start_along (Trees.declares d) w = bare (declaration_along d w.1)
 
   mutual
-    statement_along : (t : Trees.Statement) → IsStatement types t → {rest : List Lexeme} → Along [] (spelled_statement t rest) rest
+    pub statement_along : (t : Trees.Statement) → IsStatement types t → {rest : List Lexeme} → Along [] (spelled_statement t rest) rest
     statement_along (Trees.block left items right) w = skip (after (block_items_along items w) (skip none))
     statement_along (Trees.evaluate a semicolon) w = after (if_any_along a w) (skip none)
     statement_along (Trees.when at left a right one) w = skip (skip (after (along u types a w.0) (skip (statement_along one w.1))))
@@ -113,19 +113,19 @@ module _ (u : ℕ → List ℕ) (types : List (List ℕ)) where
     statement_along (Trees.continue at semicolon) w = skip (skip none)
     statement_along (Trees.return at a semicolon) w = skip (after (if_any_along a w) (skip none))
 
-    block_item_along : (t : Trees.BlockItem) → IsBlockItem types t → {rest : List Lexeme} → Along [] (spelled_block_item t rest) rest
+    pub block_item_along : (t : Trees.BlockItem) → IsBlockItem types t → {rest : List Lexeme} → Along [] (spelled_block_item t rest) rest
     block_item_along (Trees.local d) w = bare (declaration_along d w)
     block_item_along (Trees.statement a) w = statement_along a w
 
-    block_items_along : (t : Trees.BlockItems) → AreBlockItems types t → {rest : List Lexeme} → Along [] (spelled_block_items t rest) rest
+    pub block_items_along : (t : Trees.BlockItems) → AreBlockItems types t → {rest : List Lexeme} → Along [] (spelled_block_items t rest) rest
     block_items_along Trees.no_block_items w = none
     block_items_along (Trees.and_block_item e more) w = after (block_item_along e w.0) (block_items_along more w.1)
 
-    switch_item_along : (t : Trees.SwitchItem) → IsSwitchItem types t → {rest : List Lexeme} → Along [] (spelled_switch_item t rest) rest
+    pub switch_item_along : (t : Trees.SwitchItem) → IsSwitchItem types t → {rest : List Lexeme} → Along [] (spelled_switch_item t rest) rest
     switch_item_along (Trees.local_switch_item d) w = bare (declaration_along d w.1)
     switch_item_along (Trees.labelled labels a) w = after (labels_along labels w.0) (statement_along a w.1)
 
-    switch_items_along : (t : Trees.SwitchItems) → AreSwitchItems types t → {rest : List Lexeme} → Along [] (spelled_switch_items t rest) rest
+    pub switch_items_along : (t : Trees.SwitchItems) → AreSwitchItems types t → {rest : List Lexeme} → Along [] (spelled_switch_items t rest) rest
     switch_items_along Trees.no_switch_items w = none
     switch_items_along (Trees.and_switch_item item more) w = after (switch_item_along item w.0) (switch_items_along more w.1)
 

@@ -1,0 +1,369 @@
+-- What a part of the text keeps of a file: records are numbered by their tags, complete and small, objects are complete, and names differ.
+use Rattle.std.proofs.Common.{◌≡◌, ◌≢◌, ℕ, zero, suc, ◌+◌, ◌≤◌, Bool, true, false, refl, sym, ap, ◌∙◌, subst, cond, List, [], ◌∷◌}
+use Rattle.std.proofs.Common.{◌++◌, length, take, drop, append-nil, append_assoc, length-append, arith, inl, inr}
+use Rattle.std.proofs.lemmas.Bool.{leb-true, eqb-true}
+use Rattle.std.proofs.lemmas.List.Elements.{All-cons, All-nil, All-head, All-tail}
+use Rattle.std.proofs.lemmas.Slice.Eq.{bytes_eq-Decides}
+use Rattle.std.proofs.lemmas.Option.{slice_get_within}
+use Rattle.std.specs.Prelude.{All, map, Option, Some, None, Ok, slice_get, nat_le, ◌⊎◌}
+use Rattle.std.specs.Str.{bytes_eq}
+use Rattle.c_types.specs.Layouts.{size_of, size_of_record}
+use Rattle.c_types.specs.Limits.{AreComplete}
+use Rattle.c_types.specs.Objects.{is_object}
+use Rattle.c_types.specs.Types.{CType, structure, Field, Record}
+use Rattle.c_types.proofs.Growing.{layouts_stay, has_its_size}
+use Rattle.c_ast.specs.declared.words.Spelling.{Spelling}
+use Rattle.c_typed.specs.declared.program.MentionKind.{MentionKind}
+use Rattle.c_erasure.specs.Erasure.{literal_of, literal_object}
+use Rattle.c_erasure.specs.Files.{MayStandTogether, AreConsistent}
+use Rattle.c_erasure.specs.Marks.{Mark, a_tag, an_end, a_name, tags_in}
+use Rattle.c_erasure.specs.Scopes.{Bound, Tag, AnObject, AMention, FileScope, Scope, enumerator, is_measured, tag_at}
+use Rattle.c_checking.specs.Declaring.{with_mention, with_object, with_record, with_bound, number_among, is_next, repeated, completed_in}
+use Rattle.c_checking.specs.Declaring.{declared_among, new_name, enumerator_in, tag_named}
+use Rattle.c_checking.proofs.Results.{given, chosen}
+use Rattle.c_checking.proofs.Extends.{last_or, one_of_both}
+use Rattle.c_checking.proofs.Declared.{unless_ok}
+use Rattle.c_checking_files.proofs.Layouts.{object_more}
+
+-- ---- records
+
+-- fields of complete types, where so many records are complete
+abbrev pub AreWhole : (count : ℕ) → List Field → Type 0
+AreWhole count fields = (j : ℕ) (x : Field) → slice_get fields j ≡ Some x → is_object count x.ty ≡ true
+
+pub record AreSettled (numbered : List (List ℕ)) (records : List Record) : Type 0 where
+  pub first : (k : ℕ) (r : Record) → slice_get records k ≡ Some r → number_among numbered r.tag ≡ Some k
+  pub whole : (k : ℕ) (r : Record) → slice_get records k ≡ Some r → AreWhole k r.fields
+  pub filled : (k : ℕ) (r : Record) → slice_get records k ≡ Some r → r.fields ≢ []
+  pub small : (k : ℕ) (r : Record) → slice_get records k ≡ Some r → size_of records (structure k) ≤ 16777216
+
+all_fields : (count : ℕ) (fields : List Field) → AreWhole count fields → All (λ t. is_object count t ≡ true) (map (λ f. f.ty) fields)
+all_fields count [] h = All-nil (λ t. is_object count t ≡ true)
+all_fields count (f ∷ more) h =
+    All-cons (λ t. is_object count t ≡ true) f.ty (map (λ f. f.ty) more) (h 0 f refl) (all_fields count more (λ j x e. h (suc j) x e))
+
+pub are_complete : {numbered : List (List ℕ)} {records : List Record} → AreSettled numbered records → AreComplete records
+are_complete s k r e = all_fields k r.fields (s.whole k r e)
+
+next_number : (n : ℕ) (o : Option ℕ) → is_next n o ≡ true → o ≡ Some n
+next_number n None h = cc
+next_number n (Some r) h = ap Some (eqb-true r n h)
+
+-- a definition that is completed
+pub record IsAdded (f : FileScope) (r : Record) (g : FileScope) : Type 0 where
+  pub file_is : g ≡ with_record f r
+  pub number : number_among f.numbered r.tag ≡ Some (length f.records)
+  pub small : size_of_record f.records r ≤ 16777216
+
+pub completed_adds : (f : FileScope) (named : ℕ) (names : List Spelling) (r : Record) (z : CType × FileScope) → completed_in f named names r ≡ Ok z
+    → IsAdded f r z.1
+unfolding completed_in
+completed_adds f named names r z h =
+    let u = unless_ok (repeated [] names) _ z h in
+    chosen (is_next (length f.records) (number_among f.numbered r.tag)) _ _ z (IsAdded f r z.1) u.1
+    (λ b h. chosen (nat_le (size_of_record f.records r) 16777216) _ _ z (IsAdded f r z.1) h
+    (λ c h. given (λ (z : CType × FileScope). IsAdded f r z.1) (structure (length f.records), with_record f r) z h (record {
+      file_is = refl;
+      number = next_number (length f.records) (number_among f.numbered r.tag) b;
+      small = leb-true (size_of_record f.records r) 16777216 c;
+    }))
+    (λ c h. cc))
+    (λ b h. cc)
+
+pub one_more_settled : (numbered : List (List ℕ)) (records : List Record) (r : Record) → number_among numbered r.tag ≡ Some (length records)
+    → size_of_record records r ≤ 16777216 → AreWhole (length records) r.fields → r.fields ≢ [] → AreSettled numbered records
+    → AreSettled numbered (records ++ r ∷ [])
+one_more_settled numbered records r n small whole filled s = record {
+  first = λ k q e. first_of k q (last_or records r k q e);
+  whole = λ k q e. whole_of k q (last_or records r k q e);
+  filled = λ k q e. filled_of k q (last_or records r k q e);
+  small = λ k q e. small_of k q (last_or records r k q e);
+}
+  where
+    first_of : (k : ℕ) (q : Record) → (slice_get records k ≡ Some q) ⊎ ((k ≡ length records) × (r ≡ q)) → number_among numbered q.tag ≡ Some k
+    first_of k q (inl e) = s.first k q e
+    first_of k q (inr e) = subst (λ (q : Record). number_among numbered q.tag ≡ Some k) e.1 (n ∙ ap Some (sym e.0))
+
+    whole_of : (k : ℕ) (q : Record) → (slice_get records k ≡ Some q) ⊎ ((k ≡ length records) × (r ≡ q)) → AreWhole k q.fields
+    whole_of k q (inl e) = s.whole k q e
+    whole_of k q (inr e) = subst (λ (q : Record). AreWhole k q.fields) e.1 (subst (λ k. AreWhole k r.fields) (sym e.0) whole)
+
+    filled_of : (k : ℕ) (q : Record) → (slice_get records k ≡ Some q) ⊎ ((k ≡ length records) × (r ≡ q)) → q.fields ≢ []
+    filled_of k q (inl e) = s.filled k q e
+    filled_of k q (inr e) = subst (λ (q : Record). q.fields ≢ []) e.1 filled
+
+    below : (k : ℕ) (q : Record) → slice_get records k ≡ Some q → is_object (length records) (structure k) ≡ true
+    below k q e = Rattle.std.proofs.lemmas.Bool.lt-ltb k (length records) (slice_get_within records k q e)
+
+    small_of : (k : ℕ) (q : Record) → (slice_get records k ≡ Some q) ⊎ ((k ≡ length records) × (r ≡ q))
+        → size_of (records ++ r ∷ []) (structure k) ≤ 16777216
+    small_of k q (inl e) =
+        subst (λ n. n ≤ 16777216) (sym ((layouts_stay records (r ∷ [])).sizes (structure k) (below k q e))) (s.small k q e)
+    small_of k q (inr e) =
+        subst (λ k. size_of (records ++ r ∷ []) (structure k) ≤ 16777216) (sym e.0) (subst (λ n. n ≤ 16777216) (sym (has_its_size records r)) small)
+
+-- ---- names
+
+all_more : {X : Type 0} (P : X → Type 0) (xs : List X) (y : X) → All P xs → P y → All P (xs ++ y ∷ [])
+all_more P [] y h p = All-cons P y [] p (All-nil P)
+all_more P (x ∷ xs) y h p = All-cons P x (xs ++ y ∷ []) (All-head P x xs h) (all_more P xs y (All-tail P x xs h) p)
+
+-- one more name, which may stand with each of those before that are spelled as it is
+pub one_more_consistent : (names : List Bound) (b : Bound) → ((k : ℕ) (c : Bound) → slice_get names k ≡ Some c → c.name ≡ b.name → MayStandTogether c b)
+    → AreConsistent names → AreConsistent (names ++ b ∷ [])
+one_more_consistent [] b h c = (All-nil _, tt)
+one_more_consistent (a ∷ names) b h c = (
+  all_more (λ (c : Bound). c.name ≡ a.name → MayStandTogether a c) names b c.0 (λ e. h 0 a refl (sym e)),
+  one_more_consistent names b (λ k d e. h (suc k) d e) c.1,
+)
+
+pub undeclared : (names : List Bound) (x : List ℕ) → declared_among names x ≡ None → (k : ℕ) (c : Bound) → slice_get names k ≡ Some c → c.name ≢ x
+undeclared [] x h k c e = cc
+undeclared (b ∷ names) x h k c e = by_test (bytes_eq b.name x) refl (λ h k c e. undeclared names x h k c e) h k e
+  where
+    by_test : (t : Bool) → bytes_eq b.name x ≡ t
+        → (declared_among names x ≡ None → (k : ℕ) (c : Bound) → slice_get names k ≡ Some c → c.name ≢ x)
+        → cond t (Some b) (declared_among names x) ≡ None → (k : ℕ) → slice_get (b ∷ names) k ≡ Some c → c.name ≢ x
+    by_test true t later h k e = cc
+    by_test false t later h zero e =
+        let same : b ≡ c = cc in
+        λ f. let g = (bytes_eq-Decides b.name x).1 (ap (λ (b : Bound). b.name) same ∙ f) in cc
+    by_test false t later h (suc k) e = later h k c e
+
+pub record IsNamed (f : FileScope) (b : Bound) (g : FileScope) : Type 0 where
+  pub file_is : with_bound f b ≡ g
+  pub is_new : declared_among f.names b.name ≡ None
+
+pub enumerator_adds : (f : FileScope) (b : Bound) (g : FileScope) → enumerator_in f b ≡ Ok g → IsNamed f b g
+unfolding enumerator_in
+enumerator_adds f b g h = by_name (declared_among f.names b.name) refl h
+  where
+    by_name : (o : Option Bound) → declared_among f.names b.name ≡ o → new_name f b o ≡ Ok g → IsNamed f b g
+    by_name None e h = given (IsNamed f b) (with_bound f b) g h (record { file_is = refl; is_new = e })
+    by_name (Some old) e h = cc
+
+-- ---- objects, and tags
+
+abbrev pub AreObjectsWhole : List Record → List AnObject → Type 0
+AreObjectsWhole records objects = (n : ℕ) (o : AnObject) → slice_get objects n ≡ Some o → is_object (length records) o.ty ≡ true
+
+abbrev pub IsALiteral : (file : ℕ) → AnObject → Type 0
+IsALiteral file o = (at : ℕ) × (all : List Spelling) × (o ≡ literal_object (record { file = file; at = at }) (literal_of all))
+
+abbrev pub IsAnEnumerator : Bound → Type 0
+IsAnEnumerator b = (v : ℕ) × (b.entity ≡ enumerator v)
+
+-- a tag of the text as the checker takes it: that of an enumeration stands nowhere before, and that of a structure is none of an enumeration,
+-- or one that is not written
+pub record IsTagFit (untagged : ℕ → List ℕ) (tags : List Tag) (t : Tag) : Type 0 where
+  pub enumeration : t.is_enumeration ≡ true → (u : Tag) → tag_named tags t.name ≡ Some u → u.place ≡ t.place
+  pub structure : t.is_enumeration ≡ false → (tag_at tags t.name t.from ≢ Some true) ⊎ (t.name ≡ untagged t.place)
+
+abbrev pub AreTagsFit : (untagged : ℕ → List ℕ) → List Tag → List Tag → Type 0
+AreTagsFit untagged tags [] = Unit {0}
+AreTagsFit untagged tags (t ∷ more) = IsTagFit untagged tags t × AreTagsFit untagged tags more
+
+pub fit_then : (untagged : ℕ → List ℕ) (tags u v : List Tag) → AreTagsFit untagged tags u → AreTagsFit untagged tags v
+    → AreTagsFit untagged tags (u ++ v)
+fit_then untagged tags [] v p q = q
+fit_then untagged tags (t ∷ u) v p q = (p.0, fit_then untagged tags u v p.1 q)
+
+pub tags_append : (u v : List Mark) → tags_in (u ++ v) ≡ tags_in u ++ tags_in v
+tags_append [] v = refl
+tags_append (a_tag t ∷ u) v = ap (λ z. t ∷ z) (tags_append u v)
+tags_append (an_end tag right ∷ u) v = tags_append u v
+tags_append (a_name from ∷ u) v = tags_append u v
+
+-- ---- what a part keeps
+
+pub record Keeps (f : FileScope) (is_inside : Bool) (all : List Mark) (g : FileScope) : Type 0 where
+  pub file : g.file ≡ f.file
+  pub untagged : g.untagged ≡ f.untagged
+  pub tags : g.tags ≡ f.tags
+  pub numbered : g.numbered ≡ f.numbered
+  pub functions : g.functions ≡ f.functions
+  pub longer : length f.records ≤ length g.records
+  pub settled : AreSettled f.numbered f.records → AreSettled g.numbered g.records
+  pub whole : AreObjectsWhole f.records f.objects → AreObjectsWhole g.records g.objects
+  pub consistent : AreConsistent f.names → AreConsistent g.names
+  pub fit : is_inside ≡ false → AreTagsFit f.untagged f.tags (tags_in all)
+  -- names that are new are those of enumerators, and objects that are new are literals
+  pub names : (more : List Bound) × (g.names ≡ f.names ++ more) × ((k : ℕ) (b : Bound) → slice_get more k ≡ Some b → IsAnEnumerator b)
+  pub objects : (more : List AnObject) × (g.objects ≡ f.objects ++ more) × ((k : ℕ) (o : AnObject) → slice_get more k ≡ Some o → IsALiteral f.file o)
+
+pub keeps_nothing : (f : FileScope) (i : Bool) → Keeps f i [] f
+keeps_nothing f i = record {
+  file = refl;
+  untagged = refl;
+  tags = refl;
+  numbered = refl;
+  functions = refl;
+  longer = omega arith;
+  settled = λ h. h;
+  whole = λ h. h;
+  consistent = λ h. h;
+  fit = λ e. tt;
+  names = ([], sym (append-nil f.names), λ k b e. cc);
+  objects = ([], sym (append-nil f.objects), λ k o e. cc);
+}
+
+both_of : {X : Type 0} (P : X → Type 0) (u v : List X) → ((k : ℕ) (x : X) → slice_get u k ≡ Some x → P x)
+    → ((k : ℕ) (x : X) → slice_get v k ≡ Some x → P x) → (k : ℕ) (x : X) → slice_get (u ++ v) k ≡ Some x → P x
+both_of {X} P u v p q k x e = by_part (one_of_both u v k x e)
+  where
+    by_part : (slice_get u k ≡ Some x) ⊎ ((j : ℕ) × (k ≡ length u + j) × (slice_get v j ≡ Some x)) → P x
+    by_part (inl h) = p k x h
+    by_part (inr h) = q h.0 x h.2
+
+pub keeps_then : {f g h : FileScope} {i : Bool} {u v : List Mark} → Keeps f i u g → Keeps g i v h → Keeps f i (u ++ v) h
+keeps_then {f} {g} {h} {i} {u} {v} p q = record {
+  file = q.file ∙ p.file;
+  untagged = q.untagged ∙ p.untagged;
+  tags = q.tags ∙ p.tags;
+  numbered = q.numbered ∙ p.numbered;
+  functions = q.functions ∙ p.functions;
+  longer = omega (arith, p.longer, q.longer);
+  settled = λ x. q.settled (p.settled x);
+  whole = λ x. q.whole (p.whole x);
+  consistent = λ x. q.consistent (p.consistent x);
+  fit = λ e.
+      subst (AreTagsFit f.untagged f.tags) (sym (tags_append u v))
+      (fit_then f.untagged f.tags (tags_in u) (tags_in v) (p.fit e)
+      (subst (λ tags. AreTagsFit f.untagged tags (tags_in v)) p.tags (subst (λ names. AreTagsFit names g.tags (tags_in v)) p.untagged (q.fit e))));
+  names = (
+    p.names.0 ++ q.names.0,
+    q.names.1 ∙ ap (λ z. z ++ q.names.0) p.names.1 ∙ append_assoc f.names p.names.0 q.names.0,
+    both_of IsAnEnumerator p.names.0 q.names.0 p.names.2 q.names.2,
+  );
+  objects = (
+    p.objects.0 ++ q.objects.0,
+    q.objects.1 ∙ ap (λ z. z ++ q.objects.0) p.objects.1 ∙ append_assoc f.objects p.objects.0 q.objects.0,
+    both_of (IsALiteral f.file) p.objects.0 q.objects.0 p.objects.2
+        (λ k o e. subst (λ file. IsALiteral file o) p.file (q.objects.2 k o e)),
+  );
+}
+
+-- inside of functions no tag is new
+pub keeps_inside : {f g : FileScope} {i j : Bool} {u : List Mark} → i ≡ true → Keeps f i u g → Keeps f j [] g
+keeps_inside e p = record {
+  file = p.file;
+  untagged = p.untagged;
+  tags = p.tags;
+  numbered = p.numbered;
+  functions = p.functions;
+  longer = p.longer;
+  settled = p.settled;
+  whole = p.whole;
+  consistent = p.consistent;
+  fit = λ e. tt;
+  names = p.names;
+  objects = p.objects;
+}
+
+said : (b : Bool) {f g : FileScope} {i : Bool} {u : List Mark} (all : List AMention) → Keeps f i u g → Keeps f i u (cond b g (record g { mentions = all }))
+said true all p = p
+said false all p = record {
+  file = p.file;
+  untagged = p.untagged;
+  tags = p.tags;
+  numbered = p.numbered;
+  functions = p.functions;
+  longer = p.longer;
+  settled = p.settled;
+  whole = p.whole;
+  consistent = p.consistent;
+  fit = p.fit;
+  names = p.names;
+  objects = p.objects;
+}
+
+pub keeps_mention : (s : Scope) {f g : FileScope} {i : Bool} {u : List Mark} (n : ℕ) (kind : MentionKind) (t : CType) (at : ℕ) → Keeps f i u g
+    → Keeps f i u (with_mention s n kind t at g)
+keeps_mention s {g = g} n kind t at p =
+    said (is_measured s.purpose) (take n g.mentions ++ record { kind = kind; ty = t; at = at } ∷ drop n g.mentions) p
+
+one_only : {X : Type 0} (P : X → Type 0) (y : X) → P y → (k : ℕ) (x : X) → slice_get (y ∷ []) k ≡ Some x → P x
+one_only P y p zero x e = let f : y ≡ x = cc in subst P f p
+one_only P y p (suc k) x e = cc
+
+pub objects_more : (records : List Record) (objects : List AnObject) (o : AnObject) → is_object (length records) o.ty ≡ true → AreObjectsWhole records objects
+    → AreObjectsWhole records (objects ++ o ∷ [])
+objects_more records objects o is h n p e = of_one (last_or objects o n p e)
+  where
+    of_one : (slice_get objects n ≡ Some p) ⊎ ((n ≡ length objects) × (o ≡ p)) → is_object (length records) p.ty ≡ true
+    of_one (inl e) = h n p e
+    of_one (inr e) = subst (λ (p : AnObject). is_object (length records) p.ty ≡ true) e.1 is
+
+pub keeps_object : (f : FileScope) (at : ℕ) (all : List Spelling) (i : Bool)
+    → is_object (length f.records) (literal_object (record { file = f.file; at = at }) (literal_of all)).ty ≡ true
+    → Keeps f i [] (with_object f (literal_object (record { file = f.file; at = at }) (literal_of all)))
+keeps_object f at all i is =
+    let o = literal_object (record { file = f.file; at = at }) (literal_of all) in
+    record {
+      file = refl;
+      untagged = refl;
+      tags = refl;
+      numbered = refl;
+      functions = refl;
+      longer = omega arith;
+      settled = λ h. h;
+      whole = objects_more f.records f.objects o is;
+      consistent = λ h. h;
+      fit = λ e. tt;
+      names = (keeps_nothing f i).names;
+      objects = (o ∷ [], refl, one_only (IsALiteral f.file) o (at, all, refl));
+    }
+
+pub keeps_record : (f : FileScope) (r : Record) (g : FileScope) (tag : List ℕ) (right : ℕ) (i : Bool) → IsAdded f r g
+    → AreWhole (length f.records) r.fields → r.fields ≢ [] → Keeps f i (an_end tag right ∷ []) g
+keeps_record f r g tag right i a whole filled =
+    let n = keeps_nothing f i in
+    subst (Keeps f i (an_end tag right ∷ [])) (sym a.file_is) (record {
+      file = refl;
+      untagged = refl;
+      tags = refl;
+      numbered = refl;
+      functions = refl;
+      longer = let l = length-append f.records (r ∷ []) in omega (arith, l);
+      settled = one_more_settled f.numbered f.records r a.number a.small whole filled;
+      whole = λ h n o e.
+          object_more (length f.records) (length (f.records ++ r ∷ [])) (let l = length-append f.records (r ∷ []) in omega (arith, l)) o.ty (h n o e);
+      consistent = λ h. h;
+      fit = λ e. tt;
+      names = n.names;
+      objects = n.objects;
+    })
+
+pub keeps_name : (f : FileScope) (b : Bound) (g : FileScope) (i : Bool) → IsNamed f b g → IsAnEnumerator b → Keeps f i (a_name b.from ∷ []) g
+keeps_name f b g i a is =
+    let n = keeps_nothing f i in
+    subst (Keeps f i (a_name b.from ∷ [])) a.file_is (record {
+      file = refl;
+      untagged = refl;
+      tags = refl;
+      numbered = refl;
+      functions = refl;
+      longer = omega arith;
+      settled = λ h. h;
+      whole = λ h. h;
+      consistent = one_more_consistent f.names b (λ k c e same. absurd (undeclared f.names b.name a.is_new k c e same));
+      fit = λ e. tt;
+      names = (b ∷ [], refl, one_only IsAnEnumerator b is);
+      objects = n.objects;
+    })
+
+pub keeps_tag : {f g : FileScope} {i : Bool} {u : List Mark} (t : Tag) → (i ≡ false → IsTagFit f.untagged f.tags t) → Keeps f i u g → Keeps f i (a_tag t ∷ u) g
+keeps_tag t is p = record {
+  file = p.file;
+  untagged = p.untagged;
+  tags = p.tags;
+  numbered = p.numbered;
+  functions = p.functions;
+  longer = p.longer;
+  settled = p.settled;
+  whole = p.whole;
+  consistent = p.consistent;
+  fit = λ e. (is e, p.fit e);
+  names = p.names;
+  objects = p.objects;
+}
