@@ -1,0 +1,4 @@
+pub mod Filing
+pub mod Receiving
+pub mod Settling
+pub mod Signatures

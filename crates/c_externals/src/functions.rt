@@ -1,0 +1,278 @@
+//! Functions of the file scope (C99 6.7, 6.9.1).
+
+ghost use Rattle.std.specs.Prelude.{◌≡◌, IfOk, OnOk, Some, length, map, slice_get};
+ghost use Rattle.std.specs.Option.{option_copied, option_map};
+ghost use Rattle.c_types.specs.Views.{type_of};
+ghost use Rattle.c_typed.specs.declared.operators.LibraryFunction.{LibraryFunction};
+ghost use Rattle.c_annotated.specs.FileViews.{bound_of, entity_of, function_of as function_view, local_of};
+ghost use Rattle.c_annotated.specs.Views.{statement_of};
+ghost use Rattle.c_checking.specs.Declaring.{declared_among};
+ghost use Rattle.c_checking.specs.Files.{declare_function as declare_function_in, declare_library as declare_library_in, declare_own as declare_own_in};
+ghost use Rattle.c_checking.specs.Files.{function_linkage_agrees, function_linked_before, function_of as function_of_in, known_function as known_function_in};
+ghost use Rattle.c_checking.specs.Files.{library_named as library_named_in, new_function, with_new_function};
+ghost use Rattle.c_externals.specs.Filing.{Files, function_bound, functions_with, library_bound, other_place, with_body};
+ghost use Rattle.c_declaring.specs.Finds.{Finds};
+ghost use Rattle.c_declarators.specs.SpecifierViews.{storage_view};
+ghost use Rattle.c_nodes.specs.Gives.{Gives};
+ghost use Rattle.c_scopes.specs.Scoping.{file_of};
+
+use crate::library::is_library_type;
+use crate::names::{bind, library_named, main_function, once, own_name, place_of_definition};
+use crate::objects::links;
+use c_annotated::{Bound, Entity, Function, How, Local, Statement};
+use c_ast::Spelling;
+use c_declarators::Storage;
+use c_nodes::{Fault, name};
+use c_scopes::FileScope;
+use c_typed::LibraryFunction;
+use c_types::{Ty, copy, same};
+use lay_base::{List, NoMemory, Place, Rule, add};
+use std::alloc::Global;
+use std::mem::replace;
+
+/// Whether a declaration may follow others of the function, which other files can name or not (C99 6.2.2).
+fn linkage_agrees(words: Storage, linked: bool) -> bool
+    ensures { result ≡ function_linkage_agrees (storage_view words) linked }
+{
+    words != Storage::Static || !linked
+}
+
+/// Whether other files can name the function with that number.
+fn linked_before(file: &FileScope, n: u32) -> bool
+    ensures { result ≡ function_linked_before (slice_get (file_of file.now).functions n) }
+{
+    match file.functions.get(n as usize) {
+        Some(g) => g.is_linked,
+        None => false,
+    }
+}
+
+/// The function for which a name stands already.
+fn known_function(
+    alloc: Global,
+    file: &FileScope,
+    words: Storage,
+    x: &Spelling,
+    t: &Ty,
+    old: &Bound,
+) -> Result<u32, Fault>
+    ensures { Gives (λ n. (n, file_of file.now)) result
+        (known_function_in (file_of file.now) (storage_view words) x.now (type_of t.now) (bound_of old.now) (entity_of old.now.entity)) }
+{
+    match &old.entity {
+        Entity::Function(n, u) if same(u, t) && linkage_agrees(words, linked_before(file, *n)) => {
+            Ok(*n)
+        }
+        _ => Err(Fault::Redeclared(name(alloc, x.text.as_slice())?, x.from, old.place)),
+    }
+}
+
+/// A new function, of which no more is known than its declaration.
+fn add_function(
+    alloc: Global,
+    file: &mut FileScope,
+    words: Storage,
+    x: &Spelling,
+    place: u32,
+    t: &Ty,
+    nodes: u64,
+) -> Result<u32, NoMemory>
+    ensures number { IfOk result (λ n. n ≡ length file.old.functions) }
+    ensures added { OnOk result (file_of file.new
+        ≡ with_new_function (file_of file.old) (new_function (file_of file.old) (storage_view words) x.now place (type_of t.now) nodes)) }
+{
+    let n = u32::try_from(file.functions.len()).map_err(|_| NoMemory)?;
+    let g = Function {
+        name: name(alloc, x.text.as_slice())?,
+        place: Place {
+            file: file.number,
+            at: place,
+        },
+        first: place,
+        ty: copy(alloc, t)?,
+        is_linked: links(words),
+        parameters: List::new(alloc),
+        locals: List::new(alloc),
+        body: None,
+        nodes,
+    };
+    add(&mut file.functions, g)?;
+    Ok(n)
+}
+
+/// The number of the function that a declaration declares, which stands at `place`.
+#[tactic(auto, unfolding(c_checking::specs::Files::function_of))]
+pub fn function_of(
+    alloc: Global,
+    file: &mut FileScope,
+    words: Storage,
+    x: &Spelling,
+    place: u32,
+    t: &Ty,
+    nodes: u64,
+) -> Result<u32, Fault>
+    ensures { let f = file_of file.old in
+        Finds (λ n. n) result (function_of_in f (storage_view words) x.now place (type_of t.now) nodes (declared_among f.names x.now.text)) file.new }
+{
+    match file.names.first(x.text.as_slice()) {
+        Some(old) => known_function(alloc, file, words, x, t, old),
+        None => Ok(add_function(alloc, file, words, x, place, t, nodes)?),
+    }
+}
+
+/// Where a name stands in the file that is none of the library's.
+fn place_of_other(file: &FileScope, x: &[u8]) -> Option<u32>
+    ensures { result ≡ other_place (declared_among (map bound_of file.now.names) x.now) }
+{
+    match file.names.first(x) {
+        None => None,
+        Some(b) => match b.entity {
+            Entity::LibraryFunction(_) => None,
+            _ => Some(b.place),
+        },
+    }
+}
+
+/// The name of a function of the library, which stands for nothing else.
+#[tactic(auto, using(crate::proofs::LibraryNames::bound_once))]
+fn bind_library(
+    alloc: Global,
+    file: &mut FileScope,
+    x: &Spelling,
+    from: u32,
+    which: LibraryFunction,
+) -> Result<(), Fault>
+    ensures { Files result (library_bound (file_of file.old) x.now from which) file.new }
+{
+    once(alloc, x, place_of_other(file, x.text.as_slice()))?;
+    bind(
+        alloc,
+        file,
+        x,
+        from,
+        How::Declares,
+        Entity::LibraryFunction(which),
+    )?;
+    Ok(())
+}
+
+/// A function of the library, under its own name and type.
+fn declare_library(
+    alloc: Global,
+    file: &mut FileScope,
+    words: Storage,
+    x: &Spelling,
+    from: u32,
+    t: &Ty,
+    which: LibraryFunction,
+) -> Result<(), Fault>
+    ensures { Files result (declare_library_in (file_of file.old) (storage_view words) x.now from (type_of t.now) which) file.new }
+{
+    if is_library_type(t, which) && links(words) {
+        bind_library(alloc, file, x, from, which)
+    } else {
+        Err(Fault::IllTyped(Rule::Library, x.from))
+    }
+}
+
+/// A function that is none of the library.
+fn declare_own(
+    alloc: Global,
+    file: &mut FileScope,
+    words: Storage,
+    x: &Spelling,
+    place: u32,
+    from: u32,
+    t: &Ty,
+    nodes: u64,
+) -> Result<(), Fault>
+    ensures { Files result (declare_own_in (file_of file.old) (storage_view words) x.now place from (type_of t.now) nodes) file.new }
+{
+    main_function(x.text.as_slice(), x.from, t)?;
+    let n = function_of(alloc, file, words, x, place, t, nodes)?;
+    let entity = Entity::Function(n, copy(alloc, t)?);
+    bind(alloc, file, x, from, How::Declares, entity)?;
+    Ok(())
+}
+
+/// A function of that type, which stands at `place`, and whose name is in scope from `from` on.
+pub fn declare_function(
+    alloc: Global,
+    file: &mut FileScope,
+    words: Storage,
+    x: &Spelling,
+    place: u32,
+    from: u32,
+    t: &Ty,
+    nodes: u64,
+) -> Result<(), Fault>
+    ensures { let f = file_of file.old in
+        Files result (declare_function_in f (storage_view words) x.now place from (type_of t.now) nodes (library_named_in x.now.text)) file.new }
+{
+    match library_named(x.text.as_slice()) {
+        None => declare_own(alloc, file, words, x, place, from, t, nodes),
+        Some(which) => declare_library(alloc, file, words, x, from, t, which),
+    }
+}
+
+/// The number of the function of that type and name, which is defined here.
+pub fn bind_function(
+    alloc: Global,
+    file: &mut FileScope,
+    words: Storage,
+    x: &Spelling,
+    place: u32,
+    left: u32,
+    nodes: u64,
+    t: &Ty,
+) -> Result<u32, Fault>
+    ensures { Finds (λ n. n) result (function_bound (file_of file.old) (storage_view words) x.now place left nodes (type_of t.now)) file.new }
+{
+    own_name(x.from, library_named(x.text.as_slice()))?;
+    main_function(x.text.as_slice(), x.from, t)?;
+    let defined = place_of_definition(file, x.text.as_slice());
+    let n = function_of(alloc, file, words, x, place, t, nodes)?;
+    once(alloc, x, defined)?;
+    let entity = Entity::Function(n, copy(alloc, t)?);
+    bind(alloc, file, x, left, How::Defines, entity)?;
+    Ok(n)
+}
+
+/// A function is defined: it stands there, with these parameters and other locals.
+fn define(
+    g: &mut Function,
+    place: Place,
+    nodes: u64,
+    parameters: List<Local>,
+    locals: List<Local>,
+    body: Statement,
+)
+    ensures { Some (function_view g.new) ≡ with_body place nodes (map local_of parameters) (map local_of locals) (statement_of body) (Some (function_view g.old)) }
+{
+    g.place = place;
+    g.parameters = parameters;
+    g.locals = locals;
+    g.body = Some(body);
+    g.nodes = nodes;
+}
+
+/// The function with that number is defined.
+#[tactic(auto, using(crate::proofs::Changed::function_defined, crate::proofs::Changed::no_function_defined))]
+pub fn define_function(
+    alloc: Global,
+    functions: &mut List<Function>,
+    n: u32,
+    place: Place,
+    nodes: u64,
+    parameters: List<Local>,
+    locals: List<Local>,
+    body: Statement,
+)
+    ensures { map function_view functions.new ≡ functions_with (map function_view functions.old) n place nodes (map local_of parameters) (map local_of locals) (statement_of body) }
+{
+    let mut all = replace(functions, List::new(alloc)).into_vec();
+    if (n as usize) < all.len() {
+        define(&mut all[n as usize], place, nodes, parameters, locals, body);
+    }
+    *functions = List::of(all);
+}
