@@ -102,7 +102,7 @@ fn add_function(
 
 /// The number of the function that a declaration declares, which stands at `place`.
 #[tactic(auto, unfolding(c_checking::specs::Files::function_of))]
-pub fn function_of(
+fn function_of(
     alloc: Global,
     file: &mut FileScope,
     words: Storage,
