@@ -1,5 +1,4 @@
 pub mod Changed
-pub mod FirstDefinitions
 pub mod LibraryNames
 pub mod Marks
 pub mod Named

@@ -1,6 +1,5 @@
 -- What a call answers that declares in a file, against what the checker's definition gives. Want of memory is a free answer.
-use Rattle.std.specs.Prelude.{◌≡◌, ◌&&◌, if◌then◌else◌, ℕ, Bool, true, false, List, Option, Some, None, Result, Ok, Err, slice_get, slice_set}
-use Rattle.std.specs.Str.{bytes_eq}
+use Rattle.std.specs.Prelude.{◌≡◌, if◌then◌else◌, ℕ, List, Option, Some, None, Result, Ok, Err, slice_get, slice_set}
 use Rattle.lay_base.specs.declared.place.Place.{Place}
 use Rattle.c_types.specs.Types.{CType}
 use Rattle.c_ast.specs.declared.words.Spelling.{Spelling}
@@ -32,13 +31,6 @@ file_scope f = Scopes.at_file_scope f
 abbrev pub place_if_any : Option Scopes.Bound → Option ℕ
 place_if_any None = None
 place_if_any (Some b) = Some b.place
-
-abbrev pub is_definition_of : Scopes.Bound → List ℕ → Bool
-is_definition_of b x = bytes_eq b.name x && is_defining b.how
-  where
-    is_defining : Scopes.How → Bool
-    is_defining Scopes.defines = true
-    is_defining how = false
 
 -- a name that stood before at some place is one too many
 abbrev pub once_after : Spelling → Option ℕ → Answer (Unit {0})

@@ -9,7 +9,7 @@ ghost use Rattle.c_types.specs.Sameness.{same_type};
 ghost use Rattle.c_checking.specs.Declaring.{declared_among, with_bound};
 ghost use Rattle.c_checking.specs.Files.{defined_among, first_named, is_main as is_main_in, library, main_type, library_named as library_named_in, main_function as main_function_in};
 ghost use Rattle.c_checking.specs.Files.{main_object as main_object_in, own_name as own_name_in};
-ghost use Rattle.c_externals.specs.Filing.{file_scope, is_definition_of, once_after, place_if_any};
+ghost use Rattle.c_externals.specs.Filing.{file_scope, once_after, place_if_any};
 ghost use Rattle.c_nodes.specs.Gives.{Gives};
 ghost use Rattle.c_scopes.specs.Scoping.{file_of, scope_of};
 
@@ -158,27 +158,11 @@ pub fn place_of(file: &FileScope, x: &[u8]) -> Option<u32>
     file.names.first(x).map(|b| b.place)
 }
 
-fn is_definition(b: &Bound, x: &[u8]) -> bool
-    ensures { result ≡ is_definition_of (bound_of b.now) x.now }
-{
-    b.name.as_slice() == x && b.how == How::Defines
-}
-
 /// Where a name is defined first, if it is.
-#[tactic(auto, using(crate::proofs::FirstDefinitions::defined_step, crate::proofs::FirstDefinitions::not_declared))]
 pub fn place_of_definition(file: &FileScope, x: &[u8]) -> Option<u32>
     ensures { result ≡ place_if_any (defined_among (map bound_of file.now.names) x.now) }
 {
-    // Most names that are defined stood nowhere before.
-    if file.names.first(x).is_none() {
-        return None;
-    }
-    for b in file.names.as_slice() {
-        if is_definition(b, x) {
-            return Some(b.place);
-        }
-    }
-    None
+    file.names.first_definition(x).map(|b| b.place)
 }
 
 /// Binds a name in the file, from that byte on.

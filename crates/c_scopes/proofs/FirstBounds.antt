@@ -1,22 +1,23 @@
--- The first declaration of a name stands at the first place of the name.
-use Rattle.std.proofs.Common.{◌≡◌, ℕ, zero, suc, ◌+◌, Bool, true, false, List, [], ◌∷◌, map, Option, Some, None, refl, cond, arith, ◌≤◌}
+-- The first declaration of a name, and its first definition, stand at the first places where a list has them.
+use Rattle.std.proofs.Common.{◌≡◌, ℕ, zero, suc, ◌+◌, Bool, true, false, List, [], ◌∷◌, map, Option, Some, None, refl, sym, ap, ◌∙◌, cond, arith, ◌≤◌}
 use Rattle.std.proofs.lemmas.Bool.Decides.{nat_tests}
-use Rattle.std.proofs.lemmas.Slice.Eq.{bytes_eq-Decides}
-use Rattle.std.specs.Prelude.{◌&&◌, nat_le, slice_get}
+use Rattle.std.specs.Prelude.{◌&&◌, if◌then◌else◌, nat_le, slice_get}
 use Rattle.std.specs.Option.{option_map}
 use Rattle.std.specs.Str.{bytes_eq}
-use Rattle.c_tags.specs.Names.{number_in}
 use Rattle.c_erasure.specs.Scopes as Scopes
 use Rattle.c_checking.specs.Declaring.{declared_among}
+use Rattle.c_checking.specs.Files.{defined_among}
 use Rattle.c_annotated.specs.declared.names.Bound.{Bound}
-use Rattle.c_annotated.specs.FileViews.{bound_of}
+use Rattle.c_annotated.specs.declared.names.How.{How}
+use Rattle.c_annotated.specs.declared.names.How.TheVariants as H
+use Rattle.c_annotated.specs.FileViews.{bound_of, how_of}
+use Rattle.c_scopes.specs.Places.{declares, defines, first_place, is_defining}
 
--- the tests of a name, each way round
-turned : (x y : List ℕ) → bytes_eq x y ≡ bytes_eq y x
-turned x y = grind (arith, bytes_eq-Decides x y, bytes_eq-Decides y x)
+-- ---- the first that passes a test
 
-abbrev name_of : Bound → List ℕ
-name_of b = b.name
+abbrev first_of : (Bound → Bool) → List Bound → Option Scopes.Bound
+first_of test [] = None
+first_of test (b ∷ more) = if test b then Some (bound_of b) else first_of test more
 
 none_next : (o : Option ℕ) → option_map (λ k. k + 1) o ≡ None → o ≡ None
 none_next None h = refl
@@ -26,29 +27,66 @@ some_next : (o : Option ℕ) (n : ℕ) → option_map (λ k. k + 1) o ≡ Some n
 some_next None n h = cc
 some_next (Some k) n h = let e : k + 1 ≡ n = cc in (k, refl, omega (arith, e))
 
-missing_by : (test : Bool) (b : Bound) (o : Option ℕ) (p : Option Scopes.Bound) → (o ≡ None → p ≡ None)
-    → cond test (Some 0) (option_map (λ k. k + 1) o) ≡ None → cond test (Some (bound_of b)) p ≡ None
+missing_by : (passes : Bool) (b : Bound) (o : Option ℕ) (p : Option Scopes.Bound) → (o ≡ None → p ≡ None)
+    → cond passes (Some 0) (option_map (λ k. k + 1) o) ≡ None → cond passes (Some (bound_of b)) p ≡ None
 missing_by true b o p f h = cc
 missing_by false b o p f h = f (none_next o h)
 
-pub missing : (all : List Bound) (x : List ℕ) → number_in (map name_of all) x ≡ None → declared_among (map bound_of all) x ≡ None
-missing [] x h = refl
-missing (b ∷ all) x h = rw (turned b.name x) (missing_by (bytes_eq x b.name) b (number_in (map name_of all) x) (declared_among (map bound_of all) x) (missing all x) h)
+missing : (test : Bound → Bool) (all : List Bound) → first_place test all ≡ None → first_of test all ≡ None
+missing test [] h = refl
+missing test (b ∷ all) h = missing_by (test b) b (first_place test all) (first_of test all) (missing test all) h
 
-found_by : (test : Bool) (b : Bound) (all : List Bound) (o : Option ℕ) (p : Option Scopes.Bound) (n : ℕ)
+found_by : (passes : Bool) (b : Bound) (all : List Bound) (o : Option ℕ) (p : Option Scopes.Bound) (n : ℕ)
     → ((k : ℕ) → o ≡ Some k → option_map bound_of (slice_get all k) ≡ p)
-    → cond test (Some 0) (option_map (λ k. k + 1) o) ≡ Some n → option_map bound_of (slice_get (b ∷ all) n) ≡ cond test (Some (bound_of b)) p
+    → cond passes (Some 0) (option_map (λ k. k + 1) o) ≡ Some n → option_map bound_of (slice_get (b ∷ all) n) ≡ cond passes (Some (bound_of b)) p
 found_by true b all o p zero f h = refl
 found_by true b all o p (suc n) f h = cc
 found_by false b all o p n f h =
     let k = some_next o n h in
     rw k.2 (f k.0 k.1)
 
-pub found : (all : List Bound) (x : List ℕ) (n : ℕ) → number_in (map name_of all) x ≡ Some n
+found : (test : Bound → Bool) (all : List Bound) (n : ℕ) → first_place test all ≡ Some n → option_map bound_of (slice_get all n) ≡ first_of test all
+found test [] n h = cc
+found test (b ∷ all) n h = found_by (test b) b all (first_place test all) (first_of test all) n (found test all) h
+
+-- ---- the first declaration of a name
+
+declared_first : (all : List Bound) (x : List ℕ) → first_of (declares x) all ≡ declared_among (map bound_of all) x
+declared_first [] x = refl
+declared_first (b ∷ all) x = ap (λ r. cond (bytes_eq b.name x) (Some (bound_of b)) r) (declared_first all x)
+
+pub declared_there : (all : List Bound) (x : List ℕ) (n : ℕ) → first_place (declares x) all ≡ Some n
     → option_map bound_of (slice_get all n) ≡ declared_among (map bound_of all) x
-found [] x n h = cc
-found (b ∷ all) x n h = rw (turned b.name x)
-    (found_by (bytes_eq x b.name) b all (number_in (map name_of all) x) (declared_among (map bound_of all) x) n (found all x) h)
+declared_there all x n h = found (declares x) all n h ∙ declared_first all x
+
+pub declared_nowhere : (all : List Bound) (x : List ℕ) → first_place (declares x) all ≡ None → declared_among (map bound_of all) x ≡ None
+declared_nowhere all x h = sym (declared_first all x) ∙ missing (declares x) all h
+
+-- ---- the first definition of a name
+
+defined_step : (b : Bound) (more : List Scopes.Bound) (x : List ℕ)
+    → cond (bytes_eq b.name x && is_defining b.how) (Some (bound_of b)) (defined_among more x) ≡ defined_among (bound_of b ∷ more) x
+defined_step b more x = go b.how
+  where
+    seen_as : How → Scopes.Bound
+    seen_as h = record { name = b.name; place = b.place; from = b.from; how = how_of h; entity = (bound_of b).entity }
+
+    go : (h : How) → cond (bytes_eq b.name x && is_defining h) (Some (seen_as h)) (defined_among more x) ≡ defined_among (seen_as h ∷ more) x
+    go H.Declares = refl
+    go H.Tentative = refl
+    go H.Defines = refl
+
+defined_first : (all : List Bound) (x : List ℕ) → first_of (defines x) all ≡ defined_among (map bound_of all) x
+defined_first [] x = refl
+defined_first (b ∷ all) x =
+    ap (λ r. cond (bytes_eq b.name x && is_defining b.how) (Some (bound_of b)) r) (defined_first all x) ∙ defined_step b (map bound_of all) x
+
+pub defined_there : (all : List Bound) (x : List ℕ) (n : ℕ) → first_place (defines x) all ≡ Some n
+    → option_map bound_of (slice_get all n) ≡ defined_among (map bound_of all) x
+defined_there all x n h = found (defines x) all n h ∙ defined_first all x
+
+pub defined_nowhere : (all : List Bound) (x : List ℕ) → first_place (defines x) all ≡ None → defined_among (map bound_of all) x ≡ None
+defined_nowhere all x h = sym (defined_first all x) ∙ missing (defines x) all h
 
 -- ---- a name is visible where the scope of its first declaration began, and only where it has one
 

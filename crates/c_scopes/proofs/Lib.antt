@@ -1,1 +1,2 @@
 mod FirstBounds
+mod FirstPlaces

@@ -1,29 +1,35 @@
 //! `BoundNames`: what names stand for, in the order of their declarations.
 
-ghost use Rattle.std.specs.Prelude.{◌≡◌, ◌++◌, ◌∷◌, [], OnErr, OnOk, length, map, slice_get};
+ghost use Rattle.std.specs.Prelude.{◌≡◌, ◌++◌, ◌∷◌, [], Some, None, if◌then◌else◌, OnErr, OnOk, length, map, slice_get};
 ghost use Rattle.std.specs.Option.{option_copied, option_map};
 ghost use Rattle.c_erasure.specs.Scopes.{visible};
 ghost use Rattle.c_checking.specs.Declaring.{declared_among};
+ghost use Rattle.c_checking.specs.Files.{defined_among};
 ghost use Rattle.c_annotated.specs.FileViews.{bound_of, entity_of};
+ghost use Rattle.c_scopes.specs.Places.{is_defining};
 
-use c_annotated::{Bound, Entity};
-use c_tags::Names;
+use crate::places::{Places, declared_at, defined_at, note};
+use c_annotated::{Bound, Entity, How};
+use indexmap::IndexMap;
 use lay_base::NoMemory;
 use std::alloc::Global;
 use std::marker::Model;
 
-/// Names with what they stand for, in the order of their declarations, of which the first of a name is found in constant time.
+/// Names with what they stand for, in the order of their declarations. The first of a name, and the first that defines it, are found in
+/// constant time.
 #[derive(Drop)]
 pub struct BoundNames {
+    // The list that contracts speak of. The table has each name once.
     bounds: Vec<Bound>,
-    places: Names,
+    places: IndexMap<Vec<u8>, Places>,
 }
 
 impl Model for BoundNames {
-    ghost use Rattle.std.specs.Prelude.{◌≡◌, List, map};
+    ghost use Rattle.std.specs.Prelude.{List};
     ghost use Rattle.c_annotated.specs.declared.names.Bound.{Bound};
     ghost use Rattle.std.specs.Coded.{codes};
     ghost use Rattle.c_annotated.specs.contracts.names.Bound as bound;
+    ghost use Rattle.c_scopes.specs.Places.{HasPlaces};
 
     ghost Value = { List Bound };
 
@@ -31,7 +37,7 @@ impl Model for BoundNames {
 
     ghost view = { λ it. it.bounds.items };
 
-    ghost invariant = { λ it. it.places ≡ map (λ b. b.name) it.bounds.items };
+    ghost invariant = { λ it. HasPlaces it.places.entries it.bounds.items };
 }
 
 /// The first name among some whose scope began by a byte.
@@ -52,6 +58,17 @@ fn bound_at(bounds: &[Bound], place: usize) -> Option<&Bound>
     bounds.get(place)
 }
 
+/// The place of a declaration, if it defines its name.
+fn definition_at(how: How, place: u32) -> Option<u32>
+    ensures { result ≡ if is_defining how then Some place else None }
+{
+    if how == How::Defines {
+        Some(place)
+    } else {
+        None
+    }
+}
+
 impl BoundNames {
     /// No names yet.
     pub fn new(alloc: Global) -> BoundNames
@@ -59,7 +76,7 @@ impl BoundNames {
     {
         BoundNames {
             bounds: Vec::new(alloc),
-            places: Names::new(alloc),
+            places: IndexMap::new(alloc),
         }
     }
 
@@ -78,11 +95,22 @@ impl BoundNames {
     }
 
     /// The first declaration of a name.
-    #[tactic(auto, using(crate::proofs::FirstBounds::found, crate::proofs::FirstBounds::missing))]
+    #[tactic(auto, using(crate::proofs::FirstBounds::declared_there, crate::proofs::FirstBounds::declared_nowhere))]
     pub fn first(&self, x: &[u8]) -> Option<&Bound>
         ensures { option_map bound_of (option_copied result) ≡ declared_among (map bound_of self.now) x.now }
     {
-        match self.places.number_of(x) {
+        match declared_at(&self.places, x) {
+            Some(place) => bound_at(&self.bounds, place as usize),
+            None => None,
+        }
+    }
+
+    /// The first declaration that defines a name.
+    #[tactic(auto, using(crate::proofs::FirstBounds::defined_there, crate::proofs::FirstBounds::defined_nowhere))]
+    pub fn first_definition(&self, x: &[u8]) -> Option<&Bound>
+        ensures { option_map bound_of (option_copied result) ≡ defined_among (map bound_of self.now) x.now }
+    {
+        match defined_at(&self.places, x) {
             Some(place) => bound_at(&self.bounds, place as usize),
             None => None,
         }
@@ -106,13 +134,21 @@ impl BoundNames {
         }
     }
 
-    /// Adds a name after the others, which may have it already.
+    /// Adds a name after the others, which may have it already. 2^32 names do not fit.
     pub fn add(&mut self, alloc: Global, b: Bound) -> Result<(), NoMemory>
         ensures added { OnOk result (self.new ≡ self.old ++ b ∷ []) }
         ensures unchanged { OnErr result (self.new ≡ self.old) }
     {
+        let place = u32::try_from(self.bounds.len()).map_err(|_| NoMemory)?;
         self.bounds.reserve(1).map_err(|_| NoMemory)?;
-        self.places.add(alloc, b.name.as_slice())?;
+        let definition = definition_at(b.how, place);
+        note(
+            &mut self.places,
+            alloc,
+            b.name.as_slice(),
+            place,
+            definition,
+        )?;
         self.bounds.push_reserved(b);
         Ok(())
     }
