@@ -7,7 +7,7 @@ use Rattle.c_erasure.specs.Marks.{a_name, marks_of_specifiers, marks_of_declarat
 use Rattle.c_erasure.specs.Marks.{after_declarator, scope_beginnings}
 use Rattle.c_checking.proofs.Agreement.{beginnings_append}
 use Rattle.c_checking.proofs.Extends.{kept, behind, one_of_both}
-use Rattle.c_checking_items.specs.TextOrder.{place_of_name, names_of_declarators, names_of_item}
+use Rattle.c_text_order.specs.TextOrder.{place_of_name, names_of_declarators, names_of_item}
 
 abbrev IsIn : List ℕ → ℕ → Type 0
 IsIn all p = (j : ℕ) × (slice_get all j ≡ Some p)

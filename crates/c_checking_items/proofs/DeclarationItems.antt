@@ -29,7 +29,7 @@ use Rattle.c_checking.proofs.Sound.{sound_base}
 use Rattle.c_checking_files.proofs.Declarations.{first_named}
 use Rattle.c_checking_files.proofs.Keeping.{keep_base}
 use Rattle.c_checking_files.proofs.LocalObjects.{IsValueInRange}
-use Rattle.c_checking_items.specs.TextOrder.{Rising, places_of_declarators, names_of_declarators, place_of_name}
+use Rattle.c_text_order.specs.TextOrder.{Rising, places_of_declarators, names_of_declarators, place_of_name}
 use Rattle.c_checking_items.proofs.Known.{IsKnown, none_new}
 use Rattle.c_checking_items.proofs.Rises.{passed, below_then, part_of}
 use Rattle.c_checking_items.proofs.Stepping.{Stepped, stepped_then, no_step, found_step, counted_by, ready_behind, ends_append}

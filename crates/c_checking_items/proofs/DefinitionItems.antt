@@ -34,7 +34,7 @@ use Rattle.c_checking_files.proofs.FileScopes.{MayDeclare}
 use Rattle.c_checking_files.proofs.Keeping.{keep_base, keep_steps}
 use Rattle.c_checking_files.proofs.Kept.{keeps_mention}
 use Rattle.c_checking_files.proofs.StatementLaws.{AreItemsInRange}
-use Rattle.c_checking_items.specs.TextOrder.{Rising, place_of_name}
+use Rattle.c_text_order.specs.TextOrder.{Rising, place_of_name}
 use Rattle.c_checking_items.proofs.Known.{IsKnown, none_new}
 use Rattle.c_checking_items.proofs.Rises.{passed, below_then}
 use Rattle.c_checking_items.proofs.Stepping.{Stepped, stepped_then, found_step}

@@ -11,7 +11,7 @@ use Rattle.c_erasure.specs.Scopes.{Tag, tag_at, or_else}
 use Rattle.c_checking.specs.Declaring.{tag_named}
 use Rattle.c_checking.proofs.NodesOfParts.{same_bytes}
 use Rattle.c_checking_files.proofs.Kept.{IsTagFit, AreTagsFit}
-use Rattle.c_checking_items.specs.TextOrder.{IsTagBefore, AreTagsInOrder}
+use Rattle.c_text_order.specs.TextOrder.{IsTagBefore, AreTagsInOrder}
 use Rattle.c_checking_items.proofs.Names.{names_equal, all_at}
 
 -- ---- the first tag of a name

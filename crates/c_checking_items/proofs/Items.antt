@@ -19,7 +19,7 @@ use Rattle.c_checking.proofs.Agreement.{Ready}
 use Rattle.c_checking.proofs.InRange.{AreSpecifiersInRange, IsDeclaratorInRange}
 use Rattle.c_checking.proofs.Results.{bound_ok, given}
 use Rattle.c_checking_files.proofs.StatementLaws.{AreItemsInRange}
-use Rattle.c_checking_items.specs.TextOrder.{Rising, places_of_item, names_of_item, names_of_file}
+use Rattle.c_text_order.specs.TextOrder.{Rising, places_of_item, names_of_item, names_of_file}
 use Rattle.c_checking_items.proofs.Known.{IsKnown, none_new}
 use Rattle.c_checking_items.proofs.Rises.{passed, below_then, part_of, rising_front}
 use Rattle.c_checking_items.proofs.Stepping.{Stepped, stepped_then, no_step, counted_by, ready_behind}

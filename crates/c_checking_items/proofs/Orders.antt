@@ -10,7 +10,7 @@ use Rattle.c_ast.specs.Sizes.{size_item}
 use Rattle.c_erasure.specs.Files.{AreAscending, nodes_up_to, nodes_at}
 use Rattle.c_erasure.specs.Scopes.{FileScope, AnObject}
 use Rattle.c_checking_files.proofs.Parts.{Parted, none, is_made, is_bytes, NoneBegins}
-use Rattle.c_checking_items.specs.TextOrder.{Rising, places_of_item, places_of_file}
+use Rattle.c_text_order.specs.TextOrder.{Rising, places_of_item, places_of_file}
 use Rattle.c_checking_items.proofs.Items.{places_in, AreCounted}
 use Rattle.c_checking_items.proofs.Rises.{passed, rising_later}
 

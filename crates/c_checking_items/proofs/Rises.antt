@@ -3,7 +3,7 @@ use Rattle.std.proofs.Common.{◌≡◌, ℕ, zero, suc, ◌+◌, ◌≤◌, ◌
 use Rattle.std.specs.Prelude.{◌⊎◌, map, Some, slice_get}
 use Rattle.c_checking.proofs.Extends.{one_of_both}
 use Rattle.c_checking_files.proofs.Parts.{Parted, none, is_made, is_bytes}
-use Rattle.c_checking_items.specs.TextOrder.{Rising}
+use Rattle.c_text_order.specs.TextOrder.{Rising}
 
 -- behind a first part
 pub record Passed (at : ℕ) (u v : List ℕ) : Type 0 where

@@ -18,7 +18,8 @@ use Rattle.c_erasure.specs.Scopes.{FileScope, Bound, Tag, an_object, a_function,
 use Rattle.c_checking.specs.Files.{unread, is_tentative, settled, closed_file, filed, annotated}
 use Rattle.c_checking.proofs.Results.{bound_ok, given}
 use Rattle.c_checking_items.proofs.AddressesStay.{keeps_constants}
-use Rattle.c_checking_items.specs.TextOrder.{AreInTextOrder}
+use Rattle.c_text_order.specs.TextOrder.{AreInTextOrder}
+use Rattle.c_checking_items.specs.Found.{IsFound}
 use Rattle.c_checking_items.proofs.Known.{IsADeclaredObject, IsObjectKnown, IsFunctionKnown, IsKnown, none_new}
 use Rattle.c_checking_items.proofs.Names.{all_at}
 use Rattle.c_checking_items.proofs.Declaring.{object_or_not, function_or_not}
@@ -39,12 +40,6 @@ pub record AreFitItems (untagged : ℕ → List ℕ) (items : List Trees.Item) :
   -- no enumeration has the name of a structure without a tag
   pub spelled : (k : ℕ) (t : Tag) → slice_get (tags_in (marks_of_file untagged items)) k ≡ Some t → t.is_enumeration ≡ true → (at : ℕ)
       → t.name ≢ untagged at
-
--- the annotated file of the items, with that number and those names
-pub record IsFound (file : ℕ) (untagged : ℕ → List ℕ) (items : List Trees.Item) (f : FileScope) : Type 0 where
-  pub is_file : IsFileOf items f
-  pub number : f.file ≡ file
-  pub untagged_are : f.untagged ≡ untagged
 
 ascending_at : (all : List ℕ) → AreAscending all → (j k a b : ℕ) → j < k → slice_get all j ≡ Some a → slice_get all k ≡ Some b → a < b
 ascending_at [] h j k a b l e f = cc

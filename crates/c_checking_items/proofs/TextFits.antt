@@ -1,38 +1,35 @@
--- What the theorem on whole files asks of items holds of the tree of a file, but for the order of its names, literals and tags, which is asked here.
-use Rattle.std.proofs.Common.{◌≡◌, ◌≢◌, ℕ, true, subst, List}
-use Rattle.std.specs.Prelude.{Some, Ok, slice_get}
+-- What the theorem on whole files asks of items holds of the tree of a text, where `untagged` gives names that no tag of a text has.
+use Rattle.std.proofs.Common.{◌≡◌, ℕ, true, List, subst, sym}
 use Rattle.c_lexer.specs.TokenPlaces.{TokensHavePlaces}
 use Rattle.c_ast.specs.Trees
 use Rattle.c_ast.specs.Laws.{TreesBeginFirst}
 use Rattle.c_ast.specs.TreesOfFiles.{IsTreeOf}
 use Rattle.c_erasure.specs.Marks.{tags_in, marks_of_file}
-use Rattle.c_erasure.specs.Scopes.{FileScope, Tag}
+use Rattle.c_erasure.specs.Scopes.{Tag}
 use Rattle.c_order.proofs.Ordered.{tree_ordered, marks_are_in_order}
-use Rattle.c_checking.specs.Files.{annotated}
-use Rattle.c_checking_items.specs.TextOrder.{AreInTextOrder}
+use Rattle.c_text_order.specs.TextOrder.{IsUnwritten, TextsAreInOrder}
+use Rattle.c_checking_items.specs.Found.{AnnotatedFilesAreFound}
+use Rattle.c_checking_items.proofs.Names.{all_at}
 use Rattle.c_checking_items.proofs.RangedParts.{AreRanged}
 use Rattle.c_checking_items.proofs.RangedItems.{ranged_text}
 use Rattle.c_checking_items.proofs.RangedTokens.{text_ranged}
 use Rattle.c_checking_items.proofs.ItemsInTime.{text_fits}
-use Rattle.c_checking_items.proofs.SoundFiles.{AreFitItems, IsFound, sound_file}
+use Rattle.c_checking_items.proofs.SoundFiles.{AreFitItems, sound_file}
 
-pub record IsFitText (untagged : ℕ → List ℕ) (bytes : List ℕ) (items : List Trees.Item) : Type 0 where
-  pub tree : IsTreeOf bytes items
-  pub order : AreInTextOrder untagged items
-  pub spelled : (k : ℕ) (t : Tag) → slice_get (tags_in (marks_of_file untagged items)) k ≡ Some t → t.is_enumeration ≡ true → (at : ℕ)
-      → t.name ≢ untagged at
+module _ (places : TokensHavePlaces) (first : TreesBeginFirst) (texts : TextsAreInOrder) where
+  pub text_is_fit : (untagged : ℕ → List ℕ) (bytes : List ℕ) (items : List Trees.Item) → ((at : ℕ) → IsUnwritten (untagged at)) → IsTreeOf bytes items
+      → AreFitItems untagged items
+  text_is_fit untagged bytes items unwritten tree = record {
+    formed = tree.3.well_formed;
+    order = texts.order bytes items untagged tree;
+    beginnings = (marks_are_in_order places).beginnings bytes items untagged tree;
+    fit = text_fits first untagged items tree.3.well_formed 0 (tree_ordered places bytes items tree)
+        (ranged_text untagged items (subst AreRanged tree.3.spelled (text_ranged bytes tree.0 tree.1)));
+    spelled = λ k t e enumerates at same.
+        all_at (λ (t : Tag). t.is_enumeration ≡ true → IsUnwritten t.name → ⊥) (tags_in (marks_of_file untagged items))
+        (texts.enumerations bytes items untagged tree) k t e enumerates (subst IsUnwritten (sym same) (unwritten at));
+  }
 
-pub text_is_fit : TokensHavePlaces → TreesBeginFirst → (untagged : ℕ → List ℕ) (bytes : List ℕ) (items : List Trees.Item)
-    → IsFitText untagged bytes items → AreFitItems untagged items
-text_is_fit places law untagged bytes items t = record {
-  formed = t.tree.3.well_formed;
-  order = t.order;
-  beginnings = (marks_are_in_order places).beginnings bytes items untagged t.tree;
-  fit = text_fits law untagged items t.tree.3.well_formed 0 (tree_ordered places bytes items t.tree)
-      (ranged_text untagged items (subst AreRanged t.tree.3.spelled (text_ranged bytes t.tree.0 t.tree.1)));
-  spelled = t.spelled;
-}
-
-pub sound_text : TokensHavePlaces → TreesBeginFirst → (file : ℕ) (untagged : ℕ → List ℕ) (bytes : List ℕ) (items : List Trees.Item)
-    → IsFitText untagged bytes items → (f : FileScope) → annotated file untagged items ≡ Ok f → IsFound file untagged items f
-sound_text places law file untagged bytes items t f h = sound_file file untagged items (text_is_fit places law untagged bytes items t) f h
+  pub sound_text : AnnotatedFilesAreFound
+  sound_text file untagged bytes items f unwritten tree h =
+      sound_file file untagged items (text_is_fit untagged bytes items unwritten tree) f h

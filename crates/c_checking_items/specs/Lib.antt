@@ -1,1 +1,1 @@
-pub mod TextOrder
+pub mod Found
