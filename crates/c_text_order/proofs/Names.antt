@@ -3,11 +3,12 @@ use Rattle.std.proofs.Common.{◌≡◌, ℕ, List, [], ◌∷◌, ◌++◌, Opt
 use Rattle.std.specs.Prelude.{unwrap_or}
 use Rattle.c_lexer.specs.declared.punctuator.Punctuator.TheVariants as M
 use Rattle.c_ast.specs.Trees
-use Rattle.c_ast.specs.Spelling.{Lexeme, punctuator, spelled_comma, spelled_declarator, spelled_value, spelled_init_declarators, spelled_item, spelled_items}
+use Rattle.c_ast.specs.Spelling.{Lexeme, punctuator, spelled_comma, spelled_declarator, spelled_value, spelled_init_declarators, spelled_item}
+use Rattle.c_ast.specs.Spelling.{spelled_items}
 use Rattle.c_ast.specs.WellFormed.{IsComma, IsDeclarator, IsValue, AreInitDeclarators, IsItem, AreItems, types_after}
 use Rattle.c_erasure.specs.Declarators.{declared_name}
-use Rattle.c_erasure.specs.Marks.{Mark, a_tag, an_end, a_name, marks_if_any, marks_of_specifiers, marks_of_declarator, marks_of_initial, scope_beginnings}
-use Rattle.c_erasure.specs.Marks.{name_from, after_declarator}
+use Rattle.c_erasure.specs.Marks.{Mark, a_tag, an_end, a_name, marks_if_any, marks_of_specifiers, marks_of_declarator, marks_of_initial}
+use Rattle.c_erasure.specs.Marks.{scope_beginnings, name_from, after_declarator}
 use Rattle.c_order.proofs.Walks.{comma_along, consts_along}
 use Rattle.c_order.proofs.MarksOfParts.{specifiers_along, optional_along, parameter_list_along}
 use Rattle.c_order.proofs.MarksOfFiles.{initializer_along, block_items_along}
@@ -39,7 +40,7 @@ module _ (u : ℕ → List ℕ) (types : List (List ℕ)) where
       let name = place_of_name (declared_name d) in
       let m = marks_of_declarator u d in
       let e = append_assoc name (scope_beginnings m) (scope_beginnings (marks_if_any u bound))
-          ∙ ap (λ x. name ++ x) (sym (beginnings_of_both m (marks_if_any u bound))) in
+      ∙ ap (λ x. name ++ x) (sym (beginnings_of_both m (marks_if_any u bound))) in
       subst (λ places. Rise places (spelled_declarator (Trees.array d left bound right) rest) rest) e
       (both (declarator_names d w.1) (skip (before (marked (optional_along u types bound w.2)) (skip none))))
   declarator_names (Trees.function d left all right) w =
@@ -53,8 +54,9 @@ module _ (u : ℕ → List ℕ) (types : List (List ℕ)) where
 
   one_names : (d : Trees.Declarator) (value : Option (ℕ × Trees.Expression)) → IsDeclarator types d → IsValue types value → (from : ℕ)
       {others : List ℕ} {tokens rest : List Lexeme} → Rise others tokens rest → Rise (from ∷ others) tokens rest
-      → Rise ((place_of_name (declared_name d) ++ scope_beginnings (marks_of_declarator u d ++ (a_name (name_from value from) ∷ marks_of_initial u value)))
-      ++ others) (spelled_declarator d (spelled_value value tokens)) rest
+      → Rise (place_of_name (declared_name d)
+      ++ scope_beginnings (marks_of_declarator u d ++ (a_name (name_from value from) ∷ marks_of_initial u value)) ++ others)
+      (spelled_declarator d (spelled_value value tokens)) rest
   one_names d None w v from {others = others} {tokens = tokens} {rest = rest} p q =
       subst (λ places. Rise places (spelled_declarator d tokens) rest)
       (regrouped (place_of_name (declared_name d)) (marks_of_declarator u d) [] from others)
@@ -83,10 +85,11 @@ module _ (u : ℕ → List ℕ) (types : List (List ℕ)) where
       let own = place_of_name (declared_name d) in
       let m = marks_of_declarator u d in
       let s = scope_beginnings (marks_of_specifiers u specs) in
-      let e = ap (λ x. s ++ x) (append_assoc own (scope_beginnings m) (left ∷ []) ∙ ap (λ x. own ++ x) (sym (beginnings_of_both m (a_name left ∷ []))))
-          ∙ sym (append_assoc s own (scope_beginnings (m ++ a_name left ∷ []))) in
+      let last = append_assoc own (scope_beginnings m) (left ∷ []) ∙ ap (λ x. own ++ x) (sym (beginnings_of_both m (a_name left ∷ []))) in
+      let e = ap (λ x. s ++ x) last ∙ sym (append_assoc s own (scope_beginnings (m ++ a_name left ∷ []))) in
+      let body = here (after (unmarked (block_items_along u types items w.3)) (skip none)) in
       subst (λ places. Rise places (spelled_item (Trees.defines specs d left items right) rest) rest) e
-      (both (marked (specifiers_along u types specs w.0)) (both (declarator_names d w.1) (here (after (unmarked (block_items_along u types items w.3)) (skip none)))))
+      (both (marked (specifiers_along u types specs w.0)) (both (declarator_names d w.1) body))
   item_names (Trees.declaration d) w = both (marked (specifiers_along u types d.specs w.0)) (declarators_name true d.all w.1 d.semicolon)
 
 pub items_name : (u : ℕ → List ℕ) (types : List (List ℕ)) (t : List Trees.Item) → AreItems types t → {rest : List Lexeme}

@@ -4,8 +4,8 @@ use Rattle.c_lexer.specs.declared.punctuator.Punctuator.TheVariants as M
 use Rattle.c_ast.specs.Trees
 use Rattle.c_ast.specs.Places.{first_specifier, first_specifiers, first_item}
 use Rattle.c_ast.specs.Spelling.{Lexeme, punctuator, spelled_value, spelled_init_declarators, spelled_declaration, spelled_if_any, spelled_specifier}
-use Rattle.c_ast.specs.Spelling.{spelled_specifiers, spelled_for_start, spelled_statement, spelled_block_item, spelled_block_items, spelled_switch_item}
-use Rattle.c_ast.specs.Spelling.{spelled_switch_items, spelled_item, spelled_items}
+use Rattle.c_ast.specs.Spelling.{spelled_specifiers, spelled_for_start, spelled_statement, spelled_block_item, spelled_block_items}
+use Rattle.c_ast.specs.Spelling.{spelled_switch_item, spelled_switch_items, spelled_item, spelled_items}
 use Rattle.c_ast.specs.WellFormed.{AreSpecifiers, IsSpecifier, IsValue, AreInitDeclarators, IsDeclaration, IsExpressionIfAny, IsForStart, IsStatement}
 use Rattle.c_ast.specs.WellFormed.{IsBlockItem, AreBlockItems, IsSwitchItem, AreSwitchItems, IsItem, AreItems, types_after}
 use Rattle.c_erasure.specs.Literals.{literals_if_any, literals_of_value, place_if_static, made_by_declarators, made_by_declaration, made_by_start}
@@ -23,17 +23,20 @@ module _ (u : ℕ → List ℕ) (types : List (List ℕ)) where
   value_rises None w = none
   value_rises (Some value) w = skip (initializer_rises u types value.1 w)
 
-  if_any_rises : (t : Option Trees.Expression) → IsExpressionIfAny types t → {rest : List Lexeme} → Rise (literals_if_any t) (spelled_if_any t rest) rest
+  if_any_rises : (t : Option Trees.Expression) → IsExpressionIfAny types t → {rest : List Lexeme}
+      → Rise (literals_if_any t) (spelled_if_any t rest) rest
   if_any_rises None w = none
   if_any_rises (Some a) w = literals_rise u types a w
 
   -- ---- declarations of a block
 
-  if_static : (words : Storage) {at : ℕ} {tokens rest : List Lexeme} → Rise (at ∷ []) tokens rest → Rise [] tokens rest → Rise (place_if_static words at) tokens rest
+  if_static : (words : Storage) {at : ℕ} {tokens rest : List Lexeme} → Rise (at ∷ []) tokens rest → Rise [] tokens rest
+      → Rise (place_if_static words at) tokens rest
   if_static is_static p q = p
   if_static words p q = q
 
-  declarators_make : (words : Storage) (first : Bool) (t : List Trees.InitDeclarator) → AreInitDeclarators types first t → (at : ℕ) → {rest : List Lexeme}
+  declarators_make : (words : Storage) (first : Bool) (t : List Trees.InitDeclarator) → AreInitDeclarators types first t
+      → (at : ℕ) → {rest : List Lexeme}
       → Rise (made_by_declarators words t at) (spelled_init_declarators t (punctuator M.Semicolon at ∷ rest)) rest
   declarators_make words first [] w at = skip none
   declarators_make words first (d ∷ more) w at =
@@ -41,7 +44,8 @@ module _ (u : ℕ → List ℕ) (types : List (List ℕ)) where
       let at_declarator = if_static words begins (unmarked (declarator_along u types d.declarator w.1)) in
       after (unmarked (comma_along d.comma)) (both (both at_declarator (value_rises d.value w.3)) (declarators_make words false more w.4 at))
 
-  declaration_makes : (d : Trees.Declaration) → IsDeclaration types d → {rest : List Lexeme} → Rise (made_by_declaration d) (spelled_declaration d rest) rest
+  declaration_makes : (d : Trees.Declaration) → IsDeclaration types d → {rest : List Lexeme}
+      → Rise (made_by_declaration d) (spelled_declaration d rest) rest
   declaration_makes d w = after (unmarked (specifiers_along u types d.specs w.0)) (declarators_make (storage_of d.specs) true d.all w.1 d.semicolon)
 
   -- ---- statements
@@ -76,7 +80,8 @@ module _ (u : ℕ → List ℕ) (types : List (List ℕ)) where
     items_make Trees.no_block_items w = none
     items_make (Trees.and_block_item e more) w = both (item_makes e w.0) (items_make more w.1)
 
-    switch_item_makes : (t : Trees.SwitchItem) → IsSwitchItem types t → {rest : List Lexeme} → Rise (made_by_switch_item t) (spelled_switch_item t rest) rest
+    switch_item_makes : (t : Trees.SwitchItem) → IsSwitchItem types t → {rest : List Lexeme}
+        → Rise (made_by_switch_item t) (spelled_switch_item t rest) rest
     switch_item_makes (Trees.local_switch_item d) w = declaration_makes d w.1
     switch_item_makes (Trees.labelled labels a) w = after (unmarked (labels_along u types labels w.0)) (makes a w.1)
 
@@ -94,7 +99,8 @@ module _ (u : ℕ → List ℕ) (types : List (List ℕ)) where
       after (unmarked (comma_along d.comma)) (both (both (declarator_begins u types d.declarator w.1 w.2 at) (value_rises d.value w.3))
       (declarators_rise false more w.4 at))
 
-  specifier_begins : (t : Trees.Specifier) → IsSpecifier types t → {rest : List Lexeme} → Rise (first_specifier t ∷ []) (spelled_specifier t rest) rest
+  specifier_begins : (t : Trees.Specifier) → IsSpecifier types t → {rest : List Lexeme}
+      → Rise (first_specifier t ∷ []) (spelled_specifier t rest) rest
   specifier_begins (Trees.plain word at) w = here none
   specifier_begins (Trees.typename x) w = here none
   specifier_begins (Trees.struct_named at x) w = here (skip none)
@@ -106,7 +112,8 @@ module _ (u : ℕ → List ℕ) (types : List (List ℕ)) where
   specifier_begins (Trees.enum_body at x left all (Some comma) right) w =
       here (after (unmarked (tag_along x)) (skip (after (unmarked (enumerators_along u types true all w.1 M.Comma comma refl)) (skip none))))
 
-  specifiers_begin : (t : Trees.Specifiers) → AreSpecifiers types t → {rest : List Lexeme} → Rise (first_specifiers t ∷ []) (spelled_specifiers t rest) rest
+  specifiers_begin : (t : Trees.Specifiers) → AreSpecifiers types t → {rest : List Lexeme}
+      → Rise (first_specifiers t ∷ []) (spelled_specifiers t rest) rest
   specifiers_begin Trees.no_specifiers w = absurd w
   specifiers_begin (Trees.and_specifier s more) w = before (specifier_begins s w.0) (unmarked (more_specifiers_along u types more w.1))
 

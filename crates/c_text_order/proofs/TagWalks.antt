@@ -53,8 +53,7 @@ before_all : (a b c : ℕ) (t : Tag) (tags : List Tag) → IsWithin a b t → Al
 before_all a b c t [] w h = tt
 before_all a b c t (u ∷ tags) w h =
     let l = w.place_to in
-    let m = h.0.place_from in
-    (
+    let m = h.0.place_from in (
       record { place = λ e. omega (arith, l, m, e); from = omega (arith, w.from_to, h.0.from_from) },
       before_all a b c t tags w h.1,
     )
@@ -68,7 +67,8 @@ turns_both a b c (t ∷ tags) others w h v k =
 joined : (a b c : ℕ) (tags others : List Tag) → Between a tags b → Between b others c → Between a (tags ++ others) c
 joined a b c tags others h k = record {
   later = omega (arith, h.later, k.later);
-  within = all_both (IsWithin a c) tags others (wider a a b c tags (omega arith) k.later h.within) (wider a b c c others h.later (omega arith) k.within);
+  within = all_both (IsWithin a c) tags others (wider a a b c tags (omega arith) k.later h.within)
+      (wider a b c c others h.later (omega arith) k.within);
   turns = turns_both a b c tags others h.within h.turns k.within k.turns;
 }
 
@@ -114,7 +114,8 @@ untagged p = record { along = λ from o. let r = p.along from o in (r.0, record 
 pub begins : {from : ℕ} {marks : List Mark} {tokens rest : List Lexeme} → Tagged marks tokens rest → Tagged (a_name from ∷ marks) tokens rest
 begins p = record { along = p.along }
 
-pub ends : {name : List ℕ} {right : ℕ} {marks : List Mark} {tokens rest : List Lexeme} → Tagged marks tokens rest → Tagged (an_end name right ∷ marks) tokens rest
+pub ends : {name : List ℕ} {right : ℕ} {marks : List Mark} {tokens rest : List Lexeme} → Tagged marks tokens rest
+    → Tagged (an_end name right ∷ marks) tokens rest
 ends p = record { along = p.along }
 
 -- a structure
@@ -147,7 +148,8 @@ enumeration {x = x} {close = close} {marks = marks} p = record {
       let tags = tags_in marks in
       let all : Between from (tags ++ own ∷ []) close.to = record {
         later = omega (arith, o.0, o.1, inner.later, r.2.0, r.2.1);
-        within = all_both (IsWithin from close.to) tags (own ∷ []) (wider from x.to r.0 close.to tags (omega (arith, o.0, o.1)) (omega (arith, r.2.0, r.2.1)) inner.within) (w, tt);
+        within = all_both (IsWithin from close.to) tags (own ∷ [])
+            (wider from x.to r.0 close.to tags (omega (arith, o.0, o.1)) (omega (arith, r.2.0, r.2.1)) inner.within) (w, tt);
         turns = and_last x.to r.0 own tags o.1 r.2.0 inner.within inner.turns;
       } in
       (close.to, subst (λ tags. Between from tags close.to) (sym (tags_of_both marks (a_tag own ∷ []))) all, r.2.3);

@@ -42,7 +42,8 @@ module _ (u : ℕ → List ℕ) (types : List (List ℕ)) where
     initializers_tagged first (Trees.and_argument comma a more) w =
         after (untagged (unmarked (comma_along comma))) (both (initializer_tagged a w.1) (initializers_tagged false more w.2))
 
-  value_tagged : (t : Option (ℕ × Trees.Expression)) → IsValue types t → {rest : List Lexeme} → Tagged (marks_of_initial u t) (spelled_value t rest) rest
+  value_tagged : (t : Option (ℕ × Trees.Expression)) → IsValue types t → {rest : List Lexeme}
+      → Tagged (marks_of_initial u t) (spelled_value t rest) rest
   value_tagged None w = none
   value_tagged (Some value) w = skip (initializer_tagged value.1 w)
 

@@ -4,8 +4,8 @@ use Rattle.c_ast.specs.Trees
 use Rattle.c_ast.specs.Spelling.{Lexeme, spelled, spelled_arguments, spelled_optional, spelled_type_name, spelled_specifiers}
 use Rattle.c_ast.specs.Spelling.{spelled_specifier, spelled_member_declarations, spelled_member_declarators, spelled_enumerators}
 use Rattle.c_ast.specs.Spelling.{spelled_enumerator_value, spelled_declarator}
-use Rattle.c_ast.specs.WellFormed.{IsExpression, AreArguments, IsOptional, IsTypeName, AreSpecifiers, AreMoreSpecifiers, IsSpecifier, AreMemberDeclarations}
-use Rattle.c_ast.specs.WellFormed.{AreMemberDeclarators, AreEnumerators, IsEnumeratorValue, IsDeclarator}
+use Rattle.c_ast.specs.WellFormed.{IsExpression, AreArguments, IsOptional, IsTypeName, AreSpecifiers, AreMoreSpecifiers, IsSpecifier}
+use Rattle.c_ast.specs.WellFormed.{AreMemberDeclarations, AreMemberDeclarators, AreEnumerators, IsEnumeratorValue, IsDeclarator}
 use Rattle.c_erasure.specs.Marks.{marks, marks_of_all, marks_if_any, marks_of_type, marks_of_specifiers, marks_of_specifier}
 use Rattle.c_erasure.specs.Marks.{marks_of_members, marks_of_member_declarators, marks_of_enumerators, marks_of_value, marks_of_declarator}
 use Rattle.c_order.proofs.Walks.{comma_along, texts_along, consts_along}
@@ -44,7 +44,8 @@ module _ (u : ℕ → List ℕ) (types : List (List ℕ)) where
     arguments_tagged first (Trees.and_argument comma a more) w =
         after (untagged (unmarked (comma_along comma))) (both (tagged a w.2) (arguments_tagged false more w.3))
 
-    optional_tagged : (t : Trees.OptionalExpression) → IsOptional types t → {rest : List Lexeme} → Tagged (marks_if_any u t) (spelled_optional t rest) rest
+    optional_tagged : (t : Trees.OptionalExpression) → IsOptional types t → {rest : List Lexeme}
+        → Tagged (marks_if_any u t) (spelled_optional t rest) rest
     optional_tagged Trees.no_expression w = none
     optional_tagged (Trees.some_expression a) w = tagged a w.1
 
@@ -62,7 +63,8 @@ module _ (u : ℕ → List ℕ) (types : List (List ℕ)) where
     more_specifiers_tagged (Trees.and_specifier s more) w = both (specifier_tagged s w.0) (more_specifiers_tagged more w.1)
 
     -- a structure without a tag stands at its keyword
-    specifier_tagged : (t : Trees.Specifier) → IsSpecifier types t → {rest : List Lexeme} → Tagged (marks_of_specifier u t) (spelled_specifier t rest) rest
+    specifier_tagged : (t : Trees.Specifier) → IsSpecifier types t → {rest : List Lexeme}
+        → Tagged (marks_of_specifier u t) (spelled_specifier t rest) rest
     specifier_tagged (Trees.plain word at) w = skip none
     specifier_tagged (Trees.typename x) w = skip none
     specifier_tagged (Trees.struct_named at x) w = skip (structure none)

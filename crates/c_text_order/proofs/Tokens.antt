@@ -1,6 +1,6 @@
 -- The tokens of a text come one after the other, none of them is empty, and no name begins with `@`.
-use Rattle.std.proofs.Common.{◌≡◌, ℕ, ◌+◌, ◌-◌, ◌≤◌, ◌<◌, Bool, true, false, List, [], ◌∷◌, ◌++◌, take, drop, length, refl, ap, sym, subst, ◌∙◌, arith}
-use Rattle.std.proofs.Common.{append_assoc, append-nil, length-append}
+use Rattle.std.proofs.Common.{◌≡◌, ℕ, ◌+◌, ◌-◌, ◌≤◌, ◌<◌, Bool, true, false, List, [], ◌∷◌, ◌++◌, take, drop, length, refl, ap, sym, subst, ◌∙◌}
+use Rattle.std.proofs.Common.{arith, append_assoc, append-nil, length-append}
 use Rattle.std.proofs.Math.Seq.{take-append_seam, drop-append_seam}
 use Rattle.std.specs.Prelude.{IsTrue}
 use Rattle.c_lexer.specs.declared.part.PartKind.{PartKind}
@@ -39,7 +39,8 @@ between front text rest from to f t =
     let size : to - from ≡ length text = omega (arith, t) in
     rw (size, f, drop-append_seam front (text ++ rest)) (take-append_seam text rest)
 
-sooner : (low high : ℕ) (bytes : List ℕ) (tokens : List Token) → low ≤ high → AreRising high (lexemes_of bytes tokens) → AreRising low (lexemes_of bytes tokens)
+sooner : (low high : ℕ) (bytes : List ℕ) (tokens : List Token) → low ≤ high → AreRising high (lexemes_of bytes tokens)
+    → AreRising low (lexemes_of bytes tokens)
 sooner low high bytes [] l h = tt
 sooner low high bytes (token ∷ tokens) l h = (omega (arith, l, h.0), h.1, h.2, h.3)
 
