@@ -26,12 +26,12 @@ use Rattle.c_checking.proofs.CompleteFor.{for_complete}
 use Rattle.c_checking.proofs.CompleteLocals.{walk_of_locals, CompletesInitializer, locals_complete}
 
 -- `statics` says what stands in declarators of objects that live as long as the program
-abbrev pub walk_by_storage : (ℕ → List ℕ) → (statics : List Trees.InitDeclarator → List Event) → Storage → List Trees.InitDeclarator → List Event
-walk_by_storage u statics is_static all = statics all
-walk_by_storage u statics words all = walk_of_locals u all
+abbrev pub walk_by_storage : FileScope → (statics : List Trees.InitDeclarator → List Event) → Storage → List Trees.InitDeclarator → List Event
+walk_by_storage g statics is_static all = statics all
+walk_by_storage g statics words all = walk_of_locals g.untagged g.objects all
 
-abbrev pub walk_of_declaration : (ℕ → List ℕ) → (statics : List Trees.InitDeclarator → List Event) → Trees.Declaration → List Event
-walk_of_declaration u statics d = walk_of_specifiers u d.specs ++ walk_by_storage u statics (storage_of d.specs) d.all
+abbrev pub walk_of_declaration : FileScope → (statics : List Trees.InitDeclarator → List Event) → Trees.Declaration → List Event
+walk_of_declaration g statics d = walk_of_specifiers g.untagged d.specs ++ walk_by_storage g statics (storage_of d.specs) d.all
 
 some_back : {A : Type 0} (at : ℕ) (all : List Trees.InitDeclarator) (r : Answer A) → all ≢ [] → some_declared at all r ≡ r
 some_back at [] r h = absurd (h refl)
@@ -39,7 +39,7 @@ some_back at (d ∷ all) r h = refl
 
 module _ (g : FileScope) (w : IsWhole g) (ls : List ALocal) (result : CType) (statics : List Trees.InitDeclarator → List Event) where
   abbrev own : Trees.Declaration → List Event
-  own d = walk_of_declaration g.untagged statics d
+  own d = walk_of_declaration g statics d
 
   -- objects of a block that live as long as the program
   abbrev pub CompletesStatics : Type 0
@@ -77,24 +77,24 @@ module _ (g : FileScope) (w : IsWhole g) (ls : List ALocal) (result : CType) (st
     }
 
     abbrev Expected : Storage → Trees.Declaration → List (List Bound) → List ALocal → Lists → Statements → Scope → Type 0
-    Expected v d b l c found after = FoundAll g w ls result own b l c (walk_of_specifiers g.untagged d.specs ++ walk_by_storage g.untagged statics v d.all)
+    Expected v d b l c found after = FoundAll g w ls result own b l c (walk_of_specifiers g.untagged d.specs ++ walk_by_storage g statics v d.all)
         (local_storage (first_specifiers d.specs) v (λ static.
         in_scope (inner g w ls b l c) (base_type (base_kind d.specs) (first_specifiers d.specs) (part g c) (one_of d.specs (inner g w ls b l c)))
         >>= λ x. some_declared (first_specifiers d.specs) d.all (declare_all d.all x.1 static x.0))) found after
 
     of_locals : (d : Trees.Declaration) (b : List (List Bound)) (l : List ALocal) (c : Lists) (base : CType) (found : Statements) (after : Scope)
         (loop switch : Bool)
-        → BlocksFit g (length c.records) b → IsBefore g c (Seen g w ls (walk_of_specifiers g.untagged d.specs ++ walk_of_locals g.untagged d.all))
+        → BlocksFit g (length c.records) b → IsBefore g c (Seen g w ls (walk_of_specifiers g.untagged d.specs ++ walk_of_locals g.untagged g.objects d.all))
         → (more : List ALocal) × (ls ≡ l ++ more) → IsBase (IsOne (outer g w ls b) d.specs) d.specs base → d.all ≢ []
         → DeclareAll d.all (outer g w ls b) false base found after → AreTypedHere g w ls result own b loop switch found
-        → AreNumbered (length l) (all_declared_by found) → Declared d false (walk_of_locals g.untagged d.all) b l c found after
+        → AreNumbered (length l) (all_declared_by found) → Declared d false (walk_of_locals g.untagged g.objects d.all) b l c found after
     of_locals d b l c base found after loop switch f e p h s i k n =
         let z = base_complete g w ls d.specs (complete_one g w ls d.specs) (inner g w ls b l c) c base f
-        (left_seen g true in_full c (walk_of_specifiers g.untagged d.specs) (walk_of_locals g.untagged d.all) e) h in
-        joined d false (walk_of_locals g.untagged d.all) b l c z.lists base found after s z.is z.after
+        (left_seen g true in_full c (walk_of_specifiers g.untagged d.specs) (walk_of_locals g.untagged g.objects d.all) e) h in
+        joined d false (walk_of_locals g.untagged g.objects d.all) b l c z.lists base found after s z.is z.after
         (locals_complete g w ls result own initials d.all b l z.lists base found after loop switch
         (blocks_stay g (length c.records) (length z.lists.records) b (grown z.after) f)
-        (right_seen g true in_full c z.lists (walk_of_specifiers g.untagged d.specs) (walk_of_locals g.untagged d.all) e z.after) p i k n)
+        (right_seen g true in_full c z.lists (walk_of_specifiers g.untagged d.specs) (walk_of_locals g.untagged g.objects d.all) e z.after) p i k n)
 
     of_statics : (d : Trees.Declaration) (b : List (List Bound)) (l : List ALocal) (c : Lists) (base : CType) (found : Statements) (after : Scope)
         → BlocksFit g (length c.records) b → IsBefore g c (Seen g w ls (walk_of_specifiers g.untagged d.specs ++ statics d.all))
@@ -116,8 +116,8 @@ module _ (g : FileScope) (w : IsWhole g) (ls : List ALocal) (result : CType) (st
         out v q z = subst (λ v. Expected v d b l c found after) (sym q) z
 
         before : (v : Storage) → storage_of d.specs ≡ v
-            → IsBefore g c (Seen g w ls (walk_of_specifiers g.untagged d.specs ++ walk_by_storage g.untagged statics v d.all))
-        before v q = subst (λ v. IsBefore g c (Seen g w ls (walk_of_specifiers g.untagged d.specs ++ walk_by_storage g.untagged statics v d.all))) q e
+            → IsBefore g c (Seen g w ls (walk_of_specifiers g.untagged d.specs ++ walk_by_storage g statics v d.all))
+        before v q = subst (λ v. IsBefore g c (Seen g w ls (walk_of_specifiers g.untagged d.specs ++ walk_by_storage g statics v d.all))) q e
 
         by_word : (storage_of d.specs ≡ no_storage) ⊎ (storage_of d.specs ≡ is_auto) ⊎ (storage_of d.specs ≡ is_register)
             → DeclareAll d.all (outer g w ls b) false h.0 found after

@@ -2,13 +2,14 @@
 use Rattle.std.proofs.Common.{◌≡◌, ℕ, zero, suc, ◌≤◌, Bool, true, false, List, [], ◌∷◌, ◌++◌, length, length-append, append_assoc}
 use Rattle.std.proofs.Common.{refl, sym}
 use Rattle.std.proofs.Common.{ap, ◌∙◌, subst, arith}
-use Rattle.std.specs.Prelude.{map, Option, Some, None, Ok, slice_get}
+use Rattle.std.specs.Prelude.{◌==◌, map, Option, Some, None, Ok, slice_get}
+use Rattle.std.specs.List.{list_any}
 use Rattle.std.specs.Option.{option_map}
 use Rattle.c_types.specs.Types.{CType, void, integer, pointer, array, function, structure, Record}
 use Rattle.c_types.specs.Objects.{is_object}
 use Rattle.c_ast.specs.declared.words.Spelling.{Spelling}
 use Rattle.c_ast.specs.Trees
-use Rattle.c_ast.specs.Places.{first, first_declarator}
+use Rattle.c_ast.specs.Places.{first, first_text, first_declarator}
 use Rattle.c_typed.specs.declared.program.MentionKind.TheVariants.{Object}
 use Rattle.c_typed.specs.Trees as Typed
 use Rattle.c_typed.specs.Mapped.{of_types, mapped_initializer}
@@ -17,7 +18,7 @@ use Rattle.c_typed.specs.TypedStatements.{all_declared_by, IsTypedInitializer, I
 use Rattle.c_erasure.specs.Declarators.{Shape, closed, open_array, declared_name}
 use Rattle.c_erasure.specs.Initializers.{IsInitializer, texts_of, length_of}
 use Rattle.c_erasure.specs.Noted.{Noted}
-use Rattle.c_erasure.specs.Scopes.{ALocal, Bound, FileScope, Scope, a_local, defines, in_full, declared, ended, here, with_name}
+use Rattle.c_erasure.specs.Scopes.{ALocal, AnObject, Bound, FileScope, Scope, a_local, defines, in_full, declared, ended, here, with_name}
 use Rattle.c_erasure.specs.Statements.{Statements, IsSized, HasInitializer, IsVariable, DeclareAll, with_variable}
 use Rattle.c_checking.specs.Answers.{◌>>=◌}
 use Rattle.c_checking.specs.Declaring.{Derivation, with_mention, mentions_in, small, object_at, derived}
@@ -28,7 +29,7 @@ use Rattle.c_checking.specs.Statements.{declare_all}
 use Rattle.c_checking.proofs.Results.{ok}
 use Rattle.c_checking.proofs.Extends.{Extends}
 use Rattle.c_checking.proofs.CompleteNodes.{some, some_is}
-use Rattle.c_checking.proofs.CompleteWalk.{Event, a_look, walk, walk_of_declarator}
+use Rattle.c_checking.proofs.CompleteWalk.{Event, a_look, a_literal, walk, walk_of_declarator}
 use Rattle.c_checking.proofs.CompletePart.{Lists, part, IsWhole, IsBefore, IsAfter, Done, BlocksFit, blocks_stay, none_after, grown}
 use Rattle.c_checking.proofs.CompletePart.{complete_stays, mentioned}
 use Rattle.c_checking.proofs.CompletePart.{left_seen, right_seen, then_seen}
@@ -40,16 +41,37 @@ use Rattle.c_checking.proofs.CompleteTrees.{complete_declarator}
 use Rattle.c_checking.proofs.CompleteStatements.{inner, outer, Seen, AreNumbered, numbered_right}
 use Rattle.c_checking.proofs.CompleteBlocks.{FoundAll, AreTypedHere}
 
--- ---- what stands in a declarator with its initializer
+-- ---- what stands in an initializer; `objects` are those of the whole file
 
-module _ (u : ℕ → List ℕ) where
+-- an object of the file begins there
+abbrev pub begins : List AnObject → ℕ → Bool
+begins objects at = list_any (λ o. o.first == at) objects
+
+-- a string literal whose bytes initialize an array makes no object
+abbrev pub literal_if : Bool → ℕ → List Event
+literal_if true at = a_literal at ∷ []
+literal_if false at = []
+
+module _ (u : ℕ → List ℕ) (objects : List AnObject) where
+  abbrev mutual
+    pub walk_of_initializer : Trees.Expression → List Event
+    walk_of_initializer (Trees.texts all) = literal_if (begins objects (first_text all)) (first_text all)
+    walk_of_initializer (Trees.braces left all comma right) = walk_of_initializers all
+    walk_of_initializer a = walk u a
+
+    pub walk_of_initializers : Trees.Arguments → List Event
+    walk_of_initializers Trees.no_arguments = []
+    walk_of_initializers (Trees.and_argument comma a more) = walk_of_initializer a ++ walk_of_initializers more
+
+  -- ---- what stands in a declarator with its initializer
+
   abbrev pub look_at : Option Spelling → List Event
   look_at None = []
   look_at (Some x) = a_look x.from ∷ []
 
   abbrev pub walk_of_initial : Option (ℕ × Trees.Expression) → List Event
   walk_of_initial None = []
-  walk_of_initial (Some value) = walk u value.1
+  walk_of_initial (Some value) = walk_of_initializer value.1
 
   abbrev pub walk_of_declared : Trees.InitDeclarator → List Event
   walk_of_declared d = look_at (declared_name d.declarator) ++ walk_of_declarator u d.declarator
@@ -128,18 +150,20 @@ module _ (g : FileScope) (w : IsWhole g) (ls : List ALocal) where
 
   abbrev pub CompletesInitializer : Trees.Expression → Type 0
   CompletesInitializer a = (b : List (List Bound)) (l : List ALocal) (c : Lists) (t : CType) (i : Typed.Initializer Noted) → BlocksFit g (length c.records) b
-      → IsBefore g c (Seen g w ls (walk g.untagged a)) → IsInitializer a (outer g w ls b) t i → IsTypedInitializer (declared (outer g w ls b)) t (AsTyped i)
-      → Done g c (Seen g w ls (walk g.untagged a)) (initializer a (inner g w ls b l c) t) i
+      → is_object (length c.records) t ≡ true → IsBefore g c (Seen g w ls (walk_of_initializer g.untagged g.objects a)) → IsInitializer a (outer g w ls b) t i
+      → IsTypedInitializer (declared (outer g w ls b)) t (AsTyped i)
+      → Done g c (Seen g w ls (walk_of_initializer g.untagged g.objects a)) (initializer a (inner g w ls b l c) t) i
 
   initial_complete : (value : Option (ℕ × Trees.Expression)) → ((a : Trees.Expression) → CompletesInitializer a)
       → (b : List (List Bound)) (l : List ALocal) (c : Lists)
-      (t : CType) (i : Option (Typed.Initializer Noted)) → BlocksFit g (length c.records) b → IsBefore g c (Seen g w ls (walk_of_initial g.untagged value))
+      (t : CType) (i : Option (Typed.Initializer Noted)) → BlocksFit g (length c.records) b → is_object (length c.records) t ≡ true
+      → IsBefore g c (Seen g w ls (walk_of_initial g.untagged g.objects value))
       → HasInitializer (outer g w ls b) t value i → IsInitialized (declared (outer g w ls b)) t (option_map AsTyped i)
-      → Done g c (Seen g w ls (walk_of_initial g.untagged value)) (initial_if_any value (inner g w ls b l c) t) i
-  initial_complete None k b l c t i f e h n = record { lists = c; is = ap (λ i. ok (i, part g c)) (sym h); after = none_after g c [] e refl refl refl }
-  initial_complete (Some value) k b l c t i f e h n =
+      → Done g c (Seen g w ls (walk_of_initial g.untagged g.objects value)) (initial_if_any value (inner g w ls b l c) t) i
+  initial_complete None k b l c t i f o e h n = record { lists = c; is = ap (λ i. ok (i, part g c)) (sym h); after = none_after g c [] e refl refl refl }
+  initial_complete (Some value) k b l c t i f o e h n =
       let n = subst (λ i. IsInitialized (declared (outer g w ls b)) t (option_map AsTyped i)) h.1 n in
-      let z = k value.1 b l c t h.0 f e h.2 n in
+      let z = k value.1 b l c t h.0 f o e h.2 n in
       record {
         lists = z.lists;
         is = ap (λ r. r >>= λ i. ok (some i.0, i.1)) z.is ∙ ap (λ i. ok (i, part g z.lists)) (sym h.1);
@@ -175,11 +199,11 @@ module _ (g : FileScope) (w : IsWhole g) (ls : List ALocal) where
   module _ (result : CType) (own : Trees.Declaration → List Event) (initials : (a : Trees.Expression) → CompletesInitializer a) where
     pub locals_complete : (all : List Trees.InitDeclarator) (b : List (List Bound)) (l : List ALocal) (c : Lists) (base : CType) (found : Statements)
         (after : Scope)
-        (loop switch : Bool) → BlocksFit g (length c.records) b → IsBefore g c (Seen g w ls (walk_of_locals g.untagged all))
+        (loop switch : Bool) → BlocksFit g (length c.records) b → IsBefore g c (Seen g w ls (walk_of_locals g.untagged g.objects all))
         → (more : List ALocal) × (ls ≡ l ++ more)
         → DeclareAll all (outer g w ls b) false base found after → AreTypedHere g w ls result own b loop switch found
         → AreNumbered (length l) (all_declared_by found)
-        → FoundAll g w ls result own b l c (walk_of_locals g.untagged all) (declare_all all (inner g w ls b l c) false base) found after
+        → FoundAll g w ls result own b l c (walk_of_locals g.untagged g.objects all) (declare_all all (inner g w ls b l c) false base) found after
     unfolding declare_all
     locals_complete [] b l c base found after loop switch f e p h k n = record {
       blocks = b;
@@ -203,28 +227,28 @@ module _ (g : FileScope) (w : IsWhole g) (ls : List ALocal) where
         let stood : slice_get (map (λ x. x.ty) ls) h.2 ≡ Some h.1 = mapped_at (λ (x : ALocal). x.ty) ls h.2 (record { name = h.0.text; ty = h.1 }) h.6 in
         let typed : k.0.0 ≡ h.1 = some_is k.0.0 h.1 (sym k.0.1 ∙ stood) in
         let initialized = subst (λ t. IsInitialized (declared (outer g w ls b)) t (option_map AsTyped h.3)) typed k.0.3 in
-        let name : walk_of_declared g.untagged d ≡ a_look h.0.from ∷ walk_of_declarator g.untagged d.declarator =
-        ap (λ o. look_at g.untagged o ++ walk_of_declarator g.untagged d.declarator) h.5.1 in
-        let e2 = left_seen g true in_full c (walk_of_declared g.untagged d ++ walk_of_initial g.untagged d.value) (walk_of_locals g.untagged all) e in
-        let e1 = left_seen g true in_full c (walk_of_declared g.untagged d) (walk_of_initial g.untagged d.value) e2 in
+        let name : walk_of_declared g.untagged g.objects d ≡ a_look h.0.from ∷ walk_of_declarator g.untagged d.declarator =
+        ap (λ o. look_at g.untagged g.objects o ++ walk_of_declarator g.untagged d.declarator) h.5.1 in
+        let e2 = left_seen g true in_full c (walk_of_declared g.untagged g.objects d ++ walk_of_initial g.untagged g.objects d.value) (walk_of_locals g.untagged g.objects all) e in
+        let e1 = left_seen g true in_full c (walk_of_declared g.untagged g.objects d) (walk_of_initial g.untagged g.objects d.value) e2 in
         let e0 : IsBefore g c (Seen g w ls (a_look h.0.from ∷ walk_of_declarator g.untagged d.declarator)) = subst (λ u. IsBefore g c (Seen g w ls u)) name
         e1 in
         let z = variable_complete b l c base d h.0 h.1 f e0 h.5 in
-        let a1 : IsAfter g c (Seen g w ls (walk_of_declared g.untagged d)) z.lists = subst (λ u. IsAfter g c (Seen g w ls u) z.lists) (sym name) z.after in
+        let a1 : IsAfter g c (Seen g w ls (walk_of_declared g.untagged g.objects d)) z.lists = subst (λ u. IsAfter g c (Seen g w ls u) z.lists) (sym name) z.after in
         let o = complete_stays (ended g.ends h.0.from) (length z.lists.records) h.1 (omega (arith, e0.follows.0, z.after.records)) h.5.4 in
         let fits = parameter_fits g w ls (length z.lists.records) b (local_named l h.0 h.1)
         (blocks_stay g (length c.records) (length z.lists.records) b (grown z.after) f) o in
-        let m = initial_complete d.value initials (with_name b (local_named l h.0 h.1)) (with_one_local l h.0 h.1) z.lists h.1 h.3 fits
-        (right_seen g true in_full c z.lists (walk_of_declared g.untagged d) (walk_of_initial g.untagged d.value) e2 a1)
+        let m = initial_complete d.value initials (with_name b (local_named l h.0 h.1)) (with_one_local l h.0 h.1) z.lists h.1 h.3 fits o
+        (right_seen g true in_full c z.lists (walk_of_declared g.untagged g.objects d) (walk_of_initial g.untagged g.objects d.value) e2 a1)
         (subst (λ n. HasInitializer (with_variable (outer g w ls b) h.0 n h.1) h.1 d.value h.3) number h.8) initialized in
-        let a2 = then_seen g true in_full c z.lists m.lists (walk_of_declared g.untagged d) (walk_of_initial g.untagged d.value) a1 m.after in
+        let a2 = then_seen g true in_full c z.lists m.lists (walk_of_declared g.untagged g.objects d) (walk_of_initial g.untagged g.objects d.value) a1 m.after in
         let next = next_local l p.0 (record { name = h.0.text; ty = h.1 }) h.2 p.1 number h.6 in
         let long = length-append l (record { name = h.0.text; ty = h.1 } ∷ []) in
         let n2 : AreNumbered (length (with_one_local l h.0 h.1)) (all_declared_by h.4) =
         numbered_right (length l) (length (with_one_local l h.0 h.1)) (h.2 ∷ []) (all_declared_by h.4) (omega (arith, long)) n in
         let q = locals_complete all (with_name b (local_named l h.0 h.1)) (with_one_local l h.0 h.1) m.lists base h.4 after loop switch
         (blocks_stay g (length z.lists.records) (length m.lists.records) (with_name b (local_named l h.0 h.1)) (grown m.after) fits)
-        (right_seen g true in_full c m.lists (walk_of_declared g.untagged d ++ walk_of_initial g.untagged d.value) (walk_of_locals g.untagged all) e a2)
+        (right_seen g true in_full c m.lists (walk_of_declared g.untagged g.objects d ++ walk_of_initial g.untagged g.objects d.value) (walk_of_locals g.untagged g.objects all) e a2)
         next (subst (λ n. DeclareAll all (with_variable (outer g w ls b) h.0 n h.1) false base h.4 after) number h.9) k.1 n2 in
         let r = q.performs in
         let made : found ≡ Typed.and_statement (Typed.declare (length l) h.3) h.4 = h.7 ∙ ap (λ n. Typed.and_statement (Typed.declare n h.3) h.4) number in
@@ -237,8 +261,8 @@ module _ (g : FileScope) (w : IsWhole g) (ls : List ALocal) where
             locals = r.locals;
             is = local_joined b l c z.lists m.lists base d all h.0 h.1 h.3 h.4 (inner g w ls q.blocks r.locals r.lists) h.5.1 z.is m.is r.is
                 ∙ ap (λ found. ok (found, inner g w ls q.blocks r.locals r.lists)) (sym made);
-            after = then_seen g true in_full c m.lists r.lists (walk_of_declared g.untagged d ++ walk_of_initial g.untagged d.value)
-                (walk_of_locals g.untagged all) a2 r.after;
+            after = then_seen g true in_full c m.lists r.lists (walk_of_declared g.untagged g.objects d ++ walk_of_initial g.untagged g.objects d.value)
+                (walk_of_locals g.untagged g.objects all) a2 r.after;
             count = omega (arith, r.count, long, counted);
             rest = r.rest;
           };
