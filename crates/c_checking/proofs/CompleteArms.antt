@@ -24,7 +24,8 @@ use Rattle.c_checking.specs.Statements.{switch_value, switched_in, leaving}
 use Rattle.c_checking.proofs.Results.{ok}
 use Rattle.c_checking.proofs.CompleteNodes
 use Rattle.c_checking.proofs.CompleteWalk.{Event, walk}
-use Rattle.c_checking.proofs.CompletePart.{Lists, IsWhole, IsBefore, BlocksFit, blocks_stay, none_after, grown, left_seen, right_seen, then_seen}
+use Rattle.c_checking.proofs.CompletePart.{Lists, IsWhole, IsBefore, none_after, left_seen, right_seen, then_seen}
+use Rattle.c_checking.proofs.CompleteFit.{IsFit, fit_after, fit_inside}
 use Rattle.c_checking.proofs.CompleteStatements.{inner, outer, Seen, Performs, AreNumbered, numbered_left, numbered_right, walk_of_labels}
 use Rattle.c_checking.proofs.CompleteStatements.{walk_of_statement}
 use Rattle.c_checking.proofs.CompleteStatements.{walk_of_switch_item, walk_of_switch_items, found_plain, by_statement}
@@ -69,12 +70,12 @@ module _ (g : FileScope) (w : IsWhole g) (ls : List ALocal) (result : CType) (ow
     pub blocks : List (List Bound)
     pub is_after : after ≡ outer g w ls blocks
     pub performs : Performs g w ls c l all (all_declared_by found) r (found, labels) blocks
-    pub fit : BlocksFit g (length performs.lists.records) blocks
+    pub fit : IsFit g performs.lists blocks
 
   abbrev pub CompletesSwitchItem : Trees.SwitchItem → Type 0
   CompletesSwitchItem item = (b : List (List Bound)) (l : List ALocal) (c : Lists) (kind : IntKind) (cases : List ℕ) (n : ℕ) (found : Statements)
       (after : Scope)
-      (before : Labels) (loop : Bool) → BlocksFit g (length c.records) b → IsBefore g c (Seen g w ls (walk_of_switch_item g.untagged own item))
+      (before : Labels) (loop : Bool) → IsFit g c b → IsBefore g c (Seen g w ls (walk_of_switch_item g.untagged own item))
       → (more : List ALocal) × (ls ≡ l ++ more) → ErasesSwitchItem item (outer g w ls b) kind cases n found after
       → AreTypedHere g w ls result own b loop true found
       → AreNumbered (length l) (all_declared_by found) → AreFresh before.cases cases → before.defaults + n ≤ 1
@@ -124,9 +125,9 @@ module _ (g : FileScope) (w : IsWhole g) (ls : List ALocal) (result : CType) (ow
       let y = h.1 in
       let k = subst (AreTypedHere g w ls result own b loop true) y.1 k in
       let m = subst (λ found. AreNumbered (length l) (all_declared_by found)) y.1 m in
-      let z = labels_complete g w ls own labels b l c kind cases n before f
+      let z = labels_complete g w ls own labels b l c kind cases n before f.complete
       (left_seen g true in_full c (walk_of_labels g.untagged own labels) (walk_of_statement g.untagged own a) e) h.0 u q in
-      let r = i b l z.lists y.0 loop true (blocks_stay g (length c.records) (length z.lists.records) b (grown z.after) f)
+      let r = i b l z.lists y.0 loop true (fit_after g c z.lists b (walk_of_labels g.untagged own labels) z.after f)
       (right_seen g true in_full c z.lists (walk_of_labels g.untagged own labels) (walk_of_statement g.untagged own a) e z.after) p y.2 k.0
       (numbered_left (length l) (all_declared y.0) [] m) in
       let x = then_seen g true in_full c z.lists r.lists (walk_of_labels g.untagged own labels) (walk_of_statement g.untagged own a) z.after r.after in
@@ -143,7 +144,7 @@ module _ (g : FileScope) (w : IsWhole g) (ls : List ALocal) (result : CType) (ow
           count = r.count ∙ ap (λ all. length l + length all) (sym (append-nil (all_declared y.0)) ∙ sym (ap all_declared_by y.1));
           rest = r.rest;
         };
-        fit = blocks_stay g (length c.records) (length r.lists.records) b (grown x) f;
+        fit = fit_after g c r.lists b (walk_of_labels g.untagged own labels ++ walk_of_statement g.untagged own a) x f;
       }
 
   -- ---- items, one after the other
@@ -156,7 +157,7 @@ module _ (g : FileScope) (w : IsWhole g) (ls : List ALocal) (result : CType) (ow
   abbrev pub CompletesSwitchItems : Trees.SwitchItems → Type 0
   CompletesSwitchItems items = (b : List (List Bound)) (l : List ALocal) (c : Lists) (kind : IntKind) (all : Statements) (arms : Arms) (before : Labels)
       (loop : Bool)
-      → BlocksFit g (length c.records) b → IsBefore g c (Seen g w ls (walk_of_switch_items g.untagged own items)) → (more : List ALocal) × (ls ≡ l ++ more)
+      → IsFit g c b → IsBefore g c (Seen g w ls (walk_of_switch_items g.untagged own items)) → (more : List ALocal) × (ls ≡ l ++ more)
       → EraseSwitchItems items (outer g w ls b) kind all arms → AreTypedHere g w ls result own b loop true all → ArmsAreTyped b loop arms
       → AreNumbered (length l) (all_declared_by all ++ all_declared_by_arms arms) → AreFresh before.cases (all_cases arms) → before.defaults + defaults arms ≤ 1
       → FoundSwitchItems l c (walk_of_switch_items g.untagged own items) (switch_items result items (inner g w ls b l c) loop kind before) all arms
@@ -285,7 +286,7 @@ module _ (g : FileScope) (w : IsWhole g) (ls : List ALocal) (result : CType) (ow
       let one = k.5 in
       let d1 = defaults_same (with_first h.2 h.3) in
       let d2 = first_defaults h.2 h.3 in
-      let y = i ([] ∷ b) l z.lists h.1 h.2 h.3 no_labels loop (λ x y q. blocks_stay g (length c.records) (length z.lists.records) b (grown z.after) f x y q)
+      let y = i ([] ∷ b) l z.lists h.1 h.2 h.3 no_labels loop (fit_inside g z.lists b (fit_after g c z.lists b (walk g.untagged a) z.after f))
       (right_seen g true in_full c z.lists (walk g.untagged a) (walk_of_switch_items g.untagged own items) e z.after) p h.7 t.0 t.1
       (subst (AreNumbered (length l)) d n) (fresh_of_different (all_cases h.3) different) (omega (arith, one, d1, d2)) in
       let v = y.performs in

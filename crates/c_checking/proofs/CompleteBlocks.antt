@@ -22,8 +22,9 @@ use Rattle.c_checking.specs.Statements.{local_declaration, leaving, performed, i
 use Rattle.c_checking.proofs.Results.{ok}
 use Rattle.c_checking.proofs.CompleteNodes
 use Rattle.c_checking.proofs.CompleteWalk.{Event}
-use Rattle.c_checking.proofs.CompletePart.{Lists, IsWhole, IsBefore, BlocksFit, blocks_stay, none_after, grown}
+use Rattle.c_checking.proofs.CompletePart.{Lists, IsWhole, IsBefore, none_after}
 use Rattle.c_checking.proofs.CompletePart.{left_seen, right_seen, then_seen}
+use Rattle.c_checking.proofs.CompleteFit.{IsFit, fit_after, fit_inside}
 use Rattle.c_checking.proofs.CompleteStatements.{walk_of_statement, walk_of_item, walk_of_items, AreNumbered}
 use Rattle.c_checking.proofs.CompleteStatements.{numbered_left, numbered_right}
 use Rattle.c_checking.proofs.CompleteStatements.{inner, outer, Seen, Performs, found_plain, CompletesStatement, by_statement}
@@ -72,11 +73,11 @@ module _ (g : FileScope) (w : IsWhole g) (ls : List ALocal) (result : CType) (ow
     pub blocks : List (List Bound)
     pub is_after : after ≡ outer g w ls blocks
     pub performs : Performs g w ls c l all (all_declared_by found) r found blocks
-    pub fit : BlocksFit g (length performs.lists.records) blocks
+    pub fit : IsFit g performs.lists blocks
 
   abbrev pub CompletesDeclaration : Trees.Declaration → Type 0
   CompletesDeclaration d = (b : List (List Bound)) (l : List ALocal) (c : Lists) (all : Statements) (after : Scope) (loop switch : Bool)
-      → BlocksFit g (length c.records) b → IsBefore g c (Seen g w ls (own d)) → (more : List ALocal) × (ls ≡ l ++ more)
+      → IsFit g c b → IsBefore g c (Seen g w ls (own d)) → (more : List ALocal) × (ls ≡ l ++ more)
       → IsLocalDeclaration d (outer g w ls b) all after → AreTypedHere b loop switch all → AreNumbered (length l) (all_declared_by all)
       → FoundAll b l c (own d) (local_declaration d (inner g w ls b l c)) all after
 
@@ -90,7 +91,7 @@ module _ (g : FileScope) (w : IsWhole g) (ls : List ALocal) (result : CType) (ow
 
   abbrev pub CompletesItem : Trees.BlockItem → Type 0
   CompletesItem item = (b : List (List Bound)) (l : List ALocal) (c : Lists) (all : Statements) (after : Scope) (loop switch : Bool)
-      → BlocksFit g (length c.records) b → IsBefore g c (Seen g w ls (walk_of_item g.untagged own item)) → (more : List ALocal) × (ls ≡ l ++ more)
+      → IsFit g c b → IsBefore g c (Seen g w ls (walk_of_item g.untagged own item)) → (more : List ALocal) × (ls ≡ l ++ more)
       → ErasesItem item (outer g w ls b) all after → AreTypedHere b loop switch all → AreNumbered (length l) (all_declared_by all)
       → FoundAll b l c (walk_of_item g.untagged own item) (item_in result item (inner g w ls b l c) loop switch) all after
 
@@ -122,7 +123,7 @@ module _ (g : FileScope) (w : IsWhole g) (ls : List ALocal) (result : CType) (ow
           count = z.count ∙ ap (λ all. length l + length all) (sym (append-nil (all_declared h.0)) ∙ sym (ap all_declared_by h.1));
           rest = z.rest;
         };
-        fit = blocks_stay g (length c.records) (length z.lists.records) b (grown z.after) f;
+        fit = fit_after g c z.lists b (walk_of_statement g.untagged own a) z.after f;
       }
 
   -- ---- several items
@@ -133,7 +134,7 @@ module _ (g : FileScope) (w : IsWhole g) (ls : List ALocal) (result : CType) (ow
 
   abbrev pub CompletesItems : Trees.BlockItems → Type 0
   CompletesItems items = (b : List (List Bound)) (l : List ALocal) (c : Lists) (all : Statements) (loop switch : Bool)
-      → BlocksFit g (length c.records) b → IsBefore g c (Seen g w ls (walked items)) → (more : List ALocal) × (ls ≡ l ++ more)
+      → IsFit g c b → IsBefore g c (Seen g w ls (walked items)) → (more : List ALocal) × (ls ≡ l ++ more)
       → EraseItems items (outer g w ls b) all → AreTypedHere b loop switch all → AreNumbered (length l) (all_declared_by all)
       → FoundItems l c (walked items) (items_in result items (inner g w ls b l c) loop switch) all
 
@@ -189,14 +190,11 @@ module _ (g : FileScope) (w : IsWhole g) (ls : List ALocal) (result : CType) (ow
 
   -- ---- blocks
 
-  inside_fits : (r : ℕ) (b : List (List Bound)) → BlocksFit g r b → BlocksFit g r ([] ∷ b)
-  inside_fits r b f x e h = f x e h
-
   pub block_complete : (begin : ℕ) (items : Trees.BlockItems) (end : ℕ) → CompletesItems items → Is (Trees.block begin items end)
   unfolding performed
   block_complete begin items end i b l c t loop switch f e p h k n = by_statement g w ls result own (Trees.block begin items end) b l c loop switch t _ h.1
       (λ k n.
-      let z = i ([] ∷ b) l c h.0 loop switch (inside_fits (length c.records) b f) e p h.2 k.1 n in
+      let z = i ([] ∷ b) l c h.0 loop switch (fit_inside g c b f) e p h.2 k.1 n in
       let q = z.performs in
       record {
         lists = q.lists;

@@ -14,7 +14,8 @@ use Rattle.c_checking.specs.Declaring.{base_kind}
 use Rattle.c_checking.specs.Finding.{base_type, one_of}
 use Rattle.c_checking.specs.Statements.{in_scope, declare_all, local_storage, some_declared, local_declaration}
 use Rattle.c_checking.proofs.CompleteWalk.{Event, walk_of_specifiers}
-use Rattle.c_checking.proofs.CompletePart.{Lists, part, IsWhole, IsBefore, IsAfter, BlocksFit, blocks_stay, grown, left_seen, right_seen, then_seen}
+use Rattle.c_checking.proofs.CompletePart.{Lists, part, IsWhole, IsBefore, IsAfter, left_seen, right_seen, then_seen}
+use Rattle.c_checking.proofs.CompleteFit.{IsFit, fit_after}
 use Rattle.c_checking.proofs.CompleteDeclarators.{base_complete}
 use Rattle.c_checking.proofs.CompleteTrees.{complete_one}
 use Rattle.c_checking.proofs.CompleteArms
@@ -44,7 +45,7 @@ module _ (g : FileScope) (w : IsWhole g) (ls : List ALocal) (result : CType) (st
   -- objects of a block that live as long as the program
   abbrev pub CompletesStatics : Type 0
   CompletesStatics = (all : List Trees.InitDeclarator) (b : List (List Bound)) (l : List ALocal) (c : Lists) (base : CType) (found : Statements) (after : Scope)
-      → BlocksFit g (length c.records) b → IsBefore g c (Seen g w ls (statics all)) → (more : List ALocal) × (ls ≡ l ++ more)
+      → IsFit g c b → IsBefore g c (Seen g w ls (statics all)) → (more : List ALocal) × (ls ≡ l ++ more)
       → DeclareAll all (outer g w ls b) true base found after
       → FoundAll g w ls result own b l c (statics all) (declare_all all (inner g w ls b l c) true base) found after
 
@@ -84,27 +85,27 @@ module _ (g : FileScope) (w : IsWhole g) (ls : List ALocal) (result : CType) (st
 
     of_locals : (d : Trees.Declaration) (b : List (List Bound)) (l : List ALocal) (c : Lists) (base : CType) (found : Statements) (after : Scope)
         (loop switch : Bool)
-        → BlocksFit g (length c.records) b → IsBefore g c (Seen g w ls (walk_of_specifiers g.untagged d.specs ++ walk_of_locals g.untagged g.objects d.all))
+        → IsFit g c b → IsBefore g c (Seen g w ls (walk_of_specifiers g.untagged d.specs ++ walk_of_locals g.untagged g.objects d.all))
         → (more : List ALocal) × (ls ≡ l ++ more) → IsBase (IsOne (outer g w ls b) d.specs) d.specs base → d.all ≢ []
         → DeclareAll d.all (outer g w ls b) false base found after → AreTypedHere g w ls result own b loop switch found
         → AreNumbered (length l) (all_declared_by found) → Declared d false (walk_of_locals g.untagged g.objects d.all) b l c found after
     of_locals d b l c base found after loop switch f e p h s i k n =
-        let z = base_complete g w ls d.specs (complete_one g w ls d.specs) (inner g w ls b l c) c base f
+        let z = base_complete g w ls d.specs (complete_one g w ls d.specs) (inner g w ls b l c) c base f.complete
         (left_seen g true in_full c (walk_of_specifiers g.untagged d.specs) (walk_of_locals g.untagged g.objects d.all) e) h in
         joined d false (walk_of_locals g.untagged g.objects d.all) b l c z.lists base found after s z.is z.after
         (locals_complete g w ls result own initials d.all b l z.lists base found after loop switch
-        (blocks_stay g (length c.records) (length z.lists.records) b (grown z.after) f)
+        (fit_after g c z.lists b (walk_of_specifiers g.untagged d.specs) z.after f)
         (right_seen g true in_full c z.lists (walk_of_specifiers g.untagged d.specs) (walk_of_locals g.untagged g.objects d.all) e z.after) p i k n)
 
     of_statics : (d : Trees.Declaration) (b : List (List Bound)) (l : List ALocal) (c : Lists) (base : CType) (found : Statements) (after : Scope)
-        → BlocksFit g (length c.records) b → IsBefore g c (Seen g w ls (walk_of_specifiers g.untagged d.specs ++ statics d.all))
+        → IsFit g c b → IsBefore g c (Seen g w ls (walk_of_specifiers g.untagged d.specs ++ statics d.all))
         → (more : List ALocal) × (ls ≡ l ++ more) → IsBase (IsOne (outer g w ls b) d.specs) d.specs base → d.all ≢ []
         → DeclareAll d.all (outer g w ls b) true base found after → Declared d true (statics d.all) b l c found after
     of_statics d b l c base found after f e p h s i =
-        let z = base_complete g w ls d.specs (complete_one g w ls d.specs) (inner g w ls b l c) c base f
+        let z = base_complete g w ls d.specs (complete_one g w ls d.specs) (inner g w ls b l c) c base f.complete
         (left_seen g true in_full c (walk_of_specifiers g.untagged d.specs) (statics d.all) e) h in
         joined d true (statics d.all) b l c z.lists base found after s z.is z.after
-        (static_objects d.all b l z.lists base found after (blocks_stay g (length c.records) (length z.lists.records) b (grown z.after) f)
+        (static_objects d.all b l z.lists base found after (fit_after g c z.lists b (walk_of_specifiers g.untagged d.specs) z.after f)
         (right_seen g true in_full c z.lists (walk_of_specifiers g.untagged d.specs) (statics d.all) e z.after) p i)
 
     pub declaration_complete : (d : Trees.Declaration) → CompletesDeclaration g w ls result own d

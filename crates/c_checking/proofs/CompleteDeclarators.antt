@@ -359,7 +359,7 @@ module _ (g : FileScope) (w : IsWhole g) (ls : List ALocal) where
   -- ---- parameters one after the other
 
   -- what a block declares after others
-  pushed_in : (block : List Bound) (b : Bound) (x : List ℕ) (e : Entity) (rest : Option Entity)
+  pub pushed_in : (block : List Bound) (b : Bound) (x : List ℕ) (e : Entity) (rest : Option Entity)
       → or_else (option_map (λ b. b.entity) (declared_in (block ++ b ∷ []) x)) rest ≡ Some e
       → (or_else (option_map (λ b. b.entity) (declared_in block x)) rest ≡ Some e) ⊎ (b.entity ≡ e)
   pushed_in [] b x e rest h = by_test (bytes_eq b.name x) h

@@ -18,8 +18,9 @@ use Rattle.c_checking.specs.Statements.{Performed, value_if_any, condition_if_an
 use Rattle.c_checking.specs.Statements.{local_declaration, leaving, performed}
 use Rattle.c_checking.proofs.Results.{ok}
 use Rattle.c_checking.proofs.CompleteNodes.{some}
-use Rattle.c_checking.proofs.CompleteWalk.{Event}
-use Rattle.c_checking.proofs.CompletePart.{Lists, IsWhole, IsBefore, IsAfter, BlocksFit, blocks_stay, none_after, grown}
+use Rattle.c_checking.proofs.CompleteWalk.{Event, walk}
+use Rattle.c_checking.proofs.CompletePart.{Lists, IsWhole, IsBefore, IsAfter, none_after}
+use Rattle.c_checking.proofs.CompleteFit.{IsFit, fit_after, fit_inside}
 use Rattle.c_checking.proofs.CompletePart.{left_seen, right_seen, then_seen}
 use Rattle.c_checking.proofs.CompleteStatements.{walk_of_statement, walk_of_start, walk_of_option, numbered_left, numbered_right}
 use Rattle.c_checking.proofs.CompleteStatements.{inner, outer, Seen, found_plain, found_condition, by_statement, AreNumbered}
@@ -46,7 +47,7 @@ module _ (g : FileScope) (w : IsWhole g) (ls : List ALocal) (result : CType) (ow
   abbrev AsTyped : Option Expression → Option (Typed.Expression CType)
   AsTyped t = option_map (mapped (of_types (λ t. t.ty))) t
 
-  test_complete : (o : Option Trees.Expression) (b : List (List Bound)) (l : List ALocal) (c : Lists) (t : Option Expression) → BlocksFit g (length c.records) b
+  test_complete : (o : Option Trees.Expression) (b : List (List Bound)) (l : List ALocal) (c : Lists) (t : Option Expression) → IsFit g c b
       → IsBefore g c (Seen g w ls (walk_of_option g.untagged own o)) → IsPlainIfAny o (outer g w ls b) t → IsCondition (declared (outer g w ls b)) (AsTyped t)
       → FoundOption b l c o (condition_if_any o (inner g w ls b l c)) t
   test_complete None b l c t f e h k = record { lists = c; is = ap (λ t. ok (t, inner g w ls b l c)) (sym h); after = none_after g c [] e refl refl refl }
@@ -60,7 +61,7 @@ module _ (g : FileScope) (w : IsWhole g) (ls : List ALocal) (result : CType) (ow
       }
 
   effect_complete : (o : Option Trees.Expression) (b : List (List Bound)) (l : List ALocal) (c : Lists) (t : Option Expression)
-      → BlocksFit g (length c.records) b
+      → IsFit g c b
       → IsBefore g c (Seen g w ls (walk_of_option g.untagged own o)) → IsPlainIfAny o (outer g w ls b) t → IsEffect (declared (outer g w ls b)) (AsTyped t)
       → FoundOption b l c o (value_if_any o (inner g w ls b l c)) t
   effect_complete None b l c t f e h k = record { lists = c; is = ap (λ t. ok (t, inner g w ls b l c)) (sym h); after = none_after g c [] e refl refl refl }
@@ -77,7 +78,7 @@ module _ (g : FileScope) (w : IsWhole g) (ls : List ALocal) (result : CType) (ow
   -- ---- what stands first
 
   start_complete : (start : Trees.ForStart) → ((d : Trees.Declaration) → CompletesDeclaration g w ls result own d)
-      → (b : List (List Bound)) (l : List ALocal) (c : Lists) (all : Statements) (after : Scope) → BlocksFit g (length c.records) b
+      → (b : List (List Bound)) (l : List ALocal) (c : Lists) (all : Statements) (after : Scope) → IsFit g c b
       → IsBefore g c (Seen g w ls (walk_of_start g.untagged own start)) → (more : List ALocal) × (ls ≡ l ++ more)
       → IsStart start (outer g w ls b) all after → AreTypedHere g w ls result own b false false all → AreNumbered (length l) (all_declared_by all)
       → FoundAll g w ls result own b l c (walk_of_start g.untagged own start) (start_of start (inner g w ls b l c)) all after
@@ -110,7 +111,7 @@ module _ (g : FileScope) (w : IsWhole g) (ls : List ALocal) (result : CType) (ow
           count = let m = ap length (ap all_declared_by h.1) in omega (arith, m);
           rest = p;
         };
-        fit = blocks_stay g (length c.records) (length z.lists.records) b (grown z.after) f;
+        fit = fit_after g c z.lists b (walk g.untagged a) z.after f;
       }
   start_complete (Trees.declares x) d b l c all after f e p h k n =
       let z = d x b l c all after false false f e p h.0 k n in
@@ -149,21 +150,21 @@ module _ (g : FileScope) (w : IsWhole g) (ls : List ALocal) (result : CType) (ow
       let e2 = left_seen g true in_full c (walk_of_start g.untagged own start ++ walk_of_option g.untagged own test)
       (walk_of_option g.untagged own step) e3 in
       let e1 = left_seen g true in_full c (walk_of_start g.untagged own start) (walk_of_option g.untagged own test) e2 in
-      let z = start_complete start d ([] ∷ b) l c h.0 h.1 (λ x y q. f x y q) e1 p h.6 k.1
+      let z = start_complete start d ([] ∷ b) l c h.0 h.1 (fit_inside g c b f) e1 p h.6 k.1
       (numbered_left (length l) (all_declared_by h.0) (all_declared h.4) n) in
       let q = z.performs in
       let r = test_complete test z.blocks q.locals q.lists h.2 z.fit
       (right_seen g true in_full c q.lists (walk_of_start g.untagged own start) (walk_of_option g.untagged own test) e2 q.after)
       (subst (λ s. IsPlainIfAny test s h.2) z.is_after h.7) k.2 in
       let a2 = then_seen g true in_full c q.lists r.lists (walk_of_start g.untagged own start) (walk_of_option g.untagged own test) q.after r.after in
-      let fit2 = blocks_stay g (length q.lists.records) (length r.lists.records) z.blocks (grown r.after) z.fit in
+      let fit2 = fit_after g q.lists r.lists z.blocks (walk_of_option g.untagged own test) r.after z.fit in
       let v = effect_complete step z.blocks q.locals r.lists h.3 fit2
       (right_seen g true in_full c r.lists (walk_of_start g.untagged own start ++ walk_of_option g.untagged own test)
       (walk_of_option g.untagged own step) e3 a2)
       (subst (λ s. IsPlainIfAny step s h.3) z.is_after h.8) k.3 in
       let a3 = then_seen g true in_full c r.lists v.lists (walk_of_start g.untagged own start ++ walk_of_option g.untagged own test)
       (walk_of_option g.untagged own step) a2 v.after in
-      let fit3 = blocks_stay g (length r.lists.records) (length v.lists.records) z.blocks (grown v.after) fit2 in
+      let fit3 = fit_after g r.lists v.lists z.blocks (walk_of_option g.untagged own step) v.after fit2 in
       let m = i z.blocks q.locals v.lists h.4 true switch fit3
       (right_seen g true in_full c v.lists (walk_of_start g.untagged own start ++ walk_of_option g.untagged own test
       ++ walk_of_option g.untagged own step) (walk_of_statement g.untagged own body) e a3)

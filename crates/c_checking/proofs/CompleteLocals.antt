@@ -30,12 +30,13 @@ use Rattle.c_checking.proofs.Results.{ok}
 use Rattle.c_checking.proofs.Extends.{Extends}
 use Rattle.c_checking.proofs.CompleteNodes.{some, some_is}
 use Rattle.c_checking.proofs.CompleteWalk.{Event, a_look, a_literal, walk, walk_of_declarator}
-use Rattle.c_checking.proofs.CompletePart.{Lists, part, IsWhole, IsBefore, IsAfter, Done, BlocksFit, blocks_stay, none_after, grown}
+use Rattle.c_checking.proofs.CompletePart.{Lists, part, IsWhole, IsBefore, IsAfter, Done, BlocksFit, none_after}
 use Rattle.c_checking.proofs.CompletePart.{complete_stays, mentioned}
 use Rattle.c_checking.proofs.CompletePart.{left_seen, right_seen, then_seen}
 use Rattle.c_checking.proofs.CompleteExpressions.{after_look, behind_look}
 use Rattle.c_checking.proofs.CompleteCalls.{size_same}
-use Rattle.c_checking.proofs.CompleteDeclarators.{small_back, parameter_fits}
+use Rattle.c_checking.proofs.CompleteDeclarators.{small_back}
+use Rattle.c_checking.proofs.CompleteFit.{IsFit, fit_after, fit_named}
 use Rattle.c_checking.proofs.CompleteStructures.{split_at}
 use Rattle.c_checking.proofs.CompleteTrees.{complete_declarator}
 use Rattle.c_checking.proofs.CompleteStatements.{inner, outer, Seen, AreNumbered, numbered_right}
@@ -126,7 +127,7 @@ module _ (g : FileScope) (w : IsWhole g) (ls : List ALocal) where
       → variable_of (inner g w ls b l c) base d x ≡ Ok (t, part g n)
   variable_joined b l c m n base d x steps shape t a k s v h e = rw (a, k, s, v, h, e) refl
 
-  variable_complete : (b : List (List Bound)) (l : List ALocal) (c : Lists) (base : CType) (d : Trees.InitDeclarator) (x : Spelling) (t : CType)
+  pub variable_complete : (b : List (List Bound)) (l : List ALocal) (c : Lists) (base : CType) (d : Trees.InitDeclarator) (x : Spelling) (t : CType)
       → BlocksFit g (length c.records) b → IsBefore g c (Seen g w ls (a_look x.from ∷ walk_of_declarator g.untagged d.declarator))
       → IsVariable (outer g w ls b) base d x t → Done g c (Seen g w ls (a_look x.from ∷ walk_of_declarator g.untagged d.declarator))
       (variable_of (inner g w ls b l c) base d x) t
@@ -199,7 +200,7 @@ module _ (g : FileScope) (w : IsWhole g) (ls : List ALocal) where
   module _ (result : CType) (own : Trees.Declaration → List Event) (initials : (a : Trees.Expression) → CompletesInitializer a) where
     pub locals_complete : (all : List Trees.InitDeclarator) (b : List (List Bound)) (l : List ALocal) (c : Lists) (base : CType) (found : Statements)
         (after : Scope)
-        (loop switch : Bool) → BlocksFit g (length c.records) b → IsBefore g c (Seen g w ls (walk_of_locals g.untagged g.objects all))
+        (loop switch : Bool) → IsFit g c b → IsBefore g c (Seen g w ls (walk_of_locals g.untagged g.objects all))
         → (more : List ALocal) × (ls ≡ l ++ more)
         → DeclareAll all (outer g w ls b) false base found after → AreTypedHere g w ls result own b loop switch found
         → AreNumbered (length l) (all_declared_by found)
@@ -233,12 +234,11 @@ module _ (g : FileScope) (w : IsWhole g) (ls : List ALocal) where
         let e1 = left_seen g true in_full c (walk_of_declared g.untagged g.objects d) (walk_of_initial g.untagged g.objects d.value) e2 in
         let e0 : IsBefore g c (Seen g w ls (a_look h.0.from ∷ walk_of_declarator g.untagged d.declarator)) = subst (λ u. IsBefore g c (Seen g w ls u)) name
         e1 in
-        let z = variable_complete b l c base d h.0 h.1 f e0 h.5 in
+        let z = variable_complete b l c base d h.0 h.1 f.complete e0 h.5 in
         let a1 : IsAfter g c (Seen g w ls (walk_of_declared g.untagged g.objects d)) z.lists = subst (λ u. IsAfter g c (Seen g w ls u) z.lists) (sym name) z.after in
         let o = complete_stays (ended g.ends h.0.from) (length z.lists.records) h.1 (omega (arith, e0.follows.0, z.after.records)) h.5.4 in
-        let fits = parameter_fits g w ls (length z.lists.records) b (local_named l h.0 h.1)
-        (blocks_stay g (length c.records) (length z.lists.records) b (grown z.after) f) o in
-        let m = initial_complete d.value initials (with_name b (local_named l h.0 h.1)) (with_one_local l h.0 h.1) z.lists h.1 h.3 fits o
+        let fits = fit_named g w ls z.lists b (local_named l h.0 h.1) (fit_after g c z.lists b (walk_of_declared g.untagged g.objects d) a1 f) o tt in
+        let m = initial_complete d.value initials (with_name b (local_named l h.0 h.1)) (with_one_local l h.0 h.1) z.lists h.1 h.3 fits.complete o
         (right_seen g true in_full c z.lists (walk_of_declared g.untagged g.objects d) (walk_of_initial g.untagged g.objects d.value) e2 a1)
         (subst (λ n. HasInitializer (with_variable (outer g w ls b) h.0 n h.1) h.1 d.value h.3) number h.8) initialized in
         let a2 = then_seen g true in_full c z.lists m.lists (walk_of_declared g.untagged g.objects d) (walk_of_initial g.untagged g.objects d.value) a1 m.after in
@@ -247,7 +247,7 @@ module _ (g : FileScope) (w : IsWhole g) (ls : List ALocal) where
         let n2 : AreNumbered (length (with_one_local l h.0 h.1)) (all_declared_by h.4) =
         numbered_right (length l) (length (with_one_local l h.0 h.1)) (h.2 ∷ []) (all_declared_by h.4) (omega (arith, long)) n in
         let q = locals_complete all (with_name b (local_named l h.0 h.1)) (with_one_local l h.0 h.1) m.lists base h.4 after loop switch
-        (blocks_stay g (length z.lists.records) (length m.lists.records) (with_name b (local_named l h.0 h.1)) (grown m.after) fits)
+        (fit_after g z.lists m.lists (with_name b (local_named l h.0 h.1)) (walk_of_initial g.untagged g.objects d.value) m.after fits)
         (right_seen g true in_full c m.lists (walk_of_declared g.untagged g.objects d ++ walk_of_initial g.untagged g.objects d.value) (walk_of_locals g.untagged g.objects all) e a2)
         next (subst (λ n. DeclareAll all (with_variable (outer g w ls b) h.0 n h.1) false base h.4 after) number h.9) k.1 n2 in
         let r = q.performs in

@@ -23,8 +23,9 @@ use Rattle.c_checking.proofs.Results.{ok}
 use Rattle.c_checking.proofs.Values.{type_same}
 use Rattle.c_checking.proofs.CompleteValues.{IsLeftOf}
 use Rattle.c_checking.proofs.CompleteWalk.{Event, seen, walk}
-use Rattle.c_checking.proofs.CompletePart.{Lists, part, IsWhole, IsBefore, IsAfter, BlocksFit, blocks_stay, none_after, grown}
+use Rattle.c_checking.proofs.CompletePart.{Lists, part, IsWhole, IsBefore, IsAfter, none_after}
 use Rattle.c_checking.proofs.CompletePart.{left_seen, right_seen, then_seen}
+use Rattle.c_checking.proofs.CompleteFit.{IsFit, fit_after}
 use Rattle.c_checking.proofs.CompleteOperands.{operand}
 use Rattle.c_checking.proofs.CompleteTrees.{complete}
 
@@ -118,10 +119,10 @@ module _ (g : FileScope) (w : IsWhole g) (ls : List ALocal) where
     pub after : IsAfter g c (Seen (walk g.untagged a)) lists
     pub left : IsLeftOf (declared (outer b)) x (unconverted x)
 
-  pub found_plain : (a : Trees.Expression) (b : List (List Bound)) (l : List ALocal) (c : Lists) (x : Expression) → BlocksFit g (length c.records) b
+  pub found_plain : (a : Trees.Expression) (b : List (List Bound)) (l : List ALocal) (c : Lists) (x : Expression) → IsFit g c b
       → IsBefore g c (Seen (walk g.untagged a)) → Values (Erases a (outer b)) x → IsTyped (declared (outer b)) (typed x) → FoundPlain b l c a x
   found_plain a b l c x f e v t =
-      let z = operand g w ls a (complete g w ls a) (inner b l c) c x f e v t in
+      let z = operand g w ls a (complete g w ls a) (inner b l c) c x f.complete e v t in
       record { lists = z.lists; is = ap (in_scope (inner b l c)) z.value_is; after = z.after; left = z.left }
 
   pub record FoundCondition (b : List (List Bound)) (l : List ALocal) (c : Lists) (a : Trees.Expression) (x : Expression) : Type 0 where
@@ -129,7 +130,7 @@ module _ (g : FileScope) (w : IsWhole g) (ls : List ALocal) where
     pub is : condition a (inner b l c) ≡ Ok (x, inner b l lists)
     pub after : IsAfter g c (Seen (walk g.untagged a)) lists
 
-  pub found_condition : (a : Trees.Expression) (b : List (List Bound)) (l : List ALocal) (c : Lists) (x : Expression) → BlocksFit g (length c.records) b
+  pub found_condition : (a : Trees.Expression) (b : List (List Bound)) (l : List ALocal) (c : Lists) (x : Expression) → IsFit g c b
       → IsBefore g c (Seen (walk g.untagged a)) → IsPlain a (outer b) x → IsTyped (declared (outer b)) (typed x) → IsTested (typed x) → FoundCondition b l c a x
   unfolding condition_in
   found_condition a b l c x f e p t k =
@@ -151,7 +152,7 @@ module _ (g : FileScope) (w : IsWhole g) (ls : List ALocal) where
     IsTypedHere b loop switch t = IsTypedStatement (declared (outer b)) result loop switch (mapped_statement (of_types (λ t. t.ty)) t)
 
     abbrev pub CompletesStatement : Trees.Statement → Type 0
-    CompletesStatement st = (b : List (List Bound)) (l : List ALocal) (c : Lists) (t : Statement) (loop switch : Bool) → BlocksFit g (length c.records) b
+    CompletesStatement st = (b : List (List Bound)) (l : List ALocal) (c : Lists) (t : Statement) (loop switch : Bool) → IsFit g c b
         → IsBefore g c (Seen (walk_in st)) → (more : List ALocal) × (ls ≡ l ++ more) → ErasesStatement st (outer b) t → IsTypedHere b loop switch t
         → AreNumbered (length l) (all_declared t) → Performs c l (walk_in st) (all_declared t) (performed result st (inner b l c) loop switch) t b
 
@@ -188,7 +189,7 @@ module _ (g : FileScope) (w : IsWhole g) (ls : List ALocal) where
     when_complete at begin a end one i b l c t loop switch f e p h k n = by_statement (Trees.when at begin a end one) b l c loop switch t _ h.2
         (λ k n.
         let z = found_condition a b l c h.0 f (left_seen g true in_full c (walk g.untagged a) (walk_in one) e) h.3 k.0 k.1 in
-        let m = i b l z.lists h.1 loop switch (blocks_stay g (length c.records) (length z.lists.records) b (grown z.after) f)
+        let m = i b l z.lists h.1 loop switch (fit_after g c z.lists b (walk g.untagged a) z.after f)
         (right_seen g true in_full c z.lists (walk g.untagged a) (walk_in one) e z.after) p h.4 k.2 n in
         record {
           lists = m.lists;
@@ -205,7 +206,7 @@ module _ (g : FileScope) (w : IsWhole g) (ls : List ALocal) where
     while_complete at begin a end body i b l c t loop switch f e p h k n = by_statement (Trees.while at begin a end body) b l c loop switch t _ h.2
         (λ k n.
         let z = found_condition a b l c h.0 f (left_seen g true in_full c (walk g.untagged a) (walk_in body) e) h.3 k.0 k.1 in
-        let m = i b l z.lists h.1 true switch (blocks_stay g (length c.records) (length z.lists.records) b (grown z.after) f)
+        let m = i b l z.lists h.1 true switch (fit_after g c z.lists b (walk g.untagged a) z.after f)
         (right_seen g true in_full c z.lists (walk g.untagged a) (walk_in body) e z.after) p h.4 k.2 n in
         record {
           lists = m.lists;
@@ -223,7 +224,7 @@ module _ (g : FileScope) (w : IsWhole g) (ls : List ALocal) where
         by_statement (Trees.do_while at body word begin a end semicolon) b l c loop switch t _ h.2
         (λ k n.
         let m = i b l c h.0 true switch f (left_seen g true in_full c (walk_in body) (walk g.untagged a) e) p h.3 k.0 n in
-        let z = found_condition a b m.locals m.lists h.1 (blocks_stay g (length c.records) (length m.lists.records) b (grown m.after) f)
+        let z = found_condition a b m.locals m.lists h.1 (fit_after g c m.lists b (walk_in body) m.after f)
         (right_seen g true in_full c m.lists (walk_in body) (walk g.untagged a) e m.after) h.4 k.1 k.2 in
         record {
           lists = z.lists;
@@ -242,11 +243,11 @@ module _ (g : FileScope) (w : IsWhole g) (ls : List ALocal) where
         (λ k n.
         let ab = left_seen g true in_full c (walk g.untagged a ++ walk_in one) (walk_in other) e in
         let z = found_condition a b l c h.0 f (left_seen g true in_full c (walk g.untagged a) (walk_in one) ab) h.4 k.0 k.1 in
-        let m = i b l z.lists h.1 loop switch (blocks_stay g (length c.records) (length z.lists.records) b (grown z.after) f)
+        let m = i b l z.lists h.1 loop switch (fit_after g c z.lists b (walk g.untagged a) z.after f)
         (right_seen g true in_full c z.lists (walk g.untagged a) (walk_in one) ab z.after) p h.5 k.2
         (numbered_left (length l) (all_declared h.1) (all_declared h.2) n) in
         let x = then_seen g true in_full c z.lists m.lists (walk g.untagged a) (walk_in one) z.after m.after in
-        let q = j b m.locals m.lists h.2 loop switch (blocks_stay g (length c.records) (length m.lists.records) b (grown x) f)
+        let q = j b m.locals m.lists h.2 loop switch (fit_after g c m.lists b (walk g.untagged a ++ walk_in one) x f)
         (right_seen g true in_full c m.lists (walk g.untagged a ++ walk_in one) (walk_in other) e x) m.rest h.6 k.3
         (numbered_right (length l) (length m.locals) (all_declared h.1) (all_declared h.2) m.count n) in
         let d = length-append (all_declared h.1) (all_declared h.2) in

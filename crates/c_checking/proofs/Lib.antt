@@ -43,6 +43,7 @@ pub mod CompleteLists
 pub mod CompleteMarks
 pub mod CompleteLiterals
 pub mod CompleteWhole
+pub mod CompleteFit
 pub mod CompleteStatements
 pub mod CompleteBlocks
 pub mod CompleteFor
