@@ -114,6 +114,14 @@ module _ (g : FileScope) (w : IsWhole g) (ls : List ALocal) where
       let z = i s c th f b h t in
       record { done = record { lists = z.done.lists; is = z.done.is; after = z.done.after }; complete = z.complete }
 
+  -- ---- where complete records are asked for
+
+  pub after_look : (c e : Lists) (at : ℕ) (v : List Event) → IsAfter g c v e → IsAfter g c (a_look at ∷ v) e
+  after_look c e at v p = record { extends = p.extends; names = p.names; records = p.records; objects = p.objects }
+
+  pub behind_look : (c : Lists) (at : ℕ) (v : List Event) → IsBefore g c (a_look at ∷ v) → IsBefore g c v
+  behind_look c at v p = record { extends = p.extends; follows = p.follows.1 }
+
   -- ---- binary operators
 
   joined_parts : (s : Scope) (kind : Kind) (t : CType) (at : Place) (x y : Expression) (node : Node) → IsJoined kind x y node
@@ -163,11 +171,16 @@ module _ (g : FileScope) (w : IsWhole g) (ls : List ALocal) where
   binary_complete a b op at i j s c th f e h t = by_thing s c (Trees.binary a op at b) th _ h.7
       (λ t.
       let p = joined_parts (whole g ls s) (kind_of op) h.0 (place_in (whole g ls s) (first a)) h.1 h.2 h.3 h.6 t in
-      let z = operands a b i j s c h.1 h.2 f e h.4 h.5 p.0 p.1 in
+      let both = behind_look c (first a) (seen s.is_inside s.purpose (walk g.untagged a ++ walk g.untagged b)) e in
+      let z = operands a b i j s c h.1 h.2 f both h.4 h.5 p.0 p.1 in
       let n = CompleteNodes.binary_back (declared (whole g ls s)) (place_in (whole g ls s) (first a)) at (kind_of op) h.0 h.1 h.2 h.3 z.first.left z.second.left
       h.6 t in
       record {
-        done = record { lists = z.second.lists; is = rw (z.first.value_is, z.second.value_is, n) refl; after = z.after };
+        done = record {
+          lists = z.second.lists;
+          is = rw (z.first.value_is, z.second.value_is, n) refl;
+          after = after_look c z.second.lists (first a) (seen s.is_inside s.purpose (walk g.untagged a ++ walk g.untagged b)) z.after;
+        };
         complete = tt;
       }) t
 
@@ -230,12 +243,6 @@ module _ (g : FileScope) (w : IsWhole g) (ls : List ALocal) where
       record { done = record { lists = z.done.lists; is = rw (z.done.is, n) refl; after = z.done.after }; complete = tt }) t
 
   -- ---- unary operators
-
-  pub after_look : (c e : Lists) (at : ℕ) (v : List Event) → IsAfter g c v e → IsAfter g c (a_look at ∷ v) e
-  after_look c e at v p = record { extends = p.extends; names = p.names; records = p.records; objects = p.objects }
-
-  pub behind_look : (c : Lists) (at : ℕ) (v : List Event) → IsBefore g c (a_look at ∷ v) → IsBefore g c v
-  behind_look c at v p = record { extends = p.extends; follows = p.follows.1 }
 
   pub plus_complete : (at : ℕ) (a : Trees.Expression) → Is a → Is (Trees.unary U.Plus at a)
   unfolding find

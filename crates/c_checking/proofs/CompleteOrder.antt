@@ -232,7 +232,9 @@ module _ (u : ℕ → List ℕ) (types : List (List ℕ)) where
         let p = walked_type t w.1 _ _ h.2 in
         earlier (pass h.0 h.1) (both p (earlier (pass p.apart.0 p.apart.1) (walked a w.2 _ rest p.apart.2)))
     walked (Trees.binary a op at b) w low rest h =
-        let p = walked a w.2 low _ h in both p (earlier (pass p.apart.0 p.apart.1) (walked b w.3 _ rest p.apart.2))
+        let f = first_apart types a w.2 low _ h in
+        let p = walked a w.2 (first a) _ f.1 in
+        looking f.0 (both p (earlier (pass p.apart.0 p.apart.1) (walked b w.3 _ rest p.apart.2)))
     walked (Trees.cond a question b colon c) w low rest h =
         let p = walked a w.2 low _ h in
         let q = both p (earlier (pass p.apart.0 p.apart.1) (walked b w.3 _ _ p.apart.2)) in

@@ -132,7 +132,7 @@ module _ (untagged : ℕ → List ℕ) where
     walk (Trees.sizeof_expression at a) = a_look at ∷ seen false value_alone (walk a)
     walk (Trees.sizeof_type at left n right) = walk_of_type n ++ a_look right ∷ []
     walk (Trees.cast left n right a) = walk_of_type n ++ walk a
-    walk (Trees.binary a op at b) = walk a ++ walk b
+    walk (Trees.binary a op at b) = a_look (first a) ∷ walk a ++ walk b
     walk (Trees.cond a question b colon c) = walk a ++ walk b ++ walk c
     walk (Trees.assign a op at b) = walk a ++ walk b
     walk (Trees.comma a at b) = walk a ++ walk b
