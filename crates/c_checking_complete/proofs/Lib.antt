@@ -4,3 +4,7 @@ pub mod Plain
 pub mod Parts
 pub mod Initials
 pub mod Wholes
+pub mod Reached
+pub mod Addresses
+pub mod Expressions
+pub mod Constants

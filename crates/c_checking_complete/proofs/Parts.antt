@@ -91,7 +91,7 @@ module _ (g : FileScope) (w : IsWhole g) (ls : List ALocal) where
   -- ---- without braces
 
   -- a string literal that stands for a thing is an object
-  literal_begins : (a : Trees.Expression) (s : Scope) (th : Thing) → s.purpose ≡ in_full → Erases a (whole g ls s) th → (all : List Spelling)
+  pub literal_begins : (a : Trees.Expression) (s : Scope) (th : Thing) → s.purpose ≡ in_full → Erases a (whole g ls s) th → (all : List Spelling)
       → a ≡ Trees.texts all → begins g.objects (first_text all) ≡ true
   literal_begins a s th full v all e =
       let v : Erases (Trees.texts all) (whole g ls s) th = subst (λ a. Erases a (whole g ls s) th) e v in

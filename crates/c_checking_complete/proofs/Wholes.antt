@@ -53,7 +53,7 @@ record_parts (pointer t) b parts i e = cc
 record_parts (array t n) b parts i e = cc
 record_parts (function t all) b parts i e = cc
 
-typed_parts : (d : Declared) (t : CType) (parts : List Part) → All (IsTypedPart d t) (map (mapped_part (of_types (λ t. t.ty))) parts) → HaveTypes d parts
+pub typed_parts : (d : Declared) (t : CType) (parts : List Part) → All (IsTypedPart d t) (map (mapped_part (of_types (λ t. t.ty))) parts) → HaveTypes d parts
 typed_parts d t [] h = tt
 typed_parts d t (part ∷ more) h =
     let x = mapped_part (of_types (λ t. t.ty)) part in
@@ -62,7 +62,7 @@ typed_parts d t (part ∷ more) h =
     ((k.0, k.2), typed_parts d t more (All-tail (IsTypedPart d t) x all h))
 
 module _ (g : FileScope) (w : IsWhole g) (ls : List ALocal) where
-  abbrev AsTyped : Typed.Initializer Noted → Typed.Initializer CType
+  abbrev pub AsTyped : Typed.Initializer Noted → Typed.Initializer CType
   AsTyped i = mapped_initializer (of_types (λ t. t.ty)) i
 
   made : (a : Trees.Expression) (s : Scope) (c : Lists) (t : CType) (parts : List Part) (i : Typed.Initializer Noted)
