@@ -28,7 +28,7 @@ pub record IsFit (g : FileScope) (c : Lists) (b : List (List Bound)) : Type 0 wh
   pub names : (k : ℕ) (n : Bound) → slice_get g.names k ≡ Some n → k < length c.names → IsAmong (length c.objects) n.entity
 
 -- inside of a function no name is added to the file
-no_names : (w : List Event) → names_in (seen true in_full w) ≡ 0
+pub no_names : (w : List Event) → names_in (seen true in_full w) ≡ 0
 no_names [] = refl
 no_names (a_use at ∷ w) = no_names w
 no_names (a_look at ∷ w) = no_names w

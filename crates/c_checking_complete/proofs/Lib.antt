@@ -8,3 +8,7 @@ pub mod Reached
 pub mod Addresses
 pub mod Expressions
 pub mod Constants
+pub mod InFunctions
+pub mod Objects
+pub mod Statics
+pub mod StaticLists
