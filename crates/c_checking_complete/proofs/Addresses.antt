@@ -1,9 +1,9 @@
 -- The address that an expression stands for in the whole file is the same in the part that has what it reaches (C99 6.6).
-use Rattle.std.proofs.Common.{◌≡◌, ℕ, zero, suc, ◌≤◌, ◌<◌, Bool, true, false, refl, sym, ap, ◌∙◌, subst, cond, List, [], ◌∷◌, ◌++◌, length, arith}
-use Rattle.std.proofs.Common.{inl, inr, ◌+◌, length-append}
+use Rattle.std.proofs.Common.{◌≡◌, ℕ, zero, suc, ◌≤◌, ◌<◌, Bool, true, false, refl, sym, ap, ◌∙◌, subst, cond, List, [], ◌∷◌, length, arith}
+use Rattle.std.proofs.Common.{inl, inr}
 use Rattle.std.proofs.lemmas.Bool.{and_parts, ltb-true}
 use Rattle.std.proofs.lemmas.Option.{get_or_from_slice_get}
-use Rattle.std.specs.Prelude.{◌⊎◌, map, get_or, nat_le, nat_lt, Option, Some, None, slice_get, ℤ, pos, negsuc}
+use Rattle.std.specs.Prelude.{map, get_or, nat_le, nat_lt, Option, Some, None, slice_get, ℤ, pos, negsuc}
 use Rattle.std.specs.Option.{option_map}
 use Rattle.lay_base.specs.declared.place.Place.{Place}
 use Rattle.c_types.specs.Layouts.{size_of, offset_of}
@@ -19,11 +19,11 @@ use Rattle.c_typed.specs.Mapped.{of_types, mapped_path}
 use Rattle.c_typed.specs.Rules.{moving}
 use Rattle.c_typed.specs.Typed.{Declared, IsTyped, IsTypedPath, IsMove, bare_ty, field_type, type_in}
 use Rattle.c_erasure.specs.Erasure.{typed, Values}
-use Rattle.c_erasure.specs.Noted.{Noted, Note, nothing, size_of as sized, Expression, Path, Thing, an_object, a_value, a_function, a_function_at}
+use Rattle.c_erasure.specs.Noted.{Note, nothing, size_of as sized, Expression, Path, Thing, an_object, a_value, a_function, a_function_at}
 use Rattle.c_erasure.specs.Noted.{a_library_function, place_of_path, unless_noted, type_of_path, value_of, object_value, unconverted, value, way}
 use Rattle.c_erasure.specs.Scopes.{FileScope, Scope, ALocal, AnObject, declared, ended}
 use Rattle.c_checking.specs.Answers.{moved}
-use Rattle.c_checking.proofs.Extends.{Extends, record_stays}
+use Rattle.c_checking.proofs.Extends.{Extends}
 use Rattle.c_checking.proofs.Values.{path_type_same}
 use Rattle.c_checking.proofs.CompleteNodes.{some_is}
 use Rattle.c_checking.proofs.CompletePart.{whole, Lists, part, IsWhole, complete_stays}

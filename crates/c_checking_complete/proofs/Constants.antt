@@ -2,16 +2,15 @@
 use Rattle.std.proofs.Common.{◌≡◌, ℕ, ◌+◌, Bool, true, false, refl, sym, ap, ◌∙◌, subst, cond, List, [], ◌∷◌, ◌++◌, length, append-nil, inl, inr}
 use Rattle.std.proofs.lemmas.Bool.{and_parts, and_from}
 use Rattle.std.proofs.lemmas.List.Elements.{All-head, All-tail}
-use Rattle.std.specs.Prelude.{◌⊎◌, ◌&&◌, All, is_some, Option, Some, None}
+use Rattle.std.specs.Prelude.{◌&&◌, All, is_some, Option, Some, None}
 use Rattle.c_types.specs.Layouts.{size_of, offset_of}
 use Rattle.c_types.specs.Types.{CType, void, integer, pointer, array, function, structure, Field}
 use Rattle.c_ast.specs.declared.words.Spelling.{Spelling}
 use Rattle.c_ast.specs.Trees
-use Rattle.c_ast.specs.Places.{first_text}
 use Rattle.c_typed.specs.Trees as Typed
 use Rattle.c_typed.specs.Constants.{Constant, valued, ty, constant_of, is_null}
 use Rattle.c_typed.specs.Conversions.{is_pointer}
-use Rattle.c_typed.specs.InitialValues.{Address, InitialValue, an_address, a_null, as_address, as_function, as_number, address_in, function_in, is_null_in}
+use Rattle.c_typed.specs.InitialValues.{Address, InitialValue, a_null, as_address, as_function, as_number, address_in, function_in, is_null_in}
 use Rattle.c_typed.specs.InitialValues.{initial_in}
 use Rattle.c_typed.specs.Typed.{Declared, IsTyped}
 use Rattle.c_typed.specs.TypedStatements.{IsTypedInitializer}
@@ -22,7 +21,7 @@ use Rattle.c_erasure.specs.Noted.{Noted, Expression}
 use Rattle.c_erasure.specs.Scopes.{FileScope, Scope, ALocal, in_full}
 use Rattle.c_checking.specs.Initializers.{is_constant_part, are_constant_parts, are_constants}
 use Rattle.c_checking.proofs.Extends.{Extends}
-use Rattle.c_checking.proofs.CompleteWalk.{Event, seen, walk}
+use Rattle.c_checking.proofs.CompleteWalk.{Event, seen}
 use Rattle.c_checking.proofs.CompletePart.{whole, Lists, part, IsWhole}
 use Rattle.c_checking.proofs.CompleteLocals.{walk_of_initializer, walk_of_initializers}
 use Rattle.c_checking_complete.proofs.Values.{HasType, HaveTypes}
@@ -30,7 +29,7 @@ use Rattle.c_checking_complete.proofs.Plain.{Plainly, IsPlain, plain, no_braces}
 use Rattle.c_checking_complete.proofs.Parts.{literal_begins}
 use Rattle.c_checking_complete.proofs.Wholes.{typed_parts, AsTyped}
 use Rattle.c_checking_complete.proofs.Reached.{Reaches, left_reached, right_reached}
-use Rattle.c_checking_complete.proofs.Addresses.{D, E, IsKnown, ValueBack, value_back}
+use Rattle.c_checking_complete.proofs.Addresses.{D, E, ValueBack, value_back}
 use Rattle.c_checking_complete.proofs.Expressions.{erased_back}
 
 module _ (g : FileScope) (w : IsWhole g) (ls : List ALocal) (s : Scope) (full : s.purpose ≡ in_full) (m : Lists) (p : Extends (part g m) g) where

@@ -1,12 +1,12 @@
 -- What an expression designates in the whole file lies at the same address in the part that has what it reaches (C99 6.5, 6.6).
-use Rattle.std.proofs.Common.{◌≡◌, ℕ, ◌+◌, ◌≤◌, ◌<◌, Bool, true, false, refl, sym, ap, ◌∙◌, subst, List, [], ◌∷◌, ◌++◌, length, arith, inl, inr}
-use Rattle.std.proofs.Common.{append_assoc, length-append}
+use Rattle.std.proofs.Common.{◌≡◌, ℕ, ◌≤◌, ◌<◌, true, refl, sym, ap, subst, List, [], ◌∷◌, ◌++◌, length, arith, inl, inr}
+use Rattle.std.proofs.Common.{length-append}
 use Rattle.std.proofs.lemmas.Bool.{lt-ltb}
-use Rattle.std.specs.Prelude.{◌⊎◌, ◌&&◌, nat_lt, Option, Some, None, slice_get}
+use Rattle.std.specs.Prelude.{◌&&◌, Some, slice_get}
 use Rattle.lay_base.specs.declared.place.Place.{Place}
 use Rattle.c_types.specs.Objects.{is_object}
 use Rattle.c_types.specs.declared.ty.IntKind.TheVariants.{Int, Char}
-use Rattle.c_types.specs.Types.{CType, void, integer, pointer, array, function, structure}
+use Rattle.c_types.specs.Types.{CType, integer, pointer, array}
 use Rattle.c_lexer.specs.QuotedScan.{string_bytes}
 use Rattle.c_ast.specs.declared.words.Spelling.{Spelling}
 use Rattle.c_ast.specs.declared.operators.UnaryOp.TheVariants as U

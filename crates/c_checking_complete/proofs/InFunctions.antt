@@ -1,7 +1,7 @@
 -- What is typed without locals is typed inside of a function too (C99 6.5, 6.7.8).
-use Rattle.std.proofs.Common.{◌≡◌, ℕ, Bool, true, false, refl, subst, List, [], ◌∷◌}
+use Rattle.std.proofs.Common.{true, false, List, [], ◌∷◌}
 use Rattle.std.proofs.lemmas.List.Elements.{All-cons, All-nil, All-head, All-tail}
-use Rattle.std.specs.Prelude.{All, slice_get, Some}
+use Rattle.std.specs.Prelude.{All}
 use Rattle.c_types.specs.Types.{CType, CTypes, no_types, and_type}
 use Rattle.c_typed.specs.Trees as Trees
 use Rattle.c_typed.specs.Trees.{Expression, expression, Expressions, no_expressions, and_expression, OptionalExpression, no_expression, some_expression}

@@ -12,3 +12,4 @@ pub mod InFunctions
 pub mod Objects
 pub mod Statics
 pub mod StaticLists
+pub mod Bodies

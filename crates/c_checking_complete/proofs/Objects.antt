@@ -1,9 +1,8 @@
 -- A part of a file with an object that has no initializer yet, and with another one in its place (C99 6.2.4, 6.7.8).
-use Rattle.std.proofs.Common.{◌≡◌, ℕ, zero, suc, ◌+◌, ◌<◌, true, refl, sym, ap, ◌∙◌, subst, List, [], ◌∷◌, ◌++◌, length, length-append, inl, inr, arith}
-use Rattle.std.specs.Prelude.{◌⊎◌, map, Option, Some, None, IsSome, slice_get, slice_set}
+use Rattle.std.proofs.Common.{◌≡◌, ℕ, zero, suc, ◌+◌, true, refl, sym, ap, ◌∙◌, subst, List, [], ◌∷◌, ◌++◌, length, inl, inr, arith}
+use Rattle.std.specs.Prelude.{◌⊎◌, map, Some, None, IsSome, slice_get, slice_set}
 use Rattle.c_types.specs.Types.{CType}
-use Rattle.c_ast.specs.Trees
-use Rattle.c_erasure.specs.Scopes.{AnObject, Bound, FileScope, in_full}
+use Rattle.c_erasure.specs.Scopes.{AnObject, FileScope, in_full}
 use Rattle.c_checking.proofs.Extends.{Extends, one_of_both}
 use Rattle.c_checking.proofs.CompleteNodes.{some_is}
 use Rattle.c_checking.proofs.CompleteWalk.{Event, a_use, a_look, a_tag, an_end, a_name, a_literal, seen, literals_in, Follows}

@@ -1,5 +1,5 @@
 -- Objects of blocks that live as long as the program, one after the other, and all statements (C99 6.7, 6.8).
-use Rattle.std.proofs.Common.{◌≡◌, ℕ, Bool, true, false, List, [], ◌∷◌, ◌++◌, length, refl, sym, ap, ◌∙◌, subst, arith, ◌+◌}
+use Rattle.std.proofs.Common.{◌≡◌, ℕ, true, List, [], ◌∷◌, ◌++◌, length, refl, sym, ap, subst, arith}
 use Rattle.std.specs.Prelude.{Option, Some, None, Ok, slice_get}
 use Rattle.c_types.specs.Types.{CType}
 use Rattle.c_ast.specs.declared.words.Spelling.{Spelling}
@@ -9,19 +9,17 @@ use Rattle.c_typed.specs.TypedStatements.{all_declared_by}
 use Rattle.c_erasure.specs.Declarators.{declared_name}
 use Rattle.c_erasure.specs.Files.{IsTypedObject}
 use Rattle.c_erasure.specs.Noted.{Noted}
-use Rattle.c_erasure.specs.Scopes.{ALocal, AnObject, Bound, FileScope, Scope, in_full, with_name}
-use Rattle.c_erasure.specs.Statements.{Statements, DeclareAll, with_object}
-use Rattle.c_checking.specs.Answers.{◌>>=◌}
+use Rattle.c_erasure.specs.Scopes.{ALocal, AnObject, FileScope, Scope, in_full, with_name}
+use Rattle.c_erasure.specs.Statements.{Statements}
 use Rattle.c_checking.specs.Statements.{declare_named, declare_all}
 use Rattle.c_checking.proofs.Results.{ok}
 use Rattle.c_checking.proofs.CompleteWalk.{Event, a_literal}
-use Rattle.c_checking.proofs.CompletePart.{Lists, IsWhole, IsBefore, IsAfter, none_after, left_seen, right_seen, then_seen}
-use Rattle.c_checking.proofs.CompleteFit.{IsFit}
-use Rattle.c_checking.proofs.CompleteStatements.{inner, outer, Seen}
-use Rattle.c_checking.proofs.CompleteBlocks.{FoundAll, CompletesDeclaration, CompletesItems, Is}
+use Rattle.c_checking.proofs.CompletePart.{IsWhole, IsBefore, IsAfter, none_after, left_seen, right_seen, then_seen}
+use Rattle.c_checking.proofs.CompleteStatements.{inner, Seen}
+use Rattle.c_checking.proofs.CompleteBlocks.{CompletesDeclaration, CompletesItems, Is}
 use Rattle.c_checking.proofs.CompleteBodies.{CompletesStatics, walk_of_declaration, declaration_complete, statement, items}
 use Rattle.c_checking_complete.proofs.Wholes.{initials_complete}
-use Rattle.c_checking_complete.proofs.Statics.{Initial, Declarator, Object, static_named, FoundStatic, static_complete}
+use Rattle.c_checking_complete.proofs.Statics.{Initial, Declarator, Object, static_named, static_complete}
 
 -- an object stands at the beginning of its declarator
 abbrev pub object_at : Trees.InitDeclarator → Option Spelling → List Event

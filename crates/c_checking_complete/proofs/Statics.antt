@@ -1,8 +1,8 @@
 -- Objects of blocks that live as long as the program: what they declare is what is found (C99 6.2.4, 6.7.1, 6.7.8).
-use Rattle.std.proofs.Common.{◌≡◌, ℕ, suc, ◌+◌, ◌≤◌, ◌<◌, Bool, true, false, List, [], ◌∷◌, ◌++◌, length, length-append, refl, sym, ap, ◌∙◌, subst, cond, inl}
+use Rattle.std.proofs.Common.{◌≡◌, ℕ, suc, ◌≤◌, Bool, true, false, List, [], ◌∷◌, ◌++◌, length, length-append, refl, sym, ap, ◌∙◌, subst, inl}
 use Rattle.std.proofs.Common.{inr, arith}
 use Rattle.std.proofs.lemmas.List.Elements.{All-nil}
-use Rattle.std.specs.Prelude.{◌⊎◌, map, Option, Some, None, Ok, slice_get, slice_set}
+use Rattle.std.specs.Prelude.{◌⊎◌, Option, Some, None, Ok, slice_get, slice_set}
 use Rattle.c_types.specs.Types.{CType, void, integer, pointer, array, function, structure}
 use Rattle.c_types.specs.Objects.{is_object}
 use Rattle.c_ast.specs.declared.words.Spelling.{Spelling}
@@ -17,19 +17,19 @@ use Rattle.c_erasure.specs.Files.{IsTypedObject}
 use Rattle.c_erasure.specs.Initializers.{is_braces, IsInitializer}
 use Rattle.c_erasure.specs.Noted.{Noted}
 use Rattle.c_erasure.specs.Scopes.{ALocal, AnObject, Bound, FileScope, Scope, an_object, defines, in_full, at_file_scope, declared, ended, with_name}
-use Rattle.c_erasure.specs.Statements.{Statements, HasConstants, IsVariable, IsStaticLocal}
-use Rattle.c_checking.specs.Answers.{Checked, ◌>>=◌, with_file, moved}
+use Rattle.c_erasure.specs.Statements.{HasConstants, IsVariable, IsStaticLocal}
+use Rattle.c_checking.specs.Answers.{◌>>=◌, with_file, moved}
 use Rattle.c_checking.specs.Initializers.{are_constants, constants_in}
-use Rattle.c_checking.specs.Statements.{variable_of, constants_if_any, static_object, declare_named}
+use Rattle.c_checking.specs.Statements.{variable_of, constants_if_any, declare_named}
 use Rattle.c_checking.proofs.Results.{ok}
-use Rattle.c_checking.proofs.CompleteWalk.{Event, a_look, a_literal, seen, names_in, ends_in, literals_in, walk_of_declarator, follows_left}
+use Rattle.c_checking.proofs.CompleteWalk.{Event, a_look, a_literal, literals_in, walk_of_declarator}
 use Rattle.c_checking.proofs.CompleteLiterals.{none_in_declarator}
 use Rattle.c_checking.proofs.CompletePart.{Lists, part, IsWhole, IsBefore, IsAfter, Done, none_after, complete_stays, left_seen, right_seen, then_seen}
-use Rattle.c_checking.proofs.CompleteFit.{IsFit, IsAmong, among_more, fit_after, fit_named, no_names}
+use Rattle.c_checking.proofs.CompleteFit.{IsFit, among_more, fit_after, fit_named, no_names}
 use Rattle.c_checking.proofs.CompleteStatements.{inner, outer, Seen}
-use Rattle.c_checking.proofs.CompleteLocals.{look_at, walk_of_initializer, walk_of_initial, walk_of_declared, variable_complete}
+use Rattle.c_checking.proofs.CompleteLocals.{look_at, walk_of_initial, walk_of_declared, variable_complete}
 use Rattle.c_checking_complete.proofs.Wholes.{AsTyped, initials_complete}
-use Rattle.c_checking_complete.proofs.Reached.{Reaches, reaches}
+use Rattle.c_checking_complete.proofs.Reached.{reaches}
 use Rattle.c_checking_complete.proofs.Constants.{constants_back}
 use Rattle.c_checking_complete.proofs.InFunctions.{initial_inside}
 use Rattle.c_checking_complete.proofs.Objects.{none_made, any_objects, with_objects, one_more, one_put, set_length}
