@@ -297,6 +297,7 @@ module _ (g : FileScope) (w : IsWhole g) (ls : List ALocal) where
         names = omega arith;
         records = omega arith;
         objects = omega (arith, length-append c.objects (the_literal s all ∷ []));
+        functions = refl;
       };
     };
     complete = chars_complete (length c.records) all;

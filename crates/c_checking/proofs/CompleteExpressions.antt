@@ -117,7 +117,7 @@ module _ (g : FileScope) (w : IsWhole g) (ls : List ALocal) where
   -- ---- where complete records are asked for
 
   pub after_look : (c e : Lists) (at : ℕ) (v : List Event) → IsAfter g c v e → IsAfter g c (a_look at ∷ v) e
-  after_look c e at v p = record { extends = p.extends; names = p.names; records = p.records; objects = p.objects }
+  after_look c e at v p = record { extends = p.extends; names = p.names; records = p.records; objects = p.objects; functions = p.functions }
 
   pub behind_look : (c : Lists) (at : ℕ) (v : List Event) → IsBefore g c (a_look at ∷ v) → IsBefore g c v
   behind_look c at v p = record { extends = p.extends; follows = p.follows.1 }

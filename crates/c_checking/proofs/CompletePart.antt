@@ -93,9 +93,16 @@ pub record IsAfter (g : FileScope) (c : Lists) (w : List Event) (e : Lists) : Ty
   pub names : length e.names ≡ length c.names + names_in w
   pub records : length e.records ≡ length c.records + ends_in w
   pub objects : length e.objects ≡ length c.objects + literals_in w
+  pub functions : e.functions ≡ c.functions
 
 pub none_after : (g : FileScope) (c : Lists) (w : List Event) → IsBefore g c w → names_in w ≡ 0 → ends_in w ≡ 0 → literals_in w ≡ 0 → IsAfter g c w c
-none_after g c w b n r o = record { extends = b.extends; names = omega (arith, n); records = omega (arith, r); objects = omega (arith, o) }
+none_after g c w b n r o = record {
+  extends = b.extends;
+  names = omega (arith, n);
+  records = omega (arith, r);
+  objects = omega (arith, o);
+  functions = refl;
+}
 
 pub grown : {g : FileScope} {c : Lists} {w : List Event} {e : Lists} → IsAfter g c w e → length c.records ≤ length e.records
 grown p = omega (arith, p.records)
@@ -116,6 +123,7 @@ then u v p q = record {
   names = omega (arith, p.names, q.names, names_append u v);
   records = omega (arith, p.records, q.records, ends_append u v);
   objects = omega (arith, p.objects, q.objects, literals_append u v);
+  functions = q.functions ∙ p.functions;
 }
 
 -- the same of what is seen of two parts
@@ -277,8 +285,8 @@ mentioned g ls s c d w before kind t at m p = by_purpose (is_measured s.purpose)
         extends = mention_extends g d before (record { kind = kind; ty = t; at = at }) p.extends h;
         names = p.names;
         records = p.records;
-        objects =
-            p.objects;
+        objects = p.objects;
+        functions = p.functions;
       },
     )
 

@@ -138,6 +138,7 @@ module _ (g : FileScope) (w : IsWhole g) (ls : List ALocal) where
         names = omega (arith, length-append c.names (b ∷ []));
         records = omega arith;
         objects = omega arith;
+        functions = refl;
       }
 
   -- an enumerator's name is the next one, and new
@@ -379,6 +380,7 @@ module _ (g : FileScope) (w : IsWhole g) (ls : List ALocal) where
         names = omega arith;
         records = omega (arith, length-append c.records (r ∷ []));
         objects = omega arith;
+        functions = refl;
       }
 
   completed_back : (c : Lists) (r : Record) (at : ℕ) (names : List Spelling) → Extends (part g c) g → slice_get g.records (length c.records) ≡ Some r
@@ -476,5 +478,11 @@ module _ (g : FileScope) (w : IsWhole g) (ls : List ALocal) where
         after = subst (λ i. IsAfter g c (seen i s.purpose (a_structure g.untagged at x ∷ body all (tag_name g.untagged at x) end))
             (with_one_record z.lists h.1))
             (sym h.2)
-            (record { extends = all_after.extends; names = all_after.names; records = all_after.records; objects = all_after.objects });
+            (record {
+              extends = all_after.extends;
+              names = all_after.names;
+              records = all_after.records;
+              objects = all_after.objects;
+              functions = all_after.functions;
+            });
       }

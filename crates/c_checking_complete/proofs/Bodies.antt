@@ -1,6 +1,6 @@
 -- The parameters and the body of a function: those that stand for the tree are found (C99 6.9.1).
-use Rattle.std.proofs.Common.{◌≡◌, ℕ, zero, suc, ◌+◌, false, refl, sym, ap, ◌∙◌, subst, List, [], ◌∷◌, ◌++◌, length, length-append, cond, arith, take, drop}
-use Rattle.std.specs.Prelude.{◌<◌, Bool, true, Option, Some, None, Ok, slice_get}
+use Rattle.std.proofs.Common.{inl, inr, ◌≡◌, ℕ, zero, suc, ◌+◌, false, refl, sym, ap, ◌∙◌, subst, List, [], ◌∷◌, ◌++◌, length, length-append, cond, arith, take, drop}
+use Rattle.std.specs.Prelude.{◌<◌, ◌⊎◌, map, Bool, true, Option, Some, None, Ok, slice_get, slice_set}
 use Rattle.std.specs.Option.{option_map}
 use Rattle.std.specs.Str.{bytes_eq}
 use Rattle.c_types.specs.Types.{CType, CTypes, no_types, and_type, void, integer, pointer, array, function, structure}
@@ -12,16 +12,19 @@ use Rattle.c_typed.specs.Mapped.{of_types, mapped_statements}
 use Rattle.c_typed.specs.TypedStatements.{declared_by, all_declared_by, AreTyped}
 use Rattle.c_erasure.specs.Declarators.{declared_name}
 use Rattle.c_erasure.specs.Files.{AreNamed, HasParameters, count_up, without_notes, in_body, IsBody}
-use Rattle.c_erasure.specs.Scopes.{ALocal, AFunction, Bound, FileScope, Entity, a_local, defines, declared, or_else, declared_in, innermost}
+use Rattle.c_erasure.specs.Scopes.{in_full, ALocal, AFunction, Bound, FileScope, Entity, a_local, defines, declared, or_else, declared_in, innermost}
 use Rattle.c_erasure.specs.Statements.{Statements}
+use Rattle.c_checking.specs.Answers.{◌>>=◌}
 use Rattle.c_checking.specs.Files.{Received, received_if_named, named_parameters, received_by, defined_function, with_body, function_body}
 use Rattle.c_checking.specs.Statements.{items_in}
 use Rattle.c_checking.proofs.Results.{ok}
-use Rattle.c_checking.proofs.CompleteNodes.{some_is}
-use Rattle.c_checking.proofs.CompleteWalk.{Event}
+use Rattle.c_checking.proofs.Extends.{Extends}
+use Rattle.c_checking.proofs.CompleteNodes.{some, some_is}
+use Rattle.c_checking.proofs.CompleteWalk.{Event, a_use, a_look, a_tag, an_end, a_name, a_literal, seen, ends_in, literals_in}
 use Rattle.c_checking.proofs.CompletePart.{Lists, part, IsWhole, IsFitFor, IsBefore, IsAfter}
-use Rattle.c_checking.proofs.CompleteFit.{IsFit, IsAmong}
+use Rattle.c_checking.proofs.CompleteFit.{IsFit, IsAmong, no_names}
 use Rattle.c_checking.proofs.CompleteStatements.{walk_of_items, inner, Seen, AreNumbered}
+use Rattle.c_checking_complete.proofs.Objects.{mapped_at, mapped_set, set_of}
 use Rattle.c_checking_complete.proofs.StaticLists.{AreTypedObjects, walk_of_locals_too, items_complete}
 
 -- ---- parameters
@@ -189,8 +192,75 @@ module _ (g : FileScope) (w : IsWhole g) (typed : AreTypedObjects g) (result : C
   function_complete c f old bounds items place z p h =
       rw (take_front f.parameters f.locals, drop_front f.parameters f.locals, sym z.body, sym p, h.0, h.1, h.2, h.3) refl
 
-  -- the file after a definition
-  pub definition_complete : (c : Lists) (f : AFunction) (bounds : List Bound) (items : Trees.BlockItems) (n place : ℕ) → (z : FoundBody c f bounds items)
-      → function_body (part g c) n place f.nodes result items (as_received f.parameters bounds)
-      ≡ Ok (with_body (part g z.lists) n place (length f.parameters) f.nodes z.all (all_locals f) (slice_get z.lists.functions n))
-  definition_complete c f bounds items n place z = rw z.is refl
+  abbrev with_functions : Lists → List AFunction → Lists
+  with_functions c all = record { names = c.names; records = c.records; objects = c.objects; functions = all; mentions = c.mentions }
+
+  -- the file after a definition, in which the function stands as in the whole file
+  pub record FoundDefinition (c : Lists) (f : AFunction) (bounds : List Bound) (items : Trees.BlockItems) (n place : ℕ) : Type 0 where
+    pub lists : Lists
+    pub is : function_body (part g c) n place f.nodes result items (as_received f.parameters bounds) ≡ Ok (part g lists)
+    pub functions : lists.functions ≡ slice_set c.functions n f
+    pub extends : Extends (part g lists) g
+    pub names : length lists.names ≡ length c.names
+    pub records : length lists.records ≡ length c.records
+    pub objects : length lists.objects ≡ length c.objects + literals_in (Seen g w (all_locals f) (walk_of_body f items))
+
+  function_put : (m : Lists) (n : ℕ) (f : AFunction) → Extends (part g m) g → slice_get g.functions n ≡ Some f
+      → Extends (part g (with_functions m (slice_set m.functions n f))) g
+  function_put m n f p there = record {
+    file = refl;
+    tags = refl;
+    ends = refl;
+    numbered = refl;
+    untagged = refl;
+    names = p.names;
+    records = p.records;
+    mentions = p.mentions;
+    types = p.types;
+    objects = p.objects;
+    functions = types;
+  }
+    where
+      types : (k : ℕ) (t : CType) → slice_get (map (λ o. o.ty) (slice_set m.functions n f)) k ≡ Some t → slice_get (map (λ o. o.ty) g.functions) k ≡ Some t
+      types k t h =
+          by_place (set_of (map (λ o. o.ty) m.functions) n f.ty k t (subst (λ all. slice_get all k ≡ Some t) (mapped_set (λ o. o.ty) m.functions n f) h))
+        where
+          by_place : (slice_get (map (λ o. o.ty) m.functions) k ≡ Some t) ⊎ ((k ≡ n) × (f.ty ≡ t)) → slice_get (map (λ o. o.ty) g.functions) k ≡ Some t
+          by_place (inl h) = p.functions k t h
+          by_place (inr h) =
+              subst (λ k. slice_get (map (λ o. o.ty) g.functions) k ≡ Some t) (sym h.0)
+              (mapped_at (λ (o : AFunction). o.ty) g.functions n f there ∙ ap some h.1)
+
+  -- no structure ends in a body
+  no_ends : (all : List Event) → ends_in (seen true in_full all) ≡ 0
+  no_ends [] = refl
+  no_ends (a_use at ∷ all) = no_ends all
+  no_ends (a_look at ∷ all) = no_ends all
+  no_ends (a_tag t ∷ all) = no_ends all
+  no_ends (an_end tag right ∷ all) = no_ends all
+  no_ends (a_name from ∷ all) = no_ends all
+  no_ends (a_literal at ∷ all) = no_ends all
+
+  pub definition_complete : (c : Lists) (f old : AFunction) (bounds : List Bound) (items : Trees.BlockItems) (n place : ℕ) → IsFit g c (bounds ∷ [])
+      → IsBefore g c (Seen g w (all_locals f) (walk_of_body f items)) → IsBody g result bounds f items → slice_get g.functions n ≡ Some f
+      → slice_get c.functions n ≡ Some old → IsBegun old f → f.place ≡ record { file = g.file; at = place } → FoundDefinition c f bounds items n place
+  definition_complete c f old bounds items n place fit e h there before begun p =
+      let z = body_complete c f bounds items fit e h in
+      let m = z.lists in
+      let stands : slice_get m.functions n ≡ Some old = ap (λ all. slice_get all n) z.after.functions ∙ before in
+      let made = function_complete c f old bounds items place z p begun in
+      let none = no_names (walk_of_body f items) in
+      let no_end = no_ends (walk_of_body f items) in
+      let names = z.after.names in
+      let records = z.after.records in
+      record {
+        lists = with_functions m (slice_set m.functions n f);
+        is = ap (λ r. r >>= λ all. ok (with_body all.1.file n place (length f.parameters) f.nodes all.0 all.1.locals (slice_get all.1.file.functions n))) z.is
+            ∙ ap (λ o. ok (with_body (part g m) n place (length f.parameters) f.nodes z.all (all_locals f) o)) stands
+            ∙ ap (λ f. ok (part g (with_functions m (slice_set m.functions n f)))) made;
+        functions = ap (λ all. slice_set all n f) z.after.functions;
+        extends = function_put m n f z.after.extends there;
+        names = omega (arith, names, none);
+        records = omega (arith, records, no_end);
+        objects = z.after.objects;
+      }

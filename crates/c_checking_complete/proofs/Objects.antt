@@ -39,7 +39,7 @@ mapped_length : {X Y : Type 0} (v : X → Y) (xs : List X) → length (map v xs)
 mapped_length v [] = refl
 mapped_length v (x ∷ xs) = let e = mapped_length v xs in omega (arith, e)
 
-mapped_set : {X Y : Type 0} (v : X → Y) (xs : List X) (n : ℕ) (y : X) → map v (slice_set xs n y) ≡ slice_set (map v xs) n (v y)
+pub mapped_set : {X Y : Type 0} (v : X → Y) (xs : List X) (n : ℕ) (y : X) → map v (slice_set xs n y) ≡ slice_set (map v xs) n (v y)
 mapped_set v [] n y = refl
 mapped_set v (x ∷ xs) zero y = refl
 mapped_set v (x ∷ xs) (suc n) y = ap (λ z. v x ∷ z) (mapped_set v xs n y)
@@ -61,7 +61,7 @@ last_of {X} xs y k x h = by_place (one_of_both xs (y ∷ []) k x h)
     by_place (inr (suc j, e, h)) = cc
 
 -- the one that is put there, or another
-set_of : {X : Type 0} (xs : List X) (n : ℕ) (y : X) (k : ℕ) (x : X) → slice_get (slice_set xs n y) k ≡ Some x
+pub set_of : {X : Type 0} (xs : List X) (n : ℕ) (y : X) (k : ℕ) (x : X) → slice_get (slice_set xs n y) k ≡ Some x
     → (slice_get xs k ≡ Some x) ⊎ ((k ≡ n) × (y ≡ x))
 set_of [] n y k x h = inl h
 set_of (z ∷ xs) zero y zero x h = inr (refl, some_is y x h)

@@ -176,6 +176,7 @@ module _ (g : FileScope) (w : IsWhole g) (ls : List ALocal) where
         names = a0.names;
         records = a0.records;
         objects = omega (arith, long, count, none);
+        functions = a0.functions;
       } in
       let fit0 = fit_after g c m b (Declarator d) a0 f in
       let fit1 = as_many m more b fit0 refl refl (omega (arith, long)) in
@@ -192,6 +193,7 @@ module _ (g : FileScope) (w : IsWhole g) (ls : List ALocal) where
         names = y.after.names;
         records = y.after.records;
         objects = size ∙ y.after.objects;
+        functions = y.after.functions;
       } in
       let fit3 = fit_after g more last (with_name b (static_named x t (length m.objects))) (Initial d.value) a2 fit2 in
       record {
