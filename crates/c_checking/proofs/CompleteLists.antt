@@ -118,7 +118,7 @@ low_high low (a_look at ∷ all) high h = let l = h.0 in let m = low_high at all
 low_high low (a_tag t ∷ all) high h = low_high low all high h
 low_high low (an_end tag right ∷ all) high h = let l = h.0 in let m = low_high (suc right) all high h.1 in omega (arith, l, m)
 low_high low (a_name from ∷ all) high h = let l = h.0 in let m = low_high (suc from) all high h.1 in omega (arith, l, m)
-low_high low (a_literal at ∷ all) high h = let l = h.0 in let m = low_high (suc at) all high h.1 in omega (arith, l, m)
+low_high low (a_literal at ∷ all) high h = let l = h.0 in let m = low_high at all high h.1 in omega (arith, l, m)
 
 after_suc : (low at : ℕ) (all : List ℕ) → low ≤ at → AreFrom (suc at) all → AreFrom low all
 after_suc low at all l a = from_lower low (suc at) all (omega (arith, l)) a
@@ -131,7 +131,7 @@ froms_in_order low (a_look at ∷ all) high h = from_lower low at (froms_of all)
 froms_in_order low (a_tag t ∷ all) high h = froms_in_order low all high h
 froms_in_order low (an_end tag right ∷ all) high h = after_suc low right (froms_of all) h.0 (froms_in_order (suc right) all high h.1)
 froms_in_order low (a_name from ∷ all) high h = (h.0, after_suc low from (froms_of all) h.0 (froms_in_order (suc from) all high h.1))
-froms_in_order low (a_literal at ∷ all) high h = after_suc low at (froms_of all) h.0 (froms_in_order (suc at) all high h.1)
+froms_in_order low (a_literal at ∷ all) high h = from_lower low at (froms_of all) h.0 (froms_in_order at all high h.1)
 
 rights_in_order : (low : ℕ) (all : List Event) (high : ℕ) → AreInOrder low all high → AreFrom low (rights_of all)
 unfolding AreFrom
@@ -141,7 +141,7 @@ rights_in_order low (a_look at ∷ all) high h = from_lower low at (rights_of al
 rights_in_order low (a_tag t ∷ all) high h = rights_in_order low all high h
 rights_in_order low (an_end tag right ∷ all) high h = (h.0, after_suc low right (rights_of all) h.0 (rights_in_order (suc right) all high h.1))
 rights_in_order low (a_name from ∷ all) high h = after_suc low from (rights_of all) h.0 (rights_in_order (suc from) all high h.1)
-rights_in_order low (a_literal at ∷ all) high h = after_suc low at (rights_of all) h.0 (rights_in_order (suc at) all high h.1)
+rights_in_order low (a_literal at ∷ all) high h = from_lower low at (rights_of all) h.0 (rights_in_order at all high h.1)
 
 -- ---- how many definitions ended before a byte
 
@@ -312,7 +312,7 @@ follows g n r o low (a_literal at ∷ all) high p =
     let z = next_of (λ (x : AnObject). x.first) g.objects o at (made_at all ++ p.objects.0) p.objects.1 in
     let l = p.in_order.0 in (
       (z.element, z.there, z.same),
-      follows g n r (suc o) (suc at) all high (record {
+      follows g n r (suc o) at all high (record {
         in_order = p.in_order.1;
         later = p.later;
         names = p.names;
@@ -321,7 +321,7 @@ follows g n r o low (a_literal at ∷ all) high p =
         after = p.after;
         ends = p.ends;
         ended_before = p.ended_before;
-        ends_before = below_higher low (suc at) p.before (omega (arith, l)) p.ends_before;
+        ends_before = below_higher low at p.before l p.ends_before;
         ends_after = p.ends_after;
         records = p.records;
         tags = p.tags;

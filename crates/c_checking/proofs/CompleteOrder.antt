@@ -31,7 +31,7 @@ AreInOrder low (a_look at ∷ all) high = (low ≤ at) × AreInOrder at all high
 AreInOrder low (a_tag t ∷ all) high = AreInOrder low all high
 AreInOrder low (an_end tag right ∷ all) high = (low ≤ right) × AreInOrder (suc right) all high
 AreInOrder low (a_name from ∷ all) high = (low ≤ from) × AreInOrder (suc from) all high
-AreInOrder low (a_literal at ∷ all) high = (low ≤ at) × AreInOrder (suc at) all high
+AreInOrder low (a_literal at ∷ all) high = (low ≤ at) × AreInOrder at all high
 
 pub order_earlier : (low m : ℕ) (all : List Event) (high : ℕ) → low ≤ m → AreInOrder m all high → AreInOrder low all high
 order_earlier low m [] high l h = omega (arith, l, h)
@@ -49,7 +49,7 @@ order_later low (a_look at ∷ all) m high l h = (h.0, order_later at all m high
 order_later low (a_tag t ∷ all) m high l h = order_later low all m high l h
 order_later low (an_end tag right ∷ all) m high l h = (h.0, order_later (suc right) all m high l h.1)
 order_later low (a_name from ∷ all) m high l h = (h.0, order_later (suc from) all m high l h.1)
-order_later low (a_literal at ∷ all) m high l h = (h.0, order_later (suc at) all m high l h.1)
+order_later low (a_literal at ∷ all) m high l h = (h.0, order_later at all m high l h.1)
 
 pub order_both : (low : ℕ) (a : List Event) (m : ℕ) (b : List Event) (high : ℕ) → AreInOrder low a m → AreInOrder m b high → AreInOrder low (a ++ b) high
 order_both low [] m b high h k = order_earlier low m b high h k
@@ -58,7 +58,7 @@ order_both low (a_look at ∷ a) m b high h k = (h.0, order_both at a m b high h
 order_both low (a_tag t ∷ a) m b high h k = order_both low a m b high h k
 order_both low (an_end tag right ∷ a) m b high h k = (h.0, order_both (suc right) a m b high h.1 k)
 order_both low (a_name from ∷ a) m b high h k = (h.0, order_both (suc from) a m b high h.1 k)
-order_both low (a_literal at ∷ a) m b high h k = (h.0, order_both (suc at) a m b high h.1 k)
+order_both low (a_literal at ∷ a) m b high h k = (h.0, order_both at a m b high h.1 k)
 
 -- what is left of them is in order
 pub order_seen : (i : Bool) (p : Purpose) (low : ℕ) (all : List Event) (high : ℕ) → AreInOrder low all high → AreInOrder low (seen i p all) high
@@ -80,11 +80,11 @@ order_seen i p low (a_name from ∷ all) high h = by_test (is_kept (a_name from)
     by_test : (k : Bool) → AreInOrder (suc from) (seen i p all) high → AreInOrder low (with_event k (a_name from) (seen i p all)) high
     by_test true k = (h.0, k)
     by_test false k = let o = h.0 in order_earlier low (suc from) (seen i p all) high (omega (arith, o)) k
-order_seen i p low (a_literal at ∷ all) high h = by_test (is_kept (a_literal at) i p) (order_seen i p (suc at) all high h.1)
+order_seen i p low (a_literal at ∷ all) high h = by_test (is_kept (a_literal at) i p) (order_seen i p at all high h.1)
   where
-    by_test : (k : Bool) → AreInOrder (suc at) (seen i p all) high → AreInOrder low (with_event k (a_literal at) (seen i p all)) high
+    by_test : (k : Bool) → AreInOrder at (seen i p all) high → AreInOrder low (with_event k (a_literal at) (seen i p all)) high
     by_test true k = (h.0, k)
-    by_test false k = let o = h.0 in order_earlier low (suc at) (seen i p all) high (omega (arith, o)) k
+    by_test false k = order_earlier low at (seen i p all) high h.0 k
 
 -- ---- events of a part, before the tokens that follow
 

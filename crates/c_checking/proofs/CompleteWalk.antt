@@ -20,7 +20,7 @@ pub data Event : Type 0 where
   an_end : (tag : List ℕ) → (right : ℕ) → Event
   -- a name is in scope from there on
   a_name : (from : ℕ) → Event
-  -- a string literal
+  -- an object of the file begins: a string literal, or one that a block declares
   a_literal : (at : ℕ) → Event
 
 -- ---- structures and names are declared at file scope alone, and literals where all is evaluated
