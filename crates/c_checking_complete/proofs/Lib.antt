@@ -13,3 +13,4 @@ pub mod Objects
 pub mod Statics
 pub mod StaticLists
 pub mod Bodies
+mod Examples
