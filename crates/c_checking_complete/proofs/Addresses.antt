@@ -14,7 +14,8 @@ use Rattle.c_typed.specs.declared.operators.PointerOp.TheVariants as P
 use Rattle.c_typed.specs.Trees as Typed
 use Rattle.c_typed.specs.Constants.{ty, constant_of}
 use Rattle.c_typed.specs.Conversions.{is_pointer, pointed, element_of}
-use Rattle.c_typed.specs.InitialValues.{Address, element_size, number_in, within, moved as moved_to, subscripted, or_negated, address_of_path, address_in}
+use Rattle.c_typed.specs.InitialValues.{Address, element_size, number_in, within, moved as moved_to, subscripted, or_negated, address_of_path}
+use Rattle.c_typed.specs.InitialValues.{address_in}
 use Rattle.c_typed.specs.Mapped.{of_types, mapped_path}
 use Rattle.c_typed.specs.Rules.{moving}
 use Rattle.c_typed.specs.Typed.{Declared, IsTyped, IsTypedPath, IsMove, bare_ty, field_type, type_in}
@@ -110,7 +111,8 @@ module _ (g : FileScope) (w : IsWhole g) (ls : List ALocal) (s : Scope) (m : Lis
       let j = within_back b.object _ a i.1 h in
       (ap (λ q. moved_to E q (Some z) other) i.0 ∙ ap (λ w. moved_to E (Some b) (Some z) w) e ∙ j.0, j.1)
 
-  subscripted_back : (t : CType) (o q : Option Address) (k : Option ℤ) (a : Address) → is_object n t ≡ true → ((b : Address) → o ≡ Some b → IsBack q b)
+  subscripted_back : (t : CType) (o q : Option Address) (k : Option ℤ) (a : Address) → is_object n t ≡ true → ((b : Address) → o ≡ Some b
+      → IsBack q b)
       → subscripted D t o k ≡ Some a → IsBack (subscripted E t q k) a
   subscripted_back (array t c) (Some b) q (Some (pos k)) a i into h =
       let x = if_some (nat_le k c) (moved_to D (Some b) (Some (pos k)) (size_of g.records t)) a h in
@@ -220,7 +222,8 @@ module _ (g : FileScope) (w : IsWhole g) (ls : List ALocal) (s : Scope) (m : Lis
           (moved_size (ended g.ends at.at) (ty (typed x)) (bare_ty (typed y)) (ty (typed y)) l v.1)
 
       by_side : (b : Bool) → is_pointer (ty (typed x)) ≡ b
-          → cond b (moved_to D (address_in D (typed x)) (or_negated D op (number_in (ty (typed y)) (constant_of (typed y)))) (element_size g.records t))
+          → cond b (moved_to D (address_in D (typed x)) (or_negated D op (number_in (ty (typed y)) (constant_of (typed y))))
+          (element_size g.records t))
           (moved_to D (address_in D (typed y)) (number_in (ty (typed x)) (constant_of (typed x))) (element_size g.records t)) ≡ Some a
           → IsBack (cond b
           (moved_to E (address_in E (typed x)) (or_negated E op (number_in (ty (typed y)) (constant_of (typed y)))) (element_size m.records t))
@@ -240,7 +243,8 @@ module _ (g : FileScope) (w : IsWhole g) (ls : List ALocal) (s : Scope) (m : Lis
   field_known r k t i h =
       let z = field_of g.records r k t h in
       let less : r < n = ltb-true r n i in
-      subst (λ t. is_object n t ≡ true) z.same (complete_stays r n z.field.ty (omega (arith, less)) (w.fields_complete r k z.rec z.field z.there z.is))
+      subst (λ t. is_object n t ≡ true) z.same (complete_stays r n z.field.ty (omega (arith, less))
+      (w.fields_complete r k z.rec z.field z.there z.is))
 
   moved_parts : (o : Option Address) (k : Option ℤ) (size : ℕ) (a : Address) → moved_to D o k size ≡ Some a → (b : Address) × (o ≡ Some b)
   moved_parts None k size a h = cc
@@ -262,8 +266,10 @@ module _ (g : FileScope) (w : IsWhole g) (ls : List ALocal) (s : Scope) (m : Lis
   -- an element behind a pointer
   pub index_back : (t : CType) (at : Place) (e i : Expression) → ended g.ends at.at ≤ n → ValueBack e → PathBack (way t at (Typed.index e i))
   index_back t at e i l h v a k = (
-    moved_back (address_in D (typed e)) (address_in E (typed e)) (number_in (ty (typed i)) (constant_of (typed i))) (element_size g.records (ty (typed e)))
-        (element_size m.records (ty (typed e))) a (λ b c. h v.0 b c) (pointed_size (ty (typed e)) t v.5 (complete_stays (ended g.ends at.at) n t l v.6)) k,
+    moved_back (address_in D (typed e)) (address_in E (typed e)) (number_in (ty (typed i)) (constant_of (typed i))) (element_size g.records (ty
+        (typed e)))
+        (element_size m.records (ty (typed e))) a (λ b c. h v.0 b c) (pointed_size (ty (typed e)) t v.5 (complete_stays
+        (ended g.ends at.at) n t l v.6)) k,
     complete_stays (ended g.ends at.at) n t l v.6,
   )
 

@@ -1,5 +1,6 @@
 -- The parameters and the body of a function: those that stand for the tree are found (C99 6.9.1).
-use Rattle.std.proofs.Common.{inl, inr, ◌≡◌, ℕ, zero, suc, ◌+◌, false, refl, sym, ap, ◌∙◌, subst, List, [], ◌∷◌, ◌++◌, length, length-append, cond, arith, take, drop}
+use Rattle.std.proofs.Common.{inl, inr, ◌≡◌, ℕ, zero, suc, ◌+◌, false, refl, sym, ap, ◌∙◌, subst, List, [], ◌∷◌, ◌++◌, length, length-append, cond}
+use Rattle.std.proofs.Common.{arith, take, drop}
 use Rattle.std.specs.Prelude.{◌<◌, ◌⊎◌, map, Bool, true, Option, Some, None, Ok, slice_get, slice_set}
 use Rattle.std.specs.Option.{option_map}
 use Rattle.std.specs.Str.{bytes_eq}
@@ -66,7 +67,8 @@ scalar_object r (structure k) h = cc
 abbrev IsALocal : ℕ → Entity → Type 0
 IsALocal r e = (k : ℕ) × (t : CType) × (e ≡ a_local k t) × (is_object r t ≡ true)
 
-locals_named : (r : ℕ) (all : Trees.Parameters) (types : CTypes) (k : ℕ) (locals : List ALocal) (bounds : List Bound) → AreNamed all types k locals bounds
+locals_named : (r : ℕ) (all : Trees.Parameters) (types : CTypes) (k : ℕ) (locals : List ALocal) (bounds : List Bound)
+    → AreNamed all types k locals bounds
     → AreScalar types → (x : List ℕ) (b : Bound) → declared_in bounds x ≡ Some b → IsALocal r b.entity
 locals_named r Trees.no_parameters types k locals bounds h s x b e =
     let f : declared_in [] x ≡ Some b = subst (λ bounds. declared_in bounds x ≡ Some b) h.2 e in cc
@@ -76,7 +78,8 @@ locals_named r (Trees.and_parameter comma specs d more) types k locals bounds h 
     by_name (bytes_eq h.0.text x) s f (λ e. locals_named r more h.2 (k + 1) h.3 h.4 h.9 s.1 x b e)
   where
     by_name : (n : Bool) → AreScalar (and_type h.1 h.2)
-        → cond n (Some (record { name = h.0.text; place = h.0.from; from = h.0.to; how = defines; entity = a_local k h.1 })) (declared_in h.4 x) ≡ Some b
+        → cond n (Some (record { name = h.0.text; place = h.0.from; from = h.0.to; how = defines; entity = a_local k h.1 }))
+        (declared_in h.4 x) ≡ Some b
         → (declared_in h.4 x ≡ Some b → IsALocal r b.entity) → IsALocal r b.entity
     by_name true s f later =
         (k, h.1, sym (ap (λ (b : Bound). b.entity) (some_is _ b f)), scalar_object r h.1 s.0)
@@ -100,7 +103,8 @@ module _ (g : FileScope) (c : Lists) (bounds : List Bound) where
           one_local e (z.0, z.1, sym same ∙ z.2, z.3)
 
   -- the names of the file are those of its first objects
-  pub parameters_fit : (list : Option Trees.ParameterList) (types : CTypes) (locals : List ALocal) → HasParameters list types locals bounds → AreScalar types
+  pub parameters_fit : (list : Option Trees.ParameterList) (types : CTypes) (locals : List ALocal) → HasParameters list types locals bounds
+      → AreScalar types
       → ((k : ℕ) (n : Bound) → slice_get g.names k ≡ Some n → k < length c.names → IsAmong (length c.objects) n.entity) → IsFit g c (bounds ∷ [])
   parameters_fit list types locals h s names = record {
     complete = λ x e i. (block_fits (by_list list h) x e i).0;
@@ -108,7 +112,8 @@ module _ (g : FileScope) (c : Lists) (bounds : List Bound) where
     names = names;
   }
     where
-      by_list : (list : Option Trees.ParameterList) → HasParameters list types locals bounds → (x : List ℕ) (b : Bound) → declared_in bounds x ≡ Some b
+      by_list : (list : Option Trees.ParameterList) → HasParameters list types locals bounds → (x : List ℕ) (b : Bound)
+          → declared_in bounds x ≡ Some b
           → IsALocal (length c.records) b.entity
       by_list None h x b e = absurd h
       by_list (Some (Trees.listed all)) h x b e = locals_named (length c.records) all types 0 locals bounds h s x b e
@@ -159,7 +164,11 @@ module _ (g : FileScope) (w : IsWhole g) (typed : AreTypedObjects g) (result : C
     pub body : f.body ≡ Some (Typed.block (declared_by all) all)
     pub blocks : List (List Bound)
     pub lists : Lists
-    pub is : items_in result items (in_body (part g c) bounds f.parameters) false false ≡ Ok (all, inner g w (all_locals f) blocks (all_locals f) lists)
+    pub is : items_in result items (in_body (part g c) bounds f.parameters) false false ≡ Ok (
+      all,
+      inner g w (all_locals f) blocks
+          (all_locals f) lists,
+    )
     pub after : IsAfter g c (Seen g w (all_locals f) (walk_of_body f items)) lists
 
   pub body_complete : (c : Lists) (f : AFunction) (bounds : List Bound) (items : Trees.BlockItems) → IsFit g c (bounds ∷ [])
@@ -186,7 +195,8 @@ module _ (g : FileScope) (w : IsWhole g) (typed : AreTypedObjects g) (result : C
   abbrev pub IsBegun : AFunction → AFunction → Type 0
   IsBegun old f = (old.name ≡ f.name) × (old.first ≡ f.first) × (old.ty ≡ f.ty) × (old.is_linked ≡ f.is_linked)
 
-  pub function_complete : (c : Lists) (f old : AFunction) (bounds : List Bound) (items : Trees.BlockItems) (place : ℕ) → (z : FoundBody c f bounds items)
+  pub function_complete : (c : Lists) (f old : AFunction) (bounds : List Bound) (items : Trees.BlockItems) (place : ℕ)
+      → (z : FoundBody c f bounds items)
       → f.place ≡ record { file = g.file; at = place } → IsBegun old f
       → defined_function (part g z.lists) place (length f.parameters) f.nodes z.all (all_locals f) old ≡ f
   function_complete c f old bounds items place z p h =
@@ -221,11 +231,14 @@ module _ (g : FileScope) (w : IsWhole g) (typed : AreTypedObjects g) (result : C
     functions = types;
   }
     where
-      types : (k : ℕ) (t : CType) → slice_get (map (λ o. o.ty) (slice_set m.functions n f)) k ≡ Some t → slice_get (map (λ o. o.ty) g.functions) k ≡ Some t
+      types : (k : ℕ) (t : CType) → slice_get (map (λ o. o.ty) (slice_set m.functions n f)) k ≡ Some t
+          → slice_get (map (λ o. o.ty) g.functions) k ≡ Some t
       types k t h =
-          by_place (set_of (map (λ o. o.ty) m.functions) n f.ty k t (subst (λ all. slice_get all k ≡ Some t) (mapped_set (λ o. o.ty) m.functions n f) h))
+          by_place (set_of (map (λ o. o.ty) m.functions) n f.ty k t (subst (λ all. slice_get all k ≡ Some t) (mapped_set
+          (λ o. o.ty) m.functions n f) h))
         where
-          by_place : (slice_get (map (λ o. o.ty) m.functions) k ≡ Some t) ⊎ ((k ≡ n) × (f.ty ≡ t)) → slice_get (map (λ o. o.ty) g.functions) k ≡ Some t
+          by_place : (slice_get (map (λ o. o.ty) m.functions) k ≡ Some t) ⊎ ((k ≡ n) × (f.ty ≡ t))
+              → slice_get (map (λ o. o.ty) g.functions) k ≡ Some t
           by_place (inl h) = p.functions k t h
           by_place (inr h) =
               subst (λ k. slice_get (map (λ o. o.ty) g.functions) k ≡ Some t) (sym h.0)
@@ -255,7 +268,8 @@ module _ (g : FileScope) (w : IsWhole g) (typed : AreTypedObjects g) (result : C
       let records = z.after.records in
       record {
         lists = with_functions m (slice_set m.functions n f);
-        is = ap (λ r. r >>= λ all. ok (with_body all.1.file n place (length f.parameters) f.nodes all.0 all.1.locals (slice_get all.1.file.functions n))) z.is
+        is = ap (λ r. r >>= λ all. ok (with_body all.1.file n place (length f.parameters) f.nodes all.0 all.1.locals
+            (slice_get all.1.file.functions n))) z.is
             ∙ ap (λ o. ok (with_body (part g m) n place (length f.parameters) f.nodes z.all (all_locals f) o)) stands
             ∙ ap (λ f. ok (part g (with_functions m (slice_set m.functions n f)))) made;
         functions = ap (λ all. slice_set all n f) z.after.functions;

@@ -15,7 +15,8 @@ use Rattle.c_typed.specs.InitialValues.{initial_in}
 use Rattle.c_typed.specs.Typed.{Declared, IsTyped}
 use Rattle.c_typed.specs.TypedStatements.{IsTypedInitializer}
 use Rattle.c_erasure.specs.Erasure.{typed, Values, Erases}
-use Rattle.c_erasure.specs.Initializers.{Part, part_at, texts_of, IsText, IsOneValue, Initializes, InitializeElements, InitializeFields, IsInitializer}
+use Rattle.c_erasure.specs.Initializers.{Part, part_at, texts_of, IsText, IsOneValue, Initializes, InitializeElements, InitializeFields}
+use Rattle.c_erasure.specs.Initializers.{IsInitializer}
 use Rattle.c_erasure.specs.Initializers.{HasConstant, AreConstants}
 use Rattle.c_erasure.specs.Noted.{Noted, Expression}
 use Rattle.c_erasure.specs.Scopes.{FileScope, Scope, ALocal, in_full}
@@ -62,7 +63,8 @@ module _ (g : FileScope) (w : IsWhole g) (ls : List ALocal) (s : Scope) (full : 
 
   -- one that is no integer
   other_value : (e : Expression) → ValueBack g w ls s m p e → IsTyped Outer (typed e) → (v : InitialValue)
-      → cond (is_null_in Outer (typed e)) (Some a_null) (as_address Outer (address_in Outer (typed e)) (as_function Outer (function_in Outer (typed e)))) ≡ Some v
+      → cond (is_null_in Outer (typed e)) (Some a_null) (as_address Outer (address_in Outer (typed e)) (as_function Outer (function_in Outer
+      (typed e)))) ≡ Some v
       → is_some (cond (is_null_in Inner (typed e)) (Some a_null)
       (as_address Inner (address_in Inner (typed e)) (as_function Inner (function_in Inner (typed e))))) ≡ true
   other_value e back k v h = by_null (is_null_in Outer (typed e)) (is_null_in Inner (typed e)) (null_same (typed e)) h
@@ -74,7 +76,8 @@ module _ (g : FileScope) (w : IsWhole g) (ls : List ALocal) (s : Scope) (full : 
       by_null false false q h =
           let same : as_function Outer (function_in Outer (typed e)) ≡ as_function Inner (function_in Inner (typed e)) =
           function_as (function_in Outer (typed e)) ∙ ap (as_function Inner) (function_same (typed e)) in
-          address_or (address_in Outer (typed e)) (address_in Inner (typed e)) (as_function Inner (function_in Inner (typed e))) v (λ a i. (back k a i).0)
+          address_or (address_in Outer (typed e)) (address_in Inner (typed e)) (as_function Inner (function_in Inner (typed e))) v (λ a i.
+          (back k a i).0)
           (ap (as_address Outer (address_in Outer (typed e))) (sym same) ∙ h)
       by_null true false q h = cc
       by_null false true q h = cc
@@ -140,7 +143,8 @@ module _ (g : FileScope) (w : IsWhole g) (ls : List ALocal) (s : Scope) (full : 
       let same = q.walked g.untagged g.objects (λ all e. literal_begins g w ls a s v.0 full v.2 all (q.is_texts all e)) in
       value_back g w ls s m p (Erases a S) x v (λ th k. erased_back g w ls s m p a th k (subst There same i))
 
-  plain_are : (a : Trees.Expression) → IsPlain a → (t : CType) (at : ℕ) (parts : List Part) → Initializes a S t at parts → There (Walk a) → Were parts → Are parts
+  plain_are : (a : Trees.Expression) → IsPlain a → (t : CType) (at : ℕ) (parts : List Part) → Initializes a S t at parts → There (Walk a)
+      → Were parts → Are parts
   plain_are a q t at parts h i k = by_form (q.stands S t at parts h)
     where
       by_form : Plainly a S t at parts → Are parts
@@ -162,7 +166,8 @@ module _ (g : FileScope) (w : IsWhole g) (ls : List ALocal) (s : Scope) (full : 
   on_right u v h = right_reached g w ls s (length m.records) (length m.objects) s.is_inside in_full u v h
 
   mutual
-    initial_are : (a : Trees.Expression) (t : CType) (at : ℕ) (parts : List Part) → Initializes a S t at parts → There (Walk a) → Were parts → Are parts
+    initial_are : (a : Trees.Expression) (t : CType) (at : ℕ) (parts : List Part) → Initializes a S t at parts → There (Walk a) → Were parts
+        → Are parts
     initial_are (Trees.braces left all last right) t at parts (inl h) i k =
         subst Are (sym h.3) (one_part at h.0 (one_value_back all h.0 h.4 i) (subst Were h.3 k))
     initial_are (Trees.braces left all last right) t at parts (inr (inl h)) i k = elements_are all h.1 h.0 at parts h.4 i k

@@ -1,7 +1,7 @@
 -- What completeness asks holds of `char s[] = "ab";`, of `int a[2][2] = {{1, 2}, {3}};` and of `static int x = 1;` in a function: they are found.
-use Rattle.std.proofs.Common.{◌≡◌, ◌≢◌, ℕ, zero, suc, ◌+◌, ◌*◌, ◌<◌, ◌≤◌, Bool, true, false, List, [], ◌∷◌, ◌++◌, length, refl, sym, ap, ◌∙◌, subst, cond, arith, inl, inr}
+use Rattle.std.proofs.Common.{◌≡◌, ℕ, ◌+◌, ◌*◌, ◌<◌, List, [], ◌∷◌, refl, arith, inl, inr}
 use Rattle.std.proofs.lemmas.List.Elements.{All-nil, All-cons}
-use Rattle.std.specs.Prelude.{codes, Option, Some, None, Ok, slice_get}
+use Rattle.std.specs.Prelude.{codes, Some, None}
 use Rattle.c_types.specs.declared.ty.IntKind.TheVariants.{Char, Int}
 use Rattle.c_types.specs.Types.{CType, integer, array}
 use Rattle.c_lexer.specs.QuotedScan.{string_bytes}
@@ -13,13 +13,13 @@ use Rattle.c_typed.specs.Mapped.{of_types, mapped_part}
 use Rattle.c_typed.specs.TypedStatements.{IsTypedPart, IsTypedInitializer}
 use Rattle.c_typed.specs.Parts as Lying
 use Rattle.c_erasure.specs.Erasure.{literal_of}
-use Rattle.c_erasure.specs.Initializers.{Part, part_at, IsTextOf, IsInitializer, Initializes}
-use Rattle.c_erasure.specs.Noted.{Noted, Expression, a_value, value}
-use Rattle.c_erasure.specs.Scopes.{FileScope, Scope, Entity, declared}
+use Rattle.c_erasure.specs.Initializers.{Part, part_at, IsInitializer, Initializes}
+use Rattle.c_erasure.specs.Noted.{Expression, a_value, value}
+use Rattle.c_erasure.specs.Scopes.{FileScope, Scope, declared}
 use Rattle.c_checking.specs.Initializers.{initializer}
 use Rattle.c_checking.proofs.Extends.{itself}
-use Rattle.c_checking.proofs.CompletePart.{Lists, part, IsFitFor, IsWhole, IsBefore, Done, BlocksFit}
-use Rattle.c_checking.proofs.CompleteStatements.{inner, outer, Seen}
+use Rattle.c_checking.proofs.CompletePart.{Lists, part, IsWhole, Done}
+use Rattle.c_checking.proofs.CompleteStatements.{inner, outer}
 use Rattle.c_checking.proofs.CompleteLocals.{walk_of_initializer}
 use Rattle.c_checking.proofs.CompleteWhole.{is_whole}
 use Rattle.c_checking_complete.proofs.Wholes.{AsTyped, initials_complete}
@@ -83,11 +83,16 @@ text_stands = inr (inr (
   inr (inr (97 ∷ 98 ∷ 0 ∷ [], (Char, 3, refl, refl, inl (ab_bytes, omega arith)), All-nil _, refl)),
 ))
 
-text_is_found : Done empty nothing [] (initializer (Trees.texts ab) (inner empty empty_is_whole [] [] [] nothing) (array (integer Char) 3)) (Typed.parts ab_parts)
-text_is_found = initials_complete empty empty_is_whole [] (Trees.texts ab) [] [] nothing (array (integer Char) 3) (Typed.parts ab_parts) (λ x e h. cc) refl
-    (record { extends = itself empty; follows = tt }) text_stands
-    (refl, All-cons (IsTypedPart (declared here) (array (integer Char) 3)) (record { offset = 0; value = Typed.text (97 ∷ 98 ∷ 0 ∷ []) }) []
-    (array (integer Char) 3, Lying.itself (array (integer Char) 3), (Char, 3, refl, refl, omega arith)) (All-nil _), (All-nil _, tt))
+text_is_found : Done empty nothing [] (initializer (Trees.texts ab) (inner empty empty_is_whole [] [] [] nothing) (array (integer Char) 3))
+    (Typed.parts ab_parts)
+text_is_found = initials_complete empty empty_is_whole [] (Trees.texts ab) [] [] nothing (array (integer Char) 3) (Typed.parts ab_parts)
+    (λ x e h. cc) refl
+    (record { extends = itself empty; follows = tt }) text_stands (
+      refl,
+      All-cons (IsTypedPart (declared here) (array (integer Char) 3)) (record { offset = 0; value = Typed.text (97 ∷ 98 ∷ 0 ∷ []) }) []
+          (array (integer Char) 3, Lying.itself (array (integer Char) 3), (Char, 3, refl, refl, omega arith)) (All-nil _),
+      (All-nil _, tt),
+    )
 
 -- ---- braces in braces
 
@@ -142,7 +147,15 @@ square_stands = inr (inr (
         int,
         refl,
         tt,
-        (1, at_byte 0 1 22 ∷ [], at_byte 4 2 25 ∷ [], refl, refl, one_number 0 1 22, (0, at_byte 4 2 25 ∷ [], [], refl, refl, one_number 4 2 25, refl)),
+        (
+          1,
+          at_byte 0 1 22 ∷ [],
+          at_byte 4 2 25 ∷ [],
+          refl,
+          refl,
+          one_number 0 1 22,
+          (0, at_byte 4 2 25 ∷ [], [], refl, refl, one_number 4 2 25, refl),
+        ),
       )),
       (
         0,

@@ -25,7 +25,8 @@ use Rattle.c_checking.proofs.Extends.{Extends}
 use Rattle.c_checking.proofs.CompleteWalk.{Event, a_look, seen, walk, walk_of_type}
 use Rattle.c_checking.proofs.CompletePart.{whole, Lists, part, IsWhole}
 use Rattle.c_checking_complete.proofs.Reached.{IsThere, Reaches, left_reached, right_reached}
-use Rattle.c_checking_complete.proofs.Addresses.{ValueBack, ThingBack, value_back, none_here, pointer_add_back, deref_back, member_back, index_back, element_back}
+use Rattle.c_checking_complete.proofs.Addresses.{ValueBack, ThingBack, value_back, none_here, pointer_add_back, deref_back, member_back, index_back}
+use Rattle.c_checking_complete.proofs.Addresses.{element_back}
 use Rattle.c_checking_complete.proofs.Addresses.{object_back, unmade_back, cast_back}
 
 some_bytes : (all : List Spelling) → 0 < length (literal_of all)

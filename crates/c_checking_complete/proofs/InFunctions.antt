@@ -4,7 +4,8 @@ use Rattle.std.proofs.lemmas.List.Elements.{All-cons, All-nil, All-head, All-tai
 use Rattle.std.specs.Prelude.{All}
 use Rattle.c_types.specs.Types.{CType, CTypes, no_types, and_type}
 use Rattle.c_typed.specs.Trees as Trees
-use Rattle.c_typed.specs.Trees.{Expression, expression, Expressions, no_expressions, and_expression, OptionalExpression, no_expression, some_expression}
+use Rattle.c_typed.specs.Trees.{Expression, expression, Expressions, no_expressions, and_expression, OptionalExpression, no_expression}
+use Rattle.c_typed.specs.Trees.{some_expression}
 use Rattle.c_typed.specs.Trees.{Path, path, PartValue, Part, Initializer}
 use Rattle.c_typed.specs.Typed.{Declared, IsTyped, IsTypedPath, AreArguments, IsCount}
 use Rattle.c_typed.specs.TypedStatements.{IsTypedValue, IsTypedPart, IsTypedInitializer}
@@ -75,7 +76,8 @@ module _ (d : Declared) where
   parts_inside t [] h = All-nil (IsTypedPart d t)
   parts_inside t (part ∷ more) h =
       let k = All-head (IsTypedPart Outside t) part more h in
-      All-cons (IsTypedPart d t) part more (k.0, k.1, value_inside k.0 part.value k.2) (parts_inside t more (All-tail (IsTypedPart Outside t) part more h))
+      All-cons (IsTypedPart d t) part more (k.0, k.1, value_inside k.0 part.value k.2) (parts_inside t more (All-tail
+      (IsTypedPart Outside t) part more h))
 
   pub initial_inside : (t : CType) (i : Initializer CType) → IsTypedInitializer Outside t i → IsTypedInitializer d t i
   initial_inside t (Trees.whole e) h = value_inside t (Trees.value e) h

@@ -20,13 +20,15 @@ use Rattle.c_checking.proofs.CompletePart.{whole, Lists, part, IsWhole, IsBefore
 use Rattle.c_checking_complete.proofs.Texts.{character_of}
 use Rattle.c_checking_complete.proofs.Values.{text_done}
 use Rattle.c_checking_complete.proofs.Plain.{none_begins, plain, texts_in_braces}
-use Rattle.c_checking_complete.proofs.Parts.{other_done, in_front, no_text, Walks, Here, Holds, Finds, FindsElements, FindsFields, one_finds, plain_finds}
+use Rattle.c_checking_complete.proofs.Parts.{other_done, in_front, no_text, Walks, Here, Holds, Finds, FindsElements, FindsFields, one_finds}
+use Rattle.c_checking_complete.proofs.Parts.{plain_finds}
 use Rattle.c_checking_complete.proofs.Parts.{no_part, elements_after, fields_after}
 
 module _ (g : FileScope) (w : IsWhole g) (ls : List ALocal) where
   -- what the checker makes of braces
   InBraces : (left : ℕ) (all : Trees.Arguments) (last : Option ℕ) (right : ℕ) (s : Scope) (c : Lists) (t : CType) (at : ℕ) → Checked (List Part)
-  InBraces left all last right s c t at = in_braces left at t (texts_of (Trees.braces left all last right)) (part g c) (one_value left all (moved s (part g c)) t at)
+  InBraces left all last right s c t at = in_braces left at t (texts_of (Trees.braces left all last right)) (part g c) (one_value left all (moved s
+      (part g c)) t at)
       (λ u n. elements all (moved s (part g c)) u n at) (λ r fields. fields_from all (moved s (part g c)) r 0 fields at)
 
   braces_are : (left : ℕ) (all : Trees.Arguments) (last : Option ℕ) (right : ℕ) (s : Scope) (c : Lists) (t : CType) (at : ℕ)
@@ -98,7 +100,8 @@ module _ (g : FileScope) (w : IsWhole g) (ls : List ALocal) where
           → Done g c (Here g w ls s (Walks g w ls all)) (initialized (Trees.braces left all last right) (moved s (part g c)) t at) parts
       by_form (inl x) =
           let k = subst (Holds g w ls s) x.3 k in
-          answered t (one_value left all (moved s (part g c)) t at) (part_at at (Typed.value x.0)) refl (scalar_braces left all last right s c t at x.1) x.3
+          answered t (one_value left all (moved s (part g c)) t at) (part_at at (Typed.value x.0)) refl
+          (scalar_braces left all last right s c t at x.1) x.3
           (one_finds g w ls left all s c t at x.0 full f b x.1 x.2 x.4 k.0)
       by_form (inr (inl x)) =
           let known = subst (λ t. is_object (length c.records) t ≡ true) x.2 known in
@@ -134,7 +137,8 @@ module _ (g : FileScope) (w : IsWhole g) (ls : List ALocal) where
     finds (Trees.pre op at a) = plain_finds g w ls (Trees.pre op at a) (plain (Trees.pre op at a) refl)
     finds (Trees.unary op at a) = plain_finds g w ls (Trees.unary op at a) (plain (Trees.unary op at a) refl)
     finds (Trees.sizeof_expression at a) = plain_finds g w ls (Trees.sizeof_expression at a) (plain (Trees.sizeof_expression at a) refl)
-    finds (Trees.sizeof_type at left n right) = plain_finds g w ls (Trees.sizeof_type at left n right) (plain (Trees.sizeof_type at left n right) refl)
+    finds (Trees.sizeof_type at left n right) = plain_finds g w ls (Trees.sizeof_type at left n right) (plain
+        (Trees.sizeof_type at left n right) refl)
     finds (Trees.cast left n right a) = plain_finds g w ls (Trees.cast left n right a) (plain (Trees.cast left n right a) refl)
     finds (Trees.binary a op at b) = plain_finds g w ls (Trees.binary a op at b) (plain (Trees.binary a op at b) refl)
     finds (Trees.cond a question b colon c) = plain_finds g w ls (Trees.cond a question b colon c) (plain (Trees.cond a question b colon c) refl)

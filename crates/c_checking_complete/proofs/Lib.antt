@@ -14,3 +14,4 @@ pub mod Statics
 pub mod StaticLists
 pub mod Bodies
 mod Examples
+mod ExampleOfStatics

@@ -106,7 +106,8 @@ with_others g c all p types objects = record {
 }
 
 -- an object comes last that is of its type, and has no initializer yet
-pub one_more : (g : FileScope) (c : Lists) (o made : AnObject) → Extends (part g c) g → o.initial ≡ None → slice_get g.objects (length c.objects) ≡ Some made
+pub one_more : (g : FileScope) (c : Lists) (o made : AnObject) → Extends (part g c) g → o.initial ≡ None
+    → slice_get g.objects (length c.objects) ≡ Some made
     → o.ty ≡ made.ty → Extends (part g (with_objects c (c.objects ++ o ∷ []))) g
 one_more g c o made p none there same = with_others g c (c.objects ++ o ∷ []) p types objects
   where
@@ -120,7 +121,8 @@ one_more g c o made p none there same = with_others g c (c.objects ++ o ∷ []) 
         by_place (inr h) =
             let e : k ≡ length c.objects = h.0 ∙ mapped_length (λ (o : AnObject). o.ty) c.objects in
             subst (λ k. slice_get (map (λ o. o.ty) g.objects) k ≡ Some t) (sym e)
-            (mapped_at (λ (o : AnObject). o.ty) g.objects (length c.objects) made there ∙ ap (λ t. Rattle.c_checking.proofs.CompleteNodes.some t) (sym same ∙ h.1))
+            (mapped_at (λ (o : AnObject). o.ty) g.objects (length c.objects) made there ∙ ap (λ t. Rattle.c_checking.proofs.CompleteNodes.some t)
+            (sym same ∙ h.1))
 
     objects : ObjectsStand g (c.objects ++ o ∷ [])
     objects k x h i = by_place (last_of c.objects o k x h)
@@ -135,7 +137,8 @@ pub one_put : (g : FileScope) (c : Lists) (n : ℕ) (o : AnObject) → Extends (
 one_put g c n o p there = with_others g c (slice_set c.objects n o) p types objects
   where
     types : TypesStand g (slice_set c.objects n o)
-    types k t h = by_place (set_of (map (λ o. o.ty) c.objects) n o.ty k t (subst (λ all. slice_get all k ≡ Some t) (mapped_set (λ o. o.ty) c.objects n o) h))
+    types k t h = by_place (set_of (map (λ o. o.ty) c.objects) n o.ty k t (subst (λ all. slice_get all k ≡ Some t) (mapped_set
+        (λ o. o.ty) c.objects n o) h))
       where
         by_place : (slice_get (map (λ o. o.ty) c.objects) k ≡ Some t) ⊎ ((k ≡ n) × (o.ty ≡ t)) → slice_get (map (λ o. o.ty) g.objects) k ≡ Some t
         by_place (inl h) = p.types k t h

@@ -31,7 +31,8 @@ use Rattle.c_checking_complete.proofs.Values.{HasType, HaveTypes, types_left, ty
 use Rattle.c_checking_complete.proofs.Plain.{one_begins, none_begins, Plainly, IsPlain, plain, no_braces}
 
 -- the same answer, and the same part
-pub other_done : {A : Type 0} (g : FileScope) (c : Lists) (u v : List Event) (r q : Checked A) (x y : A) → u ≡ v → r ≡ q → x ≡ y → Done g c v q y → Done g c u r x
+pub other_done : {A : Type 0} (g : FileScope) (c : Lists) (u v : List Event) (r q : Checked A) (x y : A) → u ≡ v → r ≡ q → x ≡ y → Done g c v q y
+    → Done g c u r x
 other_done g c u v r q x y e f h z = record {
   lists = z.lists;
   is = f ∙ z.is ∙ ap (λ x. ok (x, part g z.lists)) (sym h);
@@ -74,7 +75,8 @@ module _ (g : FileScope) (w : IsWhole g) (ls : List ALocal) where
       → Done g c (Here s (Walk a)) (initialized a (moved s (part g c)) t at) parts
 
   abbrev pub FindsElements : Trees.Arguments → Type 0
-  FindsElements all = (s : Scope) (c : Lists) (u : CType) (n at : ℕ) (parts : List Part) → s.purpose ≡ in_full → BlocksFit g (length c.records) s.blocks
+  FindsElements all = (s : Scope) (c : Lists) (u : CType) (n at : ℕ) (parts : List Part) → s.purpose ≡ in_full
+      → BlocksFit g (length c.records) s.blocks
       → is_object (length c.records) u ≡ true → IsBefore g c (Here s (Walks all)) → InitializeElements all (whole g ls s) u n at parts → Holds s parts
       → Done g c (Here s (Walks all)) (elements all (moved s (part g c)) u n at) parts
 
@@ -143,7 +145,8 @@ module _ (g : FileScope) (w : IsWhole g) (ls : List ALocal) where
   one_found : (left : ℕ) (comma : Option ℕ) (a : Trees.Expression) → IsPlain a → (s : Scope) (c : Lists) (t : CType) (at : ℕ) (x : Expression)
       → s.purpose ≡ in_full → BlocksFit g (length c.records) s.blocks → IsBefore g c (Here s (Walk a ++ [])) → is_scalar t ≡ true → type_of x ≡ t
       → Values (Erases a (whole g ls s)) x → HasType (declared (whole g ls s)) (Typed.value x)
-      → Done g c (Here s (Walk a ++ [])) (one_value left (Trees.and_argument comma a Trees.no_arguments) (moved s (part g c)) t at) (part_at at (Typed.value x))
+      → Done g c (Here s (Walk a ++ [])) (one_value left (Trees.and_argument comma a Trees.no_arguments) (moved s (part g c)) t at) (part_at at
+      (Typed.value x))
   one_found left comma a p s c t at x full f b i e v k =
       let q : Here s (Walk a ++ []) ≡ Seen g w ls s a =
       ap (λ all. seen s.is_inside s.purpose all)
@@ -194,7 +197,8 @@ module _ (g : FileScope) (w : IsWhole g) (ls : List ALocal) where
         after = then_seen g s.is_inside s.purpose c d q.lists (Walk a) (Walks more) z.after q.after;
       }
 
-  field_joined : (comma : Option ℕ) (a : Trees.Expression) (more : Trees.Arguments) (s : Scope) (c d e : Lists) (r k : ℕ) (f : Field) (later : List Field)
+  field_joined : (comma : Option ℕ) (a : Trees.Expression) (more : Trees.Arguments) (s : Scope) (c d e : Lists) (r k : ℕ) (f : Field)
+      (later : List Field)
       (at : ℕ) (own rest : List Part) → initialized a (moved s (part g c)) f.ty (at + offset_of c.records r k) ≡ Ok (own, part g d)
       → fields_from more (moved s (part g d)) r (k + 1) later at ≡ Ok (rest, part g e)
       → fields_from (Trees.and_argument comma a more) (moved s (part g c)) r k (f ∷ later) at ≡ Ok (own ++ rest, part g e)

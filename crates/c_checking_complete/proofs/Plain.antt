@@ -49,7 +49,8 @@ none_begins (p ∷ objects) at h =
 abbrev pub Plainly : Trees.Expression → Scope → CType → ℕ → List Part → Type 0
 Plainly a s t at parts =
     ((x : Expression) × (is_scalar t ≡ true) × (type_of x ≡ t) × (parts ≡ part_at at (Typed.value x)) × Values (Erases a s) x)
-    ⊎ ((r : ℕ) × (p : Typed.Path Noted) × (t ≡ structure r) × (type_of_path p ≡ t) × (parts ≡ part_at at (Typed.record_of p)) × Erases a s (an_object p))
+    ⊎ ((r : ℕ) × (p : Typed.Path Noted) × (t ≡ structure r) × (type_of_path p ≡ t) × (parts ≡ part_at at (Typed.record_of p)) × Erases a s
+    (an_object p))
     ⊎ IsText (texts_of a) s t at parts
 
 pub record IsPlain (a : Trees.Expression) : Type 0 where

@@ -5,7 +5,8 @@ use Rattle.std.specs.Prelude.{◌⊎◌, ◌&&◌, nat_le, Option, Some, None, s
 use Rattle.std.specs.Str.{bytes_eq}
 use Rattle.c_erasure.specs.Scopes.{ALocal, AnObject, Bound, FileScope, Scope, Entity, Purpose, or_else, innermost, visible, named, ended}
 use Rattle.c_checking.proofs.CompleteNodes.{some_is}
-use Rattle.c_checking.proofs.CompleteWalk.{Event, a_use, a_look, a_tag, an_end, a_name, a_literal, seen, seen_append, names_in, ends_in, literals_in, Follows}
+use Rattle.c_checking.proofs.CompleteWalk.{Event, a_use, a_look, a_tag, an_end, a_name, a_literal, seen, seen_append, names_in, ends_in}
+use Rattle.c_checking.proofs.CompleteWalk.{literals_in, Follows}
 use Rattle.c_checking.proofs.CompletePart.{whole, IsWhole, IsFitFor, fit_stays}
 use Rattle.c_checking.proofs.CompleteFit.{IsAmong}
 
@@ -103,7 +104,8 @@ module _ (g : FileScope) (w : IsWhole g) (ls : List ALocal) (s : Scope) (r o : �
         by_block None i h = of_file h
         by_block (Some f) i h = blocks x e (i ∙ h)
 
-    pub reaches : (m q p : ℕ) (all : List Event) → m + names_in all ≤ n → q + ends_in all ≤ r → p + literals_in all ≤ o → Follows g m q p all → Reaches all
+    pub reaches : (m q p : ℕ) (all : List Event) → m + names_in all ≤ n → q + ends_in all ≤ r → p + literals_in all ≤ o → Follows g m q p all
+        → Reaches all
     reaches m q p [] a b c h = tt
     reaches m q p (a_use at ∷ all) a b c h = (name_there m q at (omega (arith, a)) (omega (arith, b)) h.0.0 h.0.1, reaches m q p all a b c h.1)
     reaches m q p (a_look at ∷ all) a b c h = (let e = h.0 in omega (arith, b, e), reaches m q p all a b c h.1)

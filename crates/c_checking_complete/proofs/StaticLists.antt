@@ -28,12 +28,14 @@ object_at d (Some x) = a_literal (Rattle.c_ast.specs.Places.first_declarator d.d
 
 abbrev pub walk_of_statics : FileScope → List Trees.InitDeclarator → List Event
 walk_of_statics g [] = []
-walk_of_statics g (d ∷ more) = object_at d (declared_name d.declarator) ++ Rattle.c_checking.proofs.CompleteLocals.walk_of_declared g.untagged g.objects d
+walk_of_statics g (d ∷ more) = object_at d
+    (declared_name d.declarator) ++ Rattle.c_checking.proofs.CompleteLocals.walk_of_declared g.untagged g.objects d
     ++ Rattle.c_checking.proofs.CompleteLocals.walk_of_initial g.untagged g.objects d.value ++ walk_of_statics g more
 
 -- what objects of the file hold at first is well typed
 abbrev pub AreTypedObjects : FileScope → Type 0
-AreTypedObjects g = (k : ℕ) (o : AnObject) (i : Typed.Initializer Noted) → slice_get g.objects k ≡ Some o → o.initial ≡ Some i → IsTypedObject g o.ty i
+AreTypedObjects g = (k : ℕ) (o : AnObject) (i : Typed.Initializer Noted) → slice_get g.objects k ≡ Some o → o.initial ≡ Some i
+    → IsTypedObject g o.ty i
 
 module _ (g : FileScope) (w : IsWhole g) (typed : AreTypedObjects g) (ls : List ALocal) (result : CType) where
   abbrev pub walk_of_locals_too : Trees.Declaration → List Event
@@ -72,17 +74,20 @@ module _ (g : FileScope) (w : IsWhole g) (typed : AreTypedObjects g) (ls : List 
       let z = static_complete g w ls b l c base d x t n typed f
       (left_seen g true in_full c (Object g w ls d x ++ Declarator g w ls d ++ Initial g w ls d.value) (walk_of_statics g all) e) h.3 h.4 in
       let q = statics_complete all (with_name b (static_named g w ls x t n)) l z.lists base found after z.fit
-      (right_seen g true in_full c z.lists (Object g w ls d x ++ Declarator g w ls d ++ Initial g w ls d.value) (walk_of_statics g all) e z.after) p h.5 in
+      (right_seen g true in_full c z.lists (Object g w ls d x ++ Declarator g w ls d ++ Initial g w ls d.value)
+      (walk_of_statics g all) e z.after) p h.5 in
       let r = q.performs in
       let a : IsAfter g c (Seen g w ls (Object g w ls d x ++ Declarator g w ls d ++ Initial g w ls d.value ++ walk_of_statics g all)) r.lists =
-      then_seen g true in_full c z.lists r.lists (Object g w ls d x ++ Declarator g w ls d ++ Initial g w ls d.value) (walk_of_statics g all) z.after r.after in
+      then_seen g true in_full c z.lists r.lists (Object g w ls d x ++ Declarator g w ls d ++ Initial g w ls d.value)
+      (walk_of_statics g all) z.after r.after in
       record {
         blocks = q.blocks;
         is_after = q.is_after;
         performs = record {
           lists = r.lists;
           locals = r.locals;
-          is = joined d all x (inner g w ls b l c) (inner g w ls (with_name b (static_named g w ls x t n)) l z.lists) (inner g w ls q.blocks r.locals r.lists)
+          is = joined d all x (inner g w ls b l c) (inner g w ls (with_name b (static_named g w ls x t n)) l z.lists)
+              (inner g w ls q.blocks r.locals r.lists)
               base found h.3.1 z.is r.is;
           after = subst (λ u. IsAfter g c (Seen g w ls u) r.lists) (sym name) a;
           count = r.count;

@@ -24,7 +24,8 @@ use Rattle.c_checking.specs.Statements.{variable_of, constants_if_any, declare_n
 use Rattle.c_checking.proofs.Results.{ok}
 use Rattle.c_checking.proofs.CompleteWalk.{Event, a_look, a_literal, literals_in, walk_of_declarator}
 use Rattle.c_checking.proofs.CompleteLiterals.{none_in_declarator}
-use Rattle.c_checking.proofs.CompletePart.{Lists, part, IsWhole, IsBefore, IsAfter, Done, none_after, complete_stays, left_seen, right_seen, then_seen}
+use Rattle.c_checking.proofs.CompletePart.{Lists, part, IsWhole, IsBefore, IsAfter, Done, none_after, complete_stays, left_seen, right_seen}
+use Rattle.c_checking.proofs.CompletePart.{then_seen}
 use Rattle.c_checking.proofs.CompleteFit.{IsFit, among_more, fit_after, fit_named, no_names}
 use Rattle.c_checking.proofs.CompleteStatements.{inner, outer, Seen}
 use Rattle.c_checking.proofs.CompleteLocals.{look_at, walk_of_initial, walk_of_declared, variable_complete}
@@ -68,10 +69,16 @@ module _ (g : FileScope) (w : IsWhole g) (ls : List ALocal) where
   abbrev pub Initial : Option (ℕ × Trees.Expression) → List Event
   Initial value = walk_of_initial g.untagged g.objects value
 
-  constants_complete : (value : Option (ℕ × Trees.Expression)) (b : List (List Bound)) (l : List ALocal) (c : Lists) (t : CType) (i : Typed.Initializer Noted)
+  constants_complete : (value : Option (ℕ × Trees.Expression)) (b : List (List Bound)) (l : List ALocal) (c : Lists) (t : CType)
+      (i : Typed.Initializer Noted)
       → IsFit g c b → is_object (length c.records) t ≡ true → IsBefore g c (Seen g w ls (Initial value)) → HasConstants (outer g w ls b) t value i
       → IsTypedObject g t i → Done g c (Seen g w ls (Initial value)) (constants_if_any value (inner g w ls b l c) t) i
-  constants_complete None b l c t i f known e h k = record { lists = c; is = ap (λ i. ok (i, part g c)) (sym h); after = none_after g c [] e refl refl refl }
+  constants_complete None b l c t i f known e h k = record {
+    lists = c;
+    is = ap (λ i. ok (i, part g c))
+        (sym h);
+    after = none_after g c [] e refl refl refl;
+  }
   constants_complete (Some value) b l c t i f known e h k =
       let typed = initial_inside (declared (outer g w ls b)) t (AsTyped g w ls i) (object_typed value.1 (outer g w ls b) t i k h.0) in
       let z = initials_complete g w ls value.1 b l c t i f.complete known e h.0 typed in
@@ -79,8 +86,10 @@ module _ (g : FileScope) (w : IsWhole g) (ls : List ALocal) where
       let fit = fit_after g c m b (Initial (Some value)) z.after f in
       let none = no_names (Initial (Some value)) in
       let same = z.after.names in
-      let there = reaches g w ls (inner g w ls b l c) (length m.records) (length m.objects) (length c.names) (λ x e i. (fit.complete x e i, fit.blocks x e i))
-      (λ k n i less. fit.names k n i (omega (arith, less, same))) (length c.names) (length c.records) (length c.objects) (Seen g w ls (Initial (Some value)))
+      let there = reaches g w ls (inner g w ls b l c) (length m.records) (length m.objects) (length c.names) (λ x e i.
+      (fit.complete x e i, fit.blocks x e i))
+      (λ k n i less. fit.names k n i (omega (arith, less, same))) (length c.names) (length c.records) (length c.objects) (Seen g w ls (Initial
+      (Some value)))
       (omega (arith, none)) (let r = z.after.records in omega (arith, r)) (let o = z.after.objects in omega (arith, o)) e.follows in
       let k = constants_back g w ls (inner g w ls b l c) refl m z.after.extends value.1 t i h.0 typed h.1 there in
       record {
@@ -113,8 +122,11 @@ module _ (g : FileScope) (w : IsWhole g) (ls : List ALocal) where
   static_joined : (b : List (List Bound)) (l : List ALocal) (c m n : Lists) (base : CType) (d : Trees.InitDeclarator) (x : Spelling) (t : CType)
       (i : Typed.Initializer Noted) → variable_of (inner g w ls b l c) base d x ≡ Ok (t, part g m)
       → constants_if_any d.value (inner g w ls (with_name b (static_named x t (length m.objects))) l (begun m d x t)) t ≡ Ok (i, part g n)
-      → declare_named true (inner g w ls b l c) base d (Some x) ≡ Ok (Typed.no_statements, inner g w ls (with_name b (static_named x t (length m.objects))) l
-      (with_objects n (slice_set n.objects (length m.objects) (made_there d x t (Some i)))))
+      → declare_named true (inner g w ls b l c) base d (Some x) ≡ Ok (
+        Typed.no_statements,
+        inner g w ls (with_name b (static_named x t (length m.objects))) l
+            (with_objects n (slice_set n.objects (length m.objects) (made_there d x t (Some i)))),
+      )
   static_joined b l c m n base d x t i v k = rw (v, k) refl
 
   abbrev pub Declarator : Trees.InitDeclarator → List Event
@@ -123,7 +135,8 @@ module _ (g : FileScope) (w : IsWhole g) (ls : List ALocal) where
   abbrev pub Object : Trees.InitDeclarator → Spelling → List Event
   Object d x = a_literal (first_declarator d.declarator x.from) ∷ []
 
-  pub record FoundStatic (b : List (List Bound)) (l : List ALocal) (c : Lists) (base : CType) (d : Trees.InitDeclarator) (x : Spelling) (t : CType) (n : ℕ)
+  pub record FoundStatic (b : List (List Bound)) (l : List ALocal) (c : Lists) (base : CType) (d : Trees.InitDeclarator) (x : Spelling) (t : CType)
+      (n : ℕ)
       : Type 0 where
     pub lists : Lists
     pub is : declare_named true (inner g w ls b l c) base d (Some x)
@@ -145,7 +158,8 @@ module _ (g : FileScope) (w : IsWhole g) (ls : List ALocal) where
     names = λ k m i l. among_more (length c.objects) (length d.objects) m.entity o (f.names k m i (omega (arith, l, n)));
   }
 
-  pub static_complete : (b : List (List Bound)) (l : List ALocal) (c : Lists) (base : CType) (d : Trees.InitDeclarator) (x : Spelling) (t : CType) (n : ℕ)
+  pub static_complete : (b : List (List Bound)) (l : List ALocal) (c : Lists) (base : CType) (d : Trees.InitDeclarator) (x : Spelling) (t : CType)
+      (n : ℕ)
       → ((k : ℕ) (o : AnObject) (i : Typed.Initializer Noted) → slice_get g.objects k ≡ Some o → o.initial ≡ Some i → IsTypedObject g o.ty i)
       → IsFit g c b → IsBefore g c (Seen g w ls (Object d x ++ Declarator d ++ Initial d.value)) → IsVariable (outer g w ls b) base d x t
       → IsStaticLocal (outer g w ls b) d x t n → FoundStatic b l c base d x t n
@@ -155,7 +169,8 @@ module _ (g : FileScope) (w : IsWhole g) (ls : List ALocal) where
       let next = e2.follows.0 in
       let number : n ≡ length c.objects = w.objects_apart n (length c.objects) (made_there d x t (Some h.0)) next.0 h.2 next.1 (sym next.2) in
       let none = none_in_declared d x v.1 in
-      let shifted = any_objects g (length c.names) (length c.records) (suc (length c.objects)) (length c.objects) (Seen g w ls (Declarator d)) none e2.follows.1 in
+      let shifted = any_objects g (length c.names) (length c.records) (suc (length c.objects)) (length c.objects) (Seen g w ls
+      (Declarator d)) none e2.follows.1 in
       let name : Declarator d ≡ a_look x.from ∷ walk_of_declarator g.untagged d.declarator =
       ap (λ o. look_at g.untagged g.objects o ++ walk_of_declarator g.untagged d.declarator) v.1 in
       let e0 : IsBefore g c (Seen g w ls (a_look x.from ∷ walk_of_declarator g.untagged d.declarator)) =

@@ -53,7 +53,8 @@ record_parts (pointer t) b parts i e = cc
 record_parts (array t n) b parts i e = cc
 record_parts (function t all) b parts i e = cc
 
-pub typed_parts : (d : Declared) (t : CType) (parts : List Part) → All (IsTypedPart d t) (map (mapped_part (of_types (λ t. t.ty))) parts) → HaveTypes d parts
+pub typed_parts : (d : Declared) (t : CType) (parts : List Part) → All (IsTypedPart d t) (map (mapped_part (of_types (λ t. t.ty))) parts)
+    → HaveTypes d parts
 typed_parts d t [] h = tt
 typed_parts d t (part ∷ more) h =
     let x = mapped_part (of_types (λ t. t.ty)) part in
