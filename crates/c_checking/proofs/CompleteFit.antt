@@ -37,7 +37,8 @@ no_names (an_end tag right ∷ w) = no_names w
 no_names (a_name from ∷ w) = no_names w
 no_names (a_literal at ∷ w) = no_names w
 
-pub fit_after : (g : FileScope) (c d : Lists) (b : List (List Bound)) (w : List Event) → IsAfter g c (seen true in_full w) d → IsFit g c b → IsFit g d b
+pub fit_after : (g : FileScope) (c d : Lists) (b : List (List Bound)) (w : List Event) → IsAfter g c (seen true in_full w) d → IsFit g c b
+    → IsFit g d b
 fit_after g c d b w a f =
     let n = a.names in
     let z = no_names w in

@@ -151,7 +151,8 @@ module _ (g : FileScope) (w : IsWhole g) (ls : List ALocal) where
 
   abbrev pub CompletesInitializer : Trees.Expression → Type 0
   CompletesInitializer a = (b : List (List Bound)) (l : List ALocal) (c : Lists) (t : CType) (i : Typed.Initializer Noted) → BlocksFit g (length c.records) b
-      → is_object (length c.records) t ≡ true → IsBefore g c (Seen g w ls (walk_of_initializer g.untagged g.objects a)) → IsInitializer a (outer g w ls b) t i
+      → is_object (length c.records) t ≡ true → IsBefore g c (Seen g w ls (walk_of_initializer g.untagged g.objects a))
+      → IsInitializer a (outer g w ls b) t i
       → IsTypedInitializer (declared (outer g w ls b)) t (AsTyped i)
       → Done g c (Seen g w ls (walk_of_initializer g.untagged g.objects a)) (initializer a (inner g w ls b l c) t) i
 
@@ -161,7 +162,12 @@ module _ (g : FileScope) (w : IsWhole g) (ls : List ALocal) where
       → IsBefore g c (Seen g w ls (walk_of_initial g.untagged g.objects value))
       → HasInitializer (outer g w ls b) t value i → IsInitialized (declared (outer g w ls b)) t (option_map AsTyped i)
       → Done g c (Seen g w ls (walk_of_initial g.untagged g.objects value)) (initial_if_any value (inner g w ls b l c) t) i
-  initial_complete None k b l c t i f o e h n = record { lists = c; is = ap (λ i. ok (i, part g c)) (sym h); after = none_after g c [] e refl refl refl }
+  initial_complete None k b l c t i f o e h n = record {
+    lists = c;
+    is = ap (λ i. ok (i, part g c))
+        (sym h);
+    after = none_after g c [] e refl refl refl;
+  }
   initial_complete (Some value) k b l c t i f o e h n =
       let n = subst (λ i. IsInitialized (declared (outer g w ls b)) t (option_map AsTyped i)) h.1 n in
       let z = k value.1 b l c t h.0 f o e h.2 n in
@@ -230,25 +236,29 @@ module _ (g : FileScope) (w : IsWhole g) (ls : List ALocal) where
         let initialized = subst (λ t. IsInitialized (declared (outer g w ls b)) t (option_map AsTyped h.3)) typed k.0.3 in
         let name : walk_of_declared g.untagged g.objects d ≡ a_look h.0.from ∷ walk_of_declarator g.untagged d.declarator =
         ap (λ o. look_at g.untagged g.objects o ++ walk_of_declarator g.untagged d.declarator) h.5.1 in
-        let e2 = left_seen g true in_full c (walk_of_declared g.untagged g.objects d ++ walk_of_initial g.untagged g.objects d.value) (walk_of_locals g.untagged g.objects all) e in
+        let e2 = left_seen g true in_full c (walk_of_declared g.untagged g.objects d ++ walk_of_initial g.untagged g.objects d.value)
+        (walk_of_locals g.untagged g.objects all) e in
         let e1 = left_seen g true in_full c (walk_of_declared g.untagged g.objects d) (walk_of_initial g.untagged g.objects d.value) e2 in
         let e0 : IsBefore g c (Seen g w ls (a_look h.0.from ∷ walk_of_declarator g.untagged d.declarator)) = subst (λ u. IsBefore g c (Seen g w ls u)) name
         e1 in
         let z = variable_complete b l c base d h.0 h.1 f.complete e0 h.5 in
-        let a1 : IsAfter g c (Seen g w ls (walk_of_declared g.untagged g.objects d)) z.lists = subst (λ u. IsAfter g c (Seen g w ls u) z.lists) (sym name) z.after in
+        let a1 : IsAfter g c (Seen g w ls (walk_of_declared g.untagged g.objects d)) z.lists = subst (λ u. IsAfter g c (Seen g w ls u) z.lists)
+        (sym name) z.after in
         let o = complete_stays (ended g.ends h.0.from) (length z.lists.records) h.1 (omega (arith, e0.follows.0, z.after.records)) h.5.4 in
         let fits = fit_named g w ls z.lists b (local_named l h.0 h.1) (fit_after g c z.lists b (walk_of_declared g.untagged g.objects d) a1 f) o tt in
         let m = initial_complete d.value initials (with_name b (local_named l h.0 h.1)) (with_one_local l h.0 h.1) z.lists h.1 h.3 fits.complete o
         (right_seen g true in_full c z.lists (walk_of_declared g.untagged g.objects d) (walk_of_initial g.untagged g.objects d.value) e2 a1)
         (subst (λ n. HasInitializer (with_variable (outer g w ls b) h.0 n h.1) h.1 d.value h.3) number h.8) initialized in
-        let a2 = then_seen g true in_full c z.lists m.lists (walk_of_declared g.untagged g.objects d) (walk_of_initial g.untagged g.objects d.value) a1 m.after in
+        let a2 = then_seen g true in_full c z.lists m.lists (walk_of_declared g.untagged g.objects d)
+        (walk_of_initial g.untagged g.objects d.value) a1 m.after in
         let next = next_local l p.0 (record { name = h.0.text; ty = h.1 }) h.2 p.1 number h.6 in
         let long = length-append l (record { name = h.0.text; ty = h.1 } ∷ []) in
         let n2 : AreNumbered (length (with_one_local l h.0 h.1)) (all_declared_by h.4) =
         numbered_right (length l) (length (with_one_local l h.0 h.1)) (h.2 ∷ []) (all_declared_by h.4) (omega (arith, long)) n in
         let q = locals_complete all (with_name b (local_named l h.0 h.1)) (with_one_local l h.0 h.1) m.lists base h.4 after loop switch
         (fit_after g z.lists m.lists (with_name b (local_named l h.0 h.1)) (walk_of_initial g.untagged g.objects d.value) m.after fits)
-        (right_seen g true in_full c m.lists (walk_of_declared g.untagged g.objects d ++ walk_of_initial g.untagged g.objects d.value) (walk_of_locals g.untagged g.objects all) e a2)
+        (right_seen g true in_full c m.lists (walk_of_declared g.untagged g.objects d ++ walk_of_initial g.untagged g.objects d.value)
+        (walk_of_locals g.untagged g.objects all) e a2)
         next (subst (λ n. DeclareAll all (with_variable (outer g w ls b) h.0 n h.1) false base h.4 after) number h.9) k.1 n2 in
         let r = q.performs in
         let made : found ≡ Typed.and_statement (Typed.declare (length l) h.3) h.4 = h.7 ∙ ap (λ n. Typed.and_statement (Typed.declare n h.3) h.4) number in
@@ -261,7 +271,8 @@ module _ (g : FileScope) (w : IsWhole g) (ls : List ALocal) where
             locals = r.locals;
             is = local_joined b l c z.lists m.lists base d all h.0 h.1 h.3 h.4 (inner g w ls q.blocks r.locals r.lists) h.5.1 z.is m.is r.is
                 ∙ ap (λ found. ok (found, inner g w ls q.blocks r.locals r.lists)) (sym made);
-            after = then_seen g true in_full c m.lists r.lists (walk_of_declared g.untagged g.objects d ++ walk_of_initial g.untagged g.objects d.value)
+            after = then_seen g true in_full c m.lists r.lists
+                (walk_of_declared g.untagged g.objects d ++ walk_of_initial g.untagged g.objects d.value)
                 (walk_of_locals g.untagged g.objects all) a2 r.after;
             count = omega (arith, r.count, long, counted);
             rest = r.rest;
