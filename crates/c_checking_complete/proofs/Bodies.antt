@@ -1,6 +1,6 @@
 -- The parameters and the body of a function: those that stand for the tree are found (C99 6.9.1).
 use Rattle.std.proofs.Common.{inl, inr, ◌≡◌, ℕ, zero, suc, ◌+◌, false, refl, sym, ap, ◌∙◌, subst, List, [], ◌∷◌, ◌++◌, length, length-append, cond}
-use Rattle.std.proofs.Common.{arith, take, drop}
+use Rattle.std.proofs.Common.{arith, drop}
 use Rattle.std.specs.Prelude.{◌<◌, ◌⊎◌, map, Bool, true, Option, Some, None, Ok, slice_get, slice_set}
 use Rattle.std.specs.Option.{option_map}
 use Rattle.std.specs.Str.{bytes_eq}
@@ -9,10 +9,9 @@ use Rattle.c_types.specs.Objects.{is_object}
 use Rattle.c_ast.specs.Trees
 use Rattle.c_typed.specs.Trees as Typed
 use Rattle.c_typed.specs.Conversions.{is_scalar}
-use Rattle.c_typed.specs.Mapped.{of_types, mapped_statements}
 use Rattle.c_typed.specs.TypedStatements.{declared_by, all_declared_by, AreTyped}
 use Rattle.c_erasure.specs.Declarators.{declared_name}
-use Rattle.c_erasure.specs.Files.{AreNamed, HasParameters, count_up, without_notes, in_body, IsBody}
+use Rattle.c_erasure.specs.Files.{AreNamed, HasParameters, count_up, in_body, IsBody}
 use Rattle.c_erasure.specs.Scopes.{in_full, ALocal, AFunction, Bound, FileScope, Entity, a_local, defines, declared, or_else, declared_in, innermost}
 use Rattle.c_erasure.specs.Statements.{Statements}
 use Rattle.c_checking.specs.Answers.{◌>>=◌}
@@ -25,8 +24,9 @@ use Rattle.c_checking.proofs.CompleteWalk.{Event, a_use, a_look, a_tag, an_end, 
 use Rattle.c_checking.proofs.CompletePart.{Lists, part, IsWhole, IsFitFor, IsBefore, IsAfter}
 use Rattle.c_checking.proofs.CompleteFit.{IsFit, IsAmong, no_names}
 use Rattle.c_checking.proofs.CompleteStatements.{walk_of_items, inner, Seen, AreNumbered}
+use Rattle.c_checking_files.proofs.Bodies.{notes_left, take_own}
 use Rattle.c_checking_complete.proofs.Objects.{mapped_at, mapped_set, set_of}
-use Rattle.c_checking_complete.proofs.StaticLists.{AreTypedObjects, walk_of_locals_too, items_complete}
+use Rattle.c_checking_complete.proofs.StaticLists.{AreTypedObjects, walk_in_block, items_complete}
 
 -- ---- parameters
 
@@ -130,10 +130,6 @@ counted : (n k : ℕ) → length (count_up n k) ≡ k
 counted n zero = refl
 counted n (suc k) = let e = counted (n + 1) k in omega (arith, e)
 
-notes_left : (all : Statements) → without_notes all ≡ mapped_statements (of_types (λ t. t.ty)) all
-notes_left Typed.no_statements = refl
-notes_left (Typed.and_statement s more) = rw (notes_left more) refl
-
 same_front : {X : Type 0} (xs ys more : List X) → ys ≡ xs ++ more → length xs ≡ length ys → xs ≡ ys
 same_front [] [] more e l = refl
 same_front [] (y ∷ ys) more e l = absurd (omega (arith, l))
@@ -142,10 +138,6 @@ same_front (x ∷ xs) (y ∷ ys) more e l =
     let a : y ≡ x = cc in
     let b : ys ≡ xs ++ more = cc in
     ap (λ z. z ∷ xs) (sym a) ∙ ap (λ z. y ∷ z) (same_front xs ys more b (omega (arith, l)))
-
-take_front : {X : Type 0} (xs ys : List X) → take (length xs) (xs ++ ys) ≡ xs
-take_front [] ys = refl
-take_front (x ∷ xs) ys = ap (λ z. x ∷ z) (take_front xs ys)
 
 drop_front : {X : Type 0} (xs ys : List X) → drop (length xs) (xs ++ ys) ≡ ys
 drop_front [] ys = refl
@@ -156,7 +148,7 @@ module _ (g : FileScope) (w : IsWhole g) (typed : AreTypedObjects g) (result : C
   all_locals f = f.parameters ++ f.locals
 
   abbrev pub walk_of_body : AFunction → Trees.BlockItems → List Event
-  walk_of_body f items = walk_of_items g.untagged (walk_of_locals_too g w typed (all_locals f) result) items
+  walk_of_body f items = walk_of_items g.untagged (walk_in_block g w typed (all_locals f) result) items
 
   -- the body that is found, with the locals of the function and the file after it
   pub record FoundBody (c : Lists) (f : AFunction) (bounds : List Bound) (items : Trees.BlockItems) : Type 0 where
@@ -200,7 +192,7 @@ module _ (g : FileScope) (w : IsWhole g) (typed : AreTypedObjects g) (result : C
       → f.place ≡ record { file = g.file; at = place } → IsBegun old f
       → defined_function (part g z.lists) place (length f.parameters) f.nodes z.all (all_locals f) old ≡ f
   function_complete c f old bounds items place z p h =
-      rw (take_front f.parameters f.locals, drop_front f.parameters f.locals, sym z.body, sym p, h.0, h.1, h.2, h.3) refl
+      rw (take_own f.parameters f.locals, drop_front f.parameters f.locals, sym z.body, sym p, h.0, h.1, h.2, h.3) refl
 
   abbrev with_functions : Lists → List AFunction → Lists
   with_functions c all = record { names = c.names; records = c.records; objects = c.objects; functions = all; mentions = c.mentions }

@@ -24,7 +24,7 @@ use Rattle.c_checking.proofs.CompletePart.{Lists, IsWhole, IsBefore}
 use Rattle.c_checking.proofs.CompleteStatements.{inner, outer, Seen}
 use Rattle.c_checking.proofs.CompleteBlocks.{FoundAll}
 use Rattle.c_checking.proofs.CompleteWhole.{is_whole}
-use Rattle.c_checking_complete.proofs.StaticLists.{AreTypedObjects, walk_of_locals_too, walk_of_statics, statics_complete}
+use Rattle.c_checking_complete.proofs.StaticLists.{AreTypedObjects, walk_in_block, walk_of_statics, statics_complete}
 
 abbrev int : CType
 int = integer Int
@@ -193,7 +193,7 @@ before = record {
 fit : IsFit file nothing blocks
 fit = record { complete = λ x e h. cc; blocks = λ x e h. cc; names = λ k n h l. cc }
 
-statics_are_found : FoundAll file file_is_whole [] int (walk_of_locals_too file file_is_whole typed [] int) blocks [] nothing
+statics_are_found : FoundAll file file_is_whole [] int (walk_in_block file file_is_whole typed [] int) blocks [] nothing
     (walk_of_statics file declarators)
     (declare_all declarators (inner file file_is_whole [] blocks [] nothing) true int) Typed.no_statements after_p
 statics_are_found = statics_complete file file_is_whole typed [] int declarators blocks [] nothing int Typed.no_statements after_p fit before

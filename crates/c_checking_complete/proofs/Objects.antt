@@ -1,10 +1,11 @@
 -- A part of a file with an object that has no initializer yet, and with another one in its place (C99 6.2.4, 6.7.8).
 use Rattle.std.proofs.Common.{◌≡◌, ℕ, zero, suc, ◌+◌, true, refl, sym, ap, ◌∙◌, subst, List, [], ◌∷◌, ◌++◌, length, inl, inr, arith}
 use Rattle.std.specs.Prelude.{◌⊎◌, map, Some, None, IsSome, slice_get, slice_set}
+use Rattle.std.specs.Option.{option_map}
 use Rattle.c_types.specs.Types.{CType}
 use Rattle.c_erasure.specs.Scopes.{AnObject, FileScope, in_full}
 use Rattle.c_checking.proofs.Extends.{Extends, one_of_both}
-use Rattle.c_checking.proofs.CompleteNodes.{some_is}
+use Rattle.c_checking.proofs.CompleteNodes.{some, some_is}
 use Rattle.c_checking.proofs.CompleteWalk.{Event, a_use, a_look, a_tag, an_end, a_name, a_literal, seen, literals_in, Follows}
 use Rattle.c_checking.proofs.CompleteLists.{made_at}
 use Rattle.c_checking.proofs.CompletePart.{Lists, part}
@@ -75,7 +76,7 @@ set_of {X} (z ∷ xs) (suc n) y (suc k) x h = later (set_of xs n y k x h)
 
 pub mapped_at : {X Y : Type 0} (v : X → Y) (xs : List X) (k : ℕ) (x : X) → slice_get xs k ≡ Some x → slice_get (map v xs) k ≡ Some (v x)
 mapped_at v [] k x h = cc
-mapped_at v (y ∷ xs) zero x h = ap (λ o. Rattle.std.specs.Option.option_map v o) h
+mapped_at v (y ∷ xs) zero x h = ap (λ o. option_map v o) h
 mapped_at v (y ∷ xs) (suc k) x h = mapped_at v xs k x h
 
 -- ---- parts of a file
@@ -121,7 +122,7 @@ one_more g c o made p none there same = with_others g c (c.objects ++ o ∷ []) 
         by_place (inr h) =
             let e : k ≡ length c.objects = h.0 ∙ mapped_length (λ (o : AnObject). o.ty) c.objects in
             subst (λ k. slice_get (map (λ o. o.ty) g.objects) k ≡ Some t) (sym e)
-            (mapped_at (λ (o : AnObject). o.ty) g.objects (length c.objects) made there ∙ ap (λ t. Rattle.c_checking.proofs.CompleteNodes.some t)
+            (mapped_at (λ (o : AnObject). o.ty) g.objects (length c.objects) made there ∙ ap (λ t. some t)
             (sym same ∙ h.1))
 
     objects : ObjectsStand g (c.objects ++ o ∷ [])
@@ -144,7 +145,7 @@ one_put g c n o p there = with_others g c (slice_set c.objects n o) p types obje
         by_place (inl h) = p.types k t h
         by_place (inr h) =
             subst (λ k. slice_get (map (λ o. o.ty) g.objects) k ≡ Some t) (sym h.0)
-            (mapped_at (λ (o : AnObject). o.ty) g.objects n o there ∙ ap (λ t. Rattle.c_checking.proofs.CompleteNodes.some t) h.1)
+            (mapped_at (λ (o : AnObject). o.ty) g.objects n o there ∙ ap (λ t. some t) h.1)
 
     objects : ObjectsStand g (slice_set c.objects n o)
     objects k x h i = by_place (set_of c.objects n o k x h)
@@ -152,4 +153,4 @@ one_put g c n o p there = with_others g c (slice_set c.objects n o) p types obje
         by_place : (slice_get c.objects k ≡ Some x) ⊎ ((k ≡ n) × (o ≡ x)) → slice_get g.objects k ≡ Some x
         by_place (inl h) = p.objects k x h i
         by_place (inr h) =
-            subst (λ k. slice_get g.objects k ≡ Some x) (sym h.0) (there ∙ ap (λ o. Rattle.c_checking.proofs.CompleteNodes.some o) h.1)
+            subst (λ k. slice_get g.objects k ≡ Some x) (sym h.0) (there ∙ ap (λ o. some o) h.1)

@@ -4,6 +4,7 @@ use Rattle.std.specs.Prelude.{Option, Some, None, Ok, slice_get}
 use Rattle.c_types.specs.Types.{CType}
 use Rattle.c_ast.specs.declared.words.Spelling.{Spelling}
 use Rattle.c_ast.specs.Trees
+use Rattle.c_ast.specs.Places.{first_declarator}
 use Rattle.c_typed.specs.Trees as Typed
 use Rattle.c_typed.specs.TypedStatements.{all_declared_by}
 use Rattle.c_erasure.specs.Declarators.{declared_name}
@@ -17,6 +18,7 @@ use Rattle.c_checking.proofs.CompleteWalk.{Event, a_literal}
 use Rattle.c_checking.proofs.CompletePart.{IsWhole, IsBefore, IsAfter, none_after, left_seen, right_seen, then_seen}
 use Rattle.c_checking.proofs.CompleteStatements.{inner, Seen}
 use Rattle.c_checking.proofs.CompleteBlocks.{CompletesDeclaration, CompletesItems, Is}
+use Rattle.c_checking.proofs.CompleteLocals.{walk_of_declared, walk_of_initial}
 use Rattle.c_checking.proofs.CompleteBodies.{CompletesStatics, walk_of_declaration, declaration_complete, statement, items}
 use Rattle.c_checking_complete.proofs.Wholes.{initials_complete}
 use Rattle.c_checking_complete.proofs.Statics.{Initial, Declarator, Object, static_named, static_complete}
@@ -24,13 +26,12 @@ use Rattle.c_checking_complete.proofs.Statics.{Initial, Declarator, Object, stat
 -- an object stands at the beginning of its declarator
 abbrev pub object_at : Trees.InitDeclarator → Option Spelling → List Event
 object_at d None = []
-object_at d (Some x) = a_literal (Rattle.c_ast.specs.Places.first_declarator d.declarator x.from) ∷ []
+object_at d (Some x) = a_literal (first_declarator d.declarator x.from) ∷ []
 
 abbrev pub walk_of_statics : FileScope → List Trees.InitDeclarator → List Event
 walk_of_statics g [] = []
-walk_of_statics g (d ∷ more) = object_at d
-    (declared_name d.declarator) ++ Rattle.c_checking.proofs.CompleteLocals.walk_of_declared g.untagged g.objects d
-    ++ Rattle.c_checking.proofs.CompleteLocals.walk_of_initial g.untagged g.objects d.value ++ walk_of_statics g more
+walk_of_statics g (d ∷ more) = object_at d (declared_name d.declarator) ++ walk_of_declared g.untagged g.objects d
+    ++ walk_of_initial g.untagged g.objects d.value ++ walk_of_statics g more
 
 -- what objects of the file hold at first is well typed
 abbrev pub AreTypedObjects : FileScope → Type 0
@@ -38,8 +39,8 @@ AreTypedObjects g = (k : ℕ) (o : AnObject) (i : Typed.Initializer Noted) → s
     → IsTypedObject g o.ty i
 
 module _ (g : FileScope) (w : IsWhole g) (typed : AreTypedObjects g) (ls : List ALocal) (result : CType) where
-  abbrev pub walk_of_locals_too : Trees.Declaration → List Event
-  walk_of_locals_too d = walk_of_declaration g (λ all. walk_of_statics g all) d
+  abbrev pub walk_in_block : Trees.Declaration → List Event
+  walk_in_block d = walk_of_declaration g (λ all. walk_of_statics g all) d
 
   joined : (d : Trees.InitDeclarator) (more : List Trees.InitDeclarator) (x : Spelling) (s t v : Scope) (base : CType) (rest : Statements)
       → declared_name d.declarator ≡ Some x → declare_named true s base d (Some x) ≡ Ok (Typed.no_statements, t)
@@ -98,12 +99,12 @@ module _ (g : FileScope) (w : IsWhole g) (typed : AreTypedObjects g) (ls : List 
 
   -- ---- declarations in a block, and statements
 
-  pub declarations_complete : (d : Trees.Declaration) → CompletesDeclaration g w ls result walk_of_locals_too d
+  pub declarations_complete : (d : Trees.Declaration) → CompletesDeclaration g w ls result walk_in_block d
   declarations_complete d =
       declaration_complete g w ls result (λ all. walk_of_statics g all) (initials_complete g w ls) statics_complete d
 
-  pub statements_complete : (st : Trees.Statement) → Is g w ls result walk_of_locals_too st
+  pub statements_complete : (st : Trees.Statement) → Is g w ls result walk_in_block st
   statements_complete st = statement g w ls result (λ all. walk_of_statics g all) (initials_complete g w ls) statics_complete st
 
-  pub items_complete : (all : Trees.BlockItems) → CompletesItems g w ls result walk_of_locals_too all
+  pub items_complete : (all : Trees.BlockItems) → CompletesItems g w ls result walk_in_block all
   items_complete all = items g w ls result (λ all. walk_of_statics g all) (initials_complete g w ls) statics_complete all

@@ -24,7 +24,7 @@ use Rattle.c_checking.specs.Statements.{variable_of, constants_if_any, declare_n
 use Rattle.c_checking.proofs.Results.{ok}
 use Rattle.c_checking.proofs.CompleteWalk.{Event, a_look, a_literal, literals_in, walk_of_declarator}
 use Rattle.c_checking.proofs.CompleteLiterals.{none_in_declarator}
-use Rattle.c_checking.proofs.CompletePart.{Lists, part, IsWhole, IsBefore, IsAfter, Done, none_after, complete_stays, left_seen, right_seen}
+use Rattle.c_checking.proofs.CompletePart.{Lists, part, IsWhole, IsBefore, IsAfter, Done, BlocksFit, none_after, complete_stays, left_seen, right_seen}
 use Rattle.c_checking.proofs.CompletePart.{then_seen}
 use Rattle.c_checking.proofs.CompleteFit.{IsFit, among_more, fit_after, fit_named, no_names}
 use Rattle.c_checking.proofs.CompleteStatements.{inner, outer, Seen}
@@ -153,7 +153,7 @@ module _ (g : FileScope) (w : IsWhole g) (ls : List ALocal) where
   as_many : (c d : Lists) (b : List (List Bound)) → IsFit g c b → length d.names ≡ length c.names → length d.records ≡ length c.records
       → length c.objects ≤ length d.objects → IsFit g d b
   as_many c d b f n r o = record {
-    complete = subst (λ r. Rattle.c_checking.proofs.CompletePart.BlocksFit g r b) (sym r) f.complete;
+    complete = subst (λ r. BlocksFit g r b) (sym r) f.complete;
     blocks = λ x e i. among_more (length c.objects) (length d.objects) e o (f.blocks x e i);
     names = λ k m i l. among_more (length c.objects) (length d.objects) m.entity o (f.names k m i (omega (arith, l, n)));
   }

@@ -18,7 +18,7 @@ use Rattle.c_erasure.specs.Noted.{Noted, Expression, an_object, type_of, type_of
 use Rattle.c_erasure.specs.Scopes.{ALocal, FileScope, Scope, declared}
 use Rattle.c_checking.specs.Answers.{◌>>=◌, with_file, moved}
 use Rattle.c_checking.specs.Nodes.{null}
-use Rattle.c_checking.specs.Finding.{find}
+use Rattle.c_checking.specs.Finding.{value_at, find}
 use Rattle.c_checking.specs.Initializers.{initial_value_in, initial_record_in, without_braces, text_of_array}
 use Rattle.c_checking.proofs.Values.{type_same}
 use Rattle.c_checking.proofs.CompleteNodes
@@ -64,7 +64,7 @@ module _ (g : FileScope) (w : IsWhole g) (ls : List ALocal) where
       record { lists = z.lists; is = by_type t i r z.value_is; after = z.after }
     where
       by_type : (t : CType) → is_scalar t ≡ true → initial_value_in (first a) t (unconverted x) ≡ Ok x → {l : Lists}
-          → Rattle.c_checking.specs.Finding.value_at (first a) (find a (moved s (part g c))) ≡ Ok (unconverted x, part g l)
+          → value_at (first a) (find a (moved s (part g c))) ≡ Ok (unconverted x, part g l)
           → without_braces (first a) at t o (part g c) (find a (moved s (part g c))) ≡ Ok (part_at at (Typed.value x), part g l)
       by_type (integer kind) i r v = rw (v, r) refl
       by_type (pointer u) i r v = rw (v, r) refl
