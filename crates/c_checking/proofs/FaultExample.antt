@@ -87,8 +87,8 @@ ready = record {
     numbered t p = subst (λ (t : Tag). number_among (codes "s" ∷ []) t.name ≡ Some 0) p refl
 
 -- a member of no type of objects
-is_broken : Broken scope (λ s. IsBrokenSpecifier tree s (ill_typed R.Incomplete 20))
+is_broken : Broken (λ at. ⊥) scope (λ s. IsBrokenSpecifier tree s (ill_typed R.Incomplete 20))
 is_broken =
-    faults_specifier untagged (22 ∷ []) tree scope 0 (((tt, tt), (tt, tt), ((tt, tt), (tt, tt), tt))) ready (omega arith)
+    faults_specifier untagged (22 ∷ []) (λ at. ⊥) tree scope 0 (((tt, tt), (tt, tt), ((tt, tt), (tt, tt), tt))) ready (omega arith)
     ((tt, (tt, omega arith, (word (codes "a") 13 14, refl), tt), (tt, (tt, omega arith, (word (codes "b") 20 21, refl), tt), tt))) refl
     (ill_typed R.Incomplete 20) refused

@@ -23,7 +23,7 @@ use Rattle.c_checking.proofs.Results.{ok}
 use Rattle.c_checking.proofs.Extends.{itself}
 use Rattle.c_checking.proofs.FoundTypes.{FoundSteps, FoundFields, tag_text_same, ready_inside}
 use Rattle.c_checking.proofs.FoundDeclarators.{parameter_ready}
-use Rattle.c_checking.proofs.FaultResults.{Broken, bound_err, with_file_err, here, there}
+use Rattle.c_checking.proofs.FaultResults.{Reaches, reaches_outside, Broken, bound_err, with_file_err, here, there}
 use Rattle.c_checking.proofs.FaultDeclaring.{base_fault, closed_fault, tagged_fault, enumerated_fault, completed_fault, IsEarlier, enumerator_fault}
 use Rattle.c_checking.proofs.FaultPremises.{Prepared, inside_prepared}
 use Rattle.c_checking.proofs.FaultSteps.{ReadSteps}
@@ -41,13 +41,13 @@ within_broken (Trees.function d left all right) s t f (inl h) = inr (inr (inr h)
 within_broken (Trees.function d left all right) s t f (inr h) = inl h
 
 -- the specifiers of a declaration
-pub base_stops : (s : Scope) (specs : Trees.Specifiers) (at : ℕ) (one : Checked CType) (f : Fault)
-    → ((x : Trees.Specifier) → types_among specs ≡ x ∷ [] → one ≡ Err f → Broken s (λ s. AreBroken specs s f))
+pub base_stops : (May : ℕ → Type 0) (s : Scope) (specs : Trees.Specifiers) (at : ℕ) (one : Checked CType) (f : Fault)
+    → ((x : Trees.Specifier) → types_among specs ≡ x ∷ [] → one ≡ Err f → Broken May s (λ s. AreBroken specs s f))
     → base_type (base_kind specs) at s.file one ≡ Err f → (P : Type 0) → ((f ≡ ill_typed R.Specifiers at) × AreNoType specs → P)
-    → (Broken s (λ s. AreBroken specs s f) → P) → P
-base_stops s specs at one f names h P p q = base_fault specs at s.file one f P h p (λ x e k. q (names x e k))
+    → (Broken May s (λ s. AreBroken specs s f) → P) → P
+base_stops May s specs at one f names h P p q = base_fault specs at s.file one f P h p (λ x e k. q (names x e k))
 
-module _ (untagged : ℕ → List ℕ) (ends : List ℕ) where
+module _ (untagged : ℕ → List ℕ) (ends : List ℕ) (May : ℕ → Type 0) where
   -- the type that a declarator makes stops, or leaves a length out
   pub shape_stops : (s : Scope) (d : Trees.Declarator) (steps : List Derivation × FileScope) → FoundSteps untagged s d steps → ReadSteps untagged ends s d steps
       → (at : ℕ) (base : CType) (f : Fault) → type_of_derived at steps.1 steps.0 base ≡ Err f
@@ -64,16 +64,16 @@ module _ (untagged : ℕ → List ℕ) (ends : List ℕ) where
   -- ---- specifiers (6.7.2)
 
   pub struct_named_stops : (s : Scope) (at : ℕ) (x : Spelling) → Prepared untagged ends s (marks_of_specifier untagged (Trees.struct_named at x)) → (f : Fault)
-      → with_file s.file (tagged_in s at x) ≡ Err f → Broken s (λ s. IsBrokenSpecifier (Trees.struct_named at x) s f)
+      → with_file s.file (tagged_in s at x) ≡ Err f → Broken May s (λ s. IsBrokenSpecifier (Trees.struct_named at x) s f)
   struct_named_stops s at x p f h =
-      here s (λ s. IsBrokenSpecifier (Trees.struct_named at x) s f)
+      here May s (λ s. IsBrokenSpecifier (Trees.struct_named at x) s f)
       (tagged_fault s at x p.orderly
       (λ i. let k = p.tags_stand i 0 _ refl in p.orderly.tags_numbered k.0 _ k.1 refl) f (with_file_err s.file (tagged_in s at x) f h))
 
   pub enum_named_stops : (s : Scope) (at : ℕ) (x : Spelling) → Prepared untagged ends s [] → (f : Fault)
-      → with_file s.file (enumerated_in s.file x) ≡ Err f → Broken s (λ s. IsBrokenSpecifier (Trees.enum_named at x) s f)
+      → with_file s.file (enumerated_in s.file x) ≡ Err f → Broken May s (λ s. IsBrokenSpecifier (Trees.enum_named at x) s f)
   enum_named_stops s at x p f h =
-      here s (λ s. IsBrokenSpecifier (Trees.enum_named at x) s f) (enumerated_fault s x p.orderly f (with_file_err s.file (enumerated_in s.file x) f h))
+      here May s (λ s. IsBrokenSpecifier (Trees.enum_named at x) s f) (enumerated_fault s x p.orderly f (with_file_err s.file (enumerated_in s.file x) f h))
 
   -- the tag that a definition has
   pub own_tag : (s : Scope) → s.file.untagged ≡ untagged → (at : ℕ) (x : Option Spelling) → Marks.tag_name untagged at x ≡ tag_text s at x
@@ -82,15 +82,16 @@ module _ (untagged : ℕ → List ℕ) (ends : List ℕ) where
 
   pub struct_body_stops : (s : Scope) (at : ℕ) (x : Option Spelling) (left_at : ℕ) (all : Trees.MemberDeclarations) (right_at : ℕ)
       → s.file.untagged ≡ untagged → s.is_inside ≡ false → (m : List Field × FileScope) → FoundFields untagged s all m
+      → Reaches May s.file s.is_inside m.1
       → Prepared untagged ends (moved s m.1) (an_end (Marks.tag_name untagged at x) right_at ∷ []) → (f : Fault)
       → completed_in m.1 (tag_place at x) (member_names all) (record { tag = tag_text s at x; place = place_in s at; fields = m.0 }) ≡ Err f
-      → Broken s (λ s. IsBrokenSpecifier (Trees.struct_body at x left_at all right_at) s f)
-  struct_body_stops s at x left_at all right_at same i m v p f h =
+      → Broken May s (λ s. IsBrokenSpecifier (Trees.struct_body at x left_at all right_at) s f)
+  struct_body_stops s at x left_at all right_at same i m v r p f h =
       let rec : Record = record { tag = tag_text s at x; place = place_in s at; fields = m.0 } in
       let numbered = subst (λ n. slice_get m.1.numbered n ≡ Some (Marks.tag_name untagged at x)) (omega arith) (p.numbers_stand i 0 _ refl) in
       let own = subst (λ tag. slice_get m.1.numbered (length m.1.records) ≡ Some tag) (own_tag s same at x) numbered in
       let end = subst (λ n. slice_get m.1.ends n ≡ Some right_at) (omega arith) (p.ready.ends_stand i 0 right_at refl) in
-      there s (λ s. IsBrokenSpecifier (Trees.struct_body at x left_at all right_at) s f) m.1 v.grew.extends
+      there May s (λ s. IsBrokenSpecifier (Trees.struct_body at x left_at all right_at) s f) m.1 r
       (by_rule (completed_fault m.1 (tag_place at x) (member_names all) rec right_at p.steady p.orderly own end f h))
     where
       by_rule : IsRepeated (member_names all) f ⊎ IsEarlier m.1 (tag_text s at x) (tag_place at x) right_at f
@@ -133,6 +134,6 @@ module _ (untagged : ℕ → List ℕ) (ends : List ℕ) where
 
   -- what is broken behind a parameter
   pub behind_broken : (s : Scope) (x : Option Spelling) (t : CType) (more : Trees.Parameters) (f : Fault)
-      → Broken (with_parameter_if_named s x t) (λ s. IsBrokenAmong more s f) → Broken s (λ s. IsBrokenAmong more (with_parameter_if_named s x t) f)
-  behind_broken s None t more f b = record { file = b.file; extends = b.extends; is = b.is }
-  behind_broken s (Some x) t more f b = record { file = b.file; extends = b.extends; is = b.is }
+      → Broken May (with_parameter_if_named s x t) (λ s. IsBrokenAmong more s f) → Broken May s (λ s. IsBrokenAmong more (with_parameter_if_named s x t) f)
+  behind_broken s None t more f b = record { file = b.file; reaches = b.reaches; is = b.is }
+  behind_broken s (Some x) t more f b = record { file = b.file; reaches = reaches_outside s.is_inside b.reaches; is = b.is }

@@ -372,7 +372,7 @@ module _ (untagged : ℕ → List ℕ) where
         file_of (Grows s (marks_of_members untagged (Trees.and_member_declaration specs ds semicolon more))
         (spoken_of_members (Trees.and_member_declaration specs ds semicolon more)) []) _ z rest.2 (adds_then (adds_then v w) t)
 
-    grow_declarators : (all : Trees.MemberDeclarators) (base : CType) (semicolon : ℕ) (s : Scope) → s.file.untagged ≡ untagged → (z : List Field × FileScope)
+    pub grow_declarators : (all : Trees.MemberDeclarators) (base : CType) (semicolon : ℕ) (s : Scope) → s.file.untagged ≡ untagged → (z : List Field × FileScope)
         → member_declarators all base semicolon s ≡ Ok z → Grows s (marks_of_member_declarators untagged all) (spoken_of_fields all semicolon) [] z.1
     grow_declarators Trees.no_member_declarators base semicolon s e z h = file_of (Grows s [] [] []) _ z h (nothing s)
     grow_declarators (Trees.and_member_declarator comma d more) base semicolon s e z h =
@@ -401,7 +401,7 @@ module _ (untagged : ℕ → List ℕ) where
         (bound_adds v.0.1 b s.is_inside (is_measured s.purpose) (makes_none s.purpose) i) in
         adds_then w (adds_then n (grow_enumerators more (moved s f.0) ((v.0.0 + 1) % 2 ^ 32) after i (n.untagged ∙ w.untagged ∙ e) z f.2))
 
-    grow_value : (value : Trees.EnumeratorValue) (s : Scope) (at next : ℕ) → s.file.untagged ≡ untagged → (z : ℕ × FileScope)
+    pub grow_value : (value : Trees.EnumeratorValue) (s : Scope) (at next : ℕ) → s.file.untagged ≡ untagged → (z : ℕ × FileScope)
         → enumerator_value value s at next ≡ Ok z → Grows s (marks_of_value untagged value) (spoken_of_value value) [] z.1
     grow_value Trees.no_value s at next e z h = file_beside (Grows s [] [] []) s.file _ z h (nothing s)
     grow_value (Trees.valued equal a) s at next e z h =
@@ -438,7 +438,7 @@ module _ (untagged : ℕ → List ℕ) where
         file_of (Grows s (marks_of_declarator untagged d) (spoken_of_declarator d ++ spoken_of_list all) []) _ z types.2
         (subst (λ u. Grows s u (spoken_of_declarator d ++ spoken_of_list all) [] types.0.1) (append-nil (marks_of_declarator untagged d)) (adds_then v w))
 
-    grow_list : (all : Trees.ParameterList) (s : Scope) → s.is_inside ≡ true → s.file.untagged ≡ untagged → (z : CTypes × FileScope)
+    pub grow_list : (all : Trees.ParameterList) (s : Scope) → s.is_inside ≡ true → s.file.untagged ≡ untagged → (z : CTypes × FileScope)
         → parameter_list all s ≡ Ok z → Grows s [] (spoken_of_list all) [] z.1
     grow_list (Trees.void_alone at) s i e z h = file_of (Grows s [] [] []) _ z h (nothing s)
     grow_list (Trees.listed all) s i e z h = grow_parameters all s i e z h
