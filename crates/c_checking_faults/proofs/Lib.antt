@@ -1,0 +1,4 @@
+pub mod Clear
+pub mod Shifted
+pub mod ValueFaults
+pub mod BracesFaults
