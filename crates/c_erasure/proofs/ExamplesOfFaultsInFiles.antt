@@ -266,6 +266,6 @@ without_elements = record {
   broken = inr (inr (
     int,
     inl (refl, refl),
-    inl (inr (word (codes "a") 4 5, open_array int, refl, (refl, refl, refl), inl (refl, refl))),
+    inl (inr (word (codes "a") 4 5, open_array int, refl, (refl, refl, refl), inl (inl (refl, refl)))),
   ));
 }

@@ -88,7 +88,7 @@ IsDefinedThere f x t (Some value) = (n : ℕ) × IsBound (at_file_scope f) (boun
 abbrev pub IsBrokenFileDeclarator : FileScope → Storage → CType → Trees.InitDeclarator → Fault → Type 0
 IsBrokenFileDeclarator f words base d fault = IsBrokenDeclarator d.declarator (at_file_scope f) base fault
     ⊎ ((x : Spelling) × (shape : Shape) × (declared_name d.declarator ≡ Some x) × Declares (at_file_scope f) d.declarator base shape
-    × (IsEndless shape d.value x.from fault
+    × (IsEndless (at_file_scope f) shape d.value x.from fault
     ⊎ ((t : CType) × IsSized (at_file_scope f) shape d.value t
     × (((fault ≡ ill_typed R.Library x.from) × IsBrokenLibrary words t x.text)
     ⊎ ((fault ≡ ill_typed R.Main x.from) × IsBrokenMain f words t x)

@@ -22,7 +22,7 @@ use Rattle.c_erasure.specs.Erasure.{IsBase, IsConstant, Erases, IsOne, Declares}
 use Rattle.c_erasure.specs.Initializers.{texts_of, is_character, IsTextOf, length_of, count_of, Part, Initializes, IsInitializer, AreConstants}
 use Rattle.c_erasure.specs.Statements.{Statements, IsSized, with_variable, with_object, DeclareAll, IsStart, ErasesItem, ErasesSwitchItem}
 use Rattle.c_erasure.specs.Broken.{Fault, ill_typed, One, AThing, IsNoRecord, null, HasNoValue, IsNoConstant, IsOldName, AreNoType, IsBroken, AreBroken}
-use Rattle.c_erasure.specs.Broken.{IsBrokenDeclarator}
+use Rattle.c_erasure.specs.Broken.{IsTooBig, IsBrokenDeclarator}
 
 -- ---- initializers
 
@@ -90,11 +90,12 @@ IsForbidden a_typedef = Unit {0}
 IsForbidden is_extern = Unit {0}
 IsForbidden words = ⊥
 
--- an array whose length is left to an initializer that is not there, or has no elements
-abbrev pub IsEndless : Shape → Option (ℕ × Trees.Expression) → ℕ → Fault → Type 0
-IsEndless (open_array u) None at f = f ≡ ill_typed R.Length at
-IsEndless (open_array u) (Some value) at f = (length_of u (texts_of value.1) value.1 ≡ 0) × (f ≡ ill_typed R.Init (first value.1))
-IsEndless (closed t) value at f = ⊥
+-- an array whose length is left to an initializer that is not there, has no elements, or has too many for a type
+abbrev pub IsEndless : Scope → Shape → Option (ℕ × Trees.Expression) → ℕ → Fault → Type 0
+IsEndless s (open_array u) None at f = f ≡ ill_typed R.Length at
+IsEndless s (open_array u) (Some value) at f = ((length_of u (texts_of value.1) value.1 ≡ 0) × (f ≡ ill_typed R.Init (first value.1)))
+    ⊎ IsTooBig s (array u (length_of u (texts_of value.1) value.1)) (first value.1) f
+IsEndless s (closed t) value at f = ⊥
 
 -- the scope after a local, which is an object of the file where it is `static`
 abbrev pub with_declared : Scope → (static : Bool) → Spelling → ℕ → CType → Scope
@@ -104,7 +105,7 @@ with_declared s false x n t = with_variable s x n t
 abbrev pub IsBrokenLocal : Scope → (static : Bool) → CType → Trees.InitDeclarator → Fault → Type 0
 IsBrokenLocal s static base d f = IsBrokenDeclarator d.declarator s base f ⊎ IsOldName s (declared_name d.declarator) f
     ⊎ ((x : Spelling) × (shape : Shape) × (declared_name d.declarator ≡ Some x) × Declares s d.declarator base shape
-    × (IsEndless shape d.value x.from f
+    × (IsEndless s shape d.value x.from f
     ⊎ ((t : CType) × (shape ≡ closed t) × (is_function t ≡ true) × (f ≡ ill_typed R.Scope x.from))
     ⊎ ((t : CType) × IsSized s shape d.value t × (is_function t ≡ false) × (is_object (ended s.file.ends x.from) t ≡ false)
     × (f ≡ ill_typed R.Incomplete x.from))
