@@ -19,6 +19,15 @@ pub among_right : (u v : List ℕ) (x : ℕ) → IsAmong v x → IsAmong (u ++ v
 among_right [] v x h = h
 among_right (y ∷ u) v x h = inr (among_right u v x h)
 
+pub among_split : (u v : List ℕ) (x : ℕ) → IsAmong (u ++ v) x → IsAmong u x ⊎ IsAmong v x
+among_split [] v x h = inr h
+among_split (y ∷ u) v x (inl e) = inl (inl e)
+among_split (y ∷ u) v x (inr h) = by_part (among_split u v x h)
+  where
+    by_part : IsAmong u x ⊎ IsAmong v x → IsAmong (y ∷ u) x ⊎ IsAmong v x
+    by_part (inl h) = inl (inr h)
+    by_part (inr h) = inr h
+
 all_may : (May : ℕ → Type 0) (k : List ℕ) → ((x : ℕ) → IsAmong k x → May x) → AllMay May k
 all_may May [] h = tt
 all_may May (x ∷ k) h = (h x (inl refl), all_may May k (λ y i. h y (inr i)))
@@ -127,3 +136,12 @@ clear {f} {m} {g} {k} {made} {texts} l p h q r = none_begins g texts (λ n o e t
     at_last : (n : ℕ) (o : AnObject) → IsAmong texts o.first → (slice_get m.objects n ≡ Some o) ⊎ IsAmong l o.first → ⊥
     at_last n o t (inl e) = at_first n o t (q.begins n o e)
     at_last n o t (inr e) = apart_both k l h.apart o.first (texts_among p o.first t) e
+
+-- and where it stops there
+pub clear_there : {f m : FileScope} {i : Bool} {k made texts : List ℕ} → Parted k made texts → AreFresh f k → Reaches (IsAmong made) f i m
+    → NoneBegins m texts
+clear_there {f} {m} {k} {made} {texts} p h q = none_begins m texts (λ n o e t. by_part n o t (q.begins n o e))
+  where
+    by_part : (n : ℕ) (o : AnObject) → IsAmong texts o.first → (slice_get f.objects n ≡ Some o) ⊎ IsAmong made o.first → ⊥
+    by_part n o t (inl e) = h.none_at n o e (texts_among p o.first t)
+    by_part n o t (inr e) = not_both p h.apart o.first e t

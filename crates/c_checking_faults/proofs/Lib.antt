@@ -2,3 +2,8 @@ pub mod Clear
 pub mod Shifted
 pub mod ValueFaults
 pub mod BracesFaults
+pub mod Constants
+pub mod DeclaredLocals
+pub mod Stopped
+pub mod ValueStops
+pub mod Variables

@@ -80,13 +80,13 @@ module _ (untagged : ℕ → List ℕ) (f : FileScope) where
   AreTypedIn all g l s = (result : CType) (loop switch : Bool) → AreTyped (declared (seen s g l)) result loop switch (typed_statements all)
 
   -- a declarator, and what follows it
-  record IsDeclarator (static : Bool) (s : Scope) (base : CType) (d : Trees.InitDeclarator) (all : Statements) (after : Scope) (g : FileScope)
+  pub record IsDeclarator (static : Bool) (s : Scope) (base : CType) (d : Trees.InitDeclarator) (all : Statements) (after : Scope) (g : FileScope)
       (l : List ALocal) : Type 0 where
     pub declares : (more : List Trees.InitDeclarator) (rest : Statements) (last : Scope) → DeclareAll more (seen after g l) static base rest last
         → DeclareAll (d ∷ more) (seen s g l) static base (followed_by all rest) last
     pub is_typed : AreTypedIn all g l s
 
-  variable_part : (s : Scope) (base : CType) (d : Trees.InitDeclarator) (x : Spelling) (z : CType × FileScope) → FoundVariable untagged f s base d x z
+  pub variable_part : (s : Scope) (base : CType) (d : Trees.InitDeclarator) (x : Spelling) (z : CType × FileScope) → FoundVariable untagged f s base d x z
       → FoundIn untagged f s (first_declarator d.declarator x.from ∷ spoken_of_declarator d.declarator) [] (λ g l. IsVariable (seen s g l) base d x z.0) []
       (moved s z.1)
   variable_part s base d x z v = record {
@@ -103,7 +103,7 @@ module _ (untagged : ℕ → List ℕ) (f : FileScope) where
     holds = λ g l e. v.holds g l e.extends e.locals;
   }
 
-  abbrev FoundDeclarator : Bool → Scope → CType → Trees.InitDeclarator → ℕ → Statements × Scope → Type 0
+  abbrev pub FoundDeclarator : Bool → Scope → CType → Trees.InitDeclarator → ℕ → Statements × Scope → Type 0
   FoundDeclarator static s base d semicolon z =
       FoundIn untagged f s (first_declarator d.declarator semicolon ∷ spoken_of_declarator d.declarator ++ spoken_by_value d.value)
       (static_places static (first_declarator d.declarator semicolon) ++ literals_of_value d.value) (IsDeclarator static s base d z.0 z.1)
@@ -162,7 +162,7 @@ module _ (untagged : ℕ → List ℕ) (f : FileScope) where
       type_there (b ∷ more) zero a h = let e : b ≡ a = cc in ap (λ (a : ALocal). Some a.ty) e
       type_there (b ∷ more) (suc n) a h = type_there more n a h
 
-  declarator_named : (static : Bool) (s : Scope) (base : CType) (d : Trees.InitDeclarator) (semicolon : ℕ) → IsDeclaratorInRange d.declarator
+  pub declarator_named : (static : Bool) (s : Scope) (base : CType) (d : Trees.InitDeclarator) (semicolon : ℕ) → IsDeclaratorInRange d.declarator
       → IsValueInRange f.ends (length f.records) d.value → IsWithin untagged f s → (o : Option Spelling) → declared_name d.declarator ≡ o → (z : Statements × Scope)
       → declare_named static s base d o ≡ Ok z → FoundDeclarator static s base d semicolon z
   declarator_named static s base d semicolon n k w None e z h = cc

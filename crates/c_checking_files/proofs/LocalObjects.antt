@@ -210,7 +210,7 @@ module _ (untagged : ℕ → List ℕ) (f : FileScope) where
 
   -- ---- locals that are made when the block is entered
 
-  new_within : (s : Scope) (x : Spelling) (t : CType) → IsWithin untagged f s → IsWithin untagged f (with_new_local s x t)
+  pub new_within : (s : Scope) (x : Spelling) (t : CType) → IsWithin untagged f s → IsWithin untagged f (with_new_local s x t)
   new_within s x t w = record {
     inside = refl;
     full = w.full;

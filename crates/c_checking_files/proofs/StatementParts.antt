@@ -241,7 +241,7 @@ module _ (untagged : ℕ → List ℕ) (f : FileScope) where
 
   -- ---- declarations
 
-  base_in : (specs : Trees.Specifiers) (s : Scope) → AreSpecifiersInRange specs → IsWithin untagged f s → (b : CType × FileScope)
+  pub base_in : (specs : Trees.Specifiers) (s : Scope) → AreSpecifiersInRange specs → IsWithin untagged f s → (b : CType × FileScope)
       → base_type (base_kind specs) (first_specifiers specs) s.file (one_of specs s) ≡ Ok b
       → FoundIn untagged f s (spoken_of_specifiers specs) [] (λ g l. IsBase (IsOne (seen s g l) specs) specs b.0) [] (moved s b.1)
   base_in specs s n w b h =

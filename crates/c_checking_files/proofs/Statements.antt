@@ -49,13 +49,13 @@ labels_there x y h k z e = given (λ y. k y ≡ Ok z → k x ≡ Ok z) x y h (λ
 module _ (untagged : ℕ → List ℕ) (f : FileScope) where
   -- ---- expressions that may be left out
 
-  abbrev IsTestThere : Option Trees.Expression → Option Expression → Scope → Type 0
+  abbrev pub IsTestThere : Option Trees.Expression → Option Expression → Scope → Type 0
   IsTestThere a x c = IsPlainIfAny a c x × IsCondition (declared c) (option_map typed x)
 
-  abbrev IsEffectThere : Option Trees.Expression → Option Expression → Scope → Type 0
+  abbrev pub IsEffectThere : Option Trees.Expression → Option Expression → Scope → Type 0
   IsEffectThere a x c = IsPlainIfAny a c x × IsEffect (declared c) (option_map typed x)
 
-  test_as : (a : Option Trees.Expression) (s : Scope) → IsInRangeIfAny a → IsWithin untagged f s → (z : Option Expression × Scope) → condition_if_any a s ≡ Ok z
+  pub test_as : (a : Option Trees.Expression) (s : Scope) → IsInRangeIfAny a → IsWithin untagged f s → (z : Option Expression × Scope) → condition_if_any a s ≡ Ok z
       → FoundAs untagged f s (spoken_if_some a) (literals_if_any a) (IsTestThere a z.0) [] z.1
   test_as None s n w z h =
       given (λ (z : Option Expression × Scope). FoundAs untagged f s [] [] (IsTestThere None z.0) [] z.1) (None, s) z h
@@ -66,7 +66,7 @@ module _ (untagged : ℕ → List ℕ) (f : FileScope) where
       (change_as untagged f s x.0.1 (spoken a) (literals a) (IsConditionThere untagged f a x.0.0) (IsTestThere (Some a) (Some x.0.0)) [] []
       (condition_as untagged f a s n w x.0 x.1) refl (λ c v. ((x.0.0, refl, v.0), (v.1, v.2))))
 
-  effect_as : (a : Option Trees.Expression) (s : Scope) → IsInRangeIfAny a → IsWithin untagged f s → (z : Option Expression × Scope) → value_if_any a s ≡ Ok z
+  pub effect_as : (a : Option Trees.Expression) (s : Scope) → IsInRangeIfAny a → IsWithin untagged f s → (z : Option Expression × Scope) → value_if_any a s ≡ Ok z
       → FoundAs untagged f s (spoken_if_some a) (literals_if_any a) (IsEffectThere a z.0) [] z.1
   effect_as None s n w z h =
       given (λ (z : Option Expression × Scope). FoundAs untagged f s [] [] (IsEffectThere None z.0) [] z.1) (None, s) z h
@@ -79,11 +79,11 @@ module _ (untagged : ℕ → List ℕ) (f : FileScope) where
 
   -- ---- what stands first in a `for`
 
-  record IsStartFound (start : Trees.ForStart) (result : CType) (s : Scope) (all : Statements) (after : Scope) (g : FileScope) (l : List ALocal) : Type 0 where
+  pub record IsStartFound (start : Trees.ForStart) (result : CType) (s : Scope) (all : Statements) (after : Scope) (g : FileScope) (l : List ALocal) : Type 0 where
     pub starts : IsStart start (seen s g l) all (seen after g l)
     pub is_typed : AreTyped (declared (seen s g l)) result false false (typed_statements all)
 
-  start_found : (result : CType) (start : Trees.ForStart) (s : Scope) → IsStartInRange f.ends (length f.records) start → IsWithin untagged f s → (z : Statements × Scope)
+  pub start_found : (result : CType) (start : Trees.ForStart) (s : Scope) → IsStartInRange f.ends (length f.records) start → IsWithin untagged f s → (z : Statements × Scope)
       → start_of start s ≡ Ok z
       → FoundIn untagged f s (spoken_of_start start) (made_by_start start) (IsStartFound start result s z.0 z.1) (all_declared_by z.0) z.1
   start_found result (Trees.starts_with None semicolon) s n w z h =
@@ -133,12 +133,12 @@ module _ (untagged : ℕ → List ℕ) (f : FileScope) where
     FoundItems items s loop switch z =
         FoundIn untagged f s (spoken_by_items items) (made_by_items items) (AreItemsFound items s loop switch z.0) (all_declared_by z.0) z.1
 
-    record IsSwitchItemFound (item : Trees.SwitchItem) (s : Scope) (loop : Bool) (kind : IntKind) (cases : List ℕ) (n : ℕ) (all : Statements) (after : Scope)
+    pub record IsSwitchItemFound (item : Trees.SwitchItem) (s : Scope) (loop : Bool) (kind : IntKind) (cases : List ℕ) (n : ℕ) (all : Statements) (after : Scope)
         (g : FileScope) (l : List ALocal) : Type 0 where
       pub erases : ErasesSwitchItem item (seen s g l) kind cases n all (seen after g l)
       pub is_typed : AreTyped (declared (seen s g l)) result loop true (typed_statements all)
 
-    record FoundSwitchItem (item : Trees.SwitchItem) (s : Scope) (loop : Bool) (kind : IntKind) (before : Labels)
+    pub record FoundSwitchItem (item : Trees.SwitchItem) (s : Scope) (loop : Bool) (kind : IntKind) (before : Labels)
         (z : (Statements × Found) × Scope) : Type 0 where
       pub found : FoundIn untagged f s (spoken_by_switch_item item) (made_by_switch_item item)
           (IsSwitchItemFound item s loop kind z.0.1.cases z.0.1.defaults z.0.0 z.1) (all_declared_by z.0.0) z.1
@@ -431,7 +431,7 @@ module _ (untagged : ℕ → List ℕ) (f : FileScope) where
           given (FoundSwitchItems (Trees.and_switch_item item more) s loop kind before) _ z rest.2
           (switch_items_then item more s loop kind before few own.0 v rest.0 u)
 
-      sound_switch_item : (item : Trees.SwitchItem) (s : Scope) (loop : Bool) (kind : IntKind) → ((v : ℕ) → as_kind kind (as_kind kind v) ≡ as_kind kind v)
+      pub sound_switch_item : (item : Trees.SwitchItem) (s : Scope) (loop : Bool) (kind : IntKind) → ((v : ℕ) → as_kind kind (as_kind kind v) ≡ as_kind kind v)
           → (before : Labels) → IsSwitchItemInRange f.ends (length f.records) item → IsWithin untagged f s → (z : (Statements × Found) × Scope)
           → switch_item result item s loop kind before ≡ Ok z → FoundSwitchItem item s loop kind before z
       sound_switch_item (Trees.local_switch_item d) s loop kind k before n w z h =

@@ -55,7 +55,7 @@ others_there [] x y more e (suc n) p h i = h
 others_there (z ∷ xs) x y more e zero p h i = h
 others_there (z ∷ xs) x y more e (suc n) p h i = others_there xs x y more e n p h i
 
-object_put : (f : FileScope) (o : AnObject) → Extends f (Files.with_object f o)
+pub object_put : (f : FileScope) (o : AnObject) → Extends f (Files.with_object f o)
 object_put f o = record {
   file = refl;
   tags = refl;
@@ -123,7 +123,7 @@ module _ (untagged : ℕ → List ℕ) (f : FileScope) where
     same = p.untagged ∙ w.same;
   }
 
-  static_within : (s : Scope) (d : Trees.InitDeclarator) (x : Spelling) (t : CType) → IsWithin untagged f s
+  pub static_within : (s : Scope) (d : Trees.InitDeclarator) (x : Spelling) (t : CType) → IsWithin untagged f s
       → is_object (length s.file.records) t ≡ true → IsWithin untagged f (with_static s d x t)
   static_within s d x t w is =
       let o = static_object s d x t None in
