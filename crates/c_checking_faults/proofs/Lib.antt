@@ -7,3 +7,4 @@ pub mod DeclaredLocals
 pub mod Stopped
 pub mod ValueStops
 pub mod Variables
+pub mod LocalStops

@@ -52,7 +52,7 @@ laid_on {f} {g} p e h = record {
   not_empty = λ t o. subst (λ (records : List Record). is_object (length records) t ≡ true → 0 < size_of records t) (sym (records_same p e)) (h.not_empty t) o;
 }
 
-steady_on : {f g : FileScope} → Extends f g → length g.records ≡ length f.records → AreObjectsWhole g.records g.objects → IsSteady f → IsSteady g
+pub steady_on : {f g : FileScope} → Extends f g → length g.records ≡ length f.records → AreObjectsWhole g.records g.objects → IsSteady f → IsSteady g
 steady_on {f} {g} p e w h =
     let r = records_same p e in
     record {
@@ -71,7 +71,7 @@ steady_on {f} {g} p e w h =
     mapped_back (x ∷ all) zero t h = let e : x.ty ≡ t = cc in (x, refl, e)
     mapped_back (x ∷ all) (suc n) t h = mapped_back all n t h
 
-tags_counted : {f g : FileScope} {x k : List ℕ} → AddsInside f x k g → length g.records ≡ length f.records
+pub tags_counted : {f g : FileScope} {x k : List ℕ} → AddsInside f x k g → length g.records ≡ length f.records
 tags_counted {f} {g} p =
     let n = ap length p.records in
     omega (arith, n, length_of_tags f.records, length_of_tags g.records, length-append (map (λ (r : Record). r.tag) f.records) [])

@@ -112,7 +112,7 @@ module _ (untagged : ℕ → List ℕ) (f : FileScope) where
   abbrev pub IsInitialIn : Scope → CType → Option (ℕ × Trees.Expression) → Option (Typed.Initializer Noted) → FileScope → List ALocal → Type 0
   IsInitialIn s t value i g l = HasInitializer (seen s g l) t value i × IsInitialized (declared (seen s g l)) t (typed_initial_if_any i)
 
-  whole_in : (a : Trees.Expression) (s : Scope) (t : CType) → IsInRange a → IsWithin untagged f s → is_object (length s.file.records) t ≡ true
+  pub whole_in : (a : Trees.Expression) (s : Scope) (t : CType) → IsInRange a → IsWithin untagged f s → is_object (length s.file.records) t ≡ true
       → (z : Typed.Initializer Noted × FileScope) → initializer a s t ≡ Ok z
       → FoundInitializer s (spoken a) (literals a)
       (λ g l. IsInitializer a (seen s g l) t z.0 × IsTypedInitializer (declared (seen s g l)) t (typed_initial z.0)) z.1
