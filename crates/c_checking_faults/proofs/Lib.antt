@@ -8,3 +8,4 @@ pub mod Stopped
 pub mod ValueStops
 pub mod Variables
 pub mod LocalStops
+pub mod DeclarationStops

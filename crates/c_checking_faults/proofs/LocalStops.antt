@@ -31,6 +31,11 @@ use Rattle.c_checking_faults.proofs.Clear.{among_left, among_right, reaches_more
 use Rattle.c_checking_faults.proofs.Constants.{initializer_faults, constant_faults}
 use Rattle.c_checking_faults.proofs.Stopped.{Stopped, same, stopped_more, inside_reaches, tags_counted, laid_on, steady_on, IsIn, prepared, many}
 
+-- the initializer of an object of a block
+abbrev pub IsObjectBroken : Bool → Trees.InitDeclarator → Spelling → CType → Fault → Scope → Type 0
+IsObjectBroken static d x t fault s = ((n : ℕ) × IsBrokenInitial d.value (with_declared s static x n t) t fault)
+    ⊎ ((n : ℕ) × (static ≡ true) × HasNoConstants d.value (with_object s x n t) t fault)
+
 module _ (untagged : ℕ → List ℕ) (ends : List ℕ) (f : FileScope) where
   -- records are known where an initializer of a function asks for them
   abbrev pub IsValueTimely : Option (ℕ × Trees.Expression) → Type 0
@@ -64,12 +69,11 @@ module _ (untagged : ℕ → List ℕ) (ends : List ℕ) (f : FileScope) where
       by_part k u (inr h) = subst IsObjectType h.1 (length s.file.records, o)
 
   local_stops : (s : Scope) (d : Trees.InitDeclarator) (x : Spelling) (t : CType) → IsIn untagged ends f s → is_object (length s.file.records) t ≡ true
-      → (value : Option (ℕ × Trees.Expression)) → d.value ≡ value
-      → IsValueInRange f.ends (length f.records) value → IsValueTimely value → AreFresh s.file (literals_of_value value) → (fault : Fault)
+      → (value : Option (ℕ × Trees.Expression)) → IsValueInRange f.ends (length f.records) value → IsValueTimely value → AreFresh s.file (literals_of_value value) → (fault : Fault)
       → in_scope (with_new_local s x t) (initial_if_any value (with_new_local s x t) t) ≡ Err fault
       → Stopped (literals_of_value value) s (λ s. (n : ℕ) × IsBrokenInitial value (with_declared s false x n t) t fault)
-  local_stops s d x t p o None e n w fresh fault h = cc
-  local_stops s d x t p o (Some value) e n w fresh fault h =
+  local_stops s d x t p o None n w fresh fault h = cc
+  local_stops s d x t p o (Some value) n w fresh fault h =
       let c = with_new_local s x t in
       let q = new_in s x t p o in
       let Js = λ (s : Scope). (n : ℕ) × IsBrokenInitial (Some value) (with_declared s false x n t) t fault in
@@ -117,14 +121,13 @@ module _ (untagged : ℕ → List ℕ) (ends : List ℕ) (f : FileScope) where
       by_part n q (inr h) = inr (inl (sym (ap (λ (o : AnObject). o.first) h.1)))
 
   static_stops : (s : Scope) (d : Trees.InitDeclarator) (x : Spelling) (t : CType) → IsIn untagged ends f s → is_object (length s.file.records) t ≡ true
-      → (value : Option (ℕ × Trees.Expression)) → d.value ≡ value
-      → IsValueInRange f.ends (length f.records) value → IsValueTimely value
+      → (value : Option (ℕ × Trees.Expression)) → IsValueInRange f.ends (length f.records) value → IsValueTimely value
       → AreFresh s.file ((first_declarator d.declarator x.from ∷ []) ++ literals_of_value value) → (fault : Fault)
       → constants_if_any value (with_static s d x t) t ≡ Err fault
       → Stopped ((first_declarator d.declarator x.from ∷ []) ++ literals_of_value value) s
       (λ s. (n : ℕ) × (IsBrokenInitial value (with_object s x n t) t fault ⊎ HasNoConstants value (with_object s x n t) t fault))
-  static_stops s d x t p o None e n w fresh fault h = cc
-  static_stops s d x t p o (Some value) e n w fresh fault h =
+  static_stops s d x t p o None n w fresh fault h = cc
+  static_stops s d x t p o (Some value) n w fresh fault h =
       let c = with_static s d x t in
       let q = static_in s d x t p o in
       let k = first_declarator d.declarator x.from ∷ [] in
@@ -143,12 +146,6 @@ module _ (untagged : ℕ → List ℕ) (ends : List ℕ) (f : FileScope) where
         is = (objects_in s, b.is);
       }
 
-  -- ---- the initializer of an object of a block
-
-  abbrev pub IsObjectBroken : Bool → Trees.InitDeclarator → Spelling → CType → Fault → Scope → Type 0
-  IsObjectBroken static d x t fault s = ((n : ℕ) × IsBrokenInitial d.value (with_declared s static x n t) t fault)
-      ⊎ ((n : ℕ) × (static ≡ true) × HasNoConstants d.value (with_object s x n t) t fault)
-
   pub object_stops : (static : Bool) (s : Scope) (d : Trees.InitDeclarator) (x : Spelling) (t : CType) → IsIn untagged ends f s
       → is_object (length s.file.records) t ≡ true → IsValueInRange f.ends (length f.records) d.value → IsValueTimely d.value
       → AreFresh s.file (static_places static (first_declarator d.declarator x.from) ++ literals_of_value d.value) → (fault : Fault)
@@ -160,7 +157,7 @@ module _ (untagged : ℕ → List ℕ) (ends : List ℕ) (f : FileScope) where
       (λ e. stopped_more
       (λ s. (n : ℕ) × (IsBrokenInitial d.value (with_object s x n t) t fault ⊎ HasNoConstants d.value (with_object s x n t) t fault))
       (IsObjectBroken true d x t fault) (λ x m. m) (λ s b. either s b.0 b.1)
-      (static_stops s d x t p o d.value refl n w fresh fault e))
+      (static_stops s d x t p o d.value n w fresh fault e))
       (λ i e h. cc)
     where
       either : (s : Scope) (n : ℕ) → IsBrokenInitial d.value (with_object s x n t) t fault ⊎ HasNoConstants d.value (with_object s x n t) t fault
@@ -173,5 +170,5 @@ module _ (untagged : ℕ → List ℕ) (ends : List ℕ) (f : FileScope) where
       (λ e. stopped_more
       (λ s. (n : ℕ) × IsBrokenInitial d.value (with_declared s false x n t) t fault)
       (IsObjectBroken false d x t fault) (λ x m. m) (λ s b. inl b)
-      (local_stops s d x t p o d.value refl n w fresh fault e))
+      (local_stops s d x t p o d.value n w fresh fault e))
       (λ i e h. cc)
