@@ -9,3 +9,6 @@ pub mod ValueStops
 pub mod Variables
 pub mod LocalStops
 pub mod DeclarationStops
+pub mod LabelStops
+pub mod JumpFaults
+pub mod StatementStops

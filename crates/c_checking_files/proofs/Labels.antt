@@ -130,7 +130,7 @@ AreLabelsInRange (Trees.case at a colon ∷ more) = IsInRange a × AreLabelsInRa
 AreLabelsInRange (Trees.default at colon ∷ more) = AreLabelsInRange more
 
 module _ (untagged : ℕ → List ℕ) (f : FileScope) where
-  constant_as : (a : Trees.Expression) (s : Scope) → IsInRange a → IsWithin untagged f s → (z : (IntKind × ℕ) × FileScope)
+  pub constant_as : (a : Trees.Expression) (s : Scope) → IsInRange a → IsWithin untagged f s → (z : (IntKind × ℕ) × FileScope)
       → constant_at (first a) (value_at (first a) (find a (for_value s))) ≡ Ok z
       → FoundAs untagged f s (spoken a) [] (λ c. IsConstant (Erases a) c z.0.0 z.0.1) [] (moved s z.1)
   constant_as a s n w z h =
