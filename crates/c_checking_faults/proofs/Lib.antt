@@ -11,4 +11,6 @@ pub mod LocalStops
 pub mod DeclarationStops
 pub mod LabelStops
 pub mod JumpFaults
+pub mod StatementTimely
+pub mod BlockStops
 pub mod StatementStops

@@ -1,437 +1,253 @@
 -- Where a statement stops, the rule that the fault names is broken, in the file as it stands there and with the locals up to there (C99 6.8).
-use Rattle.std.proofs.Common.{◌≡◌, ℕ, ◌≤◌, Bool, true, false, refl, ◌∙◌, subst, List, [], ◌++◌, length, inl, inr, arith}
-use Rattle.std.specs.Prelude.{◌⊎◌, ◌||◌, Option, Some, None, Ok, Err}
+use Rattle.std.proofs.Common.{◌≡◌, ℕ, ◌≤◌, Bool, true, refl, subst, List, [], ◌++◌, length, inl, inr, arith}
+use Rattle.std.specs.Prelude.{◌⊎◌, ◌||◌, Some, None, Err}
 use Rattle.c_types.specs.declared.ty.IntKind.{IntKind}
 use Rattle.c_types.specs.Types.{CType}
 use Rattle.c_ast.specs.Trees
-use Rattle.c_ast.specs.Places.{first, first_specifiers}
+use Rattle.c_ast.specs.Places.{first}
 use Rattle.c_typed.specs.Trees as Typed
 use Rattle.c_typed.specs.Conversions.{as_kind}
 use Rattle.c_erasure.specs.Broken.{Fault, IsBroken, HasNoValue}
-use Rattle.c_erasure.specs.BrokenStatements.{IsAmong, Labels, no_labels, IsBrokenDeclaration, IsBrokenIfAny, IsNoCondition, IsNoTest, IsBrokenStart}
-use Rattle.c_erasure.specs.BrokenStatements.{AreBrokenLabels, IsBrokenStatement, IsBrokenItem, AreBrokenItems, IsBrokenSwitchItem, AreBrokenSwitchItems}
-use Rattle.c_erasure.specs.Literals.{literals, literals_if_any, made_by_start, made_by, made_by_item, made_by_items, made_by_switch_item, made_by_switch_items}
-use Rattle.c_erasure.specs.Noted.{Expression}
-use Rattle.c_erasure.specs.Scopes.{ALocal, FileScope, Scope, inside, declared}
-use Rattle.c_erasure.specs.Specifiers.{storage_of}
-use Rattle.c_erasure.specs.Statements.{Statements, IsStart}
+use Rattle.c_erasure.specs.BrokenStatements.{IsAmong, Labels, no_labels, IsBrokenDeclaration, IsNoCondition}
+use Rattle.c_erasure.specs.BrokenStatements.{AreBrokenLabels, IsBrokenItem, AreBrokenItems, IsBrokenSwitchItem, AreBrokenSwitchItems}
+use Rattle.c_erasure.specs.Literals.{literals, made_by, made_by_item, made_by_items, made_by_switch_item, made_by_switch_items}
+use Rattle.c_erasure.specs.Scopes.{FileScope, Scope, inside, declared}
 use Rattle.c_checking.specs.Answers.{moved}
-use Rattle.c_checking.specs.Statements.{in_scope, value_of_expression, value_if_any, condition, condition_if_any, start_of, local_declaration}
+use Rattle.c_checking.specs.Statements.{in_scope, value_of_expression, condition, local_declaration}
 use Rattle.c_checking.specs.Statements.{labels_in, Found, switched_in, jump, returned_in, returned_nothing, performed, item_in, items_in, switch_items, switch_item}
-use Rattle.c_checking.proofs.InRange.{IsInRange}
 use Rattle.c_checking.proofs.Results.{bound_ok, given}
 use Rattle.c_checking.proofs.FaultParts.{value_is}
 use Rattle.c_checking.proofs.FaultResults.{bound_err}
 use Rattle.c_checking_files.proofs.Labels.{labels_found}
 use Rattle.c_checking_files.proofs.Longer.{seen}
-use Rattle.c_checking_files.proofs.Scoped.{then_in}
-use Rattle.c_checking_files.proofs.StatementLaws.{IsStartInRange, IsStatementInRange, IsItemInRange, AreItemsInRange, IsSwitchItemInRange, AreSwitchItemsInRange}
-use Rattle.c_checking_files.proofs.StatementParts.{same_seen, then_as, inside_within, value_as, IsConditionThere, condition_as, switched_keeps}
-use Rattle.c_checking_files.proofs.Statements.{test_as, effect_as, IsStartFound, start_found, IsStatementThere, sound_statement, sound_item, sound_switch_item}
+use Rattle.c_checking_files.proofs.StatementLaws.{IsStatementInRange, IsItemInRange, AreItemsInRange, IsSwitchItemInRange, AreSwitchItemsInRange}
+use Rattle.c_checking_files.proofs.StatementParts.{same_seen, then_as, value_as, IsConditionThere, condition_as, switched_keeps}
+use Rattle.c_checking_files.proofs.Statements.{IsStatementThere, sound_statement, sound_item, sound_switch_item}
 use Rattle.c_checking_faults.proofs.Clear.{among_left, AreFresh, fresh_left}
 use Rattle.c_checking_faults.proofs.DeclaredLocals.{objects_declared, objects_declared_by}
-use Rattle.c_checking_faults.proofs.DeclarationStops.{IsDeclarationTimely, declaration_stops}
-use Rattle.c_checking_faults.proofs.JumpFaults.{jump_fault, nothing_fault, void_fault, returned_fault, static_fault, switched_fault, switched_promotes}
-use Rattle.c_checking_faults.proofs.LabelStops.{AreLabelsTimely, labels_stop, more_items, among_pushed}
+use Rattle.c_checking_faults.proofs.DeclarationStops.{declaration_stops}
+use Rattle.c_checking_faults.proofs.JumpFaults.{jump_fault, nothing_fault, void_fault, returned_fault, switched_fault, switched_promotes}
+use Rattle.c_checking_faults.proofs.LabelStops.{labels_stop, more_items, among_pushed}
 use Rattle.c_checking_faults.proofs.Stopped.{Stopped, stopped_here, stopped_more, IsIn, stopped_later, fresh_later, in_later, in_same}
-use Rattle.c_checking_faults.proofs.ValueStops.{IsTimelyThere, IsTimelyIfAny, value_stops, value_there, condition_stops, test_stops, effect_stops}
+use Rattle.c_checking_faults.proofs.ValueStops.{value_stops, value_there, condition_stops}
+use Rattle.c_checking_faults.proofs.StatementTimely.{IsStatementTimely, IsItemTimely, AreItemsTimely, IsSwitchItemTimely, AreSwitchItemsTimely}
+use Rattle.c_checking_faults.proofs.BlockStops.{inside_in, block_stops, StatementIsBroken, behind_condition, value_of_switch, value_of_return, for_stops}
 
-module _ (untagged : ℕ → List ℕ) (ends : List ℕ) (f : FileScope) where
-  -- ---- records are known where a statement asks for them
+module _ (untagged : ℕ → List ℕ) (ends : List ℕ) (f : FileScope) (result : CType) where
+  mutual
+    unfolding performed item_in items_in switch_items switch_item
 
-  abbrev pub IsStartTimely : Trees.ForStart → Type 0
-  IsStartTimely (Trees.starts_with a semicolon) = IsTimelyIfAny untagged ends f a
-  IsStartTimely (Trees.declares d) = IsDeclarationTimely untagged ends f d
+    pub statement_stops : (a : Trees.Statement) (s : Scope) (loop switch : Bool) → IsIn untagged ends f s → IsStatementInRange f.ends (length f.records) a
+        → IsStatementTimely untagged ends f a → AreFresh s.file (made_by a) → (fault : Fault) → performed result a s loop switch ≡ Err fault
+        → Stopped (made_by a) s (StatementIsBroken result a loop switch fault)
+    statement_stops (Trees.block from items to) s loop switch p n t fresh fault h =
+        let k = made_by_items items in
+        let Is = StatementIsBroken result (Trees.block from items to) loop switch fault in
+        bound_err (items_in result items (inside s) loop switch) _ fault (Stopped k s Is) h
+        (λ e. block_stops untagged ends f s (λ s. AreBrokenItems result items s loop switch fault) Is (λ s b. b)
+        (items_stop items (inside s) loop switch (inside_in untagged ends f s p) n t fresh fault e))
+        (λ b e h. cc)
+    statement_stops (Trees.evaluate None semicolon) s loop switch p n t fresh fault h = cc
+    statement_stops (Trees.evaluate (Some a) semicolon) s loop switch p n t fresh fault h =
+        bound_err (value_of_expression a s) _ fault (Stopped (literals a) s (StatementIsBroken result (Trees.evaluate (Some a) semicolon) loop switch fault)) h
+        (λ e. value_stops untagged ends f a s p n t fault e) (λ x e h. cc)
+    statement_stops (Trees.when at from a to one) s loop switch p n t fresh fault h =
+        let k = literals a in
+        let l = made_by one in
+        let Is = StatementIsBroken result (Trees.when at from a to one) loop switch fault in
+        bound_err (condition a s) _ fault (Stopped (k ++ l) s Is) h
+        (λ e. stopped_more (λ s. IsNoCondition a s fault) Is (among_left k l) (λ s b. inl b)
+        (condition_stops untagged ends f a s p n.0 t.0 (fresh_left k l fresh) fault e))
+        (λ x e h. bound_err (performed result one x.1 loop switch) _ fault (Stopped (k ++ l) s Is) h
+        (λ j. behind_condition untagged ends f result a s l p n.0 fresh x e Is (StatementIsBroken result one loop switch fault) (λ s b. inr b)
+        (λ q clear. statement_stops one x.1 loop switch q n.1 t.1 clear fault j))
+        (λ b e h. cc))
+    statement_stops (Trees.choose at from a to one middle other) s loop switch p n t fresh fault h =
+        let k = literals a in
+        let l = made_by one in
+        let m = made_by other in
+        let Is = StatementIsBroken result (Trees.choose at from a to one middle other) loop switch fault in
+        let first_two = fresh_left (k ++ l) m fresh in
+        bound_err (condition a s) _ fault (Stopped (k ++ l ++ m) s Is) h
+        (λ e. stopped_more (λ s. IsNoCondition a s fault) Is (λ x i. among_left (k ++ l) m x (among_left k l x i)) (λ s b. inl b)
+        (condition_stops untagged ends f a s p n.0 t.0 (fresh_left k l first_two) fault e))
+        (λ x e h.
+        let v = condition_as untagged f a s n.0 p.within x e in
+        let q = in_same untagged ends f s _ _ _ _ _ v.found p (fresh_left k l first_two) refl in
+        let clear = fresh_later untagged ends f s _ _ _ _ _ v.found l first_two in
+        bound_err (performed result one x.1 loop switch) _ fault (Stopped (k ++ l ++ m) s Is) h
+        (λ j. stopped_more (StatementIsBroken result one loop switch fault) Is (among_left (k ++ l) m) (λ s b. inr (inl b))
+        (behind_condition untagged ends f result a s l p n.0 first_two x e (StatementIsBroken result one loop switch fault) (StatementIsBroken result one loop switch fault) (λ s b. b)
+        (λ q clear. statement_stops one x.1 loop switch q n.1 t.1 clear fault j)))
+        (λ b j h.
+        let u = sound_statement untagged f result one x.1 loop switch n.1 q.within b j in
+        let both = then_as untagged f s x.1 b.1 _ _ _ _ (IsConditionThere untagged f a x.0) (IsStatementThere untagged f result one loop switch b.0)
+        (IsStatementThere untagged f result one loop switch b.0) _ _ v u (λ c y z. z) in
+        let last = in_later untagged ends f s _ _ _ _ _ both.found p first_two
+        (λ is i w t g. objects_declared (declared (seen s b.1.file b.1.locals)) result loop switch b.0 is.1 i w t g) in
+        bound_err (performed result other b.1 loop switch) _ fault (Stopped (k ++ l ++ m) s Is) h
+        (λ o. stopped_later untagged ends f s _ _ _ _ _ both.found p m fresh Is (StatementIsBroken result other loop switch fault)
+        (λ g w c y. inr (inr (subst (StatementIsBroken result other loop switch fault) (same_seen untagged f s b.1 both.stays g w) y)))
+        (statement_stops other b.1 loop switch last n.2 t.2 (fresh_later untagged ends f s _ _ _ _ _ both.found m fresh) fault o))
+        (λ d e h. cc)))
+    statement_stops (Trees.while at from a to body) s loop switch p n t fresh fault h =
+        let k = literals a in
+        let l = made_by body in
+        let Is = StatementIsBroken result (Trees.while at from a to body) loop switch fault in
+        bound_err (condition a s) _ fault (Stopped (k ++ l) s Is) h
+        (λ e. stopped_more (λ s. IsNoCondition a s fault) Is (among_left k l) (λ s b. inl b)
+        (condition_stops untagged ends f a s p n.0 t.0 (fresh_left k l fresh) fault e))
+        (λ x e h. bound_err (performed result body x.1 true switch) _ fault (Stopped (k ++ l) s Is) h
+        (λ j. behind_condition untagged ends f result a s l p n.0 fresh x e Is (StatementIsBroken result body true switch fault) (λ s b. inr b)
+        (λ q clear. statement_stops body x.1 true switch q n.1 t.1 clear fault j))
+        (λ b e h. cc))
+    statement_stops (Trees.do_while at body word from a to semicolon) s loop switch p n t fresh fault h =
+        let k = made_by body in
+        let l = literals a in
+        let Is = StatementIsBroken result (Trees.do_while at body word from a to semicolon) loop switch fault in
+        bound_err (performed result body s true switch) _ fault (Stopped (k ++ l) s Is) h
+        (λ e. stopped_more (StatementIsBroken result body true switch fault) Is (among_left k l) (λ s b. inl b)
+        (statement_stops body s true switch p n.1 t.1 (fresh_left k l fresh) fault e))
+        (λ b e h.
+        let u = sound_statement untagged f result body s true switch n.1 p.within b e in
+        let q = in_later untagged ends f s _ _ _ _ _ u.found p (fresh_left k l fresh)
+        (λ is i w t g. objects_declared (declared (seen s b.1.file b.1.locals)) result true switch b.0 is.1 i w t g) in
+        bound_err (condition a b.1) _ fault (Stopped (k ++ l) s Is) h
+        (λ j. stopped_later untagged ends f s _ _ _ _ _ u.found p l fresh Is (λ s. IsNoCondition a s fault)
+        (λ g w c y. inr (subst (λ s. IsNoCondition a s fault) (same_seen untagged f s b.1 u.stays g w) y))
+        (condition_stops untagged ends f a b.1 q n.0 t.0 (fresh_later untagged ends f s _ _ _ _ _ u.found l fresh) fault j))
+        (λ x e h. cc))
+    statement_stops (Trees.for at from start test semicolon step to body) s loop switch p n t fresh fault h =
+        for_stops untagged ends f result at from start test semicolon step to body s loop switch p n t fresh fault h
+        (λ c q clear e. statement_stops body c true switch q n.3 t.3 clear fault e)
+    statement_stops (Trees.switch at from a to begin items end) s loop switch p n t fresh fault h =
+        let k = literals a in
+        let l = made_by_switch_items items in
+        let Is = StatementIsBroken result (Trees.switch at from a to begin items end) loop switch fault in
+        bound_err (value_of_expression a s) _ fault (Stopped (k ++ l) s Is) h
+        (λ e. stopped_more (λ s. IsBroken a s fault ⊎ HasNoValue a s fault) Is (among_left k l)
+        (λ s b. value_of_switch untagged ends f result at from a to begin items end s loop switch fault b)
+        (value_stops untagged ends f a s p n.0 t.0 fault e))
+        (λ x e h. bound_err (switched_in (first a) x.0) _ fault (Stopped (k ++ l) s Is) h
+        (λ j.
+        let m = switched_fault (first a) x.0 fault j in
+        stopped_more Is Is (among_left k l) (λ s b. b)
+        (value_there untagged ends f a s p n.0 (fresh_left k l fresh) x e Is (λ s v. inr (inr (inl (m.0, (x.0, v, m.1)))))))
+        (λ y j h.
+        let v = value_as untagged f a s n.0 p.within x e in
+        let q = in_same untagged ends f s _ _ _ _ _ v.found p (fresh_left k l fresh) refl in
+        let Js = λ (s : Scope). AreBrokenSwitchItems result items s loop y.1 no_labels fault in
+        bound_err (switch_items result items (inside x.1) loop y.1 no_labels) _ fault (Stopped (k ++ l) s Is) h
+        (λ o. stopped_later untagged ends f s _ _ _ _ _ v.found p l fresh Is (λ s. Js (inside s))
+        (λ g w is b. inr (inr (inr (y.1, (x.0, value_is a (seen s g w) x.0 is, switched_promotes (first a) x.0 y j),
+        subst (λ s. Js (inside s)) (same_seen untagged f s x.1 v.stays g w) b))))
+        (block_stops untagged ends f x.1 Js (λ s. Js (inside s)) (λ s b. b)
+        (switch_items_stop items (inside x.1) loop y.1 (switched_keeps (first a) x.0 y j) no_labels (omega arith) (inside_in untagged ends f x.1 q) n.1 t.1
+        (fresh_later untagged ends f s _ _ _ _ _ v.found l fresh) fault o)))
+        (λ b e h. cc)))
+    statement_stops (Trees.break at semicolon) s loop switch p n t fresh fault h =
+        let Is = StatementIsBroken result (Trees.break at semicolon) loop switch fault in
+        bound_err (jump at (loop || switch) Typed.break) _ fault (Stopped [] s Is) h
+        (λ e. stopped_here [] s Is (jump_fault at (loop || switch) Typed.break fault e)) (λ x e h. cc)
+    statement_stops (Trees.continue at semicolon) s loop switch p n t fresh fault h =
+        let Is = StatementIsBroken result (Trees.continue at semicolon) loop switch fault in
+        bound_err (jump at loop Typed.continue) _ fault (Stopped [] s Is) h
+        (λ e. stopped_here [] s Is (jump_fault at loop Typed.continue fault e)) (λ x e h. cc)
+    statement_stops (Trees.return at None semicolon) s loop switch p n t fresh fault h =
+        let Is = StatementIsBroken result (Trees.return at None semicolon) loop switch fault in
+        bound_err (returned_nothing at result) _ fault (Stopped [] s Is) h
+        (λ e. stopped_here [] s Is (nothing_fault at result fault e)) (λ x e h. cc)
+    statement_stops (Trees.return at (Some a) semicolon) s loop switch p n t fresh fault h =
+        let k = literals a in
+        let Is = StatementIsBroken result (Trees.return at (Some a) semicolon) loop switch fault in
+        void_fault at result _ fault (Stopped k s Is) h
+        (λ b. stopped_here k s Is (inr (inr (inl b))))
+        (λ given_one h. bound_err (value_of_expression a s) _ fault (Stopped k s Is) h
+        (λ e. stopped_more (λ s. IsBroken a s fault ⊎ HasNoValue a s fault) Is (λ x i. i)
+        (λ s b. value_of_return untagged ends f result at a semicolon s loop switch fault b) (value_stops untagged ends f a s p n t fault e))
+        (λ x e h. bound_err (returned_in at result x.0) _ fault (Stopped k s Is) h
+        (λ j.
+        let m = returned_fault at result x.0 fault j in
+        value_there untagged ends f a s p n fresh x e Is (λ s v. inr (inr (inr (m.0, given_one, (x.0, v, m.1))))))
+        (λ y e h. cc)))
 
-  abbrev mutual
-    pub IsStatementTimely : Trees.Statement → Type 0
-    IsStatementTimely (Trees.block left items right) = AreItemsTimely items
-    IsStatementTimely (Trees.evaluate a semicolon) = IsTimelyIfAny untagged ends f a
-    IsStatementTimely (Trees.when at left a right one) = IsTimelyThere untagged ends f a × IsStatementTimely one
-    IsStatementTimely (Trees.choose at left a right one middle other) = IsTimelyThere untagged ends f a × IsStatementTimely one × IsStatementTimely other
-    IsStatementTimely (Trees.while at left a right body) = IsTimelyThere untagged ends f a × IsStatementTimely body
-    IsStatementTimely (Trees.do_while at body while left a right semicolon) = IsTimelyThere untagged ends f a × IsStatementTimely body
-    IsStatementTimely (Trees.for at left start test semicolon step right body) = IsStartTimely start × IsTimelyIfAny untagged ends f test
-        × IsTimelyIfAny untagged ends f step × IsStatementTimely body
-    IsStatementTimely (Trees.switch at left a right begin items end) = IsTimelyThere untagged ends f a × AreSwitchItemsTimely items
-    IsStatementTimely (Trees.break at semicolon) = Unit {0}
-    IsStatementTimely (Trees.continue at semicolon) = Unit {0}
-    IsStatementTimely (Trees.return at a semicolon) = IsTimelyIfAny untagged ends f a
+    pub item_stops : (e : Trees.BlockItem) (s : Scope) (loop switch : Bool) → IsIn untagged ends f s → IsItemInRange f.ends (length f.records) e
+        → IsItemTimely untagged ends f e → AreFresh s.file (made_by_item e) → (fault : Fault) → item_in result e s loop switch ≡ Err fault
+        → Stopped (made_by_item e) s (λ s. IsBrokenItem result e s loop switch fault)
+    item_stops (Trees.local d) s loop switch p n t fresh fault h = declaration_stops untagged ends f d s p n t fresh fault h
+    item_stops (Trees.statement a) s loop switch p n t fresh fault h =
+        bound_err (performed result a s loop switch) _ fault (Stopped (made_by a) s (StatementIsBroken result a loop switch fault)) h
+        (λ e. statement_stops a s loop switch p n t fresh fault e) (λ st e h. cc)
 
-    pub IsItemTimely : Trees.BlockItem → Type 0
-    IsItemTimely (Trees.local d) = IsDeclarationTimely untagged ends f d
-    IsItemTimely (Trees.statement a) = IsStatementTimely a
+    pub items_stop : (items : Trees.BlockItems) (s : Scope) (loop switch : Bool) → IsIn untagged ends f s → AreItemsInRange f.ends (length f.records) items
+        → AreItemsTimely untagged ends f items → AreFresh s.file (made_by_items items) → (fault : Fault) → items_in result items s loop switch ≡ Err fault
+        → Stopped (made_by_items items) s (λ s. AreBrokenItems result items s loop switch fault)
+    items_stop Trees.no_block_items s loop switch p n t fresh fault h = cc
+    items_stop (Trees.and_block_item e more) s loop switch p n t fresh fault h =
+        let k = made_by_item e in
+        let l = made_by_items more in
+        let Is = λ (s : Scope). AreBrokenItems result (Trees.and_block_item e more) s loop switch fault in
+        bound_err (item_in result e s loop switch) _ fault (Stopped (k ++ l) s Is) h
+        (λ j. stopped_more (λ s. IsBrokenItem result e s loop switch fault) Is (among_left k l) (λ s b. inl b)
+        (item_stops e s loop switch p n.0 t.0 (fresh_left k l fresh) fault j))
+        (λ own j h.
+        let v = sound_item untagged f result e s loop switch n.0 p.within own j in
+        let q = in_later untagged ends f s _ _ _ _ _ v p (fresh_left k l fresh)
+        (λ is i w t g. objects_declared_by (declared (seen s own.1.file own.1.locals)) result loop switch own.0 is.is_typed i w t g) in
+        bound_err (items_in result more own.1 loop switch) _ fault (Stopped (k ++ l) s Is) h
+        (λ o. stopped_later untagged ends f s _ _ _ _ _ v p l fresh Is (λ s. AreBrokenItems result more s loop switch fault)
+        (λ g w is b. inr (own.0, seen own.1 g w, is.erases, b))
+        (items_stop more own.1 loop switch q n.1 t.1 (fresh_later untagged ends f s _ _ _ _ _ v l fresh) fault o))
+        (λ rest e h. cc))
 
-    pub AreItemsTimely : Trees.BlockItems → Type 0
-    AreItemsTimely Trees.no_block_items = Unit {0}
-    AreItemsTimely (Trees.and_block_item e more) = IsItemTimely e × AreItemsTimely more
+    pub switch_items_stop : (items : Trees.SwitchItems) (s : Scope) (loop : Bool) (kind : IntKind) → ((v : ℕ) → as_kind kind (as_kind kind v) ≡ as_kind kind v)
+        → (before : Labels) → before.defaults ≤ 1 → IsIn untagged ends f s → AreSwitchItemsInRange f.ends (length f.records) items
+        → AreSwitchItemsTimely untagged ends f items → AreFresh s.file (made_by_switch_items items) → (fault : Fault) → switch_items result items s loop kind before ≡ Err fault
+        → Stopped (made_by_switch_items items) s (λ s. AreBrokenSwitchItems result items s loop kind before fault)
+    switch_items_stop Trees.no_switch_items s loop kind keeps before few p n t fresh fault h = cc
+    switch_items_stop (Trees.and_switch_item item more) s loop kind keeps before few p n t fresh fault h =
+        let k = made_by_switch_item item in
+        let l = made_by_switch_items more in
+        let Is = λ (s : Scope). AreBrokenSwitchItems result (Trees.and_switch_item item more) s loop kind before fault in
+        bound_err (switch_item result item s loop kind before) _ fault (Stopped (k ++ l) s Is) h
+        (λ j. stopped_more (λ s. IsBrokenSwitchItem result item s loop kind before fault) Is (among_left k l) (λ s b. inl b)
+        (switch_item_stops item s loop kind keeps before p n.0 t.0 (fresh_left k l fresh) fault j))
+        (λ own j h.
+        let v = sound_switch_item untagged f result item s loop kind keeps before n.0 p.within own j in
+        let q = in_later untagged ends f s _ _ _ _ _ v.found p (fresh_left k l fresh)
+        (λ is i w t g. objects_declared_by (declared (seen s own.1.file own.1.locals)) result loop true own.0.0 is.is_typed i w t g) in
+        bound_err (switch_items result more own.1 loop kind own.0.1.all) _ fault (Stopped (k ++ l) s Is) h
+        (λ o. stopped_later untagged ends f s _ _ _ _ _ v.found p l fresh Is (λ s. AreBrokenSwitchItems result more s loop kind own.0.1.all fault)
+        (λ g w is b. inr (own.0.1.cases, own.0.1.defaults, own.0.0, seen own.1 g w, is.erases,
+        more_items result more (seen own.1 g w) loop kind own.0.1.all _
+        ((λ x i. among_pushed before.cases own.0.1.cases x (subst (λ all. IsAmong all x) v.counted.pushed_are i)),
+        (let c = v.counted.counted in omega (arith, c))) fault b))
+        (switch_items_stop more own.1 loop kind keeps own.0.1.all (v.counted.bounded few) q n.1 t.1
+        (fresh_later untagged ends f s _ _ _ _ _ v.found l fresh) fault o))
+        (λ rest e h. cc))
 
-    pub IsSwitchItemTimely : Trees.SwitchItem → Type 0
-    IsSwitchItemTimely (Trees.local_switch_item d) = IsDeclarationTimely untagged ends f d
-    IsSwitchItemTimely (Trees.labelled labels a) = AreLabelsTimely untagged ends f labels × IsStatementTimely a
-
-    pub AreSwitchItemsTimely : Trees.SwitchItems → Type 0
-    AreSwitchItemsTimely Trees.no_switch_items = Unit {0}
-    AreSwitchItemsTimely (Trees.and_switch_item item more) = IsSwitchItemTimely item × AreSwitchItemsTimely more
-
-  -- ---- blocks
-
-  pub inside_in : (s : Scope) → IsIn untagged ends f s → IsIn untagged ends f (inside s)
-  inside_in s p = record {
-    within = inside_within untagged f s p.within;
-    ends_are = p.ends_are;
-    steady = p.steady;
-    orderly = p.orderly;
-    locals_are = p.locals_are;
-    laid = p.laid;
-  }
-
-  -- what stops in a block stops in the scope around it
-  block_stops : {k : List ℕ} (s : Scope) (Is Js : Scope → Type 0) → ((s : Scope) → Is (inside s) → Js s) → Stopped k (inside s) Is → Stopped k s Js
-  block_stops s Is Js is b = record {
-    file = b.file;
-    locals = b.locals;
-    reaches = b.reaches;
-    goes = b.goes;
-    is = is (seen s b.file b.locals) b.is;
-  }
-
-  -- ---- what stands first in a `for`
-
-  start_stops : (start : Trees.ForStart) (s : Scope) → IsIn untagged ends f s → IsStartInRange f.ends (length f.records) start → IsStartTimely start
-      → AreFresh s.file (made_by_start start) → (fault : Fault) → start_of start s ≡ Err fault
-      → Stopped (made_by_start start) s (λ s. IsBrokenStart start s fault)
-  start_stops (Trees.starts_with None semicolon) s p n t fresh fault h = cc
-  start_stops (Trees.starts_with (Some a) semicolon) s p n t fresh fault h =
-      bound_err (value_of_expression a s) _ fault (Stopped (literals a) s (λ s. IsBroken a s fault ⊎ HasNoValue a s fault)) h
-      (λ e. value_stops untagged ends f a s p n t fault e) (λ x e h. cc)
-  start_stops (Trees.declares d) s p n t fresh fault h =
-      let k = made_by_start (Trees.declares d) in
-      let Is = λ (s : Scope). IsBrokenStart (Trees.declares d) s fault in
-      static_fault (first_specifiers d.specs) (storage_of d.specs) (local_declaration d s) fault (Stopped k s Is) h
-      (λ b. stopped_here k s Is (inr b))
-      (λ e. stopped_more (λ s. IsBrokenDeclaration d s fault) Is (λ x m. m) (λ s b. inl b) (declaration_stops untagged ends f d s p n t fresh fault e))
-
-  module _ (result : CType) where
-    -- ---- one lemma for each statement with parts of its own
-
-    abbrev StatementIsBroken : Trees.Statement → Bool → Bool → Fault → Scope → Type 0
-    StatementIsBroken a loop switch fault s = IsBrokenStatement result a s loop switch fault
-
-    -- a statement behind a condition
-    behind_condition : (a : Trees.Expression) (s : Scope) (l : List ℕ) → IsIn untagged ends f s → IsInRange a
-        → AreFresh s.file (literals a ++ l) → (x : Expression × Scope) → condition a s ≡ Ok x → (Is Js : Scope → Type 0) → ((s : Scope) → Js s → Is s)
-        → (IsIn untagged ends f x.1 → AreFresh x.1.file l → Stopped l x.1 Js) → Stopped (literals a ++ l) s Is
-    behind_condition a s l p i fresh x e Is Js is stops =
-        let v = condition_as untagged f a s i p.within x e in
-        stopped_later untagged ends f s _ _ _ _ _ v.found p l fresh Is Js
-        (λ g k c b. is (seen s g k) (subst Js (same_seen untagged f s x.1 v.stays g k) b))
-        (stops (in_same untagged ends f s _ _ _ _ _ v.found p (fresh_left (literals a) l fresh) refl)
-        (fresh_later untagged ends f s _ _ _ _ _ v.found l fresh))
-
-    -- what is broken in the scope that what stands first leaves
-    abbrev InStart : Trees.ForStart → Statements → (Scope → Type 0) → Scope → Type 0
-    InStart start all Is s = (after : Scope) × IsStart start s all after × Is after
-
-    abbrev IsNoTestOf : Trees.ForStart → Statements → Option Trees.Expression → Fault → Scope → Type 0
-    IsNoTestOf start all test fault s = InStart start all (λ s. IsNoTest test s fault) s
-
-    abbrev IsNoStepOf : Trees.ForStart → Statements → Option Trees.Expression → Fault → Scope → Type 0
-    IsNoStepOf start all step fault s = InStart start all (λ s. IsBrokenIfAny step s fault) s
-
-    abbrev IsNoBodyOf : Trees.ForStart → Statements → Trees.Statement → Bool → Fault → Scope → Type 0
-    IsNoBodyOf start all body switch fault s = InStart start all (StatementIsBroken body true switch fault) s
-
-    value_of_switch : (at from : ℕ) (a : Trees.Expression) (to begin : ℕ) (items : Trees.SwitchItems) (end : ℕ) (s : Scope) (loop switch : Bool) (fault : Fault)
-        → IsBroken a s fault ⊎ HasNoValue a s fault → StatementIsBroken (Trees.switch at from a to begin items end) loop switch fault s
-    value_of_switch at from a to begin items end s loop switch fault (inl b) = inl b
-    value_of_switch at from a to begin items end s loop switch fault (inr b) = inr (inl b)
-
-    value_of_return : (at : ℕ) (a : Trees.Expression) (semicolon : ℕ) (s : Scope) (loop switch : Bool) (fault : Fault)
-        → IsBroken a s fault ⊎ HasNoValue a s fault → StatementIsBroken (Trees.return at (Some a) semicolon) loop switch fault s
-    value_of_return at a semicolon s loop switch fault (inl b) = inl b
-    value_of_return at a semicolon s loop switch fault (inr b) = inr (inl b)
-
-    -- `for`: its body is read in the scope of what stands first
-    for_stops : (at from : ℕ) (start : Trees.ForStart) (test : Option Trees.Expression) (semicolon : ℕ) (step : Option Trees.Expression) (to : ℕ)
-        (body : Trees.Statement) (s : Scope) (loop switch : Bool) → IsIn untagged ends f s
-        → IsStatementInRange f.ends (length f.records) (Trees.for at from start test semicolon step to body)
-        → IsStatementTimely (Trees.for at from start test semicolon step to body)
-        → AreFresh s.file (made_by (Trees.for at from start test semicolon step to body)) → (fault : Fault)
-        → performed result (Trees.for at from start test semicolon step to body) s loop switch ≡ Err fault
-        → ((c : Scope) → IsIn untagged ends f c → AreFresh c.file (made_by body) → performed result body c true switch ≡ Err fault
-        → Stopped (made_by body) c (StatementIsBroken body true switch fault))
-        → Stopped (made_by (Trees.for at from start test semicolon step to body)) s
-        (StatementIsBroken (Trees.for at from start test semicolon step to body) loop switch fault)
-    unfolding performed
-    for_stops at from start test semicolon step to body s loop switch p n t fresh fault h in_body =
-        let w = made_by_start start in
-        let x = literals_if_any test in
-        let y = literals_if_any step in
-        let z = made_by body in
-        let k = w ++ x ++ y ++ z in
-        let Is = StatementIsBroken (Trees.for at from start test semicolon step to body) loop switch fault in
-        let i = inside_in s p in
-        let three = fresh_left (w ++ x ++ y) z fresh in
-        let two = fresh_left (w ++ x) y three in
-        bound_err (start_of start (inside s)) _ fault (Stopped k s Is) h
-        (λ e. block_stops s (λ s. IsBrokenStart start s fault) Is (λ s b. inl b)
-        (stopped_more (λ s. IsBrokenStart start s fault) (λ s. IsBrokenStart start s fault)
-        (λ v m. among_left (w ++ x ++ y) z v (among_left (w ++ x) y v (among_left w x v m))) (λ s b. b)
-        (start_stops start (inside s) i n.0 t.0 (fresh_left w x two) fault e)))
-        (λ all e h.
-        let u = start_found untagged f result start (inside s) n.0 i.within all e in
-        let a = in_later untagged ends f (inside s) _ _ _ _ _ u i (fresh_left w x two)
-        (λ is m v t g. objects_declared_by (declared (seen (inside s) all.1.file all.1.locals)) result false false all.0 is.is_typed m v t g) in
-        let in_test = fresh_later untagged ends f (inside s) _ _ _ _ _ u x two in
-        bound_err (condition_if_any test all.1) _ fault (Stopped k s Is) h
-        (λ e. block_stops s (λ s. IsNoTestOf start all.0 test fault s) Is (λ s b. inr (all.0, b.0, b.1, inl b.2))
-        (stopped_more (λ s. IsNoTestOf start all.0 test fault s) (λ s. IsNoTestOf start all.0 test fault s)
-        (λ v m. among_left (w ++ x ++ y) z v (among_left (w ++ x) y v m)) (λ s b. b)
-        (stopped_later untagged ends f (inside s) _ _ _ _ _ u i x two (λ s. IsNoTestOf start all.0 test fault s) (λ s. IsNoTest test s fault)
-        (λ g l is b. (seen all.1 g l, is.starts, b))
-        (test_stops untagged ends f test all.1 a n.1 t.1 in_test fault e))))
-        (λ first_test e h.
-        let v = test_as untagged f test all.1 n.1 a.within first_test e in
-        let b = in_same untagged ends f all.1 _ _ _ _ _ v.found a in_test refl in
-        let one = then_in untagged f (inside s) all.1 first_test.1 _ _ _ _ _ _ (IsStartFound untagged f start result (inside s) all.0 all.1) _ _ u v.found
-        (λ g l ex laid goes is js. is) in
-        let in_step = fresh_later untagged ends f (inside s) _ _ _ _ _ one y three in
-        let here = λ (g : FileScope) (l : List ALocal). same_seen untagged f all.1 first_test.1 v.stays g l in
-        bound_err (value_if_any step first_test.1) _ fault (Stopped k s Is) h
-        (λ e. block_stops s (λ s. IsNoStepOf start all.0 step fault s) Is (λ s b. inr (all.0, b.0, b.1, inr (inl b.2)))
-        (stopped_more (λ s. IsNoStepOf start all.0 step fault s) (λ s. IsNoStepOf start all.0 step fault s) (among_left (w ++ x ++ y) z) (λ s b. b)
-        (stopped_later untagged ends f (inside s) _ _ _ _ _ one i y three (λ s. IsNoStepOf start all.0 step fault s) (λ s. IsBrokenIfAny step s fault)
-        (λ g l is b. (seen all.1 g l, is.starts, subst (λ s. IsBrokenIfAny step s fault) (here g l) b))
-        (effect_stops untagged ends f step first_test.1 b n.2 t.2 fault e))))
-        (λ last_step e h.
-        let d = effect_as untagged f step first_test.1 n.2 b.within last_step e in
-        let c = in_same untagged ends f first_test.1 _ _ _ _ _ d.found b in_step refl in
-        let both = then_in untagged f (inside s) first_test.1 last_step.1 _ _ _ _ _ _ (IsStartFound untagged f start result (inside s) all.0 all.1) _ _ one d.found
-        (λ g l ex laid goes is js. is) in
-        bound_err (performed result body last_step.1 true switch) _ fault (Stopped k s Is) h
-        (λ e. block_stops s (λ s. IsNoBodyOf start all.0 body switch fault s) Is (λ s b. inr (all.0, b.0, b.1, inr (inr b.2)))
-        (stopped_later untagged ends f (inside s) _ _ _ _ _ both i z fresh (λ s. IsNoBodyOf start all.0 body switch fault s)
-        (StatementIsBroken body true switch fault)
-        (λ g l is b. (seen all.1 g l, is.starts,
-        subst (StatementIsBroken body true switch fault) (same_seen untagged f first_test.1 last_step.1 d.stays g l ∙ here g l) b))
-        (in_body last_step.1 c (fresh_later untagged ends f (inside s) _ _ _ _ _ both z fresh) e)))
-        (λ b e h. cc))))
-
-    mutual
-      unfolding performed item_in items_in switch_items switch_item
-
-      pub statement_stops : (a : Trees.Statement) (s : Scope) (loop switch : Bool) → IsIn untagged ends f s → IsStatementInRange f.ends (length f.records) a
-          → IsStatementTimely a → AreFresh s.file (made_by a) → (fault : Fault) → performed result a s loop switch ≡ Err fault
-          → Stopped (made_by a) s (StatementIsBroken a loop switch fault)
-      statement_stops (Trees.block from items to) s loop switch p n t fresh fault h =
-          let k = made_by_items items in
-          let Is = StatementIsBroken (Trees.block from items to) loop switch fault in
-          bound_err (items_in result items (inside s) loop switch) _ fault (Stopped k s Is) h
-          (λ e. block_stops s (λ s. AreBrokenItems result items s loop switch fault) Is (λ s b. b)
-          (items_stop items (inside s) loop switch (inside_in s p) n t fresh fault e))
-          (λ b e h. cc)
-      statement_stops (Trees.evaluate None semicolon) s loop switch p n t fresh fault h = cc
-      statement_stops (Trees.evaluate (Some a) semicolon) s loop switch p n t fresh fault h =
-          bound_err (value_of_expression a s) _ fault (Stopped (literals a) s (StatementIsBroken (Trees.evaluate (Some a) semicolon) loop switch fault)) h
-          (λ e. value_stops untagged ends f a s p n t fault e) (λ x e h. cc)
-      statement_stops (Trees.when at from a to one) s loop switch p n t fresh fault h =
-          let k = literals a in
-          let l = made_by one in
-          let Is = StatementIsBroken (Trees.when at from a to one) loop switch fault in
-          bound_err (condition a s) _ fault (Stopped (k ++ l) s Is) h
-          (λ e. stopped_more (λ s. IsNoCondition a s fault) Is (among_left k l) (λ s b. inl b)
-          (condition_stops untagged ends f a s p n.0 t.0 (fresh_left k l fresh) fault e))
-          (λ x e h. bound_err (performed result one x.1 loop switch) _ fault (Stopped (k ++ l) s Is) h
-          (λ j. behind_condition a s l p n.0 fresh x e Is (StatementIsBroken one loop switch fault) (λ s b. inr b)
-          (λ q clear. statement_stops one x.1 loop switch q n.1 t.1 clear fault j))
-          (λ b e h. cc))
-      statement_stops (Trees.choose at from a to one middle other) s loop switch p n t fresh fault h =
-          let k = literals a in
-          let l = made_by one in
-          let m = made_by other in
-          let Is = StatementIsBroken (Trees.choose at from a to one middle other) loop switch fault in
-          let first_two = fresh_left (k ++ l) m fresh in
-          bound_err (condition a s) _ fault (Stopped (k ++ l ++ m) s Is) h
-          (λ e. stopped_more (λ s. IsNoCondition a s fault) Is (λ x i. among_left (k ++ l) m x (among_left k l x i)) (λ s b. inl b)
-          (condition_stops untagged ends f a s p n.0 t.0 (fresh_left k l first_two) fault e))
-          (λ x e h.
-          let v = condition_as untagged f a s n.0 p.within x e in
-          let q = in_same untagged ends f s _ _ _ _ _ v.found p (fresh_left k l first_two) refl in
-          let clear = fresh_later untagged ends f s _ _ _ _ _ v.found l first_two in
-          bound_err (performed result one x.1 loop switch) _ fault (Stopped (k ++ l ++ m) s Is) h
-          (λ j. stopped_more (StatementIsBroken one loop switch fault) Is (among_left (k ++ l) m) (λ s b. inr (inl b))
-          (behind_condition a s l p n.0 first_two x e (StatementIsBroken one loop switch fault) (StatementIsBroken one loop switch fault) (λ s b. b)
-          (λ q clear. statement_stops one x.1 loop switch q n.1 t.1 clear fault j)))
-          (λ b j h.
-          let u = sound_statement untagged f result one x.1 loop switch n.1 q.within b j in
-          let both = then_as untagged f s x.1 b.1 _ _ _ _ (IsConditionThere untagged f a x.0) (IsStatementThere untagged f result one loop switch b.0)
-          (IsStatementThere untagged f result one loop switch b.0) _ _ v u (λ c y z. z) in
-          let last = in_later untagged ends f s _ _ _ _ _ both.found p first_two
-          (λ is i w t g. objects_declared (declared (seen s b.1.file b.1.locals)) result loop switch b.0 is.1 i w t g) in
-          bound_err (performed result other b.1 loop switch) _ fault (Stopped (k ++ l ++ m) s Is) h
-          (λ o. stopped_later untagged ends f s _ _ _ _ _ both.found p m fresh Is (StatementIsBroken other loop switch fault)
-          (λ g w c y. inr (inr (subst (StatementIsBroken other loop switch fault) (same_seen untagged f s b.1 both.stays g w) y)))
-          (statement_stops other b.1 loop switch last n.2 t.2 (fresh_later untagged ends f s _ _ _ _ _ both.found m fresh) fault o))
-          (λ d e h. cc)))
-      statement_stops (Trees.while at from a to body) s loop switch p n t fresh fault h =
-          let k = literals a in
-          let l = made_by body in
-          let Is = StatementIsBroken (Trees.while at from a to body) loop switch fault in
-          bound_err (condition a s) _ fault (Stopped (k ++ l) s Is) h
-          (λ e. stopped_more (λ s. IsNoCondition a s fault) Is (among_left k l) (λ s b. inl b)
-          (condition_stops untagged ends f a s p n.0 t.0 (fresh_left k l fresh) fault e))
-          (λ x e h. bound_err (performed result body x.1 true switch) _ fault (Stopped (k ++ l) s Is) h
-          (λ j. behind_condition a s l p n.0 fresh x e Is (StatementIsBroken body true switch fault) (λ s b. inr b)
-          (λ q clear. statement_stops body x.1 true switch q n.1 t.1 clear fault j))
-          (λ b e h. cc))
-      statement_stops (Trees.do_while at body word from a to semicolon) s loop switch p n t fresh fault h =
-          let k = made_by body in
-          let l = literals a in
-          let Is = StatementIsBroken (Trees.do_while at body word from a to semicolon) loop switch fault in
-          bound_err (performed result body s true switch) _ fault (Stopped (k ++ l) s Is) h
-          (λ e. stopped_more (StatementIsBroken body true switch fault) Is (among_left k l) (λ s b. inl b)
-          (statement_stops body s true switch p n.1 t.1 (fresh_left k l fresh) fault e))
-          (λ b e h.
-          let u = sound_statement untagged f result body s true switch n.1 p.within b e in
-          let q = in_later untagged ends f s _ _ _ _ _ u.found p (fresh_left k l fresh)
-          (λ is i w t g. objects_declared (declared (seen s b.1.file b.1.locals)) result true switch b.0 is.1 i w t g) in
-          bound_err (condition a b.1) _ fault (Stopped (k ++ l) s Is) h
-          (λ j. stopped_later untagged ends f s _ _ _ _ _ u.found p l fresh Is (λ s. IsNoCondition a s fault)
-          (λ g w c y. inr (subst (λ s. IsNoCondition a s fault) (same_seen untagged f s b.1 u.stays g w) y))
-          (condition_stops untagged ends f a b.1 q n.0 t.0 (fresh_later untagged ends f s _ _ _ _ _ u.found l fresh) fault j))
-          (λ x e h. cc))
-      statement_stops (Trees.for at from start test semicolon step to body) s loop switch p n t fresh fault h =
-          for_stops at from start test semicolon step to body s loop switch p n t fresh fault h
-          (λ c q clear e. statement_stops body c true switch q n.3 t.3 clear fault e)
-      statement_stops (Trees.switch at from a to begin items end) s loop switch p n t fresh fault h =
-          let k = literals a in
-          let l = made_by_switch_items items in
-          let Is = StatementIsBroken (Trees.switch at from a to begin items end) loop switch fault in
-          bound_err (value_of_expression a s) _ fault (Stopped (k ++ l) s Is) h
-          (λ e. stopped_more (λ s. IsBroken a s fault ⊎ HasNoValue a s fault) Is (among_left k l)
-          (λ s b. value_of_switch at from a to begin items end s loop switch fault b)
-          (value_stops untagged ends f a s p n.0 t.0 fault e))
-          (λ x e h. bound_err (switched_in (first a) x.0) _ fault (Stopped (k ++ l) s Is) h
-          (λ j.
-          let m = switched_fault (first a) x.0 fault j in
-          stopped_more Is Is (among_left k l) (λ s b. b)
-          (value_there untagged ends f a s p n.0 (fresh_left k l fresh) x e Is (λ s v. inr (inr (inl (m.0, (x.0, v, m.1)))))))
-          (λ y j h.
-          let v = value_as untagged f a s n.0 p.within x e in
-          let q = in_same untagged ends f s _ _ _ _ _ v.found p (fresh_left k l fresh) refl in
-          let Js = λ (s : Scope). AreBrokenSwitchItems result items s loop y.1 no_labels fault in
-          bound_err (switch_items result items (inside x.1) loop y.1 no_labels) _ fault (Stopped (k ++ l) s Is) h
-          (λ o. stopped_later untagged ends f s _ _ _ _ _ v.found p l fresh Is (λ s. Js (inside s))
-          (λ g w is b. inr (inr (inr (y.1, (x.0, value_is a (seen s g w) x.0 is, switched_promotes (first a) x.0 y j),
-          subst (λ s. Js (inside s)) (same_seen untagged f s x.1 v.stays g w) b))))
-          (block_stops x.1 Js (λ s. Js (inside s)) (λ s b. b)
-          (switch_items_stop items (inside x.1) loop y.1 (switched_keeps (first a) x.0 y j) no_labels (omega arith) (inside_in x.1 q) n.1 t.1
-          (fresh_later untagged ends f s _ _ _ _ _ v.found l fresh) fault o)))
-          (λ b e h. cc)))
-      statement_stops (Trees.break at semicolon) s loop switch p n t fresh fault h =
-          let Is = StatementIsBroken (Trees.break at semicolon) loop switch fault in
-          bound_err (jump at (loop || switch) Typed.break) _ fault (Stopped [] s Is) h
-          (λ e. stopped_here [] s Is (jump_fault at (loop || switch) Typed.break fault e)) (λ x e h. cc)
-      statement_stops (Trees.continue at semicolon) s loop switch p n t fresh fault h =
-          let Is = StatementIsBroken (Trees.continue at semicolon) loop switch fault in
-          bound_err (jump at loop Typed.continue) _ fault (Stopped [] s Is) h
-          (λ e. stopped_here [] s Is (jump_fault at loop Typed.continue fault e)) (λ x e h. cc)
-      statement_stops (Trees.return at None semicolon) s loop switch p n t fresh fault h =
-          let Is = StatementIsBroken (Trees.return at None semicolon) loop switch fault in
-          bound_err (returned_nothing at result) _ fault (Stopped [] s Is) h
-          (λ e. stopped_here [] s Is (nothing_fault at result fault e)) (λ x e h. cc)
-      statement_stops (Trees.return at (Some a) semicolon) s loop switch p n t fresh fault h =
-          let k = literals a in
-          let Is = StatementIsBroken (Trees.return at (Some a) semicolon) loop switch fault in
-          void_fault at result _ fault (Stopped k s Is) h
-          (λ b. stopped_here k s Is (inr (inr (inl b))))
-          (λ given_one h. bound_err (value_of_expression a s) _ fault (Stopped k s Is) h
-          (λ e. stopped_more (λ s. IsBroken a s fault ⊎ HasNoValue a s fault) Is (λ x i. i)
-          (λ s b. value_of_return at a semicolon s loop switch fault b) (value_stops untagged ends f a s p n t fault e))
-          (λ x e h. bound_err (returned_in at result x.0) _ fault (Stopped k s Is) h
-          (λ j.
-          let m = returned_fault at result x.0 fault j in
-          value_there untagged ends f a s p n fresh x e Is (λ s v. inr (inr (inr (m.0, given_one, (x.0, v, m.1))))))
-          (λ y e h. cc)))
-
-      pub item_stops : (e : Trees.BlockItem) (s : Scope) (loop switch : Bool) → IsIn untagged ends f s → IsItemInRange f.ends (length f.records) e
-          → IsItemTimely e → AreFresh s.file (made_by_item e) → (fault : Fault) → item_in result e s loop switch ≡ Err fault
-          → Stopped (made_by_item e) s (λ s. IsBrokenItem result e s loop switch fault)
-      item_stops (Trees.local d) s loop switch p n t fresh fault h = declaration_stops untagged ends f d s p n t fresh fault h
-      item_stops (Trees.statement a) s loop switch p n t fresh fault h =
-          bound_err (performed result a s loop switch) _ fault (Stopped (made_by a) s (StatementIsBroken a loop switch fault)) h
-          (λ e. statement_stops a s loop switch p n t fresh fault e) (λ st e h. cc)
-
-      pub items_stop : (items : Trees.BlockItems) (s : Scope) (loop switch : Bool) → IsIn untagged ends f s → AreItemsInRange f.ends (length f.records) items
-          → AreItemsTimely items → AreFresh s.file (made_by_items items) → (fault : Fault) → items_in result items s loop switch ≡ Err fault
-          → Stopped (made_by_items items) s (λ s. AreBrokenItems result items s loop switch fault)
-      items_stop Trees.no_block_items s loop switch p n t fresh fault h = cc
-      items_stop (Trees.and_block_item e more) s loop switch p n t fresh fault h =
-          let k = made_by_item e in
-          let l = made_by_items more in
-          let Is = λ (s : Scope). AreBrokenItems result (Trees.and_block_item e more) s loop switch fault in
-          bound_err (item_in result e s loop switch) _ fault (Stopped (k ++ l) s Is) h
-          (λ j. stopped_more (λ s. IsBrokenItem result e s loop switch fault) Is (among_left k l) (λ s b. inl b)
-          (item_stops e s loop switch p n.0 t.0 (fresh_left k l fresh) fault j))
-          (λ own j h.
-          let v = sound_item untagged f result e s loop switch n.0 p.within own j in
-          let q = in_later untagged ends f s _ _ _ _ _ v p (fresh_left k l fresh)
-          (λ is i w t g. objects_declared_by (declared (seen s own.1.file own.1.locals)) result loop switch own.0 is.is_typed i w t g) in
-          bound_err (items_in result more own.1 loop switch) _ fault (Stopped (k ++ l) s Is) h
-          (λ o. stopped_later untagged ends f s _ _ _ _ _ v p l fresh Is (λ s. AreBrokenItems result more s loop switch fault)
-          (λ g w is b. inr (own.0, seen own.1 g w, is.erases, b))
-          (items_stop more own.1 loop switch q n.1 t.1 (fresh_later untagged ends f s _ _ _ _ _ v l fresh) fault o))
-          (λ rest e h. cc))
-
-      pub switch_items_stop : (items : Trees.SwitchItems) (s : Scope) (loop : Bool) (kind : IntKind) → ((v : ℕ) → as_kind kind (as_kind kind v) ≡ as_kind kind v)
-          → (before : Labels) → before.defaults ≤ 1 → IsIn untagged ends f s → AreSwitchItemsInRange f.ends (length f.records) items
-          → AreSwitchItemsTimely items → AreFresh s.file (made_by_switch_items items) → (fault : Fault) → switch_items result items s loop kind before ≡ Err fault
-          → Stopped (made_by_switch_items items) s (λ s. AreBrokenSwitchItems result items s loop kind before fault)
-      switch_items_stop Trees.no_switch_items s loop kind keeps before few p n t fresh fault h = cc
-      switch_items_stop (Trees.and_switch_item item more) s loop kind keeps before few p n t fresh fault h =
-          let k = made_by_switch_item item in
-          let l = made_by_switch_items more in
-          let Is = λ (s : Scope). AreBrokenSwitchItems result (Trees.and_switch_item item more) s loop kind before fault in
-          bound_err (switch_item result item s loop kind before) _ fault (Stopped (k ++ l) s Is) h
-          (λ j. stopped_more (λ s. IsBrokenSwitchItem result item s loop kind before fault) Is (among_left k l) (λ s b. inl b)
-          (switch_item_stops item s loop kind keeps before p n.0 t.0 (fresh_left k l fresh) fault j))
-          (λ own j h.
-          let v = sound_switch_item untagged f result item s loop kind keeps before n.0 p.within own j in
-          let q = in_later untagged ends f s _ _ _ _ _ v.found p (fresh_left k l fresh)
-          (λ is i w t g. objects_declared_by (declared (seen s own.1.file own.1.locals)) result loop true own.0.0 is.is_typed i w t g) in
-          bound_err (switch_items result more own.1 loop kind own.0.1.all) _ fault (Stopped (k ++ l) s Is) h
-          (λ o. stopped_later untagged ends f s _ _ _ _ _ v.found p l fresh Is (λ s. AreBrokenSwitchItems result more s loop kind own.0.1.all fault)
-          (λ g w is b. inr (own.0.1.cases, own.0.1.defaults, own.0.0, seen own.1 g w, is.erases,
-          more_items result more (seen own.1 g w) loop kind own.0.1.all _
-          ((λ x i. among_pushed before.cases own.0.1.cases x (subst (λ all. IsAmong all x) v.counted.pushed_are i)),
-          (let c = v.counted.counted in omega (arith, c))) fault b))
-          (switch_items_stop more own.1 loop kind keeps own.0.1.all (v.counted.bounded few) q n.1 t.1
-          (fresh_later untagged ends f s _ _ _ _ _ v.found l fresh) fault o))
-          (λ rest e h. cc))
-
-      switch_item_stops : (item : Trees.SwitchItem) (s : Scope) (loop : Bool) (kind : IntKind) → ((v : ℕ) → as_kind kind (as_kind kind v) ≡ as_kind kind v)
-          → (before : Labels) → IsIn untagged ends f s → IsSwitchItemInRange f.ends (length f.records) item
-          → IsSwitchItemTimely item → AreFresh s.file (made_by_switch_item item) → (fault : Fault) → switch_item result item s loop kind before ≡ Err fault
-          → Stopped (made_by_switch_item item) s (λ s. IsBrokenSwitchItem result item s loop kind before fault)
-      switch_item_stops (Trees.local_switch_item d) s loop kind keeps before p n t fresh fault h =
-          bound_err (local_declaration d s) _ fault
-          (Stopped (made_by_switch_item (Trees.local_switch_item d)) s (λ s. IsBrokenDeclaration d s fault)) h
-          (λ e. declaration_stops untagged ends f d s p n t fresh fault e) (λ own e h. cc)
-      switch_item_stops (Trees.labelled labels a) s loop kind keeps before p n t fresh fault h =
-          let k = made_by a in
-          let Is = λ (s : Scope). IsBrokenSwitchItem result (Trees.labelled labels a) s loop kind before fault in
-          bound_err (in_scope s (labels_in labels s kind before)) _ fault (Stopped k s Is) h
-          (λ e. bound_err (labels_in labels s kind before) _ fault (Stopped k s Is) e
-          (λ e. stopped_more {k = []} (λ s. AreBrokenLabels labels s kind before fault) Is (λ x i. absurd i) (λ s b. inl b)
-          (labels_stop untagged ends f labels s kind before p n.0 t.0 fault e))
-          (λ x e h. cc))
-          (λ z e h.
-          let c = bound_ok (labels_in labels s kind before) _ z e in
-          let v = labels_found untagged f labels s kind keeps before n.0 p.within c.0 c.1 in
-          let q = in_same untagged ends f s _ _ _ _ _ v.found.found p (fresh_left [] k fresh) refl in
-          bound_err (performed result a z.1 loop true) _ fault (Stopped k s Is) h
-          (λ j. given (λ (z : Found × Scope). performed result a z.1 loop true ≡ Err fault → Stopped k s Is) (c.0.0, moved s c.0.1) z c.2
-          (λ j. stopped_later untagged ends f s _ _ _ _ _ v.found.found p k fresh Is (StatementIsBroken a loop true fault) (λ g w is b. inr b)
-          (statement_stops a (moved s c.0.1) loop true q n.1 t.1 (fresh_later untagged ends f s _ _ _ _ _ v.found.found k fresh) fault j)) j)
-          (λ st e h. cc))
+    switch_item_stops : (item : Trees.SwitchItem) (s : Scope) (loop : Bool) (kind : IntKind) → ((v : ℕ) → as_kind kind (as_kind kind v) ≡ as_kind kind v)
+        → (before : Labels) → IsIn untagged ends f s → IsSwitchItemInRange f.ends (length f.records) item
+        → IsSwitchItemTimely untagged ends f item → AreFresh s.file (made_by_switch_item item) → (fault : Fault) → switch_item result item s loop kind before ≡ Err fault
+        → Stopped (made_by_switch_item item) s (λ s. IsBrokenSwitchItem result item s loop kind before fault)
+    switch_item_stops (Trees.local_switch_item d) s loop kind keeps before p n t fresh fault h =
+        bound_err (local_declaration d s) _ fault
+        (Stopped (made_by_switch_item (Trees.local_switch_item d)) s (λ s. IsBrokenDeclaration d s fault)) h
+        (λ e. declaration_stops untagged ends f d s p n t fresh fault e) (λ own e h. cc)
+    switch_item_stops (Trees.labelled labels a) s loop kind keeps before p n t fresh fault h =
+        let k = made_by a in
+        let Is = λ (s : Scope). IsBrokenSwitchItem result (Trees.labelled labels a) s loop kind before fault in
+        bound_err (in_scope s (labels_in labels s kind before)) _ fault (Stopped k s Is) h
+        (λ e. bound_err (labels_in labels s kind before) _ fault (Stopped k s Is) e
+        (λ e. stopped_more {k = []} (λ s. AreBrokenLabels labels s kind before fault) Is (λ x i. absurd i) (λ s b. inl b)
+        (labels_stop untagged ends f labels s kind before p n.0 t.0 fault e))
+        (λ x e h. cc))
+        (λ z e h.
+        let c = bound_ok (labels_in labels s kind before) _ z e in
+        let v = labels_found untagged f labels s kind keeps before n.0 p.within c.0 c.1 in
+        let q = in_same untagged ends f s _ _ _ _ _ v.found.found p (fresh_left [] k fresh) refl in
+        bound_err (performed result a z.1 loop true) _ fault (Stopped k s Is) h
+        (λ j. given (λ (z : Found × Scope). performed result a z.1 loop true ≡ Err fault → Stopped k s Is) (c.0.0, moved s c.0.1) z c.2
+        (λ j. stopped_later untagged ends f s _ _ _ _ _ v.found.found p k fresh Is (StatementIsBroken result a loop true fault) (λ g w is b. inr b)
+        (statement_stops a (moved s c.0.1) loop true q n.1 t.1 (fresh_later untagged ends f s _ _ _ _ _ v.found.found k fresh) fault j)) j)
+        (λ st e h. cc))
