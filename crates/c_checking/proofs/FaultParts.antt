@@ -396,7 +396,8 @@ module _ (untagged : ℕ → List ℕ) (May : ℕ → Type 0) where
       )))))))
 
   pub assign_stops : (s : Scope) (a : Trees.Expression) (op : AssignOp) (at : ℕ) (b : Trees.Expression) (y : Thing × FileScope) → Found untagged s a y
-      → Reaches May s.file s.is_inside y.1 → (t : Target) → target_in (first a) y.0 ≡ Ok t → (right : FileScope → Checked Thing) → Read (moved s y.1) b (right y.1) → (f : Fault)
+      → Reaches May s.file s.is_inside y.1 → (t : Target) → target_in (first a) y.0 ≡ Ok t
+      → (right : FileScope → Checked Thing) → Read (moved s y.1) b (right y.1) → (f : Fault)
       → assigned (complete s (first a)) at (first b) (place_in s (first a)) t y.1 right (update_of op) ≡ Err f
       → Results.Broken May s (λ s. IsBroken (Trees.assign a op at b) s f)
   assign_stops s a op at b y v r t k right part f h =

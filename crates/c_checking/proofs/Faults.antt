@@ -43,7 +43,8 @@ use Rattle.c_checking.proofs.Found.{valued}
 use Rattle.c_checking.proofs.FoundTypes.{base_found, bound_of, enumerator_grown}
 use Rattle.c_checking.proofs.FoundDeclarators.{ready_in, parameter_inside, behind_parameter, parameter_made}
 use Rattle.c_checking.proofs.Sound.{sound, sound_type, sound_one, sound_members, sound_declarators, sound_value, sound_steps, sound_enumerators, constant_part}
-use Rattle.c_checking.proofs.FaultResults.{Makes, makes_left, makes_right, value_makes, reaches_then, reaches_outside, reached, Broken, same_fault, bound_err, with_file_err, beside_err, chosen_err, here, there, whole, later}
+use Rattle.c_checking.proofs.FaultResults.{Makes, makes_left, makes_right, value_makes, reaches_then, reaches_outside, reached}
+use Rattle.c_checking.proofs.FaultResults.{Broken, same_fault, bound_err, with_file_err, beside_err, chosen_err, here, there, whole, later}
 use Rattle.c_checking.proofs.Adding.{Grows, makes_none, mention_before, mention_between, bound_adds}
 use Rattle.c_checking.proofs.Growth.{grow, grow_type, grow_base, grow_specifier, grow_members, grow_declarators, grow_enumerators, grow_value, grow_steps}
 use Rattle.c_checking.proofs.Growth.{grow_constant}
@@ -166,18 +167,22 @@ module _ (untagged : ℕ → List ℕ) (ends : List ℕ) (May : ℕ → Type 0) 
     faults (Trees.index a from b to) s n i p l t may f h =
         let u = marks untagged a in
         let before = left untagged ends u (marks untagged b) p in
-        let part = reading a s i.0 before (makes_left May s.purpose (literals a) (literals b) may) (λ f k. faults a s n i.0 before l t.0 (makes_left May s.purpose (literals a) (literals b) may) f k) in
+        let in_a = makes_left May s.purpose (literals a) (literals b) may in
+        let in_b = makes_right May s.purpose (literals a) (literals b) may in
+        let part = reading a s i.0 before in_a (λ f k. faults a s n i.0 before l t.0 in_a f k) in
         bound_err (find a s) _ f (Broken May s (λ s. IsBroken (Trees.index a from b to) s f)) h
         (λ e. whole May s (λ s. IsBroken a s f) (λ s. IsBroken (Trees.index a from b to) s f) (part.names f e) (λ g p h. inl h))
         (λ y e h.
         let w = part.sound y e in
         let after = right untagged ends u (marks untagged b) p w.grew in
-        index_stops untagged May s a from b to (find a s) part y e (λ f. find b (moved s f)) (reading b (moved s y.1) i.1 after (makes_right May s.purpose (literals a) (literals b) may)
-        (λ f k. faults b (moved s y.1) (n + added s.is_inside u) i.1 after (known_after n l w.grew) t.1 (makes_right May s.purpose (literals a) (literals b) may) f k)) f h)
+        index_stops untagged May s a from b to (find a s) part y e (λ f. find b (moved s f)) (reading b (moved s y.1) i.1 after in_b
+        (λ f k. faults b (moved s y.1) (n + added s.is_inside u) i.1 after (known_after n l w.grew) t.1 in_b f k)) f h)
     faults (Trees.call g from all to) s n i p l t may f h =
         let u = marks untagged g in
         let before = left untagged ends u (marks_of_all untagged all) p in
-        let part = reading g s i.0 before (makes_left May s.purpose (literals g) (literals_of_all all) may) (λ f k. faults g s n i.0 before l t.0 (makes_left May s.purpose (literals g) (literals_of_all all) may) f k) in
+        let in_g = makes_left May s.purpose (literals g) (literals_of_all all) may in
+        let in_all = makes_right May s.purpose (literals g) (literals_of_all all) may in
+        let part = reading g s i.0 before in_g (λ f k. faults g s n i.0 before l t.0 in_g f k) in
         bound_err (find g s) _ f (Broken May s (λ s. IsBroken (Trees.call g from all to) s f)) h
         (λ e. whole May s (λ s. IsBroken g s f) (λ s. IsBroken (Trees.call g from all to) s f) (part.names f e) (λ g p h. inl h))
         (λ y e h.
@@ -192,7 +197,7 @@ module _ (untagged : ℕ → List ℕ) (ends : List ℕ) (May : ℕ → Type 0) 
         let is = signature_is (first g) y.0 c k in
         bound_err (arguments to c.0 all (moved s y.1)) _ f (Broken May s (λ s. IsBroken (Trees.call g from all to) s f)) h
         (λ e. later May s y.1 reach (Stop all to c.0 f) (λ s. IsBroken (Trees.call g from all to) s f)
-        (faults_all all to c.0 (moved s y.1) (n + added s.is_inside u) i.1 after (known_after n l w.grew) t.1 (makes_right May s.purpose (literals g) (literals_of_all all) may) f e)
+        (faults_all all to c.0 (moved s y.1) (n + added s.is_inside u) i.1 after (known_after n l w.grew) t.1 in_all f e)
         (λ h p b. arguments_broken (moved s h) g from all to y.0 c.0 (thing_stands untagged May w h p) (subst (λ o. IsFunctionType o c.0) (sym is) refl) f b))
         (λ xs k h. absurd (call_fault (place_in s (first g)) y.0 c.1 xs.0 (function c.1 c.0) is f
         (with_file_err xs.1 (call_in (place_in s (first g)) y.0 c.1 xs.0) f h)))))
@@ -256,26 +261,31 @@ module _ (untagged : ℕ → List ℕ) (ends : List ℕ) (May : ℕ → Type 0) 
     faults (Trees.binary a op at b) s n i p l t may f h =
         let u = marks untagged a in
         let before = left untagged ends u (marks untagged b) p in
-        let part = reading a s i.0 before (makes_left May s.purpose (literals a) (literals b) may) (λ f k. faults a s n i.0 before l t.0 (makes_left May s.purpose (literals a) (literals b) may) f k) in
+        let in_a = makes_left May s.purpose (literals a) (literals b) may in
+        let in_b = makes_right May s.purpose (literals a) (literals b) may in
+        let part = reading a s i.0 before in_a (λ f k. faults a s n i.0 before l t.0 in_a f k) in
         value_part untagged May s a (find a s) part _ f (Broken May s (λ s. IsBroken (Trees.binary a op at b) s f)) h
         (λ e. whole May s (λ s. IsBroken a s f) (λ s. IsBroken (Trees.binary a op at b) s f) e (λ g p h. inl h))
         (λ e. whole May s (λ s. HasNoValue a s f) (λ s. IsBroken (Trees.binary a op at b) s f) e (λ g p h. inr (inr (inl h))))
         (λ x v e h.
         let after = right untagged ends u (marks untagged b) p v.found.grew in
-        binary_stops untagged May s a op at b x v (find b (moved s x.1)) (reading b (moved s x.1) i.1 after (makes_right May s.purpose (literals a) (literals b) may)
-        (λ f k. faults b (moved s x.1) (n + added s.is_inside u) i.1 after (known_after n l v.found.grew) t.1 (makes_right May s.purpose (literals a) (literals b) may) f k)) f h)
+        binary_stops untagged May s a op at b x v (find b (moved s x.1)) (reading b (moved s x.1) i.1 after in_b
+        (λ f k. faults b (moved s x.1) (n + added s.is_inside u) i.1 after (known_after n l v.found.grew) t.1 in_b f k)) f h)
     faults (Trees.cond a question b colon c) s n i p l t may f h =
         let u = marks untagged a in
         let v = marks untagged b in
         let first_two = left untagged ends (u ++ v) (marks untagged c) p in
         let before = left untagged ends u v first_two in
         let two = makes_left May s.purpose (literals a ++ literals b) (literals c) may in
-        tested_part untagged May s a question b colon c (find a s) (reading a s i.0 before (makes_left May s.purpose (literals a) (literals b) two) (λ f k. faults a s n i.0 before l t.0 (makes_left May s.purpose (literals a) (literals b) two) f k)) _ f h
+        let in_a = makes_left May s.purpose (literals a) (literals b) two in
+        let in_b = makes_right May s.purpose (literals a) (literals b) two in
+        let in_c = makes_right May s.purpose (literals a ++ literals b) (literals c) may in
+        tested_part untagged May s a question b colon c (find a s) (reading a s i.0 before in_a (λ f k. faults a s n i.0 before l t.0 in_a f k)) _ f h
         (λ x w e h.
         let after = right untagged ends u v first_two w.found.grew in
         let known = known_after n l w.found.grew in
-        value_part untagged May (moved s x.1) b (find b (moved s x.1)) (reading b (moved s x.1) i.1 after (makes_right May s.purpose (literals a) (literals b) two)
-        (λ f k. faults b (moved s x.1) (n + added s.is_inside u) i.1 after known t.1 (makes_right May s.purpose (literals a) (literals b) two) f k)) _ f
+        value_part untagged May (moved s x.1) b (find b (moved s x.1)) (reading b (moved s x.1) i.1 after in_b
+        (λ f k. faults b (moved s x.1) (n + added s.is_inside u) i.1 after known t.1 in_b f k)) _ f
         (Broken May s (λ s. IsBroken (Trees.cond a question b colon c) s f)) h
         (λ j. later May s x.1 w.reaches (λ s. IsBroken b s f) (λ s. IsBroken (Trees.cond a question b colon c) s f) j
         (λ g p h. inr (inr (inr (inl (w.stands g p, inl h))))))
@@ -283,13 +293,15 @@ module _ (untagged : ℕ → List ℕ) (ends : List ℕ) (May : ℕ → Type 0) 
         (λ g p h. inr (inr (inr (inl (w.stands g p, inr h))))))
         (λ y k e h.
         let last = right untagged ends (u ++ v) (marks untagged c) p (then w.found.grew k.found.grew) in
-        choice_stops untagged May s a question b colon c x w y k (find c (moved s y.1)) (reading c (moved s y.1) i.2 last (makes_right May s.purpose (literals a ++ literals b) (literals c) may)
+        choice_stops untagged May s a question b colon c x w y k (find c (moved s y.1)) (reading c (moved s y.1) i.2 last in_c
         (λ f j. faults c (moved s y.1) (n + added s.is_inside u + added s.is_inside v) i.2 last
-        (known_after (n + added s.is_inside u) known k.found.grew) t.2 (makes_right May s.purpose (literals a ++ literals b) (literals c) may) f j)) f h))
+        (known_after (n + added s.is_inside u) known k.found.grew) t.2 in_c f j)) f h))
     faults (Trees.assign a op at b) s n i p l t may f h =
         let u = marks untagged a in
         let before = left untagged ends u (marks untagged b) p in
-        let part = reading a s i.0 before (makes_left May s.purpose (literals a) (literals b) may) (λ f k. faults a s n i.0 before l t.0 (makes_left May s.purpose (literals a) (literals b) may) f k) in
+        let in_a = makes_left May s.purpose (literals a) (literals b) may in
+        let in_b = makes_right May s.purpose (literals a) (literals b) may in
+        let part = reading a s i.0 before in_a (λ f k. faults a s n i.0 before l t.0 in_a f k) in
         bound_err (find a s) _ f (Broken May s (λ s. IsBroken (Trees.assign a op at b) s f)) h
         (λ e. whole May s (λ s. IsBroken a s f) (λ s. IsBroken (Trees.assign a op at b) s f) (part.names f e) (λ g p h. inl h))
         (λ y e h.
@@ -299,25 +311,28 @@ module _ (untagged : ℕ → List ℕ) (ends : List ℕ) (May : ℕ → Type 0) 
         (λ k. let m = target_fault (first a) y.0 f k in
         there May s (λ s. IsBroken (Trees.assign a op at b) s f) y.1 (part.reaches y e)
         (inr (inr (inl (m.0, (y.0, thing_stands untagged May w y.1 (itself y.1), m.1))))))
-        (λ c k h. assign_stops untagged May s a op at b y w (part.reaches y e) c k (λ f. find b (moved s f)) (reading b (moved s y.1) i.1 after (makes_right May s.purpose (literals a) (literals b) may)
-        (λ f k. faults b (moved s y.1) (n + added s.is_inside u) i.1 after (known_after n l w.grew) t.1 (makes_right May s.purpose (literals a) (literals b) may) f k)) f h))
+        (λ c k h. assign_stops untagged May s a op at b y w (part.reaches y e) c k (λ f. find b (moved s f)) (reading b (moved s y.1) i.1 after in_b
+        (λ f k. faults b (moved s y.1) (n + added s.is_inside u) i.1 after (known_after n l w.grew) t.1 in_b f k)) f h))
     faults (Trees.comma a at b) s n i p l t may f h =
         let u = marks untagged a in
         let before = left untagged ends u (marks untagged b) p in
-        let part = reading a s i.0 before (makes_left May s.purpose (literals a) (literals b) may) (λ f k. faults a s n i.0 before l t.0 (makes_left May s.purpose (literals a) (literals b) may) f k) in
+        let in_a = makes_left May s.purpose (literals a) (literals b) may in
+        let in_b = makes_right May s.purpose (literals a) (literals b) may in
+        let part = reading a s i.0 before in_a (λ f k. faults a s n i.0 before l t.0 in_a f k) in
         value_part untagged May s a (find a s) part _ f (Broken May s (λ s. IsBroken (Trees.comma a at b) s f)) h
         (λ e. whole May s (λ s. IsBroken a s f) (λ s. IsBroken (Trees.comma a at b) s f) e (λ g p h. inl h))
         (λ e. whole May s (λ s. HasNoValue a s f) (λ s. IsBroken (Trees.comma a at b) s f) e (λ g p h. inr (inr (inl h))))
         (λ x v e h.
         let after = right untagged ends u (marks untagged b) p v.found.grew in
-        comma_stops untagged May s a at b x v (find b (moved s x.1)) (reading b (moved s x.1) i.1 after (makes_right May s.purpose (literals a) (literals b) may)
-        (λ f k. faults b (moved s x.1) (n + added s.is_inside u) i.1 after (known_after n l v.found.grew) t.1 (makes_right May s.purpose (literals a) (literals b) may) f k)) f h)
+        comma_stops untagged May s a at b x v (find b (moved s x.1)) (reading b (moved s x.1) i.1 after in_b
+        (λ f k. faults b (moved s x.1) (n + added s.is_inside u) i.1 after (known_after n l v.found.grew) t.1 in_b f k)) f h)
     faults (Trees.braces from all comma to) s n i p l t may f h =
         here May s (λ s. IsBroken (Trees.braces from all comma to) s f) (same_fault (Thing × FileScope) (ill_typed R.Init from) f h)
 
     pub faults_all : (all : Trees.Arguments) (to : ℕ) (types : CTypes) (s : Scope) (n : ℕ) → AreInRange all
         → Prepared untagged ends s (marks_of_all untagged all)
-        → n ≤ length s.file.records → AreTimely untagged ends s.is_inside n all → Makes May s.purpose (literals_of_all all) → (f : Fault) → arguments to types all s ≡ Err f
+        → n ≤ length s.file.records → AreTimely untagged ends s.is_inside n all → Makes May s.purpose (literals_of_all all)
+        → (f : Fault) → arguments to types all s ≡ Err f
         → Broken May s (Stop all to types f)
     faults_all Trees.no_arguments to no_types s n i p l t may f h = cc
     faults_all Trees.no_arguments to (and_type u more) s n i p l t may f h =
@@ -328,7 +343,9 @@ module _ (untagged : ℕ → List ℕ) (ends : List ℕ) (May : ℕ → Type 0) 
     faults_all (Trees.and_argument comma a rest) to (and_type c more) s n i p l t may f h =
         let u = marks untagged a in
         let before = left untagged ends u (marks_of_all untagged rest) p in
-        let part = reading a s i.0 before (makes_left May s.purpose (literals a) (literals_of_all rest) may) (λ f k. faults a s n i.0 before l t.0 (makes_left May s.purpose (literals a) (literals_of_all rest) may) f k) in
+        let in_a = makes_left May s.purpose (literals a) (literals_of_all rest) may in
+        let in_rest = makes_right May s.purpose (literals a) (literals_of_all rest) may in
+        let part = reading a s i.0 before in_a (λ f k. faults a s n i.0 before l t.0 in_a f k) in
         value_part untagged May s a (find a s) part _ f (Broken May s (Stop (Trees.and_argument comma a rest) to (and_type c more) f)) h
         (λ e. whole May s (λ s. IsBroken a s f) (Stop (Trees.and_argument comma a rest) to (and_type c more) f) e (λ g p h. inl (inl h)))
         (λ e. whole May s (λ s. HasNoValue a s f) (Stop (Trees.and_argument comma a rest) to (and_type c more) f) e (λ g p h. inl (inr (inl h))))
@@ -340,7 +357,7 @@ module _ (untagged : ℕ → List ℕ) (ends : List ℕ) (May : ℕ → Type 0) 
         let after = right untagged ends u (marks_of_all untagged rest) p v.found.grew in
         bound_err (arguments to more rest (moved s x.1)) _ f (Broken May s (Stop (Trees.and_argument comma a rest) to (and_type c more) f)) h
         (λ k. later May s x.1 v.reaches (Stop rest to more f) (Stop (Trees.and_argument comma a rest) to (and_type c more) f)
-        (faults_all rest to more (moved s x.1) (n + added s.is_inside u) i.1 after (known_after n l v.found.grew) t.1 (makes_right May s.purpose (literals a) (literals_of_all rest) may) f k)
+        (faults_all rest to more (moved s x.1) (n + added s.is_inside u) i.1 after (known_after n l v.found.grew) t.1 in_rest f k)
         (λ g p h. argument_behind (moved s g) comma a rest to c more f (v.stands g p) h))
         (λ ys k h. cc)))
 
@@ -430,7 +447,8 @@ module _ (untagged : ℕ → List ℕ) (ends : List ℕ) (May : ℕ → Type 0) 
         (faults_members all s n i before l t f e) (λ g p h. inr (inl h)))
         (λ m e h.
         let v = sound_members untagged all s i before.ready m e in
-        struct_body_stops untagged ends May s at x from all to p.untagged_are j m v (reached May s v.grew (grow_members untagged all s p.untagged_are m e) (λ e. tt)) (right untagged ends u own after v.grew) f h)))
+        struct_body_stops untagged ends May s at x from all to p.untagged_are j m v
+        (reached May s v.grew (grow_members untagged all s p.untagged_are m e) (λ e. tt)) (right untagged ends u own after v.grew) f h)))
     faults_specifier (Trees.enum_named at x) s n i p l t w f h = enum_named_stops untagged ends May s at x p f h
     faults_specifier (Trees.enum_body at x from all comma to) s n i p l t w f h =
         let u = marks_of_enumerators untagged all (after_all comma to) in
@@ -443,7 +461,8 @@ module _ (untagged : ℕ → List ℕ) (ends : List ℕ) (May : ℕ → Type 0) 
         (faults_enumerators all s 0 (after_all comma to) n j (omega arith) i before l t f e) (λ g p h. inr (inl h)))
         (λ g e h.
         let v = sound_enumerators untagged all s 0 (after_all comma to) j (omega arith) i before.ready g e in
-        there May s (λ s. IsBrokenSpecifier (Trees.enum_body at x from all comma to) s f) g.1 (reached May s v.grew (grow_enumerators untagged all s 0 (after_all comma to) j p.untagged_are g e) (λ e. tt))
+        there May s (λ s. IsBrokenSpecifier (Trees.enum_body at x from all comma to) s f) g.1
+        (reached May s v.grew (grow_enumerators untagged all s 0 (after_all comma to) j p.untagged_are g e) (λ e. tt))
         (inr (inr (enumeration_fault (moved s g.1) x f (with_file_err g.1 (enumeration_of g.1 x) f h))))))
 
     pub faults_members : (all : Trees.MemberDeclarations) (s : Scope) (n : ℕ) → AreMembersInRange all → Prepared untagged ends s (marks_of_members untagged all)
@@ -532,7 +551,8 @@ module _ (untagged : ℕ → List ℕ) (ends : List ℕ) (May : ℕ → Type 0) 
         subst (λ x. with_member (place_in s at) o x (member_declarators more base semicolon (moved s file)) ≡ Err f) t.2.1 h in
         bound_err (member_declarators more base semicolon (moved s file)) _ f
         (Broken May s (λ s. AreBrokenFields (Trees.and_member_declarator comma d more) s base semicolon f)) h
-        (λ k. later May s file (reached May s grown (mention_before s Named o at (grow_steps untagged d s p.untagged_are steps e)) (λ e. tt)) (λ s. AreBrokenFields more s base semicolon f)
+        (λ k. later May s file (reached May s grown (mention_before s Named o at (grow_steps untagged d s p.untagged_are steps e)) (λ e. tt))
+        (λ s. AreBrokenFields more s base semicolon f)
         (λ s. AreBrokenFields (Trees.and_member_declarator comma d more) s base semicolon f)
         (faults_declarators more base semicolon (moved s file) (n + added s.is_inside u) i.1 after (known_after n l grown) t.3 f k)
         (λ g q h. inr (inr (inr (
@@ -588,7 +608,8 @@ module _ (untagged : ℕ → List ℕ) (ends : List ℕ) (May : ℕ → Type 0) 
     faults_value (Trees.valued equal a) s at next n i p l t f h =
         bound_err (constant_at (first a) (value_at (first a) (find a (for_value s)))) _ f (Broken May s (StopsAtValue (Trees.valued equal a) at next f)) h
         (λ e. whole May s (StopsAtConstant untagged May a f) (StopsAtValue (Trees.valued equal a) at next f)
-        (constant_stops untagged May s a (find a (for_value s)) (reading a (for_value s) i p (value_makes May s.purpose (literals a)) (λ f k. faults a (for_value s) n i p l t (value_makes May s.purpose (literals a)) f k)) f e)
+        (constant_stops untagged May s a (find a (for_value s)) (reading a (for_value s) i p (value_makes May s.purpose (literals a))
+        (λ f k. faults a (for_value s) n i p l t (value_makes May s.purpose (literals a)) f k)) f e)
         (λ g p h. inl (value_broken (moved s g) equal a f h)))
         (λ c e h.
         let v = constant_part untagged a s (λ y j. sound untagged a (for_value s) i p.ready y j) c e in
@@ -760,4 +781,5 @@ module _ (untagged : ℕ → List ℕ) (ends : List ℕ) (May : ℕ → Type 0) 
       → IsTimely untagged ends s.is_inside n a → (f : Fault) → constant_at (first a) (value_at (first a) (find a (for_value s))) ≡ Err f
       → Broken May s (StopsAtConstant untagged May a f)
   constant_faults a s n i p l t f h =
-      constant_stops untagged May s a (find a (for_value s)) (reading a (for_value s) i p (value_makes May s.purpose (literals a)) (λ f k. faults a (for_value s) n i p l t (value_makes May s.purpose (literals a)) f k)) f h
+      constant_stops untagged May s a (find a (for_value s)) (reading a (for_value s) i p (value_makes May s.purpose (literals a))
+        (λ f k. faults a (for_value s) n i p l t (value_makes May s.purpose (literals a)) f k)) f h

@@ -169,7 +169,10 @@ module _ (untagged : ℕ → List ℕ) (ends : List ℕ) (f : FileScope) where
         (λ e. block_stops s (λ s. IsNoBodyOf start all.0 body switch fault s) Is (λ s b. inr (all.0, b.0, b.1, inr (inr b.2)))
         (stopped_later untagged ends f (inside s) _ _ _ _ _ both i z fresh (λ s. IsNoBodyOf start all.0 body switch fault s)
         (StatementIsBroken result body true switch fault)
-        (λ g l is b. (seen all.1 g l, is.starts,
-        subst (StatementIsBroken result body true switch fault) (same_seen untagged f first_test.1 last_step.1 d.stays g l ∙ here g l) b))
+        (λ g l is b. (
+          seen all.1 g l,
+          is.starts,
+          subst (StatementIsBroken result body true switch fault) (same_seen untagged f first_test.1 last_step.1 d.stays g l ∙ here g l) b,
+        ))
         (in_body last_step.1 c (fresh_later untagged ends f (inside s) _ _ _ _ _ both z fresh) e)))
         (λ b e h. cc))))

@@ -139,8 +139,11 @@ module _ (untagged : ℕ → List ℕ) (ends : List ℕ) (f : FileScope) (result
         let Js = λ (s : Scope). AreBrokenSwitchItems result items s loop y.1 no_labels fault in
         bound_err (switch_items result items (inside x.1) loop y.1 no_labels) _ fault (Stopped (k ++ l) s Is) h
         (λ o. stopped_later untagged ends f s _ _ _ _ _ v.found p l fresh Is (λ s. Js (inside s))
-        (λ g w is b. inr (inr (inr (y.1, (x.0, value_is a (seen s g w) x.0 is, switched_promotes (first a) x.0 y j),
-        subst (λ s. Js (inside s)) (same_seen untagged f s x.1 v.stays g w) b))))
+        (λ g w is b. inr (inr (inr (
+          y.1,
+          (x.0, value_is a (seen s g w) x.0 is, switched_promotes (first a) x.0 y j),
+          subst (λ s. Js (inside s)) (same_seen untagged f s x.1 v.stays g w) b,
+        ))))
         (block_stops untagged ends f x.1 Js (λ s. Js (inside s)) (λ s b. b)
         (switch_items_stop items (inside x.1) loop y.1 (switched_keeps (first a) x.0 y j) no_labels (omega arith) (inside_in untagged ends f x.1 q) n.1 t.1
         (fresh_later untagged ends f s _ _ _ _ _ v.found l fresh) fault o)))
@@ -218,10 +221,17 @@ module _ (untagged : ℕ → List ℕ) (ends : List ℕ) (f : FileScope) (result
         (λ is i w t g. objects_declared_by (declared (seen s own.1.file own.1.locals)) result loop true own.0.0 is.is_typed i w t g) in
         bound_err (switch_items result more own.1 loop kind own.0.1.all) _ fault (Stopped (k ++ l) s Is) h
         (λ o. stopped_later untagged ends f s _ _ _ _ _ v.found p l fresh Is (λ s. AreBrokenSwitchItems result more s loop kind own.0.1.all fault)
-        (λ g w is b. inr (own.0.1.cases, own.0.1.defaults, own.0.0, seen own.1 g w, is.erases,
-        more_items result more (seen own.1 g w) loop kind own.0.1.all _
-        ((λ x i. among_pushed before.cases own.0.1.cases x (subst (λ all. IsAmong all x) v.counted.pushed_are i)),
-        (let c = v.counted.counted in omega (arith, c))) fault b))
+        (λ g w is b. inr (
+          own.0.1.cases,
+          own.0.1.defaults,
+          own.0.0,
+          seen own.1 g w,
+          is.erases,
+          more_items result more (seen own.1 g w) loop kind own.0.1.all _ (
+            (λ x i. among_pushed before.cases own.0.1.cases x (subst (λ all. IsAmong all x) v.counted.pushed_are i)),
+            (let c = v.counted.counted in omega (arith, c)),
+          ) fault b,
+        ))
         (switch_items_stop more own.1 loop kind keeps own.0.1.all (v.counted.bounded few) q n.1 t.1
         (fresh_later untagged ends f s _ _ _ _ _ v.found l fresh) fault o))
         (λ rest e h. cc))

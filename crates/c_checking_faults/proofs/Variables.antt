@@ -106,8 +106,14 @@ module _ (untagged : ℕ → List ℕ) (ends : List ℕ) (f : FileScope) where
       (known_after n (many untagged ends f s p) v.grew) in
       beside_err steps.1 (variable_type steps.1.records (complete s x.from) x.from c) _ fault (Broken May s (λ s. IsBrokenLocal s static base d fault)) h
       (λ k. there May s (λ s. IsBrokenLocal s static base d fault) steps.1 r
-      (inr (inr (x, shape, name, declares, inr (by_rule (moved s steps.1) shape c sized (sized_here (moved s steps.1) shape d.value c sized)
-      (constants_stay v.grew.extends (λ ends file. VariableFault (ended ends x.from) c) (variable_fault steps.1.records (complete s x.from) x.from c ask fault k)))))))
+      (inr (inr (
+        x,
+        shape,
+        name,
+        declares,
+        inr (by_rule (moved s steps.1) shape c sized (sized_here (moved s steps.1) shape d.value c sized)
+            (constants_stay v.grew.extends (λ ends file. VariableFault (ended ends x.from) c) (variable_fault steps.1.records (complete s x.from) x.from c ask fault k))),
+      ))))
       (λ o k h.
       new_fault s (Some x) _ fault (Broken May s (λ s. IsBrokenLocal s static base d fault)) h
       (λ old. Results.here May s (λ s. IsBrokenLocal s static base d fault) (inr (inl (subst (λ o. IsOldName s o fault) (sym name) old))))

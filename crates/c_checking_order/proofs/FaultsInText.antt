@@ -36,7 +36,8 @@ module _ (untagged : ℕ → List ℕ) (types : List (List ℕ)) (law : TreesBeg
       (timely untagged types s.file.ends law s.is_inside (length s.file.records) a w from rest o (stands h) h.ahead) m f e
 
   pub faults_in_type : (m : Trees.TypeName) → IsTypeName types m → IsTypeInRange m → (from : ℕ) (rest : List Lexeme)
-      → AreOrdered from (spelled_type_name m rest) → IsAt (marks_of_type untagged m) rest → (f : Fault) → type_name m s ≡ Err f → Broken May s (λ s. IsBrokenTypeName m s f)
+      → AreOrdered from (spelled_type_name m rest) → IsAt (marks_of_type untagged m) rest → (f : Fault) → type_name m s ≡ Err f
+      → Broken May s (λ s. IsBrokenTypeName m s f)
   faults_in_type m w i from rest o h f e =
       faults_type untagged s.file.ends May m s (length s.file.records) i h.prepared (omega arith)
       (timely_type untagged types s.file.ends law s.is_inside (length s.file.records) m w from rest o (stands h) h.ahead) f e
