@@ -1,0 +1,5 @@
+mod Objects
+mod Bodies
+mod InTurn
+mod Tags
+mod NoTypedef

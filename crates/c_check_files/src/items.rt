@@ -1,0 +1,77 @@
+//! The items of a file (C99 6.9).
+
+ghost use Rattle.std.specs.Prelude.{◌≡◌, [], map};
+ghost use Rattle.c_ast.specs.Sizes.{IsCountable, size_item, size_items};
+ghost use Rattle.c_ast.specs.Trees;
+ghost use Rattle.c_ast.specs.Views.{item_of, items_of};
+ghost use Rattle.c_checking.specs.Files.{annotated as annotated_in, filed, filed_item, unread as unread_in};
+ghost use Rattle.c_externals.specs.Filing.{Files};
+ghost use Rattle.c_nodes.specs.Gives.{Gives};
+ghost use Rattle.c_scopes.specs.Scoping.{file_of};
+ghost use Rattle.c_tags.specs.Untagged.{untagged_by};
+ghost use Rattle.c_check_files.specs.Lists.{AreListsOf};
+
+use crate::declarations::declaration;
+use crate::definitions::definition;
+use c_ast::{Item, Tree, nodes_of_item};
+use c_externals::closed;
+use c_nodes::Fault;
+use c_scopes::{BoundNames, FileScope};
+use c_tags::Tags;
+use c_types::Records;
+use lay_base::List;
+use std::alloc::Global;
+
+/// A file before its first item: what its syntax alone tells.
+fn unread(alloc: Global, number: u16, tags: Tags) -> FileScope
+    ensures { (items : List Trees.Item) → AreListsOf items tags → file_of result ≡ unread_in number (untagged_by tags.untagged) items }
+{
+    FileScope {
+        number,
+        names: BoundNames::new(alloc),
+        tags,
+        records: Records::new(alloc),
+        objects: List::new(alloc),
+        functions: List::new(alloc),
+        mentions: List::new(alloc),
+    }
+}
+
+/// An item of a file, after those before it.
+#[tactic(auto, unfolding(c_checking::specs::Files::filed_item))]
+fn file_item(alloc: Global, item: &Item, file: &mut FileScope) -> Result<(), Fault>
+    requires { IsCountable (size_item (item_of item.now)) }
+    ensures { Files result (filed_item (item_of item.now) (file_of file.old)) file.new }
+{
+    let nodes = nodes_of_item(item);
+    match item {
+        Item::Function(f) => definition(alloc, f, nodes, file),
+        Item::Declaration(d) => declaration(alloc, d, nodes, file),
+    }
+}
+
+/// The items of a file, one after the other.
+fn file_items(alloc: Global, items: &[Item], file: &mut FileScope) -> Result<(), Fault>
+    requires { IsCountable (size_items (map item_of items.now)) }
+    ensures { Files result (filed (map item_of items.now) (file_of file.old)) file.new }
+{
+    for item in items {
+        match file_item(alloc, item, file) {
+            Ok(()) => {}
+            Err(fault) => return Err(fault),
+        }
+    }
+    Ok(())
+}
+
+/// The annotated file of a tree, which has that number among the files of its program, or a fault of it. `tags` are those of the tree.
+#[tactic(auto, unfolding(c_checking::specs::Files::annotated))]
+pub fn annotated(alloc: Global, number: u16, tags: Tags, tree: &Tree) -> Result<FileScope, Fault>
+    requires lists { AreListsOf (items_of tree.now) tags }
+    requires countable { IsCountable (size_items (items_of tree.now)) }
+    ensures { Gives file_of result (annotated_in number (untagged_by tags.untagged) (items_of tree.now)) }
+{
+    let mut file = unread(alloc, number, tags);
+    file_items(alloc, tree.items.as_slice(), &mut file)?;
+    Ok(closed(alloc, file)?)
+}
