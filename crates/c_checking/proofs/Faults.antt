@@ -782,4 +782,4 @@ module _ (untagged : ℕ → List ℕ) (ends : List ℕ) (May : ℕ → Type 0) 
       → Broken May s (StopsAtConstant untagged May a f)
   constant_faults a s n i p l t f h =
       constant_stops untagged May s a (find a (for_value s)) (reading a (for_value s) i p (value_makes May s.purpose (literals a))
-        (λ f k. faults a (for_value s) n i p l t (value_makes May s.purpose (literals a)) f k)) f h
+      (λ f k. faults a (for_value s) n i p l t (value_makes May s.purpose (literals a)) f k)) f h
