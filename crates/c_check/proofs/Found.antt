@@ -1,0 +1,54 @@
+-- What is found of a file, from what its tags and its annotated file are.
+use Rattle.std.proofs.Common.{◌≡◌, ◌∙◌, ℕ, List, refl}
+use Rattle.std.specs.Prelude.{Ok, Err}
+use Rattle.lay_base.specs.declared.place.File.{File}
+use Rattle.c_ast.specs.Sizes.{size_items}
+use Rattle.c_ast.specs.Trees
+use Rattle.c_ast.specs.TreesOfFiles.{IsTreeOf}
+use Rattle.c_typed.specs.Programs.{UnitData}
+use Rattle.c_erasure.specs.Scopes.{FileScope}
+use Rattle.c_checking.specs.Answers.{Answer}
+use Rattle.c_checking.specs.Files.{annotated}
+use Rattle.c_checking_items.specs.Found.{AnnotatedFilesAreFound, IsFound}
+use Rattle.c_tags.specs.TagLists.{AreTagsOf, TagLists}
+use Rattle.c_tags.specs.Untagged.{untagged_by}
+use Rattle.c_check_files.specs.Lists.{AreListsOf}
+use Rattle.c_nodes.specs.Gives.{Fails}
+use Rattle.c_nodes.specs.declared.fault.Fault.{Fault}
+use Rattle.c_nodes.specs.declared.fault.Fault.TheVariants as F
+use Rattle.c_units.specs.UnitWith.{unit_with}
+use Rattle.c_units.proofs.Nodes.{is_unit_of}
+use Rattle.c_check.specs.Checking.{Finds, IsUnitFound, OnFault, fault_in}
+
+pub lists_are : (name bytes : List ℕ) (items : List Trees.Item) (t : TagLists) → AreTagsOf name bytes items t → AreListsOf items t
+lists_are name bytes items t h = record { tags = h.tags; ends = h.ends; numbered = h.numbered }
+
+pub finds : (number : ℕ) (file : File) (items : List Trees.Item) (t : TagLists) (answer : Answer FileScope)
+    → AreTagsOf file.name file.bytes items t → annotated number (untagged_by t.untagged) items ≡ answer → Finds number file items answer
+finds number file items t answer h e = record {
+  untagged = untagged_by t.untagged;
+  tags = record { are = h.untagged; begin = h.begin };
+  is_found = e;
+}
+
+pub unit_found : AnnotatedFilesAreFound → (number : ℕ) (file : File) (items : List Trees.Item) (t : TagLists) (f : FileScope) (nodes : ℕ) (u : UnitData)
+    → IsTreeOf file.bytes items → AreTagsOf file.name file.bytes items t → annotated number (untagged_by t.untagged) items ≡ Ok f
+    → nodes ≡ (size_items items).nodes → u ≡ unit_with nodes f → IsUnitFound number file items u
+unit_found law number file items t f nodes u tree h e n is =
+    let found : IsFound number (untagged_by t.untagged) items f = law number (untagged_by t.untagged) file.bytes items f h.begin tree e in
+    record {
+      annotated_file = f;
+      finds = finds number file items t (Ok f) h e;
+      number_is = found.number;
+      of_tree = found.is_file;
+      unit = is ∙ is_unit_of items f nodes n;
+    }
+
+pub fault_found : (number : ℕ) (file : File) (items : List Trees.Item) (t : TagLists) (fault : Fault)
+    → AreTagsOf file.name file.bytes items t → Fails fault (annotated number (untagged_by t.untagged) items)
+    → OnFault number (fault_in number fault) (λ f. Finds number file items (Err f))
+fault_found number file items t (F.TooBig at) h e = (refl, finds number file items t _ h e)
+fault_found number file items t (F.IllTyped rule at) h e = (refl, finds number file items t _ h e)
+fault_found number file items t (F.Undeclared x at) h e = (refl, finds number file items t _ h e)
+fault_found number file items t (F.Redeclared x at first) h e = (refl, refl, finds number file items t _ h e)
+fault_found number file items t F.Memory h e = tt

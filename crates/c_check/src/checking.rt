@@ -1,0 +1,33 @@
+//! The unit of a file.
+
+ghost use Rattle.std.specs.Prelude.{◌≤◌, length};
+ghost use Rattle.c_ast.specs.Sizes.{IsCountable, size_items};
+ghost use Rattle.c_ast.specs.TreesOfFiles.{IsTreeOf};
+ghost use Rattle.c_ast.specs.Views.{items_of};
+ghost use Rattle.c_check.specs.Checking.{CheckGives};
+
+use crate::fault::{CheckFault, fault_in};
+use c_ast::{Tree, nodes};
+use c_check_files::annotated;
+use c_checking_items::annotated_files_are_found;
+use c_tags::Tags;
+use c_typed::Unit;
+use c_units::unit_of;
+use lay_base::File;
+use std::alloc::Global;
+
+/// What a file with that number gives to its program, by its tree, or a fault of its types.
+#[tactic(auto, using(crate::proofs::Found::lists_are, crate::proofs::Found::fault_found))]
+pub fn check(alloc: Global, number: u16, file: &File, tree: &Tree) -> Result<Unit, CheckFault>
+    requires short { length file.now.bytes ≤ 4194304 }
+    requires tree { IsTreeOf file.now.bytes (items_of tree.now) }
+    requires countable { IsCountable (size_items (items_of tree.now)) }
+    ensures { CheckGives number file.now (items_of tree.now) result }
+{
+    annotated_files_are_found();
+    let tags = Tags::of(alloc, tree, file)?;
+    match annotated(alloc, number, tags, tree) {
+        Ok(found) => Ok(unit_of(alloc, found, nodes(tree))?),
+        Err(fault) => Err(fault_in(number, fault)),
+    }
+}
