@@ -109,7 +109,7 @@ OTHER_TEXTS = {
     "TagClash": "{at}: record {subject} differs from {first}",
     "NameClash": "{at}: type of {subject} differs from {first}",
     "NoMain": "no function main",
-    "Limit": r"limit {subject} passed: \d+",
+    "Limit": "limit {subject} passed: {counted}",
 }
 
 
@@ -117,7 +117,7 @@ def text_wanted(row):
     """A regular expression for the refusal of a row."""
     at = f"{row.place_file}:{row.line_of(row.place_file, row.places[0])}" if row.places else ""
     first = f"{row.first_file}:{row.line_of(row.first_file, row.first)}" if row.first is not None else ""
-    return OTHER_TEXTS[row.answer].format(at=re.escape(at), first=re.escape(first), subject=row.subject)
+    return OTHER_TEXTS[row.answer].format(at=re.escape(at), first=re.escape(first), subject=row.subject, counted=row.counted)
 
 
 def check_other_rows(ask):

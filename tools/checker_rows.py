@@ -4,18 +4,17 @@
 A row is a line `[NAME] ANSWER | CLAUSE`, maybe with ` | own: REASON` after it, then the file's text up to an empty
 line. ANSWER is `accepted`, the name of a type rule, `Undeclared NAME`, `Redeclared NAME` or `TooBig`. In the text `@`
 stands before the token at which the refusal is, and `$` before the first declaration of what is declared again; both are
-no part of the file. Where several `@` stand, one of them is named. A line `#` is a comment. `own:` says why a compiler for
+no part of the file. Where several `@` stand, one of them is named. A line `# ..` is a comment, so a line marker in a text is a `#line`. `own:` says why a compiler for
 C99 answers otherwise; `warns:` says why it only warns. In `open.txt` stand texts whose answer is not settled.
 
-As a command: `--rust` writes the rows as a table in Rust, and without it the numbers are shown.
+As a command it shows the numbers.
 
 What is refused before types are looked at stands in `before_types.txt` (BadByte, BadLiteral, Unclosed, TooWide, NoParse, Unsupported KEYWORD), and what is
-refused when files are joined in `after_types.txt` (Missing NAME, Twice NAME, TagClash TAG, NameClash NAME, NoMain, Limit WHICH). There a line `== NAME`
-begins a file of that name. These rows are no part of the Rust table."""
+refused when files are joined in `after_types.txt` (Missing NAME, Twice NAME, TagClash TAG, NameClash NAME, NoMain, Limit WHICH COUNTED). There a line `== NAME`
+begins a file of that name."""
 
 import os
 import re
-import sys
 
 FOLDER = os.path.join(os.path.dirname(os.path.abspath(__file__)), "checker_rows")
 RULES = """Specifiers Constant Length Incomplete ByValue Operands Lvalue Assign Arguments Callee Return Condition Member Cast Label Jump
@@ -32,11 +31,11 @@ PLACE, FIRST = "@", "$"
 
 class Row:
     """`files` are the names and texts; `text` is that of the first. `places` and `first` are byte offsets in `place_file` and `first_file`.
-    `kind` is `own`, `warns`, `asks` or empty, and `reason` why."""
+    `subject` is what an answer names, and `counted` the number that passes a limit. `kind` is `own`, `warns`, `asks` or empty, and `reason` why."""
 
     def __init__(self, file, name, answer, clause, kind, reason, marked):
         self.file, self.name, self.clause, self.kind, self.reason = file, name, clause, kind, reason
-        self.answer, _, self.subject = answer.partition(" ")
+        self.answer, self.subject, self.counted = (answer.split(" ") + ["", ""])[:3]
         self.files, self.places, self.first = [], [], None
         self.place_file = self.first_file = None
         for file_name, part in files_in(marked):
@@ -68,6 +67,7 @@ class Row:
         where = f"{self.file}: {self.name}"
         assert self.answer in ["accepted", "open", *OF_TYPES, *BEFORE_TYPES, *AFTER_TYPES], f"{where}: {self.answer}"
         assert (self.answer in NAMING) == bool(self.subject), f"{where}: which name?"
+        assert (self.answer == "Limit") == bool(self.counted), f"{where}: which number?"
         assert (self.answer == "open") == (self.kind == "asks"), f"{where}: open and asks: go together"
         assert self.answer == "open" or bool(self.places) == (self.answer not in PLACELESS), f"{where}: the mark of the place"
         assert self.answer == "open" or (self.first is not None) == (self.answer in WITH_FIRST), f"{where}: the mark of the first declaration"
@@ -82,7 +82,7 @@ def files_in(marked):
 
 
 def split_header(line, file):
-    parts = re.fullmatch(r"\[([a-z0-9_]+)\] ([A-Za-z]+(?: [A-Za-z_0-9]+)?) \| ([^|]+?)(?: \| (own|warns|asks): (.+))?", line)
+    parts = re.fullmatch(r"\[([a-z0-9_]+)\] ([A-Za-z]+(?: [A-Za-z_0-9]+){,2}) \| ([^|]+?)(?: \| (own|warns|asks): (.+))?", line)
     assert parts, f"{file}: {line}"
     return [part or "" for part in parts.groups()]
 
@@ -110,35 +110,6 @@ def every_row():
     return rows
 
 
-# ---- as Rust
-
-
-def rust_bytes(text):
-    escaped = text.replace("\\", "\\\\").replace('"', '\\"').replace("\n", "\\n")
-    return f'b"{escaped}"'
-
-
-def rust_answer(row):
-    places = ", ".join(map(str, row.places))
-    if row.answer == "accepted":
-        return "Expected::Accepted"
-    if row.answer == "Undeclared":
-        return f"Expected::Undeclared(b\"{row.subject}\", &[{places}])"
-    if row.answer == "Redeclared":
-        return f"Expected::Redeclared(b\"{row.subject}\", &[{places}], {row.first})"
-    if row.answer == "TooBig":
-        return f"Expected::TooBig(&[{places}])"
-    return f"Expected::IllTyped(Rule::{row.answer}, &[{places}])"
-
-
-def rust_table(rows):
-    lines = [f"static ROWS: [Row; {len(rows)}] = ["]
-    for row in rows:
-        lines.append(f"    // {row.name} (C99 {row.clause})")
-        lines.append(f"    Row {{ text: {rust_bytes(row.text)}, expected: {rust_answer(row)} }},")
-    return "\n".join(lines + ["];"])
-
-
 def counts(rows):
     table = {}
     for row in rows:
@@ -149,9 +120,6 @@ def counts(rows):
 
 def main():
     settled, unsettled = all_rows()
-    if "--rust" in sys.argv:
-        print(rust_table(settled))
-        return
     for file, (accepted, refused) in counts(settled).items():
         print(f"{file:20} {accepted:4} accepted {refused:4} refused")
     by_answer = {answer: sum(row.answer == answer for row in settled) for answer in [*OF_TYPES, "accepted"]}

@@ -1,0 +1,62 @@
+//! Types as text.
+
+use crate::writer::Writer;
+use c_types::{IntKind, Ty};
+
+fn kind_word(kind: IntKind) -> &'static str {
+    match kind {
+        IntKind::Char => "char",
+        IntKind::SChar => "signed-char",
+        IntKind::UChar => "unsigned-char",
+        IntKind::Short => "short",
+        IntKind::UShort => "unsigned-short",
+        IntKind::Int => "int",
+        IntKind::UInt => "unsigned",
+        IntKind::Long => "long",
+        IntKind::ULong => "unsigned-long",
+    }
+}
+
+pub fn put_kind(out: &mut Writer, kind: IntKind) {
+    out.word(kind_word(kind));
+}
+
+/// A type: `int`, `(* char)`, `(array int 3)`, `(function int int char)` with the result first, `(struct 0)` by its number.
+pub fn put_type(out: &mut Writer, t: &Ty) {
+    match t {
+        Ty::Void => out.word("void"),
+        Ty::Int(kind) => put_kind(out, *kind),
+        Ty::Pointer(to) => {
+            out.open("*");
+            put_type(out, to.get());
+            out.close();
+        }
+        Ty::Array(element, length) => {
+            out.open("array");
+            put_type(out, element.get());
+            out.number(u64::from(*length));
+            out.close();
+        }
+        Ty::Function(result, parameters) => {
+            out.open("function");
+            put_type(out, result.get());
+            for parameter in parameters.as_slice() {
+                put_type(out, parameter);
+            }
+            out.close();
+        }
+        Ty::Record(number) => {
+            out.open("struct");
+            out.number(u64::from(*number));
+            out.close();
+        }
+    }
+}
+
+/// The type with a number.
+pub fn put_type_at(out: &mut Writer, types: &[Ty], number: u32) {
+    match types.get(number as usize) {
+        Some(t) => put_type(out, t),
+        None => out.word("no-type"),
+    }
+}
