@@ -14,3 +14,5 @@ pub mod JumpFaults
 pub mod StatementTimely
 pub mod BlockStops
 pub mod StatementStops
+pub mod BodyStops
+pub mod TextTimely

@@ -75,7 +75,7 @@ module _ (untagged : ℕ → List ℕ) (types : List (List ℕ)) (ends : List �
 
   -- ---- initializers
 
-  list_along : (b : Bool) (all : Trees.Arguments) → AreInitializers types b all → {rest : List Lexeme}
+  pub list_along : (b : Bool) (all : Trees.Arguments) → AreInitializers types b all → {rest : List Lexeme}
       → Along (marks_of_all untagged all) (spelled_arguments all rest) rest
   list_along b Trees.no_arguments w = none
   list_along b (Trees.and_argument comma a more) w = after (comma_along comma) (both (initializer_along untagged types a w.1) (list_along false more w.2))
