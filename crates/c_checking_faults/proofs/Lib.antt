@@ -16,3 +16,4 @@ pub mod BlockStops
 pub mod StatementStops
 pub mod BodyStops
 pub mod TextTimely
+mod InitialExample
