@@ -188,13 +188,19 @@ def check_program(folder, program, tools, what):
 
 # ---- what is refused
 
+NOT_BUILT = b"t.c: form not built yet"
+NO_MAIN = b"no function main"
+TOO_WIDE = b"t.c:1: literal or name too wide"
+SYNTAX = b"t.c:1: syntax error"
+BAD_BYTE = b"t.c:1: unexpected byte"
 
-def check_refused(folder, text, what):
+
+def check_refused(folder, text, told, what):
     path = os.path.join(folder, "o.elf")
     with open(path, "wb") as f:
         f.write(b"before")
     done = compile_text(folder, text)
-    wanted = (PROGRAM_STATUS, b"", b"layc: t.c: form not built yet\n")
+    wanted = (PROGRAM_STATUS, b"", b"layc: " + told + b"\n")
     check((done.returncode, done.stdout, done.stderr) == wanted, f"{what}: answers {done.returncode} {done.stderr!r}")
     with open(path, "rb") as f:
         check(f.read() == b"before", f"{what}: the file under OUT stays")
@@ -206,40 +212,40 @@ def main_of(text):
 
 def check_edges(folder, tools):
     refused = {
-        "an empty text": b"",
-        "a declaration in main": b"int main(void){int x;}",
-        "putchar undeclared": b"int main(void){putchar(65);return 0;}",
-        "putchar declared twice": b"int putchar(int);int putchar(int);int main(void){return 0;}",
-        "a leading zero": main_of(b"07"),
-        "two zeros": main_of(b"00"),
-        "2147483648": main_of(b"2147483648"),
-        "a number past 2^64": main_of(b"99999999999999999999999"),
-        "words that touch": b"intmain(void){return 0;}",
-        "a number that touches a word": b"int main(void){return0;}",
-        "a comment": b"int main(void){/**/return 0;}",
-        "a carriage return": b"int main(void){\r\nreturn 0;}",
-        "a form feed": b"int main(void){\freturn 0;}",
-        "a zero byte": b"int main(void){return 0;}\0",
-        "a byte above 127": b"int main(void){return 0;}\xff",
-        "unary minus": main_of(b"-1"),
-        "division": main_of(b"4/2"),
-        "a return without a value": b"int main(void){return;}",
-        "two returns": b"int main(void){return 1;return 2;}",
-        "a call after the return": b"int putchar(int);int main(void){return 1;putchar(65);}",
-        "a sum that does not end": main_of(b"1 +"),
-        "an open parenthesis": main_of(b"(1"),
-        "a closed parenthesis": main_of(b"1)"),
-        "text after the end": b"int main(void){return 0;}}",
-        "301 parentheses": main_of(b"(" * 301 + b"1" + b")" * 301),
-        "301 operators": main_of(b"1" + b"+1" * 301),
-        "50000 parentheses": main_of(b"(" * 30000 + b"1" + b")" * 30000),
-        "65537 bytes": main_of(b"0").ljust(65537),
+        "an empty text": (b"", NO_MAIN),
+        "a declaration in main": (b"int main(void){int x;}", NOT_BUILT),
+        "putchar undeclared": (b"int main(void){putchar(65);return 0;}", b"t.c:1: undeclared name putchar"),
+        "putchar declared twice": (b"int putchar(int);int putchar(int);int main(void){return 0;}", NOT_BUILT),
+        "a leading zero": (main_of(b"07"), NOT_BUILT),
+        "two zeros": (main_of(b"00"), NOT_BUILT),
+        "2147483648": (main_of(b"2147483648"), TOO_WIDE),
+        "a number past 2^64": (main_of(b"99999999999999999999999"), TOO_WIDE),
+        "words that touch": (b"intmain(void){return 0;}", SYNTAX),
+        "a number that touches a word": (b"int main(void){return0;}", b"t.c:1: undeclared name return0"),
+        "a comment": (b"int main(void){/**/return 0;}", NOT_BUILT),
+        "a carriage return": (b"int main(void){\r\nreturn 0;}", NOT_BUILT),
+        "a form feed": (b"int main(void){\freturn 0;}", NOT_BUILT),
+        "a zero byte": (b"int main(void){return 0;}\0", BAD_BYTE),
+        "a byte above 127": (b"int main(void){return 0;}\xff", BAD_BYTE),
+        "unary minus": (main_of(b"-1"), NOT_BUILT),
+        "division": (main_of(b"4/2"), NOT_BUILT),
+        "a return without a value": (b"int main(void){return;}", b"t.c:1: type rule Return broken"),
+        "two returns": (b"int main(void){return 1;return 2;}", NOT_BUILT),
+        "a call after the return": (b"int putchar(int);int main(void){return 1;putchar(65);}", NOT_BUILT),
+        "a sum that does not end": (main_of(b"1 +"), SYNTAX),
+        "an open parenthesis": (main_of(b"(1"), SYNTAX),
+        "a closed parenthesis": (main_of(b"1)"), SYNTAX),
+        "text after the end": (b"int main(void){return 0;}}", SYNTAX),
+        "301 parentheses": (main_of(b"(" * 301 + b"1" + b")" * 301), NOT_BUILT),
+        "301 operators": (main_of(b"1" + b"+1" * 301), NOT_BUILT),
+        "50000 parentheses": (main_of(b"(" * 30000 + b"1" + b")" * 30000), SYNTAX),
+        "65537 bytes": (main_of(b"0").ljust(65537), NOT_BUILT),
         # 6 tokens of declaration, 7 of main's head and end, 7 or 5 for each call
-        "10001 tokens": b"int putchar(int);int main(void){" + b"putchar(1+1);" * 1424 + b"putchar(1);" * 4 + b"}",
-        "a large file": b" " * (1 << 20),
+        "10001 tokens": (b"int putchar(int);int main(void){" + b"putchar(1+1);" * 1424 + b"putchar(1);" * 4 + b"}", NOT_BUILT),
+        "a large file": (b" " * (1 << 20), NO_MAIN),
     }
-    for what, text in refused.items():
-        check_refused(folder, text, what)
+    for what, (text, told) in refused.items():
+        check_refused(folder, text, told, what)
     one = number(1)
     deep, wide = one, one
     for _ in range(300):
@@ -297,7 +303,7 @@ def check_outside(folder):
     answers(["compile", "-o", "o", "."], OUTSIDE_STATUS, b"layc: cannot read .\n", "a directory as FILE")
     check(not os.path.exists(os.path.join(folder, "o")), "no file is made where FILE cannot be read")
     answers(["compile", "-o", "o", "t.c", "-"], OUTSIDE_STATUS, b"layc: cannot read -\n", "a hyphen as FILE")
-    answers(["compile", "-o", "o", "t.c", "t.c"], PROGRAM_STATUS, b"layc: t.c: form not built yet\n", "two files")
+    answers(["compile", "-o", "o", "t.c", "t.c"], PROGRAM_STATUS, b"layc: t.c:1: main defined again, first at t.c:1\n", "two files")
     answers(["compile", "-o", "o"] + ["t.c"] * 65, PROGRAM_STATUS, b"layc: limit Files passed: 65\n", "65 files")
     answers(["compile", "-o", "", "t.c"], OUTSIDE_STATUS, b"layc: write failed\n", "an empty name as OUT")
     answers(["compile", "-o", ".", "t.c"], OUTSIDE_STATUS, b"layc: write failed\n", "a directory as OUT")

@@ -80,12 +80,12 @@ static COME_TO: [(&[&str], u8, &[u8]); 8] = [
     (
         &["compile", "t.c", "-o", "o", "t.c"],
         122,
-        b"layc: t.c: form not built yet\n",
+        b"layc: t.c:1: main defined again, first at t.c:1\n",
     ),
     (
         &["compile", "o", "--plain", "t.c", "-o", "o"],
         122,
-        b"layc: o: form not built yet\n",
+        b"layc: o:1: syntax error\n",
     ),
     // A lone hyphen is a name, and so is each word after two of them.
     (&["compile", "-o", "o", "-"], 121, b"layc: cannot read -\n"),
@@ -170,7 +170,7 @@ fn more_than_64_files_are_counted_and_not_read(rt: HostRuntime) -> Result<(), Fa
             PRINTS_A,
             NONE,
             122,
-            b"layc: t.c: form not built yet\n",
+            b"layc: t.c:1: main defined again, first at t.c:1\n",
         ),
     )?;
     words.push("t.c")?;

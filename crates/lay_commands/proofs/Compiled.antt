@@ -9,52 +9,59 @@ use Rattle.lay_base.specs.Known.{Contents, IfKnown, FilesKeep, FilesKeepBut}
 use Rattle.lay_base.specs.declared.place.File.{File}
 use Rattle.refusals.specs.declared.refusal.Refusal.{Refusal}
 use Rattle.refusals.specs.declared.refusal.Refusal.TheVariants as R
+use Rattle.lay_base.specs.declared.faults.LimitKind.TheVariants as L
 use Rattle.thin_parser.specs.ThinTree.{Program}
 use Rattle.thin_parser.specs.ThinText.{IsThinText}
 use Rattle.lay_commands.specs.Words.{Compilation}
 use Rattle.lay_commands.specs.Outside.{Stream, outside}
-use Rattle.lay_commands.specs.Compiling.{AgreesWith, most_files, WasTextOf, WasNoText, IsCompiled, IsPartlyCompiled, IsCompiledTo}
-use Rattle.lay_commands.specs.Stages.{IsRead, SpellThin, ProgramGives, ElfGives, ReportGives, CompileGives}
+use Rattle.lay_commands.specs.declared.front_end.PlaceTexts.{PlaceTexts}
+use Rattle.lay_commands.specs.FrontEnd.{AreRefused, AreTexts, IsRefused}
+use Rattle.lay_commands.specs.Compiling.{AgreesWith, most_files, IsRead, WereSo, SpellThin, AreNotBuilt, WasTextOf, IsCompiled, IsPartlyCompiled}
+use Rattle.lay_commands.specs.Compiling.{IsCompiledTo}
+use Rattle.lay_commands.specs.Stages.{ProgramGives, ElfGives, ReportGives, CompileGives, HasTexts}
 use Rattle.lay_commands.proofs.Files.{keep_then_but, keep_then_same}
-use Rattle.lay_commands.proofs.FilesRead.{all_readable, no_name}
-
--- one name is that of one file
-only_file : (files : List File) (name : List ℕ) → map (λ file. file.name) files ≡ name ∷ [] → (file : File) × (files ≡ file ∷ []) × (file.name ≡ name)
-only_file [] name e = cc
-only_file (file ∷ []) name e = (file, refl, cc)
-only_file (file ∷ other ∷ more) name e = cc
+use Rattle.lay_commands.proofs.FilesRead.{no_name}
+use Rattle.lay_commands.proofs.FrontFaults.{no_files_limit}
 
 -- ---- no program
-
-no_text : (files : Option Contents) (read : List File) (names : List (List ℕ)) → map (λ file. file.name) read ≡ names → All (IsRead files) read
-    → ((p : Program) → SpellThin read p → ⊥) → WasNoText files names
-no_text None read names named all none file one = tt
-no_text (Some files) read names named all none file one =
-    let only = only_file read file (named ∙ one) in
-    let known = All-head (IsRead (Some files)) only.0 [] (subst (All (IsRead (Some files))) only.1 all) in
-    (only.0.bytes, subst (λ (name : List ℕ). files name ≡ Some only.0.bytes) only.2 known.0, λ p thin. none p (only.0, only.1, thin))
 
 abbrev name_of : Bor (List ℕ) → List ℕ
 name_of name = name.now
 
--- the files are read, and spell no program, or memory is out
-pub program_refused : (c : Compilation) (f0 f1 : Option Contents) (reads0 reads1 writes0 writes1 : List ℕ → ℕ) (input reported : Stream)
-    (names : List (Bor (List ℕ))) (read : List File) (refusal : Refusal)
-    → c.files ≡ map (λ name. name.now) names → 1 ≤ length c.files → length names ≤ most_files → FilesKeep f0 f1
-    → map (λ file. file.name) read ≡ map (λ name. name.now) names → All (IsRead f0) read → ProgramGives (get_or names 0 no_name).now read (Err refusal)
-    → CompileGives c (outside f0 reads0 writes0 input reported) (outside f1 reads1 writes1 input reported) (Err refusal)
-program_refused c f0 f1 reads0 reads1 writes0 writes1 input reported names read (R.NotBuilt name) files some few kept named all gives = (
-  record {
-    few = rw (files, length-map) few;
-    first = rw (files, gives.0) (slice_get-map name_of names 0 ∙ ap (option_map name_of) (slice_get-get_or names 0 no_name (rw (files, length-map) at some)));
-    read = rw (files, ← named) (all_readable f0 read all);
-    cause = no_text f0 read c.files (named ∙ sym files) all gives.1;
-  },
-  record { files = kept; input = refl; out = refl },
-)
-program_refused c f0 f1 reads0 reads1 writes0 writes1 input reported names read R.Memory files some few kept named all gives =
-    record { files = kept; input = refl; out = refl }
-program_refused c f0 f1 reads0 reads1 writes0 writes1 input reported names read _ files some few kept named all gives = absurd gives
+-- the files were so at entry
+so : (f : Option Contents) (names : List (Bor (List ℕ))) (read : List File) (P : List File → Type 0) → length names ≤ most_files
+    → map (λ file. file.name) read ≡ map (λ name. name.now) names → All (IsRead f) read → P read → WereSo f (map (λ name. name.now) names) P
+so f names read P few named all holds = record { few = rw length-map few; read = read; named = named; as_known = all; holds = holds }
+
+-- the texts of the places are those in these files
+pub program_texts : (f : Option Contents) (names : List (Bor (List ℕ))) (read : List File) (texts : PlaceTexts) (refusal : Refusal)
+    → length names ≤ most_files → map (λ file. file.name) read ≡ map (λ name. name.now) names → All (IsRead f) read → AreTexts read refusal texts
+    → HasTexts f (map (λ name. name.now) names) texts refusal
+program_texts f names read texts refusal few named all are = λ place. so f names read (λ r. AreTexts r refusal texts) few named all are
+
+module _ (c : Compilation) (f0 f1 : Option Contents) (reads0 reads1 writes0 writes1 : List ℕ → ℕ) (input reported : Stream)
+    (names : List (Bor (List ℕ))) (read : List File) (files : c.files ≡ map (λ name. name.now) names) (few : length names ≤ most_files) (kept : FilesKeep f0 f1)
+    (named : map (λ file. file.name) read ≡ map (λ name. name.now) names) (all : All (IsRead f0) read) where
+  -- for the cause that the refusal tells, or memory is out
+  files_refused : (refusal : Refusal) → IsRefused read refusal
+      → CompileGives c (outside f0 reads0 writes0 input reported) (outside f1 reads1 writes1 input reported) (Err refusal)
+  files_refused (R.Limit L.Files counted) refused = absurd (no_files_limit read counted refused)
+  files_refused (R.FileFault name) refused = let none = refused.1 in cc
+  files_refused (R.TooLong name) refused = let none = refused.1 in cc
+  files_refused (R.NotBuilt name) refused = let none = refused.1 in cc
+  files_refused R.WriteFault refused = let none = refused.1 in cc
+  files_refused R.Memory refused = record { files = kept; input = refl; out = refl }
+  files_refused refusal refused = (rw files (so f0 names read (λ r. AreRefused r refusal) few named all refused), record { files = kept; input = refl; out = refl })
+
+  -- they are no program, or no thin one, or memory is out
+  pub program_refused : (refusal : Refusal) → 1 ≤ length c.files → ProgramGives (get_or names 0 no_name).now read (Err refusal)
+      → CompileGives c (outside f0 reads0 writes0 input reported) (outside f1 reads1 writes1 input reported) (Err refusal)
+  program_refused (R.NotBuilt name) some gives = (
+    rw (files, gives.0) (slice_get-map name_of names 0 ∙ ap (option_map name_of) (slice_get-get_or names 0 no_name (rw (files, length-map) at some))),
+    rw files (so f0 names read AreNotBuilt few named all gives.1),
+    record { files = kept; input = refl; out = refl },
+  )
+  program_refused refusal some gives = files_refused refusal gives
 
 -- ---- a program
 

@@ -11,8 +11,8 @@ use Rattle.lay_base.specs.Known.{Contents, IfKnown, FilesKeep}
 use Rattle.lay_base.specs.declared.place.File.{File}
 use Rattle.refusals.specs.declared.refusal.Refusal.{Refusal}
 use Rattle.refusals.specs.declared.refusal.Refusal.TheVariants as R
-use Rattle.lay_commands.specs.Compiling.{most_files, file_limit, IsReadable, ComesTo}
-use Rattle.lay_commands.specs.Stages.{BytesGive, IsRead, FilesGive}
+use Rattle.lay_commands.specs.Compiling.{most_files, file_limit, IsReadable, IsRead, ComesTo}
+use Rattle.lay_commands.specs.Stages.{BytesGive, FilesGive}
 
 -- ---- known files over calls that change none
 
@@ -49,6 +49,15 @@ readable (Some files) file read = (file.bytes, read.0, read.1, tt)
 
 pub all_readable : (f : Option Contents) (files : List File) → All (IsRead f) files → All (IsReadable f) (map (λ file. file.name) files)
 all_readable f files read = All-map (IsReadable f) (λ file. file.name) files (All-weaker (IsRead f) (λ file. IsReadable f file.name) (readable f) files read)
+
+-- files that were read are no more than their names, and within the limit of a file
+pub few_read : (files : List File) (names : List (Bor (List ℕ))) → map (λ file. file.name) files ≡ map (λ name. name.now) names → length names ≤ most_files
+    → length files ≤ most_files
+few_read files names named few =
+    let count = ap (λ (l : List (List ℕ)). length l) named in rw (length-map, length-map) at count in rw count few
+
+pub short_read : (f : Option Contents) (files : List File) → All (IsRead f) files → All (λ file. length file.bytes ≤ file_limit) files
+short_read f files read = All-weaker (IsRead f) (λ file. length file.bytes ≤ file_limit) (λ file was. was.1) files read
 
 -- a name that is never read, for the names of lists within their length
 abbrev pub no_name : Bor (List ℕ)

@@ -3,6 +3,7 @@ pub mod Found
 pub mod Spelled
 pub mod Files
 pub mod FilesRead
+pub mod FrontFaults
 pub mod Compiled
 pub mod Refused
 pub mod Ran

@@ -1,11 +1,13 @@
 -- The outside after `compile`.
-use Rattle.std.specs.Prelude.{◌≡◌, ℕ, ◌≤◌, List, [], ◌∷◌, ◌++◌, length, take, slice_get, codes, All, Option, Some, ◌⊎◌, ⊤}
+use Rattle.std.specs.Prelude.{◌≡◌, ℕ, ◌≤◌, List, [], ◌∷◌, ◌++◌, length, map, take, slice_get, codes, All, Option, Some, ◌⊎◌, ⊤}
 use Rattle.lay_base.specs.Known.{Contents, Rose, IfKnown, Appends, FilesKeepBut}
+use Rattle.lay_base.specs.declared.place.File.{File}
 use Rattle.thin_parser.specs.ThinTree.{Program}
 use Rattle.thin_parser.specs.ThinText.{IsThinText}
 use Rattle.thin_code.specs.Meaning.{thin_run, IsLight}
 use Rattle.agreement.specs.Agreement.{Agrees}
 use Rattle.lay_commands.specs.Words.{Compilation}
+use Rattle.lay_commands.specs.FrontEnd.{AreProgram}
 use Rattle.lay_commands.specs.Outside.{Outside, HoldsWithin}
 
 -- the greatest number of files that a program has
@@ -35,22 +37,30 @@ pub record ComesTo (files : Option Contents) (names : List (List ℕ)) (name : L
   pub few : length names ≤ most_files
   pub place : (k : ℕ) × (slice_get names k ≡ Some name) × All (IsReadable files) (take k names)
 
+-- the file has the bytes under its name, where these are known, and is within the limit
+abbrev pub IsRead : Option Contents → File → Type 0
+IsRead files file = IfKnown files file.name (λ was. was ≡ Some file.bytes) × (length file.bytes ≤ file_limit)
+
+-- There are no more names than a program has files. The files under them, as they were at entry, are so.
+pub record WereSo (files : Option Contents) (names : List (List ℕ)) (P : List File → Type 0) : Type 0 where
+  pub few : length names ≤ most_files
+  pub read : List File
+  pub named : map (λ file. file.name) read ≡ names
+  pub as_known : All (IsRead files) read
+  pub holds : P read
+
+-- the files are one, whose bytes are the text of the program
+abbrev pub SpellThin : List File → Program → Type 0
+SpellThin files p = (file : File) × (files ≡ file ∷ []) × IsThinText file.bytes p
+
+-- the files are a program of the language, and are several, or one that is no thin text
+abbrev pub AreNotBuilt : List File → Type 0
+AreNotBuilt files = AreProgram files × ((p : Program) → SpellThin files p → ⊥)
+
 -- There is one name. Where the files are known, it had the text of a program with that fact.
 abbrev pub WasTextOf : Option Contents → (names : List (List ℕ)) → (Program → Type 0) → Type 0
 WasTextOf files names P = (file : List ℕ) × (names ≡ file ∷ [])
     × IfKnown files file (λ was. (text : List ℕ) × (was ≡ Some text) × ((p : Program) × IsThinText text p × P p))
-
--- If there is one name, and the files are known, it had the text of no program.
-abbrev pub WasNoText : Option Contents → (names : List (List ℕ)) → Type 0
-WasNoText files names = (file : List ℕ) → names ≡ file ∷ []
-    → IfKnown files file (λ was. (text : List ℕ) × (was ≡ Some text) × ((p : Program) → IsThinText text p → ⊥))
-
--- There are no more names than a program has files, and all can be read. They are several, or one that is no thin text. The first is named.
-pub record AreNotThin (files : Option Contents) (names : List (List ℕ)) (name : List ℕ) : Type 0 where
-  pub few : length names ≤ most_files
-  pub first : slice_get names 0 ≡ Some name
-  pub read : All (IsReadable files) names
-  pub cause : WasNoText files names
 
 -- ---- what is left
 

@@ -1,6 +1,7 @@
 pub mod CommandLine
 pub mod Words
 pub mod Outside
+pub mod FrontEnd
 pub mod Compiling
 pub mod Running
 pub mod Stages

@@ -16,7 +16,10 @@ use Rattle.rv_machine.specs.declared.machine.MachineEnd.{MachineEnd}
 use Rattle.rv_machine.specs.declared.machine.MachineEnd.TheVariants as E
 use Rattle.lay_commands.specs.Words.{Compilation}
 use Rattle.lay_commands.specs.Outside.{Outside, IsUntouched, HoldsLonger}
-use Rattle.lay_commands.specs.Compiling.{most_files, file_limit, ComesTo, AreNotThin, IsDone, HostFailed, OutFailed, report}
+use Rattle.refusals.specs.Table.{HasPlace}
+use Rattle.lay_commands.specs.declared.front_end.PlaceTexts.{PlaceTexts}
+use Rattle.lay_commands.specs.FrontEnd.{AreRefused, AreTexts, IsRefused}
+use Rattle.lay_commands.specs.Compiling.{most_files, file_limit, ComesTo, IsRead, WereSo, SpellThin, AreNotBuilt, IsDone, HostFailed, OutFailed, report}
 use Rattle.lay_commands.specs.Running.{elf_limit, HoldsElf, Ended, WouldGoOn, Stopped, StoppedInRead, StoppedInWrite}
 
 -- ---- a file, of either command
@@ -38,10 +41,6 @@ NumberGives files (Ok done) = files ≤ most_files
 NumberGives files (Err (R.Limit L.Files counted)) = (counted ≡ files) × (most_files < files)
 NumberGives files (Err _) = ⊥
 
--- the file has the bytes under its name, where these are known, and is within the limit
-abbrev pub IsRead : Option Contents → File → Type 0
-IsRead files file = IfKnown files file.name (λ was. was ≡ Some file.bytes) × (length file.bytes ≤ file_limit)
-
 -- the files are read, in the order of their names
 abbrev pub FilesGive : (reads_before reads_now : List ℕ → ℕ) → Option Contents → (names : List (List ℕ)) → Result (List File) Refusal → Type 0
 FilesGive before now files names (Ok read) = (map (λ file. file.name) read ≡ names) × All (IsRead files) read
@@ -51,16 +50,18 @@ FilesGive before now files names (Err (R.TooLong name)) = ComesTo files names na
 FilesGive before now files names (Err R.Memory) = Unit {0}
 FilesGive before now files names (Err _) = ⊥
 
--- the files are one, whose bytes are the text of the program
-abbrev pub SpellThin : List File → Program → Type 0
-SpellThin files p = (file : File) × (files ≡ file ∷ []) × IsThinText file.bytes p
+-- files that are a program spell a thin one; a refusal has the name that is given
+abbrev pub ThinGives : (given : List ℕ) (files : List File) → Result Thin Refusal → Type 0
+ThinGives given files (Ok t) = SpellThin files (program_of t)
+ThinGives given files (Err (R.NotBuilt name)) = (name ≡ given) × AreNotBuilt files
+ThinGives given files (Err R.Memory) = Unit {0}
+ThinGives given files (Err _) = ⊥
 
--- their program is found; a refusal has the name that is given
+-- the same of files that may be none
 abbrev pub ProgramGives : (given : List ℕ) (files : List File) → Result Thin Refusal → Type 0
 ProgramGives given files (Ok t) = SpellThin files (program_of t)
-ProgramGives given files (Err (R.NotBuilt name)) = (name ≡ given) × ((p : Program) → SpellThin files p → ⊥)
-ProgramGives given files (Err R.Memory) = Unit {0}
-ProgramGives given files (Err _) = ⊥
+ProgramGives given files (Err (R.NotBuilt name)) = (name ≡ given) × AreNotBuilt files
+ProgramGives given files (Err refusal) = IsRefused files refusal
 
 -- the ELF file is written under OUT
 abbrev pub ElfGives : (writes_before writes_now : ℕ) → (before now : Option Contents) → (out elf : List ℕ) → Result (Unit {0}) Refusal → Type 0
@@ -83,10 +84,15 @@ CompileGives c before now (Err (R.Limit L.Files counted)) = (counted ≡ length 
 CompileGives c before now (Err (R.FileFault name)) =
     ComesTo before.files c.files name × Rose (before.failed_reads name) (now.failed_reads name) × IsUntouched before now
 CompileGives c before now (Err (R.TooLong name)) = ComesTo before.files c.files name × HoldsLonger file_limit name before now × IsUntouched before now
-CompileGives c before now (Err (R.NotBuilt name)) = AreNotThin before.files c.files name × IsUntouched before now
+CompileGives c before now (Err (R.NotBuilt name)) =
+    (slice_get c.files 0 ≡ Some name) × WereSo before.files c.files AreNotBuilt × IsUntouched before now
 CompileGives c before now (Err R.WriteFault) = HostFailed c before now ⊎ OutFailed c before now
 CompileGives c before now (Err R.Memory) = IsUntouched before now
-CompileGives c before now (Err _) = ⊥
+CompileGives c before now (Err refusal) = WereSo before.files c.files (λ files. AreRefused files refusal) × IsUntouched before now
+
+-- the places of a refusal, if it has any, are in the files under these names, as they were at entry, and have these texts
+abbrev pub HasTexts : Option Contents → (names : List (List ℕ)) → PlaceTexts → Refusal → Type 0
+HasTexts files names texts refusal = HasPlace refusal → WereSo files names (λ read. AreTexts read refusal texts)
 
 -- ---- run
 

@@ -1,14 +1,16 @@
 //! `compile`: from the texts of a program's files to an ELF file and a report.
 
-ghost use Rattle.std.specs.Prelude.{◌≡◌, ◌<◌, ◌≤◌, ℕ, List, IfOk, OnOk, All, length, map, slice_get, Some};
+ghost use Rattle.std.specs.Prelude.{◌≡◌, ◌<◌, ◌≤◌, ℕ, List, IfOk, IfErr, OnOk, All, length, map, slice_get, Some};
 ghost use Rattle.lay_base.specs.Known.{FilesKeep, FilesKeepBut};
 ghost use Rattle.thin_parser.specs.ThinTree.{program_of};
 ghost use Rattle.thin_parser.specs.ThinText.{punctuators, whole_sums, spelled_program};
 ghost use Rattle.lay_commands.specs.Words.{IsInRange, compilation_of};
 ghost use Rattle.lay_commands.specs.Outside.{Stream, outside, stream};
+ghost use Rattle.lay_commands.specs.FrontEnd.{AreProgram, AreTexts};
 ghost use Rattle.lay_commands.specs.Compiling.{AgreesWith, most_files};
-ghost use Rattle.lay_commands.specs.Stages.{NumberGives, FilesGive, ProgramGives, ElfGives, ReportGives, CompileGives};
+ghost use Rattle.lay_commands.specs.Stages.{NumberGives, FilesGive, ThinGives, ProgramGives, ElfGives, ReportGives, CompileGives, HasTexts};
 
+use crate::front_end::{PlaceTexts, check_files};
 use crate::reading::bytes_of;
 use crate::words::CompileRequest;
 use lay_base::{Bytes, File, Files, Host, HostWrite, LimitKind, List, Name, NoMemory, Sink, add};
@@ -49,10 +51,10 @@ fn read_files<H: Host>(alloc: Global, host: &mut H, names: &[&str]) -> Result<Fi
     Ok(files)
 }
 
-/// The program that the files spell. A refusal has the name that is given. It takes the files, so that their
-/// memory is free after it.
-fn program_in(alloc: Global, name: &str, files: Files) -> Result<Thin, Refusal>
-    ensures { ProgramGives name.now files result }
+/// The thin program that the files spell, which are a program. A refusal has the name that is given.
+fn thin_in(alloc: Global, name: &str, files: &Files) -> Result<Thin, Refusal>
+    requires { AreProgram files.now }
+    ensures { ThinGives name.now files.now result }
 {
     if let [file] = files.as_slice() {
         if let Some(program) = thin(alloc, file.bytes.as_slice())? {
@@ -60,6 +62,23 @@ fn program_in(alloc: Global, name: &str, files: Files) -> Result<Thin, Refusal>
         }
     }
     Err(Refusal::NotBuilt(Name::copy_of(alloc, name)?))
+}
+
+/// The thin program of the files. It takes them, so that their memory is free after it. A refusal leaves the texts of its places.
+#[tactic(auto, using(crate::proofs::FrontFaults::refused_gives, crate::proofs::FrontFaults::thin_gives, crate::proofs::FrontFaults::thin_texts))]
+fn program_in(
+    alloc: Global,
+    name: &str,
+    files: Files,
+    texts: &mut PlaceTexts,
+) -> Result<Thin, Refusal>
+    requires few { length files ≤ 64 }
+    requires short { All (λ file. length file.bytes ≤ 4194304) files }
+    ensures gives { ProgramGives name.now files result }
+    ensures texts { IfErr result (λ refusal. AreTexts files refusal texts.new) }
+{
+    check_files(alloc, &files, texts)?;
+    thin_in(alloc, name, &files)
 }
 
 /// The ELF file of a program, with so many MiB of heap and of stack.
@@ -98,25 +117,29 @@ fn write_report<O: Sink>(out: &mut O) -> Result<(), Refusal>
     }
 }
 
-/// Compiles a program: each stage refuses what it cannot take, and only the last two write.
+/// Compiles a program: each stage refuses what it cannot take, and only the last two write. A refusal leaves the texts of its places.
+#[tactic(auto, using(crate::proofs::FrontFaults::number_texts, crate::proofs::FrontFaults::files_texts, crate::proofs::FrontFaults::memory_texts,
+    crate::proofs::FrontFaults::elf_texts, crate::proofs::FrontFaults::report_texts))]
 pub fn compile<H: Host, O: Sink>(
     alloc: Global,
     request: CompileRequest<'_, '_>,
     host: &mut H,
     out: &mut O,
+    texts: &mut PlaceTexts,
 ) -> Result<(), Refusal>
     requires { IsInRange (compilation_of request) }
     // Whatever the input is, it stays.
-    ensures { (input : Stream) →
+    ensures gives { (input : Stream) →
         let before = outside (H.files host.old) (H.failed_reads host.old) (H.failed_writes host.old)
         input (stream (O.written out.old) (O.faults out.old)) in
         let now = outside (H.files host.new) (H.failed_reads host.new) (H.failed_writes host.new)
         input (stream (O.written out.new) (O.faults out.new)) in
         CompileGives (compilation_of request.entry) before now result }
+    ensures texts { IfErr result (HasTexts (H.files host.old) (compilation_of request.entry).files texts.new) }
 {
     check_number(request.files)?;
     let files = read_files(alloc, host, request.files)?;
-    let program = program_in(alloc, request.files[0], files)?;
+    let program = program_in(alloc, request.files[0], files, texts)?;
     let elf = elf_of(alloc, &program, request.heap, request.stack)?;
     write_elf(host, request.out, &elf)?;
     write_report(out)

@@ -7,6 +7,7 @@
 
 mod command_line;
 mod compiling;
+mod front_end;
 mod numbers;
 mod outcome;
 mod reading;

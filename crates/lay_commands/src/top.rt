@@ -5,25 +5,28 @@ ghost use Rattle.std.specs.String.{string_bytes};
 ghost use Rattle.clap.specs.Simple.{subcommand_rows_of};
 ghost use Rattle.lay_commands.specs.Words.{command_found, command_of};
 ghost use Rattle.lay_commands.specs.Outside.{outside, stream};
-ghost use Rattle.lay_commands.specs.Answers.{ErrGives, MayRead, OutcomeGives};
+ghost use Rattle.lay_commands.specs.FrontEnd.{or_empty};
+ghost use Rattle.lay_commands.specs.Answers.{ErrGives, MayRead, OutcomeGives, OutcomeHas};
 
 use crate::compiling::compile;
+use crate::front_end::PlaceTexts;
 use crate::outcome::Outcome;
 use crate::running::run;
 use crate::words::{Request, matches_in, request_in};
 use clap::ArgMatches;
-use lay_base::{Host, NoMemory, Sink, Source};
+use lay_base::{Bytes, Host, NoMemory, Sink, Source};
 use refusals::{Refusal, put_refusal};
 use std::alloc::Global;
 
-/// Does what is asked for.
-#[tactic(auto, using(crate::proofs::Refused::compile_refused, crate::proofs::Refused::run_refused))]
+/// Does what is asked for. A refusal leaves the texts of its places, if it has any.
+#[tactic(auto, using(crate::proofs::Refused::compile_refused, crate::proofs::Refused::run_refused, crate::proofs::Refused::run_texts))]
 fn outcome_for<H: Host, I: Source, O: Sink>(
     alloc: Global,
     matches: &ArgMatches<'_>,
     host: &mut H,
     input: &mut I,
     out: &mut O,
+    texts: &mut PlaceTexts,
 ) -> Outcome
     ensures input { (input.new ≡ input.old) ⊎ MayRead (option_and_then command_found (subcommand_rows_of matches.now)) result }
     ensures gives { let before = outside (H.files host.old) (H.failed_reads host.old) (H.failed_writes host.old)
@@ -31,9 +34,11 @@ fn outcome_for<H: Host, I: Source, O: Sink>(
         let now = outside (H.files host.new) (H.failed_reads host.new) (H.failed_writes host.new)
         (stream (I.left input.new) (I.faults input.new)) (stream (O.written out.new) (O.faults out.new)) in
         OutcomeGives (option_and_then command_found (subcommand_rows_of matches.now)) before now result }
+    ensures texts { OutcomeHas (option_and_then command_found (subcommand_rows_of matches.now)) (H.files host.old) result
+        (or_empty texts.new.at) (or_empty texts.new.first) }
 {
     match request_in(matches) {
-        Some(Request::Compile(request)) => match compile(alloc, request, host, out) {
+        Some(Request::Compile(request)) => match compile(alloc, request, host, out, texts) {
             Ok(()) => Outcome::Done,
             Err(refusal) => Outcome::Refused(refusal),
         },
@@ -45,13 +50,14 @@ fn outcome_for<H: Host, I: Source, O: Sink>(
     }
 }
 
-/// Does what the words ask for.
+/// Does what the words ask for. A refusal leaves the texts of its places, if it has any.
 fn outcome_of<H: Host, I: Source, O: Sink>(
     alloc: Global,
     words: &[String],
     host: &mut H,
     input: &mut I,
     out: &mut O,
+    texts: &mut PlaceTexts,
 ) -> Outcome
     ensures input { (input.new ≡ input.old) ⊎ MayRead (command_of (map string_bytes words.now)) result }
     ensures gives { let before = outside (H.files host.old) (H.failed_reads host.old) (H.failed_writes host.old)
@@ -59,16 +65,28 @@ fn outcome_of<H: Host, I: Source, O: Sink>(
         let now = outside (H.files host.new) (H.failed_reads host.new) (H.failed_writes host.new)
         (stream (I.left input.new) (I.faults input.new)) (stream (O.written out.new) (O.faults out.new)) in
         OutcomeGives (command_of (map string_bytes words.now)) before now result }
+    ensures texts { OutcomeHas (command_of (map string_bytes words.now)) (H.files host.old) result
+        (or_empty texts.new.at) (or_empty texts.new.first) }
 {
     match matches_in(alloc, words) {
-        Ok(Some(matches)) => outcome_for(alloc, &matches, host, input, out),
+        Ok(Some(matches)) => outcome_for(alloc, &matches, host, input, out, texts),
         Ok(None) => Outcome::Refused(Refusal::Usage),
         Err(NoMemory) => Outcome::Refused(Refusal::Memory),
     }
 }
 
+fn text_of(text: &Option<Bytes>) -> &[u8]
+    ensures { result.now ≡ or_empty text.now }
+{
+    match text {
+        Some(text) => text.as_slice(),
+        None => b"".as_slice(),
+    }
+}
+
 /// Runs the command that the words after the program's own name ask for. A refusal writes its
 /// text to `err`; a fault of `err` does not change the outcome.
+#[tactic(auto, using(crate::proofs::Refused::reported))]
 pub fn layc<H: Host, I: Source, O: Sink, E: Sink>(
     alloc: Global,
     words: &[String],
@@ -83,11 +101,13 @@ pub fn layc<H: Host, I: Source, O: Sink, E: Sink>(
         let now = outside (H.files host.new) (H.failed_reads host.new) (H.failed_writes host.new)
         (stream (I.left input.new) (I.faults input.new)) (stream (O.written out.new) (O.faults out.new)) in
         OutcomeGives (command_of (map string_bytes words.now)) before now result }
-    ensures err { ErrGives (stream (E.written err.old) (E.faults err.old)) (stream (E.written err.new) (E.faults err.new)) result }
+    ensures err { ErrGives (command_of (map string_bytes words.now)) (H.files host.old) (stream (E.written err.old) (E.faults err.old))
+        (stream (E.written err.new) (E.faults err.new)) result }
 {
-    let outcome = outcome_of(alloc, words, host, input, out);
+    let mut texts = PlaceTexts::none();
+    let outcome = outcome_of(alloc, words, host, input, out, &mut texts);
     if let Outcome::Refused(refusal) = &outcome {
-        let _ = put_refusal(err, refusal, b"", b"");
+        let _ = put_refusal(err, refusal, text_of(&texts.at), text_of(&texts.first));
     }
     outcome
 }

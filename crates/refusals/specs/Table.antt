@@ -1,6 +1,8 @@
 -- Codes, exit statuses and texts of refusals: one table, by its columns.
-use Rattle.std.specs.Prelude.{ℕ, ◌+◌, ◌/◌, ◌%◌, ◌^◌, nat_lt, if◌then◌else◌, List, [], ◌∷◌, ◌++◌, map, codes, decimal, ⊤}
+use Rattle.std.specs.Prelude.{◌≡◌, ℕ, ◌+◌, ◌/◌, ◌%◌, ◌^◌, nat_lt, true, if◌then◌else◌, List, [], ◌∷◌, ◌++◌, map, codes, decimal}
+use Rattle.std.specs.Prelude.{Option, Some, None, is_some}
 use Rattle.std.specs.List.{concat}
+use Rattle.lay_base.specs.declared.place.Place.{Place}
 use Rattle.lay_base.specs.declared.faults.Stale.{Stale as Difference}
 use Rattle.lay_base.specs.declared.faults.StaleKind.{StaleKind}
 use Rattle.lay_base.specs.declared.faults.StaleKind.TheVariants.{Functions, Order, Loops, Arms}
@@ -135,20 +137,25 @@ refusal_text at first Memory = line (codes "out of memory" ∷ [])
 refusal_text at first (NameClash name place earlier) = line_at at (codes "type of " ∷ name ∷ codes " differs from " ∷ first ∷ [])
 refusal_text at first (NotBuilt name) = line (name ∷ codes ": form not built yet" ∷ [])
 
--- a refusal that has a place
+-- ---- places
+
+-- the place of which a refusal speaks, and that of the first definition where it names two
+abbrev pub places : Refusal → Option Place × Option Place
+places (BadByte place) = (Some place, None)
+places (BadLiteral place) = (Some place, None)
+places (Unclosed place) = (Some place, None)
+places (TooWide place) = (Some place, None)
+places (NoParse place) = (Some place, None)
+places (Unsupported keyword place) = (Some place, None)
+places (TooBig place) = (Some place, None)
+places (IllTyped rule place) = (Some place, None)
+places (Undeclared name place) = (Some place, None)
+places (Redeclared name place earlier) = (Some place, Some earlier)
+places (Twice name place earlier) = (Some place, Some earlier)
+places (TagClash tag place earlier) = (Some place, Some earlier)
+places (Undefined kind place) = (Some place, None)
+places (NameClash name place earlier) = (Some place, Some earlier)
+places _ = (None, None)
+
 abbrev pub HasPlace : Refusal → Type 0
-HasPlace (BadByte place) = ⊤
-HasPlace (BadLiteral place) = ⊤
-HasPlace (Unclosed place) = ⊤
-HasPlace (TooWide place) = ⊤
-HasPlace (NoParse place) = ⊤
-HasPlace (Unsupported keyword place) = ⊤
-HasPlace (TooBig place) = ⊤
-HasPlace (IllTyped rule place) = ⊤
-HasPlace (Undeclared name place) = ⊤
-HasPlace (Redeclared name place earlier) = ⊤
-HasPlace (Twice name place earlier) = ⊤
-HasPlace (TagClash tag place earlier) = ⊤
-HasPlace (Undefined kind place) = ⊤
-HasPlace (NameClash name place earlier) = ⊤
-HasPlace _ = ⊥
+HasPlace refusal = is_some (places refusal).0 ≡ true

@@ -13,4 +13,4 @@ mod table;
 
 pub use put::put_refusal;
 pub use refusal::Refusal;
-pub use table::{code_of, status_of_refusal};
+pub use table::{code_of, places_of, status_of_refusal};

@@ -11,6 +11,7 @@ use crate::names::{
     field_name, keyword_text, limit_name, room_name, rule_name, trap_name, undefined_name,
 };
 use crate::refusal::Refusal;
+use crate::table::places_of;
 use itoa::Buffer;
 use lay_base::{ElfField, Sink, SinkFault, Stale, StaleKind};
 
@@ -28,32 +29,10 @@ pub fn put_refusal<E: Sink>(
     ensures gives { PutGives (E.faults err.old) (E.faults err.new) (E.written err.old) (E.written err.new)
         (refusal_text at.now first.now refusal.now) result }
 {
-    if has_place(refusal) {
+    if places_of(refusal).0.is_some() {
         put_with_place(err, refusal, at, first)
     } else {
         put_without_place(err, refusal)
-    }
-}
-
-fn has_place(refusal: &Refusal) -> bool
-    ensures { IsTrue result ↔ HasPlace refusal.now }
-{
-    match refusal {
-        Refusal::BadByte(_)
-        | Refusal::BadLiteral(_)
-        | Refusal::Unclosed(_)
-        | Refusal::TooWide(_)
-        | Refusal::NoParse(_)
-        | Refusal::Unsupported(_, _)
-        | Refusal::TooBig(_)
-        | Refusal::IllTyped(_, _)
-        | Refusal::Undeclared(_, _)
-        | Refusal::Redeclared(_, _, _)
-        | Refusal::Twice(_, _, _)
-        | Refusal::TagClash(_, _, _)
-        | Refusal::Undefined(_, _)
-        | Refusal::NameClash(_, _, _) => true,
-        _ => false,
     }
 }
 

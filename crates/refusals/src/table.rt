@@ -1,9 +1,10 @@
-//! The code and the exit status of each refusal.
+//! The code, the exit status and the places of each refusal.
 
 ghost use Rattle.std.specs.Prelude.{◌≡◌};
-ghost use Rattle.refusals.specs.Table.{numbers, code, status};
+ghost use Rattle.refusals.specs.Table.{numbers, code, status, places};
 
 use crate::refusal::Refusal;
+use lay_base::Place;
 
 /// The number by which a refusal is known, from 1 on.
 pub fn code_of(refusal: &Refusal) -> u8
@@ -55,5 +56,28 @@ fn numbers(refusal: &Refusal) -> (u8, u8)
         Refusal::Memory => (31, 127),
         Refusal::NameClash(..) => (32, 122),
         Refusal::NotBuilt(_) => (33, 122),
+    }
+}
+
+/// The place of which a refusal speaks, and that of the first definition where it names two.
+pub fn places_of(refusal: &Refusal) -> (Option<Place>, Option<Place>)
+    ensures { result ≡ places refusal.now }
+{
+    match refusal {
+        Refusal::BadByte(place)
+        | Refusal::BadLiteral(place)
+        | Refusal::Unclosed(place)
+        | Refusal::TooWide(place)
+        | Refusal::NoParse(place)
+        | Refusal::Unsupported(_, place)
+        | Refusal::TooBig(place)
+        | Refusal::IllTyped(_, place)
+        | Refusal::Undeclared(_, place)
+        | Refusal::Undefined(_, place) => (Some(*place), None),
+        Refusal::Redeclared(_, place, first)
+        | Refusal::Twice(_, place, first)
+        | Refusal::TagClash(_, place, first)
+        | Refusal::NameClash(_, place, first) => (Some(*place), Some(*first)),
+        _ => (None, None),
     }
 }

@@ -4,11 +4,12 @@ use Rattle.thin_parser.specs.ThinTree.{program_of}
 use Rattle.lay_commands.specs.Words.{compilation_of}
 use Rattle.lay_commands.specs.Outside.{stream}
 use Rattle.lay_commands.specs.Stages.{ElfGives}
-use Rattle.lay_commands.proofs.Compiled.{program_refused, write_elf_refused, report_gives}
+use Rattle.lay_commands.proofs.FilesRead.{few_read, short_read}
+use Rattle.lay_commands.proofs.Compiled.{program_refused, program_texts, write_elf_refused, report_gives}
 use Rattle.lay_commands.proofs.compiling.compile.Goals as goal
 
-pub returns-in_err-program : goal.returns-in_err-program
-returns-in_err-program g c input =
+pub returns-in_err-program-clause-gives : goal.returns-in_err-program-clause-gives
+returns-in_err-program-clause-gives g c input =
     let is_err = err_from_is_err_and c.from_residual-in_err-program.result c.from_residual-in_err-program.ensures.1 in
     let files = g.H.Host.files in
     let reads = g.H.Host.failed_reads in
@@ -17,11 +18,25 @@ returns-in_err-program g c input =
     (program_refused (compilation_of c.args.request) (files c.args.host.now) (files c.read_files.new.host)
     (reads c.args.host.now) (reads c.read_files.new.host) (writes c.args.host.now) (writes c.read_files.new.host)
     input (stream (g.O.Sink.written c.args.out.now) (g.O.Sink.faults c.args.out.now))
-    c.args.request.files.now c.in_ok-files.files c.in_err-program.field-0.0 refl c.requires.some c.in_ok-check_number.ensures c.read_files.ensures.files
-    c.in_ok-files.ensures.gives.0 c.in_ok-files.ensures.gives.1 c.in_err-program.ensures)
+    c.args.request.files.now c.in_ok-files.files refl c.in_ok-check_number.ensures c.read_files.ensures.files
+    c.in_ok-files.ensures.gives.0 c.in_ok-files.ensures.gives.1 c.in_err-program.field-0.0 c.requires.some c.in_err-program.ensures.gives)
 
-pub returns-in_err-write_elf : goal.returns-in_err-write_elf
-returns-in_err-write_elf g c input =
+pub returns-in_err-program-clause-texts : goal.returns-in_err-program-clause-texts
+returns-in_err-program-clause-texts g c =
+    let is_err = err_from_is_err_and c.from_residual-in_err-program.result c.from_residual-in_err-program.ensures.1 in
+    rw (is_err.1, is_err.2)
+    (program_texts (g.H.Host.files c.args.host.now) c.args.request.files.now c.in_ok-files.files c.program_in.new.texts c.in_err-program.field-0.0
+    c.in_ok-check_number.ensures c.in_ok-files.ensures.gives.0 c.in_ok-files.ensures.gives.1 c.in_err-program.ensures.texts)
+
+pub program_in-requires-clause-few : goal.program_in-requires-clause-few
+program_in-requires-clause-few g c =
+    few_read c.in_ok-files.files c.args.request.files.now c.in_ok-files.ensures.gives.0 c.in_ok-check_number.ensures
+
+pub program_in-requires-clause-short : goal.program_in-requires-clause-short
+program_in-requires-clause-short g c = short_read (g.H.Host.files c.args.host.now) c.in_ok-files.files c.in_ok-files.ensures.gives.1
+
+pub returns-in_err-write_elf-clause-gives : goal.returns-in_err-write_elf-clause-gives
+returns-in_err-write_elf-clause-gives g c input =
     let is_err = err_from_is_err_and c.from_residual-in_err-write_elf.result c.from_residual-in_err-write_elf.ensures.1 in
     let files = g.H.Host.files in
     let reads = g.H.Host.failed_reads in
@@ -37,8 +52,8 @@ returns-in_err-write_elf g c input =
     (stream (g.O.Sink.written c.args.out.now) (g.O.Sink.faults c.args.out.now)) c.in_err-write_elf.field-0.0
     (c.in_ok-files.ensures.writes out) (subst Gives c.deref.ensures.value c.in_err-write_elf.ensures.gives))
 
-pub returns : goal.returns
-returns g c input =
+pub returns-clause-gives : goal.returns-clause-gives
+returns-clause-gives g c input =
     let files = g.H.Host.files in
     let reads = g.H.Host.failed_reads in
     let writes = g.H.Host.failed_writes in

@@ -1,0 +1,87 @@
+-- Faults of the front end, and refusals that have no place.
+use Rattle.std.proofs.Common.{◌≡◌, ℕ, List, Option, Some, None, sym, subst}
+use Rattle.std.specs.Prelude.{◌≢◌, Result, Ok, Err, IfErr}
+use Rattle.lay_base.specs.Known.{Contents}
+use Rattle.lay_base.specs.declared.place.File.{File}
+use Rattle.lay_base.specs.declared.faults.LimitKind.{LimitKind}
+use Rattle.lay_base.specs.declared.faults.LimitKind.TheVariants as L
+use Rattle.c_typed.specs.Programs.{ProgramData}
+use Rattle.c_joining.specs.Joining.{joined}
+use Rattle.c_link.specs.Gaps.{first_limit, limits, or_limit, past}
+use Rattle.c_link.specs.declared.gap.Gap.TheVariants as G
+use Rattle.lay_compile.specs.declared.fault.CompileFault.{CompileFault}
+use Rattle.lay_compile.specs.declared.fault.CompileFault.TheVariants as C
+use Rattle.lay_compile.specs.Front.{FrontGives}
+use Rattle.refusals.specs.declared.refusal.Refusal.{Refusal}
+use Rattle.refusals.specs.declared.refusal.Refusal.TheVariants as R
+use Rattle.thin_parser.specs.declared.thin_tree.Thin.{Thin}
+use Rattle.lay_commands.specs.declared.front_end.PlaceTexts.{PlaceTexts}
+use Rattle.lay_commands.specs.FrontEnd.{AreRefused, AreTexts, IsRefused}
+use Rattle.lay_commands.specs.Stages.{NumberGives, FilesGive, ThinGives, ProgramGives, ElfGives, ReportGives, HasTexts}
+
+-- ---- the front end does not count files
+
+no_other : (which : LimitKind) (passed : Option ℕ) (later : Option (LimitKind × ℕ)) (n : ℕ) → which ≢ L.Files → later ≢ Some (L.Files, n)
+    → or_limit which passed later ≢ Some (L.Files, n)
+no_other which None later n other none e = none e
+no_other which (Some m) later n other none e = other cc
+
+not_files : (p : ProgramData) (n : ℕ) → first_limit p limits ≢ Some (L.Files, n)
+not_files p n =
+    no_other L.Nodes (past p L.Nodes) _ n (λ e. cc) (no_other L.Fields (past p L.Fields) _ n (λ e. cc)
+    (no_other L.Frame (past p L.Frame) _ n (λ e. cc) (no_other L.Globals (past p L.Globals) _ n (λ e. cc) (λ e. cc))))
+
+pub no_files_limit : (files : List File) (n : ℕ) → AreRefused files (R.Limit L.Files n) → ⊥
+no_files_limit files n refused =
+    let told : C.Joining (G.Limit (record { which = L.Files; counted = n })) ≡ refused.0 = let some = refused.1 in cc in
+    let gap = subst (λ (fault : CompileFault). FrontGives files (Err fault)) (sym told) refused.2 in
+    not_files (joined gap.0) n gap.2.2
+
+-- ---- the program of files
+
+pub refused_gives : (given : List ℕ) (files : List File) (refusal : Refusal) → IsRefused files refusal → ProgramGives given files (Err refusal)
+refused_gives given files (R.NotBuilt name) refused = let none = refused.1 in cc
+refused_gives given files R.Memory refused = tt
+refused_gives given files _ refused = refused
+
+pub thin_gives : (given : List ℕ) (files : List File) (r : Result Thin Refusal) → ThinGives given files r → ProgramGives given files r
+thin_gives given files (Ok t) gives = gives
+thin_gives given files (Err (R.NotBuilt name)) gives = gives
+thin_gives given files (Err R.Memory) gives = tt
+thin_gives given files (Err _) gives = absurd gives
+
+-- ---- refusals that have no place
+
+pub thin_texts : (given : List ℕ) (files : List File) (texts : PlaceTexts) (r : Result Thin Refusal) → ThinGives given files r
+    → IfErr r (λ refusal. AreTexts files refusal texts)
+thin_texts given files texts (Ok t) gives = tt
+thin_texts given files texts (Err (R.NotBuilt name)) gives = (tt, tt)
+thin_texts given files texts (Err R.Memory) gives = (tt, tt)
+thin_texts given files texts (Err _) gives = absurd gives
+
+pub number_texts : (f : Option Contents) (names : List (List ℕ)) (texts : PlaceTexts) (n : ℕ) (refusal : Refusal) → NumberGives n (Err refusal)
+    → HasTexts f names texts refusal
+number_texts f names texts n (R.Limit L.Files counted) gives = λ place. cc
+number_texts f names texts n _ gives = absurd gives
+
+pub files_texts : (f : Option Contents) (names : List (List ℕ)) (texts : PlaceTexts) (before now : List ℕ → ℕ) (files : Option Contents)
+    (read : List (List ℕ)) (refusal : Refusal) → FilesGive before now files read (Err refusal) → HasTexts f names texts refusal
+files_texts f names texts before now files read (R.FileFault name) gives = λ place. cc
+files_texts f names texts before now files read (R.TooLong name) gives = λ place. cc
+files_texts f names texts before now files read R.Memory gives = λ place. cc
+files_texts f names texts before now files read _ gives = absurd gives
+
+pub memory_texts : (f : Option Contents) (names : List (List ℕ)) (texts : PlaceTexts) → HasTexts f names texts R.Memory
+memory_texts f names texts = λ place. cc
+
+pub elf_texts : (f : Option Contents) (names : List (List ℕ)) (texts : PlaceTexts) (writes_before writes_now : ℕ) (before now : Option Contents)
+    (out elf : List ℕ) (refusal : Refusal) → ElfGives writes_before writes_now before now out elf (Err refusal) → HasTexts f names texts refusal
+elf_texts f names texts writes_before writes_now before now out elf R.WriteFault gives = λ place. cc
+elf_texts f names texts writes_before writes_now before now out elf R.Memory gives = λ place. cc
+elf_texts f names texts writes_before writes_now before now out elf _ gives = absurd gives
+
+pub report_texts : (f : Option Contents) (names : List (List ℕ)) (texts : PlaceTexts) (faults_before faults_now : ℕ) (before now : Option (List ℕ))
+    (r : Result (Unit {0}) Refusal) → ReportGives faults_before faults_now before now r → IfErr r (HasTexts f names texts)
+report_texts f names texts faults_before faults_now before now (Ok done) gives = tt
+report_texts f names texts faults_before faults_now before now (Err R.WriteFault) gives = λ place. cc
+report_texts f names texts faults_before faults_now before now (Err _) gives = absurd gives
