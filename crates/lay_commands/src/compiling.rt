@@ -118,8 +118,7 @@ fn write_report<O: Sink>(out: &mut O) -> Result<(), Refusal>
 }
 
 /// Compiles a program: each stage refuses what it cannot take, and only the last two write. A refusal leaves the texts of its places.
-#[tactic(auto, using(crate::proofs::FrontFaults::number_texts, crate::proofs::FrontFaults::files_texts, crate::proofs::FrontFaults::memory_texts,
-    crate::proofs::FrontFaults::elf_texts, crate::proofs::FrontFaults::report_texts))]
+#[tactic(auto, using(crate::proofs::FrontFaults::number_texts, crate::proofs::FrontFaults::files_texts, crate::proofs::FrontFaults::memory_texts, crate::proofs::FrontFaults::elf_texts, crate::proofs::FrontFaults::report_texts))]
 pub fn compile<H: Host, O: Sink>(
     alloc: Global,
     request: CompileRequest<'_, '_>,
