@@ -48,7 +48,7 @@ returns-in_err-write_elf-clause-gives g c input =
     (write_elf_refused (compilation_of c.args.request) (files c.args.host.now) (files c.read_files.new.host) (files c.write_elf.new.host)
     (reads c.args.host.now) (reads c.write_elf.new.host) (writes c.args.host.now) (writes c.read_files.new.host) (writes c.write_elf.new.host) input
     c.in_ok-files.files c.in_ok-elf.elf.items (program_of c.in_ok-program.program) c.read_files.ensures.files
-    c.in_ok-files.ensures.gives.0 c.in_ok-files.ensures.gives.1 c.in_ok-program.ensures c.in_ok-elf.ensures c.write_elf.ensures.others
+    c.in_ok-files.ensures.gives.0 c.in_ok-files.ensures.gives.1 c.in_ok-program.ensures.gives c.in_ok-elf.ensures c.write_elf.ensures.others
     (stream (g.O.Sink.written c.args.out.now) (g.O.Sink.faults c.args.out.now)) c.in_err-write_elf.field-0.0
     (c.in_ok-files.ensures.writes out) (subst Gives c.deref.ensures.value c.in_err-write_elf.ensures.gives))
 
@@ -60,7 +60,7 @@ returns-clause-gives g c input =
     report_gives (compilation_of c.args.request) (files c.args.host.now) (files c.read_files.new.host) (files c.write_elf.new.host)
     (reads c.args.host.now) (reads c.write_elf.new.host) (writes c.args.host.now) (writes c.read_files.new.host) (writes c.write_elf.new.host) input
     c.in_ok-files.files c.in_ok-elf.elf.items (program_of c.in_ok-program.program) c.read_files.ensures.files
-    c.in_ok-files.ensures.gives.0 c.in_ok-files.ensures.gives.1 c.in_ok-program.ensures c.in_ok-elf.ensures c.write_elf.ensures.others
+    c.in_ok-files.ensures.gives.0 c.in_ok-files.ensures.gives.1 c.in_ok-program.ensures.gives c.in_ok-elf.ensures c.write_elf.ensures.others
     (stream (g.O.Sink.written c.args.out.now) (g.O.Sink.faults c.args.out.now))
     (stream (g.O.Sink.written c.write_report.new.out) (g.O.Sink.faults c.write_report.new.out)) c.write_report.result
     (λ name. c.in_ok-write_elf.ensures.writes name ∙ c.in_ok-files.ensures.writes name)
