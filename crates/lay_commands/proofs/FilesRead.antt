@@ -54,8 +54,8 @@ all_readable f files read = All-map (IsReadable f) (λ file. file.name) files (A
 pub few_read : (files : List File) (names : List (Bor (List ℕ))) → map (λ file. file.name) files ≡ map (λ name. name.now) names → length names ≤ most_files
     → length files ≤ most_files
 few_read files names named few =
-    let count : length files ≡ length names =
-    sym (length-map files (λ file. file.name)) ∙ ap (λ (l : List (List ℕ)). length l) named ∙ length-map names (λ name. name.now) in
+    let same = ap (λ (l : List (List ℕ)). length l) named in
+    let count : length files ≡ length names = rw (length-map, length-map) at same in
     rw count few
 
 pub short_read : (f : Option Contents) (files : List File) → All (IsRead f) files → All (λ file. length file.bytes ≤ file_limit) files

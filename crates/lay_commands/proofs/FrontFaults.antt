@@ -1,5 +1,5 @@
 -- Faults of the front end, and refusals that have no place.
-use Rattle.std.proofs.Common.{◌≡◌, ℕ, List, Option, Some, None, sym, subst}
+use Rattle.std.proofs.Common.{◌≡◌, ℕ, List, Option, Some, None, ap, sym, subst}
 use Rattle.std.specs.Prelude.{◌≢◌, Result, Ok, Err, IfErr}
 use Rattle.lay_base.specs.Known.{Contents}
 use Rattle.lay_base.specs.declared.place.File.{File}
@@ -24,7 +24,8 @@ use Rattle.lay_commands.specs.Stages.{NumberGives, FilesGive, ThinGives, Program
 no_other : (which : LimitKind) (passed : Option ℕ) (later : Option (LimitKind × ℕ)) (n : ℕ) → which ≢ L.Files → later ≢ Some (L.Files, n)
     → or_limit which passed later ≢ Some (L.Files, n)
 no_other which None later n other none e = none e
-no_other which (Some m) later n other none e = other cc
+no_other which (Some m) later n other none e =
+    let pair : (which, m) ≡ (L.Files, n) = cc in other (ap (λ (p : LimitKind × ℕ). p.0) pair)
 
 not_files : (p : ProgramData) (n : ℕ) → first_limit p limits ≢ Some (L.Files, n)
 not_files p n =

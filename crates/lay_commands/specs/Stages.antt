@@ -1,5 +1,5 @@
 -- What each stage of `compile` and of `run` gives, by its answer. Want of memory says nothing.
-use Rattle.std.specs.Prelude.{◌≡◌, ℕ, ◌<◌, ◌≤◌, List, [], ◌∷◌, length, map, take, All, Option, Some, Result, Ok, Err, ◌⊎◌}
+use Rattle.std.specs.Prelude.{◌≡◌, ℕ, ◌<◌, ◌≤◌, List, length, map, take, slice_get, All, Option, Some, Result, Ok, Err, ◌⊎◌}
 use Rattle.std.specs.Global.{Vec}
 use Rattle.lay_base.specs.Known.{Contents, Rose, IfKnown, Appends}
 use Rattle.lay_base.specs.declared.place.File.{File}
