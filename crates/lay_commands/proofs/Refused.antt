@@ -7,11 +7,12 @@ use Rattle.lay_base.specs.declared.outside.SinkFault.{SinkFault}
 use Rattle.refusals.specs.Table.{refusal_text}
 use Rattle.refusals.specs.declared.refusal.Refusal.{Refusal}
 use Rattle.refusals.specs.declared.refusal.Refusal.TheVariants as R
+use Rattle.lay_commands.specs.declared.outcome.Outcome.{Outcome}
 use Rattle.lay_commands.specs.declared.outcome.Outcome.TheVariants.{Refused}
 use Rattle.lay_commands.specs.Words.{Compilation, Command, Compile, Run}
-use Rattle.lay_commands.specs.Outside.{Outside, stream}
+use Rattle.lay_commands.specs.Outside.{Outside, Stream, stream}
 use Rattle.lay_commands.specs.Stages.{CompileGives, RunGives}
-use Rattle.lay_commands.specs.Answers.{OutcomeGives, OutcomeHas, PlacesHave, ErrGives}
+use Rattle.lay_commands.specs.Answers.{OutcomeGives, PlacesHave, ErrGives}
 
 pub compile_refused : (command : Option Command) (before now : Outside) (c : Compilation) (refusal : Refusal) → command ≡ Some (Compile c)
     → CompileGives c before now (Err refusal) → OutcomeGives command before now (Refused refusal)
@@ -50,3 +51,9 @@ reported command files at first refusal faults_before faults_now before now (Ok 
     (refusal_text at first refusal, (at, first, refl, has), inl puts)
 reported command files at first refusal faults_before faults_now before now (Err fault) has puts =
     (refusal_text at first refusal, (at, first, refl, has), inr puts)
+
+-- every other outcome leaves it
+pub unreported : (command : Option Command) (files : Option Contents) (before now : Stream) (outcome : Outcome)
+    → ((refusal : Refusal) → outcome ≡ Refused refusal → ⊥) → now ≡ before → ErrGives command files before now outcome
+unreported command files before now (Refused refusal) other same = absurd (other refusal refl)
+unreported command files before now _ other same = same

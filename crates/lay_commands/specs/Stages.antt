@@ -7,8 +7,7 @@ use Rattle.lay_base.specs.declared.faults.LimitKind.TheVariants as L
 use Rattle.refusals.specs.declared.refusal.Refusal.{Refusal}
 use Rattle.refusals.specs.declared.refusal.Refusal.TheVariants as R
 use Rattle.thin_parser.specs.declared.thin_tree.Thin.{Thin}
-use Rattle.thin_parser.specs.ThinTree.{Program, program_of}
-use Rattle.thin_parser.specs.ThinText.{IsThinText}
+use Rattle.thin_parser.specs.ThinTree.{program_of}
 use Rattle.rv_isa.specs.declared.image.Image.{Image}
 use Rattle.rv_isa.specs.Step.{Exits, Trap, Break}
 use Rattle.elf32.specs.Loaded.{loaded}
