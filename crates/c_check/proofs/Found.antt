@@ -1,11 +1,16 @@
 -- What is found of a file, from what its tags and its annotated file are.
-use Rattle.std.proofs.Common.{◌≡◌, ◌∙◌, ℕ, List, refl}
-use Rattle.std.specs.Prelude.{Ok, Err}
+use Rattle.std.proofs.Common.{subst, sym, ◌≡◌, ◌∙◌, ℕ, List, refl}
+use Rattle.std.specs.Prelude.{All, Ok, Err}
 use Rattle.lay_base.specs.declared.place.File.{File}
 use Rattle.c_ast.specs.Sizes.{size_items}
 use Rattle.c_ast.specs.Trees
 use Rattle.c_ast.specs.TreesOfFiles.{IsTreeOf}
-use Rattle.c_typed.specs.Programs.{UnitData}
+use Rattle.c_typed.specs.Programs.{UnitData, unit_data}
+use Rattle.c_typed.specs.declared.program.Unit.{Unit as DeclaredUnit}
+use Rattle.c_erasure.specs.Declarators.{IsSmall}
+use Rattle.c_erasure.specs.Erasing.{ErasesTo}
+use Rattle.c_erasure.specs.Untagged.{AreTags, structs_in}
+use Rattle.c_ast.specs.Spelling.{spell}
 use Rattle.c_erasure.specs.Scopes.{FileScope}
 use Rattle.c_checking.specs.Answers.{Answer}
 use Rattle.c_checking.specs.Files.{annotated}
@@ -18,7 +23,7 @@ use Rattle.c_nodes.specs.declared.fault.Fault.{Fault}
 use Rattle.c_nodes.specs.declared.fault.Fault.TheVariants as F
 use Rattle.c_units.specs.UnitWith.{unit_with}
 use Rattle.c_units.proofs.Nodes.{is_unit_of}
-use Rattle.c_check.specs.Checking.{Finds, IsUnitFound, OnFault, fault_in}
+use Rattle.c_check.specs.Checking.{Finds, OnFault, fault_in}
 
 pub lists_are : (name bytes : List ℕ) (items : List Trees.Item) (t : TagLists) → AreTagsOf name bytes items t → AreListsOf items t
 lists_are name bytes items t h = record { tags = h.tags; ends = h.ends; numbered = h.numbered }
@@ -31,18 +36,23 @@ finds number file items t answer h e = record {
   is_found = e;
 }
 
-pub unit_found : AnnotatedFilesAreFound → (number : ℕ) (file : File) (items : List Trees.Item) (t : TagLists) (f : FileScope) (nodes : ℕ) (u : UnitData)
+pub unit_erases : AnnotatedFilesAreFound → (number : ℕ) (file : File) (items : List Trees.Item) (t : TagLists) (f : FileScope) (nodes : ℕ) (u : UnitData)
     → IsTreeOf file.bytes items → AreTagsOf file.name file.bytes items t → annotated number (untagged_by t.untagged) items ≡ Ok f
-    → nodes ≡ (size_items items).nodes → u ≡ unit_with nodes f → IsUnitFound number file items u
-unit_found law number file items t f nodes u tree h e n is =
+    → nodes ≡ (size_items items).nodes → u ≡ unit_with nodes f → All (IsSmall u.records) u.types → ErasesTo number file.name file.bytes items u
+unit_erases law number file items t f nodes u tree h e n is small =
     let found : IsFound number (untagged_by t.untagged) items f = law number (untagged_by t.untagged) file.bytes items f h.begin tree e in
     record {
-      annotated_file = f;
-      finds = finds number file items t (Ok f) h e;
-      number_is = found.number;
+      annotated = f;
+      number = found.number;
+      tags = subst (AreTags file.name file.bytes (structs_in (spell items))) (sym found.untagged_are) h.untagged;
       of_tree = found.is_file;
+      small = subst (λ (d : UnitData). All (IsSmall d.records) d.types) is small;
       unit = is ∙ is_unit_of items f nodes n;
     }
+
+pub same_unit_erases : (number : ℕ) (file : File) (items : List Trees.Item) (u given : DeclaredUnit) → given ≡ u
+    → ErasesTo number file.name file.bytes items (unit_data u) → ErasesTo number file.name file.bytes items (unit_data given)
+same_unit_erases number file items u given same h = subst (λ it. ErasesTo number file.name file.bytes items (unit_data it)) (sym same) h
 
 pub fault_found : (number : ℕ) (file : File) (items : List Trees.Item) (t : TagLists) (fault : Fault)
     → AreTagsOf file.name file.bytes items t → Fails fault (annotated number (untagged_by t.untagged) items)

@@ -1,15 +1,13 @@
--- What checking the types of a file answers: the unit of its annotated file, which is well typed and that of its tree, or a fault of it. Want of memory
--- is a free answer.
+-- What checking the types of a file answers: the unit that erases to its tree, or a fault at which the checker stops. Want of memory is a free answer.
 use Rattle.std.specs.Prelude.{◌≡◌, ℕ, List, ◌∷◌, Result, Ok, Err}
 use Rattle.lay_base.specs.declared.place.File.{File}
 use Rattle.c_ast.specs.Spelling.{spell}
 use Rattle.c_ast.specs.Trees
 use Rattle.c_typed.specs.declared.program.Unit.{Unit as DeclaredUnit}
-use Rattle.c_typed.specs.Programs.{UnitData, unit_data}
+use Rattle.c_typed.specs.Programs.{unit_data}
 use Rattle.c_erasure.specs.Broken.{Fault, ill_typed, undeclared, redeclared, too_big}
-use Rattle.c_erasure.specs.Files.{IsFileOf}
+use Rattle.c_erasure.specs.Erasing.{ErasesTo}
 use Rattle.c_erasure.specs.Scopes.{FileScope}
-use Rattle.c_erasure.specs.Units.{unit_of}
 use Rattle.c_erasure.specs.Untagged.{AreTags, structs_in}
 use Rattle.c_checking.specs.Answers.{Answer}
 use Rattle.c_checking.specs.Files.{annotated}
@@ -29,14 +27,6 @@ pub record Finds (number : ℕ) (file : File) (items : List Trees.Item) (answer 
   pub tags : AreTagsIn file items untagged
   pub is_found : annotated number untagged items ≡ answer
 
--- the unit of an annotated file that the checker finds: it is well typed, and that of the items
-pub record IsUnitFound (number : ℕ) (file : File) (items : List Trees.Item) (u : UnitData) : Type 0 where
-  pub annotated_file : FileScope
-  pub finds : Finds number file items (Ok annotated_file)
-  pub number_is : annotated_file.file ≡ number
-  pub of_tree : IsFileOf items annotated_file
-  pub unit : u ≡ unit_of items annotated_file
-
 -- a fault whose places are bytes of the file with that number; of want of memory nothing is said
 abbrev pub OnFault : (number : ℕ) → CheckFault → (Fault → Type 0) → Type 0
 OnFault number (C.TooBig place) Is = (place.file ≡ number) × Is (too_big place.at)
@@ -46,7 +36,7 @@ OnFault number (C.Redeclared x place first) Is = (place.file ≡ number) × (fir
 OnFault number C.Memory Is = Unit {0}
 
 abbrev pub CheckGives : (number : ℕ) → File → List Trees.Item → Result DeclaredUnit CheckFault → Type 0
-CheckGives number file items (Ok u) = IsUnitFound number file items (unit_data u)
+CheckGives number file items (Ok u) = ErasesTo number file.name file.bytes items (unit_data u)
 CheckGives number file items (Err fault) = OnFault number fault (λ f. Finds number file items (Err f))
 
 -- ---- as the code says it

@@ -7,6 +7,7 @@ ghost use Rattle.c_ast.specs.Views.{items_of};
 ghost use Rattle.c_check.specs.Checking.{CheckGives};
 
 use crate::fault::{CheckFault, fault_in};
+use crate::limits::within_limits;
 use c_ast::{Tree, nodes};
 use c_check_files::annotated;
 use c_checking_items::annotated_files_are_found;
@@ -27,7 +28,7 @@ pub fn check(alloc: Global, number: u16, file: &File, tree: &Tree) -> Result<Uni
     annotated_files_are_found();
     let tags = Tags::of(alloc, tree, file)?;
     match annotated(alloc, number, tags, tree) {
-        Ok(found) => Ok(unit_of(alloc, found, nodes(tree))?),
+        Ok(found) => Ok(within_limits(unit_of(alloc, found, nodes(tree))?)?),
         Err(fault) => Err(fault_in(number, fault)),
     }
 }
