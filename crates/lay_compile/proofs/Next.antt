@@ -14,11 +14,13 @@ use Rattle.c_parser.specs.Parsing.{ParseGives}
 use Rattle.c_parser.specs.declared.faults.ParseFault.{ParseFault}
 use Rattle.c_typed.specs.Programs.{UnitData, unit_data}
 use Rattle.c_typed.specs.declared.program.Unit.{Unit as DeclaredUnit}
-use Rattle.c_check.specs.Checking.{CheckGives, IsUnitFound}
+use Rattle.c_erasure.specs.Erasing.{ErasesTo}
+use Rattle.c_check.specs.Checking.{CheckGives}
 use Rattle.c_check.specs.declared.fault.CheckFault.{CheckFault}
 use Rattle.c_link.specs.Counting.{IsCountable}
+use Rattle.c_link.specs.Programs.{AreUnitsOf, IsUnitOfFile}
 use Rattle.lay_compile.specs.declared.stages.Reached.{Reached}
-use Rattle.lay_compile.specs.Front.{Stage, IsFile, HasTokens, HasTree, HasUnit, IsUnitOf, HasLexicalFault, HasSyntaxFault, HasTypeFault, Each, AreUnitsOf}
+use Rattle.lay_compile.specs.Front.{Stage, IsFile, HasTokens, HasTree, HasUnit, HasLexicalFault, HasSyntaxFault, HasTypeFault, Each}
 use Rattle.lay_compile.specs.Front.{FirstFails}
 use Rattle.lay_compile.specs.Reaching.{HaveReached}
 use Rattle.lay_compile.proofs.Steps.{fails_now, fails_still, fails_at_once, units_next, have_units, units_have_trees, trees_have_tokens, reached_tokens}
@@ -67,16 +69,16 @@ still_no_tree number file tokens l fault before e h =
 abbrev AreCountableUnits : List File → List UnitData → Type 0
 AreCountableUnits files units = AreUnitsOf 0 files units × All IsCountable units
 
-one_unit : (number : ℕ) (file : File) (items : List Trees.Item) → IsTreeOf file.bytes items → (u : UnitData) → IsUnitFound number file items u
+one_unit : (number : ℕ) (file : File) (items : List Trees.Item) → IsTreeOf file.bytes items → (u : UnitData) → ErasesTo number file.name file.bytes items u
     → IsCountable u → (before : List File) → length before ≡ number → (units : List UnitData) → AreCountableUnits before units
     → AreCountableUnits (before ++ file ∷ []) (units ++ u ∷ [])
 one_unit number file items t u f c before e units h = (
-  units_next before units file u h.0 (there (λ n file. IsUnitOf n file u) before number file e (record { items = items; tree = t; found = f })),
+  units_next before units file u h.0 (there (λ n file. IsUnitOfFile n file u) before number file e (record { items = items; tree = t; erases = f })),
   All-push IsCountable units u h.1 c,
 )
 
 pub with_its_unit : (number : ℕ) (file : File) (items : List Trees.Item) → IsTreeOf file.bytes items → (u : DeclaredUnit)
-    → IsUnitFound number file items (unit_data u) → IsCountable (unit_data u) → (before : List File) → length before ≡ number
+    → ErasesTo number file.name file.bytes items (unit_data u) → IsCountable (unit_data u) → (before : List File) → length before ≡ number
     → (units all : List DeclaredUnit) → all ≡ units ++ u ∷ [] → AreCountableUnits before (map unit_data units)
     → AreCountableUnits (before ++ file ∷ []) (map unit_data all)
 with_its_unit number file items t u f c before e units all is h =

@@ -4,9 +4,10 @@ use Rattle.std.specs.Prelude.{map}
 use Rattle.lay_base.specs.declared.place.File.{File}
 use Rattle.c_lexer.specs.declared.fault.LexFault.{LexFault}
 use Rattle.c_typed.specs.Programs.{UnitData, unit_data}
+use Rattle.c_link.specs.Programs.{AreUnitsOf, IsUnitOfFile}
 use Rattle.lay_compile.specs.declared.stages.Reached.{Reached}
 use Rattle.lay_compile.specs.declared.stages.Reached.TheVariants as R
-use Rattle.lay_compile.specs.Front.{Stage, IsFile, HasTokens, HasTree, IsUnitOf, HasUnit, HasLexicalFault, Each, AreUnitsOf, FirstFails}
+use Rattle.lay_compile.specs.Front.{Stage, IsFile, HasTokens, HasTree, HasUnit, HasLexicalFault, Each, FirstFails}
 use Rattle.lay_compile.specs.Reaching.{HaveReached}
 
 pub each_after : (Is : Stage) (number : ℕ) (before : List File) (file : File) → Each Is number before → Is (number + length before) file
@@ -16,16 +17,16 @@ each_after Is number (f ∷ more) file h x =
     (h.0, each_after Is (number + 1) more file h.1 (subst (λ n. Is n file) (let e : number + suc (length more) ≡ number + 1 + length more = omega arith in e) x))
 
 pub units_after : (number : ℕ) (before : List File) (units : List UnitData) (file : File) (u : UnitData) → AreUnitsOf number before units
-    → IsUnitOf (number + length before) file u → AreUnitsOf number (before ++ file ∷ []) (units ++ u ∷ [])
+    → IsUnitOfFile (number + length before) file u → AreUnitsOf number (before ++ file ∷ []) (units ++ u ∷ [])
 units_after number [] units file u h x =
-    (u, [], ap (λ all. all ++ u ∷ []) h, subst (λ n. IsUnitOf n file u) (let e : number + 0 ≡ number = omega arith in e) x, refl)
+    (u, [], ap (λ all. all ++ u ∷ []) h, subst (λ n. IsUnitOfFile n file u) (let e : number + 0 ≡ number = omega arith in e) x, refl)
 units_after number (f ∷ more) units file u h x = (
   h.0,
   h.1 ++ u ∷ [],
   ap (λ all. all ++ u ∷ []) h.2,
   h.3,
   units_after (number + 1) more h.1 file u h.4
-      (subst (λ n. IsUnitOf n file u) (let e : number + suc (length more) ≡ number + 1 + length more = omega arith in e) x),
+      (subst (λ n. IsUnitOfFile n file u) (let e : number + suc (length more) ≡ number + 1 + length more = omega arith in e) x),
 )
 
 pub each_also : (Is Also : Stage) → ((n : ℕ) (file : File) → Is n file → Also n file) → (number : ℕ) (files : List File) → Each Is number files
@@ -53,10 +54,10 @@ each_next : (Is : Stage) (before : List File) (file : File) → Each Is 0 before
 each_next Is before file h x =
     each_after Is 0 before file h (subst (λ n. Is n file) (let e : length before ≡ 0 + length before = omega arith in e) x)
 
-pub units_next : (before : List File) (units : List UnitData) (file : File) (u : UnitData) → AreUnitsOf 0 before units → IsUnitOf (length before) file u
+pub units_next : (before : List File) (units : List UnitData) (file : File) (u : UnitData) → AreUnitsOf 0 before units → IsUnitOfFile (length before) file u
     → AreUnitsOf 0 (before ++ file ∷ []) (units ++ u ∷ [])
 units_next before units file u h x =
-    units_after 0 before units file u h (subst (λ n. IsUnitOf n file u) (let e : length before ≡ 0 + length before = omega arith in e) x)
+    units_after 0 before units file u h (subst (λ n. IsUnitOfFile n file u) (let e : length before ≡ 0 + length before = omega arith in e) x)
 
 -- ---- the first file that fails a stage
 

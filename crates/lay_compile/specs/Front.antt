@@ -13,10 +13,11 @@ use Rattle.c_parser.specs.Parsing.{ParseGives}
 use Rattle.c_parser.specs.declared.faults.ParseFault.{ParseFault}
 use Rattle.c_typed.specs.Programs.{UnitData, program_data}
 use Rattle.c_typed.specs.declared.program.Typed.{Typed}
-use Rattle.c_check.specs.Checking.{CheckGives, IsUnitFound}
+use Rattle.c_check.specs.Checking.{CheckGives}
 use Rattle.c_check.specs.declared.fault.CheckFault.{CheckFault}
-use Rattle.c_link.specs.Gaps.{IsGap, IsProgramOfUnits}
+use Rattle.c_link.specs.Gaps.{IsGap}
 use Rattle.c_link.specs.Linking.{Fails}
+use Rattle.c_link.specs.Programs.{AreUnitsOf, IsProgramOf, IsUnitOfFile}
 use Rattle.lay_compile.specs.declared.fault.CompileFault.{CompileFault}
 use Rattle.lay_compile.specs.declared.fault.CompileFault.TheVariants.{Lexical, Syntax, Types, Joining, Memory}
 
@@ -34,13 +35,8 @@ HasTokens number file = (tokens : List Token) × Lexes file.bytes tokens
 abbrev pub HasTree : Stage
 HasTree number file = (items : List Trees.Item) × IsTreeOf file.bytes items
 
-pub record IsUnitOf (number : ℕ) (file : File) (u : UnitData) : Type 0 where
-  pub items : List Trees.Item
-  pub tree : IsTreeOf file.bytes items
-  pub found : IsUnitFound number file items u
-
 abbrev pub HasUnit : Stage
-HasUnit number file = (u : UnitData) × IsUnitOf number file u
+HasUnit number file = (u : UnitData) × IsUnitOfFile number file u
 
 -- ---- the faults of a file, as the layers say them
 
@@ -58,11 +54,6 @@ HasTypeFault fault number file = (items : List Trees.Item) × IsTreeOf file.byte
 abbrev pub Each : Stage → ℕ → List File → Type 0
 Each Is number [] = Unit {0}
 Each Is number (file ∷ more) = Is number file × Each Is (number + 1) more
-
-abbrev pub AreUnitsOf : ℕ → List File → List UnitData → Type 0
-AreUnitsOf number [] units = units ≡ []
-AreUnitsOf number (file ∷ more) units = (u : UnitData) × (rest : List UnitData) × (units ≡ u ∷ rest) × IsUnitOf number file u
-    × AreUnitsOf (number + 1) more rest
 
 -- the first file that fails a stage, where each file has passed the stage before
 pub record FirstFails (Before Passes Fails : Stage) (files : List File) : Type 0 where
@@ -84,5 +75,5 @@ IsFaultOf files (Joining gap) = (units : List UnitData) × AreUnitsOf 0 files un
 IsFaultOf files Memory = Unit {0}
 
 abbrev pub FrontGives : List File → Result Typed CompileFault → Type 0
-FrontGives files (Ok p) = (units : List UnitData) × AreUnitsOf 0 files units × IsProgramOfUnits units (program_data p)
+FrontGives files (Ok p) = IsProgramOf files (program_data p)
 FrontGives files (Err fault) = IsFaultOf files fault

@@ -6,12 +6,13 @@ use Rattle.c_typed.specs.declared.program.Typed.{Typed}
 use Rattle.c_link.specs.Counting.{IsCountable}
 use Rattle.c_link.specs.Gaps.{IsGap, IsProgramOfUnits}
 use Rattle.c_link.specs.Linking.{Fails}
+use Rattle.c_link.specs.Programs.{AreUnitsOf}
 use Rattle.c_link.specs.declared.gap.Gap.{Gap}
 use Rattle.lay_compile.specs.declared.fault.CompileFault.{CompileFault}
 use Rattle.lay_compile.specs.declared.fault.CompileFault.TheVariants.{Joining}
 use Rattle.lay_compile.specs.declared.stages.Reached.{Reached}
 use Rattle.lay_compile.specs.declared.stages.Reached.TheVariants.{Units, Trees, Tokens}
-use Rattle.lay_compile.specs.Front.{AreUnitsOf, FirstFails, HasSyntaxFault, HasTokens, HasTree, HasTypeFault, HasUnit, IsFaultOf}
+use Rattle.lay_compile.specs.Front.{FirstFails, HasSyntaxFault, HasTokens, HasTree, HasTypeFault, HasUnit, IsFaultOf}
 
 abbrev pub HaveReached : List File → Reached → Type 0
 HaveReached files (Units units) = AreUnitsOf 0 files (map unit_data units) × All IsCountable (map unit_data units)
