@@ -1,3 +1,4 @@
 pub mod Filed
 pub mod Steps
 pub mod Names
+pub mod Constants

@@ -7,6 +7,8 @@ use Rattle.c_erasure.specs.Erasure.{IsBound}
 use Rattle.c_erasure.specs.Scopes.{FileScope, Bound, Entity, an_object, a_function, AFunction, at_file_scope}
 use Rattle.c_checking.proofs.CompleteNodes.{some, some_is}
 use Rattle.c_checking.proofs.CompletePart.{Lists, IsWhole}
+use Rattle.c_erasure.specs.Scopes.{in_full}
+use Rattle.c_checking.proofs.CompleteWalk.{seen}
 use Rattle.c_checking.proofs.CompleteWalk.{Event, names_in, ends_in, literals_in, Follows, IsAsked, IsFirstAt}
 use Rattle.c_checking_whole.proofs.Filed.{IsFiled}
 
@@ -72,6 +74,10 @@ pub steps_at : (g : FileScope) (n r o f m q p h : ℕ) (all : List Step) → n �
 steps_at g n r o f m q p h all a b c d s =
     subst (λ m. AreSteps g m q p h all) a (subst (λ q. AreSteps g n q p h all) b (subst (λ p. AreSteps g n r p h all) c
     (subst (λ h. AreSteps g n r o h all) d s)))
+
+-- what is seen at file scope
+abbrev pub At : List Event → List Event
+At all = seen false in_full all
 
 -- a part of the file, before what stands behind it
 pub record IsReady (g : FileScope) (c : Lists) (all : List Step) : Type 0 where
