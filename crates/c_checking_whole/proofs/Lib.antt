@@ -2,3 +2,5 @@ pub mod Filed
 pub mod Steps
 pub mod Names
 pub mod Constants
+pub mod Objects
+pub mod ObjectDeclarators
