@@ -4,3 +4,4 @@ pub mod Names
 pub mod Constants
 pub mod Objects
 pub mod ObjectDeclarators
+pub mod Functions
