@@ -5,3 +5,4 @@ pub mod Constants
 pub mod Objects
 pub mod ObjectDeclarators
 pub mod Functions
+pub mod Prepared

@@ -1,0 +1,137 @@
+-- Declarators of the file scope: what they declare is what is found (C99 6.7, 6.9).
+use Rattle.std.proofs.Common.{◌≡◌, ◌≢◌, ℕ, zero, suc, ◌+◌, ◌≤◌, ◌<◌, Bool, true, false, refl, sym, ap, ◌∙◌, subst, cond, List, [], ◌∷◌, ◌++◌, length}
+use Rattle.std.proofs.Common.{arith, inl, inr}
+use Rattle.std.specs.Prelude.{◌⊎◌, Option, Some, None, Ok, slice_get, is_none}
+use Rattle.c_types.specs.Types.{CType, void, integer, pointer, array, function, structure}
+use Rattle.c_types.specs.Objects.{is_object}
+use Rattle.c_ast.specs.declared.words.Spelling.{Spelling}
+use Rattle.c_ast.specs.Trees
+use Rattle.c_ast.specs.Places.{first_declarator}
+use Rattle.c_ast.specs.WellFormed.{IsDeclarator, IsValue, AreInitDeclarators}
+use Rattle.c_typed.specs.declared.program.MentionKind.TheVariants.{Object, Named}
+use Rattle.c_typed.specs.Conversions.{is_function}
+use Rattle.c_erasure.specs.Declarators.{declared_name, Shape, closed}
+use Rattle.c_erasure.specs.Erasure.{IsBound}
+use Rattle.c_erasure.specs.Files.{bound, is_first, object_how, IsTypedef, IsObject, IsFunction, IsFileDeclarator, AreFileDeclarators}
+use Rattle.c_erasure.specs.Marks.{name_from, after_declarator}
+use Rattle.c_erasure.specs.Scopes.{FileScope, Bound, declares, defines, Entity, typedef, an_object, a_function, a_library_function, at_file_scope, ended}
+use Rattle.c_erasure.specs.Specifiers.{Storage, no_storage, a_typedef, is_extern, is_static, is_auto, is_register, several}
+use Rattle.c_checking.specs.Answers.{Answer, ◌>>=◌}
+use Rattle.c_checking.specs.Declaring.{with_mention, mentions_in, object_at}
+use Rattle.c_checking.specs.Files.{library_named, declare_typedef, declare_function, declare_object, without_value, declare_as, declarator_named}
+use Rattle.c_checking.specs.Files.{file_declarators}
+use Rattle.c_checking.specs.Finding.{complete}
+use Rattle.c_checking.specs.Statements.{sized_in}
+use Rattle.c_checking.proofs.CompleteLocals.{walk_of_initial}
+use Rattle.c_checking.proofs.CompletePart.{Lists, part, complete_stays}
+use Rattle.c_checking.proofs.CompleteWalk.{a_name}
+use Rattle.c_checking.proofs.Results.{ok}
+use Rattle.c_checking_files.proofs.FileScopes.{MayDeclare}
+use Rattle.c_checking_whole.proofs.Filed.{IsWholeFile, naming, next_bound}
+use Rattle.c_checking_whole.proofs.Functions.{IsOwnFunction, function_found, library_function_found, named_ready}
+use Rattle.c_checking_whole.proofs.Names.{typedef_complete}
+use Rattle.c_checking_whole.proofs.ObjectDeclarators.{FoundFile, object_found}
+use Rattle.c_checking_whole.proofs.Objects.{IsOwn}
+use Rattle.c_checking_whole.proofs.Prepared.{behind_type, steps_of_declarator, skip_nothing, sized_back, object_back, closed_sized, Prepared, prepared, joined}
+use Rattle.c_checking_whole.proofs.Steps.{Step, events, an_own, entity_at, entity_of, At, IsReady}
+
+declared_as : (words : Storage) → MayDeclare words → (before place from : ℕ) (x : Spelling) (t : CType) (d : Trees.InitDeclarator) (nodes : ℕ) (f : FileScope)
+    → declare_as words before place from x t d nodes f
+    ≡ cond (is_function t) (without_value x.from d.value (declare_function (with_mention (at_file_scope f) before Named t place f) words x place from t nodes
+    (library_named x.text)))
+    (object_at f.records (complete (at_file_scope f) x.from) x.from t
+    >>= λ u. declare_object (with_mention (at_file_scope f) before Object u place f) words x place from u d.value)
+declared_as no_storage m before place from x t d nodes f = refl
+declared_as is_extern m before place from x t d nodes f = refl
+declared_as is_static m before place from x t d nodes f = refl
+declared_as a_typedef m before place from x t d nodes f = absurd m
+declared_as is_auto m before place from x t d nodes f = absurd m
+declared_as is_register m before place from x t d nodes f = absurd m
+declared_as several m before place from x t d nodes f = absurd m
+
+no_value : {A : Type 0} (at : ℕ) (value : Option (ℕ × Trees.Expression)) (r : Answer A) → value ≡ None → without_value at value r ≡ r
+no_value at None r e = refl
+no_value at (Some value) r e = cc
+
+object_is_no_function : (r : ℕ) (t : CType) → is_object r t ≡ true → is_function t ≡ false
+object_is_no_function r void h = refl
+object_is_no_function r (integer k) h = refl
+object_is_no_function r (pointer t) h = refl
+object_is_no_function r (array t n) h = refl
+object_is_no_function r (structure k) h = refl
+object_is_no_function r (function t all) h = cc
+
+module _ (g : FileScope) (w : IsWholeFile g) where
+  -- what a declarator declares is what its name stands for
+  own_ready : (c : Lists) (d : Trees.InitDeclarator) (x : Spelling) (from : ℕ) (e : Entity) (rest : List Step) → entity_at g.names from ≡ Some e
+      → IsReady g c (behind_type g d x from rest)
+      → IsReady g c (an_own (Some e) (is_first g x) (first_declarator d.declarator x.from) ∷ events (At (a_name from ∷ []))
+      ∷ events (At (walk_of_initial g.untagged g.objects d.value)) ∷ rest)
+  own_ready c d x from e rest is ready =
+      subst (λ o. IsReady g c (an_own o (is_first g x) (first_declarator d.declarator x.from) ∷ events (At (a_name from ∷ []))
+      ∷ events (At (walk_of_initial g.untagged g.objects d.value)) ∷ rest)) is ready
+
+  abbrev FoundDeclarator : Storage → CType → Trees.InitDeclarator → Spelling → (from nodes : ℕ) → Lists → List Step → Type 0
+  FoundDeclarator words base d x from nodes c rest = FoundFile g w (declarator_named (part g c) words base d from nodes (Some x)) rest
+
+  -- ---- typedefs
+
+  a_typedef_found : (types : List (List ℕ)) (base : CType) (d : Trees.InitDeclarator) (x : Spelling) (from nodes : ℕ) (c : Lists) (rest : List Step)
+      → IsDeclarator types d.declarator → IsReady g c (steps_of_declarator g d x from rest)
+      → IsTypedef g base d x (first_declarator d.declarator x.from) from → FoundDeclarator a_typedef base d x from nodes c rest
+  a_typedef_found types base d x from nodes c rest formed ready h =
+      let t = h.0 in
+      let p = prepared g w types c d x from base (closed t) Named t rest formed ready h.3 h.2 in
+      let m = p.lists in
+      let b = bound x from defines (typedef t) in
+      let r = own_ready m d x from (typedef t) rest (entity_of g w.whole b h.5) p.ready in
+      let s = r.steps in
+      let z = typedef_complete g w m x from t r.filed s.1.0.0 h.4 h.5 in
+      let last = skip_nothing g (naming m b) d.value rest h.1
+      (named_ready g w m b _ _ _ _ (events (At (walk_of_initial g.untagged g.objects d.value)) ∷ rest) z.1 s.1 refl refl (omega arith) (omega arith)) in
+      record {
+        lists = naming m b;
+        is = joined g w c p.middle d x p.steps (closed t) t a_typedef base from nodes p.is p.shape_is (closed_sized g w p.middle.records x.from t d.value)
+            ∙ no_value x.from d.value (declare_typedef (with_mention (at_file_scope (part g p.middle)) (mentions_in (part g c)) Named t
+            (first_declarator d.declarator x.from) (part g p.middle)) x from t) h.1
+            ∙ ap (λ f. declare_typedef f x from t) p.said ∙ z.0;
+        ready = last;
+      }
+
+  -- ---- functions
+
+  as_function : (words : Storage) → MayDeclare words → (c m : Lists) (place from : ℕ) (x : Spelling) (t : CType) (d : Trees.InitDeclarator) (nodes before : ℕ)
+      → is_function t ≡ true → d.value ≡ None → with_mention (at_file_scope (part g m)) before Named t place (part g m) ≡ part g c
+      → declare_as words before place from x t d nodes (part g m) ≡ declare_function (part g c) words x place from t nodes (library_named x.text)
+  as_function words may c m place from x t d nodes before f v said =
+      declared_as words may before place from x t d nodes (part g m)
+      ∙ ap (λ b. cond b (without_value x.from d.value (declare_function (with_mention (at_file_scope (part g m)) before Named t place (part g m)) words x
+      place from t nodes (library_named x.text))) (object_at m.records (complete (at_file_scope (part g m)) x.from) x.from t
+      >>= λ u. declare_object (with_mention (at_file_scope (part g m)) before Object u place (part g m)) words x place from u d.value)) f
+      ∙ no_value x.from d.value (declare_function (with_mention (at_file_scope (part g m)) before Named t place (part g m)) words x
+      place from t nodes (library_named x.text)) v
+      ∙ ap (λ f. declare_function f words x place from t nodes (library_named x.text)) said
+
+  a_function_found : (types : List (List ℕ)) (words : Storage) (base : CType) (d : Trees.InitDeclarator) (x : Spelling) (from nodes : ℕ) (c : Lists)
+      (rest : List Step) → MayDeclare words → IsDeclarator types d.declarator → IsReady g c (steps_of_declarator g d x from rest)
+      → IsFunction g words base d x (first_declarator d.declarator x.from) from → FoundDeclarator words base d x from nodes c rest
+  a_function_found types words base d x from nodes c rest may formed ready h =
+      let t = h.0 in
+      let p = prepared g w types c d x from base (closed t) Named t rest formed ready h.2 h.4 in
+      let m = p.lists in
+      let place = first_declarator d.declarator x.from in
+      let initial = events (At (walk_of_initial g.untagged g.objects d.value)) in
+      let first_part = joined g w c p.middle d x p.steps (closed t) t words base from nodes p.is p.shape_is
+      (closed_sized g w p.middle.records x.from t d.value)
+      ∙ as_function words may m p.middle place from x t d nodes (mentions_in (part g c)) h.3 h.1 p.said in
+      by_kind t place m initial p.ready p.first first_part h.5
+    where
+      by_kind : (t : CType) (place : ℕ) (m : Lists) (initial : Step)
+          → IsReady g m (an_own (entity_at g.names from) (is_first g x) place ∷ events (At (a_name from ∷ [])) ∷ initial ∷ rest)
+          → ((b : Bound) → b.name ≡ x.text → b.from ≡ from → IsBound (at_file_scope g) b
+          → ((v : ℕ) → b.entity ≢ Rattle.c_erasure.specs.Scopes.enumerator v)
+          → is_first g x ≡ is_none (Rattle.c_checking.specs.Declaring.declared_among m.names x.text))
+          → declarator_named (part g c) words base d from nodes (Some x) ≡ declare_function (part g m) words x place from t nodes (library_named x.text)
+          → ⊥
+          → FoundDeclarator words base d x from nodes c rest
+      by_kind t place m initial ready first is h = absurd h
