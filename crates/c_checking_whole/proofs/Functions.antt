@@ -211,7 +211,7 @@ module _ (g : FileScope) (w : IsWholeFile g) where
 
   -- ---- declarators
 
-  named_ready : (c : Lists) (b : Bound) (n r o f : ℕ) (rest : List Step) → IsFiled g (naming c b)
+  pub named_ready : (c : Lists) (b : Bound) (n r o f : ℕ) (rest : List Step) → IsFiled g (naming c b)
       → AreSteps g n r o f (events (At (a_name b.from ∷ [])) ∷ rest) → n ≡ length c.names → r ≡ length c.records → o ≡ length c.objects
       → f ≡ length c.functions → IsReady g (naming c b) rest
   named_ready c b n r o f rest filed s en er eo ef =

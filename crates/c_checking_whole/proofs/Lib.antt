@@ -6,3 +6,4 @@ pub mod Objects
 pub mod ObjectDeclarators
 pub mod Functions
 pub mod Prepared
+pub mod Declarators
