@@ -7,3 +7,4 @@ pub mod ObjectDeclarators
 pub mod Functions
 pub mod Prepared
 pub mod Declarators
+pub mod Declarations
