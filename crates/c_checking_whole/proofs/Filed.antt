@@ -8,6 +8,8 @@ use Rattle.c_erasure.specs.Erasure.{IsBound}
 use Rattle.c_erasure.specs.Files.{AreConsistent, MayStandTogether, IsMainType}
 use Rattle.c_erasure.specs.Scopes.{FileScope, Bound, Entity, an_object, a_function, AnObject, AFunction, at_file_scope}
 use Rattle.c_checking.specs.Declaring.{declared_among}
+use Rattle.c_checking.proofs.Agreement as Agreement
+use Rattle.c_checking_files.proofs.Kept.{AreObjectsWhole}
 use Rattle.c_checking.proofs.CompleteNodes.{some_is}
 use Rattle.c_checking.proofs.CompleteStructures.{split_at, below_length}
 use Rattle.c_checking.proofs.CompleteWalk.{IsNamedFrom}
@@ -25,6 +27,7 @@ pub record IsWholeFile (g : FileScope) : Type 0 where
   pub functions_apart : (j k : ℕ) (a b : AFunction) → slice_get g.functions j ≡ Some a → slice_get g.functions k ≡ Some b → a.first ≡ b.first → j ≡ k
   pub main_is_no_object : (n : ℕ) (o : AnObject) → slice_get g.objects n ≡ Some o → o.is_linked ≡ true → o.name ≢ codes "main"
   pub main : (n : ℕ) (h : AFunction) → slice_get g.functions n ≡ Some h → IsMainType h.name h.ty
+  pub names_stand : (k : ℕ) (b : Bound) → slice_get g.names k ≡ Some b → Agreement.IsFit g [] b.entity
 
 -- each object and function is one of the whole file, which may be defined later, and names stand for those that are there
 pub record IsFiled (g : FileScope) (c : Lists) : Type 0 where
@@ -35,6 +38,7 @@ pub record IsFiled (g : FileScope) (c : Lists) : Type 0 where
   pub objects_there : (k : ℕ) (b : Bound) → slice_get c.names k ≡ Some b → (n : ℕ) (t : CType) → b.entity ≡ an_object n t → n < length c.objects
   pub functions_there : (k : ℕ) (b : Bound) → slice_get c.names k ≡ Some b → (n : ℕ) (t : CType) → b.entity ≡ a_function n t
       → n < length c.functions
+  pub whole : AreObjectsWhole c.records c.objects
 
 -- ---- names
 
@@ -95,6 +99,7 @@ module _ (g : FileScope) (w : IsWholeFile g) (c : Lists) where
     functions = f.functions;
     objects_there = λ k a e n t is. an_object_there k a n t is (last_or c.names b k a e);
     functions_there = λ k a e n t is. a_function_there k a n t is (last_or c.names b k a e);
+    whole = f.whole;
   }
     where
       an_object_there : (k : ℕ) (a : Bound) (n : ℕ) (t : CType) → a.entity ≡ an_object n t

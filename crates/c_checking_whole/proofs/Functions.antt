@@ -113,6 +113,7 @@ functions_filed g c all f same long = record {
   functions = same;
   objects_there = f.objects_there;
   functions_there = λ k b e n t is. let l = f.functions_there k b e n t is in omega (arith, l, long);
+  whole = f.whole;
 }
 
 module _ (g : FileScope) (w : IsWholeFile g) where

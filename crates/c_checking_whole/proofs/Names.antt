@@ -68,6 +68,7 @@ keeps_filed g c m i u f p k = record {
   objects_there = λ j b e n t is. an_object_there j b n t is (one_of_both c.names k.names.0 j b (subst (λ all. slice_get all j ≡ Some b) k.names.1 e));
   functions_there = λ j b e n t is. a_function_there j b n t is
       (one_of_both c.names k.names.0 j b (subst (λ all. slice_get all j ≡ Some b) k.names.1 e));
+  whole = k.whole f.whole;
 }
   where
     an_object_same : (n : ℕ) (o : AnObject) → (slice_get c.objects n ≡ Some o) ⊎ ((j : ℕ) × (n ≡ length c.objects + j) × (slice_get k.objects.0 j ≡ Some o))

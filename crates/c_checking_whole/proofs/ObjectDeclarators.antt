@@ -18,7 +18,7 @@ use Rattle.c_checking.specs.Declaring.{declared_among, with_bound}
 use Rattle.c_checking.specs.Files.{library_named, own_name, object_of, defined_object, with_definition, define_object, defined_once, once, declare_object}
 use Rattle.c_checking.proofs.CompleteLocals.{walk_of_initial}
 use Rattle.c_checking.proofs.CompleteNodes.{some, some_is}
-use Rattle.c_checking.proofs.CompletePart.{Lists, part, IsBefore, IsAfter}
+use Rattle.c_checking.proofs.CompletePart.{Lists, part, IsBefore, IsAfter, complete_stays}
 use Rattle.c_checking.proofs.CompleteWalk.{a_name}
 use Rattle.c_checking.proofs.Extends.{Extends}
 use Rattle.c_checking.proofs.Results.{ok}
@@ -43,8 +43,9 @@ module _ (g : FileScope) (w : IsWholeFile g) where
       → o.place ≡ record { file = g.file; at = place } → record z { place = record { file = g.file; at = place }; initial = Some i } ≡ o
   same_whole z o i place s e p = rw (sym s.name, sym s.first, sym s.ty, sym s.is_linked, sym s.literal, sym e, sym p) refl
 
-  put_filed : (c : Lists) (n : ℕ) (o : AnObject) → IsFiled g c → slice_get g.objects n ≡ Some o → IsFiled g (with_objects c (slice_set c.objects n o))
-  put_filed c n o f there = record {
+  put_filed : (c : Lists) (n : ℕ) (o : AnObject) → IsFiled g c → slice_get g.objects n ≡ Some o → is_object (length c.records) o.ty ≡ true
+      → IsFiled g (with_objects c (slice_set c.objects n o))
+  put_filed c n o f there known = record {
     extends = one_put g c n o f.extends there;
     objects = λ k p e. one k p (set_of c.objects n o k p e);
     functions = f.functions;
@@ -53,8 +54,13 @@ module _ (g : FileScope) (w : IsWholeFile g) where
         let s = set_length c.objects n o in
         omega (arith, l, s);
     functions_there = f.functions_there;
+    whole = λ k p e. whole_there k p (set_of c.objects n o k p e);
   }
     where
+      whole_there : (k : ℕ) (p : AnObject) → (slice_get c.objects k ≡ Some p) ⊎ ((k ≡ n) × (o ≡ p)) → is_object (length c.records) p.ty ≡ true
+      whole_there k p (inl e) = f.whole k p e
+      whole_there k p (inr e) = subst (λ (o : AnObject). is_object (length c.records) o.ty ≡ true) e.1 known
+
       one : (k : ℕ) (p : AnObject) → (slice_get c.objects k ≡ Some p) ⊎ ((k ≡ n) × (o ≡ p)) → (q : AnObject) × (slice_get g.objects k ≡ Some q) × IsSameObject p q
       one k p (inl e) = f.objects k p e
       one k p (inr e) = (
@@ -104,7 +110,8 @@ module _ (g : FileScope) (w : IsWholeFile g) where
             ∙ ap (λ o. ok (with_definition (part g m) n (defined_object (part g c) place i o))) y.1
             ∙ ap (λ o. ok (part g (with_objects m (slice_set m.objects n o)))) made;
         ready = record {
-          filed = put_filed m n o z.filed there;
+          filed = put_filed m n o z.filed there (subst (λ t. is_object (length m.records) t ≡ true) (sym ty)
+              (complete_stays (length c.records) (length m.records) t (let r = a.records in omega (arith, r)) known));
           steps = steps_at g _ _ _ (length c.functions) (length m.names) (length m.records) (length last.objects) (length m.functions) rest
               (sym a.names) (sym a.records) (let o = a.objects in omega (arith, o, size)) (sym (ap length a.functions)) ready.steps.1;
         };
@@ -132,7 +139,7 @@ module _ (g : FileScope) (w : IsWholeFile g) where
       let f = ready.filed in
       let s = ready.steps in
       let next = next_bound g w c b s.1.0.0 binds in
-      let z = own_found g w c words x place t n o (is_first g x) (declared_among c.names x.text) b may f refl first s.0 is refl next in
+      let z = own_found g w c words x place t n o (is_first g x) (declared_among c.names x.text) b may f refl first s.0 is refl next known in
       let m = z.lists in
       let next_there : slice_get g.names (length m.names) ≡ Some b = subst (λ all. slice_get g.names (length all) ≡ Some b) (sym z.names) next in
       let named = naming_filed g w m z.filed b next_there

@@ -92,9 +92,9 @@ module _ (g : FileScope) (w : IsWholeFile g) where
 
   one_new : (c : Lists) (words : Storage) (x : Spelling) (place : ℕ) (t : CType) (n : ℕ) (o : AnObject) → MayDeclare words → IsFiled g c
       → IsNextOwn g (length c.objects) (length c.functions) (Some (an_object n t)) true place → IsOwn x words place t n true o
-      → FoundOwn c words x place t n true None
+      → is_object (length c.records) t ≡ true → FoundOwn c words x place t n true None
   unfolding object_of
-  one_new c words x place t n o may f next own =
+  one_new c words x place t n o may f next own known =
       let number : n ≡ length c.objects = w.whole.objects_apart n (length c.objects) o next.0 own.there next.1 (own.begins ∙ sym next.2) in
       let linked = links_new words may o.is_linked own.linkage in
       let main = no_main x.text (links words) (λ l e. w.main_is_no_object n o own.there (sym linked ∙ l) (own.name ∙ e)) in
@@ -119,6 +119,7 @@ module _ (g : FileScope) (w : IsWholeFile g) where
           functions = f.functions;
           objects_there = λ k b e m u is. let l = f.objects_there k b e m u is in omega (arith, l, long);
           functions_there = f.functions_there;
+          whole = λ k p e. whole_there k p (last_or c.objects new k p e) refl;
         };
         names = refl;
         records = refl;
@@ -127,6 +128,12 @@ module _ (g : FileScope) (w : IsWholeFile g) where
         there = omega (arith, long, number);
       }
     where
+      whole_there : {new : AnObject} (k : ℕ) (p : AnObject) → (slice_get c.objects k ≡ Some p) ⊎ ((k ≡ length c.objects) × (new ≡ p)) → new.ty ≡ t
+          → is_object (length c.records) p.ty ≡ true
+      whole_there k p (inl e) ty = f.whole k p e
+      whole_there k p (inr e) ty =
+          subst (λ t. is_object (length c.records) t ≡ true) (sym ty ∙ ap (λ (o : AnObject). o.ty) e.1) known
+
       one : {new : AnObject} (k : ℕ) (p : AnObject) → (slice_get c.objects k ≡ Some p) ⊎ ((k ≡ length c.objects) × (new ≡ p)) → IsSameObject new o
           → slice_get g.objects (length c.objects) ≡ Some o → (q : AnObject) × (slice_get g.objects k ≡ Some q) × IsSameObject p q
       one k p (inl e) same there = f.objects k p e
@@ -158,11 +165,12 @@ module _ (g : FileScope) (w : IsWholeFile g) where
   pub own_found : (c : Lists) (words : Storage) (x : Spelling) (place : ℕ) (t : CType) (n : ℕ) (o : AnObject) (first : Bool) (old : Option Bound) (b : Bound)
       → MayDeclare words → IsFiled g c → declared_among c.names b.name ≡ old → first ≡ is_none old
       → IsNextOwn g (length c.objects) (length c.functions) (Some (an_object n t)) first place → IsOwn x words place t n first o
-      → b.entity ≡ an_object n t → slice_get g.names (length c.names) ≡ Some b → FoundOwn c words x place t n first old
-  own_found c words x place t n o true None b may f e i next own is there = one_new c words x place t n o may f next own
-  own_found c words x place t n o false None b may f e i next own is there = cc
-  own_found c words x place t n o true (Some old) b may f e i next own is there = cc
-  own_found c words x place t n o false (Some old) b may f e i next own is there =
+      → b.entity ≡ an_object n t → slice_get g.names (length c.names) ≡ Some b → is_object (length c.records) t ≡ true
+      → FoundOwn c words x place t n first old
+  own_found c words x place t n o true None b may f e i next own is there known = one_new c words x place t n o may f next own known
+  own_found c words x place t n o false None b may f e i next own is there known = cc
+  own_found c words x place t n o true (Some old) b may f e i next own is there known = cc
+  own_found c words x place t n o false (Some old) b may f e i next own is there known =
       let both = declared_earlier g w c f.extends b there old e in
       let d = Rattle.c_checking_items.proofs.Names.declared_is c.names b.name old e in
       one_known c words x place t n o old may f (f.objects_there d.0 old d.1 n t (both.same ∙ is)) (both.same ∙ is) own

@@ -54,9 +54,9 @@ module _ (g : FileScope) where
         (length c.objects) (length c.functions) rest (omega arith) (omega arith) (omega arith) refl ready.steps.1;
   }
 
-  pub same_filed : (d e : Lists) → IsFiled g d → Extends (part g e) g → d.names ≡ e.names → d.objects ≡ e.objects → d.functions ≡ e.functions
-      → IsFiled g e
-  same_filed d e f p names objects functions = record {
+  pub same_filed : (d e : Lists) → IsFiled g d → Extends (part g e) g → d.names ≡ e.names → d.records ≡ e.records → d.objects ≡ e.objects
+      → d.functions ≡ e.functions → IsFiled g e
+  same_filed d e f p names records objects functions = record {
     extends = p;
     objects = subst (λ all. (n : ℕ) (o : Rattle.c_erasure.specs.Scopes.AnObject) → slice_get all n ≡ Some o
         → (p : Rattle.c_erasure.specs.Scopes.AnObject) × (slice_get g.objects n ≡ Some p)
@@ -68,6 +68,8 @@ module _ (g : FileScope) where
         (f.objects_there k b (subst (λ all. slice_get all k ≡ Some b) (sym names) i) n t is);
     functions_there = λ k b i n t is. subst (λ all. n < length all) functions
         (f.functions_there k b (subst (λ all. slice_get all k ≡ Some b) (sym names) i) n t is);
+    whole = subst (λ records. Rattle.c_checking_files.proofs.Kept.AreObjectsWhole records e.objects) records
+        (subst (Rattle.c_checking_files.proofs.Kept.AreObjectsWhole d.records) objects f.whole);
   }
 
 -- ---- types of objects
@@ -134,7 +136,7 @@ module _ (g : FileScope) (w : IsWholeFile g) where
       let names : z.lists.names ≡ lists.names = ap (λ (f : FileScope). f.names) y.1 in
       let objects : z.lists.objects ≡ lists.objects = ap (λ (f : FileScope). f.objects) y.1 in
       let functions : z.lists.functions ≡ lists.functions = ap (λ (f : FileScope). f.functions) y.1 in
-      let filed = same_filed g z.lists lists filed y.3.extends names objects functions in
+      let filed = same_filed g z.lists lists filed y.3.extends names (sym y.2) objects functions in
       let n = y.3.names in
       let r = y.3.records in
       let o = y.3.objects in
