@@ -3,6 +3,7 @@ use Rattle.std.proofs.Common.{◌≡◌, ℕ, zero, suc, ◌+◌, ◌≤◌, ◌
 use Rattle.std.proofs.Common.{append_assoc, arith, inl, inr}
 use Rattle.std.specs.Prelude.{◌⊎◌, All, Option, Some, None, slice_get, codes, ◌≢◌}
 use Rattle.std.specs.Option.{IsSome}
+use Rattle.c_types.specs.Limits.{AreComplete}
 use Rattle.c_types.specs.Types.{CType}
 use Rattle.c_erasure.specs.Erasure.{IsBound}
 use Rattle.c_erasure.specs.Files.{AreConsistent, MayStandTogether, IsMainType}
@@ -27,6 +28,7 @@ pub record IsWholeFile (g : FileScope) : Type 0 where
   pub functions_apart : (j k : ℕ) (a b : AFunction) → slice_get g.functions j ≡ Some a → slice_get g.functions k ≡ Some b → a.first ≡ b.first → j ≡ k
   pub main_is_no_object : (n : ℕ) (o : AnObject) → slice_get g.objects n ≡ Some o → o.is_linked ≡ true → o.name ≢ codes "main"
   pub main : (n : ℕ) (h : AFunction) → slice_get g.functions n ≡ Some h → IsMainType h.name h.ty
+  pub complete : AreComplete g.records
   pub names_stand : (k : ℕ) (b : Bound) → slice_get g.names k ≡ Some b → Agreement.IsFit g [] b.entity
 
 -- each object and function is one of the whole file, which may be defined later, and names stand for those that are there

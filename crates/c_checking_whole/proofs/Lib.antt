@@ -8,3 +8,4 @@ pub mod Functions
 pub mod Prepared
 pub mod Declarators
 pub mod Declarations
+pub mod FunctionBodies

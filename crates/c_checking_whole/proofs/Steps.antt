@@ -3,6 +3,8 @@ use Rattle.std.proofs.Common.{◌≡◌, ℕ, zero, suc, ◌+◌, ◌≤◌, ◌
 use Rattle.std.proofs.lemmas.Bool.{eq-eqb, eqb-true}
 use Rattle.std.specs.Prelude.{◌==◌, Option, Some, None, slice_get}
 use Rattle.c_types.specs.Types.{CType}
+use Rattle.c_ast.specs.Trees
+use Rattle.c_checking_files.proofs.StatementLaws.{AreItemsInRange}
 use Rattle.c_erasure.specs.Erasure.{IsBound}
 use Rattle.c_erasure.specs.Scopes.{FileScope, Bound, Entity, an_object, a_function, AFunction, at_file_scope}
 use Rattle.c_checking.proofs.CompleteNodes.{some, some_is}
@@ -40,6 +42,8 @@ pub data Step : Type 0 where
   a_declarator : (at : ℕ) → Step
   -- the object or function that it declares, where it is the first of its name
   an_own : (e : Option Entity) → (first : Bool) → (place : ℕ) → Step
+  -- the body of a function
+  a_body : (items : Trees.BlockItems) → Step
 
 abbrev pub own_objects : Option Entity → Bool → ℕ
 own_objects (Some (an_object n t)) true = 1
@@ -69,6 +73,7 @@ AreSteps g n r o f (events all ∷ more) = Follows g n r o all × AreSteps g (n 
 AreSteps g n r o f (a_declarator at ∷ more) = (IsAsked g n r at × AreBegun g n at) × AreSteps g n r o f more
 AreSteps g n r o f (an_own e first place ∷ more) =
     IsNextOwn g o f e first place × AreSteps g n r (o + own_objects e first) (f + own_functions e first) more
+AreSteps g n r o f (a_body items ∷ more) = AreItemsInRange g.ends r items × AreSteps g n r o f more
 
 pub steps_at : (g : FileScope) (n r o f m q p h : ℕ) (all : List Step) → n ≡ m → r ≡ q → o ≡ p → f ≡ h → AreSteps g n r o f all → AreSteps g m q p h all
 steps_at g n r o f m q p h all a b c d s =
