@@ -9,3 +9,5 @@ pub mod Prepared
 pub mod Declarators
 pub mod Declarations
 pub mod FunctionBodies
+pub mod Definitions
+pub mod Items
