@@ -44,7 +44,7 @@ pub record IsFiled (g : FileScope) (c : Lists) : Type 0 where
 
 -- ---- names
 
-consistent_at : (all : List Bound) → AreConsistent all → (j k : ℕ) (a b : Bound) → j < k → slice_get all j ≡ Some a → slice_get all k ≡ Some b
+pub consistent_at : (all : List Bound) → AreConsistent all → (j k : ℕ) (a b : Bound) → j < k → slice_get all j ≡ Some a → slice_get all k ≡ Some b
     → b.name ≡ a.name → MayStandTogether a b
 consistent_at [] h j k a b l e f n = cc
 consistent_at (x ∷ all) h zero zero a b l e f n = absurd (omega (arith, l))

@@ -11,3 +11,5 @@ pub mod Declarations
 pub mod FunctionBodies
 pub mod Definitions
 pub mod Items
+pub mod FileFacts
+pub mod AllFound
