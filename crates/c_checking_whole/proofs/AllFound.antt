@@ -1,16 +1,15 @@
 -- The part of a file that is found has all names, records and mentions of the whole one, where both are annotated files of the tree (C99 6.9).
-use Rattle.std.proofs.Common.{◌≡◌, ℕ, zero, suc, ◌+◌, refl, sym, ap, ◌∙◌, subst, List, [], ◌∷◌, ◌++◌, length, append-nil, arith, length-append}
+use Rattle.std.proofs.Common.{◌≡◌, ℕ, suc, refl, sym, ap, ◌∙◌, subst, List, [], ◌∷◌, ◌++◌, length, append-nil, arith, length-append}
 use Rattle.std.specs.Prelude.{map, Some, slice_get}
 use Rattle.c_types.specs.Types.{Record}
 use Rattle.c_ast.specs.Trees
 use Rattle.c_erasure.specs.Files.{IsFileOf}
 use Rattle.c_erasure.specs.Scopes.{Bound, AMention, FileScope}
 use Rattle.c_checking.specs.Files.{closed_file}
-use Rattle.c_checking.proofs.CompleteNodes.{some, some_is}
+use Rattle.c_checking.proofs.CompleteNodes.{some_is}
 use Rattle.c_checking.proofs.CompletePart.{Lists, part}
 use Rattle.c_checking_complete.proofs.Objects.{mapped_at}
 use Rattle.c_checking_whole.proofs.Filed.{IsFiled}
-use Rattle.c_checking_whole.proofs.Functions.{map_back}
 
 mapped_length : {X Y : Type 0} (v : X → Y) (xs : List X) → length (map v xs) ≡ length xs
 mapped_length v [] = refl

@@ -1,8 +1,8 @@
 -- The initializer of an object of file scope: the constants that stand for the tree are found (C99 6.7.8).
-use Rattle.std.proofs.Common.{◌≡◌, ℕ, zero, suc, ◌+◌, ◌≤◌, ◌<◌, Bool, true, false, refl, sym, ap, ◌∙◌, subst, List, [], ◌∷◌, ◌++◌, length}
+use Rattle.std.proofs.Common.{◌≡◌, ℕ, ◌+◌, ◌<◌, Bool, true, false, refl, ap, ◌∙◌, subst, List, [], ◌∷◌, length}
 use Rattle.std.proofs.Common.{arith, inl, inr}
 use Rattle.std.proofs.lemmas.List.Elements.{All-nil}
-use Rattle.std.specs.Prelude.{◌⊎◌, Option, Some, None, Ok, slice_get}
+use Rattle.std.specs.Prelude.{◌⊎◌, Option, Some, Ok, slice_get}
 use Rattle.c_types.specs.Types.{CType, void, integer, pointer, array, function, structure}
 use Rattle.c_types.specs.Objects.{is_object}
 use Rattle.c_ast.specs.Trees
@@ -23,9 +23,9 @@ use Rattle.c_checking.specs.Initializers.{are_constants, constants_in}
 use Rattle.c_checking.specs.Statements.{constants_if_any}
 use Rattle.c_checking.proofs.CompleteFit.{IsAmong}
 use Rattle.c_checking.proofs.CompleteLocals.{walk_of_initial}
-use Rattle.c_checking.proofs.CompletePart.{Lists, part, IsWhole, IsBefore, IsAfter, none_after}
+use Rattle.c_checking.proofs.CompletePart.{Lists, part, IsBefore, IsAfter}
 use Rattle.c_checking.proofs.CompleteWalk.{Event}
-use Rattle.c_checking.proofs.Extends.{Extends, one_of_both}
+use Rattle.c_checking.proofs.Extends.{one_of_both}
 use Rattle.c_checking_complete.proofs.Constants.{constants_back}
 use Rattle.c_checking_complete.proofs.Reached.{reaches}
 use Rattle.c_checking_complete.proofs.Wholes.{AsTyped, initializer_complete}

@@ -1,5 +1,5 @@
 -- Declarations of the file scope: what they declare is what is found (C99 6.7).
-use Rattle.std.proofs.Common.{◌≡◌, ◌≢◌, ℕ, zero, suc, ◌+◌, Bool, true, false, refl, sym, ap, ◌∙◌, subst, cond, List, [], ◌∷◌, length, inl, inr}
+use Rattle.std.proofs.Common.{◌≡◌, ◌≢◌, ℕ, Bool, true, false, refl, sym, ap, ◌∙◌, cond, List, [], ◌∷◌, length, inl, inr}
 use Rattle.std.specs.Prelude.{◌⊎◌, ◌&&◌, not, Ok}
 use Rattle.lay_base.specs.declared.faults.Rule.TheVariants as R
 use Rattle.c_types.specs.Types.{CType}
@@ -7,10 +7,10 @@ use Rattle.c_ast.specs.Places.{first_specifiers}
 use Rattle.c_ast.specs.Trees
 use Rattle.c_ast.specs.WellFormed.{IsDeclaration, AreSpecifiers}
 use Rattle.c_erasure.specs.Erasure.{IsBase, IsOne}
-use Rattle.c_erasure.specs.Files.{declares_tag, DeclaresSomething, may_stand_in_file, ErasesItem}
+use Rattle.c_erasure.specs.Files.{declares_tag, DeclaresSomething, ErasesItem}
 use Rattle.c_erasure.specs.Scopes.{FileScope, at_file_scope}
 use Rattle.c_erasure.specs.Specifiers.{storage_of}
-use Rattle.c_checking.specs.Answers.{Answer, ◌>>=◌, refused}
+use Rattle.c_checking.specs.Answers.{◌>>=◌, refused}
 use Rattle.c_checking.specs.Declaring.{base_kind}
 use Rattle.c_checking.specs.Files.{is_empty, file_declarators, file_declaration}
 use Rattle.c_checking.specs.Finding.{base_type, one_of}
@@ -18,13 +18,12 @@ use Rattle.c_checking.proofs.CompleteDeclarators.{base_complete}
 use Rattle.c_checking.proofs.CompletePart.{Lists, part}
 use Rattle.c_checking.proofs.CompleteTrees.{complete_one}
 use Rattle.c_checking.proofs.CompleteWalk.{walk_of_specifiers}
-use Rattle.c_checking.proofs.Results.{ok}
 use Rattle.c_checking_files.proofs.Keeping.{keep_base}
 use Rattle.c_checking_whole.proofs.Declarators.{steps_of_declarators, declarators_found}
 use Rattle.c_checking_whole.proofs.Filed.{IsWholeFile}
 use Rattle.c_checking_whole.proofs.Names.{keeps_filed}
 use Rattle.c_checking_whole.proofs.ObjectDeclarators.{FoundFile}
-use Rattle.c_checking_whole.proofs.Steps.{Step, events, AreSteps, steps_at, At, IsReady}
+use Rattle.c_checking_whole.proofs.Steps.{Step, events, steps_at, At, IsReady}
 
 something_declared : (d : Trees.Declaration) → DeclaresSomething d → (is_empty d.all && not (declares_tag d.specs)) ≡ false
 something_declared d h = by_list d.all refl h

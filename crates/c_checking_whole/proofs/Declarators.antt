@@ -1,7 +1,7 @@
 -- Declarators of the file scope: what they declare is what is found (C99 6.7, 6.9).
-use Rattle.std.proofs.Common.{◌≡◌, ◌≢◌, ℕ, zero, suc, ◌+◌, ◌≤◌, ◌<◌, Bool, true, false, refl, sym, ap, ◌∙◌, subst, cond, List, [], ◌∷◌, ◌++◌, length}
+use Rattle.std.proofs.Common.{◌≡◌, ◌≢◌, ℕ, Bool, true, false, refl, ap, ◌∙◌, subst, cond, List, [], ◌∷◌, length}
 use Rattle.std.proofs.Common.{arith, inl, inr}
-use Rattle.std.specs.Prelude.{◌⊎◌, Option, Some, None, Ok, slice_get, is_none}
+use Rattle.std.specs.Prelude.{◌⊎◌, Option, Some, None, slice_get}
 use Rattle.c_types.specs.Types.{CType, void, integer, pointer, array, function, structure}
 use Rattle.c_types.specs.Objects.{is_object}
 use Rattle.c_ast.specs.declared.words.Spelling.{Spelling}
@@ -10,7 +10,7 @@ use Rattle.c_ast.specs.Places.{first_declarator}
 use Rattle.c_ast.specs.WellFormed.{IsDeclarator, IsValue, AreInitDeclarators}
 use Rattle.c_typed.specs.declared.program.MentionKind.TheVariants.{Object, Named}
 use Rattle.c_typed.specs.Conversions.{is_function}
-use Rattle.c_erasure.specs.Declarators.{declared_name, Shape, closed}
+use Rattle.c_erasure.specs.Declarators.{declared_name, closed}
 use Rattle.c_erasure.specs.Erasure.{IsBound}
 use Rattle.c_typed.specs.declared.operators.LibraryFunction.{LibraryFunction}
 use Rattle.c_typed.specs.Fits.{library_type}
@@ -18,20 +18,18 @@ use Rattle.c_erasure.specs.Scopes.{AFunction}
 use Rattle.c_erasure.specs.Files.{library_name, IsOwnName, IsLinkage, IsFirst, function_storage}
 use Rattle.c_erasure.specs.Files.{bound, is_first, object_how, IsTypedef, IsObject, IsFunction, IsFileDeclarator, AreFileDeclarators}
 use Rattle.c_erasure.specs.Marks.{name_from, after_declarator}
-use Rattle.c_erasure.specs.Scopes.{FileScope, Bound, declares, defines, Entity, typedef, an_object, a_function, a_library_function, at_file_scope, ended}
+use Rattle.c_erasure.specs.Scopes.{FileScope, declares, defines, Entity, typedef, an_object, a_function, a_library_function, at_file_scope, ended}
 use Rattle.c_erasure.specs.Specifiers.{Storage, no_storage, a_typedef, is_extern, is_static, is_auto, is_register, several}
 use Rattle.c_checking.specs.Answers.{Answer, ◌>>=◌}
 use Rattle.c_checking.specs.Declaring.{with_mention, mentions_in, object_at}
 use Rattle.c_checking.specs.Files.{library_named, declare_typedef, declare_function, declare_object, without_value, declare_as, declarator_named}
 use Rattle.c_checking.specs.Files.{file_declarators}
 use Rattle.c_checking.specs.Finding.{complete}
-use Rattle.c_checking.specs.Statements.{sized_in}
 use Rattle.c_checking.proofs.CompleteLocals.{walk_of_initial}
 use Rattle.c_checking.proofs.CompletePart.{Lists, part, complete_stays}
 use Rattle.c_checking.proofs.CompleteWalk.{a_name}
-use Rattle.c_checking.proofs.Results.{ok}
 use Rattle.c_checking_files.proofs.FileScopes.{MayDeclare}
-use Rattle.c_checking_whole.proofs.Filed.{IsWholeFile, naming, next_bound}
+use Rattle.c_checking_whole.proofs.Filed.{IsWholeFile, naming}
 use Rattle.c_checking_whole.proofs.Functions.{IsOwnFunction, function_found, library_function_found, named_ready}
 use Rattle.c_checking_whole.proofs.Names.{typedef_complete}
 use Rattle.c_checking_whole.proofs.ObjectDeclarators.{FoundFile, object_found}

@@ -1,7 +1,7 @@
 -- Definitions of functions: what they define is what is found (C99 6.9.1).
-use Rattle.std.proofs.Common.{◌≡◌, ◌≢◌, ℕ, zero, suc, ◌+◌, ◌≤◌, ◌<◌, Bool, true, false, refl, sym, ap, ◌∙◌, subst, cond, List, [], ◌∷◌, length}
-use Rattle.std.proofs.Common.{length-append, arith, inl, inr}
-use Rattle.std.specs.Prelude.{◌⊎◌, Option, Some, None, Ok, slice_get, is_none}
+use Rattle.std.proofs.Common.{◌≡◌, ℕ, Bool, true, false, refl, sym, ap, ◌∙◌, subst, cond, List, [], ◌∷◌, length}
+use Rattle.std.proofs.Common.{arith, inl, inr}
+use Rattle.std.specs.Prelude.{◌⊎◌, Option, Some, None, Ok, slice_get}
 use Rattle.c_types.specs.Types.{CType, CTypes, pointer, array, function}
 use Rattle.c_ast.specs.declared.words.Spelling.{Spelling}
 use Rattle.c_ast.specs.Places.{first_specifiers, first_declarator}
@@ -23,18 +23,17 @@ use Rattle.c_checking.proofs.CompleteBodies.{walk_of_declaration}
 use Rattle.c_checking.proofs.CompletePart.{Lists, part}
 use Rattle.c_checking.proofs.CompleteStatements.{walk_of_items}
 use Rattle.c_checking.proofs.CompleteWalk.{Event, seen, a_name, walk_of_specifiers}
-use Rattle.c_checking.proofs.Results.{ok}
 use Rattle.c_checking_complete.proofs.Bodies.{AreScalar, parameters_complete}
 use Rattle.c_checking_complete.proofs.StaticLists.{walk_of_statics}
 use Rattle.c_checking_files.proofs.FileScopes.{MayDeclare}
-use Rattle.c_checking_whole.proofs.Declarations.{FoundBase, base_found}
+use Rattle.c_checking_whole.proofs.Declarations.{base_found}
 use Rattle.c_checking_whole.proofs.Filed.{IsWholeFile, naming, next_bound, naming_filed}
 use Rattle.c_checking_whole.proofs.FunctionBodies.{function_body_found}
 use Rattle.c_checking_whole.proofs.Functions.{main_fits, IsOwnFunction, own_found, named_ready}
 use Rattle.c_checking_whole.proofs.Names.{own_back}
 use Rattle.c_checking_whole.proofs.ObjectDeclarators.{FoundFile}
 use Rattle.c_checking_whole.proofs.Objects.{none_defined}
-use Rattle.c_checking_whole.proofs.Prepared.{steps_of_declarator, skip_nothing, Prepared, prepared}
+use Rattle.c_checking_whole.proofs.Prepared.{steps_of_declarator, skip_nothing, prepared}
 use Rattle.c_checking_whole.proofs.Steps.{Step, events, an_own, a_body, entity_of, At, IsReady}
 
 -- ---- parameters are numbers and pointers

@@ -1,13 +1,12 @@
 -- What the file level knows of the first part of a whole file (C99 6.2.1, 6.7, 6.9).
-use Rattle.std.proofs.Common.{◌≡◌, ℕ, zero, suc, ◌+◌, ◌≤◌, ◌<◌, Bool, true, false, refl, sym, ap, ◌∙◌, subst, cond, List, [], ◌∷◌, ◌++◌, length}
+use Rattle.std.proofs.Common.{◌≡◌, ℕ, zero, suc, ◌<◌, true, refl, sym, ap, ◌∙◌, subst, List, [], ◌∷◌, ◌++◌, length}
 use Rattle.std.proofs.Common.{append_assoc, arith, inl, inr}
-use Rattle.std.specs.Prelude.{◌⊎◌, All, Option, Some, None, slice_get, codes, ◌≢◌}
-use Rattle.std.specs.Option.{IsSome}
+use Rattle.std.specs.Prelude.{◌⊎◌, All, Some, slice_get, codes, ◌≢◌}
 use Rattle.c_types.specs.Limits.{AreComplete}
 use Rattle.c_types.specs.Types.{CType}
 use Rattle.c_erasure.specs.Erasure.{IsBound}
 use Rattle.c_erasure.specs.Files.{AreConsistent, MayStandTogether, IsMainType}
-use Rattle.c_erasure.specs.Scopes.{FileScope, Bound, Entity, an_object, a_function, AnObject, AFunction, at_file_scope}
+use Rattle.c_erasure.specs.Scopes.{FileScope, Bound, an_object, a_function, AnObject, AFunction, at_file_scope}
 use Rattle.c_checking.specs.Declaring.{declared_among}
 use Rattle.c_checking.proofs.Agreement as Agreement
 use Rattle.c_checking_files.proofs.Kept.{AreObjectsWhole}
@@ -15,7 +14,7 @@ use Rattle.c_checking.proofs.CompleteNodes.{some_is}
 use Rattle.c_checking.proofs.CompleteStructures.{split_at, below_length}
 use Rattle.c_checking.proofs.CompleteWalk.{IsNamedFrom}
 use Rattle.c_checking.proofs.CompletePart.{Lists, part, IsWhole}
-use Rattle.c_checking.proofs.Extends.{Extends, bound_stays, one_of_both, last_or}
+use Rattle.c_checking.proofs.Extends.{Extends, bound_stays, last_or}
 use Rattle.c_checking_complete.proofs.StaticLists.{AreTypedObjects}
 use Rattle.c_checking_files.proofs.FileScopes.{IsSameObject, IsSameFunction}
 use Rattle.c_checking_items.proofs.Names.{all_at, declared_is}

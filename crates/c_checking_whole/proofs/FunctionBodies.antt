@@ -1,34 +1,33 @@
 -- The body of a function of a file: it is found, and the file after it is a part of the whole one (C99 6.9.1).
-use Rattle.std.proofs.Common.{◌≡◌, ◌≢◌, ℕ, zero, suc, ◌+◌, ◌≤◌, ◌<◌, Bool, true, false, refl, sym, ap, ◌∙◌, subst, List, [], ◌∷◌, ◌++◌, length}
+use Rattle.std.proofs.Common.{◌≡◌, ℕ, zero, suc, ◌<◌, refl, sym, ap, ◌∙◌, subst, List, [], ◌∷◌, ◌++◌, length}
 use Rattle.std.proofs.Common.{arith, inl, inr}
-use Rattle.std.specs.Prelude.{◌⊎◌, map, Option, Some, None, Ok, slice_get, slice_set}
+use Rattle.std.specs.Prelude.{◌⊎◌, Option, Some, slice_get, slice_set}
 use Rattle.std.specs.Option.{IsSome}
-use Rattle.c_types.specs.Types.{CType, CTypes, Record}
-use Rattle.c_types.specs.Limits.{AreComplete}
+use Rattle.c_types.specs.Types.{CType, CTypes}
 use Rattle.c_ast.specs.Trees
 use Rattle.c_erasure.specs.Files.{HasParameters, IsBody}
 use Rattle.c_erasure.specs.Scopes.{FileScope, Bound, Entity, typedef, enumerator, an_object, a_function, a_library_function, a_local, a_parameter}
 use Rattle.c_erasure.specs.Scopes.{AnObject, AFunction, ALocal}
-use Rattle.c_checking.specs.Answers.{Answer, ◌>>=◌}
-use Rattle.c_checking.specs.Files.{received_by, with_body, function_body}
+use Rattle.c_checking.specs.Answers.{◌>>=◌}
+use Rattle.c_checking.specs.Files.{with_body, function_body}
 use Rattle.c_checking.proofs.Agreement.{IsFit, AreFit}
 use Rattle.c_checking.proofs.CompleteNodes.{some, some_is}
-use Rattle.c_checking.proofs.CompletePart.{Lists, part, IsBefore, IsAfter}
-use Rattle.c_checking.proofs.CompleteStatements.{inner, Seen, walk_of_items}
+use Rattle.c_checking.proofs.CompletePart.{Lists, part, IsAfter}
+use Rattle.c_checking.proofs.CompleteStatements.{inner, Seen}
 use Rattle.c_checking.proofs.CompleteWalk.{Event}
 use Rattle.c_checking.proofs.Extends.{Extends, bound_stays, record_stays}
 use Rattle.c_checking.proofs.Results.{ok}
-use Rattle.c_checking_complete.proofs.Bodies.{AreScalar, parameters_complete, parameters_fit, all_locals, walk_of_body, FoundBody, body_complete, IsBegun}
+use Rattle.c_checking_complete.proofs.Bodies.{AreScalar, parameters_complete, parameters_fit, all_locals, walk_of_body, body_complete, IsBegun}
 use Rattle.c_checking_complete.proofs.Bodies.{function_complete}
 use Rattle.c_checking_complete.proofs.Objects.{mapped_at, set_of, set_length}
 use Rattle.c_checking_files.proofs.Bodies.{IsReadyFile, body_found}
 use Rattle.c_checking_files.proofs.FileScopes.{IsSameObject, IsSameFunction}
-use Rattle.c_checking_files.proofs.Scoped.{FoundIn, IsInner}
+use Rattle.c_checking_files.proofs.Scoped.{IsInner}
 use Rattle.c_checking_whole.proofs.Constants.{names_among}
 use Rattle.c_checking_whole.proofs.Filed.{IsWholeFile, IsFiled}
 use Rattle.c_checking_whole.proofs.Functions.{with_functions, functions_filed}
 use Rattle.c_checking_whole.proofs.ObjectDeclarators.{FoundFile}
-use Rattle.c_checking_whole.proofs.Steps.{Step, events, a_body, AreSteps, steps_at, IsReady}
+use Rattle.c_checking_whole.proofs.Steps.{Step, events, a_body, steps_at, IsReady}
 
 there_in : {X : Type 0} (xs : List X) (n : ℕ) → n < length xs → (x : X) × (slice_get xs n ≡ Some x)
 there_in [] n l = absurd (omega (arith, l))

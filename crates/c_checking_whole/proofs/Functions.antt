@@ -2,7 +2,6 @@
 use Rattle.std.proofs.Common.{◌≡◌, ◌≢◌, ℕ, zero, suc, ◌+◌, ◌≤◌, ◌<◌, Bool, true, false, refl, sym, ap, ◌∙◌, subst, cond, List, [], ◌∷◌, ◌++◌, length}
 use Rattle.std.proofs.Common.{length-append, arith, inl, inr}
 use Rattle.std.specs.Prelude.{◌⊎◌, ◌&&◌, not, map, Option, Some, None, Ok, slice_get, is_none, codes}
-use Rattle.std.specs.Option.{IsSome}
 use Rattle.lay_base.specs.declared.faults.Rule.TheVariants as R
 use Rattle.c_types.specs.Types.{CType}
 use Rattle.c_types.proofs.SameTypes.{same_self}
@@ -11,7 +10,7 @@ use Rattle.c_typed.specs.declared.operators.LibraryFunction.{LibraryFunction}
 use Rattle.c_typed.specs.Fits.{library_type}
 use Rattle.c_erasure.specs.Erasure.{IsBound}
 use Rattle.c_erasure.specs.Files.{library_name, IsMainType, IsOwnName, IsLinkage, function_storage, IsFirst, is_first, bound}
-use Rattle.c_erasure.specs.Scopes.{FileScope, Bound, Entity, an_object, a_function, a_library_function, AFunction, at_file_scope, declares}
+use Rattle.c_erasure.specs.Scopes.{FileScope, Bound, a_function, a_library_function, AFunction, at_file_scope, declares}
 use Rattle.c_erasure.specs.Specifiers.{Storage, no_storage, a_typedef, is_extern, is_static, is_auto, is_register, several}
 use Rattle.c_checking.specs.Answers.{Answer, ◌>>=◌, refused}
 use Rattle.c_checking.specs.Declaring.{declared_among, with_bound}
@@ -20,7 +19,7 @@ use Rattle.c_checking.specs.Files.{known_function, function_of, library_again, d
 use Rattle.c_checking.proofs.CompleteNodes.{some, some_is}
 use Rattle.c_checking.proofs.CompletePart.{Lists, part}
 use Rattle.c_checking.proofs.CompleteWalk.{a_name}
-use Rattle.c_checking.proofs.Extends.{Extends, last_or}
+use Rattle.c_checking.proofs.Extends.{last_or}
 use Rattle.c_checking.proofs.NodesOfParts.{same_bytes}
 use Rattle.c_checking.proofs.Results.{ok}
 use Rattle.c_checking_complete.proofs.Objects.{mapped_at}

@@ -1,27 +1,26 @@
 -- Names of the file scope: which are the library's, and whether a declarator is the first of its name (C99 6.2.1, 6.2.2, 7.1.3).
-use Rattle.std.proofs.Common.{◌≡◌, ◌≢◌, ℕ, zero, suc, ◌+◌, ◌≤◌, ◌<◌, Bool, true, false, refl, sym, ap, ◌∙◌, subst, cond, List, [], ◌∷◌, ◌++◌, length}
+use Rattle.std.proofs.Common.{◌≡◌, ◌≢◌, ℕ, ◌+◌, ◌≤◌, ◌<◌, Bool, true, false, refl, sym, ap, ◌∙◌, subst, cond, List, [], ◌∷◌, ◌++◌, length}
 use Rattle.std.proofs.Common.{length-append, arith, inl, inr}
-use Rattle.std.specs.Prelude.{◌⊎◌, Option, Some, None, slice_get, is_none, codes, ◌&&◌, Ok}
+use Rattle.std.specs.Prelude.{◌⊎◌, Option, Some, None, slice_get, is_none, Ok}
 use Rattle.std.specs.Option.{IsSome}
-use Rattle.std.specs.Str.{bytes_eq}
 use Rattle.c_types.specs.Types.{CType}
 use Rattle.c_ast.specs.declared.words.Spelling.{Spelling}
 use Rattle.c_typed.specs.declared.operators.LibraryFunction.{LibraryFunction}
 use Rattle.c_typed.specs.declared.operators.LibraryFunction.TheVariants as L
-use Rattle.c_erasure.specs.Erasure.{IsBound, literal_of, literal_object}
+use Rattle.c_erasure.specs.Erasure.{IsBound}
 use Rattle.c_erasure.specs.Files.{library_name, IsOwnName, bound, is_first, MayStandTogether}
 use Rattle.c_erasure.specs.Marks.{Mark}
-use Rattle.c_erasure.specs.Scopes.{FileScope, Bound, Entity, typedef, enumerator, an_object, a_function, AnObject, AFunction, at_file_scope, visible, defines}
+use Rattle.c_erasure.specs.Scopes.{FileScope, Bound, Entity, typedef, enumerator, an_object, a_function, AnObject, at_file_scope, visible, defines}
 use Rattle.c_checking.specs.Declaring.{declared_among}
 use Rattle.c_checking.specs.Files.{first_named, is_library_name, library, library_named, declare_typedef}
-use Rattle.c_checking.proofs.CompleteNodes.{some, some_is}
-use Rattle.c_checking.proofs.CompletePart.{Lists, part, IsWhole}
+use Rattle.c_checking.proofs.CompleteNodes.{some}
+use Rattle.c_checking.proofs.CompletePart.{Lists, part}
 use Rattle.c_checking.proofs.CompleteStructures.{below_length}
 use Rattle.c_checking.proofs.CompleteWalk.{IsAsked, IsNamedFrom}
 use Rattle.c_checking.proofs.Extends.{Extends, kept, bound_stays, one_of_both}
 use Rattle.c_checking.proofs.NodesOfParts.{same_bytes}
 use Rattle.c_checking_files.proofs.FileScopes.{IsSameObject}
-use Rattle.c_checking_files.proofs.Kept.{Keeps, IsAnEnumerator, IsALiteral, undeclared}
+use Rattle.c_checking_files.proofs.Kept.{Keeps, IsAnEnumerator, undeclared}
 use Rattle.c_checking_items.proofs.FirstNames.{none_visible, one_visible}
 use Rattle.c_checking_items.proofs.Names.{declared_is}
 use Rattle.c_checking_whole.proofs.Filed.{IsWholeFile, IsFiled, earlier, declared_earlier, naming, next_bound, naming_filed}

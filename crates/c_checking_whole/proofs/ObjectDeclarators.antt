@@ -1,5 +1,5 @@
 -- A declarator of an object at file scope: what it declares is what is found (C99 6.7.8, 6.9.2).
-use Rattle.std.proofs.Common.{◌≡◌, ◌≢◌, ℕ, zero, suc, ◌+◌, ◌≤◌, ◌<◌, Bool, true, false, refl, sym, ap, ◌∙◌, subst, cond, List, [], ◌∷◌, ◌++◌, length}
+use Rattle.std.proofs.Common.{◌≡◌, ℕ, zero, suc, ◌+◌, ◌<◌, true, refl, sym, ap, ◌∙◌, subst, List, [], ◌∷◌, length}
 use Rattle.std.proofs.Common.{length-append, arith, inl, inr}
 use Rattle.std.specs.Prelude.{◌⊎◌, Option, Some, None, Ok, slice_get, slice_set, is_none}
 use Rattle.c_types.specs.Objects.{is_object}
@@ -8,27 +8,25 @@ use Rattle.c_ast.specs.declared.words.Spelling.{Spelling}
 use Rattle.c_ast.specs.Trees
 use Rattle.c_ast.specs.WellFormed.{IsValue}
 use Rattle.c_typed.specs.Trees as Typed
-use Rattle.c_erasure.specs.Erasure.{IsBound, place_in}
+use Rattle.c_erasure.specs.Erasure.{IsBound}
 use Rattle.c_erasure.specs.Files.{IsOwnName, is_first, object_how, bound, IsDefinition}
 use Rattle.c_erasure.specs.Noted.{Noted}
-use Rattle.c_erasure.specs.Scopes.{FileScope, Bound, an_object, AnObject, at_file_scope, defines}
+use Rattle.c_erasure.specs.Scopes.{FileScope, an_object, AnObject, at_file_scope, defines}
 use Rattle.c_erasure.specs.Specifiers.{Storage}
 use Rattle.c_checking.specs.Answers.{Answer, ◌>>=◌}
 use Rattle.c_checking.specs.Declaring.{declared_among, with_bound}
-use Rattle.c_checking.specs.Files.{library_named, own_name, object_of, defined_object, with_definition, define_object, defined_once, once, declare_object}
-use Rattle.c_checking.proofs.CompleteLocals.{walk_of_initial}
-use Rattle.c_checking.proofs.CompleteNodes.{some, some_is}
-use Rattle.c_checking.proofs.CompletePart.{Lists, part, IsBefore, IsAfter, complete_stays}
+use Rattle.c_checking.specs.Files.{own_name, object_of, defined_object, with_definition, define_object, defined_once, once, declare_object}
+use Rattle.c_checking.proofs.CompleteNodes.{some_is}
+use Rattle.c_checking.proofs.CompletePart.{Lists, part, complete_stays}
 use Rattle.c_checking.proofs.CompleteWalk.{a_name}
-use Rattle.c_checking.proofs.Extends.{Extends}
 use Rattle.c_checking.proofs.Results.{ok}
 use Rattle.c_checking_complete.proofs.Objects.{with_objects, one_put, set_of, set_length}
 use Rattle.c_checking_files.proofs.FileScopes.{IsSameObject, MayDeclare}
-use Rattle.c_checking_whole.proofs.Constants.{Initial, FoundConstants, constants_found}
+use Rattle.c_checking_whole.proofs.Constants.{Initial, constants_found}
 use Rattle.c_checking_whole.proofs.Filed.{IsWholeFile, IsFiled, naming, next_bound, naming_filed}
 use Rattle.c_checking_whole.proofs.Names.{own_back}
-use Rattle.c_checking_whole.proofs.Objects.{FoundOwn, IsOwn, own_found, none_defined}
-use Rattle.c_checking_whole.proofs.Steps.{Step, events, an_own, own_objects, AreSteps, steps_at, At, IsReady}
+use Rattle.c_checking_whole.proofs.Objects.{IsOwn, own_found, none_defined}
+use Rattle.c_checking_whole.proofs.Steps.{Step, events, an_own, steps_at, At, IsReady}
 
 module _ (g : FileScope) (w : IsWholeFile g) where
   -- what is found, and the part that is ready for what stands behind

@@ -1,38 +1,29 @@
 -- Objects of file scope: what a declarator declares is what is found (C99 6.2.2, 6.9.2).
-use Rattle.std.proofs.Common.{◌≡◌, ◌≢◌, ℕ, zero, suc, ◌+◌, ◌≤◌, ◌<◌, Bool, true, false, refl, sym, ap, ◌∙◌, subst, cond, List, [], ◌∷◌, ◌++◌, length}
+use Rattle.std.proofs.Common.{◌≡◌, ◌≢◌, ℕ, zero, suc, ◌+◌, ◌<◌, Bool, true, false, refl, sym, ap, ◌∙◌, subst, cond, List, [], ◌∷◌, ◌++◌, length}
 use Rattle.std.proofs.Common.{length-append, arith, inl, inr}
-use Rattle.std.specs.Prelude.{◌⊎◌, ◌&&◌, not, Option, Some, None, Ok, slice_get, slice_set, is_none, codes}
+use Rattle.std.specs.Prelude.{◌⊎◌, ◌&&◌, not, Option, Some, None, Ok, slice_get, is_none, codes}
 use Rattle.std.specs.Option.{IsSome}
 use Rattle.lay_base.specs.declared.faults.Rule.TheVariants as R
 use Rattle.c_types.specs.Objects.{is_object}
 use Rattle.c_types.specs.Types.{CType}
 use Rattle.c_types.proofs.SameTypes.{same_self}
 use Rattle.c_ast.specs.declared.words.Spelling.{Spelling}
-use Rattle.c_ast.specs.Trees
-use Rattle.c_ast.specs.WellFormed.{IsValue}
-use Rattle.c_typed.specs.Trees as Typed
-use Rattle.c_erasure.specs.Erasure.{IsBound, place_in}
-use Rattle.c_erasure.specs.Files.{IsOwnName, IsLinkage, IsFirst, is_first, object_how, bound, IsDefinition}
-use Rattle.c_erasure.specs.Noted.{Noted}
+use Rattle.c_erasure.specs.Files.{IsLinkage, IsFirst}
 use Rattle.c_erasure.specs.Scopes.{FileScope, Bound, Entity, an_object, a_function, AnObject, at_file_scope, defines}
 use Rattle.c_erasure.specs.Specifiers.{Storage, no_storage, a_typedef, is_extern, is_static, is_auto, is_register, several}
-use Rattle.c_checking.specs.Answers.{Answer, ◌>>=◌, refused}
-use Rattle.c_checking.specs.Declaring.{declared_among, with_bound}
-use Rattle.c_checking.specs.Files.{library_named, own_name, is_main, main_object, links, linkage_agrees, linked_before, new_object, with_new_object}
-use Rattle.c_checking.specs.Files.{known_object, object_of, defined_object, with_definition, define_object, defined_among, defined_once, once, declare_object}
-use Rattle.c_checking.proofs.CompleteLocals.{walk_of_initial}
+use Rattle.c_checking.specs.Answers.{refused}
+use Rattle.c_checking.specs.Declaring.{declared_among}
+use Rattle.c_checking.specs.Files.{is_main, links, linkage_agrees, linked_before, new_object}
+use Rattle.c_checking.specs.Files.{known_object, object_of, defined_among}
 use Rattle.c_checking.proofs.CompleteNodes.{some, some_is}
-use Rattle.c_checking.proofs.CompletePart.{Lists, part, IsWhole, IsBefore, IsAfter}
-use Rattle.c_checking.proofs.CompleteWalk.{a_name}
+use Rattle.c_checking.proofs.CompletePart.{Lists, part}
 use Rattle.c_checking.proofs.Extends.{Extends, last_or}
 use Rattle.c_checking.proofs.NodesOfParts.{same_bytes}
 use Rattle.c_checking.proofs.Results.{ok}
-use Rattle.c_checking_complete.proofs.Objects.{with_objects, one_more, one_put, set_of, set_length}
+use Rattle.c_checking_complete.proofs.Objects.{with_objects, one_more}
 use Rattle.c_checking_files.proofs.FileScopes.{IsSameObject, MayDeclare}
-use Rattle.c_checking_whole.proofs.Constants.{Initial, FoundConstants, constants_found}
-use Rattle.c_checking_whole.proofs.Filed.{IsWholeFile, IsFiled, earlier, declared_earlier, naming, next_bound, naming_filed}
-use Rattle.c_checking_whole.proofs.Names.{own_back}
-use Rattle.c_checking_whole.proofs.Steps.{Step, events, an_own, IsNextOwn, own_objects, AreSteps, steps_at, At, IsReady}
+use Rattle.c_checking_whole.proofs.Filed.{IsWholeFile, IsFiled, earlier, declared_earlier}
+use Rattle.c_checking_whole.proofs.Steps.{IsNextOwn, own_objects}
 
 -- ---- linkage
 

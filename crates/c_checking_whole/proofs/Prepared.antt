@@ -1,6 +1,6 @@
 -- A declarator of the file scope before it declares its name: its type is found, and the file speaks of it (C99 6.7).
-use Rattle.std.proofs.Common.{◌≡◌, ◌≢◌, ℕ, zero, suc, ◌+◌, ◌≤◌, ◌<◌, Bool, true, false, refl, sym, ap, ◌∙◌, subst, cond, List, [], ◌∷◌, ◌++◌, length}
-use Rattle.std.proofs.Common.{arith, inl, inr}
+use Rattle.std.proofs.Common.{◌≡◌, ◌≢◌, ℕ, zero, suc, ◌+◌, ◌≤◌, ◌<◌, true, false, refl, sym, ap, ◌∙◌, subst, List, [], ◌∷◌, length}
+use Rattle.std.proofs.Common.{arith}
 use Rattle.std.specs.Prelude.{Option, Some, None, Ok, slice_get, is_none}
 use Rattle.c_types.specs.Types.{CType, array, Record}
 use Rattle.c_types.specs.Objects.{is_object}
@@ -16,7 +16,6 @@ use Rattle.c_erasure.specs.Initializers.{texts_of, length_of}
 use Rattle.c_erasure.specs.Scopes.{FileScope, Bound, enumerator, at_file_scope, ended, IsMentioned}
 use Rattle.c_erasure.specs.Specifiers.{Storage}
 use Rattle.c_erasure.specs.Statements.{IsSized}
-use Rattle.c_checking.specs.Answers.{Answer, ◌>>=◌}
 use Rattle.c_checking.specs.Declaring.{Derivation, declared_among, with_mention, mentions_in, derived, small, object_at}
 use Rattle.c_checking.specs.Files.{declare_as, declarator_named}
 use Rattle.c_checking.specs.Finding.{derivations}
@@ -24,7 +23,7 @@ use Rattle.c_checking.specs.Statements.{counted_array, sized_in}
 use Rattle.c_checking.proofs.CompleteCalls.{size_same}
 use Rattle.c_checking.proofs.CompleteDeclarators.{small_back}
 use Rattle.c_checking.proofs.CompleteLocals.{walk_of_initial}
-use Rattle.c_checking.proofs.CompletePart.{Lists, part, IsWhole, mentioned}
+use Rattle.c_checking.proofs.CompletePart.{Lists, part, mentioned}
 use Rattle.c_checking.proofs.CompleteTrees.{complete_declarator}
 use Rattle.c_checking.proofs.CompleteWalk.{a_look, a_name, walk_of_declarator}
 use Rattle.c_checking.proofs.Extends.{Extends}
