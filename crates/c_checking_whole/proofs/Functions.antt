@@ -127,14 +127,14 @@ module _ (g : FileScope) (w : IsWholeFile g) where
 
   pub record FoundFunction (c : Lists) (words : Storage) (x : Spelling) (place : ℕ) (t : CType) (nodes n : ℕ) (first : Bool) (old : Option Bound) : Type 0
     where
-    pub lists : Lists
-    pub is : function_of (part g c) words x place t nodes old ≡ Ok (n, part g lists)
-    pub filed : IsFiled g lists
-    pub names : lists.names ≡ c.names
-    pub records : lists.records ≡ c.records
-    pub objects : lists.objects ≡ c.objects
-    pub functions : length lists.functions ≡ length c.functions + own_functions (Some (a_function n t)) first
-    pub there : n < length lists.functions
+      pub lists : Lists
+      pub is : function_of (part g c) words x place t nodes old ≡ Ok (n, part g lists)
+      pub filed : IsFiled g lists
+      pub names : lists.names ≡ c.names
+      pub records : lists.records ≡ c.records
+      pub objects : lists.objects ≡ c.objects
+      pub functions : length lists.functions ≡ length c.functions + own_functions (Some (a_function n t)) first
+      pub there : n < length lists.functions
 
   one_new : (c : Lists) (words : Storage) (x : Spelling) (place : ℕ) (t : CType) (nodes n : ℕ) (h : AFunction) → MayDeclare words → IsFiled g c
       → IsNextOwn g (length c.objects) (length c.functions) (Some (a_function n t)) true place → IsOwnFunction x words place t n true h

@@ -1,9 +1,10 @@
 -- The items of a file, one after the other: what they declare is what is found (C99 6.9).
 use Rattle.std.proofs.Common.{◌≡◌, ℕ, List, [], ◌∷◌, refl, sym, ap, ◌∙◌}
 use Rattle.std.proofs.lemmas.List.Elements.{All-head, All-tail}
-use Rattle.std.specs.Prelude.{All, Ok}
+use Rattle.std.specs.Prelude.{All, Ok, Err}
 use Rattle.c_ast.specs.Trees
 use Rattle.c_ast.specs.WellFormed.{IsItem, AreItems, types_after}
+use Rattle.c_erasure.specs.Broken.{Fault}
 use Rattle.c_erasure.specs.Files.{ErasesItem, IsFileOf}
 use Rattle.c_erasure.specs.Scopes.{FileScope}
 use Rattle.c_checking.specs.Answers.{◌>>=◌}
@@ -88,3 +89,11 @@ module _ (g : FileScope) (w : IsWholeFile g) where
   annotated_found items formed h steps =
       let z = file_found items formed h steps in
       (z.lists, ap (λ r. r >>= λ f. ok (closed_file f)) z.is, z.ready.filed)
+
+  -- nothing is refused where there is an annotated file
+  pub never_refused : (items : List Trees.Item) → AreItems [] items → IsFileOf items g → AreSteps g 0 0 0 0 (steps_of_items items) → (e : Fault)
+      → annotated g.file g.untagged items ≡ Err e → ⊥
+  never_refused items formed h steps e r =
+      let z = annotated_found items formed h steps in
+      let ok_is_err : ok (closed_file (part g z.0)) ≡ Err e = sym z.1 ∙ r in
+      cc
