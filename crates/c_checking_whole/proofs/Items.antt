@@ -1,5 +1,5 @@
 -- The items of a file, one after the other: what they declare is what is found (C99 6.9).
-use Rattle.std.proofs.Common.{◌≡◌, ℕ, List, [], ◌∷◌, refl, sym, ap, ◌∙◌}
+use Rattle.std.proofs.Common.{◌≡◌, ℕ, List, [], ◌∷◌, length, refl, sym, ap, ◌∙◌}
 use Rattle.std.proofs.lemmas.List.Elements.{All-head, All-tail}
 use Rattle.std.specs.Prelude.{All, Ok, Err}
 use Rattle.c_ast.specs.Trees
@@ -84,11 +84,12 @@ module _ (g : FileScope) (w : IsWholeFile g) where
 
   -- so the checker answers, and nothing is refused
   pub annotated_found : (items : List Trees.Item) → AreItems [] items → IsFileOf items g → AreSteps g 0 0 0 0 (steps_of_items items)
-      → (c : Lists) × (annotated g.file g.untagged items ≡ Ok (closed_file (part g c))) × IsFiled g c
+      → (c : Lists) × (annotated g.file g.untagged items ≡ Ok (closed_file (part g c))) × IsFiled g c × (length c.objects ≡ length g.objects)
+      × (length c.functions ≡ length g.functions)
   unfolding annotated
   annotated_found items formed h steps =
       let z = file_found items formed h steps in
-      (z.lists, ap (λ r. r >>= λ f. ok (closed_file f)) z.is, z.ready.filed)
+      (z.lists, ap (λ r. r >>= λ f. ok (closed_file f)) z.is, z.ready.filed, z.ready.steps.0, z.ready.steps.1)
 
   -- nothing is refused where there is an annotated file
   pub never_refused : (items : List Trees.Item) → AreItems [] items → IsFileOf items g → AreSteps g 0 0 0 0 (steps_of_items items) → (e : Fault)

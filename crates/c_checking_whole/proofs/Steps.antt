@@ -65,9 +65,9 @@ IsNextOwn g o f e b place = Unit {0}
 abbrev pub AreBegun : FileScope → (n at : ℕ) → Type 0
 AreBegun g n at = (k : ℕ) (b : Bound) → slice_get g.names k ≡ Some b → k < n → b.from ≤ at
 
--- from a number of names, of records, of objects and of functions on
+-- from a number of names, of records, of objects and of functions on; behind the last step the whole file has no more objects and functions
 abbrev pub AreSteps : FileScope → (n r o f : ℕ) → List Step → Type 0
-AreSteps g n r o f [] = Unit {0}
+AreSteps g n r o f [] = (o ≡ length g.objects) × (f ≡ length g.functions)
 AreSteps g n r o f (events all ∷ more) = Follows g n r o all × AreSteps g (n + names_in all) (r + ends_in all) (o + literals_in all) f more
 AreSteps g n r o f (a_declarator at ∷ more) = (IsAsked g n r at × AreBegun g n at) × AreSteps g n r o f more
 AreSteps g n r o f (an_own e first place ∷ more) =
