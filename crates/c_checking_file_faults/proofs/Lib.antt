@@ -1,2 +1,5 @@
 mod Tests
 mod Behind
+mod DeclaratorStops
+mod ObjectStops
+mod WholeDeclarators
