@@ -213,7 +213,7 @@ module _ (f : FileScope) (base : CType) (d : Trees.InitDeclarator) (x : Spelling
         main_function_fault x.text x.from t _ fault (IsStopped f words base d x fault) h
         (λ is main other. ruled_here f words base d x t fault name shape declares sized
         (inr (inl (is, (main, inl (no_typedef words m, is_one, other))))))
-        (λ h. bound_err (function_of f words x place t nodes (declared_among f.names x.text)) _ fault (IsStopped f words base d x fault) h
+        (λ main_type h. bound_err (function_of f words x place t nodes (declared_among f.names x.text)) _ fault (IsStopped f words base d x fault) h
         (λ e. taken_here f words base d x t fault name shape declares sized
         (function_of_fault f words m x place t nodes is_one k.functions_bound k.libraries_bound own (declared_among f.names x.text) refl fault e))
         (λ n e h. cc))

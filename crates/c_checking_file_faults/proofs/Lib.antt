@@ -3,3 +3,5 @@ mod Behind
 mod DeclaratorStops
 mod ObjectStops
 mod WholeDeclarators
+mod Parameters
+mod DefinitionStops

@@ -3,12 +3,13 @@
 use Rattle.std.proofs.Common.{◌≡◌, ◌≢◌, ℕ, suc, Bool, true, false, refl, sym, ap, ◌∙◌, subst, List, [], ◌∷◌, cond, inl, inr, arith}
 use Rattle.std.proofs.lemmas.Bool.{and_parts, leb-true}
 use Rattle.std.proofs.lemmas.Bool.Decides.{nat_tests}
+use Rattle.std.proofs.lemmas.Slice.Eq.{bytes_eq-Decides}
 use Rattle.std.specs.Prelude.{◌⊎◌, ◌<◌, ◌≤◌, ◌&&◌, not, Option, Some, None, Err, slice_get, codes, nat_le}
 use Rattle.std.specs.Str.{bytes_eq}
 use Rattle.lay_base.specs.declared.faults.Rule.TheVariants as R
 use Rattle.c_types.specs.Sameness.{same_type}
 use Rattle.c_types.specs.Types.{CType}
-use Rattle.c_types.proofs.SameTypes.{same_self}
+use Rattle.c_types.proofs.SameTypes.{same_is, same_self}
 use Rattle.c_ast.specs.declared.words.Spelling.{Spelling}
 use Rattle.c_ast.specs.Trees
 use Rattle.c_typed.specs.declared.operators.LibraryFunction.{LibraryFunction}
@@ -17,7 +18,7 @@ use Rattle.c_typed.specs.Fits.{library_type}
 use Rattle.c_erasure.specs.Broken.{Fault, ill_typed, redeclared}
 use Rattle.c_erasure.specs.BrokenFiles.{IsOld, IsAny, IsNoObjectOf, IsNoFunctionOf, IsDefinition, linked_object, linked_function, is_linked}
 use Rattle.c_erasure.specs.BrokenFiles.{IsOfOtherLinkage, IsBrokenLibrary, IsOtherwise}
-use Rattle.c_erasure.specs.Files.{library_name}
+use Rattle.c_erasure.specs.Files.{library_name, IsMainType}
 use Rattle.c_erasure.specs.Scopes.{FileScope, Bound, How, declares, tentative, defines, Entity, typedef, enumerator, an_object, a_function, a_library_function}
 use Rattle.c_erasure.specs.Scopes.{a_local, a_parameter, AnObject, AFunction}
 use Rattle.c_erasure.specs.Specifiers.{Storage, no_storage, a_typedef, is_extern, is_static, is_auto, is_register, several}
@@ -75,14 +76,26 @@ not_so false h = refl
 same_never : (s t : CType) → same_type s t ≡ false → s ≢ t
 same_never s t h e = let k = same_self s t e in let true_is_false = sym k ∙ h in cc
 
+main_typed : (x : List ℕ) (t : CType) → (is_main x && not (same_type t main_type)) ≡ false → IsMainType x t
+unfolding is_main
+main_typed x t h e = by_test (same_type t main_type) refl
+  where
+    by_test : (b : Bool) → same_type t main_type ≡ b → t ≡ main_type
+    by_test true s = same_is t main_type s
+    by_test false s =
+        let m : is_main x ≡ true = (bytes_eq-Decides (codes "main") x).1 (sym e) in
+        let both : (is_main x && not (same_type t main_type)) ≡ true = rw (m, s) refl in
+        let true_is_false = sym both ∙ h in
+        cc
+
 pub main_function_fault : {A : Type 0} (x : List ℕ) (at : ℕ) (t : CType) (r : Answer A) (fault : Fault) (P : Type 0) → main_function x at t r ≡ Err fault
-    → (fault ≡ ill_typed R.Main at → x ≡ codes "main" → t ≢ main_type → P) → (r ≡ Err fault → P) → P
+    → (fault ≡ ill_typed R.Main at → x ≡ codes "main" → t ≢ main_type → P) → (IsMainType x t → r ≡ Err fault → P) → P
 main_function_fault {A} x at t r fault P h p q =
     chosen_err (is_main x && not (same_type t main_type)) _ _ fault P h
     (λ b h.
     let c = and_parts (is_main x) (not (same_type t main_type)) b in
     p (same_fault A (ill_typed R.Main at) fault h) (main_is x c.0) (same_never t main_type (not_so (same_type t main_type) c.1)))
-    (λ b h. q h)
+    (λ b h. q (main_typed x t b) h)
 
 pub main_object_fault : {A : Type 0} (x : List ℕ) (at : ℕ) (linked : Bool) (r : Answer A) (fault : Fault) (P : Type 0)
     → main_object x at linked r ≡ Err fault → (fault ≡ ill_typed R.Main at → x ≡ codes "main" → linked ≡ true → P) → (r ≡ Err fault → P) → P
