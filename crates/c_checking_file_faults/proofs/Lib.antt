@@ -5,3 +5,4 @@ mod ObjectStops
 mod WholeDeclarators
 mod Parameters
 mod DefinitionStops
+mod WholeDefinitions
