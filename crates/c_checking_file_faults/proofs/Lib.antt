@@ -3,6 +3,7 @@ mod Behind
 mod DeclaratorStops
 mod ObjectStops
 mod WholeDeclarators
+mod OwnFunctions
 mod Parameters
 mod DefinitionStops
 mod WholeDefinitions

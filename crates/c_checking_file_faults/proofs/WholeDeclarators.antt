@@ -138,7 +138,7 @@ module _ (untagged : ℕ → List ℕ) (types : List (List ℕ)) (nodes_at : ℕ
           o.1 ∙ ap (λ z. f.objects ++ z) (no_firsts o.0 o.2) ∙ append-nil f.objects
 
       -- names that the declarator itself declares are enumerators
-      said_own : (kind : MentionKind) (t : CType) → AreOwnFunctions (said kind t).names
+      pub said_own : (kind : MentionKind) (t : CType) → AreOwnFunctions (said kind t).names
       said_own kind t n b e m u is = by_part (Rattle.c_checking.proofs.Extends.one_of_both f.names names.0 n b (subst (λ all. slice_get all n ≡ Some b) names.1 e))
         where
           names : (more : List Rattle.c_erasure.specs.Scopes.Bound) × ((said kind t).names ≡ f.names ++ more)
