@@ -4,6 +4,8 @@ mod DeclaratorStops
 mod ObjectStops
 mod WholeDeclarators
 mod OwnFunctions
+mod DeclaratorsStop
+mod FileDeclarations
 mod Parameters
 mod DefinitionStops
 mod WholeDefinitions
