@@ -6,6 +6,7 @@ mod WholeDeclarators
 mod OwnFunctions
 mod DeclaratorsStop
 mod FileDeclarations
+mod ItemStops
 mod Parameters
 mod DefinitionStops
 mod WholeDefinitions
