@@ -4,7 +4,8 @@ use Rattle.std.specs.Prelude.{◌⊎◌, map, Some, slice_get}
 use Rattle.c_types.specs.Types.{CType}
 use Rattle.c_erasure.specs.BrokenStatements.{IsAmong}
 use Rattle.c_erasure.specs.Marks.{Mark, scope_beginnings, defined_in}
-use Rattle.c_erasure.specs.Scopes.{FileScope, Scope, Bound, ALocal, AnObject, Entity, typedef, enumerator, an_object, a_function, a_library_function, a_local}
+use Rattle.c_erasure.specs.Scopes.{FileScope, Scope, Bound, ALocal, AnObject, Entity, typedef, enumerator, an_object, a_function}
+use Rattle.c_erasure.specs.Scopes.{a_library_function, a_local}
 use Rattle.c_erasure.specs.Scopes.{a_parameter, at_file_scope}
 use Rattle.c_checking.proofs.Agreement.{IsFit, AreFit, IsGrown, IsSteady, IsObjectType, AreBegun, AreBefore}
 use Rattle.c_checking.proofs.Declared.{number_is}
@@ -14,7 +15,8 @@ use Rattle.c_checking_items.proofs.Known.{IsKnown}
 use Rattle.c_checking_items.proofs.Stepping.{counted_by}
 use Rattle.c_checking_faults.proofs.Clear.{reaches_more}
 
-map_back : {X Y : Type 0} (v : X → Y) (xs : List X) (k : ℕ) (y : Y) → slice_get (map v xs) k ≡ Some y → (x : X) × (slice_get xs k ≡ Some x) × (v x ≡ y)
+map_back : {X Y : Type 0} (v : X → Y) (xs : List X) (k : ℕ) (y : Y) → slice_get (map v xs) k ≡ Some y
+    → (x : X) × (slice_get xs k ≡ Some x) × (v x ≡ y)
 map_back v [] k y e = cc
 map_back v (x ∷ xs) zero y e = (x, refl, let f : v x ≡ y = cc in f)
 map_back v (x ∷ xs) (suc k) y e = map_back v xs k y e

@@ -1,5 +1,6 @@
 -- Where a declarator of the file scope stops, a rule is broken (C99 6.7, 6.9).
-use Rattle.std.proofs.Common.{◌≡◌, ◌≢◌, ℕ, zero, suc, ◌+◌, ◌≤◌, Bool, true, false, refl, sym, ap, ◌∙◌, subst, cond, List, [], ◌∷◌, ◌++◌, length, inl, inr, arith}
+use Rattle.std.proofs.Common.{◌≡◌, ◌≢◌, ℕ, zero, suc, ◌+◌, ◌≤◌, Bool, true, false, refl, sym, ap, ◌∙◌, subst, cond, List, [], ◌∷◌, ◌++◌, length}
+use Rattle.std.proofs.Common.{inl, inr, arith}
 use Rattle.std.proofs.Common.{append-nil}
 use Rattle.std.specs.Prelude.{◌⊎◌, map, Option, Some, None, Ok, Err, slice_get, is_none, codes}
 use Rattle.lay_base.specs.declared.faults.Rule.TheVariants as R
@@ -21,7 +22,8 @@ use Rattle.c_typed.specs.declared.operators.LibraryFunction.TheVariants as L
 use Rattle.c_typed.specs.declared.program.MentionKind.{MentionKind}
 use Rattle.c_typed.specs.declared.program.MentionKind.TheVariants.{Object, Named}
 use Rattle.c_erasure.specs.Broken.{Fault, ill_typed, IsBrokenDeclarator, IsBrokenWithin}
-use Rattle.c_erasure.specs.BrokenFiles.{IsAny, IsOld, IsDefinition, IsBrokenLibrary, IsBrokenMain, IsOtherwise, IsDefinedThere, IsBrokenFileDeclarator}
+use Rattle.c_erasure.specs.BrokenFiles.{IsAny, IsOld, IsDefinition, IsBrokenLibrary, IsBrokenMain, IsOtherwise, IsDefinedThere}
+use Rattle.c_erasure.specs.BrokenFiles.{IsBrokenFileDeclarator}
 use Rattle.c_erasure.specs.BrokenStatements.{IsAmong, IsEndless, IsBrokenInitial, HasNoConstants}
 use Rattle.c_erasure.specs.Declarators.{declared_name, Shape, closed, open_array}
 use Rattle.c_erasure.specs.Erasure.{Declares}
@@ -34,8 +36,10 @@ use Rattle.c_erasure.specs.Specifiers.{Storage, no_storage, a_typedef, is_extern
 use Rattle.c_erasure.specs.Statements.{IsSized}
 use Rattle.c_checking.specs.Answers.{◌>>=◌}
 use Rattle.c_checking.specs.Declaring.{Derivation, derived, with_mention, mentions_in, object_at, declared_among, with_bound}
-use Rattle.c_checking.specs.Files.{library_named, links, declare_typedef, declare_function, declare_own, declare_library, declare_object, without_value}
-use Rattle.c_checking.specs.Files.{declare_as, declarator_named, object_of, function_of, defined_once, define_object, defined_among, new_object, with_new_object}
+use Rattle.c_checking.specs.Files.{library_named, links, declare_typedef, declare_function, declare_own, declare_library, declare_object}
+use Rattle.c_checking.specs.Files.{without_value}
+use Rattle.c_checking.specs.Files.{declare_as, declarator_named, object_of, function_of, defined_once, define_object, defined_among, new_object}
+use Rattle.c_checking.specs.Files.{with_new_object}
 use Rattle.c_checking.specs.Finding.{complete, derivations}
 use Rattle.c_checking.specs.Initializers.{initializer}
 use Rattle.c_checking.specs.Statements.{sized_in, constants_if_any}
@@ -61,8 +65,10 @@ use Rattle.c_checking_items.proofs.Known.{IsKnown, none_new}
 use Rattle.c_checking_faults.proofs.Clear.{AreFresh, fresh_right, among_left, among_right, reaches_more}
 use Rattle.c_checking_faults.proofs.BracesFaults.{IsInitialTimely}
 use Rattle.c_checking_file_faults.proofs.Behind.{StopsIn, stops_here, stops_there, stops_later, stops_more, stops_of}
-use Rattle.c_checking_file_faults.proofs.Tests.{named_is, own_fault, once_fault, value_fault, main_function_fault, IsTaken, IsTakenOtherwise, IsTakenWithin}
-use Rattle.c_checking_file_faults.proofs.Tests.{old_or_within, otherwise_or_within, taken_by, object_of_fault, function_of_fault, AreOwnFunctions, library_fault}
+use Rattle.c_checking_file_faults.proofs.Tests.{named_is, own_fault, once_fault, value_fault, main_function_fault, IsTaken, IsTakenOtherwise}
+use Rattle.c_checking_file_faults.proofs.Tests.{IsTakenWithin}
+use Rattle.c_checking_file_faults.proofs.Tests.{old_or_within, otherwise_or_within, taken_by, object_of_fault, function_of_fault, AreOwnFunctions}
+use Rattle.c_checking_file_faults.proofs.Tests.{library_fault}
 
 -- a declarator is broken in a file, or the name that it declares is that of an enumerator in it
 abbrev pub IsStopped : FileScope → Storage → CType → Trees.InitDeclarator → Spelling → Fault → Type 0
@@ -115,14 +121,16 @@ counted_fault : (s : Scope) (at : ℕ) (u : CType) (n : ℕ) (fault : Fault) →
 counted_fault s at u zero fault h = inl (refl, same_fault CType (ill_typed R.Init at) fault h)
 counted_fault s at u (suc n) fault h = inr (small_fault s at (array u (suc n)) fault h)
 
-pub sized_fault : (s : Scope) (at : ℕ) (shape : Shape) (value : Option (ℕ × Trees.Expression)) (fault : Fault) → sized_in s.file.records at shape value ≡ Err fault
+pub sized_fault : (s : Scope) (at : ℕ) (shape : Shape) (value : Option (ℕ × Trees.Expression)) (fault : Fault)
+    → sized_in s.file.records at shape value ≡ Err fault
     → IsEndless s shape value at fault
 unfolding sized_in
 sized_fault s at (closed t) value fault h = cc
 sized_fault s at (open_array u) None fault h = same_fault CType (ill_typed R.Length at) fault h
 sized_fault s at (open_array u) (Some value) fault h = counted_fault s (first value.1) u (length_of u (texts_of value.1) value.1) fault h
 
-pub sized_here : (s : Scope) (shape : Shape) (value : Option (ℕ × Trees.Expression)) (t : CType) → IsSizedOver s.file.records shape value t → IsSized s shape value t
+pub sized_here : (s : Scope) (shape : Shape) (value : Option (ℕ × Trees.Expression)) (t : CType) → IsSizedOver s.file.records shape value t
+    → IsSized s shape value t
 sized_here s (closed u) value t h = h
 sized_here s (open_array u) None t h = h
 sized_here s (open_array u) (Some value) t h = h
@@ -178,9 +186,11 @@ by_storage is_auto m = cc
 by_storage is_register m = cc
 by_storage several m = cc
 
-pub declared_as : (words : Storage) → MayDeclare words → (before place from : ℕ) (x : Spelling) (t : CType) (d : Trees.InitDeclarator) (nodes : ℕ) (f : FileScope)
+pub declared_as : (words : Storage) → MayDeclare words
+    → (before place from : ℕ) (x : Spelling) (t : CType) (d : Trees.InitDeclarator) (nodes : ℕ) (f : FileScope)
     → declare_as words before place from x t d nodes f
-    ≡ cond (is_function t) (without_value x.from d.value (declare_function (with_mention (at_file_scope f) before Named t place f) words x place from t nodes
+    ≡ cond (is_function t) (without_value x.from d.value (declare_function (with_mention
+    (at_file_scope f) before Named t place f) words x place from t nodes
     (library_named x.text)))
     (object_at f.records (complete (at_file_scope f) x.from) x.from t
     >>= λ u. declare_object (with_mention (at_file_scope f) before Object u place f) words x place from u d.value)
@@ -194,7 +204,8 @@ declared_as several m before place from x t d nodes f = absurd m
 
 -- ---- typedefs and functions stop at once, in a file that has spoken of the type
 
-module _ (f : FileScope) (base : CType) (d : Trees.InitDeclarator) (x : Spelling) (t : CType) (name : declared_name d.declarator ≡ Some x) (shape : Shape)
+module _ (f : FileScope) (base : CType) (d : Trees.InitDeclarator) (x : Spelling) (t : CType) (name : declared_name d.declarator ≡ Some x)
+    (shape : Shape)
     (declares : Declares (at_file_scope f) d.declarator base shape) (sized : IsSized (at_file_scope f) shape d.value t) (fault : Fault) where
   pub typedef_stops : (from : ℕ) → without_value x.from d.value (declare_typedef f x from t) ≡ Err fault → IsStopped f a_typedef base d x fault
   typedef_stops from h =
@@ -208,7 +219,8 @@ module _ (f : FileScope) (base : CType) (d : Trees.InitDeclarator) (x : Spelling
 
   module _ (nodes_at : ℕ → ℕ) (before : List ℕ) (k : IsKnown nodes_at before none_new none_new f) (own_functions : AreOwnFunctions f.names)
       (words : Storage) (m : MayDeclare words) (is_one : is_function t ≡ true) where
-    own_stops : (place from nodes : ℕ) → library_named x.text ≡ None → declare_own f words x place from t nodes ≡ Err fault → IsStopped f words base d x fault
+    own_stops : (place from nodes : ℕ) → library_named x.text ≡ None → declare_own f words x place from t nodes ≡ Err fault
+        → IsStopped f words base d x fault
     own_stops place from nodes own h =
         main_function_fault x.text x.from t _ fault (IsStopped f words base d x fault) h
         (λ is main other. ruled_here f words base d x t fault name shape declares sized
@@ -222,12 +234,14 @@ module _ (f : FileScope) (base : CType) (d : Trees.InitDeclarator) (x : Spelling
         → IsStopped f words base d x fault
     library_stops from which named h = by_part (library_fault f words m x from t which is_one named own_functions fault h)
       where
-        by_part : ((fault ≡ ill_typed R.Library x.from) × IsBrokenLibrary words t x.text) ⊎ IsTakenOtherwise f words t x fault → IsStopped f words base d x fault
+        by_part : ((fault ≡ ill_typed R.Library x.from) × IsBrokenLibrary words t x.text) ⊎ IsTakenOtherwise f words t x fault
+            → IsStopped f words base d x fault
         by_part (inl b) = ruled_here f words base d x t fault name shape declares sized (inl b)
         by_part (inr b) = taken_here f words base d x t fault name shape declares sized b
 
     pub function_stops : (place from nodes : ℕ)
-        → without_value x.from d.value (declare_function f words x place from t nodes (library_named x.text)) ≡ Err fault → IsStopped f words base d x fault
+        → without_value x.from d.value (declare_function f words x place from t nodes (library_named x.text)) ≡ Err fault
+        → IsStopped f words base d x fault
     function_stops place from nodes h =
         value_fault x.from d.value _ fault (IsStopped f words base d x fault) h
         (λ is some. ruled_here f words base d x t fault name shape declares sized (inr (inr (inr (inl (is, some, inr is_one))))))

@@ -72,12 +72,14 @@ module _ (untagged : ℕ → List ℕ) (types : List (List ℕ)) (nodes_at : ℕ
   abbrev pub AreTimely : ℕ → List Trees.InitDeclarator → Type 0
   AreTimely n [] = Unit {0}
   AreTimely n (d ∷ more) = IsDeclaratorTimely untagged ends false n d.declarator
-      × ((x : Spelling) × (declared_name d.declarator ≡ Some x) × AreKnown untagged ends (n + length (ends_in (marks_of_declarator untagged d.declarator))) x.from)
+      × ((x : Spelling) × (declared_name d.declarator ≡ Some x) × AreKnown untagged ends (n + length (ends_in
+      (marks_of_declarator untagged d.declarator))) x.from)
       × IsValueTimely untagged types nodes_at ends (n + length (ends_in (marks_of_declarator untagged d.declarator))) d.value
       × AreTimely (n + length (ends_in (marks_of_declarator untagged d.declarator)) + length (ends_in (marks_of_initial untagged d.value))) more
 
   -- what stops, behind the declarators before it
-  pub record DeclaratorsStop (f : FileScope) (words : Storage) (base : CType) (all : List Trees.InitDeclarator) (semicolon : ℕ) (fault : Fault) : Type 0 where
+  pub record DeclaratorsStop (f : FileScope) (words : Storage) (base : CType) (all : List Trees.InitDeclarator) (semicolon : ℕ)
+      (fault : Fault) : Type 0 where
     pub middle : FileScope
     pub file : FileScope
     pub marks : List Mark
@@ -106,7 +108,8 @@ module _ (untagged : ℕ → List ℕ) (types : List (List ℕ)) (nodes_at : ℕ
         let u = marks_of_declarator untagged d.declarator in
         let i = marks_of_initial untagged d.value in
         let place : first_declarator d.declarator semicolon ≡ first_declarator d.declarator x.from = first_named d.declarator x name semicolon x.from in
-        let names = subst (λ o. Rising in_scope (place_of_name o ++ scope_beginnings (u ++ a_name from ∷ i) ++ names_of_declarators untagged more semicolon))
+        let names = subst (λ o. Rising in_scope (place_of_name o ++ scope_beginnings
+        (u ++ a_name from ∷ i) ++ names_of_declarators untagged more semicolon))
         name may.names in
         let late : at ≤ first_declarator d.declarator x.from = let p = may.places.0 in omega (arith, p, place) in
         record {
@@ -131,7 +134,8 @@ module _ (untagged : ℕ → List ℕ) (types : List (List ℕ)) (nodes_at : ℕ
             (behind (scope_beginnings u) (from ∷ scope_beginnings i) 0 (length (scope_beginnings u) + 0) from refl refl))
 
     -- and of those behind it
-    pub others_may : (before : List ℕ) (f : FileScope) (d : Trees.InitDeclarator) (more : List Trees.InitDeclarator) (lead : Bool) (at in_scope : ℕ) (x : Spelling)
+    pub others_may : (before : List ℕ) (f : FileScope) (d : Trees.InitDeclarator) (more : List Trees.InitDeclarator) (lead : Bool)
+        (at in_scope : ℕ) (x : Spelling)
         → declared_name d.declarator ≡ Some x → MayDeclareAll untagged types nodes_at f (d ∷ more) lead semicolon nodes at in_scope → (g : FileScope)
         → Declarator untagged types nodes_at f words base d x (name_from d.value (after_declarator more semicolon)) g
         → IsKnown nodes_at before none_new none_new f
@@ -142,7 +146,8 @@ module _ (untagged : ℕ → List ℕ) (types : List (List ℕ)) (nodes_at : ℕ
         let i = marks_of_initial untagged d.value in
         let own = u ++ a_name from ∷ i in
         let place : first_declarator d.declarator semicolon ≡ first_declarator d.declarator x.from = first_named d.declarator x name semicolon x.from in
-        let names = subst (λ o. Rising in_scope (place_of_name o ++ scope_beginnings own ++ names_of_declarators untagged more semicolon)) name may.names in
+        let names = subst (λ o. Rising in_scope
+        (place_of_name o ++ scope_beginnings own ++ names_of_declarators untagged more semicolon)) name may.names in
         let spots = subst (λ p. Rising at ((p ∷ literals_of_value d.value) ++ places_of_declarators more semicolon)) place may.places in
         let p = passed at (first_declarator d.declarator x.from ∷ literals_of_value d.value) (places_of_declarators more semicolon) spots in
         let q = passed (x.from + 1) (scope_beginnings own) (names_of_declarators untagged more semicolon) names.1 in
@@ -169,7 +174,8 @@ module _ (untagged : ℕ → List ℕ) (types : List (List ℕ)) (nodes_at : ℕ
             functions_before = below_then (λ o. o.first) f.functions g.functions s.functions at p.to s.functions_are p.later may.functions_before
                 (λ k r e. let m = part_of _ s.functions s.no_functions s.functions_parted k r e in p.below m.0 r m.1);
             names = q.rest;
-            begun = below_then (λ b. b.from) f.names g.names (scope_beginnings own) in_scope q.to s.names (omega (arith, first, later)) may.begun q.below;
+            begun = below_then (λ b. b.from) f.names g.names (scope_beginnings own) in_scope q.to s.names (omega
+                (arith, first, later)) may.begun q.below;
           },
         )
 
@@ -192,7 +198,8 @@ module _ (untagged : ℕ → List ℕ) (types : List (List ℕ)) (nodes_at : ℕ
           own_functions = may.own_functions;
           fresh = subst (λ p. AreFresh f (p ∷ literals_of_value d.value)) place
               (fresh_rising f at (first_declarator d.declarator semicolon ∷ literals_of_value d.value)
-              (rising_front at (first_declarator d.declarator semicolon ∷ literals_of_value d.value) (places_of_declarators more semicolon) may.may.places)
+              (rising_front at (first_declarator d.declarator semicolon ∷ literals_of_value d.value)
+              (places_of_declarators more semicolon) may.may.places)
               may.may.objects_before);
           from_is = λ v e. ap (λ value. name_from value (after_declarator more semicolon)) e;
         }
@@ -210,7 +217,8 @@ module _ (untagged : ℕ → List ℕ) (types : List (List ℕ)) (nodes_at : ℕ
     first_stops f d more x name fault b =
         let place : first_declarator d.declarator x.from ≡ first_declarator d.declarator semicolon = first_named d.declarator x name x.from semicolon in
         let own = first_declarator d.declarator semicolon ∷ literals_of_value d.value in
-        let there = stops_more {k = own} {l = own ++ places_of_declarators more semicolon} (λ g. IsStopped g words base d x fault) (λ g. IsStopped g words base d x fault) (among_left own (places_of_declarators more semicolon))
+        let there = stops_more {k = own} {l = own ++ places_of_declarators more semicolon} (λ g. IsStopped g words base d x fault)
+        (λ g. IsStopped g words base d x fault) (among_left own (places_of_declarators more semicolon))
         (λ g i. i) (subst (λ p. StopsIn (p ∷ literals_of_value d.value) f (λ g. IsStopped g words base d x fault)) place b) in
         record {
           middle = f;
@@ -227,14 +235,16 @@ module _ (untagged : ℕ → List ℕ) (types : List (List ℕ)) (nodes_at : ℕ
 
     -- or one behind it
     later_stops : (before : List ℕ) (f m : FileScope) (d : Trees.InitDeclarator) (more : List Trees.InitDeclarator) (x : Spelling)
-        → declared_name d.declarator ≡ Some x → Declarator untagged types nodes_at f words base d x (name_from d.value (after_declarator more semicolon)) m
+        → declared_name d.declarator ≡ Some x
+        → Declarator untagged types nodes_at f words base d x (name_from d.value (after_declarator more semicolon)) m
         → (fault : Fault) → Stop m more fault → Stop f (d ∷ more) fault
     later_stops before f m d more x name s fault b =
         let place : first_declarator d.declarator x.from ≡ first_declarator d.declarator semicolon = first_named d.declarator x name x.from semicolon in
         record {
           middle = b.middle;
           file = b.file;
-          marks = (marks_of_declarator untagged d.declarator ++ a_name (name_from d.value (after_declarator more semicolon)) ∷ marks_of_initial untagged d.value)
+          marks = (marks_of_declarator untagged d.declarator ++ a_name (name_from d.value
+              (after_declarator more semicolon)) ∷ marks_of_initial untagged d.value)
               ++ b.marks;
           types_said = (first_declarator d.declarator x.from ∷ spoken_of_declarator d.declarator ++ spoken_by_value d.value) ++ b.types_said;
           places = (first_declarator d.declarator x.from ∷ literals_of_value d.value) ++ b.places;
@@ -248,7 +258,8 @@ module _ (untagged : ℕ → List ℕ) (types : List (List ℕ)) (nodes_at : ℕ
         }
 
     -- what is asked of those behind one that is declared
-    rest_may : (before : List ℕ) (f : FileScope) (d : Trees.InitDeclarator) (more : List Trees.InitDeclarator) (lead : Bool) (at in_scope : ℕ) (x : Spelling)
+    rest_may : (before : List ℕ) (f : FileScope) (d : Trees.InitDeclarator) (more : List Trees.InitDeclarator) (lead : Bool) (at in_scope : ℕ)
+        (x : Spelling)
         → declared_name d.declarator ≡ Some x → MayStopAll f (d ∷ more) lead semicolon nodes at in_scope → (m : FileScope)
         → declarator_named f words base d (name_from d.value (after_declarator more semicolon)) nodes (Some x) ≡ Ok m
         → Declarator untagged types nodes_at f words base d x (name_from d.value (after_declarator more semicolon)) m
@@ -260,7 +271,8 @@ module _ (untagged : ℕ → List ℕ) (types : List (List ℕ)) (nodes_at : ℕ
         let i = marks_of_initial untagged d.value in
         let own = u ++ a_name from ∷ i in
         let o = others_may before f d more lead at in_scope x name may.may m s k in
-        let grown = grown_by nodes_at (before ++ literals_of_value d.value) none_new none_new f m own s.continues.extends s.records s.names (s.known before k) in
+        let grown = grown_by nodes_at (before ++ literals_of_value d.value) none_new none_new f m own s.continues.extends s.records s.names
+        (s.known before k) in
         let counts : length m.records ≡ length f.records + length (ends_in own) = counted_by own f m s.records in
         let split : length (ends_in own) ≡ length (ends_in u) + length (ends_in i) =
         ap length (ends_append u (a_name from ∷ i)) ∙ length-append (ends_in u) (ends_in i) in
@@ -271,7 +283,8 @@ module _ (untagged : ℕ → List ℕ) (types : List (List ℕ)) (nodes_at : ℕ
             may = o.2;
             prepared = right untagged ends own (marks_of_declarators untagged more semicolon) may.prepared grown;
             timely = subst (λ n. AreTimely n more) number may.timely.3;
-            own_functions = own_after untagged types nodes_at ends before f words base d x from nodes (one_stop f d more lead at in_scope x name may) k name stands m h;
+            own_functions = own_after untagged types nodes_at ends before f words base d x from nodes
+                (one_stop f d more lead at in_scope x name may) k name stands m h;
           },
         )
 
@@ -286,7 +299,8 @@ module _ (untagged : ℕ → List ℕ) (types : List (List ℕ)) (nodes_at : ℕ
         → MayGoOn more m fault → Stop f (d ∷ more) fault
     behind_stops before f d more lead at in_scope may k x name m g fault next =
         let from = name_from d.value (after_declarator more semicolon) in
-        let s = declarator_step untagged types nodes_at before f words stands base d x from nodes (one_may f d more lead at in_scope x name may.may) k m g in
+        let s = declarator_step untagged types nodes_at before f words stands base d x from nodes
+        (one_may f d more lead at in_scope x name may.may) k m g in
         let o = rest_may before f d more lead at in_scope x name may m g s k in
         later_stops before f m d more x name s fault (next (before ++ literals_of_value d.value) o.0 o.1 o.2 (s.known before k))
 
@@ -311,7 +325,8 @@ module _ (untagged : ℕ → List ℕ) (types : List (List ℕ)) (nodes_at : ℕ
         → file_declarators more m words base semicolon nodes ≡ Err fault → P) → P
     unfolding file_declarators
     either_stops f d more x name fault P h p q =
-        bound_err (declarator_named f words base d (name_from d.value (after_declarator more semicolon)) nodes (declared_name d.declarator)) _ fault P h
+        bound_err (declarator_named f words base d (name_from d.value (after_declarator more semicolon)) nodes
+        (declared_name d.declarator)) _ fault P h
         (λ e. p (subst (λ o. declarator_named f words base d (name_from d.value (after_declarator more semicolon)) nodes o ≡ Err fault) name e))
         (λ m e h. q m (subst (λ o. declarator_named f words base d (name_from d.value (after_declarator more semicolon)) nodes o ≡ Ok m) name e) h)
 

@@ -10,7 +10,8 @@ use Rattle.c_ast.specs.Places.{first_specifiers, first_declarator}
 use Rattle.c_typed.specs.Conversions.{is_function}
 use Rattle.c_typed.specs.declared.program.MentionKind.TheVariants.{Named}
 use Rattle.c_erasure.specs.Broken.{Fault, ill_typed, AreBroken, AreNoType, IsBrokenWithin, IsBrokenDeclarator}
-use Rattle.c_erasure.specs.BrokenFiles.{IsFunctionStorage, HasNameless, IsBrokenBody, IsBrokenDefinition, IsBrokenMain, IsOtherwise, IsOld, IsDefinition}
+use Rattle.c_erasure.specs.BrokenFiles.{IsFunctionStorage, HasNameless, IsBrokenBody, IsBrokenDefinition, IsBrokenMain, IsOtherwise, IsOld}
+use Rattle.c_erasure.specs.BrokenFiles.{IsDefinition}
 use Rattle.c_erasure.specs.BrokenStatements.{IsAmong}
 use Rattle.c_erasure.specs.Declarators.{declared_name, Shape, closed, open_array}
 use Rattle.c_erasure.specs.Erasure.{IsBase, IsOne, Declares}
@@ -79,7 +80,8 @@ storage_fault {A} at several r fault P h p q = p (same_fault A (ill_typed R.Spec
 
 -- ---- what a definition adds before its body
 
-entered_reaches : (May : ℕ → Type 0) (f : FileScope) (words : Storage) (x : Spelling) (place : ℕ) (t : CType) (nodes : ℕ) (n : ℕ × FileScope) → Extends f n.1
+entered_reaches : (May : ℕ → Type 0) (f : FileScope) (words : Storage) (x : Spelling) (place : ℕ) (t : CType) (nodes : ℕ) (n : ℕ × FileScope)
+    → Extends f n.1
     → IsNewFunction f words x place t nodes n ⊎ IsOldFunction f x t n → Reaches May f false n.1
 entered_reaches May f words x place t nodes n p (inl e) =
     let same : f.objects ≡ n.1.objects = ap (λ (z : ℕ × FileScope). z.1.objects) e.1 in
@@ -123,9 +125,11 @@ module _ (untagged : ℕ → List ℕ) (types_named : List (List ℕ)) (nodes_at
       (base : CType) (is_base : (g : FileScope) → Extends f g → IsBase (IsOne (at_file_scope g) specs) specs base) (x : Spelling)
       (name : declared_name d ≡ Some x) (result : CType) (types : CTypes)
       (declares : (g : FileScope) → Extends f g → Declares (at_file_scope g) d base (closed (function result types)))
-      (words : MayDeclare (storage_of specs)) (k : IsKnown nodes_at before none_new none_new f) (same : f.untagged ≡ untagged) (same_ends : f.ends ≡ ends)
+      (words : MayDeclare (storage_of specs)) (k : IsKnown nodes_at before none_new none_new f) (same : f.untagged ≡ untagged)
+      (same_ends : f.ends ≡ ends)
       (orderly : IsOrderly f) (in_range : AreItemsInRange f.ends (length f.records) items)
-      (timely : (g : FileScope) → length g.records ≡ length f.records → AreItemsTimely untagged ends g items) (fresh : AreFresh f (made_by_items items)) where
+      (timely : (g : FileScope) → length g.records ≡ length f.records → AreItemsTimely untagged ends g items) (fresh : AreFresh f
+      (made_by_items items)) where
     abbrev t : CType
     t = function result types
 
@@ -212,8 +216,10 @@ module _ (untagged : ℕ → List ℕ) (types_named : List (List ℕ)) (nodes_at
             (function_of_fault f (storage_of specs) words x (first_declarator d x.from) t nodes refl k.functions_bound k.libraries_bound own
             (declared_among f.names x.text) refl fault i)))
             (λ n i h. once_fault x (defined_among f.names x.text) _ fault (StopsIn bytes f Is) h
-            (λ old j again. here (twice f specs d left items fault base (is_base f (itself f)) x name t (declares f (itself f)) (twice_defined f x fault old j again)))
-            (λ once h. bound_err (items_in result items (in_body (with_bound n.1 (bound x left defines (a_function n.0 t))) p.bounds p.locals) false false) _ fault
+            (λ old j again. here (twice f specs d left items fault base (is_base f (itself f)) x name t (declares f (itself f))
+            (twice_defined f x fault old j again)))
+            (λ once h. bound_err (items_in result items (in_body (with_bound n.1 (bound x left defines
+            (a_function n.0 t))) p.bounds p.locals) false false) _ fault
             (StopsIn bytes f Is) h
             (λ j. in_body_stops (first_declarator d x.from) nodes counted main once n
             (function_entered f (storage_of specs) x (first_declarator d x.from) t nodes (declared_among f.names x.text) refl n i)

@@ -107,7 +107,8 @@ module _ (untagged : ℕ → List ℕ) (types : List (List ℕ)) (nodes_at : ℕ
       chosen_err (may_stand_in_file (storage_of d.specs)) _ _ fault (DeclarationStops f d fault) h
       (λ stands h. bound_err (base_type (base_kind d.specs) from f (one_of d.specs s)) _ fault (DeclarationStops f d fault) h
       (λ e. base_stops (IsAmong bytes) s d.specs from (one_of d.specs s) fault
-      (λ y q j. faults_one untagged ends (IsAmong bytes) d.specs s (length f.records) m.specifiers_in_range own (omega arith) may.specifiers_timely y q fault j) e
+      (λ y q j. faults_one untagged ends (IsAmong bytes) d.specs s (length f.records) m.specifiers_in_range own
+      (omega arith) may.specifiers_timely y q fault j) e
       (DeclarationStops f d fault)
       (λ n. at_once f d fault (stops_here bytes f Is (inl (n.0, inr (inl n.1)))))
       (λ b. at_once f d fault (stops_of (λ s. AreBroken d.specs s fault) Is b (λ g p h. inr (inl h)))))
@@ -124,7 +125,8 @@ module _ (untagged : ℕ → List ℕ) (types : List (List ℕ)) (nodes_at : ℕ
       let same_ends = v.grew.extends.ends in
       let counts = v.grew.counted in
       let prepared = right untagged ends u w may.prepared v.grew in
-      let stop = declarators_stop untagged types nodes_at ends (storage_of d.specs) stands b.0 d.semicolon nodes d.all before b.1 true at p.to (record {
+      let stop = declarators_stop untagged types nodes_at ends (storage_of d.specs) stands b.0 d.semicolon nodes d.all before b.1 true at p.to
+      (record {
         may = record {
           same = v.grew.extends.untagged ∙ m.same;
           formed = m.formed.1;
@@ -157,5 +159,6 @@ module _ (untagged : ℕ → List ℕ) (types : List (List ℕ)) (nodes_at : ℕ
       })))
       (λ none h. at_once f d fault (stops_here bytes f Is (inl (same_fault FileScope (ill_typed R.Specifiers from) fault h, inl none))))
     where
-      none_there : (objects others : List ℕ) → Rattle.c_checking_files.proofs.Parts.Parted [] objects others → (k r : ℕ) → slice_get objects k ≡ Some r → r < at
+      none_there : (objects others : List ℕ) → Rattle.c_checking_files.proofs.Parts.Parted [] objects others → (k r : ℕ)
+          → slice_get objects k ≡ Some r → r < at
       none_there objects others p k r e = let m = part_of [] objects others p k r e in cc

@@ -91,7 +91,8 @@ module _ (untagged : ℕ → List ℕ) (types : List (List ℕ)) (nodes_at : ℕ
       (declaration_stops untagged types nodes_at ends before d f (item_nodes (Trees.declaration d)) at in_scope may k fault h)
   item_stops before (Trees.defines specs d left items right) f at in_scope may k fault h =
       defined_item f specs d left items right may.0.0 may.0.1 fault
-      (definition_stops untagged types nodes_at ends before specs d left items (item_nodes (Trees.defines specs d left items right)) at in_scope f may.1 k
+      (definition_stops untagged types nodes_at ends before specs d left items (item_nodes
+      (Trees.defines specs d left items right)) at in_scope f may.1 k
       may.0.0 may.0.1 fault h)
 
 -- ---- the item at which a file stops

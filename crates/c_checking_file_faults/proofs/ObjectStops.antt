@@ -1,5 +1,6 @@
 -- Where a declarator of an object of the file scope stops behind its type, a rule is broken (C99 6.7.8, 6.9.2).
-use Rattle.std.proofs.Common.{◌≡◌, ◌≢◌, ℕ, zero, suc, ◌+◌, ◌≤◌, ◌<◌, Bool, true, false, refl, sym, ap, ◌∙◌, subst, List, [], ◌∷◌, ◌++◌, length, inl, inr, arith}
+use Rattle.std.proofs.Common.{◌≡◌, ◌≢◌, ℕ, zero, suc, ◌+◌, ◌≤◌, ◌<◌, Bool, true, false, refl, sym, ap, ◌∙◌, subst, List, [], ◌∷◌, ◌++◌, length, inl}
+use Rattle.std.proofs.Common.{inr, arith}
 use Rattle.std.proofs.Common.{append-nil}
 use Rattle.std.proofs.lemmas.List.{map-append}
 use Rattle.std.specs.Prelude.{◌⊎◌, map, Option, Some, None, Ok, Err, slice_get, is_none}
@@ -100,7 +101,8 @@ module _ (untagged : ℕ → List ℕ) (types : List (List ℕ)) (nodes_at : ℕ
 
     -- the object is entered, and its name bound
     in_making : (value : ℕ × Trees.Expression) (z : ℕ × FileScope) → IsNew f words x place t z ⊎ IsOld f x t z → defined_among f.names x.text ≡ None
-        → (v : IsTheObject f words x place t (is_none (declared_among f.names x.text)) z) → InMaking nodes_at before f words x place t defines from z.0 z.1 v.object
+        → (v : IsTheObject f words x place t (is_none (declared_among f.names x.text)) z)
+        → InMaking nodes_at before f words x place t defines from z.0 z.1 v.object
     in_making value z (inl e) none v = new_in_making nodes_at before f words may x place t defines from whole k z e v
     in_making value z (inr e) none v =
         old_in_making nodes_at before f words may x place t defines from (λ d. none) k z e v
@@ -127,8 +129,10 @@ module _ (untagged : ℕ → List ℕ) (types : List (List ℕ)) (nodes_at : ℕ
         let reach = reaches_then (entered_reaches f words x place t z v.continues.extends e) (bound_reaches (IsAmong (place ∷ [])) z.1 b) in
         let known : is_object (length c.records) t ≡ true = subst (λ records. is_object (length records) t ≡ true) (sym records) whole in
         let stop = constant_faults untagged ends c value (at_file_scope c) n asks.in_range.0 prepared many asks.timely
-        (record { complete = are_complete i.known.settled; extends = itself c; same = same }) (fresh_right (place ∷ []) (literals value.1) asks.fresh reach) t known
-        (λ y j. laid_file y.1 ((keep_initializer untagged types value.1 (at_file_scope c) same (λ e. asks.formed) t y j).settled i.known.settled)) fault h in
+        (record { complete = are_complete i.known.settled; extends = itself c; same = same }) (fresh_right (place ∷ [])
+        (literals value.1) asks.fresh reach) t known
+        (λ y j. laid_file y.1 ((keep_initializer untagged types value.1 (at_file_scope c) same
+        (λ e. asks.formed) t y j).settled i.known.settled)) fault h in
         let there = stops_of {k = literals value.1} {f = c}
         (λ s. IsBrokenInitial (Some value) s t fault ⊎ HasNoConstants (Some value) s t fault) Is stop
         (λ g q broken.
@@ -136,7 +140,8 @@ module _ (untagged : ℕ → List ℕ) (types : List (List ℕ)) (nodes_at : ℕ
         ruled_here g words base d x t fault name shape (declares g (further p q)) (sized_at g (further p q))
         (inr (inr (inr (inr (inr (inr (subst
         (λ v. IsDefinedThere g x t v × (IsBrokenInitial v (at_file_scope g) t fault ⊎ HasNoConstants v (at_file_scope g) t fault)) (sym is)
-        ((z.0, (length z.1.names, subst (λ from. slice_get g.names (length z.1.names) ≡ Some (bound x from defines (an_object z.0 t))) (asks.from_is value refl) stands)),
+        ((z.0, (length z.1.names, subst (λ from. slice_get g.names (length z.1.names) ≡ Some (bound x from defines (an_object z.0 t)))
+        (asks.from_is value refl) stands)),
         broken))))))))) in
         record {
           file = there.file;
@@ -147,13 +152,15 @@ module _ (untagged : ℕ → List ℕ) (types : List (List ℕ)) (nodes_at : ℕ
 
     value_stops : (value : Option (ℕ × Trees.Expression)) → d.value ≡ value → MayInitialize f place from n value → (z : ℕ × FileScope)
         → IsNew f words x place t z ⊎ IsOld f x t z → (v : IsTheObject f words x place t (is_none (declared_among f.names x.text)) z)
-        → defined_once f x value (define_object (with_bound z.1 (bound x from (object_how words value) (an_object z.0 t))) z.0 place value t) ≡ Err fault
+        → defined_once f x value (define_object (with_bound z.1 (bound x from (object_how words value)
+        (an_object z.0 t))) z.0 place value t) ≡ Err fault
         → StopsIn (place ∷ literals_of_value value) f Is
     value_stops None is asks z e v h = cc
     value_stops (Some value) is asks z e v h =
         once_fault x (defined_among f.names x.text) _ fault (StopsIn (place ∷ literals value.1) f Is) h
         (λ old i again. stops_here (place ∷ literals value.1) f Is
-        (twice_here f words base d x t fault name shape (declares f (itself f)) (sized_at f (itself f)) (some_is is) (twice_defined f x fault old i again)))
+        (twice_here f words base d x t fault name shape (declares f (itself f)) (sized_at f (itself f)) (some_is is)
+        (twice_defined f x fault old i again)))
         (λ none h. bound_err (constants_if_any (Some value) (at_file_scope (with_bound z.1 (bound x from defines (an_object z.0 t)))) t) _ fault
         (StopsIn (place ∷ literals value.1) f Is) h (λ i. initial_stops value is asks z e none v i) (λ y i h. cc))
       where
@@ -176,5 +183,6 @@ module _ (untagged : ℕ → List ℕ) (types : List (List ℕ)) (nodes_at : ℕ
         (inr (inl (is, (main, inr (no_function, main_linked f words may x linked none)))))))
         (λ taken. here (taken_here f words base d x t fault name shape is_shape is_sized taken)))
         (λ z e h.
-        let v = object_is f words may x place t (declared_among f.names x.text) (stands_for nodes_at before f x place k objects_before functions_before) z e in
+        let v = object_is f words may x place t (declared_among f.names x.text)
+        (stands_for nodes_at before f x place k objects_before functions_before) z e in
         value_stops d.value refl asks z (entered f words x place t (declared_among f.names x.text) refl z e) v h))

@@ -15,12 +15,15 @@ use Rattle.c_typed.specs.declared.program.MentionKind.TheVariants.{Object, Named
 use Rattle.c_erasure.specs.Broken.{ill_typed}
 use Rattle.c_erasure.specs.Declarators.{declared_name}
 use Rattle.c_erasure.specs.Files.{bound, object_how, may_stand_in_file}
-use Rattle.c_erasure.specs.Scopes.{FileScope, Bound, AnObject, How, declares, defines, Entity, typedef, an_object, a_function, a_library_function, at_file_scope, declared}
+use Rattle.c_erasure.specs.Scopes.{FileScope, Bound, AnObject, How, declares, defines, Entity, typedef, an_object, a_function, a_library_function}
+use Rattle.c_erasure.specs.Scopes.{at_file_scope, declared}
 use Rattle.c_erasure.specs.Specifiers.{Storage, a_typedef}
 use Rattle.c_checking.specs.Answers.{Answer, moved}
 use Rattle.c_checking.specs.Declaring.{derived, mentions_in, object_at, declared_among, with_bound, with_mention}
-use Rattle.c_checking.specs.Files.{library_named, main_type, is_main, links, library_again, declare_typedef, declare_own, declare_library, declare_function}
-use Rattle.c_checking.specs.Files.{declare_object, without_value, object_of, function_of, define_object, with_definition, declare_as, declarator_named}
+use Rattle.c_checking.specs.Files.{library_named, main_type, is_main, links, library_again, declare_typedef, declare_own, declare_library}
+use Rattle.c_checking.specs.Files.{declare_function}
+use Rattle.c_checking.specs.Files.{declare_object, without_value, object_of, function_of, define_object, with_definition, declare_as}
+use Rattle.c_checking.specs.Files.{declarator_named}
 use Rattle.c_checking.specs.Finding.{complete, derivations}
 use Rattle.c_checking.specs.Initializers.{initializer, constants_in}
 use Rattle.c_checking.specs.Statements.{sized_in, constants_if_any}
@@ -39,7 +42,8 @@ use Rattle.c_checking_file_faults.proofs.WholeDeclarators.{MayStop, said_own}
 abbrev IsOwn : Bound → Type 0
 IsOwn b = (n : ℕ) (t : CType) → b.entity ≡ a_function n t → library_named b.name ≡ None
 
-own_more : (names more : List Bound) → AreOwnFunctions names → ((k : ℕ) (b : Bound) → slice_get more k ≡ Some b → IsOwn b) → AreOwnFunctions (names ++ more)
+own_more : (names more : List Bound) → AreOwnFunctions names → ((k : ℕ) (b : Bound) → slice_get more k ≡ Some b → IsOwn b)
+    → AreOwnFunctions (names ++ more)
 own_more names more h i k b e = by_part (one_of_both names more k b e)
   where
     by_part : (slice_get names k ≡ Some b) ⊎ ((j : ℕ) × (k ≡ length names + j) × (slice_get more j ≡ Some b)) → IsOwn b
@@ -146,7 +150,8 @@ own_after untagged types nodes_at ends before f words base d x from nodes may k 
     place : ℕ
     place = first_declarator d.declarator x.from
 
-    by_words : (m : FileScope) (t : CType) → AreOwnFunctions (with_mention (at_file_scope f) (mentions_in f) Named t place m).names → m.untagged ≡ untagged
+    by_words : (m : FileScope) (t : CType) → AreOwnFunctions (with_mention (at_file_scope f) (mentions_in f) Named t place m).names
+        → m.untagged ≡ untagged
         → (words ≡ a_typedef) ⊎ MayDeclare words
         → ((u : CType) → AreOwnFunctions (with_mention (at_file_scope f) (mentions_in f) Object u place m).names)
         → declare_as words (mentions_in f) place from x t d nodes m ≡ Ok g → AreOwnFunctions g.names
@@ -158,9 +163,11 @@ own_after untagged types nodes_at ends before f words base d x from nodes may k 
         (one_own said (bound x from defines (typedef t)) own (λ n u is. cc))
     by_words m t own same (inr w) objects h =
         chosen (is_function t) _ _ g (AreOwnFunctions g.names) (sym (declared_as words w (mentions_in f) place from x t d nodes m) ∙ h)
-        (λ b h. function_own (with_mention (at_file_scope f) (mentions_in f) Named t place m) words x place from t nodes own (library_named x.text) refl g
+        (λ b h. function_own (with_mention (at_file_scope f) (mentions_in f) Named t place m) words x place from t nodes own
+        (library_named x.text) refl g
         (no_value x.from d.value _ g h))
         (λ b h.
         let u = bound_ok (object_at m.records (complete (at_file_scope m) x.from) x.from t) _ g h in
-        object_own untagged types (with_mention (at_file_scope f) (mentions_in f) Object u.0 place m) words x place from u.0 d.value same may.may.value_formed
+        object_own untagged types (with_mention (at_file_scope f)
+        (mentions_in f) Object u.0 place m) words x place from u.0 d.value same may.may.value_formed
         (objects u.0) g u.2)

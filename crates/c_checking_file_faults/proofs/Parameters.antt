@@ -37,7 +37,8 @@ no_list (Trees.function d from all to) e = cc
 abbrev IsOfList : Scope → CType → Trees.ParameterList → Type 0
 IsOfList s t list = (result : CType) × (types : CTypes) × (t ≡ function result types) × AreParameters (inside s) list types
 
-pub nearest : (d : Trees.Declarator) (s : Scope) (base t : CType) → Declares s d base (closed t) → (list : Trees.ParameterList) → parameters_of d ≡ Some list
+pub nearest : (d : Trees.Declarator) (s : Scope) (base t : CType) → Declares s d base (closed t) → (list : Trees.ParameterList)
+    → parameters_of d ≡ Some list
     → IsOfList s t list
 nearest Trees.nothing s base t h list e = cc
 nearest (Trees.named x) s base t h list e = cc
@@ -73,7 +74,8 @@ open_without (Trees.function d from all to) s base u h =
 
 -- ---- names of parameters
 
-nameless_listed : (all : Trees.Parameters) (types : CTypes) (k : ℕ) (s : Scope) → AreListed s all types → named_parameters all types k ≡ None → IsNameless all
+nameless_listed : (all : Trees.Parameters) (types : CTypes) (k : ℕ) (s : Scope) → AreListed s all types → named_parameters all types k ≡ None
+    → IsNameless all
 nameless_listed Trees.no_parameters no_types k s are h = cc
 nameless_listed Trees.no_parameters (and_type t types) k s are h = cc
 nameless_listed (Trees.and_parameter comma specs d more) no_types k s are h = let none_is_one = are.3 in cc

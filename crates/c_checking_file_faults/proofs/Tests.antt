@@ -19,13 +19,16 @@ use Rattle.c_erasure.specs.Broken.{Fault, ill_typed, redeclared}
 use Rattle.c_erasure.specs.BrokenFiles.{IsOld, IsAny, IsNoObjectOf, IsNoFunctionOf, IsDefinition, linked_object, linked_function, is_linked}
 use Rattle.c_erasure.specs.BrokenFiles.{IsOfOtherLinkage, IsBrokenLibrary, IsOtherwise}
 use Rattle.c_erasure.specs.Files.{library_name, IsMainType}
-use Rattle.c_erasure.specs.Scopes.{FileScope, Bound, How, declares, tentative, defines, Entity, typedef, enumerator, an_object, a_function, a_library_function}
+use Rattle.c_erasure.specs.Scopes.{FileScope, Bound, How, declares, tentative, defines, Entity, typedef, enumerator, an_object, a_function}
+use Rattle.c_erasure.specs.Scopes.{a_library_function}
 use Rattle.c_erasure.specs.Scopes.{a_local, a_parameter, AnObject, AFunction}
 use Rattle.c_erasure.specs.Specifiers.{Storage, no_storage, a_typedef, is_extern, is_static, is_auto, is_register, several}
 use Rattle.c_checking.specs.Answers.{Answer}
 use Rattle.c_checking.specs.Declaring.{declared_among}
-use Rattle.c_checking.specs.Files.{is_library_name, first_named, library, library_named, own_name, is_main, main_type, main_function, main_object, once, links}
-use Rattle.c_checking.specs.Files.{defined_among, linked_before, function_linked_before, linkage_agrees, function_linkage_agrees, known_object, object_of}
+use Rattle.c_checking.specs.Files.{is_library_name, first_named, library, library_named, own_name, is_main, main_type, main_function, main_object}
+use Rattle.c_checking.specs.Files.{once, links}
+use Rattle.c_checking.specs.Files.{defined_among, linked_before, function_linked_before, linkage_agrees, function_linkage_agrees, known_object}
+use Rattle.c_checking.specs.Files.{object_of}
 use Rattle.c_checking.specs.Files.{known_function, function_of, library_again, place_of_bound, declare_library, without_value}
 use Rattle.c_checking.proofs.FaultResults.{same_fault, chosen_err}
 use Rattle.c_checking.proofs.NodesOfParts.{same_bytes}
@@ -88,7 +91,8 @@ main_typed x t h e = by_test (same_type t main_type) refl
         let true_is_false = sym both ∙ h in
         cc
 
-pub main_function_fault : {A : Type 0} (x : List ℕ) (at : ℕ) (t : CType) (r : Answer A) (fault : Fault) (P : Type 0) → main_function x at t r ≡ Err fault
+pub main_function_fault : {A : Type 0} (x : List ℕ) (at : ℕ) (t : CType) (r : Answer A) (fault : Fault) (P : Type 0)
+    → main_function x at t r ≡ Err fault
     → (fault ≡ ill_typed R.Main at → x ≡ codes "main" → t ≢ main_type → P) → (IsMainType x t → r ≡ Err fault → P) → P
 main_function_fault {A} x at t r fault P h p q =
     chosen_err (is_main x && not (same_type t main_type)) _ _ fault P h
@@ -127,7 +131,8 @@ pub record IsTakenWithin (f : FileScope) (x : Spelling) (fault : Fault) : Type 0
 behind_it : (n m : ℕ) → nat_le n m ≡ false → m < n
 behind_it n m h = grind (arith, nat_tests)
 
-pub old_or_within : (f : FileScope) (x : Spelling) (P : Bound → Type 0) (fault : Fault) → IsTaken f x P fault → IsOld f x P fault ⊎ IsTakenWithin f x fault
+pub old_or_within : (f : FileScope) (x : Spelling) (P : Bound → Type 0) (fault : Fault) → IsTaken f x P fault → IsOld f x P fault
+    ⊎ IsTakenWithin f x fault
 old_or_within f x P fault h = by_test (nat_le h.1.from x.from) refl
   where
     by_test : (b : Bool) → nat_le h.1.from x.from ≡ b → IsOld f x P fault ⊎ IsTakenWithin f x fault
@@ -267,12 +272,14 @@ module _ (f : FileScope) (x : Spelling) (fault : Fault) (old : Bound) (declared 
 
   -- ---- functions
 
-  function_linked_so : (o : Option AFunction) (b : Bool) → ((q : AFunction) × (o ≡ Some q)) → function_linked_before o ≡ b → linked_function o ≡ Some b
+  function_linked_so : (o : Option AFunction) (b : Bool) → ((q : AFunction) × (o ≡ Some q)) → function_linked_before o ≡ b
+      → linked_function o ≡ Some b
   function_linked_so None b q h = let bad = q.1 in cc
   function_linked_so (Some o) b q h = ap Some h
 
   other_function_linkage : (words : Storage) → MayDeclare words → (n : ℕ) (u : CType) → old.entity ≡ a_function n u
-      → ((o : AFunction) × (slice_get f.functions n ≡ Some o)) → function_linkage_agrees words (function_linked_before (slice_get f.functions n)) ≡ false
+      → ((o : AFunction) × (slice_get f.functions n ≡ Some o))
+      → function_linkage_agrees words (function_linked_before (slice_get f.functions n)) ≡ false
       → IsOfOtherLinkage f words old
   other_function_linkage no_storage m n u e stands h = cc
   other_function_linkage is_extern m n u e stands h = cc
@@ -313,19 +320,24 @@ module _ (f : FileScope) (x : Spelling) (fault : Fault) (old : Bound) (declared 
       let none_is_some = sym own ∙ ap library_named (sym d.2) ∙ named in
       cc
   known_function_fault words m t is_one bound libraries own (typedef u) e h =
-      taken_so f words m t x fault (inl (is_one, taken_as words (IsNoFunctionOf t) ((λ k j. let i = sym e ∙ j in cc), (λ which j. let i = sym e ∙ j in cc))
+      taken_so f words m t x fault (inl (is_one, taken_as words (IsNoFunctionOf t) ((λ k j. let i = sym e ∙ j in cc), (λ which j. let i = sym e
+          ∙ j in cc))
       (same_fault (ℕ × FileScope) (redeclared x.text x.from old.place) fault h)))
   known_function_fault words m t is_one bound libraries own (enumerator v) e h =
-      taken_so f words m t x fault (inl (is_one, taken_as words (IsNoFunctionOf t) ((λ k j. let i = sym e ∙ j in cc), (λ which j. let i = sym e ∙ j in cc))
+      taken_so f words m t x fault (inl (is_one, taken_as words (IsNoFunctionOf t) ((λ k j. let i = sym e ∙ j in cc), (λ which j. let i = sym e
+          ∙ j in cc))
       (same_fault (ℕ × FileScope) (redeclared x.text x.from old.place) fault h)))
   known_function_fault words m t is_one bound libraries own (an_object n u) e h =
-      taken_so f words m t x fault (inl (is_one, taken_as words (IsNoFunctionOf t) ((λ k j. let i = sym e ∙ j in cc), (λ which j. let i = sym e ∙ j in cc))
+      taken_so f words m t x fault (inl (is_one, taken_as words (IsNoFunctionOf t) ((λ k j. let i = sym e ∙ j in cc), (λ which j. let i = sym e
+          ∙ j in cc))
       (same_fault (ℕ × FileScope) (redeclared x.text x.from old.place) fault h)))
   known_function_fault words m t is_one bound libraries own (a_local n u) e h =
-      taken_so f words m t x fault (inl (is_one, taken_as words (IsNoFunctionOf t) ((λ k j. let i = sym e ∙ j in cc), (λ which j. let i = sym e ∙ j in cc))
+      taken_so f words m t x fault (inl (is_one, taken_as words (IsNoFunctionOf t) ((λ k j. let i = sym e ∙ j in cc), (λ which j. let i = sym e
+          ∙ j in cc))
       (same_fault (ℕ × FileScope) (redeclared x.text x.from old.place) fault h)))
   known_function_fault words m t is_one bound libraries own (a_parameter u) e h =
-      taken_so f words m t x fault (inl (is_one, taken_as words (IsNoFunctionOf t) ((λ k j. let i = sym e ∙ j in cc), (λ which j. let i = sym e ∙ j in cc))
+      taken_so f words m t x fault (inl (is_one, taken_as words (IsNoFunctionOf t) ((λ k j. let i = sym e ∙ j in cc), (λ which j. let i = sym e
+          ∙ j in cc))
       (same_fault (ℕ × FileScope) (redeclared x.text x.from old.place) fault h)))
 
 -- an object that is declared for the first time, or again
@@ -339,7 +351,8 @@ object_of_fault f words m x place t no_function bound None e fault P h p q =
 object_of_fault f words m x place t no_function bound (Some old) e fault P h p q =
     q (known_fault f x fault old e words m t no_function bound old.entity refl h)
 
-pub function_of_fault : (f : FileScope) (words : Storage) → MayDeclare words → (x : Spelling) (place : ℕ) (t : CType) (nodes : ℕ) → is_function t ≡ true
+pub function_of_fault : (f : FileScope) (words : Storage) → MayDeclare words → (x : Spelling) (place : ℕ) (t : CType) (nodes : ℕ)
+    → is_function t ≡ true
     → AreFunctionsBound f.names f.functions → AreLibrariesBound f.names → library_named x.text ≡ None → (o : Option Bound)
     → declared_among f.names x.text ≡ o → (fault : Fault) → function_of f words x place t nodes o ≡ Err fault → IsTakenOtherwise f words t x fault
 unfolding function_of
@@ -351,7 +364,8 @@ function_of_fault f words m x place t nodes is_one bound libraries own (Some old
 
 -- no function of the file has a name of the library
 abbrev pub AreOwnFunctions : List Bound → Type 0
-AreOwnFunctions names = (k : ℕ) (b : Bound) → slice_get names k ≡ Some b → (n : ℕ) (t : CType) → b.entity ≡ a_function n t → library_named b.name ≡ None
+AreOwnFunctions names = (k : ℕ) (b : Bound) → slice_get names k ≡ Some b → (n : ℕ)
+    (t : CType) → b.entity ≡ a_function n t → library_named b.name ≡ None
 
 not_linked : (words : Storage) → links words ≡ false → words ≡ is_static
 not_linked is_static h = refl
@@ -379,7 +393,8 @@ library_fault f words m x from t which is_one named own fault h =
     either (inr b) = inr (inl (not_linked words b))
 
     another : (old : Bound) → declared_among f.names x.text ≡ Some old → (e : Entity) → old.entity ≡ e
-        → cond (library_again which (Some (record old { entity = e }))) (Rattle.c_checking.proofs.Results.ok (Rattle.c_checking.specs.Declaring.with_bound f
+        → cond (library_again which (Some (record old { entity = e }))) (Rattle.c_checking.proofs.Results.ok
+        (Rattle.c_checking.specs.Declaring.with_bound f
         (Rattle.c_erasure.specs.Files.bound x from declares (a_library_function which))))
         (Err (redeclared x.text x.from old.place)) ≡ Err fault → IsNoFunctionOf t old × (fault ≡ redeclared x.text x.from old.place)
     another old d (a_library_function other) e h = cc
@@ -401,7 +416,8 @@ library_fault f words m x from t which is_one named own fault h =
 
     again : (o : Option Bound) → declared_among f.names x.text ≡ o
         → cond (library_again which o) (Rattle.c_checking.proofs.Results.ok (Rattle.c_checking.specs.Declaring.with_bound f
-        (Rattle.c_erasure.specs.Files.bound x from declares (a_library_function which)))) (Err (redeclared x.text x.from (place_of_bound o))) ≡ Err fault
+        (Rattle.c_erasure.specs.Files.bound x from declares (a_library_function which)))) (Err (redeclared x.text x.from
+        (place_of_bound o))) ≡ Err fault
         → ((fault ≡ ill_typed R.Library x.from) × IsBrokenLibrary words t x.text) ⊎ IsTakenOtherwise f words t x fault
     again None d h = cc
     again (Some old) d h =

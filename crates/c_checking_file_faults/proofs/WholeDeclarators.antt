@@ -68,17 +68,20 @@ module _ (untagged : ℕ → List ℕ) (types : List (List ℕ)) (nodes_at : ℕ
   -- what is asked of the file and of a declarator; its name is in scope from a byte on
   pub record MayStop (f : FileScope) (d : Trees.InitDeclarator) (x : Spelling) (from nodes : ℕ) : Type 0 where
     pub may : MayDeclareIt untagged types nodes_at f d x from nodes
-    pub prepared : IsPrepared untagged ends f [] [] false (marks_of_declarator untagged d.declarator ++ a_name from ∷ marks_of_initial untagged d.value)
+    pub prepared : IsPrepared untagged ends f [] [] false
+        (marks_of_declarator untagged d.declarator ++ a_name from ∷ marks_of_initial untagged d.value)
     pub timely : IsDeclaratorTimely untagged ends false (length f.records) d.declarator
     -- the name asks for the records before it
     pub asks : AreKnown untagged ends (length f.records + length (ends_in (marks_of_declarator untagged d.declarator))) x.from
-    pub value_timely : IsValueTimely untagged types nodes_at ends (length f.records + length (ends_in (marks_of_declarator untagged d.declarator))) d.value
+    pub value_timely : IsValueTimely untagged types nodes_at ends (length f.records + length (ends_in
+        (marks_of_declarator untagged d.declarator))) d.value
     pub own_functions : AreOwnFunctions f.names
     pub fresh : AreFresh f (first_declarator d.declarator x.from ∷ literals_of_value d.value)
     pub from_is : (v : ℕ × Trees.Expression) → d.value ≡ Some v → from ≡ v.0
 
   module _ (before : List ℕ) (f : FileScope) (words : Storage) (base : CType) (d : Trees.InitDeclarator) (x : Spelling) (from nodes : ℕ)
-      (may : MayStop f d x from nodes) (k : IsKnown nodes_at before none_new none_new f) (name : declared_name d.declarator ≡ Some x) (fault : Fault) where
+      (may : MayStop f d x from nodes) (k : IsKnown nodes_at before none_new none_new f) (name : declared_name d.declarator ≡ Some x)
+      (fault : Fault) where
     abbrev place : ℕ
     place = first_declarator d.declarator x.from
 
@@ -100,7 +103,8 @@ module _ (untagged : ℕ → List ℕ) (types : List (List ℕ)) (nodes_at : ℕ
 
       steps_reach : Reaches (IsAmong bytes) f false steps.1
       steps_reach =
-          reached (IsAmong bytes) (at_file_scope f) found.grew (grow_steps untagged d.declarator (at_file_scope f) may.may.same steps is_steps) (λ e. tt)
+          reached (IsAmong bytes) (at_file_scope f) found.grew (grow_steps untagged d.declarator (at_file_scope f) may.may.same steps is_steps)
+          (λ e. tt)
 
       abbrev said : MentionKind → CType → FileScope
       said kind t = with_mention (at_file_scope f) (mentions_in f) kind t place steps.1
@@ -121,7 +125,8 @@ module _ (untagged : ℕ → List ℕ) (types : List (List ℕ)) (nodes_at : ℕ
           (keep_steps untagged types d.declarator (at_file_scope f) may.may.same (λ i. may.may.formed) steps is_steps)
 
       said_adds : (kind : MentionKind) (t : CType) → Adds f false false false own_marks (place ∷ spoken_of_declarator d.declarator) [] (said kind t)
-      said_adds kind t = mention_before (at_file_scope f) kind t place (grow_steps untagged d.declarator (at_file_scope f) may.may.same steps is_steps)
+      said_adds kind t = mention_before (at_file_scope f) kind t place (grow_steps untagged d.declarator
+          (at_file_scope f) may.may.same steps is_steps)
 
       said_known : (kind : MentionKind) (t : CType) → IsKnown nodes_at before none_new none_new (said kind t)
       said_known kind t =
@@ -139,13 +144,15 @@ module _ (untagged : ℕ → List ℕ) (types : List (List ℕ)) (nodes_at : ℕ
 
       -- names that the declarator itself declares are enumerators
       pub said_own : (kind : MentionKind) (t : CType) → AreOwnFunctions (said kind t).names
-      said_own kind t n b e m u is = by_part (Rattle.c_checking.proofs.Extends.one_of_both f.names names.0 n b (subst (λ all. slice_get all n ≡ Some b) names.1 e))
+      said_own kind t n b e m u is = by_part (Rattle.c_checking.proofs.Extends.one_of_both f.names names.0 n b (subst
+          (λ all. slice_get all n ≡ Some b) names.1 e))
         where
           names : (more : List Rattle.c_erasure.specs.Scopes.Bound) × ((said kind t).names ≡ f.names ++ more)
               × ((k : ℕ) (b : Rattle.c_erasure.specs.Scopes.Bound) → slice_get more k ≡ Some b → Rattle.c_checking_files.proofs.Kept.IsAnEnumerator b)
           names = (said_kept kind t).names
 
-          by_part : (slice_get f.names n ≡ Some b) ⊎ ((j : ℕ) × (n ≡ length f.names + j) × (slice_get names.0 j ≡ Some b)) → library_named b.name ≡ None
+          by_part : (slice_get f.names n ≡ Some b) ⊎ ((j : ℕ) × (n ≡ length f.names + j) × (slice_get names.0 j ≡ Some b))
+              → library_named b.name ≡ None
           by_part (inl e) = may.own_functions n b e m u is
           by_part (inr e) = let v = names.2 e.0 b e.2 in let i = sym is ∙ v.1 in cc
 
@@ -168,10 +175,12 @@ module _ (untagged : ℕ → List ℕ) (types : List (List ℕ)) (nodes_at : ℕ
             let g = said Named t in
             stops_there bytes f g Is (said_reaches Named t)
             (subst (λ words. IsStopped g words base d x fault) (sym e)
-            (typedef_stops g base d x t name shape (declares g (said_extends Named t)) (sized_here (at_file_scope g) shape d.value t over) fault from h))
+            (typedef_stops g base d x t name shape (declares g (said_extends Named t)) (sized_here
+            (at_file_scope g) shape d.value t over) fault from h))
 
         as_function : MayDeclare words → is_function t ≡ true
-            → without_value x.from d.value (declare_function (said Named t) words x place from t nodes (library_named x.text)) ≡ Err fault → StopsIn bytes f Is
+            → without_value x.from d.value (declare_function (said Named t) words x place from t nodes (library_named x.text)) ≡ Err fault
+            → StopsIn bytes f Is
         as_function m is_one h =
             let g = said Named t in
             stops_there bytes f g Is (said_reaches Named t)
@@ -185,13 +194,15 @@ module _ (untagged : ℕ → List ℕ) (types : List (List ℕ)) (nodes_at : ℕ
             let grew = found.grew in
             let many : length f.records + length (ends_in own_marks) ≤ length steps.1.records = let c = grew.counted in omega (arith, c) in
             let known : ended steps.1.ends x.from ≤ length steps.1.records =
-            let a = subst (λ ends. ended ends x.from ≤ length f.records + length (ends_in own_marks)) (sym (grew.extends.ends ∙ before_name.ends_are)) may.asks in
+            let a = subst (λ ends. ended ends x.from ≤ length f.records + length (ends_in own_marks)) (sym (grew.extends.ends
+            ∙ before_name.ends_are)) may.asks in
             omega (arith, a, many) in
             bound_err (object_at steps.1.records (complete (at_file_scope steps.1) x.from) x.from t) _ fault (StopsIn bytes f Is) h
             (λ e.
             let o = object_fault steps.1.records (complete (at_file_scope steps.1) x.from) x.from t known fault e in
             stops_there bytes f steps.1 Is steps_reach
-            (ruled_here steps.1 words base d x t fault name shape (declares steps.1 (itself steps.1)) (sized_here (at_file_scope steps.1) shape d.value t over)
+            (ruled_here steps.1 words base d x t fault name shape (declares steps.1 (itself steps.1)) (sized_here
+            (at_file_scope steps.1) shape d.value t over)
             (inr (inr (inl (o.0, no_typedef words m, is_none, o.1))))))
             (λ u e h.
             let same : t ≡ u = (object_is steps.1.records (complete (at_file_scope steps.1) x.from) x.from t u e).1 in
@@ -200,7 +211,8 @@ module _ (untagged : ℕ → List ℕ) (types : List (List ℕ)) (nodes_at : ℕ
             let w = said_grown Object u in
             let prepared = right untagged ends own_marks (a_name from ∷ marks_of_initial untagged d.value) may.prepared w in
             stops_later Is Is (said_reaches Object u)
-            (object_stops untagged types nodes_at ends before g words m base d x place from (length f.records + length (ends_in own_marks)) u name shape
+            (object_stops untagged types nodes_at ends before g words m base d x place from (length f.records + length
+            (ends_in own_marks)) u name shape
             (λ h p. declares h (further (said_extends Object u) p)) (subst (IsSizedOver steps.1.records shape d.value) same over)
             (subst (λ t. is_function t ≡ false) same is_none) whole (said_known Object u)
             (λ n o e. may.may.objects_before n o (subst (λ all. slice_get all n ≡ Some o) (same_objects Object u) e))
@@ -217,7 +229,8 @@ module _ (untagged : ℕ → List ℕ) (types : List (List ℕ)) (nodes_at : ℕ
               from_is = may.from_is;
             }) h) (λ h p i. i))
 
-        by_words : (words ≡ a_typedef) ⊎ MayDeclare words → declare_as words (mentions_in f) place from x t d nodes steps.1 ≡ Err fault → StopsIn bytes f Is
+        by_words : (words ≡ a_typedef) ⊎ MayDeclare words → declare_as words (mentions_in f) place from x t d nodes steps.1 ≡ Err fault
+            → StopsIn bytes f Is
         by_words (inl e) h = as_typedef (subst (λ words. declare_as words (mentions_in f) place from x t d nodes steps.1 ≡ Err fault) e h) e
         by_words (inr m) h =
             chosen_err (is_function t) _ _ fault (StopsIn bytes f Is) (sym (declared_as words m (mentions_in f) place from x t d nodes steps.1) ∙ h)
@@ -231,11 +244,13 @@ module _ (untagged : ℕ → List ℕ) (types : List (List ℕ)) (nodes_at : ℕ
         (faults_steps untagged ends (IsAmong bytes) d.declarator s (length f.records) may.may.in_range before_name (omega arith) may.timely fault e)
         (λ g p h. inl (inl (within_broken d.declarator (at_file_scope g) base fault h))))
         (λ steps e h.
-        let w = read_steps untagged ends d.declarator s (length f.records) may.may.in_range before_name.ready before_name.ends_are (omega arith) may.timely steps e in
+        let w = read_steps untagged ends d.declarator s (length f.records) may.may.in_range before_name.ready before_name.ends_are
+        (omega arith) may.timely steps e in
         bound_err (derived steps.1.records steps.0 base) _ fault (StopsIn bytes f Is) h
         (λ i. stops_there bytes f steps.1 Is (steps_reach steps e) (inl (inl (w.broken steps.1 (itself steps.1) base fault i))))
         (λ shape i h. bound_err (sized_in steps.1.records x.from shape d.value) _ fault (StopsIn bytes f Is) h
         (λ j. stops_there bytes f steps.1 Is (steps_reach steps e)
-        (inl (inr (x, shape, name, (found steps e).holds steps.1 (itself steps.1) steps.1.records (itself steps.1).records.0 (itself steps.1).records.1 base shape i,
+        (inl (inr (x, shape, name, (found steps e).holds steps.1 (itself steps.1) steps.1.records (itself steps.1).records.0
+        (itself steps.1).records.1 base shape i,
         inl (sized_fault (at_file_scope steps.1) x.from shape d.value fault j)))))
         (λ t j h. by_words steps e shape i t j (by_storage words stands) h)))

@@ -73,7 +73,8 @@ module _ (untagged : ℕ → List ℕ) (types_named : List (List ℕ)) (nodes_at
   Is g = IsStoppedDefinition g specs d left_at items x fault
 
   -- the type of the definition, in a file that goes on from the one behind its specifiers
-  shape_stops : (b : CType × FileScope) → ((g : FileScope) → Extends b.1 g → IsBase (IsOne (at_file_scope g) specs) specs b.0) → MayDeclare (storage_of specs)
+  shape_stops : (b : CType × FileScope) → ((g : FileScope) → Extends b.1 g → IsBase (IsOne (at_file_scope g) specs) specs b.0)
+      → MayDeclare (storage_of specs)
       → (steps : FileScope) → ((g : FileScope) → Extends steps g → Extends b.1 g)
       → ((t : CType) → Extends steps (with_mention (at_file_scope b.1) (mentions_in b.1) Named t (first_declarator d x.from) steps))
       → (shape : Shape) → ((g : FileScope) → Extends steps g → Declares (at_file_scope g) d b.0 shape) → Reaches (IsAmong bytes) f false steps
@@ -81,7 +82,8 @@ module _ (untagged : ℕ → List ℕ) (types_named : List (List ℕ)) (nodes_at
       → define_function (with_mention (at_file_scope b.1) (mentions_in b.1) Named (function result types) (first_declarator d x.from) steps)
       (storage_of specs) x from (first_declarator d x.from) left_at nodes result types items (received_by (parameters_of d) types) ≡ Err fault
       → StopsIn bytes f Is)
-      → define_shape steps (storage_of specs) x (mentions_in b.1) from (first_declarator d x.from) left_at nodes shape (parameters_of d) items ≡ Err fault
+      → define_shape steps (storage_of specs) x (mentions_in b.1) from (first_declarator d x.from) left_at nodes shape
+      (parameters_of d) items ≡ Err fault
       → StopsIn bytes f Is
   shape_stops b is_base words steps into said (closed (function result types)) declares reach next h = next result types refl h
   shape_stops b is_base words steps into said (open_array t) declares reach next h =
@@ -157,7 +159,8 @@ module _ (untagged : ℕ → List ℕ) (types_named : List (List ℕ)) (nodes_at
       let k2 = subst (λ made. IsKnown nodes_at made none_new none_new said) (append-nil before) (second.known before k1) in
       let there = first_named d x name left_at x.from in
       let late : at ≤ place = let p = m.place in omega (arith, p, there) in
-      let objects : said.objects ≡ f.objects = no_objects adds2.objects.0 adds2.objects.1 adds2.objects.2 ∙ no_objects adds.objects.0 adds.objects.1 adds.objects.2 in
+      let objects : said.objects ≡ f.objects = no_objects adds2.objects.0 adds2.objects.1 adds2.objects.2
+      ∙ no_objects adds.objects.0 adds.objects.1 adds.objects.2 in
       let functions : said.functions ≡ f.functions = adds2.functions ∙ adds.functions in
       let c1 = v.grew.counted in
       let c2 = grown.counted in
@@ -187,7 +190,8 @@ module _ (untagged : ℕ → List ℕ) (types_named : List (List ℕ)) (nodes_at
       (λ is none. stops_here bytes f Is (inl (inl (is, inl none))))
       (λ words h. bound_err (base_type (base_kind specs) from f (one_of specs s)) _ fault (StopsIn bytes f Is) h
       (λ e. base_stops (IsAmong bytes) s specs from (one_of specs s) fault
-      (λ y q j. faults_one untagged ends (IsAmong bytes) specs s (length f.records) may.may.specifiers_in_range prepared (omega arith) may.specifiers_timely y q
+      (λ y q j. faults_one untagged ends (IsAmong bytes) specs s (length f.records) may.may.specifiers_in_range prepared
+      (omega arith) may.specifiers_timely y q
       fault j) e (StopsIn bytes f Is)
       (λ m. stops_here bytes f Is (inl (inl (m.0, inr (inl m.1)))))
       (λ b. stops_of (λ s. AreBroken specs s fault) Is b (λ g p h. inl (inr (inl h)))))
