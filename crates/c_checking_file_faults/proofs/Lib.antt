@@ -7,6 +7,7 @@ mod OwnFunctions
 mod DeclaratorsStop
 mod FileDeclarations
 mod ItemStops
+mod RedeclaredExample
 mod Parameters
 mod DefinitionStops
 mod WholeDefinitions
