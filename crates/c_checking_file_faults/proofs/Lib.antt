@@ -11,3 +11,4 @@ mod RedeclaredExample
 mod Parameters
 mod DefinitionStops
 mod WholeDefinitions
+mod OwnDefinitions

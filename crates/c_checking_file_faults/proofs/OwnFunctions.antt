@@ -50,7 +50,7 @@ own_more names more h i k b e = by_part (one_of_both names more k b e)
     by_part (inl e) = h k b e
     by_part (inr e) = i e.0 b e.2
 
-one_own : (f : FileScope) (b : Bound) → AreOwnFunctions f.names → IsOwn b → AreOwnFunctions (with_bound f b).names
+pub one_own : (f : FileScope) (b : Bound) → AreOwnFunctions f.names → IsOwn b → AreOwnFunctions (with_bound f b).names
 one_own f b h i = own_more f.names (b ∷ []) h (one_bound IsOwn b i)
 
 -- enumerators are no functions
@@ -65,7 +65,7 @@ no_value at (Some value) r z h = cc
 
 -- ---- functions
 
-same_functions : (f : FileScope) (words : Storage) (x : Spelling) (place : ℕ) (t : CType) (nodes : ℕ) (n : ℕ × FileScope)
+pub same_functions : (f : FileScope) (words : Storage) (x : Spelling) (place : ℕ) (t : CType) (nodes : ℕ) (n : ℕ × FileScope)
     → IsNewFunction f words x place t nodes n ⊎ IsOldFunction f x t n → n.1.names ≡ f.names
 same_functions f words x place t nodes n (inl e) = sym (ap (λ (z : ℕ × FileScope). z.1.names) e.1)
 same_functions f words x place t nodes n (inr e) = sym (ap (λ (g : FileScope). g.names) e.3)
