@@ -179,7 +179,7 @@ module _ (untagged : ℕ → List ℕ) (types : List (List ℕ)) (nodes_at : ℕ
           },
         )
 
-    one_stop : (f : FileScope) (d : Trees.InitDeclarator) (more : List Trees.InitDeclarator) (lead : Bool) (at in_scope : ℕ) (x : Spelling)
+    pub one_stop : (f : FileScope) (d : Trees.InitDeclarator) (more : List Trees.InitDeclarator) (lead : Bool) (at in_scope : ℕ) (x : Spelling)
         → declared_name d.declarator ≡ Some x → MayStopAll f (d ∷ more) lead semicolon nodes at in_scope
         → MayStop untagged types nodes_at ends f d x (name_from d.value (after_declarator more semicolon)) nodes
     one_stop f d more lead at in_scope x name may =
@@ -258,7 +258,7 @@ module _ (untagged : ℕ → List ℕ) (types : List (List ℕ)) (nodes_at : ℕ
         }
 
     -- what is asked of those behind one that is declared
-    rest_may : (before : List ℕ) (f : FileScope) (d : Trees.InitDeclarator) (more : List Trees.InitDeclarator) (lead : Bool) (at in_scope : ℕ)
+    pub rest_may : (before : List ℕ) (f : FileScope) (d : Trees.InitDeclarator) (more : List Trees.InitDeclarator) (lead : Bool) (at in_scope : ℕ)
         (x : Spelling)
         → declared_name d.declarator ≡ Some x → MayStopAll f (d ∷ more) lead semicolon nodes at in_scope → (m : FileScope)
         → declarator_named f words base d (name_from d.value (after_declarator more semicolon)) nodes (Some x) ≡ Ok m

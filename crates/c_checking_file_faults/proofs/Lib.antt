@@ -7,6 +7,7 @@ mod OwnFunctions
 mod DeclaratorsStop
 mod FileDeclarations
 mod ItemStops
+mod OwnItems
 mod RedeclaredExample
 mod Parameters
 mod DefinitionStops
