@@ -14,7 +14,8 @@ use Rattle.c_erasure.specs.Scopes.{FileScope, AnObject, AFunction, defines, a_fu
 use Rattle.c_erasure.specs.Specifiers.{Storage, storage_of, no_storage, a_typedef, is_extern, is_static, is_auto, is_register, several}
 use Rattle.c_checking.specs.Answers.{Answer}
 use Rattle.c_checking.specs.Declaring.{base_kind, with_mention, mentions_in, derived, declared_among, with_bound}
-use Rattle.c_checking.specs.Files.{function_storage, Received, received_by, library_named, define_function, define_shape, definition_named, function_definition}
+use Rattle.c_checking.specs.Files.{function_storage, Received, received_by, library_named, define_function, define_shape, definition_named}
+use Rattle.c_checking.specs.Files.{function_definition}
 use Rattle.c_checking.specs.Finding.{base_type, one_of, derivations}
 use Rattle.c_checking.proofs.Adding.{mention_before}
 use Rattle.c_checking.proofs.Declared.{mentioned}
@@ -71,8 +72,8 @@ function_type_is : (f : FileScope) (words : Storage) (x : Spelling) (before at p
 function_type_is f words x before at place left nodes (closed (function result types)) list items g P h next = by_parameters (received_by list types) refl h
   where
     by_parameters : (o : Option Received) → received_by list types ≡ o
-        → define_function (with_mention (at_file_scope f) before Named (function result types) place f) words x at place left nodes result types items o ≡ Ok g
-        → P
+        → define_function (with_mention (at_file_scope f) before Named (function result types) place f) words x at place left nodes result types items o
+        ≡ Ok g → P
     by_parameters None e h = cc
     by_parameters (Some p) e h = next result types p e h
 function_type_is f words x before at place left nodes (open_array t) list items g P h next = cc
@@ -113,7 +114,8 @@ module _ (untagged : ℕ → List ℕ) (types_named : List (List ℕ)) (nodes_at
       let shape = bound_ok (derived steps.0.1.records steps.0.0 b.0) _ g steps.2 in
       let place = first_declarator d x.from in
       let found = sound_steps untagged d s1 m.in_range (left untagged ends w (a_name left_at ∷ []) prepared).ready steps.0 steps.1 in
-      function_type_is steps.0.1 (storage_of specs) x (mentions_in b.1) from place left_at nodes shape.0 (parameters_of d) items g (AreOwnFunctions g.names) shape.2
+      function_type_is steps.0.1 (storage_of specs) x (mentions_in b.1) from place left_at nodes shape.0 (parameters_of d) items g
+      (AreOwnFunctions g.names) shape.2
       (λ result types p received h.
       let t = function result types in
       let said = with_mention s1 (mentions_in b.1) Named t place steps.0.1 in
@@ -125,7 +127,8 @@ module _ (untagged : ℕ → List ℕ) (types_named : List (List ℕ)) (nodes_at
       let own2 = own_enumerators b.1.names said.names keeps2.names.0 keeps2.names.1 keeps2.names.2 own1 in
       let there = first_named d x name left_at x.from in
       let late : at ≤ place = let p = m.place in omega (arith, p, there) in
-      let objects : said.objects ≡ f.objects = no_objects adds2.objects.0 adds2.objects.1 adds2.objects.2 ∙ no_objects adds.objects.0 adds.objects.1 adds.objects.2 in
+      let objects : said.objects ≡ f.objects = no_objects adds2.objects.0 adds2.objects.1 adds2.objects.2
+      ∙ no_objects adds.objects.0 adds.objects.1 adds.objects.2 in
       let functions : said.functions ≡ f.functions = adds2.functions ∙ adds.functions in
       let c1 = v.grew.counted in
       let c2 = grown.counted in
@@ -144,7 +147,8 @@ module _ (untagged : ℕ → List ℕ) (types_named : List (List ℕ)) (nodes_at
       let n = bound x left_at defines (a_function o.number.0 t) in
       let c = with_bound o.number.1 n in
       let after = o.all.1.file in
-      let none = no_longer c.names o.read.extends.names.0 after.names o.read.extends.names.1 (same_length (λ b. b.from) c.names after.names o.read.grows.names) in
+      let none = no_longer c.names o.read.extends.names.0 after.names o.read.extends.names.1
+      (same_length (λ b. b.from) c.names after.names o.read.grows.names) in
       let names : after.names ≡ c.names = o.read.extends.names.1 ∙ ap (λ z. c.names ++ z) none ∙ append-nil c.names in
       let is_own = (own_answer x.from (library_named x.text) _ g h).0 in
       let entered = same_functions said (storage_of specs) x place t nodes o.number
