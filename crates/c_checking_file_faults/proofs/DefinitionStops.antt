@@ -202,8 +202,10 @@ module _ (untagged : ℕ → List ℕ) (types_named : List (List ℕ)) (nodes_at
             → define_function f (storage_of specs) x (first_specifiers specs) (first_declarator d x.from) left nodes result types items o ≡ Err fault
             → StopsIn bytes f Is
         by_parameters None e h =
-            here (inl (inl (same_fault FileScope (ill_typed R.Specifiers (first_specifiers specs)) fault h,
-            inr (inr (nameless d (at_file_scope f) base result types (declares f (itself f)) e)))))
+            here (inl (inl (
+              same_fault FileScope (ill_typed R.Specifiers (first_specifiers specs)) fault h,
+              inr (inr (nameless d (at_file_scope f) base result types (declares f (itself f)) e)),
+            )))
         by_parameters (Some p) e h =
             let is_ruled = ruled f specs d left items fault base (is_base f (itself f)) x name t (declares f (itself f)) in
             own_fault x.from (library_named x.text) _ fault (StopsIn bytes f Is) h

@@ -139,10 +139,17 @@ module _ (untagged : ℕ → List ℕ) (types : List (List ℕ)) (nodes_at : ℕ
         let stands : slice_get g.names (length z.1.names) ≡ Some b = bound_stays q (length z.1.names) b (at_end z.1.names b) in
         ruled_here g words base d x t fault name shape (declares g (further p q)) (sized_at g (further p q))
         (inr (inr (inr (inr (inr (inr (subst
-        (λ v. IsDefinedThere g x t v × (IsBrokenInitial v (at_file_scope g) t fault ⊎ HasNoConstants v (at_file_scope g) t fault)) (sym is)
-        ((z.0, (length z.1.names, subst (λ from. slice_get g.names (length z.1.names) ≡ Some (bound x from defines (an_object z.0 t)))
-        (asks.from_is value refl) stands)),
-        broken))))))))) in
+        (λ v. IsDefinedThere g x t v × (IsBrokenInitial v (at_file_scope g) t fault ⊎ HasNoConstants v (at_file_scope g) t fault)) (sym is) (
+          (
+            z.0,
+            (
+              length z.1.names,
+              subst (λ from. slice_get g.names (length z.1.names) ≡ Some (bound x from defines (an_object z.0 t)))
+                  (asks.from_is value refl) stands,
+            ),
+          ),
+          broken,
+        ))))))))) in
         record {
           file = there.file;
           reaches = reaches_then (reaches_more (among_left (place ∷ []) (literals value.1)) reach)

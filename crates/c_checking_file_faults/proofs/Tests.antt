@@ -245,30 +245,51 @@ module _ (f : FileScope) (x : Spelling) (fault : Fault) (old : Bound) (declared 
       by_part : is_again → (same_type u t ≡ false) ⊎ (linkage_agrees words (linked_before (slice_get f.objects n)) ≡ false)
           → IsTakenOtherwise f words t x fault
       by_part is (inl b) =
-          taken_so f words m t x fault (inr (inl (no_function, taken_as words (IsNoObjectOf t)
-          (λ k j. let other = same_never u t b in let w : u ≡ t = let i = sym e ∙ j in cc in other w) is)))
+          taken_so f words m t x fault (inr (inl (
+            no_function,
+            taken_as words (IsNoObjectOf t)
+                (λ k j. let other = same_never u t b in let w : u ≡ t = let i = sym e ∙ j in cc in other w) is,
+          )))
       by_part is (inr b) =
           let d = declared_is f.names x.text old declared in
           let o = bound d.0 old d.1 n u e in
           taken_so f words m t x fault (inr (inr (taken_as words (IsOfOtherLinkage f words) (other_linkage words m n u e (o.0, o.1) b) is)))
   known_fault words m t no_function bound (typedef u) e h =
-      taken_so f words m t x fault (inr (inl (no_function, taken_as words (IsNoObjectOf t) (λ k j. let i = sym e ∙ j in cc)
-      (same_fault (ℕ × FileScope) (redeclared x.text x.from old.place) fault h))))
+      taken_so f words m t x fault (inr (inl (
+        no_function,
+        taken_as words (IsNoObjectOf t) (λ k j. let i = sym e ∙ j in cc)
+            (same_fault (ℕ × FileScope) (redeclared x.text x.from old.place) fault h),
+      )))
   known_fault words m t no_function bound (enumerator v) e h =
-      taken_so f words m t x fault (inr (inl (no_function, taken_as words (IsNoObjectOf t) (λ k j. let i = sym e ∙ j in cc)
-      (same_fault (ℕ × FileScope) (redeclared x.text x.from old.place) fault h))))
+      taken_so f words m t x fault (inr (inl (
+        no_function,
+        taken_as words (IsNoObjectOf t) (λ k j. let i = sym e ∙ j in cc)
+            (same_fault (ℕ × FileScope) (redeclared x.text x.from old.place) fault h),
+      )))
   known_fault words m t no_function bound (a_function n u) e h =
-      taken_so f words m t x fault (inr (inl (no_function, taken_as words (IsNoObjectOf t) (λ k j. let i = sym e ∙ j in cc)
-      (same_fault (ℕ × FileScope) (redeclared x.text x.from old.place) fault h))))
+      taken_so f words m t x fault (inr (inl (
+        no_function,
+        taken_as words (IsNoObjectOf t) (λ k j. let i = sym e ∙ j in cc)
+            (same_fault (ℕ × FileScope) (redeclared x.text x.from old.place) fault h),
+      )))
   known_fault words m t no_function bound (a_library_function which) e h =
-      taken_so f words m t x fault (inr (inl (no_function, taken_as words (IsNoObjectOf t) (λ k j. let i = sym e ∙ j in cc)
-      (same_fault (ℕ × FileScope) (redeclared x.text x.from old.place) fault h))))
+      taken_so f words m t x fault (inr (inl (
+        no_function,
+        taken_as words (IsNoObjectOf t) (λ k j. let i = sym e ∙ j in cc)
+            (same_fault (ℕ × FileScope) (redeclared x.text x.from old.place) fault h),
+      )))
   known_fault words m t no_function bound (a_local n u) e h =
-      taken_so f words m t x fault (inr (inl (no_function, taken_as words (IsNoObjectOf t) (λ k j. let i = sym e ∙ j in cc)
-      (same_fault (ℕ × FileScope) (redeclared x.text x.from old.place) fault h))))
+      taken_so f words m t x fault (inr (inl (
+        no_function,
+        taken_as words (IsNoObjectOf t) (λ k j. let i = sym e ∙ j in cc)
+            (same_fault (ℕ × FileScope) (redeclared x.text x.from old.place) fault h),
+      )))
   known_fault words m t no_function bound (a_parameter u) e h =
-      taken_so f words m t x fault (inr (inl (no_function, taken_as words (IsNoObjectOf t) (λ k j. let i = sym e ∙ j in cc)
-      (same_fault (ℕ × FileScope) (redeclared x.text x.from old.place) fault h))))
+      taken_so f words m t x fault (inr (inl (
+        no_function,
+        taken_as words (IsNoObjectOf t) (λ k j. let i = sym e ∙ j in cc)
+            (same_fault (ℕ × FileScope) (redeclared x.text x.from old.place) fault h),
+      )))
 
   -- ---- functions
 
@@ -308,8 +329,11 @@ module _ (f : FileScope) (x : Spelling) (fault : Fault) (old : Bound) (declared 
       by_part : is_again → (same_type u t ≡ false) ⊎ (function_linkage_agrees words (function_linked_before (slice_get f.functions n)) ≡ false)
           → IsTakenOtherwise f words t x fault
       by_part is (inl b) =
-          taken_so f words m t x fault (inl (is_one, taken_as words (IsNoFunctionOf t)
-          ((λ k j. let other = same_never u t b in let w : u ≡ t = let i = sym e ∙ j in cc in other w), (λ which j. let i = sym e ∙ j in cc)) is))
+          taken_so f words m t x fault (inl (
+            is_one,
+            taken_as words (IsNoFunctionOf t)
+                ((λ k j. let other = same_never u t b in let w : u ≡ t = let i = sym e ∙ j in cc in other w), (λ which j. let i = sym e ∙ j in cc)) is,
+          ))
       by_part is (inr b) =
           let d = declared_is f.names x.text old declared in
           let o = bound d.0 old d.1 n u e in
@@ -320,25 +344,55 @@ module _ (f : FileScope) (x : Spelling) (fault : Fault) (old : Bound) (declared 
       let none_is_some = sym own ∙ ap library_named (sym d.2) ∙ named in
       cc
   known_function_fault words m t is_one bound libraries own (typedef u) e h =
-      taken_so f words m t x fault (inl (is_one, taken_as words (IsNoFunctionOf t) ((λ k j. let i = sym e ∙ j in cc), (λ which j. let i = sym e
-          ∙ j in cc))
-      (same_fault (ℕ × FileScope) (redeclared x.text x.from old.place) fault h)))
+      taken_so f words m t x fault (inl (
+        is_one,
+        taken_as words (IsNoFunctionOf t) (
+          (λ k j. let i = sym e ∙ j in cc),
+          (λ which j. let i = sym e
+              ∙ j in cc),
+        )
+            (same_fault (ℕ × FileScope) (redeclared x.text x.from old.place) fault h),
+      ))
   known_function_fault words m t is_one bound libraries own (enumerator v) e h =
-      taken_so f words m t x fault (inl (is_one, taken_as words (IsNoFunctionOf t) ((λ k j. let i = sym e ∙ j in cc), (λ which j. let i = sym e
-          ∙ j in cc))
-      (same_fault (ℕ × FileScope) (redeclared x.text x.from old.place) fault h)))
+      taken_so f words m t x fault (inl (
+        is_one,
+        taken_as words (IsNoFunctionOf t) (
+          (λ k j. let i = sym e ∙ j in cc),
+          (λ which j. let i = sym e
+              ∙ j in cc),
+        )
+            (same_fault (ℕ × FileScope) (redeclared x.text x.from old.place) fault h),
+      ))
   known_function_fault words m t is_one bound libraries own (an_object n u) e h =
-      taken_so f words m t x fault (inl (is_one, taken_as words (IsNoFunctionOf t) ((λ k j. let i = sym e ∙ j in cc), (λ which j. let i = sym e
-          ∙ j in cc))
-      (same_fault (ℕ × FileScope) (redeclared x.text x.from old.place) fault h)))
+      taken_so f words m t x fault (inl (
+        is_one,
+        taken_as words (IsNoFunctionOf t) (
+          (λ k j. let i = sym e ∙ j in cc),
+          (λ which j. let i = sym e
+              ∙ j in cc),
+        )
+            (same_fault (ℕ × FileScope) (redeclared x.text x.from old.place) fault h),
+      ))
   known_function_fault words m t is_one bound libraries own (a_local n u) e h =
-      taken_so f words m t x fault (inl (is_one, taken_as words (IsNoFunctionOf t) ((λ k j. let i = sym e ∙ j in cc), (λ which j. let i = sym e
-          ∙ j in cc))
-      (same_fault (ℕ × FileScope) (redeclared x.text x.from old.place) fault h)))
+      taken_so f words m t x fault (inl (
+        is_one,
+        taken_as words (IsNoFunctionOf t) (
+          (λ k j. let i = sym e ∙ j in cc),
+          (λ which j. let i = sym e
+              ∙ j in cc),
+        )
+            (same_fault (ℕ × FileScope) (redeclared x.text x.from old.place) fault h),
+      ))
   known_function_fault words m t is_one bound libraries own (a_parameter u) e h =
-      taken_so f words m t x fault (inl (is_one, taken_as words (IsNoFunctionOf t) ((λ k j. let i = sym e ∙ j in cc), (λ which j. let i = sym e
-          ∙ j in cc))
-      (same_fault (ℕ × FileScope) (redeclared x.text x.from old.place) fault h)))
+      taken_so f words m t x fault (inl (
+        is_one,
+        taken_as words (IsNoFunctionOf t) (
+          (λ k j. let i = sym e ∙ j in cc),
+          (λ which j. let i = sym e
+              ∙ j in cc),
+        )
+            (same_fault (ℕ × FileScope) (redeclared x.text x.from old.place) fault h),
+      ))
 
 -- an object that is declared for the first time, or again
 pub object_of_fault : (f : FileScope) (words : Storage) → MayDeclare words → (x : Spelling) (place : ℕ) (t : CType) → is_function t ≡ false
@@ -385,8 +439,10 @@ library_fault f words m x from t which is_one named own fault h =
     (((fault ≡ ill_typed R.Library x.from) × IsBrokenLibrary words t x.text) ⊎ IsTakenOtherwise f words t x fault) h
     (λ b h. again (declared_among f.names x.text) refl h)
     (λ b h.
-    inl (same_fault FileScope (ill_typed R.Library x.from) fault h,
-    (which, named_is x.text which named, either (one_fails (same_type t (library_type which)) (links words) b))))
+    inl (
+      same_fault FileScope (ill_typed R.Library x.from) fault h,
+      (which, named_is x.text which named, either (one_fails (same_type t (library_type which)) (links words) b)),
+    ))
   where
     either : (same_type t (library_type which) ≡ false) ⊎ (links words ≡ false) → (words ≡ a_typedef) ⊎ (words ≡ is_static) ⊎ (t ≢ library_type which)
     either (inl b) = inr (inr (same_never t (library_type which) b))

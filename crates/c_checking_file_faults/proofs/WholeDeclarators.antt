@@ -250,7 +250,12 @@ module _ (untagged : ℕ → List ℕ) (types : List (List ℕ)) (nodes_at : ℕ
         (λ i. stops_there bytes f steps.1 Is (steps_reach steps e) (inl (inl (w.broken steps.1 (itself steps.1) base fault i))))
         (λ shape i h. bound_err (sized_in steps.1.records x.from shape d.value) _ fault (StopsIn bytes f Is) h
         (λ j. stops_there bytes f steps.1 Is (steps_reach steps e)
-        (inl (inr (x, shape, name, (found steps e).holds steps.1 (itself steps.1) steps.1.records (itself steps.1).records.0
-        (itself steps.1).records.1 base shape i,
-        inl (sized_fault (at_file_scope steps.1) x.from shape d.value fault j)))))
+        (inl (inr (
+          x,
+          shape,
+          name,
+          (found steps e).holds steps.1 (itself steps.1) steps.1.records (itself steps.1).records.0
+              (itself steps.1).records.1 base shape i,
+          inl (sized_fault (at_file_scope steps.1) x.from shape d.value fault j),
+        ))))
         (λ t j h. by_words steps e shape i t j (by_storage words stands) h)))

@@ -88,8 +88,10 @@ module _ (untagged : ℕ → List ℕ) (types_named : List (List ℕ)) (nodes_at
   shape_stops b is_base words steps into said (closed (function result types)) declares reach next h = next result types refl h
   shape_stops b is_base words steps into said (open_array t) declares reach next h =
       stops_there bytes f steps Is reach
-      (inl (inl (same_fault FileScope (ill_typed R.Specifiers from) fault h,
-      inr (inr (subst HasNameless (sym (open_without d (at_file_scope steps) b.0 t (declares steps (itself steps)))) tt)))))
+      (inl (inl (
+        same_fault FileScope (ill_typed R.Specifiers from) fault h,
+        inr (inr (subst HasNameless (sym (open_without d (at_file_scope steps) b.0 t (declares steps (itself steps)))) tt)),
+      )))
   shape_stops b is_base words steps into said (closed void) declares reach next h =
       stops_there bytes f steps Is reach
       (ruled steps specs d left_at items fault b.0 (is_base steps (into steps (itself steps))) x name void (declares steps (itself steps))
