@@ -184,18 +184,18 @@ fn a_thin_program_is_compiled_and_reported(rt: HostRuntime) -> Result<(), Fail> 
     Ok(())
 }
 
-/// Spaces and a program after them, of so many bytes.
-fn padded(rt: &HostRuntime, size: usize) -> Result<Vec<u8>, Fail> {
-    let program = b"int main(void){}";
-    let mut text = vec![in rt.alloc(); b' '; size - program.len()]?;
-    text.extend_from_slice(program)?;
+/// So many spaces, and a program of 16 bytes after them.
+fn padded(rt: &HostRuntime, spaces: usize) -> Result<Vec<u8>, Fail> {
+    let mut text = vec![in rt.alloc(); b' '; spaces]?;
+    text.extend_from_slice(b"int main(void){}")?;
     Ok(text)
 }
 
 #[test]
 fn a_program_that_is_too_long_to_be_thin_is_not_built(rt: HostRuntime) -> Result<(), Fail> {
-    for size in [65_537, 4_194_304] {
-        let text = padded(&rt, size)?;
+    // One byte too many for a thin text, and as many as a file may have.
+    for spaces in [65_521, 4_194_288] {
+        let text = padded(&rt, spaces)?;
         check(
             &rt,
             &refused(&WORDS, &text, NONE, 122, b"layc: t.c: form not built yet\n"),
