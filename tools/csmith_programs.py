@@ -306,12 +306,13 @@ def faulty(text, seed):
 
 
 def clashing(files):
-    """The files where one of them declares an object with another type, and the object's name."""
+    """The files where one of them declares an object with another type, and is strict C99 alone all the same, and the object's name."""
     for name, text in files.items():
         for m in re.finditer(r"(?m)^extern ((?:const )?u?int)(8|16|32)_t (g_\d+)(?=[;\[])", text):
             other = {"8": "16", "16": "32", "32": "8"}[m.group(2)]
             changed = text[: m.start(2)] + other + text[m.end(2) :]
-            return {**files, name: changed}, m.group(3)
+            if is_strict(changed):
+                return {**files, name: changed}, m.group(3)
     return None
 
 
