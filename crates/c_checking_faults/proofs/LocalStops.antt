@@ -1,7 +1,7 @@
 -- Where the initializer of an object of a block stops, it is broken, or none of constants where the object is made before the program starts
 -- (C99 6.7.8).
 use Rattle.std.proofs.Common.{◌≡◌, ℕ, Bool, true, false, refl, sym, ap, subst, List, [], ◌∷◌, ◌++◌, length, inl, inr}
-use Rattle.std.proofs.lemmas.List.{map-append}
+use Rattle.std.proofs.lemmas.List.{map-append, length-map}
 use Rattle.std.specs.Prelude.{◌⊎◌, map, Option, Some, None, Err, slice_get}
 use Rattle.c_types.specs.Objects.{is_object}
 use Rattle.c_types.specs.Types.{CType}
@@ -9,7 +9,7 @@ use Rattle.c_ast.specs.declared.words.Spelling.{Spelling}
 use Rattle.c_ast.specs.Trees
 use Rattle.c_ast.specs.Places.{first_declarator}
 use Rattle.c_erasure.specs.Broken.{Fault}
-use Rattle.c_erasure.specs.BrokenStatements.{IsAmong, IsBrokenInitial, HasNoConstants, with_declared}
+use Rattle.c_erasure.specs.BrokenStatements.{IsAmong, IsBrokenInitial, HasNoConstants, with_declared, IsThere}
 use Rattle.c_erasure.specs.Literals.{literals, literals_of_value}
 use Rattle.c_erasure.specs.Marks.{marks}
 use Rattle.c_erasure.specs.Scopes.{AnObject, ALocal, FileScope, Scope}
@@ -19,7 +19,7 @@ use Rattle.c_checking.specs.Initializers.{initializer}
 use Rattle.c_checking.specs.Statements.{in_scope, initial_if_any, constants_if_any, static_object, objects_in, with_static, with_new_local}
 use Rattle.c_checking.specs.Statements.{declare_as}
 use Rattle.c_checking.proofs.Agreement.{IsObjectType}
-use Rattle.c_checking.proofs.Extends.{itself, last_or}
+use Rattle.c_checking.proofs.Extends.{itself, last_or, at_end}
 use Rattle.c_checking.proofs.FaultDeclaring.{orderly_stays}
 use Rattle.c_checking.proofs.FaultResults.{bound_err, Reaches, reaches_then}
 use Rattle.c_checking_files.proofs.Declarations.{static_places}
@@ -33,8 +33,8 @@ use Rattle.c_checking_faults.proofs.Stopped.{Stopped, same, stopped_more, inside
 
 -- the initializer of an object of a block
 abbrev pub IsObjectBroken : Bool → Trees.InitDeclarator → Spelling → CType → Fault → Scope → Type 0
-IsObjectBroken static d x t fault s = ((n : ℕ) × IsBrokenInitial d.value (with_declared s static x n t) t fault)
-    ⊎ ((n : ℕ) × (static ≡ true) × HasNoConstants d.value (with_object s x n t) t fault)
+IsObjectBroken static d x t fault s = ((n : ℕ) × IsThere s static x n t × IsBrokenInitial d.value (with_declared s static x n t) t fault)
+    ⊎ ((n : ℕ) × (static ≡ true) × IsThere s true x n t × HasNoConstants d.value (with_object s x n t) t fault)
 
 module _ (untagged : ℕ → List ℕ) (ends : List ℕ) (f : FileScope) where
   -- records are known where an initializer of a function asks for them
@@ -71,12 +71,12 @@ module _ (untagged : ℕ → List ℕ) (ends : List ℕ) (f : FileScope) where
   local_stops : (s : Scope) (d : Trees.InitDeclarator) (x : Spelling) (t : CType) → IsIn untagged ends f s → is_object (length s.file.records) t ≡ true
       → (value : Option (ℕ × Trees.Expression)) → IsValueInRange f.ends (length f.records) value → IsValueTimely value → AreFresh s.file (literals_of_value value) → (fault : Fault)
       → in_scope (with_new_local s x t) (initial_if_any value (with_new_local s x t) t) ≡ Err fault
-      → Stopped (literals_of_value value) s (λ s. (n : ℕ) × IsBrokenInitial value (with_declared s false x n t) t fault)
+      → Stopped (literals_of_value value) s (λ s. (n : ℕ) × IsThere s false x n t × IsBrokenInitial value (with_declared s false x n t) t fault)
   local_stops s d x t p o None n w fresh fault h = cc
   local_stops s d x t p o (Some value) n w fresh fault h =
       let c = with_new_local s x t in
       let q = new_in s x t p o in
-      let Js = λ (s : Scope). (n : ℕ) × IsBrokenInitial (Some value) (with_declared s false x n t) t fault in
+      let Js = λ (s : Scope). (n : ℕ) × IsThere s false x n t × IsBrokenInitial (Some value) (with_declared s false x n t) t fault in
       bound_err (initial_if_any (Some value) c t) _ fault (Stopped (literals value.1) s Js) h
       (λ e. bound_err (initializer value.1 c t) _ fault (Stopped (literals value.1) s Js) e
       (λ e.
@@ -87,7 +87,7 @@ module _ (untagged : ℕ → List ℕ) (ends : List ℕ) (f : FileScope) where
         locals = c.locals;
         reaches = inside_reaches q.within.inside b.reaches;
         goes = (record { name = x.text; ty = t } ∷ [], refl);
-        is = (length s.locals, b.is);
+        is = (length s.locals, at_end s.locals (record { name = x.text; ty = t }), b.is);
       })
       (λ x e h. cc))
       (λ x e h. cc)
@@ -108,6 +108,12 @@ module _ (untagged : ℕ → List ℕ) (ends : List ℕ) (f : FileScope) where
         laid = laid_on put refl p.laid;
       }
 
+  put_there : (s : Scope) (o : AnObject) → slice_get (map (λ o. o.ty) (s.file.objects ++ o ∷ [])) (length s.file.objects) ≡ Some o.ty
+  put_there s o =
+      let types = map (λ (o : AnObject). o.ty) s.file.objects in
+      subst (λ all. slice_get all (length s.file.objects) ≡ Some o.ty) (sym (map-append (λ (o : AnObject). o.ty) s.file.objects (o ∷ [])))
+      (subst (λ n. slice_get (types ++ o.ty ∷ []) n ≡ Some o.ty) (length-map (λ (o : AnObject). o.ty) s.file.objects) (at_end types o.ty))
+
   static_reaches : (s : Scope) (o : AnObject) → Reaches (IsAmong (o.first ∷ [])) s.file true (Files.with_object s.file o)
   static_reaches s o = record {
     extends = object_put s.file o;
@@ -125,7 +131,7 @@ module _ (untagged : ℕ → List ℕ) (ends : List ℕ) (f : FileScope) where
       → AreFresh s.file ((first_declarator d.declarator x.from ∷ []) ++ literals_of_value value) → (fault : Fault)
       → constants_if_any value (with_static s d x t) t ≡ Err fault
       → Stopped ((first_declarator d.declarator x.from ∷ []) ++ literals_of_value value) s
-      (λ s. (n : ℕ) × (IsBrokenInitial value (with_object s x n t) t fault ⊎ HasNoConstants value (with_object s x n t) t fault))
+      (λ s. (n : ℕ) × IsThere s true x n t × (IsBrokenInitial value (with_object s x n t) t fault ⊎ HasNoConstants value (with_object s x n t) t fault))
   static_stops s d x t p o None n w fresh fault h = cc
   static_stops s d x t p o (Some value) n w fresh fault h =
       let c = with_static s d x t in
@@ -143,7 +149,11 @@ module _ (untagged : ℕ → List ℕ) (ends : List ℕ) (f : FileScope) where
         reaches = reaches_then (reaches_more (among_left k (literals value.1)) reach)
             (reaches_more (among_right k (literals value.1)) (inside_reaches q.within.inside b.reaches));
         goes = same s.locals;
-        is = (objects_in s, b.is);
+        is = (
+          objects_in s,
+          b.reaches.extends.types (objects_in s) t (put_there s (static_object s d x t None)),
+          b.is,
+        );
       }
 
   pub object_stops : (static : Bool) (s : Scope) (d : Trees.InitDeclarator) (x : Spelling) (t : CType) → IsIn untagged ends f s
@@ -155,20 +165,22 @@ module _ (untagged : ℕ → List ℕ) (ends : List ℕ) (f : FileScope) where
       let k = (first_declarator d.declarator x.from ∷ []) ++ literals_of_value d.value in
       bound_err (constants_if_any d.value (with_static s d x t) t) _ fault (Stopped k s (IsObjectBroken true d x t fault)) h
       (λ e. stopped_more
-      (λ s. (n : ℕ) × (IsBrokenInitial d.value (with_object s x n t) t fault ⊎ HasNoConstants d.value (with_object s x n t) t fault))
-      (IsObjectBroken true d x t fault) (λ x m. m) (λ s b. either s b.0 b.1)
+      (λ s. (n : ℕ) × IsThere s true x n t
+      × (IsBrokenInitial d.value (with_object s x n t) t fault ⊎ HasNoConstants d.value (with_object s x n t) t fault))
+      (IsObjectBroken true d x t fault) (λ x m. m) (λ s b. either s b.0 b.1 b.2)
       (static_stops s d x t p o d.value n w fresh fault e))
       (λ i e h. cc)
     where
-      either : (s : Scope) (n : ℕ) → IsBrokenInitial d.value (with_object s x n t) t fault ⊎ HasNoConstants d.value (with_object s x n t) t fault
+      either : (s : Scope) (n : ℕ) → IsThere s true x n t
+          → IsBrokenInitial d.value (with_object s x n t) t fault ⊎ HasNoConstants d.value (with_object s x n t) t fault
           → IsObjectBroken true d x t fault s
-      either s n (inl b) = inl (n, b)
-      either s n (inr b) = inr (n, refl, b)
+      either s n i (inl b) = inl (n, i, b)
+      either s n i (inr b) = inr (n, refl, i, b)
   object_stops false s d x t p o n w fresh fault h =
       bound_err (in_scope (with_new_local s x t) (initial_if_any d.value (with_new_local s x t) t)) _ fault
       (Stopped (literals_of_value d.value) s (IsObjectBroken false d x t fault)) h
       (λ e. stopped_more
-      (λ s. (n : ℕ) × IsBrokenInitial d.value (with_declared s false x n t) t fault)
+      (λ s. (n : ℕ) × IsThere s false x n t × IsBrokenInitial d.value (with_declared s false x n t) t fault)
       (IsObjectBroken false d x t fault) (λ x m. m) (λ s b. inl b)
       (local_stops s d x t p o d.value n w fresh fault e))
       (λ i e h. cc)

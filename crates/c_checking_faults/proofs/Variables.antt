@@ -9,7 +9,7 @@ use Rattle.c_ast.specs.Trees
 use Rattle.c_ast.specs.Places.{first}
 use Rattle.c_typed.specs.Conversions.{is_function}
 use Rattle.c_erasure.specs.Broken.{Fault, ill_typed, IsTooBig, IsOldName, IsBrokenWithin}
-use Rattle.c_erasure.specs.BrokenStatements.{IsAmong, IsEndless, IsBrokenInitial, HasNoConstants, with_declared, IsBrokenLocal}
+use Rattle.c_erasure.specs.BrokenStatements.{IsAmong, IsEndless, IsBrokenInitial, HasNoConstants, with_declared, IsThere, IsBrokenLocal}
 use Rattle.c_erasure.specs.Declarators.{declared_name, Shape, closed, open_array}
 use Rattle.c_erasure.specs.Initializers.{texts_of, length_of}
 use Rattle.c_erasure.specs.Marks.{marks_of_declarator}
@@ -131,9 +131,9 @@ module _ (untagged : ℕ → List ℕ) (ends : List ℕ) (f : FileScope) where
           → ((c : CType) × (shape ≡ closed c) × (is_function c ≡ true) × (fault ≡ ill_typed R.Scope x.from))
           ⊎ ((c : CType) × IsSized s shape d.value c × (is_function c ≡ false) × (is_object (ended s.file.ends x.from) c ≡ false)
           × (fault ≡ ill_typed R.Incomplete x.from))
-          ⊎ ((c : CType) × (n : ℕ) × IsSized s shape d.value c
+          ⊎ ((c : CType) × (n : ℕ) × IsSized s shape d.value c × IsThere s static x n c
           × IsBrokenInitial d.value (with_declared s static x n c) c fault)
-          ⊎ ((c : CType) × (n : ℕ) × (static ≡ true) × IsSized s shape d.value c
+          ⊎ ((c : CType) × (n : ℕ) × (static ≡ true) × IsSized s shape d.value c × IsThere s true x n c
           × HasNoConstants d.value (with_object s x n c) c fault)
       by_rule s shape c over sized (inl b) = inl (c, closed_function s.file.records shape d.value c over b.0, b.0, b.1)
       by_rule s shape c over sized (inr b) = inr (inl (c, sized, b.0, b.1, b.2))

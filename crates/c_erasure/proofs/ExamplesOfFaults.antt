@@ -179,8 +179,8 @@ begins_there (x ∷ []) e (suc k) b g = cc
 begins_there (x ∷ y ∷ more) e k b g = cc
 
 no_old : (f : FileScope) → IsFirstPart (map (λ b. b.from) f.names) (14 ∷ []) → (Is : Bound → Type 0) (fault : Fault)
-    → IsOld f (word (codes "main") 4 8) Is fault → ⊥
-no_old f names Is fault (k, b, g, name, before, w, e) = let z : b.from ≡ 14 = begins_there f.names names k b g in absurd (omega (arith, z, before))
+    → IsOld f (word (codes "main") 4 8) 14 Is fault → ⊥
+no_old f names Is fault (k, b, g, name, before, w, none, e) = let z : b.from ≡ 14 = begins_there f.names names k b g in absurd (omega (arith, z, before))
 
 -- ---- the definition of `main`
 
@@ -219,8 +219,8 @@ abbrev IsBrokenMore : FileScope → CType → Spelling → Fault → Type 0
 IsBrokenMore f t x fault = ((fault ≡ ill_typed R.Specifiers 0) × (is_function t ≡ false))
     ⊎ ((which : LibraryFunction) × (x.text ≡ library_name which) × (fault ≡ ill_typed R.Library x.from))
     ⊎ ((fault ≡ ill_typed R.Main x.from) × IsBrokenMain f no_storage t x)
-    ⊎ IsOtherwise f no_storage t x fault
-    ⊎ IsOld f x IsDefinition fault
+    ⊎ IsOtherwise f no_storage t x 14 fault
+    ⊎ IsOld f x 14 IsDefinition fault
     ⊎ IsBrokenBody f t main_declarator x 14 main_items fault
 
 no_more : (f : FileScope) (fault : Fault) → Names f → IsBrokenMore f main_type (word (codes "main") 4 8) fault → ⊥
@@ -232,7 +232,7 @@ no_more f fault names (inr (inr (inr (inl (inl (is, old)))))) = no_old f names (
 no_more f fault names (inr (inr (inr (inl (inr (inl (is, old))))))) = no_old f names (IsNoObjectOf main_type) fault old
 no_more f fault names (inr (inr (inr (inl (inr (inr old)))))) = no_old f names (IsOfOtherLinkage f no_storage) fault old
 no_more f fault names (inr (inr (inr (inr (inl old))))) = no_old f names IsDefinition fault old
-no_more f fault names (inr (inr (inr (inr (inr (parameters, locals, bounds, n, is, has, b)))))) =
+no_more f fault names (inr (inr (inr (inr (inr (parameters, locals, bounds, n, of, is, has, b)))))) =
     no_broken_body (in_body f bounds (parameters ++ locals)) fault b
 
 no_broken_main : (f : FileScope) (fault : Fault) → Names f → IsBrokenDefinition f (ints 0) main_declarator 14 main_items fault → ⊥

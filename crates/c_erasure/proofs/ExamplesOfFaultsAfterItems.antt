@@ -1,7 +1,7 @@
 -- Faults of what stands after other items of the file (C99 6.5.2, 6.7).
 use Rattle.std.proofs.Common.{refl, inl, inr, arith}
 use Rattle.std.proofs.lemmas.List.Elements.{All-nil, All-cons}
-use Rattle.std.specs.Prelude.{◌≡◌, ℕ, ◌+◌, List, [], ◌∷◌, true, false, Some, None, codes}
+use Rattle.std.specs.Prelude.{◌≡◌, ℕ, ◌+◌, ◌<◌, List, [], ◌∷◌, true, false, Some, None, codes}
 use Rattle.lay_base.specs.declared.faults.Rule.TheVariants as R
 use Rattle.c_types.specs.declared.ty.IntKind.TheVariants.{Char, Int}
 use Rattle.c_types.specs.Types.{CType, integer, pointer, structure, function, no_types, and_type, Field, Record}
@@ -94,7 +94,7 @@ another_type = record {
     numbered = refl;
     records = refl;
     names = refl;
-    mentions = refl;
+    mentions = All-cons _ (mention Object int 4) [] (inl refl) (All-nil _);
     consistent = (All-nil _, tt);
     objects_in_order = (All-nil _, tt);
     functions_in_order = tt;
@@ -111,7 +111,7 @@ another_type = record {
       inr (
         integer Char,
         refl,
-        inr (inr (inr (inr (inl (inr (inl (refl, (0, tentative_x, refl, refl, omega arith, (λ n e. cc), refl)))))))),
+        inr (inr (inr (inr (inl (inr (inl (refl, (0, tentative_x, refl, refl, omega arith, (λ n e. cc), (λ j b l e i. absurd (omega (arith, l))), refl)))))))),
       ),
     )),
   ));
@@ -138,8 +138,8 @@ the_record = record { tag = codes "S"; place = place 0; fields = x_field ∷ [] 
 abbrev the_tag : Tag
 the_tag = record { name = codes "S"; place = 7; from = 7; is_enumeration = false }
 
-abbrev with_record : List Bound → List ℕ → List (List ℕ) → List AMention → FileScope
-with_record names ends numbered more = record {
+abbrev with_record : List Bound → List AFunction → List ℕ → List (List ℕ) → List AMention → FileScope
+with_record names functions ends numbered more = record {
   file = 0;
   names = names;
   tags = the_tag ∷ [];
@@ -147,14 +147,14 @@ with_record names ends numbered more = record {
   ends = 15 ∷ ends;
   numbered = codes "S" ∷ numbered;
   objects = [];
-  functions = [];
+  functions = functions;
   mentions = mention Named int 13 ∷ more;
   untagged = λ at. 64 ∷ [];
 }
 
-record_defined : (names : List Bound) (ends : List ℕ) (numbered : List (List ℕ)) (more : List AMention)
-    → ErasesItem (with_record names ends numbered more) (record_of 0 (codes "x"))
-record_defined names ends numbered more = (
+record_defined : (names : List Bound) (functions : List AFunction) (ends : List ℕ) (numbered : List (List ℕ)) (more : List AMention)
+    → ErasesItem (with_record names functions ends numbered more) (record_of 0 (codes "x"))
+record_defined names functions ends numbered more = (
   structure 0,
   refl,
   inr (
@@ -190,7 +190,7 @@ record_defined names ends numbered more = (
 )
 
 abbrev twice : FileScope
-twice = with_record [] (32 ∷ []) (codes "S" ∷ []) []
+twice = with_record [] [] (32 ∷ []) (codes "S" ∷ []) []
 
 defined_twice : IsFaultOf (record_of 0 (codes "x") ∷ record_of 17 (codes "y") ∷ []) (redeclared (codes "S") 24 0)
 defined_twice = record {
@@ -206,11 +206,11 @@ defined_twice = record {
     numbered = refl;
     records = refl;
     names = refl;
-    mentions = refl;
+    mentions = All-cons _ (mention Named int 13) [] (inl refl) (All-nil _);
     consistent = tt;
     objects_in_order = tt;
     functions_in_order = tt;
-    each_before = All-cons (ErasesItem twice) (record_of 0 (codes "x")) [] (record_defined [] (32 ∷ []) (codes "S" ∷ []) [])
+    each_before = All-cons (ErasesItem twice) (record_of 0 (codes "x")) [] (record_defined [] [] (32 ∷ []) (codes "S" ∷ []) [])
         (All-nil (ErasesItem twice));
   };
   broken = inr (inl (inl (inr (inr (inr (inl (0, 15, the_record, refl, refl, refl, omega arith, refl)))))));
@@ -246,8 +246,21 @@ f_bound = record { name = codes "f"; place = 21; from = 35; how = defines; entit
 abbrev more_said : List AMention
 more_said = mention Named f_type 21 ∷ mention Named to_record 32 ∷ []
 
+abbrev f_function : AFunction
+f_function = record {
+  name = codes "f";
+  place = place 21;
+  first = 21;
+  ty = f_type;
+  is_linked = true;
+  parameters = [];
+  locals = [];
+  body = None;
+  nodes = 0;
+}
+
 abbrev f_file : FileScope
-f_file = with_record (f_bound ∷ []) [] [] more_said
+f_file = with_record (f_bound ∷ []) (f_function ∷ []) [] [] more_said
 
 abbrev the_p : Expression
 the_p = value to_record (place 43) (Typed.load (way to_record (place 43) (Typed.local 0)))
@@ -266,11 +279,11 @@ without_member = record {
     numbered = refl;
     records = refl;
     names = refl;
-    mentions = refl;
+    mentions = All-cons _ (mention Named int 13) (mention Named f_type 21 ∷ mention Named to_record 32 ∷ []) (inl refl) (All-cons _ (mention Named f_type 21) (mention Named to_record 32 ∷ []) (inr (inl refl)) (All-cons _ (mention Named to_record 32) [] (inr (inr (inl refl))) (All-nil _)));
     consistent = (All-nil _, tt);
     objects_in_order = tt;
-    functions_in_order = tt;
-    each_before = All-cons (ErasesItem f_file) (record_of 0 (codes "x")) [] (record_defined (f_bound ∷ []) [] [] more_said)
+    functions_in_order = (All-nil _, tt);
+    each_before = All-cons (ErasesItem f_file) (record_of 0 (codes "x")) [] (record_defined (f_bound ∷ []) (f_function ∷ []) [] [] more_said)
         (All-nil (ErasesItem f_file));
   };
   broken = inr (inr (
@@ -304,6 +317,7 @@ without_member = record {
         [],
         record { name = codes "p"; place = 33; from = 34; how = defines; entity = a_local 0 to_record } ∷ [],
         0,
+        refl,
         (0, refl),
         (word (codes "p") 33 34, to_record, no_types, [], [], refl, refl, refl, refl, (refl, refl, refl)),
         inl (inl (inr (inr (
@@ -369,6 +383,19 @@ g_bound = record { name = codes "f"; place = 4; from = 10; how = declares; entit
 abbrev main_bound : Bound
 main_bound = record { name = codes "main"; place = 15; from = 25; how = defines; entity = Scopes.a_function 1 main_type }
 
+abbrev main_function : AFunction
+main_function = record {
+  name = codes "main";
+  place = place 15;
+  first = 15;
+  ty = main_type;
+  is_linked = true;
+  parameters = [];
+  locals = [];
+  body = None;
+  nodes = 0;
+}
+
 abbrev g_file : FileScope
 g_file = record {
   file = 0;
@@ -378,7 +405,7 @@ g_file = record {
   ends = [];
   numbered = [];
   objects = [];
-  functions = g_function ∷ [];
+  functions = g_function ∷ main_function ∷ [];
   mentions = mention Named of_int 4 ∷ mention Named int 6 ∷ mention Named main_type 15 ∷ [];
   untagged = λ at. 64 ∷ [];
 }
@@ -427,10 +454,10 @@ no_argument = record {
     numbered = refl;
     records = refl;
     names = refl;
-    mentions = refl;
+    mentions = All-cons _ (mention Named of_int 4) (mention Named int 6 ∷ mention Named main_type 15 ∷ []) (inl refl) (All-cons _ (mention Named int 6) (mention Named main_type 15 ∷ []) (inr (inl refl)) (All-cons _ (mention Named main_type 15) [] (inr (inr (inl refl))) (All-nil _)));
     consistent = (All-cons (StandTogether g_bound) main_bound [] (λ e. absurd (differ (codes "main") (codes "f") refl refl e)) (All-nil _), (All-nil _, tt));
     objects_in_order = tt;
-    functions_in_order = (All-nil _, tt);
+    functions_in_order = (All-cons (λ at. 4 < at) 15 [] (omega arith) (All-nil _), (All-nil _, tt));
     each_before = All-cons (ErasesItem g_file) g_item [] g_declared (All-nil (ErasesItem g_file));
   };
   broken = inr (inr (
@@ -446,6 +473,7 @@ no_argument = record {
         [],
         [],
         1,
+        refl,
         (1, refl),
         (refl, refl, refl),
         inl (inl (inr (inr (inr (

@@ -1,7 +1,7 @@
 -- Faults in the body of `main` (C99 6.5, 6.7, 6.8).
 use Rattle.std.proofs.Common.{refl, inl, inr, arith}
-use Rattle.std.proofs.lemmas.List.Elements.{All-nil}
-use Rattle.std.specs.Prelude.{ℕ, ◌+◌, List, [], ◌∷◌, false, Some, None, codes, map}
+use Rattle.std.proofs.lemmas.List.Elements.{All-nil, All-cons}
+use Rattle.std.specs.Prelude.{ℕ, ◌+◌, List, [], ◌∷◌, All, false, Some, None, codes}
 use Rattle.lay_base.specs.declared.faults.Rule.TheVariants as R
 use Rattle.c_types.specs.declared.ty.IntKind.TheVariants.{Int}
 use Rattle.c_types.specs.Types.{CType, function, no_types}
@@ -11,15 +11,15 @@ use Rattle.c_typed.specs.declared.program.MentionKind.TheVariants.{Object, Named
 use Rattle.c_typed.specs.Trees as Typed
 use Rattle.c_erasure.specs.Noted.{value, way, an_object, a_value, Expression}
 use Rattle.c_erasure.specs.Scopes as Scopes
-use Rattle.c_erasure.specs.Scopes.{Bound, defines, FileScope, AMention, ALocal, Scope, declared, inside, with_local, a_local}
+use Rattle.c_erasure.specs.Scopes.{Bound, defines, FileScope, AFunction, AMention, ALocal, Scope, declared, inside, with_local, a_local}
 use Rattle.c_erasure.specs.Declarators.{closed}
 use Rattle.c_erasure.specs.Erasure.{Erases, IsConstant}
 use Rattle.c_erasure.specs.Statements.{with_variable}
 use Rattle.c_erasure.specs.MentionPlaces.{mentions_of_file}
-use Rattle.c_erasure.specs.Files.{ErasesItem, in_body}
+use Rattle.c_erasure.specs.Files.{ErasesItem, IsMade, in_body}
 use Rattle.c_erasure.specs.Broken.{Fault, ill_typed, undeclared, redeclared}
 use Rattle.c_erasure.specs.BrokenStatements.{AreBrokenItems}
-use Rattle.c_erasure.specs.BrokenFiles.{IsFirstPart, IsFaultOf}
+use Rattle.c_erasure.specs.BrokenFiles.{IsFaultOf}
 use Rattle.c_erasure.proofs.ExampleParts.{place, word, int, ints, mention, number}
 
 -- ---- int main(void){..}
@@ -33,6 +33,19 @@ main_item items right = Trees.defines (ints 0) (Trees.function (Trees.named (wor
 abbrev main_bound : Bound
 main_bound = record { name = codes "main"; place = 4; from = 14; how = defines; entity = Scopes.a_function 0 main_type }
 
+abbrev main_function : AFunction
+main_function = record {
+  name = codes "main";
+  place = place 4;
+  first = 4;
+  ty = main_type;
+  is_linked = true;
+  parameters = [];
+  locals = [];
+  body = None;
+  nodes = 0;
+}
+
 abbrev file : List AMention → FileScope
 file all = record {
   file = 0;
@@ -42,7 +55,7 @@ file all = record {
   ends = [];
   numbered = [];
   objects = [];
-  functions = [];
+  functions = main_function ∷ [];
   mentions = all;
   untagged = λ at. 64 ∷ [];
 }
@@ -52,7 +65,7 @@ body all locals = in_body (file all) [] locals
 
 -- a fault of the items of the body is one of the file
 in_main : (items : Trees.BlockItems) (right : ℕ) (all : List AMention) (locals : List ALocal) (fault : Fault)
-    → IsFirstPart (map (λ m. m.at) all) (mentions_of_file (main_item items right ∷ []))
+    → All (λ m. IsMade (mentions_of_file (main_item items right ∷ [])) m.at) all
     → AreBrokenItems int items (body all locals) false false fault → IsFaultOf (main_item items right ∷ []) fault
 in_main items right all locals fault mentioned broken = record {
   before = [];
@@ -70,7 +83,7 @@ in_main items right all locals fault mentioned broken = record {
     mentions = mentioned;
     consistent = (All-nil _, tt);
     objects_in_order = tt;
-    functions_in_order = tt;
+    functions_in_order = (All-nil _, tt);
     each_before = All-nil (ErasesItem (file all));
   };
   broken = inr (inr (
@@ -81,7 +94,7 @@ in_main items right all locals fault mentioned broken = record {
       main_type,
       refl,
       (no_types, refl, inl refl, record { bytes = omega arith; parts = omega arith }, refl),
-      inr (inr (inr (inr (inr ([], locals, [], 0, (0, refl), (refl, refl, refl), broken))))),
+      inr (inr (inr (inr (inr ([], locals, [], 0, refl, (0, refl), (refl, refl, refl), broken))))),
     ),
   ));
 }
@@ -91,18 +104,18 @@ alone a = Trees.and_block_item (Trees.statement a) Trees.no_block_items
 
 -- int main(void){return;}
 no_value : IsFaultOf (main_item (alone (Trees.return 15 None 21)) 22 ∷ []) (ill_typed R.Return 15)
-no_value = in_main (alone (Trees.return 15 None 21)) 22 [] [] (ill_typed R.Return 15) refl (inl (refl, (λ e. cc)))
+no_value = in_main (alone (Trees.return 15 None 21)) 22 [] [] (ill_typed R.Return 15) (All-nil _) (inl (refl, (λ e. cc)))
 
 -- int main(void){return y;}
 abbrev y : ℕ → Trees.Expression
 y at = Trees.name (word (codes "y") at (at + 1))
 
 no_name : IsFaultOf (main_item (alone (Trees.return 15 (Some (y 22)) 23)) 24 ∷ []) (undeclared (codes "y") 22)
-no_name = in_main (alone (Trees.return 15 (Some (y 22)) 23)) 24 [] [] (undeclared (codes "y") 22) refl (inl (inl (inl (refl, refl))))
+no_name = in_main (alone (Trees.return 15 (Some (y 22)) 23)) 24 [] [] (undeclared (codes "y") 22) (All-nil _) (inl (inl (inl (refl, refl))))
 
 -- int main(void){break;}
 no_loop : IsFaultOf (main_item (alone (Trees.break 15 20)) 21 ∷ []) (ill_typed R.Jump 15)
-no_loop = in_main (alone (Trees.break 15 20)) 21 [] [] (ill_typed R.Jump 15) refl (inl (refl, refl))
+no_loop = in_main (alone (Trees.break 15 20)) 21 [] [] (ill_typed R.Jump 15) (All-nil _) (inl (refl, refl))
 
 -- ---- int main(void){int i;return *i;}
 
@@ -120,6 +133,14 @@ i_items = Trees.and_block_item (variable (codes "i") 15)
 abbrev spoken : List AMention
 spoken = mention Named main_type 4 ∷ mention Object int 19 ∷ []
 
+-- the two that are spoken of
+abbrev IsSaid : AMention → Type 0
+IsSaid m = IsMade (4 ∷ 19 ∷ []) m.at
+
+said : All IsSaid spoken
+said = All-cons IsSaid (mention Named main_type 4) (mention Object int 19 ∷ []) (inl refl)
+    (All-cons IsSaid (mention Object int 19) [] (inr (inl refl)) (All-nil IsSaid))
+
 abbrev one_local : List ℕ → List ALocal
 one_local x = record { name = x; ty = int } ∷ []
 
@@ -130,7 +151,7 @@ abbrev the_i : Expression
 the_i = value int (place 29) (Typed.load (way int (place 29) (Typed.local 0)))
 
 no_pointer : IsFaultOf (main_item i_items 31 ∷ []) (ill_typed R.Operands 28)
-no_pointer = in_main i_items 31 spoken (one_local (codes "i")) (ill_typed R.Operands 28) refl (inr (
+no_pointer = in_main i_items 31 spoken (one_local (codes "i")) (ill_typed R.Operands 28) said (inr (
   Typed.and_statement (Typed.declare 0 None) Typed.no_statements,
   after (codes "i"),
   (
@@ -171,7 +192,7 @@ x_items = Trees.and_block_item (variable (codes "x") 15) (Trees.and_block_item (
     (alone (Trees.return 27 (Some (Trees.number (word (codes "0") 34 35) 0 Int)) 35)))
 
 twice : IsFaultOf (main_item x_items 36 ∷ []) (redeclared (codes "x") 25 19)
-twice = in_main x_items 36 spoken (one_local (codes "x")) (redeclared (codes "x") 25 19) refl (inr (
+twice = in_main x_items 36 spoken (one_local (codes "x")) (redeclared (codes "x") 25 19) said (inr (
   Typed.and_statement (Typed.declare 0 None) Typed.no_statements,
   after (codes "x"),
   (
@@ -226,7 +247,7 @@ one_is_constant : (at : ℕ) → IsConstant (Erases (one at)) in_switch Int 1
 one_is_constant at = (number at 1, (a_value (number at 1), refl, refl), (Int, refl, refl), refl, refl, refl)
 
 same_case : IsFaultOf (main_item switch_items 50 ∷ []) (ill_typed R.Label 32)
-same_case = in_main switch_items 50 [] [] (ill_typed R.Label 32) refl (inl (inr (inr (inr (
+same_case = in_main switch_items 50 [] [] (ill_typed R.Label 32) (All-nil _) (inl (inr (inr (inr (
   Int,
   (number 22 1, ((a_value (number 22 1), refl, refl), (Int, refl, refl), refl), refl),
   inl (inl (inr (inr (inr (Int, 1, one_is_constant 30, inr (inr (inr (inr (Int, 1, one_is_constant 37, inl (refl, inl refl)))))))))),

@@ -1,6 +1,6 @@
 -- Faults of declarations at file scope, and of what uses them (C99 6.7, 6.9).
 use Rattle.std.proofs.Common.{refl, inl, inr, arith}
-use Rattle.std.proofs.lemmas.List.Elements.{All-nil}
+use Rattle.std.proofs.lemmas.List.Elements.{All-nil, All-cons}
 use Rattle.std.specs.Prelude.{◌≡◌, ◌≢◌, ℕ, ◌+◌, ◌≤◌, List, [], ◌∷◌, false, Some, None, codes, pos}
 use Rattle.lay_base.specs.declared.faults.Rule.TheVariants as R
 use Rattle.c_types.specs.declared.ty.IntKind.TheVariants.{Char, Int}
@@ -59,7 +59,7 @@ main_object = record {
     numbered = refl;
     records = refl;
     names = refl;
-    mentions = refl;
+    mentions = All-nil _;
     consistent = tt;
     objects_in_order = tt;
     functions_in_order = tt;
@@ -93,7 +93,7 @@ library_object = record {
     numbered = refl;
     records = refl;
     names = refl;
-    mentions = refl;
+    mentions = All-nil _;
     consistent = tt;
     objects_in_order = tt;
     functions_in_order = tt;
@@ -138,7 +138,7 @@ empty_array = record {
     numbered = refl;
     records = refl;
     names = refl;
-    mentions = refl;
+    mentions = All-nil _;
     consistent = tt;
     objects_in_order = tt;
     functions_in_order = tt;
@@ -194,7 +194,7 @@ no_constant = record {
     numbered = refl;
     records = refl;
     names = refl;
-    mentions = refl;
+    mentions = All-cons _ (mention Object int 11) [] (inl refl) (All-nil _);
     consistent = (All-nil _, tt);
     objects_in_order = (All-nil _, tt);
     functions_in_order = tt;
@@ -212,7 +212,7 @@ no_constant = record {
         int,
         refl,
         inr (inr (inr (inr (inr (inr (
-          (0, (0, refl)),
+          (0, refl, (0, refl)),
           inr (
             Typed.whole the_n,
             inl (
@@ -257,7 +257,7 @@ without_elements = record {
     numbered = refl;
     records = refl;
     names = refl;
-    mentions = refl;
+    mentions = All-nil _;
     consistent = tt;
     objects_in_order = tt;
     functions_in_order = tt;

@@ -82,10 +82,10 @@ not_in_first f at (inr (inr (base, is, inl (inr (x, shape, name, d, inr (t, s, i
 not_in_first f at (inr (inr (base, is, inl (inr (x, shape, name, d, inr (t, s, inr (inl (e, w)))))))) = cc
 not_in_first f at (inr (inr (base, is, inl (inr (x, shape, name, d, inr (t, s, inr (inr (inl (e, v, u, w))))))))) = cc
 not_in_first f at (inr (inr (base, is, inl (inr (x, shape, name, d, inr (t, s, inr (inr (inr (inl (e, v, w)))))))))) = cc
-not_in_first f at (inr (inr (base, is, inl (inr (x, shape, name, d, inr (t, s, inr (inr (inr (inr (inl (inl (i, (k, b, g, n, r, o, e))))))))))))) = cc
-not_in_first f at (inr (inr (base, is, inl (inr (x, shape, name, d, inr (t, s, inr (inr (inr (inr (inl (inr (inl (i, (k, b, g, n, r, o, e)))))))))))))) = cc
-not_in_first f at (inr (inr (base, is, inl (inr (x, shape, name, d, inr (t, s, inr (inr (inr (inr (inl (inr (inr (k, b, g, n, r, o, e))))))))))))) = cc
-not_in_first f at (inr (inr (base, is, inl (inr (x, shape, name, d, inr (t, s, inr (inr (inr (inr (inr (inl (v, (k, b, g, n, r, o, e))))))))))))) = cc
+not_in_first f at (inr (inr (base, is, inl (inr (x, shape, name, d, inr (t, s, inr (inr (inr (inr (inl (inl (i, (k, b, g, n, r, o, first, e))))))))))))) = cc
+not_in_first f at (inr (inr (base, is, inl (inr (x, shape, name, d, inr (t, s, inr (inr (inr (inr (inl (inr (inl (i, (k, b, g, n, r, o, first, e)))))))))))))) = cc
+not_in_first f at (inr (inr (base, is, inl (inr (x, shape, name, d, inr (t, s, inr (inr (inr (inr (inl (inr (inr (k, b, g, n, r, o, first, e))))))))))))) = cc
+not_in_first f at (inr (inr (base, is, inl (inr (x, shape, name, d, inr (t, s, inr (inr (inr (inr (inr (inl (v, (k, b, g, n, r, o, first, e))))))))))))) = cc
 not_in_first f at (inr (inr (base, is, inl (inr (x, shape, name, d, inr (t, s, inr (inr (inr (inr (inr (inr (v, w)))))))))))) = v
 not_in_first f at (inr (inr (base, is, inr (x, name, declared, more)))) = more
 
@@ -100,13 +100,13 @@ main_is f base t is (types, listed, scalar, small, shape) = closed_type t (funct
 
 not_in_body : (f : FileScope) (at : ℕ) (x : Spelling) → ErasesItem f x_item
     → IsBrokenBody f (function int no_types) main_declarator x 20 main_items (no_x at) → ⊥
-not_in_body f at x first (parameters, locals, bounds, n, is, (none, ps, bs), inl (inl (inl (h, e)))) =
+not_in_body f at x first (parameters, locals, bounds, n, of, is, (none, ps, bs), inl (inl (inl (h, e)))) =
     x_visible f first (subst (λ bounds. or_else (Scopes.innermost (bounds ∷ []) (codes "x")) (visible f.names (codes "x") 28) ≡ None) bs h)
-not_in_body f at x first (parameters, locals, bounds, n, is, has, inl (inl (inr (t, h, e)))) = cc
-not_in_body f at x first (parameters, locals, bounds, n, is, has, inl (inr (inl (th, rule, t, w, e)))) = cc
-not_in_body f at x first (parameters, locals, bounds, n, is, has, inl (inr (inr (inl (e, w))))) = cc
-not_in_body f at x first (parameters, locals, bounds, n, is, has, inl (inr (inr (inr (e, some, w))))) = cc
-not_in_body f at x first (parameters, locals, bounds, n, is, has, inr (own, after, erases, more)) = more
+not_in_body f at x first (parameters, locals, bounds, n, of, is, has, inl (inl (inr (t, h, e)))) = cc
+not_in_body f at x first (parameters, locals, bounds, n, of, is, has, inl (inr (inl (th, rule, t, w, e)))) = cc
+not_in_body f at x first (parameters, locals, bounds, n, of, is, has, inl (inr (inr (inl (e, w))))) = cc
+not_in_body f at x first (parameters, locals, bounds, n, of, is, has, inl (inr (inr (inr (e, some, w))))) = cc
+not_in_body f at x first (parameters, locals, bounds, n, of, is, has, inr (own, after, erases, more)) = more
 
 not_in_second : (f : FileScope) (at : ℕ) → ErasesItem f x_item → IsBrokenItem f main_item (no_x at) → ⊥
 not_in_second f at first (inl (e, w)) = cc
@@ -120,10 +120,10 @@ not_in_second f at first (inr (inr (base, is, inl (inr (inr (inr b)))))) = b
 not_in_second f at first (inr (inr (base, is, inr (x, t, name, d, inl (e, w))))) = cc
 not_in_second f at first (inr (inr (base, is, inr (x, t, name, d, inr (inl (which, e, w)))))) = cc
 not_in_second f at first (inr (inr (base, is, inr (x, t, name, d, inr (inr (inl (e, w))))))) = cc
-not_in_second f at first (inr (inr (base, is, inr (x, t, name, d, inr (inr (inr (inl (inl (i, (k, b, g, n, r, o, e)))))))))) = cc
-not_in_second f at first (inr (inr (base, is, inr (x, t, name, d, inr (inr (inr (inl (inr (inl (i, (k, b, g, n, r, o, e))))))))))) = cc
-not_in_second f at first (inr (inr (base, is, inr (x, t, name, d, inr (inr (inr (inl (inr (inr (k, b, g, n, r, o, e)))))))))) = cc
-not_in_second f at first (inr (inr (base, is, inr (x, t, name, d, inr (inr (inr (inr (inl (k, b, g, n, r, o, e))))))))) = cc
+not_in_second f at first (inr (inr (base, is, inr (x, t, name, d, inr (inr (inr (inl (inl (i, (k, b, g, n, r, o, first, e)))))))))) = cc
+not_in_second f at first (inr (inr (base, is, inr (x, t, name, d, inr (inr (inr (inl (inr (inl (i, (k, b, g, n, r, o, first, e))))))))))) = cc
+not_in_second f at first (inr (inr (base, is, inr (x, t, name, d, inr (inr (inr (inl (inr (inr (k, b, g, n, r, o, first, e)))))))))) = cc
+not_in_second f at first (inr (inr (base, is, inr (x, t, name, d, inr (inr (inr (inr (inl (k, b, g, n, r, o, first, e))))))))) = cc
 not_in_second f at first (inr (inr (base, is, inr (x, t, name, d, inr (inr (inr (inr (inr b)))))))) = not_in_body f at x first
     (subst (λ t. IsBrokenBody f t main_declarator x 20 main_items (no_x at)) (main_is f base t (int_is f 6 base is) d) b)
 

@@ -1,5 +1,5 @@
 -- Which rule is broken where in a file (C99 6.7, 6.9): what stands before is declared as its rules say, and the rule there is false.
-use Rattle.std.specs.Prelude.{◌≡◌, ◌≢◌, ℕ, ◌≤◌, Bool, true, false, List, [], ◌∷◌, ◌++◌, map, length, take, All, codes, Option, Some, None, slice_get, ◌⊎◌}
+use Rattle.std.specs.Prelude.{◌≡◌, ◌≢◌, ℕ, ◌<◌, Bool, true, false, List, [], ◌∷◌, ◌++◌, map, length, take, All, codes, Option, Some, None, slice_get, ◌⊎◌}
 use Rattle.lay_base.specs.declared.faults.Rule.TheVariants as R
 use Rattle.c_types.specs.declared.ty.IntKind.TheVariants.{Int}
 use Rattle.c_types.specs.Types.{CType, integer, function, no_types}
@@ -19,16 +19,20 @@ use Rattle.c_erasure.specs.Statements.{IsSized}
 use Rattle.c_erasure.specs.Marks.{marks_of_file, name_from, after_declarator, scope_beginnings, ends_in, defined_in, tags_in, undefined_in, firsts}
 use Rattle.c_erasure.specs.MentionPlaces.{mentions_of_file}
 use Rattle.c_erasure.specs.Files.{bound, is_first, library_name, IsFileDeclarator, may_stand_in_file, DeclaresSomething, parameters_of}
-use Rattle.c_erasure.specs.Files.{HasParameters, in_body, ErasesItem, AreConsistent, AreAscending}
+use Rattle.c_erasure.specs.Files.{HasParameters, in_body, ErasesItem, IsMade, AreConsistent, AreAscending}
 use Rattle.c_erasure.specs.Broken.{Fault, ill_typed, redeclared, AreNoType, AreBroken, IsBrokenDeclarator}
 use Rattle.c_erasure.specs.BrokenStatements.{IsBrokenInitial, HasNoConstants, IsEndless, AreBrokenItems}
 
 -- ---- names of the file scope
 
--- another declaration of the name, whose scope began before, is of something else, or of what is defined there already
-abbrev pub IsOld : FileScope → Spelling → (Bound → Type 0) → Fault → Type 0
-IsOld f x IsOther fault = (k : ℕ) × (b : Bound) × (slice_get f.names k ≡ Some b) × (b.name ≡ x.text) × (b.from ≤ x.from) × IsOther b
-    × (fault ≡ redeclared x.text x.from b.place)
+-- no name before this one is so
+abbrev pub IsNoneBefore : List Bound → ℕ → (Bound → Type 0) → Type 0
+IsNoneBefore names k Is = (j : ℕ) (b : Bound) → j < k → slice_get names j ≡ Some b → Is b → ⊥
+
+-- among the other declarations of the name whose scope begins before that of this one, the first of something else, or the first that defines it
+abbrev pub IsOld : FileScope → Spelling → (from : ℕ) → (Bound → Type 0) → Fault → Type 0
+IsOld f x from IsOther fault = (k : ℕ) × (b : Bound) × (slice_get f.names k ≡ Some b) × (b.name ≡ x.text) × (b.from < from) × IsOther b
+    × IsNoneBefore f.names k (λ c. (c.name ≡ x.text) × IsOther c) × (fault ≡ redeclared x.text x.from b.place)
 
 -- a typedef's name and an enumerator are declared once
 abbrev pub IsAny : Bound → Type 0
@@ -75,18 +79,20 @@ IsBrokenMain f words t x = (x.text ≡ codes "main") × (((words ≢ a_typedef) 
     ⊎ ((is_function t ≡ false) × ((words ≡ no_storage) ⊎ ((words ≡ is_extern) × (is_first f x ≡ true)))))
 
 -- of which type there is another declaration
-abbrev pub IsOtherwise : FileScope → Storage → CType → Spelling → Fault → Type 0
-IsOtherwise f a_typedef t x fault = IsOld f x IsAny fault
-IsOtherwise f words t x fault = ((is_function t ≡ true) × IsOld f x (IsNoFunctionOf t) fault) ⊎ ((is_function t ≡ false) × IsOld f x (IsNoObjectOf t) fault)
-    ⊎ IsOld f x (IsOfOtherLinkage f words) fault
+abbrev pub IsOtherwise : FileScope → Storage → CType → Spelling → (from : ℕ) → Fault → Type 0
+IsOtherwise f a_typedef t x from fault = IsOld f x from IsAny fault
+IsOtherwise f words t x from fault = ((is_function t ≡ true) × IsOld f x from (IsNoFunctionOf t) fault)
+    ⊎ ((is_function t ≡ false) × IsOld f x from (IsNoObjectOf t) fault) ⊎ IsOld f x from (IsOfOtherLinkage f words) fault
 
 -- the object is in the scope of its own initializer
 abbrev pub IsDefinedThere : FileScope → Spelling → CType → Option (ℕ × Trees.Expression) → Type 0
 IsDefinedThere f x t None = ⊥
-IsDefinedThere f x t (Some value) = (n : ℕ) × IsBound (at_file_scope f) (bound x value.0 defines (an_object n t))
+IsDefinedThere f x t (Some value) = (n : ℕ) × (slice_get (map (λ o. o.ty) f.objects) n ≡ Some t)
+    × IsBound (at_file_scope f) (bound x value.0 defines (an_object n t))
 
-abbrev pub IsBrokenFileDeclarator : FileScope → Storage → CType → Trees.InitDeclarator → Fault → Type 0
-IsBrokenFileDeclarator f words base d fault = IsBrokenDeclarator d.declarator (at_file_scope f) base fault
+-- of a declarator whose name is in scope from that byte on
+abbrev pub IsBrokenFileDeclarator : FileScope → Storage → CType → Trees.InitDeclarator → (from : ℕ) → Fault → Type 0
+IsBrokenFileDeclarator f words base d from fault = IsBrokenDeclarator d.declarator (at_file_scope f) base fault
     ⊎ ((x : Spelling) × (shape : Shape) × (declared_name d.declarator ≡ Some x) × Declares (at_file_scope f) d.declarator base shape
     × (IsEndless (at_file_scope f) shape d.value x.from fault
     ⊎ ((t : CType) × IsSized (at_file_scope f) shape d.value t
@@ -94,14 +100,15 @@ IsBrokenFileDeclarator f words base d fault = IsBrokenDeclarator d.declarator (a
     ⊎ ((fault ≡ ill_typed R.Main x.from) × IsBrokenMain f words t x)
     ⊎ ((fault ≡ ill_typed R.Incomplete x.from) × (words ≢ a_typedef) × (is_function t ≡ false) × (is_object (ended f.ends x.from) t ≡ false))
     ⊎ ((fault ≡ ill_typed R.Init x.from) × (d.value ≢ None) × ((words ≡ a_typedef) ⊎ (is_function t ≡ true)))
-    ⊎ IsOtherwise f words t x fault
-    ⊎ ((d.value ≢ None) × IsOld f x IsDefinition fault)
+    ⊎ IsOtherwise f words t x from fault
+    ⊎ ((d.value ≢ None) × IsOld f x from IsDefinition fault)
     ⊎ (IsDefinedThere f x t d.value × (IsBrokenInitial d.value (at_file_scope f) t fault ⊎ HasNoConstants d.value (at_file_scope f) t fault))))))
 
 -- the declarators before are as their rules say
 abbrev pub AreBrokenDeclarators : FileScope → Storage → CType → List Trees.InitDeclarator → ℕ → Fault → Type 0
 AreBrokenDeclarators f words base [] semicolon fault = ⊥
-AreBrokenDeclarators f words base (d ∷ more) semicolon fault = IsBrokenFileDeclarator f words base d fault
+AreBrokenDeclarators f words base (d ∷ more) semicolon fault =
+    IsBrokenFileDeclarator f words base d (name_from d.value (after_declarator more semicolon)) fault
     ⊎ ((x : Spelling) × (declared_name d.declarator ≡ Some x)
     × IsFileDeclarator f words base d x (first_declarator d.declarator x.from) (name_from d.value (after_declarator more semicolon))
     × AreBrokenDeclarators f words base more semicolon fault)
@@ -125,6 +132,7 @@ abbrev pub IsNameless : Trees.Parameters → Type 0
 IsNameless Trees.no_parameters = ⊥
 IsNameless (Trees.and_parameter comma specs d more) = (declared_name d ≡ None) ⊎ IsNameless more
 
+-- no parameters at all, which is no function, or one without a name
 abbrev pub HasNameless : Option Trees.ParameterList → Type 0
 HasNameless None = Unit {0}
 HasNameless (Some (Trees.void_alone at)) = ⊥
@@ -133,6 +141,7 @@ HasNameless (Some (Trees.listed all)) = IsNameless all
 -- the body, in the scope of its parameters and of the function itself
 abbrev pub IsBrokenBody : FileScope → CType → Trees.Declarator → Spelling → ℕ → Trees.BlockItems → Fault → Type 0
 IsBrokenBody f (function result types) d x left items fault = (parameters locals : List ALocal) × (bounds : List Bound) × (n : ℕ)
+    × (slice_get (map (λ g. g.ty) f.functions) n ≡ Some (function result types))
     × IsBound (at_file_scope f) (bound x left defines (a_function n (function result types)))
     × HasParameters (parameters_of d) types parameters bounds
     × AreBrokenItems result items (in_body f bounds (parameters ++ locals)) false false fault
@@ -147,8 +156,8 @@ IsBrokenDefinition f specs d left items fault = ((fault ≡ ill_typed R.Specifie
     × (((fault ≡ ill_typed R.Specifiers (first_specifiers specs)) × (is_function t ≡ false))
     ⊎ ((which : LibraryFunction) × (x.text ≡ library_name which) × (fault ≡ ill_typed R.Library x.from))
     ⊎ ((fault ≡ ill_typed R.Main x.from) × IsBrokenMain f (storage_of specs) t x)
-    ⊎ IsOtherwise f (storage_of specs) t x fault
-    ⊎ IsOld f x IsDefinition fault
+    ⊎ IsOtherwise f (storage_of specs) t x left fault
+    ⊎ IsOld f x left IsDefinition fault
     ⊎ IsBrokenBody f t d x left items fault))))
 
 -- ---- items
@@ -170,7 +179,8 @@ pub record IsFileUpTo (before items : List Trees.Item) (f : FileScope) : Type 0 
   pub numbered : f.numbered ≡ defined_in (marks_of_file f.untagged items) ++ undefined_in (marks_of_file f.untagged items)
   pub records : IsFirstPart (map (λ r. r.tag) f.records) (defined_in (marks_of_file f.untagged items))
   pub names : IsFirstPart (map (λ b. b.from) f.names) (scope_beginnings (marks_of_file f.untagged items))
-  pub mentions : IsFirstPart (map (λ m. m.at) f.mentions) (mentions_of_file items)
+  -- a `sizeof` of a type speaks of it first, and is told after what its type name speaks of
+  pub mentions : All (λ m. IsMade (mentions_of_file items) m.at) f.mentions
   pub consistent : AreConsistent f.names
   pub objects_in_order : AreAscending (map (λ o. o.first) f.objects)
   pub functions_in_order : AreAscending (map (λ g. g.first) f.functions)

@@ -1,6 +1,6 @@
 -- Which rule is broken where, in an initializer, a declaration of a block, or a statement (C99 6.7.8, 6.8): what stands before is well typed in
 -- the scope that the tree gives it, and the rule there is false.
-use Rattle.std.specs.Prelude.{◌≡◌, ◌≢◌, ℕ, ◌+◌, ◌≤◌, Bool, true, false, ◌||◌, List, [], ◌∷◌, ◌++◌, Option, Some, None, slice_get, ◌⊎◌}
+use Rattle.std.specs.Prelude.{◌≡◌, ◌≢◌, ℕ, ◌+◌, ◌≤◌, Bool, true, false, ◌||◌, List, [], ◌∷◌, ◌++◌, map, Option, Some, None, slice_get, ◌⊎◌}
 use Rattle.lay_base.specs.declared.faults.Rule.TheVariants as R
 use Rattle.c_types.specs.declared.ty.IntKind.{IntKind}
 use Rattle.c_types.specs.Types.{CType, void, integer, array, structure, Field, Record}
@@ -102,6 +102,11 @@ abbrev pub with_declared : Scope → (static : Bool) → Spelling → ℕ → CT
 with_declared s true x n t = with_object s x n t
 with_declared s false x n t = with_variable s x n t
 
+-- it is there: a local of the function, or an object of the file where it is `static`
+abbrev pub IsThere : Scope → (static : Bool) → Spelling → ℕ → CType → Type 0
+IsThere s true x n t = slice_get (map (λ o. o.ty) s.file.objects) n ≡ Some t
+IsThere s false x n t = slice_get s.locals n ≡ Some (record { name = x.text; ty = t })
+
 abbrev pub IsBrokenLocal : Scope → (static : Bool) → CType → Trees.InitDeclarator → Fault → Type 0
 IsBrokenLocal s static base d f = IsBrokenDeclarator d.declarator s base f ⊎ IsOldName s (declared_name d.declarator) f
     ⊎ ((x : Spelling) × (shape : Shape) × (declared_name d.declarator ≡ Some x) × Declares s d.declarator base shape
@@ -109,8 +114,8 @@ IsBrokenLocal s static base d f = IsBrokenDeclarator d.declarator s base f ⊎ I
     ⊎ ((t : CType) × (shape ≡ closed t) × (is_function t ≡ true) × (f ≡ ill_typed R.Scope x.from))
     ⊎ ((t : CType) × IsSized s shape d.value t × (is_function t ≡ false) × (is_object (ended s.file.ends x.from) t ≡ false)
     × (f ≡ ill_typed R.Incomplete x.from))
-    ⊎ ((t : CType) × (n : ℕ) × IsSized s shape d.value t × IsBrokenInitial d.value (with_declared s static x n t) t f)
-    ⊎ ((t : CType) × (n : ℕ) × (static ≡ true) × IsSized s shape d.value t × HasNoConstants d.value (with_object s x n t) t f)))
+    ⊎ ((t : CType) × (n : ℕ) × IsSized s shape d.value t × IsThere s static x n t × IsBrokenInitial d.value (with_declared s static x n t) t f)
+    ⊎ ((t : CType) × (n : ℕ) × (static ≡ true) × IsSized s shape d.value t × IsThere s true x n t × HasNoConstants d.value (with_object s x n t) t f)))
 
 -- what stands before is declared, and then the scope is another
 abbrev pub AreBrokenLocals : List Trees.InitDeclarator → Scope → (static : Bool) → CType → Fault → Type 0
