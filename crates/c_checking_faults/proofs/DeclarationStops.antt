@@ -73,8 +73,8 @@ module _ (untagged : ℕ → List ℕ) (ends : List ℕ) (f : FileScope) where
 
   local_broken : (s : Scope) (static : Bool) (base : CType) (d : Trees.InitDeclarator) (x : Spelling) (t : CType) (fault : Fault) → IsVariable s base d x t
       → IsObjectBroken static d x t fault s → IsBrokenLocal s static base d fault
-  local_broken s static base d x t fault v (inl b) = inr (inr (x, v.0, v.1, v.2, inr (inr (inr (inl (t, b.0, v.3, b.1))))))
-  local_broken s static base d x t fault v (inr b) = inr (inr (x, v.0, v.1, v.2, inr (inr (inr (inr (t, b.0, b.1, v.3, b.2))))))
+  local_broken s static base d x t fault v (inl b) = inr (inr (x, v.0, v.1, v.2, inr (inr (inr (inl (t, b.0, v.3, b.1, b.2))))))
+  local_broken s static base d x t fault v (inr b) = inr (inr (x, v.0, v.1, v.2, inr (inr (inr (inr (t, b.0, b.1, v.3, b.2, b.3))))))
 
   named_stops : (static : Bool) (s : Scope) (base : CType) (d : Trees.InitDeclarator) (x : Spelling) → declared_name d.declarator ≡ Some x
       → IsIn untagged ends f s → IsDeclaratorInRange d.declarator → IsValueInRange f.ends (length f.records) d.value

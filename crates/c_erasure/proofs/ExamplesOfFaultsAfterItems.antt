@@ -1,7 +1,7 @@
 -- Faults of what stands after other items of the file (C99 6.5.2, 6.7).
 use Rattle.std.proofs.Common.{refl, inl, inr, arith}
 use Rattle.std.proofs.lemmas.List.Elements.{All-nil, All-cons}
-use Rattle.std.specs.Prelude.{◌≡◌, ℕ, ◌+◌, ◌<◌, List, [], ◌∷◌, true, false, Some, None, codes}
+use Rattle.std.specs.Prelude.{◌≡◌, ℕ, ◌+◌, ◌<◌, List, [], ◌∷◌, All, true, false, Some, None, codes}
 use Rattle.lay_base.specs.declared.faults.Rule.TheVariants as R
 use Rattle.c_types.specs.declared.ty.IntKind.TheVariants.{Char, Int}
 use Rattle.c_types.specs.Types.{CType, integer, pointer, structure, function, no_types, and_type, Field, Record}
@@ -14,10 +14,14 @@ use Rattle.c_erasure.specs.Noted.{value, way, an_object, a_function, Expression}
 use Rattle.c_erasure.specs.Scopes as Scopes
 use Rattle.c_erasure.specs.Scopes.{Bound, defines, tentative, declares, a_local, FileScope, AnObject, AFunction, AMention, Tag}
 use Rattle.c_erasure.specs.Declarators.{closed}
-use Rattle.c_erasure.specs.Files.{IsOwnName, MayStandTogether, ErasesItem}
+use Rattle.c_erasure.specs.Files.{IsOwnName, IsMade, MayStandTogether, ErasesItem}
 use Rattle.c_erasure.specs.Broken.{ill_typed, redeclared}
 use Rattle.c_erasure.specs.BrokenFiles.{IsFaultOf}
 use Rattle.c_erasure.proofs.ExampleParts.{differ, place, word, int, ints, mention}
+
+-- what is spoken of at one of some places
+abbrev IsAt : List ℕ → AMention → Type 0
+IsAt places m = IsMade places m.at
 
 -- ---- int x;char x;
 
@@ -80,6 +84,9 @@ x_declared = (
   ),
 )
 
+said_of_x : All (IsAt (4 ∷ 11 ∷ [])) (mention Object int 4 ∷ [])
+said_of_x = All-cons (IsAt (4 ∷ 11 ∷ [])) (mention Object int 4) ([]) (inl refl) (All-nil (IsAt (4 ∷ 11 ∷ [])))
+
 another_type : IsFaultOf (x_int ∷ x_char ∷ []) (redeclared (codes "x") 11 4)
 another_type = record {
   before = x_int ∷ [];
@@ -94,7 +101,7 @@ another_type = record {
     numbered = refl;
     records = refl;
     names = refl;
-    mentions = All-cons _ (mention Object int 4) [] (inl refl) (All-nil _);
+    mentions = said_of_x;
     consistent = (All-nil _, tt);
     objects_in_order = (All-nil _, tt);
     functions_in_order = tt;
@@ -192,6 +199,9 @@ record_defined names functions ends numbered more = (
 abbrev twice : FileScope
 twice = with_record [] [] (32 ∷ []) (codes "S" ∷ []) []
 
+said_of_record : All (IsAt (13 ∷ 30 ∷ [])) (mention Named int 13 ∷ [])
+said_of_record = All-cons (IsAt (13 ∷ 30 ∷ [])) (mention Named int 13) ([]) (inl refl) (All-nil (IsAt (13 ∷ 30 ∷ [])))
+
 defined_twice : IsFaultOf (record_of 0 (codes "x") ∷ record_of 17 (codes "y") ∷ []) (redeclared (codes "S") 24 0)
 defined_twice = record {
   before = record_of 0 (codes "x") ∷ [];
@@ -206,7 +216,7 @@ defined_twice = record {
     numbered = refl;
     records = refl;
     names = refl;
-    mentions = All-cons _ (mention Named int 13) [] (inl refl) (All-nil _);
+    mentions = said_of_record;
     consistent = tt;
     objects_in_order = tt;
     functions_in_order = tt;
@@ -265,6 +275,9 @@ f_file = with_record (f_bound ∷ []) (f_function ∷ []) [] [] more_said
 abbrev the_p : Expression
 the_p = value to_record (place 43) (Typed.load (way to_record (place 43) (Typed.local 0)))
 
+said_of_f : All (IsAt (13 ∷ 21 ∷ 32 ∷ 53 ∷ [])) (mention Named int 13 ∷ mention Named f_type 21 ∷ mention Named to_record 32 ∷ [])
+said_of_f = All-cons (IsAt (13 ∷ 21 ∷ 32 ∷ 53 ∷ [])) (mention Named int 13) (mention Named f_type 21 ∷ mention Named to_record 32 ∷ []) (inl refl) (All-cons (IsAt (13 ∷ 21 ∷ 32 ∷ 53 ∷ [])) (mention Named f_type 21) (mention Named to_record 32 ∷ []) (inr (inl refl)) (All-cons (IsAt (13 ∷ 21 ∷ 32 ∷ 53 ∷ [])) (mention Named to_record 32) ([]) (inr (inr (inl refl))) (All-nil (IsAt (13 ∷ 21 ∷ 32 ∷ 53 ∷ [])))))
+
 without_member : IsFaultOf (record_of 0 (codes "x") ∷ f_item ∷ main_item ∷ []) (ill_typed R.Member 46)
 without_member = record {
   before = record_of 0 (codes "x") ∷ [];
@@ -279,7 +292,7 @@ without_member = record {
     numbered = refl;
     records = refl;
     names = refl;
-    mentions = All-cons _ (mention Named int 13) (mention Named f_type 21 ∷ mention Named to_record 32 ∷ []) (inl refl) (All-cons _ (mention Named f_type 21) (mention Named to_record 32 ∷ []) (inr (inl refl)) (All-cons _ (mention Named to_record 32) [] (inr (inr (inl refl))) (All-nil _)));
+    mentions = said_of_f;
     consistent = (All-nil _, tt);
     objects_in_order = tt;
     functions_in_order = (All-nil _, tt);
@@ -440,6 +453,9 @@ g_declared = (
 abbrev StandTogether : Bound → Bound → Type 0
 StandTogether b c = c.name ≡ b.name → MayStandTogether b c
 
+said_of_g : All (IsAt (4 ∷ 6 ∷ 15 ∷ [])) (mention Named of_int 4 ∷ mention Named int 6 ∷ mention Named main_type 15 ∷ [])
+said_of_g = All-cons (IsAt (4 ∷ 6 ∷ 15 ∷ [])) (mention Named of_int 4) (mention Named int 6 ∷ mention Named main_type 15 ∷ []) (inl refl) (All-cons (IsAt (4 ∷ 6 ∷ 15 ∷ [])) (mention Named int 6) (mention Named main_type 15 ∷ []) (inr (inl refl)) (All-cons (IsAt (4 ∷ 6 ∷ 15 ∷ [])) (mention Named main_type 15) ([]) (inr (inr (inl refl))) (All-nil (IsAt (4 ∷ 6 ∷ 15 ∷ [])))))
+
 no_argument : IsFaultOf (g_item ∷ calls ∷ []) (ill_typed R.Arguments 35)
 no_argument = record {
   before = g_item ∷ [];
@@ -454,7 +470,7 @@ no_argument = record {
     numbered = refl;
     records = refl;
     names = refl;
-    mentions = All-cons _ (mention Named of_int 4) (mention Named int 6 ∷ mention Named main_type 15 ∷ []) (inl refl) (All-cons _ (mention Named int 6) (mention Named main_type 15 ∷ []) (inr (inl refl)) (All-cons _ (mention Named main_type 15) [] (inr (inr (inl refl))) (All-nil _)));
+    mentions = said_of_g;
     consistent = (All-cons (StandTogether g_bound) main_bound [] (λ e. absurd (differ (codes "main") (codes "f") refl refl e)) (All-nil _), (All-nil _, tt));
     objects_in_order = tt;
     functions_in_order = (All-cons (λ at. 4 < at) 15 [] (omega arith) (All-nil _), (All-nil _, tt));

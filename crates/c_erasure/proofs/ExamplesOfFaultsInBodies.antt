@@ -1,7 +1,7 @@
 -- Faults in the body of `main` (C99 6.5, 6.7, 6.8).
 use Rattle.std.proofs.Common.{refl, inl, inr, arith}
 use Rattle.std.proofs.lemmas.List.Elements.{All-nil, All-cons}
-use Rattle.std.specs.Prelude.{ℕ, ◌+◌, List, [], ◌∷◌, All, false, Some, None, codes}
+use Rattle.std.specs.Prelude.{ℕ, ◌+◌, List, [], ◌∷◌, All, true, false, Some, None, codes}
 use Rattle.lay_base.specs.declared.faults.Rule.TheVariants as R
 use Rattle.c_types.specs.declared.ty.IntKind.TheVariants.{Int}
 use Rattle.c_types.specs.Types.{CType, function, no_types}
@@ -133,13 +133,13 @@ i_items = Trees.and_block_item (variable (codes "i") 15)
 abbrev spoken : List AMention
 spoken = mention Named main_type 4 ∷ mention Object int 19 ∷ []
 
--- the two that are spoken of
-abbrev IsSaid : AMention → Type 0
-IsSaid m = IsMade (4 ∷ 19 ∷ []) m.at
+-- the two that are spoken of, in a file that speaks of more
+abbrev IsSaid : List ℕ → AMention → Type 0
+IsSaid more m = IsMade (4 ∷ 19 ∷ more) m.at
 
-said : All IsSaid spoken
-said = All-cons IsSaid (mention Named main_type 4) (mention Object int 19 ∷ []) (inl refl)
-    (All-cons IsSaid (mention Object int 19) [] (inr (inl refl)) (All-nil IsSaid))
+said : (more : List ℕ) → All (IsSaid more) spoken
+said more = All-cons (IsSaid more) (mention Named main_type 4) (mention Object int 19 ∷ []) (inl refl)
+    (All-cons (IsSaid more) (mention Object int 19) [] (inr (inl refl)) (All-nil (IsSaid more)))
 
 abbrev one_local : List ℕ → List ALocal
 one_local x = record { name = x; ty = int } ∷ []
@@ -151,7 +151,7 @@ abbrev the_i : Expression
 the_i = value int (place 29) (Typed.load (way int (place 29) (Typed.local 0)))
 
 no_pointer : IsFaultOf (main_item i_items 31 ∷ []) (ill_typed R.Operands 28)
-no_pointer = in_main i_items 31 spoken (one_local (codes "i")) (ill_typed R.Operands 28) said (inr (
+no_pointer = in_main i_items 31 spoken (one_local (codes "i")) (ill_typed R.Operands 28) (said []) (inr (
   Typed.and_statement (Typed.declare 0 None) Typed.no_statements,
   after (codes "i"),
   (
@@ -192,7 +192,7 @@ x_items = Trees.and_block_item (variable (codes "x") 15) (Trees.and_block_item (
     (alone (Trees.return 27 (Some (Trees.number (word (codes "0") 34 35) 0 Int)) 35)))
 
 twice : IsFaultOf (main_item x_items 36 ∷ []) (redeclared (codes "x") 25 19)
-twice = in_main x_items 36 spoken (one_local (codes "x")) (redeclared (codes "x") 25 19) said (inr (
+twice = in_main x_items 36 spoken (one_local (codes "x")) (redeclared (codes "x") 25 19) (said (25 ∷ [])) (inr (
   Typed.and_statement (Typed.declare 0 None) Typed.no_statements,
   after (codes "x"),
   (

@@ -82,10 +82,10 @@ not_in_first f at (inr (inr (base, is, inl (inr (x, shape, name, d, inr (t, s, i
 not_in_first f at (inr (inr (base, is, inl (inr (x, shape, name, d, inr (t, s, inr (inl (e, w)))))))) = cc
 not_in_first f at (inr (inr (base, is, inl (inr (x, shape, name, d, inr (t, s, inr (inr (inl (e, v, u, w))))))))) = cc
 not_in_first f at (inr (inr (base, is, inl (inr (x, shape, name, d, inr (t, s, inr (inr (inr (inl (e, v, w)))))))))) = cc
-not_in_first f at (inr (inr (base, is, inl (inr (x, shape, name, d, inr (t, s, inr (inr (inr (inr (inl (inl (i, (k, b, g, n, r, o, first, e))))))))))))) = cc
-not_in_first f at (inr (inr (base, is, inl (inr (x, shape, name, d, inr (t, s, inr (inr (inr (inr (inl (inr (inl (i, (k, b, g, n, r, o, first, e)))))))))))))) = cc
-not_in_first f at (inr (inr (base, is, inl (inr (x, shape, name, d, inr (t, s, inr (inr (inr (inr (inl (inr (inr (k, b, g, n, r, o, first, e))))))))))))) = cc
-not_in_first f at (inr (inr (base, is, inl (inr (x, shape, name, d, inr (t, s, inr (inr (inr (inr (inr (inl (v, (k, b, g, n, r, o, first, e))))))))))))) = cc
+not_in_first f at (inr (inr (base, is, inl (inr (x, shape, name, d, inr (t, s, inr (inr (inr (inr (inl (inl (i, (k, b, g, n, r, o, none, e))))))))))))) = cc
+not_in_first f at (inr (inr (base, is, inl (inr (x, shape, name, d, inr (t, s, inr (inr (inr (inr (inl (inr (inl (i, (k, b, g, n, r, o, none, e)))))))))))))) = cc
+not_in_first f at (inr (inr (base, is, inl (inr (x, shape, name, d, inr (t, s, inr (inr (inr (inr (inl (inr (inr (k, b, g, n, r, o, none, e))))))))))))) = cc
+not_in_first f at (inr (inr (base, is, inl (inr (x, shape, name, d, inr (t, s, inr (inr (inr (inr (inr (inl (v, (k, b, g, n, r, o, none, e))))))))))))) = cc
 not_in_first f at (inr (inr (base, is, inl (inr (x, shape, name, d, inr (t, s, inr (inr (inr (inr (inr (inr (v, w)))))))))))) = v
 not_in_first f at (inr (inr (base, is, inr (x, name, declared, more)))) = more
 
@@ -120,10 +120,10 @@ not_in_second f at first (inr (inr (base, is, inl (inr (inr (inr b)))))) = b
 not_in_second f at first (inr (inr (base, is, inr (x, t, name, d, inl (e, w))))) = cc
 not_in_second f at first (inr (inr (base, is, inr (x, t, name, d, inr (inl (which, e, w)))))) = cc
 not_in_second f at first (inr (inr (base, is, inr (x, t, name, d, inr (inr (inl (e, w))))))) = cc
-not_in_second f at first (inr (inr (base, is, inr (x, t, name, d, inr (inr (inr (inl (inl (i, (k, b, g, n, r, o, first, e)))))))))) = cc
-not_in_second f at first (inr (inr (base, is, inr (x, t, name, d, inr (inr (inr (inl (inr (inl (i, (k, b, g, n, r, o, first, e))))))))))) = cc
-not_in_second f at first (inr (inr (base, is, inr (x, t, name, d, inr (inr (inr (inl (inr (inr (k, b, g, n, r, o, first, e)))))))))) = cc
-not_in_second f at first (inr (inr (base, is, inr (x, t, name, d, inr (inr (inr (inr (inl (k, b, g, n, r, o, first, e))))))))) = cc
+not_in_second f at first (inr (inr (base, is, inr (x, t, name, d, inr (inr (inr (inl (inl (i, (k, b, g, n, r, o, none, e)))))))))) = cc
+not_in_second f at first (inr (inr (base, is, inr (x, t, name, d, inr (inr (inr (inl (inr (inl (i, (k, b, g, n, r, o, none, e))))))))))) = cc
+not_in_second f at first (inr (inr (base, is, inr (x, t, name, d, inr (inr (inr (inl (inr (inr (k, b, g, n, r, o, none, e)))))))))) = cc
+not_in_second f at first (inr (inr (base, is, inr (x, t, name, d, inr (inr (inr (inr (inl (k, b, g, n, r, o, none, e))))))))) = cc
 not_in_second f at first (inr (inr (base, is, inr (x, t, name, d, inr (inr (inr (inr (inr b)))))))) = not_in_body f at x first
     (subst (λ t. IsBrokenBody f t main_declarator x 20 main_items (no_x at)) (main_is f base t (int_is f 6 base is) d) b)
 
