@@ -1,6 +1,6 @@
 -- Where the body of a function stops, it is broken (C99 6.9.1).
 use Rattle.std.proofs.Common.{◌≡◌, ℕ, true, false, refl, subst, List, length}
-use Rattle.std.specs.Prelude.{Some, Err}
+use Rattle.std.specs.Prelude.{Some, Err, map, slice_get}
 use Rattle.c_types.specs.Types.{CType, CTypes, function}
 use Rattle.c_ast.specs.declared.words.Spelling.{Spelling}
 use Rattle.c_ast.specs.Trees
@@ -35,11 +35,12 @@ pub record BodyIsBroken (k : List ℕ) (f : FileScope) (t : CType) (d : Trees.De
 module _ (untagged : ℕ → List ℕ) where
   pub body_stops : (f : FileScope) (result : CType) (types : CTypes) (d : Trees.Declarator) (x : Spelling) (left : ℕ) (items : Trees.BlockItems)
       (p : Received) → received_by (parameters_of d) types ≡ Some p → (n : ℕ)
+      → slice_get (map (λ g. g.ty) f.functions) n ≡ Some (function result types)
       → IsBound (at_file_scope f) (bound x left defines (a_function n (function result types))) → IsReadyFile untagged f → IsSteady f → IsOrderly f
       → IsLaid f → AreObjectLocals p.locals → AreItemsInRange f.ends (length f.records) items → AreItemsTimely untagged f.ends f items
       → AreFresh f (made_by_items items) → (fault : Fault) → items_in result items (in_body f p.bounds p.locals) false false ≡ Err fault
       → BodyIsBroken (made_by_items items) f (function result types) d x left items fault
-  body_stops f result types d x left items p e n is ready steady orderly laid objects in_range timely fresh fault h =
+  body_stops f result types d x left items p e n typed is ready steady orderly laid objects in_range timely fresh fault h =
       let parameters = parameters_are f (parameters_of d) types p e in
       let b = items_stop untagged f.ends f result items (in_body f p.bounds p.locals) false false (record {
         within = body_within untagged f p ready parameters.fit;
@@ -57,6 +58,7 @@ module _ (untagged : ℕ → List ℕ) where
           b.goes.0,
           p.bounds,
           n,
+          b.reaches.extends.functions n (function result types) typed,
           (is.0, bound_stays b.reaches.extends is.0 (bound x left defines (a_function n (function result types))) is.1),
           parameters.has,
           subst (λ locals. AreBrokenItems result items (in_body b.file p.bounds locals) false false fault) b.goes.1 b.is,
