@@ -112,7 +112,7 @@ module _ (untagged : ℕ → List ℕ) (ends : List ℕ) (f : FileScope) where
   put_there s o =
       let types = map (λ (o : AnObject). o.ty) s.file.objects in
       subst (λ all. slice_get all (length s.file.objects) ≡ Some o.ty) (sym (map-append (λ (o : AnObject). o.ty) s.file.objects (o ∷ [])))
-      (subst (λ n. slice_get (types ++ o.ty ∷ []) n ≡ Some o.ty) (length-map (λ (o : AnObject). o.ty) s.file.objects) (at_end types o.ty))
+      (subst (λ n. slice_get (types ++ o.ty ∷ []) n ≡ Some o.ty) (length-map s.file.objects (λ (o : AnObject). o.ty)) (at_end types o.ty))
 
   static_reaches : (s : Scope) (o : AnObject) → Reaches (IsAmong (o.first ∷ [])) s.file true (Files.with_object s.file o)
   static_reaches s o = record {
