@@ -1,7 +1,6 @@
 -- What a part of the file scope that is read leaves for the next one, and where reading stops at file scope.
-use Rattle.std.proofs.Common.{◌≡◌, ℕ, zero, suc, ◌+◌, ◌<◌, false, refl, sym, ap, ◌∙◌, subst, List, [], ◌∷◌, ◌++◌, length, inl, inr, arith}
+use Rattle.std.proofs.Common.{◌≡◌, ℕ, zero, suc, ◌+◌, ◌<◌, false, refl, ap, subst, List, [], ◌∷◌, ◌++◌, length, inl, inr}
 use Rattle.std.specs.Prelude.{◌⊎◌, map, Some, slice_get}
-use Rattle.c_types.specs.Types.{CType}
 use Rattle.c_erasure.specs.BrokenStatements.{IsAmong}
 use Rattle.c_erasure.specs.Marks.{Mark, scope_beginnings, defined_in}
 use Rattle.c_erasure.specs.Scopes.{FileScope, Scope, Bound, ALocal, AnObject, Entity, typedef, enumerator, an_object, a_function}

@@ -1,20 +1,21 @@
 -- Where one of several declarators of the file scope stops, a rule is broken (C99 6.7, 6.9).
 use Rattle.std.proofs.Common.{◌≡◌, ℕ, ◌+◌, ◌≤◌, ◌<◌, Bool, true, false, refl, sym, ap, ◌∙◌, subst, List, [], ◌∷◌, ◌++◌, length}
-use Rattle.std.proofs.Common.{append-nil, append_assoc, length-append, arith, inl, inr}
-use Rattle.std.specs.Prelude.{◌⊎◌, map, Option, Some, None, Ok, Err, slice_get}
+use Rattle.std.proofs.Common.{append_assoc, length-append, arith, inl, inr}
+use Rattle.std.specs.Prelude.{◌⊎◌, Some, Ok, Err, slice_get}
 use Rattle.c_types.specs.Types.{CType}
 use Rattle.c_ast.specs.declared.words.Spelling.{Spelling}
 use Rattle.c_ast.specs.Trees
 use Rattle.c_ast.specs.Places.{first_declarator}
 use Rattle.c_erasure.specs.Broken.{Fault}
+use Rattle.c_erasure.specs.BrokenFiles.{IsBrokenFileDeclarator}
 use Rattle.c_erasure.specs.BrokenStatements.{IsAmong}
 use Rattle.c_erasure.specs.Declarators.{declared_name}
 use Rattle.c_erasure.specs.Files.{may_stand_in_file, IsFileDeclarator}
 use Rattle.c_erasure.specs.Literals.{literals_of_value}
 use Rattle.c_erasure.specs.Marks.{Mark, a_name, marks_of_declarator, marks_of_initial, marks_of_declarators, name_from, after_declarator, ends_in}
 use Rattle.c_erasure.specs.Marks.{scope_beginnings}
-use Rattle.c_erasure.specs.MentionPlaces.{spoken_of_declarator, spoken_by_value, spoken_of_declarators}
-use Rattle.c_erasure.specs.Scopes.{FileScope, Bound, AnObject, AFunction, at_file_scope}
+use Rattle.c_erasure.specs.MentionPlaces.{spoken_of_declarator, spoken_by_value}
+use Rattle.c_erasure.specs.Scopes.{FileScope, AnObject}
 use Rattle.c_erasure.specs.Specifiers.{Storage}
 use Rattle.c_checking.specs.Files.{declarator_named, file_declarators}
 use Rattle.c_checking.proofs.Agreement as Agreement
@@ -31,7 +32,6 @@ use Rattle.c_checking_items.proofs.Rises.{passed, below_then, part_of, rising_fr
 use Rattle.c_checking_items.proofs.Stepping.{Stepped, stepped_then, no_step, counted_by, ready_behind, ends_append}
 use Rattle.c_checking_faults.proofs.Clear.{AreFresh, AreApart, among_left}
 use Rattle.c_checking_file_faults.proofs.Behind.{grown_by, StopsIn, stops_more}
-use Rattle.c_checking_file_faults.proofs.DeclaratorStops.{IsStopped}
 use Rattle.c_checking_file_faults.proofs.ObjectStops.{IsValueTimely}
 use Rattle.c_checking_file_faults.proofs.OwnFunctions.{own_after}
 use Rattle.c_checking_file_faults.proofs.Tests.{AreOwnFunctions}
@@ -59,7 +59,8 @@ fresh_rising f at all r before = record {
 
 abbrev pub AreStopped : FileScope → FileScope → Storage → CType → List Trees.InitDeclarator → ℕ → Fault → Type 0
 AreStopped m g words base [] semicolon fault = ⊥
-AreStopped m g words base (d ∷ more) semicolon fault = ((x : Spelling) × (declared_name d.declarator ≡ Some x) × IsStopped g words base d x fault)
+AreStopped m g words base (d ∷ more) semicolon fault =
+    IsBrokenFileDeclarator g words base d (name_from d.value (after_declarator more semicolon)) fault
     ⊎ ((x : Spelling) × (declared_name d.declarator ≡ Some x)
     × IsFileDeclarator m words base d x (first_declarator d.declarator x.from) (name_from d.value (after_declarator more semicolon))
     × AreStopped m g words base more semicolon fault)
@@ -212,14 +213,17 @@ module _ (untagged : ℕ → List ℕ) (types : List (List ℕ)) (nodes_at : ℕ
 
     -- the first of them stops
     first_stops : (f : FileScope) (d : Trees.InitDeclarator) (more : List Trees.InitDeclarator) (x : Spelling) → declared_name d.declarator ≡ Some x
-        → (fault : Fault) → StopsIn (first_declarator d.declarator x.from ∷ literals_of_value d.value) f (λ g. IsStopped g words base d x fault)
+        → (fault : Fault)
+        → StopsIn (first_declarator d.declarator x.from ∷ literals_of_value d.value) f
+        (λ g. IsBrokenFileDeclarator g words base d (name_from d.value (after_declarator more semicolon)) fault)
         → Stop f (d ∷ more) fault
     first_stops f d more x name fault b =
+        let Is = λ (g : FileScope). IsBrokenFileDeclarator g words base d (name_from d.value (after_declarator more semicolon)) fault in
         let place : first_declarator d.declarator x.from ≡ first_declarator d.declarator semicolon = first_named d.declarator x name x.from semicolon in
         let own = first_declarator d.declarator semicolon ∷ literals_of_value d.value in
-        let there = stops_more {k = own} {l = own ++ places_of_declarators more semicolon} (λ g. IsStopped g words base d x fault)
-        (λ g. IsStopped g words base d x fault) (among_left own (places_of_declarators more semicolon))
-        (λ g i. i) (subst (λ p. StopsIn (p ∷ literals_of_value d.value) f (λ g. IsStopped g words base d x fault)) place b) in
+        let there = stops_more {k = own} {l = own ++ places_of_declarators more semicolon} Is
+        Is (among_left own (places_of_declarators more semicolon))
+        (λ g i. i) (subst (λ p. StopsIn (p ∷ literals_of_value d.value) f Is) place b) in
         record {
           middle = f;
           file = there.file;
@@ -228,7 +232,7 @@ module _ (untagged : ℕ → List ℕ) (types : List (List ℕ)) (nodes_at : ℕ
           places = [];
           made = [];
           later = own ++ places_of_declarators more semicolon;
-          step = no_step nodes_at f (λ h. AreStopped h there.file words base (d ∷ more) semicolon fault) (λ h c. inl (x, name, there.is));
+          step = no_step nodes_at f (λ h. AreStopped h there.file words base (d ∷ more) semicolon fault) (λ h c. inl there.is);
           places_are = refl;
           reaches = there.reaches;
         }

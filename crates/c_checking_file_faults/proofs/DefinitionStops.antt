@@ -1,50 +1,36 @@
 -- Where the definition of a function stops, a rule is broken (C99 6.9.1).
-use Rattle.std.proofs.Common.{◌≡◌, ◌≢◌, ℕ, ◌+◌, ◌≤◌, ◌<◌, Bool, true, false, refl, sym, ap, ◌∙◌, subst, List, [], ◌∷◌, ◌++◌, length, inl, inr, arith}
-use Rattle.std.proofs.Common.{append-nil}
-use Rattle.std.specs.Prelude.{◌⊎◌, map, Option, Some, None, Ok, Err, slice_get, is_none, codes}
+use Rattle.std.proofs.Common.{◌≡◌, ℕ, zero, suc, ◌+◌, ◌<◌, false, refl, sym, ap, ◌∙◌, subst, List, [], ◌∷◌, ◌++◌, length, inl, inr}
+use Rattle.std.specs.Prelude.{◌⊎◌, map, Option, Some, None, Err, slice_get, is_none}
 use Rattle.lay_base.specs.declared.faults.Rule.TheVariants as R
-use Rattle.c_types.specs.Types.{CType, CTypes, void, integer, pointer, array, function, structure}
+use Rattle.c_types.specs.Types.{CType, CTypes, function}
 use Rattle.c_ast.specs.declared.words.Spelling.{Spelling}
 use Rattle.c_ast.specs.Trees
 use Rattle.c_ast.specs.Places.{first_specifiers, first_declarator}
 use Rattle.c_typed.specs.Conversions.{is_function}
-use Rattle.c_typed.specs.declared.program.MentionKind.TheVariants.{Named}
-use Rattle.c_erasure.specs.Broken.{Fault, ill_typed, AreBroken, AreNoType, IsBrokenWithin, IsBrokenDeclarator}
-use Rattle.c_erasure.specs.BrokenFiles.{IsFunctionStorage, HasNameless, IsBrokenBody, IsBrokenDefinition, IsBrokenMain, IsOtherwise, IsOld}
+use Rattle.c_erasure.specs.Broken.{Fault, ill_typed}
+use Rattle.c_erasure.specs.BrokenFiles.{IsFunctionStorage, IsBrokenBody, IsBrokenDefinition, IsBrokenMain, IsOtherwise, IsOld}
 use Rattle.c_erasure.specs.BrokenFiles.{IsDefinition}
 use Rattle.c_erasure.specs.BrokenStatements.{IsAmong}
-use Rattle.c_erasure.specs.Declarators.{declared_name, Shape, closed, open_array}
+use Rattle.c_erasure.specs.Declarators.{declared_name, closed}
 use Rattle.c_erasure.specs.Erasure.{IsBase, IsOne, Declares}
 use Rattle.c_erasure.specs.Files.{IsMainType, bound, parameters_of, in_body, library_name}
 use Rattle.c_erasure.specs.Literals.{made_by_items}
-use Rattle.c_erasure.specs.Marks.{Mark, a_name, marks_of_specifiers, marks_of_declarator, ends_in}
-use Rattle.c_erasure.specs.MentionPlaces.{spoken_of_specifiers, spoken_of_declarator}
+use Rattle.c_erasure.specs.Marks.{a_name, marks_of_specifiers, marks_of_declarator, ends_in}
 use Rattle.c_erasure.specs.Scopes.{FileScope, AnObject, AFunction, defines, a_function, at_file_scope}
 use Rattle.c_erasure.specs.Specifiers.{Storage, storage_of, no_storage, a_typedef, is_extern, is_static, is_auto, is_register, several}
 use Rattle.c_typed.specs.declared.operators.LibraryFunction.{LibraryFunction}
-use Rattle.c_checking.specs.Answers.{Answer, ◌>>=◌}
-use Rattle.c_checking.specs.Declaring.{base_kind, Derivation, derived, with_mention, mentions_in, declared_among, with_bound}
-use Rattle.c_checking.specs.Files.{function_storage, Received, received_by, library_named, function_of, defined_among, define_function, define_shape}
-use Rattle.c_checking.specs.Files.{definition_named, function_definition}
-use Rattle.c_checking.specs.Finding.{base_type, one_of, derivations}
+use Rattle.c_checking.specs.Answers.{Answer}
+use Rattle.c_checking.specs.Declaring.{declared_among, with_bound}
+use Rattle.c_checking.specs.Files.{function_storage, Received, received_by, library_named, function_of, defined_among, define_function}
 use Rattle.c_checking.specs.Statements.{items_in}
-use Rattle.c_checking.proofs.Adding.{mention_before}
-use Rattle.c_checking.proofs.Agreement.{added, IsGrown, IsSteady}
-use Rattle.c_checking.proofs.Declared.{mentioned, before_mention}
+use Rattle.c_checking.proofs.Agreement.{AreBegun}
 use Rattle.c_checking.proofs.Extends.{Extends, itself, further, at_end}
 use Rattle.c_checking.proofs.FaultDeclaring.{IsOrderly, orderly_stays}
-use Rattle.c_checking.proofs.FaultPremises.{IsPrepared, left, right, AreSpecifiersTimely, IsDeclaratorTimely}
-use Rattle.c_checking.proofs.FaultResults.{same_fault, bound_err, reached, Reaches, reaches_then, reaches_itself, reaches_outside}
-use Rattle.c_checking.proofs.FaultSteps.{read_steps}
-use Rattle.c_checking.proofs.FaultTypes.{within_broken, base_stops}
-use Rattle.c_checking.proofs.Faults.{faults_one, faults_steps}
-use Rattle.c_checking.proofs.Growth.{grow_base, grow_steps}
-use Rattle.c_checking.proofs.Results.{bound_ok}
-use Rattle.c_checking.proofs.Sound.{sound_base, sound_steps}
+use Rattle.c_checking.proofs.FaultPremises.{IsPrepared, AreSpecifiersTimely, IsDeclaratorTimely}
+use Rattle.c_checking.proofs.FaultResults.{same_fault, bound_err, Reaches, reaches_then, reaches_itself, reaches_outside}
 use Rattle.c_checking_files.proofs.Bodies.{parameters_are}
 use Rattle.c_checking_files.proofs.FileScopes.{MayDeclare, IsTheFunction, function_is, bound_put}
-use Rattle.c_checking_files.proofs.Keeping.{keep_base, keep_steps}
-use Rattle.c_checking_files.proofs.Kept.{keeps_mention, are_complete}
+use Rattle.c_checking_files.proofs.Kept.{are_complete}
 use Rattle.c_checking_files.proofs.StatementLaws.{AreItemsInRange}
 use Rattle.c_checking_items.proofs.DefinitionItems.{MayDefineIn}
 use Rattle.c_checking_items.proofs.FileFacts.{laid_file}
@@ -52,19 +38,14 @@ use Rattle.c_checking_items.proofs.FunctionSteps.{IsNewFunction, IsOldFunction, 
 use Rattle.c_checking_items.proofs.FunctionSteps.{old_function_in_making}
 use Rattle.c_checking_items.proofs.Known.{IsKnown, none_new, this_one}
 use Rattle.c_checking_items.proofs.ObjectSteps.{stands_for}
-use Rattle.c_checking_items.proofs.Stepping.{found_step}
 use Rattle.c_checking_faults.proofs.BodyStops.{body_stops}
 use Rattle.c_checking_faults.proofs.Clear.{AreFresh}
 use Rattle.c_checking_faults.proofs.StatementTimely.{AreItemsTimely}
-use Rattle.c_checking_file_faults.proofs.Behind.{steady_known, StopsIn, stops_here, stops_there, stops_later, stops_of}
+use Rattle.c_checking_file_faults.proofs.Behind.{steady_known, StopsIn, stops_here}
 use Rattle.c_checking_file_faults.proofs.DeclaratorStops.{no_typedef}
-use Rattle.c_checking_file_faults.proofs.Parameters.{open_without, nameless, object_parameters}
-use Rattle.c_checking_file_faults.proofs.Tests.{named_is, own_fault, once_fault, main_function_fault, IsTaken, IsTakenOtherwise, IsTakenWithin}
-use Rattle.c_checking_file_faults.proofs.Tests.{old_or_within, otherwise_or_within, function_of_fault, twice_defined}
-
--- a definition is broken in a file, or the name that it defines is that of an enumerator in it
-abbrev pub IsStoppedDefinition : FileScope → Trees.Specifiers → Trees.Declarator → ℕ → Trees.BlockItems → Spelling → Fault → Type 0
-IsStoppedDefinition f specs d left items x fault = IsBrokenDefinition f specs d left items fault ⊎ IsTakenWithin f x fault
+use Rattle.c_checking_file_faults.proofs.Parameters.{nameless, object_parameters}
+use Rattle.c_checking_file_faults.proofs.Tests.{named_is, own_fault, once_fault, main_function_fault, IsTaken, IsTakenOtherwise}
+use Rattle.c_checking_file_faults.proofs.Tests.{old_of, otherwise_of, function_of_fault, twice_defined}
 
 -- ---- storage classes
 
@@ -79,6 +60,12 @@ storage_fault {A} at is_register r fault P h p q = p (same_fault A (ill_typed R.
 storage_fault {A} at several r fault P h p q = p (same_fault A (ill_typed R.Specifiers at) fault h) (λ e. e)
 
 -- ---- what a definition adds before its body
+
+type_at : (all : List AFunction) (n : ℕ) (g : AFunction) (t : CType) → slice_get all n ≡ Some g → g.ty ≡ t
+    → slice_get (map (λ g. g.ty) all) n ≡ Some t
+type_at [] n g t h e = cc
+type_at (q ∷ all) zero g t h e = let same : q ≡ g = cc in ap Some (ap (λ (g : AFunction). g.ty) same ∙ e)
+type_at (q ∷ all) (suc n) g t h e = type_at all n g t h e
 
 entered_reaches : (May : ℕ → Type 0) (f : FileScope) (words : Storage) (x : Spelling) (place : ℕ) (t : CType) (nodes : ℕ) (n : ℕ × FileScope)
     → Extends f n.1
@@ -97,26 +84,18 @@ module _ (f : FileScope) (specs : Trees.Specifiers) (d : Trees.Declarator) (left
   IsRuled = ((fault ≡ ill_typed R.Specifiers (first_specifiers specs)) × (is_function t ≡ false))
       ⊎ ((which : LibraryFunction) × (x.text ≡ library_name which) × (fault ≡ ill_typed R.Library x.from))
       ⊎ ((fault ≡ ill_typed R.Main x.from) × IsBrokenMain f (storage_of specs) t x)
-      ⊎ IsOtherwise f (storage_of specs) t x fault
-      ⊎ IsOld f x IsDefinition fault
+      ⊎ IsOtherwise f (storage_of specs) t x left fault
+      ⊎ IsOld f x left IsDefinition fault
       ⊎ IsBrokenBody f t d x left items fault
 
-  pub ruled : IsRuled → IsStoppedDefinition f specs d left items x fault
-  ruled r = inl (inr (inr (base, is_base, inr (x, t, name, declares, r))))
+  pub ruled : IsRuled → IsBrokenDefinition f specs d left items fault
+  ruled r = inr (inr (base, is_base, inr (x, t, name, declares, r)))
 
-  taken : IsTakenOtherwise f (storage_of specs) t x fault → IsStoppedDefinition f specs d left items x fault
-  taken h = by_part (otherwise_or_within f (storage_of specs) t x fault h)
-    where
-      by_part : IsOtherwise f (storage_of specs) t x fault ⊎ IsTakenWithin f x fault → IsStoppedDefinition f specs d left items x fault
-      by_part (inl o) = ruled (inr (inr (inr (inl o))))
-      by_part (inr w) = inr w
+  taken : AreBegun f.names left → IsTakenOtherwise f (storage_of specs) t x fault → IsBrokenDefinition f specs d left items fault
+  taken begun h = ruled (inr (inr (inr (inl (otherwise_of f (storage_of specs) t x left fault begun h)))))
 
-  twice : IsTaken f x IsDefinition fault → IsStoppedDefinition f specs d left items x fault
-  twice h = by_part (old_or_within f x IsDefinition fault h)
-    where
-      by_part : IsOld f x IsDefinition fault ⊎ IsTakenWithin f x fault → IsStoppedDefinition f specs d left items x fault
-      by_part (inl o) = ruled (inr (inr (inr (inr (inl o)))))
-      by_part (inr w) = inr w
+  twice : AreBegun f.names left → IsTaken f x IsDefinition fault → IsBrokenDefinition f specs d left items fault
+  twice begun h = ruled (inr (inr (inr (inr (inl (old_of f x left IsDefinition fault begun h))))))
 
 module _ (untagged : ℕ → List ℕ) (types_named : List (List ℕ)) (nodes_at : ℕ → ℕ) (ends : List ℕ) where
   -- ---- a function, in a file that has spoken of its type
@@ -126,7 +105,7 @@ module _ (untagged : ℕ → List ℕ) (types_named : List (List ℕ)) (nodes_at
       (name : declared_name d ≡ Some x) (result : CType) (types : CTypes)
       (declares : (g : FileScope) → Extends f g → Declares (at_file_scope g) d base (closed (function result types)))
       (words : MayDeclare (storage_of specs)) (k : IsKnown nodes_at before none_new none_new f) (same : f.untagged ≡ untagged)
-      (same_ends : f.ends ≡ ends)
+      (same_ends : f.ends ≡ ends) (begun : AreBegun f.names left)
       (orderly : IsOrderly f) (in_range : AreItemsInRange f.ends (length f.records) items)
       (timely : (g : FileScope) → length g.records ≡ length f.records → AreItemsTimely untagged ends g items) (fresh : AreFresh f
       (made_by_items items)) where
@@ -137,7 +116,7 @@ module _ (untagged : ℕ → List ℕ) (types_named : List (List ℕ)) (nodes_at
     bytes = made_by_items items
 
     abbrev Is : FileScope → Type 0
-    Is g = IsStoppedDefinition g specs d left items x fault
+    Is g = IsBrokenDefinition g specs d left items fault
 
     in_making : (place nodes : ℕ) → nodes ≡ nodes_at place → IsMainType x.text t → defined_among f.names x.text ≡ None → (n : ℕ × FileScope)
         → IsNewFunction f (storage_of specs) x place t nodes n ⊎ IsOldFunction f x t n
@@ -166,7 +145,8 @@ module _ (untagged : ℕ → List ℕ) (types_named : List (List ℕ)) (nodes_at
         let reach : Reaches (IsAmong bytes) f false c =
         reaches_then (entered_reaches (IsAmong bytes) f (storage_of specs) x place t nodes n v.continues.extends e)
         (record { extends = (bound_put n.1 b).extends; counted = λ e. cc; begins = λ m o h. inl h }) in
-        let stop = body_stops untagged c result types d x left items p received n.0 (length n.1.names, at_end n.1.names b)
+        let stop = body_stops untagged c result types d x left items p received n.0 (type_at n.1.functions n.0 v.function t v.stands v.ty)
+        (length n.1.names, at_end n.1.names b)
         (record {
           names_fit = i.known.fits;
           complete = are_complete i.known.settled;
@@ -195,17 +175,17 @@ module _ (untagged : ℕ → List ℕ) (types_named : List (List ℕ)) (nodes_at
         place : ℕ
         place = first_declarator d x.from
 
-        here : IsStoppedDefinition f specs d left items x fault → StopsIn bytes f Is
+        here : IsBrokenDefinition f specs d left items fault → StopsIn bytes f Is
         here i = stops_here bytes f Is i
 
         by_parameters : (o : Option Received) → received_by (parameters_of d) types ≡ o
             → define_function f (storage_of specs) x (first_specifiers specs) (first_declarator d x.from) left nodes result types items o ≡ Err fault
             → StopsIn bytes f Is
         by_parameters None e h =
-            here (inl (inl (
+            here (inl (
               same_fault FileScope (ill_typed R.Specifiers (first_specifiers specs)) fault h,
               inr (inr (nameless d (at_file_scope f) base result types (declares f (itself f)) e)),
-            )))
+            ))
         by_parameters (Some p) e h =
             let is_ruled = ruled f specs d left items fault base (is_base f (itself f)) x name t (declares f (itself f)) in
             own_fault x.from (library_named x.text) _ fault (StopsIn bytes f Is) h
@@ -214,11 +194,11 @@ module _ (untagged : ℕ → List ℕ) (types_named : List (List ℕ)) (nodes_at
             (λ is main other. here (is_ruled (inr (inr (inl (is, (main, inl (no_typedef (storage_of specs) words, refl, other))))))))
             (λ main h. bound_err (function_of f (storage_of specs) x (first_declarator d x.from) t nodes (declared_among f.names x.text)) _ fault
             (StopsIn bytes f Is) h
-            (λ i. here (taken f specs d left items fault base (is_base f (itself f)) x name t (declares f (itself f))
+            (λ i. here (taken f specs d left items fault base (is_base f (itself f)) x name t (declares f (itself f)) begun
             (function_of_fault f (storage_of specs) words x (first_declarator d x.from) t nodes refl k.functions_bound k.libraries_bound own
             (declared_among f.names x.text) refl fault i)))
             (λ n i h. once_fault x (defined_among f.names x.text) _ fault (StopsIn bytes f Is) h
-            (λ old j again. here (twice f specs d left items fault base (is_base f (itself f)) x name t (declares f (itself f))
+            (λ old j again. here (twice f specs d left items fault base (is_base f (itself f)) x name t (declares f (itself f)) begun
             (twice_defined f x fault old j again)))
             (λ once h. bound_err (items_in result items (in_body (with_bound n.1 (bound x left defines
             (a_function n.0 t))) p.bounds p.locals) false false) _ fault

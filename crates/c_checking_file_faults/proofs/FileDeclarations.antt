@@ -1,12 +1,12 @@
 -- Where a declaration of the file scope stops, a rule is broken (C99 6.7, 6.9).
-use Rattle.std.proofs.Common.{◌≡◌, ℕ, ◌+◌, ◌≤◌, ◌<◌, Bool, true, false, refl, sym, ap, ◌∙◌, subst, List, [], ◌∷◌, ◌++◌, length}
+use Rattle.std.proofs.Common.{◌≡◌, ℕ, ◌+◌, ◌<◌, Bool, true, false, refl, sym, ◌∙◌, subst, List, [], ◌∷◌, ◌++◌, length}
 use Rattle.std.proofs.Common.{append-nil, arith, inl, inr}
-use Rattle.std.specs.Prelude.{◌⊎◌, map, Some, Ok, Err, slice_get, ◌&&◌, not}
+use Rattle.std.specs.Prelude.{◌⊎◌, Some, Err, slice_get, ◌&&◌, not}
 use Rattle.lay_base.specs.declared.faults.Rule.TheVariants as R
 use Rattle.c_types.specs.Types.{CType}
 use Rattle.c_ast.specs.Trees
 use Rattle.c_ast.specs.Places.{first_specifiers}
-use Rattle.c_erasure.specs.Broken.{Fault, ill_typed, AreBroken, AreNoType}
+use Rattle.c_erasure.specs.Broken.{Fault, ill_typed, AreBroken}
 use Rattle.c_erasure.specs.BrokenFiles.{IsBrokenFileDeclaration}
 use Rattle.c_erasure.specs.BrokenStatements.{IsAmong}
 use Rattle.c_erasure.specs.Erasure.{IsBase, IsOne}
@@ -16,10 +16,10 @@ use Rattle.c_erasure.specs.MentionPlaces.{spoken_of_specifiers}
 use Rattle.c_erasure.specs.Scopes.{FileScope, at_file_scope}
 use Rattle.c_erasure.specs.Specifiers.{storage_of}
 use Rattle.c_checking.specs.Declaring.{base_kind}
-use Rattle.c_checking.specs.Files.{file_declarators, file_declaration, is_empty}
+use Rattle.c_checking.specs.Files.{file_declaration, is_empty}
 use Rattle.c_checking.specs.Finding.{base_type, one_of}
 use Rattle.c_checking.proofs.FaultPremises.{IsPrepared, left, right, AreSpecifiersTimely}
-use Rattle.c_checking.proofs.FaultResults.{same_fault, bound_err, chosen_err, Reaches, reaches_itself}
+use Rattle.c_checking.proofs.FaultResults.{same_fault, bound_err, chosen_err, Reaches}
 use Rattle.c_checking.proofs.FaultTypes.{base_stops}
 use Rattle.c_checking.proofs.Faults.{faults_one}
 use Rattle.c_checking.proofs.Growth.{grow_base}

@@ -1,31 +1,30 @@
 -- Where an item of a file stops, a rule is broken; and where a file stops, one of its items does (C99 6.9).
-use Rattle.std.proofs.Common.{◌≡◌, ℕ, refl, ap, ◌∙◌, List, [], ◌∷◌, ◌++◌, inl, inr}
+use Rattle.std.proofs.Common.{◌≡◌, ℕ, refl, ap, ◌∙◌, List, [], ◌∷◌, ◌++◌, inr}
 use Rattle.std.specs.Prelude.{Some, Ok, Err}
 use Rattle.c_ast.specs.declared.words.Spelling.{Spelling}
 use Rattle.c_ast.specs.Trees
 use Rattle.c_ast.specs.Places.{first_declarator}
 use Rattle.c_erasure.specs.Broken.{Fault}
+use Rattle.c_erasure.specs.BrokenFiles.{IsBrokenDefinition}
 use Rattle.c_erasure.specs.BrokenStatements.{IsAmong}
 use Rattle.c_erasure.specs.Declarators.{declared_name}
 use Rattle.c_erasure.specs.Literals.{made_by_items}
 use Rattle.c_erasure.specs.Marks.{Mark}
 use Rattle.c_erasure.specs.Scopes.{FileScope}
-use Rattle.c_checking.specs.Answers.{Answer}
-use Rattle.c_checking.specs.Files.{item_nodes, filed_item, filed, unread, closed_file, annotated}
+use Rattle.c_checking.specs.Files.{item_nodes, filed_item, filed, unread, annotated}
 use Rattle.c_checking.proofs.FaultResults.{bound_err, Reaches}
 use Rattle.c_checking.proofs.Results.{ok}
 use Rattle.c_text_order.specs.TextOrder.{places_of_item}
 use Rattle.c_checking_items.proofs.Known.{IsKnown, none_new}
 use Rattle.c_checking_items.proofs.Stepping.{Stepped, no_step}
 use Rattle.c_checking_file_faults.proofs.Behind.{StopsIn, stops_more}
-use Rattle.c_checking_file_faults.proofs.DefinitionStops.{IsStoppedDefinition, MayStopIn}
+use Rattle.c_checking_file_faults.proofs.DefinitionStops.{MayStopIn}
 use Rattle.c_checking_file_faults.proofs.FileDeclarations.{IsStoppedDeclaration, DeclarationStops, MayStopDeclaration, declaration_stops}
 use Rattle.c_checking_file_faults.proofs.WholeDefinitions.{definition_stops}
 
 -- an item that stops, in a file behind what is read before, and in one that goes on from there
 abbrev pub IsStoppedItem : FileScope → FileScope → Trees.Item → Fault → Type 0
-IsStoppedItem m g (Trees.defines specs d left items right) fault = (x : Spelling) × (declared_name d ≡ Some x)
-    × IsStoppedDefinition g specs d left items x fault
+IsStoppedItem m g (Trees.defines specs d left items right) fault = IsBrokenDefinition g specs d left items fault
 IsStoppedItem m g (Trees.declaration d) fault = IsStoppedDeclaration m g d fault
 
 module _ (untagged : ℕ → List ℕ) (types : List (List ℕ)) (nodes_at : ℕ → ℕ) (ends : List ℕ) where
@@ -49,12 +48,12 @@ module _ (untagged : ℕ → List ℕ) (types : List (List ℕ)) (nodes_at : ℕ
   MayStopItem f (Trees.declaration d) at in_scope =
       MayStopDeclaration untagged types nodes_at ends f d (item_nodes (Trees.declaration d)) at in_scope
 
-  defined_item : (f : FileScope) (specs : Trees.Specifiers) (d : Trees.Declarator) (left : ℕ) (items : Trees.BlockItems) (right : ℕ) (x : Spelling)
-      → declared_name d ≡ Some x → (fault : Fault) → StopsIn (made_by_items items) f (λ g. IsStoppedDefinition g specs d left items x fault)
+  defined_item : (f : FileScope) (specs : Trees.Specifiers) (d : Trees.Declarator) (left : ℕ) (items : Trees.BlockItems) (right : ℕ) (fault : Fault)
+      → StopsIn (made_by_items items) f (λ g. IsBrokenDefinition g specs d left items fault)
       → ItemStops f (Trees.defines specs d left items right) fault
-  defined_item f specs d left items right x name fault b =
+  defined_item f specs d left items right fault b =
       let there = stops_more {k = made_by_items items} {l = first_declarator d left ∷ made_by_items items}
-      (λ g. IsStoppedDefinition g specs d left items x fault) (λ g. IsStoppedDefinition g specs d left items x fault) (λ y i. inr i) (λ g i. i) b in
+      (λ g. IsBrokenDefinition g specs d left items fault) (λ g. IsBrokenDefinition g specs d left items fault) (λ y i. inr i) (λ g i. i) b in
       record {
         middle = f;
         file = there.file;
@@ -63,7 +62,7 @@ module _ (untagged : ℕ → List ℕ) (types : List (List ℕ)) (nodes_at : ℕ
         places = [];
         made = [];
         later = first_declarator d left ∷ made_by_items items;
-        step = no_step nodes_at f (λ h. IsStoppedItem h there.file (Trees.defines specs d left items right) fault) (λ h c. (x, name, there.is));
+        step = no_step nodes_at f (λ h. IsStoppedItem h there.file (Trees.defines specs d left items right) fault) (λ h c. there.is);
         places_are = refl;
         reaches = there.reaches;
       }
@@ -90,7 +89,7 @@ module _ (untagged : ℕ → List ℕ) (types : List (List ℕ)) (nodes_at : ℕ
       declared_item f d fault
       (declaration_stops untagged types nodes_at ends before d f (item_nodes (Trees.declaration d)) at in_scope may k fault h)
   item_stops before (Trees.defines specs d left items right) f at in_scope may k fault h =
-      defined_item f specs d left items right may.0.0 may.0.1 fault
+      defined_item f specs d left items right fault
       (definition_stops untagged types nodes_at ends before specs d left items (item_nodes
       (Trees.defines specs d left items right)) at in_scope f may.1 k
       may.0.0 may.0.1 fault h)

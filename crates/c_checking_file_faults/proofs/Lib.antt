@@ -8,7 +8,6 @@ mod DeclaratorsStop
 mod FileDeclarations
 mod ItemStops
 mod OwnItems
-mod RedeclaredExample
 mod Parameters
 mod DefinitionStops
 mod WholeDefinitions

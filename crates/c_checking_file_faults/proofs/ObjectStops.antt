@@ -1,31 +1,29 @@
 -- Where a declarator of an object of the file scope stops behind its type, a rule is broken (C99 6.7.8, 6.9.2).
-use Rattle.std.proofs.Common.{◌≡◌, ◌≢◌, ℕ, zero, suc, ◌+◌, ◌≤◌, ◌<◌, Bool, true, false, refl, sym, ap, ◌∙◌, subst, List, [], ◌∷◌, ◌++◌, length, inl}
+use Rattle.std.proofs.Common.{◌≡◌, ◌≢◌, ℕ, zero, suc, ◌≤◌, ◌<◌, true, false, refl, sym, ap, ◌∙◌, subst, List, [], ◌∷◌, ◌++◌, length, inl}
 use Rattle.std.proofs.Common.{inr, arith}
 use Rattle.std.proofs.Common.{append-nil}
 use Rattle.std.proofs.lemmas.List.{map-append}
-use Rattle.std.specs.Prelude.{◌⊎◌, map, Option, Some, None, Ok, Err, slice_get, is_none}
-use Rattle.lay_base.specs.declared.faults.Rule.TheVariants as R
+use Rattle.std.specs.Prelude.{◌⊎◌, map, Option, Some, None, Err, slice_get, is_none}
 use Rattle.c_types.specs.Objects.{is_object}
 use Rattle.c_types.specs.Types.{CType}
 use Rattle.c_ast.specs.declared.words.Spelling.{Spelling}
 use Rattle.c_ast.specs.Trees
 use Rattle.c_ast.specs.WellFormed.{IsValue}
 use Rattle.c_typed.specs.Conversions.{is_function}
-use Rattle.c_erasure.specs.Broken.{Fault, ill_typed}
-use Rattle.c_erasure.specs.BrokenFiles.{IsDefinedThere}
+use Rattle.c_erasure.specs.Broken.{Fault}
+use Rattle.c_erasure.specs.BrokenFiles.{IsDefinedThere, IsBrokenFileDeclarator}
 use Rattle.c_erasure.specs.BrokenStatements.{IsAmong, IsBrokenInitial, HasNoConstants}
 use Rattle.c_erasure.specs.Declarators.{declared_name, Shape}
 use Rattle.c_erasure.specs.Erasure.{Declares}
 use Rattle.c_erasure.specs.Files.{bound, object_how}
 use Rattle.c_erasure.specs.Literals.{literals, literals_of_value}
 use Rattle.c_erasure.specs.Marks.{a_name, marks, marks_of_initial}
-use Rattle.c_erasure.specs.Scopes.{FileScope, Scope, Bound, AnObject, AFunction, defines, an_object, at_file_scope}
+use Rattle.c_erasure.specs.Scopes.{FileScope, Bound, AnObject, AFunction, defines, an_object, at_file_scope}
 use Rattle.c_erasure.specs.Specifiers.{Storage}
 use Rattle.c_erasure.specs.Statements.{IsSized}
 use Rattle.c_checking.specs.Declaring.{declared_among, with_bound}
 use Rattle.c_checking.specs.Files.{library_named, declare_object, object_of, defined_once, define_object, defined_among, new_object, with_new_object}
 use Rattle.c_checking.specs.Statements.{constants_if_any}
-use Rattle.c_checking.proofs.Agreement.{added, IsGrown}
 use Rattle.c_checking.proofs.Extends.{Extends, itself, further, bound_stays, at_end, last_or}
 use Rattle.c_checking.proofs.FaultPremises.{IsPrepared, right}
 use Rattle.c_checking.proofs.FaultResults.{bound_err, Reaches, reaches_then, reaches_itself}
@@ -41,8 +39,8 @@ use Rattle.c_checking_items.proofs.ObjectSteps.{IsNew, IsOld, entered, stands_fo
 use Rattle.c_checking_faults.proofs.BracesFaults.{IsInitialTimely}
 use Rattle.c_checking_faults.proofs.Clear.{AreFresh, fresh_right, among_left, among_right, reaches_more}
 use Rattle.c_checking_faults.proofs.Constants.{constant_faults}
-use Rattle.c_checking_file_faults.proofs.Behind.{grown_by, StopsIn, stops_here, stops_there, stops_of}
-use Rattle.c_checking_file_faults.proofs.DeclaratorStops.{IsStopped, ruled_here, taken_here, twice_here, main_linked, no_library_type}
+use Rattle.c_checking_file_faults.proofs.Behind.{grown_by, StopsIn, stops_here, stops_of}
+use Rattle.c_checking_file_faults.proofs.DeclaratorStops.{ruled_here, taken_here, twice_here, main_linked, no_library_type}
 use Rattle.c_checking_file_faults.proofs.Tests.{named_is, own_fault, once_fault, object_of_fault, twice_defined}
 
 -- ---- a new object, and a name more
@@ -58,6 +56,11 @@ new_reaches f g o file p = record {
         → (slice_get f.objects n ≡ Some q) ⊎ IsAmong (o.first ∷ []) q.first
     by_part n q (inl h) = inl h
     by_part n q (inr h) = inr (inl (sym (ap (λ (o : AnObject). o.first) h.1)))
+
+type_at : (all : List AnObject) (n : ℕ) (o : AnObject) (t : CType) → slice_get all n ≡ Some o → o.ty ≡ t → slice_get (map (λ o. o.ty) all) n ≡ Some t
+type_at [] n o t h e = cc
+type_at (q ∷ all) zero o t h e = let same : q ≡ o = cc in ap Some (ap (λ (o : AnObject). o.ty) same ∙ e)
+type_at (q ∷ all) (suc n) o t h e = type_at all n o t h e
 
 bound_reaches : (May : ℕ → Type 0) (f : FileScope) (b : Bound) → Reaches May f false (with_bound f b)
 bound_reaches May f b = record { extends = (bound_put f b).extends; counted = λ e. cc; begins = λ n q h. inl h }
@@ -94,7 +97,7 @@ module _ (untagged : ℕ → List ℕ) (types : List (List ℕ)) (nodes_at : ℕ
       (objects_before : (n : ℕ) (o : AnObject) → slice_get f.objects n ≡ Some o → o.first < place)
       (functions_before : (n : ℕ) (g : AFunction) → slice_get f.functions n ≡ Some g → g.first < place) (fault : Fault) where
     abbrev Is : FileScope → Type 0
-    Is g = IsStopped g words base d x fault
+    Is g = IsBrokenFileDeclarator g words base d from fault
 
     sized_at : (g : FileScope) → Extends f g → IsSized (at_file_scope g) shape d.value t
     sized_at g p = sized_later p (at_file_scope g) refl shape d.value t whole sized
@@ -137,11 +140,12 @@ module _ (untagged : ℕ → List ℕ) (types : List (List ℕ)) (nodes_at : ℕ
         (λ s. IsBrokenInitial (Some value) s t fault ⊎ HasNoConstants (Some value) s t fault) Is stop
         (λ g q broken.
         let stands : slice_get g.names (length z.1.names) ≡ Some b = bound_stays q (length z.1.names) b (at_end z.1.names b) in
-        ruled_here g words base d x t fault name shape (declares g (further p q)) (sized_at g (further p q))
+        ruled_here g words base d x t from fault name shape (declares g (further p q)) (sized_at g (further p q))
         (inr (inr (inr (inr (inr (inr (subst
         (λ v. IsDefinedThere g x t v × (IsBrokenInitial v (at_file_scope g) t fault ⊎ HasNoConstants v (at_file_scope g) t fault)) (sym is) (
           (
             z.0,
+            q.types z.0 t (type_at z.1.objects z.0 v.object t v.stands v.ty),
             (
               length z.1.names,
               subst (λ from. slice_get g.names (length z.1.names) ≡ Some (bound x from defines (an_object z.0 t)))
@@ -166,7 +170,8 @@ module _ (untagged : ℕ → List ℕ) (types : List (List ℕ)) (nodes_at : ℕ
     value_stops (Some value) is asks z e v h =
         once_fault x (defined_among f.names x.text) _ fault (StopsIn (place ∷ literals value.1) f Is) h
         (λ old i again. stops_here (place ∷ literals value.1) f Is
-        (twice_here f words base d x t fault name shape (declares f (itself f)) (sized_at f (itself f)) (some_is is)
+        (twice_here f words base d x t from fault name shape (declares f (itself f)) (sized_at f (itself f))
+        (asks.prepared.begun refl 0 from refl) (some_is is)
         (twice_defined f x fault old i again)))
         (λ none h. bound_err (constants_if_any (Some value) (at_file_scope (with_bound z.1 (bound x from defines (an_object z.0 t)))) t) _ fault
         (StopsIn (place ∷ literals value.1) f Is) h (λ i. initial_stops value is asks z e none v i) (λ y i h. cc))
@@ -181,14 +186,14 @@ module _ (untagged : ℕ → List ℕ) (types : List (List ℕ)) (nodes_at : ℕ
         let is_shape = declares f (itself f) in
         let is_sized = sized_at f (itself f) in
         own_fault x.from (library_named x.text) _ fault (StopsIn (place ∷ literals_of_value d.value) f Is) h
-        (λ which e is. here (ruled_here f words base d x t fault name shape is_shape is_sized
+        (λ which e is. here (ruled_here f words base d x t from fault name shape is_shape is_sized
         (inl (is, (which, named_is x.text which e, inr (inr (no_library_type t no_function which)))))))
         (λ own h. bound_err (object_of f words x place t (declared_among f.names x.text)) _ fault (StopsIn (place ∷ literals_of_value d.value) f Is) h
         (λ e. object_of_fault f words may x place t no_function k.objects_bound (declared_among f.names x.text) refl fault
         (StopsIn (place ∷ literals_of_value d.value) f Is) e
-        (λ is main linked none. here (ruled_here f words base d x t fault name shape is_shape is_sized
+        (λ is main linked none. here (ruled_here f words base d x t from fault name shape is_shape is_sized
         (inr (inl (is, (main, inr (no_function, main_linked f words may x linked none)))))))
-        (λ taken. here (taken_here f words base d x t fault name shape is_shape is_sized taken)))
+        (λ taken. here (taken_here f words base d x t from fault name shape is_shape is_sized (asks.prepared.begun refl 0 from refl) taken)))
         (λ z e h.
         let v = object_is f words may x place t (declared_among f.names x.text)
         (stands_for nodes_at before f x place k objects_before functions_before) z e in

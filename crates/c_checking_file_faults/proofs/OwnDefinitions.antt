@@ -1,7 +1,7 @@
 -- The definition of a function binds a name of the library to no function of the file (own).
-use Rattle.std.proofs.Common.{◌≡◌, ℕ, suc, ◌+◌, ◌≤◌, ◌<◌, false, refl, sym, ap, ◌∙◌, subst, List, [], ◌∷◌, ◌++◌, length}
-use Rattle.std.proofs.Common.{append-nil, length-append, arith, inl, inr}
-use Rattle.std.specs.Prelude.{◌⊎◌, map, Option, Some, None, Ok, slice_get}
+use Rattle.std.proofs.Common.{◌≡◌, ℕ, suc, ◌+◌, ◌≤◌, refl, sym, ap, ◌∙◌, subst, List, [], ◌∷◌, ◌++◌, length}
+use Rattle.std.proofs.Common.{append-nil, length-append, arith}
+use Rattle.std.specs.Prelude.{map, Option, Some, None, Ok, slice_get}
 use Rattle.c_types.specs.Types.{CType, CTypes, void, integer, pointer, array, function, structure}
 use Rattle.c_ast.specs.declared.words.Spelling.{Spelling}
 use Rattle.c_ast.specs.Trees
@@ -10,7 +10,7 @@ use Rattle.c_typed.specs.declared.program.MentionKind.TheVariants.{Named}
 use Rattle.c_erasure.specs.Declarators.{declared_name, Shape, closed, open_array}
 use Rattle.c_erasure.specs.Files.{bound, parameters_of}
 use Rattle.c_erasure.specs.Marks.{Mark, a_name, marks_of_specifiers, marks_of_declarator, ends_in}
-use Rattle.c_erasure.specs.Scopes.{FileScope, AnObject, AFunction, defines, a_function, at_file_scope}
+use Rattle.c_erasure.specs.Scopes.{FileScope, AnObject, defines, a_function, at_file_scope}
 use Rattle.c_erasure.specs.Specifiers.{Storage, storage_of, no_storage, a_typedef, is_extern, is_static, is_auto, is_register, several}
 use Rattle.c_checking.specs.Answers.{Answer}
 use Rattle.c_checking.specs.Declaring.{base_kind, with_mention, mentions_in, derived, declared_among, with_bound}

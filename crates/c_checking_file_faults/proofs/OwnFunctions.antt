@@ -1,5 +1,5 @@
 -- A declarator of the file scope binds a name of the library to no function of the file (own).
-use Rattle.std.proofs.Common.{◌≡◌, ℕ, zero, suc, ◌+◌, Bool, true, false, refl, sym, ap, ◌∙◌, subst, List, [], ◌∷◌, ◌++◌, length, inl, inr}
+use Rattle.std.proofs.Common.{◌≡◌, ℕ, ◌+◌, true, refl, sym, ap, ◌∙◌, subst, List, [], ◌∷◌, ◌++◌, length, inl, inr}
 use Rattle.std.specs.Prelude.{◌⊎◌, Option, Some, None, Ok, slice_get, ◌&&◌, not}
 use Rattle.lay_base.specs.declared.faults.Rule.TheVariants as R
 use Rattle.c_types.specs.Sameness.{same_type}
@@ -15,12 +15,12 @@ use Rattle.c_typed.specs.declared.program.MentionKind.TheVariants.{Object, Named
 use Rattle.c_erasure.specs.Broken.{ill_typed}
 use Rattle.c_erasure.specs.Declarators.{declared_name}
 use Rattle.c_erasure.specs.Files.{bound, object_how, may_stand_in_file}
-use Rattle.c_erasure.specs.Scopes.{FileScope, Bound, AnObject, How, declares, defines, Entity, typedef, an_object, a_function, a_library_function}
+use Rattle.c_erasure.specs.Scopes.{FileScope, Bound, AnObject, declares, defines, typedef, an_object, a_function, a_library_function}
 use Rattle.c_erasure.specs.Scopes.{at_file_scope, declared}
 use Rattle.c_erasure.specs.Specifiers.{Storage, a_typedef}
 use Rattle.c_checking.specs.Answers.{Answer, moved}
 use Rattle.c_checking.specs.Declaring.{derived, mentions_in, object_at, declared_among, with_bound, with_mention}
-use Rattle.c_checking.specs.Files.{library_named, main_type, is_main, links, library_again, declare_typedef, declare_own, declare_library}
+use Rattle.c_checking.specs.Files.{library_named, main_type, is_main, links, library_again, declare_typedef}
 use Rattle.c_checking.specs.Files.{declare_function}
 use Rattle.c_checking.specs.Files.{declare_object, without_value, object_of, function_of, define_object, with_definition, declare_as}
 use Rattle.c_checking.specs.Files.{declarator_named}

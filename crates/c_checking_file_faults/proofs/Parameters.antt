@@ -1,7 +1,7 @@
 -- The parameters of a definition: those that its type says, each of a type of an object, and each with a name unless the definition is broken
 -- (C99 6.7.5.3, 6.9.1).
 use Rattle.std.proofs.Common.{◌≡◌, ℕ, zero, suc, ◌+◌, Bool, true, false, refl, sym, ap, ◌∙◌, subst, cond, List, [], ◌∷◌, inl, inr}
-use Rattle.std.specs.Prelude.{map, Option, Some, None, slice_get}
+use Rattle.std.specs.Prelude.{Option, Some, None}
 use Rattle.c_types.specs.Types.{CType, CTypes, void, integer, pointer, array, function, structure, no_types, and_type}
 use Rattle.c_ast.specs.declared.words.Spelling.{Spelling}
 use Rattle.c_ast.specs.Trees

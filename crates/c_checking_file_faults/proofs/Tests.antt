@@ -1,10 +1,9 @@
 -- What the faults of declarations of one name say: names of the library and `main`, a name that stands for something else, and a second definition
 -- (C99 6.2.2, 6.7, 6.9).
-use Rattle.std.proofs.Common.{◌≡◌, ◌≢◌, ℕ, suc, Bool, true, false, refl, sym, ap, ◌∙◌, subst, List, [], ◌∷◌, cond, inl, inr, arith}
-use Rattle.std.proofs.lemmas.Bool.{and_parts, leb-true}
-use Rattle.std.proofs.lemmas.Bool.Decides.{nat_tests}
+use Rattle.std.proofs.Common.{◌≡◌, ◌≢◌, ℕ, zero, suc, Bool, true, false, refl, sym, ap, ◌∙◌, subst, List, [], ◌∷◌, cond, inl, inr, arith}
+use Rattle.std.proofs.lemmas.Bool.{and_parts}
 use Rattle.std.proofs.lemmas.Slice.Eq.{bytes_eq-Decides}
-use Rattle.std.specs.Prelude.{◌⊎◌, ◌<◌, ◌≤◌, ◌&&◌, not, Option, Some, None, Err, slice_get, codes, nat_le}
+use Rattle.std.specs.Prelude.{◌⊎◌, ◌&&◌, not, Option, Some, None, Err, slice_get, codes}
 use Rattle.std.specs.Str.{bytes_eq}
 use Rattle.lay_base.specs.declared.faults.Rule.TheVariants as R
 use Rattle.c_types.specs.Sameness.{same_type}
@@ -16,7 +15,7 @@ use Rattle.c_typed.specs.declared.operators.LibraryFunction.{LibraryFunction}
 use Rattle.c_typed.specs.Conversions.{is_function}
 use Rattle.c_typed.specs.Fits.{library_type}
 use Rattle.c_erasure.specs.Broken.{Fault, ill_typed, redeclared}
-use Rattle.c_erasure.specs.BrokenFiles.{IsOld, IsAny, IsNoObjectOf, IsNoFunctionOf, IsDefinition, linked_object, linked_function, is_linked}
+use Rattle.c_erasure.specs.BrokenFiles.{IsNoneBefore, IsOld, IsAny, IsNoObjectOf, IsNoFunctionOf, IsDefinition, linked_object, linked_function, is_linked}
 use Rattle.c_erasure.specs.BrokenFiles.{IsOfOtherLinkage, IsBrokenLibrary, IsOtherwise}
 use Rattle.c_erasure.specs.Files.{library_name, IsMainType}
 use Rattle.c_erasure.specs.Scopes.{FileScope, Bound, How, declares, tentative, defines, Entity, typedef, enumerator, an_object, a_function}
@@ -30,6 +29,7 @@ use Rattle.c_checking.specs.Files.{once, links}
 use Rattle.c_checking.specs.Files.{defined_among, linked_before, function_linked_before, linkage_agrees, function_linkage_agrees, known_object}
 use Rattle.c_checking.specs.Files.{object_of}
 use Rattle.c_checking.specs.Files.{known_function, function_of, library_again, place_of_bound, declare_library, without_value}
+use Rattle.c_checking.proofs.Agreement.{AreBegun}
 use Rattle.c_checking.proofs.FaultResults.{same_fault, chosen_err}
 use Rattle.c_checking.proofs.NodesOfParts.{same_bytes}
 use Rattle.c_checking_files.proofs.FileScopes.{MayDeclare}
@@ -79,6 +79,9 @@ not_so false h = refl
 same_never : (s t : CType) → same_type s t ≡ false → s ≢ t
 same_never s t h e = let k = same_self s t e in let true_is_false = sym k ∙ h in cc
 
+other_name : (a b : List ℕ) → bytes_eq a b ≡ false → a ≢ b
+other_name a b h e = let same : bytes_eq a b ≡ true = (bytes_eq-Decides a b).1 e in let true_is_false = sym same ∙ h in cc
+
 main_typed : (x : List ℕ) (t : CType) → (is_main x && not (same_type t main_type)) ≡ false → IsMainType x t
 unfolding is_main
 main_typed x t h e = by_test (same_type t main_type) refl
@@ -110,71 +113,39 @@ main_object_fault {A} x at linked r fault P h p q =
 
 -- ---- a name that is declared in the file, wherever its scope begins
 
+-- the first declaration of something else, or the first that defines it
 abbrev pub IsTaken : FileScope → Spelling → (Bound → Type 0) → Fault → Type 0
 IsTaken f x IsOther fault = (k : ℕ) × (b : Bound) × (slice_get f.names k ≡ Some b) × (b.name ≡ x.text) × IsOther b
-    × (fault ≡ redeclared x.text x.from b.place)
+    × IsNoneBefore f.names k (λ c. (c.name ≡ x.text) × IsOther c) × (fault ≡ redeclared x.text x.from b.place)
 
 abbrev pub IsTakenOtherwise : FileScope → Storage → CType → Spelling → Fault → Type 0
 IsTakenOtherwise f a_typedef t x fault = IsTaken f x IsAny fault
 IsTakenOtherwise f words t x fault = ((is_function t ≡ true) × IsTaken f x (IsNoFunctionOf t) fault)
     ⊎ ((is_function t ≡ false) × IsTaken f x (IsNoObjectOf t) fault) ⊎ IsTaken f x (IsOfOtherLinkage f words) fault
 
--- the scope of the other declaration begins in the declarator itself
-pub record IsTakenWithin (f : FileScope) (x : Spelling) (fault : Fault) : Type 0 where
-  pub number : ℕ
-  pub other : Bound
-  pub stands : slice_get f.names number ≡ Some other
-  pub name : other.name ≡ x.text
-  pub later : x.from < other.from
-  pub is : fault ≡ redeclared x.text x.from other.place
+-- where all names of the file are in scope before the name, it is redeclared
+pub old_of : (f : FileScope) (x : Spelling) (from : ℕ) (P : Bound → Type 0) (fault : Fault) → AreBegun f.names from → IsTaken f x P fault
+    → IsOld f x from P fault
+old_of f x from P fault begun h = (h.0, h.1, h.2, h.3, begun h.0 h.1 h.2, h.4, h.5, h.6)
 
-behind_it : (n m : ℕ) → nat_le n m ≡ false → m < n
-behind_it n m h = grind (arith, nat_tests)
-
-pub old_or_within : (f : FileScope) (x : Spelling) (P : Bound → Type 0) (fault : Fault) → IsTaken f x P fault → IsOld f x P fault
-    ⊎ IsTakenWithin f x fault
-old_or_within f x P fault h = by_test (nat_le h.1.from x.from) refl
-  where
-    by_test : (b : Bool) → nat_le h.1.from x.from ≡ b → IsOld f x P fault ⊎ IsTakenWithin f x fault
-    by_test true e = inl (h.0, h.1, h.2, h.3, leb-true h.1.from x.from e, h.4, h.5)
-    by_test false e = inr (record { number = h.0; other = h.1; stands = h.2; name = h.3; later = behind_it h.1.from x.from e; is = h.5 })
-
-three : (f : FileScope) (words : Storage) (t : CType) (x : Spelling) (fault : Fault)
+three : (f : FileScope) (words : Storage) (t : CType) (x : Spelling) (from : ℕ) (fault : Fault) → AreBegun f.names from
     → ((is_function t ≡ true) × IsTaken f x (IsNoFunctionOf t) fault)
     ⊎ ((is_function t ≡ false) × IsTaken f x (IsNoObjectOf t) fault) ⊎ IsTaken f x (IsOfOtherLinkage f words) fault
-    → (((is_function t ≡ true) × IsOld f x (IsNoFunctionOf t) fault) ⊎ ((is_function t ≡ false) × IsOld f x (IsNoObjectOf t) fault)
-    ⊎ IsOld f x (IsOfOtherLinkage f words) fault) ⊎ IsTakenWithin f x fault
-three f words t x fault (inl h) = of_one (old_or_within f x (IsNoFunctionOf t) fault h.1)
-  where
-    of_one : IsOld f x (IsNoFunctionOf t) fault ⊎ IsTakenWithin f x fault
-        → (((is_function t ≡ true) × IsOld f x (IsNoFunctionOf t) fault) ⊎ ((is_function t ≡ false) × IsOld f x (IsNoObjectOf t) fault)
-        ⊎ IsOld f x (IsOfOtherLinkage f words) fault) ⊎ IsTakenWithin f x fault
-    of_one (inl o) = inl (inl (h.0, o))
-    of_one (inr w) = inr w
-three f words t x fault (inr (inl h)) = of_one (old_or_within f x (IsNoObjectOf t) fault h.1)
-  where
-    of_one : IsOld f x (IsNoObjectOf t) fault ⊎ IsTakenWithin f x fault
-        → (((is_function t ≡ true) × IsOld f x (IsNoFunctionOf t) fault) ⊎ ((is_function t ≡ false) × IsOld f x (IsNoObjectOf t) fault)
-        ⊎ IsOld f x (IsOfOtherLinkage f words) fault) ⊎ IsTakenWithin f x fault
-    of_one (inl o) = inl (inr (inl (h.0, o)))
-    of_one (inr w) = inr w
-three f words t x fault (inr (inr h)) = of_one (old_or_within f x (IsOfOtherLinkage f words) fault h)
-  where
-    of_one : IsOld f x (IsOfOtherLinkage f words) fault ⊎ IsTakenWithin f x fault
-        → (((is_function t ≡ true) × IsOld f x (IsNoFunctionOf t) fault) ⊎ ((is_function t ≡ false) × IsOld f x (IsNoObjectOf t) fault)
-        ⊎ IsOld f x (IsOfOtherLinkage f words) fault) ⊎ IsTakenWithin f x fault
-    of_one (inl o) = inl (inr (inr o))
-    of_one (inr w) = inr w
+    → ((is_function t ≡ true) × IsOld f x from (IsNoFunctionOf t) fault)
+    ⊎ ((is_function t ≡ false) × IsOld f x from (IsNoObjectOf t) fault) ⊎ IsOld f x from (IsOfOtherLinkage f words) fault
+three f words t x from fault begun (inl h) = inl (h.0, old_of f x from (IsNoFunctionOf t) fault begun h.1)
+three f words t x from fault begun (inr (inl h)) = inr (inl (h.0, old_of f x from (IsNoObjectOf t) fault begun h.1))
+three f words t x from fault begun (inr (inr h)) = inr (inr (old_of f x from (IsOfOtherLinkage f words) fault begun h))
 
-pub otherwise_or_within : (f : FileScope) (words : Storage) (t : CType) (x : Spelling) (fault : Fault) → IsTakenOtherwise f words t x fault
-    → IsOtherwise f words t x fault ⊎ IsTakenWithin f x fault
-otherwise_or_within f a_typedef t x fault h = old_or_within f x IsAny fault h
-otherwise_or_within f no_storage t x fault h = three f no_storage t x fault h
-otherwise_or_within f is_extern t x fault h = three f is_extern t x fault h
-otherwise_or_within f is_static t x fault h = three f is_static t x fault h
-otherwise_or_within f is_auto t x fault h = three f is_auto t x fault h
-otherwise_or_within f is_register t x fault h = three f is_register t x fault h
-otherwise_or_within f several t x fault h = three f several t x fault h
+pub otherwise_of : (f : FileScope) (words : Storage) (t : CType) (x : Spelling) (from : ℕ) (fault : Fault) → AreBegun f.names from
+    → IsTakenOtherwise f words t x fault → IsOtherwise f words t x from fault
+otherwise_of f a_typedef t x from fault begun h = old_of f x from IsAny fault begun h
+otherwise_of f no_storage t x from fault begun h = three f no_storage t x from fault begun h
+otherwise_of f is_extern t x from fault begun h = three f is_extern t x from fault begun h
+otherwise_of f is_static t x from fault begun h = three f is_static t x from fault begun h
+otherwise_of f is_auto t x from fault begun h = three f is_auto t x from fault begun h
+otherwise_of f is_register t x from fault begun h = three f is_register t x from fault begun h
+otherwise_of f several t x from fault begun h = three f several t x from fault begun h
 
 taken_so : (f : FileScope) (words : Storage) → MayDeclare words → (t : CType) (x : Spelling) (fault : Fault)
     → ((is_function t ≡ true) × IsTaken f x (IsNoFunctionOf t) fault)
@@ -188,10 +159,30 @@ taken_so f is_auto m t x fault h = absurd m
 taken_so f is_register m t x fault h = absurd m
 taken_so f several m t x fault h = absurd m
 
+none_more : (b : Bound) (names : List Bound) (k : ℕ) (Is : Bound → Type 0) → (Is b → ⊥) → IsNoneBefore names k Is → IsNoneBefore (b ∷ names) (suc k) Is
+none_more b names k Is other h zero c l e i = let same : b ≡ c = cc in other (subst Is (sym same) i)
+none_more b names k Is other h (suc j) c l e i = h j c (omega (arith, l)) e i
+
 -- the first declaration of a name
+first_declared : (names : List Bound) (x : List ℕ) (old : Bound) → declared_among names x ≡ Some old
+    → (k : ℕ) × (slice_get names k ≡ Some old) × (old.name ≡ x) × IsNoneBefore names k (λ c. c.name ≡ x)
+first_declared [] x old h = cc
+first_declared (b ∷ names) x old h = by_name (bytes_eq b.name x) refl (λ h. first_declared names x old h) h
+  where
+    by_name : (t : Bool) → bytes_eq b.name x ≡ t
+        → (declared_among names x ≡ Some old → (k : ℕ) × (slice_get names k ≡ Some old) × (old.name ≡ x) × IsNoneBefore names k (λ c. c.name ≡ x))
+        → cond t (Some b) (declared_among names x) ≡ Some old
+        → (k : ℕ) × (slice_get (b ∷ names) k ≡ Some old) × (old.name ≡ x) × IsNoneBefore (b ∷ names) k (λ c. c.name ≡ x)
+    by_name true e later h =
+        let same : b ≡ old = cc in
+        (0, ap Some same, subst (λ (c : Bound). c.name ≡ x) same (same_bytes b.name x e), λ j c l g n. absurd (omega (arith, l)))
+    by_name false e later h =
+        let r = later h in (suc r.0, r.1, r.2, none_more b names r.0 (λ c. c.name ≡ x) (λ n. other_name b.name x e n) r.3)
+
 pub taken_by : (f : FileScope) (x : Spelling) (P : Bound → Type 0) (fault : Fault) (old : Bound) → declared_among f.names x.text ≡ Some old → P old
     → fault ≡ redeclared x.text x.from old.place → IsTaken f x P fault
-taken_by f x P fault old e p is = let d = declared_is f.names x.text old e in (d.0, old, d.1, d.2, p, is)
+taken_by f x P fault old e p is =
+    let d = first_declared f.names x.text old e in (d.0, old, d.1, d.2, p, (λ j c l g i. d.3 j c l g i.0), is)
 
 -- ---- both parts of a test
 
@@ -482,27 +473,39 @@ library_fault f words m x from t which is_one named own fault h =
 
 -- ---- a second definition
 
-pub defined_is : (names : List Bound) (x : List ℕ) (old : Bound) → defined_among names x ≡ Some old
-    → (k : ℕ) × (slice_get names k ≡ Some old) × (old.name ≡ x) × (old.how ≡ defines)
+abbrev DefinedFirst : List Bound → List ℕ → Bound → Type 0
+DefinedFirst names x old = (k : ℕ) × (slice_get names k ≡ Some old) × (old.name ≡ x) × (old.how ≡ defines)
+    × IsNoneBefore names k (λ c. (c.name ≡ x) × IsDefinition c)
+
+defined_is : (names : List Bound) (x : List ℕ) (old : Bound) → defined_among names x ≡ Some old → DefinedFirst names x old
 defined_is [] x old h = cc
-defined_is (b ∷ names) x old h =
-    by_name (bytes_eq b.name x) refl b.how refl (λ h. let r = defined_is names x old h in (suc r.0, r.1, r.2, r.3)) h
+defined_is (b ∷ names) x old h = by_name (bytes_eq b.name x) refl b.how refl (λ h. defined_is names x old h) h
   where
-    by_name : (t : Bool) → bytes_eq b.name x ≡ t → (how : How) → b.how ≡ how
-        → (defined_among names x ≡ Some old → (k : ℕ) × (slice_get (b ∷ names) k ≡ Some old) × (old.name ≡ x) × (old.how ≡ defines))
-        → defined_among (b ∷ names) x ≡ Some old → (k : ℕ) × (slice_get (b ∷ names) k ≡ Some old) × (old.name ≡ x) × (old.how ≡ defines)
+    further_on : ((b.name ≡ x) × IsDefinition b → ⊥) → DefinedFirst names x old → DefinedFirst (b ∷ names) x old
+    further_on other r = (suc r.0, r.1, r.2, r.3, none_more b names r.0 (λ c. (c.name ≡ x) × IsDefinition c) other r.4)
+
+    by_name : (t : Bool) → bytes_eq b.name x ≡ t → (how : How) → b.how ≡ how → (defined_among names x ≡ Some old → DefinedFirst names x old)
+        → defined_among (b ∷ names) x ≡ Some old → DefinedFirst (b ∷ names) x old
     by_name true e defines i later h =
         let found : defined_among (b ∷ names) x ≡ Some b = rw (e, i) refl in
         let some : Some b ≡ Some old = sym found ∙ h in
-        let same : b ≡ old = cc in
-        (0, ap Some same, subst (λ (c : Bound). c.name ≡ x) same (same_bytes b.name x e), subst (λ (c : Bound). c.how ≡ defines) same i)
+        let same : b ≡ old = cc in (
+          0,
+          ap Some same,
+          subst (λ (c : Bound). c.name ≡ x) same (same_bytes b.name x e),
+          subst (λ (c : Bound). c.how ≡ defines) same i,
+          λ j c l g n. absurd (omega (arith, l)),
+        )
     by_name true e declares i later h =
-        let found : defined_among (b ∷ names) x ≡ defined_among names x = rw (e, i) refl in later (sym found ∙ h)
+        let found : defined_among (b ∷ names) x ≡ defined_among names x = rw (e, i) refl in
+        further_on (λ n. let bad = sym i ∙ n.1 in cc) (later (sym found ∙ h))
     by_name true e tentative i later h =
-        let found : defined_among (b ∷ names) x ≡ defined_among names x = rw (e, i) refl in later (sym found ∙ h)
+        let found : defined_among (b ∷ names) x ≡ defined_among names x = rw (e, i) refl in
+        further_on (λ n. let bad = sym i ∙ n.1 in cc) (later (sym found ∙ h))
     by_name false e how i later h =
-        let found : defined_among (b ∷ names) x ≡ defined_among names x = rw e refl in later (sym found ∙ h)
+        let found : defined_among (b ∷ names) x ≡ defined_among names x = rw e refl in
+        further_on (λ n. other_name b.name x e n.0) (later (sym found ∙ h))
 
 pub twice_defined : (f : FileScope) (x : Spelling) (fault : Fault) (old : Bound) → defined_among f.names x.text ≡ Some old
     → fault ≡ redeclared x.text x.from old.place → IsTaken f x IsDefinition fault
-twice_defined f x fault old e is = let d = defined_is f.names x.text old e in (d.0, old, d.1, d.2, d.3, is)
+twice_defined f x fault old e is = let d = defined_is f.names x.text old e in (d.0, old, d.1, d.2, d.3, d.4, is)

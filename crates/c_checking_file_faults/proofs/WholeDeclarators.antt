@@ -1,8 +1,7 @@
 -- Where a declarator of the file scope stops, with all that it declares, a rule is broken (C99 6.7, 6.9).
-use Rattle.std.proofs.Common.{◌≡◌, ◌≢◌, ℕ, ◌+◌, ◌≤◌, Bool, true, false, refl, sym, ap, ◌∙◌, subst, cond, List, [], ◌∷◌, ◌++◌, length, inl, inr, arith}
+use Rattle.std.proofs.Common.{◌≡◌, ℕ, ◌+◌, ◌≤◌, true, false, refl, sym, ap, ◌∙◌, subst, List, [], ◌∷◌, ◌++◌, length, inl, inr, arith}
 use Rattle.std.proofs.Common.{append-nil}
-use Rattle.std.specs.Prelude.{◌⊎◌, map, Option, Some, None, Ok, Err, slice_get}
-use Rattle.lay_base.specs.declared.faults.Rule.TheVariants as R
+use Rattle.std.specs.Prelude.{◌⊎◌, map, Some, None, Ok, Err, slice_get}
 use Rattle.c_types.specs.Objects.{is_object}
 use Rattle.c_types.specs.Types.{CType, Record}
 use Rattle.c_ast.specs.declared.words.Spelling.{Spelling}
@@ -11,7 +10,8 @@ use Rattle.c_ast.specs.Places.{first_declarator}
 use Rattle.c_typed.specs.Conversions.{is_function}
 use Rattle.c_typed.specs.declared.program.MentionKind.{MentionKind}
 use Rattle.c_typed.specs.declared.program.MentionKind.TheVariants.{Object, Named}
-use Rattle.c_erasure.specs.Broken.{Fault, ill_typed, IsBrokenWithin}
+use Rattle.c_erasure.specs.Broken.{Fault, IsBrokenWithin}
+use Rattle.c_erasure.specs.BrokenFiles.{IsBrokenFileDeclarator}
 use Rattle.c_erasure.specs.BrokenStatements.{IsAmong}
 use Rattle.c_erasure.specs.Declarators.{declared_name, Shape}
 use Rattle.c_erasure.specs.Erasure.{Declares}
@@ -28,14 +28,14 @@ use Rattle.c_checking.specs.Finding.{complete, derivations}
 use Rattle.c_checking.specs.Nodes.{is_complete}
 use Rattle.c_checking.specs.Statements.{sized_in}
 use Rattle.c_checking.proofs.Adding.{Adds, mention_before}
-use Rattle.c_checking.proofs.Agreement.{added, IsGrown}
+use Rattle.c_checking.proofs.Agreement.{IsGrown, AreBegun}
 use Rattle.c_checking.proofs.Declared.{before_mention, mentioned}
 use Rattle.c_checking.proofs.Derived.{object_is}
 use Rattle.c_checking.proofs.Extends.{Extends, itself, further}
 use Rattle.c_checking.proofs.FaultDeclaring.{object_fault}
-use Rattle.c_checking.proofs.FaultPremises.{IsPrepared, left, right, IsDeclaratorTimely, AreKnown, known_after}
+use Rattle.c_checking.proofs.FaultPremises.{IsPrepared, left, right, IsDeclaratorTimely, AreKnown}
 use Rattle.c_checking.proofs.FaultResults.{bound_err, chosen_err, reached, Reaches, reaches_then}
-use Rattle.c_checking.proofs.FaultSteps.{read_steps, ReadSteps, asked}
+use Rattle.c_checking.proofs.FaultSteps.{read_steps}
 use Rattle.c_checking.proofs.FaultTypes.{within_broken}
 use Rattle.c_checking.proofs.Faults.{faults_steps}
 use Rattle.c_checking.proofs.FoundTypes.{FoundSteps}
@@ -46,14 +46,13 @@ use Rattle.c_checking.proofs.Sound.{sound_steps}
 use Rattle.c_checking_files.proofs.FileScopes.{MayDeclare}
 use Rattle.c_checking_files.proofs.Keeping.{keep_steps}
 use Rattle.c_checking_files.proofs.Kept.{Keeps, keeps_mention}
-use Rattle.c_checking_files.proofs.LocalObjects.{IsValueInRange}
 use Rattle.c_checking_files.proofs.Locals.{IsSizedOver, sized_so}
 use Rattle.c_checking_items.proofs.DeclaratorSteps.{MayDeclareIt}
 use Rattle.c_checking_items.proofs.Known.{IsKnown, none_new}
-use Rattle.c_checking_items.proofs.Stepping.{Stepped, found_step}
+use Rattle.c_checking_items.proofs.Stepping.{found_step}
 use Rattle.c_checking_faults.proofs.Clear.{AreFresh}
-use Rattle.c_checking_file_faults.proofs.Behind.{StopsIn, stops_here, stops_there, stops_later, stops_of}
-use Rattle.c_checking_file_faults.proofs.DeclaratorStops.{IsStopped, ruled_here, sized_fault, sized_here, typedef_stops, function_stops, no_typedef}
+use Rattle.c_checking_file_faults.proofs.Behind.{StopsIn, stops_there, stops_later, stops_of}
+use Rattle.c_checking_file_faults.proofs.DeclaratorStops.{ruled_here, sized_fault, sized_here, typedef_stops, function_stops, no_typedef}
 use Rattle.c_checking_file_faults.proofs.DeclaratorStops.{by_storage, declared_as}
 use Rattle.c_checking_file_faults.proofs.ObjectStops.{IsValueTimely, object_stops}
 use Rattle.c_checking_file_faults.proofs.Tests.{AreOwnFunctions}
@@ -92,7 +91,7 @@ module _ (untagged : ℕ → List ℕ) (types : List (List ℕ)) (nodes_at : ℕ
     own_marks = marks_of_declarator untagged d.declarator
 
     abbrev Is : FileScope → Type 0
-    Is g = IsStopped g words base d x fault
+    Is g = IsBrokenFileDeclarator g words base d from fault
 
     before_name : IsPrepared untagged ends f [] [] false own_marks
     before_name = left untagged ends own_marks (a_name from ∷ marks_of_initial untagged d.value) may.prepared
@@ -118,6 +117,11 @@ module _ (untagged : ℕ → List ℕ) (types : List (List ℕ)) (nodes_at : ℕ
 
       said_grown : (kind : MentionKind) (t : CType) → IsGrown f false own_marks (said kind t)
       said_grown kind t = mentioned (at_file_scope f) (mentions_in f) kind t place found.grew
+
+      -- all names are in scope before that of the declarator
+      said_begun : (kind : MentionKind) (t : CType) → AreBegun (said kind t).names from
+      said_begun kind t =
+          (right untagged ends own_marks (a_name from ∷ marks_of_initial untagged d.value) may.prepared (said_grown kind t)).begun refl 0 from refl
 
       said_kept : (kind : MentionKind) (t : CType) → Keeps f false own_marks (said kind t)
       said_kept kind t =
@@ -174,9 +178,9 @@ module _ (untagged : ℕ → List ℕ) (types : List (List ℕ)) (nodes_at : ℕ
         as_typedef h e =
             let g = said Named t in
             stops_there bytes f g Is (said_reaches Named t)
-            (subst (λ words. IsStopped g words base d x fault) (sym e)
+            (subst (λ words. IsBrokenFileDeclarator g words base d from fault) (sym e)
             (typedef_stops g base d x t name shape (declares g (said_extends Named t)) (sized_here
-            (at_file_scope g) shape d.value t over) fault from h))
+            (at_file_scope g) shape d.value t over) from (said_begun Named t) fault h))
 
         as_function : MayDeclare words → is_function t ≡ true
             → without_value x.from d.value (declare_function (said Named t) words x place from t nodes (library_named x.text)) ≡ Err fault
@@ -184,8 +188,8 @@ module _ (untagged : ℕ → List ℕ) (types : List (List ℕ)) (nodes_at : ℕ
         as_function m is_one h =
             let g = said Named t in
             stops_there bytes f g Is (said_reaches Named t)
-            (function_stops g base d x t name shape (declares g (said_extends Named t)) (sized_here (at_file_scope g) shape d.value t over) fault
-            nodes_at before (said_known Named t) (said_own Named t) words m is_one place from nodes h)
+            (function_stops g base d x t name shape (declares g (said_extends Named t)) (sized_here (at_file_scope g) shape d.value t over)
+            from (said_begun Named t) fault nodes_at before (said_known Named t) (said_own Named t) words m is_one place nodes h)
 
         as_object : MayDeclare words → is_function t ≡ false
             → (object_at steps.1.records (complete (at_file_scope steps.1) x.from) x.from t
@@ -201,7 +205,7 @@ module _ (untagged : ℕ → List ℕ) (types : List (List ℕ)) (nodes_at : ℕ
             (λ e.
             let o = object_fault steps.1.records (complete (at_file_scope steps.1) x.from) x.from t known fault e in
             stops_there bytes f steps.1 Is steps_reach
-            (ruled_here steps.1 words base d x t fault name shape (declares steps.1 (itself steps.1)) (sized_here
+            (ruled_here steps.1 words base d x t from fault name shape (declares steps.1 (itself steps.1)) (sized_here
             (at_file_scope steps.1) shape d.value t over)
             (inr (inr (inl (o.0, no_typedef words m, is_none, o.1))))))
             (λ u e h.
@@ -242,20 +246,20 @@ module _ (untagged : ℕ → List ℕ) (types : List (List ℕ)) (nodes_at : ℕ
         bound_err (derivations d.declarator s) _ fault (StopsIn bytes f Is) h
         (λ e. stops_of (λ s. IsBrokenWithin d.declarator s fault) Is
         (faults_steps untagged ends (IsAmong bytes) d.declarator s (length f.records) may.may.in_range before_name (omega arith) may.timely fault e)
-        (λ g p h. inl (inl (within_broken d.declarator (at_file_scope g) base fault h))))
+        (λ g p h. inl (within_broken d.declarator (at_file_scope g) base fault h)))
         (λ steps e h.
         let w = read_steps untagged ends d.declarator s (length f.records) may.may.in_range before_name.ready before_name.ends_are
         (omega arith) may.timely steps e in
         bound_err (derived steps.1.records steps.0 base) _ fault (StopsIn bytes f Is) h
-        (λ i. stops_there bytes f steps.1 Is (steps_reach steps e) (inl (inl (w.broken steps.1 (itself steps.1) base fault i))))
+        (λ i. stops_there bytes f steps.1 Is (steps_reach steps e) (inl (w.broken steps.1 (itself steps.1) base fault i)))
         (λ shape i h. bound_err (sized_in steps.1.records x.from shape d.value) _ fault (StopsIn bytes f Is) h
         (λ j. stops_there bytes f steps.1 Is (steps_reach steps e)
-        (inl (inr (
+        (inr (
           x,
           shape,
           name,
           (found steps e).holds steps.1 (itself steps.1) steps.1.records (itself steps.1).records.0
               (itself steps.1).records.1 base shape i,
           inl (sized_fault (at_file_scope steps.1) x.from shape d.value fault j),
-        ))))
+        )))
         (λ t j h. by_words steps e shape i t j (by_storage words stands) h)))

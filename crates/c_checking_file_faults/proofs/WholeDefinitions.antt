@@ -1,33 +1,31 @@
 -- Where the definition of a function stops, from its specifiers on, a rule is broken (C99 6.9.1).
-use Rattle.std.proofs.Common.{◌≡◌, ℕ, ◌+◌, ◌≤◌, ◌<◌, false, refl, sym, ap, ◌∙◌, subst, List, [], ◌∷◌, ◌++◌, length, inl, inr, arith}
+use Rattle.std.proofs.Common.{◌≡◌, ℕ, ◌+◌, ◌≤◌, false, refl, sym, ap, ◌∙◌, subst, List, [], ◌∷◌, ◌++◌, length, inl, inr, arith}
 use Rattle.std.proofs.Common.{append-nil}
-use Rattle.std.specs.Prelude.{◌⊎◌, map, Some, None, Ok, Err, slice_get}
+use Rattle.std.specs.Prelude.{map, Some, Ok, Err, slice_get}
 use Rattle.lay_base.specs.declared.faults.Rule.TheVariants as R
 use Rattle.c_types.specs.Types.{CType, CTypes, void, integer, pointer, array, function, structure}
 use Rattle.c_ast.specs.declared.words.Spelling.{Spelling}
 use Rattle.c_ast.specs.Trees
 use Rattle.c_ast.specs.Places.{first_specifiers, first_declarator}
-use Rattle.c_typed.specs.Conversions.{is_function}
 use Rattle.c_typed.specs.declared.program.MentionKind.TheVariants.{Named}
 use Rattle.c_erasure.specs.Broken.{Fault, ill_typed, AreBroken, IsBrokenWithin}
-use Rattle.c_erasure.specs.BrokenFiles.{HasNameless}
+use Rattle.c_erasure.specs.BrokenFiles.{HasNameless, IsBrokenDefinition}
 use Rattle.c_erasure.specs.BrokenStatements.{IsAmong}
 use Rattle.c_erasure.specs.Declarators.{declared_name, Shape, closed, open_array}
 use Rattle.c_erasure.specs.Erasure.{IsBase, IsOne, Declares}
 use Rattle.c_erasure.specs.Files.{parameters_of}
 use Rattle.c_erasure.specs.Literals.{made_by_items}
 use Rattle.c_erasure.specs.Marks.{Mark, a_name, marks_of_specifiers, marks_of_declarator, ends_in}
-use Rattle.c_erasure.specs.MentionPlaces.{spoken_of_specifiers, spoken_of_declarator}
-use Rattle.c_erasure.specs.Scopes.{FileScope, AnObject, AFunction, at_file_scope}
-use Rattle.c_erasure.specs.Specifiers.{Storage, storage_of}
-use Rattle.c_checking.specs.Declaring.{base_kind, Derivation, derived, with_mention, mentions_in}
+use Rattle.c_erasure.specs.Scopes.{FileScope, AnObject, at_file_scope}
+use Rattle.c_erasure.specs.Specifiers.{storage_of}
+use Rattle.c_checking.specs.Declaring.{base_kind, derived, with_mention, mentions_in}
 use Rattle.c_checking.specs.Files.{received_by, define_function, define_shape, definition_named, function_definition}
 use Rattle.c_checking.specs.Finding.{base_type, one_of, derivations}
 use Rattle.c_checking.proofs.Adding.{mention_before}
 use Rattle.c_checking.proofs.Declared.{mentioned, before_mention}
 use Rattle.c_checking.proofs.Extends.{Extends, itself, further}
 use Rattle.c_checking.proofs.FaultDeclaring.{orderly_stays}
-use Rattle.c_checking.proofs.FaultPremises.{IsPrepared, left, right, AreSpecifiersTimely, IsDeclaratorTimely}
+use Rattle.c_checking.proofs.FaultPremises.{left, right}
 use Rattle.c_checking.proofs.FaultResults.{same_fault, bound_err, reached, Reaches, reaches_then}
 use Rattle.c_checking.proofs.FaultSteps.{read_steps}
 use Rattle.c_checking.proofs.FaultTypes.{within_broken, base_stops}
@@ -41,9 +39,8 @@ use Rattle.c_checking_files.proofs.Kept.{keeps_mention}
 use Rattle.c_checking_files.proofs.StatementLaws.{AreItemsInRange}
 use Rattle.c_checking_items.proofs.Known.{IsKnown, none_new}
 use Rattle.c_checking_items.proofs.Stepping.{found_step}
-use Rattle.c_checking_faults.proofs.StatementTimely.{AreItemsTimely}
 use Rattle.c_checking_file_faults.proofs.Behind.{StopsIn, stops_here, stops_there, stops_later, stops_of}
-use Rattle.c_checking_file_faults.proofs.DefinitionStops.{IsStoppedDefinition, storage_fault, ruled, function_stops, MayStopIn}
+use Rattle.c_checking_file_faults.proofs.DefinitionStops.{storage_fault, ruled, function_stops, MayStopIn}
 use Rattle.c_checking_file_faults.proofs.Parameters.{open_without}
 
 no_firsts : (more : List AnObject) → map (λ o. o.first) more ≡ [] → more ≡ []
@@ -70,7 +67,7 @@ module _ (untagged : ℕ → List ℕ) (types_named : List (List ℕ)) (nodes_at
   bytes = made_by_items items
 
   abbrev Is : FileScope → Type 0
-  Is g = IsStoppedDefinition g specs d left_at items x fault
+  Is g = IsBrokenDefinition g specs d left_at items fault
 
   -- the type of the definition, in a file that goes on from the one behind its specifiers
   shape_stops : (b : CType × FileScope) → ((g : FileScope) → Extends b.1 g → IsBase (IsOne (at_file_scope g) specs) specs b.0)
@@ -88,10 +85,10 @@ module _ (untagged : ℕ → List ℕ) (types_named : List (List ℕ)) (nodes_at
   shape_stops b is_base words steps into said (closed (function result types)) declares reach next h = next result types refl h
   shape_stops b is_base words steps into said (open_array t) declares reach next h =
       stops_there bytes f steps Is reach
-      (inl (inl (
+      (inl (
         same_fault FileScope (ill_typed R.Specifiers from) fault h,
         inr (inr (subst HasNameless (sym (open_without d (at_file_scope steps) b.0 t (declares steps (itself steps)))) tt)),
-      )))
+      ))
   shape_stops b is_base words steps into said (closed void) declares reach next h =
       stops_there bytes f steps Is reach
       (ruled steps specs d left_at items fault b.0 (is_base steps (into steps (itself steps))) x name void (declares steps (itself steps))
@@ -134,7 +131,7 @@ module _ (untagged : ℕ → List ℕ) (types_named : List (List ℕ)) (nodes_at
       bound_err (derivations d s1) _ fault (StopsIn bytes f Is) h
       (λ e. stops_later Is Is reach1
       (stops_of (λ s. IsBrokenWithin d s fault) Is (faults_steps untagged ends (IsAmong bytes) d s1 n1 m.in_range own many may.timely fault e)
-      (λ g p h. inl (inr (inr (b.0, v.holds g p, inl (within_broken d (at_file_scope g) b.0 fault h)))))) (λ g p i. i))
+      (λ g p h. inr (inr (b.0, v.holds g p, inl (within_broken d (at_file_scope g) b.0 fault h))))) (λ g p i. i))
       (λ steps e h.
       let found = sound_steps untagged d s1 m.in_range own.ready steps e in
       let read = read_steps untagged ends d s1 n1 m.in_range own.ready own.ends_are many may.timely steps e in
@@ -143,7 +140,7 @@ module _ (untagged : ℕ → List ℕ) (types_named : List (List ℕ)) (nodes_at
       let reach = reaches_then reach1 reach2 in
       bound_err (derived steps.1.records steps.0 b.0) _ fault (StopsIn bytes f Is) h
       (λ i. stops_there bytes f steps.1 Is reach
-      (inl (inr (inr (b.0, v.holds steps.1 found.grew.extends, inl (read.broken steps.1 (itself steps.1) b.0 fault i))))))
+      (inr (inr (b.0, v.holds steps.1 found.grew.extends, inl (read.broken steps.1 (itself steps.1) b.0 fault i)))))
       (λ shape i h.
       let place = first_declarator d x.from in
       let said_so : (t : CType) → Extends steps.1 (with_mention s1 (mentions_in b.1) Named t place steps.1) =
@@ -175,7 +172,8 @@ module _ (untagged : ℕ → List ℕ) (types_named : List (List ℕ)) (nodes_at
       (λ g p. v.holds g (further found.grew.extends (further (said_so t) p))) x name result types
       (λ g p. subst (Declares (at_file_scope g) d b.0) is
       (let q = further (said_so t) p in found.holds g q steps.1.records q.records.0 q.records.1 b.0 shape i)) words k2
-      (grown.extends.untagged ∙ same) (said_ends ∙ may.prepared.ends_are) (orderly_stays (further v.grew.extends grown.extends) may.prepared.orderly)
+      (grown.extends.untagged ∙ same) (said_ends ∙ may.prepared.ends_are)
+      ((right untagged ends w (a_name left_at ∷ []) prepared grown).begun refl 0 left_at refl) (orderly_stays (further v.grew.extends grown.extends) may.prepared.orderly)
       (subst (λ n. AreItemsInRange said.ends n items) counts
       (subst (λ ends. AreItemsInRange ends (length f.records + length (ends_in u) + length (ends_in w)) items) (sym said_ends) m.items_in_range))
       (λ g l. may.items_timely g (l ∙ sym counts))
@@ -189,12 +187,12 @@ module _ (untagged : ℕ → List ℕ) (types_named : List (List ℕ)) (nodes_at
       let s = at_file_scope f in
       let prepared = left untagged ends u (w ++ a_name left_at ∷ []) may.prepared in
       storage_fault from (storage_of specs) _ fault (StopsIn bytes f Is) h
-      (λ is none. stops_here bytes f Is (inl (inl (is, inl none))))
+      (λ is none. stops_here bytes f Is (inl (is, inl none)))
       (λ words h. bound_err (base_type (base_kind specs) from f (one_of specs s)) _ fault (StopsIn bytes f Is) h
       (λ e. base_stops (IsAmong bytes) s specs from (one_of specs s) fault
       (λ y q j. faults_one untagged ends (IsAmong bytes) specs s (length f.records) may.may.specifiers_in_range prepared
       (omega arith) may.specifiers_timely y q
       fault j) e (StopsIn bytes f Is)
-      (λ m. stops_here bytes f Is (inl (inl (m.0, inr (inl m.1)))))
-      (λ b. stops_of (λ s. AreBroken specs s fault) Is b (λ g p h. inl (inr (inl h)))))
+      (λ m. stops_here bytes f Is (inl (m.0, inr (inl m.1))))
+      (λ b. stops_of (λ s. AreBroken specs s fault) Is b (λ g p h. inr (inl h))))
       (λ b e h. named_stops words b e (subst (λ o. definition_named b.1 specs b.0 d left_at nodes items o ≡ Err fault) name h)))
