@@ -1,0 +1,12 @@
+//! Memory as blocks of cells (C99 6.2.4, 6.2.6.1, 7.20.3): pointers, cells, and every access with its tests.
+//!
+//! It stands on `lay_base`, which names what is undefined, and on `c_types`, which gives the widths of integers.
+#![tactic(auto)]
+
+mod cell;
+mod kinds;
+mod pointer;
+
+pub use cell::Cell;
+pub use kinds::{Access, BlockKind};
+pub use pointer::Ptr;
