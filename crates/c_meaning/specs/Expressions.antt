@@ -1,0 +1,254 @@
+-- What an expression does, and its value (C99 6.5). Evaluation goes from left to right (own).
+use Rattle.std.specs.Prelude.{ℕ, ◌*◌, ◌^◌, ◌==◌, not, Bool, true, false, ◌&&◌, nat_lt, nat_le, if◌then◌else◌, ℤ, pos, negsuc, ◌+ℤ◌, ◌*ℤ◌, List, [], ◌∷◌, Option}
+use Rattle.std.specs.Prelude.{Some, None, Ok, Err, slice_get}
+use Rattle.lay_base.specs.declared.faults.UndefinedKind.TheVariants as K
+use Rattle.lay_base.specs.declared.place.Place.{Place}
+use Rattle.c_types.specs.Layouts.{offset_of}
+use Rattle.c_types.specs.Sameness.{same_type}
+use Rattle.c_types.specs.Types.{CType, void, pointer as pointer_to}
+use Rattle.c_typed.specs.declared.operators.LibraryFunction.{LibraryFunction}
+use Rattle.c_typed.specs.declared.operators.LibraryFunction.TheVariants as L
+use Rattle.c_typed.specs.declared.operators.PointerOp.TheVariants.{Add}
+use Rattle.c_typed.specs.Trees as T
+use Rattle.c_typed.specs.Trees.{Expression, expression, Node, Path, path, PathNode, Expressions, OptionalExpression}
+use Rattle.c_typed.specs.Constants.{ty, kind_of}
+use Rattle.c_typed.specs.Conversions.{number_of}
+use Rattle.c_typed.specs.Programs.{ProgramData, FunctionData}
+use Rattle.c_typed.specs.Typed.{at_of, path_ty, path_at}
+use Rattle.block_memory.specs.declared.pointer.Ptr.{Ptr}
+use Rattle.block_memory.specs.declared.pointer.Ptr.TheVariants as P
+use Rattle.block_memory.specs.Blocks.{Memory, is_live, size, kind}
+use Rattle.block_memory.specs.Lifetimes.{is_heap}
+use Rattle.block_memory.specs.Tested.{Tested}
+use Rattle.runs.specs.Doing.{Doing, ◌>>=◌, ◌>>◌, pure, is_undefined, tested, memory_now, note}
+use Rattle.runs.specs.Events.{reached}
+use Rattle.runs.specs.Library as Library
+use Rattle.runs.specs.Scalars.{Value, word, pointer, word_of, pointer_of, note_in}
+use Rattle.c_meaning.specs.Frames.{Frame, Spot, kept, placed, local_spot, fetch, put}
+use Rattle.c_meaning.specs.Operators.{converted, is_true, flag, unary, binary, moved, distance, compared, updated, next}
+use Rattle.c_meaning.specs.Program.{type_at, size_at, element_size, length_of}
+
+-- ---- parts
+
+-- the value of a call that ended without one is used (6.9.1)
+abbrev pub or_no_value : Place → Option Value → Doing Frame Value
+or_no_value place None = is_undefined K.NoValue place
+or_no_value place (Some v) = pure v
+
+-- the address of a part of what lies there
+abbrev pub moved_by : ℤ → Ptr → Ptr
+moved_by by (P.Block b at) = at_offset (pos at +ℤ by)
+  where
+    at_offset : ℤ → Ptr
+    at_offset (pos at) = P.Block b at
+    at_offset (negsuc n) = P.Block b at
+moved_by by q = q
+
+abbrev pub part_of : (offset : ℕ) → Spot → Spot
+part_of offset (placed q) = placed (moved_by (pos offset) q)
+part_of offset (kept x) = kept x
+
+-- a subscript on an array itself is at least 0 and below its length; as the operand of `&` it may be its length (own)
+abbrev pub is_subscript : (length : ℕ) → (addressed : Bool) → ℤ → Bool
+is_subscript n addressed (negsuc i) = false
+is_subscript n true (pos i) = nat_le i n
+is_subscript n false (pos i) = nat_lt i n
+
+abbrev pub element_of : Place → (length size : ℕ) → (addressed : Bool) → Spot → ℤ → Doing Frame Spot
+element_of place n size addressed s i =
+    if is_subscript n addressed i then pure (at_element i s) else is_undefined K.Subscript place
+  where
+    at_element : ℤ → Spot → Spot
+    at_element i (placed q) = placed (moved_by (i *ℤ pos size) q)
+    at_element i (kept x) = kept x
+
+-- the way to a field through a pointer is an access: its first byte lies in a live block (own)
+abbrev pub inside : Memory → (b : ℕ) → ℤ → Tested Ptr
+inside m b (negsuc n) = Err K.Outside
+inside m b (pos at) = if nat_lt at (size m b) then Ok (P.Block b at) else Err K.Outside
+
+abbrev pub field_in : Memory → Ptr → (by : ℤ) → Tested Ptr
+field_in m P.Null by = Err K.Null
+field_in m (P.Function f) by = Err K.Dead
+field_in m (P.Block b at) by = if is_live m b then inside m b (pos at +ℤ by) else Err K.Dead
+
+abbrev pub field_through : Place → Ptr → (by : ℤ) → Doing Frame Spot
+field_through place q by = do
+  m ← memory_now
+  r ← tested place (field_in m q by)
+  a ← note_in m r (λ b at. reached b at)
+  pure (placed r)
+
+-- where an object lies whose address is taken or that becomes a pointer
+abbrev pub address_of : Place → Spot → Doing Frame Ptr
+address_of place (placed q) = pure q
+address_of place (kept x) = is_undefined K.Dead place
+
+-- a recognised allocation of so many records (own)
+abbrev pub allocated : Place → (r size count : ℕ) → (zeroed : Bool) → Doing Frame Value
+allocated place r size count zeroed =
+    if nat_lt (count * size) (2 ^ 28) then Library.allocate (Some (r, count)) (count * size) zeroed else is_undefined K.Huge place
+
+abbrev pub the : {A : Type 0} → Doing Frame A → (A → Value) → Doing Frame (Option Value)
+the m f = m >>= λ x. pure (Some (f x))
+
+abbrev pub given : Doing Frame Value → Doing Frame (Option Value)
+given m = m >>= λ v. pure (Some v)
+
+-- what the library does with its arguments; `free` has no value
+abbrev pub library : Place → LibraryFunction → List Value → Doing Frame (Option Value)
+library place L.Malloc (v ∷ []) = given (Library.allocate None (word_of v) false)
+library place L.Calloc (v ∷ w ∷ []) = given (Library.allocate None (word_of v * word_of w) true)
+library place L.Free (v ∷ []) = Library.free place (pointer_of v) >> pure None
+library place L.Memcpy (v ∷ w ∷ n ∷ []) = given (Library.copy place (pointer_of v) (pointer_of w) (word_of n) false)
+library place L.Memmove (v ∷ w ∷ n ∷ []) = given (Library.copy place (pointer_of v) (pointer_of w) (word_of n) true)
+library place L.Memset (v ∷ c ∷ n ∷ []) = given (Library.fill place (pointer_of v) (word_of c) (word_of n))
+library place L.Memcmp (v ∷ w ∷ n ∷ []) = given (Library.compare place (pointer_of v) (pointer_of w) (word_of n))
+library place L.Putchar (v ∷ []) = given (Library.putchar (word_of v))
+library place L.Getchar [] = given Library.getchar
+library place L.Exit (v ∷ []) = Library.exit (word_of v)
+library place which all = is_undefined K.Call place
+
+-- a whole record is assigned; to itself it may be (6.5.16.1)
+abbrev pub is_same_place : Ptr → Ptr → Bool
+is_same_place (P.Block b at) (P.Block c other) = b == c && at == other
+is_same_place q r = false
+
+abbrev pub copy_record : Place → (size : ℕ) → (to from : Spot) → Doing Frame (Unit {0})
+copy_record place size (placed q) (placed r) = Library.copy place q r size (is_same_place q r) >> pure tt
+copy_record place size to from = is_undefined K.Dead place
+
+-- ---- with the program, and what a call of a function does
+
+module _ (p : ProgramData) (call : Place → (f : ℕ) → List Value → Doing Frame (Option Value)) where
+  -- a call through a pointer to a function of that type (6.5.2.2)
+  abbrev pub through : Place → CType → Ptr → List Value → Doing Frame (Option Value)
+  through place t (P.Function f) all = by_type (slice_get p.functions f)
+    where
+      by_type : Option FunctionData → Doing Frame (Option Value)
+      by_type None = is_undefined K.Call place
+      by_type (Some g) = if same_type t (pointer_to (type_at p g.ty)) then call place f all else is_undefined K.Call place
+  through place t q all = is_undefined K.Call place
+
+  -- converted to a type; to `void` it has no value
+  abbrev pub as_type : CType → Place → Option Value → Doing Frame (Option Value)
+  as_type void place v = pure None
+  as_type t place v = or_no_value place v >>= λ v. pure (Some (converted t v))
+
+  abbrev mutual
+    pub value : Expression ℕ → Doing Frame (Option Value)
+    value (expression t at node) = value_of t at node
+
+    -- the value, which is used
+    pub used : Expression ℕ → Doing Frame Value
+    used (expression t at node) = value_of t at node >>= or_no_value at
+
+    pub value_of : (t : ℕ) → Place → Node ℕ → Doing Frame (Option Value)
+    value_of t at (T.constant v) = pure (Some (word v))
+    value_of t at T.null = pure (Some (pointer P.Null))
+    value_of t at (T.function_name f) = pure (Some (pointer (P.Function f)))
+    value_of t at (T.load q) = do
+      s ← spot false q
+      v ← fetch p at s t
+      pure (Some v)
+    value_of t at (T.address_of q) = spot true q >>= λ s. the (address_of at s) pointer
+    value_of t at (T.decay q) = spot false q >>= λ s. the (address_of at s) pointer
+    value_of t at (T.convert e written) = value e >>= as_type (type_at p t) (at_of e)
+    value_of t at (T.unary op x) = the (used x) (unary op)
+    value_of t at (T.binary op x y) = do
+      v ← used x
+      w ← used y
+      given (tested at (binary op (kind_of (type_at p t)) v (kind_of (type_at p (ty y))) w))
+    value_of t at (T.compare op x y) = do
+      v ← used x
+      w ← used y
+      m ← memory_now
+      given (tested at (compared op m (kind_of (type_at p (ty x))) v w))
+    value_of t at (T.pointer_add op x y) = do
+      v ← used x
+      w ← used y
+      m ← memory_now
+      given (tested at (moved m op (element_size p (type_at p t)) (kind_of (type_at p (ty x))) v (kind_of (type_at p (ty y))) w))
+    value_of t at (T.pointer_difference x y) = do
+      v ← used x
+      w ← used y
+      given (tested at (distance (element_size p (type_at p (ty x))) v w))
+    value_of t at (T.both x y) = used x >>= λ v. if is_true v then the (used y) (λ w. flag (is_true w)) else pure (Some (flag false))
+    value_of t at (T.either x y) = used x >>= λ v. if is_true v then pure (Some (flag true)) else the (used y) (λ w. flag (is_true w))
+    value_of t at (T.not x) = the (used x) (λ v. flag (not (is_true v)))
+    value_of t at (T.choose x y z) = used x >>= λ v. if is_true v then value y else value z
+    value_of t at (T.comma x y) = value x >> value y
+    value_of t at (T.assign q x) = do
+      s ← spot false q
+      v ← used x
+      a ← put p at s t v
+      pure (Some v)
+    -- the left side is loaded once the right operand is evaluated
+    value_of t at (T.assign_op op q x) = do
+      s ← spot false q
+      w ← used x
+      v ← fetch p at s t
+      m ← memory_now
+      new ← tested at (updated m op (element_size p (type_at p t)) (type_at p t) v (type_at p (ty x)) w)
+      a ← put p at s t new
+      pure (Some new)
+    value_of t at (T.step op before q) = do
+      s ← spot false q
+      v ← fetch p at s t
+      m ← memory_now
+      new ← tested at (next m op (element_size p (type_at p t)) (type_at p t) v)
+      a ← put p at s t new
+      pure (Some (if before then new else v))
+    value_of t at (T.copy_record to from) = do
+      s ← spot false to
+      r ← spot false from
+      a ← copy_record at (size_at p (path_ty to)) s r
+      pure None
+    value_of t at (T.call f all) = arguments all >>= λ vs. call at f vs
+    value_of t at (T.call_through e all) = do
+      v ← used e
+      vs ← arguments all
+      through at (type_at p (ty e)) (pointer_of v) vs
+    value_of t at (T.library which all) = arguments all >>= λ vs. library at which vs
+    value_of t at (T.allocate r count zeroed) = do
+      n ← how_many count
+      given (allocated at r (element_size p (type_at p t)) n zeroed)
+
+    pub how_many : OptionalExpression ℕ → Doing Frame ℕ
+    how_many T.no_expression = pure 1
+    how_many (T.some_expression e) = used e >>= λ v. pure (word_of v)
+
+    pub arguments : Expressions ℕ → Doing Frame (List Value)
+    arguments T.no_expressions = pure []
+    arguments (T.and_expression e more) = do
+      v ← used e
+      vs ← arguments more
+      pure (v ∷ vs)
+
+    -- where a path leads; it may be the operand of `&`
+    pub spot : (addressed : Bool) → Path ℕ → Doing Frame Spot
+    spot addressed (path t at step) = spot_of t addressed at step
+
+    pub spot_of : (t : ℕ) → (addressed : Bool) → Place → PathNode ℕ → Doing Frame Spot
+    spot_of t addressed at (T.local x) = local_spot at x
+    spot_of t addressed at (T.object n) = pure (placed (P.Block n 0))
+    spot_of t addressed at (T.deref e) = used e >>= λ v. pure (placed (pointer_of v))
+    -- e[i] on a pointer is *(e + i) (6.5.2.1)
+    spot_of t addressed at (T.index e i) = do
+      v ← used e
+      w ← used i
+      m ← memory_now
+      q ← tested at (moved m Add (size_at p t) (kind_of (type_at p (ty e))) v
+          (kind_of (type_at p (ty i))) w)
+      pure (placed (pointer_of q))
+    spot_of t addressed at (T.member (path u b (T.deref e)) r field) = used e >>= λ v. field_through at (pointer_of v) (pos (offset_of p.records r field))
+    spot_of t addressed at (T.member (path u b (T.index e i)) r field) = do
+      v ← used e
+      w ← used i
+      field_through at (pointer_of v)
+          (number_of (kind_of (type_at p (ty i))) (word_of w) *ℤ pos (size_at p u) +ℤ pos (offset_of p.records r field))
+    spot_of t addressed at (T.member q r field) = spot false q >>= λ s. pure (part_of (offset_of p.records r field) s)
+    spot_of t addressed at (T.element q i) = do
+      s ← spot false q
+      v ← used i
+      element_of at (length_of (type_at p (path_ty q))) (size_at p t) addressed s (number_of (kind_of (type_at p (ty i))) (word_of v))

@@ -1,0 +1,9 @@
+pub mod ExampleParts
+pub mod Examples
+pub mod Expressions
+pub mod Frames
+pub mod Loops
+pub mod Operators
+pub mod Program
+pub mod Run
+pub mod Statements

@@ -1,0 +1,103 @@
+-- What a program does (C99 5.1.2.2, 6.9.1): its calls, its run for an input and a number of turns, and what is read off it.
+use Rattle.std.specs.Prelude.{ℕ, zero, suc, ◌+◌, ◌%◌, ◌^◌, Bool, true, false, List, [], ◌∷◌, length, Option, Some, None, slice_get}
+use Rattle.lay_base.specs.declared.faults.RoomKind.{RoomKind}
+use Rattle.lay_base.specs.declared.faults.UndefinedKind.{UndefinedKind}
+use Rattle.lay_base.specs.declared.faults.UndefinedKind.TheVariants as K
+use Rattle.lay_base.specs.declared.place.Place.{Place}
+use Rattle.c_typed.specs.declared.program.Local.{Local}
+use Rattle.c_typed.specs.Trees.{Statement}
+use Rattle.c_typed.specs.Programs.{ProgramData, FunctionData}
+use Rattle.block_memory.specs.declared.pointer.Ptr.TheVariants as P
+use Rattle.runs.specs.Doing.{Doing, ◌>>=◌, ◌>>◌, pure, is_undefined, enter, leave, apart}
+use Rattle.runs.specs.Events.{output_of}
+use Rattle.runs.specs.Scalars.{Value, word_of, store}
+use Rattle.runs.specs.Worlds.{World, End, ends, goes_on, undefined, out_of_room}
+use Rattle.c_meaning.specs.Frames.{Frame, Slot, by_name, in_block, frame_of, begin, finish_all, with_slot, slot_now}
+use Rattle.c_meaning.specs.Program.{access_at, all_locals, initial_memory}
+use Rattle.c_meaning.specs.Statements.{Way, by_return, no_more, execute}
+
+-- ---- calls
+
+abbrev pub result_of : Way → Option Value
+result_of (by_return v) = v
+result_of way = None
+
+module _ (p : ProgramData) where
+  -- a parameter begins as the local that it is, with its argument (6.9.1)
+  abbrev pub received : Place → (x type : ℕ) → Value → Option Slot → Doing Frame (Unit {0})
+  received place x type v (Some (in_block (Some b))) = store place (P.Block b 0) (access_at p type) v
+  received place x type v s = with_slot x (by_name (Some v))
+
+  abbrev pub receive : Place → (x : ℕ) → List Local → List Value → Doing Frame (Unit {0})
+  receive place x (l ∷ more) (v ∷ rest) =
+      begin p x (Some l) >> (slot_now x >>= received place x l.ty v) >> receive place (x + 1) more rest
+  receive place x locals values = pure tt
+
+  abbrev pub numbers : (count : ℕ) → List ℕ
+  numbers count = from_zero count 0
+    where
+      from_zero : ℕ → ℕ → List ℕ
+      from_zero zero k = []
+      from_zero (suc n) k = k ∷ from_zero n (k + 1)
+
+  -- what a function does that has its arguments, where calls do so
+  abbrev pub body_of : (call : Place → (f : ℕ) → List Value → Doing Frame (Option Value)) → (n : ℕ) → Place → (f : ℕ) → List Value → FunctionData
+      → Option (Statement ℕ) → Doing Frame (Option Value)
+  body_of call n place f values g None = is_undefined K.Call place
+  body_of call n place f values g (Some body) = do
+    a ← receive place 0 g.parameters values
+    way ← execute p call f (all_locals g) n 0 body
+    b ← finish_all p (numbers (length g.parameters))
+    pure (result_of way)
+
+  abbrev pub function_of : (call : Place → (f : ℕ) → List Value → Doing Frame (Option Value)) → (n : ℕ) → Place → (f : ℕ) → List Value
+      → Option FunctionData → Doing Frame (Option Value)
+  function_of call n place f values None = is_undefined K.Call place
+  function_of call n place f values (Some g) = do
+    a ← enter f
+    v ← apart (frame_of p g) (body_of call n place f values g g.body)
+    b ← leave
+    pure v
+
+  -- a call; n is no less than the turns that are left
+  abbrev pub called : (n : ℕ) → Place → (f : ℕ) → List Value → Doing Frame (Option Value)
+  called zero place f values = no_more
+  called (suc n) place f values = function_of (called n) n place f values (slice_get p.functions f)
+
+  -- ---- the run
+
+  -- falling off the end of `main` returns 0 (5.1.2.2.3)
+  abbrev pub status_of : Option Value → ℕ
+  status_of None = 0
+  status_of (Some v) = word_of v % 2 ^ 8
+
+  abbrev pub start : (input : List ℕ) → (turns : ℕ) → (limited : Bool) → World
+  start input n limited = record { turns = n; memory = initial_memory p; input = input; trace = []; depth = 0; is_limited = limited }
+
+  abbrev pub no_place : Place
+  no_place = record { file = 0; at = 0 }
+
+  abbrev pub run_of : (input : List ℕ) → (turns : ℕ) → (limited : Bool) → End
+  run_of input n limited = called (n + 1) no_place p.main [] (λ v f w. ends (status_of v) w) [] (start input n limited)
+
+-- ---- what is seen of it: each with the output so far and the rest of the input
+
+pub data RunEnd : Type 0 where
+  ended : (output : List ℕ) → (status : ℕ) → (rest : List ℕ) → RunEnd
+  went_on : (output rest : List ℕ) → RunEnd
+  was_undefined : (kind : UndefinedKind) → (place : Place) → (output rest : List ℕ) → RunEnd
+  no_room : (kind : RoomKind) → (counted : ℕ) → (output rest : List ℕ) → RunEnd
+
+abbrev pub seen : End → RunEnd
+seen (ends status w) = ended (output_of w.trace) status w.input
+seen (goes_on w) = went_on (output_of w.trace) w.input
+seen (undefined kind place w) = was_undefined kind place (output_of w.trace) w.input
+seen (out_of_room kind counted w) = no_room kind counted (output_of w.trace) w.input
+
+-- where at most so many turns begin
+abbrev pub run : ProgramData → (input : List ℕ) → (turns : ℕ) → RunEnd
+run p input n = seen (run_of p input n false)
+
+-- within the room of the interpreter
+abbrev pub kept : ProgramData → (input : List ℕ) → (turns : ℕ) → RunEnd
+kept p input n = seen (run_of p input n true)

@@ -1,0 +1,4 @@
+//! What a C program does (C99 5.1.2.3): definitions alone, by recursion on the typed tree.
+//!
+//! It stands on `lay_base`, `c_types`, `c_typed`, whose trees it gives a meaning, on `block_memory` and on `runs`, whose world it changes.
+#![tactic(auto)]
