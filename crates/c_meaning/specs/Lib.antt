@@ -7,3 +7,4 @@ pub mod Operators
 pub mod Program
 pub mod Run
 pub mod Statements
+pub mod Weights

@@ -131,7 +131,7 @@ module _ (p : ProgramData) (call : Place → (f : ℕ) → List Value → Doing 
 
   abbrev pub returned : Option (Expression ℕ) → Doing Frame Way
   returned None = pure (by_return None)
-  returned (Some e) = value p call e >>= λ v. pure (by_return v)
+  returned (Some e) = used p call e >>= λ v. pure (by_return (Some v))
 
   -- in the function of that number with these locals; n is no less than the turns that are left, and so many loops stand before
   module _ (g : ℕ) (locals : List Local) (n : ℕ) where
