@@ -1,5 +1,8 @@
 pub mod ExampleParts
 pub mod Examples
+pub mod ExamplesOfMemory
+pub mod ExamplesOfOperators
+pub mod ExamplesOfStatements
 pub mod Expressions
 pub mod Frames
 pub mod Loops

@@ -7,6 +7,12 @@ use Rattle.runs.specs.Worlds.{World, End, ends, goes_on, undefined, out_of_room}
 use Rattle.c_meaning.specs.Program.{size_at, all_locals}
 use Rattle.c_meaning.specs.Run.{run_of}
 
+abbrev pub trace_of : End → List Event
+trace_of (ends status w) = w.trace
+trace_of (goes_on w) = w.trace
+trace_of (undefined kind place w) = w.trace
+trace_of (out_of_room kind counted w) = w.trace
+
 module _ (p : ProgramData) where
   -- in bytes
   abbrev pub size_of_locals : List Local → ℕ
@@ -37,12 +43,6 @@ module _ (p : ProgramData) where
 
   abbrev pub stack_weight : List Event → ℕ
   stack_weight trace = 16384 + greatest_frames trace
-
-  abbrev pub trace_of : End → List Event
-  trace_of (ends status w) = w.trace
-  trace_of (goes_on w) = w.trace
-  trace_of (undefined kind place w) = w.trace
-  trace_of (out_of_room kind counted w) = w.trace
 
   -- a run fits in so many MiB of heap and of stack
   pub record IsLight (heap stack : ℕ) (input : List ℕ) (turns : ℕ) : Type 0 where
