@@ -1,0 +1,6 @@
+pub mod StepLists
+pub mod Following
+pub mod Walking
+pub mod OrderedSteps
+pub mod MarksOfSteps
+pub mod There
