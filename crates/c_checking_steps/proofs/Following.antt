@@ -282,6 +282,7 @@ module _ (g : FileScope) where
 
   behind_events : (n r o f low : ℕ) (all : List Event) (more : List Step) → (p : AreStepsNext g n r o f low (events all ∷ more))
       → AreStepsNext g (n + names_in all) (r + ends_in all) (o + literals_in all) f p.in_order.0 more
+  unfolding split_on
   behind_events n r o f low all more p =
       let middle = p.in_order.0 in
       let l = low_high low all middle p.in_order.1 in

@@ -1,6 +1,8 @@
 -- The steps of a file stand in the order of its bytes, where its tokens come one after the other.
 use Rattle.std.proofs.Common.{◌≡◌, ℕ, suc, ◌+◌, ◌≤◌, ◌<◌, Bool, true, false, List, [], ◌∷◌, ◌++◌, Option, Some, None, refl, sym, subst, arith}
 use Rattle.std.specs.Prelude.{unwrap_or}
+use Rattle.std.specs.List.{AllByRecursion}
+use Rattle.c_checking.proofs.CompleteLists.{froms_of}
 use Rattle.c_lexer.specs.declared.punctuator.Punctuator.TheVariants as M
 use Rattle.c_ast.specs.declared.words.Spelling.{Spelling}
 use Rattle.c_ast.specs.Trees
@@ -12,7 +14,7 @@ use Rattle.c_erasure.specs.Declarators.{declared_name}
 use Rattle.c_erasure.specs.Files.{is_first}
 use Rattle.c_erasure.specs.Marks.{name_from, after_declarator}
 use Rattle.c_erasure.specs.Scopes.{FileScope, in_full}
-use Rattle.c_checking.proofs.CompleteLocals.{walk_of_initial}
+use Rattle.c_checking.proofs.CompleteLocals.{walk_of_initializer, walk_of_initial}
 use Rattle.c_checking.proofs.CompleteOrder.{AreApart, AreInOrder, order_earlier, order_later, Walked, walked_specifiers}
 use Rattle.c_checking.proofs.CompleteWalk.{Event, a_look, a_name, seen, walk_of_declarator, walk_of_specifiers}
 use Rattle.c_checking_whole.proofs.Declarations.{steps_of_declaration}
@@ -34,13 +36,13 @@ behind_mark (d ∷ more) semicolon rest =
     spelled_declarator d.declarator (spelled_value d.value (spelled_init_declarators more (punctuator M.Semicolon semicolon ∷ rest)))
 
 -- at a comma or the semicolon
-behind_token : {low at to : ℕ} {tokens : List Lexeme} → low ≤ at → at < to → AreApart to tokens → (low ≤ at) × AreApart (suc at) tokens
-behind_token {low} {at} {to} {tokens} l m h = (l, apart_earlier (suc at) to tokens (omega (arith, m)) h)
+behind_token : {low at to : ℕ} (tokens : List Lexeme) → low ≤ at → at < to → AreApart to tokens → (low ≤ at) × AreApart (suc at) tokens
+behind_token {low} {at} {to} tokens l m h = (l, apart_earlier (suc at) to tokens (omega (arith, m)) h)
 
 mark_apart : (types : List (List ℕ)) (all : List Trees.InitDeclarator) → AreInitDeclarators types false all → (semicolon low : ℕ) (rest : List Lexeme)
     → AreApart low (spelled_init_declarators all (punctuator M.Semicolon semicolon ∷ rest))
     → (low ≤ after_declarator all semicolon) × AreApart (suc (after_declarator all semicolon)) (behind_mark all semicolon rest)
-mark_apart types [] w semicolon low rest h = behind_token h.0 h.1 h.2
+mark_apart types [] w semicolon low rest h = behind_token _ h.0 h.1 h.2
 mark_apart types (d ∷ more) w semicolon low rest h = by_comma d.comma w.0 h
   where
     by_comma : (c : Option ℕ) → IsComma false c
@@ -48,7 +50,7 @@ mark_apart types (d ∷ more) w semicolon low rest h = by_comma d.comma w.0 h
         → (low ≤ unwrap_or c semicolon)
         × AreApart (suc (unwrap_or c semicolon)) (behind_mark (d ∷ more) semicolon rest)
     by_comma None w h = cc
-    by_comma (Some comma) w h = behind_token h.0 h.1 h.2
+    by_comma (Some comma) w h = behind_token _ h.0 h.1 h.2
 
 -- a name is in scope from the token behind its declarator on, and what initializes it stands behind that
 record Valued (u : ℕ → List ℕ) (g : FileScope) (low from : ℕ) (value : Option (ℕ × Trees.Expression)) (rest : List Lexeme) : Type 0 where
@@ -63,14 +65,14 @@ module _ (g : FileScope) (types : List (List ℕ)) where
   valued None v more w semicolon low rest h =
       let m = mark_apart types more w semicolon low rest h in record { named = m.0; walk = none m.1 }
   valued (Some value) v more w semicolon low rest h =
-      let t = behind_token h.0 h.1 h.2 in
+      let t = behind_token _ h.0 h.1 h.2 in
       let q = walked_initializer g.untagged g.objects types value.1 v (suc value.0) _ t.1 in
       let m = mark_apart types more w semicolon q.high rest q.apart in
       record {
         named = h.0;
         walk = record {
           high = suc (after_declarator more semicolon);
-          in_order = order_later (suc value.0) _ q.high (suc (after_declarator more semicolon))
+          in_order = order_later (suc value.0) (walk_of_initializer g.untagged g.objects value.1) q.high (suc (after_declarator more semicolon))
               (let l = m.0 in omega (arith, l)) q.in_order;
           apart = m.1;
         };
@@ -78,32 +80,34 @@ module _ (g : FileScope) (types : List (List ℕ)) where
 
   -- ---- a declarator with its name and what initializes it
 
-  at_name : (low from m : ℕ) → low ≤ from → suc from ≤ m → AreInOrder low (a_name from ∷ []) m
-  at_name low from m l k = (l, k)
-
   ordered_declarator : (d : Trees.InitDeclarator) (x : Spelling) (from low : ℕ) (tokens rest : List Lexeme) (steps : List Step)
       → Behind g.untagged g.objects types low d.declarator x x.from tokens
       → ((m : ℕ) → AreApart m tokens → Valued g.untagged g m from d.value rest) → ((m : ℕ) → AreApart m rest → AreStepsInOrder m steps)
       → AreStepsInOrder low (steps_of_declarator g d x from steps)
   ordered_declarator d x from low tokens rest steps b v next =
-      let p = filtered false in_full b.walk in
+      let own = At (walk_of_declarator g.untagged d.declarator) in
+      let initial = At (walk_of_initial g.untagged g.objects d.value) in
+      let p : Walked (suc x.from) own tokens = filtered false in_full b.walk in
       let q = v p.high p.apart in
-      let r = filtered false in_full q.walk in
+      let r : Walked (suc from) initial rest = filtered false in_full q.walk in
       let s = next r.high r.apart in
       let a = b.begins_from in
       let e = b.begins_before in
-      let l : suc x.from ≤ p.high = low_high (suc x.from) _ p.high p.in_order in
+      let l = low_high (suc x.from) own p.high p.in_order in
+      let h = low_high (suc from) initial r.high r.in_order in
       let n = q.named in
-      let first_of = order_earlier x.from (suc x.from) _ p.high (omega arith) p.in_order in (
-        omega (arith, a, e),
-        (p.high, (omega arith, first_of), (suc from, at_name p.high from (suc from) q.named (omega arith), (r.high, r.in_order, s))),
-        from_both (suc x.from) _ _ (froms_from (suc x.from) _ p.high p.in_order)
-            (omega (arith, l, n), from_both (suc x.from) _ _
-            (from_lower (suc x.from) (suc from) _ (omega (arith, l, n)) (froms_from (suc from) _ r.high r.in_order))
-            (from_lower (suc x.from) r.high _
-            (let h = low_high (suc from) _ r.high r.in_order in omega (arith, l, n, h))
-            (names_from r.high steps s))),
-      )
+      let begins : low ≤ x.from = omega (arith, a, e) in
+      let begun : AreInOrder x.from (a_look x.from ∷ own) p.high =
+      (omega arith, order_earlier x.from (suc x.from) own p.high (omega arith) p.in_order) in
+      let named : AreInOrder p.high (a_name from ∷ []) (suc from) = (n, omega arith) in
+      let later : AllByRecursion (λ m. suc x.from ≤ m) (froms_of initial ++ names_of steps) =
+      from_both (suc x.from) (froms_of initial) (names_of steps)
+      (from_lower (suc x.from) (suc from) (froms_of initial) (omega (arith, l, n)) (froms_from (suc from) initial r.high r.in_order))
+      (from_lower (suc x.from) r.high (names_of steps) (omega (arith, l, n, h)) (names_from r.high steps s)) in
+      let all : AllByRecursion (λ m. suc x.from ≤ m) (froms_of own ++ (from ∷ (froms_of initial ++ names_of steps))) =
+      from_both (suc x.from) (froms_of own) (from ∷ (froms_of initial ++ names_of steps)) (froms_from (suc x.from) own p.high p.in_order)
+      (omega (arith, l, n), later) in
+      (begins, (p.high, begun, (suc from, named, (r.high, r.in_order, s))), all)
 
 module _ (g : FileScope) (w : IsWholeFile g) where
   ordered_declarators : (types : List (List ℕ)) (lead : Bool) (all : List Trees.InitDeclarator) → AreInitDeclarators types lead all
@@ -139,7 +143,7 @@ module _ (g : FileScope) (w : IsWholeFile g) where
       let p = filtered false in_full (walked_specifiers g.untagged types d.specs f.0 low _ h) in
       let m = first_mark types d.all f.1 d.semicolon p.high rest p.apart in (
         m.0,
-        order_later low _ p.high m.0 m.1 p.in_order,
+        order_later low (At (walk_of_specifiers g.untagged d.specs)) p.high m.0 m.1 p.in_order,
         ordered_declarators types true d.all f.1 d.semicolon m.0 rest steps m.2 next,
       )
 
@@ -160,7 +164,7 @@ module _ (g : FileScope) (w : IsWholeFile g) where
       spelled_body = spelled_block_items items (punctuator M.CloseBrace right ∷ rest)
 
       opening : (m : ℕ) → AreApart m (punctuator M.OpenBrace left ∷ spelled_body) → Valued g.untagged g m left None spelled_body
-      opening m a = let t = behind_token a.0 a.1 a.2 in record { named = t.0; walk = none t.1 }
+      opening m a = let t = behind_token _ a.0 a.1 a.2 in record { named = t.0; walk = none t.1 }
 
       inside : (m : ℕ) → AreApart m spelled_body → AreStepsInOrder m (steps_of_body g w items steps)
       inside m a =

@@ -30,7 +30,7 @@ apart_of low (t ∷ tokens) h = (h.0, h.1, apart_of t.to tokens h.3)
 
 pub apart_earlier : (low m : ℕ) (tokens : List Lexeme) → low ≤ m → AreApart m tokens → AreApart low tokens
 apart_earlier low m [] l h = tt
-apart_earlier low m (t ∷ tokens) l h = let o = h.0 in (omega (arith, l, o), h.1)
+apart_earlier low m (t ∷ tokens) l h = let o = h.0 in (omega (arith, l, o), h.1, h.2)
 
 -- ---- events of a part, before the tokens that follow
 
@@ -108,7 +108,9 @@ module _ (u : ℕ → List ℕ) (objects : List AnObject) (types : List (List �
     walked_initializer (Trees.braces left all comma right) w low rest h =
         let p = walked_initializers true all w.1 _ _ h.2 in
         let c = comma_apart comma p.high _ p.apart in
-        earlier (pass h.0 h.1) (closed (record { high = c.high; in_order = order_later _ _ p.high c.high c.in_order p.in_order; apart = c.apart }))
+        let q : Walked (left + 1) (walk_of_initializers u objects all) (punctuator M.CloseBrace right ∷ rest) =
+        record { high = c.high; in_order = order_later (left + 1) (walk_of_initializers u objects all) p.high c.high c.in_order p.in_order; apart = c.apart } in
+        earlier (pass h.0 h.1) (closed q)
 
     walked_initializers : (start : Bool) (t : Trees.Arguments) → AreInitializers types start t → (low : ℕ) (rest : List Lexeme)
         → AreApart low (spelled_arguments t rest) → Walked low (walk_of_initializers u objects t) rest
