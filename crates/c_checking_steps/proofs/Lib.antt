@@ -4,3 +4,5 @@ pub mod Walking
 pub mod OrderedSteps
 pub mod MarksOfSteps
 pub mod There
+pub mod ThereInitially
+pub mod ThereInBodies
