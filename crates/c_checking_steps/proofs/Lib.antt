@@ -6,3 +6,4 @@ pub mod MarksOfSteps
 pub mod There
 pub mod ThereInitially
 pub mod ThereInBodies
+pub mod Made
