@@ -27,7 +27,7 @@ names_counted (an_end tag right ∷ all) = names_counted all
 names_counted (a_name from ∷ all) = ap suc (names_counted all)
 names_counted (a_literal at ∷ all) = names_counted all
 
-ends_counted : (all : List Event) → ends_in all ≡ length (rights_of all)
+pub ends_counted : (all : List Event) → ends_in all ≡ length (rights_of all)
 ends_counted [] = refl
 ends_counted (a_use at ∷ all) = ends_counted all
 ends_counted (a_look at ∷ all) = ends_counted all

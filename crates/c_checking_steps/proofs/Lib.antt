@@ -7,3 +7,5 @@ pub mod There
 pub mod ThereInitially
 pub mod ThereInBodies
 pub mod Made
+pub mod StepTags
+pub mod StepsInRange

@@ -99,10 +99,10 @@ module _ (u : ℕ → List ℕ) (objects : List AnObject) where
 -- ---- items
 
 module _ (g : FileScope) (w : IsWholeFile g) where
-  marks_specifiers : (specs : Trees.Specifiers) → marks_in (At (walk_of_specifiers g.untagged specs)) ≡ marks_of_specifiers g.untagged specs
+  pub marks_specifiers : (specs : Trees.Specifiers) → marks_in (At (walk_of_specifiers g.untagged specs)) ≡ marks_of_specifiers g.untagged specs
   marks_specifiers specs = ap marks_in (all_seen (walk_of_specifiers g.untagged specs)) ∙ marks_same_specifiers g.untagged specs
 
-  marks_declarator : (d : Trees.Declarator) → marks_in (At (walk_of_declarator g.untagged d)) ≡ marks_of_declarator g.untagged d
+  pub marks_declarator : (d : Trees.Declarator) → marks_in (At (walk_of_declarator g.untagged d)) ≡ marks_of_declarator g.untagged d
   marks_declarator d = ap marks_in (all_seen (walk_of_declarator g.untagged d)) ∙ marks_same_declarator g.untagged d
 
   marks_of_one : (d : Trees.InitDeclarator) (x : Spelling) (from : ℕ) (steps : List Step)

@@ -92,7 +92,7 @@ beginnings_both (Marks.a_tag t ∷ a) b = beginnings_both a b
 beginnings_both (Marks.an_end tag right ∷ a) b = beginnings_both a b
 beginnings_both (Marks.a_name from ∷ a) b = ap (λ z. from ∷ z) (beginnings_both a b)
 
-ends_both : (a b : List Mark) → Marks.ends_in (a ++ b) ≡ Marks.ends_in a ++ Marks.ends_in b
+pub ends_both : (a b : List Mark) → Marks.ends_in (a ++ b) ≡ Marks.ends_in a ++ Marks.ends_in b
 ends_both [] b = refl
 ends_both (Marks.a_tag t ∷ a) b = ends_both a b
 ends_both (Marks.an_end tag right ∷ a) b = ap (λ z. right ∷ z) (ends_both a b)
