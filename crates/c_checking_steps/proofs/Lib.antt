@@ -9,3 +9,4 @@ pub mod ThereInBodies
 pub mod Made
 pub mod StepTags
 pub mod StepsInRange
+pub mod Placed
