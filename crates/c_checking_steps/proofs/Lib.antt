@@ -10,3 +10,4 @@ pub mod Made
 pub mod StepTags
 pub mod StepsInRange
 pub mod Placed
+pub mod NamedSteps
