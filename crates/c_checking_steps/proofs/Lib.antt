@@ -11,3 +11,5 @@ pub mod StepTags
 pub mod StepsInRange
 pub mod Placed
 pub mod NamedSteps
+pub mod AllObjects
+pub mod StepsOfFiles
