@@ -1,9 +1,9 @@
 -- The objects and functions of an annotated file are those that its steps declare and make, in their order (C99 6.7, 6.9).
-use Rattle.std.proofs.Common.{◌≡◌, ℕ, zero, suc, ◌+◌, ◌≤◌, ◌<◌, Bool, true, false, List, [], ◌∷◌, ◌++◌, refl, sym, ap, ◌∙◌, subst, inl, inr, cond, arith}
-use Rattle.std.proofs.lemmas.Bool.{and_parts, leb-true, eq-eqb}
+use Rattle.std.proofs.Common.{◌≡◌, ℕ, zero, suc, ◌+◌, ◌≤◌, ◌<◌, Bool, true, false, List, [], ◌∷◌, refl, sym, ap, ◌∙◌, subst, inl, inr, cond, arith}
+use Rattle.std.proofs.lemmas.Bool.{and_parts, leb-true}
 use Rattle.std.proofs.lemmas.List.Elements.{All-head, All-tail}
 use Rattle.std.specs.List.{AllByRecursion}
-use Rattle.std.specs.Prelude.{◌⊎◌, ◌≢◌, ◌==◌, ◌&&◌, ◌||◌, nat_le, All, map, Option, Some, None, slice_get, is_none}
+use Rattle.std.specs.Prelude.{◌≢◌, ◌&&◌, nat_le, All, map, Some, None, slice_get, is_none}
 use Rattle.std.specs.Str.{bytes_eq}
 use Rattle.c_types.specs.Types.{CType}
 use Rattle.c_ast.specs.Trees
@@ -11,9 +11,9 @@ use Rattle.c_ast.specs.WellFormed.{AreItems}
 use Rattle.c_erasure.specs.Files.{AreAscending, IsMade, IsFirst, is_first, declarations_of, MayStandTogether, IsIntroduced, IsFileOf}
 use Rattle.c_erasure.specs.Marks.{scope_beginnings, marks_of_file}
 use Rattle.c_erasure.specs.Scopes.{Bound, AnObject, AFunction, FileScope, Entity, How, an_object, a_function, enumerator, visible, or_else}
-use Rattle.c_checking.proofs.CompleteLocals.{begins}
 use Rattle.c_checking.proofs.CompleteNodes.{some_is}
 use Rattle.c_checking.proofs.NodesOfParts.{same_bytes}
+use Rattle.c_checking_complete.proofs.Plain.{one_begins}
 use Rattle.c_checking_items.proofs.Names.{all_at}
 use Rattle.c_checking_items.proofs.Rises.{rising_later}
 use Rattle.c_checking_whole.proofs.Filed.{IsWholeFile, consistent_at}
@@ -117,16 +117,6 @@ declared_some [] e all h n = absurd (n h)
 declared_some (b ∷ names) e all (inl h) n = (0, b, refl, h.0)
 declared_some (b ∷ names) e all (inr h) n = let z = declared_some names e all h.1 n in (suc z.0, z.1, z.2, z.3)
 
-begun_there : (objects : List AnObject) (n : ℕ) (o : AnObject) → slice_get objects n ≡ Some o → begins objects o.first ≡ true
-begun_there [] n o e = cc
-begun_there (p ∷ objects) zero o e =
-    ap (λ b. b || begins objects o.first) (eq-eqb p.first o.first (ap (λ (o : AnObject). o.first) (some_is p o e)))
-begun_there (p ∷ objects) (suc n) o e = ap (λ b. (p.first == o.first) || b) (begun_there objects n o e) ∙ or_true (p.first == o.first)
-  where
-    or_true : (b : Bool) → (b || true) ≡ true
-    or_true true = refl
-    or_true false = refl
-
 module _ (g : FileScope) (items : List Trees.Item) (h : IsFileOf items g) (w : IsWholeFile g) (formed : AreItems [] items)
     (ascend : AreAscending (scope_beginnings (marks_of_file g.untagged items))) (places : Rising 0 (places_of_file items))
     (n : AreNamed g (objects_of (steps_of_items g w items)) (functions_of (steps_of_items g w items)) (steps_of_items g w items))
@@ -221,7 +211,7 @@ module _ (g : FileScope) (items : List Trees.Item) (h : IsFileOf items g) (w : I
     object_made i o e = by_kind (h.objects i o e)
       where
         by_kind : IsIntroduced g items i o → IsMade Objects o.first
-        by_kind (inl m) = all_begun g w [] items formed o.first (begun_there g.objects i o e) m
+        by_kind (inl m) = all_begun g w [] items formed o.first (one_begins g.objects i o e) m
         by_kind (inr d) =
             let z = declared_some g.names (an_object i o.ty) d.0 d.2 d.1 in
             object_declared (suc z.0) z.0 (omega arith) z.1 z.2 i o.ty z.3 o e

@@ -9,9 +9,9 @@ use Rattle.c_erasure.specs.Declarators.{declared_name}
 use Rattle.c_erasure.specs.Files.{IsMade}
 use Rattle.c_erasure.specs.Literals.{literals, literals_of_all, literals_if_any, literals_of_value, place_if_static, made_by_declarators, made_by_declaration}
 use Rattle.c_erasure.specs.Literals.{made_by_start, made_by, made_by_item, made_by_items, made_by_switch_item, made_by_switch_items}
-use Rattle.c_erasure.specs.Scopes.{AnObject, FileScope, Purpose, in_full, value_alone}
+use Rattle.c_erasure.specs.Scopes.{FileScope, in_full, value_alone}
 use Rattle.c_erasure.specs.Specifiers.{Storage, no_storage, a_typedef, is_extern, is_static, is_auto, is_register, several, storage_of}
-use Rattle.c_checking.proofs.CompleteBodies.{walk_by_storage, walk_of_declaration}
+use Rattle.c_checking.proofs.CompleteBodies.{walk_by_storage}
 use Rattle.c_checking.proofs.CompleteLists.{made_at}
 use Rattle.c_checking.proofs.CompleteLocals.{begins, literal_if, walk_of_initializer, walk_of_initializers, walk_of_initial, look_at, walk_of_declared, walk_of_locals}
 use Rattle.c_checking.proofs.CompleteStatements.{walk_of_option, walk_of_start, walk_of_labels, walk_of_statement, walk_of_item, walk_of_items}
@@ -20,6 +20,7 @@ use Rattle.c_checking.proofs.CompleteWalk.{Event, a_use, a_look, a_tag, an_end, 
 use Rattle.c_checking.proofs.CompleteWalk.{walk_of_specifiers, walk_of_specifier, walk_of_members, walk_of_member_declarators, walk_of_enumerators}
 use Rattle.c_checking.proofs.CompleteWalk.{walk_of_value, walk_of_declarator, walk_of_parameter_list, walk_of_parameters, an_enumeration}
 use Rattle.c_checking_complete.proofs.StaticLists.{object_at, walk_of_statics}
+use Rattle.c_checking_steps.proofs.StepLists.{two}
 use Rattle.c_checking_steps.proofs.Walking.{own, name_there}
 
 -- ---- lists of which some elements are left out
@@ -84,9 +85,6 @@ made_both (a_tag t ∷ a) b = made_both a b
 made_both (an_end tag right ∷ a) b = made_both a b
 made_both (a_name from ∷ a) b = made_both a b
 made_both (a_literal at ∷ a) b = ap (λ z. at ∷ z) (made_both a b)
-
-two : {X : Type 0} (a b c d : List X) → a ≡ c → b ≡ d → a ++ b ≡ c ++ d
-two a b c d p q = ap (λ a. a ++ b) p ∙ ap (λ b. c ++ b) q
 
 joined : (a b : List Event) (m n : List ℕ) → made_at a ≡ m → made_at b ≡ n → made_at (a ++ b) ≡ m ++ n
 joined a b m n p q = made_both a b ∙ two _ _ m n p q
@@ -307,13 +305,13 @@ begins_same (Trees.function d left all right) x e m n = refl
 
 module _ (g : FileScope) (types : List (List ℕ)) where
   abbrev Own : Trees.Declaration → List Event
-  Own d = own g types d
+  Own d = own g d
 
   statics_make : (lead : Bool) (all : List Trees.InitDeclarator) → AreInitDeclarators types lead all → (semicolon : ℕ)
       → Makes g (walk_of_statics g all) (made_by_declarators is_static all semicolon)
   statics_make lead [] w semicolon = refl
   statics_make lead (d ∷ more) w semicolon =
-      let x = name_there g.untagged g.objects types d.declarator w.2 in
+      let x = name_there d.declarator w.2 in
       let object = object_at d (declared_name d.declarator) in
       let own = walk_of_declared g.untagged g.objects d in
       let v = walk_of_initial g.untagged g.objects d.value in

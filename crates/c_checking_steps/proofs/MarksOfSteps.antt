@@ -1,9 +1,8 @@
 -- The steps of a file declare what the marks of its items say.
-use Rattle.std.proofs.Common.{◌≡◌, ℕ, Bool, true, false, List, [], ◌∷◌, ◌++◌, Option, Some, None, refl, sym, ap, ◌∙◌, subst, append-nil, append_assoc}
+use Rattle.std.proofs.Common.{◌≡◌, ℕ, Bool, true, false, List, [], ◌∷◌, ◌++◌, Option, Some, None, refl, sym, ap, ◌∙◌, append_assoc}
 use Rattle.c_ast.specs.declared.words.Spelling.{Spelling}
 use Rattle.c_ast.specs.Trees
 use Rattle.c_ast.specs.WellFormed.{AreInitDeclarators, IsItem, AreItems, types_after}
-use Rattle.c_erasure.specs.Declarators.{declared_name}
 use Rattle.c_erasure.specs.Marks
 use Rattle.c_erasure.specs.Marks.{Mark, marks, marks_of_all, marks_of_specifiers, marks_of_declarator, marks_of_initial, marks_of_declarators, marks_of_item}
 use Rattle.c_erasure.specs.Marks.{marks_of_file, name_from, after_declarator}
@@ -11,16 +10,16 @@ use Rattle.c_erasure.specs.Scopes.{AnObject, FileScope, in_full}
 use Rattle.c_checking.proofs.CompleteLocals.{begins, literal_if, walk_of_initializer, walk_of_initializers, walk_of_initial}
 use Rattle.c_checking.proofs.CompleteMarks.{marks_in, marks_same, marks_same_specifiers, marks_same_declarator}
 use Rattle.c_ast.specs.Places.{first_text}
-use Rattle.c_checking.proofs.CompleteWalk.{Event, a_use, a_look, a_tag, an_end, a_name, a_literal, seen, walk, walk_of_declarator, walk_of_specifiers}
-use Rattle.c_checking_whole.proofs.Declarations.{steps_of_declaration}
+use Rattle.c_checking.proofs.CompleteStatements.{walk_of_items}
+use Rattle.c_checking.proofs.CompleteWalk.{Event, a_use, a_look, a_tag, an_end, a_name, a_literal, seen, walk_of_declarator, walk_of_specifiers}
 use Rattle.c_checking_whole.proofs.Declarators.{steps_if_named, steps_of_declarators}
-use Rattle.c_checking_whole.proofs.Definitions.{alone, body_events, steps_of_body, steps_if_defined, steps_of_definition}
+use Rattle.c_checking_whole.proofs.Definitions.{alone, steps_of_body, steps_if_defined, steps_of_definition}
 use Rattle.c_checking_whole.proofs.Filed.{IsWholeFile}
 use Rattle.c_checking_whole.proofs.Items.{steps_of_item, steps_of_items}
 use Rattle.c_checking_whole.proofs.Prepared.{steps_of_declarator}
 use Rattle.c_checking_whole.proofs.Steps.{Step, At}
-use Rattle.c_checking_steps.proofs.StepLists.{marks_of}
-use Rattle.c_checking_steps.proofs.Walking.{name_there}
+use Rattle.c_checking_steps.proofs.StepLists.{marks_of, two}
+use Rattle.c_checking_steps.proofs.Walking.{own, name_there}
 
 -- at file scope all is seen
 pub all_seen : (all : List Event) → At all ≡ all
@@ -50,9 +49,6 @@ marks_both (a_tag t ∷ a) b = ap (λ z. Marks.a_tag t ∷ z) (marks_both a b)
 marks_both (an_end tag right ∷ a) b = ap (λ z. Marks.an_end tag right ∷ z) (marks_both a b)
 marks_both (a_name from ∷ a) b = ap (λ z. Marks.a_name from ∷ z) (marks_both a b)
 marks_both (a_literal at ∷ a) b = marks_both a b
-
-two : {X : Type 0} (a b c d : List X) → a ≡ c → b ≡ d → a ++ b ≡ c ++ d
-two a b c d p q = ap (λ a. a ++ b) p ∙ ap (λ b. c ++ b) q
 
 -- ---- initializers
 
@@ -120,7 +116,7 @@ module _ (g : FileScope) (w : IsWholeFile g) where
       → marks_of (steps_of_declarators g w all semicolon steps) ≡ marks_of_declarators g.untagged all semicolon ++ marks_of steps
   marks_declarators types lead [] f semicolon steps = refl
   marks_declarators types lead (d ∷ more) f semicolon steps =
-      let x = name_there g.untagged g.objects types d.declarator f.2 in
+      let x = name_there d.declarator f.2 in
       let from = name_from d.value (after_declarator more semicolon) in
       let later = steps_of_declarators g w more semicolon steps in
       let own = marks_of_declarator g.untagged d.declarator ++ (Marks.a_name from ∷ marks_of_initial g.untagged d.value) in
@@ -133,12 +129,12 @@ module _ (g : FileScope) (w : IsWholeFile g) where
       → marks_of (steps_of_definition g w specs d left items steps)
       ≡ marks_of_item g.untagged (Trees.defines specs d left items right) ++ marks_of steps
   marks_definition types specs d left items right f steps =
-      let x = name_there g.untagged g.objects types d f.2 in
+      let x = name_there d f.2 in
       let s = marks_of_specifiers g.untagged specs in
       let m = marks_of_declarator g.untagged d in
       let n : List Mark = Marks.a_name left ∷ [] in
       let body : marks_of (steps_of_body g w items steps) ≡ marks_of steps =
-      ap (λ z. z ++ marks_of steps) (no_marks (Rattle.c_checking.proofs.CompleteStatements.walk_of_items g.untagged (Rattle.c_checking_steps.proofs.Walking.own g types) items)) in
+      ap (λ z. z ++ marks_of steps) (no_marks (walk_of_items g.untagged (own g) items)) in
       two _ _ s ((m ++ n) ++ marks_of steps) (marks_specifiers specs)
       (ap (λ o. marks_of (steps_if_defined g w o d left items steps)) x.1 ∙ marks_of_one (alone d) x.0 left (steps_of_body g w items steps)
       ∙ ap (λ z. (m ++ n) ++ z) body)

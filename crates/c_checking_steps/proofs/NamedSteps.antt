@@ -1,5 +1,5 @@
 -- Each name of the steps is an enumerator's or a declarator's, and each object and function of the steps is one of the file (C99 6.7, 6.9).
-use Rattle.std.proofs.Common.{◌≡◌, ◌≢◌, ℕ, zero, suc, ◌+◌, ◌≤◌, ◌<◌, Bool, true, false, List, [], ◌∷◌, ◌++◌, Option, Some, None, refl, sym, ap, ◌∙◌, subst, inl, inr, arith}
+use Rattle.std.proofs.Common.{◌≡◌, ◌≢◌, ℕ, suc, ◌≤◌, ◌<◌, Bool, true, false, List, [], ◌∷◌, ◌++◌, Option, Some, None, refl, sym, ap, ◌∙◌, subst, inl, inr, arith}
 use Rattle.std.proofs.lemmas.List.Elements.{All-head, All-tail}
 use Rattle.std.specs.List.{AllByRecursion}
 use Rattle.std.specs.Prelude.{◌⊎◌, All, slice_get}
@@ -7,16 +7,15 @@ use Rattle.c_types.specs.Types.{CType}
 use Rattle.c_ast.specs.declared.words.Spelling.{Spelling}
 use Rattle.c_ast.specs.Trees
 use Rattle.c_ast.specs.Places.{first_declarator}
-use Rattle.c_ast.specs.WellFormed.{AreInitDeclarators, IsItem, AreItems, types_after}
 use Rattle.c_typed.specs.declared.operators.LibraryFunction.{LibraryFunction}
 use Rattle.c_typed.specs.Fits.{library_type}
 use Rattle.c_erasure.specs.Declarators.{declared_name}
-use Rattle.c_erasure.specs.Erasure.{IsBound, Declares}
+use Rattle.c_erasure.specs.Erasure.{IsBound}
 use Rattle.c_erasure.specs.Files.{IsMade, is_first, IsFirst, bound, object_how, IsTypedef, IsObject, IsFunction, IsFileDeclarator, AreFileDeclarators}
-use Rattle.c_erasure.specs.Files.{library_name, IsOwnName, IsLinkage, function_storage, IsDefinition, IsDefined, IsBody, ErasesItem, in_body}
+use Rattle.c_erasure.specs.Files.{library_name, IsOwnName, IsLinkage, function_storage, IsDefinition, IsDefined, ErasesItem}
 use Rattle.c_erasure.specs.Marks.{name_from, after_declarator}
-use Rattle.c_erasure.specs.Scopes.{Bound, AnObject, AFunction, ALocal, FileScope, Entity, typedef, enumerator, an_object, a_function, a_library_function}
-use Rattle.c_erasure.specs.Scopes.{a_local, a_parameter, at_file_scope, in_full, How, declares, defines}
+use Rattle.c_erasure.specs.Scopes.{Bound, AnObject, AFunction, FileScope, Entity, typedef, enumerator, an_object, a_function, a_library_function}
+use Rattle.c_erasure.specs.Scopes.{a_local, a_parameter, at_file_scope, in_full, declares, defines}
 use Rattle.c_erasure.specs.Specifiers.{Storage, no_storage, a_typedef, is_extern, is_static, is_auto, is_register, several, storage_of}
 use Rattle.c_checking.proofs.CompleteBodies.{walk_of_declaration}
 use Rattle.c_checking.proofs.CompleteLists.{froms_of, made_at}
@@ -24,7 +23,6 @@ use Rattle.c_checking.proofs.CompleteLocals.{walk_of_initial}
 use Rattle.c_checking.proofs.CompleteStatements.{walk_of_items}
 use Rattle.c_checking.proofs.CompleteWalk.{Event, a_use, a_look, a_tag, an_end, a_name, a_literal, seen, walk_of_declarator, walk_of_specifiers}
 use Rattle.c_checking_complete.proofs.StaticLists.{walk_of_statics}
-use Rattle.c_checking_whole.proofs.Declarations.{steps_of_declaration}
 use Rattle.c_checking_whole.proofs.Declarators.{steps_if_named, steps_of_declarators}
 use Rattle.c_checking_whole.proofs.Definitions.{alone, body_events, steps_of_body, steps_if_defined, steps_of_definition}
 use Rattle.c_checking_whole.proofs.Filed.{IsWholeFile}

@@ -1,29 +1,26 @@
 -- The steps of a file stand in the order of its bytes, where its tokens come one after the other.
-use Rattle.std.proofs.Common.{◌≡◌, ℕ, suc, ◌+◌, ◌≤◌, ◌<◌, Bool, true, false, List, [], ◌∷◌, ◌++◌, Option, Some, None, refl, sym, subst, arith}
+use Rattle.std.proofs.Common.{ℕ, suc, ◌+◌, ◌≤◌, ◌<◌, Bool, true, false, List, [], ◌∷◌, ◌++◌, Option, Some, None, sym, subst, arith}
 use Rattle.std.specs.Prelude.{unwrap_or}
 use Rattle.std.specs.List.{AllByRecursion}
 use Rattle.c_checking.proofs.CompleteLists.{froms_of}
 use Rattle.c_lexer.specs.declared.punctuator.Punctuator.TheVariants as M
 use Rattle.c_ast.specs.declared.words.Spelling.{Spelling}
 use Rattle.c_ast.specs.Trees
-use Rattle.c_ast.specs.Places.{first_declarator}
 use Rattle.c_ast.specs.Spelling.{Lexeme, punctuator, spelled_declarator, spelled_value, spelled_init_declarators, spelled_item, spelled_items, spelled_declaration}
 use Rattle.c_ast.specs.Spelling.{spelled_comma, spelled_block_items}
 use Rattle.c_ast.specs.WellFormed.{IsComma, IsValue, AreInitDeclarators, IsDeclaration, IsItem, AreItems, types_after}
-use Rattle.c_erasure.specs.Declarators.{declared_name}
-use Rattle.c_erasure.specs.Files.{is_first}
 use Rattle.c_erasure.specs.Marks.{name_from, after_declarator}
 use Rattle.c_erasure.specs.Scopes.{FileScope, in_full}
 use Rattle.c_checking.proofs.CompleteLocals.{walk_of_initializer, walk_of_initial}
 use Rattle.c_checking.proofs.CompleteOrder.{AreApart, AreInOrder, order_earlier, order_later, Walked, walked_specifiers}
-use Rattle.c_checking.proofs.CompleteWalk.{Event, a_look, a_name, seen, walk_of_declarator, walk_of_specifiers}
+use Rattle.c_checking.proofs.CompleteWalk.{a_look, a_name, walk_of_declarator, walk_of_specifiers}
 use Rattle.c_checking_whole.proofs.Declarations.{steps_of_declaration}
 use Rattle.c_checking_whole.proofs.Declarators.{steps_if_named, steps_of_declarators}
-use Rattle.c_checking_whole.proofs.Definitions.{alone, body_events, steps_of_body, steps_if_defined, steps_of_definition}
+use Rattle.c_checking_whole.proofs.Definitions.{alone, steps_of_body, steps_if_defined, steps_of_definition}
 use Rattle.c_checking_whole.proofs.Filed.{IsWholeFile}
 use Rattle.c_checking_whole.proofs.Items.{steps_of_item, steps_of_items}
-use Rattle.c_checking_whole.proofs.Prepared.{behind_type, steps_of_declarator}
-use Rattle.c_checking_whole.proofs.Steps.{Step, events, a_declarator, an_own, a_body, entity_at, At}
+use Rattle.c_checking_whole.proofs.Prepared.{steps_of_declarator}
+use Rattle.c_checking_whole.proofs.Steps.{Step, At}
 use Rattle.c_checking_steps.proofs.Following.{low_high, from_lower, from_both, froms_from, names_from}
 use Rattle.c_checking_steps.proofs.StepLists.{names_of, AreStepsInOrder}
 use Rattle.c_checking_steps.proofs.Walking.{apart_earlier, none, closed, filtered, walked_initializer, Behind, behind_name, name_there}
@@ -115,7 +112,7 @@ module _ (g : FileScope) (w : IsWholeFile g) where
       → ((m : ℕ) → AreApart m rest → AreStepsInOrder m steps) → AreStepsInOrder low (steps_of_declarators g w all semicolon steps)
   ordered_declarators types lead [] f semicolon low rest steps h next = next low h
   ordered_declarators types lead (d ∷ more) f semicolon low rest steps h next =
-      let x = name_there g.untagged g.objects types d.declarator f.2 in
+      let x = name_there d.declarator f.2 in
       let from = name_from d.value (after_declarator more semicolon) in
       let tokens = spelled_value d.value (spelled_init_declarators more (punctuator M.Semicolon semicolon ∷ rest)) in
       let later = steps_of_declarators g w more semicolon steps in
@@ -153,12 +150,15 @@ module _ (g : FileScope) (w : IsWholeFile g) where
       → AreStepsInOrder low (steps_of_definition g w specs d left items steps)
   ordered_definition types specs d left items right f low rest steps h next =
       let p = filtered false in_full (walked_specifiers g.untagged types specs f.0 low _ h) in
-      let x = name_there g.untagged g.objects types d f.2 in
-      let body = spelled_body in
-      (p.high, p.in_order, subst (λ o. AreStepsInOrder p.high (steps_if_defined g w o d left items steps)) (sym x.1)
-      (ordered_declarator g types (alone d) x.0 left p.high (punctuator M.OpenBrace left ∷ body) body (steps_of_body g w items steps)
-      (behind_name g.untagged g.objects types d f.1 x.0 x.1 x.0.from p.high (punctuator M.OpenBrace left ∷ body) p.apart)
-      opening inside))
+      let x = name_there d f.2 in
+      let body = spelled_body in (
+        p.high,
+        p.in_order,
+        subst (λ o. AreStepsInOrder p.high (steps_if_defined g w o d left items steps)) (sym x.1)
+            (ordered_declarator g types (alone d) x.0 left p.high (punctuator M.OpenBrace left ∷ body) body (steps_of_body g w items steps)
+            (behind_name g.untagged g.objects types d f.1 x.0 x.1 x.0.from p.high (punctuator M.OpenBrace left ∷ body) p.apart)
+            opening inside),
+      )
     where
       spelled_body : List Lexeme
       spelled_body = spelled_block_items items (punctuator M.CloseBrace right ∷ rest)

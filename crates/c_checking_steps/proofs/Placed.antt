@@ -12,10 +12,9 @@ use Rattle.c_erasure.specs.Marks.{name_from, after_declarator}
 use Rattle.c_erasure.specs.Scopes.{FileScope, Entity, typedef, enumerator, an_object, a_function, a_library_function, a_local, a_parameter}
 use Rattle.c_checking.proofs.CompleteLists.{made_at}
 use Rattle.c_checking.proofs.CompleteLocals.{begins, walk_of_initial}
-use Rattle.c_checking.proofs.CompleteWalk.{a_name, walk_of_declarator, walk_of_specifiers}
-use Rattle.c_checking_whole.proofs.Declarations.{steps_of_declaration}
+use Rattle.c_checking.proofs.CompleteWalk.{walk_of_declarator, walk_of_specifiers}
 use Rattle.c_checking_whole.proofs.Declarators.{steps_if_named, steps_of_declarators}
-use Rattle.c_checking_whole.proofs.Definitions.{alone, body_events, steps_of_body, steps_if_defined, steps_of_definition}
+use Rattle.c_checking_whole.proofs.Definitions.{alone, body_events, steps_of_body, steps_if_defined}
 use Rattle.c_checking_whole.proofs.Filed.{IsWholeFile}
 use Rattle.c_checking_whole.proofs.Items.{steps_of_item, steps_of_items}
 use Rattle.c_checking_whole.proofs.Prepared.{steps_of_declarator}
@@ -114,7 +113,7 @@ module _ (g : FileScope) (w : IsWholeFile g) where
       → Kept Any (objects_of (steps_of_declarators g w all semicolon steps)) (places_of_declarators all semicolon ++ more)
   declarators_placed types lead [] f semicolon steps more h = h
   declarators_placed types lead (d ∷ all) f semicolon steps more h =
-      let x = name_there g.untagged g.objects types d.declarator f.2 in
+      let x = name_there d.declarator f.2 in
       let from = name_from d.value (after_declarator all semicolon) in
       let later = steps_of_declarators g w all semicolon steps in
       let place = first_declarator d.declarator semicolon in
@@ -130,7 +129,7 @@ module _ (g : FileScope) (w : IsWholeFile g) where
       → Kept Any (functions_of (steps_of_declarators g w all semicolon steps)) (places_of_declarators all semicolon ++ more)
   functions_placed types lead [] f semicolon steps more h = h
   functions_placed types lead (d ∷ all) f semicolon steps more h =
-      let x = name_there g.untagged g.objects types d.declarator f.2 in
+      let x = name_there d.declarator f.2 in
       let from = name_from d.value (after_declarator all semicolon) in
       let later = steps_of_declarators g w all semicolon steps in
       let place = first_declarator d.declarator semicolon in
@@ -148,7 +147,7 @@ module _ (g : FileScope) (w : IsWholeFile g) where
       (subst (λ z. Kept Any (z ++ objects_of (steps_of_declarators g w d.all d.semicolon steps)) (places_of_declarators d.all d.semicolon ++ more))
       (sym (objects_of_specifiers g d.specs)) (declarators_placed types true d.all f.1 d.semicolon steps more h))
   item_placed types (Trees.defines specs d left items right) f steps more h =
-      let x = name_there g.untagged g.objects types d f.2 in
+      let x = name_there d f.2 in
       let place = first_declarator d left in
       let body = made_at (body_events g w items) in
       let inside : Kept Any (body ++ objects_of steps) (made_by_items items ++ more) =
@@ -165,7 +164,7 @@ module _ (g : FileScope) (w : IsWholeFile g) where
       leave (first_item (Trees.declaration d)) _ (places_of_declarators d.all d.semicolon ++ more)
       (functions_placed types true d.all f.1 d.semicolon steps more h)
   item_functions_placed types (Trees.defines specs d left items right) f steps more h =
-      let x = name_there g.untagged g.objects types d f.2 in
+      let x = name_there d f.2 in
       let place = first_declarator d left in
       let inside : Kept Any (functions_of steps) (made_by_items items ++ more) =
       kept_both Any [] (made_by_items items) (functions_of steps) more (none_kept (made_by_items items)) h in
@@ -208,7 +207,7 @@ module _ (g : FileScope) (w : IsWholeFile g) where
   declarators_begun types lead [] f semicolon steps at b (inl m) = absurd m
   declarators_begun types lead [] f semicolon steps at b (inr m) = m
   declarators_begun types lead (d ∷ all) f semicolon steps at b m =
-      let x = name_there g.untagged g.objects types d.declarator f.2 in
+      let x = name_there d.declarator f.2 in
       let from = name_from d.value (after_declarator all semicolon) in
       let later = steps_of_declarators g w all semicolon steps in
       subst (λ o. IsMade (objects_of (steps_if_named g w d o from later)) at) (sym x.1)
@@ -232,7 +231,7 @@ module _ (g : FileScope) (w : IsWholeFile g) where
       made_right (made_at (At (walk_of_specifiers g.untagged d.specs))) (objects_of (steps_of_declarators g w d.all d.semicolon steps)) at
       (declarators_begun types true d.all f.1 d.semicolon steps at b m)
   item_begun types (Trees.defines specs d left items right) f steps at b m =
-      let x = name_there g.untagged g.objects types d f.2 in
+      let x = name_there d f.2 in
       made_right (made_at (At (walk_of_specifiers g.untagged specs))) _ at
       (subst (λ o. IsMade (objects_of (steps_if_defined g w o d left items steps)) at) (sym x.1)
       (one_begun (alone d) x.0 left (steps_of_body g w items steps) at b (inr (inside m))))

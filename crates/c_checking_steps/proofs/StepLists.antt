@@ -1,17 +1,16 @@
 -- What the steps of a file tell, in their order: where names begin to be in scope, which definitions end, which objects and functions begin.
-use Rattle.std.proofs.Common.{◌≡◌, ℕ, zero, suc, ◌+◌, ◌≤◌, ◌<◌, true, false, List, [], ◌∷◌, ◌++◌, drop, length, length-append, append_assoc}
-use Rattle.std.proofs.Common.{refl, sym, ap, ◌∙◌, subst, arith}
-use Rattle.std.specs.Prelude.{Bool, Option, Some, None, map, slice_get}
+use Rattle.std.proofs.Common.{◌≡◌, ℕ, suc, ◌+◌, ◌≤◌, true, List, [], ◌∷◌, ◌++◌}
+use Rattle.std.proofs.Common.{refl, sym, ap, ◌∙◌, subst}
+use Rattle.std.specs.Prelude.{Bool, Option, Some}
 use Rattle.std.specs.List.{AllByRecursion}
-use Rattle.c_types.specs.Types.{Record}
 use Rattle.c_erasure.specs.Marks
 use Rattle.c_erasure.specs.Marks.{Mark}
-use Rattle.c_erasure.specs.Scopes.{Bound, Tag, AnObject, AFunction, FileScope, Entity, an_object, a_function}
+use Rattle.c_erasure.specs.Scopes.{Tag, FileScope, Entity, an_object, a_function}
 use Rattle.c_checking_files.proofs.StatementLaws.{AreItemsInRange}
 use Rattle.c_checking.proofs.CompleteLists.{froms_of, rights_of, defined_by, tags_of, made_at}
 use Rattle.c_checking.proofs.CompleteMarks.{marks_in, froms_same, rights_same, defined_same, tags_same}
 use Rattle.c_checking.proofs.CompleteOrder.{AreInOrder}
-use Rattle.c_checking.proofs.CompleteWalk.{Event, IsTagOf, ends_in}
+use Rattle.c_checking.proofs.CompleteWalk.{IsTagOf, ends_in}
 use Rattle.c_checking_whole.proofs.Steps.{Step, events, a_declarator, an_own, a_body}
 
 -- ---- the lists
@@ -110,7 +109,7 @@ tags_both (Marks.a_tag t ∷ a) b = ap (λ z. t ∷ z) (tags_both a b)
 tags_both (Marks.an_end tag right ∷ a) b = tags_both a b
 tags_both (Marks.a_name from ∷ a) b = tags_both a b
 
-two : {X : Type 0} (a b c d : List X) → a ≡ c → b ≡ d → a ++ b ≡ c ++ d
+pub two : {X : Type 0} (a b c d : List X) → a ≡ c → b ≡ d → a ++ b ≡ c ++ d
 two a b c d p q = ap (λ a. a ++ b) p ∙ ap (λ b. c ++ b) q
 
 pub names_same : (all : List Step) → names_of all ≡ Marks.scope_beginnings (marks_of all)

@@ -1,7 +1,7 @@
 -- Tags of an annotated file: that of an enumeration stands nowhere else, and that of a structure is none of an enumeration (C99 6.7.2.3).
 use Rattle.std.proofs.Common.{◌≡◌, ◌≢◌, ℕ, zero, suc, Bool, true, false, refl, sym, ap, ◌∙◌, subst, cond, List, [], ◌∷◌, inl, inr}
 use Rattle.std.proofs.lemmas.Bool.{and_parts}
-use Rattle.std.specs.Prelude.{◌⊎◌, Option, Some, None, slice_get, nat_lt, ◌&&◌, ◌||◌}
+use Rattle.std.specs.Prelude.{◌⊎◌, Some, None, slice_get, nat_lt, ◌&&◌, ◌||◌}
 use Rattle.std.specs.List.{AllByRecursion}
 use Rattle.std.specs.Str.{bytes_eq}
 use Rattle.c_ast.specs.Trees

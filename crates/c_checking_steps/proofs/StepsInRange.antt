@@ -1,5 +1,5 @@
 -- The literals of bodies are in range, from the number of records on that the file has there.
-use Rattle.std.proofs.Common.{◌≡◌, ℕ, ◌+◌, Bool, true, false, List, [], ◌∷◌, ◌++◌, length, length-append, Option, Some, None, refl, sym, ap, ◌∙◌, subst, arith}
+use Rattle.std.proofs.Common.{◌≡◌, ℕ, ◌+◌, Bool, true, false, List, [], ◌∷◌, ◌++◌, length, length-append, refl, sym, ap, ◌∙◌, subst, arith}
 use Rattle.c_ast.specs.declared.words.Spelling.{Spelling}
 use Rattle.c_ast.specs.Trees
 use Rattle.c_ast.specs.WellFormed.{AreInitDeclarators, IsItem, AreItems, types_after}
@@ -8,7 +8,6 @@ use Rattle.c_erasure.specs.Marks.{Mark, ends_in, marks_of_specifiers, marks_of_d
 use Rattle.c_erasure.specs.Marks.{after_declarator}
 use Rattle.c_erasure.specs.Scopes.{FileScope, in_full}
 use Rattle.c_checking.proofs.CompleteBodies.{walk_of_declaration}
-use Rattle.c_checking.proofs.CompleteLists.{rights_of}
 use Rattle.c_checking.proofs.CompleteLocals.{walk_of_initial}
 use Rattle.c_checking.proofs.CompleteMarks.{marks_in, rights_same}
 use Rattle.c_checking.proofs.CompleteStatements.{walk_of_items}
@@ -16,9 +15,8 @@ use Rattle.c_checking.proofs.CompleteWalk as Walk
 use Rattle.c_checking.proofs.CompleteWalk.{Event, seen, a_use, a_look, a_tag, an_end, a_name, a_literal, walk_of_declarator, walk_of_specifiers}
 use Rattle.c_checking_complete.proofs.StaticLists.{walk_of_statics}
 use Rattle.c_checking_items.proofs.Items.{IsItemFit, AreItemsFit}
-use Rattle.c_checking_whole.proofs.Declarations.{steps_of_declaration}
 use Rattle.c_checking_whole.proofs.Declarators.{steps_if_named, steps_of_declarators}
-use Rattle.c_checking_whole.proofs.Definitions.{alone, body_events, steps_of_body, steps_if_defined, steps_of_definition}
+use Rattle.c_checking_whole.proofs.Definitions.{alone, body_events, steps_of_body, steps_if_defined}
 use Rattle.c_checking_whole.proofs.Filed.{IsWholeFile}
 use Rattle.c_checking_whole.proofs.Items.{steps_of_item, steps_of_items}
 use Rattle.c_checking_whole.proofs.Prepared.{steps_of_declarator}
@@ -64,7 +62,7 @@ module _ (g : FileScope) (w : IsWholeFile g) (ends : List ℕ) where
       → AreStepsInRange ends n (steps_of_declarators g w all semicolon steps)
   ranged_declarators types lead [] f semicolon n steps h = at_number (n + 0) n steps (omega arith) h
   ranged_declarators types lead (d ∷ more) f semicolon n steps h =
-      let x = name_there g.untagged g.objects types d.declarator f.2 in
+      let x = name_there d.declarator f.2 in
       let from = name_from d.value (after_declarator more semicolon) in
       let later = steps_of_declarators g w more semicolon steps in
       let m = marks_of_declarator g.untagged d.declarator in
@@ -89,7 +87,7 @@ module _ (g : FileScope) (w : IsWholeFile g) (ends : List ℕ) where
       ranged_declarators types true d.all f.1 d.semicolon N steps
       (at_number (n + length (ends_in (s ++ k))) (N + length (ends_in k)) steps (omega (arith, a, b)) h)
   ranged_item types (Trees.defines specs d left items right) f n steps r h =
-      let x = name_there g.untagged g.objects types d f.2 in
+      let x = name_there d f.2 in
       let s = marks_of_specifiers g.untagged specs in
       let m = marks_of_declarator g.untagged d in
       let a = ends_at (At (walk_of_specifiers g.untagged specs)) s (marks_specifiers g w specs) in

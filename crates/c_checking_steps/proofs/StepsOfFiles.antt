@@ -1,7 +1,6 @@
 -- What a tree has stands in its annotated file in the order of the text (C99 6.2.1, 6.7, 6.9).
 use Rattle.std.proofs.Common.{◌≡◌, ℕ, List, [], sym, ap, ◌∙◌, subst, refl, length}
 use Rattle.std.specs.Prelude.{map, Ok, Err}
-use Rattle.c_types.specs.Types.{Record}
 use Rattle.c_lexer.specs.TokenPlaces.{TokensHavePlaces}
 use Rattle.c_ast.specs.Trees
 use Rattle.c_ast.specs.Laws.{TreesBeginFirst}
@@ -9,8 +8,8 @@ use Rattle.c_ast.specs.Spelling.{spell}
 use Rattle.c_ast.specs.TreesOfFiles.{IsTreeOf}
 use Rattle.c_erasure.specs.Broken.{Fault}
 use Rattle.c_erasure.specs.Files.{IsFileOf}
-use Rattle.c_erasure.specs.Marks.{Mark, scope_beginnings, ends_in, defined_in, tags_in, marks_of_file}
-use Rattle.c_erasure.specs.Scopes.{Bound, AnObject, AFunction, FileScope}
+use Rattle.c_erasure.specs.Marks.{scope_beginnings, ends_in, defined_in, tags_in, marks_of_file}
+use Rattle.c_erasure.specs.Scopes.{Bound, FileScope}
 use Rattle.c_text_order.specs.TextOrder.{IsUnwritten, TextsAreInOrder}
 use Rattle.c_text_order.proofs.Rising.{AreRising}
 use Rattle.c_text_order.proofs.Tokens.{tokens_rise}
@@ -24,11 +23,11 @@ use Rattle.c_checking_whole.proofs.Filed.{IsWholeFile, IsFiled}
 use Rattle.c_checking_whole.proofs.Items.{steps_of_items, annotated_found, never_refused}
 use Rattle.c_checking_whole.proofs.Steps.{Step, AreSteps}
 use Rattle.c_checking_steps.proofs.AllObjects.{objects_same, functions_same}
-use Rattle.c_checking_steps.proofs.Following.{Split, AreStepsNext, steps_follow}
+use Rattle.c_checking_steps.proofs.Following.{AreStepsNext, steps_follow}
 use Rattle.c_checking_steps.proofs.MarksOfSteps.{marks_of_items}
 use Rattle.c_checking_steps.proofs.NamedSteps.{AreNamed, items_named}
 use Rattle.c_checking_steps.proofs.OrderedSteps.{ordered_items}
-use Rattle.c_checking_steps.proofs.StepLists.{names_of, ends_of, defined_of, objects_of, functions_of, marks_of, AreTagged, AreStepsInOrder, names_same}
+use Rattle.c_checking_steps.proofs.StepLists.{names_of, objects_of, functions_of, marks_of, AreTagged, AreStepsInOrder, names_same}
 use Rattle.c_checking_steps.proofs.StepLists.{ends_same, defined_all_same, steps_tagged}
 use Rattle.c_checking_steps.proofs.StepsInRange.{ranged_items}
 use Rattle.c_checking_steps.proofs.StepTags.{tags_fit}
@@ -37,40 +36,40 @@ use Rattle.c_checking_steps.proofs.Walking.{apart_of}
 module _ (g : FileScope) (items : List Trees.Item) (h : IsFileOf items g) (w : IsWholeFile g) (fit : AreFitItems g.untagged items)
     (apart : AreApart 0 (spell items))
   where
-    abbrev All : List Step
-    All = steps_of_items g w items
+    abbrev Steps : List Step
+    Steps = steps_of_items g w items
 
-    order : AreStepsInOrder 0 All
+    order : AreStepsInOrder 0 Steps
     order = ordered_items g w [] items fit.formed 0 apart
 
-    marks : marks_of All ≡ marks_of_file g.untagged items
+    marks : marks_of Steps ≡ marks_of_file g.untagged items
     marks = marks_of_items g w [] items fit.formed
 
-    froms : map (λ (b : Bound). b.from) g.names ≡ names_of All
-    froms = h.names ∙ ap scope_beginnings (sym marks) ∙ sym (names_same All)
+    froms : map (λ (b : Bound). b.from) g.names ≡ names_of Steps
+    froms = h.names ∙ ap scope_beginnings (sym marks) ∙ sym (names_same Steps)
 
-    named : AreNamed g (objects_of All) (functions_of All) All
-    named = items_named g (objects_of All) (functions_of All) w items h.each_item 0 order
+    named : AreNamed g (objects_of Steps) (functions_of Steps) Steps
+    named = items_named g (objects_of Steps) (functions_of Steps) w items h.each_item 0 order
         (record { objects_in = λ at m. m; functions_in = λ at m. m })
 
-    next : AreStepsNext g 0 0 0 0 0 All
+    next : AreStepsNext g 0 0 0 0 0 Steps
     next = record {
       in_order = order;
       names = record { before = []; count = refl; all = froms };
       names_before = tt;
       before = [];
-      ends = h.ends ∙ ap ends_in (sym marks) ∙ sym (ends_same All);
+      ends = h.ends ∙ ap ends_in (sym marks) ∙ sym (ends_same Steps);
       ended_before = refl;
       ends_before = tt;
-      records = record { before = []; count = refl; all = h.records ∙ ap defined_in (sym marks) ∙ sym (defined_all_same All) };
+      records = record { before = []; count = refl; all = h.records ∙ ap defined_in (sym marks) ∙ sym (defined_all_same Steps) };
       objects = record { before = []; count = refl; all = objects_same g items h w fit.formed fit.beginnings fit.order.places named froms };
       functions = record { before = []; count = refl; all = functions_same g items h w fit.formed fit.beginnings fit.order.places named froms };
-      tags = steps_tagged g All (subst (λ m. AreTagged g (tags_in m)) (sym marks) (tags_fit g items h));
+      tags = steps_tagged g Steps (subst (λ m. AreTagged g (tags_in m)) (sym marks) (tags_fit g items h));
       ranged = ranged_items g w g.ends [] items fit.formed 0 (subst (λ ends. AreItemsFit g.untagged ends 0 items) (sym h.ends) fit.fit);
     }
 
     pub steps_stand : AreSteps g 0 0 0 0 (steps_of_items g w items)
-    steps_stand = steps_follow g 0 0 0 0 0 All next
+    steps_stand = steps_follow g 0 0 0 0 0 Steps next
 
 -- ---- of the tree of a text, where `untagged` gives names that no tag of the text has
 

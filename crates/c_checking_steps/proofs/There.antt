@@ -1,7 +1,7 @@
 -- In an annotated file an enumerator has its name, and a string literal its object: of expressions and types (C99 6.4.5, 6.7.2.2).
 use Rattle.std.proofs.Common.{◌≡◌, ℕ, Bool, true, false, List, [], ◌∷◌, ◌++◌, Option, Some, None, refl, sym, subst, inl, inr}
-use Rattle.std.specs.Prelude.{◌⊎◌, slice_get}
-use Rattle.c_types.specs.Types.{CType, CTypes, no_types, and_type, Field}
+use Rattle.std.specs.Prelude.{slice_get}
+use Rattle.c_types.specs.Types.{CType, CTypes, Field}
 use Rattle.c_ast.specs.declared.operators.UnaryOp.{UnaryOp}
 use Rattle.c_ast.specs.declared.operators.AssignOp.{AssignOp}
 use Rattle.c_ast.specs.declared.operators.BinaryOp.{BinaryOp}
@@ -11,7 +11,7 @@ use Rattle.c_ast.specs.declared.words.Spelling.{Spelling}
 use Rattle.c_ast.specs.Trees
 use Rattle.c_ast.specs.Places.{first_text}
 use Rattle.c_erasure.specs.Declarators.{Shape, is_name, declared_name, parameter_type}
-use Rattle.c_erasure.specs.Erasure.{IsBound, IsConstant, IsMeasured, IsBase, Values, Erases, AreValues, IsTypeName, IsOne, Specifies, Declares, AreParameters}
+use Rattle.c_erasure.specs.Erasure.{IsBound, IsBase, Erases, AreValues, IsTypeName, IsOne, Declares, AreParameters}
 use Rattle.c_erasure.specs.Erasure.{AreListed, AreFields, AreMembers, AreEnumerators, IsEnumeratorValue, IsLiteralFor, place_in, literal_of, with_parameter_if_named}
 use Rattle.c_erasure.specs.Erasure.{after_all, comma_or}
 use Rattle.c_erasure.specs.Marks.{tag_name}
@@ -21,8 +21,8 @@ use Rattle.c_erasure.specs.Scopes.{for_value, measured}
 use Rattle.c_erasure.specs.Specifiers.{types_among}
 use Rattle.c_typed.specs.Trees as Typed
 use Rattle.c_erasure.specs.Noted.{Noted}
-use Rattle.c_checking.proofs.CompleteWalk.{Event, a_use, a_look, a_tag, an_end, a_name, a_literal, seen, with_event, is_kept, walk, walk_of_all, walk_if_any}
-use Rattle.c_checking.proofs.CompleteWalk.{walk_of_type, walk_of_specifiers, walk_of_specifier, walk_of_members, walk_of_member_declarators, walk_of_enumerators}
+use Rattle.c_checking.proofs.CompleteWalk.{Event, a_use, a_look, a_tag, an_end, a_name, a_literal, seen, with_event, is_kept, walk, walk_of_all}
+use Rattle.c_checking.proofs.CompleteWalk.{walk_of_type, walk_of_specifiers, walk_of_members, walk_of_member_declarators, walk_of_enumerators}
 use Rattle.c_checking.proofs.CompleteWalk.{walk_of_value, walk_of_declarator, walk_of_parameter_list, walk_of_parameters, an_enumeration}
 
 -- what an event says of the file: an enumerator's name, or an object

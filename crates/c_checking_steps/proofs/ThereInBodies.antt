@@ -1,5 +1,5 @@
 -- In the body of a function the string literals and the `static` locals have their objects (C99 6.7, 6.8).
-use Rattle.std.proofs.Common.{◌≡◌, ◌≢◌, ℕ, Bool, true, false, List, [], ◌∷◌, ◌++◌, refl, sym, subst, inl, inr}
+use Rattle.std.proofs.Common.{◌≡◌, ℕ, true, false, List, [], ◌∷◌, ◌++◌, refl, sym, subst, inl, inr}
 use Rattle.std.specs.Prelude.{◌⊎◌, Option, Some, None}
 use Rattle.c_types.specs.declared.ty.IntKind.{IntKind}
 use Rattle.c_types.specs.Types.{CType}
@@ -7,17 +7,16 @@ use Rattle.c_ast.specs.declared.words.Spelling.{Spelling}
 use Rattle.c_ast.specs.Trees
 use Rattle.c_ast.specs.Places.{first_declarator}
 use Rattle.c_erasure.specs.Declarators.{declared_name}
-use Rattle.c_erasure.specs.Erasure.{Erases, Values}
 use Rattle.c_erasure.specs.Noted.{Expression}
 use Rattle.c_erasure.specs.Scopes.{ALocal, Bound, FileScope, Scope, in_full, for_value}
 use Rattle.c_erasure.specs.Specifiers.{Storage, no_storage, is_static, is_auto, is_register, storage_of}
 use Rattle.c_erasure.specs.Statements.{Statement, Statements, Arms, DeclareAll, IsLocalDeclaration, IsPlainIfAny, IsStart, AreLabels, ErasesStatement}
-use Rattle.c_erasure.specs.Statements.{ErasesItem, EraseItems, ErasesSwitchItem, EraseSwitchItems, IsVariable, IsStaticLocal, with_object, with_variable}
-use Rattle.c_checking.proofs.CompleteBodies.{walk_by_storage, walk_of_declaration}
-use Rattle.c_checking.proofs.CompleteLocals.{look_at, walk_of_declared, walk_of_initial, walk_of_locals}
+use Rattle.c_erasure.specs.Statements.{ErasesItem, EraseItems, ErasesSwitchItem, EraseSwitchItems, with_object, with_variable}
+use Rattle.c_checking.proofs.CompleteBodies.{walk_by_storage}
+use Rattle.c_checking.proofs.CompleteLocals.{look_at, walk_of_locals}
 use Rattle.c_checking.proofs.CompleteStatements.{walk_of_option, walk_of_start, walk_of_labels, walk_of_statement, walk_of_item, walk_of_items}
 use Rattle.c_checking.proofs.CompleteStatements.{walk_of_switch_item, walk_of_switch_items}
-use Rattle.c_checking.proofs.CompleteWalk.{Event, a_literal, seen, walk, walk_of_declarator, walk_of_specifiers}
+use Rattle.c_checking.proofs.CompleteWalk.{Event, walk}
 use Rattle.c_checking_complete.proofs.StaticLists.{object_at, walk_of_statics}
 use Rattle.c_checking_steps.proofs.There.{HasObject, AreThere, there_both, for_value_there, there, there_declarator, there_specifiers}
 use Rattle.c_checking_steps.proofs.ThereInitially.{constants_there, initializer_there}
@@ -86,7 +85,7 @@ module _ (g : FileScope) (ls : List ALocal) (types : List (List ℕ)) where
       kept (inr (inr e)) r = subst (λ words. Inside (walk_by_storage g (λ all. walk_of_statics g all) words all)) (sym e) r
 
   abbrev Own : Trees.Declaration → List Event
-  Own d = own g types d
+  Own d = own g d
 
   declaration_there : (d : Trees.Declaration) (b : List (List Bound)) (found : Statements) (after : Scope) → IsLocalDeclaration d (body b) found after
       → IsInBody after × Inside (Own d)

@@ -1,18 +1,16 @@
 -- In an annotated file the string literals of initializers have their objects, where one begins there (C99 6.4.5, 6.7.8).
-use Rattle.std.proofs.Common.{◌≡◌, ℕ, zero, suc, ◌+◌, Bool, true, false, List, [], ◌∷◌, ◌++◌, refl, sym, ap, ◌∙◌, subst, inl, inr}
+use Rattle.std.proofs.Common.{◌≡◌, ℕ, suc, ◌+◌, Bool, true, false, List, [], ◌∷◌, refl, sym, subst, inl, inr}
 use Rattle.std.proofs.lemmas.Bool.{eqb-true}
-use Rattle.std.specs.Prelude.{◌⊎◌, ◌==◌, ◌||◌, Option, Some, None, slice_get}
-use Rattle.c_types.specs.Types.{CType, array, structure, Field, Record}
+use Rattle.std.specs.Prelude.{◌==◌, ◌||◌, Option, Some, None, slice_get}
+use Rattle.c_types.specs.Types.{CType, Field}
 use Rattle.c_ast.specs.declared.words.Spelling.{Spelling}
 use Rattle.c_ast.specs.Trees
 use Rattle.c_ast.specs.Places.{first_text}
 use Rattle.c_typed.specs.Trees as Typed
-use Rattle.c_typed.specs.Conversions.{is_scalar}
-use Rattle.c_erasure.specs.Erasure.{Values, Erases}
-use Rattle.c_erasure.specs.Initializers.{Part, part_at, texts_of, is_braces, IsText, IsNoText, IsOneValue, Initializes, InitializeElements, InitializeFields}
+use Rattle.c_erasure.specs.Initializers.{Part, texts_of, IsText, IsOneValue, Initializes, InitializeElements, InitializeFields}
 use Rattle.c_erasure.specs.Initializers.{IsInitializer}
-use Rattle.c_erasure.specs.Noted.{Noted, Expression, type_of}
-use Rattle.c_erasure.specs.Scopes.{AnObject, FileScope, Scope}
+use Rattle.c_erasure.specs.Noted.{Noted, Expression}
+use Rattle.c_erasure.specs.Scopes.{AnObject, Scope}
 use Rattle.c_erasure.specs.Statements.{HasInitializer, HasConstants}
 use Rattle.c_checking.proofs.CompleteLocals.{begins, walk_of_initializer, walk_of_initializers, walk_of_initial}
 use Rattle.c_checking.proofs.CompleteWalk.{Event, a_literal, walk}

@@ -5,23 +5,22 @@ use Rattle.c_ast.specs.declared.words.Spelling.{Spelling}
 use Rattle.c_ast.specs.Trees
 use Rattle.c_ast.specs.Places.{first_text, first_declarator}
 use Rattle.c_ast.specs.Spelling.{Lexeme, punctuator, spelled, spelled_comma, spelled_texts, spelled_consts, spelled_arguments, spelled_declarator}
-use Rattle.c_ast.specs.Spelling.{spelled_optional, spelled_value, spelled_init_declarators, spelled_declaration, spelled_if_any, spelled_labels, spelled_for_start}
+use Rattle.c_ast.specs.Spelling.{spelled_value, spelled_init_declarators, spelled_declaration, spelled_if_any, spelled_labels, spelled_for_start}
 use Rattle.c_ast.specs.Spelling.{spelled_statement, spelled_block_item, spelled_block_items, spelled_switch_item, spelled_switch_items}
-use Rattle.c_ast.specs.WellFormed.{IsExpression, IsInitializer, AreInitializers, IsValue, IsDeclarator, AreInitDeclarators, IsDeclaration, has_name}
+use Rattle.c_ast.specs.WellFormed.{IsInitializer, AreInitializers, IsValue, IsDeclarator, AreInitDeclarators, IsDeclaration, has_name}
 use Rattle.c_ast.specs.WellFormed.{IsExpressionIfAny, AreLabels, IsForStart, IsStatement, IsBlockItem, AreBlockItems, IsSwitchItem, AreSwitchItems}
 use Rattle.c_erasure.specs.Declarators.{declared_name}
-use Rattle.c_erasure.specs.Marks.{name_from, after_declarator}
-use Rattle.c_erasure.specs.Scopes.{AnObject, FileScope, Purpose, in_full, value_alone}
+use Rattle.c_erasure.specs.Scopes.{AnObject, FileScope, Purpose, value_alone}
 use Rattle.c_erasure.specs.Specifiers.{Storage, no_storage, a_typedef, is_extern, is_static, is_auto, is_register, several, storage_of}
 use Rattle.c_text_order.proofs.Rising.{AreRising}
 use Rattle.c_checking.proofs.CompleteBodies.{walk_by_storage, walk_of_declaration}
 use Rattle.c_checking.proofs.CompleteLocals.{begins, literal_if, walk_of_initializer, walk_of_initializers, walk_of_initial, walk_of_declared, walk_of_locals}
 use Rattle.c_checking.proofs.CompleteLocals.{look_at}
-use Rattle.c_checking.proofs.CompleteOrder.{AreApart, AreInOrder, order_earlier, order_later, order_both, order_seen, Walked, walked, walked_if_any}
+use Rattle.c_checking.proofs.CompleteOrder.{AreApart, order_earlier, order_later, order_both, order_seen, Walked, walked, walked_if_any}
 use Rattle.c_checking.proofs.CompleteOrder.{walked_specifiers, walked_declarator}
 use Rattle.c_checking.proofs.CompleteStatements.{walk_of_option, walk_of_start, walk_of_labels, walk_of_statement, walk_of_item, walk_of_items}
 use Rattle.c_checking.proofs.CompleteStatements.{walk_of_switch_item, walk_of_switch_items}
-use Rattle.c_checking.proofs.CompleteWalk.{Event, a_look, a_literal, seen, walk, walk_if_any, walk_of_parameter_list, walk_of_declarator, walk_of_specifiers}
+use Rattle.c_checking.proofs.CompleteWalk.{Event, a_look, a_literal, seen, walk_of_declarator}
 use Rattle.c_checking_complete.proofs.StaticLists.{object_at, walk_of_statics}
 
 pub apart_of : (low : ℕ) (tokens : List Lexeme) → AreRising low tokens → AreApart low tokens
@@ -73,6 +72,15 @@ consts_apart (at ∷ all) low rest h = earlier (pass h.0 h.1) (consts_apart all 
 texts_apart : (all : List Spelling) (low : ℕ) (rest : List Lexeme) → AreApart low (spelled_texts all rest) → Walked low [] rest
 texts_apart [] low rest h = none h
 texts_apart (x ∷ all) low rest h = earlier (pass h.0 h.1) (texts_apart all x.to rest h.2)
+
+-- a declarator that has a name
+pub name_there : (d : Trees.Declarator) → has_name d ≡ true → (x : Spelling) × (declared_name d ≡ Some x)
+name_there Trees.nothing h = cc
+name_there (Trees.named x) h = (x, refl)
+name_there (Trees.pointer at consts d) h = name_there d h
+name_there (Trees.enclosed left d right) h = name_there d h
+name_there (Trees.array d left length right) h = name_there d h
+name_there (Trees.function d left all right) h = name_there d h
 
 -- ---- initializers
 
@@ -172,14 +180,6 @@ module _ (u : ℕ → List ℕ) (objects : List AnObject) (types : List (List �
         walk = both q (walked_declarator u types (Trees.function Trees.nothing left all right) (refl, tt, w.2) q.high rest q.apart);
       }
 
-  pub name_there : (d : Trees.Declarator) → has_name d ≡ true → (x : Spelling) × (declared_name d ≡ Some x)
-  name_there Trees.nothing h = cc
-  name_there (Trees.named x) h = (x, refl)
-  name_there (Trees.pointer at consts d) h = name_there d h
-  name_there (Trees.enclosed left d right) h = name_there d h
-  name_there (Trees.array d left length right) h = name_there d h
-  name_there (Trees.function d left all right) h = name_there d h
-
   -- ---- declarations in a block
 
   look_apart : (low : ℕ) (d : Trees.Declarator) (x : Spelling) (after : ℕ) (rest : List Lexeme) → Behind low d x after rest
@@ -203,6 +203,10 @@ module _ (u : ℕ → List ℕ) (objects : List AnObject) (types : List (List �
       let q = both p (walked_value d.value w.3 p.high _ p.apart) in
       earlier l (both q (walked_locals false more w.4 q.high rest q.apart))
 
+-- what stands in a declaration of a block
+abbrev pub own : FileScope → Trees.Declaration → List Event
+own g d = walk_of_declaration g (λ all. walk_of_statics g all) d
+
 module _ (g : FileScope) (types : List (List ℕ)) where
   made_apart : (low : ℕ) (d : Trees.InitDeclarator) (x : Spelling) (rest : List Lexeme)
       → Behind g.untagged g.objects types low d.declarator x x.from rest
@@ -215,7 +219,7 @@ module _ (g : FileScope) (types : List (List ℕ)) where
   walked_statics lead (d ∷ more) w low rest h =
       let c = comma_apart d.comma low _ h in
       let l : low ≤ c.high = c.in_order in
-      let x = name_there g.untagged g.objects types d.declarator w.2 in
+      let x = name_there d.declarator w.2 in
       let tokens = spelled_value d.value (spelled_init_declarators more rest) in
       let b = behind_name g.untagged g.objects types d.declarator w.1 x.0 x.1 x.0.from c.high tokens c.apart in
       let p : Walked c.high (object_at d (declared_name d.declarator) ++ walk_of_declared g.untagged g.objects d) tokens =
@@ -234,11 +238,8 @@ module _ (g : FileScope) (types : List (List ℕ)) where
   walked_by_storage is_register all w low rest h = walked_locals g.untagged g.objects types true all w low rest h
   walked_by_storage several all w low rest h = walked_locals g.untagged g.objects types true all w low rest h
 
-  abbrev pub own : Trees.Declaration → List Event
-  own d = walk_of_declaration g (λ all. walk_of_statics g all) d
-
   walked_declaration : (d : Trees.Declaration) → IsDeclaration types d → (low : ℕ) (rest : List Lexeme) → AreApart low (spelled_declaration d rest)
-      → Walked low (own d) rest
+      → Walked low (own g d) rest
   walked_declaration d w low rest h =
       let p = walked_specifiers g.untagged types d.specs w.0 low _ h in
       both p (closed (walked_by_storage (storage_of d.specs) d.all w.1 p.high (punctuator M.Semicolon d.semicolon ∷ rest) p.apart))
@@ -246,17 +247,17 @@ module _ (g : FileScope) (types : List (List ℕ)) where
   -- ---- statements
 
   walked_option : (a : Option Trees.Expression) → IsExpressionIfAny types a → (low : ℕ) (rest : List Lexeme) → AreApart low (spelled_if_any a rest)
-      → Walked low (walk_of_option g.untagged own a) rest
+      → Walked low (walk_of_option g.untagged (own g) a) rest
   walked_option None w low rest h = none h
   walked_option (Some a) w low rest h = walked g.untagged types a w low rest h
 
   walked_start : (t : Trees.ForStart) → IsForStart types t → (low : ℕ) (rest : List Lexeme) → AreApart low (spelled_for_start t rest)
-      → Walked low (walk_of_start g.untagged own t) rest
+      → Walked low (walk_of_start g.untagged (own g) t) rest
   walked_start (Trees.starts_with a semicolon) w low rest h = closed (walked_option a w low _ h)
   walked_start (Trees.declares d) w low rest h = walked_declaration d w.1 low rest h
 
   walked_labels : (all : List Trees.Label) → AreLabels types all → (low : ℕ) (rest : List Lexeme) → AreApart low (spelled_labels all rest)
-      → Walked low (walk_of_labels g.untagged own all) rest
+      → Walked low (walk_of_labels g.untagged (own g) all) rest
   walked_labels [] w low rest h = none h
   walked_labels (Trees.case at a colon ∷ more) w low rest h =
       let p = closed (filtered false value_alone (walked g.untagged types a w.1 _ _ h.2)) in
@@ -266,7 +267,7 @@ module _ (g : FileScope) (types : List (List ℕ)) where
 
   mutual
     walked_statement : (t : Trees.Statement) → IsStatement types t → (low : ℕ) (rest : List Lexeme) → AreApart low (spelled_statement t rest)
-        → Walked low (walk_of_statement g.untagged own t) rest
+        → Walked low (walk_of_statement g.untagged (own g) t) rest
     walked_statement (Trees.block left items right) w low rest h = earlier (pass h.0 h.1) (closed (walked_items items w _ _ h.2))
     walked_statement (Trees.evaluate a semicolon) w low rest h = closed (walked_option a w low _ h)
     walked_statement (Trees.when at left a right one) w low rest h =
@@ -295,24 +296,24 @@ module _ (g : FileScope) (types : List (List ℕ)) where
     walked_statement (Trees.return at a semicolon) w low rest h = earlier (pass h.0 h.1) (closed (walked_option a w _ _ h.2))
 
     walked_item : (t : Trees.BlockItem) → IsBlockItem types t → (low : ℕ) (rest : List Lexeme) → AreApart low (spelled_block_item t rest)
-        → Walked low (walk_of_item g.untagged own t) rest
+        → Walked low (walk_of_item g.untagged (own g) t) rest
     walked_item (Trees.local d) w low rest h = walked_declaration d w low rest h
     walked_item (Trees.statement a) w low rest h = walked_statement a w low rest h
 
     pub walked_items : (t : Trees.BlockItems) → AreBlockItems types t → (low : ℕ) (rest : List Lexeme) → AreApart low (spelled_block_items t rest)
-        → Walked low (walk_of_items g.untagged own t) rest
+        → Walked low (walk_of_items g.untagged (own g) t) rest
     walked_items Trees.no_block_items w low rest h = none h
     walked_items (Trees.and_block_item e more) w low rest h =
         let p = walked_item e w.0 low _ h in both p (walked_items more w.1 p.high rest p.apart)
 
     walked_switch_item : (t : Trees.SwitchItem) → IsSwitchItem types t → (low : ℕ) (rest : List Lexeme) → AreApart low (spelled_switch_item t rest)
-        → Walked low (walk_of_switch_item g.untagged own t) rest
+        → Walked low (walk_of_switch_item g.untagged (own g) t) rest
     walked_switch_item (Trees.local_switch_item d) w low rest h = walked_declaration d w.1 low rest h
     walked_switch_item (Trees.labelled labels a) w low rest h =
         let p = walked_labels labels w.0 low _ h in both p (walked_statement a w.1 p.high rest p.apart)
 
     walked_switch_items : (t : Trees.SwitchItems) → AreSwitchItems types t → (low : ℕ) (rest : List Lexeme) → AreApart low (spelled_switch_items t rest)
-        → Walked low (walk_of_switch_items g.untagged own t) rest
+        → Walked low (walk_of_switch_items g.untagged (own g) t) rest
     walked_switch_items Trees.no_switch_items w low rest h = none h
     walked_switch_items (Trees.and_switch_item item more) w low rest h =
         let p = walked_switch_item item w.0 low _ h in both p (walked_switch_items more w.1 p.high rest p.apart)
