@@ -50,7 +50,7 @@ mark_apart types (d ∷ more) w semicolon low rest h = by_comma d.comma w.0 h
     by_comma (Some comma) w h = behind_token _ h.0 h.1 h.2
 
 -- a name is in scope from the token behind its declarator on, and what initializes it stands behind that
-record Valued (u : ℕ → List ℕ) (g : FileScope) (low from : ℕ) (value : Option (ℕ × Trees.Expression)) (rest : List Lexeme) : Type 0 where
+record Valued (g : FileScope) (low from : ℕ) (value : Option (ℕ × Trees.Expression)) (rest : List Lexeme) : Type 0 where
   named : low ≤ from
   walk : Walked (suc from) (walk_of_initial g.untagged g.objects value) rest
 
@@ -58,7 +58,7 @@ module _ (g : FileScope) (types : List (List ℕ)) where
   valued : (value : Option (ℕ × Trees.Expression)) → IsValue types value → (more : List Trees.InitDeclarator) → AreInitDeclarators types false more
       → (semicolon low : ℕ) (rest : List Lexeme)
       → AreApart low (spelled_value value (spelled_init_declarators more (punctuator M.Semicolon semicolon ∷ rest)))
-      → Valued g.untagged g low (name_from value (after_declarator more semicolon)) value (behind_mark more semicolon rest)
+      → Valued g low (name_from value (after_declarator more semicolon)) value (behind_mark more semicolon rest)
   valued None v more w semicolon low rest h =
       let m = mark_apart types more w semicolon low rest h in record { named = m.0; walk = none m.1 }
   valued (Some value) v more w semicolon low rest h =
@@ -79,7 +79,7 @@ module _ (g : FileScope) (types : List (List ℕ)) where
 
   ordered_declarator : (d : Trees.InitDeclarator) (x : Spelling) (from low : ℕ) (tokens rest : List Lexeme) (steps : List Step)
       → Behind g.untagged g.objects types low d.declarator x x.from tokens
-      → ((m : ℕ) → AreApart m tokens → Valued g.untagged g m from d.value rest) → ((m : ℕ) → AreApart m rest → AreStepsInOrder m steps)
+      → ((m : ℕ) → AreApart m tokens → Valued g m from d.value rest) → ((m : ℕ) → AreApart m rest → AreStepsInOrder m steps)
       → AreStepsInOrder low (steps_of_declarator g d x from steps)
   ordered_declarator d x from low tokens rest steps b v next =
       let own = At (walk_of_declarator g.untagged d.declarator) in
@@ -163,7 +163,7 @@ module _ (g : FileScope) (w : IsWholeFile g) where
       spelled_body : List Lexeme
       spelled_body = spelled_block_items items (punctuator M.CloseBrace right ∷ rest)
 
-      opening : (m : ℕ) → AreApart m (punctuator M.OpenBrace left ∷ spelled_body) → Valued g.untagged g m left None spelled_body
+      opening : (m : ℕ) → AreApart m (punctuator M.OpenBrace left ∷ spelled_body) → Valued g m left None spelled_body
       opening m a = let t = behind_token _ a.0 a.1 a.2 in record { named = t.0; walk = none t.1 }
 
       inside : (m : ℕ) → AreApart m spelled_body → AreStepsInOrder m (steps_of_body g w items steps)
