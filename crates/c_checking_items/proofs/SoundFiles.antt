@@ -260,6 +260,10 @@ module _ (file : ℕ) (untagged : ℕ → List ℕ) (items : List Trees.Item) (f
         place (r ∷ xs) zero l = (r, refl)
         place (r ∷ xs) (suc k) l = place xs k (omega (arith, l))
 
+  -- what is known of the file behind its last item, before it is closed
+  pub filed_known : (g : FileScope) → filed items start ≡ Ok g → IsKnown (nodes_at items) (made_by_file items) none_new none_new g
+  filed_known g h = known g (all_filed untagged (nodes_at items) items [] [] start 0 0 start_may (nothing_known (nodes_at items) file untagged items) g h)
+
   pub sound_file : (f : FileScope) → annotated file untagged items ≡ Ok f → IsFound file untagged items f
   unfolding annotated
   sound_file f h =

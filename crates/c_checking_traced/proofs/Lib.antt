@@ -1,0 +1,15 @@
+pub mod Lists
+pub mod Ended
+pub mod Tracing
+pub mod Members
+pub mod TracedParts
+pub mod TracedInitials
+pub mod TracedItems
+pub mod Numbers
+pub mod WholeFiles
+pub mod Spread
+pub mod SpokenParts
+pub mod SpokenItems
+pub mod DeclaredPlaces
+pub mod FirstDeclared
+pub mod Answer
