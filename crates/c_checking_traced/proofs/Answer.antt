@@ -1,9 +1,9 @@
 -- What the checker answers for the tree of a text is its annotated file, where that has the steps of its items (C99 6.7, 6.9).
-use Rattle.std.proofs.Common.{◌≡◌, ◌≢◌, ℕ, zero, suc, ◌+◌, ◌≤◌, ◌<◌, Bool, true, false, refl, sym, ap, ◌∙◌, subst, cond, List, [], ◌∷◌, length, arith}
+use Rattle.std.proofs.Common.{◌≡◌, ◌≢◌, ℕ, suc, ◌+◌, Bool, true, false, refl, sym, ap, ◌∙◌, subst, cond, List, [], ◌∷◌, length, arith}
 use Rattle.std.proofs.Common.{inl, inr}
 use Rattle.std.specs.List.{list_any}
 use Rattle.std.specs.Option.{IsSome}
-use Rattle.std.specs.Prelude.{◌⊎◌, ◌&&◌, map, Option, Some, None, Ok, slice_get, is_none}
+use Rattle.std.specs.Prelude.{◌⊎◌, ◌&&◌, Option, Some, None, Ok, slice_get, is_none}
 use Rattle.c_lexer.specs.TokenPlaces.{TokensHavePlaces}
 use Rattle.c_types.specs.Types.{CType, Record}
 use Rattle.c_ast.specs.Laws.{TreesBeginFirst}
@@ -13,15 +13,13 @@ use Rattle.c_typed.specs.Trees as Typed
 use Rattle.c_erasure.specs.Files as Files
 use Rattle.c_erasure.specs.Files.{IsFileOf, IsMade, declarations_of, is_defined, IsLeft, IsOpen, IsIntroduced, nodes_at}
 use Rattle.c_erasure.specs.Literals.{made_by_file}
-use Rattle.c_erasure.specs.Marks.{marks_of_file}
-use Rattle.c_erasure.specs.MentionPlaces.{mentions_of_file}
 use Rattle.c_erasure.specs.Noted.{Noted}
 use Rattle.lay_base.specs.declared.place.Place.{Place}
 use Rattle.c_erasure.specs.Scopes.{ALocal, Bound, How, declares, tentative, defines, Entity, an_object, a_function, AnObject, AFunction, AMention, FileScope}
 use Rattle.c_order.proofs.Ordered.{marks_are_in_order}
 use Rattle.c_text_order.specs.TextOrder.{IsUnwritten, TextsAreInOrder}
 use Rattle.c_checking.specs.Answers.{◌>>=◌}
-use Rattle.c_checking.specs.Files.{is_tentative, settled, settled_from, closed_file, filed, unread, annotated}
+use Rattle.c_checking.specs.Files.{is_tentative, settled, settled_from, closed_file, annotated}
 use Rattle.c_checking.proofs.CompleteNodes.{some_is}
 use Rattle.c_checking.proofs.CompletePart.{Lists, part}
 use Rattle.c_checking.proofs.Results.{ok}

@@ -1,6 +1,6 @@
 -- Where a declarator of the file scope stands, the text makes no object of its own.
-use Rattle.std.proofs.Common.{◌≡◌, ℕ, suc, ◌+◌, ◌≤◌, ◌<◌, List, [], ◌∷◌, ◌++◌, refl, subst, arith, inl, inr}
-use Rattle.std.specs.Prelude.{◌⊎◌, Some, None}
+use Rattle.std.proofs.Common.{ℕ, ◌+◌, ◌≤◌, ◌<◌, List, [], ◌∷◌, ◌++◌, arith, inl, inr}
+use Rattle.std.specs.Prelude.{◌⊎◌}
 use Rattle.c_ast.specs.Places.{first_declarator, first_item}
 use Rattle.c_ast.specs.Trees
 use Rattle.c_erasure.specs.Files.{IsMade}

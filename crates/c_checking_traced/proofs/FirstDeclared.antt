@@ -1,9 +1,9 @@
 -- An object that a name stands for stands first where a declarator of the file scope does, and so is none that the text makes (C99 6.2.2, 6.9.2).
-use Rattle.std.proofs.Common.{◌≡◌, ℕ, zero, suc, ◌+◌, ◌≤◌, ◌<◌, Bool, true, false, refl, sym, ap, ◌∙◌, subst, List, [], ◌∷◌, arith}
+use Rattle.std.proofs.Common.{◌≡◌, ℕ, zero, suc, ◌<◌, Bool, true, false, refl, sym, ap, ◌∙◌, subst, List, arith}
 use Rattle.std.specs.Prelude.{map, Option, Some, None, slice_get, is_none}
 use Rattle.c_types.specs.Types.{CType}
 use Rattle.c_ast.specs.Trees
-use Rattle.c_erasure.specs.Files.{AreAscending, AreConsistent, IsFirst, is_first, IsMade, IsFileOf}
+use Rattle.c_erasure.specs.Files.{AreAscending, IsFirst, is_first, IsFileOf}
 use Rattle.c_erasure.specs.Marks.{marks_of_file, scope_beginnings}
 use Rattle.c_erasure.specs.Scopes.{Bound, FileScope, Entity, an_object, AnObject, visible}
 use Rattle.c_checking.proofs.CompleteNodes.{some_is}

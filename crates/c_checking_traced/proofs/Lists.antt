@@ -1,5 +1,5 @@
 -- Numbers of places that ascend, and of names that are different.
-use Rattle.std.proofs.Common.{◌≡◌, ◌≢◌, ℕ, zero, suc, ◌<◌, refl, sym, ap, List, [], ◌∷◌, arith}
+use Rattle.std.proofs.Common.{◌≡◌, ◌≢◌, ℕ, zero, suc, ◌<◌, refl, ap, List, [], ◌∷◌, arith}
 use Rattle.std.specs.Prelude.{Some, slice_get}
 use Rattle.c_erasure.specs.Declarators.{AreDifferent}
 use Rattle.c_erasure.specs.Files.{AreAscending}

@@ -1,5 +1,5 @@
 -- The fields of a structure have types that are complete before its definition ends (C99 6.7.2.1).
-use Rattle.std.proofs.Common.{◌≡◌, ℕ, zero, suc, ◌+◌, ◌≤◌, true, false, List, [], ◌∷◌, ◌++◌, length, refl, sym, ap, ◌∙◌, subst, arith, inl, inr}
+use Rattle.std.proofs.Common.{◌≡◌, ℕ, zero, suc, ◌+◌, ◌≤◌, true, false, List, [], ◌∷◌, ◌++◌, length, sym, subst, arith, inl, inr}
 use Rattle.std.specs.Prelude.{◌⊎◌, Some, slice_get}
 use Rattle.c_types.specs.Types.{CType, Field}
 use Rattle.c_types.specs.Objects.{is_object}

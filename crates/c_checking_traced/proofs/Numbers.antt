@@ -1,7 +1,6 @@
 -- The tags of a file's records are different: those that are defined, and behind them those that are not (C99 6.7.2.3).
 use Rattle.std.proofs.Common.{◌≡◌, ◌≢◌, ℕ, zero, suc, ◌+◌, Bool, true, false, refl, sym, ◌∙◌, subst, cond, List, [], ◌∷◌, ◌++◌, length, inl, inr}
-use Rattle.std.proofs.lemmas.List.Elements.{All-cons, All-nil}
-use Rattle.std.specs.Prelude.{◌⊎◌, ◌||◌, All, filter, map, not, Some, slice_get}
+use Rattle.std.specs.Prelude.{◌⊎◌, ◌||◌, filter, map, not, Some, slice_get}
 use Rattle.std.specs.Str.{bytes_eq}
 use Rattle.c_erasure.specs.Declarators.{AreDifferent}
 use Rattle.c_erasure.specs.Marks.{Mark, is_among, firsts, defined_in, undefined_in, tags_in}

@@ -1,9 +1,9 @@
 -- No two types of which a file speaks outside of its expressions stand at one place: in declarations, statements and items.
-use Rattle.std.proofs.Common.{◌≡◌, ℕ, List, [], ◌∷◌, ◌++◌, Option, Some, None, Bool, true, false, refl, subst, append-nil}
+use Rattle.std.proofs.Common.{◌≡◌, ℕ, List, [], ◌∷◌, Option, Some, None, Bool, true, false, subst}
 use Rattle.std.specs.Prelude.{slice_get}
 use Rattle.c_ast.specs.Spelling.{Lexeme, spell, spelled, spelled_arguments, spelled_value, spelled_init_declarators, spelled_declaration, spelled_if_any}
 use Rattle.c_ast.specs.Spelling.{spelled_labels, spelled_for_start, spelled_statement, spelled_block_item, spelled_block_items, spelled_switch_item}
-use Rattle.c_ast.specs.Spelling.{spelled_switch_items, spelled_item, spelled_items, punctuator}
+use Rattle.c_ast.specs.Spelling.{spelled_switch_items, spelled_item, spelled_items}
 use Rattle.c_ast.specs.Trees
 use Rattle.c_ast.specs.TreesOfFiles.{IsTreeOf}
 use Rattle.c_ast.specs.WellFormed.{IsInitializer, AreInitializers, IsValue, AreInitDeclarators, IsDeclaration, IsExpressionIfAny, AreLabels, IsForStart}
@@ -11,11 +11,10 @@ use Rattle.c_ast.specs.WellFormed.{IsStatement, IsBlockItem, AreBlockItems, IsSw
 use Rattle.c_erasure.specs.MentionPlaces.{spoken, spoken_of_all, spoken_by_value, spoken_of_declarators, spoken_of_declaration, spoken_if_some, spoken_of_start}
 use Rattle.c_erasure.specs.MentionPlaces.{spoken_of_labels, spoken_by, spoken_by_item, spoken_by_items, spoken_by_switch_item, spoken_by_switch_items}
 use Rattle.c_erasure.specs.MentionPlaces.{mentions_of_item, mentions_of_file}
-use Rattle.c_lexer.specs.declared.punctuator.Punctuator.TheVariants as M
 use Rattle.c_order.proofs.Walks.{comma_along}
 use Rattle.c_text_order.proofs.Rising.{AreRising, unmarked}
 use Rattle.c_text_order.proofs.Tokens.{tokens_rise}
-use Rattle.c_checking_traced.proofs.Spread.{Spread, none, skip, here, both, before, after, quiet}
+use Rattle.c_checking_traced.proofs.Spread.{Spread, none, skip, both, before, after, quiet}
 use Rattle.c_checking_traced.proofs.SpokenParts.{named_is, speaks, specifiers_speak, declared_speaks}
 
 module _ (u : ℕ → List ℕ) (types : List (List ℕ)) where

@@ -1,13 +1,13 @@
 -- No two types of which a part speaks outside of its expressions stand at one place: in expressions, specifiers and declarators.
-use Rattle.std.proofs.Common.{◌≡◌, ◌≢◌, ℕ, List, [], ◌∷◌, ◌++◌, Option, Some, None, Bool, true, false, refl, sym, subst, append_assoc}
+use Rattle.std.proofs.Common.{◌≡◌, ◌≢◌, ℕ, List, [], ◌∷◌, ◌++◌, Bool, true, false, refl, subst}
 use Rattle.c_lexer.specs.declared.punctuator.Punctuator.{Punctuator}
 use Rattle.c_lexer.specs.declared.punctuator.Punctuator.TheVariants as M
 use Rattle.c_ast.specs.Places.{first_declarator, first_specifiers, first_specifier}
 use Rattle.c_ast.specs.Spelling.{Lexeme, punctuator, spelled, spelled_arguments, spelled_optional, spelled_type_name, spelled_specifiers, spelled_specifier}
 use Rattle.c_ast.specs.Spelling.{spelled_member_declarations, spelled_member_declarators, spelled_enumerators, spelled_enumerator_value, spelled_declarator}
-use Rattle.c_ast.specs.Spelling.{spelled_parameter_list, spelled_parameters, spelled_comma}
+use Rattle.c_ast.specs.Spelling.{spelled_parameter_list, spelled_parameters}
 use Rattle.c_ast.specs.Trees
-use Rattle.c_ast.specs.WellFormed.{IsExpression, AreArguments, IsInitializer, AreInitializers, IsOptional, IsTypeName, AreSpecifiers, AreMoreSpecifiers}
+use Rattle.c_ast.specs.WellFormed.{IsExpression, AreArguments, IsOptional, IsTypeName, AreSpecifiers, AreMoreSpecifiers}
 use Rattle.c_ast.specs.WellFormed.{IsSpecifier, AreMemberDeclarations, AreMemberDeclarators, AreEnumerators, IsEnumeratorValue, IsDeclarator, IsParameterList}
 use Rattle.c_ast.specs.WellFormed.{AreParameters, has_name}
 use Rattle.c_erasure.specs.MentionPlaces.{spoken, spoken_of_all, spoken_if_any, spoken_of_type, spoken_of_specifiers, spoken_of_specifier, spoken_of_members}

@@ -1,20 +1,20 @@
 -- What initializers declare in their expressions is of the file (C99 6.7.8).
-use Rattle.std.proofs.Common.{◌≡◌, ℕ, ◌+◌, Bool, true, false, List, [], ◌∷◌, ◌++◌, length, refl, sym, ap, ◌∙◌, subst, arith, inl, inr}
-use Rattle.std.specs.Prelude.{◌⊎◌, Option, Some, None, slice_get}
+use Rattle.std.proofs.Common.{◌≡◌, ℕ, ◌+◌, Bool, true, false, List, [], ◌∷◌, ◌++◌, arith, inl, inr}
+use Rattle.std.specs.Prelude.{◌⊎◌}
 use Rattle.c_lexer.specs.declared.punctuator.Punctuator.TheVariants as M
 use Rattle.c_types.specs.Layouts.{size_of, offset_of}
 use Rattle.c_types.specs.Types.{CType, structure, Field}
 use Rattle.c_ast.specs.Laws.{TreesBeginFirst}
 use Rattle.c_ast.specs.Spelling.{Lexeme, punctuator, spelled, spelled_arguments, spelled_comma}
 use Rattle.c_ast.specs.Trees
-use Rattle.c_ast.specs.WellFormed.{IsExpression, IsInitializer, AreInitializers}
+use Rattle.c_ast.specs.WellFormed.{IsInitializer, AreInitializers}
 use Rattle.c_typed.specs.Conversions.{is_scalar}
 use Rattle.c_typed.specs.Trees as Typed
 use Rattle.c_erasure.specs.Erasure.{Values, Erases}
 use Rattle.c_erasure.specs.Files.{AreAscending}
 use Rattle.c_erasure.specs.Initializers as Initials
 use Rattle.c_erasure.specs.Initializers.{part_at, texts_of, IsText, Initializes, IsOneValue, InitializeElements, InitializeFields}
-use Rattle.c_erasure.specs.Marks.{Mark, marks, marks_of_all}
+use Rattle.c_erasure.specs.Marks.{marks, marks_of_all}
 use Rattle.c_erasure.specs.Noted.{Noted, Expression, an_object, type_of, type_of_path}
 use Rattle.c_erasure.specs.Scopes.{Scope}
 use Rattle.c_order.specs.Places.{AreOrdered}

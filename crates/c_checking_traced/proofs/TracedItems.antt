@@ -1,23 +1,21 @@
 -- What the items of a file declare is of the file (C99 6.7, 6.9).
 use Rattle.std.proofs.Common.{◌≡◌, ◌≢◌, ℕ, zero, suc, ◌+◌, ◌≤◌, ◌<◌, Bool, true, false, List, [], ◌∷◌, ◌++◌, length, refl, sym, ap, ◌∙◌, subst, arith, inl, inr}
-use Rattle.std.proofs.Common.{append_assoc}
 use Rattle.std.proofs.lemmas.List.Elements.{All-head, All-tail}
 use Rattle.std.specs.Prelude.{◌⊎◌, All, map, Option, Some, None, slice_get}
 use Rattle.c_lexer.specs.declared.punctuator.Punctuator.TheVariants as M
-use Rattle.c_types.specs.Objects.{is_object}
 use Rattle.c_types.specs.Types.{CType, function}
 use Rattle.c_typed.specs.Fits.{library_type}
 use Rattle.c_typed.specs.Trees as Typed
 use Rattle.c_typed.specs.declared.operators.LibraryFunction.{LibraryFunction}
 use Rattle.c_ast.specs.Laws.{TreesBeginFirst}
 use Rattle.c_ast.specs.Places.{first_declarator}
-use Rattle.c_ast.specs.Spelling.{Lexeme, punctuator, spelled_specifiers, spelled_declarator, spelled_value, spelled_init_declarators, spelled_declaration}
+use Rattle.c_ast.specs.Spelling.{Lexeme, punctuator, spelled_declarator, spelled_value, spelled_init_declarators}
 use Rattle.c_ast.specs.Spelling.{spelled_block_items, spelled_item, spelled_items, spell}
 use Rattle.c_ast.specs.Trees
-use Rattle.c_ast.specs.WellFormed.{AreSpecifiers, IsDeclarator, IsValue, AreInitDeclarators, IsDeclaration, AreBlockItems, IsItem, AreItems, types_after, has_name}
+use Rattle.c_ast.specs.WellFormed.{IsValue, AreInitDeclarators, AreBlockItems, IsItem, AreItems, types_after, has_name}
 use Rattle.c_ast.specs.declared.words.Spelling.{Spelling}
 use Rattle.c_erasure.specs.Declarators.{Shape, closed, declared_name}
-use Rattle.c_erasure.specs.Erasure.{IsBound, IsBase, IsOne, Declares}
+use Rattle.c_erasure.specs.Erasure.{IsBound, Declares}
 use Rattle.c_erasure.specs.Files.{AreAscending, bound, object_how, IsDefinition, IsTypedef, IsObject, IsFunction, IsFileDeclarator, AreFileDeclarators}
 use Rattle.c_erasure.specs.Files.{ErasesItem, library_name, IsOwnName, IsLinkage, function_storage, IsFirst, is_first, IsMade}
 use Rattle.c_erasure.specs.Initializers.{IsInitializer, part_at}
@@ -36,7 +34,7 @@ use Rattle.c_checking.proofs.Extends.{behind}
 use Rattle.c_checking_complete.proofs.Objects.{mapped_at}
 use Rattle.c_checking_order.proofs.Ahead.{Ahead, Standing, standing_left, standing_right, back, earlier, ahead_same, added_both, none_left}
 use Rattle.c_checking_order.proofs.Timely.{timely_specifiers, timely_declarator}
-use Rattle.c_checking_items.proofs.InTextTime.{behind_part, ahead_of}
+use Rattle.c_checking_items.proofs.InTextTime.{behind_part}
 use Rattle.c_checking_items.proofs.Known.{made_left, made_right}
 use Rattle.c_checking_items.proofs.Rises.{passed, rising_front}
 use Rattle.c_text_order.specs.TextOrder.{Rising, place_of_name, names_of_declarators, names_of_item, names_of_file}

@@ -1,6 +1,6 @@
 -- In each expression, type name, specifier and declarator whose rule holds, what begins to be in scope and what is defined is of the file (C99 6.2.1, 6.7.2).
-use Rattle.std.proofs.Common.{◌≡◌, ℕ, ◌+◌, ◌≤◌, ◌<◌, ◌%◌, ◌^◌, true, false, List, [], ◌∷◌, ◌++◌, length, refl, sym, ap, ◌∙◌, subst, arith, inl, inr}
-use Rattle.std.specs.Prelude.{◌⊎◌, Option, Some, None, slice_get}
+use Rattle.std.proofs.Common.{◌≡◌, ℕ, ◌+◌, ◌<◌, ◌%◌, ◌^◌, true, false, List, [], ◌∷◌, ◌++◌, length, refl, sym, ◌∙◌, subst, arith, inl, inr}
+use Rattle.std.specs.Prelude.{Option, Some, None, slice_get}
 use Rattle.c_types.specs.Types.{CType}
 use Rattle.c_types.specs.declared.ty.IntKind.TheVariants.{Int}
 use Rattle.c_ast.specs.declared.operators.UnaryOp.TheVariants as U
@@ -20,13 +20,13 @@ use Rattle.c_erasure.specs.Scopes.{FileScope, Scope, enumerator, defines, for_va
 use Rattle.c_erasure.specs.Specifiers.{types_among}
 use Rattle.c_checking.proofs.Agreement.{added}
 use Rattle.c_checking.proofs.Derived.{words_mark_nothing}
-use Rattle.c_checking.proofs.FaultPremises.{IsTimely, AreTimely, IsTypeTimely, AreSpecifiersTimely, IsSpecifierTimely, AreMembersTimely, AreDeclaratorsTimely}
+use Rattle.c_checking.proofs.FaultPremises.{IsTimely, AreTimely, IsTypeTimely, AreSpecifiersTimely, AreMembersTimely, AreDeclaratorsTimely}
 use Rattle.c_checking.proofs.FaultPremises.{AreEnumeratorsTimely, IsValueTimely, IsDeclaratorTimely}
 use Rattle.c_checking.proofs.Ranges.{constant_below}
 use Rattle.c_checking_files.proofs.Kept.{AreWhole}
 use Rattle.c_checking_order.proofs.Ahead.{Standing, standing_left, standing_right}
 use Rattle.c_checking_traced.proofs.Lists.{ascending_apart}
-use Rattle.c_checking_traced.proofs.Tracing.{IsTracedEnumerator, IsTracedRecord, AreTraced, traced_both, two, three}
+use Rattle.c_checking_traced.proofs.Tracing.{AreTraced, traced_both, two, three}
 use Rattle.c_checking_traced.proofs.Members.{fields_known}
 
 -- a name without parameters and lengths marks nothing

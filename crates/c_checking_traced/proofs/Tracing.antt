@@ -1,6 +1,6 @@
 -- What is known of each name that begins to be in scope, and of each definition of a structure that ends, among the marks of a part: it is one of the
 -- file, which a part of the tree declares (C99 6.2.1, 6.7.2.1).
-use Rattle.std.proofs.Common.{◌≡◌, ℕ, zero, suc, ◌+◌, ◌≤◌, false, List, [], ◌∷◌, ◌++◌, length, refl, ◌∙◌, subst, arith}
+use Rattle.std.proofs.Common.{◌≡◌, ℕ, zero, suc, ◌+◌, false, List, [], ◌∷◌, ◌++◌, subst, arith}
 use Rattle.std.specs.Prelude.{map, Some, slice_get}
 use Rattle.c_types.specs.Types.{Record}
 use Rattle.c_types.specs.declared.ty.IntKind.TheVariants.{Int}

@@ -1,5 +1,5 @@
 -- What completeness asks of a whole annotated file holds of that of the tree of a text (C99 6.2.1, 6.7, 6.9).
-use Rattle.std.proofs.Common.{◌≡◌, ℕ, zero, suc, ◌+◌, ◌≤◌, Bool, true, false, refl, sym, ap, ◌∙◌, subst, cond, List, [], ◌∷◌, ◌++◌, arith}
+use Rattle.std.proofs.Common.{◌≡◌, ℕ, suc, ◌≤◌, Bool, true, false, refl, sym, ap, ◌∙◌, subst, cond, List, [], ◌∷◌}
 use Rattle.std.proofs.lemmas.Bool.{and_parts, leb-true}
 use Rattle.std.proofs.lemmas.List.Elements.{All-cons, All-nil}
 use Rattle.std.specs.Prelude.{All, map, nat_le, ◌&&◌, Some, None, slice_get}
@@ -13,13 +13,13 @@ use Rattle.c_ast.specs.Trees
 use Rattle.c_ast.specs.TreesOfFiles.{IsTreeOf}
 use Rattle.c_erasure.specs.Declarators.{AreDifferent}
 use Rattle.c_erasure.specs.Files.{AreAscending, IsFileOf, IsMade}
-use Rattle.c_erasure.specs.Marks.{marks_of_file, scope_beginnings, defined_in, ends_in}
+use Rattle.c_erasure.specs.Marks.{marks_of_file, scope_beginnings}
 use Rattle.c_erasure.specs.Scopes.{Bound, FileScope, Entity, an_object, visible, or_else, ended}
 use Rattle.c_order.proofs.Ordered.{tree_ordered, marks_are_in_order}
 use Rattle.c_text_order.specs.TextOrder.{TextsAreInOrder}
 use Rattle.c_checking.proofs.Agreement as Agreement
 use Rattle.c_checking.proofs.CompleteNodes.{some_is}
-use Rattle.c_checking.proofs.CompletePart.{IsFitFor, IsWhole, fit_stays}
+use Rattle.c_checking.proofs.CompletePart.{IsFitFor, fit_stays}
 use Rattle.c_checking.proofs.NodesOfParts.{same_bytes}
 use Rattle.c_checking.proofs.CompleteWhole as Complete
 use Rattle.c_checking_complete.proofs.Objects.{mapped_at}
