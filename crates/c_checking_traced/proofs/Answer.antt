@@ -30,14 +30,14 @@ use Rattle.c_checking_items.proofs.Known.{IsKnown, IsADeclaredObject, IsObjectKn
 use Rattle.c_checking_items.proofs.SoundFiles.{filed_known}
 use Rattle.c_checking_items.proofs.TextFits.{text_is_fit, sound_text}
 use Rattle.c_checking_whole.proofs.AllFound.{names_all, records_all, mentions_all}
-use Rattle.c_checking_whole.proofs.Filed.{IsFiled}
+use Rattle.c_checking_whole.proofs.Filed.{IsWholeFile, IsFiled}
 use Rattle.c_checking_whole.proofs.Items.{steps_of_items, file_found}
 use Rattle.c_checking_whole.proofs.Steps.{AreSteps}
 use Rattle.c_checking_traced.proofs.DeclaredPlaces.{none_made}
 use Rattle.c_checking_traced.proofs.FirstDeclared.{declared_first}
 use Rattle.c_checking_traced.proofs.SpokenItems.{mentions_apart}
 use Rattle.c_checking_traced.proofs.TracedItems.{declared_by_file}
-use Rattle.c_checking_traced.proofs.WholeFiles.{text_traced, text_whole}
+use Rattle.c_checking_traced.proofs.WholeFiles.{text_traced}
 
 -- ---- lists
 
@@ -205,10 +205,11 @@ module _ (places : TokensHavePlaces) (first : TreesBeginFirst) (texts : TextsAre
 
   -- ---- the answer
 
-  pub answer_is : AreSteps g 0 0 0 0 (steps_of_items g (text_whole places first texts bytes items g tree h) items) → annotated g.file g.untagged items ≡ Ok g
+  -- `IsWholeFile g` holds of each (`text_whole`)
+  pub answer_is : (w : IsWholeFile g) → AreSteps g 0 0 0 0 (steps_of_items g w items) → annotated g.file g.untagged items ≡ Ok g
   unfolding annotated
-  answer_is steps =
-      let z = file_found g (text_whole places first texts bytes items g tree h) items tree.3.well_formed h steps in
+  answer_is w steps =
+      let z = file_found g w items tree.3.well_formed h steps in
       let c = z.lists in
       let f = z.ready.filed in
       let is = ap (λ r. r >>= λ f. ok (closed_file f)) z.is in

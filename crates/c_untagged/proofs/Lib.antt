@@ -1,0 +1,5 @@
+pub mod Agreeing
+pub mod SameMarks
+pub mod OtherParts
+pub mod OtherStatements
+pub mod OtherFiles
