@@ -13,3 +13,4 @@ pub mod SpokenItems
 pub mod DeclaredPlaces
 pub mod FirstDeclared
 pub mod Answer
+pub mod OneUnit

@@ -1,10 +1,9 @@
 -- Two functions that give the same names to the structures without a tag in a part, as they do where they agree at each `struct` of its tokens.
-use Rattle.std.proofs.Common.{◌≡◌, ℕ, List, [], ◌∷◌, ◌++◌, Option, Some, None, Bool, true, false, refl, ap, ◌∙◌, subst}
+use Rattle.std.proofs.Common.{◌≡◌, ℕ, List, [], ◌∷◌, ◌++◌, Option, Some, None, Bool, true, false, subst}
 use Rattle.lay_base.specs.declared.faults.Keyword.TheVariants as W
 use Rattle.c_lexer.specs.declared.token.TokenKind.{TokenKind}
 use Rattle.c_lexer.specs.declared.token.TokenKind.TheVariants as K
-use Rattle.c_lexer.specs.declared.punctuator.Punctuator.TheVariants as M
-use Rattle.c_ast.specs.Spelling.{Lexeme, punctuator, spelled, spelled_arguments, spelled_optional, spelled_type_name, spelled_specifiers, spelled_specifier}
+use Rattle.c_ast.specs.Spelling.{Lexeme, spelled, spelled_arguments, spelled_optional, spelled_type_name, spelled_specifiers, spelled_specifier}
 use Rattle.c_ast.specs.Spelling.{spelled_member_declarations, spelled_member_declarators, spelled_enumerators, spelled_enumerator_value, spelled_declarator}
 use Rattle.c_ast.specs.Spelling.{spelled_value, spelled_init_declarators, spelled_item, spelled_items}
 use Rattle.c_ast.specs.Trees
@@ -15,8 +14,8 @@ use Rattle.c_ast.specs.declared.words.Spelling.{Spelling}
 use Rattle.c_erasure.specs.Marks.{Mark}
 use Rattle.c_order.specs.Places.{Along}
 use Rattle.c_order.proofs.Walks.{comma_along, tag_along, consts_along}
-use Rattle.c_order.proofs.MarksOfParts.{along, type_name_along, specifiers_along, more_specifiers_along, members_along, member_declarators_along}
-use Rattle.c_order.proofs.MarksOfParts.{value_along, declarator_along, optional_along}
+use Rattle.c_order.proofs.MarksOfParts.{along, type_name_along, specifiers_along, members_along, member_declarators_along}
+use Rattle.c_order.proofs.MarksOfParts.{value_along, declarator_along}
 use Rattle.c_order.proofs.MarksOfFiles.{initializer_along, item_along}
 
 module _ (u v : ℕ → List ℕ) where

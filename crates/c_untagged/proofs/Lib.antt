@@ -3,3 +3,4 @@ pub mod SameMarks
 pub mod OtherParts
 pub mod OtherStatements
 pub mod OtherFiles
+pub mod OneLine

@@ -1,7 +1,7 @@
 -- A file is annotated for a tree too where it names structures without a tag otherwise, but in the tree the same (C99 6.7.2.1, 6.9).
-use Rattle.std.proofs.Common.{◌≡◌, ◌≢◌, ℕ, List, [], ◌∷◌, ◌++◌, Option, Some, None, Bool, true, false, refl, sym, ap, ◌∙◌, subst, inl, inr}
+use Rattle.std.proofs.Common.{◌≡◌, ℕ, List, [], ◌∷◌, ◌++◌, Option, Some, None, Bool, true, false, refl, subst, inl, inr}
 use Rattle.std.proofs.lemmas.List.Elements.{All-head, All-tail, All-cons, All-nil}
-use Rattle.std.specs.Prelude.{◌⊎◌, All, map}
+use Rattle.std.specs.Prelude.{All, map}
 use Rattle.c_types.specs.Types.{CType, function}
 use Rattle.c_ast.specs.Places.{first_declarator}
 use Rattle.c_ast.specs.Spelling.{spell}
@@ -9,11 +9,11 @@ use Rattle.c_ast.specs.Trees
 use Rattle.c_ast.specs.WellFormed.{AreItems}
 use Rattle.c_ast.specs.declared.words.Spelling.{Spelling}
 use Rattle.c_typed.specs.Trees as Typed
-use Rattle.c_erasure.specs.Declarators.{AreDifferent, closed, declared_name}
+use Rattle.c_erasure.specs.Declarators.{AreDifferent, closed}
 use Rattle.c_erasure.specs.Erasure.{IsBase, IsOne}
-use Rattle.c_erasure.specs.Files.{IsDefinition, IsTypedef, IsObject, IsFunction, IsFileDeclarator, AreFileDeclarators, IsBody, IsDefined, in_body, ErasesItem}
-use Rattle.c_erasure.specs.Files.{IsTypedObject, IsLeft, IsIntroduced, IsOpen, IsDeclaredFunction, AreConsistentTags, IsFileOf, is_defined, is_tentative}
-use Rattle.c_erasure.specs.Marks.{marks_of_file, name_from, after_declarator, scope_beginnings, ends_in, defined_in, tags_in, undefined_in, firsts}
+use Rattle.c_erasure.specs.Files.{IsDefinition, IsTypedef, IsObject, IsFunction, IsFileDeclarator, AreFileDeclarators, IsBody, in_body, ErasesItem}
+use Rattle.c_erasure.specs.Files.{IsTypedObject, IsLeft, IsIntroduced, IsOpen, AreConsistentTags, IsFileOf, is_defined, is_tentative}
+use Rattle.c_erasure.specs.Marks.{name_from, after_declarator, scope_beginnings, ends_in, defined_in, tags_in, undefined_in, firsts}
 use Rattle.c_erasure.specs.Noted.{Noted}
 use Rattle.c_erasure.specs.Scopes.{Bound, FileScope, AnObject, AFunction, at_file_scope}
 use Rattle.c_erasure.specs.Specifiers.{Storage, no_storage, a_typedef, is_extern, is_static, is_auto, is_register, several, storage_of}

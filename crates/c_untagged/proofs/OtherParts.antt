@@ -1,20 +1,19 @@
 -- The rules of expressions, types and declarators, in a file that names structures without a tag otherwise, but in them the same.
-use Rattle.std.proofs.Common.{◌≡◌, ℕ, List, [], ◌∷◌, ◌++◌, Option, Some, None, Bool, true, false, refl, sym, ap, ◌∙◌, subst, inl, inr}
-use Rattle.std.specs.Prelude.{◌⊎◌, ◌+◌, ◌%◌, ◌^◌}
+use Rattle.std.proofs.Common.{◌≡◌, ℕ, List, Option, Some, None, true, false, refl, sym, ◌∙◌, subst, inl, inr}
+use Rattle.std.specs.Prelude.{◌+◌, ◌%◌, ◌^◌}
 use Rattle.lay_base.specs.declared.place.Place.{Place}
 use Rattle.c_types.specs.Types.{CType, CTypes, Field}
-use Rattle.c_types.specs.declared.ty.IntKind.{IntKind}
 use Rattle.c_ast.specs.Trees
 use Rattle.c_ast.specs.declared.operators.UnaryOp.TheVariants as U
 use Rattle.c_ast.specs.declared.words.Spelling.{Spelling}
 use Rattle.c_typed.specs.Trees as Typed
 use Rattle.c_erasure.specs.Declarators.{Shape, closed, declared_name, parameter_type}
-use Rattle.c_erasure.specs.Erasure.{IsTypedThing, IsLiteralFor, tag_text, IsNew, with_parameter_if_named, Erases, AreValues, Values, IsConstant}
-use Rattle.c_erasure.specs.Erasure.{IsTypeName, IsBase, IsOne, Specifies, Declares, AreParameters, AreListed, AreFields, AreMembers, AreEnumerators}
+use Rattle.c_erasure.specs.Erasure.{IsTypedThing, IsLiteralFor, tag_text, IsNew, with_parameter_if_named, Erases, AreValues}
+use Rattle.c_erasure.specs.Erasure.{IsTypeName, IsBase, IsOne, Declares, AreParameters, AreListed, AreFields, AreMembers, AreEnumerators}
 use Rattle.c_erasure.specs.Erasure.{IsEnumeratorValue}
-use Rattle.c_erasure.specs.Noted.{Noted, Expression, Thing, an_object, a_value, a_function, a_function_at, a_library_function}
+use Rattle.c_erasure.specs.Noted.{Noted, Thing, an_object, a_value, a_function, a_function_at, a_library_function}
 use Rattle.c_erasure.specs.Scopes.{IsNumbered, FileScope, Scope, Purpose, in_full, value_alone, type_alone, for_value, measured, inside}
-use Rattle.c_untagged.proofs.Agreeing.{Agree, AgreeAt, AgreeInAll, AgreeIfAny, AgreeInType, AgreeInSpecifiers, AgreeInSpecifier, AgreeInMembers}
+use Rattle.c_untagged.proofs.Agreeing.{Agree, AgreeAt, AgreeInAll, AgreeInType, AgreeInSpecifiers, AgreeInMembers}
 use Rattle.c_untagged.proofs.Agreeing.{AgreeInDeclarators, AgreeInEnumerators, AgreeInValue, AgreeInDeclarator}
 
 -- ---- a file with other names for structures without a tag

@@ -1,5 +1,5 @@
 -- The rules of initializers, declarations of blocks and statements, in a file that names structures without a tag otherwise.
-use Rattle.std.proofs.Common.{◌≡◌, ℕ, List, [], ◌∷◌, ◌++◌, Option, Some, None, Bool, true, false, refl, sym, ap, ◌∙◌, subst, inl, inr}
+use Rattle.std.proofs.Common.{◌≡◌, ℕ, List, [], ◌∷◌, Option, Some, None, Bool, true, false, refl, ap, ◌∙◌, inl, inr}
 use Rattle.std.specs.Prelude.{◌⊎◌, ◌+◌}
 use Rattle.c_types.specs.Layouts.{size_of, offset_of}
 use Rattle.c_types.specs.Types.{CType, structure, Field}
@@ -9,7 +9,7 @@ use Rattle.c_ast.specs.declared.words.Spelling.{Spelling}
 use Rattle.c_typed.specs.Conversions.{is_scalar}
 use Rattle.c_typed.specs.Trees as Typed
 use Rattle.c_erasure.specs.Declarators.{Shape, closed, open_array}
-use Rattle.c_erasure.specs.Erasure.{Values, Erases, IsBase, IsOne, Declares}
+use Rattle.c_erasure.specs.Erasure.{Values, Erases, IsBase, IsOne}
 use Rattle.c_erasure.specs.Initializers.{Part, part_at, texts_of, IsText, Initializes, IsOneValue, InitializeElements, InitializeFields, IsInitializer}
 use Rattle.c_erasure.specs.Noted.{Noted, Expression, an_object, type_of, type_of_path}
 use Rattle.c_erasure.specs.Scopes.{Scope, for_value, inside}
@@ -18,7 +18,7 @@ use Rattle.c_erasure.specs.Statements.{Statement, Statements, Arms, IsSized, Has
 use Rattle.c_erasure.specs.Statements.{DeclareAll, IsLocalDeclaration, IsPlain, IsPlainIfAny, IsStart, AreLabels, ErasesStatement, ErasesItem, EraseItems}
 use Rattle.c_erasure.specs.Statements.{ErasesSwitchItem, EraseSwitchItems}
 use Rattle.c_untagged.proofs.Agreeing.{Agree, AgreeInAll, AgreeInInitial, AgreeInSpecifiers, AgreeInDeclarator}
-use Rattle.c_untagged.proofs.OtherParts.{tagged, IfOutside, none_outside, new_same, base_other, other, one_other, declarator_other}
+use Rattle.c_untagged.proofs.OtherParts.{tagged, IfOutside, none_outside, base_other, other, one_other, declarator_other}
 
 module _ (v : ℕ → List ℕ) where
   -- ---- initializers
