@@ -15,6 +15,8 @@ use Rattle.c_erasure.specs.Scopes.{FileScope}
 use Rattle.c_checking.specs.Answers.{Answer}
 use Rattle.c_checking.specs.Files.{annotated}
 use Rattle.c_checking_items.specs.Found.{AnnotatedFilesAreFound, IsFound}
+use Rattle.c_checking_units.specs.Units.{FaultsHaveNoUnit}
+use Rattle.c_erasure.specs.Broken.{Fault as Broken}
 use Rattle.c_tags.specs.TagLists.{AreTagsOf, TagLists}
 use Rattle.c_tags.specs.Untagged.{untagged_by}
 use Rattle.c_check_files.specs.Lists.{AreListsOf}
@@ -23,7 +25,7 @@ use Rattle.c_nodes.specs.declared.fault.Fault.{Fault}
 use Rattle.c_nodes.specs.declared.fault.Fault.TheVariants as F
 use Rattle.c_units.specs.UnitWith.{unit_with}
 use Rattle.c_units.proofs.Nodes.{is_unit_of}
-use Rattle.c_check.specs.Checking.{Finds, OnFault, fault_in}
+use Rattle.c_check.specs.Checking.{Finds, HasNoUnit, OnFault, fault_in}
 
 pub lists_are : (name bytes : List ℕ) (items : List Trees.Item) (t : TagLists) → AreTagsOf name bytes items t → AreListsOf items t
 lists_are name bytes items t h = record { tags = h.tags; ends = h.ends; numbered = h.numbered }
@@ -54,11 +56,20 @@ pub same_unit_erases : (number : ℕ) (file : File) (items : List Trees.Item) (u
     → ErasesTo number file.name file.bytes items (unit_data u) → ErasesTo number file.name file.bytes items (unit_data given)
 same_unit_erases number file items u given same h = subst (λ it. ErasesTo number file.name file.bytes items (unit_data it)) (sym same) h
 
-pub fault_found : (number : ℕ) (file : File) (items : List Trees.Item) (t : TagLists) (fault : Fault)
+-- where the checker stops, there is no unit
+stops : FaultsHaveNoUnit → (number : ℕ) (file : File) (items : List Trees.Item) (t : TagLists) (f : Broken) → IsTreeOf file.bytes items
+    → AreTagsOf file.name file.bytes items t → annotated number (untagged_by t.untagged) items ≡ Err f
+    → Finds number file items (Err f) × HasNoUnit number file items
+stops law number file items t f tree h e = (
+  finds number file items t (Err f) h e,
+  λ u. law number file.name file.bytes items (untagged_by t.untagged) f u h.begin tree h.untagged e,
+)
+
+pub fault_found : FaultsHaveNoUnit → (number : ℕ) (file : File) (items : List Trees.Item) (t : TagLists) (fault : Fault) → IsTreeOf file.bytes items
     → AreTagsOf file.name file.bytes items t → Fails fault (annotated number (untagged_by t.untagged) items)
-    → OnFault number (fault_in number fault) (λ f. Finds number file items (Err f))
-fault_found number file items t (F.TooBig at) h e = (refl, finds number file items t _ h e)
-fault_found number file items t (F.IllTyped rule at) h e = (refl, finds number file items t _ h e)
-fault_found number file items t (F.Undeclared x at) h e = (refl, finds number file items t _ h e)
-fault_found number file items t (F.Redeclared x at first) h e = (refl, refl, finds number file items t _ h e)
-fault_found number file items t F.Memory h e = tt
+    → OnFault number (fault_in number fault) (λ f. Finds number file items (Err f) × HasNoUnit number file items)
+fault_found law number file items t (F.TooBig at) tree h e = (refl, stops law number file items t _ tree h e)
+fault_found law number file items t (F.IllTyped rule at) tree h e = (refl, stops law number file items t _ tree h e)
+fault_found law number file items t (F.Undeclared x at) tree h e = (refl, stops law number file items t _ tree h e)
+fault_found law number file items t (F.Redeclared x at first) tree h e = (refl, refl, stops law number file items t _ tree h e)
+fault_found law number file items t F.Memory tree h e = tt

@@ -1,10 +1,11 @@
--- What checking the types of a file answers: the unit that erases to its tree, or a fault at which the checker stops. Want of memory is a free answer.
+-- What checking the types of a file answers: the unit that erases to its tree, or, where there is none, a fault at which the checker stops. Want of
+-- memory is a free answer.
 use Rattle.std.specs.Prelude.{◌≡◌, ℕ, List, ◌∷◌, Result, Ok, Err}
 use Rattle.lay_base.specs.declared.place.File.{File}
 use Rattle.c_ast.specs.Spelling.{spell}
 use Rattle.c_ast.specs.Trees
 use Rattle.c_typed.specs.declared.program.Unit.{Unit as DeclaredUnit}
-use Rattle.c_typed.specs.Programs.{unit_data}
+use Rattle.c_typed.specs.Programs.{UnitData, unit_data}
 use Rattle.c_erasure.specs.Broken.{Fault, ill_typed, undeclared, redeclared, too_big}
 use Rattle.c_erasure.specs.Erasing.{ErasesTo}
 use Rattle.c_erasure.specs.Scopes.{FileScope}
@@ -35,9 +36,12 @@ OnFault number (C.Undeclared x place) Is = (place.file ≡ number) × Is (undecl
 OnFault number (C.Redeclared x place first) Is = (place.file ≡ number) × (first.file ≡ number) × Is (redeclared x place.at first.at)
 OnFault number C.Memory Is = Unit {0}
 
+abbrev pub HasNoUnit : (number : ℕ) → File → List Trees.Item → Type 0
+HasNoUnit number file items = (u : UnitData) → ErasesTo number file.name file.bytes items u → ⊥
+
 abbrev pub CheckGives : (number : ℕ) → File → List Trees.Item → Result DeclaredUnit CheckFault → Type 0
 CheckGives number file items (Ok u) = ErasesTo number file.name file.bytes items (unit_data u)
-CheckGives number file items (Err fault) = OnFault number fault (λ f. Finds number file items (Err f))
+CheckGives number file items (Err fault) = OnFault number fault (λ f. Finds number file items (Err f) × HasNoUnit number file items)
 
 -- ---- as the code says it
 

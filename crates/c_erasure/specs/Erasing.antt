@@ -2,6 +2,7 @@
 use Rattle.std.specs.Prelude.{◌≡◌, ℕ, List, All}
 use Rattle.c_ast.specs.Trees
 use Rattle.c_ast.specs.Spelling.{spell}
+use Rattle.c_ast.specs.TreesOfFiles.{IsTreeOf}
 use Rattle.c_erasure.specs.Scopes.{FileScope}
 use Rattle.c_erasure.specs.Declarators.{IsSmall}
 use Rattle.c_erasure.specs.Files.{IsFileOf}
@@ -18,7 +19,7 @@ pub record ErasesTo (file : ℕ) (name bytes : List ℕ) (items : List Trees.Ite
   pub small : All (IsSmall annotated.records) (types annotated)
   pub unit : u ≡ unit_of items annotated
 
--- a tree has, with its file, at most one unit
+-- the tree of a text has, with its file, at most one unit
 abbrev pub UnitsAreOne : Type 0
-UnitsAreOne = (file : ℕ) (name bytes : List ℕ) (items : List Trees.Item) (u v : UnitData)
+UnitsAreOne = (file : ℕ) (name bytes : List ℕ) (items : List Trees.Item) (u v : UnitData) → IsTreeOf bytes items
     → ErasesTo file name bytes items u → ErasesTo file name bytes items v → u ≡ v

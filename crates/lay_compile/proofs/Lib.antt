@@ -1,3 +1,4 @@
 mod Steps
 mod Next
 mod Rounds
+mod NoProgram

@@ -1,20 +1,24 @@
--- The program of some files, or the fault of the first file that fails the earliest stage that any file fails: its tokens, its tree, its types, and
--- then the gap of the units. Want of memory is a free answer.
-use Rattle.std.specs.Prelude.{◌≡◌, ℕ, ◌+◌, List, [], ◌∷◌, ◌++◌, length, Result, Ok, Err}
+-- The program of some files, or, where they have none, the fault of the first file that fails the earliest stage that any file fails: its tokens, its
+-- tree, its types, and then the gap of the units. Want of memory is a free answer.
+use Rattle.std.specs.Prelude.{◌≡◌, ℕ, ◌+◌, List, [], ◌∷◌, ◌++◌, length, Result, Ok, Err, ◌⊎◌}
 use Rattle.lay_base.specs.declared.place.File.{File}
 use Rattle.c_lexer.specs.Answers.{LexGives, OnFault}
 use Rattle.c_lexer.specs.Lexes.{Lexes, LexFaultAt}
 use Rattle.c_lexer.specs.declared.fault.LexFault.{LexFault}
+use Rattle.c_lexer.specs.declared.fault.LexFault.TheVariants as L
 use Rattle.c_lexer.specs.declared.token.Token.{Token}
 use Rattle.c_lexer.specs.declared.token.Tokens.{Tokens}
 use Rattle.c_ast.specs.Trees
 use Rattle.c_ast.specs.TreesOfFiles.{IsTreeOf}
 use Rattle.c_parser.specs.Parsing.{ParseGives}
 use Rattle.c_parser.specs.declared.faults.ParseFault.{ParseFault}
-use Rattle.c_typed.specs.Programs.{UnitData, program_data}
+use Rattle.c_parser.specs.declared.faults.ParseFault.TheVariants as S
+use Rattle.c_typed.specs.Programs.{UnitData, ProgramData, program_data}
 use Rattle.c_typed.specs.declared.program.Typed.{Typed}
 use Rattle.c_check.specs.Checking.{CheckGives}
 use Rattle.c_check.specs.declared.fault.CheckFault.{CheckFault}
+use Rattle.c_check.specs.declared.fault.CheckFault.TheVariants as T
+use Rattle.c_link.specs.declared.gap.Gap.TheVariants as G
 use Rattle.c_link.specs.Gaps.{IsGap}
 use Rattle.c_link.specs.Linking.{Fails}
 use Rattle.c_link.specs.Programs.{AreUnitsOf, IsProgramOf, IsUnitOfFile}
@@ -74,6 +78,18 @@ IsFaultOf files (Types fault) = FirstFails HasTree HasUnit (HasTypeFault fault) 
 IsFaultOf files (Joining gap) = (units : List UnitData) × AreUnitsOf 0 files units × Fails (IsGap units) gap
 IsFaultOf files Memory = Unit {0}
 
+-- want of memory, whichever stage met it
+abbrev pub IsWantOfMemory : CompileFault → Type 0
+IsWantOfMemory (Lexical n L.Memory) = Unit {0}
+IsWantOfMemory (Syntax S.Memory) = Unit {0}
+IsWantOfMemory (Types T.Memory) = Unit {0}
+IsWantOfMemory (Joining G.Memory) = Unit {0}
+IsWantOfMemory Memory = Unit {0}
+IsWantOfMemory fault = ⊥
+
+abbrev pub HaveNoProgram : List File → Type 0
+HaveNoProgram files = (p : ProgramData) → IsProgramOf files p → ⊥
+
 abbrev pub FrontGives : List File → Result Typed CompileFault → Type 0
 FrontGives files (Ok p) = IsProgramOf files (program_data p)
-FrontGives files (Err fault) = IsFaultOf files fault
+FrontGives files (Err fault) = IsFaultOf files fault × (IsWantOfMemory fault ⊎ HaveNoProgram files)

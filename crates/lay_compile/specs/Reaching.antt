@@ -6,7 +6,7 @@ use Rattle.c_typed.specs.declared.program.Typed.{Typed}
 use Rattle.c_link.specs.Counting.{IsCountable}
 use Rattle.c_link.specs.Gaps.{IsGap, IsProgramOfUnits}
 use Rattle.c_link.specs.Linking.{Fails}
-use Rattle.c_link.specs.Programs.{AreUnitsOf}
+use Rattle.c_link.specs.Programs.{AreUnitsOf, IsProgramOf}
 use Rattle.c_link.specs.declared.gap.Gap.{Gap}
 use Rattle.lay_compile.specs.declared.fault.CompileFault.{CompileFault}
 use Rattle.lay_compile.specs.declared.fault.CompileFault.TheVariants.{Joining}
@@ -32,6 +32,11 @@ NextGives before file (Err fault) = (later : List File) → IsFaultOf (before ++
 -- after any files, as many as the number says, that have come so far
 abbrev pub StepGives : (number : ℕ) → File → Reached → Result Reached CompileFault → Type 0
 StepGives number file reached result = (before : List File) → length before ≡ number → HaveReached before reached → NextGives before file result
+
+-- through all stages
+abbrev pub StagesGive : List File → Result Typed CompileFault → Type 0
+StagesGive files (Ok p) = IsProgramOf files (program_data p)
+StagesGive files (Err fault) = IsFaultOf files fault
 
 -- joining all units
 abbrev pub ProgramGives : List UnitData → Result Typed CompileFault → Type 0

@@ -8,15 +8,16 @@ ghost use Rattle.c_parser.specs.Parsing.{ParseGives};
 ghost use Rattle.c_typed.specs.Programs.{unit_data};
 ghost use Rattle.lay_compile.specs.declared.stages.Reached.TheVariants as R;
 ghost use Rattle.lay_compile.specs.Front.{FrontGives};
-ghost use Rattle.lay_compile.specs.Reaching.{ProgramGives, ReachedGives, StepGives};
+ghost use Rattle.lay_compile.specs.Reaching.{ProgramGives, ReachedGives, StagesGive, StepGives};
 ghost use Rattle.lay_base.specs.declared.place.File.{File as DeclaredFile};
 
 use crate::fault::CompileFault;
 use c_ast::Tree;
 use c_check::{CheckFault, check};
-use c_lexer::{Tokens, lex};
+use c_checking_units::units_are_one;
+use c_lexer::{Tokens, lex, texts_have_one_reading};
 use c_link::{is_countable, link};
-use c_parser::{ParseFault, parse, trees_are_small};
+use c_parser::{ParseFault, files_have_one_tree, parse, trees_are_small};
 use c_typed::{Typed, Unit};
 use lay_base::{File, Files, List, NoMemory, add};
 use std::alloc::Global;
@@ -139,16 +140,29 @@ fn program_of(alloc: Global, units: List<Unit>) -> Result<Typed, CompileFault>
     }
 }
 
-/// The program of files, or the fault of the first file that fails the earliest stage that any file fails.
-pub fn front(alloc: Global, files: &Files) -> Result<Typed, CompileFault>
+/// Files through all stages.
+fn through_stages(alloc: Global, files: &[File]) -> Result<Typed, CompileFault>
     requires few { length files.now ≤ 64 }
     requires short { All (λ file. length file.bytes ≤ 4194304) files.now }
-    ensures { FrontGives files.now result }
+    ensures { StagesGive files.now result }
 {
-    match reached_by(alloc, files.as_slice()) {
+    match reached_by(alloc, files) {
         Ok(Reached::Units(units)) => program_of(alloc, units),
         Ok(Reached::Trees(fault)) => Err(CompileFault::Types(fault)),
         Ok(Reached::Tokens(fault)) => Err(CompileFault::Syntax(fault)),
         Err(fault) => Err(fault),
     }
+}
+
+/// The program of files; or, where they have none, the fault of the first file that fails the earliest stage that any file fails.
+#[tactic(auto, using(crate::proofs::NoProgram::gives))]
+pub fn front(alloc: Global, files: &Files) -> Result<Typed, CompileFault>
+    requires few { length files.now ≤ 64 }
+    requires short { All (λ file. length file.bytes ≤ 4194304) files.now }
+    ensures { FrontGives files.now result }
+{
+    texts_have_one_reading();
+    files_have_one_tree();
+    units_are_one();
+    through_stages(alloc, files.as_slice())
 }
