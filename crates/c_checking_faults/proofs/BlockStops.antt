@@ -14,8 +14,8 @@ use Rattle.c_erasure.specs.Specifiers.{storage_of}
 use Rattle.c_erasure.specs.Statements.{Statements, IsStart}
 use Rattle.c_checking.specs.Statements.{value_of_expression, value_if_any, condition, condition_if_any, start_of, local_declaration}
 use Rattle.c_checking.specs.Statements.{performed}
-use Rattle.c_checking.proofs.InRange.{IsInRange}
-use Rattle.c_checking.proofs.FaultResults.{bound_err}
+use Rattle.c_checking_laws.proofs.InRange.{IsInRange}
+use Rattle.c_checking_laws.proofs.FaultResults.{bound_err}
 use Rattle.c_checking_files.proofs.Longer.{seen}
 use Rattle.c_checking_files.proofs.Scoped.{then_in}
 use Rattle.c_checking_files.proofs.StatementLaws.{IsStartInRange, IsStatementInRange}

@@ -20,14 +20,14 @@ use Rattle.c_erasure.specs.Scopes.{FileScope, Scope}
 use Rattle.c_checking.specs.Answers.{refused, moved}
 use Rattle.c_checking.specs.Finding.{find}
 use Rattle.c_checking.specs.Initializers.{text_of_array, is_text, fields_of, without_braces, initialized, one_value, elements, fields_from}
-use Rattle.c_checking.proofs.Agreement.{added}
-use Rattle.c_checking.proofs.Extends.{record_stays}
-use Rattle.c_checking.proofs.InRange.{IsInRange, AreInRange}
-use Rattle.c_checking.proofs.FaultPremises.{Prepared, left, right, known_after, IsTimely}
-use Rattle.c_checking.proofs.FaultResults as Results
-use Rattle.c_checking.proofs.FaultResults.{same_fault, bound_err, with_file_err, chosen_err, reaches_then, reached, here, whole}
-use Rattle.c_checking.proofs.FaultParts.{Read}
-use Rattle.c_checking.proofs.Faults.{faults, reading}
+use Rattle.c_checking_laws.proofs.Agreement.{added}
+use Rattle.c_checking_laws.proofs.Extends.{record_stays}
+use Rattle.c_checking_laws.proofs.InRange.{IsInRange, AreInRange}
+use Rattle.c_checking_laws.proofs.FaultPremises.{Prepared, left, right, known_after, IsTimely}
+use Rattle.c_checking_laws.proofs.FaultResults as Results
+use Rattle.c_checking_laws.proofs.FaultResults.{same_fault, bound_err, with_file_err, chosen_err, reaches_then, reached, here, whole}
+use Rattle.c_checking_laws.proofs.FaultParts.{Read}
+use Rattle.c_checking_laws.proofs.Faults.{faults, reading}
 use Rattle.c_checking_files.proofs.Layouts.{AreFields as AreFieldsOf, fields_are, later_fields, first_field, field_object, record_in}
 use Rattle.c_checking_files.proofs.Initials.{IsKnown, ReadFrom, behind, same_locals, sound_initial}
 use Rattle.c_checking_faults.proofs.Clear.{among_left, among_right, all_among, reaches_more, broken_more, AreFresh, fresh_left, fresh_right, made_among, clear}

@@ -5,7 +5,7 @@ use Rattle.std.proofs.lemmas.List.Elements.{All-cons, All-nil}
 use Rattle.std.specs.Prelude.{All, Some, slice_get, ◌⊎◌}
 use Rattle.c_erasure.specs.BrokenStatements.{IsAmong}
 use Rattle.c_erasure.specs.Scopes.{AnObject, FileScope, Scope}
-use Rattle.c_checking.proofs.FaultResults.{AllMay, Reaches, Broken}
+use Rattle.c_checking_laws.proofs.FaultResults.{AllMay, Reaches, Broken}
 use Rattle.c_checking_files.proofs.Parts.{Parted, none, is_made, is_bytes, NoneBegins}
 
 -- ---- bytes among others

@@ -19,12 +19,12 @@ use Rattle.c_checking.specs.Answers.{Answer, moved}
 use Rattle.c_checking.specs.Declaring.{base_kind}
 use Rattle.c_checking.specs.Finding.{base_type, one_of}
 use Rattle.c_checking.specs.Statements.{in_scope, variable_of, declare_as, declare_named, declare_all, local_storage, some_declared, local_declaration}
-use Rattle.c_checking.proofs.InRange.{IsDeclaratorInRange}
-use Rattle.c_checking.proofs.Results.{bound_ok, given}
-use Rattle.c_checking.proofs.FaultPremises.{AreKnown, AreSpecifiersTimely, IsDeclaratorTimely}
-use Rattle.c_checking.proofs.FaultResults.{same_fault, bound_err}
-use Rattle.c_checking.proofs.FaultTypes.{base_stops}
-use Rattle.c_checking.proofs.Faults.{faults_one}
+use Rattle.c_checking_laws.proofs.InRange.{IsDeclaratorInRange}
+use Rattle.c_checking_laws.proofs.Results.{bound_ok, given}
+use Rattle.c_checking_laws.proofs.FaultPremises.{AreKnown, AreSpecifiersTimely, IsDeclaratorTimely}
+use Rattle.c_checking_laws.proofs.FaultResults.{same_fault, bound_err}
+use Rattle.c_checking_laws.proofs.FaultTypes.{base_stops}
+use Rattle.c_checking_laws.proofs.Faults.{faults_one}
 use Rattle.c_checking_files.proofs.Declarations.{IsDeclarationInRange, AreDeclaratorsInRange, static_places, made_by, made_same, first_named, variable_part}
 use Rattle.c_checking_files.proofs.Declarations.{declarator_named}
 use Rattle.c_checking_files.proofs.LocalObjects.{IsValueInRange}

@@ -15,9 +15,9 @@ use Rattle.c_erasure.specs.Scopes.{FileScope, Scope, inside, declared}
 use Rattle.c_checking.specs.Answers.{moved}
 use Rattle.c_checking.specs.Statements.{in_scope, value_of_expression, condition, local_declaration}
 use Rattle.c_checking.specs.Statements.{labels_in, Found, switched_in, jump, returned_in, returned_nothing, performed, item_in, items_in, switch_items, switch_item}
-use Rattle.c_checking.proofs.Results.{bound_ok, given}
-use Rattle.c_checking.proofs.FaultParts.{value_is}
-use Rattle.c_checking.proofs.FaultResults.{bound_err}
+use Rattle.c_checking_laws.proofs.Results.{bound_ok, given}
+use Rattle.c_checking_laws.proofs.FaultParts.{value_is}
+use Rattle.c_checking_laws.proofs.FaultResults.{bound_err}
 use Rattle.c_checking_files.proofs.Labels.{labels_found}
 use Rattle.c_checking_files.proofs.Longer.{seen}
 use Rattle.c_checking_files.proofs.StatementLaws.{IsStatementInRange, IsItemInRange, AreItemsInRange, IsSwitchItemInRange, AreSwitchItemsInRange}

@@ -8,11 +8,11 @@ use Rattle.c_types.specs.Types.{CType, Record}
 use Rattle.c_erasure.specs.BrokenStatements.{IsAmong}
 use Rattle.c_erasure.specs.Marks.{Mark}
 use Rattle.c_erasure.specs.Scopes.{AnObject, FileScope, Scope, ALocal}
-use Rattle.c_checking.proofs.Agreement.{IsObjectType, IsSteady}
-use Rattle.c_checking.proofs.Extends.{Extends, itself, further, one_of_both}
-use Rattle.c_checking.proofs.FaultDeclaring.{IsOrderly, orderly_stays}
-use Rattle.c_checking.proofs.FaultPremises.{Prepared, inside_prepared}
-use Rattle.c_checking.proofs.FaultResults.{Reaches, reaches_itself, reaches_then, Broken}
+use Rattle.c_checking_laws.proofs.Agreement.{IsObjectType, IsSteady}
+use Rattle.c_checking_laws.proofs.Extends.{Extends, itself, further, one_of_both}
+use Rattle.c_checking_laws.proofs.FaultDeclaring.{IsOrderly, orderly_stays}
+use Rattle.c_checking_laws.proofs.FaultPremises.{Prepared, inside_prepared}
+use Rattle.c_checking_laws.proofs.FaultResults.{Reaches, reaches_itself, reaches_then, Broken}
 use Rattle.c_checking_files.proofs.Kept.{AreObjectsWhole}
 use Rattle.c_checking_files.proofs.Layouts.{IsLaid, records_grow}
 use Rattle.c_checking_files.proofs.Longer.{seen, GoesOn, goes_further}

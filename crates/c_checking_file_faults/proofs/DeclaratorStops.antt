@@ -34,10 +34,10 @@ use Rattle.c_checking.specs.Files.{without_value}
 use Rattle.c_checking.specs.Files.{declare_as, function_of}
 use Rattle.c_checking.specs.Finding.{complete}
 use Rattle.c_checking.specs.Statements.{sized_in}
-use Rattle.c_checking.proofs.Agreement.{AreBegun}
-use Rattle.c_checking.proofs.Extends.{Extends}
-use Rattle.c_checking.proofs.FaultDeclaring.{small_fault}
-use Rattle.c_checking.proofs.FaultResults.{same_fault, bound_err}
+use Rattle.c_checking_laws.proofs.Agreement.{AreBegun}
+use Rattle.c_checking_laws.proofs.Extends.{Extends}
+use Rattle.c_checking_laws.proofs.FaultDeclaring.{small_fault}
+use Rattle.c_checking_laws.proofs.FaultResults.{same_fault, bound_err}
 use Rattle.c_checking_files.proofs.FileScopes.{MayDeclare}
 use Rattle.c_checking_files.proofs.Kept.{undeclared}
 use Rattle.c_checking_files.proofs.Locals.{IsSizedOver}

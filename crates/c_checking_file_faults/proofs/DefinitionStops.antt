@@ -23,11 +23,11 @@ use Rattle.c_checking.specs.Answers.{Answer}
 use Rattle.c_checking.specs.Declaring.{declared_among, with_bound}
 use Rattle.c_checking.specs.Files.{function_storage, Received, received_by, library_named, function_of, defined_among, define_function}
 use Rattle.c_checking.specs.Statements.{items_in}
-use Rattle.c_checking.proofs.Agreement.{AreBegun}
-use Rattle.c_checking.proofs.Extends.{Extends, itself, further, at_end}
-use Rattle.c_checking.proofs.FaultDeclaring.{IsOrderly, orderly_stays}
-use Rattle.c_checking.proofs.FaultPremises.{IsPrepared, AreSpecifiersTimely, IsDeclaratorTimely}
-use Rattle.c_checking.proofs.FaultResults.{same_fault, bound_err, Reaches, reaches_then, reaches_itself, reaches_outside}
+use Rattle.c_checking_laws.proofs.Agreement.{AreBegun}
+use Rattle.c_checking_laws.proofs.Extends.{Extends, itself, further, at_end}
+use Rattle.c_checking_laws.proofs.FaultDeclaring.{IsOrderly, orderly_stays}
+use Rattle.c_checking_laws.proofs.FaultPremises.{IsPrepared, AreSpecifiersTimely, IsDeclaratorTimely}
+use Rattle.c_checking_laws.proofs.FaultResults.{same_fault, bound_err, Reaches, reaches_then, reaches_itself, reaches_outside}
 use Rattle.c_checking_files.proofs.Bodies.{parameters_are}
 use Rattle.c_checking_files.proofs.FileScopes.{MayDeclare, IsTheFunction, function_is, bound_put}
 use Rattle.c_checking_files.proofs.Kept.{are_complete}

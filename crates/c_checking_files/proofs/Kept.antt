@@ -20,9 +20,9 @@ use Rattle.c_erasure.specs.Marks.{Mark, a_tag, an_end, a_name, tags_in}
 use Rattle.c_erasure.specs.Scopes.{Bound, Tag, AnObject, AMention, FileScope, Scope, enumerator, is_measured, tag_at}
 use Rattle.c_checking.specs.Declaring.{with_mention, with_object, with_record, with_bound, number_among, is_next, repeated, completed_in}
 use Rattle.c_checking.specs.Declaring.{declared_among, new_name, enumerator_in, tag_named}
-use Rattle.c_checking.proofs.Results.{given, chosen}
-use Rattle.c_checking.proofs.Extends.{last_or, one_of_both}
-use Rattle.c_checking.proofs.Declared.{unless_ok}
+use Rattle.c_checking_laws.proofs.Results.{given, chosen}
+use Rattle.c_checking_laws.proofs.Extends.{last_or, one_of_both}
+use Rattle.c_checking_laws.proofs.Declared.{unless_ok}
 use Rattle.c_checking_files.proofs.Layouts.{object_more}
 
 -- ---- records

@@ -11,8 +11,8 @@ use Rattle.c_ast.specs.WellFormed.{AreItems}
 use Rattle.c_erasure.specs.Files.{AreAscending, IsMade, IsFirst, is_first, declarations_of, MayStandTogether, IsIntroduced, IsFileOf}
 use Rattle.c_erasure.specs.Marks.{scope_beginnings, marks_of_file}
 use Rattle.c_erasure.specs.Scopes.{Bound, AnObject, AFunction, FileScope, Entity, How, an_object, a_function, enumerator, visible, or_else}
-use Rattle.c_checking.proofs.CompleteNodes.{some_is}
-use Rattle.c_checking.proofs.NodesOfParts.{same_bytes}
+use Rattle.c_checking_laws.proofs.CompleteNodes.{some_is}
+use Rattle.c_checking_laws.proofs.NodesOfParts.{same_bytes}
 use Rattle.c_checking_complete.proofs.Plain.{one_begins}
 use Rattle.c_checking_items.proofs.Names.{all_at}
 use Rattle.c_checking_items.proofs.Rises.{rising_later}

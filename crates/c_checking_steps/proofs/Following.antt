@@ -7,10 +7,10 @@ use Rattle.std.specs.List.{AllByRecursion}
 use Rattle.c_types.specs.Types.{Record}
 use Rattle.c_erasure.specs.Scopes.{Bound, AnObject, AFunction, FileScope, Entity, typedef, enumerator, an_object, a_function, a_library_function, ended}
 use Rattle.c_erasure.specs.Scopes.{a_local, a_parameter}
-use Rattle.c_checking.proofs.CompleteLists.{froms_of, rights_of, defined_by, made_at, AreNext, follows}
-use Rattle.c_checking.proofs.CompleteNodes.{some_is}
-use Rattle.c_checking.proofs.CompleteOrder.{AreInOrder}
-use Rattle.c_checking.proofs.CompleteWalk.{Event, a_use, a_look, a_tag, an_end, a_name, a_literal, IsAsked, names_in, ends_in, literals_in}
+use Rattle.c_checking_laws.proofs.CompleteLists.{froms_of, rights_of, defined_by, made_at, AreNext, follows}
+use Rattle.c_checking_laws.proofs.CompleteNodes.{some_is}
+use Rattle.c_checking_laws.proofs.CompleteOrder.{AreInOrder}
+use Rattle.c_checking_laws.proofs.CompleteWalk.{Event, a_use, a_look, a_tag, an_end, a_name, a_literal, IsAsked, names_in, ends_in, literals_in}
 use Rattle.c_checking_whole.proofs.Steps.{Step, events, a_declarator, an_own, a_body, own_objects, own_functions, IsNextOwn, AreBegun}
 use Rattle.c_checking_whole.proofs.Steps.{AreSteps}
 use Rattle.c_checking_steps.proofs.StepLists.{names_of, ends_of, defined_of, own_object, own_function, objects_of, functions_of}

@@ -7,11 +7,11 @@ use Rattle.c_erasure.specs.Marks
 use Rattle.c_erasure.specs.Marks.{Mark, marks, marks_of_all, marks_of_specifiers, marks_of_declarator, marks_of_initial, marks_of_declarators, marks_of_item}
 use Rattle.c_erasure.specs.Marks.{marks_of_file, name_from, after_declarator}
 use Rattle.c_erasure.specs.Scopes.{AnObject, FileScope, in_full}
-use Rattle.c_checking.proofs.CompleteLocals.{begins, literal_if, walk_of_initializer, walk_of_initializers, walk_of_initial}
-use Rattle.c_checking.proofs.CompleteMarks.{marks_in, marks_same, marks_same_specifiers, marks_same_declarator}
+use Rattle.c_checking_laws.proofs.CompleteLocals.{begins, literal_if, walk_of_initializer, walk_of_initializers, walk_of_initial}
+use Rattle.c_checking_laws.proofs.CompleteMarks.{marks_in, marks_same, marks_same_specifiers, marks_same_declarator}
 use Rattle.c_ast.specs.Places.{first_text}
-use Rattle.c_checking.proofs.CompleteStatements.{walk_of_items}
-use Rattle.c_checking.proofs.CompleteWalk.{Event, a_use, a_look, a_tag, an_end, a_name, a_literal, seen, walk_of_declarator, walk_of_specifiers}
+use Rattle.c_checking_laws.proofs.CompleteStatements.{walk_of_items}
+use Rattle.c_checking_laws.proofs.CompleteWalk.{Event, a_use, a_look, a_tag, an_end, a_name, a_literal, seen, walk_of_declarator, walk_of_specifiers}
 use Rattle.c_checking_whole.proofs.Declarators.{steps_if_named, steps_of_declarators}
 use Rattle.c_checking_whole.proofs.Definitions.{alone, steps_of_body, steps_if_defined, steps_of_definition}
 use Rattle.c_checking_whole.proofs.Filed.{IsWholeFile}

@@ -17,11 +17,11 @@ use Rattle.c_erasure.specs.Marks.{name_from, after_declarator}
 use Rattle.c_erasure.specs.Scopes.{Bound, AnObject, AFunction, FileScope, Entity, typedef, enumerator, an_object, a_function, a_library_function}
 use Rattle.c_erasure.specs.Scopes.{a_local, a_parameter, at_file_scope, in_full, declares, defines}
 use Rattle.c_erasure.specs.Specifiers.{Storage, no_storage, a_typedef, is_extern, is_static, is_auto, is_register, several, storage_of}
-use Rattle.c_checking.proofs.CompleteBodies.{walk_of_declaration}
-use Rattle.c_checking.proofs.CompleteLists.{froms_of, made_at}
-use Rattle.c_checking.proofs.CompleteLocals.{walk_of_initial}
-use Rattle.c_checking.proofs.CompleteStatements.{walk_of_items}
-use Rattle.c_checking.proofs.CompleteWalk.{Event, a_use, a_look, a_tag, an_end, a_name, a_literal, seen, walk_of_declarator, walk_of_specifiers}
+use Rattle.c_checking_laws.proofs.CompleteBodies.{walk_of_declaration}
+use Rattle.c_checking_laws.proofs.CompleteLists.{froms_of, made_at}
+use Rattle.c_checking_laws.proofs.CompleteLocals.{walk_of_initial}
+use Rattle.c_checking_laws.proofs.CompleteStatements.{walk_of_items}
+use Rattle.c_checking_laws.proofs.CompleteWalk.{Event, a_use, a_look, a_tag, an_end, a_name, a_literal, seen, walk_of_declarator, walk_of_specifiers}
 use Rattle.c_checking_complete.proofs.StaticLists.{walk_of_statics}
 use Rattle.c_checking_whole.proofs.Declarators.{steps_if_named, steps_of_declarators}
 use Rattle.c_checking_whole.proofs.Definitions.{alone, body_events, steps_of_body, steps_if_defined, steps_of_definition}

@@ -2,7 +2,7 @@
 use Rattle.std.proofs.Common.{ℕ, suc, ◌+◌, ◌≤◌, ◌<◌, Bool, true, false, List, [], ◌∷◌, ◌++◌, Option, Some, None, sym, subst, arith}
 use Rattle.std.specs.Prelude.{unwrap_or}
 use Rattle.std.specs.List.{AllByRecursion}
-use Rattle.c_checking.proofs.CompleteLists.{froms_of}
+use Rattle.c_checking_laws.proofs.CompleteLists.{froms_of}
 use Rattle.c_lexer.specs.declared.punctuator.Punctuator.TheVariants as M
 use Rattle.c_ast.specs.declared.words.Spelling.{Spelling}
 use Rattle.c_ast.specs.Trees
@@ -11,9 +11,9 @@ use Rattle.c_ast.specs.Spelling.{spelled_comma, spelled_block_items}
 use Rattle.c_ast.specs.WellFormed.{IsComma, IsValue, AreInitDeclarators, IsDeclaration, IsItem, AreItems, types_after}
 use Rattle.c_erasure.specs.Marks.{name_from, after_declarator}
 use Rattle.c_erasure.specs.Scopes.{FileScope, in_full}
-use Rattle.c_checking.proofs.CompleteLocals.{walk_of_initializer, walk_of_initial}
-use Rattle.c_checking.proofs.CompleteOrder.{AreApart, AreInOrder, order_earlier, order_later, Walked, walked_specifiers}
-use Rattle.c_checking.proofs.CompleteWalk.{a_look, a_name, walk_of_declarator, walk_of_specifiers}
+use Rattle.c_checking_laws.proofs.CompleteLocals.{walk_of_initializer, walk_of_initial}
+use Rattle.c_checking_laws.proofs.CompleteOrder.{AreApart, AreInOrder, order_earlier, order_later, Walked, walked_specifiers}
+use Rattle.c_checking_laws.proofs.CompleteWalk.{a_look, a_name, walk_of_declarator, walk_of_specifiers}
 use Rattle.c_checking_whole.proofs.Declarations.{steps_of_declaration}
 use Rattle.c_checking_whole.proofs.Declarators.{steps_if_named, steps_of_declarators}
 use Rattle.c_checking_whole.proofs.Definitions.{alone, steps_of_body, steps_if_defined, steps_of_definition}

@@ -10,9 +10,9 @@ use Rattle.c_erasure.specs.Files.{IsMade, is_first}
 use Rattle.c_erasure.specs.Literals.{literals_of_value, made_by_items, initial_literals, made_by_file_item, made_by_file}
 use Rattle.c_erasure.specs.Marks.{name_from, after_declarator}
 use Rattle.c_erasure.specs.Scopes.{FileScope, Entity, typedef, enumerator, an_object, a_function, a_library_function, a_local, a_parameter}
-use Rattle.c_checking.proofs.CompleteLists.{made_at}
-use Rattle.c_checking.proofs.CompleteLocals.{begins, walk_of_initial}
-use Rattle.c_checking.proofs.CompleteWalk.{walk_of_declarator, walk_of_specifiers}
+use Rattle.c_checking_laws.proofs.CompleteLists.{made_at}
+use Rattle.c_checking_laws.proofs.CompleteLocals.{begins, walk_of_initial}
+use Rattle.c_checking_laws.proofs.CompleteWalk.{walk_of_declarator, walk_of_specifiers}
 use Rattle.c_checking_whole.proofs.Declarators.{steps_if_named, steps_of_declarators}
 use Rattle.c_checking_whole.proofs.Definitions.{alone, body_events, steps_of_body, steps_if_defined}
 use Rattle.c_checking_whole.proofs.Filed.{IsWholeFile}

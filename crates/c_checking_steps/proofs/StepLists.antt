@@ -7,10 +7,10 @@ use Rattle.c_erasure.specs.Marks
 use Rattle.c_erasure.specs.Marks.{Mark}
 use Rattle.c_erasure.specs.Scopes.{Tag, FileScope, Entity, an_object, a_function}
 use Rattle.c_checking_files.proofs.StatementLaws.{AreItemsInRange}
-use Rattle.c_checking.proofs.CompleteLists.{froms_of, rights_of, defined_by, tags_of, made_at}
-use Rattle.c_checking.proofs.CompleteMarks.{marks_in, froms_same, rights_same, defined_same, tags_same}
-use Rattle.c_checking.proofs.CompleteOrder.{AreInOrder}
-use Rattle.c_checking.proofs.CompleteWalk.{IsTagOf, ends_in}
+use Rattle.c_checking_laws.proofs.CompleteLists.{froms_of, rights_of, defined_by, tags_of, made_at}
+use Rattle.c_checking_laws.proofs.CompleteMarks.{marks_in, froms_same, rights_same, defined_same, tags_same}
+use Rattle.c_checking_laws.proofs.CompleteOrder.{AreInOrder}
+use Rattle.c_checking_laws.proofs.CompleteWalk.{IsTagOf, ends_in}
 use Rattle.c_checking_whole.proofs.Steps.{Step, events, a_declarator, an_own, a_body}
 
 -- ---- the lists

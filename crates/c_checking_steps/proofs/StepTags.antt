@@ -9,8 +9,8 @@ use Rattle.c_erasure.specs.Files.{AreConsistentTags, IsFileOf}
 use Rattle.c_erasure.specs.Marks.{firsts, is_among, tags_in, marks_of_file}
 use Rattle.c_erasure.specs.Scopes.{Tag, tag_at, or_else, FileScope}
 use Rattle.c_checking.specs.Declaring.{tag_named}
-use Rattle.c_checking.proofs.CompleteWalk.{IsTagOf}
-use Rattle.c_checking.proofs.NodesOfParts.{same_bytes}
+use Rattle.c_checking_laws.proofs.CompleteWalk.{IsTagOf}
+use Rattle.c_checking_laws.proofs.NodesOfParts.{same_bytes}
 use Rattle.c_checking_items.proofs.Names.{names_equal, all_at}
 use Rattle.c_checking_steps.proofs.StepLists.{AreTagged}
 

@@ -7,12 +7,12 @@ use Rattle.c_erasure.specs.Marks
 use Rattle.c_erasure.specs.Marks.{Mark, ends_in, marks_of_specifiers, marks_of_declarator, marks_of_initial, marks_of_declarators, marks_of_item, name_from}
 use Rattle.c_erasure.specs.Marks.{after_declarator}
 use Rattle.c_erasure.specs.Scopes.{FileScope, in_full}
-use Rattle.c_checking.proofs.CompleteBodies.{walk_of_declaration}
-use Rattle.c_checking.proofs.CompleteLocals.{walk_of_initial}
-use Rattle.c_checking.proofs.CompleteMarks.{marks_in, rights_same}
-use Rattle.c_checking.proofs.CompleteStatements.{walk_of_items}
-use Rattle.c_checking.proofs.CompleteWalk as Walk
-use Rattle.c_checking.proofs.CompleteWalk.{Event, seen, a_use, a_look, a_tag, an_end, a_name, a_literal, walk_of_declarator, walk_of_specifiers}
+use Rattle.c_checking_laws.proofs.CompleteBodies.{walk_of_declaration}
+use Rattle.c_checking_laws.proofs.CompleteLocals.{walk_of_initial}
+use Rattle.c_checking_laws.proofs.CompleteMarks.{marks_in, rights_same}
+use Rattle.c_checking_laws.proofs.CompleteStatements.{walk_of_items}
+use Rattle.c_checking_laws.proofs.CompleteWalk as Walk
+use Rattle.c_checking_laws.proofs.CompleteWalk.{Event, seen, a_use, a_look, a_tag, an_end, a_name, a_literal, walk_of_declarator, walk_of_specifiers}
 use Rattle.c_checking_complete.proofs.StaticLists.{walk_of_statics}
 use Rattle.c_checking_items.proofs.Items.{IsItemFit, AreItemsFit}
 use Rattle.c_checking_whole.proofs.Declarators.{steps_if_named, steps_of_declarators}

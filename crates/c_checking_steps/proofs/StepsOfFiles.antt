@@ -14,8 +14,8 @@ use Rattle.c_text_order.specs.TextOrder.{IsUnwritten, TextsAreInOrder}
 use Rattle.c_text_order.proofs.Rising.{AreRising}
 use Rattle.c_text_order.proofs.Tokens.{tokens_rise}
 use Rattle.c_checking.specs.Files.{closed_file, annotated}
-use Rattle.c_checking.proofs.CompleteOrder.{AreApart}
-use Rattle.c_checking.proofs.CompletePart.{Lists, part}
+use Rattle.c_checking_laws.proofs.CompleteOrder.{AreApart}
+use Rattle.c_checking_laws.proofs.CompletePart.{Lists, part}
 use Rattle.c_checking_items.proofs.Items.{AreItemsFit}
 use Rattle.c_checking_items.proofs.SoundFiles.{AreFitItems}
 use Rattle.c_checking_items.proofs.TextFits.{text_is_fit}

@@ -21,9 +21,9 @@ use Rattle.c_erasure.specs.Scopes.{for_value, measured}
 use Rattle.c_erasure.specs.Specifiers.{types_among}
 use Rattle.c_typed.specs.Trees as Typed
 use Rattle.c_erasure.specs.Noted.{Noted}
-use Rattle.c_checking.proofs.CompleteWalk.{Event, a_use, a_look, a_tag, an_end, a_name, a_literal, seen, with_event, is_kept, walk, walk_of_all}
-use Rattle.c_checking.proofs.CompleteWalk.{walk_of_type, walk_of_specifiers, walk_of_members, walk_of_member_declarators, walk_of_enumerators}
-use Rattle.c_checking.proofs.CompleteWalk.{walk_of_value, walk_of_declarator, walk_of_parameter_list, walk_of_parameters, an_enumeration}
+use Rattle.c_checking_laws.proofs.CompleteWalk.{Event, a_use, a_look, a_tag, an_end, a_name, a_literal, seen, with_event, is_kept, walk, walk_of_all}
+use Rattle.c_checking_laws.proofs.CompleteWalk.{walk_of_type, walk_of_specifiers, walk_of_members, walk_of_member_declarators, walk_of_enumerators}
+use Rattle.c_checking_laws.proofs.CompleteWalk.{walk_of_value, walk_of_declarator, walk_of_parameter_list, walk_of_parameters, an_enumeration}
 
 -- what an event says of the file: an enumerator's name, or an object
 abbrev pub IsEnumeratorFrom : FileScope → ℕ → Type 0

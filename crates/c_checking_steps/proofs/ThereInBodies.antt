@@ -12,11 +12,11 @@ use Rattle.c_erasure.specs.Scopes.{ALocal, Bound, FileScope, Scope, in_full, for
 use Rattle.c_erasure.specs.Specifiers.{Storage, no_storage, is_static, is_auto, is_register, storage_of}
 use Rattle.c_erasure.specs.Statements.{Statement, Statements, Arms, DeclareAll, IsLocalDeclaration, IsPlainIfAny, IsStart, AreLabels, ErasesStatement}
 use Rattle.c_erasure.specs.Statements.{ErasesItem, EraseItems, ErasesSwitchItem, EraseSwitchItems, with_object, with_variable}
-use Rattle.c_checking.proofs.CompleteBodies.{walk_by_storage}
-use Rattle.c_checking.proofs.CompleteLocals.{look_at, walk_of_locals}
-use Rattle.c_checking.proofs.CompleteStatements.{walk_of_option, walk_of_start, walk_of_labels, walk_of_statement, walk_of_item, walk_of_items}
-use Rattle.c_checking.proofs.CompleteStatements.{walk_of_switch_item, walk_of_switch_items}
-use Rattle.c_checking.proofs.CompleteWalk.{Event, walk}
+use Rattle.c_checking_laws.proofs.CompleteBodies.{walk_by_storage}
+use Rattle.c_checking_laws.proofs.CompleteLocals.{look_at, walk_of_locals}
+use Rattle.c_checking_laws.proofs.CompleteStatements.{walk_of_option, walk_of_start, walk_of_labels, walk_of_statement, walk_of_item, walk_of_items}
+use Rattle.c_checking_laws.proofs.CompleteStatements.{walk_of_switch_item, walk_of_switch_items}
+use Rattle.c_checking_laws.proofs.CompleteWalk.{Event, walk}
 use Rattle.c_checking_complete.proofs.StaticLists.{object_at, walk_of_statics}
 use Rattle.c_checking_steps.proofs.There.{HasObject, AreThere, there_both, for_value_there, there, there_declarator, there_specifiers}
 use Rattle.c_checking_steps.proofs.ThereInitially.{constants_there, initializer_there}

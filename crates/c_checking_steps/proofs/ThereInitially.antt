@@ -12,8 +12,8 @@ use Rattle.c_erasure.specs.Initializers.{IsInitializer}
 use Rattle.c_erasure.specs.Noted.{Noted, Expression}
 use Rattle.c_erasure.specs.Scopes.{AnObject, Scope}
 use Rattle.c_erasure.specs.Statements.{HasInitializer, HasConstants}
-use Rattle.c_checking.proofs.CompleteLocals.{begins, walk_of_initializer, walk_of_initializers, walk_of_initial}
-use Rattle.c_checking.proofs.CompleteWalk.{Event, a_literal, walk}
+use Rattle.c_checking_laws.proofs.CompleteLocals.{begins, walk_of_initializer, walk_of_initializers, walk_of_initial}
+use Rattle.c_checking_laws.proofs.CompleteWalk.{Event, a_literal, walk}
 use Rattle.c_checking_complete.proofs.Plain.{none_begins, Plainly, IsPlain, plain, no_braces, texts_in_braces}
 use Rattle.c_checking_steps.proofs.There.{HasObject, There, both, there}
 

@@ -20,9 +20,9 @@ use Rattle.c_order.proofs.Ordered.{marks_are_in_order}
 use Rattle.c_text_order.specs.TextOrder.{IsUnwritten, TextsAreInOrder}
 use Rattle.c_checking.specs.Answers.{◌>>=◌}
 use Rattle.c_checking.specs.Files.{is_tentative, settled, settled_from, closed_file, annotated}
-use Rattle.c_checking.proofs.CompleteNodes.{some_is}
-use Rattle.c_checking.proofs.CompletePart.{Lists, part}
-use Rattle.c_checking.proofs.Results.{ok}
+use Rattle.c_checking_laws.proofs.CompleteNodes.{some_is}
+use Rattle.c_checking_laws.proofs.CompletePart.{Lists, part}
+use Rattle.c_checking_laws.proofs.Results.{ok}
 use Rattle.c_checking_complete.proofs.Objects.{mapped_at}
 use Rattle.c_checking_files.proofs.FileScopes.{IsSameObject, IsSameFunction}
 use Rattle.c_checking_items.proofs.Closing.{settled_is, object_closed, tentative_same}

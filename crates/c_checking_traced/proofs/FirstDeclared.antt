@@ -6,7 +6,7 @@ use Rattle.c_ast.specs.Trees
 use Rattle.c_erasure.specs.Files.{AreAscending, IsFirst, is_first, IsFileOf}
 use Rattle.c_erasure.specs.Marks.{marks_of_file, scope_beginnings}
 use Rattle.c_erasure.specs.Scopes.{Bound, FileScope, Entity, an_object, AnObject, visible}
-use Rattle.c_checking.proofs.CompleteNodes.{some_is}
+use Rattle.c_checking_laws.proofs.CompleteNodes.{some_is}
 use Rattle.c_checking_complete.proofs.Objects.{mapped_at}
 use Rattle.c_checking_whole.proofs.Filed.{consistent_at}
 use Rattle.c_checking_traced.proofs.Lists.{lesser_first}

@@ -3,7 +3,7 @@ use Rattle.std.proofs.Common.{◌≡◌, ◌≢◌, ℕ, zero, suc, ◌<◌, ref
 use Rattle.std.specs.Prelude.{Some, slice_get}
 use Rattle.c_erasure.specs.Declarators.{AreDifferent}
 use Rattle.c_erasure.specs.Files.{AreAscending}
-use Rattle.c_checking.proofs.CompleteNodes.{some_is}
+use Rattle.c_checking_laws.proofs.CompleteNodes.{some_is}
 use Rattle.c_checking_items.proofs.Names.{all_at}
 
 pub lesser_first : (all : List ℕ) → AreAscending all → (j k p q : ℕ) → slice_get all j ≡ Some p → slice_get all k ≡ Some q → p < q → j < k

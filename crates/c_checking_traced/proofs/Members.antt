@@ -8,10 +8,10 @@ use Rattle.c_ast.specs.Places.{first_declarator}
 use Rattle.c_erasure.specs.Erasure.{AreFields, AreMembers}
 use Rattle.c_erasure.specs.Marks.{marks_of_specifiers, marks_of_members, marks_of_member_declarators, marks_of_declarator}
 use Rattle.c_erasure.specs.Scopes.{Scope, ended}
-use Rattle.c_checking.proofs.Agreement.{added}
-use Rattle.c_checking.proofs.CompletePart.{complete_stays}
-use Rattle.c_checking.proofs.Extends.{one_of_both}
-use Rattle.c_checking.proofs.FaultPremises.{AreMembersTimely, AreDeclaratorsTimely}
+use Rattle.c_checking_laws.proofs.Agreement.{added}
+use Rattle.c_checking_laws.proofs.CompletePart.{complete_stays}
+use Rattle.c_checking_laws.proofs.Extends.{one_of_both}
+use Rattle.c_checking_laws.proofs.FaultPremises.{AreMembersTimely, AreDeclaratorsTimely}
 use Rattle.c_checking_files.proofs.Kept.{AreWhole}
 use Rattle.c_checking_order.proofs.Ahead.{added_both}
 

@@ -5,7 +5,7 @@ use Rattle.std.specs.Str.{bytes_eq}
 use Rattle.c_erasure.specs.Declarators.{AreDifferent}
 use Rattle.c_erasure.specs.Marks.{Mark, is_among, firsts, defined_in, undefined_in, tags_in}
 use Rattle.c_erasure.specs.Scopes.{Tag}
-use Rattle.c_checking.proofs.Extends.{one_of_both}
+use Rattle.c_checking_laws.proofs.Extends.{one_of_both}
 use Rattle.c_checking_items.proofs.Names.{all_at, names_equal}
 use Rattle.c_checking_items.proofs.Orders.{all_from_slices}
 

@@ -3,7 +3,7 @@ use Rattle.std.proofs.Common.{◌≡◌, ℕ, zero, suc, ◌+◌, ◌≤◌, ◌
 use Rattle.std.specs.Prelude.{◌⊎◌, Some, slice_get}
 use Rattle.c_ast.specs.Spelling.{Lexeme}
 use Rattle.c_text_order.proofs.Rising.{AreRising, Rise}
-use Rattle.c_checking.proofs.Extends.{kept, behind, one_of_both}
+use Rattle.c_checking_laws.proofs.Extends.{kept, behind, one_of_both}
 
 -- different places from a byte on, and before another
 pub record AreWithin (from : ℕ) (places : List ℕ) (to : ℕ) : Type 0 where

@@ -20,8 +20,8 @@ use Rattle.c_erasure.specs.Scopes.{Scope}
 use Rattle.c_order.specs.Places.{AreOrdered}
 use Rattle.c_order.proofs.Walks.{comma_along}
 use Rattle.c_order.proofs.MarksOfFiles.{initializer_along}
-use Rattle.c_checking.proofs.Agreement.{added}
-use Rattle.c_checking.proofs.FaultPremises.{IsTimely}
+use Rattle.c_checking_laws.proofs.Agreement.{added}
+use Rattle.c_checking_laws.proofs.FaultPremises.{IsTimely}
 use Rattle.c_checking_order.proofs.Ahead.{Ahead, Standing, standing_left, standing_right, back, earlier, ahead_same, added_both}
 use Rattle.c_checking_order.proofs.Timely.{timely}
 use Rattle.c_checking_items.proofs.InTextTime.{behind_part, ahead_of, list_along}

@@ -27,10 +27,10 @@ use Rattle.c_order.specs.Places.{AreOrdered, Along}
 use Rattle.c_order.proofs.Walks.{none, skip, after, comma_along}
 use Rattle.c_order.proofs.MarksOfParts.{declarator_along, specifiers_along}
 use Rattle.c_order.proofs.MarksOfFiles.{initializer_along, declarators_along, block_items_along, item_along, items_along}
-use Rattle.c_checking.proofs.Agreement as Agreement
-use Rattle.c_checking.proofs.Agreement.{added, beginnings_append}
-use Rattle.c_checking.proofs.CompletePart.{IsFitFor, complete_stays}
-use Rattle.c_checking.proofs.Extends.{behind}
+use Rattle.c_checking_laws.proofs.Agreement as Agreement
+use Rattle.c_checking_laws.proofs.Agreement.{added, beginnings_append}
+use Rattle.c_checking_laws.proofs.CompletePart.{IsFitFor, complete_stays}
+use Rattle.c_checking_laws.proofs.Extends.{behind}
 use Rattle.c_checking_complete.proofs.Objects.{mapped_at}
 use Rattle.c_checking_order.proofs.Ahead.{Ahead, Standing, standing_left, standing_right, back, earlier, ahead_same, added_both, none_left}
 use Rattle.c_checking_order.proofs.Timely.{timely_specifiers, timely_declarator}

@@ -18,11 +18,11 @@ use Rattle.c_erasure.specs.Marks.{marks_of_members, marks_of_member_declarators,
 use Rattle.c_erasure.specs.Noted.{Noted, Thing, an_object}
 use Rattle.c_erasure.specs.Scopes.{FileScope, Scope, enumerator, defines, for_value, measured, declared}
 use Rattle.c_erasure.specs.Specifiers.{types_among}
-use Rattle.c_checking.proofs.Agreement.{added}
-use Rattle.c_checking.proofs.Derived.{words_mark_nothing}
-use Rattle.c_checking.proofs.FaultPremises.{IsTimely, AreTimely, IsTypeTimely, AreSpecifiersTimely, AreMembersTimely, AreDeclaratorsTimely}
-use Rattle.c_checking.proofs.FaultPremises.{AreEnumeratorsTimely, IsValueTimely, IsDeclaratorTimely}
-use Rattle.c_checking.proofs.Ranges.{constant_below}
+use Rattle.c_checking_laws.proofs.Agreement.{added}
+use Rattle.c_checking_laws.proofs.Derived.{words_mark_nothing}
+use Rattle.c_checking_laws.proofs.FaultPremises.{IsTimely, AreTimely, IsTypeTimely, AreSpecifiersTimely, AreMembersTimely, AreDeclaratorsTimely}
+use Rattle.c_checking_laws.proofs.FaultPremises.{AreEnumeratorsTimely, IsValueTimely, IsDeclaratorTimely}
+use Rattle.c_checking_laws.proofs.Ranges.{constant_below}
 use Rattle.c_checking_files.proofs.Kept.{AreWhole}
 use Rattle.c_checking_order.proofs.Ahead.{Standing, standing_left, standing_right}
 use Rattle.c_checking_traced.proofs.Lists.{ascending_apart}

@@ -17,11 +17,11 @@ use Rattle.c_erasure.specs.Marks.{marks_of_file, scope_beginnings}
 use Rattle.c_erasure.specs.Scopes.{Bound, FileScope, Entity, an_object, visible, or_else, ended}
 use Rattle.c_order.proofs.Ordered.{tree_ordered, marks_are_in_order}
 use Rattle.c_text_order.specs.TextOrder.{TextsAreInOrder}
-use Rattle.c_checking.proofs.Agreement as Agreement
-use Rattle.c_checking.proofs.CompleteNodes.{some_is}
-use Rattle.c_checking.proofs.CompletePart.{IsFitFor, fit_stays}
-use Rattle.c_checking.proofs.NodesOfParts.{same_bytes}
-use Rattle.c_checking.proofs.CompleteWhole as Complete
+use Rattle.c_checking_laws.proofs.Agreement as Agreement
+use Rattle.c_checking_laws.proofs.CompleteNodes.{some_is}
+use Rattle.c_checking_laws.proofs.CompletePart.{IsFitFor, fit_stays}
+use Rattle.c_checking_laws.proofs.NodesOfParts.{same_bytes}
+use Rattle.c_checking_laws.proofs.CompleteWhole as Complete
 use Rattle.c_checking_complete.proofs.Objects.{mapped_at}
 use Rattle.c_checking_files.proofs.Kept.{AreWhole}
 use Rattle.c_checking_whole.proofs.Filed.{IsWholeFile}
