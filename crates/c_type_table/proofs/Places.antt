@@ -1,9 +1,9 @@
 -- A type's place is that of its key.
-use Rattle.std.proofs.Common.{◌≡◌, ◌+◌, ◌<◌, ◌≤◌, Bool, true, false, ◌||◌, List, [], ◌∷◌, ◌++◌, length, map, refl, sym, ap, ◌∙◌}
+use Rattle.std.proofs.Common.{◌≡◌, ◌+◌, ◌<◌, ◌≤◌, Bool, true, false, ◌||◌, List, [], ◌∷◌, ◌++◌, length, map, refl, sym, ap, ◌∙◌, arith}
 use Rattle.std.specs.Prelude.{if◌then◌else◌}
 use Rattle.std.specs.List.{list_any}
 use Rattle.std.specs.Str.{bytes_eq}
-use Rattle.std.proofs.lemmas.List.{map-append}
+use Rattle.std.proofs.lemmas.List.{length-map, map-append}
 use Rattle.std.proofs.lemmas.Slice.Eq.{bytes_eq-Decides}
 use Rattle.c_types.proofs.SameTypes.{same_is, same_self}
 use Rattle.c_types.specs.Sameness.{same_type}
@@ -52,3 +52,16 @@ stays types t h = ap (λ b. if b then types else types ++ t ∷ []) (sym (found 
 
 pub grows : (types : List CType) (t : CType) → length (map type_key types) ≤ position (map type_key types) (type_key t) → types ++ t ∷ [] ≡ with_type types t
 grows types t h = ap (λ b. if b then types else types ++ t ∷ []) (sym (absent (map type_key types) (type_key t) h) ∙ among_is types t)
+
+pub not_there : (types : List CType) (t : CType) → length (map type_key types) ≤ position (map type_key types) (type_key t) → length types ≤ number_in types t
+not_there types t h =
+    let e = place_is types t in
+    let n : length (map type_key types) ≡ length types = length-map types type_key in
+    omega (arith, h, e, n)
+
+-- a type whose number is one of the types' is there
+pub is_there : (types : List CType) (t : CType) → number_in types t < length types → types ≡ with_type types t
+is_there types t h =
+    let e = place_is types t in
+    let n : length (map type_key types) ≡ length types = length-map types type_key in
+    stays types t (omega (arith, h, e, n))

@@ -76,3 +76,15 @@ pub fn type_key(alloc: Global, t: &Ty) -> Result<Vec<u32>, NoMemory>
     append_type(&mut key, t)?;
     Ok(key)
 }
+
+/// A number by which a type is looked for before its key is made.
+pub fn hint(t: &Ty) -> u32 {
+    match t {
+        Ty::Void => 0,
+        Ty::Int(kind) => kind_number(*kind).wrapping_add(1),
+        Ty::Pointer(to) => hint(to.get()).wrapping_mul(11).wrapping_add(16),
+        Ty::Array(element, length) => hint(element.get()).wrapping_mul(37).wrapping_add(*length),
+        Ty::Function(result, _) => hint(result.get()).wrapping_add(512),
+        Ty::Record(number) => number.wrapping_add(256),
+    }
+}

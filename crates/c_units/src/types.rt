@@ -19,7 +19,7 @@ use c_annotated::{Function, Local, Mention, Statement};
 use c_initial_values::Store;
 use c_type_table::TypeTable;
 use c_typed::is_pointer;
-use c_types::{Ty, copy};
+use c_types::Ty;
 use c_walks::{NodeType, Nodes};
 use lay_base::{List, NoMemory};
 use std::alloc::Global;
@@ -119,7 +119,7 @@ fn table_of(alloc: Global, nodes: &[NodeType]) -> Result<TypeTable, NoMemory>
 {
     let mut types = TypeTable::new(alloc);
     for node in nodes {
-        types.add(alloc, copy(alloc, node.ty)?)?;
+        types.add_copy(alloc, node.ty)?;
     }
     Ok(types)
 }

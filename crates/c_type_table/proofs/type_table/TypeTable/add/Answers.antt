@@ -1,14 +1,15 @@
-use Rattle.std.proofs.Common.{◌≡◌, ◌<◌, ◌≤◌, ◌++◌, ◌∷◌, [], ◌∙◌, ap, sym, map, length, rules}
+use Rattle.std.proofs.Common.{◌≡◌, ◌<◌, ◌≤◌, ◌++◌, ◌∷◌, [], ◌∙◌, ap, sym, subst, map, length, rules}
 use Rattle.std.proofs.lemmas.List.{map-append}
 use Rattle.c_types.specs.Views.{type_of}
 use Rattle.numbering.specs.Keys.{position, with_key}
-use Rattle.c_type_table.specs.Adding.{with_type}
+use Rattle.c_type_table.specs.Adding.{AreOnce, with_type}
 use Rattle.c_type_table.specs.TypeKeys.{type_key}
-use Rattle.c_type_table.proofs.Places.{grows, one_more, stays}
+use Rattle.c_type_table.proofs.Once.{one_more_once}
+use Rattle.c_type_table.proofs.Places.{grows, not_there, one_more, stays}
 use Rattle.c_type_table.proofs.type_table.TypeTable.add.Goals as goal
 
-pub returns-then-number-len-clause-added : goal.returns-then-number-len-clause-added
-returns-then-number-len-clause-added c =
+pub returns-then-number-n-clause-added : goal.returns-then-number-n-clause-added
+returns-then-number-n-clause-added c =
     let types = map type_of c.self.inside.types.items in
     let t = type_of c.args.t in
     let h : position (map type_key types) (type_key t) < length (map type_key types) = search rules in
@@ -21,7 +22,11 @@ invariant_of-self-2 c =
     let h : length (map type_key types) ≤ position (map type_key types) (type_key t) = search rules in
     let added : c.add.new.self ≡ with_key (map type_key types) (type_key t) = search rules in
     let pushed : c.push_reserved.new.self.items ≡ c.self.inside.types.items ++ c.args.t ∷ [] = search rules in
-    added ∙ one_more types t ∙ ap (map type_key) (sym (grows types t h) ∙ sym (map-append type_of c.self.inside.types.items (c.args.t ∷ [])) ∙ ap (map type_of) (sym pushed))
+    let all : types ++ t ∷ [] ≡ map type_of c.push_reserved.new.self.items = sym (map-append type_of c.self.inside.types.items (c.args.t ∷ [])) ∙ ap (map type_of) (sym pushed) in
+    record {
+      keys = added ∙ one_more types t ∙ ap (map type_key) (sym (grows types t h) ∙ all);
+      once = subst AreOnce all (one_more_once types t c.self.invariant.once (not_there types t h));
+    }
 
 pub returns-clause-added : goal.returns-clause-added
 returns-clause-added c =
