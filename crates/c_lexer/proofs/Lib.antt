@@ -3,6 +3,7 @@ pub mod Comments
 pub mod Digits
 pub mod DirectiveLines
 pub mod Exactness
+pub mod FirstLetters
 pub mod FirstPunctuators
 pub mod FrontParts
 pub mod FrontTexts

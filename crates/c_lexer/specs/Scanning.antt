@@ -123,25 +123,72 @@ abbrev pub first_keyword : List Keyword → List ℕ → Option Keyword
 first_keyword [] word = None
 first_keyword (keyword ∷ keywords) word = if bytes_eq word (keyword_text keyword) then Some keyword else first_keyword keywords word
 
-abbrev pub keywords_after_while : List Keyword
-keywords_after_while =
-    W.UnderscoreBool ∷ W.UnderscoreComplex ∷ W.UnderscoreImaginary ∷ []
+abbrev pub keywords_in_c : List Keyword
+keywords_in_c = W.Case ∷ W.Char ∷ W.Const ∷ W.Continue ∷ []
 
-abbrev pub keywords_after_static : List Keyword
-keywords_after_static =
-    W.Struct ∷ W.Switch ∷ W.Typedef ∷ W.Union ∷ W.Unsigned ∷ W.Void ∷ W.Volatile ∷ W.While ∷ keywords_after_while
+abbrev pub keywords_in_d : List Keyword
+keywords_in_d = W.Default ∷ W.Do ∷ W.Double ∷ []
 
-abbrev pub keywords_after_int : List Keyword
-keywords_after_int =
-    W.Long ∷ W.Register ∷ W.Restrict ∷ W.Return ∷ W.Short ∷ W.Signed ∷ W.Sizeof ∷ W.Static ∷ keywords_after_static
+abbrev pub keywords_in_e : List Keyword
+keywords_in_e = W.Else ∷ W.Enum ∷ W.Extern ∷ []
 
-abbrev pub keywords_after_double : List Keyword
-keywords_after_double =
-    W.Else ∷ W.Enum ∷ W.Extern ∷ W.Float ∷ W.For ∷ W.Goto ∷ W.If ∷ W.Inline ∷ W.Int ∷ keywords_after_int
+abbrev pub keywords_in_f : List Keyword
+keywords_in_f = W.Float ∷ W.For ∷ []
+
+abbrev pub keywords_in_i : List Keyword
+keywords_in_i = W.If ∷ W.Inline ∷ W.Int ∷ []
+
+abbrev pub keywords_in_r : List Keyword
+keywords_in_r = W.Register ∷ W.Restrict ∷ W.Return ∷ []
+
+abbrev pub keywords_in_s : List Keyword
+keywords_in_s = W.Short ∷ W.Signed ∷ W.Sizeof ∷ W.Static ∷ W.Struct ∷ W.Switch ∷ []
+
+abbrev pub keywords_in_u : List Keyword
+keywords_in_u = W.Union ∷ W.Unsigned ∷ []
+
+abbrev pub keywords_in_v : List Keyword
+keywords_in_v = W.Void ∷ W.Volatile ∷ []
+
+abbrev pub keywords_in_underscore : List Keyword
+keywords_in_underscore = W.UnderscoreBool ∷ W.UnderscoreComplex ∷ W.UnderscoreImaginary ∷ []
 
 abbrev pub keywords : List Keyword
 keywords =
-    W.Auto ∷ W.Break ∷ W.Case ∷ W.Char ∷ W.Const ∷ W.Continue ∷ W.Default ∷ W.Do ∷ W.Double ∷ keywords_after_double
+    W.Auto ∷ W.Break ∷ W.Case ∷ W.Char ∷ W.Const ∷ W.Continue ∷ W.Default ∷ W.Do ∷ W.Double ∷
+    W.Else ∷ W.Enum ∷ W.Extern ∷ W.Float ∷ W.For ∷ W.Goto ∷ W.If ∷ W.Inline ∷ W.Int ∷
+    W.Long ∷ W.Register ∷ W.Restrict ∷ W.Return ∷ W.Short ∷ W.Signed ∷ W.Sizeof ∷ W.Static ∷ W.Struct ∷
+    W.Switch ∷ W.Typedef ∷ W.Union ∷ W.Unsigned ∷ W.Void ∷ W.Volatile ∷ W.While ∷ W.UnderscoreBool ∷ W.UnderscoreComplex ∷
+    W.UnderscoreImaginary ∷ []
+
+-- the keyword, where the word is that text
+abbrev pub keyword_if : List ℕ → List ℕ → Keyword → Option Keyword
+keyword_if word text keyword = if bytes_eq word text then Some keyword else None
+
+-- the keyword that a word is, by its first byte
+abbrev pub keyword_beginning : ℕ → List ℕ → Option Keyword
+keyword_beginning first word =
+    if first == 97 then keyword_if word (keyword_text W.Auto) W.Auto else
+    if first == 98 then keyword_if word (keyword_text W.Break) W.Break else
+    if first == 99 then first_keyword keywords_in_c word else
+    if first == 100 then first_keyword keywords_in_d word else
+    if first == 101 then first_keyword keywords_in_e word else
+    if first == 102 then first_keyword keywords_in_f word else
+    if first == 103 then keyword_if word (keyword_text W.Goto) W.Goto else
+    if first == 105 then first_keyword keywords_in_i word else
+    if first == 108 then keyword_if word (keyword_text W.Long) W.Long else
+    if first == 114 then first_keyword keywords_in_r word else
+    if first == 115 then first_keyword keywords_in_s word else
+    if first == 116 then keyword_if word (keyword_text W.Typedef) W.Typedef else
+    if first == 117 then first_keyword keywords_in_u word else
+    if first == 118 then first_keyword keywords_in_v word else
+    if first == 119 then keyword_if word (keyword_text W.While) W.While else
+    if first == 95 then first_keyword keywords_in_underscore word else
+    None
+
+unfoldable pub keyword_in : List ℕ → Option Keyword
+keyword_in [] = None
+keyword_in (first ∷ rest) = keyword_beginning first (first ∷ rest)
 
 abbrev pub name_with : ℕ → Option Keyword → Result TokenKind FaultKind
 name_with size (Some keyword) = Ok (K.Keyword keyword)

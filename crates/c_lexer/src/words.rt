@@ -3,7 +3,8 @@
 ghost use Rattle.std.specs.Prelude.{◌≡◌, ◌≤◌, ◌<◌, length, IfSome};
 ghost use Rattle.c_lexer.specs.Punctuators.{punctuator_text};
 ghost use Rattle.c_lexer.specs.Scanning.{first_punctuator, punctuators, punctuators_after_plus, punctuators_after_percent, word_at, first_keyword};
-ghost use Rattle.c_lexer.specs.Scanning.{keywords, keywords_after_double, keywords_after_int, keywords_after_static, keywords_after_while, name_with};
+ghost use Rattle.c_lexer.specs.Scanning.{keyword_beginning, keyword_if, keyword_in, keywords, name_with};
+ghost use Rattle.c_lexer.specs.Scanning.{keywords_in_c, keywords_in_d, keywords_in_e, keywords_in_f, keywords_in_i, keywords_in_r, keywords_in_s, keywords_in_u, keywords_in_v, keywords_in_underscore};
 ghost use Rattle.c_lexer.specs.Scanning.{token_of};
 
 use crate::characters::letter;
@@ -142,9 +143,153 @@ pub fn word_at(bytes: &[u8]) -> Option<(Shape, usize)>
     Some((Shape::Punctuator(punctuator), punctuator_length(punctuator)))
 }
 
-/// A keyword after `while`.
-fn keyword_after_while(word: &[u8]) -> Option<Keyword>
-    ensures { result ≡ first_keyword keywords_after_while word.now }
+/// The keyword, where the word is that text.
+fn keyword_if(word: &[u8], text: &[u8], keyword: Keyword) -> Option<Keyword>
+    ensures { result ≡ keyword_if word.now text.now keyword }
+{
+    if word == text { Some(keyword) } else { None }
+}
+
+/// A keyword that begins with `c`.
+fn keyword_in_c(word: &[u8]) -> Option<Keyword>
+    ensures { result ≡ first_keyword keywords_in_c word.now }
+{
+    if word == b"case".as_slice() {
+        Some(Keyword::Case)
+    } else if word == b"char".as_slice() {
+        Some(Keyword::Char)
+    } else if word == b"const".as_slice() {
+        Some(Keyword::Const)
+    } else if word == b"continue".as_slice() {
+        Some(Keyword::Continue)
+    } else {
+        None
+    }
+}
+
+/// A keyword that begins with `d`.
+fn keyword_in_d(word: &[u8]) -> Option<Keyword>
+    ensures { result ≡ first_keyword keywords_in_d word.now }
+{
+    if word == b"default".as_slice() {
+        Some(Keyword::Default)
+    } else if word == b"do".as_slice() {
+        Some(Keyword::Do)
+    } else if word == b"double".as_slice() {
+        Some(Keyword::Double)
+    } else {
+        None
+    }
+}
+
+/// A keyword that begins with `e`.
+fn keyword_in_e(word: &[u8]) -> Option<Keyword>
+    ensures { result ≡ first_keyword keywords_in_e word.now }
+{
+    if word == b"else".as_slice() {
+        Some(Keyword::Else)
+    } else if word == b"enum".as_slice() {
+        Some(Keyword::Enum)
+    } else if word == b"extern".as_slice() {
+        Some(Keyword::Extern)
+    } else {
+        None
+    }
+}
+
+/// A keyword that begins with `f`.
+fn keyword_in_f(word: &[u8]) -> Option<Keyword>
+    ensures { result ≡ first_keyword keywords_in_f word.now }
+{
+    if word == b"float".as_slice() {
+        Some(Keyword::Float)
+    } else if word == b"for".as_slice() {
+        Some(Keyword::For)
+    } else {
+        None
+    }
+}
+
+/// A keyword that begins with `i`.
+fn keyword_in_i(word: &[u8]) -> Option<Keyword>
+    ensures { result ≡ first_keyword keywords_in_i word.now }
+{
+    if word == b"if".as_slice() {
+        Some(Keyword::If)
+    } else if word == b"inline".as_slice() {
+        Some(Keyword::Inline)
+    } else if word == b"int".as_slice() {
+        Some(Keyword::Int)
+    } else {
+        None
+    }
+}
+
+/// A keyword that begins with `r`.
+fn keyword_in_r(word: &[u8]) -> Option<Keyword>
+    ensures { result ≡ first_keyword keywords_in_r word.now }
+{
+    if word == b"register".as_slice() {
+        Some(Keyword::Register)
+    } else if word == b"restrict".as_slice() {
+        Some(Keyword::Restrict)
+    } else if word == b"return".as_slice() {
+        Some(Keyword::Return)
+    } else {
+        None
+    }
+}
+
+/// A keyword that begins with `s`.
+fn keyword_in_s(word: &[u8]) -> Option<Keyword>
+    ensures { result ≡ first_keyword keywords_in_s word.now }
+{
+    if word == b"short".as_slice() {
+        Some(Keyword::Short)
+    } else if word == b"signed".as_slice() {
+        Some(Keyword::Signed)
+    } else if word == b"sizeof".as_slice() {
+        Some(Keyword::Sizeof)
+    } else if word == b"static".as_slice() {
+        Some(Keyword::Static)
+    } else if word == b"struct".as_slice() {
+        Some(Keyword::Struct)
+    } else if word == b"switch".as_slice() {
+        Some(Keyword::Switch)
+    } else {
+        None
+    }
+}
+
+/// A keyword that begins with `u`.
+fn keyword_in_u(word: &[u8]) -> Option<Keyword>
+    ensures { result ≡ first_keyword keywords_in_u word.now }
+{
+    if word == b"union".as_slice() {
+        Some(Keyword::Union)
+    } else if word == b"unsigned".as_slice() {
+        Some(Keyword::Unsigned)
+    } else {
+        None
+    }
+}
+
+/// A keyword that begins with `v`.
+fn keyword_in_v(word: &[u8]) -> Option<Keyword>
+    ensures { result ≡ first_keyword keywords_in_v word.now }
+{
+    if word == b"void".as_slice() {
+        Some(Keyword::Void)
+    } else if word == b"volatile".as_slice() {
+        Some(Keyword::Volatile)
+    } else {
+        None
+    }
+}
+
+/// A keyword that begins with `_`.
+fn keyword_in_underscore(word: &[u8]) -> Option<Keyword>
+    ensures { result ≡ first_keyword keywords_in_underscore word.now }
 {
     if word == b"_Bool".as_slice() {
         Some(Keyword::UnderscoreBool)
@@ -157,110 +302,43 @@ fn keyword_after_while(word: &[u8]) -> Option<Keyword>
     }
 }
 
-/// A keyword after `static`.
-fn keyword_after_static(word: &[u8]) -> Option<Keyword>
-    ensures { result ≡ first_keyword keywords_after_static word.now }
+/// The keyword that a name is, by its first byte.
+fn keyword_beginning(first: u8, word: &[u8]) -> Option<Keyword>
+    ensures { result ≡ keyword_beginning first word.now }
 {
-    if word == b"struct".as_slice() {
-        Some(Keyword::Struct)
-    } else if word == b"switch".as_slice() {
-        Some(Keyword::Switch)
-    } else if word == b"typedef".as_slice() {
-        Some(Keyword::Typedef)
-    } else if word == b"union".as_slice() {
-        Some(Keyword::Union)
-    } else if word == b"unsigned".as_slice() {
-        Some(Keyword::Unsigned)
-    } else if word == b"void".as_slice() {
-        Some(Keyword::Void)
-    } else if word == b"volatile".as_slice() {
-        Some(Keyword::Volatile)
-    } else if word == b"while".as_slice() {
-        Some(Keyword::While)
-    } else {
-        keyword_after_while(word)
-    }
-}
-
-/// A keyword after `int`.
-fn keyword_after_int(word: &[u8]) -> Option<Keyword>
-    ensures { result ≡ first_keyword keywords_after_int word.now }
-{
-    if word == b"long".as_slice() {
-        Some(Keyword::Long)
-    } else if word == b"register".as_slice() {
-        Some(Keyword::Register)
-    } else if word == b"restrict".as_slice() {
-        Some(Keyword::Restrict)
-    } else if word == b"return".as_slice() {
-        Some(Keyword::Return)
-    } else if word == b"short".as_slice() {
-        Some(Keyword::Short)
-    } else if word == b"signed".as_slice() {
-        Some(Keyword::Signed)
-    } else if word == b"sizeof".as_slice() {
-        Some(Keyword::Sizeof)
-    } else if word == b"static".as_slice() {
-        Some(Keyword::Static)
-    } else {
-        keyword_after_static(word)
-    }
-}
-
-/// A keyword after `double` in the order of the table.
-fn keyword_after_double(word: &[u8]) -> Option<Keyword>
-    ensures { result ≡ first_keyword keywords_after_double word.now }
-{
-    if word == b"else".as_slice() {
-        Some(Keyword::Else)
-    } else if word == b"enum".as_slice() {
-        Some(Keyword::Enum)
-    } else if word == b"extern".as_slice() {
-        Some(Keyword::Extern)
-    } else if word == b"float".as_slice() {
-        Some(Keyword::Float)
-    } else if word == b"for".as_slice() {
-        Some(Keyword::For)
-    } else if word == b"goto".as_slice() {
-        Some(Keyword::Goto)
-    } else if word == b"if".as_slice() {
-        Some(Keyword::If)
-    } else if word == b"inline".as_slice() {
-        Some(Keyword::Inline)
-    } else if word == b"int".as_slice() {
-        Some(Keyword::Int)
-    } else {
-        keyword_after_int(word)
+    match first {
+        b'a' => keyword_if(word, b"auto", Keyword::Auto),
+        b'b' => keyword_if(word, b"break", Keyword::Break),
+        b'c' => keyword_in_c(word),
+        b'd' => keyword_in_d(word),
+        b'e' => keyword_in_e(word),
+        b'f' => keyword_in_f(word),
+        b'g' => keyword_if(word, b"goto", Keyword::Goto),
+        b'i' => keyword_in_i(word),
+        b'l' => keyword_if(word, b"long", Keyword::Long),
+        b'r' => keyword_in_r(word),
+        b's' => keyword_in_s(word),
+        b't' => keyword_if(word, b"typedef", Keyword::Typedef),
+        b'u' => keyword_in_u(word),
+        b'v' => keyword_in_v(word),
+        b'w' => keyword_if(word, b"while", Keyword::While),
+        b'_' => keyword_in_underscore(word),
+        _ => None,
     }
 }
 
 /// The keyword that a name is.
+#[tactic(auto, unfolding(crate::specs::Scanning::keyword_in))]
 fn keyword_of(word: &[u8]) -> Option<Keyword>
-    ensures { result ≡ first_keyword keywords word.now }
+    ensures { result ≡ keyword_in word.now }
 {
-    if word == b"auto".as_slice() {
-        Some(Keyword::Auto)
-    } else if word == b"break".as_slice() {
-        Some(Keyword::Break)
-    } else if word == b"case".as_slice() {
-        Some(Keyword::Case)
-    } else if word == b"char".as_slice() {
-        Some(Keyword::Char)
-    } else if word == b"const".as_slice() {
-        Some(Keyword::Const)
-    } else if word == b"continue".as_slice() {
-        Some(Keyword::Continue)
-    } else if word == b"default".as_slice() {
-        Some(Keyword::Default)
-    } else if word == b"do".as_slice() {
-        Some(Keyword::Do)
-    } else if word == b"double".as_slice() {
-        Some(Keyword::Double)
-    } else {
-        keyword_after_double(word)
-    }
+    let [first, ..] = word else {
+        return None;
+    };
+    keyword_beginning(*first, word)
 }
 
+#[tactic(auto, using(crate::proofs::FirstLetters::keyword_is))]
 fn token_of_name(word: &[u8]) -> Result<TokenKind, FaultKind>
     ensures { result ≡ name_with (length word.now) (first_keyword keywords word.now) }
 {
