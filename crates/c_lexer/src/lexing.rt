@@ -8,6 +8,7 @@ ghost use Rattle.c_lexer.specs.Readings.{HaveOneReading};
 ghost use Rattle.c_lexer.specs.TokenTexts.{TokensHaveTexts};
 ghost use Rattle.c_lexer.specs.TokenPlaces.{TokensHavePlaces};
 
+use crate::characters::white;
 use crate::fault::{FaultKind, LexFault};
 use crate::part::PartKind;
 use crate::parts::{begins_line_after_part, part_at};
@@ -42,7 +43,7 @@ pub struct Step {
 }
 
 #[tactic(auto, unfolding(crate::specs::Scanning::step_at))]
-fn step_at(at: u32, begins_line: bool, text: &[u8]) -> Result<Step, FaultKind>
+fn step_over_part(at: u32, begins_line: bool, text: &[u8]) -> Result<Step, FaultKind>
     requires { at + length text.now ≤ 4194304 }
     ensures is { result ≡ step_at at begins_line text.now }
     ensures within { IfOk result (λ step. (0 < step.size) × (step.size ≤ length text.now)) }
@@ -54,6 +55,26 @@ fn step_at(at: u32, begins_line: bool, text: &[u8]) -> Result<Step, FaultKind>
         size,
         begins_line: begins_line_after_part(begins_line, kind, part),
     })
+}
+
+/// What the part at the front gives. White space is most parts, and each byte of it is one.
+#[tactic(auto, unfolding(crate::specs::Scanning::step_at, crate::specs::Scanning::part_at))]
+fn step_at(at: u32, begins_line: bool, text: &[u8]) -> Result<Step, FaultKind>
+    requires { at + length text.now ≤ 4194304 }
+    ensures is { result ≡ step_at at begins_line text.now }
+    ensures within { IfOk result (λ step. (0 < step.size) × (step.size ≤ length text.now)) }
+{
+    let [first, ..] = text else {
+        return Err(FaultKind::BadByte);
+    };
+    if white(*first) {
+        return Ok(Step {
+            found: None,
+            size: 1,
+            begins_line: begins_line || *first == b'\n',
+        });
+    }
+    step_over_part(at, begins_line, text)
 }
 
 fn add(tokens: &mut Vec<Token>, found: Option<Token>) -> Result<(), LexFault>
