@@ -5,5 +5,7 @@
 #![tactic(auto)]
 
 mod key_table;
+mod number_set;
 
 pub use key_table::KeyTable;
+pub use number_set::NumberSet;
