@@ -1,0 +1,3 @@
+mod InitialsInTime
+mod DeclaratorsInTime
+mod ItemsInTime
