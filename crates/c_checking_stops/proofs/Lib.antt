@@ -1,3 +1,5 @@
 mod InitialsInTime
 mod DeclaratorsInTime
 mod ItemsInTime
+mod UnreadFiles
+mod BehindItems
