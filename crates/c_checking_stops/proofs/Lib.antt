@@ -3,3 +3,5 @@ mod DeclaratorsInTime
 mod ItemsInTime
 mod UnreadFiles
 mod BehindItems
+mod FilesSoFar
+mod TextStops
