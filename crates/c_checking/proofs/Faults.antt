@@ -46,7 +46,7 @@ use Rattle.c_checking.proofs.Sound.{sound, sound_type, sound_one, sound_members,
 use Rattle.c_checking.proofs.FaultResults.{Makes, makes_left, makes_right, value_makes, reaches_then, reaches_outside, reached}
 use Rattle.c_checking.proofs.FaultResults.{Broken, same_fault, bound_err, with_file_err, beside_err, chosen_err, here, there, whole, later}
 use Rattle.c_checking.proofs.Adding.{Grows, makes_none, mention_before, mention_between, bound_adds}
-use Rattle.c_checking.proofs.Growth.{grow, grow_type, grow_base, grow_members, grow_declarators, grow_enumerators, grow_value, grow_steps}
+use Rattle.c_checking.proofs.Growth.{grow, grow_type, grow_base, grow_specifier, grow_members, grow_declarators, grow_enumerators, grow_value, grow_steps}
 use Rattle.c_checking.proofs.Growth.{grow_constant}
 use Rattle.c_checking.proofs.FaultNodes.{named_fault, signature_fault, argument_fault, call_fault, target_fault, sized_fault, cast_fault}
 use Rattle.c_checking.proofs.FaultDeclaring.{type_named_fault, unless_fault, definable_fault, enumeration_fault, int_fault, next_fault, length_fault}
