@@ -60,7 +60,7 @@ ready = record {
   steady = record { tagged = λ k r h. cc; fields = λ k j r x h. cc; objects = λ n t h. cc };
   orderly = record { tags_ascend = λ j k t u l a. cc; tags_numbered = λ k t h. cc; ends_ascend = λ j k a b l c. cc };
   locals_are = λ k t h. cc;
-  tags_stand = λ i j t h. cc;
+  tags_numbered = λ i j t h. cc;
   numbers_stand = λ i j name h. cc;
   begun = λ i j from h. cc;
   ascending = λ i j k a b l c. cc;

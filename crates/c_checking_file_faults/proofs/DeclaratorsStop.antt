@@ -14,7 +14,7 @@ use Rattle.c_erasure.specs.Files.{may_stand_in_file, IsFileDeclarator}
 use Rattle.c_erasure.specs.Literals.{literals_of_value}
 use Rattle.c_erasure.specs.Marks.{Mark, a_name, marks_of_declarator, marks_of_initial, marks_of_declarators, name_from, after_declarator, ends_in}
 use Rattle.c_erasure.specs.Marks.{scope_beginnings}
-use Rattle.c_erasure.specs.MentionPlaces.{spoken_of_declarator, spoken_by_value}
+use Rattle.c_erasure.specs.MentionPlaces.{spoken_of_declarator, spoken_by_value, spoken_of_declarators}
 use Rattle.c_erasure.specs.Scopes.{FileScope, AnObject}
 use Rattle.c_erasure.specs.Specifiers.{Storage}
 use Rattle.c_checking.specs.Files.{declarator_named, file_declarators}
@@ -88,8 +88,12 @@ module _ (untagged : ℕ → List ℕ) (types : List (List ℕ)) (nodes_at : ℕ
     pub places : List ℕ
     pub made : List ℕ
     pub later : List ℕ
+    pub marks_later : List Mark
+    pub said_later : List ℕ
     pub step : Stepped nodes_at marks types_said places made f (λ h. AreStopped h file words base all semicolon fault) middle
     pub places_are : places ++ later ≡ places_of_declarators all semicolon
+    pub marks_are : marks ++ marks_later ≡ marks_of_declarators untagged all semicolon
+    pub said_are : types_said ++ said_later ≡ spoken_of_declarators all semicolon
     pub reaches : Reaches (IsAmong later) middle false file
 
   -- what is asked of the file and of the declarators that are left
@@ -232,8 +236,12 @@ module _ (untagged : ℕ → List ℕ) (types : List (List ℕ)) (nodes_at : ℕ
           places = [];
           made = [];
           later = own ++ places_of_declarators more semicolon;
+          marks_later = marks_of_declarators untagged (d ∷ more) semicolon;
+          said_later = spoken_of_declarators (d ∷ more) semicolon;
           step = no_step nodes_at f (λ h. AreStopped h there.file words base (d ∷ more) semicolon fault) (λ h c. inl there.is);
           places_are = refl;
+          marks_are = refl;
+          said_are = refl;
           reaches = there.reaches;
         }
 
@@ -244,6 +252,8 @@ module _ (untagged : ℕ → List ℕ) (types : List (List ℕ)) (nodes_at : ℕ
         → (fault : Fault) → Stop m more fault → Stop f (d ∷ more) fault
     later_stops before f m d more x name s fault b =
         let place : first_declarator d.declarator x.from ≡ first_declarator d.declarator semicolon = first_named d.declarator x name x.from semicolon in
+        let own = marks_of_declarator untagged d.declarator ++ a_name (name_from d.value (after_declarator more semicolon)) ∷ marks_of_initial untagged d.value in
+        let said : List ℕ = first_declarator d.declarator x.from ∷ spoken_of_declarator d.declarator ++ spoken_by_value d.value in
         record {
           middle = b.middle;
           file = b.file;
@@ -254,10 +264,15 @@ module _ (untagged : ℕ → List ℕ) (types : List (List ℕ)) (nodes_at : ℕ
           places = (first_declarator d.declarator x.from ∷ literals_of_value d.value) ++ b.places;
           made = literals_of_value d.value ++ b.made;
           later = b.later;
+          marks_later = b.marks_later;
+          said_later = b.said_later;
           step = stepped_then nodes_at f m b.middle s b.step (λ i c e a q. inr (x, name, a, q));
           places_are = append_assoc (first_declarator d.declarator x.from ∷ literals_of_value d.value) b.places b.later
               ∙ ap (λ z. (first_declarator d.declarator x.from ∷ literals_of_value d.value) ++ z) b.places_are
               ∙ ap (λ p. (p ∷ literals_of_value d.value) ++ places_of_declarators more semicolon) place;
+          marks_are = append_assoc own b.marks b.marks_later ∙ ap (λ z. own ++ z) b.marks_are;
+          said_are = append_assoc said b.types_said b.said_later ∙ ap (λ z. said ++ z) b.said_are
+              ∙ ap (λ p. (p ∷ spoken_of_declarator d.declarator ++ spoken_by_value d.value) ++ spoken_of_declarators more semicolon) place;
           reaches = b.reaches;
         }
 

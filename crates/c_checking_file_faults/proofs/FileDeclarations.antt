@@ -1,6 +1,6 @@
 -- Where a declaration of the file scope stops, a rule is broken (C99 6.7, 6.9).
-use Rattle.std.proofs.Common.{◌≡◌, ℕ, ◌+◌, ◌<◌, Bool, true, false, refl, sym, ◌∙◌, subst, List, [], ◌∷◌, ◌++◌, length}
-use Rattle.std.proofs.Common.{append-nil, arith, inl, inr}
+use Rattle.std.proofs.Common.{◌≡◌, ℕ, ◌+◌, ◌<◌, Bool, true, false, refl, sym, ap, ◌∙◌, subst, List, [], ◌∷◌, ◌++◌, length}
+use Rattle.std.proofs.Common.{append-nil, append_assoc, arith, inl, inr}
 use Rattle.std.specs.Prelude.{◌⊎◌, Some, Err, slice_get, ◌&&◌, not}
 use Rattle.lay_base.specs.declared.faults.Rule.TheVariants as R
 use Rattle.c_types.specs.Types.{CType}
@@ -12,7 +12,7 @@ use Rattle.c_erasure.specs.BrokenStatements.{IsAmong}
 use Rattle.c_erasure.specs.Erasure.{IsBase, IsOne}
 use Rattle.c_erasure.specs.Files.{may_stand_in_file, declares_tag, DeclaresSomething}
 use Rattle.c_erasure.specs.Marks.{Mark, marks_of_specifiers, marks_of_declarators, ends_in, scope_beginnings}
-use Rattle.c_erasure.specs.MentionPlaces.{spoken_of_specifiers}
+use Rattle.c_erasure.specs.MentionPlaces.{spoken_of_specifiers, spoken_of_declaration}
 use Rattle.c_erasure.specs.Scopes.{FileScope, at_file_scope}
 use Rattle.c_erasure.specs.Specifiers.{storage_of}
 use Rattle.c_checking.specs.Declaring.{base_kind}
@@ -66,8 +66,12 @@ module _ (untagged : ℕ → List ℕ) (types : List (List ℕ)) (nodes_at : ℕ
     pub places : List ℕ
     pub made : List ℕ
     pub later : List ℕ
+    pub marks_later : List Mark
+    pub said_later : List ℕ
     pub step : Stepped nodes_at marks types_said places made f (λ h. IsStoppedDeclaration h file d fault) middle
     pub places_are : places ++ later ≡ places_of_declarators d.all d.semicolon
+    pub marks_are : marks ++ marks_later ≡ marks_of_specifiers untagged d.specs ++ marks_of_declarators untagged d.all d.semicolon
+    pub said_are : types_said ++ said_later ≡ spoken_of_declaration d
     pub reaches : Reaches (IsAmong later) middle false file
 
   -- what is asked of the file and of a declaration
@@ -88,8 +92,12 @@ module _ (untagged : ℕ → List ℕ) (types : List (List ℕ)) (nodes_at : ℕ
     places = [];
     made = [];
     later = places_of_declarators d.all d.semicolon;
+    marks_later = marks_of_specifiers untagged d.specs ++ marks_of_declarators untagged d.all d.semicolon;
+    said_later = spoken_of_declaration d;
     step = no_step nodes_at f (λ h. IsStoppedDeclaration h b.file d fault) (λ h c. inl b.is);
     places_are = refl;
+    marks_are = refl;
+    said_are = refl;
     reaches = b.reaches;
   }
 
@@ -153,8 +161,12 @@ module _ (untagged : ℕ → List ℕ) (types : List (List ℕ)) (nodes_at : ℕ
         places = stop.places;
         made = stop.made;
         later = stop.later;
+        marks_later = stop.marks_later;
+        said_later = stop.said_later;
         step = stepped_then nodes_at f b.1 stop.middle first stop.step (λ i c e a q. inr (b.0, a, q));
         places_are = stop.places_are;
+        marks_are = append_assoc u stop.marks stop.marks_later ∙ ap (λ z. u ++ z) stop.marks_are;
+        said_are = append_assoc (spoken_of_specifiers d.specs) stop.types_said stop.said_later ∙ ap (λ z. spoken_of_specifiers d.specs ++ z) stop.said_are;
         reaches = stop.reaches;
       })))
       (λ none h. at_once f d fault (stops_here bytes f Is (inl (same_fault FileScope (ill_typed R.Specifiers from) fault h, inl none))))

@@ -9,7 +9,8 @@ use Rattle.c_erasure.specs.BrokenFiles.{IsBrokenDefinition}
 use Rattle.c_erasure.specs.BrokenStatements.{IsAmong}
 use Rattle.c_erasure.specs.Declarators.{declared_name}
 use Rattle.c_erasure.specs.Literals.{made_by_items}
-use Rattle.c_erasure.specs.Marks.{Mark}
+use Rattle.c_erasure.specs.Marks.{Mark, marks_of_item}
+use Rattle.c_erasure.specs.MentionPlaces.{mentions_of_item}
 use Rattle.c_erasure.specs.Scopes.{FileScope}
 use Rattle.c_checking.specs.Files.{item_nodes, filed_item, filed, unread, annotated}
 use Rattle.c_checking_laws.proofs.FaultResults.{bound_err, Reaches}
@@ -37,8 +38,12 @@ module _ (untagged : ℕ → List ℕ) (types : List (List ℕ)) (nodes_at : ℕ
     pub places : List ℕ
     pub made : List ℕ
     pub later : List ℕ
+    pub marks_later : List Mark
+    pub said_later : List ℕ
     pub step : Stepped nodes_at marks types_said places made f (λ h. IsStoppedItem h file item fault) middle
     pub places_are : places ++ later ≡ places_of_item item
+    pub marks_are : marks ++ marks_later ≡ marks_of_item untagged item
+    pub said_are : types_said ++ said_later ≡ mentions_of_item item
     pub reaches : Reaches (IsAmong later) middle Rattle.std.specs.Prelude.false file
 
   -- what is asked of the file and of an item
@@ -62,8 +67,12 @@ module _ (untagged : ℕ → List ℕ) (types : List (List ℕ)) (nodes_at : ℕ
         places = [];
         made = [];
         later = first_declarator d left ∷ made_by_items items;
+        marks_later = marks_of_item untagged (Trees.defines specs d left items right);
+        said_later = mentions_of_item (Trees.defines specs d left items right);
         step = no_step nodes_at f (λ h. IsStoppedItem h there.file (Trees.defines specs d left items right) fault) (λ h c. there.is);
         places_are = refl;
+        marks_are = refl;
+        said_are = refl;
         reaches = there.reaches;
       }
 
@@ -77,8 +86,12 @@ module _ (untagged : ℕ → List ℕ) (types : List (List ℕ)) (nodes_at : ℕ
     places = b.places;
     made = b.made;
     later = b.later;
+    marks_later = b.marks_later;
+    said_later = b.said_later;
     step = b.step;
     places_are = b.places_are;
+    marks_are = b.marks_are;
+    said_are = b.said_are;
     reaches = b.reaches;
   }
 

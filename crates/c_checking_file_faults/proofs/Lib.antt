@@ -1,14 +1,14 @@
-mod Tests
-mod Behind
+pub mod Tests
+pub mod Behind
 mod DeclaratorStops
-mod ObjectStops
+pub mod ObjectStops
 mod WholeDeclarators
 mod OwnFunctions
-mod DeclaratorsStop
-mod FileDeclarations
-mod ItemStops
-mod OwnItems
+pub mod DeclaratorsStop
+pub mod FileDeclarations
+pub mod ItemStops
+pub mod OwnItems
 mod Parameters
-mod DefinitionStops
+pub mod DefinitionStops
 mod WholeDefinitions
 mod OwnDefinitions

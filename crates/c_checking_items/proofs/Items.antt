@@ -133,7 +133,7 @@ module _ (untagged : ℕ → List ℕ) (nodes_at : ℕ → ℕ) where
     pub step : Stepped nodes_at (marks_of_file untagged items) (mentions_of_file items) (places_in items) (made_by_file items) f
         (λ h. All (ErasesItem h) items) g
 
-  first_may : (types : List (List ℕ)) (f : FileScope) (item : Trees.Item) (more : List Trees.Item) (at in_scope : ℕ)
+  pub first_may : (types : List (List ℕ)) (f : FileScope) (item : Trees.Item) (more : List Trees.Item) (at in_scope : ℕ)
       → MayFileAll types f (item ∷ more) at in_scope → MayFile types f item at in_scope
   first_may types f item more at in_scope may = record {
     same = may.same;
@@ -153,7 +153,7 @@ module _ (untagged : ℕ → List ℕ) (nodes_at : ℕ → ℕ) where
       → slice_get (scope_beginnings (marks_of_item untagged item)) k ≡ Some p → p < to
   beginnings_below item to h k p e = let m = Rattle.c_checking_items.proofs.Beginnings.beginning_is_name untagged item k p e in h m.0 p m.1
 
-  others_may : (types : List (List ℕ)) (before : List ℕ) (f : FileScope) (item : Trees.Item) (more : List Trees.Item) (at in_scope : ℕ)
+  pub others_may : (types : List (List ℕ)) (before : List ℕ) (f : FileScope) (item : Trees.Item) (more : List Trees.Item) (at in_scope : ℕ)
       → MayFileAll types f (item ∷ more) at in_scope → (g : FileScope) → IsFiled f item g → IsKnown nodes_at before none_new none_new f
       → (at : ℕ) × (in_scope : ℕ) × MayFileAll (types_after types item) g more at in_scope
   others_may types before f item more at in_scope may g filed k =
@@ -199,7 +199,7 @@ module _ (untagged : ℕ → List ℕ) (nodes_at : ℕ → ℕ) where
       let t = (later (before ++ made_by_file_item item) o.0 o.1 o.2 (s.step.known before k)).step in
       record { step = stepped_then nodes_at f m g s.step t (λ i c e a b. All-cons (ErasesItem i) item more a b) }
 
-  split : (item : Trees.Item) (more : List Trees.Item) (f g : FileScope) → filed (item ∷ more) f ≡ Ok g
+  pub split : (item : Trees.Item) (more : List Trees.Item) (f g : FileScope) → filed (item ∷ more) f ≡ Ok g
       → (m : FileScope) × (filed_item item f ≡ Ok m) × (filed more m ≡ Ok g)
   unfolding filed
   split item more f g h = bound_ok (filed_item item f) _ g h

@@ -41,7 +41,7 @@ pub record AreFitItems (untagged : ℕ → List ℕ) (items : List Trees.Item) :
   pub spelled : (k : ℕ) (t : Tag) → slice_get (tags_in (marks_of_file untagged items)) k ≡ Some t → t.is_enumeration ≡ true → (at : ℕ)
       → t.name ≢ untagged at
 
-ascending_at : (all : List ℕ) → AreAscending all → (j k a b : ℕ) → j < k → slice_get all j ≡ Some a → slice_get all k ≡ Some b → a < b
+pub ascending_at : (all : List ℕ) → AreAscending all → (j k a b : ℕ) → j < k → slice_get all j ≡ Some a → slice_get all k ≡ Some b → a < b
 ascending_at [] h j k a b l e f = cc
 ascending_at (p ∷ all) h j zero a b l e f = absurd (omega (arith, l))
 ascending_at (p ∷ all) h zero (suc k) a b l e f = let same : p ≡ a = cc in subst (λ a. a < b) same (all_at (λ m. p < m) all h.0 k b f)
@@ -52,7 +52,7 @@ map_there v [] k x e = cc
 map_there v (y ∷ xs) zero x e = let same : y ≡ x = cc in ap (λ x. Some (v x)) same
 map_there v (y ∷ xs) (suc k) x e = map_there v xs k x e
 
-nothing_known : (nodes : ℕ → ℕ) (file : ℕ) (untagged : ℕ → List ℕ) (items : List Trees.Item)
+pub nothing_known : (nodes : ℕ → ℕ) (file : ℕ) (untagged : ℕ → List ℕ) (items : List Trees.Item)
     → IsKnown nodes [] none_new none_new (unread file untagged items)
 nothing_known nodes file untagged items = record {
   fits = tt;
@@ -70,7 +70,7 @@ module _ (file : ℕ) (untagged : ℕ → List ℕ) (items : List Trees.Item) (f
   abbrev start : FileScope
   start = unread file untagged items
 
-  start_may : MayFileAll untagged (nodes_at items) [] start items 0 0
+  pub start_may : MayFileAll untagged (nodes_at items) [] start items 0 0
   start_may = record {
     same = refl;
     formed = fit.formed;

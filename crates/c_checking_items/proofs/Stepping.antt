@@ -32,7 +32,7 @@ use Rattle.c_checking_files.proofs.Scoped.{KeepsConstants, IsMadeTyped, literal_
 use Rattle.c_checking_items.proofs.Known.{IsKnown, none_new}
 use Rattle.c_checking_items.proofs.Making.{finding_known}
 
-defined_append : (u v : List Mark) → defined_in (u ++ v) ≡ defined_in u ++ defined_in v
+pub defined_append : (u v : List Mark) → defined_in (u ++ v) ≡ defined_in u ++ defined_in v
 defined_append [] v = refl
 defined_append (a_tag t ∷ u) v = defined_append u v
 defined_append (an_end tag right ∷ u) v = ap (λ z. tag ∷ z) (defined_append u v)

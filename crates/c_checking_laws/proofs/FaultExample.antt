@@ -73,7 +73,7 @@ ready = record {
     ends_ascend = λ j k a b l c d. let p = one_alone 22 j a c in let q = one_alone 22 k b d in absurd (omega (arith, l, p, q));
   };
   locals_are = λ k t h. cc;
-  tags_stand = λ i j t h. (j, h);
+  tags_numbered = λ i j t h e. let p : tag ≡ t = same_tag j t h in (0, numbered t p);
   numbers_stand = λ i j name h. from_none (λ k. slice_get (codes "s" ∷ []) k ≡ Some name) j h;
   begun = λ i j from h. cc;
   ascending = λ i j k a b l c. cc;

@@ -18,6 +18,7 @@ use Rattle.c_erasure.specs.Marks.{Mark, a_tag, an_end, a_name, marks, marks_of_t
 use Rattle.c_erasure.specs.Marks.{marks_of_member_declarators, marks_of_value, marks_of_declarator, tags_in, defined_in, scope_beginnings}
 use Rattle.c_erasure.specs.Noted.{Thing, an_object, a_value, a_function, a_function_at, a_library_function}
 use Rattle.c_erasure.specs.Scopes.{Bound, ALocal, Tag, FileScope, Scope, ended, declared}
+use Rattle.c_checking.specs.Declaring.{number_among}
 use Rattle.c_checking_laws.proofs.Extends.{Extends, kept, behind}
 use Rattle.c_checking_laws.proofs.Agreement as Agreement
 use Rattle.c_checking_laws.proofs.Agreement.{IsObjectType, IsSteady, AreBegun, AreBefore, IsReady, IsGrown, added, beginnings_append, none_grown}
@@ -132,8 +133,9 @@ module _ (untagged : ℕ → List ℕ) (ends : List ℕ) where
     pub steady : IsSteady f
     pub orderly : IsOrderly f
     pub locals_are : (k : ℕ) (t : CType) → slice_get (map (λ l. l.ty) locals) k ≡ Some t → IsObjectType t
-    -- the tags of the part are among those of the file, and of those that it defines each has the number in whose turn it ends
-    pub tags_stand : is_inside ≡ false → (j : ℕ) (t : Tag) → slice_get (tags_in all) j ≡ Some t → (k : ℕ) × (slice_get f.tags k ≡ Some t)
+    -- each structure that a tag of the part names has a number, and of those that it defines each has that in whose turn it ends
+    pub tags_numbered : is_inside ≡ false → (j : ℕ) (t : Tag) → slice_get (tags_in all) j ≡ Some t → t.is_enumeration ≡ false
+        → (r : ℕ) × (number_among f.numbered t.name ≡ Some r)
     pub numbers_stand : is_inside ≡ false → (j : ℕ) (tag : List ℕ) → slice_get (defined_in all) j ≡ Some tag
         → slice_get f.numbered (length f.records + j) ≡ Some tag
     -- names begin to be in scope one after the other
@@ -170,7 +172,7 @@ module _ (untagged : ℕ → List ℕ) (ends : List ℕ) where
     steady = p.steady;
     orderly = p.orderly;
     locals_are = p.locals_are;
-    tags_stand = λ i j t h. p.tags_stand i j t (rw (tags_append u v) (kept (tags_in u) (tags_in v) j t h));
+    tags_numbered = λ i j t h. p.tags_numbered i j t (rw (tags_append u v) (kept (tags_in u) (tags_in v) j t h));
     numbers_stand = λ i j tag h. p.numbers_stand i j tag (rw (defined_append u v) (kept (defined_in u) (defined_in v) j tag h));
     begun = λ i j from h. p.begun i j from (rw (beginnings_append u v) (kept (scope_beginnings u) (scope_beginnings v) j from h));
     ascending = λ i j k a b l d e. p.ascending i j k a b l
@@ -192,10 +194,10 @@ module _ (untagged : ℕ → List ℕ) (ends : List ℕ) where
     steady = w.steady p.steady;
     orderly = orderly_stays w.extends p.orderly;
     locals_are = p.locals_are;
-    tags_stand = λ e j t h.
+    tags_numbered = λ e j t h i.
         let n : ℕ = length (tags_in u) + j in
-        let k = p.tags_stand e n t (rw (tags_append u v) (behind (tags_in u) (tags_in v) j n t refl h)) in
-        (k.0, subst (λ all. slice_get all k.0 ≡ Some t) (sym w.extends.tags) k.1);
+        subst (λ all. (r : ℕ) × (number_among all t.name ≡ Some r)) (sym w.extends.numbered)
+        (p.tags_numbered e n t (rw (tags_append u v) (behind (tags_in u) (tags_in v) j n t refl h)) i);
     numbers_stand = λ e j tag h.
         let n : ℕ = length (defined_in u) + j in
         let k = p.numbers_stand e n tag (rw (defined_append u v) (behind (defined_in u) (defined_in v) j n tag refl h)) in
@@ -226,7 +228,7 @@ module _ (untagged : ℕ → List ℕ) (ends : List ℕ) where
     steady = s;
     orderly = o;
     locals_are = l;
-    tags_stand = λ e j t h. cc;
+    tags_numbered = λ e j t h k. cc;
     numbers_stand = λ e j tag h. cc;
     begun = λ e j from h. cc;
     ascending = λ e j k a b l c d. cc;

@@ -67,8 +67,7 @@ module _ (untagged : ℕ → List ℕ) (ends : List ℕ) (May : ℕ → Type 0) 
       → with_file s.file (tagged_in s at x) ≡ Err f → Broken May s (λ s. IsBrokenSpecifier (Trees.struct_named at x) s f)
   struct_named_stops s at x p f h =
       here May s (λ s. IsBrokenSpecifier (Trees.struct_named at x) s f)
-      (tagged_fault s at x p.orderly
-      (λ i. let k = p.tags_stand i 0 _ refl in p.orderly.tags_numbered k.0 _ k.1 refl) f (with_file_err s.file (tagged_in s at x) f h))
+      (tagged_fault s at x p.orderly (λ i. p.tags_numbered i 0 _ refl refl) f (with_file_err s.file (tagged_in s at x) f h))
 
   pub enum_named_stops : (s : Scope) (at : ℕ) (x : Spelling) → Prepared untagged ends s [] → (f : Fault)
       → with_file s.file (enumerated_in s.file x) ≡ Err f → Broken May s (λ s. IsBrokenSpecifier (Trees.enum_named at x) s f)
