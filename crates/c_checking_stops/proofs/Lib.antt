@@ -1,7 +1,7 @@
-mod InitialsInTime
-mod DeclaratorsInTime
-mod ItemsInTime
-mod UnreadFiles
-mod BehindItems
-mod FilesSoFar
-mod TextStops
+pub mod InitialsInTime
+pub mod DeclaratorsInTime
+pub mod ItemsInTime
+pub mod UnreadFiles
+pub mod BehindItems
+pub mod FilesSoFar
+pub mod TextStops
