@@ -1,7 +1,6 @@
 //! The labels of a `switch` (C99 6.8.4.2).
 
-ghost use Rattle.std.specs.Prelude.{◌≡◌, ◌∷◌, [], ◌==◌, map};
-ghost use Rattle.std.specs.List.{list_any};
+ghost use Rattle.std.specs.Prelude.{◌≡◌, ◌∷◌, [], map};
 ghost use Rattle.c_erasure.specs.BrokenStatements.{no_labels};
 ghost use Rattle.c_ast.specs.Views.{label_of};
 ghost use Rattle.c_checking.specs.Statements.{labels_in as labels_in_switch, with_case, with_default};
@@ -17,12 +16,13 @@ use c_scopes::{FileScope, Scope};
 use c_typed::as_kind;
 use c_types::IntKind;
 use lay_base::{List, Rule, add};
+use numbering::NumberSet;
 use std::alloc::Global;
 
 /// The labels of a `switch` up to some item: the values of `case` labels, and how often `default` stands there.
 #[derive(Drop)]
 pub struct SwitchLabels {
-    pub cases: List<u32>,
+    pub cases: NumberSet,
     pub defaults: u32,
 }
 
@@ -38,15 +38,9 @@ pub fn no_labels(alloc: Global) -> SwitchLabels
     ensures { switch_labels_of result ≡ no_labels }
 {
     SwitchLabels {
-        cases: List::new(alloc),
+        cases: NumberSet::new(alloc),
         defaults: 0,
     }
-}
-
-fn stands_among(cases: &[u32], v: u32) -> bool
-    ensures { result ≡ list_any (λ w. w == v) cases.now }
-{
-    cases.iter().any(|w| *w == v)
 }
 
 /// A `case` label, which differs from those before. It stands at `at`.
@@ -54,10 +48,10 @@ fn stands_among(cases: &[u32], v: u32) -> bool
 fn with_case(at: u32, all: &mut SwitchLabels, v: u32) -> Result<(), Fault>
     ensures { Gives (λ done. switch_labels_of all.new) result (with_case at (switch_labels_of all.old) v) }
 {
-    if stands_among(all.cases.as_slice(), v) {
+    if all.cases.contains(v) {
         return Err(Fault::IllTyped(Rule::Label, at));
     }
-    match add(&mut all.cases, v) {
+    match all.cases.add(v) {
         Ok(()) => Ok(()),
         Err(_) => Err(Fault::Memory),
     }
