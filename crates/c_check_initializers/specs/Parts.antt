@@ -1,15 +1,14 @@
 -- What is found of an initializer, part after part.
-use Rattle.std.specs.Prelude.{ℕ, ◌&&◌, Bool, true, false, List, [], ◌∷◌, ◌++◌, Option, Some, None, Ok}
+use Rattle.std.specs.Prelude.{ℕ, Bool, true, false, List, [], ◌∷◌, ◌++◌, Option, Some, None, Ok}
 use Rattle.c_types.specs.Types.{CType, Field}
 use Rattle.c_types.specs.declared.ty.Ty.{Ty}
 use Rattle.c_types.specs.Views.{type_of}
 use Rattle.c_ast.specs.declared.words.Spelling.{Spelling}
 use Rattle.c_ast.specs.Places.{first}
 use Rattle.c_ast.specs.Trees
-use Rattle.c_typed.specs.Conversions.{is_integer}
-use Rattle.c_typed.specs.Trees.{Initializer, PartValue, parts, text, value, whole, whole_record}
+use Rattle.c_typed.specs.Trees.{PartValue, text}
 use Rattle.c_erasure.specs.Initializers.{Part}
-use Rattle.c_erasure.specs.Noted.{Noted, Thing, type_of as type_of_value}
+use Rattle.c_erasure.specs.Noted.{Noted, Thing}
 use Rattle.c_erasure.specs.Scopes.{Scope}
 use Rattle.lay_base.specs.declared.faults.Rule.TheVariants as R
 use Rattle.c_annotated.specs.declared.statement.InitializerPart.{InitializerPart}
@@ -57,17 +56,3 @@ texts_among all = None
 abbrev pub value_alone : Trees.Expression → Scope → CType → (at : ℕ) → Checked (List Part)
 value_alone (Trees.braces inner all last right) s t at = refused R.Init inner
 value_alone a s t at = without_braces (first a) at t None s.file (find a s)
-
--- what is a constant or none whatever objects there are: a number, a text, a record
-abbrev pub is_plain_value : PartValue Noted → Bool
-is_plain_value (value x) = is_integer (type_of_value x)
-is_plain_value v = true
-
-abbrev pub are_plain : List Part → Bool
-are_plain [] = true
-are_plain (part ∷ more) = is_plain_value part.value && are_plain more
-
-abbrev pub is_plain : Initializer Noted → Bool
-is_plain (whole x) = is_integer (type_of_value x)
-is_plain (whole_record p) = true
-is_plain (parts all) = are_plain all

@@ -126,7 +126,7 @@ pub fn constants_if_any(
         Some(value) => {
             let a = value.value.get();
             let initial = initializer(alloc, a, file, scope, t)?;
-            constants(alloc, file, scope, first_of_expression(a), initial)
+            constants(file, scope, first_of_expression(a), initial)
         }
     }
 }

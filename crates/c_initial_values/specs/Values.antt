@@ -1,7 +1,6 @@
 -- What the values of the program stand for, and what is declared where an initializer stands.
 use Rattle.std.specs.Prelude.{false, List, [], map, Option, Some, None, if◌then◌else◌}
 use Rattle.c_types.specs.declared.record.Record.{Record}
-use Rattle.c_types.specs.declared.ty.Ty.{Ty}
 use Rattle.c_types.specs.Types.{CType}
 use Rattle.c_types.specs.Views.{records_of, type_of}
 use Rattle.c_typed.specs.InitialValues.{Address as AnAddress, InitialValue, a_function, a_null, a_number, an_address}
@@ -10,6 +9,7 @@ use Rattle.c_typed.specs.Trees as Trees
 use Rattle.c_typed.specs.Typed.{Declared}
 use Rattle.c_annotated.specs.FileViews.{mention_of}
 use Rattle.c_annotated.specs.declared.file.Mention.{Mention}
+use Rattle.c_annotated.specs.declared.file.Object.{Object}
 use Rattle.c_erasure.specs.Scopes.{AMention, AnObject, FileScope, at_file_scope, declared}
 use Rattle.c_erasure.specs.Units.{Stores}
 use Rattle.c_initial_values.specs.declared.address.Address.{Address}
@@ -40,22 +40,22 @@ abbrev pub object_with : CType → AnObject
 object_with t = record { name = []; place = record { file = 0; at = 0 }; first = 0; ty = t; is_linked = false; literal = None; initial = None }
 
 -- a file of which no more is known than records and the types of objects: of nothing else do values depend
-abbrev pub scope_with : List Record → List Ty → FileScope
-scope_with records types = record {
+abbrev pub scope_with : List Record → List Object → FileScope
+scope_with records objects = record {
   file = 0;
   names = [];
   tags = [];
   records = records_of records;
   ends = [];
   numbered = [];
-  objects = map object_with (map type_of types);
+  objects = map object_with (map (λ o. type_of o.ty) objects);
   functions = [];
   mentions = [];
   untagged = λ at. [];
 }
 
-abbrev pub declared_by : List Record → List Ty → Declared
-declared_by records types = declared (at_file_scope (scope_with records types))
+abbrev pub declared_by : List Record → List Object → Declared
+declared_by records objects = declared (at_file_scope (scope_with records objects))
 
 -- the value of an expression whose type is no integer type
 abbrev pub pointer_value : Declared → Trees.Expression CType → Option InitialValue

@@ -11,6 +11,7 @@ ghost use Rattle.c_types.specs.Types.{array};
 ghost use Rattle.c_types.specs.Views.{type_of};
 
 use crate::sizes::{object_size, size};
+use c_annotated::Object;
 use c_typed::{Constant, PointerOp, is_signed};
 use c_types::{Records, Ty};
 use lay_base::NoMemory;
@@ -51,7 +52,7 @@ fn number_of(t: &Ty, v: u32) -> i64
 /// The byte of an object at an offset.
 fn within(
     records: &Records,
-    objects: &[Ty],
+    objects: &[Object],
     n: u32,
     offset: i64,
 ) -> Result<Option<Address>, NoMemory>
@@ -71,7 +72,7 @@ fn within(
 /// So many elements further on in the object.
 pub fn moved(
     records: &Records,
-    objects: &[Ty],
+    objects: &[Object],
     a: Option<Address>,
     k: Option<i64>,
     size: u32,
@@ -91,7 +92,7 @@ pub fn moved(
 /// So many elements further on or back in the object.
 pub fn moved_by(
     records: &Records,
-    objects: &[Ty],
+    objects: &[Object],
     op: PointerOp,
     a: Option<Address>,
     k: Option<i64>,
@@ -112,7 +113,7 @@ pub fn moved_by(
 /// An element of an array, or its end.
 pub fn subscripted(
     records: &Records,
-    objects: &[Ty],
+    objects: &[Object],
     t: &Ty,
     a: Option<Address>,
     k: Option<i64>,
@@ -128,7 +129,7 @@ pub fn subscripted(
 /// An element of an array of that length, or its end.
 fn element_at(
     records: &Records,
-    objects: &[Ty],
+    objects: &[Object],
     element: &Ty,
     length: u32,
     a: Option<Address>,

@@ -7,6 +7,7 @@ ghost use Rattle.c_types.specs.Types.{void};
 ghost use Rattle.c_types.specs.Views.{records_of, type_of};
 ghost use Rattle.c_typed.specs.InitialValues.{element_size};
 
+use c_annotated::Object;
 use c_types::{Records, Ty, checked_size_of, offset_of};
 
 /// The size of a type, where it does not pass what a type may have. What is no object has the size 0.
@@ -33,13 +34,13 @@ pub fn element_size(records: &Records, t: &Ty) -> Option<u32>
 
 /// The size of an object by its number.
 #[tactic(auto, using(crate::proofs::Objects::known, crate::proofs::Objects::unknown))]
-pub fn object_size(records: &Records, objects: &[Ty], number: u32) -> Option<u32>
+pub fn object_size(records: &Records, objects: &[Object], number: u32) -> Option<u32>
     ensures { IfSome result (λ n. n ≡ size_of (records_of records.now) (get_or (declared_by records.now objects.now).objects number void)) }
 {
     if number as usize >= objects.len() {
         return Some(0);
     }
-    size(records, &objects[number as usize])
+    size(records, &objects[number as usize].ty)
 }
 
 /// Where a field begins, of those that there are.

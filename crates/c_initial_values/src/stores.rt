@@ -9,7 +9,7 @@ ghost use Rattle.c_typed.specs.Mapped.{mapped_initializer, mapped_part, mapped_v
 ghost use Rattle.c_types.specs.Views.{type_of};
 
 use crate::values::{Value, initial_value};
-use c_annotated::{Expression, Initializer, InitializerPart, PartValue};
+use c_annotated::{Expression, Initializer, InitializerPart, Object, PartValue};
 use c_types::{IntKind, Records, Ty, copy};
 use lay_base::{List, NoMemory, add};
 use std::alloc::Global;
@@ -33,7 +33,7 @@ fn add_value(
     alloc: Global,
     found: &mut List<Store>,
     records: &Records,
-    objects: &[Ty],
+    objects: &[Object],
     offset: u32,
     e: &Expression,
 ) -> Result<(), NoMemory>
@@ -65,7 +65,7 @@ fn add_part(
     alloc: Global,
     found: &mut List<Store>,
     records: &Records,
-    objects: &[Ty],
+    objects: &[Object],
     part: &InitializerPart,
 ) -> Result<(), NoMemory>
     ensures { OnOk result (stores_in found.new
@@ -82,7 +82,7 @@ fn add_parts(
     alloc: Global,
     found: &mut List<Store>,
     records: &Records,
-    objects: &[Ty],
+    objects: &[Object],
     all: &[InitializerPart],
 ) -> Result<(), NoMemory>
     ensures { OnOk result (stores_in found.new
@@ -98,7 +98,7 @@ fn add_initial(
     alloc: Global,
     found: &mut List<Store>,
     records: &Records,
-    objects: &[Ty],
+    objects: &[Object],
     initial: &Initializer,
 ) -> Result<(), NoMemory>
     ensures { OnOk result (stores_in found.new
@@ -111,12 +111,12 @@ fn add_initial(
     }
 }
 
-/// What an initializer of a file with those records and types of objects stores, whose allocations and null pointers are recognised.
+/// What an initializer of a file with those records and objects of those types stores, whose allocations and null pointers are recognised.
 #[tactic(auto, using(crate::proofs::Nothing::nothing_stored))]
 pub fn stores_of(
     alloc: Global,
     records: &Records,
-    objects: &[Ty],
+    objects: &[Object],
     initial: &Initializer,
 ) -> Result<List<Store>, NoMemory>
     ensures { IfOk result (λ found. stores_in found

@@ -10,7 +10,7 @@ ghost use Rattle.c_initial_values.specs.Values.{address_of, declared_by, pointer
 
 use crate::address::{Address, moved, moved_by, number_in, subscripted};
 use crate::sizes::{element_size, field_offset};
-use c_annotated::{Expression, ExpressionNode, Path, PathNode, constant_of, is_null};
+use c_annotated::{Expression, ExpressionNode, Object, Path, PathNode, constant_of, is_null};
 use c_typed::{Constant, is_pointer};
 use c_types::{IntKind, Records, Ty};
 use lay_base::NoMemory;
@@ -30,7 +30,7 @@ pub enum Value {
 fn address_in(
     e: &Expression,
     records: &Records,
-    objects: &[Ty],
+    objects: &[Object],
 ) -> Result<Option<Address>, NoMemory>
     ensures { IfOk result (λ a. option_map address_of a ≡ address_in (declared_by records.now objects.now) (typed (expression_of e.now))) }
 {
@@ -63,7 +63,11 @@ fn address_in(
 
 /// The address of what a path leads to.
 #[cycle(addresses)]
-fn address_of_path(p: &Path, records: &Records, objects: &[Ty]) -> Result<Option<Address>, NoMemory>
+fn address_of_path(
+    p: &Path,
+    records: &Records,
+    objects: &[Object],
+) -> Result<Option<Address>, NoMemory>
     ensures { IfOk result (λ a. option_map address_of a
         ≡ address_of_path (declared_by records.now objects.now) (mapped_path (of_types (λ t. t.ty)) (path_of p.now))) }
 {
@@ -127,7 +131,7 @@ fn is_null_in(e: &Expression) -> bool
 #[tactic(auto, using(crate::proofs::Alike::null_anywhere, crate::proofs::Alike::function_anywhere))]
 fn pointer_value(
     records: &Records,
-    objects: &[Ty],
+    objects: &[Object],
     e: &Expression,
 ) -> Result<Option<Value>, NoMemory>
     ensures { IfOk result (λ v. option_map value_of v ≡ pointer_value (declared_by records.now objects.now) (typed (expression_of e.now))) }
@@ -147,7 +151,7 @@ fn pointer_value(
 /// The value of a constant expression in an initializer of a file with those records and objects; none of any other expression.
 pub fn initial_value(
     records: &Records,
-    objects: &[Ty],
+    objects: &[Object],
     e: &Expression,
 ) -> Result<Option<Value>, NoMemory>
     ensures { IfOk result (λ v. option_map value_of v ≡ initial_value (declared_by records.now objects.now) (typed (expression_of e.now))) }

@@ -28,31 +28,46 @@ pub struct Valued {
     pub initial: Option<List<Store>>,
 }
 
-/// Copies of the types of the objects.
-fn types_of(alloc: Global, objects: &[Object]) -> Result<List<Ty>, NoMemory>
-    ensures { IfOk result (λ r. map type_of r ≡ map (λ o. o.ty) (map object_of objects.now)) }
+/// An object of that type, of which no more is known.
+fn object_with(alloc: Global, t: &Ty) -> Result<Object, NoMemory>
+    ensures { IfOk result (λ o. o.ty ≡ t.now) }
 {
-    let mut types = List::new(alloc);
+    Ok(Object {
+        name: Name::of(Vec::new(alloc)),
+        place: Place { file: 0, at: 0 },
+        first: 0,
+        ty: copy(alloc, t)?,
+        is_linked: false,
+        literal: None,
+        initial: None,
+    })
+}
+
+/// Objects of the types of those, of which no more is known.
+fn objects_with(alloc: Global, objects: &[Object]) -> Result<List<Object>, NoMemory>
+    ensures { IfOk result (λ r. map (λ o. type_of o.ty) r ≡ map (λ o. o.ty) (map object_of objects.now)) }
+{
+    let mut known = List::new(alloc);
     for o in objects {
-        add(&mut types, copy(alloc, &o.ty)?)?;
+        add(&mut known, object_with(alloc, &o.ty)?)?;
     }
-    Ok(types)
+    Ok(known)
 }
 
 /// The values of an initializer, which is let go.
 fn stores_in(
     alloc: Global,
     records: &Records,
-    types: &[Ty],
+    known: &[Object],
     initial: Option<Initializer>,
 ) -> Result<Option<List<Store>>, NoMemory>
     ensures { IfOk result (λ r. option_map stores_in r
-        ≡ option_map (λ i. of_initializer (scope_with records.now types.now) (mapped_initializer (of_types (λ t. t.ty)) i)) (option_map initializer_of initial)) }
+        ≡ option_map (λ i. of_initializer (scope_with records.now known.now) (mapped_initializer (of_types (λ t. t.ty)) i)) (option_map initializer_of initial)) }
 {
     match initial {
         None => Ok(None),
         Some(initial) => {
-            let stores = stores_of(alloc, records, types, &initial)?;
+            let stores = stores_of(alloc, records, known, &initial)?;
             Ok(Some(stores))
         }
     }
@@ -61,10 +76,10 @@ fn stores_in(
 fn with_values(
     alloc: Global,
     records: &Records,
-    types: &[Ty],
+    known: &[Object],
     o: Object,
 ) -> Result<Valued, NoMemory>
-    ensures { IfOk result (λ r. valued_of r ≡ valued (of_initializer (scope_with records.now types.now)) (object_of o)) }
+    ensures { IfOk result (λ r. valued_of r ≡ valued (of_initializer (scope_with records.now known.now)) (object_of o)) }
 {
     let Object {
         name,
@@ -76,7 +91,7 @@ fn with_values(
         ..
     } = o;
     let is_text = literal.is_some();
-    let initial = stores_in(alloc, records, types, initial)?;
+    let initial = stores_in(alloc, records, known, initial)?;
     Ok(Valued {
         name,
         place,
@@ -90,14 +105,14 @@ fn with_values(
 fn all_valued(
     alloc: Global,
     records: &Records,
-    types: &[Ty],
+    known: &[Object],
     all: List<Object>,
 ) -> Result<List<Valued>, NoMemory>
-    ensures { IfOk result (λ r. map valued_of r ≡ map (valued (of_initializer (scope_with records.now types.now))) (map object_of all)) }
+    ensures { IfOk result (λ r. map valued_of r ≡ map (valued (of_initializer (scope_with records.now known.now))) (map object_of all)) }
 {
     let mut done = List::new(alloc);
     for o in all.into_vec() {
-        let o = with_values(alloc, records, types, o)?;
+        let o = with_values(alloc, records, known, o)?;
         add(&mut done, o)?;
     }
     Ok(done)
@@ -112,6 +127,6 @@ pub fn valued_objects(
     ensures { (f : FileScope) → f.records ≡ records_of records.now → map (λ o. o.ty) f.objects ≡ map (λ o. o.ty) (map object_of all)
         → IfOk result (λ r. map valued_of r ≡ map (valued (of_initializer f)) (map object_of all)) }
 {
-    let types = types_of(alloc, all.as_slice())?;
-    all_valued(alloc, records, types.as_slice(), all)
+    let known = objects_with(alloc, all.as_slice())?;
+    all_valued(alloc, records, known.as_slice(), all)
 }

@@ -5,5 +5,5 @@ use Rattle.c_initial_values.specs.Values.{declared_by}
 use Rattle.c_check_initializers.proofs.constants.are_constant_parts.Given as goal
 
 abbrev pub invariant-loop-part : goal.invariant-loop-part
-invariant-loop-part l = are_constant_parts (declared_by l.records l.types) (map part_of l.all)
-    ≡ are_constant_parts (declared_by l.records l.types) (map part_of (drop l.part-index l.all))
+invariant-loop-part l = are_constant_parts (declared_by l.records l.objects) (map part_of l.all)
+    ≡ are_constant_parts (declared_by l.records l.objects) (map part_of (drop l.part-index l.all))

@@ -6,4 +6,4 @@ use Rattle.c_units.specs.ValuedObjects.{valued, valued_of}
 use Rattle.c_units.proofs.values.all_valued.Given as goal
 
 abbrev pub invariant-loop-o : goal.invariant-loop-o
-invariant-loop-o l = map valued_of l.done ≡ map (valued (of_initializer (scope_with l.records l.types))) (map object_of l.yielded)
+invariant-loop-o l = map valued_of l.done ≡ map (valued (of_initializer (scope_with l.records l.known))) (map object_of l.yielded)
