@@ -11,7 +11,7 @@ use Rattle.c_checking.proofs.Extends.{Extends, itself, further}
 use Rattle.c_checking.proofs.Agreement.{added, Grew}
 use Rattle.c_checking.proofs.Adding.{Grows, makes_none, value_measures, value_makes_none}
 use Rattle.c_checking.proofs.Within.{Additions, both, Within, within_nothing, within_all, within_left, within_then, within_tag, within_said}
-use Rattle.c_checking.proofs.Within.{within_measured, within_value, within_inside, picked_same}
+use Rattle.c_checking.proofs.Within.{within_measured, within_value, within_inside, ArePicked, picked_same}
 
 abbrev pub bad : (A : Type 0) → Fault → Answer A
 bad A f = Err f
@@ -130,17 +130,22 @@ reaches_then {May} {f} {g} {h} {i} p q = record {
 pub reaches_outside : {May : FileScope → Type 0} {f g : FileScope} (i : Bool) → Reaches May f true g → Reaches May f i g
 reaches_outside i p = record { extends = p.extends; counted = λ e. p.counted refl; allowed = p.allowed }
 
--- where a part of the text is read
-pub reached : (May : FileScope → Type 0) (s : Scope) {u v : List Mark} {x made : List ℕ} {g : FileScope} → Grew s u g → Grows s v x made g
-    → Allows May s (record { marks = v; said = x; made = made }) → Reaches May s.file s.is_inside g
-reached May s {u} {v} {x} {made} {g} p q m = record {
+-- where a part of the text is read, of whose literals some are made no objects
+pub reached_some : (May : FileScope → Type 0) (s : Scope) {u v : List Mark} {x made : List ℕ} {g : FileScope} (k : List ℕ) → Grew s u g
+    → Grows s v x made g → ArePicked made k → Allows May s (record { marks = v; said = x; made = k }) → Reaches May s.file s.is_inside g
+reached_some May s {u} {v} {x} {made} {g} k p q picked m = record {
   extends = p.extends;
   counted = λ i.
       let c : length g.records ≡ length s.file.records + added true u =
       subst (λ b. length g.records ≡ length s.file.records + added b u) i p.counted in
       omega (arith, c);
-  allowed = inr (m g (within_all made q (picked_same made)));
+  allowed = inr (m g (within_all k q picked));
 }
+
+-- where all of them are
+pub reached : (May : FileScope → Type 0) (s : Scope) {u v : List Mark} {x made : List ℕ} {g : FileScope} → Grew s u g → Grows s v x made g
+    → Allows May s (record { marks = v; said = x; made = made }) → Reaches May s.file s.is_inside g
+reached May s {made = made} p q m = reached_some May s made p q (picked_same made) m
 
 -- what the file has more than that of the scope
 pub within_reached : (s : Scope) (all : Additions) {g : FileScope} → Reaches (Up s all) s.file s.is_inside g → Up s all g
@@ -149,6 +154,19 @@ within_reached s all {g} p = by_part p.allowed
     by_part : (g ≡ s.file) ⊎ Up s all g → Up s all g
     by_part (inl e) = subst (Up s all) (sym e) (within_nothing s.file s.is_inside (is_measured s.purpose) (makes_none s.purpose) all)
     by_part (inr w) = w
+
+-- and where reading goes on to from there
+pub reached_later : (s : Scope) {u v : List Mark} {x made : List ℕ} {f g : FileScope} (k : List ℕ) (q : Additions) → Grew s u f → Grows s v x made f
+    → ArePicked made k → Reaches (Up (moved s f) q) f s.is_inside g
+    → Reaches (Up s (both (record { marks = v; said = x; made = k }) q)) s.file s.is_inside g
+reached_later s {v = v} {x = x} {f = f} {g = g} k q p grows picked r =
+    let all = both (record { marks = v; said = x; made = k }) q in
+    let first = reached_some (Up s (record { marks = v; said = x; made = k })) s k p grows picked (λ g w. w) in
+    record {
+      extends = further p.extends r.extends;
+      counted = λ e. r.counted e ∙ first.counted e;
+      allowed = inr (within_then k q grows picked (within_reached (moved s f) q r));
+    }
 
 pub record Broken (May : FileScope → Type 0) (s : Scope) (Is : Scope → Type 0) : Type 0 where
   pub file : FileScope

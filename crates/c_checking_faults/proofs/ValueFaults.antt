@@ -101,7 +101,7 @@ IsNoFunction void = ⊥
 IsNoFunction (function t all) = ⊥
 IsNoFunction t = Unit {0}
 
-module _ (untagged : ℕ → List ℕ) (May : ℕ → Type 0) where
+module _ (untagged : ℕ → List ℕ) (May : FileScope → Type 0) where
   scalar_stops : (s : Scope) (a : Trees.Expression) (r : Checked Thing) → Read untagged May s a r → (t : CType) → is_scalar t ≡ true → (at : ℕ) (f : Fault)
       → assigned_to (first a) at t r ≡ Err f → Broken May s (λ s. IsUnfitOrBroken a s t f)
   scalar_stops s a r part t i at f h =
