@@ -1,5 +1,5 @@
 -- Where an initializer stops, the rule that the fault names is broken in the file as it stands there (C99 6.7.8).
-use Rattle.std.proofs.Common.{◌≡◌, ◌≢◌, ℕ, zero, suc, ◌+◌, ◌≤◌, Bool, true, false, refl, sym, ◌∙◌, subst, List, [], ◌∷◌, ◌++◌, length, inl, inr, arith}
+use Rattle.std.proofs.Common.{◌≡◌, ◌≢◌, ℕ, zero, suc, ◌+◌, ◌≤◌, Bool, true, false, refl, sym, ◌∙◌, subst, List, [], ◌∷◌, length, inl, inr, arith}
 use Rattle.std.proofs.lemmas.Bool.{and_parts}
 use Rattle.std.specs.Prelude.{◌⊎◌, ◌&&◌, Option, Some, None, Err, slice_get, nat_lt, is_some}
 use Rattle.lay_base.specs.declared.faults.Rule.TheVariants as R
@@ -279,7 +279,7 @@ module _ (untagged : ℕ → List ℕ) (ends : List ℕ) where
         (initial_faults k a s n i.0 before l w.0 q (fresh_left own_places others fresh) u at o f e))
         (λ own e h.
         let v = sound_initial untagged k a s i.0 before.ready q u at o own e in
-        let made = begun_there {s = s} v.grows in
+        let made = begun_there s v.grows in
         let picked = picked_made v.parted in
         let begun = begin_at (within_all own_places v.grows picked) in
         bound_err (elements more (moved s own.1) u m (at + size_of own.1.records u)) _ f
@@ -320,7 +320,7 @@ module _ (untagged : ℕ → List ℕ) (ends : List ℕ) where
         (initial_faults k a s n i.0 before l w.0 q (fresh_left own_places others fresh) y.ty there o f e))
         (λ own e h.
         let v = sound_initial untagged k a s i.0 before.ready q y.ty there o own e in
-        let made = begun_there {s = s} v.grows in
+        let made = begun_there s v.grows in
         let picked = picked_made v.parted in
         let begun = begin_at (within_all own_places v.grows picked) in
         bound_err (fields_from more (moved s own.1) r (m + 1) fields at) _ f

@@ -44,11 +44,11 @@ pub broken_more : {May Can : FileScope → Type 0} (s : Scope) (Is Js : Scope �
 broken_more s Is Js into h b = record { file = b.file; reaches = reaches_more into b.reaches; is = h _ b.is }
 
 -- where the new objects of a file begin
-abbrev pub BeginAt : FileScope → List ℕ → FileScope → Type 0
-BeginAt f k g = (n : ℕ) (o : AnObject) → slice_get g.objects n ≡ Some o → (slice_get f.objects n ≡ Some o) ⊎ IsAmong k o.first
+pub record BeginAt (f : FileScope) (k : List ℕ) (g : FileScope) : Type 0 where
+  pub begins : (n : ℕ) (o : AnObject) → slice_get g.objects n ≡ Some o → (slice_get f.objects n ≡ Some o) ⊎ IsAmong k o.first
 
 pub begin_at : {f g : FileScope} {a b c : Bool} {p : Additions} → Within f a b c p g → BeginAt f p.made g
-begin_at {f} {g} {a} {b} {c} {p} w = λ n o h. by_part c n o (w.begins n o h)
+begin_at {f} {g} {a} {b} {c} {p} w = record { begins = λ n o h. by_part c n o (w.begins n o h) }
   where
     by_part : (c : Bool) (n : ℕ) (o : AnObject) → (slice_get f.objects n ≡ Some o) ⊎ IsAmong (unless c p.made) o.first
         → (slice_get f.objects n ≡ Some o) ⊎ IsAmong p.made o.first
@@ -101,7 +101,7 @@ fresh_left u v h = record { apart = apart_left u v h.apart; none_at = λ n o e i
 
 -- of what stands behind a part that is read
 pub fresh_right : {f g : FileScope} (u v : List ℕ) → AreFresh f (u ++ v) → BeginAt f u g → AreFresh g v
-fresh_right {f} {g} u v h p = record { apart = apart_right u v h.apart; none_at = λ n o e i. by_part n o i (p n o e) }
+fresh_right {f} {g} u v h p = record { apart = apart_right u v h.apart; none_at = λ n o e i. by_part n o i (p.begins n o e) }
   where
     by_part : (n : ℕ) (o : AnObject) → IsAmong v o.first → (slice_get f.objects n ≡ Some o) ⊎ IsAmong u o.first → ⊥
     by_part n o i (inl e) = h.none_at n o e (among_right u v o.first i)
@@ -134,26 +134,26 @@ picked_made (is_made at all made texts p) = inl (refl, picked_made p)
 picked_made (is_bytes at all made texts p) = picked_behind made at all (picked_made p)
 
 -- a part that is read makes objects of these literals alone
-pub begun_there : {s : Scope} {u : List Mark} {x made : List ℕ} {g : FileScope} → Grows s u x made g → BeginAt s.file made g
-begun_there {made = made} p = begin_at (within_all made p (picked_same made))
+pub begun_there : (s : Scope) {u : List Mark} {x made : List ℕ} {g : FileScope} → Grows s u x made g → BeginAt s.file made g
+begun_there s {made = made} p = begin_at (within_all made p (picked_same made))
 
 -- no object begins at the bytes of a part, wherever reading goes on to
 pub clear : {f m g : FileScope} {k made texts : List ℕ} (l : List ℕ) → Parted k made texts → AreFresh f (k ++ l)
     → BeginAt f made m → BeginAt m l g → NoneBegins g texts
-clear {f} {m} {g} {k} {made} {texts} l p h q r = none_begins g texts (λ n o e t. at_last n o t (r n o e))
+clear {f} {m} {g} {k} {made} {texts} l p h q r = none_begins g texts (λ n o e t. at_last n o t (r.begins n o e))
   where
     at_first : (n : ℕ) (o : AnObject) → IsAmong texts o.first → (slice_get f.objects n ≡ Some o) ⊎ IsAmong made o.first → ⊥
     at_first n o t (inl e) = h.none_at n o e (among_left k l o.first (texts_among p o.first t))
     at_first n o t (inr e) = not_both p (apart_left k l h.apart) o.first e t
 
     at_last : (n : ℕ) (o : AnObject) → IsAmong texts o.first → (slice_get m.objects n ≡ Some o) ⊎ IsAmong l o.first → ⊥
-    at_last n o t (inl e) = at_first n o t (q n o e)
+    at_last n o t (inl e) = at_first n o t (q.begins n o e)
     at_last n o t (inr e) = apart_both k l h.apart o.first (texts_among p o.first t) e
 
 -- and where it stops there
 pub clear_there : {f m : FileScope} {k made texts : List ℕ} → Parted k made texts → AreFresh f k → BeginAt f made m
     → NoneBegins m texts
-clear_there {f} {m} {k} {made} {texts} p h q = none_begins m texts (λ n o e t. by_part n o t (q n o e))
+clear_there {f} {m} {k} {made} {texts} p h q = none_begins m texts (λ n o e t. by_part n o t (q.begins n o e))
   where
     by_part : (n : ℕ) (o : AnObject) → IsAmong texts o.first → (slice_get f.objects n ≡ Some o) ⊎ IsAmong made o.first → ⊥
     by_part n o t (inl e) = h.none_at n o e (texts_among p o.first t)

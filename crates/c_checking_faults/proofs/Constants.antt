@@ -83,7 +83,7 @@ module _ (untagged : ℕ → List ℕ) (ends : List ℕ) where
       (initializer_faults k value.1 s n i p l w q fresh t o f e) (λ g p h. inl h))
       (λ z e h.
       let v = sound_whole untagged k value.1 s i p.ready q t o z e in
-      let is = v.holds z.1 s.locals (itself z.1) (same_locals untagged s) (laid z e) (clear_there v.parted fresh (begun_there {s = s} v.grows)) in
+      let is = v.holds z.1 s.locals (itself z.1) (same_locals untagged s) (laid z e) (clear_there v.parted fresh (begun_there s v.grows)) in
       let c = constants_fault (declared (moved s z.1)) (first value.1) z.0 f
       (with_file_err z.1 (constants_in (declared (moved s z.1)) (first value.1) z.0) f h) in
       there May s (λ s. IsBrokenInitial (Some value) s t f ⊎ HasNoConstants (Some value) s t f) z.1 (reached_some May s (literals value.1) v.grew v.grows (picked_made v.parted) (λ g w. w))

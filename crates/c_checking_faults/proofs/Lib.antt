@@ -4,6 +4,7 @@ pub mod ValueFaults
 pub mod BracesFaults
 pub mod Constants
 pub mod DeclaredLocals
+pub mod InnerAdditions
 pub mod Stopped
 pub mod ValueStops
 pub mod Variables

@@ -6,7 +6,6 @@ use Rattle.c_ast.specs.Laws.{TreesBeginFirst}
 use Rattle.c_ast.specs.Spelling.{Lexeme, spelled, spelled_type_name, spelled_specifier, spelled_declarator}
 use Rattle.c_ast.specs.WellFormed.{IsExpression, IsTypeName, IsSpecifier, IsDeclarator}
 use Rattle.c_erasure.specs.Broken.{Fault, IsBroken, IsBrokenTypeName, IsBrokenSpecifier, IsBrokenWithin}
-use Rattle.c_erasure.specs.Literals.{literals}
 use Rattle.c_erasure.specs.Marks.{Mark, marks, marks_of_type, marks_of_specifier, marks_of_declarator}
 use Rattle.c_erasure.specs.Scopes.{FileScope, Scope}
 use Rattle.c_erasure.specs.Specifiers.{is_word}
