@@ -18,7 +18,7 @@ use Rattle.c_checking.proofs.Extends.{one_of_both}
 abbrev pub FirstOf : {X : Type 0} → (old new all : List X) → Type 0
 FirstOf {X} old new all = (w : List X) × (rest : List X) × (new ≡ old ++ w) × (all ≡ w ++ rest)
 
-first_left : {X : Type 0} (b : Bool) (old new u v all : List X) → FirstOf old new (unless b u) → all ≡ u ++ v → FirstOf old new (unless b all)
+pub first_left : {X : Type 0} (b : Bool) (old new u v all : List X) → FirstOf old new (unless b u) → all ≡ u ++ v → FirstOf old new (unless b all)
 first_left b old new u v all q e = (
   q.0,
   q.1 ++ unless b v,
@@ -26,7 +26,7 @@ first_left b old new u v all q e = (
   ap (unless b) e ∙ unless_append b u v ∙ ap (λ z. z ++ unless b v) q.3 ∙ append_assoc q.0 q.1 (unless b v),
 )
 
-first_then : {X : Type 0} (b : Bool) (x y z u v all : List X) → y ≡ x ++ unless b u → FirstOf y z (unless b v) → all ≡ u ++ v → FirstOf x z (unless b all)
+pub first_then : {X : Type 0} (b : Bool) (x y z u v all : List X) → y ≡ x ++ unless b u → FirstOf y z (unless b v) → all ≡ u ++ v → FirstOf x z (unless b all)
 first_then b x y z u v all p q e = (
   unless b u ++ q.0,
   q.1,

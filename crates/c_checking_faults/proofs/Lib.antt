@@ -16,5 +16,6 @@ pub mod StatementTimely
 pub mod BlockStops
 pub mod StatementStops
 pub mod BodyStops
+pub mod UpTo
 pub mod TextTimely
 mod InitialExample
