@@ -72,31 +72,31 @@ picked_among (y ∷ w) (z ∷ u) x (inl h) (inl i) = inl (i ∙ h.0)
 picked_among (y ∷ w) (z ∷ u) x (inl h) (inr i) = inr (picked_among w u x h.1 i)
 picked_among (y ∷ w) (z ∷ u) x (inr h) i = inr (picked_among (y ∷ w) u x h i)
 
-pub among_first : (u v : List ℕ) (x : ℕ) → IsAmong u x → IsAmong (u ++ v) x
-among_first [] v x h = absurd h
-among_first (y ∷ u) v x (inl h) = inl h
-among_first (y ∷ u) v x (inr h) = inr (among_first u v x h)
+pub among_left : (u v : List ℕ) (x : ℕ) → IsAmong u x → IsAmong (u ++ v) x
+among_left [] v x h = absurd h
+among_left (y ∷ u) v x (inl h) = inl h
+among_left (y ∷ u) v x (inr h) = inr (among_left u v x h)
 
-pub among_behind : (u v : List ℕ) (x : ℕ) → IsAmong v x → IsAmong (u ++ v) x
-among_behind [] v x h = h
-among_behind (y ∷ u) v x h = inr (among_behind u v x h)
+pub among_right : (u v : List ℕ) (x : ℕ) → IsAmong v x → IsAmong (u ++ v) x
+among_right [] v x h = h
+among_right (y ∷ u) v x h = inr (among_right u v x h)
 
-pub among_both : (u v : List ℕ) (x : ℕ) → IsAmong (u ++ v) x → IsAmong u x ⊎ IsAmong v x
-among_both [] v x h = inr h
-among_both (y ∷ u) v x (inl e) = inl (inl e)
-among_both (y ∷ u) v x (inr h) = by_part (among_both u v x h)
+pub among_split : (u v : List ℕ) (x : ℕ) → IsAmong (u ++ v) x → IsAmong u x ⊎ IsAmong v x
+among_split [] v x h = inr h
+among_split (y ∷ u) v x (inl e) = inl (inl e)
+among_split (y ∷ u) v x (inr h) = by_part (among_split u v x h)
   where
     by_part : IsAmong u x ⊎ IsAmong v x → IsAmong (y ∷ u) x ⊎ IsAmong v x
     by_part (inl h) = inl (inr h)
     by_part (inr h) = inr h
 
-among_of_first : (b : Bool) (u v : List ℕ) (x : ℕ) → IsAmong (unless b u) x → IsAmong (unless b (u ++ v)) x
-among_of_first true u v x h = absurd h
-among_of_first false u v x h = among_first u v x h
+among_of_left : (b : Bool) (u v : List ℕ) (x : ℕ) → IsAmong (unless b u) x → IsAmong (unless b (u ++ v)) x
+among_of_left true u v x h = absurd h
+among_of_left false u v x h = among_left u v x h
 
-among_of_behind : (b : Bool) (u v : List ℕ) (x : ℕ) → IsAmong (unless b v) x → IsAmong (unless b (u ++ v)) x
-among_of_behind true u v x h = absurd h
-among_of_behind false u v x h = among_behind u v x h
+among_of_right : (b : Bool) (u v : List ℕ) (x : ℕ) → IsAmong (unless b v) x → IsAmong (unless b (u ++ v)) x
+among_of_right true u v x h = absurd h
+among_of_right false u v x h = among_right u v x h
 
 -- ---- what a part of the text adds to a file at most
 
@@ -148,7 +148,7 @@ within_all {f} {g} {a} {b} {c} {u} {x} {made} k p picked = record {
   records = (unless a (defined_in u), [], p.records, sym (append-nil _));
   declared = p.declared;
   consistent = p.consistent;
-  mentions = λ at h. among_both _ _ at (subst (λ all. IsAmong all at) p.mentions h);
+  mentions = λ at h. among_split _ _ at (subst (λ all. IsAmong all at) p.mentions h);
   firsts = (
     unless c made,
     ap (map (λ o. o.first)) p.objects.1 ∙ map-append (λ o. o.first) f.objects p.objects.0
@@ -181,12 +181,12 @@ within_left {f} {g} {a} {b} {c} p q h = record {
     said : (at : ℕ) → IsAmong (map (λ m. m.at) f.mentions) at ⊎ IsAmong (unless b p.said) at
         → IsAmong (map (λ m. m.at) f.mentions) at ⊎ IsAmong (unless b (p.said ++ q.said)) at
     said at (inl e) = inl e
-    said at (inr e) = inr (among_of_first b p.said q.said at e)
+    said at (inr e) = inr (among_of_left b p.said q.said at e)
 
     begun : (n : ℕ) (o : AnObject) → (slice_get f.objects n ≡ Some o) ⊎ IsAmong (unless c p.made) o.first
         → (slice_get f.objects n ≡ Some o) ⊎ IsAmong (unless c (p.made ++ q.made)) o.first
     begun n o (inl e) = inl e
-    begun n o (inr e) = inr (among_of_first c p.made q.made o.first e)
+    begun n o (inr e) = inr (among_of_left c p.made q.made o.first e)
 
 -- one part, and a first part of the next
 pub within_then : {f g h : FileScope} {a b c : Bool} {u : List Mark} {x made : List ℕ} (k : List ℕ) (q : Additions) → Adds f a b c u x made g
@@ -212,25 +212,25 @@ within_then {f} {g} {h} {a} {b} {c} {u} {x} {made} k q p picked w =
     told : (at : ℕ) → IsAmong (map (λ m. m.at) f.mentions) at ⊎ IsAmong (unless b x) at
         → IsAmong (map (λ m. m.at) f.mentions) at ⊎ IsAmong (unless b (x ++ q.said)) at
     told at (inl e) = inl e
-    told at (inr e) = inr (among_of_first b x q.said at e)
+    told at (inr e) = inr (among_of_left b x q.said at e)
 
     said : (at : ℕ) → ((at : ℕ) → IsAmong (map (λ m. m.at) g.mentions) at → IsAmong (map (λ m. m.at) f.mentions) at ⊎ IsAmong (unless b x) at)
         → IsAmong (map (λ m. m.at) g.mentions) at ⊎ IsAmong (unless b q.said) at
         → IsAmong (map (λ m. m.at) f.mentions) at ⊎ IsAmong (unless b (x ++ q.said)) at
     said at before (inl e) = told at (before at e)
-    said at before (inr e) = inr (among_of_behind b x q.said at e)
+    said at before (inr e) = inr (among_of_right b x q.said at e)
 
     first_begun : (n : ℕ) (o : AnObject) → (slice_get f.objects n ≡ Some o) ⊎ IsAmong (unless c k) o.first
         → (slice_get f.objects n ≡ Some o) ⊎ IsAmong (unless c (k ++ q.made)) o.first
     first_begun n o (inl e) = inl e
-    first_begun n o (inr e) = inr (among_of_first c k q.made o.first e)
+    first_begun n o (inr e) = inr (among_of_left c k q.made o.first e)
 
     begun : (n : ℕ) (o : AnObject)
         → ((n : ℕ) (o : AnObject) → slice_get g.objects n ≡ Some o → (slice_get f.objects n ≡ Some o) ⊎ IsAmong (unless c k) o.first)
         → (slice_get g.objects n ≡ Some o) ⊎ IsAmong (unless c q.made) o.first
         → (slice_get f.objects n ≡ Some o) ⊎ IsAmong (unless c (k ++ q.made)) o.first
     begun n o before (inl e) = first_begun n o (before n o e)
-    begun n o before (inr e) = inr (among_of_behind c k q.made o.first e)
+    begun n o before (inr e) = inr (among_of_right c k q.made o.first e)
 
 -- ---- marks that declare nothing, and a mention before the others
 

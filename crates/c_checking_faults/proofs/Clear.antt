@@ -9,27 +9,10 @@ use Rattle.c_erasure.specs.Scopes.{AnObject, FileScope, Scope}
 use Rattle.c_checking.proofs.Adding.{unless, Grows}
 use Rattle.c_checking.proofs.FaultResults.{Reaches, Broken}
 use Rattle.c_checking.proofs.Within.{Additions, Within, within_all, ArePicked, picked_same, picked_behind}
+pub use Rattle.c_checking.proofs.Within.{among_left, among_right, among_split}
 use Rattle.c_checking_files.proofs.Parts.{Parted, none, is_made, is_bytes, NoneBegins}
 
--- ---- bytes among others
-
-pub among_left : (u v : List ℕ) (x : ℕ) → IsAmong u x → IsAmong (u ++ v) x
-among_left [] v x h = absurd h
-among_left (y ∷ u) v x (inl h) = inl h
-among_left (y ∷ u) v x (inr h) = inr (among_left u v x h)
-
-pub among_right : (u v : List ℕ) (x : ℕ) → IsAmong v x → IsAmong (u ++ v) x
-among_right [] v x h = h
-among_right (y ∷ u) v x h = inr (among_right u v x h)
-
-pub among_split : (u v : List ℕ) (x : ℕ) → IsAmong (u ++ v) x → IsAmong u x ⊎ IsAmong v x
-among_split [] v x h = inr h
-among_split (y ∷ u) v x (inl e) = inl (inl e)
-among_split (y ∷ u) v x (inr h) = by_part (among_split u v x h)
-  where
-    by_part : IsAmong u x ⊎ IsAmong v x → IsAmong (y ∷ u) x ⊎ IsAmong v x
-    by_part (inl h) = inl (inr h)
-    by_part (inr h) = inr h
+-- ---- what is reached
 
 -- where more is allowed
 pub reaches_more : {May Can : FileScope → Type 0} {f g : FileScope} {i : Bool} → ((g : FileScope) → May g → Can g) → Reaches May f i g → Reaches Can f i g

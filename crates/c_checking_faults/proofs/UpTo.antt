@@ -15,7 +15,7 @@ use Rattle.c_text_order.specs.TextOrder.{Rising, places_of_item}
 use Rattle.c_checking.specs.Files.{unread}
 use Rattle.c_checking.proofs.Adding.{unless, Adds, beginnings_append, defined_append, take_front}
 use Rattle.c_checking.proofs.Extends.{Extends}
-use Rattle.c_checking.proofs.Within.{FirstOf, first_left, first_then, ArePicked, picked_left, picked_both, among_first, among_behind, among_both}
+use Rattle.c_checking.proofs.Within.{FirstOf, first_left, first_then, ArePicked, picked_left, picked_both, among_left, among_right, among_split}
 use Rattle.c_checking.proofs.Within.{Additions, both, Within, within_all}
 use Rattle.c_checking_items.proofs.Items.{places_in}
 use Rattle.c_checking_items.proofs.Orders.{all_from_slices}
@@ -45,14 +45,14 @@ said_first f g u v p = λ at h. by_part at (p at h)
   where
     by_part : (at : ℕ) → IsAmong (map (λ m. m.at) f.mentions) at ⊎ IsAmong u at → IsAmong (map (λ m. m.at) f.mentions) at ⊎ IsAmong (u ++ v) at
     by_part at (inl h) = inl h
-    by_part at (inr h) = inr (among_first u v at h)
+    by_part at (inr h) = inr (among_left u v at h)
 
 said_then : (f g h : FileScope) (u v : List ℕ) → SaidOf f u g → SaidOf g v h → SaidOf f (u ++ v) h
 said_then f g h u v p q = λ at i. by_part at (q at i)
   where
     by_part : (at : ℕ) → IsAmong (map (λ m. m.at) g.mentions) at ⊎ IsAmong v at → IsAmong (map (λ m. m.at) f.mentions) at ⊎ IsAmong (u ++ v) at
     by_part at (inl i) = said_first f g u v p at i
-    by_part at (inr i) = inr (among_behind u v at i)
+    by_part at (inr i) = inr (among_right u v at i)
 
 -- ---- a first part of what a part of the text adds at file scope; `made` has the bytes of its declarators and literals
 
@@ -173,7 +173,7 @@ pub exactly_step : {nodes_at : ℕ → ℕ} {u : List Mark} {x k m : List ℕ} {
 exactly_step {f = f} {g = g} s c = record {
   names = s.names;
   records = s.records;
-  mentions = λ at h. among_both _ _ at (subst (λ all. IsAmong all at) s.mentions h);
+  mentions = λ at h. among_split _ _ at (subst (λ all. IsAmong all at) s.mentions h);
   objects = (s.objects, s.objects_are, picked_made s.objects_parted);
   functions = (s.functions, s.functions_are, picked_made s.functions_parted);
   consistent = c;
