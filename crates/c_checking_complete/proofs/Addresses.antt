@@ -24,10 +24,10 @@ use Rattle.c_erasure.specs.Noted.{Note, nothing, size_of as sized, Expression, P
 use Rattle.c_erasure.specs.Noted.{a_library_function, place_of_path, unless_noted, type_of_path, value_of, object_value, unconverted, value, way}
 use Rattle.c_erasure.specs.Scopes.{FileScope, Scope, ALocal, AnObject, declared, ended}
 use Rattle.c_checking.specs.Answers.{moved}
-use Rattle.c_checking.proofs.Extends.{Extends}
-use Rattle.c_checking.proofs.Values.{path_type_same}
-use Rattle.c_checking.proofs.CompleteNodes.{some_is}
-use Rattle.c_checking.proofs.CompletePart.{whole, Lists, part, IsWhole, complete_stays}
+use Rattle.c_checking_laws.proofs.Extends.{Extends}
+use Rattle.c_checking_laws.proofs.Values.{path_type_same}
+use Rattle.c_checking_laws.proofs.CompleteNodes.{some_is}
+use Rattle.c_checking_laws.proofs.CompletePart.{whole, Lists, part, IsWhole, complete_stays}
 use Rattle.c_checking_files.proofs.Layouts.{size_stays, offset_stays, record_in}
 
 if_some : {A : Type 0} (b : Bool) (o : Option A) (a : A) → cond b o None ≡ Some a → (b ≡ true) × (o ≡ Some a)

@@ -17,13 +17,13 @@ use Rattle.c_erasure.specs.Statements.{Statements}
 use Rattle.c_checking.specs.Answers.{◌>>=◌}
 use Rattle.c_checking.specs.Files.{Received, received_if_named, named_parameters, received_by, defined_function, with_body, function_body}
 use Rattle.c_checking.specs.Statements.{items_in}
-use Rattle.c_checking.proofs.Results.{ok}
-use Rattle.c_checking.proofs.Extends.{Extends}
-use Rattle.c_checking.proofs.CompleteNodes.{some, some_is}
-use Rattle.c_checking.proofs.CompleteWalk.{Event, a_use, a_look, a_tag, an_end, a_name, a_literal, seen, ends_in, literals_in}
-use Rattle.c_checking.proofs.CompletePart.{Lists, part, IsWhole, IsFitFor, IsBefore, IsAfter}
-use Rattle.c_checking.proofs.CompleteFit.{IsFit, IsAmong, no_names}
-use Rattle.c_checking.proofs.CompleteStatements.{walk_of_items, inner, Seen, AreNumbered}
+use Rattle.c_checking_laws.proofs.Results.{ok}
+use Rattle.c_checking_laws.proofs.Extends.{Extends}
+use Rattle.c_checking_laws.proofs.CompleteNodes.{some, some_is}
+use Rattle.c_checking_laws.proofs.CompleteWalk.{Event, a_use, a_look, a_tag, an_end, a_name, a_literal, seen, ends_in, literals_in}
+use Rattle.c_checking_laws.proofs.CompletePart.{Lists, part, IsWhole, IsFitFor, IsBefore, IsAfter}
+use Rattle.c_checking_laws.proofs.CompleteFit.{IsFit, IsAmong, no_names}
+use Rattle.c_checking_laws.proofs.CompleteStatements.{walk_of_items, inner, Seen, AreNumbered}
 use Rattle.c_checking_files.proofs.Bodies.{notes_left, take_own}
 use Rattle.c_checking_complete.proofs.Objects.{mapped_at, mapped_set, set_of}
 use Rattle.c_checking_complete.proofs.StaticLists.{AreTypedObjects, walk_in_block, items_complete}

@@ -21,10 +21,10 @@ use Rattle.c_erasure.specs.Initializers.{HasConstant, AreConstants}
 use Rattle.c_erasure.specs.Noted.{Noted, Expression}
 use Rattle.c_erasure.specs.Scopes.{FileScope, Scope, ALocal, in_full}
 use Rattle.c_checking.specs.Initializers.{is_constant_part, are_constant_parts, are_constants}
-use Rattle.c_checking.proofs.Extends.{Extends}
-use Rattle.c_checking.proofs.CompleteWalk.{Event, seen}
-use Rattle.c_checking.proofs.CompletePart.{whole, Lists, part, IsWhole}
-use Rattle.c_checking.proofs.CompleteLocals.{walk_of_initializer, walk_of_initializers}
+use Rattle.c_checking_laws.proofs.Extends.{Extends}
+use Rattle.c_checking_laws.proofs.CompleteWalk.{Event, seen}
+use Rattle.c_checking_laws.proofs.CompletePart.{whole, Lists, part, IsWhole}
+use Rattle.c_checking_laws.proofs.CompleteLocals.{walk_of_initializer, walk_of_initializers}
 use Rattle.c_checking_complete.proofs.Values.{HasType, HaveTypes}
 use Rattle.c_checking_complete.proofs.Plain.{Plainly, IsPlain, plain, no_braces}
 use Rattle.c_checking_complete.proofs.Parts.{literal_begins}

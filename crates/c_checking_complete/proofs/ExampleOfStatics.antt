@@ -18,12 +18,12 @@ use Rattle.c_erasure.specs.Scopes.{AnObject, Bound, FileScope, Scope, Entity}
 use Rattle.c_erasure.specs.Scopes as Scopes
 use Rattle.c_erasure.specs.Statements.{DeclareAll, with_object}
 use Rattle.c_checking.specs.Statements.{declare_all}
-use Rattle.c_checking.proofs.CompleteNodes.{some_is}
-use Rattle.c_checking.proofs.CompleteFit.{IsFit}
-use Rattle.c_checking.proofs.CompletePart.{Lists, IsWhole, IsBefore}
-use Rattle.c_checking.proofs.CompleteStatements.{inner, outer, Seen}
-use Rattle.c_checking.proofs.CompleteBlocks.{FoundAll}
-use Rattle.c_checking.proofs.CompleteWhole.{is_whole}
+use Rattle.c_checking_laws.proofs.CompleteNodes.{some_is}
+use Rattle.c_checking_laws.proofs.CompleteFit.{IsFit}
+use Rattle.c_checking_laws.proofs.CompletePart.{Lists, IsWhole, IsBefore}
+use Rattle.c_checking_laws.proofs.CompleteStatements.{inner, outer, Seen}
+use Rattle.c_checking_laws.proofs.CompleteBlocks.{FoundAll}
+use Rattle.c_checking_laws.proofs.CompleteWhole.{is_whole}
 use Rattle.c_checking_complete.proofs.StaticLists.{AreTypedObjects, walk_in_block, walk_of_statics, statics_complete}
 
 abbrev int : CType

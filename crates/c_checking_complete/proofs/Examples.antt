@@ -17,11 +17,11 @@ use Rattle.c_erasure.specs.Initializers.{Part, part_at, IsInitializer, Initializ
 use Rattle.c_erasure.specs.Noted.{Expression, a_value, value}
 use Rattle.c_erasure.specs.Scopes.{FileScope, Scope, declared}
 use Rattle.c_checking.specs.Initializers.{initializer}
-use Rattle.c_checking.proofs.Extends.{itself}
-use Rattle.c_checking.proofs.CompletePart.{Lists, part, IsWhole, Done}
-use Rattle.c_checking.proofs.CompleteStatements.{inner, outer}
-use Rattle.c_checking.proofs.CompleteLocals.{walk_of_initializer}
-use Rattle.c_checking.proofs.CompleteWhole.{is_whole}
+use Rattle.c_checking_laws.proofs.Extends.{itself}
+use Rattle.c_checking_laws.proofs.CompletePart.{Lists, part, IsWhole, Done}
+use Rattle.c_checking_laws.proofs.CompleteStatements.{inner, outer}
+use Rattle.c_checking_laws.proofs.CompleteLocals.{walk_of_initializer}
+use Rattle.c_checking_laws.proofs.CompleteWhole.{is_whole}
 use Rattle.c_checking_complete.proofs.Wholes.{AsTyped, initials_complete}
 
 abbrev empty : FileScope

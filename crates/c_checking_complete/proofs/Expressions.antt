@@ -21,9 +21,9 @@ use Rattle.c_erasure.specs.Noted.{Noted, Expression, Thing, an_object, a_value, 
 use Rattle.c_erasure.specs.Operators.{Kind, computes, compares, all_of, any_of, kind_of}
 use Rattle.c_erasure.specs.Scopes as Scopes
 use Rattle.c_erasure.specs.Scopes.{FileScope, Scope, ALocal, AnObject, Entity, Purpose, in_full, value_alone, type_alone, ended}
-use Rattle.c_checking.proofs.Extends.{Extends}
-use Rattle.c_checking.proofs.CompleteWalk.{Event, a_look, seen, walk, walk_of_type}
-use Rattle.c_checking.proofs.CompletePart.{whole, Lists, part, IsWhole}
+use Rattle.c_checking_laws.proofs.Extends.{Extends}
+use Rattle.c_checking_laws.proofs.CompleteWalk.{Event, a_look, seen, walk, walk_of_type}
+use Rattle.c_checking_laws.proofs.CompletePart.{whole, Lists, part, IsWhole}
 use Rattle.c_checking_complete.proofs.Reached.{IsThere, Reaches, left_reached, right_reached}
 use Rattle.c_checking_complete.proofs.Addresses.{ValueBack, ThingBack, value_back, none_here, pointer_add_back, deref_back, member_back, index_back}
 use Rattle.c_checking_complete.proofs.Addresses.{element_back}

@@ -15,8 +15,8 @@ use Rattle.c_erasure.specs.Noted.{Expression, type_of}
 use Rattle.c_erasure.specs.Scopes.{ALocal, FileScope, Scope}
 use Rattle.c_checking.specs.Answers.{Checked, with_file, moved}
 use Rattle.c_checking.specs.Initializers.{in_braces, is_text, fields_of, text_of_array, initialized, one_value, elements, fields_from}
-use Rattle.c_checking.proofs.CompleteWalk.{seen}
-use Rattle.c_checking.proofs.CompletePart.{whole, Lists, part, IsWhole, IsBefore, Done}
+use Rattle.c_checking_laws.proofs.CompleteWalk.{seen}
+use Rattle.c_checking_laws.proofs.CompletePart.{whole, Lists, part, IsWhole, IsBefore, Done}
 use Rattle.c_checking_complete.proofs.Texts.{character_of}
 use Rattle.c_checking_complete.proofs.Values.{text_done}
 use Rattle.c_checking_complete.proofs.Plain.{none_begins, plain, texts_in_braces}

@@ -4,11 +4,11 @@ use Rattle.std.specs.Prelude.{◌⊎◌, map, Some, None, IsSome, slice_get, sli
 use Rattle.std.specs.Option.{option_map}
 use Rattle.c_types.specs.Types.{CType}
 use Rattle.c_erasure.specs.Scopes.{AnObject, FileScope, in_full}
-use Rattle.c_checking.proofs.Extends.{Extends, one_of_both}
-use Rattle.c_checking.proofs.CompleteNodes.{some, some_is}
-use Rattle.c_checking.proofs.CompleteWalk.{Event, a_use, a_look, a_tag, an_end, a_name, a_literal, seen, literals_in, Follows}
-use Rattle.c_checking.proofs.CompleteLists.{made_at}
-use Rattle.c_checking.proofs.CompletePart.{Lists, part}
+use Rattle.c_checking_laws.proofs.Extends.{Extends, one_of_both}
+use Rattle.c_checking_laws.proofs.CompleteNodes.{some, some_is}
+use Rattle.c_checking_laws.proofs.CompleteWalk.{Event, a_use, a_look, a_tag, an_end, a_name, a_literal, seen, literals_in, Follows}
+use Rattle.c_checking_laws.proofs.CompleteLists.{made_at}
+use Rattle.c_checking_laws.proofs.CompletePart.{Lists, part}
 
 -- ---- where nothing is made, any number of objects may stand before
 

@@ -19,14 +19,14 @@ use Rattle.c_erasure.specs.Scopes.{ALocal, FileScope, Scope, in_full, declared}
 use Rattle.c_checking.specs.Answers.{Checked, with_file, moved}
 use Rattle.c_checking.specs.Finding.{find}
 use Rattle.c_checking.specs.Initializers.{without_braces, is_text, text_of_array, initialized, one_value, elements, fields_from}
-use Rattle.c_checking.proofs.Results.{ok}
-use Rattle.c_checking.proofs.Extends.{Extends}
-use Rattle.c_checking.proofs.CompleteWalk.{Event, seen}
-use Rattle.c_checking.proofs.CompletePart.{whole, Lists, part, IsWhole, IsBefore, IsAfter, Done, BlocksFit, blocks_stay, none_after, grown}
-use Rattle.c_checking.proofs.CompletePart.{complete_stays, left_seen, right_seen, then_seen}
-use Rattle.c_checking.proofs.CompleteOperands.{Seen}
-use Rattle.c_checking.proofs.CompleteCalls.{size_same}
-use Rattle.c_checking.proofs.CompleteLocals.{begins, walk_of_initializer, walk_of_initializers}
+use Rattle.c_checking_laws.proofs.Results.{ok}
+use Rattle.c_checking_laws.proofs.Extends.{Extends}
+use Rattle.c_checking_laws.proofs.CompleteWalk.{Event, seen}
+use Rattle.c_checking_laws.proofs.CompletePart.{whole, Lists, part, IsWhole, IsBefore, IsAfter, Done, BlocksFit, blocks_stay, none_after, grown}
+use Rattle.c_checking_laws.proofs.CompletePart.{complete_stays, left_seen, right_seen, then_seen}
+use Rattle.c_checking_laws.proofs.CompleteOperands.{Seen}
+use Rattle.c_checking_laws.proofs.CompleteCalls.{size_same}
+use Rattle.c_checking_laws.proofs.CompleteLocals.{begins, walk_of_initializer, walk_of_initializers}
 use Rattle.c_checking_complete.proofs.Values.{HasType, HaveTypes, types_left, types_right, value_done, record_done, text_done}
 use Rattle.c_checking_complete.proofs.Plain.{one_begins, none_begins, Plainly, IsPlain, plain, no_braces}
 

@@ -15,9 +15,9 @@ use Rattle.c_erasure.specs.Noted.{Noted, Expression, Thing, an_object, type_of, 
 use Rattle.c_erasure.specs.Scopes.{AnObject, Scope}
 use Rattle.c_checking.specs.Finding.{find}
 use Rattle.c_checking.specs.Initializers.{without_braces, initialized, one_value}
-use Rattle.c_checking.proofs.CompleteNodes.{some_is}
-use Rattle.c_checking.proofs.CompleteWalk.{walk}
-use Rattle.c_checking.proofs.CompleteLocals.{begins, literal_if, walk_of_initializer, walk_of_initializers}
+use Rattle.c_checking_laws.proofs.CompleteNodes.{some_is}
+use Rattle.c_checking_laws.proofs.CompleteWalk.{walk}
+use Rattle.c_checking_laws.proofs.CompleteLocals.{begins, literal_if, walk_of_initializer, walk_of_initializers}
 
 -- ---- where objects begin
 

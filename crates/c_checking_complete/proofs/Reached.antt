@@ -4,11 +4,11 @@ use Rattle.std.proofs.lemmas.Bool.{and_parts, leb-true}
 use Rattle.std.specs.Prelude.{◌⊎◌, ◌&&◌, nat_le, Option, Some, None, slice_get}
 use Rattle.std.specs.Str.{bytes_eq}
 use Rattle.c_erasure.specs.Scopes.{ALocal, AnObject, Bound, FileScope, Scope, Entity, Purpose, or_else, innermost, visible, named, ended}
-use Rattle.c_checking.proofs.CompleteNodes.{some_is}
-use Rattle.c_checking.proofs.CompleteWalk.{Event, a_use, a_look, a_tag, an_end, a_name, a_literal, seen, seen_append, names_in, ends_in}
-use Rattle.c_checking.proofs.CompleteWalk.{literals_in, Follows}
-use Rattle.c_checking.proofs.CompletePart.{whole, IsWhole, IsFitFor, fit_stays}
-use Rattle.c_checking.proofs.CompleteFit.{IsAmong}
+use Rattle.c_checking_laws.proofs.CompleteNodes.{some_is}
+use Rattle.c_checking_laws.proofs.CompleteWalk.{Event, a_use, a_look, a_tag, an_end, a_name, a_literal, seen, seen_append, names_in, ends_in}
+use Rattle.c_checking_laws.proofs.CompleteWalk.{literals_in, Follows}
+use Rattle.c_checking_laws.proofs.CompletePart.{whole, IsWhole, IsFitFor, fit_stays}
+use Rattle.c_checking_laws.proofs.CompleteFit.{IsAmong}
 
 -- what is in scope is a name of the list
 record IsFound (all : List Bound) (at : ℕ) (e : Entity) : Type 0 where

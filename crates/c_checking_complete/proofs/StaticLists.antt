@@ -13,13 +13,13 @@ use Rattle.c_erasure.specs.Noted.{Noted}
 use Rattle.c_erasure.specs.Scopes.{ALocal, AnObject, FileScope, Scope, in_full, with_name}
 use Rattle.c_erasure.specs.Statements.{Statements}
 use Rattle.c_checking.specs.Statements.{declare_named, declare_all}
-use Rattle.c_checking.proofs.Results.{ok}
-use Rattle.c_checking.proofs.CompleteWalk.{Event, a_literal}
-use Rattle.c_checking.proofs.CompletePart.{IsWhole, IsBefore, IsAfter, none_after, left_seen, right_seen, then_seen}
-use Rattle.c_checking.proofs.CompleteStatements.{inner, Seen}
-use Rattle.c_checking.proofs.CompleteBlocks.{CompletesDeclaration, CompletesItems, Is}
-use Rattle.c_checking.proofs.CompleteLocals.{walk_of_declared, walk_of_initial}
-use Rattle.c_checking.proofs.CompleteBodies.{CompletesStatics, walk_of_declaration, declaration_complete, statement, items}
+use Rattle.c_checking_laws.proofs.Results.{ok}
+use Rattle.c_checking_laws.proofs.CompleteWalk.{Event, a_literal}
+use Rattle.c_checking_laws.proofs.CompletePart.{IsWhole, IsBefore, IsAfter, none_after, left_seen, right_seen, then_seen}
+use Rattle.c_checking_laws.proofs.CompleteStatements.{inner, Seen}
+use Rattle.c_checking_laws.proofs.CompleteBlocks.{CompletesDeclaration, CompletesItems, Is}
+use Rattle.c_checking_laws.proofs.CompleteLocals.{walk_of_declared, walk_of_initial}
+use Rattle.c_checking_laws.proofs.CompleteBodies.{CompletesStatics, walk_of_declaration, declaration_complete, statement, items}
 use Rattle.c_checking_complete.proofs.Wholes.{initials_complete}
 use Rattle.c_checking_complete.proofs.Statics.{Initial, Declarator, Object, static_named, static_complete}
 

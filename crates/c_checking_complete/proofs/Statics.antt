@@ -21,14 +21,14 @@ use Rattle.c_erasure.specs.Statements.{HasConstants, IsVariable, IsStaticLocal}
 use Rattle.c_checking.specs.Answers.{◌>>=◌, with_file, moved}
 use Rattle.c_checking.specs.Initializers.{are_constants, constants_in}
 use Rattle.c_checking.specs.Statements.{variable_of, constants_if_any, declare_named}
-use Rattle.c_checking.proofs.Results.{ok}
-use Rattle.c_checking.proofs.CompleteWalk.{Event, a_look, a_literal, literals_in, walk_of_declarator}
-use Rattle.c_checking.proofs.CompleteLiterals.{none_in_declarator}
-use Rattle.c_checking.proofs.CompletePart.{Lists, part, IsWhole, IsBefore, IsAfter, Done, BlocksFit, none_after, complete_stays, left_seen, right_seen}
-use Rattle.c_checking.proofs.CompletePart.{then_seen}
-use Rattle.c_checking.proofs.CompleteFit.{IsFit, among_more, fit_after, fit_named, no_names}
-use Rattle.c_checking.proofs.CompleteStatements.{inner, outer, Seen}
-use Rattle.c_checking.proofs.CompleteLocals.{look_at, walk_of_initial, walk_of_declared, variable_complete}
+use Rattle.c_checking_laws.proofs.Results.{ok}
+use Rattle.c_checking_laws.proofs.CompleteWalk.{Event, a_look, a_literal, literals_in, walk_of_declarator}
+use Rattle.c_checking_laws.proofs.CompleteLiterals.{none_in_declarator}
+use Rattle.c_checking_laws.proofs.CompletePart.{Lists, part, IsWhole, IsBefore, IsAfter, Done, BlocksFit, none_after, complete_stays, left_seen, right_seen}
+use Rattle.c_checking_laws.proofs.CompletePart.{then_seen}
+use Rattle.c_checking_laws.proofs.CompleteFit.{IsFit, among_more, fit_after, fit_named, no_names}
+use Rattle.c_checking_laws.proofs.CompleteStatements.{inner, outer, Seen}
+use Rattle.c_checking_laws.proofs.CompleteLocals.{look_at, walk_of_initial, walk_of_declared, variable_complete}
 use Rattle.c_checking_complete.proofs.Wholes.{AsTyped, initials_complete}
 use Rattle.c_checking_complete.proofs.Reached.{reaches}
 use Rattle.c_checking_complete.proofs.Constants.{constants_back}

@@ -10,7 +10,7 @@ use Rattle.c_erasure.specs.Erasure.{literal_of}
 use Rattle.c_erasure.specs.Initializers.{IsTextOf, is_character}
 use Rattle.c_checking.specs.Answers.{◌>>=◌}
 use Rattle.c_checking.specs.Initializers.{bytes_in, text_of_array, text_part}
-use Rattle.c_checking.proofs.Results.{ok}
+use Rattle.c_checking_laws.proofs.Results.{ok}
 
 within : (n m : ℕ) → n ≤ m → nat_le n m ≡ true
 within n m h = grind (arith, nat_tests)

@@ -20,11 +20,11 @@ use Rattle.c_checking.specs.Answers.{◌>>=◌, with_file, moved}
 use Rattle.c_checking.specs.Nodes.{null}
 use Rattle.c_checking.specs.Finding.{value_at, find}
 use Rattle.c_checking.specs.Initializers.{initial_value_in, initial_record_in, without_braces, text_of_array}
-use Rattle.c_checking.proofs.Values.{type_same}
-use Rattle.c_checking.proofs.CompleteNodes
-use Rattle.c_checking.proofs.CompletePart.{whole, Lists, part, IsWhole, IsBefore, Done, BlocksFit, none_after}
-use Rattle.c_checking.proofs.CompleteOperands.{Seen, operand}
-use Rattle.c_checking.proofs.CompleteTrees.{complete}
+use Rattle.c_checking_laws.proofs.Values.{type_same}
+use Rattle.c_checking_laws.proofs.CompleteNodes
+use Rattle.c_checking_laws.proofs.CompletePart.{whole, Lists, part, IsWhole, IsBefore, Done, BlocksFit, none_after}
+use Rattle.c_checking_laws.proofs.CompleteOperands.{Seen, operand}
+use Rattle.c_checking_laws.proofs.CompleteTrees.{complete}
 use Rattle.c_checking_complete.proofs.Texts.{character_of, text_back}
 
 -- ---- the value of each part is typed, as that of some type

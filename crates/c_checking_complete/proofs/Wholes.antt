@@ -15,10 +15,10 @@ use Rattle.c_erasure.specs.Noted.{Noted, Expression}
 use Rattle.c_erasure.specs.Scopes.{ALocal, FileScope, Scope, in_full, declared}
 use Rattle.c_checking.specs.Answers.{◌>>=◌, moved}
 use Rattle.c_checking.specs.Initializers.{initialized, whole_of, initializer}
-use Rattle.c_checking.proofs.Results.{ok}
-use Rattle.c_checking.proofs.CompletePart.{whole, Lists, part, IsWhole, IsBefore, Done, BlocksFit}
-use Rattle.c_checking.proofs.CompleteStatements.{inner}
-use Rattle.c_checking.proofs.CompleteLocals.{CompletesInitializer}
+use Rattle.c_checking_laws.proofs.Results.{ok}
+use Rattle.c_checking_laws.proofs.CompletePart.{whole, Lists, part, IsWhole, IsBefore, Done, BlocksFit}
+use Rattle.c_checking_laws.proofs.CompleteStatements.{inner}
+use Rattle.c_checking_laws.proofs.CompleteLocals.{CompletesInitializer}
 use Rattle.c_checking_complete.proofs.Values.{HaveTypes}
 use Rattle.c_checking_complete.proofs.Parts.{Walk, Here}
 use Rattle.c_checking_complete.proofs.Initials.{finds}

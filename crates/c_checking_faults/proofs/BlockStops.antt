@@ -14,8 +14,8 @@ use Rattle.c_erasure.specs.Specifiers.{storage_of}
 use Rattle.c_erasure.specs.Statements.{Statements, IsStart}
 use Rattle.c_checking.specs.Statements.{value_of_expression, value_if_any, condition, condition_if_any, start_of, local_declaration}
 use Rattle.c_checking.specs.Statements.{performed}
-use Rattle.c_checking.proofs.InRange.{IsInRange}
-use Rattle.c_checking.proofs.FaultResults.{bound_err}
+use Rattle.c_checking_laws.proofs.InRange.{IsInRange}
+use Rattle.c_checking_laws.proofs.FaultResults.{bound_err}
 use Rattle.c_checking_files.proofs.Longer.{seen}
 use Rattle.c_checking_files.proofs.Scoped.{then_in}
 use Rattle.c_checking_files.proofs.StatementLaws.{IsStartInRange, IsStatementInRange}
@@ -25,7 +25,7 @@ use Rattle.c_checking_faults.proofs.Clear.{AreFresh, fresh_left}
 use Rattle.c_checking_faults.proofs.DeclaredLocals.{objects_declared_by}
 use Rattle.c_checking_faults.proofs.DeclarationStops.{declaration_stops}
 use Rattle.c_checking_faults.proofs.InnerAdditions.{at_value, at_if_any, at_start, at_statement}
-use Rattle.c_checking.proofs.Within.{Additions, both}
+use Rattle.c_checking_laws.proofs.Within.{Additions, both}
 use Rattle.c_checking_faults.proofs.JumpFaults.{static_fault}
 use Rattle.c_checking_faults.proofs.Stopped.{Stopped, inner_left, stopped_here, stopped_more, IsIn, stopped_later, fresh_later, in_later, in_same}
 use Rattle.c_checking_faults.proofs.ValueStops.{value_stops, test_stops, effect_stops}

@@ -13,17 +13,17 @@ use Rattle.c_erasure.specs.Literals.{made_by_items}
 use Rattle.c_erasure.specs.Scopes.{FileScope, a_function, at_file_scope, defines}
 use Rattle.c_checking.specs.Files.{Received, received_by}
 use Rattle.c_checking.specs.Statements.{items_in}
-use Rattle.c_checking.proofs.Agreement.{IsSteady}
-use Rattle.c_checking.proofs.Extends.{bound_stays}
-use Rattle.c_checking.proofs.FaultDeclaring.{IsOrderly}
-use Rattle.c_checking.proofs.FaultResults.{Reaches}
+use Rattle.c_checking_laws.proofs.Agreement.{IsSteady}
+use Rattle.c_checking_laws.proofs.Extends.{bound_stays}
+use Rattle.c_checking_laws.proofs.FaultDeclaring.{IsOrderly}
+use Rattle.c_checking_laws.proofs.FaultResults.{Reaches}
 use Rattle.c_checking_files.proofs.Bodies.{IsReadyFile, parameters_are, body_within}
 use Rattle.c_checking_files.proofs.Layouts.{IsLaid}
 use Rattle.c_checking_files.proofs.StatementLaws.{AreItemsInRange}
 use Rattle.c_checking_faults.proofs.Clear.{AreFresh}
 use Rattle.c_checking_faults.proofs.InnerAdditions.{at_items}
 use Rattle.c_checking_faults.proofs.Stopped.{Inner}
-use Rattle.c_checking.proofs.Within.{Additions}
+use Rattle.c_checking_laws.proofs.Within.{Additions}
 use Rattle.c_checking_faults.proofs.DeclaredLocals.{AreObjectLocals}
 use Rattle.c_checking_faults.proofs.StatementStops.{items_stop}
 use Rattle.c_checking_faults.proofs.StatementTimely.{AreItemsTimely}

@@ -20,16 +20,16 @@ use Rattle.c_erasure.specs.Scopes.{FileScope, Scope}
 use Rattle.c_checking.specs.Answers.{refused, moved}
 use Rattle.c_checking.specs.Finding.{find}
 use Rattle.c_checking.specs.Initializers.{text_of_array, is_text, fields_of, without_braces, initialized, one_value, elements, fields_from}
-use Rattle.c_checking.proofs.Agreement.{added}
-use Rattle.c_checking.proofs.Extends.{record_stays}
-use Rattle.c_checking.proofs.InRange.{IsInRange, AreInRange}
-use Rattle.c_checking.proofs.FaultPremises.{Prepared, left, right, known_after, IsTimely}
-use Rattle.c_checking.proofs.FaultResults as Results
-use Rattle.c_checking.proofs.FaultResults.{Up, same_fault, bound_err, with_file_err, chosen_err, within_reached, reached_later, here, whole}
-use Rattle.c_checking.proofs.FaultAdditions.{nothing_added, of, of_all}
-use Rattle.c_checking.proofs.Within.{both, within_all, within_left}
-use Rattle.c_checking.proofs.FaultParts.{Read}
-use Rattle.c_checking.proofs.Faults.{faults, reading}
+use Rattle.c_checking_laws.proofs.Agreement.{added}
+use Rattle.c_checking_laws.proofs.Extends.{record_stays}
+use Rattle.c_checking_laws.proofs.InRange.{IsInRange, AreInRange}
+use Rattle.c_checking_laws.proofs.FaultPremises.{Prepared, left, right, known_after, IsTimely}
+use Rattle.c_checking_laws.proofs.FaultResults as Results
+use Rattle.c_checking_laws.proofs.FaultResults.{Up, same_fault, bound_err, with_file_err, chosen_err, within_reached, reached_later, here, whole}
+use Rattle.c_checking_laws.proofs.FaultAdditions.{nothing_added, of, of_all}
+use Rattle.c_checking_laws.proofs.Within.{both, within_all, within_left}
+use Rattle.c_checking_laws.proofs.FaultParts.{Read}
+use Rattle.c_checking_laws.proofs.Faults.{faults, reading}
 use Rattle.c_checking_files.proofs.Layouts.{AreFields as AreFieldsOf, fields_are, later_fields, first_field, field_object, record_in}
 use Rattle.c_checking_files.proofs.Initials.{IsKnown, ReadFrom, behind, same_locals, sound_initial}
 use Rattle.c_checking_faults.proofs.Clear.{broken_more, begin_at, AreFresh, fresh_left, fresh_right, picked_made, begun_there, clear}

@@ -6,10 +6,10 @@ use Rattle.std.specs.Prelude.{All, Some, slice_get, ◌⊎◌}
 use Rattle.c_erasure.specs.BrokenStatements.{IsAmong}
 use Rattle.c_erasure.specs.Marks.{Mark}
 use Rattle.c_erasure.specs.Scopes.{AnObject, FileScope, Scope}
-use Rattle.c_checking.proofs.Adding.{unless, Grows}
-use Rattle.c_checking.proofs.FaultResults.{Reaches, Broken}
-use Rattle.c_checking.proofs.Within.{Additions, Within, within_all, ArePicked, picked_same, picked_behind}
-pub use Rattle.c_checking.proofs.Within.{among_left, among_right, among_split}
+use Rattle.c_checking_laws.proofs.Adding.{unless, Grows}
+use Rattle.c_checking_laws.proofs.FaultResults.{Reaches, Broken}
+use Rattle.c_checking_laws.proofs.Within.{Additions, Within, within_all, ArePicked, picked_same, picked_behind}
+pub use Rattle.c_checking_laws.proofs.Within.{among_left, among_right, among_split}
 use Rattle.c_checking_files.proofs.Parts.{Parted, none, is_made, is_bytes, NoneBegins}
 
 -- ---- what is reached

@@ -18,11 +18,11 @@ use Rattle.c_erasure.specs.Scopes.{FileScope, Scope, declared}
 use Rattle.c_checking.specs.Answers.{moved}
 use Rattle.c_checking.specs.Initializers.{initialized, initializer, is_constant_part, are_constant_parts, are_constants, constants_in}
 use Rattle.c_checking.specs.Statements.{constants_if_any}
-use Rattle.c_checking.proofs.Extends.{itself}
-use Rattle.c_checking.proofs.InRange.{IsInRange}
-use Rattle.c_checking.proofs.FaultPremises.{Prepared}
-use Rattle.c_checking.proofs.FaultResults.{Up, bound_err, with_file_err, unless_err, Broken, there, whole, reached_some}
-use Rattle.c_checking.proofs.FaultAdditions.{of}
+use Rattle.c_checking_laws.proofs.Extends.{itself}
+use Rattle.c_checking_laws.proofs.InRange.{IsInRange}
+use Rattle.c_checking_laws.proofs.FaultPremises.{Prepared}
+use Rattle.c_checking_laws.proofs.FaultResults.{Up, bound_err, with_file_err, unless_err, Broken, there, whole, reached_some}
+use Rattle.c_checking_laws.proofs.FaultAdditions.{of}
 use Rattle.c_checking_files.proofs.Layouts.{IsLaid}
 use Rattle.c_checking_files.proofs.Initials.{IsKnown, ReadFrom, same_locals}
 use Rattle.c_checking_files.proofs.Wholes.{sound_whole}

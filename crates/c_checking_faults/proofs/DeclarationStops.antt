@@ -19,12 +19,12 @@ use Rattle.c_checking.specs.Answers.{Answer, moved}
 use Rattle.c_checking.specs.Declaring.{base_kind}
 use Rattle.c_checking.specs.Finding.{base_type, one_of}
 use Rattle.c_checking.specs.Statements.{in_scope, variable_of, declare_as, declare_named, declare_all, local_storage, some_declared, local_declaration}
-use Rattle.c_checking.proofs.InRange.{IsDeclaratorInRange}
-use Rattle.c_checking.proofs.Results.{bound_ok, given}
-use Rattle.c_checking.proofs.FaultPremises.{AreKnown, AreSpecifiersTimely, IsDeclaratorTimely}
-use Rattle.c_checking.proofs.FaultResults.{Up, same_fault, bound_err}
-use Rattle.c_checking.proofs.FaultTypes.{base_stops}
-use Rattle.c_checking.proofs.Faults.{faults_one}
+use Rattle.c_checking_laws.proofs.InRange.{IsDeclaratorInRange}
+use Rattle.c_checking_laws.proofs.Results.{bound_ok, given}
+use Rattle.c_checking_laws.proofs.FaultPremises.{AreKnown, AreSpecifiersTimely, IsDeclaratorTimely}
+use Rattle.c_checking_laws.proofs.FaultResults.{Up, same_fault, bound_err}
+use Rattle.c_checking_laws.proofs.FaultTypes.{base_stops}
+use Rattle.c_checking_laws.proofs.Faults.{faults_one}
 use Rattle.c_checking_files.proofs.Declarations.{IsDeclarationInRange, AreDeclaratorsInRange, static_places, made_by, made_same, first_named, variable_part}
 use Rattle.c_checking_files.proofs.Declarations.{declarator_named}
 use Rattle.c_checking_files.proofs.LocalObjects.{IsValueInRange}
@@ -33,8 +33,8 @@ use Rattle.c_checking_files.proofs.Longer.{seen}
 use Rattle.c_checking_files.proofs.StatementParts.{base_in}
 use Rattle.c_checking_faults.proofs.Clear.{AreFresh, fresh_left}
 use Rattle.c_checking_faults.proofs.InnerAdditions.{inner, at_specifiers, at_declarator, at_object, at_named, at_local, at_locals, at_declaration}
-use Rattle.c_checking.proofs.FaultAdditions.{of_specifiers, of_declarator}
-use Rattle.c_checking.proofs.Within.{Additions, both, within_said}
+use Rattle.c_checking_laws.proofs.FaultAdditions.{of_specifiers, of_declarator}
+use Rattle.c_checking_laws.proofs.Within.{Additions, both, within_said}
 use Rattle.c_erasure.specs.MentionPlaces.{spoken_of_declarators}
 use Rattle.c_checking_faults.proofs.DeclaredLocals.{objects_declared_by}
 use Rattle.c_checking_faults.proofs.LocalStops.{IsValueTimely, IsObjectBroken, object_stops}

@@ -11,8 +11,8 @@ use Rattle.c_erasure.specs.BrokenStatements.{IsAmong}
 use Rattle.c_erasure.specs.Files.{count_up}
 use Rattle.c_erasure.specs.Scopes.{ALocal}
 use Rattle.c_erasure.specs.Statements.{Statement, Statements, Arms}
-use Rattle.c_checking.proofs.Agreement.{IsObjectType}
-use Rattle.c_checking.proofs.Extends.{one_of_both}
+use Rattle.c_checking_laws.proofs.Agreement.{IsObjectType}
+use Rattle.c_checking_laws.proofs.Extends.{one_of_both}
 use Rattle.c_checking_files.proofs.Declarations.{typed_statements}
 use Rattle.c_checking_files.proofs.StatementLaws.{typed_statement, typed_arms}
 use Rattle.c_checking_faults.proofs.Clear.{among_split}

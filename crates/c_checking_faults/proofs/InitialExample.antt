@@ -12,10 +12,10 @@ use Rattle.c_erasure.specs.Literals.{literals}
 use Rattle.c_erasure.specs.Marks.{marks}
 use Rattle.c_erasure.specs.Scopes.{FileScope, Scope, at_file_scope}
 use Rattle.c_checking.specs.Initializers.{initialized, elements, initializer}
-use Rattle.c_checking.proofs.FaultPremises.{Prepared}
-use Rattle.c_checking.proofs.FaultResults.{Up, Broken}
-use Rattle.c_checking.proofs.FaultAdditions.{of}
-use Rattle.c_checking.proofs.Extends.{itself}
+use Rattle.c_checking_laws.proofs.FaultPremises.{Prepared}
+use Rattle.c_checking_laws.proofs.FaultResults.{Up, Broken}
+use Rattle.c_checking_laws.proofs.FaultAdditions.{of}
+use Rattle.c_checking_laws.proofs.Extends.{itself}
 use Rattle.c_checking_faults.proofs.Clear.{AreFresh}
 use Rattle.c_checking_faults.proofs.Constants.{initializer_faults}
 

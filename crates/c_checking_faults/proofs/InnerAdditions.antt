@@ -7,7 +7,7 @@ use Rattle.c_erasure.specs.Literals.{made_by_start, made_by_declaration}
 use Rattle.c_erasure.specs.MentionPlaces.{spoken, spoken_by_value, spoken_of_specifiers, spoken_of_declarator, spoken_of_declarators, spoken_of_declaration}
 use Rattle.c_erasure.specs.MentionPlaces.{spoken_if_some, spoken_of_start, spoken_of_labels, spoken_by, spoken_by_item, spoken_by_items, spoken_by_switch_item}
 use Rattle.c_erasure.specs.MentionPlaces.{spoken_by_switch_items}
-use Rattle.c_checking.proofs.Within.{Additions}
+use Rattle.c_checking_laws.proofs.Within.{Additions}
 use Rattle.c_checking_files.proofs.Declarations as Declared
 use Rattle.c_checking_files.proofs.Declarations.{static_places}
 

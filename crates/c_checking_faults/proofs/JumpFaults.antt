@@ -14,8 +14,8 @@ use Rattle.c_erasure.specs.Statements.{Statement}
 use Rattle.c_checking.specs.Answers.{Answer}
 use Rattle.c_checking.specs.Nodes.{null, converted}
 use Rattle.c_checking.specs.Statements.{unless_static, switch_value, switched_in, jump, returned_in, returned_nothing, unless_void}
-use Rattle.c_checking.proofs.Results.{given}
-use Rattle.c_checking.proofs.FaultResults.{same_fault, chosen_err, unless_err}
+use Rattle.c_checking_laws.proofs.Results.{given}
+use Rattle.c_checking_laws.proofs.FaultResults.{same_fault, chosen_err, unless_err}
 
 pub jump_fault : (at : ℕ) (may : Bool) (st : Statement) (fault : Fault) → jump at may st ≡ Err fault → (fault ≡ ill_typed R.Jump at) × (may ≡ false)
 jump_fault at may st fault h = let b = unless_err may st R.Jump at fault h in (b.1, b.0)

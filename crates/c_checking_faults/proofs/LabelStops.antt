@@ -16,15 +16,15 @@ use Rattle.c_erasure.specs.Scopes.{FileScope, Scope, for_value}
 use Rattle.c_checking.specs.Answers.{moved}
 use Rattle.c_checking.specs.Finding.{value_at, constant_at, find}
 use Rattle.c_checking.specs.Statements.{with_case, with_default, labels_in}
-use Rattle.c_checking.proofs.Results.{given, chosen, only_if}
-use Rattle.c_checking.proofs.FaultPremises.{IsTimely}
-use Rattle.c_checking.proofs.FaultParts.{StopsAtConstant}
-use Rattle.c_checking.proofs.FaultAdditions.{of_constant}
-use Rattle.c_checking.proofs.FaultResults.{Up, same_fault, bound_err, beside_err, chosen_err, unless_err}
-use Rattle.c_checking.proofs.Within.{Additions}
+use Rattle.c_checking_laws.proofs.Results.{given, chosen, only_if}
+use Rattle.c_checking_laws.proofs.FaultPremises.{IsTimely}
+use Rattle.c_checking_laws.proofs.FaultParts.{StopsAtConstant}
+use Rattle.c_checking_laws.proofs.FaultAdditions.{of_constant}
+use Rattle.c_checking_laws.proofs.FaultResults.{Up, same_fault, bound_err, beside_err, chosen_err, unless_err}
+use Rattle.c_checking_laws.proofs.Within.{Additions}
 use Rattle.c_erasure.specs.MentionPlaces.{spoken}
 use Rattle.c_checking_faults.proofs.InnerAdditions.{at_labels}
-use Rattle.c_checking.proofs.Faults.{constant_faults}
+use Rattle.c_checking_laws.proofs.Faults.{constant_faults}
 use Rattle.c_checking_files.proofs.Labels.{AreLabelsInRange, pushed, constant_as}
 use Rattle.c_checking_files.proofs.Longer.{seen}
 use Rattle.c_checking_faults.proofs.Clear.{among_left, among_right, among_split, AreFresh}

@@ -17,13 +17,13 @@ use Rattle.c_erasure.specs.Statements.{with_object}
 use Rattle.c_checking.specs.Initializers.{initializer}
 use Rattle.c_checking.specs.Statements.{in_scope, initial_if_any, constants_if_any, static_object, objects_in, with_static, with_new_local}
 use Rattle.c_checking.specs.Statements.{declare_as}
-use Rattle.c_checking.proofs.Agreement.{IsObjectType}
-use Rattle.c_checking.proofs.Extends.{itself, last_or, at_end}
-use Rattle.c_checking.proofs.FaultDeclaring.{orderly_stays}
-use Rattle.c_checking.proofs.FaultAdditions.{of}
-use Rattle.c_checking.proofs.FaultResults.{bound_err}
-use Rattle.c_checking.proofs.Adding.{object_adds}
-use Rattle.c_checking.proofs.Within.{within_all, picked_same}
+use Rattle.c_checking_laws.proofs.Agreement.{IsObjectType}
+use Rattle.c_checking_laws.proofs.Extends.{itself, last_or, at_end}
+use Rattle.c_checking_laws.proofs.FaultDeclaring.{orderly_stays}
+use Rattle.c_checking_laws.proofs.FaultAdditions.{of}
+use Rattle.c_checking_laws.proofs.FaultResults.{bound_err}
+use Rattle.c_checking_laws.proofs.Adding.{object_adds}
+use Rattle.c_checking_laws.proofs.Within.{within_all, picked_same}
 use Rattle.c_checking_files.proofs.Declarations.{static_places}
 use Rattle.c_checking_files.proofs.Initials.{ReadFrom}
 use Rattle.c_checking_files.proofs.LocalObjects.{IsValueInRange, new_within, whole_in}

@@ -15,9 +15,9 @@ use Rattle.c_erasure.specs.Scopes.{FileScope, Scope, inside, declared}
 use Rattle.c_checking.specs.Answers.{moved}
 use Rattle.c_checking.specs.Statements.{in_scope, value_of_expression, condition, local_declaration}
 use Rattle.c_checking.specs.Statements.{labels_in, Found, switched_in, jump, returned_in, returned_nothing, performed, item_in, items_in, switch_items, switch_item}
-use Rattle.c_checking.proofs.Results.{bound_ok, given}
-use Rattle.c_checking.proofs.FaultParts.{value_is}
-use Rattle.c_checking.proofs.FaultResults.{bound_err}
+use Rattle.c_checking_laws.proofs.Results.{bound_ok, given}
+use Rattle.c_checking_laws.proofs.FaultParts.{value_is}
+use Rattle.c_checking_laws.proofs.FaultResults.{bound_err}
 use Rattle.c_checking_files.proofs.Labels.{labels_found}
 use Rattle.c_checking_files.proofs.Longer.{seen}
 use Rattle.c_checking_files.proofs.StatementLaws.{IsStatementInRange, IsItemInRange, AreItemsInRange, IsSwitchItemInRange, AreSwitchItemsInRange}
@@ -25,8 +25,8 @@ use Rattle.c_checking_files.proofs.StatementParts.{same_seen, then_as, value_as,
 use Rattle.c_checking_files.proofs.Statements.{IsStatementThere, sound_statement, sound_item, sound_switch_item}
 use Rattle.c_checking_faults.proofs.Clear.{AreFresh, fresh_left}
 use Rattle.c_checking_faults.proofs.InnerAdditions.{at_value, at_labels, at_statement, at_item, at_items, at_switch_item, at_switch_items}
-use Rattle.c_checking.proofs.FaultAdditions.{nothing_added}
-use Rattle.c_checking.proofs.Within.{both}
+use Rattle.c_checking_laws.proofs.FaultAdditions.{nothing_added}
+use Rattle.c_checking_laws.proofs.Within.{both}
 use Rattle.c_checking_faults.proofs.DeclaredLocals.{objects_declared, objects_declared_by}
 use Rattle.c_checking_faults.proofs.DeclarationStops.{declaration_stops}
 use Rattle.c_checking_faults.proofs.JumpFaults.{jump_fault, nothing_fault, void_fault, returned_fault, switched_fault, switched_promotes}

@@ -8,13 +8,13 @@ use Rattle.c_types.specs.Types.{CType, Record}
 use Rattle.c_erasure.specs.BrokenStatements.{IsAmong}
 use Rattle.c_erasure.specs.Marks.{Mark}
 use Rattle.c_erasure.specs.Scopes.{AnObject, FileScope, Scope, ALocal, in_full, is_measured}
-use Rattle.c_checking.proofs.Adding.{makes_none}
-use Rattle.c_checking.proofs.Within.{Additions, both, Within, within_nothing, within_all, within_left, within_then, within_inside, ArePicked, picked_same}
-use Rattle.c_checking.proofs.Agreement.{IsObjectType, IsSteady}
-use Rattle.c_checking.proofs.Extends.{Extends, itself, further}
-use Rattle.c_checking.proofs.FaultDeclaring.{IsOrderly, orderly_stays}
-use Rattle.c_checking.proofs.FaultPremises.{Prepared, inside_prepared}
-use Rattle.c_checking.proofs.FaultResults.{Up, Reaches, reaches_itself, within_reached, Broken}
+use Rattle.c_checking_laws.proofs.Adding.{makes_none}
+use Rattle.c_checking_laws.proofs.Within.{Additions, both, Within, within_nothing, within_all, within_left, within_then, within_inside, ArePicked, picked_same}
+use Rattle.c_checking_laws.proofs.Agreement.{IsObjectType, IsSteady}
+use Rattle.c_checking_laws.proofs.Extends.{Extends, itself, further}
+use Rattle.c_checking_laws.proofs.FaultDeclaring.{IsOrderly, orderly_stays}
+use Rattle.c_checking_laws.proofs.FaultPremises.{Prepared, inside_prepared}
+use Rattle.c_checking_laws.proofs.FaultResults.{Up, Reaches, reaches_itself, within_reached, Broken}
 use Rattle.c_checking_files.proofs.Kept.{AreObjectsWhole}
 use Rattle.c_checking_files.proofs.Layouts.{IsLaid, records_grow}
 use Rattle.c_checking_files.proofs.Longer.{seen, GoesOn, goes_further}

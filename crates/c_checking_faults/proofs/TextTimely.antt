@@ -23,8 +23,8 @@ use Rattle.c_order.proofs.Walks.{comma_along, consts_along}
 use Rattle.c_order.proofs.MarksOfParts.{along, declarator_along, specifiers_along, optional_along, parameter_list_along}
 use Rattle.c_order.proofs.MarksOfFiles.{initializer_along, declarators_along, if_any_along, labels_along, for_start_along, statement_along, block_item_along}
 use Rattle.c_order.proofs.MarksOfFiles.{block_items_along, switch_item_along, switch_items_along}
-use Rattle.c_checking.proofs.Agreement.{added}
-use Rattle.c_checking.proofs.FaultPremises.{AreKnown}
+use Rattle.c_checking_laws.proofs.Agreement.{added}
+use Rattle.c_checking_laws.proofs.FaultPremises.{AreKnown}
 use Rattle.c_checking_order.proofs.Ahead.{Ahead, Standing, known, earlier, ahead_same}
 use Rattle.c_checking_order.proofs.Timely.{timely, timely_specifiers, timely_declarator}
 use Rattle.c_checking_items.proofs.InTextTime as Text

@@ -13,10 +13,10 @@ use Rattle.c_erasure.specs.MentionPlaces.{mentions_of_file, mentions_of_item}
 use Rattle.c_erasure.specs.Scopes.{AMention, FileScope}
 use Rattle.c_text_order.specs.TextOrder.{Rising, places_of_item}
 use Rattle.c_checking.specs.Files.{unread}
-use Rattle.c_checking.proofs.Adding.{unless, Adds, beginnings_append, defined_append, take_front}
-use Rattle.c_checking.proofs.Extends.{Extends}
-use Rattle.c_checking.proofs.Within.{FirstOf, first_left, first_then, ArePicked, picked_left, picked_both, among_left, among_right, among_split}
-use Rattle.c_checking.proofs.Within.{Additions, both, Within, within_all}
+use Rattle.c_checking_laws.proofs.Adding.{unless, Adds, beginnings_append, defined_append, take_front}
+use Rattle.c_checking_laws.proofs.Extends.{Extends}
+use Rattle.c_checking_laws.proofs.Within.{FirstOf, first_left, first_then, ArePicked, picked_left, picked_both, among_left, among_right, among_split}
+use Rattle.c_checking_laws.proofs.Within.{Additions, both, Within, within_all}
 use Rattle.c_checking_items.proofs.Items.{places_in}
 use Rattle.c_checking_items.proofs.Orders.{all_from_slices}
 use Rattle.c_checking_items.proofs.Stepping.{Stepped}

@@ -23,9 +23,9 @@ use Rattle.c_checking.specs.Answers.{◌>>=◌, Checked, with_file}
 use Rattle.c_checking.specs.Finding.{value_at}
 use Rattle.c_checking.specs.Initializers.{initial_value_in, value_part, initial_record_in, bytes_in, text_of_array, without_braces}
 use Rattle.c_checking.specs.Nodes.{null}
-use Rattle.c_checking.proofs.Extends.{itself}
-use Rattle.c_checking.proofs.FaultResults.{same_fault, bound_err, beside_err, with_file_err, chosen_err, unless_err, Broken, here, there, whole}
-use Rattle.c_checking.proofs.FaultParts.{Read, thing_stands, value_stands, value_part as part_for_value}
+use Rattle.c_checking_laws.proofs.Extends.{itself}
+use Rattle.c_checking_laws.proofs.FaultResults.{same_fault, bound_err, beside_err, with_file_err, chosen_err, unless_err, Broken, here, there, whole}
+use Rattle.c_checking_laws.proofs.FaultParts.{Read, thing_stands, value_stands, value_part as part_for_value}
 
 -- ---- values, records, texts
 

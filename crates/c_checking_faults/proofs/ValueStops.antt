@@ -14,13 +14,13 @@ use Rattle.c_erasure.specs.Noted.{Expression, type_of}
 use Rattle.c_erasure.specs.Scopes.{FileScope, Scope}
 use Rattle.c_checking.specs.Finding.{value_at, find}
 use Rattle.c_checking.specs.Statements.{value_of_expression, value_if_any, condition_in, condition, condition_if_any}
-use Rattle.c_checking.proofs.InRange.{IsInRange}
-use Rattle.c_checking.proofs.FaultPremises.{IsTimely}
-use Rattle.c_checking.proofs.FaultResults as Results
-use Rattle.c_checking.proofs.FaultAdditions.{of}
-use Rattle.c_checking.proofs.FaultResults.{Up, bound_err, unless_err}
-use Rattle.c_checking.proofs.FaultParts.{value_is}
-use Rattle.c_checking.proofs.Faults.{value_faults}
+use Rattle.c_checking_laws.proofs.InRange.{IsInRange}
+use Rattle.c_checking_laws.proofs.FaultPremises.{IsTimely}
+use Rattle.c_checking_laws.proofs.FaultResults as Results
+use Rattle.c_checking_laws.proofs.FaultAdditions.{of}
+use Rattle.c_checking_laws.proofs.FaultResults.{Up, bound_err, unless_err}
+use Rattle.c_checking_laws.proofs.FaultParts.{value_is}
+use Rattle.c_checking_laws.proofs.Faults.{value_faults}
 use Rattle.c_checking_files.proofs.Longer.{seen}
 use Rattle.c_checking_files.proofs.StatementLaws.{IsInRangeIfAny}
 use Rattle.c_checking_files.proofs.StatementParts.{value_as}

@@ -19,19 +19,19 @@ use Rattle.c_checking.specs.Answers.{moved}
 use Rattle.c_checking.specs.Declaring.{derived}
 use Rattle.c_checking.specs.Finding.{complete, derivations}
 use Rattle.c_checking.specs.Statements.{counted_array, sized_in, variable_type, variable_of}
-use Rattle.c_checking.proofs.Agreement.{added}
-use Rattle.c_checking.proofs.Extends.{itself, constants_stay}
-use Rattle.c_checking.proofs.Growth.{grow_steps}
-use Rattle.c_checking.proofs.InRange.{IsDeclaratorInRange}
-use Rattle.c_checking.proofs.Sound.{sound_steps}
-use Rattle.c_checking.proofs.FaultDeclaring.{small_fault, object_fault, new_fault}
-use Rattle.c_checking.proofs.FaultPremises.{known_after, AreKnown, IsDeclaratorTimely}
-use Rattle.c_checking.proofs.FaultAdditions.{of_declarator}
-use Rattle.c_checking.proofs.FaultResults as Results
-use Rattle.c_checking.proofs.FaultResults.{Up, same_fault, bound_err, beside_err, chosen_err, Broken, whole, there, reached}
-use Rattle.c_checking.proofs.FaultSteps.{read_steps, asked}
-use Rattle.c_checking.proofs.FaultTypes.{within_broken}
-use Rattle.c_checking.proofs.Faults.{faults_steps}
+use Rattle.c_checking_laws.proofs.Agreement.{added}
+use Rattle.c_checking_laws.proofs.Extends.{itself, constants_stay}
+use Rattle.c_checking_laws.proofs.Growth.{grow_steps}
+use Rattle.c_checking_laws.proofs.InRange.{IsDeclaratorInRange}
+use Rattle.c_checking_laws.proofs.Sound.{sound_steps}
+use Rattle.c_checking_laws.proofs.FaultDeclaring.{small_fault, object_fault, new_fault}
+use Rattle.c_checking_laws.proofs.FaultPremises.{known_after, AreKnown, IsDeclaratorTimely}
+use Rattle.c_checking_laws.proofs.FaultAdditions.{of_declarator}
+use Rattle.c_checking_laws.proofs.FaultResults as Results
+use Rattle.c_checking_laws.proofs.FaultResults.{Up, same_fault, bound_err, beside_err, chosen_err, Broken, whole, there, reached}
+use Rattle.c_checking_laws.proofs.FaultSteps.{read_steps, asked}
+use Rattle.c_checking_laws.proofs.FaultTypes.{within_broken}
+use Rattle.c_checking_laws.proofs.Faults.{faults_steps}
 use Rattle.c_checking_files.proofs.Locals.{IsSizedOver, sized_so}
 use Rattle.c_checking_faults.proofs.Stopped.{IsIn, prepared, many}
 

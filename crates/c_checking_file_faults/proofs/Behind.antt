@@ -7,10 +7,10 @@ use Rattle.c_erasure.specs.Marks.{Mark, scope_beginnings, defined_in}
 use Rattle.c_erasure.specs.Scopes.{FileScope, Scope, Bound, ALocal, AnObject, Entity, typedef, enumerator, an_object, a_function}
 use Rattle.c_erasure.specs.Scopes.{a_library_function, a_local}
 use Rattle.c_erasure.specs.Scopes.{a_parameter, at_file_scope}
-use Rattle.c_checking.proofs.Agreement.{IsFit, AreFit, IsGrown, IsSteady, IsObjectType, AreBegun, AreBefore}
-use Rattle.c_checking.proofs.Declared.{number_is}
-use Rattle.c_checking.proofs.Extends.{Extends, one_of_both}
-use Rattle.c_checking.proofs.FaultResults.{Reaches, reaches_itself, reaches_then, Broken}
+use Rattle.c_checking_laws.proofs.Agreement.{IsFit, AreFit, IsGrown, IsSteady, IsObjectType, AreBegun, AreBefore}
+use Rattle.c_checking_laws.proofs.Declared.{number_is}
+use Rattle.c_checking_laws.proofs.Extends.{Extends, one_of_both}
+use Rattle.c_checking_laws.proofs.FaultResults.{Reaches, reaches_itself, reaches_then, Broken}
 use Rattle.c_checking_items.proofs.Known.{IsKnown}
 use Rattle.c_checking_items.proofs.Stepping.{counted_by}
 use Rattle.c_checking_faults.proofs.Clear.{reaches_more}

@@ -43,19 +43,19 @@ use Rattle.c_checking.specs.Files.{with_new_object}
 use Rattle.c_checking.specs.Finding.{complete, derivations}
 use Rattle.c_checking.specs.Initializers.{initializer}
 use Rattle.c_checking.specs.Statements.{sized_in, constants_if_any}
-use Rattle.c_checking.proofs.Agreement.{added, IsGrown}
-use Rattle.c_checking.proofs.Declared.{before_mention, mentioned}
-use Rattle.c_checking.proofs.Derived.{object_is}
-use Rattle.c_checking.proofs.Extends.{Extends, itself, further, bound_stays, at_end, last_or}
-use Rattle.c_checking.proofs.FaultDeclaring.{object_fault, small_fault}
-use Rattle.c_checking.proofs.FaultPremises as Premises
-use Rattle.c_checking.proofs.FaultPremises.{IsPrepared, IsDeclaratorTimely, AreKnown, known_after}
-use Rattle.c_checking.proofs.FaultResults.{same_fault, bound_err, chosen_err, reached, Reaches, reaches_then, reaches_itself, Broken}
-use Rattle.c_checking.proofs.FaultSteps.{read_steps, asked}
-use Rattle.c_checking.proofs.FaultTypes.{within_broken}
-use Rattle.c_checking.proofs.Faults.{faults_steps}
-use Rattle.c_checking.proofs.Growth.{grow_steps}
-use Rattle.c_checking.proofs.Sound.{sound_steps}
+use Rattle.c_checking_laws.proofs.Agreement.{added, IsGrown}
+use Rattle.c_checking_laws.proofs.Declared.{before_mention, mentioned}
+use Rattle.c_checking_laws.proofs.Derived.{object_is}
+use Rattle.c_checking_laws.proofs.Extends.{Extends, itself, further, bound_stays, at_end, last_or}
+use Rattle.c_checking_laws.proofs.FaultDeclaring.{object_fault, small_fault}
+use Rattle.c_checking_laws.proofs.FaultPremises as Premises
+use Rattle.c_checking_laws.proofs.FaultPremises.{IsPrepared, IsDeclaratorTimely, AreKnown, known_after}
+use Rattle.c_checking_laws.proofs.FaultResults.{same_fault, bound_err, chosen_err, reached, Reaches, reaches_then, reaches_itself, Broken}
+use Rattle.c_checking_laws.proofs.FaultSteps.{read_steps, asked}
+use Rattle.c_checking_laws.proofs.FaultTypes.{within_broken}
+use Rattle.c_checking_laws.proofs.Faults.{faults_steps}
+use Rattle.c_checking_laws.proofs.Growth.{grow_steps}
+use Rattle.c_checking_laws.proofs.Sound.{sound_steps}
 use Rattle.c_checking_files.proofs.FileScopes.{MayDeclare}
 use Rattle.c_checking_files.proofs.Kept.{undeclared}
 use Rattle.c_checking_files.proofs.Locals.{IsSizedOver, sized_so}

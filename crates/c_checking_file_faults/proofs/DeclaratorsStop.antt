@@ -17,11 +17,11 @@ use Rattle.c_erasure.specs.MentionPlaces.{spoken_of_declarator, spoken_by_value,
 use Rattle.c_erasure.specs.Scopes.{FileScope, Bound, AnObject, AFunction, at_file_scope}
 use Rattle.c_erasure.specs.Specifiers.{Storage}
 use Rattle.c_checking.specs.Files.{declarator_named, file_declarators}
-use Rattle.c_checking.proofs.Agreement as Agreement
-use Rattle.c_checking.proofs.Agreement.{Ready, beginnings_append, IsGrown}
-use Rattle.c_checking.proofs.Extends.{behind}
-use Rattle.c_checking.proofs.FaultPremises.{IsPrepared, left, right, IsDeclaratorTimely, AreKnown}
-use Rattle.c_checking.proofs.FaultResults.{bound_err, Reaches}
+use Rattle.c_checking_laws.proofs.Agreement as Agreement
+use Rattle.c_checking_laws.proofs.Agreement.{Ready, beginnings_append, IsGrown}
+use Rattle.c_checking_laws.proofs.Extends.{behind}
+use Rattle.c_checking_laws.proofs.FaultPremises.{IsPrepared, left, right, IsDeclaratorTimely, AreKnown}
+use Rattle.c_checking_laws.proofs.FaultResults.{bound_err, Reaches}
 use Rattle.c_checking_files.proofs.Declarations.{first_named}
 use Rattle.c_text_order.specs.TextOrder.{Rising, places_of_declarators, names_of_declarators, place_of_name}
 use Rattle.c_checking_items.proofs.DeclarationItems.{AreDeclaratorsFit, MayDeclareAll}

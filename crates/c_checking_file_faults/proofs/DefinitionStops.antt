@@ -28,19 +28,19 @@ use Rattle.c_checking.specs.Files.{function_storage, Received, received_by, libr
 use Rattle.c_checking.specs.Files.{definition_named, function_definition}
 use Rattle.c_checking.specs.Finding.{base_type, one_of, derivations}
 use Rattle.c_checking.specs.Statements.{items_in}
-use Rattle.c_checking.proofs.Adding.{mention_before}
-use Rattle.c_checking.proofs.Agreement.{added, IsGrown, IsSteady}
-use Rattle.c_checking.proofs.Declared.{mentioned, before_mention}
-use Rattle.c_checking.proofs.Extends.{Extends, itself, further, at_end}
-use Rattle.c_checking.proofs.FaultDeclaring.{IsOrderly, orderly_stays}
-use Rattle.c_checking.proofs.FaultPremises.{IsPrepared, left, right, AreSpecifiersTimely, IsDeclaratorTimely}
-use Rattle.c_checking.proofs.FaultResults.{same_fault, bound_err, reached, Reaches, reaches_then, reaches_itself, reaches_outside}
-use Rattle.c_checking.proofs.FaultSteps.{read_steps}
-use Rattle.c_checking.proofs.FaultTypes.{within_broken, base_stops}
-use Rattle.c_checking.proofs.Faults.{faults_one, faults_steps}
-use Rattle.c_checking.proofs.Growth.{grow_base, grow_steps}
-use Rattle.c_checking.proofs.Results.{bound_ok}
-use Rattle.c_checking.proofs.Sound.{sound_base, sound_steps}
+use Rattle.c_checking_laws.proofs.Adding.{mention_before}
+use Rattle.c_checking_laws.proofs.Agreement.{added, IsGrown, IsSteady}
+use Rattle.c_checking_laws.proofs.Declared.{mentioned, before_mention}
+use Rattle.c_checking_laws.proofs.Extends.{Extends, itself, further, at_end}
+use Rattle.c_checking_laws.proofs.FaultDeclaring.{IsOrderly, orderly_stays}
+use Rattle.c_checking_laws.proofs.FaultPremises.{IsPrepared, left, right, AreSpecifiersTimely, IsDeclaratorTimely}
+use Rattle.c_checking_laws.proofs.FaultResults.{same_fault, bound_err, reached, Reaches, reaches_then, reaches_itself, reaches_outside}
+use Rattle.c_checking_laws.proofs.FaultSteps.{read_steps}
+use Rattle.c_checking_laws.proofs.FaultTypes.{within_broken, base_stops}
+use Rattle.c_checking_laws.proofs.Faults.{faults_one, faults_steps}
+use Rattle.c_checking_laws.proofs.Growth.{grow_base, grow_steps}
+use Rattle.c_checking_laws.proofs.Results.{bound_ok}
+use Rattle.c_checking_laws.proofs.Sound.{sound_base, sound_steps}
 use Rattle.c_checking_files.proofs.Bodies.{parameters_are}
 use Rattle.c_checking_files.proofs.FileScopes.{MayDeclare, IsTheFunction, function_is, bound_put}
 use Rattle.c_checking_files.proofs.Keeping.{keep_base, keep_steps}

@@ -18,12 +18,12 @@ use Rattle.c_erasure.specs.Specifiers.{storage_of}
 use Rattle.c_checking.specs.Declaring.{base_kind}
 use Rattle.c_checking.specs.Files.{file_declarators, file_declaration, is_empty}
 use Rattle.c_checking.specs.Finding.{base_type, one_of}
-use Rattle.c_checking.proofs.FaultPremises.{IsPrepared, left, right, AreSpecifiersTimely}
-use Rattle.c_checking.proofs.FaultResults.{same_fault, bound_err, chosen_err, Reaches, reaches_itself}
-use Rattle.c_checking.proofs.FaultTypes.{base_stops}
-use Rattle.c_checking.proofs.Faults.{faults_one}
-use Rattle.c_checking.proofs.Growth.{grow_base}
-use Rattle.c_checking.proofs.Sound.{sound_base}
+use Rattle.c_checking_laws.proofs.FaultPremises.{IsPrepared, left, right, AreSpecifiersTimely}
+use Rattle.c_checking_laws.proofs.FaultResults.{same_fault, bound_err, chosen_err, Reaches, reaches_itself}
+use Rattle.c_checking_laws.proofs.FaultTypes.{base_stops}
+use Rattle.c_checking_laws.proofs.Faults.{faults_one}
+use Rattle.c_checking_laws.proofs.Growth.{grow_base}
+use Rattle.c_checking_laws.proofs.Sound.{sound_base}
 use Rattle.c_checking_files.proofs.Keeping.{keep_base}
 use Rattle.c_text_order.specs.TextOrder.{places_of_declarators, names_of_declarators}
 use Rattle.c_checking_items.proofs.DeclarationItems.{AreDeclaratorsFit, MayDeclareIn}

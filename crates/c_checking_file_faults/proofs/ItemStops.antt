@@ -12,8 +12,8 @@ use Rattle.c_erasure.specs.Marks.{Mark}
 use Rattle.c_erasure.specs.Scopes.{FileScope}
 use Rattle.c_checking.specs.Answers.{Answer}
 use Rattle.c_checking.specs.Files.{item_nodes, filed_item, filed, unread, closed_file, annotated}
-use Rattle.c_checking.proofs.FaultResults.{bound_err, Reaches}
-use Rattle.c_checking.proofs.Results.{ok}
+use Rattle.c_checking_laws.proofs.FaultResults.{bound_err, Reaches}
+use Rattle.c_checking_laws.proofs.Results.{ok}
 use Rattle.c_text_order.specs.TextOrder.{places_of_item}
 use Rattle.c_checking_items.proofs.Known.{IsKnown, none_new}
 use Rattle.c_checking_items.proofs.Stepping.{Stepped, no_step}

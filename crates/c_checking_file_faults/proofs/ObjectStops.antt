@@ -25,10 +25,10 @@ use Rattle.c_erasure.specs.Statements.{IsSized}
 use Rattle.c_checking.specs.Declaring.{declared_among, with_bound}
 use Rattle.c_checking.specs.Files.{library_named, declare_object, object_of, defined_once, define_object, defined_among, new_object, with_new_object}
 use Rattle.c_checking.specs.Statements.{constants_if_any}
-use Rattle.c_checking.proofs.Agreement.{added, IsGrown}
-use Rattle.c_checking.proofs.Extends.{Extends, itself, further, bound_stays, at_end, last_or}
-use Rattle.c_checking.proofs.FaultPremises.{IsPrepared, right}
-use Rattle.c_checking.proofs.FaultResults.{bound_err, Reaches, reaches_then, reaches_itself}
+use Rattle.c_checking_laws.proofs.Agreement.{added, IsGrown}
+use Rattle.c_checking_laws.proofs.Extends.{Extends, itself, further, bound_stays, at_end, last_or}
+use Rattle.c_checking_laws.proofs.FaultPremises.{IsPrepared, right}
+use Rattle.c_checking_laws.proofs.FaultResults.{bound_err, Reaches, reaches_then, reaches_itself}
 use Rattle.c_checking_files.proofs.FileScopes.{MayDeclare, bound_put}
 use Rattle.c_checking_files.proofs.FileObjects.{IsTheObject, object_is}
 use Rattle.c_checking_files.proofs.Kept.{are_complete}

@@ -17,12 +17,12 @@ use Rattle.c_checking.specs.Declaring.{base_kind, with_mention, mentions_in, der
 use Rattle.c_checking.specs.Files.{function_storage, Received, received_by, library_named, define_function, define_shape, definition_named}
 use Rattle.c_checking.specs.Files.{function_definition}
 use Rattle.c_checking.specs.Finding.{base_type, one_of, derivations}
-use Rattle.c_checking.proofs.Adding.{mention_before}
-use Rattle.c_checking.proofs.Declared.{mentioned}
-use Rattle.c_checking.proofs.FaultPremises.{left, right}
-use Rattle.c_checking.proofs.Growth.{grow_base, grow_steps}
-use Rattle.c_checking.proofs.Results.{bound_ok}
-use Rattle.c_checking.proofs.Sound.{sound_base, sound_steps}
+use Rattle.c_checking_laws.proofs.Adding.{mention_before}
+use Rattle.c_checking_laws.proofs.Declared.{mentioned}
+use Rattle.c_checking_laws.proofs.FaultPremises.{left, right}
+use Rattle.c_checking_laws.proofs.Growth.{grow_base, grow_steps}
+use Rattle.c_checking_laws.proofs.Results.{bound_ok}
+use Rattle.c_checking_laws.proofs.Sound.{sound_base, sound_steps}
 use Rattle.c_checking_files.proofs.Declarations.{first_named}
 use Rattle.c_checking_files.proofs.FileScopes.{MayDeclare, own_answer}
 use Rattle.c_checking_files.proofs.Keeping.{keep_base, keep_steps}

@@ -27,8 +27,8 @@ use Rattle.c_checking.specs.Files.{declarator_named}
 use Rattle.c_checking.specs.Finding.{complete, derivations}
 use Rattle.c_checking.specs.Initializers.{initializer, constants_in}
 use Rattle.c_checking.specs.Statements.{sized_in, constants_if_any}
-use Rattle.c_checking.proofs.Extends.{one_of_both}
-use Rattle.c_checking.proofs.Results.{bound_ok, given, chosen, with_file_ok}
+use Rattle.c_checking_laws.proofs.Extends.{one_of_both}
+use Rattle.c_checking_laws.proofs.Results.{bound_ok, given, chosen, with_file_ok}
 use Rattle.c_checking_files.proofs.FileScopes.{MayDeclare, own_answer, typedef_declared}
 use Rattle.c_checking_files.proofs.Kept.{IsAnEnumerator}
 use Rattle.c_checking_files.proofs.KeepingInitials.{keep_initializer}
@@ -142,8 +142,8 @@ own_after untagged types nodes_at ends before f words base d x from nodes may k 
     let place = first_declarator d.declarator x.from in
     let named = said_own untagged types nodes_at ends before f words base d x from nodes may k name (ill_typed R.Init 0) steps.0 steps.1 Named t.0 in
     let same : steps.0.1.untagged ≡ untagged =
-    (Rattle.c_checking.proofs.Sound.sound_steps untagged d.declarator (at_file_scope f) may.may.in_range
-    (Rattle.c_checking.proofs.FaultPremises.left untagged ends _ _ may.prepared).ready steps.0 steps.1).grew.extends.untagged ∙ may.may.same in
+    (Rattle.c_checking_laws.proofs.Sound.sound_steps untagged d.declarator (at_file_scope f) may.may.in_range
+    (Rattle.c_checking_laws.proofs.FaultPremises.left untagged ends _ _ may.prepared).ready steps.0 steps.1).grew.extends.untagged ∙ may.may.same in
     by_words steps.0.1 t.0 named same (by_storage words stands)
     (λ u. said_own untagged types nodes_at ends before f words base d x from nodes may k name (ill_typed R.Init 0) steps.0 steps.1 Object u) t.2
   where

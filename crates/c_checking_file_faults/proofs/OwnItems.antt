@@ -16,10 +16,10 @@ use Rattle.c_erasure.specs.Specifiers.{Storage, storage_of}
 use Rattle.c_checking.specs.Declaring.{base_kind}
 use Rattle.c_checking.specs.Files.{declarator_named, file_declarators, file_declaration, is_empty, item_nodes, filed_item}
 use Rattle.c_checking.specs.Finding.{base_type, one_of}
-use Rattle.c_checking.proofs.FaultPremises.{left, right}
-use Rattle.c_checking.proofs.Growth.{grow_base}
-use Rattle.c_checking.proofs.Results.{bound_ok, given, chosen, only_if}
-use Rattle.c_checking.proofs.Sound.{sound_base}
+use Rattle.c_checking_laws.proofs.FaultPremises.{left, right}
+use Rattle.c_checking_laws.proofs.Growth.{grow_base}
+use Rattle.c_checking_laws.proofs.Results.{bound_ok, given, chosen, only_if}
+use Rattle.c_checking_laws.proofs.Sound.{sound_base}
 use Rattle.c_checking_files.proofs.Keeping.{keep_base}
 use Rattle.c_text_order.specs.TextOrder.{names_of_declarators}
 use Rattle.c_checking_items.proofs.DeclarationItems.{AreDeclaratorsFit}

@@ -12,7 +12,7 @@ use Rattle.c_erasure.specs.Erasure.{Declares, AreParameters, AreListed, with_par
 use Rattle.c_erasure.specs.Files.{parameters_of, AreNamed, HasParameters}
 use Rattle.c_erasure.specs.Scopes.{Scope, ALocal, Bound, inside}
 use Rattle.c_checking.specs.Files.{Received, received_by, named_parameters, received, received_if_named}
-use Rattle.c_checking.proofs.Agreement.{IsObjectType}
+use Rattle.c_checking_laws.proofs.Agreement.{IsObjectType}
 use Rattle.c_checking_faults.proofs.DeclaredLocals.{AreObjectLocals}
 
 -- ---- the parameters that stand nearest to the name

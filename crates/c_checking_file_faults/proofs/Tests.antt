@@ -30,8 +30,8 @@ use Rattle.c_checking.specs.Files.{once, links}
 use Rattle.c_checking.specs.Files.{defined_among, linked_before, function_linked_before, linkage_agrees, function_linkage_agrees, known_object}
 use Rattle.c_checking.specs.Files.{object_of}
 use Rattle.c_checking.specs.Files.{known_function, function_of, library_again, place_of_bound, declare_library, without_value}
-use Rattle.c_checking.proofs.FaultResults.{same_fault, chosen_err}
-use Rattle.c_checking.proofs.NodesOfParts.{same_bytes}
+use Rattle.c_checking_laws.proofs.FaultResults.{same_fault, chosen_err}
+use Rattle.c_checking_laws.proofs.NodesOfParts.{same_bytes}
 use Rattle.c_checking_files.proofs.FileScopes.{MayDeclare}
 use Rattle.c_checking_items.proofs.Known.{AreObjectsBound, AreFunctionsBound, AreLibrariesBound}
 use Rattle.c_checking_items.proofs.Names.{declared_is}
@@ -449,7 +449,7 @@ library_fault f words m x from t which is_one named own fault h =
     either (inr b) = inr (inl (not_linked words b))
 
     another : (old : Bound) → declared_among f.names x.text ≡ Some old → (e : Entity) → old.entity ≡ e
-        → cond (library_again which (Some (record old { entity = e }))) (Rattle.c_checking.proofs.Results.ok
+        → cond (library_again which (Some (record old { entity = e }))) (Rattle.c_checking_laws.proofs.Results.ok
         (Rattle.c_checking.specs.Declaring.with_bound f
         (Rattle.c_erasure.specs.Files.bound x from declares (a_library_function which))))
         (Err (redeclared x.text x.from old.place)) ≡ Err fault → IsNoFunctionOf t old × (fault ≡ redeclared x.text x.from old.place)
@@ -471,7 +471,7 @@ library_fault f words m x from t which is_one named own fault h =
         (((λ k j. let i = sym e ∙ j in cc), (λ which j. let i = sym e ∙ j in cc)), same_fault FileScope (redeclared x.text x.from old.place) fault h)
 
     again : (o : Option Bound) → declared_among f.names x.text ≡ o
-        → cond (library_again which o) (Rattle.c_checking.proofs.Results.ok (Rattle.c_checking.specs.Declaring.with_bound f
+        → cond (library_again which o) (Rattle.c_checking_laws.proofs.Results.ok (Rattle.c_checking.specs.Declaring.with_bound f
         (Rattle.c_erasure.specs.Files.bound x from declares (a_library_function which)))) (Err (redeclared x.text x.from
         (place_of_bound o))) ≡ Err fault
         → ((fault ≡ ill_typed R.Library x.from) × IsBrokenLibrary words t x.text) ⊎ IsTakenOtherwise f words t x fault

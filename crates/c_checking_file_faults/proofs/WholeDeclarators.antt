@@ -27,22 +27,22 @@ use Rattle.c_checking.specs.Files.{library_named, declare_typedef, declare_funct
 use Rattle.c_checking.specs.Finding.{complete, derivations}
 use Rattle.c_checking.specs.Nodes.{is_complete}
 use Rattle.c_checking.specs.Statements.{sized_in}
-use Rattle.c_checking.proofs.Adding.{Adds, mention_before}
-use Rattle.c_checking.proofs.Agreement.{added, IsGrown}
-use Rattle.c_checking.proofs.Declared.{before_mention, mentioned}
-use Rattle.c_checking.proofs.Derived.{object_is}
-use Rattle.c_checking.proofs.Extends.{Extends, itself, further}
-use Rattle.c_checking.proofs.FaultDeclaring.{object_fault}
-use Rattle.c_checking.proofs.FaultPremises.{IsPrepared, left, right, IsDeclaratorTimely, AreKnown, known_after}
-use Rattle.c_checking.proofs.FaultResults.{bound_err, chosen_err, reached, Reaches, reaches_then}
-use Rattle.c_checking.proofs.FaultSteps.{read_steps, ReadSteps, asked}
-use Rattle.c_checking.proofs.FaultTypes.{within_broken}
-use Rattle.c_checking.proofs.Faults.{faults_steps}
-use Rattle.c_checking.proofs.FoundTypes.{FoundSteps}
-use Rattle.c_checking.proofs.Growth.{grow_steps}
-use Rattle.c_checking.proofs.NodesOfParts.{complete_is}
-use Rattle.c_checking.proofs.Results.{only_if, given}
-use Rattle.c_checking.proofs.Sound.{sound_steps}
+use Rattle.c_checking_laws.proofs.Adding.{Adds, mention_before}
+use Rattle.c_checking_laws.proofs.Agreement.{added, IsGrown}
+use Rattle.c_checking_laws.proofs.Declared.{before_mention, mentioned}
+use Rattle.c_checking_laws.proofs.Derived.{object_is}
+use Rattle.c_checking_laws.proofs.Extends.{Extends, itself, further}
+use Rattle.c_checking_laws.proofs.FaultDeclaring.{object_fault}
+use Rattle.c_checking_laws.proofs.FaultPremises.{IsPrepared, left, right, IsDeclaratorTimely, AreKnown, known_after}
+use Rattle.c_checking_laws.proofs.FaultResults.{bound_err, chosen_err, reached, Reaches, reaches_then}
+use Rattle.c_checking_laws.proofs.FaultSteps.{read_steps, ReadSteps, asked}
+use Rattle.c_checking_laws.proofs.FaultTypes.{within_broken}
+use Rattle.c_checking_laws.proofs.Faults.{faults_steps}
+use Rattle.c_checking_laws.proofs.FoundTypes.{FoundSteps}
+use Rattle.c_checking_laws.proofs.Growth.{grow_steps}
+use Rattle.c_checking_laws.proofs.NodesOfParts.{complete_is}
+use Rattle.c_checking_laws.proofs.Results.{only_if, given}
+use Rattle.c_checking_laws.proofs.Sound.{sound_steps}
 use Rattle.c_checking_files.proofs.FileScopes.{MayDeclare}
 use Rattle.c_checking_files.proofs.Keeping.{keep_steps}
 use Rattle.c_checking_files.proofs.Kept.{Keeps, keeps_mention}
@@ -144,7 +144,7 @@ module _ (untagged : ℕ → List ℕ) (types : List (List ℕ)) (nodes_at : ℕ
 
       -- names that the declarator itself declares are enumerators
       pub said_own : (kind : MentionKind) (t : CType) → AreOwnFunctions (said kind t).names
-      said_own kind t n b e m u is = by_part (Rattle.c_checking.proofs.Extends.one_of_both f.names names.0 n b (subst
+      said_own kind t n b e m u is = by_part (Rattle.c_checking_laws.proofs.Extends.one_of_both f.names names.0 n b (subst
           (λ all. slice_get all n ≡ Some b) names.1 e))
         where
           names : (more : List Rattle.c_erasure.specs.Scopes.Bound) × ((said kind t).names ≡ f.names ++ more)

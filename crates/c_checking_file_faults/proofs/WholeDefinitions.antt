@@ -23,17 +23,17 @@ use Rattle.c_erasure.specs.Specifiers.{Storage, storage_of}
 use Rattle.c_checking.specs.Declaring.{base_kind, Derivation, derived, with_mention, mentions_in}
 use Rattle.c_checking.specs.Files.{received_by, define_function, define_shape, definition_named, function_definition}
 use Rattle.c_checking.specs.Finding.{base_type, one_of, derivations}
-use Rattle.c_checking.proofs.Adding.{mention_before}
-use Rattle.c_checking.proofs.Declared.{mentioned, before_mention}
-use Rattle.c_checking.proofs.Extends.{Extends, itself, further}
-use Rattle.c_checking.proofs.FaultDeclaring.{orderly_stays}
-use Rattle.c_checking.proofs.FaultPremises.{IsPrepared, left, right, AreSpecifiersTimely, IsDeclaratorTimely}
-use Rattle.c_checking.proofs.FaultResults.{same_fault, bound_err, reached, Reaches, reaches_then}
-use Rattle.c_checking.proofs.FaultSteps.{read_steps}
-use Rattle.c_checking.proofs.FaultTypes.{within_broken, base_stops}
-use Rattle.c_checking.proofs.Faults.{faults_one, faults_steps}
-use Rattle.c_checking.proofs.Growth.{grow_base, grow_steps}
-use Rattle.c_checking.proofs.Sound.{sound_base, sound_steps}
+use Rattle.c_checking_laws.proofs.Adding.{mention_before}
+use Rattle.c_checking_laws.proofs.Declared.{mentioned, before_mention}
+use Rattle.c_checking_laws.proofs.Extends.{Extends, itself, further}
+use Rattle.c_checking_laws.proofs.FaultDeclaring.{orderly_stays}
+use Rattle.c_checking_laws.proofs.FaultPremises.{IsPrepared, left, right, AreSpecifiersTimely, IsDeclaratorTimely}
+use Rattle.c_checking_laws.proofs.FaultResults.{same_fault, bound_err, reached, Reaches, reaches_then}
+use Rattle.c_checking_laws.proofs.FaultSteps.{read_steps}
+use Rattle.c_checking_laws.proofs.FaultTypes.{within_broken, base_stops}
+use Rattle.c_checking_laws.proofs.Faults.{faults_one, faults_steps}
+use Rattle.c_checking_laws.proofs.Growth.{grow_base, grow_steps}
+use Rattle.c_checking_laws.proofs.Sound.{sound_base, sound_steps}
 use Rattle.c_checking_files.proofs.Declarations.{first_named}
 use Rattle.c_checking_files.proofs.FileScopes.{MayDeclare}
 use Rattle.c_checking_files.proofs.Keeping.{keep_base, keep_steps}

@@ -16,8 +16,8 @@ use Rattle.c_erasure.specs.Scopes.{FileScope, ALocal, AFunction, Scope, a_local,
 use Rattle.c_erasure.specs.Statements.{Statements, EraseItems}
 use Rattle.c_checking.specs.Files.{Received, received_if_named, named_parameters, received_by, defined_function}
 use Rattle.c_checking.specs.Statements.{items_in}
-use Rattle.c_checking.proofs.Extends.{itself}
-use Rattle.c_checking.proofs.Agreement.{AreFit}
+use Rattle.c_checking_laws.proofs.Extends.{itself}
+use Rattle.c_checking_laws.proofs.Agreement.{AreFit}
 use Rattle.c_checking_files.proofs.Kept.{AreObjectsWhole}
 use Rattle.c_checking_files.proofs.Longer.{seen, fits_longer}
 use Rattle.c_checking_files.proofs.Scoped.{IsWithin, FoundIn}

@@ -18,8 +18,8 @@ use Rattle.c_erasure.specs.Statements.{Statements, followed_by, DeclareAll, IsVa
 use Rattle.c_checking.specs.Answers.{moved}
 use Rattle.c_checking.specs.Statements.{Performed, in_scope, objects_in, variable_of, declare_static, declare_local, declare_as, declare_named, declare_all}
 use Rattle.c_checking.specs.Statements.{local_storage, some_declared, local_declaration}
-use Rattle.c_checking.proofs.Results.{bound_ok, given}
-use Rattle.c_checking.proofs.InRange.{AreSpecifiersInRange, IsDeclaratorInRange}
+use Rattle.c_checking_laws.proofs.Results.{bound_ok, given}
+use Rattle.c_checking_laws.proofs.InRange.{AreSpecifiersInRange, IsDeclaratorInRange}
 use Rattle.c_checking_files.proofs.Parts.{none}
 use Rattle.c_checking_files.proofs.Longer.{seen}
 use Rattle.c_checking_files.proofs.Scoped.{IsWithin, FoundIn, then_in, as_said, nothing_in}

@@ -24,13 +24,13 @@ use Rattle.c_checking.specs.Finding.{derivations}
 use Rattle.c_checking.specs.Files.{is_library_name, first_named, library, library_named, links, library_again, declare_library, declare_function, without_value}
 use Rattle.c_checking.specs.Files.{declarator_named}
 use Rattle.c_checking.specs.Statements.{sized_in}
-use Rattle.c_checking.proofs.Results.{bound_ok, given, chosen}
-use Rattle.c_checking.proofs.Extends.{Extends, further}
-use Rattle.c_checking.proofs.Agreement.{Ready}
-use Rattle.c_checking.proofs.InRange.{IsDeclaratorInRange}
-use Rattle.c_checking.proofs.NodesOfParts.{same_bytes}
-use Rattle.c_checking.proofs.Declared.{is_mentioned, before_mention}
-use Rattle.c_checking.proofs.Sound.{sound_steps}
+use Rattle.c_checking_laws.proofs.Results.{bound_ok, given, chosen}
+use Rattle.c_checking_laws.proofs.Extends.{Extends, further}
+use Rattle.c_checking_laws.proofs.Agreement.{Ready}
+use Rattle.c_checking_laws.proofs.InRange.{IsDeclaratorInRange}
+use Rattle.c_checking_laws.proofs.NodesOfParts.{same_bytes}
+use Rattle.c_checking_laws.proofs.Declared.{is_mentioned, before_mention}
+use Rattle.c_checking_laws.proofs.Sound.{sound_steps}
 use Rattle.c_checking_files.proofs.Locals.{IsSizedOver, sized_so}
 use Rattle.c_checking_files.proofs.FileScopes.{Continues, MayDeclare, StandsFor, own_is, typedef_declared, function_declared, bound_there, bound_put}
 

@@ -15,12 +15,12 @@ use Rattle.c_erasure.specs.Specifiers.{no_storage, is_extern, is_static, storage
 use Rattle.c_checking.specs.Declaring.{declared_among, with_mention, mentions_in, Derivation, derived}
 use Rattle.c_checking.specs.Files.{Received}
 use Rattle.c_checking.specs.Finding.{derivations}
-use Rattle.c_checking.proofs.Extends.{Extends, further}
-use Rattle.c_checking.proofs.Agreement.{Ready}
-use Rattle.c_checking.proofs.InRange.{IsDeclaratorInRange}
-use Rattle.c_checking.proofs.Declared.{is_mentioned, before_mention}
-use Rattle.c_checking.proofs.FoundTypes.{FoundBase}
-use Rattle.c_checking.proofs.Sound.{sound_steps}
+use Rattle.c_checking_laws.proofs.Extends.{Extends, further}
+use Rattle.c_checking_laws.proofs.Agreement.{Ready}
+use Rattle.c_checking_laws.proofs.InRange.{IsDeclaratorInRange}
+use Rattle.c_checking_laws.proofs.Declared.{is_mentioned, before_mention}
+use Rattle.c_checking_laws.proofs.FoundTypes.{FoundBase}
+use Rattle.c_checking_laws.proofs.Sound.{sound_steps}
 use Rattle.c_checking_files.proofs.FileScopes.{Continues}
 use Rattle.c_checking_files.proofs.FileFunctions.{FoundFunction, IsFunctionDefined}
 

@@ -21,8 +21,8 @@ use Rattle.c_checking.specs.Files.{library_named, main_function, is_main, main_t
 use Rattle.c_checking.specs.Files.{defined_function}
 use Rattle.c_checking.specs.Files.{with_body, define_function}
 use Rattle.c_checking.specs.Statements.{items_in}
-use Rattle.c_checking.proofs.Results.{bound_ok, given, chosen}
-use Rattle.c_checking.proofs.Extends.{itself, further}
+use Rattle.c_checking_laws.proofs.Results.{bound_ok, given, chosen}
+use Rattle.c_checking_laws.proofs.Extends.{itself, further}
 use Rattle.c_typed.specs.TypedStatements.{all_declared_by}
 use Rattle.c_erasure.specs.Literals.{made_by_items}
 use Rattle.c_erasure.specs.MentionPlaces.{spoken_by_items}

@@ -17,13 +17,13 @@ use Rattle.c_checking.specs.Declaring.{declared_among, with_mention, mentions_in
 use Rattle.c_checking.specs.Finding.{derivations}
 use Rattle.c_checking.specs.Nodes.{is_complete}
 use Rattle.c_checking.specs.Statements.{sized_in}
-use Rattle.c_checking.proofs.Results.{given, only_if}
-use Rattle.c_checking.proofs.Extends.{Extends, further}
-use Rattle.c_checking.proofs.Agreement.{Ready}
-use Rattle.c_checking.proofs.InRange.{IsDeclaratorInRange}
-use Rattle.c_checking.proofs.NodesOfParts.{complete_is}
-use Rattle.c_checking.proofs.Declared.{is_mentioned, before_mention}
-use Rattle.c_checking.proofs.Sound.{sound_steps}
+use Rattle.c_checking_laws.proofs.Results.{given, only_if}
+use Rattle.c_checking_laws.proofs.Extends.{Extends, further}
+use Rattle.c_checking_laws.proofs.Agreement.{Ready}
+use Rattle.c_checking_laws.proofs.InRange.{IsDeclaratorInRange}
+use Rattle.c_checking_laws.proofs.NodesOfParts.{complete_is}
+use Rattle.c_checking_laws.proofs.Declared.{is_mentioned, before_mention}
+use Rattle.c_checking_laws.proofs.Sound.{sound_steps}
 use Rattle.c_checking_files.proofs.Locals.{IsSizedOver, sized_so, sized_later}
 use Rattle.c_checking_files.proofs.FileScopes.{Continues}
 

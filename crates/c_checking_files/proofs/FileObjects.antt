@@ -28,10 +28,10 @@ use Rattle.c_checking.specs.Files.{links, main_object, is_main, linked_before, l
 use Rattle.c_checking.specs.Files.{defined_object, with_definition, define_object}
 use Rattle.c_checking.specs.Initializers.{initializer, constants_in}
 use Rattle.c_checking.specs.Statements.{constants_if_any, replaced_object}
-use Rattle.c_checking.proofs.Results.{bound_ok, given, chosen, with_file_ok}
-use Rattle.c_checking.proofs.Extends.{itself, further, kept, at_end}
-use Rattle.c_checking.proofs.Agreement.{Ready}
-use Rattle.c_checking.proofs.InRange.{IsInRange}
+use Rattle.c_checking_laws.proofs.Results.{bound_ok, given, chosen, with_file_ok}
+use Rattle.c_checking_laws.proofs.Extends.{itself, further, kept, at_end}
+use Rattle.c_checking_laws.proofs.Agreement.{Ready}
+use Rattle.c_checking_laws.proofs.InRange.{IsInRange}
 use Rattle.c_checking_files.proofs.Layouts.{IsLaid}
 use Rattle.c_checking_files.proofs.Parts.{NoneBegins}
 use Rattle.c_checking_files.proofs.InTime.{IsTimely}
@@ -294,7 +294,7 @@ module _ (untagged : ℕ → List ℕ) where
 
       defined_by : (b : FileScope) (n : ℕ) (o new : AnObject) → slice_get b.objects n ≡ Some o → (place : ℕ) (f : FileScope) (i : Typed.Initializer Noted)
           → new ≡ with_initial f place i o → (g : FileScope)
-          → Rattle.c_checking.proofs.Results.ok (with_definition b n (defined_object f place i (slice_get b.objects n))) ≡ Ok g → g ≡ replaced_object b n new
+          → Rattle.c_checking_laws.proofs.Results.ok (with_definition b n (defined_object f place i (slice_get b.objects n))) ≡ Ok g → g ≡ replaced_object b n new
       defined_by b n o new there place f i is g h =
           given (λ g. g ≡ replaced_object b n new) _ g h
           (ap (λ o. with_definition b n (defined_object f place i o)) there ∙ ap (replaced_object b n) (sym is))

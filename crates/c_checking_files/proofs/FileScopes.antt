@@ -21,9 +21,9 @@ use Rattle.c_checking.specs.Declaring.{declared_among, with_bound}
 use Rattle.c_checking.specs.Files.{is_library_name, first_named, library_named, own_name, main_function, is_main, main_type, once, links}
 use Rattle.c_checking.specs.Files.{function_linked_before, function_linkage_agrees, new_function, with_new_function, known_function, function_of, declare_own}
 use Rattle.c_checking.specs.Files.{declare_typedef}
-use Rattle.c_checking.proofs.Results.{bound_ok, given, chosen}
-use Rattle.c_checking.proofs.Extends.{Extends, itself, further, kept, at_end, bound_stays}
-use Rattle.c_checking.proofs.Adding.{Adds}
+use Rattle.c_checking_laws.proofs.Results.{bound_ok, given, chosen}
+use Rattle.c_checking_laws.proofs.Extends.{Extends, itself, further, kept, at_end, bound_stays}
+use Rattle.c_checking_laws.proofs.Adding.{Adds}
 
 -- ---- what a later file keeps of objects and functions: where and as what each is declared first, and all of it where it is defined
 

@@ -4,7 +4,7 @@ use Rattle.std.proofs.Common.{ℕ, ◌≤◌, subst, sym, List, length, length-a
 use Rattle.c_ast.specs.Trees
 use Rattle.c_ast.specs.Places.{first}
 use Rattle.c_erasure.specs.Scopes.{FileScope, ended}
-use Rattle.c_checking.proofs.Extends.{Extends}
+use Rattle.c_checking_laws.proofs.Extends.{Extends}
 
 module _ (ends : List ℕ) (n : ℕ) where
   abbrev mutual

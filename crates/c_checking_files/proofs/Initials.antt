@@ -30,16 +30,16 @@ use Rattle.c_checking.specs.Answers.{◌>>=◌, with_file, moved}
 use Rattle.c_checking.specs.Finding.{value_at, find}
 use Rattle.c_checking.specs.Initializers.{initial_value_in, value_part, initial_record_in, text_of_array, is_text, fields_of, without_braces}
 use Rattle.c_checking.specs.Initializers.{initialized, one_value, elements, fields_from}
-use Rattle.c_checking.proofs.Results.{bound_ok, bound_with, given, with_file_ok, chosen}
-use Rattle.c_checking.proofs.Extends.{Extends, further, record_stays}
-use Rattle.c_checking.proofs.Agreement.{Ready, Grew, then, left, right}
-use Rattle.c_checking.proofs.Values.{Stands, type_same, path_type_same}
-use Rattle.c_checking.proofs.InRange.{IsInRange, AreInRange}
-use Rattle.c_checking.proofs.Declared.{nothing_grown}
-use Rattle.c_checking.proofs.Adding.{Grows, makes_none, adds_nothing, adds_then}
-use Rattle.c_checking.proofs.Found.{Found, FoundValue}
-use Rattle.c_checking.proofs.Sound.{sound, sound_value_of}
-use Rattle.c_checking.proofs.Growth.{grow, grow_value_of}
+use Rattle.c_checking_laws.proofs.Results.{bound_ok, bound_with, given, with_file_ok, chosen}
+use Rattle.c_checking_laws.proofs.Extends.{Extends, further, record_stays}
+use Rattle.c_checking_laws.proofs.Agreement.{Ready, Grew, then, left, right}
+use Rattle.c_checking_laws.proofs.Values.{Stands, type_same, path_type_same}
+use Rattle.c_checking_laws.proofs.InRange.{IsInRange, AreInRange}
+use Rattle.c_checking_laws.proofs.Declared.{nothing_grown}
+use Rattle.c_checking_laws.proofs.Adding.{Grows, makes_none, adds_nothing, adds_then}
+use Rattle.c_checking_laws.proofs.Found.{Found, FoundValue}
+use Rattle.c_checking_laws.proofs.Sound.{sound, sound_value_of}
+use Rattle.c_checking_laws.proofs.Growth.{grow, grow_value_of}
 use Rattle.c_checking_files.proofs.SameLocals.{with_locals, same_find}
 use Rattle.c_checking_files.proofs.Longer.{seen, GoesOn, ready_longer}
 use Rattle.c_checking_files.proofs.Layouts.{IsLaid, object_stays, size_stays, offset_stays, AreFields, fields_are, later_fields, first_field}

@@ -46,14 +46,14 @@ use Rattle.c_checking.specs.Finding.{type_of_derived, with_member}
 use Rattle.c_checking.specs.Finding.{find, arguments, type_name, one_of, specified, members, member_declarators, enumerators, enumerator_value}
 use Rattle.c_checking.specs.Finding.{derivations, array_step}
 use Rattle.c_checking.specs.Finding.{parameter_list, parameters}
-use Rattle.c_checking.proofs.Results.{bound_ok, bound_with, chosen, given, only_if, with_file_ok}
-use Rattle.c_checking.proofs.Extends.{one_of_both}
-use Rattle.c_checking.proofs.NodesOfParts.{complete_is}
-use Rattle.c_checking.proofs.Declared.{no_storage_is, parameter_storage_is, unless_ok}
-use Rattle.c_checking.proofs.Derived.{IsBaseOf, base_is, words_mark_nothing}
-use Rattle.c_checking.proofs.FoundTypes.{bound_of}
-use Rattle.c_checking.proofs.FoundDeclarators.{new_bound, parameter_inside}
-use Rattle.c_checking.proofs.Adding.{file_beside, file_of, file_of_value, file_of_tested, file_of_constant}
+use Rattle.c_checking_laws.proofs.Results.{bound_ok, bound_with, chosen, given, only_if, with_file_ok}
+use Rattle.c_checking_laws.proofs.Extends.{one_of_both}
+use Rattle.c_checking_laws.proofs.NodesOfParts.{complete_is}
+use Rattle.c_checking_laws.proofs.Declared.{no_storage_is, parameter_storage_is, unless_ok}
+use Rattle.c_checking_laws.proofs.Derived.{IsBaseOf, base_is, words_mark_nothing}
+use Rattle.c_checking_laws.proofs.FoundTypes.{bound_of}
+use Rattle.c_checking_laws.proofs.FoundDeclarators.{new_bound, parameter_inside}
+use Rattle.c_checking_laws.proofs.Adding.{file_beside, file_of, file_of_value, file_of_tested, file_of_constant}
 use Rattle.c_checking_files.proofs.Layouts.{object_more}
 use Rattle.c_checking_files.proofs.Kept.{AreWhole, IsTagFit, completed_adds, enumerator_adds, Keeps, keeps_nothing, keeps_then, keeps_inside, keeps_mention}
 use Rattle.c_checking_files.proofs.Kept.{keeps_object, keeps_record, keeps_name, keeps_tag}

@@ -16,8 +16,8 @@ use Rattle.c_checking.specs.Answers.{moved, with_file}
 use Rattle.c_checking.specs.Finding.{value_at, find}
 use Rattle.c_checking.specs.Initializers.{initial_value_in, initial_record_in, text_of_array, is_text, without_braces, initialized, one_value, elements}
 use Rattle.c_checking.specs.Initializers.{fields_from, initializer}
-use Rattle.c_checking.proofs.Results.{bound_ok, chosen, with_file_ok}
-use Rattle.c_checking.proofs.Adding.{file_beside, file_of, file_of_value}
+use Rattle.c_checking_laws.proofs.Results.{bound_ok, chosen, with_file_ok}
+use Rattle.c_checking_laws.proofs.Adding.{file_beside, file_of, file_of_value}
 use Rattle.c_checking_files.proofs.Initials.{AreBytes, IsPlain, plain, braces_bytes, many_refused, braces_alone}
 use Rattle.c_checking_files.proofs.Kept.{Keeps, keeps_nothing, keeps_then}
 use Rattle.c_checking_files.proofs.Keeping.{keep}

@@ -18,10 +18,10 @@ use Rattle.c_erasure.specs.Marks.{Mark, a_tag, an_end, a_name, tags_in}
 use Rattle.c_erasure.specs.Scopes.{Bound, Tag, AnObject, AMention, FileScope, Scope, is_measured, tag_at}
 use Rattle.c_checking.specs.Declaring.{with_mention, with_object, with_record, number_among, is_next, repeated, completed_in}
 use Rattle.c_checking.specs.Declaring.{tag_named}
-use Rattle.c_checking.proofs.Results.{given, chosen}
-use Rattle.c_checking.proofs.Extends.{last_or, one_of_both}
-use Rattle.c_checking.proofs.Declared.{unless_ok}
-pub use Rattle.c_checking.proofs.Consistent.{one_more_consistent, undeclared, IsNamed, enumerator_adds, IsAnEnumerator}
+use Rattle.c_checking_laws.proofs.Results.{given, chosen}
+use Rattle.c_checking_laws.proofs.Extends.{last_or, one_of_both}
+use Rattle.c_checking_laws.proofs.Declared.{unless_ok}
+pub use Rattle.c_checking_laws.proofs.Consistent.{one_more_consistent, undeclared, IsNamed, enumerator_adds, IsAnEnumerator}
 use Rattle.c_checking_files.proofs.Layouts.{object_more}
 
 -- ---- records

@@ -19,10 +19,10 @@ use Rattle.c_erasure.specs.Statements.{AreLabels}
 use Rattle.c_checking.specs.Answers.{moved}
 use Rattle.c_checking.specs.Finding.{value_at, constant_at, find}
 use Rattle.c_checking.specs.Statements.{with_case, with_default, Found, labels_in}
-use Rattle.c_checking.proofs.Results.{bound_ok, bound_with, given, only_if, chosen}
-use Rattle.c_checking.proofs.InRange.{IsInRange}
-use Rattle.c_checking.proofs.Sound.{sound_constant}
-use Rattle.c_checking.proofs.Growth.{grow_constant}
+use Rattle.c_checking_laws.proofs.Results.{bound_ok, bound_with, given, only_if, chosen}
+use Rattle.c_checking_laws.proofs.InRange.{IsInRange}
+use Rattle.c_checking_laws.proofs.Sound.{sound_constant}
+use Rattle.c_checking_laws.proofs.Growth.{grow_constant}
 use Rattle.c_checking_files.proofs.Parts.{none}
 use Rattle.c_checking_files.proofs.SameLocals.{with_locals, same_find}
 use Rattle.c_checking_files.proofs.Scoped.{IsWithin, ready_for, inside_grows, within_moved, inner_of, outside}

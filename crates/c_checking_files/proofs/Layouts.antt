@@ -14,7 +14,7 @@ use Rattle.c_types.proofs.Growing.{layouts_stay}
 use Rattle.c_types.proofs.Apart.{fields_lie_apart}
 use Rattle.c_typed.specs.Typed.{type_in, field_type}
 use Rattle.c_erasure.specs.Scopes.{FileScope}
-use Rattle.c_checking.proofs.Extends.{Extends, record_stays}
+use Rattle.c_checking_laws.proofs.Extends.{Extends, record_stays}
 
 -- what holds of the records of a whole file: their fields are complete, and no object is empty
 pub record IsLaid (g : FileScope) : Type 0 where

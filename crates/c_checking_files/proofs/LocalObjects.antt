@@ -25,11 +25,11 @@ use Rattle.c_checking.specs.Answers.{moved}
 use Rattle.c_checking.specs.Initializers.{initializer, constants_in}
 use Rattle.c_checking.specs.Statements.{initial_if_any, constants_if_any, with_new_local}
 use Rattle.c_checking.specs.Statements.{Performed, in_scope, declare_local}
-use Rattle.c_checking.proofs.Results.{bound_ok, given, with_file_ok}
-use Rattle.c_checking.proofs.Extends.{Extends, itself, further, kept, at_end}
-use Rattle.c_checking.proofs.Agreement.{IsFit, BlocksAreFit, one_more_fits}
-use Rattle.c_checking.proofs.InRange.{IsInRange}
-use Rattle.c_checking.proofs.Adding.{adds_nothing}
+use Rattle.c_checking_laws.proofs.Results.{bound_ok, given, with_file_ok}
+use Rattle.c_checking_laws.proofs.Extends.{Extends, itself, further, kept, at_end}
+use Rattle.c_checking_laws.proofs.Agreement.{IsFit, BlocksAreFit, one_more_fits}
+use Rattle.c_checking_laws.proofs.InRange.{IsInRange}
+use Rattle.c_checking_laws.proofs.Adding.{adds_nothing}
 use Rattle.c_checking_files.proofs.Layouts.{object_stays}
 use Rattle.c_checking_files.proofs.Parts.{Parted, none}
 use Rattle.c_checking_files.proofs.Initials.{ReadFrom}

@@ -22,14 +22,14 @@ use Rattle.c_checking.specs.Declaring.{with_mention, mentions_in, derived, is_sm
 use Rattle.c_checking.specs.Finding.{complete, derivations}
 use Rattle.c_checking.specs.Nodes.{is_complete}
 use Rattle.c_checking.specs.Statements.{counted_array, sized_in, variable_type, variable_of}
-use Rattle.c_checking.proofs.Results.{bound_ok, bound_with, given, only_if, chosen}
-use Rattle.c_checking.proofs.Extends.{Extends, itself, further}
-use Rattle.c_checking.proofs.InRange.{IsDeclaratorInRange}
-use Rattle.c_checking.proofs.NodesOfParts.{complete_is}
-use Rattle.c_checking.proofs.Declared.{mentioned, is_mentioned, before_mention, new_is}
-use Rattle.c_checking.proofs.Adding.{mention_before}
-use Rattle.c_checking.proofs.Sound.{sound_steps}
-use Rattle.c_checking.proofs.Growth.{grow_steps}
+use Rattle.c_checking_laws.proofs.Results.{bound_ok, bound_with, given, only_if, chosen}
+use Rattle.c_checking_laws.proofs.Extends.{Extends, itself, further}
+use Rattle.c_checking_laws.proofs.InRange.{IsDeclaratorInRange}
+use Rattle.c_checking_laws.proofs.NodesOfParts.{complete_is}
+use Rattle.c_checking_laws.proofs.Declared.{mentioned, is_mentioned, before_mention, new_is}
+use Rattle.c_checking_laws.proofs.Adding.{mention_before}
+use Rattle.c_checking_laws.proofs.Sound.{sound_steps}
+use Rattle.c_checking_laws.proofs.Growth.{grow_steps}
 use Rattle.c_checking_files.proofs.Layouts.{object_stays, size_stays}
 use Rattle.c_checking_files.proofs.SameLocals.{with_locals, same_derivations}
 use Rattle.c_checking_files.proofs.Longer.{seen, GoesOn}

@@ -4,7 +4,7 @@ use Rattle.std.specs.Prelude.{map, Some, slice_get}
 use Rattle.c_erasure.specs.Marks.{Mark}
 use Rattle.c_erasure.specs.Scopes.{FileScope, Scope, Bound, ALocal, Entity, typedef, enumerator, an_object, a_function, a_library_function, a_local}
 use Rattle.c_erasure.specs.Scopes.{a_parameter}
-use Rattle.c_checking.proofs.Agreement.{IsFit, AreFit, BlocksAreFit, IsReady}
+use Rattle.c_checking_laws.proofs.Agreement.{IsFit, AreFit, BlocksAreFit, IsReady}
 
 -- in a later file, with all locals
 abbrev pub seen : Scope → FileScope → List ALocal → Scope

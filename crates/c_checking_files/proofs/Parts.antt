@@ -22,8 +22,8 @@ use Rattle.c_erasure.specs.Noted.{Noted, Expression, Thing, an_object, a_value, 
 use Rattle.c_erasure.specs.Scopes.{FileScope, Scope, declared}
 use Rattle.c_checking.specs.Nodes.{null}
 use Rattle.c_checking.specs.Initializers.{initial_value_in, initial_record_in, bytes_in, text_of_array, text_part}
-use Rattle.c_checking.proofs.Results.{bound_ok, given, only_if, chosen}
-use Rattle.c_checking.proofs.Values.{IsValue, operand}
+use Rattle.c_checking_laws.proofs.Results.{bound_ok, given, only_if, chosen}
+use Rattle.c_checking_laws.proofs.Values.{IsValue, operand}
 
 -- ---- parts in their order, from one byte to another
 

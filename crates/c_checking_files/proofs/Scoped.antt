@@ -24,15 +24,15 @@ use Rattle.c_erasure.specs.Scopes.{in_full, is_measured, declared}
 use Rattle.c_checking.specs.Answers.{moved}
 use Rattle.c_checking.specs.Finding.{value_at, find}
 use Rattle.c_checking.specs.Statements.{leaving, value_of_expression}
-use Rattle.c_checking.proofs.Results.{bound_ok, given}
-use Rattle.c_checking.proofs.Extends.{Extends, itself, further}
-use Rattle.c_checking.proofs.Agreement.{added, blocks_stay, IsReady, Ready, IsGrown, Grew}
-use Rattle.c_checking.proofs.Values.{IsValue}
-use Rattle.c_checking.proofs.InRange.{IsInRange}
-use Rattle.c_checking.proofs.Adding.{Adds, Grows, makes_none, adds_nothing, adds_then, as_inside}
-use Rattle.c_checking.proofs.FoundTypes.{ready_inside, added_inside}
-use Rattle.c_checking.proofs.Sound.{sound_value_of}
-use Rattle.c_checking.proofs.Growth.{grow_value_of}
+use Rattle.c_checking_laws.proofs.Results.{bound_ok, given}
+use Rattle.c_checking_laws.proofs.Extends.{Extends, itself, further}
+use Rattle.c_checking_laws.proofs.Agreement.{added, blocks_stay, IsReady, Ready, IsGrown, Grew}
+use Rattle.c_checking_laws.proofs.Values.{IsValue}
+use Rattle.c_checking_laws.proofs.InRange.{IsInRange}
+use Rattle.c_checking_laws.proofs.Adding.{Adds, Grows, makes_none, adds_nothing, adds_then, as_inside}
+use Rattle.c_checking_laws.proofs.FoundTypes.{ready_inside, added_inside}
+use Rattle.c_checking_laws.proofs.Sound.{sound_value_of}
+use Rattle.c_checking_laws.proofs.Growth.{grow_value_of}
 use Rattle.std.proofs.Common.{◌<◌, inl, inr}
 use Rattle.std.proofs.lemmas.List.Elements.{All-cons, All-nil}
 use Rattle.std.specs.Prelude.{◌⊎◌, Some, slice_get}
@@ -46,7 +46,7 @@ use Rattle.c_typed.specs.TypedStatements.{IsTypedPart}
 use Rattle.c_erasure.specs.Erasure.{literal_of, literal_object}
 use Rattle.c_erasure.specs.Initializers.{Part, HasConstant, IsInitializer}
 use Rattle.c_erasure.specs.Scopes.{AnObject, at_file_scope}
-use Rattle.c_checking.proofs.Extends.{one_of_both}
+use Rattle.c_checking_laws.proofs.Extends.{one_of_both}
 use Rattle.c_checking_files.proofs.Layouts.{object_stays}
 use Rattle.c_checking_files.proofs.InTime.{IsTimely}
 use Rattle.c_checking_files.proofs.Kept.{Keeps, AreObjectsWhole, IsALiteral}

@@ -19,8 +19,8 @@ use Rattle.c_erasure.specs.Statements.{Statement, Statements, Arms, with_first, 
 use Rattle.c_checking.specs.Answers.{Answer}
 use Rattle.c_checking.specs.Statements.{unless_static}
 use Rattle.c_checking.specs.Statements.{arranged, jump, returned_nothing, unless_void}
-use Rattle.c_checking.proofs.Results.{given, only_if, chosen}
-use Rattle.c_checking.proofs.InRange.{IsInRange}
+use Rattle.c_checking_laws.proofs.Results.{given, only_if, chosen}
+use Rattle.c_checking_laws.proofs.InRange.{IsInRange}
 use Rattle.c_checking_files.proofs.Declarations.{IsDeclarationInRange, typed_statements}
 use Rattle.c_checking_files.proofs.Labels.{AreFresh, fresh_then, AreCounted, AreLabelsInRange}
 

@@ -29,18 +29,18 @@ use Rattle.c_checking.specs.Finding.{base_type, one_of}
 use Rattle.c_checking.specs.Nodes.{null, converted}
 use Rattle.c_checking.specs.Statements.{in_scope, leaving, declare_all, local_storage, some_declared, local_declaration, value_of_expression}
 use Rattle.c_checking.specs.Statements.{condition_in, condition, switch_value, switched_in, returned_in}
-use Rattle.c_checking.proofs.Results.{bound_ok, given, only_if}
-use Rattle.c_checking.proofs.Agreement.{blocks_stay}
-use Rattle.c_checking.proofs.InRange.{IsInRange, AreSpecifiersInRange}
-use Rattle.c_checking.proofs.Values.{IsValue, operand, unconverted_same, type_same}
-use Rattle.c_checking.proofs.Sound.{sound_base}
-use Rattle.c_checking.proofs.Growth.{grow_base}
+use Rattle.c_checking_laws.proofs.Results.{bound_ok, given, only_if}
+use Rattle.c_checking_laws.proofs.Agreement.{blocks_stay}
+use Rattle.c_checking_laws.proofs.InRange.{IsInRange, AreSpecifiersInRange}
+use Rattle.c_checking_laws.proofs.Values.{IsValue, operand, unconverted_same, type_same}
+use Rattle.c_checking_laws.proofs.Sound.{sound_base}
+use Rattle.c_checking_laws.proofs.Growth.{grow_base}
 use Rattle.c_checking_files.proofs.Parts.{none}
 use Rattle.c_checking_files.proofs.SameLocals.{with_locals, same_one_of}
 use Rattle.c_checking_files.proofs.Longer.{seen, blocks_longer}
 use Rattle.c_erasure.specs.Scopes.{AnObject}
 use Rattle.std.specs.Prelude.{slice_get}
-use Rattle.c_checking.proofs.Extends.{itself}
+use Rattle.c_checking_laws.proofs.Extends.{itself}
 use Rattle.c_checking_files.proofs.Keeping.{keep_base}
 use Rattle.c_checking_files.proofs.Scoped.{IsLater, IsInner, inner_of, inner_later, outside}
 use Rattle.c_checking_files.proofs.Scoped.{IsWithin, ready_for, inside_grows, within_moved, FoundIn, then_in, as_said, nothing_in, FoundBeside, value_in}
@@ -210,7 +210,7 @@ module _ (untagged : ℕ → List ℕ) (f : FileScope) where
       full = w.full;
       ready = record {
         names_fit = p.within.ready.names_fit;
-        blocks_fit = subst (λ l. Rattle.c_checking.proofs.Agreement.BlocksAreFit n.file l s.blocks) (sym p.locals)
+        blocks_fit = subst (λ l. Rattle.c_checking_laws.proofs.Agreement.BlocksAreFit n.file l s.blocks) (sym p.locals)
             (blocks_longer n.file s.locals p.more s.blocks (blocks_stay p.extends s.locals s.blocks w.ready.blocks_fit));
         ends_stand = λ j m right h. cc;
       };

@@ -28,8 +28,8 @@ use Rattle.c_checking.specs.Answers.{Answer, ◌>>=◌, moved}
 use Rattle.c_checking.specs.Statements.{in_scope, leaving, value_of_expression, value_if_any, condition, condition_if_any, start_of}
 use Rattle.c_checking.specs.Statements.{local_declaration, labels_in, Found, arranged, switched_in, jump, returned_in, returned_nothing}
 use Rattle.c_checking.specs.Statements.{performed, item_in, items_in, switch_items, switch_item}
-use Rattle.c_checking.proofs.Results.{bound_ok, given, only_if, chosen}
-use Rattle.c_checking.proofs.Values.{type_same}
+use Rattle.c_checking_laws.proofs.Results.{bound_ok, given, only_if, chosen}
+use Rattle.c_checking_laws.proofs.Values.{type_same}
 use Rattle.c_checking_files.proofs.Longer.{seen}
 use Rattle.c_checking_files.proofs.Scoped.{IsWithin, FoundIn, then_in, as_said, nothing_in}
 use Rattle.c_checking_files.proofs.Declarations.{typed_statements, declared_then, typed_then}
@@ -43,7 +43,7 @@ use Rattle.c_checking_files.proofs.StatementLaws.{first_declared, first_typed, a
 use Rattle.c_checking_files.proofs.StatementLaws.{not_void, IsInRangeIfAny, IsStartInRange, typed_statement, typed_arms, IsStatementInRange}
 use Rattle.c_checking_files.proofs.StatementLaws.{IsItemInRange, AreItemsInRange, IsSwitchItemInRange, AreSwitchItemsInRange, AreArmsCounted}
 
-labels_there : {A B : Type 0} (x y : A) → Rattle.c_checking.proofs.Results.ok x ≡ Ok y → (k : A → Answer B) (z : B) → k y ≡ Ok z → k x ≡ Ok z
+labels_there : {A B : Type 0} (x y : A) → Rattle.c_checking_laws.proofs.Results.ok x ≡ Ok y → (k : A → Answer B) (z : B) → k y ≡ Ok z → k x ≡ Ok z
 labels_there x y h k z e = given (λ y. k y ≡ Ok z → k x ≡ Ok z) x y h (λ e. e) e
 
 module _ (untagged : ℕ → List ℕ) (f : FileScope) where

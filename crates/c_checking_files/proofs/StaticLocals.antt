@@ -17,15 +17,15 @@ use Rattle.c_erasure.specs.Statements.{Statements, IsStaticLocal, with_object}
 use Rattle.c_checking.specs.Answers.{moved}
 use Rattle.c_checking.specs.Declaring as Files
 use Rattle.c_checking.specs.Statements.{constants_if_any, static_object, replaced_object, objects_in, with_static, declare_static}
-use Rattle.c_checking.proofs.Results.{bound_ok, given}
-use Rattle.c_checking.proofs.Extends.{Extends, itself, further, kept}
-use Rattle.c_checking.proofs.Agreement.{fits_stay, blocks_stay}
+use Rattle.c_checking_laws.proofs.Results.{bound_ok, given}
+use Rattle.c_checking_laws.proofs.Extends.{Extends, itself, further, kept}
+use Rattle.c_checking_laws.proofs.Agreement.{fits_stay, blocks_stay}
 use Rattle.c_checking_files.proofs.Parts.{is_made}
 use Rattle.c_checking_files.proofs.Longer.{seen}
 use Rattle.std.proofs.Common.{◌+◌, arith, inl, inr}
 use Rattle.std.proofs.lemmas.Option.{slice_get_within}
 use Rattle.std.specs.Prelude.{◌⊎◌}
-use Rattle.c_checking.proofs.Extends.{at_end, behind, one_of_both}
+use Rattle.c_checking_laws.proofs.Extends.{at_end, behind, one_of_both}
 use Rattle.c_checking_files.proofs.Layouts.{object_stays}
 use Rattle.c_checking_files.proofs.Kept.{AreObjectsWhole, IsALiteral, objects_more}
 use Rattle.c_checking_files.proofs.Scoped.{IsLater, IsInner, literal_inner}
@@ -114,7 +114,7 @@ module _ (untagged : ℕ → List ℕ) (f : FileScope) where
     inside = w.inside;
     full = w.full;
     ready = record {
-      names_fit = subst (λ all. Rattle.c_checking.proofs.Agreement.AreFit g s.locals all) (sym names) (fits_stay p s.locals s.file.names w.ready.names_fit);
+      names_fit = subst (λ all. Rattle.c_checking_laws.proofs.Agreement.AreFit g s.locals all) (sym names) (fits_stay p s.locals s.file.names w.ready.names_fit);
       blocks_fit = blocks_stay p s.locals s.blocks w.ready.blocks_fit;
       ends_stand = λ j n right h. cc;
     };

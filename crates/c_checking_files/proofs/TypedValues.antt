@@ -16,10 +16,10 @@ use Rattle.c_erasure.specs.Noted.{Noted}
 use Rattle.c_erasure.specs.Scopes.{FileScope, Scope, declared}
 use Rattle.c_checking.specs.Answers.{moved}
 use Rattle.c_checking.specs.Initializers.{initialized, initializer, whole_in, whole_of}
-use Rattle.c_checking.proofs.Results.{bound_ok, given}
-use Rattle.c_checking.proofs.Extends.{itself}
-use Rattle.c_checking.proofs.Agreement.{Ready}
-use Rattle.c_checking.proofs.InRange.{IsInRange}
+use Rattle.c_checking_laws.proofs.Results.{bound_ok, given}
+use Rattle.c_checking_laws.proofs.Extends.{itself}
+use Rattle.c_checking_laws.proofs.Agreement.{Ready}
+use Rattle.c_checking_laws.proofs.InRange.{IsInRange}
 use Rattle.c_checking_files.proofs.Parts.{AreOver}
 use Rattle.c_checking_files.proofs.Initials.{OfObject, ReadFrom, IsKnown, sound_initial, same_locals}
 

@@ -27,13 +27,13 @@ use Rattle.c_checking.specs.Answers.{◌>>=◌, with_file}
 use Rattle.c_checking.specs.Finding.{find}
 use Rattle.c_checking.specs.Initializers.{initial_record_in, without_braces, initialized, initializer, whole_of, is_constant_part, are_constant_parts}
 use Rattle.c_checking.specs.Initializers.{are_constants, constants_in}
-use Rattle.c_checking.proofs.Results.{bound_ok, given, with_file_ok, only_if}
-use Rattle.c_checking.proofs.Extends.{Extends}
-use Rattle.c_checking.proofs.Agreement.{Ready, Grew}
-use Rattle.c_checking.proofs.Values.{Stands, path_type_same}
-use Rattle.c_checking.proofs.InRange.{IsInRange}
-use Rattle.c_checking.proofs.Adding.{Grows}
-use Rattle.c_checking.proofs.Sound.{sound}
+use Rattle.c_checking_laws.proofs.Results.{bound_ok, given, with_file_ok, only_if}
+use Rattle.c_checking_laws.proofs.Extends.{Extends}
+use Rattle.c_checking_laws.proofs.Agreement.{Ready, Grew}
+use Rattle.c_checking_laws.proofs.Values.{Stands, path_type_same}
+use Rattle.c_checking_laws.proofs.InRange.{IsInRange}
+use Rattle.c_checking_laws.proofs.Adding.{Grows}
+use Rattle.c_checking_laws.proofs.Sound.{sound}
 use Rattle.c_checking_files.proofs.SameLocals.{with_locals, same_find}
 use Rattle.c_checking_files.proofs.Longer.{seen, GoesOn, ready_longer}
 use Rattle.c_checking_files.proofs.Layouts.{IsLaid}

@@ -45,8 +45,8 @@ use Rattle.c_erasure.specs.Operators.{Kind, computes, compares, all_of, any_of, 
 use Rattle.c_erasure.specs.Scopes as Scopes
 use Rattle.c_erasure.specs.Scopes.{FileScope, Scope, ALocal, AnObject, Entity, Purpose, in_full, value_alone, type_alone, declared, ended}
 use Rattle.c_checking.specs.Answers.{moved}
-use Rattle.c_checking.proofs.Extends.{Extends}
-use Rattle.c_checking.proofs.Values.{path_type_same}
+use Rattle.c_checking_laws.proofs.Extends.{Extends}
+use Rattle.c_checking_laws.proofs.Values.{path_type_same}
 use Rattle.c_checking_files.proofs.InTime.{IsInTime}
 use Rattle.c_checking_files.proofs.Kept.{AreObjectsWhole}
 use Rattle.c_checking_files.proofs.Layouts.{size_stays, offset_stays, object_more, record_in, field_object}

@@ -5,8 +5,8 @@ use Rattle.c_ast.specs.Trees
 use Rattle.c_erasure.specs.Declarators.{declared_name}
 use Rattle.c_erasure.specs.Marks.{a_name, marks_of_specifiers, marks_of_declarator, marks_of_initial, marks_of_declarators, marks_of_item, name_from}
 use Rattle.c_erasure.specs.Marks.{after_declarator, scope_beginnings}
-use Rattle.c_checking.proofs.Agreement.{beginnings_append}
-use Rattle.c_checking.proofs.Extends.{kept, behind, one_of_both}
+use Rattle.c_checking_laws.proofs.Agreement.{beginnings_append}
+use Rattle.c_checking_laws.proofs.Extends.{kept, behind, one_of_both}
 use Rattle.c_text_order.specs.TextOrder.{place_of_name, names_of_declarators, names_of_item}
 
 abbrev IsIn : List ℕ → ℕ → Type 0

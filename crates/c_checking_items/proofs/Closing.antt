@@ -12,7 +12,7 @@ use Rattle.c_erasure.specs.Noted.{Noted}
 use Rattle.c_erasure.specs.Scopes.{FileScope, Bound, How, declares, tentative, defines, Entity, typedef, enumerator, an_object, a_function, a_library_function}
 use Rattle.c_erasure.specs.Scopes.{a_local, a_parameter, AnObject}
 use Rattle.c_checking.specs.Files.{is_tentative, settled, settled_from, closed_file}
-use Rattle.c_checking.proofs.Extends.{itself}
+use Rattle.c_checking_laws.proofs.Extends.{itself}
 use Rattle.c_checking_files.proofs.FileScopes.{IsSameObject, Continues, continues_itself}
 use Rattle.c_checking_items.proofs.Known.{HasBound, HasDefinition, HasNoDefinition}
 

@@ -19,13 +19,13 @@ use Rattle.c_erasure.specs.Specifiers.{Storage, storage_of}
 use Rattle.c_checking.specs.Declaring.{base_kind}
 use Rattle.c_checking.specs.Files.{declarator_named, file_declarators, file_declaration, is_empty}
 use Rattle.c_checking.specs.Finding.{base_type, one_of}
-use Rattle.c_checking.proofs.Agreement as Agreement
-use Rattle.c_checking.proofs.Agreement.{Ready, beginnings_append}
-use Rattle.c_checking.proofs.Extends.{behind}
-use Rattle.c_checking.proofs.Growth.{grow_base}
-use Rattle.c_checking.proofs.InRange.{IsDeclaratorInRange, AreSpecifiersInRange}
-use Rattle.c_checking.proofs.Results.{bound_ok, given, chosen, only_if}
-use Rattle.c_checking.proofs.Sound.{sound_base}
+use Rattle.c_checking_laws.proofs.Agreement as Agreement
+use Rattle.c_checking_laws.proofs.Agreement.{Ready, beginnings_append}
+use Rattle.c_checking_laws.proofs.Extends.{behind}
+use Rattle.c_checking_laws.proofs.Growth.{grow_base}
+use Rattle.c_checking_laws.proofs.InRange.{IsDeclaratorInRange, AreSpecifiersInRange}
+use Rattle.c_checking_laws.proofs.Results.{bound_ok, given, chosen, only_if}
+use Rattle.c_checking_laws.proofs.Sound.{sound_base}
 use Rattle.c_checking_files.proofs.Declarations.{first_named}
 use Rattle.c_checking_files.proofs.Keeping.{keep_base}
 use Rattle.c_checking_files.proofs.LocalObjects.{IsValueInRange}

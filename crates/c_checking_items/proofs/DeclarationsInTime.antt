@@ -13,7 +13,7 @@ use Rattle.c_order.specs.Places.{AreOrdered}
 use Rattle.c_order.proofs.Walks.{comma_along}
 use Rattle.c_order.proofs.MarksOfParts.{declarator_along, specifiers_along}
 use Rattle.c_order.proofs.MarksOfFiles.{initializer_along, declarators_along}
-use Rattle.c_checking.proofs.Agreement.{added}
+use Rattle.c_checking_laws.proofs.Agreement.{added}
 use Rattle.c_checking_order.proofs.Ahead.{Ahead, Standing, standing_right, back, ahead_same, added_both}
 use Rattle.c_checking_files.proofs.LocalObjects.{IsValueInRange}
 use Rattle.c_checking_items.proofs.DeclarationItems.{AreDeclaratorsFit}

@@ -27,16 +27,16 @@ use Rattle.c_checking.specs.Files.{library_named, declare_typedef, declare_funct
 use Rattle.c_checking.specs.Finding.{complete, derivations}
 use Rattle.c_checking.specs.Nodes.{is_complete}
 use Rattle.c_checking.specs.Statements.{sized_in}
-use Rattle.c_checking.proofs.Adding.{Adds, mention_before}
-use Rattle.c_checking.proofs.Agreement as Agreement
-use Rattle.c_checking.proofs.Agreement.{Ready, IsGrown}
-use Rattle.c_checking.proofs.Declared.{mentioned}
-use Rattle.c_checking.proofs.Extends.{Extends, further}
-use Rattle.c_checking.proofs.Growth.{grow_steps}
-use Rattle.c_checking.proofs.InRange.{IsDeclaratorInRange}
-use Rattle.c_checking.proofs.NodesOfParts.{complete_is}
-use Rattle.c_checking.proofs.Results.{bound_ok, given, only_if, chosen}
-use Rattle.c_checking.proofs.Sound.{sound_steps}
+use Rattle.c_checking_laws.proofs.Adding.{Adds, mention_before}
+use Rattle.c_checking_laws.proofs.Agreement as Agreement
+use Rattle.c_checking_laws.proofs.Agreement.{Ready, IsGrown}
+use Rattle.c_checking_laws.proofs.Declared.{mentioned}
+use Rattle.c_checking_laws.proofs.Extends.{Extends, further}
+use Rattle.c_checking_laws.proofs.Growth.{grow_steps}
+use Rattle.c_checking_laws.proofs.InRange.{IsDeclaratorInRange}
+use Rattle.c_checking_laws.proofs.NodesOfParts.{complete_is}
+use Rattle.c_checking_laws.proofs.Results.{bound_ok, given, only_if, chosen}
+use Rattle.c_checking_laws.proofs.Sound.{sound_steps}
 use Rattle.c_checking_files.proofs.FileDeclarators.{typedef_found, function_found}
 use Rattle.c_checking_files.proofs.FileObjectDeclarators.{object_found}
 use Rattle.c_checking_files.proofs.FileScopes.{Continues, MayDeclare}

@@ -11,8 +11,8 @@ use Rattle.c_erasure.specs.Scopes.{AnObject, AFunction}
 use Rattle.c_checking.specs.Declaring.{with_bound}
 use Rattle.c_checking.specs.Files.{with_new_object, library_named}
 use Rattle.c_checking.specs.Statements.{replaced_object}
-use Rattle.c_checking.proofs.Agreement.{IsFit, fits_stay, one_more_fits}
-use Rattle.c_checking.proofs.Extends.{Extends, last_or}
+use Rattle.c_checking_laws.proofs.Agreement.{IsFit, fits_stay, one_more_fits}
+use Rattle.c_checking_laws.proofs.Extends.{Extends, last_or}
 use Rattle.c_checking_files.proofs.Kept.{objects_more}
 use Rattle.c_checking_files.proofs.FileObjects.{set_same, set_other}
 use Rattle.c_checking_files.proofs.FileScopes.{IsSameObject, bound_put}

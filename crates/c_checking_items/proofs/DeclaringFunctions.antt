@@ -4,8 +4,8 @@ use Rattle.std.specs.Prelude.{◌⊎◌, Some, slice_get, slice_set}
 use Rattle.c_types.specs.Types.{CType}
 use Rattle.c_erasure.specs.Scopes.{FileScope, Bound, AFunction}
 use Rattle.c_checking.specs.Files.{with_new_function}
-use Rattle.c_checking.proofs.Agreement.{fits_stay}
-use Rattle.c_checking.proofs.Extends.{Extends, last_or}
+use Rattle.c_checking_laws.proofs.Agreement.{fits_stay}
+use Rattle.c_checking_laws.proofs.Extends.{Extends, last_or}
 use Rattle.c_checking_files.proofs.FileObjects.{set_same, set_other}
 use Rattle.c_checking_files.proofs.FileScopes.{IsSameFunction}
 use Rattle.c_checking_items.proofs.Known.{IsFunctionKnown, IsKnown, none_new, this_one, functions_bound_longer}

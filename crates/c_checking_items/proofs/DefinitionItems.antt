@@ -19,15 +19,15 @@ use Rattle.c_checking.specs.Answers.{Answer}
 use Rattle.c_checking.specs.Declaring.{base_kind, with_mention, mentions_in, derived}
 use Rattle.c_checking.specs.Files.{function_storage, Received, received_by, define_function, define_shape, definition_named, function_definition}
 use Rattle.c_checking.specs.Finding.{base_type, one_of, derivations}
-use Rattle.c_checking.proofs.Adding.{mention_before}
-use Rattle.c_checking.proofs.Agreement as Agreement
-use Rattle.c_checking.proofs.Agreement.{Ready, beginnings_append}
-use Rattle.c_checking.proofs.Declared.{mentioned}
-use Rattle.c_checking.proofs.Extends.{further, behind}
-use Rattle.c_checking.proofs.Growth.{grow_base, grow_steps}
-use Rattle.c_checking.proofs.InRange.{IsDeclaratorInRange, AreSpecifiersInRange}
-use Rattle.c_checking.proofs.Results.{bound_ok}
-use Rattle.c_checking.proofs.Sound.{sound_base, sound_steps}
+use Rattle.c_checking_laws.proofs.Adding.{mention_before}
+use Rattle.c_checking_laws.proofs.Agreement as Agreement
+use Rattle.c_checking_laws.proofs.Agreement.{Ready, beginnings_append}
+use Rattle.c_checking_laws.proofs.Declared.{mentioned}
+use Rattle.c_checking_laws.proofs.Extends.{further, behind}
+use Rattle.c_checking_laws.proofs.Growth.{grow_base, grow_steps}
+use Rattle.c_checking_laws.proofs.InRange.{IsDeclaratorInRange, AreSpecifiersInRange}
+use Rattle.c_checking_laws.proofs.Results.{bound_ok}
+use Rattle.c_checking_laws.proofs.Sound.{sound_base, sound_steps}
 use Rattle.c_checking_files.proofs.Declarations.{first_named}
 use Rattle.c_checking_files.proofs.FileDefinitions.{definition_stands}
 use Rattle.c_checking_files.proofs.FileScopes.{MayDeclare}

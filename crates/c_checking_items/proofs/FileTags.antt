@@ -9,7 +9,7 @@ use Rattle.c_erasure.specs.Files.{AreConsistentTags}
 use Rattle.c_erasure.specs.Marks.{firsts, is_among}
 use Rattle.c_erasure.specs.Scopes.{Tag, tag_at, or_else}
 use Rattle.c_checking.specs.Declaring.{tag_named}
-use Rattle.c_checking.proofs.NodesOfParts.{same_bytes}
+use Rattle.c_checking_laws.proofs.NodesOfParts.{same_bytes}
 use Rattle.c_checking_files.proofs.Kept.{IsTagFit, AreTagsFit}
 use Rattle.c_text_order.specs.TextOrder.{IsTagBefore, AreTagsInOrder}
 use Rattle.c_checking_items.proofs.Names.{names_equal, all_at}

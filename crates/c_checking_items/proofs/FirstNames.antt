@@ -11,8 +11,8 @@ use Rattle.c_erasure.specs.Files.{AreConsistent, bound, is_first}
 use Rattle.c_erasure.specs.Marks.{Mark, a_name, scope_beginnings}
 use Rattle.c_erasure.specs.Scopes.{FileScope, Bound, How, Entity, enumerator, visible, or_else, at_file_scope}
 use Rattle.c_checking.specs.Declaring.{declared_among}
-use Rattle.c_checking.proofs.Extends.{Extends, bound_stays, one_of_both}
-use Rattle.c_checking.proofs.NodesOfParts.{same_bytes}
+use Rattle.c_checking_laws.proofs.Extends.{Extends, bound_stays, one_of_both}
+use Rattle.c_checking_laws.proofs.NodesOfParts.{same_bytes}
 use Rattle.c_checking_files.proofs.Kept.{IsAnEnumerator, undeclared}
 use Rattle.c_checking_items.proofs.Names.{declared_is, first_declares, names_equal}
 use Rattle.c_checking_items.proofs.Stepping.{IsFinal}

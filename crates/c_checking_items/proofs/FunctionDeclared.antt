@@ -16,7 +16,7 @@ use Rattle.c_erasure.specs.Scopes.{a_parameter, AnObject, AFunction, at_file_sco
 use Rattle.c_erasure.specs.Specifiers.{Storage}
 use Rattle.c_checking.specs.Declaring.{declared_among, with_bound}
 use Rattle.c_checking.specs.Files.{library_named, declare_typedef, function_of, declare_own, library_again, links, declare_library}
-use Rattle.c_checking.proofs.Results.{bound_ok, given, chosen}
+use Rattle.c_checking_laws.proofs.Results.{bound_ok, given, chosen}
 use Rattle.c_checking_files.proofs.FileFunctions.{main_type_is}
 use Rattle.c_checking_files.proofs.FileScopes.{Continues, continues_then, MayDeclare, typedef_declared, IsTheFunction, function_is, IsFunctionDeclared}
 use Rattle.c_checking_files.proofs.FileScopes.{bound_there, bound_put, first_later}

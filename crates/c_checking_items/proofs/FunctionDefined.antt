@@ -15,8 +15,8 @@ use Rattle.c_erasure.specs.Scopes.{FileScope, Bound, defines, a_function, AnObje
 use Rattle.c_erasure.specs.Specifiers.{Storage}
 use Rattle.c_checking.specs.Declaring.{declared_among, with_bound}
 use Rattle.c_checking.specs.Files.{Received, received_by, function_of, defined_function, define_function, defined_among}
-use Rattle.c_checking.proofs.Agreement.{fits_stay}
-use Rattle.c_checking.proofs.Extends.{Extends, further, kept, at_end}
+use Rattle.c_checking_laws.proofs.Agreement.{fits_stay}
+use Rattle.c_checking_laws.proofs.Extends.{Extends, further, kept, at_end}
 use Rattle.c_checking_files.proofs.Bodies.{IsReadyFile}
 use Rattle.c_checking_files.proofs.FileFunctions.{replaced_function, function_defined, IsFunctionDefined, FoundFunction, function_found}
 use Rattle.c_checking_files.proofs.FileObjects.{set_same, set_types}
@@ -184,7 +184,7 @@ module _ (untagged : ℕ → List ℕ) (nodes_at : ℕ → ℕ) where
               objects = u.grows.objects;
               new = λ m q e. one m q (u.inner m q e);
             })
-            (subst (λ names. Rattle.c_checking.proofs.Agreement.AreFit g [] names) (sym names) (fits_stay u.extends [] f2.names k.fits))
+            (subst (λ names. Rattle.c_checking_laws.proofs.Agreement.AreFit g [] names) (sym names) (fits_stay u.extends [] f2.names k.fits))
             (subst (λ numbered. AreSettled numbered g.records) (sym u.extends.numbered) (subst (AreSettled f2.numbered) (sym records) k.settled))
             u.within.whole
             (subst Rattle.c_erasure.specs.Files.AreConsistent (sym names) k.consistent) k

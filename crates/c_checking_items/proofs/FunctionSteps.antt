@@ -18,8 +18,8 @@ use Rattle.c_erasure.specs.Specifiers.{Storage}
 use Rattle.c_checking.specs.Declaring.{declared_among, with_bound}
 use Rattle.c_checking.specs.Files.{function_linked_before, function_linkage_agrees, new_function, with_new_function}
 use Rattle.c_checking.specs.Files.{known_function, function_of, defined_among}
-use Rattle.c_checking.proofs.Extends.{Extends, at_end}
-use Rattle.c_checking.proofs.Results.{given, chosen}
+use Rattle.c_checking_laws.proofs.Extends.{Extends, at_end}
+use Rattle.c_checking_laws.proofs.Results.{given, chosen}
 use Rattle.c_checking_files.proofs.FileScopes.{MayDeclare, IsTheFunction}
 use Rattle.c_checking_files.proofs.Parts.{Parted, none, is_made, is_bytes}
 use Rattle.c_checking_items.proofs.Known.{AreOthers, IsFunctionKnown, IsKnown, none_new, this_one, other_function, others_define_none, one_defines_none}

@@ -14,10 +14,10 @@ use Rattle.c_erasure.specs.Marks.{scope_beginnings}
 use Rattle.c_erasure.specs.MentionPlaces.{spoken_of_specifiers, spoken_of_declarator, spoken_by_items, mentions_of_item, mentions_of_file}
 use Rattle.c_erasure.specs.Scopes.{FileScope, Bound, AnObject, AFunction, at_file_scope}
 use Rattle.c_checking.specs.Files.{item_nodes, filed_item, filed}
-use Rattle.c_checking.proofs.Agreement as Agreement
-use Rattle.c_checking.proofs.Agreement.{Ready}
-use Rattle.c_checking.proofs.InRange.{AreSpecifiersInRange, IsDeclaratorInRange}
-use Rattle.c_checking.proofs.Results.{bound_ok, given}
+use Rattle.c_checking_laws.proofs.Agreement as Agreement
+use Rattle.c_checking_laws.proofs.Agreement.{Ready}
+use Rattle.c_checking_laws.proofs.InRange.{AreSpecifiersInRange, IsDeclaratorInRange}
+use Rattle.c_checking_laws.proofs.Results.{bound_ok, given}
 use Rattle.c_checking_files.proofs.StatementLaws.{AreItemsInRange}
 use Rattle.c_text_order.specs.TextOrder.{Rising, places_of_item, names_of_item, names_of_file}
 use Rattle.c_checking_items.proofs.Known.{IsKnown, none_new}

@@ -10,7 +10,7 @@ use Rattle.c_erasure.specs.Marks.{Mark, a_name, ends_in, marks_of_declarator, ma
 use Rattle.c_order.specs.Places.{AreOrdered}
 use Rattle.c_order.proofs.MarksOfParts.{declarator_along, specifiers_along}
 use Rattle.c_order.proofs.MarksOfFiles.{item_along, items_along}
-use Rattle.c_checking.proofs.Agreement.{added}
+use Rattle.c_checking_laws.proofs.Agreement.{added}
 use Rattle.c_checking_order.proofs.Ahead.{Ahead, Standing, standing_left, standing_right, back, ahead_same, added_both, none_left}
 use Rattle.c_checking_items.proofs.Items.{IsItemFit, AreItemsFit}
 use Rattle.c_checking_items.proofs.InTextTime.{behind_part, ahead_of}

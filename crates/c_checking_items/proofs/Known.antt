@@ -10,8 +10,8 @@ use Rattle.c_erasure.specs.Files.{IsMade, IsMainType, AreConsistent}
 use Rattle.c_erasure.specs.Scopes.{FileScope, Bound, defines, Entity, an_object, a_function, a_library_function, AnObject, AFunction}
 use Rattle.c_typed.specs.declared.operators.LibraryFunction.{LibraryFunction}
 use Rattle.c_checking.specs.Files.{library_named}
-use Rattle.c_checking.proofs.Agreement.{AreFit}
-use Rattle.c_checking.proofs.Extends.{kept, one_of_both}
+use Rattle.c_checking_laws.proofs.Agreement.{AreFit}
+use Rattle.c_checking_laws.proofs.Extends.{kept, one_of_both}
 use Rattle.c_checking_files.proofs.Kept.{AreSettled, AreObjectsWhole}
 
 -- ---- names that are bound to a thing

@@ -9,9 +9,9 @@ use Rattle.c_erasure.specs.Files.{IsMade, AreConsistent}
 use Rattle.c_erasure.specs.Marks.{Mark}
 use Rattle.c_erasure.specs.Scopes.{FileScope, Bound, an_object, a_function, AnObject, AFunction, enumerator, a_library_function}
 use Rattle.c_typed.specs.declared.operators.LibraryFunction.{LibraryFunction}
-use Rattle.c_checking.proofs.Adding.{Adds}
-use Rattle.c_checking.proofs.Agreement.{AreFit, IsGrown}
-use Rattle.c_checking.proofs.Extends.{one_of_both}
+use Rattle.c_checking_laws.proofs.Adding.{Adds}
+use Rattle.c_checking_laws.proofs.Agreement.{AreFit, IsGrown}
+use Rattle.c_checking_laws.proofs.Extends.{one_of_both}
 use Rattle.c_checking_files.proofs.Kept.{AreSettled, AreObjectsWhole, Keeps, IsAnEnumerator, IsALiteral}
 use Rattle.c_checking_files.proofs.Scoped.{new_of}
 use Rattle.c_checking_items.proofs.Known.{others_more, others_define_none, AreOthers, IsObjectKnown, made_right, object_later, IsFunctionKnown, function_later}

@@ -8,7 +8,7 @@ use Rattle.c_erasure.specs.Files.{AreConsistent, MayStandTogether, MayBeDeclared
 use Rattle.c_erasure.specs.Scopes.{Bound, defines}
 use Rattle.c_checking.specs.Declaring.{declared_among}
 use Rattle.c_checking.specs.Files.{defined_among}
-use Rattle.c_checking.proofs.NodesOfParts.{same_bytes}
+use Rattle.c_checking_laws.proofs.NodesOfParts.{same_bytes}
 use Rattle.c_checking_files.proofs.Kept.{one_more_consistent, undeclared}
 
 pub all_at : {X : Type 0} (P : X → Type 0) (xs : List X) → All P xs → (k : ℕ) (x : X) → slice_get xs k ≡ Some x → P x

@@ -21,9 +21,9 @@ use Rattle.c_erasure.specs.Specifiers.{Storage}
 use Rattle.c_checking.specs.Declaring.{declared_among, with_bound}
 use Rattle.c_checking.specs.Files.{library_named, define_object, object_of, declare_object}
 use Rattle.c_checking.specs.Statements.{replaced_object}
-use Rattle.c_checking.proofs.Agreement.{Ready}
-use Rattle.c_checking.proofs.Extends.{Extends, further, kept}
-use Rattle.c_checking.proofs.Results.{bound_ok, given}
+use Rattle.c_checking_laws.proofs.Agreement.{Ready}
+use Rattle.c_checking_laws.proofs.Extends.{Extends, further, kept}
+use Rattle.c_checking_laws.proofs.Results.{bound_ok, given}
 use Rattle.c_checking_files.proofs.FileObjectDeclarators.{IsObjectDeclared}
 use Rattle.c_checking_files.proofs.FileObjects.{IsTheObject, object_is, definition_found, object_defined, set_types, set_same}
 use Rattle.c_checking_files.proofs.FileScopes.{IsSameObject, Continues, continues_then, MayDeclare, own_answer, own_is, bound_there, bound_put, first_later}
@@ -262,7 +262,7 @@ module _ (untagged : ℕ → List ℕ) (types : List (List ℕ)) (nodes_at : ℕ
             → IsADeclaredObject after.file after.names n.0 (with_initial (with_bound n.1 (bound x from defines (an_object n.0 t))) place i v.object)
         settled j i after more e =
             let b = bound x from defines (an_object n.0 t) in
-            let at = kept (n.1.names ++ b ∷ []) more (length n.1.names) b (Rattle.c_checking.proofs.Extends.at_end n.1.names b) in
+            let at = kept (n.1.names ++ b ∷ []) more (length n.1.names) b (Rattle.c_checking_laws.proofs.Extends.at_end n.1.names b) in
             let there = subst (λ names. slice_get names (length n.1.names) ≡ Some b) (sym e) at in
             let is = ap (λ t. an_object n.0 t) (sym v.ty) in
             record {

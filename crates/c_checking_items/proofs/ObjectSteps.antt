@@ -22,8 +22,8 @@ use Rattle.c_checking.specs.Answers.{Answer}
 use Rattle.c_checking.specs.Declaring.{declared_among, with_bound}
 use Rattle.c_checking.specs.Files.{links, is_main, main_object, linked_before, linkage_agrees, new_object, with_new_object, known_object, object_of}
 use Rattle.c_checking.specs.Files.{defined_among, defined_once}
-use Rattle.c_checking.proofs.Extends.{Extends, further, kept}
-use Rattle.c_checking.proofs.Results.{given, chosen}
+use Rattle.c_checking_laws.proofs.Extends.{Extends, further, kept}
+use Rattle.c_checking_laws.proofs.Results.{given, chosen}
 use Rattle.c_checking_files.proofs.FileObjects.{IsTheObject}
 use Rattle.c_checking_files.proofs.FileScopes.{MayDeclare, StandsFor, once_answer}
 use Rattle.c_checking_files.proofs.Parts.{Parted, none, is_made, is_bytes}
@@ -187,7 +187,7 @@ module _ (nodes_at : ℕ → ℕ) (before : List ℕ) where
       let f1 = with_new_object f new in
       let number : length f.objects ≡ n.0 = ap (λ (z : ℕ × FileScope). z.0) is.1 in
       let file : f1 ≡ n.1 = ap (λ (z : ℕ × FileScope). z.1) is.1 in
-      let there = Rattle.c_checking.proofs.Extends.at_end f.objects new in
+      let there = Rattle.c_checking_laws.proofs.Extends.at_end f.objects new in
       let object : new ≡ v.object =
       one_object new v.object (sym there ∙ ap (λ (z : ℕ × FileScope). slice_get z.1.objects z.0) is.1 ∙ v.stands) in
       let b = bound x from how (an_object n.0 t) in
@@ -206,11 +206,11 @@ module _ (nodes_at : ℕ → ℕ) (before : List ℕ) where
         parted = is_made place [] [] [] none;
         objects_are = subst (λ (g : FileScope). map (λ o. o.first) g.objects ≡ map (λ o. o.first) f.objects ++ place ∷ []) file
             (map-append (λ o. o.first) f.objects (new ∷ []));
-        only = λ m q e. one m q (Rattle.c_checking.proofs.Extends.last_or f.objects new m q (subst (λ (g : FileScope). slice_get g.objects m ≡ Some q) (sym file) e));
+        only = λ m q e. one m q (Rattle.c_checking_laws.proofs.Extends.last_or f.objects new m q (subst (λ (g : FileScope). slice_get g.objects m ≡ Some q) (sym file) e));
         undefined = λ d. ap (λ (o : AnObject). o.initial) (sym object);
         not_main = subst (λ (o : AnObject). o.is_linked ≡ true → o.name ≢ codes "main") object is.2;
         as_declared = λ d. subst (IsADeclaredObject f.file (f.names ++ b ∷ []) n.0) object (record {
-          declared = (length f.names, b, Rattle.c_checking.proofs.Extends.at_end f.names b, refl);
+          declared = (length f.names, b, Rattle.c_checking_laws.proofs.Extends.at_end f.names b, refl);
           left = λ e. (
             refl,
             no_definition_more f.names (b ∷ []) (an_object n.0 t)

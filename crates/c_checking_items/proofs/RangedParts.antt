@@ -10,9 +10,9 @@ use Rattle.c_ast.specs.Trees
 use Rattle.c_ast.specs.Spelling.{Lexeme, spelled, spelled_arguments, spelled_optional, spelled_type_name, spelled_specifiers, spelled_comma, spelled_texts}
 use Rattle.c_ast.specs.Spelling.{spelled_tag, spelled_consts, spelled_specifier, spelled_member_declarations, spelled_member_declarators, spelled_enumerators}
 use Rattle.c_ast.specs.Spelling.{spelled_enumerator_value, spelled_declarator, spelled_parameter_list, spelled_parameters}
-use Rattle.c_checking.proofs.InRange as InRange
-use Rattle.c_checking.proofs.InRange.{IsInRange, AreInRange, IsOptionInRange, IsTypeInRange, AreSpecifiersInRange, IsSpecifierInRange, AreMembersInRange}
-use Rattle.c_checking.proofs.InRange.{AreEnumeratorsInRange, IsDeclaratorInRange, IsListInRange, AreParametersInRange}
+use Rattle.c_checking_laws.proofs.InRange as InRange
+use Rattle.c_checking_laws.proofs.InRange.{IsInRange, AreInRange, IsOptionInRange, IsTypeInRange, AreSpecifiersInRange, IsSpecifierInRange, AreMembersInRange}
+use Rattle.c_checking_laws.proofs.InRange.{AreEnumeratorsInRange, IsDeclaratorInRange, IsListInRange, AreParametersInRange}
 
 abbrev pub IsRanged : TokenKind → Type 0
 IsRanged (K.Number n kind) = as_kind kind n ≡ n

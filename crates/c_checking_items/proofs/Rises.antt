@@ -1,7 +1,7 @@
 -- Places that come one after the other, and what stands before them.
 use Rattle.std.proofs.Common.{◌≡◌, ℕ, zero, suc, ◌+◌, ◌≤◌, ◌<◌, refl, ap, subst, List, [], ◌∷◌, ◌++◌, length, arith, inl, inr}
 use Rattle.std.specs.Prelude.{◌⊎◌, map, Some, slice_get}
-use Rattle.c_checking.proofs.Extends.{one_of_both}
+use Rattle.c_checking_laws.proofs.Extends.{one_of_both}
 use Rattle.c_checking_files.proofs.Parts.{Parted, none, is_made, is_bytes}
 use Rattle.c_text_order.specs.TextOrder.{Rising}
 

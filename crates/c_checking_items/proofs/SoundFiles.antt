@@ -16,7 +16,7 @@ use Rattle.c_erasure.specs.Marks.{marks_of_file, firsts, tags_in, ends_in, defin
 use Rattle.c_erasure.specs.Noted.{Noted}
 use Rattle.c_erasure.specs.Scopes.{FileScope, Bound, Tag, an_object, a_function, AnObject, AFunction}
 use Rattle.c_checking.specs.Files.{unread, is_tentative, settled, closed_file, filed, annotated}
-use Rattle.c_checking.proofs.Results.{bound_ok, given}
+use Rattle.c_checking_laws.proofs.Results.{bound_ok, given}
 use Rattle.c_checking_items.proofs.AddressesStay.{keeps_constants}
 use Rattle.c_text_order.specs.TextOrder.{AreInTextOrder}
 use Rattle.c_checking_items.specs.Found.{IsFound}

@@ -7,9 +7,9 @@ use Rattle.std.specs.Prelude.{map, Some, slice_get}
 use Rattle.c_erasure.specs.Files.{AreConsistent}
 use Rattle.c_erasure.specs.Marks.{Mark, a_tag, an_end, a_name, scope_beginnings, defined_in, ends_in, tags_in}
 use Rattle.c_erasure.specs.Scopes.{FileScope, Bound, at_file_scope}
-use Rattle.c_checking.proofs.Adding.{Adds}
-use Rattle.c_checking.proofs.Agreement.{AreFit, IsGrown, Ready, beginnings_append}
-use Rattle.c_checking.proofs.Extends.{Extends, behind}
+use Rattle.c_checking_laws.proofs.Adding.{Adds}
+use Rattle.c_checking_laws.proofs.Agreement.{AreFit, IsGrown, Ready, beginnings_append}
+use Rattle.c_checking_laws.proofs.Extends.{Extends, behind}
 use Rattle.c_checking_files.proofs.FileScopes.{Continues, continues_itself, continues_then, adds_continues}
 use Rattle.c_checking_files.proofs.Kept.{AreTagsFit, fit_then, tags_append, Keeps}
 use Rattle.c_checking_files.proofs.Layouts.{IsLaid}

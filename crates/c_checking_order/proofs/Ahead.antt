@@ -10,8 +10,8 @@ use Rattle.c_erasure.specs.Marks.{Mark, a_tag, an_end, a_name, ends_in}
 use Rattle.c_erasure.specs.Scopes.{ended}
 use Rattle.c_order.specs.Places.{AreOrdered, Along}
 use Rattle.c_order.proofs.Ordered.{ends_between}
-use Rattle.c_checking.proofs.Extends.{kept, behind}
-use Rattle.c_checking.proofs.Agreement.{added}
+use Rattle.c_checking_laws.proofs.Extends.{kept, behind}
+use Rattle.c_checking_laws.proofs.Agreement.{added}
 
 ends_append : (u v : List Mark) → ends_in (u ++ v) ≡ ends_in u ++ ends_in v
 ends_append [] v = refl

@@ -11,12 +11,12 @@ use Rattle.c_erasure.specs.Scopes.{FileScope, Scope}
 use Rattle.c_erasure.specs.Specifiers.{is_word}
 use Rattle.c_order.specs.Places.{AreOrdered}
 use Rattle.c_checking.specs.Finding.{find, type_name, specified, derivations}
-use Rattle.c_checking.proofs.Agreement.{added}
-use Rattle.c_checking.proofs.InRange.{IsInRange, IsTypeInRange, IsSpecifierInRange, IsDeclaratorInRange}
-use Rattle.c_checking.proofs.FaultAdditions.{of, of_type, of_specifier, of_declarator}
-use Rattle.c_checking.proofs.FaultResults.{Allows, Broken}
-use Rattle.c_checking.proofs.FaultPremises.{Prepared}
-use Rattle.c_checking.proofs.Faults.{faults, faults_type, faults_specifier, faults_steps}
+use Rattle.c_checking_laws.proofs.Agreement.{added}
+use Rattle.c_checking_laws.proofs.InRange.{IsInRange, IsTypeInRange, IsSpecifierInRange, IsDeclaratorInRange}
+use Rattle.c_checking_laws.proofs.FaultAdditions.{of, of_type, of_specifier, of_declarator}
+use Rattle.c_checking_laws.proofs.FaultResults.{Allows, Broken}
+use Rattle.c_checking_laws.proofs.FaultPremises.{Prepared}
+use Rattle.c_checking_laws.proofs.Faults.{faults, faults_type, faults_specifier, faults_steps}
 use Rattle.c_checking_order.proofs.Ahead.{Ahead, Standing}
 use Rattle.c_checking_order.proofs.Timely.{timely, timely_type, timely_specifier, timely_declarator}
 

@@ -29,10 +29,10 @@ use Rattle.c_order.proofs.Ordered.{ends_between}
 use Rattle.c_order.proofs.MarksOfParts.{along, arguments_along, optional_along, type_name_along, specifiers_along, more_specifiers_along}
 use Rattle.c_order.proofs.MarksOfParts.{members_along, member_declarators_along, after_enumerator, value_along, declarator_along}
 use Rattle.c_order.proofs.MarksOfParts.{parameter_list_along, parameters_along}
-use Rattle.c_checking.proofs.Agreement.{added}
-use Rattle.c_checking.proofs.FaultPremises.{IsTimely, AreTimely, IsTypeTimely, AreSpecifiersTimely, IsSpecifierTimely, AreMembersTimely, AreDeclaratorsTimely}
-use Rattle.c_checking.proofs.FaultPremises.{AreEnumeratorsTimely, IsValueTimely, IsDeclaratorTimely, IsLengthTimely, IsListTimely, AreParametersTimely}
-use Rattle.c_checking.proofs.FaultPremises.{AreKnown}
+use Rattle.c_checking_laws.proofs.Agreement.{added}
+use Rattle.c_checking_laws.proofs.FaultPremises.{IsTimely, AreTimely, IsTypeTimely, AreSpecifiersTimely, IsSpecifierTimely, AreMembersTimely, AreDeclaratorsTimely}
+use Rattle.c_checking_laws.proofs.FaultPremises.{AreEnumeratorsTimely, IsValueTimely, IsDeclaratorTimely, IsLengthTimely, IsListTimely, AreParametersTimely}
+use Rattle.c_checking_laws.proofs.FaultPremises.{AreKnown}
 use Rattle.c_checking_order.proofs.Ahead.{Ahead, Standing, standing_left, standing_right, known, earlier, back, ahead_same, added_both}
 
 -- ---- declarators that have names

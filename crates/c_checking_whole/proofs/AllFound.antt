@@ -6,8 +6,8 @@ use Rattle.c_ast.specs.Trees
 use Rattle.c_erasure.specs.Files.{IsFileOf}
 use Rattle.c_erasure.specs.Scopes.{Bound, AMention, FileScope}
 use Rattle.c_checking.specs.Files.{closed_file}
-use Rattle.c_checking.proofs.CompleteNodes.{some_is}
-use Rattle.c_checking.proofs.CompletePart.{Lists, part}
+use Rattle.c_checking_laws.proofs.CompleteNodes.{some_is}
+use Rattle.c_checking_laws.proofs.CompletePart.{Lists, part}
 use Rattle.c_checking_complete.proofs.Objects.{mapped_at}
 use Rattle.c_checking_whole.proofs.Filed.{IsFiled}
 

@@ -21,11 +21,11 @@ use Rattle.c_erasure.specs.Statements.{HasConstants}
 use Rattle.c_checking.specs.Answers.{◌>>=◌, with_file, moved}
 use Rattle.c_checking.specs.Initializers.{are_constants, constants_in}
 use Rattle.c_checking.specs.Statements.{constants_if_any}
-use Rattle.c_checking.proofs.CompleteFit.{IsAmong}
-use Rattle.c_checking.proofs.CompleteLocals.{walk_of_initial}
-use Rattle.c_checking.proofs.CompletePart.{Lists, part, IsBefore, IsAfter}
-use Rattle.c_checking.proofs.CompleteWalk.{Event}
-use Rattle.c_checking.proofs.Extends.{one_of_both}
+use Rattle.c_checking_laws.proofs.CompleteFit.{IsAmong}
+use Rattle.c_checking_laws.proofs.CompleteLocals.{walk_of_initial}
+use Rattle.c_checking_laws.proofs.CompletePart.{Lists, part, IsBefore, IsAfter}
+use Rattle.c_checking_laws.proofs.CompleteWalk.{Event}
+use Rattle.c_checking_laws.proofs.Extends.{one_of_both}
 use Rattle.c_checking_complete.proofs.Constants.{constants_back}
 use Rattle.c_checking_complete.proofs.Reached.{reaches}
 use Rattle.c_checking_complete.proofs.Wholes.{AsTyped, initializer_complete}

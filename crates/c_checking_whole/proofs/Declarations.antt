@@ -14,10 +14,10 @@ use Rattle.c_checking.specs.Answers.{◌>>=◌, refused}
 use Rattle.c_checking.specs.Declaring.{base_kind}
 use Rattle.c_checking.specs.Files.{is_empty, file_declarators, file_declaration}
 use Rattle.c_checking.specs.Finding.{base_type, one_of}
-use Rattle.c_checking.proofs.CompleteDeclarators.{base_complete}
-use Rattle.c_checking.proofs.CompletePart.{Lists, part}
-use Rattle.c_checking.proofs.CompleteTrees.{complete_one}
-use Rattle.c_checking.proofs.CompleteWalk.{walk_of_specifiers}
+use Rattle.c_checking_laws.proofs.CompleteDeclarators.{base_complete}
+use Rattle.c_checking_laws.proofs.CompletePart.{Lists, part}
+use Rattle.c_checking_laws.proofs.CompleteTrees.{complete_one}
+use Rattle.c_checking_laws.proofs.CompleteWalk.{walk_of_specifiers}
 use Rattle.c_checking_files.proofs.Keeping.{keep_base}
 use Rattle.c_checking_whole.proofs.Declarators.{steps_of_declarators, declarators_found}
 use Rattle.c_checking_whole.proofs.Filed.{IsWholeFile}

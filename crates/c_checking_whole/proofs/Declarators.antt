@@ -25,9 +25,9 @@ use Rattle.c_checking.specs.Declaring.{with_mention, mentions_in, object_at}
 use Rattle.c_checking.specs.Files.{library_named, declare_typedef, declare_function, declare_object, without_value, declare_as, declarator_named}
 use Rattle.c_checking.specs.Files.{file_declarators}
 use Rattle.c_checking.specs.Finding.{complete}
-use Rattle.c_checking.proofs.CompleteLocals.{walk_of_initial}
-use Rattle.c_checking.proofs.CompletePart.{Lists, part, complete_stays}
-use Rattle.c_checking.proofs.CompleteWalk.{a_name}
+use Rattle.c_checking_laws.proofs.CompleteLocals.{walk_of_initial}
+use Rattle.c_checking_laws.proofs.CompletePart.{Lists, part, complete_stays}
+use Rattle.c_checking_laws.proofs.CompleteWalk.{a_name}
 use Rattle.c_checking_files.proofs.FileScopes.{MayDeclare}
 use Rattle.c_checking_whole.proofs.Filed.{IsWholeFile, naming}
 use Rattle.c_checking_whole.proofs.Functions.{IsOwnFunction, function_found, library_function_found, named_ready}

@@ -19,10 +19,10 @@ use Rattle.c_checking.specs.Declaring.{Derivation, declared_among, with_bound, w
 use Rattle.c_checking.specs.Files.{library_named, own_name, main_function, defined_among, once, function_of, function_storage, Received, received_by}
 use Rattle.c_checking.specs.Files.{function_body, define_function, define_shape, definition_named, function_definition}
 use Rattle.c_checking.specs.Finding.{base_type, one_of, derivations}
-use Rattle.c_checking.proofs.CompleteBodies.{walk_of_declaration}
-use Rattle.c_checking.proofs.CompletePart.{Lists, part}
-use Rattle.c_checking.proofs.CompleteStatements.{walk_of_items}
-use Rattle.c_checking.proofs.CompleteWalk.{Event, seen, a_name, walk_of_specifiers}
+use Rattle.c_checking_laws.proofs.CompleteBodies.{walk_of_declaration}
+use Rattle.c_checking_laws.proofs.CompletePart.{Lists, part}
+use Rattle.c_checking_laws.proofs.CompleteStatements.{walk_of_items}
+use Rattle.c_checking_laws.proofs.CompleteWalk.{Event, seen, a_name, walk_of_specifiers}
 use Rattle.c_checking_complete.proofs.Bodies.{AreScalar, parameters_complete}
 use Rattle.c_checking_complete.proofs.StaticLists.{walk_of_statics}
 use Rattle.c_checking_files.proofs.FileScopes.{MayDeclare}

@@ -5,9 +5,9 @@ use Rattle.c_types.specs.Limits.{AreComplete}
 use Rattle.c_ast.specs.Trees
 use Rattle.c_erasure.specs.Files.{AreAscending, IsFileOf}
 use Rattle.c_erasure.specs.Scopes.{Bound, FileScope, enumerator, AnObject, AFunction}
-use Rattle.c_checking.proofs.Agreement as Agreement
-use Rattle.c_checking.proofs.CompleteNodes.{some_is}
-use Rattle.c_checking.proofs.CompletePart.{IsWhole}
+use Rattle.c_checking_laws.proofs.Agreement as Agreement
+use Rattle.c_checking_laws.proofs.CompleteNodes.{some_is}
+use Rattle.c_checking_laws.proofs.CompletePart.{IsWhole}
 use Rattle.c_checking_complete.proofs.Objects.{mapped_at}
 use Rattle.c_checking_items.proofs.Names.{all_at}
 use Rattle.c_checking_whole.proofs.Filed.{IsWholeFile, consistent_at}

@@ -10,13 +10,13 @@ use Rattle.c_erasure.specs.Scopes.{FileScope, Bound, Entity, typedef, enumerator
 use Rattle.c_erasure.specs.Scopes.{AnObject, AFunction, ALocal}
 use Rattle.c_checking.specs.Answers.{◌>>=◌}
 use Rattle.c_checking.specs.Files.{with_body, function_body}
-use Rattle.c_checking.proofs.Agreement.{IsFit, AreFit}
-use Rattle.c_checking.proofs.CompleteNodes.{some, some_is}
-use Rattle.c_checking.proofs.CompletePart.{Lists, part, IsAfter}
-use Rattle.c_checking.proofs.CompleteStatements.{inner, Seen}
-use Rattle.c_checking.proofs.CompleteWalk.{Event}
-use Rattle.c_checking.proofs.Extends.{Extends, bound_stays, record_stays}
-use Rattle.c_checking.proofs.Results.{ok}
+use Rattle.c_checking_laws.proofs.Agreement.{IsFit, AreFit}
+use Rattle.c_checking_laws.proofs.CompleteNodes.{some, some_is}
+use Rattle.c_checking_laws.proofs.CompletePart.{Lists, part, IsAfter}
+use Rattle.c_checking_laws.proofs.CompleteStatements.{inner, Seen}
+use Rattle.c_checking_laws.proofs.CompleteWalk.{Event}
+use Rattle.c_checking_laws.proofs.Extends.{Extends, bound_stays, record_stays}
+use Rattle.c_checking_laws.proofs.Results.{ok}
 use Rattle.c_checking_complete.proofs.Bodies.{AreScalar, parameters_complete, parameters_fit, all_locals, walk_of_body, body_complete, IsBegun}
 use Rattle.c_checking_complete.proofs.Bodies.{function_complete}
 use Rattle.c_checking_complete.proofs.Objects.{mapped_at, set_of, set_length}
@@ -88,7 +88,7 @@ module _ (g : FileScope) (w : IsWholeFile g) where
   abbrev Inside : CType → (s m : Lists) → AFunction → List Bound → List (List Bound) → Type 0
   Inside result s m fn bounds blocks = (n : ℕ) (o : AnObject) → slice_get m.objects n ≡ Some o → (slice_get s.objects n ≡ Some o) ⊎ IsSome o.initial
 
-  body_filed : (s m : Lists) (u : List Event) → IsFiled g s → IsAfter g s u m → Rattle.c_checking.proofs.CompleteWalk.names_in u ≡ 0
+  body_filed : (s m : Lists) (u : List Event) → IsFiled g s → IsAfter g s u m → Rattle.c_checking_laws.proofs.CompleteWalk.names_in u ≡ 0
       → ((n : ℕ) (o : AnObject) → slice_get m.objects n ≡ Some o → (slice_get s.objects n ≡ Some o) ⊎ IsSome o.initial)
       → Rattle.c_checking_files.proofs.Kept.AreObjectsWhole m.records m.objects → IsFiled g m
   body_filed s m u f a none inside whole = record {
@@ -151,7 +151,7 @@ module _ (g : FileScope) (w : IsWholeFile g) where
       (parameters_complete list types fn.parameters bounds has) ready.steps.0 (ready_file s f)
       (z.all, inner g w.whole (all_locals g w.whole w.typed result fn) z.blocks (all_locals g w.whole w.typed result fn) m) z.is in
       let filed = body_filed s m (Body result fn items) f z.after
-      (Rattle.c_checking.proofs.CompleteFit.no_names (walk_of_body g w.whole w.typed result fn items)) (λ k p e. inside (v.inner k p e)) v.within.whole in
+      (Rattle.c_checking_laws.proofs.CompleteFit.no_names (walk_of_body g w.whole w.typed result fn items)) (λ k p e. inside (v.inner k p e)) v.within.whole in
       let last = with_functions m (slice_set m.functions n fn) in
       let size = set_length m.functions n fn in
       let a = z.after in

@@ -16,12 +16,12 @@ use Rattle.c_checking.specs.Answers.{Answer, ◌>>=◌, refused}
 use Rattle.c_checking.specs.Declaring.{declared_among, with_bound}
 use Rattle.c_checking.specs.Files.{library_named, is_main, main_type, main_function, links, function_linkage_agrees, function_linked_before, new_function}
 use Rattle.c_checking.specs.Files.{known_function, function_of, library_again, declare_library, declare_own, declare_function}
-use Rattle.c_checking.proofs.CompleteNodes.{some, some_is}
-use Rattle.c_checking.proofs.CompletePart.{Lists, part}
-use Rattle.c_checking.proofs.CompleteWalk.{a_name}
-use Rattle.c_checking.proofs.Extends.{last_or}
-use Rattle.c_checking.proofs.NodesOfParts.{same_bytes}
-use Rattle.c_checking.proofs.Results.{ok}
+use Rattle.c_checking_laws.proofs.CompleteNodes.{some, some_is}
+use Rattle.c_checking_laws.proofs.CompletePart.{Lists, part}
+use Rattle.c_checking_laws.proofs.CompleteWalk.{a_name}
+use Rattle.c_checking_laws.proofs.Extends.{last_or}
+use Rattle.c_checking_laws.proofs.NodesOfParts.{same_bytes}
+use Rattle.c_checking_laws.proofs.Results.{ok}
 use Rattle.c_checking_complete.proofs.Objects.{mapped_at}
 use Rattle.c_checking_files.proofs.FileScopes.{IsSameFunction, MayDeclare}
 use Rattle.c_checking_items.proofs.Names.{declared_is}

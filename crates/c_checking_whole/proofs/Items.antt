@@ -9,8 +9,8 @@ use Rattle.c_erasure.specs.Files.{ErasesItem, IsFileOf}
 use Rattle.c_erasure.specs.Scopes.{FileScope}
 use Rattle.c_checking.specs.Answers.{◌>>=◌}
 use Rattle.c_checking.specs.Files.{item_nodes, filed_item, filed, unread, closed_file, annotated}
-use Rattle.c_checking.proofs.CompletePart.{Lists, part}
-use Rattle.c_checking.proofs.Results.{ok}
+use Rattle.c_checking_laws.proofs.CompletePart.{Lists, part}
+use Rattle.c_checking_laws.proofs.Results.{ok}
 use Rattle.c_checking_whole.proofs.Declarations.{steps_of_declaration, declaration_found}
 use Rattle.c_checking_whole.proofs.Definitions.{steps_of_definition, definition_found}
 use Rattle.c_checking_whole.proofs.Filed.{IsWholeFile, IsFiled}

@@ -13,12 +13,12 @@ use Rattle.c_erasure.specs.Marks.{Mark}
 use Rattle.c_erasure.specs.Scopes.{FileScope, Bound, Entity, typedef, enumerator, an_object, a_function, AnObject, at_file_scope, visible, defines}
 use Rattle.c_checking.specs.Declaring.{declared_among}
 use Rattle.c_checking.specs.Files.{first_named, is_library_name, library, library_named, declare_typedef}
-use Rattle.c_checking.proofs.CompleteNodes.{some}
-use Rattle.c_checking.proofs.CompletePart.{Lists, part}
-use Rattle.c_checking.proofs.CompleteStructures.{below_length}
-use Rattle.c_checking.proofs.CompleteWalk.{IsAsked, IsNamedFrom}
-use Rattle.c_checking.proofs.Extends.{Extends, kept, bound_stays, one_of_both}
-use Rattle.c_checking.proofs.NodesOfParts.{same_bytes}
+use Rattle.c_checking_laws.proofs.CompleteNodes.{some}
+use Rattle.c_checking_laws.proofs.CompletePart.{Lists, part}
+use Rattle.c_checking_laws.proofs.CompleteStructures.{below_length}
+use Rattle.c_checking_laws.proofs.CompleteWalk.{IsAsked, IsNamedFrom}
+use Rattle.c_checking_laws.proofs.Extends.{Extends, kept, bound_stays, one_of_both}
+use Rattle.c_checking_laws.proofs.NodesOfParts.{same_bytes}
 use Rattle.c_checking_files.proofs.FileScopes.{IsSameObject}
 use Rattle.c_checking_files.proofs.Kept.{Keeps, IsAnEnumerator, undeclared}
 use Rattle.c_checking_items.proofs.FirstNames.{none_visible, one_visible}
@@ -76,7 +76,7 @@ keeps_filed g c m i u f p k = record {
     an_object_same n o (inr e) =
         let l = k.objects.2 e.0 o e.2 in
         let stands : slice_get m.objects n ≡ Some o =
-        subst (λ all. slice_get all n ≡ Some o) (sym k.objects.1) (Rattle.c_checking.proofs.Extends.behind c.objects k.objects.0 e.0 n o e.1 e.2) in
+        subst (λ all. slice_get all n ≡ Some o) (sym k.objects.1) (Rattle.c_checking_laws.proofs.Extends.behind c.objects k.objects.0 e.0 n o e.1 e.2) in
         let is : IsSome o.initial = subst (λ (o : AnObject). IsSome o.initial) (sym l.2) refl in
         (o, p.objects n o stands is, record { name = refl; first = refl; ty = refl; is_linked = refl; literal = refl; settled = λ s. refl })
 

@@ -16,10 +16,10 @@ use Rattle.c_erasure.specs.Specifiers.{Storage}
 use Rattle.c_checking.specs.Answers.{Answer, ◌>>=◌}
 use Rattle.c_checking.specs.Declaring.{declared_among, with_bound}
 use Rattle.c_checking.specs.Files.{own_name, object_of, defined_object, with_definition, define_object, defined_once, once, declare_object}
-use Rattle.c_checking.proofs.CompleteNodes.{some_is}
-use Rattle.c_checking.proofs.CompletePart.{Lists, part, complete_stays}
-use Rattle.c_checking.proofs.CompleteWalk.{a_name}
-use Rattle.c_checking.proofs.Results.{ok}
+use Rattle.c_checking_laws.proofs.CompleteNodes.{some_is}
+use Rattle.c_checking_laws.proofs.CompletePart.{Lists, part, complete_stays}
+use Rattle.c_checking_laws.proofs.CompleteWalk.{a_name}
+use Rattle.c_checking_laws.proofs.Results.{ok}
 use Rattle.c_checking_complete.proofs.Objects.{with_objects, one_put, set_of, set_length}
 use Rattle.c_checking_files.proofs.FileScopes.{IsSameObject, MayDeclare}
 use Rattle.c_checking_whole.proofs.Constants.{Initial, constants_found}

@@ -15,11 +15,11 @@ use Rattle.c_checking.specs.Answers.{refused}
 use Rattle.c_checking.specs.Declaring.{declared_among}
 use Rattle.c_checking.specs.Files.{is_main, links, linkage_agrees, linked_before, new_object}
 use Rattle.c_checking.specs.Files.{known_object, object_of, defined_among}
-use Rattle.c_checking.proofs.CompleteNodes.{some, some_is}
-use Rattle.c_checking.proofs.CompletePart.{Lists, part}
-use Rattle.c_checking.proofs.Extends.{Extends, last_or}
-use Rattle.c_checking.proofs.NodesOfParts.{same_bytes}
-use Rattle.c_checking.proofs.Results.{ok}
+use Rattle.c_checking_laws.proofs.CompleteNodes.{some, some_is}
+use Rattle.c_checking_laws.proofs.CompletePart.{Lists, part}
+use Rattle.c_checking_laws.proofs.Extends.{Extends, last_or}
+use Rattle.c_checking_laws.proofs.NodesOfParts.{same_bytes}
+use Rattle.c_checking_laws.proofs.Results.{ok}
 use Rattle.c_checking_complete.proofs.Objects.{with_objects, one_more}
 use Rattle.c_checking_files.proofs.FileScopes.{IsSameObject, MayDeclare}
 use Rattle.c_checking_whole.proofs.Filed.{IsWholeFile, IsFiled, earlier, declared_earlier}

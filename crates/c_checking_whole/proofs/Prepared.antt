@@ -20,14 +20,14 @@ use Rattle.c_checking.specs.Declaring.{Derivation, declared_among, with_mention,
 use Rattle.c_checking.specs.Files.{declare_as, declarator_named}
 use Rattle.c_checking.specs.Finding.{derivations}
 use Rattle.c_checking.specs.Statements.{counted_array, sized_in}
-use Rattle.c_checking.proofs.CompleteCalls.{size_same}
-use Rattle.c_checking.proofs.CompleteDeclarators.{small_back}
-use Rattle.c_checking.proofs.CompleteLocals.{walk_of_initial}
-use Rattle.c_checking.proofs.CompletePart.{Lists, part, mentioned}
-use Rattle.c_checking.proofs.CompleteTrees.{complete_declarator}
-use Rattle.c_checking.proofs.CompleteWalk.{a_look, a_name, walk_of_declarator}
-use Rattle.c_checking.proofs.Extends.{Extends}
-use Rattle.c_checking.proofs.Results.{ok}
+use Rattle.c_checking_laws.proofs.CompleteCalls.{size_same}
+use Rattle.c_checking_laws.proofs.CompleteDeclarators.{small_back}
+use Rattle.c_checking_laws.proofs.CompleteLocals.{walk_of_initial}
+use Rattle.c_checking_laws.proofs.CompletePart.{Lists, part, mentioned}
+use Rattle.c_checking_laws.proofs.CompleteTrees.{complete_declarator}
+use Rattle.c_checking_laws.proofs.CompleteWalk.{a_look, a_name, walk_of_declarator}
+use Rattle.c_checking_laws.proofs.Extends.{Extends}
+use Rattle.c_checking_laws.proofs.Results.{ok}
 use Rattle.c_checking_files.proofs.Keeping.{keep_steps}
 use Rattle.c_checking_whole.proofs.Filed.{IsWholeFile, IsFiled, next_bound}
 use Rattle.c_checking_whole.proofs.Names.{keeps_filed, first_same}
@@ -155,7 +155,7 @@ module _ (g : FileScope) (w : IsWholeFile g) where
         complete = omega (arith, looked, r);
         ready = record { filed = filed; steps = steps };
         first = λ b e f binds proper.
-            let next = next_bound g w lists b (subst (λ from. Rattle.c_checking.proofs.CompleteWalk.IsNamedFrom g.names (length lists.names) from) (sym f)
+            let next = next_bound g w lists b (subst (λ from. Rattle.c_checking_laws.proofs.CompleteWalk.IsNamedFrom g.names (length lists.names) from) (sym f)
             (named lists (events (At (walk_of_initial g.untagged g.objects d.value)) ∷ rest) steps)) binds in
             first_same g w c lists (length c.records) x b ready.filed.extends filed.extends
             (kept.names.0, sym names ∙ kept.names.1, kept.names.2) s.0.0 s.0.1 e next proper;
@@ -164,7 +164,7 @@ module _ (g : FileScope) (w : IsWholeFile g) where
       named : (m : Lists) (more : List Step)
           → AreSteps g (length m.names) (length m.records) (length m.objects) (length m.functions)
           (an_own (entity_at g.names from) (is_first g x) (first_declarator d.declarator x.from) ∷ events (At (a_name from ∷ [])) ∷ more)
-          → Rattle.c_checking.proofs.CompleteWalk.IsNamedFrom g.names (length m.names) from
+          → Rattle.c_checking_laws.proofs.CompleteWalk.IsNamedFrom g.names (length m.names) from
       named m more s = s.1.0.0
 
   pub joined : (c m : Lists) (d : Trees.InitDeclarator) (x : Spelling) (steps : List Derivation) (shape : Shape) (t : CType) (words : Storage) (base : CType)

@@ -6,11 +6,11 @@ use Rattle.c_ast.specs.Trees
 use Rattle.c_checking_files.proofs.StatementLaws.{AreItemsInRange}
 use Rattle.c_erasure.specs.Erasure.{IsBound}
 use Rattle.c_erasure.specs.Scopes.{FileScope, Bound, Entity, an_object, a_function, AFunction, at_file_scope}
-use Rattle.c_checking.proofs.CompleteNodes.{some, some_is}
-use Rattle.c_checking.proofs.CompletePart.{Lists, IsWhole}
+use Rattle.c_checking_laws.proofs.CompleteNodes.{some, some_is}
+use Rattle.c_checking_laws.proofs.CompletePart.{Lists, IsWhole}
 use Rattle.c_erasure.specs.Scopes.{in_full}
-use Rattle.c_checking.proofs.CompleteWalk.{seen}
-use Rattle.c_checking.proofs.CompleteWalk.{Event, names_in, ends_in, literals_in, Follows, IsAsked, IsFirstAt}
+use Rattle.c_checking_laws.proofs.CompleteWalk.{seen}
+use Rattle.c_checking_laws.proofs.CompleteWalk.{Event, names_in, ends_in, literals_in, Follows, IsAsked, IsFirstAt}
 use Rattle.c_checking_whole.proofs.Filed.{IsFiled}
 
 -- what the name that is in scope from a byte on stands for
