@@ -89,8 +89,11 @@ continues_within {f} {g} all p w none = record {
       (subst (λ firsts. slice_get firsts n ≡ Some o.first) (sym w.firsts.1)
       (kept (map (λ o. o.first) f.objects) w.firsts.0 n o.first (map_there (λ o. o.first) f.objects n o h))) in
       (there.0, there.1, by_part n o there.0 h there.2 ((begin_at w).begins n there.0 there.1));
-  functions = λ n o h. (o, subst (λ all. slice_get all n ≡ Some o) (sym w.functions) h,
-      record { name = refl; first = refl; ty = refl; is_linked = refl; settled = λ s. refl });
+  functions = λ n o h. (
+    o,
+    subst (λ all. slice_get all n ≡ Some o) (sym w.functions) h,
+    record { name = refl; first = refl; ty = refl; is_linked = refl; settled = λ s. refl },
+  );
 }
   where
     one_object : (o q : AnObject) → Some o ≡ Some q → o ≡ q

@@ -19,7 +19,7 @@ use Rattle.c_erasure.specs.Files.{bound, object_how}
 use Rattle.c_erasure.specs.Literals.{literals, literals_of_value}
 use Rattle.c_erasure.specs.Marks.{a_name, marks, marks_of_initial}
 use Rattle.c_erasure.specs.MentionPlaces.{spoken_by_value}
-use Rattle.c_erasure.specs.Scopes.{FileScope, Bound, AnObject, AFunction, defines, an_object, at_file_scope}
+use Rattle.c_erasure.specs.Scopes.{FileScope, AnObject, AFunction, defines, an_object, at_file_scope}
 use Rattle.c_erasure.specs.Specifiers.{Storage}
 use Rattle.c_erasure.specs.Statements.{IsSized}
 use Rattle.c_checking.specs.Declaring.{declared_among, with_bound}
