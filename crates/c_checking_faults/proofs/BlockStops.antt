@@ -7,7 +7,7 @@ use Rattle.c_ast.specs.Places.{first_specifiers}
 use Rattle.c_erasure.specs.Broken.{Fault, IsBroken, HasNoValue}
 use Rattle.c_erasure.specs.BrokenStatements.{IsBrokenDeclaration, IsBrokenIfAny, IsNoTest, IsBrokenStart}
 use Rattle.c_erasure.specs.BrokenStatements.{IsBrokenStatement}
-use Rattle.c_erasure.specs.Literals.{literals, literals_if_any, made_by_start, made_by}
+use Rattle.c_erasure.specs.Literals.{literals, made_by_start, made_by}
 use Rattle.c_erasure.specs.Noted.{Expression}
 use Rattle.c_erasure.specs.Scopes.{ALocal, FileScope, Scope, inside, declared}
 use Rattle.c_erasure.specs.Specifiers.{storage_of}
@@ -21,11 +21,13 @@ use Rattle.c_checking_files.proofs.Scoped.{then_in}
 use Rattle.c_checking_files.proofs.StatementLaws.{IsStartInRange, IsStatementInRange}
 use Rattle.c_checking_files.proofs.StatementParts.{same_seen, inside_within, condition_as}
 use Rattle.c_checking_files.proofs.Statements.{test_as, effect_as, IsStartFound, start_found}
-use Rattle.c_checking_faults.proofs.Clear.{among_left, AreFresh, fresh_left}
+use Rattle.c_checking_faults.proofs.Clear.{AreFresh, fresh_left}
 use Rattle.c_checking_faults.proofs.DeclaredLocals.{objects_declared_by}
 use Rattle.c_checking_faults.proofs.DeclarationStops.{declaration_stops}
+use Rattle.c_checking_faults.proofs.InnerAdditions.{at_value, at_if_any, at_start, at_statement}
+use Rattle.c_checking_laws.proofs.Within.{Additions, both}
 use Rattle.c_checking_faults.proofs.JumpFaults.{static_fault}
-use Rattle.c_checking_faults.proofs.Stopped.{Stopped, stopped_here, stopped_more, IsIn, stopped_later, fresh_later, in_later, in_same}
+use Rattle.c_checking_faults.proofs.Stopped.{Stopped, inner_left, stopped_here, stopped_more, IsIn, stopped_later, fresh_later, in_later, in_same}
 use Rattle.c_checking_faults.proofs.ValueStops.{value_stops, test_stops, effect_stops}
 use Rattle.c_checking_faults.proofs.StatementTimely.{IsStartTimely, IsStatementTimely}
 
@@ -46,7 +48,7 @@ module _ (untagged : ℕ → List ℕ) (ends : List ℕ) (f : FileScope) where
   }
 
   -- what stops in a block stops in the scope around it
-  pub block_stops : {k : List ℕ} (s : Scope) (Is Js : Scope → Type 0) → ((s : Scope) → Is (inside s) → Js s) → Stopped k (inside s) Is → Stopped k s Js
+  pub block_stops : {k : Additions} (s : Scope) (Is Js : Scope → Type 0) → ((s : Scope) → Is (inside s) → Js s) → Stopped k (inside s) Is → Stopped k s Js
   block_stops s Is Js is b = record {
     file = b.file;
     locals = b.locals;
@@ -59,31 +61,31 @@ module _ (untagged : ℕ → List ℕ) (ends : List ℕ) (f : FileScope) where
 
   pub start_stops : (start : Trees.ForStart) (s : Scope) → IsIn untagged ends f s → IsStartInRange f.ends (length f.records) start → IsStartTimely untagged ends f start
       → AreFresh s.file (made_by_start start) → (fault : Fault) → start_of start s ≡ Err fault
-      → Stopped (made_by_start start) s (λ s. IsBrokenStart start s fault)
+      → Stopped (at_start start) s (λ s. IsBrokenStart start s fault)
   start_stops (Trees.starts_with None semicolon) s p n t fresh fault h = cc
   start_stops (Trees.starts_with (Some a) semicolon) s p n t fresh fault h =
-      bound_err (value_of_expression a s) _ fault (Stopped (literals a) s (λ s. IsBroken a s fault ⊎ HasNoValue a s fault)) h
+      bound_err (value_of_expression a s) _ fault (Stopped (at_value a) s (λ s. IsBroken a s fault ⊎ HasNoValue a s fault)) h
       (λ e. value_stops untagged ends f a s p n t fault e) (λ x e h. cc)
   start_stops (Trees.declares d) s p n t fresh fault h =
-      let k = made_by_start (Trees.declares d) in
+      let k = at_start (Trees.declares d) in
       let Is = λ (s : Scope). IsBrokenStart (Trees.declares d) s fault in
       static_fault (first_specifiers d.specs) (storage_of d.specs) (local_declaration d s) fault (Stopped k s Is) h
       (λ b. stopped_here k s Is (inr b))
-      (λ e. stopped_more (λ s. IsBrokenDeclaration d s fault) Is (λ x m. m) (λ s b. inl b) (declaration_stops untagged ends f d s p n t fresh fault e))
+      (λ e. stopped_more (λ s. IsBrokenDeclaration d s fault) Is (λ g w. w) (λ s b. inl b) (declaration_stops untagged ends f d s p n t fresh fault e))
 
   module _ (result : CType) where
     -- ---- one lemma for each statement with parts of its own
 
     -- a statement behind a condition
-    pub behind_condition : (a : Trees.Expression) (s : Scope) (l : List ℕ) → IsIn untagged ends f s → IsInRange a
-        → AreFresh s.file (literals a ++ l) → (x : Expression × Scope) → condition a s ≡ Ok x → (Is Js : Scope → Type 0) → ((s : Scope) → Js s → Is s)
-        → (IsIn untagged ends f x.1 → AreFresh x.1.file l → Stopped l x.1 Js) → Stopped (literals a ++ l) s Is
+    pub behind_condition : (a : Trees.Expression) (s : Scope) (l : Additions) → IsIn untagged ends f s → IsInRange a
+        → AreFresh s.file (literals a ++ l.made) → (x : Expression × Scope) → condition a s ≡ Ok x → (Is Js : Scope → Type 0) → ((s : Scope) → Js s → Is s)
+        → (IsIn untagged ends f x.1 → AreFresh x.1.file l.made → Stopped l x.1 Js) → Stopped (both (at_value a) l) s Is
     behind_condition a s l p i fresh x e Is Js is stops =
         let v = condition_as untagged f a s i p.within x e in
         stopped_later untagged ends f s _ _ _ _ _ v.found p l fresh Is Js
         (λ g k c b. is (seen s g k) (subst Js (same_seen untagged f s x.1 v.stays g k) b))
-        (stops (in_same untagged ends f s _ _ _ _ _ v.found p (fresh_left (literals a) l fresh) refl)
-        (fresh_later untagged ends f s _ _ _ _ _ v.found l fresh))
+        (stops (in_same untagged ends f s _ _ _ _ _ v.found p (fresh_left (literals a) l.made fresh) refl)
+        (fresh_later untagged ends f s _ _ _ _ _ v.found l.made fresh))
 
     -- what is broken in the scope that what stands first leaves
     abbrev InStart : Trees.ForStart → Statements → (Scope → Type 0) → Scope → Type 0
@@ -116,34 +118,34 @@ module _ (untagged : ℕ → List ℕ) (ends : List ℕ) (f : FileScope) where
         → AreFresh s.file (made_by (Trees.for at from start test semicolon step to body)) → (fault : Fault)
         → performed result (Trees.for at from start test semicolon step to body) s loop switch ≡ Err fault
         → ((c : Scope) → IsIn untagged ends f c → AreFresh c.file (made_by body) → performed result body c true switch ≡ Err fault
-        → Stopped (made_by body) c (StatementIsBroken result body true switch fault))
-        → Stopped (made_by (Trees.for at from start test semicolon step to body)) s
+        → Stopped (at_statement body) c (StatementIsBroken result body true switch fault))
+        → Stopped (at_statement (Trees.for at from start test semicolon step to body)) s
         (StatementIsBroken result (Trees.for at from start test semicolon step to body) loop switch fault)
     unfolding performed
     for_stops at from start test semicolon step to body s loop switch p n t fresh fault h in_body =
-        let w = made_by_start start in
-        let x = literals_if_any test in
-        let y = literals_if_any step in
-        let z = made_by body in
-        let k = w ++ x ++ y ++ z in
+        let w = at_start start in
+        let x = at_if_any test in
+        let y = at_if_any step in
+        let z = at_statement body in
+        let k = both (both (both w x) y) z in
         let Is = StatementIsBroken result (Trees.for at from start test semicolon step to body) loop switch fault in
         let i = inside_in s p in
-        let three = fresh_left (w ++ x ++ y) z fresh in
-        let two = fresh_left (w ++ x) y three in
+        let three = fresh_left (w.made ++ x.made ++ y.made) z.made fresh in
+        let two = fresh_left (w.made ++ x.made) y.made three in
         bound_err (start_of start (inside s)) _ fault (Stopped k s Is) h
         (λ e. block_stops s (λ s. IsBrokenStart start s fault) Is (λ s b. inl b)
         (stopped_more (λ s. IsBrokenStart start s fault) (λ s. IsBrokenStart start s fault)
-        (λ v m. among_left (w ++ x ++ y) z v (among_left (w ++ x) y v (among_left w x v m))) (λ s b. b)
-        (start_stops start (inside s) i n.0 t.0 (fresh_left w x two) fault e)))
+        (λ v m. inner_left (both (both w x) y) z v (inner_left (both w x) y v (inner_left w x v m))) (λ s b. b)
+        (start_stops start (inside s) i n.0 t.0 (fresh_left w.made x.made two) fault e)))
         (λ all e h.
         let u = start_found untagged f result start (inside s) n.0 i.within all e in
-        let a = in_later untagged ends f (inside s) _ _ _ _ _ u i (fresh_left w x two)
+        let a = in_later untagged ends f (inside s) _ _ _ _ _ u i (fresh_left w.made x.made two)
         (λ is m v t g. objects_declared_by (declared (seen (inside s) all.1.file all.1.locals)) result false false all.0 is.is_typed m v t g) in
-        let in_test = fresh_later untagged ends f (inside s) _ _ _ _ _ u x two in
+        let in_test = fresh_later untagged ends f (inside s) _ _ _ _ _ u x.made two in
         bound_err (condition_if_any test all.1) _ fault (Stopped k s Is) h
         (λ e. block_stops s (λ s. IsNoTestOf start all.0 test fault s) Is (λ s b. inr (all.0, b.0, b.1, inl b.2))
         (stopped_more (λ s. IsNoTestOf start all.0 test fault s) (λ s. IsNoTestOf start all.0 test fault s)
-        (λ v m. among_left (w ++ x ++ y) z v (among_left (w ++ x) y v m)) (λ s b. b)
+        (λ v m. inner_left (both (both w x) y) z v (inner_left (both w x) y v m)) (λ s b. b)
         (stopped_later untagged ends f (inside s) _ _ _ _ _ u i x two (λ s. IsNoTestOf start all.0 test fault s) (λ s. IsNoTest test s fault)
         (λ g l is b. (seen all.1 g l, is.starts, b))
         (test_stops untagged ends f test all.1 a n.1 t.1 in_test fault e))))
@@ -152,27 +154,27 @@ module _ (untagged : ℕ → List ℕ) (ends : List ℕ) (f : FileScope) where
         let b = in_same untagged ends f all.1 _ _ _ _ _ v.found a in_test refl in
         let one = then_in untagged f (inside s) all.1 first_test.1 _ _ _ _ _ _ (IsStartFound untagged f start result (inside s) all.0 all.1) _ _ u v.found
         (λ g l ex laid goes is js. is) in
-        let in_step = fresh_later untagged ends f (inside s) _ _ _ _ _ one y three in
+        let in_step = fresh_later untagged ends f (inside s) _ _ _ _ _ one y.made three in
         let here = λ (g : FileScope) (l : List ALocal). same_seen untagged f all.1 first_test.1 v.stays g l in
         bound_err (value_if_any step first_test.1) _ fault (Stopped k s Is) h
         (λ e. block_stops s (λ s. IsNoStepOf start all.0 step fault s) Is (λ s b. inr (all.0, b.0, b.1, inr (inl b.2)))
-        (stopped_more (λ s. IsNoStepOf start all.0 step fault s) (λ s. IsNoStepOf start all.0 step fault s) (among_left (w ++ x ++ y) z) (λ s b. b)
+        (stopped_more (λ s. IsNoStepOf start all.0 step fault s) (λ s. IsNoStepOf start all.0 step fault s) (inner_left (both (both w x) y) z) (λ s b. b)
         (stopped_later untagged ends f (inside s) _ _ _ _ _ one i y three (λ s. IsNoStepOf start all.0 step fault s) (λ s. IsBrokenIfAny step s fault)
         (λ g l is b. (seen all.1 g l, is.starts, subst (λ s. IsBrokenIfAny step s fault) (here g l) b))
         (effect_stops untagged ends f step first_test.1 b n.2 t.2 fault e))))
         (λ last_step e h.
         let d = effect_as untagged f step first_test.1 n.2 b.within last_step e in
         let c = in_same untagged ends f first_test.1 _ _ _ _ _ d.found b in_step refl in
-        let both = then_in untagged f (inside s) first_test.1 last_step.1 _ _ _ _ _ _ (IsStartFound untagged f start result (inside s) all.0 all.1) _ _ one d.found
+        let all_three = then_in untagged f (inside s) first_test.1 last_step.1 _ _ _ _ _ _ (IsStartFound untagged f start result (inside s) all.0 all.1) _ _ one d.found
         (λ g l ex laid goes is js. is) in
         bound_err (performed result body last_step.1 true switch) _ fault (Stopped k s Is) h
         (λ e. block_stops s (λ s. IsNoBodyOf start all.0 body switch fault s) Is (λ s b. inr (all.0, b.0, b.1, inr (inr b.2)))
-        (stopped_later untagged ends f (inside s) _ _ _ _ _ both i z fresh (λ s. IsNoBodyOf start all.0 body switch fault s)
+        (stopped_later untagged ends f (inside s) _ _ _ _ _ all_three i z fresh (λ s. IsNoBodyOf start all.0 body switch fault s)
         (StatementIsBroken result body true switch fault)
         (λ g l is b. (
           seen all.1 g l,
           is.starts,
           subst (StatementIsBroken result body true switch fault) (same_seen untagged f first_test.1 last_step.1 d.stays g l ∙ here g l) b,
         ))
-        (in_body last_step.1 c (fresh_later untagged ends f (inside s) _ _ _ _ _ both z fresh) e)))
+        (in_body last_step.1 c (fresh_later untagged ends f (inside s) _ _ _ _ _ all_three z.made fresh) e)))
         (λ b e h. cc))))

@@ -6,7 +6,7 @@ use Rattle.c_ast.specs.declared.words.Spelling.{Spelling}
 use Rattle.c_ast.specs.Trees
 use Rattle.c_erasure.specs.Broken.{Fault}
 use Rattle.c_erasure.specs.BrokenFiles.{IsBrokenBody}
-use Rattle.c_erasure.specs.BrokenStatements.{IsAmong, AreBrokenItems}
+use Rattle.c_erasure.specs.BrokenStatements.{AreBrokenItems}
 use Rattle.c_erasure.specs.Erasure.{IsBound}
 use Rattle.c_erasure.specs.Files.{bound, in_body, parameters_of}
 use Rattle.c_erasure.specs.Literals.{made_by_items}
@@ -21,15 +21,18 @@ use Rattle.c_checking_files.proofs.Bodies.{IsReadyFile, parameters_are, body_wit
 use Rattle.c_checking_files.proofs.Layouts.{IsLaid}
 use Rattle.c_checking_files.proofs.StatementLaws.{AreItemsInRange}
 use Rattle.c_checking_faults.proofs.Clear.{AreFresh}
+use Rattle.c_checking_faults.proofs.InnerAdditions.{at_items}
+use Rattle.c_checking_faults.proofs.Stopped.{Inner}
+use Rattle.c_checking_laws.proofs.Within.{Additions}
 use Rattle.c_checking_faults.proofs.DeclaredLocals.{AreObjectLocals}
 use Rattle.c_checking_faults.proofs.StatementStops.{items_stop}
 use Rattle.c_checking_faults.proofs.StatementTimely.{AreItemsTimely}
 
 -- a file that goes on from that in which the function begins, in which its body is broken
-pub record BodyIsBroken (k : List ℕ) (f : FileScope) (t : CType) (d : Trees.Declarator) (x : Spelling) (left : ℕ) (items : Trees.BlockItems)
+pub record BodyIsBroken (k : Additions) (f : FileScope) (t : CType) (d : Trees.Declarator) (x : Spelling) (left : ℕ) (items : Trees.BlockItems)
     (fault : Fault) : Type 0 where
   pub file : FileScope
-  pub reaches : Reaches (IsAmong k) f true file
+  pub reaches : Reaches (Inner f k) f true file
   pub is : IsBrokenBody file t d x left items fault
 
 module _ (untagged : ℕ → List ℕ) where
@@ -39,7 +42,7 @@ module _ (untagged : ℕ → List ℕ) where
       → IsBound (at_file_scope f) (bound x left defines (a_function n (function result types))) → IsReadyFile untagged f → IsSteady f → IsOrderly f
       → IsLaid f → AreObjectLocals p.locals → AreItemsInRange f.ends (length f.records) items → AreItemsTimely untagged f.ends f items
       → AreFresh f (made_by_items items) → (fault : Fault) → items_in result items (in_body f p.bounds p.locals) false false ≡ Err fault
-      → BodyIsBroken (made_by_items items) f (function result types) d x left items fault
+      → BodyIsBroken (at_items items) f (function result types) d x left items fault
   body_stops f result types d x left items p e n typed is ready steady orderly laid objects in_range timely fresh fault h =
       let parameters = parameters_are f (parameters_of d) types p e in
       let b = items_stop untagged f.ends f result items (in_body f p.bounds p.locals) false false (record {

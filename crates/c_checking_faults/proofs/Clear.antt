@@ -1,52 +1,43 @@
 -- Literals whose bytes initialize an array: no object begins at one of them where literals begin at different bytes, at which no object began
 -- before (C99 6.4.5, 6.7.8).
-use Rattle.std.proofs.Common.{◌≡◌, ◌≢◌, ℕ, suc, Bool, refl, subst, List, [], ◌∷◌, ◌++◌, inl, inr}
+use Rattle.std.proofs.Common.{◌≡◌, ◌≢◌, ℕ, suc, Bool, true, false, refl, subst, List, [], ◌∷◌, ◌++◌, inl, inr}
 use Rattle.std.proofs.lemmas.List.Elements.{All-cons, All-nil}
 use Rattle.std.specs.Prelude.{All, Some, slice_get, ◌⊎◌}
 use Rattle.c_erasure.specs.BrokenStatements.{IsAmong}
+use Rattle.c_erasure.specs.Marks.{Mark}
 use Rattle.c_erasure.specs.Scopes.{AnObject, FileScope, Scope}
-use Rattle.c_checking_laws.proofs.FaultResults.{AllMay, Reaches, Broken}
+use Rattle.c_checking_laws.proofs.Adding.{unless, Grows}
+use Rattle.c_checking_laws.proofs.FaultResults.{Reaches, Broken}
+use Rattle.c_checking_laws.proofs.Within.{Additions, Within, within_all, ArePicked, picked_same, picked_behind}
+pub use Rattle.c_checking_laws.proofs.Within.{among_left, among_right, among_split}
 use Rattle.c_checking_files.proofs.Parts.{Parted, none, is_made, is_bytes, NoneBegins}
 
--- ---- bytes among others
-
-pub among_left : (u v : List ℕ) (x : ℕ) → IsAmong u x → IsAmong (u ++ v) x
-among_left [] v x h = absurd h
-among_left (y ∷ u) v x (inl h) = inl h
-among_left (y ∷ u) v x (inr h) = inr (among_left u v x h)
-
-pub among_right : (u v : List ℕ) (x : ℕ) → IsAmong v x → IsAmong (u ++ v) x
-among_right [] v x h = h
-among_right (y ∷ u) v x h = inr (among_right u v x h)
-
-pub among_split : (u v : List ℕ) (x : ℕ) → IsAmong (u ++ v) x → IsAmong u x ⊎ IsAmong v x
-among_split [] v x h = inr h
-among_split (y ∷ u) v x (inl e) = inl (inl e)
-among_split (y ∷ u) v x (inr h) = by_part (among_split u v x h)
-  where
-    by_part : IsAmong u x ⊎ IsAmong v x → IsAmong (y ∷ u) x ⊎ IsAmong v x
-    by_part (inl h) = inl (inr h)
-    by_part (inr h) = inr h
-
-all_may : (May : ℕ → Type 0) (k : List ℕ) → ((x : ℕ) → IsAmong k x → May x) → AllMay May k
-all_may May [] h = tt
-all_may May (x ∷ k) h = (h x (inl refl), all_may May k (λ y i. h y (inr i)))
-
--- objects may begin at each of them
-pub all_among : (k : List ℕ) → AllMay (IsAmong k) k
-all_among k = all_may (IsAmong k) k (λ x i. i)
+-- ---- what is reached
 
 -- where more is allowed
-pub reaches_more : {May Can : ℕ → Type 0} {f g : FileScope} {i : Bool} → ((x : ℕ) → May x → Can x) → Reaches May f i g → Reaches Can f i g
-reaches_more {May} {Can} {f} {g} into p = record { extends = p.extends; counted = p.counted; begins = λ n o h. by_part n o (p.begins n o h) }
+pub reaches_more : {May Can : FileScope → Type 0} {f g : FileScope} {i : Bool} → ((g : FileScope) → May g → Can g) → Reaches May f i g → Reaches Can f i g
+reaches_more {May} {Can} {f} {g} into p = record { extends = p.extends; counted = p.counted; allowed = by_part p.allowed }
   where
-    by_part : (n : ℕ) (o : AnObject) → (slice_get f.objects n ≡ Some o) ⊎ May o.first → (slice_get f.objects n ≡ Some o) ⊎ Can o.first
-    by_part n o (inl h) = inl h
-    by_part n o (inr h) = inr (into o.first h)
+    by_part : (g ≡ f) ⊎ May g → (g ≡ f) ⊎ Can g
+    by_part (inl e) = inl e
+    by_part (inr h) = inr (into g h)
 
-pub broken_more : {May Can : ℕ → Type 0} (s : Scope) (Is Js : Scope → Type 0) → ((x : ℕ) → May x → Can x) → ((s : Scope) → Is s → Js s)
+pub broken_more : {May Can : FileScope → Type 0} (s : Scope) (Is Js : Scope → Type 0) → ((g : FileScope) → May g → Can g) → ((s : Scope) → Is s → Js s)
     → Broken May s Is → Broken Can s Js
 broken_more s Is Js into h b = record { file = b.file; reaches = reaches_more into b.reaches; is = h _ b.is }
+
+-- where the new objects of a file begin
+pub record BeginAt (f : FileScope) (k : List ℕ) (g : FileScope) : Type 0 where
+  pub begins : (n : ℕ) (o : AnObject) → slice_get g.objects n ≡ Some o → (slice_get f.objects n ≡ Some o) ⊎ IsAmong k o.first
+
+pub begin_at : {f g : FileScope} {a b c : Bool} {p : Additions} → Within f a b c p g → BeginAt f p.made g
+begin_at {f} {g} {a} {b} {c} {p} w = record { begins = λ n o h. by_part c n o (w.begins n o h) }
+  where
+    by_part : (c : Bool) (n : ℕ) (o : AnObject) → (slice_get f.objects n ≡ Some o) ⊎ IsAmong (unless c p.made) o.first
+        → (slice_get f.objects n ≡ Some o) ⊎ IsAmong p.made o.first
+    by_part c n o (inl h) = inl h
+    by_part true n o (inr h) = absurd h
+    by_part false n o (inr h) = inr h
 
 -- ---- different bytes
 
@@ -92,7 +83,7 @@ pub fresh_left : {f : FileScope} (u v : List ℕ) → AreFresh f (u ++ v) → Ar
 fresh_left u v h = record { apart = apart_left u v h.apart; none_at = λ n o e i. h.none_at n o e (among_left u v o.first i) }
 
 -- of what stands behind a part that is read
-pub fresh_right : {f g : FileScope} {i : Bool} (u v : List ℕ) → AreFresh f (u ++ v) → Reaches (IsAmong u) f i g → AreFresh g v
+pub fresh_right : {f g : FileScope} (u v : List ℕ) → AreFresh f (u ++ v) → BeginAt f u g → AreFresh g v
 fresh_right {f} {g} u v h p = record { apart = apart_right u v h.apart; none_at = λ n o e i. by_part n o i (p.begins n o e) }
   where
     by_part : (n : ℕ) (o : AnObject) → IsAmong v o.first → (slice_get f.objects n ≡ Some o) ⊎ IsAmong u o.first → ⊥
@@ -120,13 +111,18 @@ not_both (is_made at all made texts p) a x (inr i) j = not_both p a.1 x i j
 not_both (is_bytes at all made texts p) a x i (inl e) = a.0 (made_among p at (subst (IsAmong made) e i))
 not_both (is_bytes at all made texts p) a x i (inr j) = not_both p a.1 x i j
 
--- only what may begin there
-pub made_may : {k made texts : List ℕ} → Parted k made texts → AllMay (IsAmong made) made
-made_may {k} {made} p = all_among made
+pub picked_made : {k made texts : List ℕ} → Parted k made texts → ArePicked made k
+picked_made none = tt
+picked_made (is_made at all made texts p) = inl (refl, picked_made p)
+picked_made (is_bytes at all made texts p) = picked_behind made at all (picked_made p)
+
+-- a part that is read makes objects of these literals alone
+pub begun_there : (s : Scope) {u : List Mark} {x made : List ℕ} {g : FileScope} → Grows s u x made g → BeginAt s.file made g
+begun_there s {made = made} p = begin_at (within_all made p (picked_same made))
 
 -- no object begins at the bytes of a part, wherever reading goes on to
-pub clear : {f m g : FileScope} {i j : Bool} {k made texts : List ℕ} (l : List ℕ) → Parted k made texts → AreFresh f (k ++ l)
-    → Reaches (IsAmong made) f i m → Reaches (IsAmong l) m j g → NoneBegins g texts
+pub clear : {f m g : FileScope} {k made texts : List ℕ} (l : List ℕ) → Parted k made texts → AreFresh f (k ++ l)
+    → BeginAt f made m → BeginAt m l g → NoneBegins g texts
 clear {f} {m} {g} {k} {made} {texts} l p h q r = none_begins g texts (λ n o e t. at_last n o t (r.begins n o e))
   where
     at_first : (n : ℕ) (o : AnObject) → IsAmong texts o.first → (slice_get f.objects n ≡ Some o) ⊎ IsAmong made o.first → ⊥
@@ -138,7 +134,7 @@ clear {f} {m} {g} {k} {made} {texts} l p h q r = none_begins g texts (λ n o e t
     at_last n o t (inr e) = apart_both k l h.apart o.first (texts_among p o.first t) e
 
 -- and where it stops there
-pub clear_there : {f m : FileScope} {i : Bool} {k made texts : List ℕ} → Parted k made texts → AreFresh f k → Reaches (IsAmong made) f i m
+pub clear_there : {f m : FileScope} {k made texts : List ℕ} → Parted k made texts → AreFresh f k → BeginAt f made m
     → NoneBegins m texts
 clear_there {f} {m} {k} {made} {texts} p h q = none_begins m texts (λ n o e t. by_part n o t (q.begins n o e))
   where

@@ -9,7 +9,7 @@ use Rattle.c_ast.specs.Places.{first}
 use Rattle.c_typed.specs.Trees as Typed
 use Rattle.c_typed.specs.Typed.{Declared}
 use Rattle.c_erasure.specs.Broken.{Fault, ill_typed}
-use Rattle.c_erasure.specs.BrokenStatements.{IsAmong, IsBrokenInitializer, IsBrokenInitial, HasNoConstants}
+use Rattle.c_erasure.specs.BrokenStatements.{IsBrokenInitializer, IsBrokenInitial, HasNoConstants}
 use Rattle.c_erasure.specs.Initializers.{Part, HasConstant, AreConstants}
 use Rattle.c_erasure.specs.Literals.{literals}
 use Rattle.c_erasure.specs.Marks.{marks}
@@ -21,11 +21,12 @@ use Rattle.c_checking.specs.Statements.{constants_if_any}
 use Rattle.c_checking_laws.proofs.Extends.{itself}
 use Rattle.c_checking_laws.proofs.InRange.{IsInRange}
 use Rattle.c_checking_laws.proofs.FaultPremises.{Prepared}
-use Rattle.c_checking_laws.proofs.FaultResults.{bound_err, with_file_err, unless_err, Broken, there, whole, reached}
+use Rattle.c_checking_laws.proofs.FaultResults.{Up, bound_err, with_file_err, unless_err, Broken, there, whole, reached_some}
+use Rattle.c_checking_laws.proofs.FaultAdditions.{of}
 use Rattle.c_checking_files.proofs.Layouts.{IsLaid}
 use Rattle.c_checking_files.proofs.Initials.{IsKnown, ReadFrom, same_locals}
 use Rattle.c_checking_files.proofs.Wholes.{sound_whole}
-use Rattle.c_checking_faults.proofs.Clear.{all_among, made_among, reaches_more, AreFresh, clear_there}
+use Rattle.c_checking_faults.proofs.Clear.{AreFresh, picked_made, begun_there, clear_there}
 use Rattle.c_checking_faults.proofs.BracesFaults.{IsInitialTimely, initial_faults}
 
 -- ---- what the test of constants tells
@@ -63,9 +64,9 @@ module _ (untagged : ℕ → List ℕ) (ends : List ℕ) where
 
   pub initializer_faults : (k : FileScope) (a : Trees.Expression) (s : Scope) (n : ℕ) → IsInRange a → Prepared untagged ends s (marks untagged a)
       → n ≤ length s.file.records → IsInitialTimely untagged ends s.is_inside n a → ReadFrom untagged k s → AreFresh s.file (literals a) → (t : CType)
-      → IsKnown k t → (f : Fault) → initializer a s t ≡ Err f → Broken (IsAmong (literals a)) s (λ s. IsBrokenInitializer a s t f)
+      → IsKnown k t → (f : Fault) → initializer a s t ≡ Err f → Broken (Up s (of untagged a)) s (λ s. IsBrokenInitializer a s t f)
   initializer_faults k a s n i p l w q fresh t o f h =
-      bound_err (initialized a s t 0) _ f (Broken (IsAmong (literals a)) s (λ s. IsBrokenInitializer a s t f)) h
+      bound_err (initialized a s t 0) _ f (Broken (Up s (of untagged a)) s (λ s. IsBrokenInitializer a s t f)) h
       (λ e. initial_faults untagged ends k a s n i p l w q fresh t 0 o f e) (λ x e h. cc)
 
   -- ---- of an object that is made before the program starts; what the initializer is typed in has records whose objects are not empty
@@ -74,17 +75,16 @@ module _ (untagged : ℕ → List ℕ) (ends : List ℕ) where
       → n ≤ length s.file.records → IsInitialTimely untagged ends s.is_inside n value.1 → ReadFrom untagged k s → AreFresh s.file (literals value.1)
       → (t : CType) → IsKnown k t → ((z : Typed.Initializer Noted × FileScope) → initializer value.1 s t ≡ Ok z → IsLaid z.1) → (f : Fault)
       → constants_if_any (Some value) s t ≡ Err f
-      → Broken (IsAmong (literals value.1)) s (λ s. IsBrokenInitial (Some value) s t f ⊎ HasNoConstants (Some value) s t f)
+      → Broken (Up s (of untagged value.1)) s (λ s. IsBrokenInitial (Some value) s t f ⊎ HasNoConstants (Some value) s t f)
   constant_faults k value s n i p l w q fresh t o laid f h =
-      let May = IsAmong (literals value.1) in
+      let May = Up s (of untagged value.1) in
       bound_err (initializer value.1 s t) _ f (Broken May s (λ s. IsBrokenInitial (Some value) s t f ⊎ HasNoConstants (Some value) s t f)) h
       (λ e. whole May s (λ s. IsBrokenInitializer value.1 s t f) (λ s. IsBrokenInitial (Some value) s t f ⊎ HasNoConstants (Some value) s t f)
       (initializer_faults k value.1 s n i p l w q fresh t o f e) (λ g p h. inl h))
       (λ z e h.
       let v = sound_whole untagged k value.1 s i p.ready q t o z e in
-      let made = reached (IsAmong v.made) s v.grew v.grows (λ e. all_among v.made) in
-      let is = v.holds z.1 s.locals (itself z.1) (same_locals untagged s) (laid z e) (clear_there v.parted fresh made) in
+      let is = v.holds z.1 s.locals (itself z.1) (same_locals untagged s) (laid z e) (clear_there v.parted fresh (begun_there s v.grows)) in
       let c = constants_fault (declared (moved s z.1)) (first value.1) z.0 f
       (with_file_err z.1 (constants_in (declared (moved s z.1)) (first value.1) z.0) f h) in
-      there May s (λ s. IsBrokenInitial (Some value) s t f ⊎ HasNoConstants (Some value) s t f) z.1 (reaches_more (made_among v.parted) made)
+      there May s (λ s. IsBrokenInitial (Some value) s t f ⊎ HasNoConstants (Some value) s t f) z.1 (reached_some May s (literals value.1) v.grew v.grows (picked_made v.parted) (λ g w. w))
       (inr (z.0, is.0, is.1, c.1, c.0)))

@@ -13,7 +13,8 @@ use Rattle.c_erasure.specs.Marks.{marks}
 use Rattle.c_erasure.specs.Scopes.{FileScope, Scope, at_file_scope}
 use Rattle.c_checking.specs.Initializers.{initialized, elements, initializer}
 use Rattle.c_checking_laws.proofs.FaultPremises.{Prepared}
-use Rattle.c_checking_laws.proofs.FaultResults.{Broken}
+use Rattle.c_checking_laws.proofs.FaultResults.{Up, Broken}
+use Rattle.c_checking_laws.proofs.FaultAdditions.{of}
 use Rattle.c_checking_laws.proofs.Extends.{itself}
 use Rattle.c_checking_faults.proofs.Clear.{AreFresh}
 use Rattle.c_checking_faults.proofs.Constants.{initializer_faults}
@@ -74,7 +75,7 @@ fresh = record { apart = (λ i. different i, (λ i. i, tt)); none_at = λ n o h.
     different (inr e) = e
 
 -- a text that is too long for its row
-is_broken : Broken (IsAmong (literals tree)) scope (λ s. IsBrokenInitializer tree s type (ill_typed R.Init 18))
+is_broken : Broken (Up scope (of untagged tree)) scope (λ s. IsBrokenInitializer tree s type (ill_typed R.Init 18))
 is_broken =
     initializer_faults untagged [] file tree scope 0 (tt, (tt, tt)) ready (omega arith) (tt, (tt, tt))
     (record { complete = λ k r h. cc; extends = itself file; same = refl }) fresh type refl (ill_typed R.Init 18) refused

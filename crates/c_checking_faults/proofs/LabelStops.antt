@@ -19,12 +19,16 @@ use Rattle.c_checking.specs.Statements.{with_case, with_default, labels_in}
 use Rattle.c_checking_laws.proofs.Results.{given, chosen, only_if}
 use Rattle.c_checking_laws.proofs.FaultPremises.{IsTimely}
 use Rattle.c_checking_laws.proofs.FaultParts.{StopsAtConstant}
-use Rattle.c_checking_laws.proofs.FaultResults.{same_fault, bound_err, beside_err, chosen_err, unless_err}
+use Rattle.c_checking_laws.proofs.FaultAdditions.{of_constant}
+use Rattle.c_checking_laws.proofs.FaultResults.{Up, same_fault, bound_err, beside_err, chosen_err, unless_err}
+use Rattle.c_checking_laws.proofs.Within.{Additions}
+use Rattle.c_erasure.specs.MentionPlaces.{spoken}
+use Rattle.c_checking_faults.proofs.InnerAdditions.{at_labels}
 use Rattle.c_checking_laws.proofs.Faults.{constant_faults}
 use Rattle.c_checking_files.proofs.Labels.{AreLabelsInRange, pushed, constant_as}
 use Rattle.c_checking_files.proofs.Longer.{seen}
 use Rattle.c_checking_faults.proofs.Clear.{among_left, among_right, among_split, AreFresh}
-use Rattle.c_checking_faults.proofs.Stopped.{Stopped, stopped_here, stopped_more, IsIn, prepared, many, stopped_of, holds_there, stopped_there, stopped_later, in_same}
+use Rattle.c_checking_faults.proofs.Stopped.{Stopped, inner_left, stopped_here, stopped_more, IsIn, prepared, many, stopped_of, holds_there, stopped_there, stopped_later, in_same}
 use Rattle.c_checking_faults.proofs.ValueStops.{IsTimelyThere}
 
 -- ---- what the tests of labels tell
@@ -131,46 +135,48 @@ module _ (untagged : ℕ → List ℕ) (ends : List ℕ) (f : FileScope) where
   -- a case value is a constant, for which no literal is made an object
   pub labels_stop : (labels : List Trees.Label) (s : Scope) (kind : IntKind) (before : Labels) → IsIn untagged ends f s → AreLabelsInRange labels
       → AreLabelsTimely labels → (fault : Fault) → labels_in labels s kind before ≡ Err fault
-      → Stopped [] s (λ s. AreBrokenLabels labels s kind before fault)
+      → Stopped (at_labels labels) s (λ s. AreBrokenLabels labels s kind before fault)
   unfolding labels_in
   labels_stop [] s kind before p i t fault h = cc
   labels_stop (Trees.case at a colon ∷ more) s kind before p i t fault h =
       let Is = λ (s : Scope). AreBrokenLabels (Trees.case at a colon ∷ more) s kind before fault in
+      let all_places = at_labels (Trees.case at a colon ∷ more) in
+      let own : Additions = record { marks = []; said = spoken a; made = [] } in
       let here = constant_at (first a) (value_at (first a) (find a (for_value s))) in
-      bound_err here _ fault (Stopped [] s Is) h
-      (λ e. stopped_more {k = []} (StopsAtConstant untagged (IsAmong []) a fault) Is (λ x m. m) (λ s b. constant_broken s b)
-      (stopped_of untagged ends f s (StopsAtConstant untagged (IsAmong []) a fault) p
-      (constant_faults untagged ends (IsAmong []) a s (length f.records) i.0 (prepared untagged ends f s p (marks untagged a)) (many untagged ends f s p)
-      (subst (λ b. IsTimely untagged ends b (length f.records) a) (sym p.within.inside) t.0) fault e)))
+      bound_err here _ fault (Stopped all_places s Is) h
+      (λ e. stopped_more {k = own} (StopsAtConstant untagged (Up s (of_constant untagged a)) a fault) Is (inner_left own (at_labels more)) (λ s b. constant_broken s b)
+      (stopped_of untagged ends f s (StopsAtConstant untagged (Up s (of_constant untagged a)) a fault) p
+      (constant_faults untagged ends (Up s (of_constant untagged a)) a s (length f.records) i.0 (prepared untagged ends f s p (marks untagged a)) (many untagged ends f s p)
+      (subst (λ b. IsTimely untagged ends b (length f.records) a) (sym p.within.inside) t.0) (λ g w. w) fault e)))
       (λ c e h.
       let v = constant_as untagged f a s i.0 p.within c e in
       let value = as_kind kind c.0.1 in
-      beside_err c.1 (with_case at before value) _ fault (Stopped [] s Is) h
+      beside_err c.1 (with_case at before value) _ fault (Stopped all_places s Is) h
       (λ k.
       let n = case_fault at before value fault k in
-      stopped_there untagged ends f s _ _ _ _ _ v.found Is
-      (inr (inr (inr (c.0.0, c.0.1, holds_there untagged ends f s _ _ _ _ _ v.found p (no_places s.file), inl n)))))
+      stopped_more {k = own} Is Is (inner_left own (at_labels more)) (λ s b. b) (stopped_there untagged ends f s _ _ _ _ _ v.found Is
+      (inr (inr (inr (c.0.0, c.0.1, holds_there untagged ends f s _ _ _ _ _ v.found p (no_places s.file), inl n))))))
       (λ all k h.
       let q = in_same untagged ends f s _ _ _ _ _ v.found p (no_places s.file) refl in
       let same = case_is at before value all k in
-      bound_err (labels_in more (moved s c.1) kind all) _ fault (Stopped [] s Is) h
-      (λ e. stopped_later untagged ends f s _ _ _ _ _ v.found p [] (no_places s.file) Is (λ s. AreBrokenLabels more s kind all fault)
+      bound_err (labels_in more (moved s c.1) kind all) _ fault (Stopped all_places s Is) h
+      (λ e. stopped_later untagged ends f s _ _ _ _ _ v.found p (at_labels more) (no_places s.file) Is (λ s. AreBrokenLabels more s kind all fault)
       (λ g l is b. inr (inr (inr (c.0.0, c.0.1, is, inr (subst (λ all. AreBrokenLabels more (seen s g l) kind all fault) (sym same) b)))))
       (labels_stop more (moved s c.1) kind all q i.1 t.1 fault e))
       (λ rest e h. cc)))
     where
-      constant_broken : (s : Scope) → StopsAtConstant untagged (IsAmong []) a fault s
-          → AreBrokenLabels (Trees.case at a colon ∷ more) s kind before fault
-      constant_broken s (inl b) = inl b
-      constant_broken s (inr (inl b)) = inr (inl b)
-      constant_broken s (inr (inr b)) = inr (inr (inl b))
+      constant_broken : (t : Scope) → StopsAtConstant untagged (Up s (of_constant untagged a)) a fault t
+          → AreBrokenLabels (Trees.case at a colon ∷ more) t kind before fault
+      constant_broken t (inl b) = inl b
+      constant_broken t (inr (inl b)) = inr (inl b)
+      constant_broken t (inr (inr b)) = inr (inr (inl b))
   labels_stop (Trees.default at colon ∷ more) s kind before p i t fault h =
       let Is = λ (s : Scope). AreBrokenLabels (Trees.default at colon ∷ more) s kind before fault in
-      bound_err (with_default at before) _ fault (Stopped [] s Is) h
-      (λ e. stopped_here [] s Is (inl (default_fault at before fault e)))
+      bound_err (with_default at before) _ fault (Stopped (at_labels more) s Is) h
+      (λ e. stopped_here (at_labels more) s Is (inl (default_fault at before fault e)))
       (λ all e h.
       let same = default_is at before all e in
-      bound_err (labels_in more s kind all) _ fault (Stopped [] s Is) h
-      (λ e. stopped_more (λ s. AreBrokenLabels more s kind all fault) Is (λ x m. m)
+      bound_err (labels_in more s kind all) _ fault (Stopped (at_labels more) s Is) h
+      (λ e. stopped_more (λ s. AreBrokenLabels more s kind all fault) Is (λ g w. w)
       (λ s b. inr (subst (λ all. AreBrokenLabels more s kind all fault) (sym same) b)) (labels_stop more s kind all p i t fault e))
       (λ rest e h. cc))

@@ -4,6 +4,7 @@ pub mod ValueFaults
 pub mod BracesFaults
 pub mod Constants
 pub mod DeclaredLocals
+pub mod InnerAdditions
 pub mod Stopped
 pub mod ValueStops
 pub mod Variables
@@ -15,5 +16,6 @@ pub mod StatementTimely
 pub mod BlockStops
 pub mod StatementStops
 pub mod BodyStops
+pub mod UpTo
 pub mod TextTimely
 mod InitialExample

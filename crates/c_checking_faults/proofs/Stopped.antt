@@ -1,5 +1,5 @@
 -- Where reading stops inside of a function: in a file and with locals that go on from those of the scope, something is so.
-use Rattle.std.proofs.Common.{◌≡◌, ℕ, zero, suc, ◌+◌, ◌≤◌, ◌<◌, Bool, true, refl, sym, ap, ◌∙◌, subst, List, [], ◌∷◌, ◌++◌, length, append-nil, length-append, arith, inl, inr}
+use Rattle.std.proofs.Common.{◌≡◌, ℕ, zero, suc, ◌≤◌, ◌<◌, true, false, refl, sym, ap, ◌∙◌, subst, List, [], ◌∷◌, ◌++◌, length, append-nil, length-append, arith, inl, inr}
 use Rattle.std.specs.Prelude.{◌⊎◌, map, Some, slice_get}
 use Rattle.c_types.specs.Layouts.{size_of}
 use Rattle.c_types.specs.Limits.{AreComplete}
@@ -7,42 +7,80 @@ use Rattle.c_types.specs.Objects.{is_object}
 use Rattle.c_types.specs.Types.{CType, Record}
 use Rattle.c_erasure.specs.BrokenStatements.{IsAmong}
 use Rattle.c_erasure.specs.Marks.{Mark}
-use Rattle.c_erasure.specs.Scopes.{AnObject, FileScope, Scope, ALocal}
+use Rattle.c_erasure.specs.Scopes.{AnObject, FileScope, Scope, ALocal, in_full, is_measured}
+use Rattle.c_checking_laws.proofs.Adding.{makes_none}
+use Rattle.c_checking_laws.proofs.Within.{Additions, both, Within, within_nothing, within_all, within_left, within_then, within_inside, ArePicked, picked_same}
 use Rattle.c_checking_laws.proofs.Agreement.{IsObjectType, IsSteady}
-use Rattle.c_checking_laws.proofs.Extends.{Extends, itself, further, one_of_both}
+use Rattle.c_checking_laws.proofs.Extends.{Extends, itself, further}
 use Rattle.c_checking_laws.proofs.FaultDeclaring.{IsOrderly, orderly_stays}
 use Rattle.c_checking_laws.proofs.FaultPremises.{Prepared, inside_prepared}
-use Rattle.c_checking_laws.proofs.FaultResults.{Reaches, reaches_itself, reaches_then, Broken}
+use Rattle.c_checking_laws.proofs.FaultResults.{Up, Reaches, reaches_itself, within_reached, Broken}
 use Rattle.c_checking_files.proofs.Kept.{AreObjectsWhole}
 use Rattle.c_checking_files.proofs.Layouts.{IsLaid, records_grow}
 use Rattle.c_checking_files.proofs.Longer.{seen, GoesOn, goes_further}
 use Rattle.c_checking_files.proofs.Scoped.{IsWithin, ready_for, AddsInside, records_same, FoundIn}
 use Rattle.c_checking_items.proofs.AddressesStay.{keeps_constants}
-use Rattle.c_checking_faults.proofs.Clear.{among_left, among_right, reaches_more, AreFresh, fresh_right, made_among, clear, clear_there}
+use Rattle.c_checking_faults.proofs.Clear.{reaches_more, begin_at, BeginAt, AreFresh, fresh_right, picked_made, clear, clear_there}
+use Rattle.c_checking_faults.proofs.InnerAdditions.{inner}
 use Rattle.c_checking_faults.proofs.DeclaredLocals.{AreObjectLocals, locals_after}
 
 -- ---- where reading stops
 
--- new objects begin at those bytes
-pub record Stopped (k : List ℕ) (s : Scope) (Is : Scope → Type 0) : Type 0 where
+-- a file to which a first part of these additions is added inside of a function
+abbrev pub Inner : FileScope → Additions → FileScope → Type 0
+Inner f all g = Within f true false false all g
+
+pub inner_left : {f : FileScope} (k l : Additions) (g : FileScope) → Inner f k g → Inner f (both k l) g
+inner_left k l g w = within_left k l w
+
+pub within_inner : {f g : FileScope} (all : Additions) → Reaches (Inner f all) f true g → Inner f all g
+within_inner {f} {g} all p = by_part p.allowed
+  where
+    by_part : (g ≡ f) ⊎ Inner f all g → Inner f all g
+    by_part (inl e) = subst (Inner f all) (sym e) (within_nothing f true false false all)
+    by_part (inr w) = w
+
+-- what is added is among these additions
+pub record Stopped (k : Additions) (s : Scope) (Is : Scope → Type 0) : Type 0 where
   pub file : FileScope
   pub locals : List ALocal
-  pub reaches : Reaches (IsAmong k) s.file true file
+  pub reaches : Reaches (Inner s.file k) s.file true file
   pub goes : GoesOn s.locals locals
   pub is : Is (seen s file locals)
 
 pub same : (l : List ALocal) → GoesOn l l
 same l = ([], sym (append-nil l))
 
-pub stopped_here : (k : List ℕ) (s : Scope) (Is : Scope → Type 0) → Is s → Stopped k s Is
-stopped_here k s Is h = record { file = s.file; locals = s.locals; reaches = reaches_itself (IsAmong k) s.file true; goes = same s.locals; is = h }
+pub stopped_here : (k : Additions) (s : Scope) (Is : Scope → Type 0) → Is s → Stopped k s Is
+stopped_here k s Is h = record { file = s.file; locals = s.locals; reaches = reaches_itself (Inner s.file k) s.file true; goes = same s.locals; is = h }
 
-pub stopped_more : {k l : List ℕ} {s : Scope} (Is Js : Scope → Type 0) → ((x : ℕ) → IsAmong k x → IsAmong l x) → ((s : Scope) → Is s → Js s)
+pub stopped_more : {k l : Additions} {s : Scope} (Is Js : Scope → Type 0) → ((g : FileScope) → Inner s.file k g → Inner s.file l g) → ((s : Scope) → Is s → Js s)
     → Stopped k s Is → Stopped l s Js
 stopped_more Is Js into h b = record { file = b.file; locals = b.locals; reaches = reaches_more into b.reaches; goes = b.goes; is = h _ b.is }
 
-pub inside_reaches : {May : ℕ → Type 0} {f g : FileScope} {i : Bool} → i ≡ true → Reaches May f i g → Reaches May f true g
-inside_reaches {May} {f} {g} e p = subst (λ i. Reaches May f i g) e p
+-- in a scope of a function
+pub inner_of : (s : Scope) (all : Additions) (g : FileScope) → s.is_inside ≡ true → s.purpose ≡ in_full → Up s all g → Inner s.file (inner all) g
+inner_of s all g i p w =
+    within_inside [] i
+    (subst (λ p. Within s.file s.is_inside (is_measured p) (makes_none p) all g) p w)
+
+pub inside_reaches : (s : Scope) (all : Additions) {g : FileScope} → s.is_inside ≡ true → s.purpose ≡ in_full → Reaches (Up s all) s.file s.is_inside g
+    → Reaches (Inner s.file (inner all)) s.file true g
+inside_reaches s all {g} i p r = record {
+  extends = r.extends;
+  counted = λ e. r.counted i;
+  allowed = inr (inner_of s all g i p (within_reached s all r));
+}
+
+-- one part that is read inside of a function, and where reading goes on to
+pub inner_later : {f m g : FileScope} {x made : List ℕ} (k : List ℕ) (l : Additions) → Extends f m → AddsInside f x made m
+    → length m.records ≡ length f.records → ArePicked made k → Reaches (Inner m l) m true g
+    → Reaches (Inner f (both (record { marks = []; said = x; made = k }) l)) f true g
+inner_later k l p grows n picked r = record {
+  extends = further p r.extends;
+  counted = λ e. r.counted refl ∙ n;
+  allowed = inr (within_then k l grows picked (within_inner l r));
+}
 
 -- ---- files with the same records
 
@@ -80,15 +118,6 @@ tags_counted {f} {g} p =
     length_of_tags [] = refl
     length_of_tags (r ∷ all) = ap suc (length_of_tags all)
 
-begins_among : (made : List ℕ) (more : List AnObject) → map (λ o. o.first) more ≡ made → (j : ℕ) (o : AnObject) → slice_get more j ≡ Some o
-    → IsAmong made o.first
-begins_among made [] e j o h = cc
-begins_among [] (x ∷ more) e j o h = cc
-begins_among (at ∷ made) (x ∷ more) e zero o h = let p : x ≡ o = cc in let q : x.first ≡ at = cc in inl (subst (λ (o : AnObject). o.first ≡ at) p q)
-begins_among (at ∷ made) (x ∷ more) e (suc j) o h =
-    let rest : map (λ (o : AnObject). o.first) more ≡ made = cc in
-    inr (begins_among made more rest j o h)
-
 module _ (untagged : ℕ → List ℕ) (ends : List ℕ) (f : FileScope) where
   -- what is known of a scope inside of a function that begins in a file
   pub record IsIn (s : Scope) : Type 0 where
@@ -106,11 +135,11 @@ module _ (untagged : ℕ → List ℕ) (ends : List ℕ) (f : FileScope) where
   pub many : (s : Scope) → IsIn s → length f.records ≤ length s.file.records
   many s p = records_grow p.within.extends
 
-  pub stopped_of : {k : List ℕ} (s : Scope) (Is : Scope → Type 0) → IsIn s → Broken (IsAmong k) s Is → Stopped k s Is
-  stopped_of s Is p b = record {
+  pub stopped_of : {k : Additions} (s : Scope) (Is : Scope → Type 0) → IsIn s → Broken (Up s k) s Is → Stopped (inner k) s Is
+  stopped_of {k} s Is p b = record {
     file = b.file;
     locals = s.locals;
-    reaches = inside_reaches p.within.inside b.reaches;
+    reaches = inside_reaches s k p.within.inside p.within.full b.reaches;
     goes = same s.locals;
     is = b.is;
   }
@@ -118,21 +147,18 @@ module _ (untagged : ℕ → List ℕ) (ends : List ℕ) (f : FileScope) where
   -- ---- a part that is read
 
   module _ (s : Scope) (x k : List ℕ) (A : FileScope → List ALocal → Type 0) (numbers : List ℕ) (after : Scope) (v : FoundIn untagged f s x k A numbers after) where
-    pub reached_in : Reaches (IsAmong v.made) s.file true after.file
-    reached_in = record {
-      extends = v.extends;
-      counted = λ e. tags_counted v.grows;
-      begins = λ n o e. by_part n o (one_of_both s.file.objects v.grows.objects.0 n o (subst (λ all. slice_get all n ≡ Some o) v.grows.objects.1 e));
-    }
-      where
-        by_part : (n : ℕ) (o : AnObject)
-            → (slice_get s.file.objects n ≡ Some o) ⊎ ((j : ℕ) × (n ≡ length s.file.objects + j) × (slice_get v.grows.objects.0 j ≡ Some o))
-            → (slice_get s.file.objects n ≡ Some o) ⊎ IsAmong v.made o.first
-        by_part n o (inl e) = inl e
-        by_part n o (inr e) = inr (begins_among v.made v.grows.objects.0 v.grows.objects.2 e.0 o e.2)
+    picked : ArePicked v.made k
+    picked = picked_made v.parted
 
-    pub read_reaches : Reaches (IsAmong k) s.file true after.file
-    read_reaches = reaches_more (made_among v.parted) reached_in
+    -- what the part adds
+    own : Inner s.file (record { marks = []; said = x; made = k }) after.file
+    own = within_all k v.grows picked
+
+    begun : BeginAt s.file v.made after.file
+    begun = begin_at (within_all v.made v.grows (picked_same v.made))
+
+    pub read_reaches : Reaches (Inner s.file (record { marks = []; said = x; made = k })) s.file true after.file
+    read_reaches = record { extends = v.extends; counted = λ e. tags_counted v.grows; allowed = inr own }
 
     -- it holds there
     pub holds_there : IsIn s → AreFresh s.file k → A after.file after.locals
@@ -140,35 +166,35 @@ module _ (untagged : ℕ → List ℕ) (ends : List ℕ) (f : FileScope) where
       extends = itself after.file;
       locals = same after.locals;
       laid = laid_on v.extends (tags_counted v.grows) p.laid;
-      none_begins = clear_there v.parted fresh reached_in;
+      none_begins = clear_there v.parted fresh begun;
       constants = λ h d e. keeps_constants h after.file e;
     })
 
     -- and where reading stops later
-    pub holds_later : IsIn s → (l : List ℕ) → AreFresh s.file (k ++ l) → (Js : Scope → Type 0) → (b : Stopped l after Js) → A b.file b.locals
+    pub holds_later : IsIn s → (l : Additions) → AreFresh s.file (k ++ l.made) → (Js : Scope → Type 0) → (b : Stopped l after Js) → A b.file b.locals
     holds_later p l fresh Js b = v.holds b.file b.locals (record {
       extends = b.reaches.extends;
       locals = b.goes;
       laid = laid_on (further v.extends b.reaches.extends) (b.reaches.counted refl ∙ tags_counted v.grows) p.laid;
-      none_begins = clear l v.parted fresh reached_in b.reaches;
+      none_begins = clear l.made v.parted fresh begun (begin_at (within_inner l b.reaches));
       constants = λ h d e. keeps_constants h b.file e;
     })
 
-    pub stopped_there : (Is : Scope → Type 0) → Is (seen s after.file after.locals) → Stopped k s Is
+    pub stopped_there : (Is : Scope → Type 0) → Is (seen s after.file after.locals) → Stopped (record { marks = []; said = x; made = k }) s Is
     stopped_there Is h = record { file = after.file; locals = after.locals; reaches = read_reaches; goes = (v.more, v.locals); is = h }
 
-    pub stopped_later : IsIn s → (l : List ℕ) → AreFresh s.file (k ++ l) → (Is Js : Scope → Type 0)
-        → ((g : FileScope) (l : List ALocal) → A g l → Js (seen after g l) → Is (seen s g l)) → Stopped l after Js → Stopped (k ++ l) s Is
+    pub stopped_later : IsIn s → (l : Additions) → AreFresh s.file (k ++ l.made) → (Is Js : Scope → Type 0)
+        → ((g : FileScope) (l : List ALocal) → A g l → Js (seen after g l) → Is (seen s g l)) → Stopped l after Js → Stopped (both (record { marks = []; said = x; made = k }) l) s Is
     stopped_later p l fresh Is Js into b = record {
       file = b.file;
       locals = b.locals;
-      reaches = reaches_then (reaches_more (among_left k l) read_reaches) (reaches_more (among_right k l) b.reaches);
+      reaches = inner_later k l v.extends v.grows (tags_counted v.grows) picked b.reaches;
       goes = goes_further s.locals after.locals b.locals (v.more, v.locals) b.goes;
       is = into b.file b.locals (holds_later p l fresh Js b) b.is;
     }
 
     pub fresh_later : (l : List ℕ) → AreFresh s.file (k ++ l) → AreFresh after.file l
-    fresh_later l fresh = fresh_right k l fresh read_reaches
+    fresh_later l fresh = fresh_right k l fresh (begin_at own)
 
     pub in_later : IsIn s → AreFresh s.file k
         → (A after.file after.locals → (n : ℕ) → IsAmong numbers n → (t : CType) → slice_get (map (λ l. l.ty) after.locals) n ≡ Some t → IsObjectType t)

@@ -18,7 +18,7 @@ use Rattle.c_erasure.specs.BrokenStatements.{IsNoArray, IsUnfit}
 use Rattle.c_erasure.specs.Erasure.{literal_of}
 use Rattle.c_erasure.specs.Initializers.{Part, IsTextOf, is_character}
 use Rattle.c_erasure.specs.Noted.{Expression, Thing, an_object, a_value, a_function, a_function_at, a_library_function, type_of, type_of_path}
-use Rattle.c_erasure.specs.Scopes.{Scope}
+use Rattle.c_erasure.specs.Scopes.{FileScope, Scope}
 use Rattle.c_checking.specs.Answers.{◌>>=◌, Checked, with_file}
 use Rattle.c_checking.specs.Finding.{value_at}
 use Rattle.c_checking.specs.Initializers.{initial_value_in, value_part, initial_record_in, bytes_in, text_of_array, without_braces}
@@ -101,7 +101,7 @@ IsNoFunction void = ⊥
 IsNoFunction (function t all) = ⊥
 IsNoFunction t = Unit {0}
 
-module _ (untagged : ℕ → List ℕ) (May : ℕ → Type 0) where
+module _ (untagged : ℕ → List ℕ) (May : FileScope → Type 0) where
   scalar_stops : (s : Scope) (a : Trees.Expression) (r : Checked Thing) → Read untagged May s a r → (t : CType) → is_scalar t ≡ true → (at : ℕ) (f : Fault)
       → assigned_to (first a) at t r ≡ Err f → Broken May s (λ s. IsUnfitOrBroken a s t f)
   scalar_stops s a r part t i at f h =

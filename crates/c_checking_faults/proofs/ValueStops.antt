@@ -7,7 +7,7 @@ use Rattle.c_ast.specs.Places.{first}
 use Rattle.c_typed.specs.Conversions.{is_scalar}
 use Rattle.c_erasure.specs.Broken.{Fault, ill_typed, IsBroken, HasNoValue}
 use Rattle.c_erasure.specs.Broken as Broken
-use Rattle.c_erasure.specs.BrokenStatements.{IsAmong, IsBrokenIfAny, IsNoCondition, IsNoTest}
+use Rattle.c_erasure.specs.BrokenStatements.{IsBrokenIfAny, IsNoCondition, IsNoTest}
 use Rattle.c_erasure.specs.Literals.{literals, literals_if_any}
 use Rattle.c_erasure.specs.Marks.{marks}
 use Rattle.c_erasure.specs.Noted.{Expression, type_of}
@@ -17,13 +17,15 @@ use Rattle.c_checking.specs.Statements.{value_of_expression, value_if_any, condi
 use Rattle.c_checking_laws.proofs.InRange.{IsInRange}
 use Rattle.c_checking_laws.proofs.FaultPremises.{IsTimely}
 use Rattle.c_checking_laws.proofs.FaultResults as Results
-use Rattle.c_checking_laws.proofs.FaultResults.{bound_err, unless_err}
+use Rattle.c_checking_laws.proofs.FaultAdditions.{of}
+use Rattle.c_checking_laws.proofs.FaultResults.{Up, bound_err, unless_err}
 use Rattle.c_checking_laws.proofs.FaultParts.{value_is}
 use Rattle.c_checking_laws.proofs.Faults.{value_faults}
 use Rattle.c_checking_files.proofs.Longer.{seen}
 use Rattle.c_checking_files.proofs.StatementLaws.{IsInRangeIfAny}
 use Rattle.c_checking_files.proofs.StatementParts.{value_as}
-use Rattle.c_checking_faults.proofs.Clear.{all_among, AreFresh}
+use Rattle.c_checking_faults.proofs.Clear.{AreFresh}
+use Rattle.c_checking_faults.proofs.InnerAdditions.{at_value, at_if_any}
 use Rattle.c_checking_faults.proofs.Stopped.{Stopped, stopped_more, IsIn, prepared, many, stopped_of, holds_there, stopped_there}
 
 condition_fault : (at : ℕ) (x : Expression) (fault : Fault) → condition_in at x ≡ Err fault
@@ -41,37 +43,37 @@ module _ (untagged : ℕ → List ℕ) (ends : List ℕ) (f : FileScope) where
   IsTimelyIfAny (Some a) = IsTimelyThere a
 
   pub value_stops : (a : Trees.Expression) (s : Scope) → IsIn untagged ends f s → IsInRange a → IsTimelyThere a → (fault : Fault)
-      → value_of_expression a s ≡ Err fault → Stopped (literals a) s (λ s. IsBroken a s fault ⊎ HasNoValue a s fault)
+      → value_of_expression a s ≡ Err fault → Stopped (at_value a) s (λ s. IsBroken a s fault ⊎ HasNoValue a s fault)
   value_stops a s p i t fault h =
-      bound_err (value_at (first a) (find a s)) _ fault (Stopped (literals a) s (λ s. IsBroken a s fault ⊎ HasNoValue a s fault)) h
-      (λ e. by_fault (value_faults untagged ends (IsAmong (literals a)) a s (length f.records) i (prepared untagged ends f s p (marks untagged a))
-      (many untagged ends f s p) (subst (λ b. IsTimely untagged ends b (length f.records) a) (sym p.within.inside) t) (λ e. all_among (literals a)) fault e))
+      bound_err (value_at (first a) (find a s)) _ fault (Stopped (at_value a) s (λ s. IsBroken a s fault ⊎ HasNoValue a s fault)) h
+      (λ e. by_fault (value_faults untagged ends (Up s (of untagged a)) a s (length f.records) i (prepared untagged ends f s p (marks untagged a))
+      (many untagged ends f s p) (subst (λ b. IsTimely untagged ends b (length f.records) a) (sym p.within.inside) t) (λ g w. w) fault e))
       (λ x e h. cc)
     where
-      by_fault : Results.Broken (IsAmong (literals a)) s (λ s. IsBroken a s fault) ⊎ Results.Broken (IsAmong (literals a)) s (λ s. HasNoValue a s fault)
-          → Stopped (literals a) s (λ s. IsBroken a s fault ⊎ HasNoValue a s fault)
+      by_fault : Results.Broken (Up s (of untagged a)) s (λ s. IsBroken a s fault) ⊎ Results.Broken (Up s (of untagged a)) s (λ s. HasNoValue a s fault)
+          → Stopped (at_value a) s (λ s. IsBroken a s fault ⊎ HasNoValue a s fault)
       by_fault (inl b) =
-          stopped_more (λ s. IsBroken a s fault) (λ s. IsBroken a s fault ⊎ HasNoValue a s fault) (λ x m. m) (λ s h. inl h)
+          stopped_more (λ s. IsBroken a s fault) (λ s. IsBroken a s fault ⊎ HasNoValue a s fault) (λ g w. w) (λ s h. inl h)
           (stopped_of untagged ends f s (λ s. IsBroken a s fault) p b)
       by_fault (inr b) =
-          stopped_more (λ s. HasNoValue a s fault) (λ s. IsBroken a s fault ⊎ HasNoValue a s fault) (λ x m. m) (λ s h. inr h)
+          stopped_more (λ s. HasNoValue a s fault) (λ s. IsBroken a s fault ⊎ HasNoValue a s fault) (λ g w. w) (λ s h. inr h)
           (stopped_of untagged ends f s (λ s. HasNoValue a s fault) p b)
 
   -- what is found, where it is found
   pub value_there : (a : Trees.Expression) (s : Scope) → IsIn untagged ends f s → IsInRange a → AreFresh s.file (literals a) → (x : Expression × Scope)
-      → value_of_expression a s ≡ Ok x → (Is : Scope → Type 0) → ((s : Scope) → Broken.IsValue a s x.0 → Is s) → Stopped (literals a) s Is
+      → value_of_expression a s ≡ Ok x → (Is : Scope → Type 0) → ((s : Scope) → Broken.IsValue a s x.0 → Is s) → Stopped (at_value a) s Is
   value_there a s p i fresh x e Is is =
       let v = value_as untagged f a s i p.within x e in
       stopped_there untagged ends f s _ _ _ _ _ v.found Is
       (is (seen s x.1.file x.1.locals) (value_is a (seen s x.1.file x.1.locals) x.0 (holds_there untagged ends f s _ _ _ _ _ v.found p fresh)))
 
   pub condition_stops : (a : Trees.Expression) (s : Scope) → IsIn untagged ends f s → IsInRange a → IsTimelyThere a → AreFresh s.file (literals a)
-      → (fault : Fault) → condition a s ≡ Err fault → Stopped (literals a) s (λ s. IsNoCondition a s fault)
+      → (fault : Fault) → condition a s ≡ Err fault → Stopped (at_value a) s (λ s. IsNoCondition a s fault)
   condition_stops a s p i t fresh fault h =
-      bound_err (value_of_expression a s) _ fault (Stopped (literals a) s (λ s. IsNoCondition a s fault)) h
-      (λ e. stopped_more (λ s. IsBroken a s fault ⊎ HasNoValue a s fault) (λ s. IsNoCondition a s fault) (λ x m. m) (λ s b. either s b)
+      bound_err (value_of_expression a s) _ fault (Stopped (at_value a) s (λ s. IsNoCondition a s fault)) h
+      (λ e. stopped_more (λ s. IsBroken a s fault ⊎ HasNoValue a s fault) (λ s. IsNoCondition a s fault) (λ g w. w) (λ s b. either s b)
       (value_stops a s p i t fault e))
-      (λ x e h. bound_err (condition_in (first a) x.0) _ fault (Stopped (literals a) s (λ s. IsNoCondition a s fault)) h
+      (λ x e h. bound_err (condition_in (first a) x.0) _ fault (Stopped (at_value a) s (λ s. IsNoCondition a s fault)) h
       (λ k.
       let n = condition_fault (first a) x.0 fault k in
       value_there a s p i fresh x e (λ s. IsNoCondition a s fault) (λ s v. inr (inr (n.0, (x.0, v, n.1)))))
@@ -82,14 +84,14 @@ module _ (untagged : ℕ → List ℕ) (ends : List ℕ) (f : FileScope) where
       either s (inr b) = inr (inl b)
 
   pub test_stops : (a : Option Trees.Expression) (s : Scope) → IsIn untagged ends f s → IsInRangeIfAny a → IsTimelyIfAny a → AreFresh s.file (literals_if_any a)
-      → (fault : Fault) → condition_if_any a s ≡ Err fault → Stopped (literals_if_any a) s (λ s. IsNoTest a s fault)
+      → (fault : Fault) → condition_if_any a s ≡ Err fault → Stopped (at_if_any a) s (λ s. IsNoTest a s fault)
   test_stops None s p i t fresh fault h = cc
   test_stops (Some a) s p i t fresh fault h =
-      bound_err (condition a s) _ fault (Stopped (literals a) s (λ s. IsNoCondition a s fault)) h (λ e. condition_stops a s p i t fresh fault e) (λ x e h. cc)
+      bound_err (condition a s) _ fault (Stopped (at_value a) s (λ s. IsNoCondition a s fault)) h (λ e. condition_stops a s p i t fresh fault e) (λ x e h. cc)
 
   pub effect_stops : (a : Option Trees.Expression) (s : Scope) → IsIn untagged ends f s → IsInRangeIfAny a → IsTimelyIfAny a
-      → (fault : Fault) → value_if_any a s ≡ Err fault → Stopped (literals_if_any a) s (λ s. IsBrokenIfAny a s fault)
+      → (fault : Fault) → value_if_any a s ≡ Err fault → Stopped (at_if_any a) s (λ s. IsBrokenIfAny a s fault)
   effect_stops None s p i t fault h = cc
   effect_stops (Some a) s p i t fault h =
-      bound_err (value_of_expression a s) _ fault (Stopped (literals a) s (λ s. IsBroken a s fault ⊎ HasNoValue a s fault)) h
+      bound_err (value_of_expression a s) _ fault (Stopped (at_value a) s (λ s. IsBroken a s fault ⊎ HasNoValue a s fault)) h
       (λ e. value_stops a s p i t fault e) (λ x e h. cc)

@@ -1,5 +1,5 @@
 -- Where a declarator of a block stops before its initializer, a rule is broken (C99 6.7).
-use Rattle.std.proofs.Common.{◌≡◌, ℕ, zero, suc, ◌+◌, ◌≤◌, Bool, true, false, refl, sym, ap, subst, List, [], length, inl, inr, arith}
+use Rattle.std.proofs.Common.{◌≡◌, ℕ, zero, suc, ◌+◌, ◌≤◌, Bool, true, false, refl, sym, ap, subst, List, length, inl, inr, arith}
 use Rattle.std.specs.Prelude.{◌⊎◌, Option, Some, None, Err}
 use Rattle.lay_base.specs.declared.faults.Rule.TheVariants as R
 use Rattle.c_types.specs.Types.{CType, array, Record}
@@ -9,7 +9,7 @@ use Rattle.c_ast.specs.Trees
 use Rattle.c_ast.specs.Places.{first}
 use Rattle.c_typed.specs.Conversions.{is_function}
 use Rattle.c_erasure.specs.Broken.{Fault, ill_typed, IsTooBig, IsOldName, IsBrokenWithin}
-use Rattle.c_erasure.specs.BrokenStatements.{IsAmong, IsEndless, IsBrokenInitial, HasNoConstants, with_declared, IsThere, IsBrokenLocal}
+use Rattle.c_erasure.specs.BrokenStatements.{IsEndless, IsBrokenInitial, HasNoConstants, with_declared, IsThere, IsBrokenLocal}
 use Rattle.c_erasure.specs.Declarators.{declared_name, Shape, closed, open_array}
 use Rattle.c_erasure.specs.Initializers.{texts_of, length_of}
 use Rattle.c_erasure.specs.Marks.{marks_of_declarator}
@@ -26,8 +26,9 @@ use Rattle.c_checking_laws.proofs.InRange.{IsDeclaratorInRange}
 use Rattle.c_checking_laws.proofs.Sound.{sound_steps}
 use Rattle.c_checking_laws.proofs.FaultDeclaring.{small_fault, object_fault, new_fault}
 use Rattle.c_checking_laws.proofs.FaultPremises.{known_after, AreKnown, IsDeclaratorTimely}
+use Rattle.c_checking_laws.proofs.FaultAdditions.{of_declarator}
 use Rattle.c_checking_laws.proofs.FaultResults as Results
-use Rattle.c_checking_laws.proofs.FaultResults.{same_fault, bound_err, beside_err, chosen_err, Broken, whole, there, reached}
+use Rattle.c_checking_laws.proofs.FaultResults.{Up, same_fault, bound_err, beside_err, chosen_err, Broken, whole, there, reached}
 use Rattle.c_checking_laws.proofs.FaultSteps.{read_steps, asked}
 use Rattle.c_checking_laws.proofs.FaultTypes.{within_broken}
 use Rattle.c_checking_laws.proofs.Faults.{faults_steps}
@@ -77,21 +78,21 @@ module _ (untagged : ℕ → List ℕ) (ends : List ℕ) (f : FileScope) where
   pub variable_stops : (s : Scope) (static : Bool) (base : CType) (d : Trees.InitDeclarator) (x : Spelling) → declared_name d.declarator ≡ Some x
       → IsIn untagged ends f s → IsDeclaratorInRange d.declarator → IsDeclaratorTimely untagged ends true (length f.records) d.declarator
       → AreKnown untagged ends (length f.records) x.from → (fault : Fault) → variable_of s base d x ≡ Err fault
-      → Broken (IsAmong []) s (λ s. IsBrokenLocal s static base d fault)
+      → Broken (Up s (of_declarator untagged d.declarator)) s (λ s. IsBrokenLocal s static base d fault)
   variable_stops s static base d x name p i t known fault h =
-      let May = IsAmong [] in
+      let May = Up s (of_declarator untagged d.declarator) in
       let n = length f.records in
       let u = marks_of_declarator untagged d.declarator in
       let q = prepared untagged ends f s p u in
       let timely = subst (λ b. IsDeclaratorTimely untagged ends b n d.declarator) (sym p.within.inside) t in
       bound_err (derivations d.declarator s) _ fault (Broken May s (λ s. IsBrokenLocal s static base d fault)) h
       (λ e. whole May s (λ s. IsBrokenWithin d.declarator s fault) (λ s. IsBrokenLocal s static base d fault)
-      (faults_steps untagged ends May d.declarator s n i q (many untagged ends f s p) timely fault e)
+      (faults_steps untagged ends May d.declarator s n i q (many untagged ends f s p) timely (λ g w. w) fault e)
       (λ g r h. inl (within_broken d.declarator (moved s g) base fault h)))
       (λ steps e h.
       let v = sound_steps untagged d.declarator s i q.ready steps e in
       let w = read_steps untagged ends d.declarator s n i q.ready q.ends_are (many untagged ends f s p) timely steps e in
-      let r = reached May s v.grew (grow_steps untagged d.declarator s q.untagged_are steps e) (λ e. tt) in
+      let r = reached May s v.grew (grow_steps untagged d.declarator s q.untagged_are steps e) (λ g w. w) in
       let j = itself steps.1 in
       beside_err steps.1 (derived steps.1.records steps.0 base) _ fault (Broken May s (λ s. IsBrokenLocal s static base d fault)) h
       (λ k. there May s (λ s. IsBrokenLocal s static base d fault) steps.1 r (inl (w.broken steps.1 j base fault k)))

@@ -1,5 +1,5 @@
 -- What a part of the file scope that is read leaves for the next one, and where reading stops at file scope.
-use Rattle.std.proofs.Common.{◌≡◌, ℕ, zero, suc, ◌+◌, ◌<◌, false, refl, ap, subst, List, [], ◌∷◌, ◌++◌, length, inl, inr}
+use Rattle.std.proofs.Common.{◌≡◌, ℕ, zero, suc, ◌+◌, ◌<◌, Bool, false, refl, sym, ap, ◌∙◌, subst, List, [], ◌∷◌, ◌++◌, length, inl, inr}
 use Rattle.std.specs.Prelude.{◌⊎◌, map, Some, slice_get}
 use Rattle.c_erasure.specs.BrokenStatements.{IsAmong}
 use Rattle.c_erasure.specs.Marks.{Mark, scope_beginnings, defined_in}
@@ -8,11 +8,14 @@ use Rattle.c_erasure.specs.Scopes.{a_library_function, a_local}
 use Rattle.c_erasure.specs.Scopes.{a_parameter, at_file_scope}
 use Rattle.c_checking_laws.proofs.Agreement.{IsFit, AreFit, IsGrown, IsSteady, IsObjectType, AreBegun, AreBefore}
 use Rattle.c_checking_laws.proofs.Declared.{number_is}
-use Rattle.c_checking_laws.proofs.Extends.{Extends, one_of_both}
-use Rattle.c_checking_laws.proofs.FaultResults.{Reaches, reaches_itself, reaches_then, Broken}
+use Rattle.c_checking_laws.proofs.Extends.{Extends, kept, one_of_both}
+use Rattle.c_checking_laws.proofs.FaultResults.{Broken, Up, within_reached}
+use Rattle.c_checking_laws.proofs.Within.{Additions, both, Within}
+use Rattle.c_checking_files.proofs.FileScopes.{Continues, IsSameObject, continues_itself, continues_then}
 use Rattle.c_checking_items.proofs.Known.{IsKnown}
 use Rattle.c_checking_items.proofs.Stepping.{counted_by}
-use Rattle.c_checking_faults.proofs.Clear.{reaches_more}
+use Rattle.c_checking_faults.proofs.Clear.{NoneAt, begin_at}
+use Rattle.c_checking_faults.proofs.UpTo.{UpTo, Exactly, up_to_itself, up_to_first, up_to_then}
 
 map_back : {X Y : Type 0} (v : X → Y) (xs : List X) (k : ℕ) (y : Y) → slice_get (map v xs) k ≡ Some y
     → (x : X) × (slice_get xs k ≡ Some x) × (v x ≡ y)
@@ -71,28 +74,81 @@ module _ (nodes_at : ℕ → ℕ) (made : List ℕ) (P Q : ℕ → Type 0) where
           subst (λ from. from < before) c.2 (h n c.0 c.1)
       by_part before h m n b (inr e) = m e.0 b.from e.2
 
--- ---- where reading stops at file scope: in a file that goes on, and whose new objects begin at those bytes, something is so
+-- ---- where reading stops at file scope: in a file that goes on, into which a first part of these additions is read, something is so
 
-pub record StopsIn (k : List ℕ) (f : FileScope) (Is : FileScope → Type 0) : Type 0 where
+pub record GoesUpTo (all : Additions) (f g : FileScope) : Type 0 where
+  pub continues : Continues f g
+  pub up_to : UpTo f all g
+
+-- inside of a part, at whose literals no object began before
+pub continues_within : {f g : FileScope} {a b c : Bool} (all : Additions) → Extends f g → Within f a b c all g → NoneAt f all.made → Continues f g
+continues_within {f} {g} all p w none = record {
+  extends = p;
+  objects = λ n o h.
+      let there = map_back (λ (o : AnObject). o.first) g.objects n o.first
+      (subst (λ firsts. slice_get firsts n ≡ Some o.first) (sym w.firsts.1)
+      (kept (map (λ o. o.first) f.objects) w.firsts.0 n o.first (map_there (λ o. o.first) f.objects n o h))) in
+      (there.0, there.1, by_part n o there.0 h there.2 ((begin_at w).begins n there.0 there.1));
+  functions = λ n o h. (
+    o,
+    subst (λ all. slice_get all n ≡ Some o) (sym w.functions) h,
+    record { name = refl; first = refl; ty = refl; is_linked = refl; settled = λ s. refl },
+  );
+}
+  where
+    one_object : (o q : AnObject) → Some o ≡ Some q → o ≡ q
+    one_object o q e = cc
+
+    by_part : (n : ℕ) (o q : AnObject) → slice_get f.objects n ≡ Some o → q.first ≡ o.first
+        → (slice_get f.objects n ≡ Some q) ⊎ IsAmong all.made q.first → IsSameObject o q
+    by_part n o q h first (inl e) =
+        subst (IsSameObject o) (one_object o q (sym h ∙ e))
+        (record { name = refl; first = refl; ty = refl; is_linked = refl; literal = refl; settled = λ s. refl })
+    by_part n o q h first (inr i) = absurd (none n o h (subst (IsAmong all.made) first i))
+
+pub record StopsIn (all : Additions) (f : FileScope) (Is : FileScope → Type 0) : Type 0 where
   pub file : FileScope
-  pub reaches : Reaches (IsAmong k) f false file
+  pub reaches : GoesUpTo all f file
   pub is : Is file
 
-pub stops_here : (k : List ℕ) (f : FileScope) (Is : FileScope → Type 0) → Is f → StopsIn k f Is
-stops_here k f Is h = record { file = f; reaches = reaches_itself (IsAmong k) f false; is = h }
+pub stops_here : (all : Additions) (f : FileScope) (Is : FileScope → Type 0) → Is f → StopsIn all f Is
+stops_here all f Is h = record { file = f; reaches = record { continues = continues_itself f; up_to = up_to_itself f all }; is = h }
 
-pub stops_there : (k : List ℕ) (f g : FileScope) (Is : FileScope → Type 0) → Reaches (IsAmong k) f false g → Is g → StopsIn k f Is
-stops_there k f g Is p h = record { file = g; reaches = p; is = h }
+pub stops_there : (all : Additions) (f g : FileScope) (Is : FileScope → Type 0) → GoesUpTo all f g → Is g → StopsIn all f Is
+stops_there all f g Is p h = record { file = g; reaches = p; is = h }
 
-pub stops_later : {k : List ℕ} {f g : FileScope} (Is Js : FileScope → Type 0) → Reaches (IsAmong k) f false g → StopsIn k g Is
-    → ((h : FileScope) → Extends g h → Is h → Js h) → StopsIn k f Js
-stops_later Is Js p b into = record { file = b.file; reaches = reaches_then p b.reaches; is = into b.file b.reaches.extends b.is }
+-- behind a part that is read
+pub stops_later : {f g : FileScope} (p q : Additions) (Is : FileScope → Type 0) → Continues f g → Exactly f p g → StopsIn q g Is → StopsIn (both p q) f Is
+stops_later p q Is goes whole b = record {
+  file = b.file;
+  reaches = record { continues = continues_then goes b.reaches.continues; up_to = up_to_then p q whole b.reaches.up_to };
+  is = b.is;
+}
 
-pub stops_more : {k l : List ℕ} {f : FileScope} (Is Js : FileScope → Type 0) → ((x : ℕ) → IsAmong k x → IsAmong l x) → ((g : FileScope) → Is g → Js g)
-    → StopsIn k f Is → StopsIn l f Js
-stops_more Is Js may into b = record { file = b.file; reaches = reaches_more may b.reaches; is = into b.file b.is }
+-- in the first of two parts
+pub stops_first : {f : FileScope} (p q : Additions) (Is : FileScope → Type 0) → StopsIn p f Is → StopsIn (both p q) f Is
+stops_first p q Is b = record {
+  file = b.file;
+  reaches = record { continues = b.reaches.continues; up_to = up_to_first p q b.reaches.up_to };
+  is = b.is;
+}
 
 -- what a law on parts of the tree says
-pub stops_of : {k : List ℕ} {f : FileScope} (Is : Scope → Type 0) (Js : FileScope → Type 0) → Broken (IsAmong k) (at_file_scope f) Is
-    → ((g : FileScope) → Extends f g → Is (at_file_scope g) → Js g) → StopsIn k f Js
-stops_of Is Js b into = record { file = b.file; reaches = b.reaches; is = into b.file b.reaches.extends b.is }
+pub stops_of : {f : FileScope} (p all : Additions) → NoneAt f p.made → ((g : FileScope) → Up (at_file_scope f) p g → UpTo f all g)
+    → (Is : Scope → Type 0) (Js : FileScope → Type 0) → Broken (Up (at_file_scope f) p) (at_file_scope f) Is
+    → ((g : FileScope) → Extends f g → Is (at_file_scope g) → Js g) → StopsIn all f Js
+stops_of {f} p all none up Is Js b into =
+    let w = within_reached (at_file_scope f) p b.reaches in
+    record {
+      file = b.file;
+      reaches = record { continues = continues_within p b.reaches.extends w none; up_to = up b.file w };
+      is = into b.file b.reaches.extends b.is;
+    }
+
+abbrev pub additions : List Mark → List ℕ → List ℕ → Additions
+additions u x k = record { marks = u; said = x; made = k }
+
+pub same_additions : (u v : List Mark) (x y k l : List ℕ) → u ≡ v → x ≡ y → k ≡ l
+    → additions u x k ≡ additions v y l
+same_additions u v x y k l p q r =
+    ap (λ u. additions u x k) p ∙ ap (λ x. additions v x k) q ∙ ap (λ k. additions v y k) r

@@ -22,7 +22,9 @@ use Rattle.c_checking_laws.proofs.Agreement as Agreement
 use Rattle.c_checking_laws.proofs.Agreement.{Ready, beginnings_append, IsGrown}
 use Rattle.c_checking_laws.proofs.Extends.{behind}
 use Rattle.c_checking_laws.proofs.FaultPremises.{IsPrepared, left, right, IsDeclaratorTimely, AreKnown}
-use Rattle.c_checking_laws.proofs.FaultResults.{bound_err, Reaches}
+use Rattle.c_checking_laws.proofs.FaultAdditions.{behind_name}
+use Rattle.c_checking_laws.proofs.FaultResults.{bound_err}
+use Rattle.c_checking_laws.proofs.Within.{Additions, both}
 use Rattle.c_checking_files.proofs.Declarations.{first_named}
 use Rattle.c_text_order.specs.TextOrder.{Rising, places_of_declarators, names_of_declarators, place_of_name}
 use Rattle.c_checking_items.proofs.DeclarationItems.{AreDeclaratorsFit, MayDeclareAll}
@@ -30,9 +32,9 @@ use Rattle.c_checking_items.proofs.DeclaratorSteps.{MayDeclareIt, Declarator, de
 use Rattle.c_checking_items.proofs.Known.{IsKnown, none_new}
 use Rattle.c_checking_items.proofs.Rises.{passed, below_then, part_of, rising_front}
 use Rattle.c_checking_items.proofs.Stepping.{Stepped, stepped_then, no_step, counted_by, ready_behind, ends_append}
-use Rattle.c_checking_faults.proofs.Clear.{AreFresh, AreApart, among_left}
-use Rattle.c_checking_file_faults.proofs.Behind.{grown_by, StopsIn, stops_more}
-use Rattle.c_checking_file_faults.proofs.ObjectStops.{IsValueTimely}
+use Rattle.c_checking_faults.proofs.Clear.{AreFresh, AreApart}
+use Rattle.c_checking_file_faults.proofs.Behind.{grown_by, StopsIn, GoesUpTo, stops_first}
+use Rattle.c_checking_file_faults.proofs.ObjectStops.{IsValueTimely, of_initial}
 use Rattle.c_checking_file_faults.proofs.OwnFunctions.{own_after}
 use Rattle.c_checking_file_faults.proofs.Tests.{AreOwnFunctions}
 use Rattle.c_checking_file_faults.proofs.WholeDeclarators.{MayStop, declarator_stops}
@@ -94,7 +96,7 @@ module _ (untagged : ℕ → List ℕ) (types : List (List ℕ)) (nodes_at : ℕ
     pub places_are : places ++ later ≡ places_of_declarators all semicolon
     pub marks_are : marks ++ marks_later ≡ marks_of_declarators untagged all semicolon
     pub said_are : types_said ++ said_later ≡ spoken_of_declarators all semicolon
-    pub reaches : Reaches (IsAmong later) middle false file
+    pub reaches : GoesUpTo (record { marks = marks_later; said = said_later; made = later }) middle file
 
   -- what is asked of the file and of the declarators that are left
   pub record MayStopAll (f : FileScope) (all : List Trees.InitDeclarator) (lead : Bool) (semicolon nodes at in_scope : ℕ) : Type 0 where
@@ -212,22 +214,32 @@ module _ (untagged : ℕ → List ℕ) (types : List (List ℕ)) (nodes_at : ℕ
         one_name : (x y : Spelling) → Some x ≡ Some y → x ≡ y
         one_name x y e = cc
 
+    abbrev of_named : ℕ → Trees.InitDeclarator → ℕ → Additions
+    of_named place d from = both (behind_name untagged place d.declarator) (of_initial untagged place from d.value)
+
+    abbrev of_declarators : List Trees.InitDeclarator → ℕ → Additions
+    of_declarators all semicolon = record {
+      marks = marks_of_declarators untagged all semicolon;
+      said = spoken_of_declarators all semicolon;
+      made = places_of_declarators all semicolon;
+    }
+
     abbrev Stop : FileScope → List Trees.InitDeclarator → Fault → Type 0
     Stop f all fault = DeclaratorsStop f words base all semicolon fault
 
     -- the first of them stops
     first_stops : (f : FileScope) (d : Trees.InitDeclarator) (more : List Trees.InitDeclarator) (x : Spelling) → declared_name d.declarator ≡ Some x
         → (fault : Fault)
-        → StopsIn (first_declarator d.declarator x.from ∷ literals_of_value d.value) f
+        → StopsIn (of_named (first_declarator d.declarator x.from) d (name_from d.value (after_declarator more semicolon))) f
         (λ g. IsBrokenFileDeclarator g words base d (name_from d.value (after_declarator more semicolon)) fault)
         → Stop f (d ∷ more) fault
     first_stops f d more x name fault b =
         let Is = λ (g : FileScope). IsBrokenFileDeclarator g words base d (name_from d.value (after_declarator more semicolon)) fault in
         let place : first_declarator d.declarator x.from ≡ first_declarator d.declarator semicolon = first_named d.declarator x name x.from semicolon in
         let own = first_declarator d.declarator semicolon ∷ literals_of_value d.value in
-        let there = stops_more {k = own} {l = own ++ places_of_declarators more semicolon} Is
-        Is (among_left own (places_of_declarators more semicolon))
-        (λ g i. i) (subst (λ p. StopsIn (p ∷ literals_of_value d.value) f Is) place b) in
+        let from = name_from d.value (after_declarator more semicolon) in
+        let there = stops_first (of_named (first_declarator d.declarator semicolon) d from) (of_declarators more semicolon) Is
+        (subst (λ p. StopsIn (of_named p d from) f Is) place b) in
         record {
           middle = f;
           file = there.file;

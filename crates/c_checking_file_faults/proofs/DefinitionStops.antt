@@ -1,5 +1,7 @@
 -- Where the definition of a function stops, a rule is broken (C99 6.9.1).
 use Rattle.std.proofs.Common.{◌≡◌, ℕ, zero, suc, ◌+◌, ◌<◌, false, refl, sym, ap, ◌∙◌, subst, List, [], ◌∷◌, ◌++◌, length, inl, inr}
+use Rattle.std.proofs.Common.{append-nil}
+use Rattle.std.proofs.lemmas.List.{map-append}
 use Rattle.std.specs.Prelude.{◌⊎◌, map, Option, Some, None, Err, slice_get, is_none}
 use Rattle.lay_base.specs.declared.faults.Rule.TheVariants as R
 use Rattle.c_types.specs.Types.{CType, CTypes, function}
@@ -16,6 +18,7 @@ use Rattle.c_erasure.specs.Erasure.{IsBase, IsOne, Declares}
 use Rattle.c_erasure.specs.Files.{IsMainType, bound, parameters_of, in_body, library_name}
 use Rattle.c_erasure.specs.Literals.{made_by_items}
 use Rattle.c_erasure.specs.Marks.{a_name, marks_of_specifiers, marks_of_declarator, ends_in}
+use Rattle.c_erasure.specs.MentionPlaces.{spoken_by_items}
 use Rattle.c_erasure.specs.Scopes.{FileScope, AnObject, AFunction, defines, a_function, at_file_scope}
 use Rattle.c_erasure.specs.Specifiers.{Storage, storage_of, no_storage, a_typedef, is_extern, is_static, is_auto, is_register, several}
 use Rattle.c_typed.specs.declared.operators.LibraryFunction.{LibraryFunction}
@@ -27,9 +30,10 @@ use Rattle.c_checking_laws.proofs.Agreement.{AreBegun}
 use Rattle.c_checking_laws.proofs.Extends.{Extends, itself, further, at_end}
 use Rattle.c_checking_laws.proofs.FaultDeclaring.{IsOrderly, orderly_stays}
 use Rattle.c_checking_laws.proofs.FaultPremises.{IsPrepared, AreSpecifiersTimely, IsDeclaratorTimely}
-use Rattle.c_checking_laws.proofs.FaultResults.{same_fault, bound_err, Reaches, reaches_then, reaches_itself, reaches_outside}
+use Rattle.c_checking_laws.proofs.FaultResults.{same_fault, bound_err}
+use Rattle.c_checking_laws.proofs.Within.{Additions, within_inside}
 use Rattle.c_checking_files.proofs.Bodies.{parameters_are}
-use Rattle.c_checking_files.proofs.FileScopes.{MayDeclare, IsTheFunction, function_is, bound_put}
+use Rattle.c_checking_files.proofs.FileScopes.{MayDeclare, IsTheFunction, function_is, bound_put, continues_then}
 use Rattle.c_checking_files.proofs.Kept.{are_complete}
 use Rattle.c_checking_files.proofs.StatementLaws.{AreItemsInRange}
 use Rattle.c_checking_items.proofs.DefinitionItems.{MayDefineIn}
@@ -39,9 +43,12 @@ use Rattle.c_checking_items.proofs.FunctionSteps.{old_function_in_making}
 use Rattle.c_checking_items.proofs.Known.{IsKnown, none_new, this_one}
 use Rattle.c_checking_items.proofs.ObjectSteps.{stands_for}
 use Rattle.c_checking_faults.proofs.BodyStops.{body_stops}
-use Rattle.c_checking_faults.proofs.Clear.{AreFresh}
+use Rattle.c_checking_faults.proofs.Clear.{AreFresh, picked_made}
+use Rattle.c_checking_faults.proofs.InnerAdditions.{at_items}
 use Rattle.c_checking_faults.proofs.StatementTimely.{AreItemsTimely}
-use Rattle.c_checking_file_faults.proofs.Behind.{steady_known, StopsIn, stops_here}
+use Rattle.c_checking_faults.proofs.Stopped.{within_inner}
+use Rattle.c_checking_faults.proofs.UpTo.{Exactly, up_to_within}
+use Rattle.c_checking_file_faults.proofs.Behind.{steady_known, StopsIn, stops_here, stops_later, continues_within}
 use Rattle.c_checking_file_faults.proofs.DeclaratorStops.{no_typedef}
 use Rattle.c_checking_file_faults.proofs.Parameters.{nameless, object_parameters}
 use Rattle.c_checking_file_faults.proofs.Tests.{named_is, own_fault, once_fault, main_function_fault, IsTaken, IsTakenOtherwise}
@@ -67,13 +74,13 @@ type_at [] n g t h e = cc
 type_at (q ∷ all) zero g t h e = let same : q ≡ g = cc in ap Some (ap (λ (g : AFunction). g.ty) same ∙ e)
 type_at (q ∷ all) (suc n) g t h e = type_at all n g t h e
 
-entered_reaches : (May : ℕ → Type 0) (f : FileScope) (words : Storage) (x : Spelling) (place : ℕ) (t : CType) (nodes : ℕ) (n : ℕ × FileScope)
-    → Extends f n.1
-    → IsNewFunction f words x place t nodes n ⊎ IsOldFunction f x t n → Reaches May f false n.1
-entered_reaches May f words x place t nodes n p (inl e) =
-    let same : f.objects ≡ n.1.objects = ap (λ (z : ℕ × FileScope). z.1.objects) e.1 in
-    record { extends = p; counted = λ e. cc; begins = λ m o h. inl (subst (λ all. slice_get all m ≡ Some o) (sym same) h) }
-entered_reaches May f words x place t nodes n p (inr e) = subst (λ g. Reaches May f false g) e.3 (reaches_itself May f false)
+-- the name, and the place of the function
+abbrev of_name : (place left : ℕ) → Additions
+of_name place left = record { marks = a_name left ∷ []; said = []; made = place ∷ [] }
+
+-- with its body
+abbrev pub of_body : (place left : ℕ) → Trees.BlockItems → Additions
+of_body place left items = record { marks = a_name left ∷ []; said = spoken_by_items items; made = place ∷ made_by_items items }
 
 -- ---- rules of a definition whose type is known
 
@@ -112,9 +119,6 @@ module _ (untagged : ℕ → List ℕ) (types_named : List (List ℕ)) (nodes_at
     abbrev t : CType
     t = function result types
 
-    abbrev bytes : List ℕ
-    bytes = made_by_items items
-
     abbrev Is : FileScope → Type 0
     Is g = IsBrokenDefinition g specs d left items fault
 
@@ -132,7 +136,7 @@ module _ (untagged : ℕ → List ℕ) (types_named : List (List ℕ)) (nodes_at
         → IsTheFunction f (storage_of specs) x place t (is_none (declared_among f.names x.text)) n → (p : Received)
         → received_by (parameters_of d) types ≡ Some p
         → items_in result items (in_body (with_bound n.1 (bound x left defines (a_function n.0 t))) p.bounds p.locals) false false ≡ Err fault
-        → StopsIn bytes f Is
+        → StopsIn (of_body place left items) f Is
     in_body_stops place nodes counted main once n e v p received h =
         let b = bound x left defines (a_function n.0 t) in
         let c = with_bound n.1 b in
@@ -142,9 +146,17 @@ module _ (untagged : ℕ → List ℕ) (types_named : List (List ℕ)) (nodes_at
         let c_ends : c.ends ≡ f.ends = ap (λ (g : FileScope). g.ends) i.same in
         let objects : c.objects ≡ f.objects = ap (λ (g : FileScope). g.objects) i.same in
         let parameters = parameters_are c (parameters_of d) types p received in
-        let reach : Reaches (IsAmong bytes) f false c =
-        reaches_then (entered_reaches (IsAmong bytes) f (storage_of specs) x place t nodes n v.continues.extends e)
-        (record { extends = (bound_put n.1 b).extends; counted = λ e. cc; begins = λ m o h. inl h }) in
+        let entered : Exactly f (of_name place left) c = record {
+          names = map-append (λ b. b.from) n.1.names (b ∷ [])
+              ∙ ap (λ (g : FileScope). map (λ b. b.from) g.names ++ left ∷ []) i.same;
+          records = ap (λ all. map (λ r. r.tag) all) records ∙ sym (append-nil _);
+          mentions = λ at h. inl (subst (λ (g : FileScope). IsAmong (map (λ m. m.at) g.mentions) at) i.same h);
+          objects = ([], ap (λ (g : FileScope). map (λ o. o.first) g.objects) i.same ∙ sym (append-nil _), tt);
+          functions = (i.functions, i.functions_are, picked_made i.parted);
+          consistent = λ h. i.known.consistent;
+        } in
+        let is_fresh : AreFresh c (made_by_items items) =
+        record { apart = fresh.apart; none_at = λ m o h j. fresh.none_at m o (subst (λ all. slice_get all m ≡ Some o) objects h) j } in
         let stop = body_stops untagged c result types d x left items p received n.0 (type_at n.1.functions n.0 v.function t v.stands v.ty)
         (length n.1.names, at_end n.1.names b)
         (record {
@@ -157,30 +169,30 @@ module _ (untagged : ℕ → List ℕ) (types_named : List (List ℕ)) (nodes_at
         (subst (λ records. AreItemsInRange c.ends (length records) items) (sym records)
         (subst (λ ends. AreItemsInRange ends (length f.records) items) (sym c_ends) in_range))
         (subst (λ ends. AreItemsTimely untagged ends c items) (sym (c_ends ∙ same_ends)) (timely c (ap (λ all. length all) records)))
-        (record { apart = fresh.apart; none_at = λ m o h j. fresh.none_at m o (subst (λ all. slice_get all m ≡ Some o) objects h) j }) fault h in
-        record {
+        is_fresh fault h in
+        stops_later (of_name place left) (at_items items) Is (continues_then v.continues (bound_put n.1 b)) entered (record {
           file = stop.file;
-          reaches = reaches_then reach (reaches_outside false stop.reaches);
+          reaches = record {
+            continues = continues_within (at_items items) stop.reaches.extends (within_inner (at_items items) stop.reaches) is_fresh.none_at;
+            up_to = up_to_within (at_items items) (within_inside {d = false} [] refl (within_inner (at_items items) stop.reaches));
+          };
           is = ruled stop.file specs d left items fault base (is_base stop.file (further q stop.reaches.extends)) x name t
               (declares stop.file (further q stop.reaches.extends)) (inr (inr (inr (inr (inr stop.is)))));
-        }
+        })
 
     pub function_stops : (objects_before : (n : ℕ) (o : AnObject) → slice_get f.objects n ≡ Some o → o.first < first_declarator d x.from)
         → (functions_before : (n : ℕ) (g : AFunction) → slice_get f.functions n ≡ Some g → g.first < first_declarator d x.from) → (nodes : ℕ)
         → nodes ≡ nodes_at (first_declarator d x.from)
         → define_function f (storage_of specs) x (first_specifiers specs) (first_declarator d x.from) left nodes result types items
-        (received_by (parameters_of d) types) ≡ Err fault → StopsIn bytes f Is
+        (received_by (parameters_of d) types) ≡ Err fault → StopsIn (of_body (first_declarator d x.from) left items) f Is
     function_stops objects_before functions_before nodes counted h = by_parameters (received_by (parameters_of d) types) refl h
       where
-        place : ℕ
-        place = first_declarator d x.from
-
-        here : IsBrokenDefinition f specs d left items fault → StopsIn bytes f Is
-        here i = stops_here bytes f Is i
+        here : IsBrokenDefinition f specs d left items fault → StopsIn (of_body (first_declarator d x.from) left items) f Is
+        here i = stops_here (of_body (first_declarator d x.from) left items) f Is i
 
         by_parameters : (o : Option Received) → received_by (parameters_of d) types ≡ o
             → define_function f (storage_of specs) x (first_specifiers specs) (first_declarator d x.from) left nodes result types items o ≡ Err fault
-            → StopsIn bytes f Is
+            → StopsIn (of_body (first_declarator d x.from) left items) f Is
         by_parameters None e h =
             here (inl (
               same_fault FileScope (ill_typed R.Specifiers (first_specifiers specs)) fault h,
@@ -188,21 +200,21 @@ module _ (untagged : ℕ → List ℕ) (types_named : List (List ℕ)) (nodes_at
             ))
         by_parameters (Some p) e h =
             let is_ruled = ruled f specs d left items fault base (is_base f (itself f)) x name t (declares f (itself f)) in
-            own_fault x.from (library_named x.text) _ fault (StopsIn bytes f Is) h
+            own_fault x.from (library_named x.text) _ fault (StopsIn (of_body (first_declarator d x.from) left items) f Is) h
             (λ which i is. here (is_ruled (inr (inl (which, named_is x.text which i, is)))))
-            (λ own h. main_function_fault x.text x.from t _ fault (StopsIn bytes f Is) h
+            (λ own h. main_function_fault x.text x.from t _ fault (StopsIn (of_body (first_declarator d x.from) left items) f Is) h
             (λ is main other. here (is_ruled (inr (inr (inl (is, (main, inl (no_typedef (storage_of specs) words, refl, other))))))))
             (λ main h. bound_err (function_of f (storage_of specs) x (first_declarator d x.from) t nodes (declared_among f.names x.text)) _ fault
-            (StopsIn bytes f Is) h
+            (StopsIn (of_body (first_declarator d x.from) left items) f Is) h
             (λ i. here (taken f specs d left items fault base (is_base f (itself f)) x name t (declares f (itself f)) begun
             (function_of_fault f (storage_of specs) words x (first_declarator d x.from) t nodes refl k.functions_bound k.libraries_bound own
             (declared_among f.names x.text) refl fault i)))
-            (λ n i h. once_fault x (defined_among f.names x.text) _ fault (StopsIn bytes f Is) h
+            (λ n i h. once_fault x (defined_among f.names x.text) _ fault (StopsIn (of_body (first_declarator d x.from) left items) f Is) h
             (λ old j again. here (twice f specs d left items fault base (is_base f (itself f)) x name t (declares f (itself f)) begun
             (twice_defined f x fault old j again)))
             (λ once h. bound_err (items_in result items (in_body (with_bound n.1 (bound x left defines
             (a_function n.0 t))) p.bounds p.locals) false false) _ fault
-            (StopsIn bytes f Is) h
+            (StopsIn (of_body (first_declarator d x.from) left items) f Is) h
             (λ j. in_body_stops (first_declarator d x.from) nodes counted main once n
             (function_entered f (storage_of specs) x (first_declarator d x.from) t nodes (declared_among f.names x.text) refl n i)
             (function_is f (storage_of specs) words x (first_declarator d x.from) t nodes (declared_among f.names x.text)

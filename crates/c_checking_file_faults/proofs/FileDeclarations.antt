@@ -8,18 +8,19 @@ use Rattle.c_ast.specs.Trees
 use Rattle.c_ast.specs.Places.{first_specifiers}
 use Rattle.c_erasure.specs.Broken.{Fault, ill_typed, AreBroken}
 use Rattle.c_erasure.specs.BrokenFiles.{IsBrokenFileDeclaration}
-use Rattle.c_erasure.specs.BrokenStatements.{IsAmong}
 use Rattle.c_erasure.specs.Erasure.{IsBase, IsOne}
 use Rattle.c_erasure.specs.Files.{may_stand_in_file, declares_tag, DeclaresSomething}
 use Rattle.c_erasure.specs.Marks.{Mark, marks_of_specifiers, marks_of_declarators, ends_in, scope_beginnings}
-use Rattle.c_erasure.specs.MentionPlaces.{spoken_of_specifiers, spoken_of_declaration}
+use Rattle.c_erasure.specs.MentionPlaces.{spoken_of_specifiers, spoken_of_declaration, spoken_of_declarators}
 use Rattle.c_erasure.specs.Scopes.{FileScope, at_file_scope}
 use Rattle.c_erasure.specs.Specifiers.{storage_of}
 use Rattle.c_checking.specs.Declaring.{base_kind}
 use Rattle.c_checking.specs.Files.{file_declaration, is_empty}
 use Rattle.c_checking.specs.Finding.{base_type, one_of}
 use Rattle.c_checking_laws.proofs.FaultPremises.{IsPrepared, left, right, AreSpecifiersTimely}
-use Rattle.c_checking_laws.proofs.FaultResults.{same_fault, bound_err, chosen_err, Reaches}
+use Rattle.c_checking_laws.proofs.FaultAdditions.{of_specifiers}
+use Rattle.c_checking_laws.proofs.FaultResults.{Up, same_fault, bound_err, chosen_err}
+use Rattle.c_checking_laws.proofs.Within.{Additions, both}
 use Rattle.c_checking_laws.proofs.FaultTypes.{base_stops}
 use Rattle.c_checking_laws.proofs.Faults.{faults_one}
 use Rattle.c_checking_laws.proofs.Growth.{grow_base}
@@ -30,7 +31,8 @@ use Rattle.c_checking_items.proofs.DeclarationItems.{AreDeclaratorsFit, MayDecla
 use Rattle.c_checking_items.proofs.Known.{IsKnown, none_new}
 use Rattle.c_checking_items.proofs.Rises.{passed, below_then, part_of}
 use Rattle.c_checking_items.proofs.Stepping.{Stepped, stepped_then, no_step, found_step}
-use Rattle.c_checking_file_faults.proofs.Behind.{StopsIn, stops_here, stops_of}
+use Rattle.c_checking_faults.proofs.UpTo.{up_to_first, up_to_within}
+use Rattle.c_checking_file_faults.proofs.Behind.{StopsIn, GoesUpTo, stops_here, stops_of}
 use Rattle.c_checking_file_faults.proofs.DeclaratorsStop.{AreStopped, AreTimely, declarators_stop}
 use Rattle.c_checking_file_faults.proofs.OwnFunctions.{own_enumerators}
 use Rattle.c_checking_file_faults.proofs.Tests.{AreOwnFunctions}
@@ -72,7 +74,7 @@ module _ (untagged : ℕ → List ℕ) (types : List (List ℕ)) (nodes_at : ℕ
     pub places_are : places ++ later ≡ places_of_declarators d.all d.semicolon
     pub marks_are : marks ++ marks_later ≡ marks_of_specifiers untagged d.specs ++ marks_of_declarators untagged d.all d.semicolon
     pub said_are : types_said ++ said_later ≡ spoken_of_declaration d
-    pub reaches : Reaches (IsAmong later) middle false file
+    pub reaches : GoesUpTo (record { marks = marks_later; said = said_later; made = later }) middle file
 
   -- what is asked of the file and of a declaration
   pub record MayStopDeclaration (f : FileScope) (d : Trees.Declaration) (nodes at in_scope : ℕ) : Type 0 where
@@ -82,8 +84,18 @@ module _ (untagged : ℕ → List ℕ) (types : List (List ℕ)) (nodes_at : ℕ
     pub timely : AreTimely untagged types nodes_at ends (length f.records + length (ends_in (marks_of_specifiers untagged d.specs))) d.all
     pub own_functions : AreOwnFunctions f.names
 
+  abbrev of_declarators : List Trees.InitDeclarator → ℕ → Additions
+  of_declarators all semicolon = record {
+    marks = marks_of_declarators untagged all semicolon;
+    said = spoken_of_declarators all semicolon;
+    made = places_of_declarators all semicolon;
+  }
+
+  abbrev of_declaration : Trees.Declaration → Additions
+  of_declaration d = both (of_specifiers untagged d.specs) (of_declarators d.all d.semicolon)
+
   at_once : (f : FileScope) (d : Trees.Declaration) (fault : Fault)
-      → StopsIn (places_of_declarators d.all d.semicolon) f (λ g. IsBrokenFileDeclaration g d fault) → DeclarationStops f d fault
+      → StopsIn (of_declaration d) f (λ g. IsBrokenFileDeclaration g d fault) → DeclarationStops f d fault
   at_once f d fault b = record {
     middle = f;
     file = b.file;
@@ -109,20 +121,24 @@ module _ (untagged : ℕ → List ℕ) (types : List (List ℕ)) (nodes_at : ℕ
       let from = first_specifiers d.specs in
       let s = at_file_scope f in
       let m = may.may in
-      let bytes = places_of_declarators d.all d.semicolon in
+      let all = of_declaration d in
       let Is = λ (g : FileScope). IsBrokenFileDeclaration g d fault in
       let own = left untagged ends u w may.prepared in
       chosen_err (may_stand_in_file (storage_of d.specs)) _ _ fault (DeclarationStops f d fault) h
       (λ stands h. bound_err (base_type (base_kind d.specs) from f (one_of d.specs s)) _ fault (DeclarationStops f d fault) h
-      (λ e. base_stops (IsAmong bytes) s d.specs from (one_of d.specs s) fault
-      (λ y q j. faults_one untagged ends (IsAmong bytes) d.specs s (length f.records) m.specifiers_in_range own
-      (omega arith) may.specifiers_timely y q fault j) e
+      (λ e. base_stops (Up s (of_specifiers untagged d.specs)) s d.specs from (one_of d.specs s) fault
+      (λ y q j. faults_one untagged ends (Up s (of_specifiers untagged d.specs)) d.specs s (length f.records) m.specifiers_in_range own
+      (omega arith) may.specifiers_timely
+      (λ g w. w)
+      y q fault j) e
       (DeclarationStops f d fault)
-      (λ n. at_once f d fault (stops_here bytes f Is (inl (n.0, inr (inl n.1)))))
-      (λ b. at_once f d fault (stops_of (λ s. AreBroken d.specs s fault) Is b (λ g p h. inr (inl h)))))
+      (λ n. at_once f d fault (stops_here all f Is (inl (n.0, inr (inl n.1)))))
+      (λ b. at_once f d fault (stops_of (of_specifiers untagged d.specs) all (λ n o e i. i)
+      (λ g w. up_to_first (of_specifiers untagged d.specs) (of_declarators d.all d.semicolon) (up_to_within (of_specifiers untagged d.specs) w))
+      (λ s. AreBroken d.specs s fault) Is b (λ g p h. inr (inl h)))))
       (λ b e h.
       chosen_err (is_empty d.all && not (declares_tag d.specs)) _ _ fault (DeclarationStops f d fault) h
-      (λ none h. at_once f d fault (stops_here bytes f Is
+      (λ none h. at_once f d fault (stops_here all f Is
       (inl (same_fault FileScope (ill_typed R.Specifiers from) fault h, inr (inr (nothing_declared d none))))))
       (λ some h.
       let v = sound_base untagged d.specs s m.specifiers_in_range own.ready from b e in
@@ -169,7 +185,7 @@ module _ (untagged : ℕ → List ℕ) (types : List (List ℕ)) (nodes_at : ℕ
         said_are = append_assoc (spoken_of_specifiers d.specs) stop.types_said stop.said_later ∙ ap (λ z. spoken_of_specifiers d.specs ++ z) stop.said_are;
         reaches = stop.reaches;
       })))
-      (λ none h. at_once f d fault (stops_here bytes f Is (inl (same_fault FileScope (ill_typed R.Specifiers from) fault h, inl none))))
+      (λ none h. at_once f d fault (stops_here all f Is (inl (same_fault FileScope (ill_typed R.Specifiers from) fault h, inl none))))
     where
       none_there : (objects others : List ℕ) → Rattle.c_checking_files.proofs.Parts.Parted [] objects others → (k r : ℕ)
           → slice_get objects k ≡ Some r → r < at

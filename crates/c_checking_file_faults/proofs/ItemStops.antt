@@ -1,25 +1,28 @@
 -- Where an item of a file stops, a rule is broken; and where a file stops, one of its items does (C99 6.9).
-use Rattle.std.proofs.Common.{◌≡◌, ℕ, refl, ap, ◌∙◌, List, [], ◌∷◌, ◌++◌, inr}
+use Rattle.std.proofs.Common.{◌≡◌, ℕ, refl, sym, ap, ◌∙◌, subst, List, [], ◌∷◌, ◌++◌, append_assoc}
 use Rattle.std.specs.Prelude.{Some, Ok, Err}
 use Rattle.c_ast.specs.declared.words.Spelling.{Spelling}
 use Rattle.c_ast.specs.Trees
 use Rattle.c_ast.specs.Places.{first_declarator}
 use Rattle.c_erasure.specs.Broken.{Fault}
 use Rattle.c_erasure.specs.BrokenFiles.{IsBrokenDefinition}
-use Rattle.c_erasure.specs.BrokenStatements.{IsAmong}
 use Rattle.c_erasure.specs.Declarators.{declared_name}
 use Rattle.c_erasure.specs.Literals.{made_by_items}
-use Rattle.c_erasure.specs.Marks.{Mark, marks_of_item}
-use Rattle.c_erasure.specs.MentionPlaces.{mentions_of_item}
+use Rattle.c_erasure.specs.Marks.{Mark, a_name, marks_of_specifiers, marks_of_declarator, marks_of_item}
+use Rattle.c_erasure.specs.MentionPlaces.{spoken_of_specifiers, spoken_of_declarator, spoken_by_items, mentions_of_item}
 use Rattle.c_erasure.specs.Scopes.{FileScope}
 use Rattle.c_checking.specs.Files.{item_nodes, filed_item, filed, unread, annotated}
-use Rattle.c_checking_laws.proofs.FaultResults.{bound_err, Reaches}
+use Rattle.c_checking_laws.proofs.FaultAdditions.{of_specifiers, behind_name}
+use Rattle.c_checking_laws.proofs.FaultResults.{bound_err}
 use Rattle.c_checking_laws.proofs.Results.{ok}
+use Rattle.c_checking_laws.proofs.Within.{Additions, both}
+use Rattle.c_checking_files.proofs.Declarations.{first_named}
 use Rattle.c_text_order.specs.TextOrder.{places_of_item}
 use Rattle.c_checking_items.proofs.Known.{IsKnown, none_new}
 use Rattle.c_checking_items.proofs.Stepping.{Stepped, no_step}
-use Rattle.c_checking_file_faults.proofs.Behind.{StopsIn, stops_more}
-use Rattle.c_checking_file_faults.proofs.DefinitionStops.{MayStopIn}
+use Rattle.c_checking_faults.proofs.UpTo.{of_item}
+use Rattle.c_checking_file_faults.proofs.Behind.{StopsIn, GoesUpTo, same_additions}
+use Rattle.c_checking_file_faults.proofs.DefinitionStops.{MayStopIn, of_body}
 use Rattle.c_checking_file_faults.proofs.FileDeclarations.{IsStoppedDeclaration, DeclarationStops, MayStopDeclaration, declaration_stops}
 use Rattle.c_checking_file_faults.proofs.WholeDefinitions.{definition_stops}
 
@@ -44,7 +47,7 @@ module _ (untagged : ℕ → List ℕ) (types : List (List ℕ)) (nodes_at : ℕ
     pub places_are : places ++ later ≡ places_of_item item
     pub marks_are : marks ++ marks_later ≡ marks_of_item untagged item
     pub said_are : types_said ++ said_later ≡ mentions_of_item item
-    pub reaches : Reaches (IsAmong later) middle Rattle.std.specs.Prelude.false file
+    pub reaches : GoesUpTo (record { marks = marks_later; said = said_later; made = later }) middle file
 
   -- what is asked of the file and of an item
   abbrev pub MayStopItem : FileScope → Trees.Item → (at in_scope : ℕ) → Type 0
@@ -53,12 +56,31 @@ module _ (untagged : ℕ → List ℕ) (types : List (List ℕ)) (nodes_at : ℕ
   MayStopItem f (Trees.declaration d) at in_scope =
       MayStopDeclaration untagged types nodes_at ends f d (item_nodes (Trees.declaration d)) at in_scope
 
-  defined_item : (f : FileScope) (specs : Trees.Specifiers) (d : Trees.Declarator) (left : ℕ) (items : Trees.BlockItems) (right : ℕ) (fault : Fault)
-      → StopsIn (made_by_items items) f (λ g. IsBrokenDefinition g specs d left items fault)
+  -- a definition, whose name stands there
+  abbrev of_definition : Trees.Specifiers → Trees.Declarator → (place left : ℕ) → Trees.BlockItems → Additions
+  of_definition specs d place left items = both (of_specifiers untagged specs) (both (behind_name untagged place d) (of_body place left items))
+
+  definition_is : (specs : Trees.Specifiers) (d : Trees.Declarator) (place left : ℕ) (items : Trees.BlockItems) (right : ℕ)
+      → place ≡ first_declarator d left → of_definition specs d place left items ≡ of_item untagged (Trees.defines specs d left items right)
+  definition_is specs d place left items right e =
+      let u = marks_of_specifiers untagged specs in
+      let w = marks_of_declarator untagged d in
+      let x = spoken_of_specifiers specs in
+      same_additions (u ++ (w ++ a_name left ∷ [])) (marks_of_item untagged (Trees.defines specs d left items right))
+      (x ++ ((place ∷ spoken_of_declarator d) ++ spoken_by_items items)) (mentions_of_item (Trees.defines specs d left items right))
+      (place ∷ made_by_items items) (places_of_item (Trees.defines specs d left items right))
+      (sym (append_assoc u w (a_name left ∷ [])))
+      (sym (append_assoc x (place ∷ spoken_of_declarator d) (spoken_by_items items))
+      ∙ ap (λ p. (x ++ (p ∷ spoken_of_declarator d)) ++ spoken_by_items items) e)
+      (ap (λ p. p ∷ made_by_items items) e)
+
+  defined_item : (f : FileScope) (specs : Trees.Specifiers) (d : Trees.Declarator) (x : Spelling) → declared_name d ≡ Some x → (left : ℕ)
+      (items : Trees.BlockItems) (right : ℕ) (fault : Fault)
+      → StopsIn (of_definition specs d (first_declarator d x.from) left items) f (λ g. IsBrokenDefinition g specs d left items fault)
       → ItemStops f (Trees.defines specs d left items right) fault
-  defined_item f specs d left items right fault b =
-      let there = stops_more {k = made_by_items items} {l = first_declarator d left ∷ made_by_items items}
-      (λ g. IsBrokenDefinition g specs d left items fault) (λ g. IsBrokenDefinition g specs d left items fault) (λ y i. inr i) (λ g i. i) b in
+  defined_item f specs d x name left items right fault b =
+      let there = subst (λ all. StopsIn all f (λ g. IsBrokenDefinition g specs d left items fault))
+      (definition_is specs d (first_declarator d x.from) left items right (first_named d x name x.from left)) b in
       record {
         middle = f;
         file = there.file;
@@ -102,7 +124,7 @@ module _ (untagged : ℕ → List ℕ) (types : List (List ℕ)) (nodes_at : ℕ
       declared_item f d fault
       (declaration_stops untagged types nodes_at ends before d f (item_nodes (Trees.declaration d)) at in_scope may k fault h)
   item_stops before (Trees.defines specs d left items right) f at in_scope may k fault h =
-      defined_item f specs d left items right fault
+      defined_item f specs d may.0.0 may.0.1 left items right fault
       (definition_stops untagged types nodes_at ends before specs d left items (item_nodes
       (Trees.defines specs d left items right)) at in_scope f may.1 k
       may.0.0 may.0.1 fault h)

@@ -18,7 +18,8 @@ use Rattle.c_erasure.specs.Erasure.{Declares}
 use Rattle.c_erasure.specs.Files.{bound, object_how}
 use Rattle.c_erasure.specs.Literals.{literals, literals_of_value}
 use Rattle.c_erasure.specs.Marks.{a_name, marks, marks_of_initial}
-use Rattle.c_erasure.specs.Scopes.{FileScope, Bound, AnObject, AFunction, defines, an_object, at_file_scope}
+use Rattle.c_erasure.specs.MentionPlaces.{spoken_by_value}
+use Rattle.c_erasure.specs.Scopes.{FileScope, AnObject, AFunction, defines, an_object, at_file_scope}
 use Rattle.c_erasure.specs.Specifiers.{Storage}
 use Rattle.c_erasure.specs.Statements.{IsSized}
 use Rattle.c_checking.specs.Declaring.{declared_among, with_bound}
@@ -26,8 +27,10 @@ use Rattle.c_checking.specs.Files.{library_named, declare_object, object_of, def
 use Rattle.c_checking.specs.Statements.{constants_if_any}
 use Rattle.c_checking_laws.proofs.Extends.{Extends, itself, further, bound_stays, at_end, last_or}
 use Rattle.c_checking_laws.proofs.FaultPremises.{IsPrepared, right}
-use Rattle.c_checking_laws.proofs.FaultResults.{bound_err, Reaches, reaches_then, reaches_itself}
-use Rattle.c_checking_files.proofs.FileScopes.{MayDeclare, bound_put}
+use Rattle.c_checking_laws.proofs.FaultAdditions.{of}
+use Rattle.c_checking_laws.proofs.FaultResults.{bound_err}
+use Rattle.c_checking_laws.proofs.Within.{Additions}
+use Rattle.c_checking_files.proofs.FileScopes.{MayDeclare, bound_put, continues_then}
 use Rattle.c_checking_files.proofs.FileObjects.{IsTheObject, object_is}
 use Rattle.c_checking_files.proofs.Kept.{are_complete}
 use Rattle.c_checking_files.proofs.KeepingInitials.{keep_initializer}
@@ -37,18 +40,17 @@ use Rattle.c_checking_items.proofs.FileFacts.{laid_file}
 use Rattle.c_checking_items.proofs.Known.{IsKnown, none_new, this_one}
 use Rattle.c_checking_items.proofs.ObjectSteps.{IsNew, IsOld, entered, stands_for, InMaking, new_in_making, old_in_making}
 use Rattle.c_checking_faults.proofs.BracesFaults.{IsInitialTimely}
-use Rattle.c_checking_faults.proofs.Clear.{AreFresh, fresh_right, among_left, among_right, reaches_more}
+use Rattle.c_checking_faults.proofs.Clear.{AreFresh, BeginAt, fresh_right, picked_made}
 use Rattle.c_checking_faults.proofs.Constants.{constant_faults}
-use Rattle.c_checking_file_faults.proofs.Behind.{grown_by, StopsIn, stops_here, stops_of}
+use Rattle.c_checking_faults.proofs.UpTo.{Exactly, up_to_within}
+use Rattle.c_checking_file_faults.proofs.Behind.{grown_by, StopsIn, stops_here, stops_later, stops_of}
 use Rattle.c_checking_file_faults.proofs.DeclaratorStops.{ruled_here, taken_here, twice_here, main_linked, no_library_type}
 use Rattle.c_checking_file_faults.proofs.Tests.{named_is, own_fault, once_fault, object_of_fault, twice_defined}
 
 -- ---- a new object, and a name more
 
-new_reaches : (f g : FileScope) (o : AnObject) → with_new_object f o ≡ g → Extends f g → Reaches (IsAmong (o.first ∷ [])) f false g
-new_reaches f g o file p = record {
-  extends = p;
-  counted = λ e. cc;
+new_begins : (f g : FileScope) (o : AnObject) → with_new_object f o ≡ g → BeginAt f (o.first ∷ []) g
+new_begins f g o file = record {
   begins = λ n q h. by_part n q (last_or f.objects o n q (subst (λ (g : FileScope). slice_get g.objects n ≡ Some q) (sym file) h));
 }
   where
@@ -62,15 +64,24 @@ type_at [] n o t h e = cc
 type_at (q ∷ all) zero o t h e = let same : q ≡ o = cc in ap Some (ap (λ (o : AnObject). o.ty) same ∙ e)
 type_at (q ∷ all) (suc n) o t h e = type_at all n o t h e
 
-bound_reaches : (May : ℕ → Type 0) (f : FileScope) (b : Bound) → Reaches May f false (with_bound f b)
-bound_reaches May f b = record { extends = (bound_put f b).extends; counted = λ e. cc; begins = λ n q h. inl h }
+entered_begins : (f : FileScope) (words : Storage) (x : Spelling) (place : ℕ) (t : CType) (n : ℕ × FileScope)
+    → IsNew f words x place t n ⊎ IsOld f x t n → BeginAt f (place ∷ []) n.1
+entered_begins f words x place t n (inl e) =
+    new_begins f n.1 (new_object f words x place t) (ap (λ (z : ℕ × FileScope). z.1) e.1)
+entered_begins f words x place t n (inr e) =
+    subst (BeginAt f (place ∷ [])) e.3 (record { begins = λ m o h. inl h })
 
-entered_reaches : (f : FileScope) (words : Storage) (x : Spelling) (place : ℕ) (t : CType) (n : ℕ × FileScope) → Extends f n.1
-    → IsNew f words x place t n ⊎ IsOld f x t n → Reaches (IsAmong (place ∷ [])) f false n.1
-entered_reaches f words x place t n p (inl e) =
-    new_reaches f n.1 (new_object f words x place t) (ap (λ (z : ℕ × FileScope). z.1) e.1) p
-entered_reaches f words x place t n p (inr e) =
-    subst (λ g. Reaches (IsAmong (place ∷ [])) f false g) e.3 (reaches_itself (IsAmong (place ∷ [])) f false)
+-- the name, and the place of the object
+abbrev of_name : (place from : ℕ) → Additions
+of_name place from = record { marks = a_name from ∷ []; said = []; made = place ∷ [] }
+
+-- with its initializer, or none
+abbrev pub of_initial : (untagged : ℕ → List ℕ) (place from : ℕ) → Option (ℕ × Trees.Expression) → Additions
+of_initial untagged place from value = record {
+  marks = a_name from ∷ marks_of_initial untagged value;
+  said = spoken_by_value value;
+  made = place ∷ literals_of_value value;
+}
 
 module _ (untagged : ℕ → List ℕ) (types : List (List ℕ)) (nodes_at : ℕ → ℕ) (ends : List ℕ) where
   -- records are known where an initializer of the file scope asks for them
@@ -114,7 +125,7 @@ module _ (untagged : ℕ → List ℕ) (types : List (List ℕ)) (nodes_at : ℕ
         → IsNew f words x place t z ⊎ IsOld f x t z → defined_among f.names x.text ≡ None
         → (v : IsTheObject f words x place t (is_none (declared_among f.names x.text)) z)
         → constants_if_any (Some value) (at_file_scope (with_bound z.1 (bound x from defines (an_object z.0 t)))) t ≡ Err fault
-        → StopsIn (place ∷ literals value.1) f Is
+        → StopsIn (of_initial untagged place from (Some value)) f Is
     initial_stops value is asks z e none v h =
         let b = bound x from defines (an_object z.0 t) in
         let c = with_bound z.1 b in
@@ -129,14 +140,23 @@ module _ (untagged : ℕ → List ℕ) (types : List (List ℕ)) (nodes_at : ℕ
         let prepared = right untagged ends (a_name from ∷ []) u asks.prepared grown in
         let same : c.untagged ≡ untagged = prepared.untagged_are in
         let many : n ≤ length c.records = let m = asks.many in let l = ap (λ all. length all) records in omega (arith, m, l) in
-        let reach = reaches_then (entered_reaches f words x place t z v.continues.extends e) (bound_reaches (IsAmong (place ∷ [])) z.1 b) in
+        let begins : BeginAt f (place ∷ []) c = record { begins = (entered_begins f words x place t z e).begins } in
+        let fresh : AreFresh c (literals value.1) = fresh_right (place ∷ []) (literals value.1) asks.fresh begins in
+        let entered : Exactly f (of_name place from) c = record {
+          names = map-append (λ b. b.from) z.1.names (b ∷ []) ∙ ap (λ all. map (λ b. b.from) all ++ from ∷ []) names;
+          records = ap (λ all. map (λ r. r.tag) all) records ∙ sym (append-nil _);
+          mentions = λ at h. inl (subst (λ (g : FileScope). IsAmong (map (λ m. m.at) g.mentions) at) i.same h);
+          objects = (i.objects, i.objects_are, picked_made i.parted);
+          functions = ([], ap (λ (g : FileScope). map (λ o. o.first) g.functions) i.same ∙ sym (append-nil _), tt);
+          consistent = λ h. i.known.consistent;
+        } in
         let known : is_object (length c.records) t ≡ true = subst (λ records. is_object (length records) t ≡ true) (sym records) whole in
         let stop = constant_faults untagged ends c value (at_file_scope c) n asks.in_range.0 prepared many asks.timely
-        (record { complete = are_complete i.known.settled; extends = itself c; same = same }) (fresh_right (place ∷ [])
-        (literals value.1) asks.fresh reach) t known
+        (record { complete = are_complete i.known.settled; extends = itself c; same = same }) fresh t known
         (λ y j. laid_file y.1 ((keep_initializer untagged types value.1 (at_file_scope c) same
         (λ e. asks.formed) t y j).settled i.known.settled)) fault h in
-        let there = stops_of {k = literals value.1} {f = c}
+        stops_later (of_name place from) (of untagged value.1) Is (continues_then v.continues (bound_put z.1 b)) entered
+        (stops_of (of untagged value.1) (of untagged value.1) fresh.none_at (λ g w. up_to_within (of untagged value.1) w)
         (λ s. IsBrokenInitial (Some value) s t fault ⊎ HasNoConstants (Some value) s t fault) Is stop
         (λ g q broken.
         let stands : slice_get g.names (length z.1.names) ≡ Some b = bound_stays q (length z.1.names) b (at_end z.1.names b) in
@@ -153,44 +173,38 @@ module _ (untagged : ℕ → List ℕ) (types : List (List ℕ)) (nodes_at : ℕ
             ),
           ),
           broken,
-        ))))))))) in
-        record {
-          file = there.file;
-          reaches = reaches_then (reaches_more (among_left (place ∷ []) (literals value.1)) reach)
-              (reaches_more (among_right (place ∷ []) (literals value.1)) there.reaches);
-          is = there.is;
-        }
+        ))))))))))
 
     value_stops : (value : Option (ℕ × Trees.Expression)) → d.value ≡ value → MayInitialize f place from n value → (z : ℕ × FileScope)
         → IsNew f words x place t z ⊎ IsOld f x t z → (v : IsTheObject f words x place t (is_none (declared_among f.names x.text)) z)
         → defined_once f x value (define_object (with_bound z.1 (bound x from (object_how words value)
         (an_object z.0 t))) z.0 place value t) ≡ Err fault
-        → StopsIn (place ∷ literals_of_value value) f Is
+        → StopsIn (of_initial untagged place from value) f Is
     value_stops None is asks z e v h = cc
     value_stops (Some value) is asks z e v h =
-        once_fault x (defined_among f.names x.text) _ fault (StopsIn (place ∷ literals value.1) f Is) h
-        (λ old i again. stops_here (place ∷ literals value.1) f Is
+        once_fault x (defined_among f.names x.text) _ fault (StopsIn (of_initial untagged place from (Some value)) f Is) h
+        (λ old i again. stops_here (of_initial untagged place from (Some value)) f Is
         (twice_here f words base d x t from fault name shape (declares f (itself f)) (sized_at f (itself f))
         (asks.prepared.begun refl 0 from refl) (some_is is)
         (twice_defined f x fault old i again)))
         (λ none h. bound_err (constants_if_any (Some value) (at_file_scope (with_bound z.1 (bound x from defines (an_object z.0 t)))) t) _ fault
-        (StopsIn (place ∷ literals value.1) f Is) h (λ i. initial_stops value is asks z e none v i) (λ y i h. cc))
+        (StopsIn (of_initial untagged place from (Some value)) f Is) h (λ i. initial_stops value is asks z e none v i) (λ y i h. cc))
       where
         some_is : d.value ≡ Some value → d.value ≢ None
         some_is is none = let some_is_none = sym is ∙ none in cc
 
     pub object_stops : MayInitialize f place from n d.value → declare_object f words x place from t d.value ≡ Err fault
-        → StopsIn (place ∷ literals_of_value d.value) f Is
+        → StopsIn (of_initial untagged place from d.value) f Is
     object_stops asks h =
-        let here = stops_here (place ∷ literals_of_value d.value) f Is in
+        let here = stops_here (of_initial untagged place from d.value) f Is in
         let is_shape = declares f (itself f) in
         let is_sized = sized_at f (itself f) in
-        own_fault x.from (library_named x.text) _ fault (StopsIn (place ∷ literals_of_value d.value) f Is) h
+        own_fault x.from (library_named x.text) _ fault (StopsIn (of_initial untagged place from d.value) f Is) h
         (λ which e is. here (ruled_here f words base d x t from fault name shape is_shape is_sized
         (inl (is, (which, named_is x.text which e, inr (inr (no_library_type t no_function which)))))))
-        (λ own h. bound_err (object_of f words x place t (declared_among f.names x.text)) _ fault (StopsIn (place ∷ literals_of_value d.value) f Is) h
+        (λ own h. bound_err (object_of f words x place t (declared_among f.names x.text)) _ fault (StopsIn (of_initial untagged place from d.value) f Is) h
         (λ e. object_of_fault f words may x place t no_function k.objects_bound (declared_among f.names x.text) refl fault
-        (StopsIn (place ∷ literals_of_value d.value) f Is) e
+        (StopsIn (of_initial untagged place from d.value) f Is) e
         (λ is main linked none. here (ruled_here f words base d x t from fault name shape is_shape is_sized
         (inr (inl (is, (main, inr (no_function, main_linked f words may x linked none)))))))
         (λ taken. here (taken_here f words base d x t from fault name shape is_shape is_sized (asks.prepared.begun refl 0 from refl) taken)))

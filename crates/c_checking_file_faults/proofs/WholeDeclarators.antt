@@ -12,7 +12,6 @@ use Rattle.c_typed.specs.declared.program.MentionKind.{MentionKind}
 use Rattle.c_typed.specs.declared.program.MentionKind.TheVariants.{Object, Named}
 use Rattle.c_erasure.specs.Broken.{Fault, IsBrokenWithin}
 use Rattle.c_erasure.specs.BrokenFiles.{IsBrokenFileDeclarator}
-use Rattle.c_erasure.specs.BrokenStatements.{IsAmong}
 use Rattle.c_erasure.specs.Declarators.{declared_name, Shape}
 use Rattle.c_erasure.specs.Erasure.{Declares}
 use Rattle.c_erasure.specs.Files.{may_stand_in_file}
@@ -34,7 +33,9 @@ use Rattle.c_checking_laws.proofs.Derived.{object_is}
 use Rattle.c_checking_laws.proofs.Extends.{Extends, itself, further}
 use Rattle.c_checking_laws.proofs.FaultDeclaring.{object_fault}
 use Rattle.c_checking_laws.proofs.FaultPremises.{IsPrepared, left, right, IsDeclaratorTimely, AreKnown}
-use Rattle.c_checking_laws.proofs.FaultResults.{bound_err, chosen_err, reached, Reaches, reaches_then}
+use Rattle.c_checking_laws.proofs.FaultAdditions.{of_declarator, behind_name}
+use Rattle.c_checking_laws.proofs.FaultResults.{Up, bound_err, chosen_err}
+use Rattle.c_checking_laws.proofs.Within.{Additions, both, within_all, within_said}
 use Rattle.c_checking_laws.proofs.FaultSteps.{read_steps}
 use Rattle.c_checking_laws.proofs.FaultTypes.{within_broken}
 use Rattle.c_checking_laws.proofs.Faults.{faults_steps}
@@ -43,7 +44,7 @@ use Rattle.c_checking_laws.proofs.Growth.{grow_steps}
 use Rattle.c_checking_laws.proofs.NodesOfParts.{complete_is}
 use Rattle.c_checking_laws.proofs.Results.{only_if, given}
 use Rattle.c_checking_laws.proofs.Sound.{sound_steps}
-use Rattle.c_checking_files.proofs.FileScopes.{MayDeclare}
+use Rattle.c_checking_files.proofs.FileScopes.{MayDeclare, adds_continues}
 use Rattle.c_checking_files.proofs.Keeping.{keep_steps}
 use Rattle.c_checking_files.proofs.Kept.{Keeps, keeps_mention}
 use Rattle.c_checking_files.proofs.Locals.{IsSizedOver, sized_so}
@@ -51,10 +52,11 @@ use Rattle.c_checking_items.proofs.DeclaratorSteps.{MayDeclareIt}
 use Rattle.c_checking_items.proofs.Known.{IsKnown, none_new}
 use Rattle.c_checking_items.proofs.Stepping.{found_step}
 use Rattle.c_checking_faults.proofs.Clear.{AreFresh}
-use Rattle.c_checking_file_faults.proofs.Behind.{StopsIn, stops_there, stops_later, stops_of}
+use Rattle.c_checking_faults.proofs.UpTo.{Exactly, up_to_first, up_to_exactly, up_to_within, exactly_adds}
+use Rattle.c_checking_file_faults.proofs.Behind.{StopsIn, GoesUpTo, stops_there, stops_later, stops_of}
 use Rattle.c_checking_file_faults.proofs.DeclaratorStops.{ruled_here, sized_fault, sized_here, typedef_stops, function_stops, no_typedef}
 use Rattle.c_checking_file_faults.proofs.DeclaratorStops.{by_storage, declared_as}
-use Rattle.c_checking_file_faults.proofs.ObjectStops.{IsValueTimely, object_stops}
+use Rattle.c_checking_file_faults.proofs.ObjectStops.{IsValueTimely, of_initial, object_stops}
 use Rattle.c_checking_file_faults.proofs.Tests.{AreOwnFunctions}
 
 object_whole : (records : List Record) (count at : ℕ) (t u : CType) → object_at records count at t ≡ Ok u → is_object (length records) u ≡ true
@@ -87,6 +89,15 @@ module _ (untagged : ℕ → List ℕ) (types : List (List ℕ)) (nodes_at : ℕ
     abbrev bytes : List ℕ
     bytes = place ∷ literals_of_value d.value
 
+    abbrev own : Additions
+    own = behind_name untagged place d.declarator
+
+    abbrev rest : Additions
+    rest = of_initial untagged place from d.value
+
+    abbrev all : Additions
+    all = both own rest
+
     abbrev own_marks : List Mark
     own_marks = marks_of_declarator untagged d.declarator
 
@@ -100,20 +111,18 @@ module _ (untagged : ℕ → List ℕ) (types : List (List ℕ)) (nodes_at : ℕ
       found : FoundSteps untagged (at_file_scope f) d.declarator steps
       found = sound_steps untagged d.declarator (at_file_scope f) may.may.in_range before_name.ready steps is_steps
 
-      steps_reach : Reaches (IsAmong bytes) f false steps.1
-      steps_reach =
-          reached (IsAmong bytes) (at_file_scope f) found.grew (grow_steps untagged d.declarator (at_file_scope f) may.may.same steps is_steps)
-          (λ e. tt)
+      steps_reach : GoesUpTo all f steps.1
+      steps_reach = record {
+        continues = adds_continues found.grew.extends (grow_steps untagged d.declarator (at_file_scope f) may.may.same steps is_steps);
+        up_to = up_to_first own rest (up_to_within own (within_said place (of_declarator untagged d.declarator)
+            (within_all [] (grow_steps untagged d.declarator (at_file_scope f) may.may.same steps is_steps) tt)));
+      }
 
       abbrev said : MentionKind → CType → FileScope
       said kind t = with_mention (at_file_scope f) (mentions_in f) kind t place steps.1
 
       said_extends : (kind : MentionKind) (t : CType) → Extends steps.1 (said kind t)
       said_extends kind t = before_mention (at_file_scope f) steps.1 (said kind t) (mentions_in f) kind t place (itself (said kind t))
-
-      said_reaches : (kind : MentionKind) (t : CType) → Reaches (IsAmong bytes) f false (said kind t)
-      said_reaches kind t =
-          reaches_then steps_reach (record { extends = said_extends kind t; counted = λ e. cc; begins = λ n o h. inl h })
 
       said_grown : (kind : MentionKind) (t : CType) → IsGrown f false own_marks (said kind t)
       said_grown kind t = mentioned (at_file_scope f) (mentions_in f) kind t place found.grew
@@ -131,6 +140,15 @@ module _ (untagged : ℕ → List ℕ) (types : List (List ℕ)) (nodes_at : ℕ
       said_adds : (kind : MentionKind) (t : CType) → Adds f false false false own_marks (place ∷ spoken_of_declarator d.declarator) [] (said kind t)
       said_adds kind t = mention_before (at_file_scope f) kind t place (grow_steps untagged d.declarator
           (at_file_scope f) may.may.same steps is_steps)
+
+      said_exactly : (kind : MentionKind) (t : CType) → Exactly f own (said kind t)
+      said_exactly kind t = exactly_adds [] (said_adds kind t) tt
+
+      said_reaches : (kind : MentionKind) (t : CType) → GoesUpTo all f (said kind t)
+      said_reaches kind t = record {
+        continues = adds_continues (further found.grew.extends (said_extends kind t)) (said_adds kind t);
+        up_to = up_to_first own rest (up_to_exactly (said_exactly kind t));
+      }
 
       said_known : (kind : MentionKind) (t : CType) → IsKnown nodes_at before none_new none_new (said kind t)
       said_known kind t =
@@ -174,26 +192,26 @@ module _ (untagged : ℕ → List ℕ) (types : List (List ℕ)) (nodes_at : ℕ
         over : IsSizedOver steps.1.records shape d.value t
         over = sized_so steps.1.records x.from shape d.value t is_sized
 
-        as_typedef : without_value x.from d.value (declare_typedef (said Named t) x from t) ≡ Err fault → words ≡ a_typedef → StopsIn bytes f Is
+        as_typedef : without_value x.from d.value (declare_typedef (said Named t) x from t) ≡ Err fault → words ≡ a_typedef → StopsIn all f Is
         as_typedef h e =
             let g = said Named t in
-            stops_there bytes f g Is (said_reaches Named t)
+            stops_there all f g Is (said_reaches Named t)
             (subst (λ words. IsBrokenFileDeclarator g words base d from fault) (sym e)
             (typedef_stops g base d x t name shape (declares g (said_extends Named t)) (sized_here
             (at_file_scope g) shape d.value t over) from (said_begun Named t) fault h))
 
         as_function : MayDeclare words → is_function t ≡ true
             → without_value x.from d.value (declare_function (said Named t) words x place from t nodes (library_named x.text)) ≡ Err fault
-            → StopsIn bytes f Is
+            → StopsIn all f Is
         as_function m is_one h =
             let g = said Named t in
-            stops_there bytes f g Is (said_reaches Named t)
+            stops_there all f g Is (said_reaches Named t)
             (function_stops g base d x t name shape (declares g (said_extends Named t)) (sized_here (at_file_scope g) shape d.value t over)
             from (said_begun Named t) fault nodes_at before (said_known Named t) (said_own Named t) words m is_one place nodes h)
 
         as_object : MayDeclare words → is_function t ≡ false
             → (object_at steps.1.records (complete (at_file_scope steps.1) x.from) x.from t
-            >>= λ u. declare_object (said Object u) words x place from u d.value) ≡ Err fault → StopsIn bytes f Is
+            >>= λ u. declare_object (said Object u) words x place from u d.value) ≡ Err fault → StopsIn all f Is
         as_object m is_none h =
             let grew = found.grew in
             let many : length f.records + length (ends_in own_marks) ≤ length steps.1.records = let c = grew.counted in omega (arith, c) in
@@ -201,10 +219,10 @@ module _ (untagged : ℕ → List ℕ) (types : List (List ℕ)) (nodes_at : ℕ
             let a = subst (λ ends. ended ends x.from ≤ length f.records + length (ends_in own_marks)) (sym (grew.extends.ends
             ∙ before_name.ends_are)) may.asks in
             omega (arith, a, many) in
-            bound_err (object_at steps.1.records (complete (at_file_scope steps.1) x.from) x.from t) _ fault (StopsIn bytes f Is) h
+            bound_err (object_at steps.1.records (complete (at_file_scope steps.1) x.from) x.from t) _ fault (StopsIn all f Is) h
             (λ e.
             let o = object_fault steps.1.records (complete (at_file_scope steps.1) x.from) x.from t known fault e in
-            stops_there bytes f steps.1 Is steps_reach
+            stops_there all f steps.1 Is steps_reach
             (ruled_here steps.1 words base d x t from fault name shape (declares steps.1 (itself steps.1)) (sized_here
             (at_file_scope steps.1) shape d.value t over)
             (inr (inr (inl (o.0, no_typedef words m, is_none, o.1))))))
@@ -214,7 +232,7 @@ module _ (untagged : ℕ → List ℕ) (types : List (List ℕ)) (nodes_at : ℕ
             let g = said Object u in
             let w = said_grown Object u in
             let prepared = right untagged ends own_marks (a_name from ∷ marks_of_initial untagged d.value) may.prepared w in
-            stops_later Is Is (said_reaches Object u)
+            stops_later own rest Is (said_reaches Object u).continues (said_exactly Object u)
             (object_stops untagged types nodes_at ends before g words m base d x place from (length f.records + length
             (ends_in own_marks)) u name shape
             (λ h p. declares h (further (said_extends Object u) p)) (subst (IsSizedOver steps.1.records shape d.value) same over)
@@ -231,29 +249,31 @@ module _ (untagged : ℕ → List ℕ) (types : List (List ℕ)) (nodes_at : ℕ
               timely = may.value_timely;
               fresh = said_fresh Object u;
               from_is = may.from_is;
-            }) h) (λ h p i. i))
+            }) h))
 
         by_words : (words ≡ a_typedef) ⊎ MayDeclare words → declare_as words (mentions_in f) place from x t d nodes steps.1 ≡ Err fault
-            → StopsIn bytes f Is
+            → StopsIn all f Is
         by_words (inl e) h = as_typedef (subst (λ words. declare_as words (mentions_in f) place from x t d nodes steps.1 ≡ Err fault) e h) e
         by_words (inr m) h =
-            chosen_err (is_function t) _ _ fault (StopsIn bytes f Is) (sym (declared_as words m (mentions_in f) place from x t d nodes steps.1) ∙ h)
+            chosen_err (is_function t) _ _ fault (StopsIn all f Is) (sym (declared_as words m (mentions_in f) place from x t d nodes steps.1) ∙ h)
             (λ b h. as_function m b h) (λ b h. as_object m b h)
 
-    pub declarator_stops : may_stand_in_file words ≡ true → declarator_named f words base d from nodes (Some x) ≡ Err fault → StopsIn bytes f Is
+    pub declarator_stops : may_stand_in_file words ≡ true → declarator_named f words base d from nodes (Some x) ≡ Err fault → StopsIn all f Is
     declarator_stops stands h =
         let s = at_file_scope f in
-        bound_err (derivations d.declarator s) _ fault (StopsIn bytes f Is) h
-        (λ e. stops_of (λ s. IsBrokenWithin d.declarator s fault) Is
-        (faults_steps untagged ends (IsAmong bytes) d.declarator s (length f.records) may.may.in_range before_name (omega arith) may.timely fault e)
+        bound_err (derivations d.declarator s) _ fault (StopsIn all f Is) h
+        (λ e. stops_of (of_declarator untagged d.declarator) all (λ n o e i. i)
+        (λ g w. up_to_first own rest (up_to_within own (within_said place (of_declarator untagged d.declarator) w))) (λ s. IsBrokenWithin d.declarator s fault) Is
+        (faults_steps untagged ends (Up s (of_declarator untagged d.declarator)) d.declarator s (length f.records) may.may.in_range before_name (omega arith) may.timely
+        (λ g w. w) fault e)
         (λ g p h. inl (within_broken d.declarator (at_file_scope g) base fault h)))
         (λ steps e h.
         let w = read_steps untagged ends d.declarator s (length f.records) may.may.in_range before_name.ready before_name.ends_are
         (omega arith) may.timely steps e in
-        bound_err (derived steps.1.records steps.0 base) _ fault (StopsIn bytes f Is) h
-        (λ i. stops_there bytes f steps.1 Is (steps_reach steps e) (inl (w.broken steps.1 (itself steps.1) base fault i)))
-        (λ shape i h. bound_err (sized_in steps.1.records x.from shape d.value) _ fault (StopsIn bytes f Is) h
-        (λ j. stops_there bytes f steps.1 Is (steps_reach steps e)
+        bound_err (derived steps.1.records steps.0 base) _ fault (StopsIn all f Is) h
+        (λ i. stops_there all f steps.1 Is (steps_reach steps e) (inl (w.broken steps.1 (itself steps.1) base fault i)))
+        (λ shape i h. bound_err (sized_in steps.1.records x.from shape d.value) _ fault (StopsIn all f Is) h
+        (λ j. stops_there all f steps.1 Is (steps_reach steps e)
         (inr (
           x,
           shape,

@@ -1,5 +1,5 @@
 -- Where the definition of a function stops, from its specifiers on, a rule is broken (C99 6.9.1).
-use Rattle.std.proofs.Common.{◌≡◌, ℕ, ◌+◌, ◌≤◌, false, refl, sym, ap, ◌∙◌, subst, List, [], ◌∷◌, ◌++◌, length, inl, inr, arith}
+use Rattle.std.proofs.Common.{◌≡◌, ℕ, ◌+◌, ◌≤◌, refl, sym, ap, ◌∙◌, subst, List, [], ◌∷◌, ◌++◌, length, inl, inr, arith}
 use Rattle.std.proofs.Common.{append-nil}
 use Rattle.std.specs.Prelude.{map, Some, Ok, Err, slice_get}
 use Rattle.lay_base.specs.declared.faults.Rule.TheVariants as R
@@ -10,11 +10,9 @@ use Rattle.c_ast.specs.Places.{first_specifiers, first_declarator}
 use Rattle.c_typed.specs.declared.program.MentionKind.TheVariants.{Named}
 use Rattle.c_erasure.specs.Broken.{Fault, ill_typed, AreBroken, IsBrokenWithin}
 use Rattle.c_erasure.specs.BrokenFiles.{HasNameless, IsBrokenDefinition}
-use Rattle.c_erasure.specs.BrokenStatements.{IsAmong}
 use Rattle.c_erasure.specs.Declarators.{declared_name, Shape, closed, open_array}
 use Rattle.c_erasure.specs.Erasure.{IsBase, IsOne, Declares}
 use Rattle.c_erasure.specs.Files.{parameters_of}
-use Rattle.c_erasure.specs.Literals.{made_by_items}
 use Rattle.c_erasure.specs.Marks.{Mark, a_name, marks_of_specifiers, marks_of_declarator, ends_in}
 use Rattle.c_erasure.specs.Scopes.{FileScope, AnObject, at_file_scope}
 use Rattle.c_erasure.specs.Specifiers.{storage_of}
@@ -26,21 +24,24 @@ use Rattle.c_checking_laws.proofs.Declared.{mentioned, before_mention}
 use Rattle.c_checking_laws.proofs.Extends.{Extends, itself, further}
 use Rattle.c_checking_laws.proofs.FaultDeclaring.{orderly_stays}
 use Rattle.c_checking_laws.proofs.FaultPremises.{left, right}
-use Rattle.c_checking_laws.proofs.FaultResults.{same_fault, bound_err, reached, Reaches, reaches_then}
+use Rattle.c_checking_laws.proofs.FaultAdditions.{of_specifiers, of_declarator, behind_name}
+use Rattle.c_checking_laws.proofs.FaultResults.{Up, same_fault, bound_err}
+use Rattle.c_checking_laws.proofs.Within.{Additions, both, within_all, within_said}
 use Rattle.c_checking_laws.proofs.FaultSteps.{read_steps}
 use Rattle.c_checking_laws.proofs.FaultTypes.{within_broken, base_stops}
 use Rattle.c_checking_laws.proofs.Faults.{faults_one, faults_steps}
 use Rattle.c_checking_laws.proofs.Growth.{grow_base, grow_steps}
 use Rattle.c_checking_laws.proofs.Sound.{sound_base, sound_steps}
 use Rattle.c_checking_files.proofs.Declarations.{first_named}
-use Rattle.c_checking_files.proofs.FileScopes.{MayDeclare}
+use Rattle.c_checking_files.proofs.FileScopes.{MayDeclare, adds_continues, continues_then}
 use Rattle.c_checking_files.proofs.Keeping.{keep_base, keep_steps}
 use Rattle.c_checking_files.proofs.Kept.{keeps_mention}
 use Rattle.c_checking_files.proofs.StatementLaws.{AreItemsInRange}
 use Rattle.c_checking_items.proofs.Known.{IsKnown, none_new}
 use Rattle.c_checking_items.proofs.Stepping.{found_step}
-use Rattle.c_checking_file_faults.proofs.Behind.{StopsIn, stops_here, stops_there, stops_later, stops_of}
-use Rattle.c_checking_file_faults.proofs.DefinitionStops.{storage_fault, ruled, function_stops, MayStopIn}
+use Rattle.c_checking_faults.proofs.UpTo.{Exactly, up_to_first, up_to_then, up_to_within, exactly_adds}
+use Rattle.c_checking_file_faults.proofs.Behind.{StopsIn, GoesUpTo, stops_here, stops_there, stops_later, stops_of}
+use Rattle.c_checking_file_faults.proofs.DefinitionStops.{storage_fault, ruled, function_stops, of_body, MayStopIn}
 use Rattle.c_checking_file_faults.proofs.Parameters.{open_without}
 
 no_firsts : (more : List AnObject) → map (λ o. o.first) more ≡ [] → more ≡ []
@@ -63,8 +64,17 @@ module _ (untagged : ℕ → List ℕ) (types_named : List (List ℕ)) (nodes_at
   abbrev from : ℕ
   from = first_specifiers specs
 
-  abbrev bytes : List ℕ
-  bytes = made_by_items items
+  abbrev own : Additions
+  own = of_specifiers untagged specs
+
+  abbrev named : Additions
+  named = behind_name untagged (first_declarator d x.from) d
+
+  abbrev inner : Additions
+  inner = of_body (first_declarator d x.from) left_at items
+
+  abbrev all : Additions
+  all = both own (both named inner)
 
   abbrev Is : FileScope → Type 0
   Is g = IsBrokenDefinition g specs d left_at items fault
@@ -74,45 +84,45 @@ module _ (untagged : ℕ → List ℕ) (types_named : List (List ℕ)) (nodes_at
       → MayDeclare (storage_of specs)
       → (steps : FileScope) → ((g : FileScope) → Extends steps g → Extends b.1 g)
       → ((t : CType) → Extends steps (with_mention (at_file_scope b.1) (mentions_in b.1) Named t (first_declarator d x.from) steps))
-      → (shape : Shape) → ((g : FileScope) → Extends steps g → Declares (at_file_scope g) d b.0 shape) → Reaches (IsAmong bytes) f false steps
+      → (shape : Shape) → ((g : FileScope) → Extends steps g → Declares (at_file_scope g) d b.0 shape) → GoesUpTo all f steps
       → ((result : CType) (types : CTypes) → shape ≡ closed (function result types)
       → define_function (with_mention (at_file_scope b.1) (mentions_in b.1) Named (function result types) (first_declarator d x.from) steps)
       (storage_of specs) x from (first_declarator d x.from) left_at nodes result types items (received_by (parameters_of d) types) ≡ Err fault
-      → StopsIn bytes f Is)
+      → StopsIn all f Is)
       → define_shape steps (storage_of specs) x (mentions_in b.1) from (first_declarator d x.from) left_at nodes shape
       (parameters_of d) items ≡ Err fault
-      → StopsIn bytes f Is
+      → StopsIn all f Is
   shape_stops b is_base words steps into said (closed (function result types)) declares reach next h = next result types refl h
   shape_stops b is_base words steps into said (open_array t) declares reach next h =
-      stops_there bytes f steps Is reach
+      stops_there all f steps Is reach
       (inl (
         same_fault FileScope (ill_typed R.Specifiers from) fault h,
         inr (inr (subst HasNameless (sym (open_without d (at_file_scope steps) b.0 t (declares steps (itself steps)))) tt)),
       ))
   shape_stops b is_base words steps into said (closed void) declares reach next h =
-      stops_there bytes f steps Is reach
+      stops_there all f steps Is reach
       (ruled steps specs d left_at items fault b.0 (is_base steps (into steps (itself steps))) x name void (declares steps (itself steps))
       (inl (same_fault FileScope (ill_typed R.Specifiers from) fault h, refl)))
   shape_stops b is_base words steps into said (closed (integer kind)) declares reach next h =
-      stops_there bytes f steps Is reach
+      stops_there all f steps Is reach
       (ruled steps specs d left_at items fault b.0 (is_base steps (into steps (itself steps))) x name (integer kind) (declares steps (itself steps))
       (inl (same_fault FileScope (ill_typed R.Specifiers from) fault h, refl)))
   shape_stops b is_base words steps into said (closed (pointer t)) declares reach next h =
-      stops_there bytes f steps Is reach
+      stops_there all f steps Is reach
       (ruled steps specs d left_at items fault b.0 (is_base steps (into steps (itself steps))) x name (pointer t) (declares steps (itself steps))
       (inl (same_fault FileScope (ill_typed R.Specifiers from) fault h, refl)))
   shape_stops b is_base words steps into said (closed (array t n)) declares reach next h =
-      stops_there bytes f steps Is reach
+      stops_there all f steps Is reach
       (ruled steps specs d left_at items fault b.0 (is_base steps (into steps (itself steps))) x name (array t n) (declares steps (itself steps))
       (inl (same_fault FileScope (ill_typed R.Specifiers from) fault h, refl)))
   shape_stops b is_base words steps into said (closed (structure r)) declares reach next h =
-      stops_there bytes f steps Is reach
+      stops_there all f steps Is reach
       (ruled steps specs d left_at items fault b.0 (is_base steps (into steps (itself steps))) x name (structure r) (declares steps (itself steps))
       (inl (same_fault FileScope (ill_typed R.Specifiers from) fault h, refl)))
 
   -- behind the specifiers
   named_stops : MayDeclare (storage_of specs) → (b : CType × FileScope) → base_type (base_kind specs) from f (one_of specs (at_file_scope f)) ≡ Ok b
-      → definition_named b.1 specs b.0 d left_at nodes items (Some x) ≡ Err fault → StopsIn bytes f Is
+      → definition_named b.1 specs b.0 d left_at nodes items (Some x) ≡ Err fault → StopsIn all f Is
   named_stops words b is_base h =
       let s = at_file_scope f in
       let m = may.may in
@@ -121,26 +131,31 @@ module _ (untagged : ℕ → List ℕ) (types_named : List (List ℕ)) (nodes_at
       let keeps = keep_base untagged types_named specs s m.same (λ i. m.specifiers_formed) from b is_base in
       let first = found_step nodes_at f b.1 (λ h. Unit {0}) v.grew keeps adds (λ h e. tt) in
       let k1 = subst (λ made. IsKnown nodes_at made none_new none_new b.1) (append-nil before) (first.known before k) in
-      let reach1 : Reaches (IsAmong bytes) f false b.1 = reached (IsAmong bytes) s v.grew adds (λ e. tt) in
+      let read : Exactly f own b.1 = exactly_adds [] adds tt in
       let s1 = at_file_scope b.1 in
       let same = v.grew.extends.untagged ∙ m.same in
       let prepared = right untagged ends u (w ++ a_name left_at ∷ []) may.prepared v.grew in
-      let own = left untagged ends w (a_name left_at ∷ []) prepared in
+      let left_prepared = left untagged ends w (a_name left_at ∷ []) prepared in
       let n1 = length f.records + length (ends_in u) in
       let many : n1 ≤ length b.1.records = let c = v.grew.counted in omega (arith, c) in
-      bound_err (derivations d s1) _ fault (StopsIn bytes f Is) h
-      (λ e. stops_later Is Is reach1
-      (stops_of (λ s. IsBrokenWithin d s fault) Is (faults_steps untagged ends (IsAmong bytes) d s1 n1 m.in_range own many may.timely fault e)
-      (λ g p h. inr (inr (b.0, v.holds g p, inl (within_broken d (at_file_scope g) b.0 fault h))))) (λ g p i. i))
+      bound_err (derivations d s1) _ fault (StopsIn all f Is) h
+      (λ e. stops_later own (both named inner) Is (adds_continues v.grew.extends adds) read
+      (stops_of (of_declarator untagged d) (both named inner) (λ n o e i. i)
+      (λ g w. up_to_first named inner (up_to_within named (within_said (first_declarator d x.from) (of_declarator untagged d) w))) (λ s. IsBrokenWithin d s fault) Is
+      (faults_steps untagged ends (Up s1 (of_declarator untagged d)) d s1 n1 m.in_range left_prepared many may.timely (λ g w. w) fault e)
+      (λ g p h. inr (inr (b.0, v.holds g p, inl (within_broken d (at_file_scope g) b.0 fault h))))))
       (λ steps e h.
-      let found = sound_steps untagged d s1 m.in_range own.ready steps e in
-      let read = read_steps untagged ends d s1 n1 m.in_range own.ready own.ends_are many may.timely steps e in
+      let found = sound_steps untagged d s1 m.in_range left_prepared.ready steps e in
+      let derives = read_steps untagged ends d s1 n1 m.in_range left_prepared.ready left_prepared.ends_are many may.timely steps e in
       let adds1 = grow_steps untagged d s1 same steps e in
-      let reach2 : Reaches (IsAmong bytes) b.1 false steps.1 = reached (IsAmong bytes) s1 found.grew adds1 (λ e. tt) in
-      let reach = reaches_then reach1 reach2 in
-      bound_err (derived steps.1.records steps.0 b.0) _ fault (StopsIn bytes f Is) h
-      (λ i. stops_there bytes f steps.1 Is reach
-      (inr (inr (b.0, v.holds steps.1 found.grew.extends, inl (read.broken steps.1 (itself steps.1) b.0 fault i)))))
+      let reach : GoesUpTo all f steps.1 = record {
+        continues = continues_then (adds_continues v.grew.extends adds) (adds_continues found.grew.extends adds1);
+        up_to = up_to_then own (both named inner) read (up_to_first named inner
+            (up_to_within named (within_said (first_declarator d x.from) (of_declarator untagged d) (within_all [] adds1 tt))));
+      } in
+      bound_err (derived steps.1.records steps.0 b.0) _ fault (StopsIn all f Is) h
+      (λ i. stops_there all f steps.1 Is reach
+      (inr (inr (b.0, v.holds steps.1 found.grew.extends, inl (derives.broken steps.1 (itself steps.1) b.0 fault i)))))
       (λ shape i h.
       let place = first_declarator d x.from in
       let said_so : (t : CType) → Extends steps.1 (with_mention s1 (mentions_in b.1) Named t place steps.1) =
@@ -165,9 +180,8 @@ module _ (untagged : ℕ → List ℕ) (types_named : List (List ℕ)) (nodes_at
       let c2 = grown.counted in
       let counts : length f.records + length (ends_in u) + length (ends_in w) ≡ length said.records = omega (arith, c1, c2) in
       let said_ends : said.ends ≡ f.ends = grown.extends.ends ∙ v.grew.extends.ends in
-      let whole_reach : Reaches (IsAmong bytes) f false said =
-      reaches_then reach (record { extends = said_so t; counted = λ e. cc; begins = λ n o h. inl h }) in
-      stops_later Is Is whole_reach
+      stops_later own (both named inner) Is (adds_continues v.grew.extends adds) read
+      (stops_later named inner Is (adds_continues (further found.grew.extends (said_so t)) adds2) (exactly_adds [] adds2 tt)
       (function_stops untagged types_named nodes_at ends before said specs d left_at items fault b.0
       (λ g p. v.holds g (further found.grew.extends (further (said_so t) p))) x name result types
       (λ g p. subst (Declares (at_file_scope g) d b.0) is
@@ -180,19 +194,19 @@ module _ (untagged : ℕ → List ℕ) (types_named : List (List ℕ)) (nodes_at
       (record { apart = may.fresh.apart; none_at = λ n o h j. may.fresh.none_at n o (subst (λ all. slice_get all n ≡ Some o) objects h) j })
       (λ n o e. let b = m.objects_before n o (subst (λ all. slice_get all n ≡ Some o) objects e) in omega (arith, b, late))
       (λ n o e. let b = m.functions_before n o (subst (λ all. slice_get all n ≡ Some o) functions e) in omega (arith, b, late))
-      nodes (m.counted ∙ ap nodes_at there) h) (λ g p i. i)) h))
+      nodes (m.counted ∙ ap nodes_at there) h))) h))
 
-  pub definition_stops : function_definition specs d left_at items f nodes ≡ Err fault → StopsIn bytes f Is
+  pub definition_stops : function_definition specs d left_at items f nodes ≡ Err fault → StopsIn all f Is
   definition_stops h =
       let s = at_file_scope f in
       let prepared = left untagged ends u (w ++ a_name left_at ∷ []) may.prepared in
-      storage_fault from (storage_of specs) _ fault (StopsIn bytes f Is) h
-      (λ is none. stops_here bytes f Is (inl (is, inl none)))
-      (λ words h. bound_err (base_type (base_kind specs) from f (one_of specs s)) _ fault (StopsIn bytes f Is) h
-      (λ e. base_stops (IsAmong bytes) s specs from (one_of specs s) fault
-      (λ y q j. faults_one untagged ends (IsAmong bytes) specs s (length f.records) may.may.specifiers_in_range prepared
-      (omega arith) may.specifiers_timely y q
-      fault j) e (StopsIn bytes f Is)
-      (λ m. stops_here bytes f Is (inl (m.0, inr (inl m.1))))
-      (λ b. stops_of (λ s. AreBroken specs s fault) Is b (λ g p h. inr (inl h))))
+      storage_fault from (storage_of specs) _ fault (StopsIn all f Is) h
+      (λ is none. stops_here all f Is (inl (is, inl none)))
+      (λ words h. bound_err (base_type (base_kind specs) from f (one_of specs s)) _ fault (StopsIn all f Is) h
+      (λ e. base_stops (Up s own) s specs from (one_of specs s) fault
+      (λ y q j. faults_one untagged ends (Up s own) specs s (length f.records) may.may.specifiers_in_range prepared
+      (omega arith) may.specifiers_timely (λ g w. w) y q
+      fault j) e (StopsIn all f Is)
+      (λ m. stops_here all f Is (inl (m.0, inr (inl m.1))))
+      (λ b. stops_of own all (λ n o e i. i) (λ g w. up_to_first own (both named inner) (up_to_within own w)) (λ s. AreBroken specs s fault) Is b (λ g p h. inr (inl h))))
       (λ b e h. named_stops words b e (subst (λ o. definition_named b.1 specs b.0 d left_at nodes items o ≡ Err fault) name h)))

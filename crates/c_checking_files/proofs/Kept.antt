@@ -2,11 +2,9 @@
 use Rattle.std.proofs.Common.{◌≡◌, ◌≢◌, ℕ, zero, suc, ◌+◌, ◌≤◌, Bool, true, false, refl, sym, ap, ◌∙◌, subst, cond, List, [], ◌∷◌}
 use Rattle.std.proofs.Common.{◌++◌, length, take, drop, append-nil, append_assoc, length-append, arith, inl, inr}
 use Rattle.std.proofs.lemmas.Bool.{leb-true, eqb-true}
-use Rattle.std.proofs.lemmas.List.Elements.{All-cons, All-nil, All-head, All-tail}
-use Rattle.std.proofs.lemmas.Slice.Eq.{bytes_eq-Decides}
+use Rattle.std.proofs.lemmas.List.Elements.{All-cons, All-nil}
 use Rattle.std.proofs.lemmas.Option.{slice_get_within}
 use Rattle.std.specs.Prelude.{All, map, Option, Some, None, Ok, slice_get, nat_le, ◌⊎◌}
-use Rattle.std.specs.Str.{bytes_eq}
 use Rattle.c_types.specs.Layouts.{size_of, size_of_record}
 use Rattle.c_types.specs.Limits.{AreComplete}
 use Rattle.c_types.specs.Objects.{is_object}
@@ -15,14 +13,15 @@ use Rattle.c_types.proofs.Growing.{layouts_stay, has_its_size}
 use Rattle.c_ast.specs.declared.words.Spelling.{Spelling}
 use Rattle.c_typed.specs.declared.program.MentionKind.{MentionKind}
 use Rattle.c_erasure.specs.Erasure.{literal_of, literal_object}
-use Rattle.c_erasure.specs.Files.{MayStandTogether, AreConsistent}
+use Rattle.c_erasure.specs.Files.{AreConsistent}
 use Rattle.c_erasure.specs.Marks.{Mark, a_tag, an_end, a_name, tags_in}
-use Rattle.c_erasure.specs.Scopes.{Bound, Tag, AnObject, AMention, FileScope, Scope, enumerator, is_measured, tag_at}
-use Rattle.c_checking.specs.Declaring.{with_mention, with_object, with_record, with_bound, number_among, is_next, repeated, completed_in}
-use Rattle.c_checking.specs.Declaring.{declared_among, new_name, enumerator_in, tag_named}
+use Rattle.c_erasure.specs.Scopes.{Bound, Tag, AnObject, AMention, FileScope, Scope, is_measured, tag_at}
+use Rattle.c_checking.specs.Declaring.{with_mention, with_object, with_record, number_among, is_next, repeated, completed_in}
+use Rattle.c_checking.specs.Declaring.{tag_named}
 use Rattle.c_checking_laws.proofs.Results.{given, chosen}
 use Rattle.c_checking_laws.proofs.Extends.{last_or, one_of_both}
 use Rattle.c_checking_laws.proofs.Declared.{unless_ok}
+pub use Rattle.c_checking_laws.proofs.Consistent.{one_more_consistent, undeclared, IsNamed, enumerator_adds, IsAnEnumerator}
 use Rattle.c_checking_files.proofs.Layouts.{object_more}
 
 -- ---- records
@@ -102,46 +101,6 @@ one_more_settled numbered records r n small whole filled s = record {
     small_of k q (inr e) =
         subst (λ k. size_of (records ++ r ∷ []) (structure k) ≤ 16777216) (sym e.0) (subst (λ n. n ≤ 16777216) (sym (has_its_size records r)) small)
 
--- ---- names
-
-all_more : {X : Type 0} (P : X → Type 0) (xs : List X) (y : X) → All P xs → P y → All P (xs ++ y ∷ [])
-all_more P [] y h p = All-cons P y [] p (All-nil P)
-all_more P (x ∷ xs) y h p = All-cons P x (xs ++ y ∷ []) (All-head P x xs h) (all_more P xs y (All-tail P x xs h) p)
-
--- one more name, which may stand with each of those before that are spelled as it is
-pub one_more_consistent : (names : List Bound) (b : Bound) → ((k : ℕ) (c : Bound) → slice_get names k ≡ Some c → c.name ≡ b.name → MayStandTogether c b)
-    → AreConsistent names → AreConsistent (names ++ b ∷ [])
-one_more_consistent [] b h c = (All-nil _, tt)
-one_more_consistent (a ∷ names) b h c = (
-  all_more (λ (c : Bound). c.name ≡ a.name → MayStandTogether a c) names b c.0 (λ e. h 0 a refl (sym e)),
-  one_more_consistent names b (λ k d e. h (suc k) d e) c.1,
-)
-
-pub undeclared : (names : List Bound) (x : List ℕ) → declared_among names x ≡ None → (k : ℕ) (c : Bound) → slice_get names k ≡ Some c → c.name ≢ x
-undeclared [] x h k c e = cc
-undeclared (b ∷ names) x h k c e = by_test (bytes_eq b.name x) refl (λ h k c e. undeclared names x h k c e) h k e
-  where
-    by_test : (t : Bool) → bytes_eq b.name x ≡ t
-        → (declared_among names x ≡ None → (k : ℕ) (c : Bound) → slice_get names k ≡ Some c → c.name ≢ x)
-        → cond t (Some b) (declared_among names x) ≡ None → (k : ℕ) → slice_get (b ∷ names) k ≡ Some c → c.name ≢ x
-    by_test true t later h k e = cc
-    by_test false t later h zero e =
-        let same : b ≡ c = cc in
-        λ f. let g = (bytes_eq-Decides b.name x).1 (ap (λ (b : Bound). b.name) same ∙ f) in cc
-    by_test false t later h (suc k) e = later h k c e
-
-pub record IsNamed (f : FileScope) (b : Bound) (g : FileScope) : Type 0 where
-  pub file_is : with_bound f b ≡ g
-  pub is_new : declared_among f.names b.name ≡ None
-
-pub enumerator_adds : (f : FileScope) (b : Bound) (g : FileScope) → enumerator_in f b ≡ Ok g → IsNamed f b g
-unfolding enumerator_in
-enumerator_adds f b g h = by_name (declared_among f.names b.name) refl h
-  where
-    by_name : (o : Option Bound) → declared_among f.names b.name ≡ o → new_name f b o ≡ Ok g → IsNamed f b g
-    by_name None e h = given (IsNamed f b) (with_bound f b) g h (record { file_is = refl; is_new = e })
-    by_name (Some old) e h = cc
-
 -- ---- objects, and tags
 
 abbrev pub AreObjectsWhole : List Record → List AnObject → Type 0
@@ -149,9 +108,6 @@ AreObjectsWhole records objects = (n : ℕ) (o : AnObject) → slice_get objects
 
 abbrev pub IsALiteral : (file : ℕ) → AnObject → Type 0
 IsALiteral file o = (at : ℕ) × (all : List Spelling) × (o ≡ literal_object (record { file = file; at = at }) (literal_of all))
-
-abbrev pub IsAnEnumerator : Bound → Type 0
-IsAnEnumerator b = (v : ℕ) × (b.entity ≡ enumerator v)
 
 -- a tag of the text as the checker takes it: that of an enumeration stands nowhere before, and that of a structure is none of an enumeration,
 -- or one that is not written

@@ -8,6 +8,7 @@ use Rattle.c_ast.specs.declared.words.Spelling.{Spelling}
 use Rattle.c_ast.specs.Trees
 use Rattle.c_ast.specs.Places.{first_declarator}
 use Rattle.c_typed.specs.Trees as Typed
+use Rattle.c_erasure.specs.Files.{AreConsistent}
 use Rattle.c_erasure.specs.Literals.{literals_of_value}
 use Rattle.c_erasure.specs.MentionPlaces.{spoken_by_value}
 use Rattle.c_erasure.specs.Noted.{Noted}
@@ -259,6 +260,8 @@ module _ (untagged : ℕ → List ℕ) (f : FileScope) where
             records = ap (λ all. map (λ r. r.tag) all) recorded ∙ p.records;
             mentions = ap (λ all. map (λ m. m.at) all) mentioned ∙ p.mentions;
             objects = (new ∷ more, ap (λ (g : FileScope). g.objects) there, ap (λ all. new.first ∷ all) firsts);
+            declared = λ k n e. p.declared k n (subst (λ all. slice_get all k ≡ Some n) named e);
+            consistent = λ e. subst AreConsistent (sym named) (p.consistent e);
           }
 
   pub static_found : (s : Scope) (d : Trees.InitDeclarator) (x : Spelling) (t : CType) → IsValueInRange f.ends (length f.records) d.value → IsWithin untagged f s

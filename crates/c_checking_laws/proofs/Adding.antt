@@ -1,11 +1,12 @@
 -- What a part of the text adds to a file, in numbers: names, structures, mentions and objects, in the order of the text.
 use Rattle.std.proofs.Common.{◌≡◌, ℕ, zero, suc, Bool, true, false, refl, sym, ap, ◌∙◌, subst, List, [], ◌∷◌, ◌++◌, length, take, drop, append_assoc}
-use Rattle.std.proofs.Common.{append-nil, arith, cond}
+use Rattle.std.proofs.Common.{append-nil, arith, cond, inl, inr}
 use Rattle.std.proofs.lemmas.List.{map-append}
-use Rattle.std.specs.Prelude.{map, Ok}
+use Rattle.std.specs.Prelude.{◌⊎◌, map, Some, Ok, slice_get}
 use Rattle.c_types.specs.declared.ty.IntKind.{IntKind}
 use Rattle.c_types.specs.Types.{CType, Record}
 use Rattle.c_typed.specs.declared.program.MentionKind.{MentionKind}
+use Rattle.c_erasure.specs.Files.{AreConsistent}
 use Rattle.c_erasure.specs.Marks.{Mark, a_tag, an_end, a_name, scope_beginnings, defined_in}
 use Rattle.c_erasure.specs.Noted.{Expression, Thing}
 use Rattle.c_erasure.specs.Scopes.{Bound, Tag, AnObject, AMention, FileScope, Scope, Purpose, in_full, value_alone, type_alone, is_measured, purpose_of_value}
@@ -13,6 +14,8 @@ use Rattle.c_checking.specs.Answers.{Answer, Checked, with_file}
 use Rattle.c_checking.specs.Nodes.{worth, tested}
 use Rattle.c_checking.specs.Declaring.{with_mention, mentions_in, with_object, with_record, with_bound, constant_in}
 use Rattle.c_checking.specs.Finding.{value_at, tested_at, constant_at}
+use Rattle.c_checking_laws.proofs.Consistent.{IsAnEnumerator}
+use Rattle.c_checking_laws.proofs.Extends.{last_or}
 use Rattle.c_checking_laws.proofs.Results.{bound_ok, ok, given, with_file_ok}
 
 -- a list, or nothing
@@ -20,11 +23,11 @@ abbrev pub unless : {X : Type 0} → Bool → List X → List X
 unless true all = []
 unless false all = all
 
-unless_nothing : {X : Type 0} (b : Bool) → unless {X = X} b [] ≡ []
+pub unless_nothing : {X : Type 0} (b : Bool) → unless {X = X} b [] ≡ []
 unless_nothing true = refl
 unless_nothing false = refl
 
-unless_append : {X : Type 0} (b : Bool) (u v : List X) → unless b (u ++ v) ≡ unless b u ++ unless b v
+pub unless_append : {X : Type 0} (b : Bool) (u v : List X) → unless b (u ++ v) ≡ unless b u ++ unless b v
 unless_append true u v = refl
 unless_append false u v = refl
 
@@ -40,6 +43,9 @@ pub record Adds (f : FileScope) (is_inside is_measured makes_none : Bool) (all :
   pub records : map (λ r. r.tag) g.records ≡ map (λ r. r.tag) f.records ++ unless is_inside (defined_in all)
   pub mentions : map (λ m. m.at) g.mentions ≡ map (λ m. m.at) f.mentions ++ unless is_measured types
   pub objects : (more : List AnObject) × (g.objects ≡ f.objects ++ more) × (map (λ o. o.first) more ≡ unless makes_none made)
+  -- the names that are new stand for enumerators, and are those of no others
+  pub declared : (k : ℕ) (b : Bound) → slice_get g.names k ≡ Some b → (slice_get f.names k ≡ Some b) ⊎ IsAnEnumerator b
+  pub consistent : AreConsistent f.names → AreConsistent g.names
 
 -- the marks are those of file scope, the types are those of which the text speaks, and the objects are those that it makes
 abbrev pub Grows : Scope → List Mark → (types made : List ℕ) → FileScope → Type 0
@@ -47,13 +53,13 @@ Grows s all types made g = Adds s.file s.is_inside (is_measured s.purpose) (make
 
 -- ---- one part after another
 
-beginnings_append : (u v : List Mark) → scope_beginnings (u ++ v) ≡ scope_beginnings u ++ scope_beginnings v
+pub beginnings_append : (u v : List Mark) → scope_beginnings (u ++ v) ≡ scope_beginnings u ++ scope_beginnings v
 beginnings_append [] v = refl
 beginnings_append (a_tag t ∷ u) v = beginnings_append u v
 beginnings_append (an_end tag right ∷ u) v = beginnings_append u v
 beginnings_append (a_name from ∷ u) v = ap (λ z. from ∷ z) (beginnings_append u v)
 
-defined_append : (u v : List Mark) → defined_in (u ++ v) ≡ defined_in u ++ defined_in v
+pub defined_append : (u v : List Mark) → defined_in (u ++ v) ≡ defined_in u ++ defined_in v
 defined_append [] v = refl
 defined_append (a_tag t ∷ u) v = defined_append u v
 defined_append (an_end tag right ∷ u) v = ap (λ z. tag ∷ z) (defined_append u v)
@@ -71,7 +77,14 @@ adds_nothing f a b c = record {
   records = sym (append-nil _) ∙ ap (λ z. map (λ r. r.tag) f.records ++ z) (sym (unless_nothing a));
   mentions = sym (append-nil _) ∙ ap (λ z. map (λ m. m.at) f.mentions ++ z) (sym (unless_nothing b));
   objects = ([], sym (append-nil f.objects), sym (unless_nothing c));
+  declared = λ k b h. inl h;
+  consistent = λ h. h;
 }
+
+pub declared_then : (f g : FileScope) (b : Bound) → ((k : ℕ) → slice_get g.names k ≡ Some b → (slice_get f.names k ≡ Some b) ⊎ IsAnEnumerator b) → (k : ℕ)
+    → (slice_get g.names k ≡ Some b) ⊎ IsAnEnumerator b → (slice_get f.names k ≡ Some b) ⊎ IsAnEnumerator b
+declared_then f g b p k (inl h) = p k h
+declared_then f g b p k (inr h) = inr h
 
 pub adds_then : {f g h : FileScope} {a b c : Bool} {u v : List Mark} {x y k l : List ℕ} → Adds f a b c u x k g → Adds g a b c v y l h
     → Adds f a b c (u ++ v) (x ++ y) (k ++ l) h
@@ -87,6 +100,8 @@ adds_then {f} {g} {h} {a} {b} {c} {u} {v} {x} {y} {k} {l} p q = record {
     map-append (λ o. o.first) p.objects.0 q.objects.0 ∙ ap (λ z. z ++ map (λ o. o.first) q.objects.0) p.objects.2
         ∙ ap (λ z. unless c k ++ z) q.objects.2 ∙ sym (unless_append c k l),
   );
+  declared = λ k n e. declared_then f g n (λ k e. p.declared k n e) k (q.declared k n e);
+  consistent = λ e. q.consistent (p.consistent e);
 }
 
 -- ---- operands that are not evaluated, and what is inside of functions
@@ -99,6 +114,8 @@ as_measured {f} {g} {a} {b} {c} p = record {
   records = p.records;
   mentions = p.mentions ∙ ap (λ z. map (λ m. m.at) f.mentions ++ z) (sym (unless_nothing b));
   objects = (p.objects.0, p.objects.1, p.objects.2 ∙ sym (unless_nothing c));
+  declared = p.declared;
+  consistent = p.consistent;
 }
 
 pub as_value : {f g : FileScope} {a b c d : Bool} {u : List Mark} {x k : List ℕ} → d ≡ b → Adds f a d true u x k g → Adds f a b c u x [] g
@@ -109,6 +126,8 @@ as_value {f} {g} {a} {b} {c} {d} {u} {x} e p = record {
   records = p.records;
   mentions = p.mentions ∙ ap (λ d. map (λ m. m.at) f.mentions ++ unless d x) e;
   objects = (p.objects.0, p.objects.1, p.objects.2 ∙ sym (unless_nothing c));
+  declared = p.declared;
+  consistent = p.consistent;
 }
 
 pub as_inside : {f g : FileScope} {a d b c : Bool} {u : List Mark} {x k : List ℕ} → a ≡ true → Adds f a b c u x k g → Adds f d b c [] x k g
@@ -121,6 +140,8 @@ as_inside {f} {g} {a} {d} {b} {c} {u} e p = record {
       ∙ ap (λ z. map (λ r. r.tag) f.records ++ z) (sym (unless_nothing d));
   mentions = p.mentions;
   objects = p.objects;
+  declared = p.declared;
+  consistent = p.consistent;
 }
 
 pub value_measures : (p : Purpose) → is_measured (purpose_of_value p) ≡ is_measured p
@@ -177,7 +198,16 @@ mention_by : (b d : Bool) → b ≡ d → (f g h : FileScope) (a c : Bool) (u v 
     (cond d h (record h { mentions = take (length g.mentions) h.mentions ++ m ∷ drop (length g.mentions) h.mentions }))
 mention_by true true e f g h a c u v x y k l m p q =
     let r = adds_then p q in
-    record { untagged = r.untagged; functions = r.functions; names = r.names; records = r.records; mentions = r.mentions; objects = r.objects }
+    record {
+      untagged = r.untagged;
+      functions = r.functions;
+      names = r.names;
+      records = r.records;
+      mentions = r.mentions;
+      objects = r.objects;
+      declared = r.declared;
+      consistent = r.consistent;
+    }
 mention_by false false e f g h a c u v x y k l m p q =
     let r = adds_then p q in
     record {
@@ -188,6 +218,8 @@ mention_by false false e f g h a c u v x y k l m p q =
       mentions = put_there (λ m. m.at) g.mentions h.mentions m y q.mentions ∙ ap (λ z. z ++ m.at ∷ y) p.mentions
           ∙ append_assoc (map (λ m. m.at) f.mentions) x (m.at ∷ y);
       objects = r.objects;
+      declared = r.declared;
+      consistent = r.consistent;
     }
 mention_by true false e f g h a c u v x y k l m p q = cc
 mention_by false true e f g h a c u v x y k l m p q = cc
@@ -214,7 +246,16 @@ mention_behind s {f} {g} {a} {c} {u} {k} kind t at p =
 pub object_adds : (f : FileScope) (o : AnObject) (a b : Bool) → Adds f a b false [] [] (o.first ∷ []) (with_object f o)
 object_adds f o a b =
     let n = adds_nothing f a b false in
-    record { untagged = refl; functions = refl; names = n.names; records = n.records; mentions = n.mentions; objects = (o ∷ [], refl, refl) }
+    record {
+      untagged = refl;
+      functions = refl;
+      names = n.names;
+      records = n.records;
+      mentions = n.mentions;
+      objects = (o ∷ [], refl, refl);
+      declared = n.declared;
+      consistent = n.consistent;
+    }
 
 pub record_adds : (f : FileScope) (r : Record) (tag : List ℕ) (right : ℕ) (a b c : Bool) → a ≡ false → r.tag ≡ tag
     → Adds f a b c (an_end tag right ∷ []) [] [] (with_record f r)
@@ -228,11 +269,15 @@ record_adds f r tag right false b c i e =
       records = map-append (λ r. r.tag) f.records (r ∷ []) ∙ ap (λ t. map (λ r. r.tag) f.records ++ t ∷ []) e;
       mentions = n.mentions;
       objects = n.objects;
+      declared = n.declared;
+      consistent = n.consistent;
     }
 
-pub bound_adds : (f : FileScope) (x : Bound) (a b c : Bool) → a ≡ false → Adds f a b c (a_name x.from ∷ []) [] [] (with_bound f x)
-bound_adds f x true b c i = cc
-bound_adds f x false b c i =
+-- an enumerator whose name is new
+pub bound_adds : (f : FileScope) (x : Bound) (a b c : Bool) → a ≡ false → IsAnEnumerator x → (AreConsistent f.names → AreConsistent (f.names ++ x ∷ []))
+    → Adds f a b c (a_name x.from ∷ []) [] [] (with_bound f x)
+bound_adds f x true b c i is new = cc
+bound_adds f x false b c i is new =
     let n = adds_nothing f false b c in
     record {
       untagged = refl;
@@ -241,11 +286,26 @@ bound_adds f x false b c i =
       records = n.records;
       mentions = n.mentions;
       objects = n.objects;
+      declared = λ k b e. one_more k b (last_or f.names x k b e);
+      consistent = new;
     }
+  where
+    one_more : (k : ℕ) (b : Bound) → (slice_get f.names k ≡ Some b) ⊎ ((k ≡ length f.names) × (x ≡ b)) → (slice_get f.names k ≡ Some b) ⊎ IsAnEnumerator b
+    one_more k b (inl e) = inl e
+    one_more k b (inr e) = inr (subst IsAnEnumerator e.1 is)
 
 -- a mark that says nothing of names or ends
 pub tag_adds : {f g : FileScope} {a b c : Bool} {t : Tag} {u : List Mark} {x k : List ℕ} → Adds f a b c u x k g → Adds f a b c (a_tag t ∷ u) x k g
-tag_adds p = record { untagged = p.untagged; functions = p.functions; names = p.names; records = p.records; mentions = p.mentions; objects = p.objects }
+tag_adds p = record {
+  untagged = p.untagged;
+  functions = p.functions;
+  names = p.names;
+  records = p.records;
+  mentions = p.mentions;
+  objects = p.objects;
+  declared = p.declared;
+  consistent = p.consistent;
+}
 
 -- ---- the file beside an answer
 

@@ -10,7 +10,8 @@ use Rattle.c_erasure.specs.Marks.{marks_of_specifier}
 use Rattle.c_erasure.specs.Scopes.{FileScope, Scope, Tag, at_file_scope}
 use Rattle.c_checking.specs.Declaring.{number_among, derived, object_at}
 use Rattle.c_checking.specs.Finding.{one_of, specified, members, member_declarators, derivations}
-use Rattle.c_checking_laws.proofs.FaultResults.{Broken}
+use Rattle.c_checking_laws.proofs.FaultAdditions.{of_specifier}
+use Rattle.c_checking_laws.proofs.FaultResults.{Up, Broken}
 use Rattle.c_checking_laws.proofs.FaultPremises.{Prepared}
 use Rattle.c_checking_laws.proofs.Faults.{faults_specifier}
 
@@ -87,8 +88,8 @@ ready = record {
     numbered t p = subst (λ (t : Tag). number_among (codes "s" ∷ []) t.name ≡ Some 0) p refl
 
 -- a member of no type of objects
-is_broken : Broken (λ at. ⊥) scope (λ s. IsBrokenSpecifier tree s (ill_typed R.Incomplete 20))
+is_broken : Broken (Up scope (of_specifier untagged tree)) scope (λ s. IsBrokenSpecifier tree s (ill_typed R.Incomplete 20))
 is_broken =
-    faults_specifier untagged (22 ∷ []) (λ at. ⊥) tree scope 0 (((tt, tt), (tt, tt), ((tt, tt), (tt, tt), tt))) ready (omega arith)
-    ((tt, (tt, omega arith, (word (codes "a") 13 14, refl), tt), (tt, (tt, omega arith, (word (codes "b") 20 21, refl), tt), tt))) refl
+    faults_specifier untagged (22 ∷ []) (Up scope (of_specifier untagged tree)) tree scope 0 (((tt, tt), (tt, tt), ((tt, tt), (tt, tt), tt))) ready (omega arith)
+    ((tt, (tt, omega arith, (word (codes "a") 13 14, refl), tt), (tt, (tt, omega arith, (word (codes "b") 20 21, refl), tt), tt))) (λ g w. w) refl
     (ill_typed R.Incomplete 20) refused

@@ -56,7 +56,7 @@ literal_stops s at bytes f h = by_purpose s.purpose h
 pub value_is : (a : Trees.Expression) (s : Scope) (x : Expression) → Values.IsValue (Erases a s) s x → Broken.IsValue a s x
 value_is a s x v = (v.0, v.1, unconverted_same x v.2)
 
-module _ (untagged : ℕ → List ℕ) (May : ℕ → Type 0) where
+module _ (untagged : ℕ → List ℕ) (May : FileScope → Type 0) where
   -- what is known of finding a part
   pub record Read (s : Scope) (a : Trees.Expression) (r : Checked Thing) : Type 0 where
     pub steady : IsSteady s.file

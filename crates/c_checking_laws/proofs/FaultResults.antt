@@ -1,15 +1,17 @@
 -- What a fault says of the steps before it, and where a rule is broken.
-use Rattle.std.proofs.Common.{◌≡◌, ℕ, zero, suc, ◌+◌, Bool, true, false, refl, sym, ap, ◌∙◌, subst, cond, List, [], ◌∷◌, ◌++◌, length, inl, inr, arith}
-use Rattle.std.specs.Prelude.{Option, Some, None, Ok, Err, ◌⊎◌, map, slice_get}
+use Rattle.std.proofs.Common.{◌≡◌, ℕ, ◌+◌, Bool, true, false, refl, sym, ap, ◌∙◌, subst, cond, List, [], ◌∷◌, ◌++◌, length, append-nil, inl, inr, arith}
+use Rattle.std.specs.Prelude.{Option, Some, None, Ok, Err, ◌⊎◌}
 use Rattle.lay_base.specs.declared.faults.Rule.{Rule}
 use Rattle.c_erasure.specs.Broken.{Fault, ill_typed}
-use Rattle.c_erasure.specs.Marks.{Mark}
-use Rattle.c_erasure.specs.Scopes.{AnObject, FileScope, Scope, Purpose, purpose_of_value}
+use Rattle.c_erasure.specs.Marks.{Mark, a_tag}
+use Rattle.c_erasure.specs.Scopes.{Tag, FileScope, Scope, inside, measured, for_value, is_measured}
 use Rattle.c_checking.specs.Answers.{Answer, ◌>>=◌, refused, with_file, moved}
 use Rattle.c_checking.specs.Nodes.{or_else}
-use Rattle.c_checking_laws.proofs.Extends.{Extends, itself, further, one_of_both}
+use Rattle.c_checking_laws.proofs.Extends.{Extends, itself, further}
 use Rattle.c_checking_laws.proofs.Agreement.{added, Grew}
-use Rattle.c_checking_laws.proofs.Adding.{unless, Grows, makes_none, value_makes_none}
+use Rattle.c_checking_laws.proofs.Adding.{Grows, makes_none, value_measures, value_makes_none}
+use Rattle.c_checking_laws.proofs.Within.{Additions, both, Within, within_nothing, within_all, within_left, within_then, within_tag, within_said}
+use Rattle.c_checking_laws.proofs.Within.{within_measured, within_value, within_inside, ArePicked, picked_same}
 
 abbrev pub bad : (A : Type 0) → Fault → Answer A
 bad A f = Err f
@@ -52,105 +54,137 @@ option_err None k r f P h p q = q refl h
 
 -- ---- a file that goes on from the one of the scope, in which something is so
 
--- at these bytes objects may begin; each is there already, or begins at one of them
-abbrev pub AllMay : (May : ℕ → Type 0) → List ℕ → Type 0
-AllMay May [] = Unit {0}
-AllMay May (at ∷ more) = May at × AllMay May more
+-- a file to which a first part of these additions is added, as a scope adds them
+abbrev pub Up : Scope → Additions → FileScope → Type 0
+Up s all g = Within s.file s.is_inside (is_measured s.purpose) (makes_none s.purpose) all g
 
--- what a part makes an object of in a scope for that purpose
-abbrev pub Makes : (May : ℕ → Type 0) → Purpose → List ℕ → Type 0
-Makes May p made = makes_none p ≡ false → AllMay May made
+-- each such file is one of those in which reading may stop
+abbrev pub Allows : (May : FileScope → Type 0) → Scope → Additions → Type 0
+Allows May s all = (g : FileScope) → Up s all g → May g
 
-all_left : (May : ℕ → Type 0) (u v : List ℕ) → AllMay May (u ++ v) → AllMay May u
-all_left May [] v h = tt
-all_left May (at ∷ u) v h = (h.0, all_left May u v h.1)
+pub allows_left : (May : FileScope → Type 0) (s : Scope) (p q : Additions) → Allows May s (both p q) → Allows May s p
+allows_left May s p q m = λ g w. m g (within_left p q w)
 
-all_right : (May : ℕ → Type 0) (u v : List ℕ) → AllMay May (u ++ v) → AllMay May v
-all_right May [] v h = h
-all_right May (at ∷ u) v h = all_right May u v h.1
+-- what is read behind a part
+pub allows_right : (May : FileScope → Type 0) (s : Scope) {u : List Mark} {x made : List ℕ} {f : FileScope} (q : Additions) → Grows s u x made f
+    → Allows May s (both (record { marks = u; said = x; made = made }) q) → Allows May (moved s f) q
+allows_right May s {u} {x} {made} {f} q p m = λ g w. m g (within_then made q p (picked_same made) w)
 
-pub makes_left : (May : ℕ → Type 0) (p : Purpose) (u v : List ℕ) → Makes May p (u ++ v) → Makes May p u
-makes_left May p u v m = λ e. all_left May u v (m e)
+pub allows_tag : (May : FileScope → Type 0) (s : Scope) (t : Tag) (p : Additions)
+    → Allows May s (record { marks = a_tag t ∷ p.marks; said = p.said; made = p.made }) → Allows May s p
+allows_tag May s t p m = λ g w. m g (within_tag t p w)
 
-pub makes_right : (May : ℕ → Type 0) (p : Purpose) (u v : List ℕ) → Makes May p (u ++ v) → Makes May p v
-makes_right May p u v m = λ e. all_right May u v (m e)
+pub allows_said : (May : FileScope → Type 0) (s : Scope) (at : ℕ) (p : Additions)
+    → Allows May s (record { marks = p.marks; said = at ∷ p.said; made = p.made }) → Allows May s p
+allows_said May s at p m = λ g w. m g (within_said at p w)
 
--- what is not evaluated makes none
-pub value_makes : (May : ℕ → Type 0) (p : Purpose) (made : List ℕ) → Makes May (purpose_of_value p) made
-value_makes May p made = λ e. let true_is_false : true ≡ false = sym (value_makes_none p) ∙ e in cc
+-- marks behind those of a type
+pub allows_marks : (May : FileScope → Type 0) (s : Scope) (u v : List Mark) (x : List ℕ)
+    → Allows May s (record { marks = u ++ v; said = x; made = [] }) → Allows May s (record { marks = u; said = x; made = [] })
+allows_marks May s u v x m =
+    allows_left May s (record { marks = u; said = x; made = [] }) (record { marks = v; said = []; made = [] })
+    (subst (λ x. Allows May s (record { marks = u ++ v; said = x; made = [] })) (sym (append-nil x)) m)
 
--- a file that goes on from another one: inside of functions it has no more structures, and what objects are new begin where they may
-pub record Reaches (May : ℕ → Type 0) (f : FileScope) (is_inside : Bool) (g : FileScope) : Type 0 where
+pub allows_measured : (May : FileScope → Type 0) (s : Scope) (u : List Mark) (x k y l : List ℕ)
+    → Allows May s (record { marks = u; said = y; made = l }) → Allows May (measured s) (record { marks = u; said = x; made = k })
+allows_measured May s u x k y l m = λ g w. m g (within_measured y l w)
+
+-- what is not evaluated makes no objects
+pub allows_value : (May : FileScope → Type 0) (s : Scope) (u : List Mark) (x k l : List ℕ)
+    → Allows May s (record { marks = u; said = x; made = l }) → Allows May (for_value s) (record { marks = u; said = x; made = k })
+allows_value May s u x k l m =
+    λ g w. m g (within_value l (value_measures s.purpose)
+    (subst (λ c. Within s.file s.is_inside (is_measured (for_value s).purpose) c (record { marks = u; said = x; made = k }) g) (value_makes_none s.purpose) w))
+
+-- inside of functions and parameter lists no names and structures are added
+pub allows_inside : (May : FileScope → Type 0) (s : Scope) (u v : List Mark) (x k : List ℕ)
+    → Allows May s (record { marks = v; said = x; made = k }) → Allows May (inside s) (record { marks = u; said = x; made = k })
+allows_inside May s u v x k m = λ g w. m g (within_inside v refl w)
+
+pub allows_there : (May : FileScope → Type 0) (s : Scope) → s.is_inside ≡ true → (u v : List Mark) (x k : List ℕ)
+    → Allows May s (record { marks = v; said = x; made = k }) → Allows May s (record { marks = u; said = x; made = k })
+allows_there May s i u v x k m = λ g w. m g (within_inside v i w)
+
+-- a file that goes on from another one, in which reading may stop: inside of functions it has no more structures
+pub record Reaches (May : FileScope → Type 0) (f : FileScope) (is_inside : Bool) (g : FileScope) : Type 0 where
   pub extends : Extends f g
   pub counted : is_inside ≡ true → length g.records ≡ length f.records
-  pub begins : (n : ℕ) (o : AnObject) → slice_get g.objects n ≡ Some o → (slice_get f.objects n ≡ Some o) ⊎ May o.first
+  pub allowed : (g ≡ f) ⊎ May g
 
-pub reaches_itself : (May : ℕ → Type 0) (f : FileScope) (i : Bool) → Reaches May f i f
-reaches_itself May f i = record { extends = itself f; counted = λ e. refl; begins = λ n o h. inl h }
+pub reaches_itself : (May : FileScope → Type 0) (f : FileScope) (i : Bool) → Reaches May f i f
+reaches_itself May f i = record { extends = itself f; counted = λ e. refl; allowed = inl refl }
 
-pub reaches_then : {May : ℕ → Type 0} {f g h : FileScope} {i : Bool} → Reaches May f i g → Reaches May g i h → Reaches May f i h
+pub reaches_then : {May : FileScope → Type 0} {f g h : FileScope} {i : Bool} → Reaches May f i g → Reaches May g i h → Reaches May f i h
 reaches_then {May} {f} {g} {h} {i} p q = record {
   extends = further p.extends q.extends;
   counted = λ e. q.counted e ∙ p.counted e;
-  begins = λ n o j. by_part n o (q.begins n o j);
+  allowed = by_part p.allowed q.allowed;
 }
   where
-    by_part : (n : ℕ) (o : AnObject) → (slice_get g.objects n ≡ Some o) ⊎ May o.first → (slice_get f.objects n ≡ Some o) ⊎ May o.first
-    by_part n o (inl j) = p.begins n o j
-    by_part n o (inr m) = inr m
+    by_part : (g ≡ f) ⊎ May g → (h ≡ g) ⊎ May h → (h ≡ f) ⊎ May h
+    by_part (inl d) (inl e) = inl (e ∙ d)
+    by_part (inr m) (inl e) = inr (subst May (sym e) m)
+    by_part p (inr m) = inr m
 
 -- inside of a parameter list more is asked
-pub reaches_outside : {May : ℕ → Type 0} {f g : FileScope} (i : Bool) → Reaches May f true g → Reaches May f i g
-reaches_outside i p = record { extends = p.extends; counted = λ e. p.counted refl; begins = p.begins }
+pub reaches_outside : {May : FileScope → Type 0} {f g : FileScope} (i : Bool) → Reaches May f true g → Reaches May f i g
+reaches_outside i p = record { extends = p.extends; counted = λ e. p.counted refl; allowed = p.allowed }
 
-new_may : (May : ℕ → Type 0) (c : Bool) (made : List ℕ) → (c ≡ false → AllMay May made) → (more : List AnObject)
-    → map (λ o. o.first) more ≡ unless c made → (j : ℕ) (o : AnObject) → slice_get more j ≡ Some o → May o.first
-new_may May true made m (x ∷ more) e j o h = cc
-new_may May c made m [] e j o h = cc
-new_may May false (at ∷ made) m (x ∷ more) e zero o h =
-    let same : x ≡ o = cc in
-    let first : x.first ≡ at = cc in
-    subst (λ (o : AnObject). May o.first) same (subst May (sym first) (m refl).0)
-new_may May false (at ∷ made) m (x ∷ more) e (suc j) o h =
-    let rest : map (λ o. o.first) more ≡ made = cc in
-    new_may May false made (λ e. (m refl).1) more rest j o h
-new_may May false [] m (x ∷ more) e j o h = cc
-
--- where a part of the text is read that makes objects there alone
-pub reached : (May : ℕ → Type 0) (s : Scope) {u v : List Mark} {x made : List ℕ} {g : FileScope} → Grew s u g → Grows s v x made g
-    → Makes May s.purpose made → Reaches May s.file s.is_inside g
-reached May s {u} {v} {x} {made} {g} p q m = record {
+-- where a part of the text is read, of whose literals some are made no objects
+pub reached_some : (May : FileScope → Type 0) (s : Scope) {u v : List Mark} {x made : List ℕ} {g : FileScope} (k : List ℕ) → Grew s u g
+    → Grows s v x made g → ArePicked made k → Allows May s (record { marks = v; said = x; made = k }) → Reaches May s.file s.is_inside g
+reached_some May s {u} {v} {x} {made} {g} k p q picked m = record {
   extends = p.extends;
   counted = λ i.
       let c : length g.records ≡ length s.file.records + added true u =
       subst (λ b. length g.records ≡ length s.file.records + added b u) i p.counted in
       omega (arith, c);
-  begins = λ n o h. by_part n o (one_of_both s.file.objects q.objects.0 n o (subst (λ all. slice_get all n ≡ Some o) q.objects.1 h));
+  allowed = inr (m g (within_all k q picked));
 }
-  where
-    by_part : (n : ℕ) (o : AnObject)
-        → (slice_get s.file.objects n ≡ Some o) ⊎ ((j : ℕ) × (n ≡ length s.file.objects + j) × (slice_get q.objects.0 j ≡ Some o))
-        → (slice_get s.file.objects n ≡ Some o) ⊎ May o.first
-    by_part n o (inl h) = inl h
-    by_part n o (inr h) = inr (new_may May (makes_none s.purpose) made m q.objects.0 q.objects.2 h.0 o h.2)
 
-pub record Broken (May : ℕ → Type 0) (s : Scope) (Is : Scope → Type 0) : Type 0 where
+-- where all of them are
+pub reached : (May : FileScope → Type 0) (s : Scope) {u v : List Mark} {x made : List ℕ} {g : FileScope} → Grew s u g → Grows s v x made g
+    → Allows May s (record { marks = v; said = x; made = made }) → Reaches May s.file s.is_inside g
+reached May s {made = made} p q m = reached_some May s made p q (picked_same made) m
+
+-- what the file has more than that of the scope
+pub within_reached : (s : Scope) (all : Additions) {g : FileScope} → Reaches (Up s all) s.file s.is_inside g → Up s all g
+within_reached s all {g} p = by_part p.allowed
+  where
+    by_part : (g ≡ s.file) ⊎ Up s all g → Up s all g
+    by_part (inl e) = subst (Up s all) (sym e) (within_nothing s.file s.is_inside (is_measured s.purpose) (makes_none s.purpose) all)
+    by_part (inr w) = w
+
+-- and where reading goes on to from there
+pub reached_later : (s : Scope) {u v : List Mark} {x made : List ℕ} {f g : FileScope} (k : List ℕ) (q : Additions) → Grew s u f → Grows s v x made f
+    → ArePicked made k → Reaches (Up (moved s f) q) f s.is_inside g
+    → Reaches (Up s (both (record { marks = v; said = x; made = k }) q)) s.file s.is_inside g
+reached_later s {v = v} {x = x} {f = f} {g = g} k q p grows picked r =
+    let all = both (record { marks = v; said = x; made = k }) q in
+    let first = reached_some (Up s (record { marks = v; said = x; made = k })) s k p grows picked (λ g w. w) in
+    record {
+      extends = further p.extends r.extends;
+      counted = λ e. r.counted e ∙ first.counted e;
+      allowed = inr (within_then k q grows picked (within_reached (moved s f) q r));
+    }
+
+pub record Broken (May : FileScope → Type 0) (s : Scope) (Is : Scope → Type 0) : Type 0 where
   pub file : FileScope
   pub reaches : Reaches May s.file s.is_inside file
   pub is : Is (moved s file)
 
-pub here : (May : ℕ → Type 0) (s : Scope) (Is : Scope → Type 0) → Is s → Broken May s Is
+pub here : (May : FileScope → Type 0) (s : Scope) (Is : Scope → Type 0) → Is s → Broken May s Is
 here May s Is h = record { file = s.file; reaches = reaches_itself May s.file s.is_inside; is = h }
 
-pub there : (May : ℕ → Type 0) (s : Scope) (Is : Scope → Type 0) (g : FileScope) → Reaches May s.file s.is_inside g → Is (moved s g) → Broken May s Is
+pub there : (May : FileScope → Type 0) (s : Scope) (Is : Scope → Type 0) (g : FileScope) → Reaches May s.file s.is_inside g → Is (moved s g) → Broken May s Is
 there May s Is g p h = record { file = g; reaches = p; is = h }
 
 -- of a part, and so of the whole
-pub whole : (May : ℕ → Type 0) (s : Scope) (Is Js : Scope → Type 0) → Broken May s Is
+pub whole : (May : FileScope → Type 0) (s : Scope) (Is Js : Scope → Type 0) → Broken May s Is
     → ((g : FileScope) → Extends s.file g → Is (moved s g) → Js (moved s g)) → Broken May s Js
 whole May s Is Js b f = record { file = b.file; reaches = b.reaches; is = f b.file b.reaches.extends b.is }
 
 -- of a part that is read after another
-pub later : (May : ℕ → Type 0) (s : Scope) (f : FileScope) → Reaches May s.file s.is_inside f → (Is Js : Scope → Type 0) → Broken May (moved s f) Is
+pub later : (May : FileScope → Type 0) (s : Scope) (f : FileScope) → Reaches May s.file s.is_inside f → (Is Js : Scope → Type 0) → Broken May (moved s f) Is
     → ((g : FileScope) → Extends f g → Is (moved s g) → Js (moved s g)) → Broken May s Js
 later May s f p Is Js b k = record { file = b.file; reaches = reaches_then p b.reaches; is = k b.file b.reaches.extends b.is }

@@ -41,13 +41,13 @@ within_broken (Trees.function d left all right) s t f (inl h) = inr (inr (inr h)
 within_broken (Trees.function d left all right) s t f (inr h) = inl h
 
 -- the specifiers of a declaration
-pub base_stops : (May : ℕ → Type 0) (s : Scope) (specs : Trees.Specifiers) (at : ℕ) (one : Checked CType) (f : Fault)
+pub base_stops : (May : FileScope → Type 0) (s : Scope) (specs : Trees.Specifiers) (at : ℕ) (one : Checked CType) (f : Fault)
     → ((x : Trees.Specifier) → types_among specs ≡ x ∷ [] → one ≡ Err f → Broken May s (λ s. AreBroken specs s f))
     → base_type (base_kind specs) at s.file one ≡ Err f → (P : Type 0) → ((f ≡ ill_typed R.Specifiers at) × AreNoType specs → P)
     → (Broken May s (λ s. AreBroken specs s f) → P) → P
 base_stops May s specs at one f names h P p q = base_fault specs at s.file one f P h p (λ x e k. q (names x e k))
 
-module _ (untagged : ℕ → List ℕ) (ends : List ℕ) (May : ℕ → Type 0) where
+module _ (untagged : ℕ → List ℕ) (ends : List ℕ) (May : FileScope → Type 0) where
   -- the type that a declarator makes stops, or leaves a length out
   pub shape_stops : (s : Scope) (d : Trees.Declarator) (steps : List Derivation × FileScope) → FoundSteps untagged s d steps → ReadSteps untagged ends s d steps
       → (at : ℕ) (base : CType) (f : Fault) → type_of_derived at steps.1 steps.0 base ≡ Err f

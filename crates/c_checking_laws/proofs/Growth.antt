@@ -37,6 +37,7 @@ use Rattle.c_checking.specs.Finding.{find, arguments, type_name, one_of, specifi
 use Rattle.c_checking.specs.Finding.{derivations, array_step}
 use Rattle.c_checking.specs.Finding.{parameter_list, parameters}
 use Rattle.c_checking_laws.proofs.Results.{bound_ok, bound_with, chosen}
+use Rattle.c_checking_laws.proofs.Consistent.{enumerator_consistent}
 use Rattle.c_checking_laws.proofs.Declared.{no_storage_is, parameter_storage_is, unless_ok, completed_is, enumerator_is}
 use Rattle.c_checking_laws.proofs.Derived.{IsBaseOf, base_is, words_mark_nothing}
 use Rattle.c_checking_laws.proofs.FoundTypes.{bound_of}
@@ -59,11 +60,29 @@ literal_by value_alone s e from bytes z h =
     file_of (λ f. Adds s.file s.is_inside false true [] [] (from ∷ []) f) _ z h (as_kept n)
   where
     as_kept : Adds s.file s.is_inside false true [] [] [] s.file → Adds s.file s.is_inside false true [] [] (from ∷ []) s.file
-    as_kept n = record { untagged = n.untagged; functions = n.functions; names = n.names; records = n.records; mentions = n.mentions; objects = n.objects }
+    as_kept n = record {
+      untagged = n.untagged;
+      functions = n.functions;
+      names = n.names;
+      records = n.records;
+      mentions = n.mentions;
+      objects = n.objects;
+      declared = n.declared;
+      consistent = n.consistent;
+    }
 literal_by type_alone s e from bytes z h =
     let n = adds_nothing s.file s.is_inside true true in
     file_of (λ f. Adds s.file s.is_inside true true [] [] (from ∷ []) f) _ z h
-    (record { untagged = n.untagged; functions = n.functions; names = n.names; records = n.records; mentions = n.mentions; objects = n.objects })
+    (record {
+      untagged = n.untagged;
+      functions = n.functions;
+      names = n.names;
+      records = n.records;
+      mentions = n.mentions;
+      objects = n.objects;
+      declared = n.declared;
+      consistent = n.consistent;
+    })
 
 literal_grows : (s : Scope) (from : ℕ) (bytes : List ℕ) (z : Thing × FileScope) → literal_in s (place_in s from) bytes ≡ Ok z
     → Grows s [] [] (from ∷ []) z.1
@@ -398,7 +417,7 @@ module _ (untagged : ℕ → List ℕ) where
         let b = bound_of untagged x more after v.0.0 in
         let f = bound_ok (enumerator_in v.0.1 b) _ z v.2 in
         let n = subst (Grows (moved s v.0.1) (a_name (comma_or more after) ∷ []) [] []) (enumerator_is v.0.1 b f.0 f.1)
-        (bound_adds v.0.1 b s.is_inside (is_measured s.purpose) (makes_none s.purpose) i) in
+        (bound_adds v.0.1 b s.is_inside (is_measured s.purpose) (makes_none s.purpose) i (v.0.0, refl) (enumerator_consistent v.0.1 b f.0 f.1)) in
         adds_then w (adds_then n (grow_enumerators more (moved s f.0) ((v.0.0 + 1) % 2 ^ 32) after i (n.untagged ∙ w.untagged ∙ e) z f.2))
 
     pub grow_value : (value : Trees.EnumeratorValue) (s : Scope) (at next : ℕ) → s.file.untagged ≡ untagged → (z : ℕ × FileScope)

@@ -15,7 +15,9 @@ pub mod Found
 pub mod FoundTypes
 pub mod FoundDeclarators
 pub mod Sound
+pub mod Consistent
 pub mod Adding
+pub mod Within
 pub mod Growth
 pub mod CompleteValues
 pub mod CompleteNodes
@@ -31,10 +33,12 @@ pub mod CompleteStructures
 pub mod CompleteTrees
 pub mod CompleteAlone
 pub mod FaultResults
+pub mod FaultAdditions
 pub mod FaultNodes
 pub mod FaultDeclaring
 pub mod FaultPremises
 pub mod FaultSteps
+pub mod FaultRules
 pub mod FaultParts
 pub mod FaultTypes
 pub mod Faults

@@ -4,4 +4,5 @@ pub mod ItemsInTime
 pub mod UnreadFiles
 pub mod BehindItems
 pub mod FilesSoFar
+pub mod FilesOfFaults
 pub mod TextStops

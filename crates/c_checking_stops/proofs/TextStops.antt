@@ -1,5 +1,5 @@
 -- Where the checker stops in the tree of a text, the items before the one at which it stops are declared, and a rule is broken there.
-use Rattle.std.proofs.Common.{◌≡◌, ℕ, false, sym, ap, ◌∙◌, subst, List, [], ◌∷◌, ◌++◌}
+use Rattle.std.proofs.Common.{◌≡◌, ℕ, sym, ap, ◌∙◌, subst, List, [], ◌∷◌, ◌++◌}
 use Rattle.std.proofs.Common.{append_assoc}
 use Rattle.std.specs.Prelude.{All, Err}
 use Rattle.c_lexer.specs.TokenPlaces.{TokensHavePlaces}
@@ -7,8 +7,7 @@ use Rattle.c_ast.specs.Trees
 use Rattle.c_ast.specs.Laws.{TreesBeginFirst}
 use Rattle.c_ast.specs.TreesOfFiles.{IsTreeOf}
 use Rattle.c_erasure.specs.Broken.{Fault}
-use Rattle.c_erasure.specs.BrokenFiles.{IsFileUpTo}
-use Rattle.c_erasure.specs.BrokenStatements.{IsAmong}
+use Rattle.c_erasure.specs.BrokenFiles.{IsFileUpTo, IsFaultOf}
 use Rattle.c_erasure.specs.Files.{nodes_at, AreAscending, ErasesItem}
 use Rattle.c_erasure.specs.Literals.{made_by_file}
 use Rattle.c_erasure.specs.Marks.{Mark, ends_in, marks_of_item, marks_of_file}
@@ -16,14 +15,18 @@ use Rattle.c_erasure.specs.MentionPlaces.{mentions_of_item, mentions_of_file}
 use Rattle.c_erasure.specs.Scopes.{FileScope}
 use Rattle.c_order.proofs.Ordered.{tree_ordered, marks_are_in_order}
 use Rattle.c_checking.specs.Files.{unread, annotated}
-use Rattle.c_checking_laws.proofs.FaultResults.{Reaches}
+use Rattle.c_checking_laws.proofs.Within.{Additions}
+use Rattle.c_checking_files.proofs.Layouts.{IsLaid}
 use Rattle.c_text_order.specs.TextOrder.{IsUnwritten, TextsAreInOrder, places_of_item}
 use Rattle.c_checking_items.proofs.Items.{places_in}
 use Rattle.c_checking_items.proofs.SoundFiles.{AreFitItems, start_may, nothing_known}
 use Rattle.c_checking_items.proofs.Stepping.{Stepped, stepped_then}
 use Rattle.c_checking_items.proofs.TextFits.{text_is_fit}
+use Rattle.c_checking_faults.proofs.UpTo.{of_file, up_to_first}
+use Rattle.c_checking_file_faults.proofs.Behind.{GoesUpTo}
 use Rattle.c_checking_file_faults.proofs.ItemStops.{IsStoppedItem, ItemStops, item_stops, StopsAtItem, annotated_stops}
 use Rattle.c_checking_stops.proofs.BehindItems.{MayStopFile, item_may, IsBehind, behind_items}
+use Rattle.c_checking_stops.proofs.FilesOfFaults.{declared_there, file_there, is_broken_item}
 use Rattle.c_checking_stops.proofs.FilesSoFar.{marks_append, places_append, mentions_append, declared_so_far, file_up_to}
 use Rattle.c_checking_stops.proofs.ItemsInTime.{AreAllTimely, text_timely}
 use Rattle.c_checking_stops.proofs.UnreadFiles.{unread_prepared}
@@ -41,12 +44,14 @@ pub record StopsInText (items : List Trees.Item) (fault : Fault) : Type 0 where
   pub known : FileScope
   pub known_is : IsFileUpTo before items known
   pub file : FileScope
-  -- the places of what is declared of the item, and of what is not
+  -- the places of what is declared of the item, and what is left of it
   pub places : List ℕ
-  pub later : List ℕ
-  pub places_are : places ++ later ≡ places_of_item item
-  pub reaches : Reaches (IsAmong later) known false file
+  pub left : Additions
+  pub places_are : places ++ left.made ≡ places_of_item item
+  pub reaches : GoesUpTo left known file
   pub broken : IsStoppedItem known file item fault
+  -- what is read is declared in that file too, where its records are laid out: it is the file of the fault
+  pub fault_of : IsLaid file → IsFaultOf items fault
 
 module _ (file : ℕ) (untagged : ℕ → List ℕ) (items : List Trees.Item) (fit : AreFitItems untagged items)
     (ends_ascend : AreAscending (ends_in (marks_of_file untagged items)))
@@ -108,6 +113,10 @@ module _ (file : ℕ) (untagged : ℕ → List ℕ) (items : List Trees.Item) (f
       part_read (places_in b.before) s.places s.later (places_in b.after) (places_of_item b.item) s.places_are
       ∙ sym (ap places_in b.whole ∙ places_append b.before rest) in
       let so_far = stepped_then (nodes_at items) {C = Holds b.before b.item s.file fault} start b.known s.middle read s.step (λ i c e a q. (a, q)) in
+      let reach : GoesUpTo (record { marks = v; said = y; made = l }) s.middle s.file = record {
+        continues = s.reaches.continues;
+        up_to = up_to_first (record { marks = s.marks_later; said = s.said_later; made = s.later }) (of_file untagged b.after) s.reaches.up_to;
+      } in
       let here = declared_so_far file untagged items fit u v x y k l made (Holds b.before b.item s.file fault) s.middle so_far marks_are places_are in
       record {
         before = b.before;
@@ -119,10 +128,23 @@ module _ (file : ℕ) (untagged : ℕ → List ℕ) (items : List Trees.Item) (f
             said_are b.before here.0;
         file = s.file;
         places = s.places;
-        later = s.later;
+        left = record { marks = s.marks_later; said = s.said_later; made = s.later };
         places_are = s.places_are;
         reaches = s.reaches;
         broken = here.1;
+        fault_of = λ laid.
+            let there = declared_there file untagged items fit u v x y k l made (Holds b.before b.item s.file fault) s.middle s.file so_far marks_are
+            said_are places_are reach laid in
+            record {
+              before = b.before;
+              item = b.item;
+              after = b.after;
+              whole = b.whole;
+              annotated = s.file;
+              known = file_there file untagged items fit u v x y k l made (Holds b.before b.item s.file fault) s.middle s.file so_far marks_are said_are
+                  places_are reach unwritten b.before there.0;
+              broken = is_broken_item s.file b.item fault there.1;
+            };
       }
 
   pub file_stops : ((at : ℕ) → IsUnwritten (untagged at)) → (fault : Fault) → annotated file untagged items ≡ Err fault → StopsInText items fault
