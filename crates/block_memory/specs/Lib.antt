@@ -1,8 +1,13 @@
 pub mod Accesses
 pub mod Blocks
+pub mod Digits
 pub mod Examples
 pub mod Held
 pub mod Lifetimes
+pub mod Places
 pub mod Pointers
 pub mod Ranges
+pub mod Rows
+pub mod Stores
 pub mod Tested
+pub mod View

@@ -3,10 +3,19 @@
 //! It stands on `lay_base`, which names what is undefined, and on `c_types`, which gives the widths of integers.
 #![tactic(auto)]
 
+mod accesses;
+mod arena;
 mod cell;
+mod holding;
 mod kinds;
+mod living;
+mod numbers;
+mod place;
 mod pointer;
+mod slot;
+mod store;
 
 pub use cell::Cell;
 pub use kinds::{Access, BlockKind};
 pub use pointer::Ptr;
+pub use store::Store;

@@ -1,0 +1,4 @@
+pub mod CellsHold
+pub mod Views
+pub mod Overs
+pub mod Reached

@@ -1,0 +1,105 @@
+//! Pointers in cells.
+
+ghost use Rattle.std.specs.Prelude.{◌≡◌, ◌==◌, ◌&&◌, [], ◌∷◌, Bool, false};
+ghost use Rattle.std.specs.List.{list_any};
+ghost use Rattle.block_memory.specs.Digits.{as_pointer, is_fragment};
+ghost use Rattle.block_memory.specs.Held.{held, is_empty, is_same, pointer_in, are_fragments};
+
+use crate::cell::Cell;
+use crate::numbers::in_four;
+use crate::pointer::Ptr;
+use lay_base::UndefinedKind;
+
+fn is_empty(cell: Cell) -> bool
+    ensures { result ≡ is_empty cell }
+{
+    match cell {
+        Cell::Empty => true,
+        Cell::Byte(_) => false,
+        Cell::Fragment(_, _, _) => false,
+    }
+}
+
+/// Whether two pointers are one.
+pub(crate) fn is_same(p: Ptr, q: Ptr) -> bool
+    ensures { result ≡ is_same p q }
+{
+    match p {
+        Ptr::Null => match q {
+            Ptr::Null => true,
+            Ptr::Block(_, _) => false,
+            Ptr::Function(_) => false,
+        },
+        Ptr::Block(b, at) => match q {
+            Ptr::Null => false,
+            Ptr::Block(c, other) => b == c && at == other,
+            Ptr::Function(_) => false,
+        },
+        Ptr::Function(f) => match q {
+            Ptr::Null => false,
+            Ptr::Block(_, _) => false,
+            Ptr::Function(g) => f == g,
+        },
+    }
+}
+
+/// Whether a cell is a pointer's k-th fragment.
+pub(crate) fn is_fragment(cell: Cell, type_number: u32, p: Ptr, k: u8) -> bool
+    ensures { result ≡ is_fragment type_number p k cell }
+{
+    match cell {
+        Cell::Empty => false,
+        Cell::Byte(_) => false,
+        Cell::Fragment(t, q, j) => t == type_number && is_same(q, p) && j == k,
+    }
+}
+
+/// Whether four cells are the fragments of a pointer, in their order.
+#[tactic(auto, using(crate::proofs::CellsHold::are_fragments_of))]
+fn are_fragments(a: Cell, b: Cell, c: Cell, d: Cell, type_number: u32, p: Ptr) -> bool
+    ensures { result ≡ are_fragments type_number p 0 (a ∷ b ∷ c ∷ d ∷ []) }
+{
+    let first = is_fragment(a, type_number, p, 0);
+    let second = is_fragment(b, type_number, p, 1);
+    let third = is_fragment(c, type_number, p, 2);
+    let fourth = is_fragment(d, type_number, p, 3);
+    first && (second && (third && fourth))
+}
+
+/// A number as a pointer: only zero is one.
+fn as_pointer(number: Result<u32, UndefinedKind>) -> Result<Ptr, UndefinedKind>
+    ensures { result ≡ as_pointer number }
+{
+    match number {
+        Ok(0) => Ok(Ptr::Null),
+        Ok(_) => Err(UndefinedKind::Pointer),
+        Err(kind) => Err(kind),
+    }
+}
+
+/// The pointer of a type that four cells hold.
+#[tactic(auto, using(crate::proofs::CellsHold::pointer_from_empty, crate::proofs::CellsHold::pointer_from_byte))]
+pub(crate) fn pointer_of(
+    a: Cell,
+    b: Cell,
+    c: Cell,
+    d: Cell,
+    type_number: u32,
+) -> Result<Ptr, UndefinedKind>
+    ensures { result ≡ held (a ∷ b ∷ c ∷ d ∷ []) (pointer_in type_number (a ∷ b ∷ c ∷ d ∷ [])) }
+{
+    match a {
+        Cell::Empty => as_pointer(in_four(a, b, c, d)),
+        Cell::Byte(_) => as_pointer(in_four(a, b, c, d)),
+        Cell::Fragment(_, p, _) => {
+            if is_empty(b) || is_empty(c) || is_empty(d) {
+                return Err(UndefinedKind::Empty);
+            }
+            if are_fragments(a, b, c, d, type_number, p) {
+                Ok(p)
+            } else {
+                Err(UndefinedKind::Pointer)
+            }
+        }
+    }
+}
