@@ -2,3 +2,4 @@ pub mod CellsHold
 pub mod Views
 pub mod Overs
 pub mod Reached
+pub mod Beginning

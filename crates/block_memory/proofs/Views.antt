@@ -25,12 +25,12 @@ use Rattle.block_memory.specs.Tested.{Tested, ◌>>=◌}
 pub block_is : (slots : List Slot) (rows : List Row) (b : ℕ) → block (memory_in slots rows) b ≡ block_in rows (slot_at slots b)
 block_is slots rows b = unwrap_or-slice_get (memory_in slots rows) b (block_in rows no_slot) ∙ get_or-map (block_in rows) slots b no_slot
 
-live_block : (slots : List Slot) (rows : List Row) (b : ℕ) → (slot_at slots b).live ≡ true
+pub live_block : (slots : List Slot) (rows : List Row) (b : ℕ) → (slot_at slots b).live ≡ true
     → block (memory_in slots rows) b ≡ record { kind = (slot_at slots b).kind; contents = living (cells_at rows (slot_at slots b).word) }
 live_block slots rows b lives =
     block_is slots rows b ∙ ap (λ l. record { kind = (slot_at slots b).kind; contents = contents_in rows l (slot_at slots b).word }) lives
 
-ended_block : (slots : List Slot) (rows : List Row) (b : ℕ) → (slot_at slots b).live ≡ false
+pub ended_block : (slots : List Slot) (rows : List Row) (b : ℕ) → (slot_at slots b).live ≡ false
     → block (memory_in slots rows) b ≡ record { kind = (slot_at slots b).kind; contents = ended (slot_at slots b).word }
 ended_block slots rows b ends =
     block_is slots rows b ∙ ap (λ l. record { kind = (slot_at slots b).kind; contents = contents_in rows l (slot_at slots b).word }) ends
@@ -112,7 +112,7 @@ set_in slots other rows new b known same rest =
       get_or-map (block_in new) other k no_slot ∙ rest k (omega (arith, length-map other (block_in new))) ne
       ∙ sym (get_or-set_other (memory_in slots rows) b k (block_in new (slot_at other b)) (block_in new no_slot) ne ∙ get_or-map (block_in rows) slots k no_slot)
 
-block_same : (rows new : List Row) (slot : Slot) → (slot.live ≡ true → row_at new slot.word ≡ row_at rows slot.word) → block_in new slot ≡ block_in rows slot
+pub block_same : (rows new : List Row) (slot : Slot) → (slot.live ≡ true → row_at new slot.word ≡ row_at rows slot.word) → block_in new slot ≡ block_in rows slot
 block_same rows new slot same = block_case slot.live refl where
   block_case : (l : Bool) → slot.live ≡ l → block_in new slot ≡ block_in rows slot
   block_case true e =
@@ -123,7 +123,7 @@ block_same rows new slot same = block_case slot.live refl where
       ∙ sym (ap (λ l. record { kind = slot.kind; contents = contents_in rows l slot.word }) e)
 
 -- the rows of two live blocks are two
-rows_apart : (slots : List Slot) (rows : List Row) (b k : ℕ) → IsSound slots rows → b < length slots → k < length slots → k ≢ b
+pub rows_apart : (slots : List Slot) (rows : List Row) (b k : ℕ) → IsSound slots rows → b < length slots → k < length slots → k ≢ b
     → (slot_at slots b).live ≡ true → (slot_at slots k).live ≡ true → (slot_at slots k).word ≢ (slot_at slots b).word
 rows_apart slots rows b k sound known also ne lives live e =
     ne (sym (sound.owned k also live) ∙ ap (λ w. (row_at rows w).owner) e ∙ sound.owned b known lives)

@@ -2,12 +2,14 @@
 use Rattle.std.specs.Prelude.{◌≡◌, ℕ, zero, suc, ◌+◌, ◌%◌, ◌==◌, ◌<◌, ◌≤◌, Bool, true, false, ◌&&◌, not, nat_le, if◌then◌else◌, List, [], ◌∷◌, length, map, slice_index_or, Result, Ok, Err, MatchResult}
 use Rattle.lay_base.specs.declared.faults.UndefinedKind.{UndefinedKind}
 use Rattle.lay_base.specs.declared.faults.UndefinedKind.TheVariants as K
+use Rattle.lay_base.specs.declared.no_memory.NoMemory.{NoMemory}
 use Rattle.block_memory.specs.declared.kinds.BlockKind.{BlockKind}
 use Rattle.block_memory.specs.declared.kinds.BlockKind.TheVariants.{Local}
 use Rattle.block_memory.specs.declared.pointer.Ptr.{Ptr}
 use Rattle.block_memory.specs.declared.slot.Slot.{Slot}
 use Rattle.block_memory.specs.Accesses.{is_text, place}
 use Rattle.block_memory.specs.Blocks.{Block, Contents, Memory, living, ended}
+use Rattle.block_memory.specs.Lifetimes.{with_block}
 use Rattle.block_memory.specs.Rows.{Row, nobody, row_at, cells_at}
 use Rattle.block_memory.specs.Tested.{Tested}
 
@@ -52,3 +54,7 @@ pub record IsPlace (slots : List Slot) (rows : List Row) (b row at count : ℕ) 
 -- what a call that changes memory does: its step, or, with the kind, nothing
 abbrev pub Does : Result (Unit {0}) UndefinedKind → (old new : Memory) → Tested Memory → Type 0
 Does result old new defined = MatchResult result (λ _. defined ≡ Ok new) (λ kind. (defined ≡ Err kind) × (new ≡ old))
+
+-- the number of the new block, or nothing has changed
+abbrev pub AllocGives : (old new : Memory) → (size : ℕ) → BlockKind → Result ℕ NoMemory → Type 0
+AllocGives old new size kind result = MatchResult result (λ b. (b ≡ length old) × (new ≡ with_block old size kind)) (λ refused. new ≡ old)

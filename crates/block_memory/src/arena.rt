@@ -1,10 +1,10 @@
 //! The rows in which the cells of live blocks lie.
 
-ghost use Rattle.std.specs.Prelude.{◌≡◌, ◌<◌, ◌≤◌, ◌+◌, [], length, slice_index_or, slice_set, MatchOption};
+ghost use Rattle.std.specs.Prelude.{◌≡◌, ◌<◌, ◌≤◌, ◌+◌, [], ◌∷◌, length, slice_index_or, slice_set, MatchOption};
 ghost use Rattle.c_types.specs.IntKinds.{width};
 ghost use Rattle.block_memory.specs.Digits.{number_at, pointer_at};
 ghost use Rattle.block_memory.specs.Held.{bytes_of, fragments_of};
-ghost use Rattle.block_memory.specs.Rows.{AddGives, cells_at, no_row, nobody, row_at, with_cells_at, with_range};
+ghost use Rattle.block_memory.specs.Rows.{AddGives, cells_at, no_row, nobody, row_at, with_range};
 ghost use Rattle.block_memory.specs.declared.cell.Cell.TheVariants.{Empty};
 
 use crate::cell::Cell;
@@ -114,9 +114,9 @@ impl Arena {
     pub(crate) fn put(&mut self, place: u32, at: u32, cell: Cell)
         requires row { place < length self.old }
         requires within { at < length (cells_at self.old place) }
-        ensures { self.new ≡ with_cells_at self.old place (slice_set (cells_at self.old place) at cell) }
+        ensures { self.new ≡ with_range self.old place at (cell ∷ []) }
     {
-        self.rows[place as usize].put(at as usize, cell);
+        self.rows[place as usize].put_one(at, cell);
     }
 
     /// The number of a type from an offset in a row on.

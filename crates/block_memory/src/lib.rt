@@ -8,10 +8,12 @@ mod arena;
 mod cell;
 mod holding;
 mod kinds;
+mod lifetimes;
 mod living;
 mod numbers;
 mod place;
 mod pointer;
+mod pointers;
 mod slot;
 mod store;
 

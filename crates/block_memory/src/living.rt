@@ -97,7 +97,7 @@ impl Living {
     }
 
     /// Puts a cell at an offset.
-    pub(crate) fn put(&mut self, at: usize, cell: Cell)
+    fn put(&mut self, at: usize, cell: Cell)
         requires { at < length self.old.cells }
         ensures { self.new ≡ record { owner = self.old.owner; cells = slice_set self.old.cells at cell } }
     {
@@ -140,7 +140,7 @@ impl Living {
 
     /// Puts one cell at an offset.
     #[tactic(auto, using(crate::proofs::Overs::one_over))]
-    fn put_one(&mut self, at: u32, a: Cell)
+    pub(crate) fn put_one(&mut self, at: u32, a: Cell)
         requires { at + 1 ≤ length self.old.cells }
         ensures { self.new ≡ record { owner = self.old.owner; cells = over self.old.cells at (a ∷ []) } }
     {

@@ -37,7 +37,7 @@ impl Store {
     }
 
     /// What is kept of a block.
-    fn slot(&self, block: u64) -> Slot
+    pub(crate) fn slot(&self, block: u64) -> Slot
         ensures { result ≡ slot_at self.now.slots.items block }
     {
         match self.slots.get(block as usize) {
