@@ -1,7 +1,7 @@
 -- What cells hold, by the cells one by one.
-use Rattle.std.proofs.Common.{◌≡◌, ℕ, zero, suc, ◌+◌, ◌*◌, ◌<◌, ◌≤◌, List, [], ◌∷◌, length, take, drop, get_or, Bool, true, false, Option, Some, None, Ok, Err, refl, sym, ap, ◌∙◌, arith, option_map}
+use Rattle.std.proofs.Common.{◌≡◌, ℕ, zero, suc, ◌+◌, ◌≤◌, List, [], ◌∷◌, length, take, drop, get_or, Bool, true, false, Option, Some, None, Ok, Err, refl, sym, ap, ◌∙◌, arith, option_map}
 use Rattle.std.specs.List.{list_any}
-use Rattle.std.specs.Prelude.{◌&&◌, ◌==◌}
+use Rattle.std.specs.Prelude.{◌&&◌}
 use Rattle.std.proofs.lemmas.List.{drop_more}
 use Rattle.lay_base.specs.declared.faults.UndefinedKind.TheVariants as K
 use Rattle.c_types.specs.declared.ty.IntKind.{IntKind}
@@ -10,8 +10,7 @@ use Rattle.c_types.specs.IntKinds.{width}
 use Rattle.block_memory.specs.declared.cell.Cell.{Cell}
 use Rattle.block_memory.specs.declared.cell.Cell.TheVariants.{Empty, Byte, Fragment}
 use Rattle.block_memory.specs.declared.pointer.Ptr.{Ptr}
-use Rattle.block_memory.specs.declared.pointer.Ptr.TheVariants as P
-use Rattle.block_memory.specs.Held.{are_fragments, held, is_empty, is_same, number_in, null_in, or_pointer, pointer_in, word_of}
+use Rattle.block_memory.specs.Held.{are_fragments, held, is_empty, number_in, null_in, or_pointer, pointer_in, word_of}
 use Rattle.block_memory.specs.Digits.{as_pointer, digit_before, is_fragment, number_at, pointer_at, valued}
 use Rattle.block_memory.specs.Tested.{Tested}
 
@@ -139,7 +138,7 @@ pub number_of_four : (all : List Cell) (at : ℕ) (kind : IntKind) (a b c d : Ce
 number_of_four all at kind a b c d v r w not_one not_two we le ea eb ec ed ev er =
     let four : width kind ≡ 4 = width_is_four kind (λ e. not_one (we ∙ e)) (λ e. not_two (we ∙ e)) in
     let same : v ≡ digit_before (get_or all at Empty) (digit_before (get_or all (at + 1) Empty) (digit_before (get_or all (at + 2) Empty) (digit_before (get_or all (at + 3) Empty) (Ok 0)))) =
-        rw (ev, ea, eb, ec, ed) refl in
+    rw (ev, ea, eb, ec, ed) refl in
     er ∙ ap (valued kind) same ∙ four_at all at kind four (omega arith)
 
 pub pointer_of_four : (all : List Cell) (at type : ℕ) (a b c d : Cell) (r : Tested Ptr) → at + 4 ≤ length all

@@ -1,5 +1,8 @@
 -- Accesses, by what is known of their place.
-use Rattle.std.proofs.Common.{◌≡◌, ℕ, ◌+◌, ◌<◌, ◌≤◌, List, take, drop, Bool, true, false, Ok, Err, refl, sym, ap, ◌∙◌, option_map}
+use Rattle.std.proofs.Common.{◌≡◌, ℕ, List, Bool, true, false, Ok, Err, refl, sym, ap, ◌∙◌, option_map, replicate, zero, suc, subst, Result}
+use Rattle.std.specs.Prelude.{◌&&◌, ◌||◌, not, ℤ}
+use Rattle.lay_base.specs.declared.faults.UndefinedKind.TheVariants as K
+use Rattle.block_memory.specs.declared.cell.Cell.TheVariants.{Byte}
 use Rattle.lay_base.specs.declared.faults.UndefinedKind.{UndefinedKind}
 use Rattle.c_types.specs.declared.ty.IntKind.{IntKind}
 use Rattle.c_types.specs.IntKinds.{width}
@@ -7,11 +10,12 @@ use Rattle.block_memory.specs.declared.cell.Cell.{Cell}
 use Rattle.block_memory.specs.declared.place.Place.{Place}
 use Rattle.block_memory.specs.declared.pointer.Ptr.{Ptr}
 use Rattle.block_memory.specs.declared.slot.Slot.{Slot}
-use Rattle.block_memory.specs.Accesses.{load_number, load_pointer, place, store_number, store_pointer}
+use Rattle.block_memory.specs.Accesses.{load_number, load_pointer, must, place, store_number, store_pointer}
 use Rattle.block_memory.specs.Blocks.{Memory, cells, with_cells}
 use Rattle.block_memory.specs.Digits.{number_at, pointer_at}
 use Rattle.block_memory.specs.Held.{bytes_of, fragments_of, held, number_in, pointer_in, word_of}
-use Rattle.block_memory.specs.Places.{PlaceGives}
+use Rattle.block_memory.specs.Places.{CopyGives, IsPlaceOf, PlaceGives, copied}
+use Rattle.block_memory.specs.Ranges.{compare, copy, do_overlap, fill, first_difference}
 use Rattle.block_memory.specs.Rows.{Row, cells_at, range, with_range}
 use Rattle.block_memory.specs.Stores.{Does, IsPlace, IsSound, memory_in}
 use Rattle.block_memory.specs.Tested.{Tested, ◌>>=◌}
@@ -87,3 +91,118 @@ pub store_pointer_err : (slots : List Slot) (rows : List Row) (p : Ptr) (type : 
 store_pointer_err slots rows p type q fault found =
     let m = memory_in slots rows in
     then_err (place m p 4 4 true) fault (λ x. Ok (with_cells m x.0 x.1 (fragments_of type q))) found
+
+-- ---- ranges
+
+pub fill_ok : (slots : List Slot) (rows new : List Row) (p : Ptr) (byte count : ℕ) (at : Place) → IsSound slots rows → (count ≡ 0 → ⊥)
+    → PlaceGives slots rows p count 1 true (Ok at) → new ≡ with_range rows at.row at.at (replicate count (Byte byte))
+    → fill (memory_in slots rows) p byte count ≡ Ok (memory_in slots new)
+fill_ok slots rows new p byte zero at sound some found en = absurd (some refl)
+fill_ok slots rows new p byte (suc n) at sound some found en =
+    stored slots rows new (place (memory_in slots rows) p (suc n) 1 true) at.block at.row at.at (suc n) (replicate (suc n) (Byte byte)) sound found.0 found.1 en
+
+pub fill_err : (slots : List Slot) (rows : List Row) (p : Ptr) (byte count : ℕ) (fault : UndefinedKind) → (count ≡ 0 → ⊥)
+    → PlaceGives slots rows p count 1 true (Err fault) → fill (memory_in slots rows) p byte count ≡ Err fault
+fill_err slots rows p byte zero fault some found = absurd (some refl)
+fill_err slots rows p byte (suc n) fault some found =
+    let m = memory_in slots rows in
+    then_err (place m p (suc n) 1 true) fault (λ x. Ok (with_cells m x.0 x.1 (replicate (suc n) (Byte byte)))) found
+
+-- a comparison after its first place
+abbrev second : Memory → Ptr → (n : ℕ) → (ℕ × ℕ) → Tested ℤ
+second m q n a = do
+  b ← place m q (suc n) 1 false
+  first_difference (cells m a.0 a.1 (suc n)) (cells m b.0 b.1 (suc n))
+
+pub compare_ok : (slots : List Slot) (rows : List Row) (p q : Ptr) (count : ℕ) (a b : Place) (r : Tested ℤ) → (count ≡ 0 → ⊥)
+    → PlaceGives slots rows p count 1 false (Ok a) → PlaceGives slots rows q count 1 false (Ok b)
+    → r ≡ first_difference (range rows a.row a.at count) (range rows b.row b.at count) → r ≡ compare (memory_in slots rows) p q count
+compare_ok slots rows p q zero a b r some fa fb er = absurd (some refl)
+compare_ok slots rows p q (suc n) a b r some fa fb er =
+    let m = memory_in slots rows in
+    er ∙ ap (λ all. first_difference all (range rows b.row b.at (suc n))) (sym (cells_found slots rows a.block a.row a.at (suc n) (suc n) fa.1))
+    ∙ ap (λ all. first_difference (cells m a.block a.at (suc n)) all) (sym (cells_found slots rows b.block b.row b.at (suc n) (suc n) fb.1))
+    ∙ sym (then_ok (place m p (suc n) 1 false) (a.block, a.at) (second m q n) fa.0
+    ∙ then_ok (place m q (suc n) 1 false) (b.block, b.at) (λ x. first_difference (cells m a.block a.at (suc n)) (cells m x.0 x.1 (suc n))) fb.0)
+
+pub compare_second_err : (slots : List Slot) (rows : List Row) (p q : Ptr) (count : ℕ) (a : Place) (fault : UndefinedKind) → (count ≡ 0 → ⊥)
+    → PlaceGives slots rows p count 1 false (Ok a) → PlaceGives slots rows q count 1 false (Err fault) → Err fault ≡ compare (memory_in slots rows) p q count
+compare_second_err slots rows p q zero a fault some fa fb = absurd (some refl)
+compare_second_err slots rows p q (suc n) a fault some fa fb =
+    let m = memory_in slots rows in
+    sym (then_ok (place m p (suc n) 1 false) (a.block, a.at) (second m q n) fa.0
+    ∙ then_err (place m q (suc n) 1 false) fault (λ x. first_difference (cells m a.block a.at (suc n)) (cells m x.0 x.1 (suc n))) fb)
+
+pub compare_first_err : (slots : List Slot) (rows : List Row) (p q : Ptr) (count : ℕ) (fault : UndefinedKind) → (count ≡ 0 → ⊥)
+    → PlaceGives slots rows p count 1 false (Err fault) → Err fault ≡ compare (memory_in slots rows) p q count
+compare_first_err slots rows p q zero fault some fa = absurd (some refl)
+compare_first_err slots rows p q (suc n) fault some fa =
+    let m = memory_in slots rows in sym (then_err (place m p (suc n) 1 false) fault (second m q n) fa)
+
+-- ---- copies
+
+may : (overlap shared : Bool) → (not overlap && shared) ≡ false → (overlap || not shared) ≡ true
+may true shared e = refl
+may false true e = let wrong : true ≡ false = e in cc
+may false false e = refl
+
+may_not : (overlap shared : Bool) → (not overlap && shared) ≡ true → (overlap || not shared) ≡ false
+may_not true shared e = let wrong : false ≡ true = e in cc
+may_not false true e = refl
+may_not false false e = let wrong : false ≡ true = e in cc
+
+pub copied_apart : (slots : List Slot) (rows new : List Row) (a b : Place) (count : ℕ) (overlap : Bool) → IsSound slots rows
+    → IsPlaceOf slots rows a count → IsPlaceOf slots rows b count → (not overlap && do_overlap (a.block, a.at) (b.block, b.at) count) ≡ false
+    → new ≡ with_range rows a.row a.at (range rows b.row b.at count)
+    → copied (memory_in slots rows) a b count overlap ≡ Ok (memory_in slots new)
+copied_apart slots rows new a b count overlap sound fa fb allowed en =
+    let m = memory_in slots rows in
+    ap (λ t. must t K.Overlap >>= λ c. Ok (with_cells m a.block a.at (cells m b.block b.at count))) (may overlap (do_overlap (a.block, a.at) (b.block, b.at) count) allowed)
+    ∙ ap (λ all. Ok (with_cells m a.block a.at all)) (cells_found slots rows b.block b.row b.at count count fb)
+    ∙ ap (λ m. Ok m) (sym (ap (λ rows. memory_in slots rows) en ∙ changed_found slots rows a.block a.row a.at count (range rows b.row b.at count) sound fa))
+
+pub copied_over : (slots : List Slot) (rows : List Row) (a b : Place) (count : ℕ) (overlap : Bool)
+    → (not overlap && do_overlap (a.block, a.at) (b.block, b.at) count) ≡ true → copied (memory_in slots rows) a b count overlap ≡ Err K.Overlap
+copied_over slots rows a b count overlap shared =
+    let m = memory_in slots rows in
+    ap (λ t. must t K.Overlap >>= λ c. Ok (with_cells m a.block a.at (cells m b.block b.at count))) (may_not overlap (do_overlap (a.block, a.at) (b.block, b.at) count) shared)
+
+-- a copy after its first place
+abbrev copied_from : Memory → Ptr → (n : ℕ) → (overlap : Bool) → (ℕ × ℕ) → Tested Memory
+copied_from m from n overlap a = do
+  b ← place m from (suc n) 1 false
+  c ← must (overlap || not (do_overlap a b (suc n))) K.Overlap
+  Ok (with_cells m a.0 a.1 (cells m b.0 b.1 (suc n)))
+
+copy_is : (slots : List Slot) (rows : List Row) (to from : Ptr) (n : ℕ) (overlap : Bool) (a b : Place)
+    → PlaceGives slots rows to (suc n) 1 true (Ok a) → PlaceGives slots rows from (suc n) 1 false (Ok b)
+    → copy (memory_in slots rows) to from (suc n) overlap ≡ copied (memory_in slots rows) a b (suc n) overlap
+copy_is slots rows to from n overlap a b fa fb =
+    let m = memory_in slots rows in
+    then_ok (place m to (suc n) 1 true) (a.block, a.at) (copied_from m from n overlap) fa.0
+    ∙ then_ok (place m from (suc n) 1 false) (b.block, b.at)
+    (λ b. must (overlap || not (do_overlap (a.block, a.at) b (suc n))) K.Overlap >>= λ c. Ok (with_cells m a.block a.at (cells m b.0 b.1 (suc n)))) fb.0
+
+pub copy_ok : (slots other : List Slot) (rows new : List Row) (to from : Ptr) (count : ℕ) (overlap : Bool) (a b : Place) (r : Result (Unit {0}) UndefinedKind) → (count ≡ 0 → ⊥)
+    → PlaceGives slots rows to count 1 true (Ok a) → PlaceGives slots rows from count 1 false (Ok b) → CopyGives slots rows a b count overlap r other new
+    → Does r (memory_in slots rows) (memory_in other new) (copy (memory_in slots rows) to from count overlap)
+copy_ok slots other rows new to from zero overlap a b r some fa fb gives = absurd (some refl)
+copy_ok slots other rows new to from (suc n) overlap a b r some fa fb gives =
+    let P : Tested Memory → Type 0 = λ defined. Does r (memory_in slots rows) (memory_in other new) defined in
+    subst P (sym (copy_is slots rows to from n overlap a b fa fb)) gives
+
+pub copy_from_err : (slots : List Slot) (rows : List Row) (to from : Ptr) (count : ℕ) (overlap : Bool) (a : Place) (fault : UndefinedKind) → (count ≡ 0 → ⊥)
+    → PlaceGives slots rows to count 1 true (Ok a) → PlaceGives slots rows from count 1 false (Err fault)
+    → copy (memory_in slots rows) to from count overlap ≡ Err fault
+copy_from_err slots rows to from zero overlap a fault some fa fb = absurd (some refl)
+copy_from_err slots rows to from (suc n) overlap a fault some fa fb =
+    let m = memory_in slots rows in
+    then_ok (place m to (suc n) 1 true) (a.block, a.at) (copied_from m from n overlap) fa.0
+    ∙ then_err (place m from (suc n) 1 false) fault
+    (λ b. must (overlap || not (do_overlap (a.block, a.at) b (suc n))) K.Overlap >>= λ c. Ok (with_cells m a.block a.at (cells m b.0 b.1 (suc n)))) fb
+
+pub copy_to_err : (slots : List Slot) (rows : List Row) (to from : Ptr) (count : ℕ) (overlap : Bool) (fault : UndefinedKind) → (count ≡ 0 → ⊥)
+    → PlaceGives slots rows to count 1 true (Err fault) → copy (memory_in slots rows) to from count overlap ≡ Err fault
+copy_to_err slots rows to from zero overlap fault some fa = absurd (some refl)
+copy_to_err slots rows to from (suc n) overlap fault some fa =
+    let m = memory_in slots rows in then_err (place m to (suc n) 1 true) fault (copied_from m from n overlap) fa

@@ -1,22 +1,19 @@
 -- A store's memory, by its slots and rows.
-use Rattle.std.proofs.Common.{◌≡◌, ◌≢◌, ℕ, zero, suc, ◌+◌, ◌<◌, ◌≤◌, ◌%◌, List, [], ◌∷◌, ◌++◌, length, map, take, drop, get_or, replicate, Bool, true, false, Ok, Err, refl, sym, ap, ◌∙◌, arith, inl, inr, ⊎_elim, get_or-set_other, get_or-set_same, Result}
-use Rattle.std.specs.Prelude.{◌⊎◌, ◌&&◌, ◌==◌, not, nat_le, if◌then◌else◌, MatchResult}
+use Rattle.std.proofs.Common.{◌≡◌, ◌≢◌, ℕ, zero, suc, ◌+◌, ◌<◌, ◌≤◌, ◌%◌, List, [], ◌∷◌, length, take, drop, get_or, Bool, true, false, Ok, Err, refl, sym, ap, ◌∙◌, arith, inl, inr, ⊎_elim, get_or-set_other, get_or-set_same}
+use Rattle.std.specs.Prelude.{◌⊎◌, ◌&&◌, ◌==◌, not, nat_le, if◌then◌else◌}
 use Rattle.std.proofs.Math.ListN.{set, get_or-map}
 use Rattle.std.proofs.lemmas.Bool.{cases_lt, cases_eq}
-use Rattle.std.proofs.lemmas.List.{ext_get_or, length-map, length-set, map-append, get_or_past, get_or_append_left}
+use Rattle.std.proofs.lemmas.List.{ext_get_or, length-map, length-set, get_or_past}
 use Rattle.std.proofs.lemmas.Option.{unwrap_or-slice_get}
 use Rattle.lay_base.specs.declared.faults.UndefinedKind.{UndefinedKind}
 use Rattle.lay_base.specs.declared.faults.UndefinedKind.TheVariants as K
 use Rattle.block_memory.specs.declared.cell.Cell.{Cell}
-use Rattle.block_memory.specs.declared.cell.Cell.TheVariants.{Empty}
-use Rattle.block_memory.specs.declared.pointer.Ptr.{Ptr}
 use Rattle.block_memory.specs.declared.pointer.Ptr.TheVariants as P
 use Rattle.block_memory.specs.declared.slot.Slot.{Slot}
 use Rattle.block_memory.specs.Accesses.{is_text, must, place}
-use Rattle.block_memory.specs.Blocks.{Block, Contents, Memory, living, ended, block, cells, cells_in, is_live, kind, lives_in, overwritten, size, size_in, with_cells}
+use Rattle.block_memory.specs.Blocks.{Block, living, ended, block, cells, cells_in, is_live, kind, lives_in, overwritten, size, size_in, with_cells}
 use Rattle.block_memory.specs.Places.{PlaceGives}
-use Rattle.block_memory.specs.Lifetimes.{with_block, with_end}
-use Rattle.block_memory.specs.Rows.{Row, IsAdded, cells_at, no_row, nobody, range, row_at, over, with_cells_at, with_range}
+use Rattle.block_memory.specs.Rows.{Row, cells_at, no_row, range, row_at, over, with_cells_at, with_range}
 use Rattle.block_memory.specs.Stores.{IsPlace, IsSound, block_in, contents_in, memory_in, no_slot, slot_at, tests}
 use Rattle.block_memory.specs.Tested.{Tested, ◌>>=◌}
 
@@ -102,15 +99,15 @@ set_in slots other rows new b known same rest =
     ext_get_or (block_in new no_slot) (memory_in other new) (set (memory_in slots rows) b (block_in new (slot_at other b)))
     (length-map other (block_in new) ∙ same ∙ sym (length-set (memory_in slots rows) b (block_in new (slot_at other b)) ∙ length-map slots (block_in rows)))
     (λ k within. at_k k within (cases_eq k b)) where
-  at_k : (k : ℕ) → k < length (memory_in other new) → (k ≡ b) ⊎ (k ≡ b → ⊥)
-      → get_or (memory_in other new) k (block_in new no_slot) ≡ get_or (set (memory_in slots rows) b (block_in new (slot_at other b))) k (block_in new no_slot)
-  at_k k within (inl e) =
-      get_or-map (block_in new) other k no_slot ∙ ap (λ k. block_in new (slot_at other k)) e
-      ∙ sym (ap (λ k. get_or (set (memory_in slots rows) b (block_in new (slot_at other b))) k (block_in new no_slot)) e
-      ∙ get_or-set_same (memory_in slots rows) b (block_in new (slot_at other b)) (block_in new no_slot) (omega (arith, length-map slots (block_in rows))))
-  at_k k within (inr ne) =
-      get_or-map (block_in new) other k no_slot ∙ rest k (omega (arith, length-map other (block_in new))) ne
-      ∙ sym (get_or-set_other (memory_in slots rows) b k (block_in new (slot_at other b)) (block_in new no_slot) ne ∙ get_or-map (block_in rows) slots k no_slot)
+      at_k : (k : ℕ) → k < length (memory_in other new) → (k ≡ b) ⊎ (k ≡ b → ⊥)
+          → get_or (memory_in other new) k (block_in new no_slot) ≡ get_or (set (memory_in slots rows) b (block_in new (slot_at other b))) k (block_in new no_slot)
+      at_k k within (inl e) =
+          get_or-map (block_in new) other k no_slot ∙ ap (λ k. block_in new (slot_at other k)) e
+          ∙ sym (ap (λ k. get_or (set (memory_in slots rows) b (block_in new (slot_at other b))) k (block_in new no_slot)) e
+          ∙ get_or-set_same (memory_in slots rows) b (block_in new (slot_at other b)) (block_in new no_slot) (omega (arith, length-map slots (block_in rows))))
+      at_k k within (inr ne) =
+          get_or-map (block_in new) other k no_slot ∙ rest k (omega (arith, length-map other (block_in new))) ne
+          ∙ sym (get_or-set_other (memory_in slots rows) b k (block_in new (slot_at other b)) (block_in new no_slot) ne ∙ get_or-map (block_in rows) slots k no_slot)
 
 pub block_same : (rows new : List Row) (slot : Slot) → (slot.live ≡ true → row_at new slot.word ≡ row_at rows slot.word) → block_in new slot ≡ block_in rows slot
 block_same rows new slot same = block_case slot.live refl where
@@ -138,8 +135,8 @@ others_same slots rows b row sound known lives k also ne =
 pub known_of_live : (slots : List Slot) (b : ℕ) → (slot_at slots b).live ≡ true → b < length slots
 known_of_live slots b lives =
     ⊎_elim (λ l. l) (λ past. absurd (true_is_false (sym lives ∙ ap (λ s. s.live) (get_or_past slots b no_slot past)))) (cases_lt b (length slots)) where
-  true_is_false : true ≡ false → ⊥
-  true_is_false e = cc
+      true_is_false : true ≡ false → ⊥
+      true_is_false e = cc
 
 -- ---- accesses that found their place
 
@@ -155,14 +152,14 @@ changed_found slots rows b row at count new sound found =
     let m = memory_in slots rows in
     let after : Row = record { owner = (row_at rows row).owner; cells = over (cells_at rows row) at new } in
     let rest : (k : ℕ) → k < length slots → k ≢ b → block_in (set rows row after) (slot_at slots k) ≡ block_in rows (slot_at slots k) =
-        λ k known ne. ap (λ w. block_in (set rows w after) (slot_at slots k)) (sym found.word) ∙ others_same slots rows b after sound found.known found.lives k known ne in
+    λ k known ne. ap (λ w. block_in (set rows w after) (slot_at slots k)) (sym found.word) ∙ others_same slots rows b after sound found.known found.lives k known ne in
     let here : block_in (with_range rows row at new) s ≡ record { kind = s.kind; contents = living (over (cells_at rows row) at new) } =
-        ap (λ l. record { kind = s.kind; contents = contents_in (with_range rows row at new) l s.word }) found.lives
-        ∙ ap (λ w. record { kind = s.kind; contents = living (cells_at (with_range rows row at new) w) }) found.word
-        ∙ ap (λ r. record { kind = s.kind; contents = living r.cells }) (get_or-set_same rows row after no_row found.held) in
+    ap (λ l. record { kind = s.kind; contents = contents_in (with_range rows row at new) l s.word }) found.lives
+    ∙ ap (λ w. record { kind = s.kind; contents = living (cells_at (with_range rows row at new) w) }) found.word
+    ∙ ap (λ r. record { kind = s.kind; contents = living r.cells }) (get_or-set_same rows row after no_row found.held) in
     let there : record { kind = kind m b; contents = overwritten (block m b).contents at new } ≡ record { kind = s.kind; contents = living (over (cells_at rows row) at new) } =
-        ap (λ y. record { kind = y.kind; contents = overwritten y.contents at new }) (live_block slots rows b found.lives)
-        ∙ ap (λ w. record { kind = s.kind; contents = living (over (cells_at rows w) at new) }) found.word in
+    ap (λ y. record { kind = y.kind; contents = overwritten y.contents at new }) (live_block slots rows b found.lives)
+    ∙ ap (λ w. record { kind = s.kind; contents = living (over (cells_at rows w) at new) }) found.word in
     set_in slots slots rows (with_range rows row at new) b found.known refl rest ∙ ap (λ y. set m b y) (here ∙ sym there)
 
 owner_kept : (rows : List Row) (row w : ℕ) (all : List Cell) → (row_at (with_cells_at rows row all) w).owner ≡ (row_at rows w).owner
@@ -186,10 +183,11 @@ place_ok slots rows b at count width n stores slot sound is lives size passes fi
     let live : (slot_at slots b).live ≡ true = ap (λ s. s.live) (sym is) ∙ lives in
     let known = known_of_live slots b live in
     let same : Ok tt ≡ tests (slot_at slots b) (length (cells_at rows (slot_at slots b).word)) at count width stores =
-        passes ∙ ap (λ n. tests slot n at count width stores) size ∙ ap (λ s. tests s (length (cells_at rows s.word)) at count width stores) is in
-    let held : slot.word < length rows = rw is (row_within slots rows b sound known live) in
-    (place_tested slots rows b at count width stores live ∙ bind_is (Ok tt) (tests (slot_at slots b) (length (cells_at rows (slot_at slots b).word)) at count width stores) (λ u. Ok (b, at)) same,
-    record { known = known; lives = live; word = ap (λ s. s.word) (sym is); held = held; fits = omega (arith, size) })
+    passes ∙ ap (λ n. tests slot n at count width stores) size ∙ ap (λ s. tests s (length (cells_at rows s.word)) at count width stores) is in
+    let held : slot.word < length rows = rw is (row_within slots rows b sound known live) in (
+      place_tested slots rows b at count width stores live ∙ bind_is (Ok tt) (tests (slot_at slots b) (length (cells_at rows (slot_at slots b).word)) at count width stores) (λ u. Ok (b, at)) same,
+      record { known = known; lives = live; word = ap (λ s. s.word) (sym is); held = held; fits = omega (arith, size) },
+    )
 
 pub place_err : (slots : List Slot) (rows : List Row) (b at count width n : ℕ) (stores : Bool) (slot : Slot) (fault : UndefinedKind) → slot ≡ slot_at slots b
     → slot.live ≡ true → n ≡ length (cells_at rows slot.word) → Err fault ≡ tests slot n at count width stores
@@ -197,5 +195,5 @@ pub place_err : (slots : List Slot) (rows : List Row) (b at count width n : ℕ)
 place_err slots rows b at count width n stores slot fault is lives size fails =
     let live : (slot_at slots b).live ≡ true = ap (λ s. s.live) (sym is) ∙ lives in
     let same : Err fault ≡ tests (slot_at slots b) (length (cells_at rows (slot_at slots b).word)) at count width stores =
-        fails ∙ ap (λ n. tests slot n at count width stores) size ∙ ap (λ s. tests s (length (cells_at rows s.word)) at count width stores) is in
+    fails ∙ ap (λ n. tests slot n at count width stores) size ∙ ap (λ s. tests s (length (cells_at rows s.word)) at count width stores) is in
     place_tested slots rows b at count width stores live ∙ bind_is (Err fault) (tests (slot_at slots b) (length (cells_at rows (slot_at slots b).word)) at count width stores) (λ u. Ok (b, at)) same

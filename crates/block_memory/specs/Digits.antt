@@ -1,6 +1,5 @@
 -- What cells hold, cell by cell.
-use Rattle.std.specs.Prelude.{ℕ, zero, suc, ◌+◌, ◌*◌, Bool, true, false, ◌==◌, ◌&&◌, Ok, Err, List, take, drop, option_map}
-use Rattle.std.specs.List.{list_any}
+use Rattle.std.specs.Prelude.{ℕ, zero, suc, ◌+◌, ◌*◌, Bool, true, false, ◌==◌, ◌&&◌, Ok, Err, List, take, drop, option_map, nat_lt, if◌then◌else◌, ℤ, pos, negsuc}
 use Rattle.lay_base.specs.declared.faults.UndefinedKind.TheVariants as K
 use Rattle.c_types.specs.declared.ty.IntKind.{IntKind}
 use Rattle.c_types.specs.IntKinds.{width}
@@ -9,7 +8,8 @@ use Rattle.block_memory.specs.declared.cell.Cell.TheVariants.{Empty, Byte, Fragm
 use Rattle.block_memory.specs.declared.pointer.Ptr.{Ptr}
 use Rattle.block_memory.specs.declared.pointer.Ptr.TheVariants as P
 use Rattle.block_memory.specs.Held.{is_same, number_in, pointer_in, word_of, held}
-use Rattle.block_memory.specs.Tested.{Tested}
+use Rattle.block_memory.specs.Ranges.{byte_in}
+use Rattle.block_memory.specs.Tested.{Tested, ◌>>=◌}
 
 -- a byte, and the number in the cells behind it
 abbrev pub digit_before : Cell → Tested ℕ → Tested ℕ
@@ -42,3 +42,17 @@ as_pointer (Err fault) = Err fault
 abbrev pub is_fragment : (type : ℕ) → Ptr → (k : ℕ) → Cell → Bool
 is_fragment type p k (Fragment t q j) = t == type && is_same q p && j == k
 is_fragment type p k c = false
+
+-- ---- bytes that are compared
+
+-- how two cells compare
+abbrev pub compared : Cell → Cell → Tested ℤ
+compared c d = do
+  x ← byte_in c
+  y ← byte_in d
+  if nat_lt x y then Ok (negsuc 0) else if nat_lt y x then Ok (pos 1) else Ok (pos 0)
+
+-- they are one byte
+abbrev pub is_zero : Tested ℤ → Bool
+is_zero (Ok (pos zero)) = true
+is_zero difference = false

@@ -1,8 +1,8 @@
 -- Accesses by computation.
-use Rattle.std.specs.Prelude.{◌≡◌, ℕ, ◌-◌, ◌^◌, true, false, List, [], ◌∷◌, ◌++◌, replicate, map, ℤ, pos, negsuc, refl, Result, Ok, Err}
+use Rattle.std.specs.Prelude.{◌≡◌, ℕ, true, false, [], ◌∷◌, replicate, pos, negsuc, refl, Ok, Err}
 use Rattle.lay_base.specs.declared.faults.UndefinedKind.TheVariants as K
 use Rattle.c_types.specs.declared.ty.IntKind.TheVariants as I
-use Rattle.block_memory.specs.declared.cell.Cell.TheVariants.{Empty, Byte, Fragment}
+use Rattle.block_memory.specs.declared.cell.Cell.TheVariants.{Empty, Byte}
 use Rattle.block_memory.specs.declared.kinds.BlockKind.TheVariants.{Global, Text, Local, Heap}
 use Rattle.block_memory.specs.declared.pointer.Ptr.{Ptr}
 use Rattle.block_memory.specs.declared.pointer.Ptr.TheVariants as P

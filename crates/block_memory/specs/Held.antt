@@ -10,7 +10,7 @@ use Rattle.block_memory.specs.declared.cell.Cell.{Cell}
 use Rattle.block_memory.specs.declared.cell.Cell.TheVariants.{Empty, Byte, Fragment}
 use Rattle.block_memory.specs.declared.pointer.Ptr.{Ptr}
 use Rattle.block_memory.specs.declared.pointer.Ptr.TheVariants as P
-use Rattle.block_memory.specs.Tested.{Tested, ◌>>=◌}
+use Rattle.block_memory.specs.Tested.{Tested}
 
 -- ---- numbers
 

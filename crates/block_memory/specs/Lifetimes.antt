@@ -1,12 +1,12 @@
 -- When blocks begin and end (C99 6.2.4, 7.20.3).
-use Rattle.std.specs.Prelude.{ℕ, zero, suc, Bool, true, false, ◌&&◌, if◌then◌else◌, List, [], ◌∷◌, ◌++◌, replicate, slice_set, Ok, Err}
+use Rattle.std.specs.Prelude.{ℕ, zero, suc, Bool, true, false, ◌&&◌, if◌then◌else◌, [], ◌∷◌, ◌++◌, replicate, slice_set, Ok, Err}
 use Rattle.lay_base.specs.declared.faults.UndefinedKind.TheVariants.{Free}
 use Rattle.block_memory.specs.declared.cell.Cell.TheVariants.{Empty}
 use Rattle.block_memory.specs.declared.kinds.BlockKind.{BlockKind}
 use Rattle.block_memory.specs.declared.kinds.BlockKind.TheVariants.{Heap}
 use Rattle.block_memory.specs.declared.pointer.Ptr.{Ptr}
 use Rattle.block_memory.specs.declared.pointer.Ptr.TheVariants as P
-use Rattle.block_memory.specs.Blocks.{Block, Memory, living, ended, kind, is_live, size}
+use Rattle.block_memory.specs.Blocks.{Memory, living, ended, kind, is_live, size}
 use Rattle.block_memory.specs.Tested.{Tested}
 
 -- a new block holds nothing that was stored; its number is that of the blocks before it

@@ -1,5 +1,5 @@
 -- Arithmetic on pointers, in bytes (C99 6.5.6), and their comparison (6.5.8, 6.5.9).
-use Rattle.std.specs.Prelude.{ℕ, ◌*◌, ◌==◌, Bool, true, false, ◌&&◌, nat_le, nat_lt, if◌then◌else◌, ℤ, pos, negsuc, ◌+ℤ◌, ◌-ℤ◌, int_div, int_rem, Ok, Err}
+use Rattle.std.specs.Prelude.{ℕ, ◌==◌, Bool, true, false, ◌&&◌, nat_le, nat_lt, if◌then◌else◌, ℤ, pos, negsuc, ◌+ℤ◌, ◌-ℤ◌, int_div, int_rem, Ok, Err}
 use Rattle.std.specs.Ordering.{int_eq}
 use Rattle.lay_base.specs.declared.faults.UndefinedKind.TheVariants.{Dead, Range, TwoBlocks, Edge}
 use Rattle.block_memory.specs.declared.pointer.Ptr.{Ptr}

@@ -1,5 +1,5 @@
 -- Ranges of bytes (C99 7.21): copied, filled and compared. One of no length is never looked at (own).
-use Rattle.std.specs.Prelude.{ℕ, zero, suc, ◌+◌, ◌==◌, Bool, true, false, ◌&&◌, ◌||◌, not, nat_lt, if◌then◌else◌, List, [], ◌∷◌, replicate, ℤ, pos, negsuc}
+use Rattle.std.specs.Prelude.{ℕ, zero, suc, ◌+◌, ◌==◌, Bool, true, false, ◌&&◌, ◌||◌, not, nat_lt, if◌then◌else◌, List, ◌∷◌, replicate, ℤ, pos, negsuc}
 use Rattle.std.specs.Prelude.{Ok, Err}
 use Rattle.lay_base.specs.declared.faults.UndefinedKind.TheVariants as K
 use Rattle.block_memory.specs.declared.cell.Cell.{Cell}

@@ -1,5 +1,5 @@
 -- The rows in which the cells of live blocks lie.
-use Rattle.std.specs.Prelude.{◌≡◌, ◌<◌, ℕ, ◌+◌, List, [], ◌∷◌, ◌++◌, length, take, drop, replicate, slice_index_or, slice_set, ◌⊎◌, Result, Ok, Err, MatchResult}
+use Rattle.std.specs.Prelude.{◌≡◌, ◌<◌, ℕ, ◌+◌, List, [], ◌∷◌, ◌++◌, length, take, drop, replicate, slice_index_or, slice_set, ◌⊎◌, Result, MatchResult}
 use Rattle.lay_base.specs.declared.no_memory.NoMemory.{NoMemory}
 use Rattle.block_memory.specs.declared.cell.Cell.{Cell}
 use Rattle.block_memory.specs.declared.cell.Cell.TheVariants.{Empty}

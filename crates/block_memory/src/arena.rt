@@ -1,13 +1,15 @@
 //! The rows in which the cells of live blocks lie.
 
-ghost use Rattle.std.specs.Prelude.{◌≡◌, ◌<◌, ◌≤◌, ◌+◌, [], ◌∷◌, length, slice_index_or, slice_set, MatchOption};
+ghost use Rattle.std.specs.Prelude.{◌≡◌, ◌<◌, ◌≤◌, ◌+◌, [], ◌∷◌, length, slice_index_or, slice_set, replicate, MatchOption};
 ghost use Rattle.c_types.specs.IntKinds.{width};
 ghost use Rattle.block_memory.specs.Digits.{number_at, pointer_at};
 ghost use Rattle.block_memory.specs.Held.{bytes_of, fragments_of};
-ghost use Rattle.block_memory.specs.Rows.{AddGives, cells_at, no_row, nobody, row_at, with_range};
-ghost use Rattle.block_memory.specs.declared.cell.Cell.TheVariants.{Empty};
+ghost use Rattle.block_memory.specs.Ranges.{first_difference};
+ghost use Rattle.block_memory.specs.Rows.{AddGives, cells_at, no_row, nobody, row_at, range, with_range};
+ghost use Rattle.block_memory.specs.declared.cell.Cell.TheVariants.{Byte, Empty};
 
 use crate::cell::Cell;
+use crate::comparing::{compared, is_zero};
 use crate::living::{Living, NOBODY};
 use crate::pointer::Ptr;
 use c_types::IntKind;
@@ -102,16 +104,16 @@ impl Arena {
     }
 
     /// The cell at an offset in a row.
-    pub(crate) fn cell(&self, place: u32, at: u32) -> Cell
+    pub(crate) fn cell(&self, place: u32, at: usize) -> Cell
         requires row { place < length self.now }
         requires within { at < length (cells_at self.now place) }
         ensures { result ≡ slice_index_or (cells_at self.now place) at Empty }
     {
-        self.rows[place as usize].cell(at as usize)
+        self.rows[place as usize].cell(at)
     }
 
     /// Puts a cell at an offset in a row.
-    pub(crate) fn put(&mut self, place: u32, at: u32, cell: Cell)
+    pub(crate) fn put(&mut self, place: u32, at: usize, cell: Cell)
         requires row { place < length self.old }
         requires within { at < length (cells_at self.old place) }
         ensures { self.new ≡ with_range self.old place at (cell ∷ []) }
@@ -129,7 +131,12 @@ impl Arena {
     }
 
     /// The pointer of a type from an offset in a row on.
-    pub(crate) fn pointer(&self, place: u32, at: u32, type_number: u32) -> Result<Ptr, UndefinedKind>
+    pub(crate) fn pointer(
+        &self,
+        place: u32,
+        at: u32,
+        type_number: u32,
+    ) -> Result<Ptr, UndefinedKind>
         requires row { place < length self.now }
         requires within { at + 4 ≤ length (cells_at self.now place) }
         ensures { result ≡ pointer_at (cells_at self.now place) at type_number }
@@ -153,5 +160,90 @@ impl Arena {
         ensures { self.new ≡ with_range self.old place at (fragments_of type_number p) }
     {
         self.rows[place as usize].put_pointer(at, type_number, p);
+    }
+
+    /// Puts one byte into so many cells from an offset in a row on.
+    pub(crate) fn fill(&mut self, place: u32, at: u32, byte: u8, count: u32)
+        requires row { place < length self.old }
+        requires within { at + count ≤ length (cells_at self.old place) }
+        ensures { self.new ≡ with_range self.old place at (replicate count (Byte byte)) }
+    {
+        self.rows[place as usize].fill(at, byte, count);
+    }
+
+    /// Copies cells from the first one on, to another row or to before where they are.
+
+    fn copy_up(&mut self, place: u32, at: u32, from: u32, offset: u32, count: u32)
+        requires row { place < length self.old }
+        requires within { at + count ≤ length (cells_at self.old place) }
+        requires from_row { from < length self.old }
+        requires from_within { offset + count ≤ length (cells_at self.old from) }
+        requires apart { place ≡ from → at ≤ offset }
+        ensures { self.new ≡ with_range self.old place at (range self.old from offset count) }
+    {
+        for i in 0..count as usize {
+            let cell = self.cell(from, offset as usize + i);
+            self.put(place, at as usize + i, cell);
+        }
+    }
+
+    /// Copies cells from the last one back, to another row or to behind where they are.
+
+    fn copy_down(&mut self, place: u32, at: u32, from: u32, offset: u32, count: u32)
+        requires row { place < length self.old }
+        requires within { at + count ≤ length (cells_at self.old place) }
+        requires from_row { from < length self.old }
+        requires from_within { offset + count ≤ length (cells_at self.old from) }
+        requires apart { place ≡ from → offset ≤ at }
+        ensures { self.new ≡ with_range self.old place at (range self.old from offset count) }
+    {
+        let mut i = count as usize;
+        while i > 0 {
+            i -= 1;
+            let cell = self.cell(from, offset as usize + i);
+            self.put(place, at as usize + i, cell);
+        }
+    }
+
+    /// Copies cells as they are.
+    pub(crate) fn copy(&mut self, place: u32, at: u32, from: u32, offset: u32, count: u32)
+        requires row { place < length self.old }
+        requires within { at + count ≤ length (cells_at self.old place) }
+        requires from_row { from < length self.old }
+        requires from_within { offset + count ≤ length (cells_at self.old from) }
+        ensures { self.new ≡ with_range self.old place at (range self.old from offset count) }
+    {
+        if at <= offset {
+            self.copy_up(place, at, from, offset, count);
+        } else {
+            self.copy_down(place, at, from, offset, count);
+        }
+    }
+
+    /// Compares so many cells as bytes.
+    #[tactic(auto, using(crate::proofs::Differences::compared_more, crate::proofs::Differences::compared_here, crate::proofs::Differences::compared_all))]
+    pub(crate) fn compare(
+        &self,
+        place: u32,
+        at: u32,
+        other: u32,
+        offset: u32,
+        count: u32,
+    ) -> Result<i32, UndefinedKind>
+        requires row { place < length self.now }
+        requires within { at + count ≤ length (cells_at self.now place) }
+        requires other_row { other < length self.now }
+        requires other_within { offset + count ≤ length (cells_at self.now other) }
+        ensures { result ≡ first_difference (range self.now place at count) (range self.now other offset count) }
+    {
+        for i in 0..count as usize {
+            let a = self.cell(place, at as usize + i);
+            let b = self.cell(other, offset as usize + i);
+            let difference = compared(a, b);
+            if !is_zero(difference) {
+                return difference;
+            }
+        }
+        Ok(0)
     }
 }

@@ -6,6 +6,7 @@
 mod accesses;
 mod arena;
 mod cell;
+mod comparing;
 mod holding;
 mod kinds;
 mod lifetimes;
@@ -14,10 +15,12 @@ mod numbers;
 mod place;
 mod pointer;
 mod pointers;
+mod ranges;
 mod slot;
 mod store;
 
 pub use cell::Cell;
 pub use kinds::{Access, BlockKind};
 pub use pointer::Ptr;
+pub use pointers::difference;
 pub use store::Store;

@@ -92,7 +92,7 @@ impl Store {
     {
         let slot = self.slot(block);
         if slot.live {
-            self.arena.put(slot.word, at, Cell::Byte(byte));
+            self.arena.put(slot.word, at as usize, Cell::Byte(byte));
         }
     }
 }

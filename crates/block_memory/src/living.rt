@@ -5,7 +5,7 @@ ghost use Rattle.c_types.specs.IntKinds.{width};
 ghost use Rattle.block_memory.specs.Digits.{number_at, pointer_at};
 ghost use Rattle.block_memory.specs.Held.{bytes_of, fragments_of};
 ghost use Rattle.block_memory.specs.Rows.{no_row, nobody, over};
-ghost use Rattle.block_memory.specs.declared.cell.Cell.TheVariants.{Empty};
+ghost use Rattle.block_memory.specs.declared.cell.Cell.TheVariants.{Byte, Empty};
 
 use crate::cell::Cell;
 use crate::holding::pointer_of;
@@ -140,11 +140,10 @@ impl Living {
 
     /// Puts one cell at an offset.
     #[tactic(auto, using(crate::proofs::Overs::one_over))]
-    pub(crate) fn put_one(&mut self, at: u32, a: Cell)
+    pub(crate) fn put_one(&mut self, at: usize, a: Cell)
         requires { at + 1 ≤ length self.old.cells }
         ensures { self.new ≡ record { owner = self.old.owner; cells = over self.old.cells at (a ∷ []) } }
     {
-        let at = at as usize;
         self.put(at, a);
     }
 
@@ -182,7 +181,7 @@ impl Living {
         let a = Cell::Byte((v % 256) as u8);
         let b = Cell::Byte((v / 256 % 256) as u8);
         if width == 1 {
-            self.put_one(at, a);
+            self.put_one(at as usize, a);
         } else if width == 2 {
             self.put_two(at, a, b);
         } else {
@@ -201,5 +200,17 @@ impl Living {
         let b = Cell::Fragment(type_number, p, 1);
         let c = Cell::Fragment(type_number, p, 2);
         self.put_four(at, a, b, c, Cell::Fragment(type_number, p, 3));
+    }
+
+    /// Puts one byte into so many cells from an offset on.
+    #[tactic(auto, using(crate::proofs::Copying::fill_more, crate::proofs::Copying::fill_fits, crate::proofs::Copying::fill_none))]
+    pub(crate) fn fill(&mut self, at: u32, byte: u8, count: u32)
+        requires { at + count ≤ length self.old.cells }
+        ensures { self.new ≡ record { owner = self.old.owner; cells = over self.old.cells at (replicate count (Byte byte)) } }
+    {
+        let at = at as usize;
+        for i in 0..count as usize {
+            self.put(at + i, Cell::Byte(byte));
+        }
     }
 }

@@ -60,20 +60,8 @@ pub(crate) fn word_of(kind: IntKind, v: u32) -> u32
     ensures { result ≡ word_of kind v }
 {
     match kind {
-        IntKind::SChar => {
-            if v <= 127 {
-                v
-            } else {
-                v + 4_294_967_040
-            }
-        }
-        IntKind::Short => {
-            if v <= 32767 {
-                v
-            } else {
-                v + 4_294_901_760
-            }
-        }
+        IntKind::SChar => { if v <= 127 { v } else { v + 4_294_967_040 } }
+        IntKind::Short => { if v <= 32767 { v } else { v + 4_294_901_760 } }
         IntKind::Char
         | IntKind::UChar
         | IntKind::UShort

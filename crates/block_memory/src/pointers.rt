@@ -57,6 +57,7 @@ impl Store {
     }
 
     /// So many bytes further on, or back.
+    #[tactic(auto, using(crate::proofs::Stepping::too_far))]
     pub fn step(&self, p: Ptr, by: i64) -> Result<Ptr, UndefinedKind>
         ensures { result ≡ stepped (memory_of self.now) p by }
     {
@@ -69,10 +70,14 @@ impl Store {
                 }
             }
             Ptr::Function(_) => Err(UndefinedKind::Range),
-            Ptr::Block(block, at) => match i64::from(at).checked_add(by) {
-                Some(to) => self.within(block, to),
-                None => Err(UndefinedKind::Range),
-            },
+            Ptr::Block(block, at) => {
+                let at = i64::from(at);
+                if by > i64::from(self.size(block)) - at {
+                    Err(UndefinedKind::Range)
+                } else {
+                    self.within(block, at + by)
+                }
+            }
         }
     }
 
