@@ -6,3 +6,5 @@ pub mod Beginning
 pub mod Stepping
 pub mod Differences
 pub mod Copying
+pub mod Packing
+pub mod Flat

@@ -11,3 +11,4 @@ pub mod Rows
 pub mod Stores
 pub mod Tested
 pub mod View
+pub mod Words

@@ -56,7 +56,7 @@ pub(crate) fn is_fragment(cell: Cell, type_number: u32, p: Ptr, k: u8) -> bool
 
 /// Whether four cells are the fragments of a pointer, in their order.
 #[tactic(auto, using(crate::proofs::CellsHold::are_fragments_of))]
-fn are_fragments(a: Cell, b: Cell, c: Cell, d: Cell, type_number: u32, p: Ptr) -> bool
+pub(crate) fn are_fragments(a: Cell, b: Cell, c: Cell, d: Cell, type_number: u32, p: Ptr) -> bool
     ensures { result ≡ are_fragments type_number p 0 (a ∷ b ∷ c ∷ d ∷ []) }
 {
     let first = is_fragment(a, type_number, p, 0);

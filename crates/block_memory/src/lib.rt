@@ -18,6 +18,9 @@ mod pointers;
 mod ranges;
 mod slot;
 mod store;
+mod whole;
+mod word;
+mod words;
 
 pub use cell::Cell;
 pub use kinds::{Access, BlockKind};

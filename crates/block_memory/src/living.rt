@@ -1,16 +1,20 @@
 //! The row of a block: its cells, while it is live.
 
-ghost use Rattle.std.specs.Prelude.{◌≡◌, ◌<◌, ◌≤◌, ◌+◌, [], ◌∷◌, length, slice_index_or, slice_set, replicate, MatchResult, IsTrue, ◌↔◌};
+ghost use Rattle.std.specs.Prelude.{◌≡◌, ◌<◌, ◌≤◌, ◌+◌, ◌%◌, false, [], ◌∷◌, length, slice_index_or, slice_set, replicate, MatchResult, IsTrue, ◌↔◌};
 ghost use Rattle.c_types.specs.IntKinds.{width};
 ghost use Rattle.block_memory.specs.Digits.{number_at, pointer_at};
 ghost use Rattle.block_memory.specs.Held.{bytes_of, fragments_of};
 ghost use Rattle.block_memory.specs.Rows.{no_row, nobody, over};
+ghost use Rattle.block_memory.specs.Words.{four_pointer, is_mixed, whole};
 ghost use Rattle.block_memory.specs.declared.cell.Cell.TheVariants.{Byte, Empty};
 
 use crate::cell::Cell;
 use crate::holding::pointer_of;
 use crate::numbers::{in_four, in_one, in_two, valued};
 use crate::pointer::Ptr;
+use crate::whole::{cell_in, four_pointer, pointer_word, with_cell_in};
+use crate::word::{Four, Word};
+use crate::words::{empty_words, four_in, put_four, put_whole};
 use c_types::{IntKind, width};
 use lay_base::{NoMemory, UndefinedKind};
 use std::alloc::Global;
@@ -27,18 +31,20 @@ pub(crate) struct Living {
     // Of a row that no block has, the next one.
     next: u32,
     size: u32,
-    cells: Vec<Cell>,
+    words: Vec<Word>,
+    pool: Vec<Four>,
 }
 
 impl Model for Living {
-    ghost use Rattle.std.specs.Prelude.{◌≡◌, vec_len};
+    ghost use Rattle.std.specs.Prelude.{◌≤◌, ◌*◌, length, map, take, vec_capacity};
     ghost use Rattle.block_memory.specs.Rows.{Row};
+    ghost use Rattle.block_memory.specs.Words.{IsPacked, flat, four_of};
 
     ghost Value = { Row };
 
-    ghost view = { λ row. record { owner = row.owner; cells = row.cells.items } };
+    ghost view = { λ row. record { owner = row.owner; cells = take row.size (flat (map (four_of row.pool.items) row.words.items)) } };
 
-    ghost invariant = { λ row. vec_len row.cells ≡ row.size };
+    ghost invariant = { λ row. IsPacked row.words.items row.pool.items (vec_capacity row.pool) × (row.size ≤ 4 * length row.words.items) };
 }
 
 impl Living {
@@ -46,18 +52,22 @@ impl Living {
     pub(crate) fn of(alloc: Global, owner: u32, size: u32) -> Result<Living, NoMemory>
         ensures { MatchResult result (λ row. row ≡ record { owner = owner; cells = replicate size Empty }) (λ _. Unit {0}) }
     {
-        match vec![in alloc; Cell::Empty; size as usize] {
-            Ok(cells) => Ok(Living {
+        let count = (size as usize + 3) / 4;
+        let words = empty_words(alloc, count)?;
+        match Vec::with_capacity(alloc, count) {
+            Ok(pool) => Ok(Living {
                 owner,
                 next: NOBODY,
                 size,
-                cells,
+                words,
+                pool,
             }),
             Err(_) => Err(NoMemory),
         }
     }
 
     /// A row that no block has.
+    #[tactic(auto, using(crate::proofs::Packing::packed_none))]
     pub(crate) fn unowned(alloc: Global, next: u32) -> Living
         ensures { result ≡ no_row }
     {
@@ -65,7 +75,8 @@ impl Living {
             owner: NOBODY,
             next,
             size: 0,
-            cells: Vec::new(alloc),
+            words: Vec::new(alloc),
+            pool: Vec::new(alloc),
         }
     }
 
@@ -89,19 +100,27 @@ impl Living {
     }
 
     /// The cell at an offset.
+    #[tactic(auto, using(crate::proofs::Flat::cell_read, crate::proofs::Flat::word_within))]
     pub(crate) fn cell(&self, at: usize) -> Cell
         requires { at < length self.now.cells }
         ensures { result ≡ slice_index_or self.now.cells at Empty }
     {
-        self.cells[at]
+        let four = four_in(&self.words, &self.pool, at / 4);
+        cell_in(four, (at % 4) as u32)
     }
 
     /// Puts a cell at an offset.
+    #[tactic(auto, using(crate::proofs::Flat::cell_put, crate::proofs::Flat::word_within, crate::proofs::Flat::enough_after))]
     fn put(&mut self, at: usize, cell: Cell)
         requires { at < length self.old.cells }
         ensures { self.new ≡ record { owner = self.old.owner; cells = slice_set self.old.cells at cell } }
     {
-        self.cells[at] = cell;
+        let four = with_cell_in(
+            four_in(&self.words, &self.pool, at / 4),
+            (at % 4) as u32,
+            cell,
+        );
+        put_four(&mut self.words, &mut self.pool, at / 4, four);
     }
 
     /// The number of a type from an offset on.
@@ -191,15 +210,30 @@ impl Living {
         }
     }
 
+    /// Puts the fragments of a pointer into a word of their own.
+    #[tactic(auto, using(crate::proofs::Flat::enough_after, crate::proofs::Flat::word_within))]
+    fn put_fragments(&mut self, at: u32, type_number: u32, p: Ptr, word: Word)
+        requires within { at + 4 ≤ length self.old.cells }
+        requires aligned { at % 4 ≡ 0 }
+        requires plain { is_mixed word ≡ false }
+        requires whole { whole word ≡ four_pointer type_number p }
+        ensures { self.new ≡ record { owner = self.old.owner; cells = over self.old.cells at (fragments_of type_number p) } }
+    {
+        put_whole(&mut self.words, &mut self.pool, at as usize / 4, word);
+    }
+
     /// Puts the fragments of a pointer from an offset on.
     pub(crate) fn put_pointer(&mut self, at: u32, type_number: u32, p: Ptr)
         requires { at + 4 ≤ length self.old.cells }
         ensures { self.new ≡ record { owner = self.old.owner; cells = over self.old.cells at (fragments_of type_number p) } }
     {
-        let a = Cell::Fragment(type_number, p, 0);
-        let b = Cell::Fragment(type_number, p, 1);
-        let c = Cell::Fragment(type_number, p, 2);
-        self.put_four(at, a, b, c, Cell::Fragment(type_number, p, 3));
+        match pointer_word(type_number, p) {
+            Some(word) if at % 4 == 0 => self.put_fragments(at, type_number, p, word),
+            _ => {
+                let Four { a, b, c, d } = four_pointer(type_number, p);
+                self.put_four(at, a, b, c, d);
+            }
+        }
     }
 
     /// Puts one byte into so many cells from an offset on.

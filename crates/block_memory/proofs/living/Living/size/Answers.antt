@@ -1,0 +1,8 @@
+use Rattle.std.proofs.Common.{length, ap, ◌∙◌}
+use Rattle.block_memory.proofs.Flat.{row_size}
+use Rattle.block_memory.proofs.living.Living.size.Goals as goal
+
+pub returns : goal.returns
+returns c =
+    let s = c.self.inside in
+    row_size s.words.items s.pool.items s.size c.self.invariant.1 ∙ ap (λ row. length row.cells) c.self.view_is

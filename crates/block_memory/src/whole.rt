@@ -1,0 +1,145 @@
+//! Words for cells, and cells of words.
+
+ghost use Rattle.std.specs.Prelude.{◌≡◌, ◌<◌, false};
+ghost use Rattle.block_memory.specs.Words.{ContentGives, MixedGives, WordGives, cell_in, cell_of, four_pointer, is_mixed, whole, with_cell_in};
+
+use crate::cell::Cell;
+use crate::holding::are_fragments;
+use crate::pointer::Ptr;
+use crate::word::{Content, Four, Word};
+
+fn cell_of(content: Content) -> Cell
+    ensures { result ≡ cell_of content }
+{
+    match content {
+        Content::Empty => Cell::Empty,
+        Content::Byte(x) => Cell::Byte(x),
+    }
+}
+
+fn content_of(cell: Cell) -> Option<Content>
+    ensures { ContentGives cell result }
+{
+    match cell {
+        Cell::Empty => Some(Content::Empty),
+        Cell::Byte(x) => Some(Content::Byte(x)),
+        Cell::Fragment(_, _, _) => None,
+    }
+}
+
+/// The fragments of a pointer.
+pub(crate) fn four_pointer(type_number: u32, p: Ptr) -> Four
+    ensures { result ≡ four_pointer type_number p }
+{
+    Four {
+        a: Cell::Fragment(type_number, p, 0),
+        b: Cell::Fragment(type_number, p, 1),
+        c: Cell::Fragment(type_number, p, 2),
+        d: Cell::Fragment(type_number, p, 3),
+    }
+}
+
+/// The cells of a word that needs no pool.
+pub(crate) fn whole(word: Word) -> Four
+    requires { is_mixed word ≡ false }
+    ensures { result ≡ whole word }
+{
+    match word {
+        Word::Plain(a, b, c, d) => Four {
+            a: cell_of(a),
+            b: cell_of(b),
+            c: cell_of(c),
+            d: cell_of(d),
+        },
+        Word::Null(t) => four_pointer(t, Ptr::Null),
+        Word::Block(t, b, at) => four_pointer(t, Ptr::Block(u64::from(b), at)),
+        Word::Function(t, f) => four_pointer(t, Ptr::Function(f)),
+        Word::Mixed(_) => unreachable!(),
+    }
+}
+
+/// The place in the pool of a word that needs it.
+pub(crate) fn mixed(word: Word) -> Option<u32>
+    ensures { MixedGives word result }
+{
+    match word {
+        Word::Plain(_, _, _, _) => None,
+        Word::Null(_) => None,
+        Word::Block(_, _, _) => None,
+        Word::Function(_, _) => None,
+        Word::Mixed(e) => Some(e),
+    }
+}
+
+/// A word for a whole pointer.
+pub(crate) fn pointer_word(type_number: u32, p: Ptr) -> Option<Word>
+    ensures { WordGives (four_pointer type_number p) result }
+{
+    match p {
+        Ptr::Null => Some(Word::Null(type_number)),
+        Ptr::Block(b, at) => {
+            if b < 4_294_967_296 {
+                Some(Word::Block(type_number, b as u32, at))
+            } else {
+                None
+            }
+        }
+        Ptr::Function(f) => Some(Word::Function(type_number, f)),
+    }
+}
+
+/// A word for cells that hold no part of a pointer.
+fn plain_word(four: Four) -> Option<Word>
+    ensures { WordGives four result }
+{
+    let a = content_of(four.a)?;
+    let b = content_of(four.b)?;
+    let c = content_of(four.c)?;
+    let d = content_of(four.d)?;
+    Some(Word::Plain(a, b, c, d))
+}
+
+/// A word for cells, where there is one that needs no pool.
+#[tactic(auto, using(crate::proofs::Packing::word_of_fragments))]
+pub(crate) fn word_of(four: Four) -> Option<Word>
+    ensures { WordGives four result }
+{
+    match four.a {
+        Cell::Empty => plain_word(four),
+        Cell::Byte(_) => plain_word(four),
+        Cell::Fragment(t, p, _) => {
+            if are_fragments(four.a, four.b, four.c, four.d, t, p) {
+                pointer_word(t, p)
+            } else {
+                None
+            }
+        }
+    }
+}
+
+/// One of four cells.
+pub(crate) fn cell_in(four: Four, k: u32) -> Cell
+    requires { k < 4 }
+    ensures { result ≡ cell_in four k }
+{
+    match k {
+        0 => four.a,
+        1 => four.b,
+        2 => four.c,
+        _ => four.d,
+    }
+}
+
+/// Four cells with another one in place of one.
+pub(crate) fn with_cell_in(four: Four, k: u32, cell: Cell) -> Four
+    requires { k < 4 }
+    ensures { result ≡ with_cell_in four k cell }
+{
+    let Four { a, b, c, d } = four;
+    match k {
+        0 => Four { a: cell, b, c, d },
+        1 => Four { a, b: cell, c, d },
+        2 => Four { a, b, c: cell, d },
+        _ => Four { a, b, c, d: cell },
+    }
+}

@@ -1,0 +1,31 @@
+//! Words: four cells in sixteen bytes.
+
+use crate::cell::Cell;
+
+/// A cell that holds no part of a pointer.
+#[derive(Clone, Copy, Debug, PartialEq, Eq)]
+pub(crate) enum Content {
+    Empty,
+    Byte(u8),
+}
+
+/// Four cells.
+#[derive(Clone, Copy, Debug, PartialEq, Eq)]
+pub(crate) struct Four {
+    pub(crate) a: Cell,
+    pub(crate) b: Cell,
+    pub(crate) c: Cell,
+    pub(crate) d: Cell,
+}
+
+/// Four cells in a row, by what they hold.
+#[derive(Clone, Copy, Debug, PartialEq, Eq)]
+pub(crate) enum Word {
+    Plain(Content, Content, Content, Content),
+    /// A whole pointer, with the number of its type.
+    Null(u32),
+    Block(u32, u32, u32),
+    Function(u32, u32),
+    /// Any four cells: their place in the pool.
+    Mixed(u32),
+}
