@@ -1,0 +1,5 @@
+pub mod Closed
+pub mod ClosedRuns
+pub mod ClosedExpressions
+pub mod ClosedStatements
+pub mod ClosedCalls
