@@ -3,3 +3,4 @@ pub mod ClosedRuns
 pub mod ClosedExpressions
 pub mod ClosedStatements
 pub mod ClosedCalls
+pub mod Fuel
