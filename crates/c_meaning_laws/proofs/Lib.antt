@@ -4,3 +4,5 @@ pub mod ClosedExpressions
 pub mod ClosedStatements
 pub mod ClosedCalls
 pub mod Fuel
+pub mod Longer
+pub mod LongerRuns
