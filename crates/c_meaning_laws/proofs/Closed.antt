@@ -8,7 +8,7 @@ use Rattle.runs.specs.Doing.{Doing, ◌>>=◌, ◌>>◌, pure, is_undefined, mem
 use Rattle.runs.specs.Events.{Event}
 use Rattle.runs.specs.Library.{getchar}
 use Rattle.runs.specs.Scalars.{Value}
-use Rattle.runs.specs.Worlds.{World, goes_on, ends}
+use Rattle.runs.specs.Worlds.{goes_on, ends}
 
 -- the turns are used up
 abbrev pub stops : {F A : Type 0} → Doing F A

@@ -1,12 +1,11 @@
 -- What two calls of one function do is related where the numbers that bound them may.
-use Rattle.std.proofs.Common.{◌≡◌, refl, ℕ, zero, suc, ◌+◌, Bool, true, false, List, [], ◌∷◌, length, Option, Some, None, slice_get}
+use Rattle.std.proofs.Common.{ℕ, zero, suc, ◌+◌, List, [], ◌∷◌, length, Option, Some, None, slice_get}
 use Rattle.lay_base.specs.declared.faults.UndefinedKind.TheVariants as K
 use Rattle.lay_base.specs.declared.place.Place.{Place}
 use Rattle.c_typed.specs.declared.program.Local.{Local}
 use Rattle.c_typed.specs.Trees.{Statement}
 use Rattle.c_typed.specs.Programs.{ProgramData, FunctionData}
 use Rattle.block_memory.specs.declared.pointer.Ptr.TheVariants as P
-use Rattle.runs.specs.Doing.{Doing, ◌>>=◌, ◌>>◌, pure}
 use Rattle.runs.specs.Events.{entered}
 use Rattle.runs.specs.Scalars.{Value}
 use Rattle.c_meaning.specs.Frames.{Frame, Slot, by_name, in_block, frame_of}
@@ -31,7 +30,7 @@ module _ (r : Relation) (p : ProgramData) where
   by_receive place x (l ∷ more) [] = Runs.by_pure r tt
   by_receive place x (l ∷ more) (v ∷ rest) =
       Runs.by_bind r (Runs.by_bind r (Statements.by_begin r p x (Some l)) (λ a. Runs.by_bind r (Expressions.by_slot_now r x) (by_received place x l.ty v)))
-        (λ a. by_receive place (x + 1) more rest)
+      (λ a. by_receive place (x + 1) more rest)
 
   -- calls, where n and m bound them
   abbrev Calling : (n m : ℕ) (call call' : Calls) → Type 0
@@ -42,15 +41,15 @@ module _ (r : Relation) (p : ProgramData) where
   body_alike call call' n m calls place f values g None b h = Runs.by_undefined r K.Call place b
   body_alike call call' n m calls place f values g (Some body) b h =
       Runs.bind r (by_receive place 0 g.parameters values b) (λ a. Runs.bind r (Statements.execute_alike r p call call' n m calls f (all_locals g) 0 body b h) (λ way.
-        Runs.bind r (Statements.by_finish_all r p (numbers p (length g.parameters)) b) (λ c. r.on_pure b _ _ (result_of way))))
+      Runs.bind r (Statements.by_finish_all r p (numbers p (length g.parameters)) b) (λ c. r.on_pure b _ _ (result_of way))))
 
   function_alike : (call call' : Calls) (n m : ℕ) → Calling n m call call' → (place : Place) (f : ℕ) (values : List Value) (g : Option FunctionData)
       (b : ℕ) → r.Fuels b (suc n) (suc m) → r.Related b Frame (Option Value) (function_of p call n place f values g) (function_of p call' m place f values g)
   function_alike call call' n m calls place f values None b h = Runs.by_undefined r K.Call place b
   function_alike call call' n m calls place f values (Some g) b h =
       r.on_turn b n m _ _ _ _ h (λ c k. Runs.bind r (r.on_deeper c _) (λ a. Runs.bind r (Runs.by_note r (entered f) c) (λ a.
-        Runs.bind r (r.on_apart c _ _ (frame_of p g) _ _ (body_alike call call' n m calls place f values g g.body c k)) (λ v.
-          Runs.bind r (r.on_leave c _) (λ a. r.on_pure c _ _ v)))))
+      Runs.bind r (r.on_apart c _ _ (frame_of p g) _ _ (body_alike call call' n m calls place f values g g.body c k)) (λ v.
+      Runs.bind r (r.on_leave c _) (λ a. r.on_pure c _ _ v)))))
 
   -- the theorem
   pub called_alike : (n m : ℕ) → Calling n m (called p n) (called p m)

@@ -1,12 +1,11 @@
 -- What two evaluations do is related where what their calls do is.
-use Rattle.std.proofs.Common.{◌≡◌, refl, ℕ, zero, suc, ◌*◌, ◌^◌, Bool, true, false, not, List, [], ◌∷◌, Option, Some, None, ℤ, pos, negsuc, nat_lt, slice_get, slice_set, if◌then◌else◌}
+use Rattle.std.proofs.Common.{◌≡◌, refl, ℕ, ◌*◌, ◌^◌, Bool, true, false, not, List, [], ◌∷◌, Option, Some, None, ℤ, pos, nat_lt, slice_get, slice_set, if◌then◌else◌}
 use Rattle.std.specs.Prelude.{◌+ℤ◌, ◌*ℤ◌}
 use Rattle.lay_base.specs.declared.faults.UndefinedKind.TheVariants as K
 use Rattle.lay_base.specs.declared.place.Place.{Place}
 use Rattle.c_types.specs.Layouts.{offset_of}
 use Rattle.c_types.specs.Sameness.{same_type}
-use Rattle.c_types.specs.Types.{CType, void, integer, pointer as pointer_to, array, function, structure}
-use Rattle.c_typed.specs.declared.program.Local.{Local}
+use Rattle.c_types.specs.Types.{CType, void, pointer as pointer_to}
 use Rattle.c_typed.specs.declared.operators.LibraryFunction.{LibraryFunction}
 use Rattle.c_typed.specs.declared.operators.LibraryFunction.TheVariants as L
 use Rattle.c_typed.specs.declared.operators.PointerOp.TheVariants.{Add}
@@ -15,16 +14,16 @@ use Rattle.c_typed.specs.Trees.{Expression, expression, Node, Path, path, PathNo
 use Rattle.c_typed.specs.Constants.{ty, kind_of}
 use Rattle.c_typed.specs.Conversions.{number_of}
 use Rattle.c_typed.specs.Programs.{ProgramData, FunctionData}
-use Rattle.c_typed.specs.Typed.{at_of, path_ty, path_at}
+use Rattle.c_typed.specs.Typed.{at_of, path_ty}
 use Rattle.block_memory.specs.declared.pointer.Ptr.{Ptr}
 use Rattle.block_memory.specs.declared.pointer.Ptr.TheVariants as P
-use Rattle.runs.specs.Doing.{Doing, ◌>>=◌, ◌>>◌, pure, is_undefined}
+use Rattle.runs.specs.Doing.{Doing, ◌>>=◌, pure}
 use Rattle.runs.specs.Events.{reached}
 use Rattle.runs.specs.Scalars.{Value, word, pointer, word_of, pointer_of}
 use Rattle.c_meaning.specs.Expressions.{or_no_value, part_of, is_subscript, element_of, field_in, field_through, address_of, allocated, the, given, library, copy_record, is_same_place}
 use Rattle.c_meaning.specs.Expressions.{through, as_type, value, used, value_of, how_many, arguments, spot, spot_of}
 use Rattle.c_meaning.specs.Frames.{Frame, Slot, by_name, in_block, Spot, kept, placed, with_slot, slot_now, spot_of as slot_spot, local_spot, known, fetch, put}
-use Rattle.c_meaning.specs.Operators.{converted, is_true, flag, unary, binary, moved, distance, compared, updated, next}
+use Rattle.c_meaning.specs.Operators.{converted, is_true, flag, unary, moved, updated, next}
 use Rattle.c_meaning.specs.Program.{type_at, size_at, element_size, length_of, access_at}
 use Rattle.c_meaning_laws.proofs.Closed.{Relation}
 use Rattle.c_meaning_laws.proofs.ClosedRuns as Runs
@@ -144,9 +143,9 @@ module _ (r : Relation) where
       through_alike : (place : Place) (t : CType) (q : Ptr) (all : List Value) → Alike (Option Value) (through p call place t q all) (through p call' place t q all)
       through_alike place t (P.Function f) all = by_function (slice_get p.functions f) refl
         where
-        by_function : (g : Option FunctionData) → slice_get p.functions f ≡ g → Alike (Option Value) (through p call place t (P.Function f) all) (through p call' place t (P.Function f) all)
-        by_function None e = rw e (Runs.by_undefined r K.Call place b)
-        by_function (Some g) e = rw e (choice_alike (same_type t (pointer_to (type_at p g.ty))) (calls place f all) (Runs.by_undefined r K.Call place b))
+          by_function : (g : Option FunctionData) → slice_get p.functions f ≡ g → Alike (Option Value) (through p call place t (P.Function f) all) (through p call' place t (P.Function f) all)
+          by_function None e = rw e (Runs.by_undefined r K.Call place b)
+          by_function (Some g) e = rw e (choice_alike (same_type t (pointer_to (type_at p g.ty))) (calls place f all) (Runs.by_undefined r K.Call place b))
       through_alike place t P.Null all = Runs.by_undefined r K.Call place b
       through_alike place t (P.Block c at) all = Runs.by_undefined r K.Call place b
 
@@ -183,12 +182,12 @@ module _ (r : Relation) where
             bind (spot_alike false q) (λ s. bind (used_alike x) (λ v. bind (by_put at s t v b) (λ a. pure_alike (Some v))))
         node_alike t at (T.assign_op op q x) =
             bind (spot_alike false q) (λ s. bind (used_alike x) (λ w. bind (by_fetch at s t b) (λ v. bind (Runs.by_memory r b) (λ m.
-              bind (Runs.by_tested r at (updated m op (element_size p (type_at p t)) (type_at p t) v (type_at p (ty x)) w) b) (λ new.
-                bind (by_put at s t new b) (λ a. pure_alike (Some new)))))))
+            bind (Runs.by_tested r at (updated m op (element_size p (type_at p t)) (type_at p t) v (type_at p (ty x)) w) b) (λ new.
+            bind (by_put at s t new b) (λ a. pure_alike (Some new)))))))
         node_alike t at (T.step op before q) =
             bind (spot_alike false q) (λ s. bind (by_fetch at s t b) (λ v. bind (Runs.by_memory r b) (λ m.
-              bind (Runs.by_tested r at (next m op (element_size p (type_at p t)) (type_at p t) v) b) (λ new.
-                bind (by_put at s t new b) (λ a. pure_alike (Some (if before then new else v)))))))
+            bind (Runs.by_tested r at (next m op (element_size p (type_at p t)) (type_at p t) v) b) (λ new.
+            bind (by_put at s t new b) (λ a. pure_alike (Some (if before then new else v)))))))
         node_alike t at (T.copy_record to from) =
             bind (spot_alike false to) (λ s. bind (spot_alike false from) (λ z. bind (by_copy_record at (size_at p (path_ty to)) s z b) (λ a. pure_alike None)))
         node_alike t at (T.call f all) = bind (arguments_alike all) (λ vs. calls at f vs)
@@ -215,11 +214,11 @@ module _ (r : Relation) where
         step_alike t addressed at (T.deref e) = bind (used_alike e) (λ v. pure_alike (placed (pointer_of v)))
         step_alike t addressed at (T.index e i) =
             bind (used_alike e) (λ v. bind (used_alike i) (λ w. bind (Runs.by_memory r b) (λ m.
-              bind (Runs.by_tested r at (moved m Add (size_at p t) (kind_of (type_at p (ty e))) v (kind_of (type_at p (ty i))) w) b) (λ q. pure_alike (placed (pointer_of q))))))
+            bind (Runs.by_tested r at (moved m Add (size_at p t) (kind_of (type_at p (ty e))) v (kind_of (type_at p (ty i))) w) b) (λ q. pure_alike (placed (pointer_of q))))))
         step_alike t addressed at (T.member (path u c (T.deref e)) n field) = bind (used_alike e) (λ v. by_field_through at (pointer_of v) (pos (offset_of p.records n field)) b)
         step_alike t addressed at (T.member (path u c (T.index e i)) n field) =
             bind (used_alike e) (λ v. bind (used_alike i) (λ w. by_field_through at (pointer_of v)
-              (number_of (kind_of (type_at p (ty i))) (word_of w) *ℤ pos (size_at p u) +ℤ pos (offset_of p.records n field)) b))
+            (number_of (kind_of (type_at p (ty i))) (word_of w) *ℤ pos (size_at p u) +ℤ pos (offset_of p.records n field)) b))
         step_alike t addressed at (T.member q n field) = bind (spot_alike false q) (λ s. pure_alike (part_of (offset_of p.records n field) s))
         step_alike t addressed at (T.element q i) =
             bind (spot_alike false q) (λ s. bind (used_alike i) (λ v. by_element_of at (length_of (type_at p (path_ty q))) (size_at p t) addressed s (number_of (kind_of (type_at p (ty i))) (word_of v)) b))

@@ -1,5 +1,5 @@
 -- Each operation on a world is related to itself, by a relation that its parts keep.
-use Rattle.std.proofs.Common.{ℕ, zero, suc, ◌*◌, ◌%◌, ◌^◌, Bool, true, false, List, [], ◌∷◌, Option, Some, None, Ok, Err}
+use Rattle.std.proofs.Common.{ℕ, ◌%◌, ◌^◌, Bool, true, false, Option, Ok, Err}
 use Rattle.lay_base.specs.declared.faults.UndefinedKind.{UndefinedKind}
 use Rattle.lay_base.specs.declared.place.Place.{Place}
 use Rattle.block_memory.specs.declared.kinds.Access.{Access}
@@ -12,7 +12,7 @@ use Rattle.block_memory.specs.Lifetimes.{is_heap, with_end}
 use Rattle.block_memory.specs.Lifetimes as Lifetimes
 use Rattle.block_memory.specs.Ranges as Ranges
 use Rattle.block_memory.specs.Tested.{Tested}
-use Rattle.runs.specs.Doing.{Doing, ◌>>=◌, ◌>>◌, pure, is_undefined, tested, memory_now, with_memory, note, turn, make, end, deeper, leave, enter, apart}
+use Rattle.runs.specs.Doing.{Doing, ◌>>=◌, pure, is_undefined, tested, memory_now, with_memory, note, make, end}
 use Rattle.runs.specs.Events.{Event, put, allocated, freed, loaded, stored}
 use Rattle.runs.specs.Library.{zeroed, allocate, note_freed, free, copy, fill, compare, putchar, getchar, exit}
 use Rattle.runs.specs.Scalars.{Value, word, pointer, width_of, load_in, store_in, note_if, note_in, load, store}

@@ -1,25 +1,24 @@
 -- What two executions do is related where what their calls do is.
-use Rattle.std.proofs.Common.{◌≡◌, refl, ℕ, zero, suc, ◌+◌, Bool, true, false, List, [], ◌∷◌, map, replicate, Option, Some, None, slice_get, if◌then◌else◌}
+use Rattle.std.proofs.Common.{◌≡◌, refl, ℕ, zero, suc, ◌+◌, Bool, true, false, List, [], ◌∷◌, Option, Some, None, slice_get, if◌then◌else◌}
 use Rattle.lay_base.specs.declared.place.Place.{Place}
-use Rattle.c_types.specs.IntKinds.{width}
 use Rattle.c_typed.specs.declared.program.Local.{Local}
 use Rattle.c_typed.specs.Trees as T
 use Rattle.c_typed.specs.Trees.{Expression, Path, PartValue, Part, Initializer, Statement, Statements, Arms}
 use Rattle.c_typed.specs.Constants.{ty}
-use Rattle.c_typed.specs.Programs.{ProgramData, FunctionData}
+use Rattle.c_typed.specs.Programs.{ProgramData}
 use Rattle.c_typed.specs.Typed.{at_of, path_ty, path_at}
 use Rattle.block_memory.specs.declared.kinds.BlockKind.TheVariants as Kind
 use Rattle.block_memory.specs.declared.pointer.Ptr.TheVariants as P
-use Rattle.runs.specs.Doing.{Doing, ◌>>=◌, ◌>>◌, pure, turn, note, make}
+use Rattle.runs.specs.Doing.{Doing, ◌>>=◌, ◌>>◌, pure, turn, note}
 use Rattle.runs.specs.Events.{Event, began}
 use Rattle.runs.specs.Scalars.{Value, word_of}
-use Rattle.c_meaning.specs.Expressions.{value, used, spot}
-use Rattle.c_meaning.specs.Frames.{Frame, Slot, by_name, in_block, Spot, placed, begin, end_slot, finish, begin_all, finish_all, scoped, emptied}
+use Rattle.c_meaning.specs.Expressions.{used}
+use Rattle.c_meaning.specs.Frames.{Frame, Slot, by_name, in_block, placed, begin, end_slot, begin_all, finish_all, scoped, emptied}
 use Rattle.c_meaning.specs.Loops.{loops_in, loops_in_all}
 use Rattle.c_meaning.specs.Operators.{is_true}
 use Rattle.c_meaning.specs.Program.{access_at, size_at}
 use Rattle.c_meaning.specs.Statements.{Way, normally, by_break, by_continue, by_return, and_then, and_again, behind_switch, loop, loop_behind, arm_of, default_arm, or_default}
-use Rattle.c_meaning.specs.Statements.{put_part, put_parts, zero_in, initial_in, initial_by_name, initial, declared, tests, tests_if_any, done, done_if_any, returned}
+use Rattle.c_meaning.specs.Statements.{put_part, put_parts, initial_in, initial_by_name, initial, declared, tests, tests_if_any, done, done_if_any, returned}
 use Rattle.c_meaning.specs.Statements.{execute, execute_all, enter}
 use Rattle.c_meaning_laws.proofs.Closed.{Relation}
 use Rattle.c_meaning_laws.proofs.ClosedRuns as Runs
@@ -44,9 +43,9 @@ module _ (r : Relation) where
     by_begin x None = Runs.by_pure r tt
     by_begin x (Some l) = by_kind l.block refl
       where
-      by_kind : (block : Bool) → l.block ≡ block → Itself (Unit {0}) (begin p x (Some l))
-      by_kind true e = rw e (by_bind (Runs.by_make r (size_at p l.ty) Kind.Local) (λ b. Expressions.by_with_slot r x (in_block (Some b))))
-      by_kind false e = rw e (Expressions.by_with_slot r x (by_name None))
+        by_kind : (block : Bool) → l.block ≡ block → Itself (Unit {0}) (begin p x (Some l))
+        by_kind true e = rw e (by_bind (Runs.by_make r (size_at p l.ty) Kind.Local) (λ b. Expressions.by_with_slot r x (in_block (Some b))))
+        by_kind false e = rw e (Expressions.by_with_slot r x (by_name None))
 
     by_end_slot : (x : ℕ) (s : Option Slot) → Itself (Unit {0}) (end_slot p x s)
     by_end_slot x (Some (in_block (Some b))) = by_bind (Runs.by_end r b) (λ a. Expressions.by_with_slot r x (in_block None))
@@ -108,10 +107,10 @@ module _ (r : Relation) where
   loop_alike event (suc n) (suc m) test test' step step' body body' t s d b h =
       bind (t b h) (λ goes. choice_alike goes (r.on_turn b n m _ _ _ _ h (again (loop_alike event n m test test' step step' body body' (one_more t) (one_more s) (one_more d)))) (r.on_pure b _ _ normally))
     where
-    again : Under n m Way (loop (turn >> note event) n test step body) (loop (turn >> note event) m test' step' body')
-        → (c : ℕ) → r.Fuels c n m → r.Related c Frame Way (note event >> (body >>= and_again (step >> loop (turn >> note event) n test step body)))
-        (note event >> (body' >>= and_again (step' >> loop (turn >> note event) m test' step' body')))
-    again more c k = bind (Runs.by_note r event c) (λ a. bind (one_more d c k) (and_again_alike (bind (one_more s c k) (λ a. more c k))))
+      again : Under n m Way (loop (turn >> note event) n test step body) (loop (turn >> note event) m test' step' body')
+          → (c : ℕ) → r.Fuels c n m → r.Related c Frame Way (note event >> (body >>= and_again (step >> loop (turn >> note event) n test step body)))
+          (note event >> (body' >>= and_again (step' >> loop (turn >> note event) m test' step' body')))
+      again more c k = bind (Runs.by_note r event c) (λ a. bind (one_more d c k) (and_again_alike (bind (one_more s c k) (λ a. more c k))))
 
   pub loop_behind_alike : (event : Event) (n m : ℕ) (body body' : Doing Frame Way) (test test' : Doing Frame Bool) → Under n m Way body body' → Under n m Bool test test'
       → Under n m Way (loop_behind (turn >> note event) n body test) (loop_behind (turn >> note event) m body' test')
@@ -120,12 +119,12 @@ module _ (r : Relation) where
   loop_behind_alike event (suc n) zero body body' test test' d t b h = absurd (r.not_right b n h)
   loop_behind_alike event (suc n) (suc m) body body' test test' d t b h = r.on_turn b n m _ _ _ _ h (again (loop_behind_alike event n m body body' test test' (one_more d) (one_more t)))
     where
-    again : Under n m Way (loop_behind (turn >> note event) n body test) (loop_behind (turn >> note event) m body' test')
-        → (c : ℕ) → r.Fuels c n m → r.Related c Frame Way
-        (note event >> (body >>= and_again (test >>= λ goes. if goes then loop_behind (turn >> note event) n body test else pure normally)))
-        (note event >> (body' >>= and_again (test' >>= λ goes. if goes then loop_behind (turn >> note event) m body' test' else pure normally)))
-    again more c k = bind (Runs.by_note r event c) (λ a. bind (one_more d c k) (and_again_alike
-        (bind (one_more t c k) (λ goes. choice_alike goes (more c k) (r.on_pure c _ _ normally)))))
+      again : Under n m Way (loop_behind (turn >> note event) n body test) (loop_behind (turn >> note event) m body' test')
+          → (c : ℕ) → r.Fuels c n m → r.Related c Frame Way
+          (note event >> (body >>= and_again (test >>= λ goes. if goes then loop_behind (turn >> note event) n body test else pure normally)))
+          (note event >> (body' >>= and_again (test' >>= λ goes. if goes then loop_behind (turn >> note event) m body' test' else pure normally)))
+      again more c k = bind (Runs.by_note r event c) (λ a. bind (one_more d c k) (and_again_alike
+          (bind (one_more t c k) (λ goes. choice_alike goes (more c k) (r.on_pure c _ _ normally)))))
 
   module _ (p : ProgramData) (call call' : Calls) where
     -- ---- initializers and parts of statements
@@ -203,10 +202,10 @@ module _ (r : Relation) where
         execute_alike l (T.do_while body e) b h = loop_behind_alike (began g l) n m _ _ _ _ (execute_alike (l + 1) body) (λ b h. tests_alike b (calls b h) e) b h
         execute_alike l (T.for own start test step body) b h =
             scoped_alike p locals own (bind (execute_all_alike l start b h) (and_then_alike (loop_alike (began g l) n m _ _ _ _ _ _
-              (λ b h. tests_if_any_alike b (calls b h) test) (λ b h. done_if_any_alike b (calls b h) step) (execute_alike (l + 1) body) b h)))
+            (λ b h. tests_if_any_alike b (calls b h) test) (λ b h. done_if_any_alike b (calls b h) step) (execute_alike (l + 1) body) b h)))
         execute_alike l (T.switch e own arms) b h =
             bind (used_alike b (calls b h) e) (λ v. bind (scoped_alike p locals own
-              (enter_alike l (or_default (arm_of (word_of v) 0 arms) (default_arm 0 arms)) arms b h)) (λ way. r.on_pure b _ _ (behind_switch way)))
+            (enter_alike l (or_default (arm_of (word_of v) 0 arms) (default_arm 0 arms)) arms b h)) (λ way. r.on_pure b _ _ (behind_switch way)))
         execute_alike l T.break b h = r.on_pure b _ _ by_break
         execute_alike l T.continue b h = r.on_pure b _ _ by_continue
         execute_alike l (T.return e) b h = returned_alike b (calls b h) e

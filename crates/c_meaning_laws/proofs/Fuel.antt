@@ -1,5 +1,5 @@
 -- The numbers that bound calls and loops do not show, where they are more than the turns that are left.
-use Rattle.std.proofs.Common.{◌≡◌, refl, ℕ, zero, suc, ◌+◌, ◌<◌, ◌≤◌, Bool, List, Option, if◌then◌else◌, nat_lt, [], ◌∷◌, length, ◌&&◌, true, false, arith}
+use Rattle.std.proofs.Common.{◌≡◌, refl, ℕ, zero, suc, ◌+◌, ◌<◌, ◌≤◌, Bool, List, Option, if◌then◌else◌, nat_lt, [], ◌∷◌, ◌&&◌, true, false, arith}
 use Rattle.lay_base.specs.declared.faults.RoomKind.TheVariants.{Live, Depth}
 use Rattle.lay_base.specs.declared.faults.UndefinedKind.{UndefinedKind}
 use Rattle.lay_base.specs.declared.place.Place.{Place}
@@ -34,8 +34,10 @@ pure_same b F A x = record { at = λ k k' f w h c. c x f w (omega arith) }
 
 pub bind_same : (b : ℕ) (F A B : Type 0) (m m' : Doing F A) (next next' : A → Doing F B) → Same b F A m m' → ((x : A) → Same b F B (next x) (next' x))
     → Same b F B (m >>= next) (m' >>= next')
-bind_same b F A B m m' next next' one other = record { at = λ k k' f w h c.
-    one.at (λ x. next x k) (λ x. next' x k') f w h (λ x g u i. (other x).at k k' g u (omega arith) (λ y a v j. c y a v (omega arith))) }
+bind_same b F A B m m' next next' one other = record {
+  at = λ k k' f w h c.
+      one.at (λ x. next x k) (λ x. next' x k') f w h (λ x g u i. (other x).at k k' g u (omega arith) (λ y a v j. c y a v (omega arith)));
+}
 
 pub end_same : (b : ℕ) (F A : Type 0) (status : ℕ) → Same b F A (λ rest f w. ends status w) (λ rest f w. ends status w)
 end_same b F A status = record { at = λ k k' f w h c. refl }
@@ -89,12 +91,16 @@ either_same true e same = refl
 either_same false e same = same
 
 pub make_same : (b : ℕ) (F : Type 0) (size : ℕ) (kind : BlockKind) → Same b F ℕ (make size kind) (make size kind)
-make_same b F size kind = record { at = λ k k' f w h c. either_same
-    (w.is_limited && nat_lt greatest_live (live_bytes w.memory + size)) (out_of_room Live (live_bytes w.memory + size) w) (c _ f (record w { memory = with_block w.memory size kind }) (omega arith)) }
+make_same b F size kind = record {
+  at = λ k k' f w h c. either_same
+      (w.is_limited && nat_lt greatest_live (live_bytes w.memory + size)) (out_of_room Live (live_bytes w.memory + size) w) (c _ f (record w { memory = with_block w.memory size kind }) (omega arith));
+}
 
 pub deeper_same : (b : ℕ) (F : Type 0) → Same b F (Unit {0}) deeper deeper
-deeper_same b F = record { at = λ k k' f w h c. either_same (w.is_limited && nat_lt greatest_depth (w.depth + 1)) (out_of_room Depth (w.depth + 1) w)
-    (c tt f (record w { depth = w.depth + 1 }) (omega arith)) }
+deeper_same b F = record {
+  at = λ k k' f w h c. either_same (w.is_limited && nat_lt greatest_depth (w.depth + 1)) (out_of_room Depth (w.depth + 1) w)
+      (c tt f (record w { depth = w.depth + 1 }) (omega arith));
+}
 
 pub leave_same : (b : ℕ) (F : Type 0) → Same b F (Unit {0}) leave leave
 leave_same b F = record { at = λ k k' f w h c. c tt f _ (omega arith) }
@@ -107,10 +113,26 @@ apart_same b F A own m m' one = record { at = λ k k' f w h c. one.at (λ x g u.
 
 abbrev pub by_turns : Relation
 by_turns = record {
-  Fuels = Suffice; Related = Same; on_pure = pure_same; on_bind = bind_same; on_end = end_same; on_undefined = undefined_same; on_none = none_same;
-  on_turn = turn_same; not_left = none_suffices; not_right = none_suffices_either; one_more = more_suffice; on_memory = memory_same;
-  on_with_memory = with_memory_same; on_note = note_same; on_getchar = getchar_same; on_make = make_same; on_deeper = deeper_same;
-  on_leave = leave_same; on_own = own_same; on_apart = apart_same;
+  Fuels = Suffice;
+  Related = Same;
+  on_pure = pure_same;
+  on_bind = bind_same;
+  on_end = end_same;
+  on_undefined = undefined_same;
+  on_none = none_same;
+  on_turn = turn_same;
+  not_left = none_suffices;
+  not_right = none_suffices_either;
+  one_more = more_suffice;
+  on_memory = memory_same;
+  on_with_memory = with_memory_same;
+  on_note = note_same;
+  on_getchar = getchar_same;
+  on_make = make_same;
+  on_deeper = deeper_same;
+  on_leave = leave_same;
+  on_own = own_same;
+  on_apart = apart_same;
 }
 
 -- ---- the laws

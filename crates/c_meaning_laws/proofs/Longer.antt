@@ -1,5 +1,5 @@
 -- With more turns, or with its limit lifted, a part of a run does what it does without them, or goes on.
-use Rattle.std.proofs.Common.{◌≡◌, refl, sym, ap, ◌∙◌, ℕ, zero, suc, ◌+◌, ◌<◌, ◌≤◌, Bool, true, false, ◌&&◌, nat_lt, if◌then◌else◌, List, [], ◌∷◌, ◌++◌, length, Option, Some, None}
+use Rattle.std.proofs.Common.{◌≡◌, refl, sym, ap, ◌∙◌, ℕ, zero, suc, ◌+◌, Bool, true, false, ◌&&◌, nat_lt, if◌then◌else◌, List, [], ◌∷◌, ◌++◌, length, Some, None}
 use Rattle.std.proofs.Common.{append_assoc, arith}
 use Rattle.lay_base.specs.declared.faults.RoomKind.{RoomKind}
 use Rattle.lay_base.specs.declared.faults.RoomKind.TheVariants.{Live, Depth}
@@ -13,7 +13,7 @@ use Rattle.runs.specs.Events.{Event, got, left}
 use Rattle.runs.specs.Library.{next_of, getchar}
 use Rattle.runs.specs.Scalars.{Value}
 use Rattle.runs.specs.Worlds.{World, End, ends, goes_on, undefined, out_of_room, greatest_live, greatest_depth, live_bytes}
-use Rattle.c_meaning_laws.specs.Longer.{Onward, world_of, Continues, still, later, room_follows, Follows}
+use Rattle.c_meaning_laws.specs.Longer.{Onward, Continues, still, later, Follows}
 use Rattle.c_meaning_laws.proofs.Closed.{Relation, stops}
 
 -- ---- worlds
@@ -115,9 +115,9 @@ module _ (d : ℕ) (lifts : Bool) where
   turned zero t F A m m' one k k' f w e h g c =
       (grows_turn t F A m' one.grows k' f w (later lifts w t) (as_seen (later lifts w t) refl refl (here w)) (g w), none t h)
     where
-    none : (s : ℕ) → s ≡ w.turns + d → d ≡ 0 → turn_of s (λ x. m' k') f (later lifts w s) ≡ goes_on (later lifts w (w.turns + d))
-    none zero h z = ap (λ n. goes_on (later lifts w n)) h
-    none (suc s) h z = absurd (omega arith)
+      none : (s : ℕ) → s ≡ w.turns + d → d ≡ 0 → turn_of s (λ x. m' k') f (later lifts w s) ≡ goes_on (later lifts w (w.turns + d))
+      none zero h z = ap (λ n. goes_on (later lifts w n)) h
+      none (suc s) h z = absurd (omega arith)
   turned (suc s) zero F A m m' one k k' f w e h g c = absurd (omega arith)
   turned (suc s) (suc t) F A m m' one k k' f w e h g c = one.follows k k' f (record w { turns = s }) t (omega arith) g c
 
@@ -182,7 +182,7 @@ module _ (d : ℕ) (lifts : Bool) where
 
 short_longer : (d : ℕ) (lifts limited test : Bool) (kind : RoomKind) (counted : ℕ) (w : World) (t : ℕ) (a a' : End) → t ≡ w.turns + d → Continues w a'
     → Follows d lifts a a' → Follows d lifts (if limited && test then out_of_room kind counted w else a)
-        (if still lifts limited && test then out_of_room kind counted (later lifts w t) else a')
+    (if still lifts limited && test then out_of_room kind counted (later lifts w t) else a')
 short_longer d true true true kind counted w t a a' h o c = o
 short_longer d true true false kind counted w t a a' h o c = c
 short_longer d true false test kind counted w t a a' h o c = c
@@ -207,9 +207,24 @@ deeper_longer d lifts b F = record {
 
 abbrev pub by_more : (d : ℕ) (lifts : Bool) → Relation
 by_more d lifts = record {
-  Fuels = AreOne d lifts; Related = λ b. Longer d lifts; on_pure = pure_longer d lifts; on_bind = bind_longer d lifts; on_end = end_longer d lifts;
-  on_undefined = undefined_longer d lifts; on_none = none_longer d lifts; on_turn = turn_longer d lifts; not_left = not_left d lifts;
-  not_right = not_right d lifts; one_more = one_more d lifts; on_memory = memory_longer d lifts; on_with_memory = with_memory_longer d lifts;
-  on_note = note_longer d lifts; on_getchar = getchar_longer d lifts; on_make = make_longer d lifts; on_deeper = deeper_longer d lifts;
-  on_leave = leave_longer d lifts; on_own = own_longer d lifts; on_apart = apart_longer d lifts;
+  Fuels = AreOne d lifts;
+  Related = λ b. Longer d lifts;
+  on_pure = pure_longer d lifts;
+  on_bind = bind_longer d lifts;
+  on_end = end_longer d lifts;
+  on_undefined = undefined_longer d lifts;
+  on_none = none_longer d lifts;
+  on_turn = turn_longer d lifts;
+  not_left = not_left d lifts;
+  not_right = not_right d lifts;
+  one_more = one_more d lifts;
+  on_memory = memory_longer d lifts;
+  on_with_memory = with_memory_longer d lifts;
+  on_note = note_longer d lifts;
+  on_getchar = getchar_longer d lifts;
+  on_make = make_longer d lifts;
+  on_deeper = deeper_longer d lifts;
+  on_leave = leave_longer d lifts;
+  on_own = own_longer d lifts;
+  on_apart = apart_longer d lifts;
 }
