@@ -1,0 +1,3 @@
+pub mod PreservedPaths
+pub mod PreservedCalls
+pub mod PreservedExpressions

@@ -1,0 +1,51 @@
+-- The first step of an expression leaves what the program does as it was.
+use Rattle.std.proofs.Common.{◌≡◌, refl, sym, ap, ◌∙◌, ℕ, zero, suc, ◌+◌, ◌<◌, ◌≤◌, Bool, true, false, if◌then◌else◌, List, [], ◌∷◌, ◌++◌, Option, Some, None, arith}
+use Rattle.lay_base.specs.declared.place.Place.{Place}
+use Rattle.c_typed.specs.Trees as T
+use Rattle.c_typed.specs.Trees.{Expression, expression, Node, Path, path, PathNode, Expressions}
+use Rattle.c_typed.specs.Programs.{ProgramData}
+use Rattle.runs.specs.Doing.{Rest, Doing, ◌>>=◌, ◌>>◌, pure}
+use Rattle.runs.specs.Scalars.{Value}
+use Rattle.runs.specs.Worlds.{World, End}
+use Rattle.c_meaning.specs.Expressions as Meaning
+use Rattle.c_meaning.specs.Expressions.{or_no_value, the}
+use Rattle.c_meaning.specs.Frames.{Frame, Spot}
+use Rattle.c_meaning.specs.Operators.{is_true, flag}
+use Rattle.c_meaning.specs.Statements.{normally}
+use Rattle.source_machine.specs.Items as I
+use Rattle.source_machine.specs.Items.{value, spot, Stack, Work, acting, using}
+use Rattle.source_machine.specs.Steps.{located, evaluated, may_lack, needing_if}
+use Rattle.source_machine.specs.Finish.{call, after, finish}
+use Rattle.source_machine.proofs.PreservedPaths.{located_step}
+use Rattle.source_machine.proofs.PreservedCalls.{onto, either, gathers_step}
+
+module _ (p : ProgramData) (n : ℕ) where
+  pub node_step : (t : ℕ) (at : Place) (node : Node ℕ) (more : Work) (stack : Stack) (f : Frame) (w : World) → w.turns < n
+      → evaluated p t at node more stack (finish p n) f w ≡ Meaning.value_of p (call p n) t at node (onto p n more stack) f w
+  unfolding after finish
+  node_step t at (T.constant v) more stack f w h = refl
+  node_step t at T.null more stack f w h = refl
+  node_step t at (T.function_name g) more stack f w h = refl
+  node_step t at (T.load q) more stack f w h = located_step p n false q (acting (I.loading at t) ∷ more) stack f w
+  node_step t at (T.address_of q) more stack f w h = located_step p n true q (acting (I.addressing at) ∷ more) stack f w
+  node_step t at (T.decay q) more stack f w h = located_step p n false q (acting (I.addressing at) ∷ more) stack f w
+  node_step t at (T.convert e written) more stack f w h = refl
+  node_step t at (T.unary op x) more stack f w h = refl
+  node_step t at (T.binary op x y) more stack f w h = refl
+  node_step t at (T.compare op x y) more stack f w h = refl
+  node_step t at (T.pointer_add op x y) more stack f w h = refl
+  node_step t at (T.pointer_difference x y) more stack f w h = refl
+  node_step t at (T.both x y) more stack f w h = refl
+  node_step t at (T.either x y) more stack f w h = refl
+  node_step t at (T.not x) more stack f w h = refl
+  node_step t at (T.choose x y z) more stack f w h = refl
+  node_step t at (T.comma x y) more stack f w h = refl
+  node_step t at (T.assign q x) more stack f w h = located_step p n false q (using x ∷ acting (I.assigning at t) ∷ more) stack f w
+  node_step t at (T.assign_op op q x) more stack f w h = located_step p n false q (using x ∷ _) stack f w
+  node_step t at (T.step op before q) more stack f w h = located_step p n false q (acting (I.stepping at t op before) ∷ more) stack f w
+  node_step t at (T.copy_record to from) more stack f w h = located_step p n false to _ stack f w
+  node_step t at (T.call g all) more stack f w h = gathers_step p n (I.function at g) [] all more stack f w h
+  node_step t at (T.call_through e all) more stack f w h = refl
+  node_step t at (T.library which all) more stack f w h = gathers_step p n (I.library at which) [] all more stack f w h
+  node_step t at (T.allocate r T.no_expression zeroed) more stack f w h = refl
+  node_step t at (T.allocate r (T.some_expression e) zeroed) more stack f w h = refl

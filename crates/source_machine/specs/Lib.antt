@@ -1,0 +1,4 @@
+pub mod Actions
+pub mod Finish
+pub mod Items
+pub mod Steps
