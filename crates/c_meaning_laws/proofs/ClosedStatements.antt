@@ -73,19 +73,19 @@ module _ (r : Relation) where
 
   -- ---- ways and loops
 
-  and_then_alike : {b : ℕ} {m m' : Doing Frame Way} → r.Related b Frame Way m m' → (way : Way) → r.Related b Frame Way (and_then m way) (and_then m' way)
+  pub and_then_alike : {b : ℕ} {m m' : Doing Frame Way} → r.Related b Frame Way m m' → (way : Way) → r.Related b Frame Way (and_then m way) (and_then m' way)
   and_then_alike one normally = one
   and_then_alike one by_break = r.on_pure _ _ _ by_break
   and_then_alike one by_continue = r.on_pure _ _ _ by_continue
   and_then_alike one (by_return v) = r.on_pure _ _ _ (by_return v)
 
-  and_again_alike : {b : ℕ} {m m' : Doing Frame Way} → r.Related b Frame Way m m' → (way : Way) → r.Related b Frame Way (and_again m way) (and_again m' way)
+  pub and_again_alike : {b : ℕ} {m m' : Doing Frame Way} → r.Related b Frame Way m m' → (way : Way) → r.Related b Frame Way (and_again m way) (and_again m' way)
   and_again_alike one normally = one
   and_again_alike one by_continue = one
   and_again_alike one by_break = r.on_pure _ _ _ normally
   and_again_alike one (by_return v) = r.on_pure _ _ _ (by_return v)
 
-  choice_alike : {b : ℕ} {A : Type 0} (test : Bool) {m m' n n' : Doing Frame A} → r.Related b Frame A m m' → r.Related b Frame A n n'
+  pub choice_alike : {b : ℕ} {A : Type 0} (test : Bool) {m m' n n' : Doing Frame A} → r.Related b Frame A m m' → r.Related b Frame A n n'
       → r.Related b Frame A (if test then m else n) (if test then m' else n')
   choice_alike true one other = one
   choice_alike false one other = other
@@ -167,17 +167,17 @@ module _ (r : Relation) where
       declared_alike x (Some l) None = bind (Expressions.by_slot_now r x b) (λ s. by_emptied p x l.ty s b)
       declared_alike x (Some l) (Some i) = bind (Expressions.by_slot_now r x b) (initial_alike x (size_at p l.ty) i)
 
-      tests_alike : (e : Expression ℕ) → Alike Bool (tests p call e) (tests p call' e)
+      pub tests_alike : (e : Expression ℕ) → Alike Bool (tests p call e) (tests p call' e)
       tests_alike e = bind (used_alike e) (λ v. r.on_pure b _ _ (is_true v))
 
-      tests_if_any_alike : (e : Option (Expression ℕ)) → Alike Bool (tests_if_any p call e) (tests_if_any p call' e)
+      pub tests_if_any_alike : (e : Option (Expression ℕ)) → Alike Bool (tests_if_any p call e) (tests_if_any p call' e)
       tests_if_any_alike None = r.on_pure b _ _ true
       tests_if_any_alike (Some e) = tests_alike e
 
-      done_alike : (e : Expression ℕ) → Alike (Unit {0}) (done p call e) (done p call' e)
+      pub done_alike : (e : Expression ℕ) → Alike (Unit {0}) (done p call e) (done p call' e)
       done_alike e = bind (Expressions.value_alike r p call call' b calls e) (λ v. r.on_pure b _ _ tt)
 
-      done_if_any_alike : (e : Option (Expression ℕ)) → Alike (Unit {0}) (done_if_any p call e) (done_if_any p call' e)
+      pub done_if_any_alike : (e : Option (Expression ℕ)) → Alike (Unit {0}) (done_if_any p call e) (done_if_any p call' e)
       done_if_any_alike None = r.on_pure b _ _ tt
       done_if_any_alike (Some e) = done_alike e
 

@@ -1,3 +1,4 @@
 pub mod PreservedPaths
 pub mod PreservedCalls
 pub mod PreservedExpressions
+pub mod PreservedStatements

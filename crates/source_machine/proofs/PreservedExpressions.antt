@@ -49,3 +49,41 @@ module _ (p : ProgramData) (n : ℕ) where
   node_step t at (T.library which all) more stack f w h = gathers_step p n (I.library at which) [] all more stack f w h
   node_step t at (T.allocate r T.no_expression zeroed) more stack f w h = refl
   node_step t at (T.allocate r (T.some_expression e) zeroed) more stack f w h = refl
+
+  -- the same of a value that is used, where the node may have none and where it may not
+  abbrev Used : (t : ℕ) (at : Place) (node : Node ℕ) → Type 0
+  Used t at node = (more : Work) (stack : Stack) (f : Frame) (w : World) → w.turns < n → evaluated p t at node (needing_if (may_lack node) at more) stack (finish p n) f w
+      ≡ Meaning.value_of p (call p n) t at node (λ v. or_no_value at v (λ v. onto p n more stack (Some v))) f w
+
+  both_used : (t : ℕ) (at : Place) (x y : Expression ℕ) → Used t at (T.both x y)
+  both_used t at x y more stack f w h = node_step t at (T.both x y) more stack f w h
+      ∙ λ i. Meaning.used p (call p n) x (λ v g u. some_used v g u i) f w
+    where
+    some_used : (v : Value) (g : Frame) (u : World)
+        → (if is_true v then the (Meaning.used p (call p n) y) (λ w. flag (is_true w)) else pure (Some (flag false))) (onto p n more stack) g u
+        ≡ (if is_true v then the (Meaning.used p (call p n) y) (λ w. flag (is_true w)) else pure (Some (flag false)))
+          (λ v. or_no_value at v (λ v. onto p n more stack (Some v))) g u
+    some_used v g u = either (is_true v) _ _ _ _ (onto p n more stack) (λ v. or_no_value at v (λ v. onto p n more stack (Some v))) g u refl refl
+
+  either_used : (t : ℕ) (at : Place) (x y : Expression ℕ) → Used t at (T.either x y)
+  either_used t at x y more stack f w h = node_step t at (T.either x y) more stack f w h
+      ∙ λ i. Meaning.used p (call p n) x (λ v g u. some_used v g u i) f w
+    where
+    some_used : (v : Value) (g : Frame) (u : World)
+        → (if is_true v then pure (Some (flag true)) else the (Meaning.used p (call p n) y) (λ w. flag (is_true w))) (onto p n more stack) g u
+        ≡ (if is_true v then pure (Some (flag true)) else the (Meaning.used p (call p n) y) (λ w. flag (is_true w)))
+          (λ v. or_no_value at v (λ v. onto p n more stack (Some v))) g u
+    some_used v g u = either (is_true v) _ _ _ _ (onto p n more stack) (λ v. or_no_value at v (λ v. onto p n more stack (Some v))) g u refl refl
+
+  pub used_step : (t : ℕ) (at : Place) (node : Node ℕ) → Used t at node
+  unfolding after finish
+  used_step t at (T.both x y) more stack f w h = both_used t at x y more stack f w h
+  used_step t at (T.either x y) more stack f w h = either_used t at x y more stack f w h
+  used_step t at (T.convert e written) more stack f w h = node_step t at (T.convert e written) (acting (I.needing at) ∷ more) stack f w h
+  used_step t at (T.choose x y z) more stack f w h = node_step t at (T.choose x y z) (acting (I.needing at) ∷ more) stack f w h
+  used_step t at (T.comma x y) more stack f w h = node_step t at (T.comma x y) (acting (I.needing at) ∷ more) stack f w h
+  used_step t at (T.copy_record to from) more stack f w h = node_step t at (T.copy_record to from) (acting (I.needing at) ∷ more) stack f w h
+  used_step t at (T.call g all) more stack f w h = node_step t at (T.call g all) (acting (I.needing at) ∷ more) stack f w h
+  used_step t at (T.call_through e all) more stack f w h = node_step t at (T.call_through e all) (acting (I.needing at) ∷ more) stack f w h
+  used_step t at (T.library which all) more stack f w h = node_step t at (T.library which all) (acting (I.needing at) ∷ more) stack f w h
+  used_step t at node more stack f w h = node_step t at node more stack f w h
