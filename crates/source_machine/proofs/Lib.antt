@@ -2,3 +2,4 @@ pub mod PreservedPaths
 pub mod PreservedCalls
 pub mod PreservedExpressions
 pub mod PreservedStatements
+pub mod Preserved

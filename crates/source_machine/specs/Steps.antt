@@ -261,7 +261,7 @@ module _ (p : ProgramData) where
       taking stack (λ v stack. if is_true v then goes (using y ∷ acting I.flagging ∷ more) stack else goes more (value (Some (flag false)) ∷ stack))
   enacted (I.either_with y) more stack =
       taking stack (λ v stack. if is_true v then goes more (value (Some (flag true)) ∷ stack) else goes (using y ∷ acting I.flagging ∷ more) stack)
-  enacted (I.choosing y z) more stack = taking stack (λ v stack. goes (evaluating (if is_true v then y else z) ∷ more) stack)
+  enacted (I.choosing y z) more stack = taking stack (λ v stack. if is_true v then goes (evaluating y ∷ more) stack else goes (evaluating z ∷ more) stack)
   enacted (gathering callee done rest) more stack = gathers callee done rest more stack
   enacted (gathered callee done rest) more stack = taking stack (λ v stack. gathers callee (done ++ v ∷ []) rest more stack)
   enacted (framing caller) more stack = closed caller normally more stack
