@@ -57,25 +57,25 @@ module _ (r : Relation) where
   by_slot_spot place x (Some (in_block None)) = Runs.by_undefined r K.Dead place
   by_slot_spot place x (Some (in_block (Some b))) = Runs.by_pure r (placed (P.Block b 0))
 
-  by_local_spot : (place : Place) (x : ℕ) → Itself Spot (local_spot place x)
+  pub by_local_spot : (place : Place) (x : ℕ) → Itself Spot (local_spot place x)
   by_local_spot place x = by_bind (by_slot_now x) (by_slot_spot place x)
 
-  by_choice : {A : Type 0} (test : Bool) {m n : Doing Frame A} → Itself A m → Itself A n → Itself A (if test then m else n)
+  pub by_choice : {A : Type 0} (test : Bool) {m n : Doing Frame A} → Itself A m → Itself A n → Itself A (if test then m else n)
   by_choice true one other = one
   by_choice false one other = other
 
-  by_element_of : (place : Place) (n size : ℕ) (addressed : Bool) (s : Spot) (i : ℤ) → Itself Spot (element_of place n size addressed s i)
+  pub by_element_of : (place : Place) (n size : ℕ) (addressed : Bool) (s : Spot) (i : ℤ) → Itself Spot (element_of place n size addressed s i)
   by_element_of place n size addressed s i = by_choice (is_subscript n addressed i) (Runs.by_pure r _) (Runs.by_undefined r K.Subscript place)
 
-  by_field_through : (place : Place) (q : Ptr) (by : ℤ) → Itself Spot (field_through place q by)
+  pub by_field_through : (place : Place) (q : Ptr) (by : ℤ) → Itself Spot (field_through place q by)
   by_field_through place q by =
       by_bind (Runs.by_memory r) (λ m. by_bind (Runs.by_tested r place (field_in m q by)) (λ p. by_bind (Runs.by_note_in r m p (λ b at. reached b at)) (λ a. Runs.by_pure r (placed p))))
 
-  by_address_of : (place : Place) (s : Spot) → Itself Ptr (address_of place s)
+  pub by_address_of : (place : Place) (s : Spot) → Itself Ptr (address_of place s)
   by_address_of place (placed q) = Runs.by_pure r q
   by_address_of place (kept x) = Runs.by_undefined r K.Dead place
 
-  by_allocated : (place : Place) (record_number size count : ℕ) (zeroed : Bool) → Itself Value (allocated place record_number size count zeroed)
+  pub by_allocated : (place : Place) (record_number size count : ℕ) (zeroed : Bool) → Itself Value (allocated place record_number size count zeroed)
   by_allocated place record_number size count zeroed = by_choice (nat_lt (count * size) (2 ^ 28)) (Runs.by_allocate r _ _ zeroed) (Runs.by_undefined r K.Huge place)
 
   by_the : {A : Type 0} {m : Doing Frame A} → Itself A m → (f : A → Value) → Itself (Option Value) (the m f)
@@ -84,7 +84,7 @@ module _ (r : Relation) where
   by_given : {m : Doing Frame Value} → Itself Value m → Itself (Option Value) (given m)
   by_given one = by_bind one (λ v. Runs.by_pure r (Some v))
 
-  by_library : (place : Place) (which : LibraryFunction) (all : List Value) → Itself (Option Value) (library place which all)
+  pub by_library : (place : Place) (which : LibraryFunction) (all : List Value) → Itself (Option Value) (library place which all)
   by_library place L.Malloc (v ∷ []) = by_given (Runs.by_allocate r None _ false)
   by_library place L.Calloc (v ∷ w ∷ []) = by_given (Runs.by_allocate r None _ true)
   by_library place L.Free (v ∷ []) = by_bind (Runs.by_free r place _) (λ a. Runs.by_pure r None)
@@ -109,11 +109,11 @@ module _ (r : Relation) where
     by_known place (Some (in_block b)) = Runs.by_undefined r K.Empty place
     by_known place None = Runs.by_undefined r K.Empty place
 
-    by_fetch : (place : Place) (s : Spot) (type : ℕ) → Itself Value (fetch p place s type)
+    pub by_fetch : (place : Place) (s : Spot) (type : ℕ) → Itself Value (fetch p place s type)
     by_fetch place (kept x) type = by_bind (by_slot_now x) (by_known place)
     by_fetch place (placed q) type = Runs.by_load r place q (access_at p type)
 
-    by_put : (place : Place) (s : Spot) (type : ℕ) (v : Value) → Itself (Unit {0}) (put p place s type v)
+    pub by_put : (place : Place) (s : Spot) (type : ℕ) (v : Value) → Itself (Unit {0}) (put p place s type v)
     by_put place (kept x) type v = by_with_slot x (by_name (Some v))
     by_put place (placed q) type v = Runs.by_store r place q (access_at p type) v
 

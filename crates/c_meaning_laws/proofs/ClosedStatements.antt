@@ -53,7 +53,7 @@ module _ (r : Relation) where
     by_end_slot x (Some (by_name v)) = Runs.by_pure r tt
     by_end_slot x None = Runs.by_pure r tt
 
-    by_begin_all : (locals : List Local) (numbers : List ℕ) → Itself (Unit {0}) (begin_all p locals numbers)
+    pub by_begin_all : (locals : List Local) (numbers : List ℕ) → Itself (Unit {0}) (begin_all p locals numbers)
     by_begin_all locals [] = Runs.by_pure r tt
     by_begin_all locals (x ∷ more) = by_bind (by_begin x (slice_get locals x)) (λ a. by_begin_all locals more)
 
@@ -65,7 +65,7 @@ module _ (r : Relation) where
         → r.Related b Frame A (scoped p locals numbers m) (scoped p locals numbers m')
     scoped_alike locals numbers one = bind (by_begin_all locals numbers _) (λ a. bind one (λ x. bind (by_finish_all numbers _) (λ c. r.on_pure _ _ _ x)))
 
-    by_emptied : (x type : ℕ) (s : Option Slot) → Itself (Unit {0}) (emptied p x type s)
+    pub by_emptied : (x type : ℕ) (s : Option Slot) → Itself (Unit {0}) (emptied p x type s)
     by_emptied x type (Some (in_block (Some b))) = by_bind (Runs.by_memory r) (λ m. Runs.by_with_memory r _)
     by_emptied x type (Some (in_block None)) = Runs.by_pure r tt
     by_emptied x type (Some (by_name v)) = Expressions.by_with_slot r x (by_name None)

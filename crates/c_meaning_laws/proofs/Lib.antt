@@ -6,3 +6,4 @@ pub mod ClosedCalls
 pub mod Fuel
 pub mod Longer
 pub mod LongerRuns
+pub mod Direct
