@@ -1,5 +1,5 @@
 -- A part of a run comes to one result, or ends the run, whatever the rest of the run is: so it can be read as a function from worlds to outcomes.
-use Rattle.std.proofs.Common.{◌≡◌, refl, sym, ap, ◌∙◌, subst, ℕ, zero, suc, ◌+◌, ◌<◌, ◌≤◌, Bool, true, false, ◌&&◌, nat_lt, if◌then◌else◌, List, [], ◌∷◌, length, Option, Some, None, arith}
+use Rattle.std.proofs.Common.{◌≡◌, refl, ◌∙◌, ℕ, zero, suc, ◌+◌, Bool, true, false, ◌&&◌, nat_lt, if◌then◌else◌, List, [], ◌∷◌, length, Option, Some, None, arith}
 use Rattle.lay_base.specs.declared.faults.RoomKind.TheVariants.{Live, Depth}
 use Rattle.lay_base.specs.declared.faults.UndefinedKind.{UndefinedKind}
 use Rattle.lay_base.specs.declared.place.Place.{Place}
@@ -34,9 +34,9 @@ joined_within : {F A B : Type 0} (t : ℕ) (o : Outcome F A) (next : A → F →
     → ((x : A) (f : F) (w : World) → IsWithin w.turns (next x f w)) → IsWithin t (and_then o next)
 joined_within t (comes x f w) next h k = fewer (next x f w) (k x f w)
   where
-  fewer : {F B : Type 0} (o : Outcome F B) → IsWithin w.turns o → IsWithin t o
-  fewer (comes y g u) i = omega arith
-  fewer (over e) i = tt
+    fewer : {F B : Type 0} (o : Outcome F B) → IsWithin w.turns o → IsWithin t o
+    fewer (comes y g u) i = omega arith
+    fewer (over e) i = tt
 joined_within t (over e) next h k = tt
 
 pub pure_direct : (b : ℕ) (F A : Type 0) (x : A) → Direct F A (pure x)
@@ -76,9 +76,9 @@ turned_within : (t : ℕ) (F A : Type 0) (m : Doing F A) (one : Direct F A m) (f
 turned_within zero F A m one f w = tt
 turned_within (suc t) F A m one f w = fewer (one.outcome f (record w { turns = t })) (one.within f (record w { turns = t }))
   where
-  fewer : (o : Outcome F A) → IsWithin t o → IsWithin (suc t) o
-  fewer (comes x g u) h = omega arith
-  fewer (over e) h = tt
+    fewer : (o : Outcome F A) → IsWithin t o → IsWithin (suc t) o
+    fewer (comes x g u) h = omega arith
+    fewer (over e) h = tt
 
 pub behind_turn : {F A : Type 0} {m : Doing F A} → Direct F A m → Direct F A (turn >> m)
 behind_turn one = record {
@@ -171,10 +171,26 @@ apart_direct b F A own m m' one = record {
 
 abbrev pub by_outcome : Relation
 by_outcome = record {
-  Fuels = AreOne; Related = λ b F A m m'. Direct F A m'; on_pure = pure_direct; on_bind = bind_direct; on_end = end_direct; on_undefined = undefined_direct;
-  on_none = none_direct; on_turn = turn_direct; not_left = not_left; not_right = not_right; one_more = one_more; on_memory = memory_direct;
-  on_with_memory = with_memory_direct; on_note = note_direct; on_getchar = getchar_direct; on_make = make_direct; on_deeper = deeper_direct;
-  on_leave = leave_direct; on_own = own_direct; on_apart = apart_direct;
+  Fuels = AreOne;
+  Related = λ b F A m m'. Direct F A m';
+  on_pure = pure_direct;
+  on_bind = bind_direct;
+  on_end = end_direct;
+  on_undefined = undefined_direct;
+  on_none = none_direct;
+  on_turn = turn_direct;
+  not_left = not_left;
+  not_right = not_right;
+  one_more = one_more;
+  on_memory = memory_direct;
+  on_with_memory = with_memory_direct;
+  on_note = note_direct;
+  on_getchar = getchar_direct;
+  on_make = make_direct;
+  on_deeper = deeper_direct;
+  on_leave = leave_direct;
+  on_own = own_direct;
+  on_apart = apart_direct;
 }
 
 -- the theorem: what a call comes to

@@ -175,27 +175,27 @@ loop_behind_same event b n m body body' test test' h i d t =
 pub loop_again : (event : Event) (b m : ℕ) (test : Doing Frame Bool) (step : Doing Frame (Unit {0})) (body : Doing Frame Way) → b < suc m
     → ((c : ℕ) → c < suc m → Same c Frame Bool test test) → ((c : ℕ) → c < suc m → Same c Frame (Unit {0}) step step) → ((c : ℕ) → c < suc m → Same c Frame Way body body)
     → Same b Frame Way (loop (turn >> note event) (suc m) test step body)
-      (test >>= λ goes. if goes then (turn >> note event >> body >>= and_again (step >> loop (turn >> note event) (suc m) test step body)) else pure normally)
+    (test >>= λ goes. if goes then (turn >> note event >> body >>= and_again (step >> loop (turn >> note event) (suc m) test step body)) else pure normally)
 loop_again event b m test step body h t s d =
     bind_same b _ _ _ _ _ _ _ (t b h) (λ goes. Statements.choice_alike by_turns goes (turn_same b m m _ _ _ _ (omega arith, omega arith) again) (pure_same b _ _ normally))
   where
-  again : (c : ℕ) → Suffice c m m → Same c Frame Way (note event >> (body >>= and_again (step >> loop (turn >> note event) m test step body)))
-      (note event >> (body >>= and_again (step >> loop (turn >> note event) (suc m) test step body)))
-  again c k = bind_same c _ _ _ _ _ _ _ (note_same c _ event) (λ a. bind_same c _ _ _ _ _ _ _ (d c (omega (arith, k.0)))
-      (Statements.and_again_alike by_turns (bind_same c _ _ _ _ _ _ _ (s c (omega (arith, k.0))) (λ a. loop_same event c m (suc m) test test step step body body
+    again : (c : ℕ) → Suffice c m m → Same c Frame Way (note event >> (body >>= and_again (step >> loop (turn >> note event) m test step body)))
+        (note event >> (body >>= and_again (step >> loop (turn >> note event) (suc m) test step body)))
+    again c k = bind_same c _ _ _ _ _ _ _ (note_same c _ event) (λ a. bind_same c _ _ _ _ _ _ _ (d c (omega (arith, k.0)))
+        (Statements.and_again_alike by_turns (bind_same c _ _ _ _ _ _ _ (s c (omega (arith, k.0))) (λ a. loop_same event c m (suc m) test test step step body body
         k.0 (omega (arith, k.0)) (λ e i j. t e j) (λ e i j. s e j) (λ e i j. d e j)))))
 
 pub loop_behind_again : (event : Event) (b m : ℕ) (body : Doing Frame Way) (test : Doing Frame Bool) → b < suc m
     → ((c : ℕ) → c < suc m → Same c Frame Way body body) → ((c : ℕ) → c < suc m → Same c Frame Bool test test)
     → Same b Frame Way (loop_behind (turn >> note event) (suc m) body test)
-      (turn >> note event >> body >>= and_again (test >>= λ goes. if goes then loop_behind (turn >> note event) (suc m) body test else pure normally))
+    (turn >> note event >> body >>= and_again (test >>= λ goes. if goes then loop_behind (turn >> note event) (suc m) body test else pure normally))
 loop_behind_again event b m body test h d t = turn_same b m m _ _ _ _ (omega arith, omega arith) again
   where
-  again : (c : ℕ) → Suffice c m m → Same c Frame Way
-      (note event >> (body >>= and_again (test >>= λ goes. if goes then loop_behind (turn >> note event) m body test else pure normally)))
-      (note event >> (body >>= and_again (test >>= λ goes. if goes then loop_behind (turn >> note event) (suc m) body test else pure normally)))
-  again c k = bind_same c _ _ _ _ _ _ _ (note_same c _ event) (λ a. bind_same c _ _ _ _ _ _ _ (d c (omega (arith, k.0)))
-      (Statements.and_again_alike by_turns (bind_same c _ _ _ _ _ _ _ (t c (omega (arith, k.0))) (λ goes. Statements.choice_alike by_turns goes
+    again : (c : ℕ) → Suffice c m m → Same c Frame Way
+        (note event >> (body >>= and_again (test >>= λ goes. if goes then loop_behind (turn >> note event) m body test else pure normally)))
+        (note event >> (body >>= and_again (test >>= λ goes. if goes then loop_behind (turn >> note event) (suc m) body test else pure normally)))
+    again c k = bind_same c _ _ _ _ _ _ _ (note_same c _ event) (λ a. bind_same c _ _ _ _ _ _ _ (d c (omega (arith, k.0)))
+        (Statements.and_again_alike by_turns (bind_same c _ _ _ _ _ _ _ (t c (omega (arith, k.0))) (λ goes. Statements.choice_alike by_turns goes
         (loop_behind_same event c m (suc m) body body test test k.0 (omega (arith, k.0)) (λ e i j. d e j) (λ e i j. t e j)) (pure_same c _ _ normally)))))
 
 -- the theorem

@@ -1,10 +1,9 @@
 -- A step leaves what the program does as it was.
-use Rattle.std.proofs.Common.{◌≡◌, refl, sym, ap, ◌∙◌, ℕ, zero, suc, ◌+◌, ◌<◌, ◌≤◌, Bool, true, false, if◌then◌else◌, List, [], ◌∷◌, ◌++◌, Option, Some, None}
-use Rattle.lay_base.specs.declared.place.Place.{Place}
+use Rattle.std.proofs.Common.{◌≡◌, refl, ℕ, ◌+◌, ◌<◌, Bool, List, [], ◌∷◌, ◌++◌, Some, None}
 use Rattle.c_typed.specs.Trees.{Expression, expression, Expressions, Statement, Arms}
 use Rattle.c_typed.specs.Programs.{ProgramData}
 use Rattle.runs.specs.Scalars.{Value, word_of}
-use Rattle.runs.specs.Worlds.{World, End}
+use Rattle.runs.specs.Worlds.{World}
 use Rattle.c_meaning.specs.Frames.{Frame}
 use Rattle.c_meaning.specs.Operators.{is_true}
 use Rattle.c_meaning.specs.Run.{run_of, start}
@@ -12,7 +11,7 @@ use Rattle.c_meaning.specs.Statements.{Way, normally, by_break, by_continue, by_
 use Rattle.source_machine.specs.Items as I
 use Rattle.source_machine.specs.Items.{value, spot, Stack, Context, Loop, LoopBehind, Item, Work, acting, evaluating, using, spotting, gathering, gathered, framing}
 use Rattle.source_machine.specs.Items.{executing, executing_all, entering, tested, repeating, repeating_behind, ending, unwinding}
-use Rattle.source_machine.specs.Steps.{Left, enacted, passed, unwound, stepped, stepped_at, started_with}
+use Rattle.source_machine.specs.Steps.{Left, enacted, passed, stepped, stepped_at, started_with}
 use Rattle.source_machine.specs.Finish.{does, leaves, after, finish}
 use Rattle.source_machine.proofs.PreservedPaths.{located_step}
 use Rattle.source_machine.proofs.PreservedCalls.{onto, either, gathers_step}

@@ -1,5 +1,5 @@
 -- A call's step leaves what the program does as it was: the numbers that bound what is called do not show.
-use Rattle.std.proofs.Common.{◌≡◌, refl, sym, ap, ◌∙◌, ℕ, zero, suc, ◌+◌, ◌<◌, ◌≤◌, Bool, true, false, ◌&&◌, nat_lt, if◌then◌else◌, List, [], ◌∷◌, ◌++◌, length, Option, Some, None}
+use Rattle.std.proofs.Common.{◌≡◌, refl, sym, ap, ◌∙◌, ℕ, zero, suc, ◌+◌, ◌<◌, Bool, true, false, ◌&&◌, nat_lt, if◌then◌else◌, List, [], ◌∷◌, length, Option, Some, None}
 use Rattle.std.proofs.Common.{append_assoc, append-nil, slice_get, arith}
 use Rattle.lay_base.specs.declared.faults.RoomKind.TheVariants.{Depth}
 use Rattle.lay_base.specs.declared.place.Place.{Place}
@@ -10,16 +10,16 @@ use Rattle.c_typed.specs.Trees.{Expressions, Statement}
 use Rattle.c_typed.specs.Programs.{ProgramData, FunctionData}
 use Rattle.block_memory.specs.declared.pointer.Ptr.{Ptr}
 use Rattle.block_memory.specs.declared.pointer.Ptr.TheVariants as P
-use Rattle.runs.specs.Doing.{Rest, Doing, ◌>>=◌, ◌>>◌, pure, turn_of, leave}
+use Rattle.runs.specs.Doing.{Rest, Doing, turn_of, leave}
 use Rattle.runs.specs.Events.{entered}
 use Rattle.runs.specs.Scalars.{Value, pointer_of}
 use Rattle.runs.specs.Worlds.{World, End, out_of_room, greatest_depth}
 use Rattle.c_meaning.specs.Expressions as Meaning
 use Rattle.c_meaning.specs.Frames.{Frame, frame_of, finish_all}
 use Rattle.c_meaning.specs.Program.{type_at, all_locals}
-use Rattle.c_meaning.specs.Run.{called, function_of, body_of, receive, numbers, result_of}
-use Rattle.c_meaning.specs.Statements.{Way, normally, by_break, by_continue, by_return, execute}
-use Rattle.c_meaning_laws.proofs.Fuel.{Same, by_turns, called_same, executed_same}
+use Rattle.c_meaning.specs.Run.{called, function_of, body_of, numbers, result_of}
+use Rattle.c_meaning.specs.Statements.{Way, normally, by_break, by_continue, by_return}
+use Rattle.c_meaning_laws.proofs.Fuel.{by_turns, executed_same}
 use Rattle.c_meaning_laws.proofs.ClosedCalls as Calls
 use Rattle.source_machine.specs.Items as I
 use Rattle.source_machine.specs.Items.{value, spot, Stack, Callee, Work, executing, ending, framing}
@@ -60,20 +60,20 @@ module _ (p : ProgramData) (m : ℕ) where
   body_step place function values g None caller more stack f w h = refl
   body_step place function values g (Some body) caller more stack f w h =
       (Calls.by_receive by_turns p place 0 g.parameters values w.turns).at _ _ f w (omega arith) (λ a x u i.
-        (executed_same p u.turns (suc m) m (omega arith) (omega arith) function (all_locals g) 0 body).at _ _ x u (omega arith) (λ way y v j.
-          out_of_body p (suc m) way (numbers p (length g.parameters)) caller more stack y v))
+      (executed_same p u.turns (suc m) m (omega arith) (omega arith) function (all_locals g) 0 body).at _ _ x u (omega arith) (λ way y v j.
+      out_of_body p (suc m) way (numbers p (length g.parameters)) caller more stack y v))
 
   turned_step : (t : ℕ) (place : Place) (function : ℕ) (values : List Value) (g : FunctionData) (more : Work) (stack : Stack) (f : Frame) (w : World) → t ≡ w.turns → t < suc m
       → turn_of t (λ x f w. if w.is_limited && nat_lt greatest_depth (w.depth + 1) then out_of_room Depth (w.depth + 1) w
-          else started p place function values g g.body f more stack (finish p (suc m)) (frame_of p g)
-            (record w { depth = w.depth + 1; trace = entered function ∷ w.trace })) f w
+      else started p place function values g g.body f more stack (finish p (suc m)) (frame_of p g)
+      (record w { depth = w.depth + 1; trace = entered function ∷ w.trace })) f w
       ≡ turn_of t (λ x f w. if w.is_limited && nat_lt greatest_depth (w.depth + 1) then out_of_room Depth (w.depth + 1) w
-          else body_of p (called p m) m place function values g g.body (λ v a u. leave (λ a. onto p (suc m) more stack v) f u) (frame_of p g)
-            (record w { depth = w.depth + 1; trace = entered function ∷ w.trace })) f w
+      else body_of p (called p m) m place function values g g.body (λ v a u. leave (λ a. onto p (suc m) more stack v) f u) (frame_of p g)
+      (record w { depth = w.depth + 1; trace = entered function ∷ w.trace })) f w
   turned_step zero place function values g more stack f w e h = refl
   turned_step (suc t) place function values g more stack f w e h =
       choice (w.is_limited && nat_lt greatest_depth (w.depth + 1)) _ _ _ _ refl (body_step place function values g g.body f more stack (frame_of p g)
-        (record w { turns = t; depth = w.depth + 1; trace = entered function ∷ w.trace }) (omega arith))
+      (record w { turns = t; depth = w.depth + 1; trace = entered function ∷ w.trace }) (omega arith))
 
   function_step : (place : Place) (function : ℕ) (values : List Value) (g : Option FunctionData) (more : Work) (stack : Stack) (f : Frame) (w : World) → w.turns < suc m
       → called_as p place function values g more stack (finish p (suc m)) f w ≡ function_of p (called p m) m place function values g (onto p (suc m) more stack) f w

@@ -1,20 +1,19 @@
 -- The first step of an expression leaves what the program does as it was.
-use Rattle.std.proofs.Common.{◌≡◌, refl, sym, ap, ◌∙◌, ℕ, zero, suc, ◌+◌, ◌<◌, ◌≤◌, Bool, true, false, if◌then◌else◌, List, [], ◌∷◌, ◌++◌, Option, Some, None, arith}
+use Rattle.std.proofs.Common.{◌≡◌, refl, ◌∙◌, ℕ, ◌<◌, true, false, if◌then◌else◌, [], ◌∷◌, Some}
 use Rattle.lay_base.specs.declared.place.Place.{Place}
 use Rattle.c_typed.specs.Trees as T
 use Rattle.c_typed.specs.Trees.{Expression, expression, Node, Path, path, PathNode, Expressions}
 use Rattle.c_typed.specs.Programs.{ProgramData}
-use Rattle.runs.specs.Doing.{Rest, Doing, ◌>>=◌, ◌>>◌, pure}
+use Rattle.runs.specs.Doing.{pure}
 use Rattle.runs.specs.Scalars.{Value}
-use Rattle.runs.specs.Worlds.{World, End}
+use Rattle.runs.specs.Worlds.{World}
 use Rattle.c_meaning.specs.Expressions as Meaning
 use Rattle.c_meaning.specs.Expressions.{or_no_value, the}
-use Rattle.c_meaning.specs.Frames.{Frame, Spot}
+use Rattle.c_meaning.specs.Frames.{Frame}
 use Rattle.c_meaning.specs.Operators.{is_true, flag}
-use Rattle.c_meaning.specs.Statements.{normally}
 use Rattle.source_machine.specs.Items as I
 use Rattle.source_machine.specs.Items.{value, spot, Stack, Work, acting, using}
-use Rattle.source_machine.specs.Steps.{located, evaluated, may_lack, needing_if}
+use Rattle.source_machine.specs.Steps.{evaluated, may_lack, needing_if}
 use Rattle.source_machine.specs.Finish.{call, after, finish}
 use Rattle.source_machine.proofs.PreservedPaths.{located_step}
 use Rattle.source_machine.proofs.PreservedCalls.{onto, either, gathers_step}
@@ -59,21 +58,21 @@ module _ (p : ProgramData) (n : ℕ) where
   both_used t at x y more stack f w h = node_step t at (T.both x y) more stack f w h
       ∙ λ i. Meaning.used p (call p n) x (λ v g u. some_used v g u i) f w
     where
-    some_used : (v : Value) (g : Frame) (u : World)
-        → (if is_true v then the (Meaning.used p (call p n) y) (λ w. flag (is_true w)) else pure (Some (flag false))) (onto p n more stack) g u
-        ≡ (if is_true v then the (Meaning.used p (call p n) y) (λ w. flag (is_true w)) else pure (Some (flag false)))
+      some_used : (v : Value) (g : Frame) (u : World)
+          → (if is_true v then the (Meaning.used p (call p n) y) (λ w. flag (is_true w)) else pure (Some (flag false))) (onto p n more stack) g u
+          ≡ (if is_true v then the (Meaning.used p (call p n) y) (λ w. flag (is_true w)) else pure (Some (flag false)))
           (λ v. or_no_value at v (λ v. onto p n more stack (Some v))) g u
-    some_used v g u = either (is_true v) _ _ _ _ (onto p n more stack) (λ v. or_no_value at v (λ v. onto p n more stack (Some v))) g u refl refl
+      some_used v g u = either (is_true v) _ _ _ _ (onto p n more stack) (λ v. or_no_value at v (λ v. onto p n more stack (Some v))) g u refl refl
 
   either_used : (t : ℕ) (at : Place) (x y : Expression ℕ) → Used t at (T.either x y)
   either_used t at x y more stack f w h = node_step t at (T.either x y) more stack f w h
       ∙ λ i. Meaning.used p (call p n) x (λ v g u. some_used v g u i) f w
     where
-    some_used : (v : Value) (g : Frame) (u : World)
-        → (if is_true v then pure (Some (flag true)) else the (Meaning.used p (call p n) y) (λ w. flag (is_true w))) (onto p n more stack) g u
-        ≡ (if is_true v then pure (Some (flag true)) else the (Meaning.used p (call p n) y) (λ w. flag (is_true w)))
+      some_used : (v : Value) (g : Frame) (u : World)
+          → (if is_true v then pure (Some (flag true)) else the (Meaning.used p (call p n) y) (λ w. flag (is_true w))) (onto p n more stack) g u
+          ≡ (if is_true v then pure (Some (flag true)) else the (Meaning.used p (call p n) y) (λ w. flag (is_true w)))
           (λ v. or_no_value at v (λ v. onto p n more stack (Some v))) g u
-    some_used v g u = either (is_true v) _ _ _ _ (onto p n more stack) (λ v. or_no_value at v (λ v. onto p n more stack (Some v))) g u refl refl
+      some_used v g u = either (is_true v) _ _ _ _ (onto p n more stack) (λ v. or_no_value at v (λ v. onto p n more stack (Some v))) g u refl refl
 
   pub used_step : (t : ℕ) (at : Place) (node : Node ℕ) → Used t at node
   unfolding after finish

@@ -1,17 +1,17 @@
 -- The first step on a path, and of an expression, leaves what the program does as it was.
-use Rattle.std.proofs.Common.{◌≡◌, refl, sym, ap, ◌∙◌, ℕ, zero, suc, ◌+◌, ◌<◌, ◌≤◌, Bool, true, false, List, [], ◌∷◌, ◌++◌, Option, Some, None}
+use Rattle.std.proofs.Common.{◌≡◌, refl, ℕ, Bool, ◌∷◌}
 use Rattle.lay_base.specs.declared.place.Place.{Place}
 use Rattle.c_typed.specs.Trees as T
 use Rattle.c_typed.specs.Trees.{Expression, expression, Node, Path, path, PathNode, Expressions}
 use Rattle.c_typed.specs.Programs.{ProgramData}
-use Rattle.runs.specs.Doing.{Rest, Doing, ◌>>=◌, ◌>>◌, pure}
-use Rattle.runs.specs.Worlds.{World, End}
+use Rattle.runs.specs.Doing.{Rest}
+use Rattle.runs.specs.Worlds.{World}
 use Rattle.c_meaning.specs.Expressions.{value_of, spot_of}
 use Rattle.c_meaning.specs.Expressions as Meaning
-use Rattle.c_meaning.specs.Frames.{Frame, Spot, local_spot}
+use Rattle.c_meaning.specs.Frames.{Frame, Spot}
 use Rattle.c_meaning.specs.Statements.{normally}
-use Rattle.source_machine.specs.Items.{value, spot, Stack, Work}
-use Rattle.source_machine.specs.Steps.{located_at, located, evaluated}
+use Rattle.source_machine.specs.Items.{spot, Stack, Work}
+use Rattle.source_machine.specs.Steps.{located_at, located}
 use Rattle.source_machine.specs.Finish.{call, after, finish}
 
 module _ (p : ProgramData) (n : ℕ) where

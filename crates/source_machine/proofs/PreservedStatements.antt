@@ -1,15 +1,14 @@
 -- A statement's step leaves what the program does as it was.
-use Rattle.std.proofs.Common.{◌≡◌, refl, sym, ap, ◌∙◌, ℕ, zero, suc, ◌+◌, ◌<◌, ◌≤◌, Bool, true, false, if◌then◌else◌, List, [], ◌∷◌, Option, Some, None, slice_get, arith}
+use Rattle.std.proofs.Common.{◌≡◌, refl, sym, ◌∙◌, ℕ, zero, suc, ◌+◌, ◌<◌, if◌then◌else◌, List, [], ◌∷◌, Option, Some, None, slice_get, arith}
 use Rattle.lay_base.specs.declared.place.Place.{Place}
 use Rattle.c_typed.specs.declared.program.Local.{Local}
 use Rattle.c_typed.specs.Trees as T
 use Rattle.c_typed.specs.Trees.{Expression, PartValue, Part, Initializer, Statement, Statements, Arms}
 use Rattle.c_typed.specs.Programs.{ProgramData}
-use Rattle.runs.specs.Doing.{Rest, Doing, ◌>>=◌, ◌>>◌, pure, turn_of, note}
+use Rattle.runs.specs.Doing.{Rest, Doing, ◌>>=◌, ◌>>◌, pure}
 use Rattle.runs.specs.Events.{began}
-use Rattle.runs.specs.Worlds.{World, End}
+use Rattle.runs.specs.Worlds.{World}
 use Rattle.c_meaning.specs.Frames.{Frame, Slot, by_name, in_block, begin_all, finish_all, scoped}
-use Rattle.c_meaning.specs.Operators.{is_true}
 use Rattle.c_meaning.specs.Program.{size_at}
 use Rattle.c_meaning.specs.Statements as Statements
 use Rattle.c_meaning.specs.Statements.{Way, normally, by_break, by_continue, by_return, and_then, and_again, behind_switch, loop, loop_behind, tests, tests_if_any, done_if_any, execute, execute_all, enter}
@@ -20,9 +19,7 @@ use Rattle.c_meaning_laws.proofs.Fuel.{Same, by_turns, called_same, executed_sam
 use Rattle.source_machine.specs.Items as I
 use Rattle.source_machine.specs.Items.{value, spot, Stack, Context, Loop, LoopBehind, Item, Work, acting, using, tested, repeating}
 use Rattle.source_machine.specs.Steps as Steps
-use Rattle.source_machine.specs.Finish.{call, does, after, finish, loop_of, again, body_of, loop_behind_of, again_behind, body_behind}
-use Rattle.source_machine.proofs.PreservedPaths.{located_step}
-use Rattle.source_machine.proofs.PreservedCalls.{either}
+use Rattle.source_machine.specs.Finish.{call, after, finish, loop_of, again, body_of, loop_behind_of, again_behind, body_behind}
 
 module _ (p : ProgramData) (n : ℕ) where
   -- what comes behind a statement that is left in a way, and behind what only does something
@@ -149,7 +146,7 @@ module _ (p : ProgramData) (n : ℕ) where
 
   tests_step : (l : Loop) (test : Option (Expression ℕ)) (more : Work) (stack : Stack) (f : Frame) (w : World) → Steps.tests p test l more stack (finish p n) f w
       ≡ (tests_if_any p (call p n) test >>= λ goes. if goes then (Steps.beginning l.context.function l.number >> body_of p n l >>= and_again (again p n l)) else pure normally)
-        (outof more stack) f w
+      (outof more stack) f w
   unfolding after finish
   tests_step l None more stack f w = begun_step l more stack f w
   tests_step l (Some e) more stack f w = refl
@@ -168,9 +165,9 @@ module _ (p : ProgramData) where
   turn_written_out zero l more stack f w h = absurd (omega arith)
   turn_written_out (suc m) l more stack f w h =
       (loop_again (began l.context.function l.number) w.turns m (tests_if_any p (call p (suc m)) l.test) (done_if_any p (call p (suc m)) l.step) (body_of p (suc m) l) h
-        (λ c k. Closed.tests_if_any_alike by_turns p (call p (suc m)) (call p (suc m)) c (calls_same (suc m) c k) l.test)
-        (λ c k. Closed.done_if_any_alike by_turns p (call p (suc m)) (call p (suc m)) c (calls_same (suc m) c k) l.step)
-        (λ c k. executed_same p c (suc m) (suc m) k k l.context.function l.context.locals (l.number + 1) l.body)).at _ _ f w (omega arith) (λ way g u i. refl)
+      (λ c k. Closed.tests_if_any_alike by_turns p (call p (suc m)) (call p (suc m)) c (calls_same (suc m) c k) l.test)
+      (λ c k. Closed.done_if_any_alike by_turns p (call p (suc m)) (call p (suc m)) c (calls_same (suc m) c k) l.step)
+      (λ c k. executed_same p c (suc m) (suc m) k k l.context.function l.context.locals (l.number + 1) l.body)).at _ _ f w (omega arith) (λ way g u i. refl)
 
   behind_written_out : (n : ℕ) (l : LoopBehind) (more : Work) (stack : Stack) (f : Frame) (w : World) → w.turns < n
       → loop_behind_of p n l (outof p n more stack) f w
@@ -178,8 +175,8 @@ module _ (p : ProgramData) where
   behind_written_out zero l more stack f w h = absurd (omega arith)
   behind_written_out (suc m) l more stack f w h =
       (loop_behind_again (began l.context.function l.number) w.turns m (body_behind p (suc m) l) (tests p (call p (suc m)) l.test) h
-        (λ c k. executed_same p c (suc m) (suc m) k k l.context.function l.context.locals (l.number + 1) l.body)
-        (λ c k. Closed.tests_alike by_turns p (call p (suc m)) (call p (suc m)) c (calls_same (suc m) c k) l.test)).at _ _ f w (omega arith) (λ way g u i. refl)
+      (λ c k. executed_same p c (suc m) (suc m) k k l.context.function l.context.locals (l.number + 1) l.body)
+      (λ c k. Closed.tests_alike by_turns p (call p (suc m)) (call p (suc m)) c (calls_same (suc m) c k) l.test)).at _ _ f w (omega arith) (λ way g u i. refl)
 
   module _ (n : ℕ) where
     pub looping_step : (l : Loop) (more : Work) (stack : Stack) (f : Frame) (w : World) → w.turns < n
@@ -211,7 +208,7 @@ module _ (p : ProgramData) where
     statement_step c k (T.do_while body e) more stack f w h = behind_step (record { context = c; number = k; body = body; test = e }) more stack f w h
     statement_step c k (T.for own start test step body) more stack f w h =
         λ i. begin_all p c.locals own (λ a. execute_all p (call p n) c.function c.locals n k start (λ way g u.
-          looping_ways p n way (record { context = c; number = k; test = test; step = step; body = body }) own more stack g u i)) f w
+        looping_ways p n way (record { context = c; number = k; test = test; step = step; body = body }) own more stack g u i)) f w
     statement_step c k (T.switch e own arms) more stack f w h = refl
     statement_step c k T.break more stack f w h = refl
     statement_step c k T.continue more stack f w h = refl
@@ -241,4 +238,4 @@ module _ (p : ProgramData) where
     selecting_step c k own arm arms more stack f w =
         (λ i. begin_all p c.locals own (λ a. enter p (call p n) c.function c.locals n k arm arms (λ way g u. ending_ways p n way own (I.switching ∷ more) stack g u i)) f w)
         ∙ λ i. begin_all p c.locals own (λ a. enter p (call p n) c.function c.locals n k arm arms (λ way. finish_all p own (λ a g u.
-          switching_ways p n way more stack g u i))) f w
+        switching_ways p n way more stack g u i))) f w

@@ -1,5 +1,5 @@
 -- What actions do with the stack, the frame and the world.
-use Rattle.std.specs.Prelude.{ℕ, not, Bool, true, false, ℤ, pos, ◌+ℤ◌, ◌*ℤ◌, List, [], ◌∷◌, Option, Some, None, if◌then◌else◌}
+use Rattle.std.specs.Prelude.{not, pos, ◌+ℤ◌, ◌*ℤ◌, ◌∷◌, Option, Some, None, if◌then◌else◌}
 use Rattle.lay_base.specs.declared.faults.UndefinedKind.TheVariants as K
 use Rattle.lay_base.specs.declared.place.Place.{Place}
 use Rattle.c_types.specs.Types.{CType, void}
@@ -13,9 +13,8 @@ use Rattle.runs.specs.Worlds.{World, End, undefined}
 use Rattle.c_meaning.specs.Expressions.{or_no_value, part_of, element_of, field_through, address_of, allocated, copy_record}
 use Rattle.c_meaning.specs.Frames.{Frame, by_name, Spot, placed, with_slot, fetch, put}
 use Rattle.c_meaning.specs.Operators.{converted, is_true, flag, unary, binary, moved, distance, compared, updated, next}
-use Rattle.c_meaning.specs.Program.{type_at, size_at, element_size, access_at}
-use Rattle.c_meaning.specs.Run.{no_place}
-use Rattle.source_machine.specs.Items.{Operand, value, spot, Stack, Action, needing, converting, unary_on, binary_on, comparing, adding, measuring, flagging}
+use Rattle.c_meaning.specs.Program.{type_at, element_size, access_at}
+use Rattle.source_machine.specs.Items.{value, spot, Stack, Action, needing, converting, unary_on, binary_on, comparing, adding, measuring, flagging}
 use Rattle.source_machine.specs.Items.{negating, dropping, allocating, loading, addressing, assigning, updating, stepping, copying, dereferencing, indexing}
 use Rattle.source_machine.specs.Items.{field_of, field_at, field_of_element, element_at, naming, storing, copying_to}
 

@@ -1,7 +1,7 @@
 -- What the program does from where the machine stands: each item has the meaning of its part of the program.
-use Rattle.std.specs.Prelude.{ℕ, ◌+◌, Bool, true, false, List, [], ◌∷◌, ◌++◌, Option, Some, None, if◌then◌else◌}
+use Rattle.std.specs.Prelude.{ℕ, ◌+◌, true, false, List, [], ◌∷◌, ◌++◌, Option, Some, if◌then◌else◌}
 use Rattle.lay_base.specs.declared.place.Place.{Place}
-use Rattle.c_typed.specs.Trees.{Expression, Expressions}
+use Rattle.c_typed.specs.Trees.{Expressions}
 use Rattle.c_typed.specs.Programs.{ProgramData}
 use Rattle.runs.specs.Doing.{Doing, ◌>>=◌, ◌>>◌, pure, leave}
 use Rattle.runs.specs.Scalars.{Value, word_of, pointer_of}
@@ -13,7 +13,6 @@ use Rattle.c_meaning.specs.Loops.{loops_in}
 use Rattle.c_meaning.specs.Operators.{is_true, flag}
 use Rattle.c_meaning.specs.Program.{type_at}
 use Rattle.c_meaning.specs.Run.{called, result_of, status_of}
-use Rattle.c_meaning.specs.Statements as Statements
 use Rattle.c_meaning.specs.Statements.{Way, normally, by_break, by_continue, by_return, and_again, behind_switch, loop, loop_behind, arm_of, default_arm, or_default}
 use Rattle.c_meaning.specs.Statements.{tests, tests_if_any, done_if_any, execute, execute_all, enter, put_parts}
 use Rattle.source_machine.specs.Actions.{with_any, taking, performed}

@@ -4,7 +4,7 @@ use Rattle.lay_base.specs.declared.faults.UndefinedKind.TheVariants as K
 use Rattle.lay_base.specs.declared.place.Place.{Place}
 use Rattle.c_types.specs.Layouts.{offset_of}
 use Rattle.c_types.specs.Sameness.{same_type}
-use Rattle.c_types.specs.Types.{CType, void, pointer as pointer_to}
+use Rattle.c_types.specs.Types.{CType, pointer as pointer_to}
 use Rattle.c_typed.specs.declared.program.Local.{Local}
 use Rattle.c_typed.specs.Trees as T
 use Rattle.c_typed.specs.Trees.{Expression, expression, Node, Path, path, PathNode, Expressions, OptionalExpression, PartValue, Part, Initializer, Statement}

@@ -1,0 +1,87 @@
+-- The machine does what the program does.
+use Rattle.std.proofs.Common.{◌≡◌, refl, sym, ap, ◌∙◌, ℕ, zero, suc, ◌+◌, ◌<◌, ◌≤◌, Bool, List, [], arith}
+use Rattle.c_typed.specs.Programs.{ProgramData}
+use Rattle.runs.specs.Doing.{Rest}
+use Rattle.runs.specs.Worlds.{World, End, ends, goes_on, undefined, out_of_room}
+use Rattle.c_meaning.specs.Frames.{Frame}
+use Rattle.c_meaning.specs.Run.{run_of, start}
+use Rattle.c_meaning_laws.specs.Outcomes.{comes, over, with_rest, and_then, IsWithin}
+use Rattle.source_machine.specs.Finish.{finish}
+use Rattle.source_machine.specs.Moves.{Moved, Moves}
+use Rattle.source_machine.specs.Steps.{Left, started_with}
+use Rattle.source_machine.proofs.DirectSteps.{stepped_d}
+use Rattle.source_machine.proofs.Preserved.{preserved, begins}
+
+-- ---- one step, by what it comes to
+
+status_in : End → ℕ
+status_in (ends status w) = status
+status_in (goes_on w) = 0
+status_in (undefined kind place w) = 0
+status_in (out_of_room kind counted w) = 0
+
+module _ (p : ProgramData) where
+  -- a step comes to something
+  pub moved : Left → Frame → World → Moved
+  moved left f w = (stepped_d p left).outcome f w
+
+  pub moves : (left : Left) (f : Frame) (w : World) → Moves p left f w (moved left f w)
+  unfolding moved
+  moves left f w rest = (stepped_d p left).is rest f w
+
+  pub moved_within : (left : Left) (f : Frame) (w : World) → IsWithin w.turns (moved left f w)
+  unfolding moved
+  moved_within left f w = (stepped_d p left).within f w
+
+  -- what a step goes on with has no more turns left
+  no_more_turns : (o : Moved) (t : ℕ) (x : Left) (g : Frame) (u : World) → IsWithin t o → ((rest : Rest Frame Left) → with_rest o rest ≡ rest x g u) → u.turns ≤ t
+  unfolding status_in
+  no_more_turns (comes y h v) t x g u i same =
+      let alike : v.turns ≡ u.turns = ap status_in (same (λ z k s. ends s.turns s)) in
+      omega (arith, alike)
+  no_more_turns (over e) t x g u i same =
+      let none : status_in e ≡ 0 = ap status_in (same (λ z k s. ends 0 s)) in
+      let one : status_in e ≡ 1 = ap status_in (same (λ z k s. ends 1 s)) in
+      absurd (omega (arith, none, one))
+
+  pub turns_fall : (left : Left) (f : Frame) (w : World) (x : Left) (g : Frame) (u : World) → Moves p left f w (comes x g u) → u.turns ≤ w.turns
+  turns_fall left f w x g u m = no_more_turns (moved left f w) w.turns x g u (moved_within left f w) (λ rest. sym (moves left f w rest) ∙ m rest)
+
+  module _ (n : ℕ) where
+    pub goes_alike : (left : Left) (f : Frame) (w : World) (x : Left) (g : Frame) (u : World) → w.turns < n → Moves p left f w (comes x g u)
+        → (finish p n x g u ≡ finish p n left f w) × (u.turns < n)
+    goes_alike left f w x g u h m =
+        let fewer : u.turns ≤ w.turns = turns_fall left f w x g u m in
+        (sym (m (finish p n)) ∙ preserved p n left f w h, omega arith)
+
+    pub over_alike : (left : Left) (f : Frame) (w : World) (e : End) → w.turns < n → Moves p left f w (over e) → e ≡ finish p n left f w
+    over_alike left f w e h m = sym (m (finish p n)) ∙ preserved p n left f w h
+
+  -- ---- many steps
+
+  -- where so many steps come to
+  abbrev pub reached : (k : ℕ) → Left → Frame → World → Moved
+  reached zero left f w = comes left f w
+  reached (suc k) left f w = and_then (moved left f w) (reached k)
+
+  onwards : (n t : ℕ) (o : Moved) (next : Left → Frame → World → Moved) → IsWithin t o → t < n
+      → ((x : Left) (g : Frame) (u : World) → u.turns < n → with_rest (next x g u) (finish p n) ≡ finish p n x g u)
+      → with_rest (and_then o next) (finish p n) ≡ with_rest o (finish p n)
+  onwards n t (comes x g u) next i h k = k x g u (omega arith)
+  onwards n t (over e) next i h k = refl
+
+  reached_alike : (n k : ℕ) (left : Left) (f : Frame) (w : World) → w.turns < n → with_rest (reached k left f w) (finish p n) ≡ finish p n left f w
+  reached_alike n zero left f w h = refl
+  reached_alike n (suc k) left f w h =
+      onwards n w.turns (moved left f w) (reached k) (moved_within left f w) h (λ x g u i. reached_alike n k x g u i)
+      ∙ sym (moves left f w (finish p n)) ∙ preserved p n left f w h
+
+  -- the theorem: after any number of steps from the start, what is left to do is the run
+  pub runs : (input : List ℕ) (turns : ℕ) (limited : Bool) (k : ℕ)
+      → with_rest (reached k (started_with p) [] (start p input turns limited)) (finish p (turns + 1)) ≡ run_of p input turns limited
+  runs input turns limited k = reached_alike (turns + 1) k (started_with p) [] (start p input turns limited) (omega arith) ∙ begins p input turns limited
+
+  -- so where the machine is over, it ends as the run does
+  pub ends_as_run : (input : List ℕ) (turns : ℕ) (limited : Bool) (k : ℕ) (e : End) → reached k (started_with p) [] (start p input turns limited) ≡ over e
+      → e ≡ run_of p input turns limited
+  ends_as_run input turns limited k e h = ap (λ o. with_rest o (finish p (turns + 1))) (sym h) ∙ runs input turns limited k
