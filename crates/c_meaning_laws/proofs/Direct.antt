@@ -25,12 +25,12 @@ pub record Direct (F A : Type 0) (m : Doing F A) : Type 0 where
 
 -- ---- parts
 
-joined : {F A B : Type 0} (o : Outcome F A) (next : A → F → World → Outcome F B) (rest : Rest F B)
+pub joined : {F A B : Type 0} (o : Outcome F A) (next : A → F → World → Outcome F B) (rest : Rest F B)
     → with_rest o (λ x f w. with_rest (next x f w) rest) ≡ with_rest (and_then o next) rest
 joined (comes x f w) next rest = refl
 joined (over e) next rest = refl
 
-joined_within : {F A B : Type 0} (t : ℕ) (o : Outcome F A) (next : A → F → World → Outcome F B) → IsWithin t o
+pub joined_within : {F A B : Type 0} (t : ℕ) (o : Outcome F A) (next : A → F → World → Outcome F B) → IsWithin t o
     → ((x : A) (f : F) (w : World) → IsWithin w.turns (next x f w)) → IsWithin t (and_then o next)
 joined_within t (comes x f w) next h k = fewer (next x f w) (k x f w)
   where
@@ -39,20 +39,20 @@ joined_within t (comes x f w) next h k = fewer (next x f w) (k x f w)
     fewer (over e) i = tt
 joined_within t (over e) next h k = tt
 
-pub pure_direct : (b : ℕ) (F A : Type 0) (x : A) → Direct F A (pure x)
+abbrev pub pure_direct : (b : ℕ) (F A : Type 0) (x : A) → Direct F A (pure x)
 pure_direct b F A x = record { outcome = λ f w. comes x f w; is = λ k f w. refl; within = λ f w. omega arith }
 
-pub bind_direct : (b : ℕ) (F A B : Type 0) (m m' : Doing F A) (next next' : A → Doing F B) → Direct F A m' → ((x : A) → Direct F B (next' x)) → Direct F B (m' >>= next')
+abbrev pub bind_direct : (b : ℕ) (F A B : Type 0) (m m' : Doing F A) (next next' : A → Doing F B) → Direct F A m' → ((x : A) → Direct F B (next' x)) → Direct F B (m' >>= next')
 bind_direct b F A B m m' next next' one other = record {
   outcome = λ f w. and_then (one.outcome f w) (λ x. (other x).outcome);
   is = λ k f w. one.is (λ x. next' x k) f w ∙ (λ i. with_rest (one.outcome f w) (λ x g u. (other x).is k g u i)) ∙ joined (one.outcome f w) (λ x. (other x).outcome) k;
   within = λ f w. joined_within w.turns (one.outcome f w) (λ x. (other x).outcome) (one.within f w) (λ x. (other x).within);
 }
 
-pub end_direct : (b : ℕ) (F A : Type 0) (status : ℕ) → Direct F A (λ rest f w. ends status w)
+abbrev pub end_direct : (b : ℕ) (F A : Type 0) (status : ℕ) → Direct F A (λ rest f w. ends status w)
 end_direct b F A status = record { outcome = λ f w. over (ends status w); is = λ k f w. refl; within = λ f w. tt }
 
-pub undefined_direct : (b : ℕ) (F A : Type 0) (kind : UndefinedKind) (place : Place) → Direct F A (is_undefined kind place)
+abbrev pub undefined_direct : (b : ℕ) (F A : Type 0) (kind : UndefinedKind) (place : Place) → Direct F A (is_undefined kind place)
 undefined_direct b F A kind place = record { outcome = λ f w. over (undefined kind place w); is = λ k f w. refl; within = λ f w. tt }
 
 abbrev pub AreOne : (b n m : ℕ) → Type 0
@@ -67,12 +67,12 @@ abbrev pub turn_outcome : {F A : Type 0} → (t : ℕ) → (F → World → Outc
 turn_outcome zero next f w = over (goes_on w)
 turn_outcome (suc t) next f w = next f (record w { turns = t })
 
-turned : (t : ℕ) (F A : Type 0) (m : Doing F A) (one : Direct F A m) (k : Rest F A) (f : F) (w : World)
+pub turned : (t : ℕ) (F A : Type 0) (m : Doing F A) (one : Direct F A m) (k : Rest F A) (f : F) (w : World)
     → turn_of t (λ x. m k) f w ≡ with_rest (turn_outcome t one.outcome f w) k
 turned zero F A m one k f w = refl
 turned (suc t) F A m one k f w = one.is k f (record w { turns = t })
 
-turned_within : (t : ℕ) (F A : Type 0) (m : Doing F A) (one : Direct F A m) (f : F) (w : World) → IsWithin t (turn_outcome t one.outcome f w)
+pub turned_within : (t : ℕ) (F A : Type 0) (m : Doing F A) (one : Direct F A m) (f : F) (w : World) → IsWithin t (turn_outcome t one.outcome f w)
 turned_within zero F A m one f w = tt
 turned_within (suc t) F A m one f w = fewer (one.outcome f (record w { turns = t })) (one.within f (record w { turns = t }))
   where
@@ -80,7 +80,7 @@ turned_within (suc t) F A m one f w = fewer (one.outcome f (record w { turns = t
     fewer (comes x g u) h = omega arith
     fewer (over e) h = tt
 
-pub behind_turn : {F A : Type 0} {m : Doing F A} → Direct F A m → Direct F A (turn >> m)
+abbrev pub behind_turn : {F A : Type 0} {m : Doing F A} → Direct F A m → Direct F A (turn >> m)
 behind_turn one = record {
   outcome = λ f w. turn_outcome w.turns one.outcome f w;
   is = λ k f w. turned w.turns _ _ _ one k f w;

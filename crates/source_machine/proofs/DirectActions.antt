@@ -24,13 +24,13 @@ use Rattle.source_machine.specs.Items.{value, spot, Stack, Action}
 abbrev pub D : (A : Type 0) → Doing Frame A → Type 0
 D A m = Direct Frame A m
 
-pub pure_d : {A : Type 0} (x : A) → D A (pure x)
+abbrev pub pure_d : {A : Type 0} (x : A) → D A (pure x)
 pure_d x = pure_direct 0 Frame _ x
 
-pub bind_d : {A B : Type 0} {m : Doing Frame A} {next : A → Doing Frame B} → D A m → ((x : A) → D B (next x)) → D B (m >>= next)
+abbrev pub bind_d : {A B : Type 0} {m : Doing Frame A} {next : A → Doing Frame B} → D A m → ((x : A) → D B (next x)) → D B (m >>= next)
 bind_d {m = m} {next = next} one other = bind_direct 0 Frame _ _ m m next next one other
 
-pub undefined_d : {A : Type 0} (kind : UndefinedKind) (place : Place) → D A (is_undefined kind place)
+abbrev pub undefined_d : {A : Type 0} (kind : UndefinedKind) (place : Place) → D A (is_undefined kind place)
 undefined_d kind place = undefined_direct 0 Frame _ kind place
 
 pub either_d : {A : Type 0} (test : Bool) {m n : Doing Frame A} → D A m → D A n → D A (if test then m else n)

@@ -3,6 +3,7 @@ pub mod PreservedCalls
 pub mod PreservedExpressions
 pub mod PreservedStatements
 pub mod Preserved
+pub mod Sizes
 pub mod DirectActions
 pub mod DirectSteps
 pub mod Sound

@@ -1,5 +1,5 @@
 -- The machine does what the program does.
-use Rattle.std.proofs.Common.{◌≡◌, refl, sym, ap, ◌∙◌, ℕ, zero, suc, ◌+◌, ◌<◌, ◌≤◌, Bool, List, [], arith}
+use Rattle.std.proofs.Common.{◌≡◌, refl, sym, ap, ◌∙◌, inl, inr, ℕ, zero, suc, ◌+◌, ◌<◌, ◌≤◌, Bool, List, [], arith}
 use Rattle.c_typed.specs.Programs.{ProgramData}
 use Rattle.runs.specs.Doing.{Rest}
 use Rattle.runs.specs.Worlds.{World, End, ends, goes_on, undefined, out_of_room}
@@ -9,7 +9,8 @@ use Rattle.c_meaning_laws.specs.Outcomes.{comes, over, with_rest, and_then, IsWi
 use Rattle.source_machine.specs.Finish.{finish}
 use Rattle.source_machine.specs.Moves.{Moved, Moves}
 use Rattle.source_machine.specs.Steps.{Left, started_with}
-use Rattle.source_machine.proofs.DirectSteps.{stepped_d}
+use Rattle.source_machine.proofs.DirectSteps.{IsLess, stepped_l}
+use Rattle.source_machine.proofs.Sizes.{of_work}
 use Rattle.source_machine.proofs.Preserved.{preserved, begins}
 
 -- ---- one step, by what it comes to
@@ -23,15 +24,19 @@ status_in (out_of_room kind counted w) = 0
 module _ (p : ProgramData) where
   -- a step comes to something
   pub moved : Left → Frame → World → Moved
-  moved left f w = (stepped_d p left).outcome f w
+  moved left f w = (stepped_l p left).direct.outcome f w
 
   pub moves : (left : Left) (f : Frame) (w : World) → Moves p left f w (moved left f w)
   unfolding moved
-  moves left f w rest = (stepped_d p left).is rest f w
+  moves left f w rest = (stepped_l p left).direct.is rest f w
 
   pub moved_within : (left : Left) (f : Frame) (w : World) → IsWithin w.turns (moved left f w)
   unfolding moved
-  moved_within left f w = (stepped_d p left).within f w
+  moved_within left f w = (stepped_l p left).direct.within f w
+
+  pub moved_less : (left : Left) (f : Frame) (w : World) → IsLess w.turns (of_work left.work) (moved left f w)
+  unfolding moved
+  moved_less left f w = (stepped_l p left).less f w
 
   -- what a step goes on with has no more turns left
   no_more_turns : (o : Moved) (t : ℕ) (x : Left) (g : Frame) (u : World) → IsWithin t o → ((rest : Rest Frame Left) → with_rest o rest ≡ rest x g u) → u.turns ≤ t
@@ -85,3 +90,41 @@ module _ (p : ProgramData) where
   pub ends_as_run : (input : List ℕ) (turns : ℕ) (limited : Bool) (k : ℕ) (e : End) → reached k (started_with p) [] (start p input turns limited) ≡ over e
       → e ≡ run_of p input turns limited
   ends_as_run input turns limited k e h = ap (λ o. with_rest o (finish p (turns + 1))) (sym h) ∙ runs input turns limited k
+
+  -- ---- it is over after some number of steps
+
+  abbrev Halts : Left → Frame → World → Type 0
+  Halts left f w = (k : ℕ) × (e : End) × (reached k left f w ≡ over e)
+
+  -- the next one halts where fewer turns are left, and where there is less work
+  halts_behind : (left : Left) (f : Frame) (w : World) (o : Moved) → moved left f w ≡ o → IsLess w.turns (of_work left.work) o → IsWithin w.turns o
+      → ((x : Left) (g : Frame) (u : World) → u.turns < w.turns → Halts x g u)
+      → ((x : Left) (g : Frame) (u : World) → u.turns ≤ w.turns → of_work x.work < of_work left.work → Halts x g u) → Halts left f w
+  halts_behind left f w (over e) same h i fewer less = (1, e, ap (λ o. and_then o (reached 0)) same)
+  halts_behind left f w (comes x g u) same (inl h) i fewer less =
+      let behind : Halts x g u = fewer x g u h in
+      (suc behind.0, behind.1, ap (λ o. and_then o (reached behind.0)) same ∙ behind.2)
+  halts_behind left f w (comes x g u) same (inr h) i fewer less =
+      let behind : Halts x g u = less x g u i h in
+      (suc behind.0, behind.1, ap (λ o. and_then o (reached behind.0)) same ∙ behind.2)
+
+  halts_within : (t : ℕ) → ((x : Left) (g : Frame) (u : World) → u.turns < t → Halts x g u)
+      → (j : ℕ) (left : Left) (f : Frame) (w : World) → w.turns ≤ t → of_work left.work ≤ j → Halts left f w
+  halts_within t below zero left f w h k = halts_behind left f w (moved left f w) refl (moved_less left f w) (moved_within left f w)
+      (λ x g u i. below x g u (omega arith)) (λ x g u i l. absurd (omega arith))
+  halts_within t below (suc j) left f w h k = halts_behind left f w (moved left f w) refl (moved_less left f w) (moved_within left f w)
+      (λ x g u i. below x g u (omega arith)) (λ x g u i l. halts_within t below j x g u (omega arith) (omega arith))
+
+  halts_below : (t : ℕ) (left : Left) (f : Frame) (w : World) → w.turns < t → Halts left f w
+  halts_below zero left f w h = absurd (omega arith)
+  halts_below (suc t) left f w h = halts_within t (halts_below t) (of_work left.work) left f w (omega arith) (omega arith)
+
+  pub halts : (left : Left) (f : Frame) (w : World) → Halts left f w
+  halts left f w = halts_below (suc w.turns) left f w (omega arith)
+
+  -- the theorem: from the start the machine comes, in some number of steps, to the end of the run
+  pub comes_to_the_end : (input : List ℕ) (turns : ℕ) (limited : Bool)
+      → (k : ℕ) × (reached k (started_with p) [] (start p input turns limited) ≡ over (run_of p input turns limited))
+  comes_to_the_end input turns limited =
+      let end : Halts (started_with p) [] (start p input turns limited) = halts (started_with p) [] (start p input turns limited) in
+      (end.0, end.2 ∙ ap (λ e. over e) (ends_as_run input turns limited end.0 end.1 end.2))
