@@ -21,91 +21,91 @@ use Rattle.source_machine.specs.Actions.{taking, taking_any, taking_spot, gives,
 use Rattle.source_machine.specs.Items as I
 use Rattle.source_machine.specs.Items.{value, spot, Stack, Action}
 
-abbrev pub D : (A : Type 0) → Doing Frame A → Type 0
-D A m = Direct Frame A m
+abbrev pub IsDirect : (A : Type 0) → Doing Frame A → Type 0
+IsDirect A m = Direct Frame A m
 
-abbrev pub pure_d : {A : Type 0} (x : A) → D A (pure x)
-pure_d x = pure_direct 0 Frame _ x
+abbrev pub direct_pure : {A : Type 0} (x : A) → IsDirect A (pure x)
+direct_pure x = pure_direct 0 Frame _ x
 
-abbrev pub bind_d : {A B : Type 0} {m : Doing Frame A} {next : A → Doing Frame B} → D A m → ((x : A) → D B (next x)) → D B (m >>= next)
-bind_d {m = m} {next = next} one other = bind_direct 0 Frame _ _ m m next next one other
+abbrev pub direct_bind : {A B : Type 0} {m : Doing Frame A} {next : A → Doing Frame B} → IsDirect A m → ((x : A) → IsDirect B (next x)) → IsDirect B (m >>= next)
+direct_bind {m = m} {next = next} one other = bind_direct 0 Frame _ _ m m next next one other
 
-abbrev pub undefined_d : {A : Type 0} (kind : UndefinedKind) (place : Place) → D A (is_undefined kind place)
-undefined_d kind place = undefined_direct 0 Frame _ kind place
+abbrev pub direct_undefined : {A : Type 0} (kind : UndefinedKind) (place : Place) → IsDirect A (is_undefined kind place)
+direct_undefined kind place = undefined_direct 0 Frame _ kind place
 
-pub either_d : {A : Type 0} (test : Bool) {m n : Doing Frame A} → D A m → D A n → D A (if test then m else n)
-either_d true one other = one
-either_d false one other = other
+pub direct_either : {A : Type 0} (test : Bool) {m n : Doing Frame A} → IsDirect A m → IsDirect A n → IsDirect A (if test then m else n)
+direct_either true one other = one
+direct_either false one other = other
 
-pub taking_d : {A : Type 0} (stack : Stack) {next : Value → Stack → Doing Frame A} → ((v : Value) (stack : Stack) → D A (next v stack)) → D A (taking stack next)
-taking_d [] k = undefined_d K.NoValue (record { file = 0; at = 0 })
-taking_d (spot s ∷ stack) k = undefined_d K.NoValue (record { file = 0; at = 0 })
-taking_d (value None ∷ stack) k = undefined_d K.NoValue (record { file = 0; at = 0 })
-taking_d (value (Some v) ∷ stack) k = k v stack
+pub direct_taking : {A : Type 0} (stack : Stack) {next : Value → Stack → Doing Frame A} → ((v : Value) (stack : Stack) → IsDirect A (next v stack)) → IsDirect A (taking stack next)
+direct_taking [] k = direct_undefined K.NoValue (record { file = 0; at = 0 })
+direct_taking (spot s ∷ stack) k = direct_undefined K.NoValue (record { file = 0; at = 0 })
+direct_taking (value None ∷ stack) k = direct_undefined K.NoValue (record { file = 0; at = 0 })
+direct_taking (value (Some v) ∷ stack) k = k v stack
 
-pub taking_any_d : {A : Type 0} (stack : Stack) {next : Option Value → Stack → Doing Frame A} → ((v : Option Value) (stack : Stack) → D A (next v stack))
-    → D A (taking_any stack next)
-taking_any_d [] k = undefined_d K.NoValue (record { file = 0; at = 0 })
-taking_any_d (spot s ∷ stack) k = undefined_d K.NoValue (record { file = 0; at = 0 })
-taking_any_d (value v ∷ stack) k = k v stack
+pub direct_taking_any : {A : Type 0} (stack : Stack) {next : Option Value → Stack → Doing Frame A} → ((v : Option Value) (stack : Stack) → IsDirect A (next v stack))
+    → IsDirect A (taking_any stack next)
+direct_taking_any [] k = direct_undefined K.NoValue (record { file = 0; at = 0 })
+direct_taking_any (spot s ∷ stack) k = direct_undefined K.NoValue (record { file = 0; at = 0 })
+direct_taking_any (value v ∷ stack) k = k v stack
 
-taking_spot_d : {A : Type 0} (stack : Stack) {next : Spot → Stack → Doing Frame A} → ((s : Spot) (stack : Stack) → D A (next s stack)) → D A (taking_spot stack next)
-taking_spot_d [] k = undefined_d K.NoValue (record { file = 0; at = 0 })
-taking_spot_d (value v ∷ stack) k = undefined_d K.NoValue (record { file = 0; at = 0 })
-taking_spot_d (spot s ∷ stack) k = k s stack
+direct_taking_spot : {A : Type 0} (stack : Stack) {next : Spot → Stack → Doing Frame A} → ((s : Spot) (stack : Stack) → IsDirect A (next s stack)) → IsDirect A (taking_spot stack next)
+direct_taking_spot [] k = direct_undefined K.NoValue (record { file = 0; at = 0 })
+direct_taking_spot (value v ∷ stack) k = direct_undefined K.NoValue (record { file = 0; at = 0 })
+direct_taking_spot (spot s ∷ stack) k = k s stack
 
-gives_d : (stack : Stack) (v : Value) → D Stack (gives stack v)
-gives_d stack v = pure_d (value (Some v) ∷ stack)
+direct_gives : (stack : Stack) (v : Value) → IsDirect Stack (gives stack v)
+direct_gives stack v = direct_pure (value (Some v) ∷ stack)
 
-leads_d : (stack : Stack) (s : Spot) → D Stack (leads stack s)
-leads_d stack s = pure_d (spot s ∷ stack)
+direct_leads : (stack : Stack) (s : Spot) → IsDirect Stack (leads stack s)
+direct_leads stack s = direct_pure (spot s ∷ stack)
 
-cast_d : (t : CType) (place : Place) (v : Option Value) → D (Option Value) (cast_to t place v)
-cast_d void place v = pure_d None
-cast_d t place v = bind_d (Expressions.by_or_no_value by_outcome place v 0) (λ v. pure_d (Some (converted t v)))
+direct_cast : (t : CType) (place : Place) (v : Option Value) → IsDirect (Option Value) (cast_to t place v)
+direct_cast void place v = direct_pure None
+direct_cast t place v = direct_bind (Expressions.by_or_no_value by_outcome place v 0) (λ v. direct_pure (Some (converted t v)))
 
 module _ (p : ProgramData) where
-  pub performed_d : (a : Action) (stack : Stack) → D Stack (performed p a stack)
-  performed_d (I.needing at) stack = taking_any_d stack (λ v stack. bind_d (Expressions.by_or_no_value by_outcome at v 0) (gives_d stack))
-  performed_d (I.converting t at) stack = taking_any_d stack (λ v stack. bind_d (cast_d (type_at p t) at v) (λ v. pure_d (value v ∷ stack)))
-  performed_d (I.unary_on op) stack = taking_d stack (λ v stack. gives_d stack (unary op v))
-  performed_d (I.binary_on at op left right) stack =
-      taking_d stack (λ w stack. taking_d stack (λ v stack. bind_d (Runs.by_tested by_outcome at (binary op left v right w) 0) (gives_d stack)))
-  performed_d (I.comparing at op kind) stack = taking_d stack (λ w stack. taking_d stack (λ v stack.
-      bind_d (Runs.by_memory by_outcome 0) (λ m. bind_d (Runs.by_tested by_outcome at (compared op m kind v w) 0) (gives_d stack))))
-  performed_d (I.adding at op size left right) stack = taking_d stack (λ w stack. taking_d stack (λ v stack.
-      bind_d (Runs.by_memory by_outcome 0) (λ m. bind_d (Runs.by_tested by_outcome at (moved m op size left v right w) 0) (gives_d stack))))
-  performed_d (I.measuring at size) stack =
-      taking_d stack (λ w stack. taking_d stack (λ v stack. bind_d (Runs.by_tested by_outcome at (distance size v w) 0) (gives_d stack)))
-  performed_d I.flagging stack = taking_d stack (λ v stack. gives_d stack (flag (is_true v)))
-  performed_d I.negating stack = taking_d stack (λ v stack. gives_d stack (flag (not (is_true v))))
-  performed_d I.dropping stack = taking_any_d stack (λ v stack. pure_d stack)
-  performed_d (I.allocating at r size zeroed) stack = taking_d stack (λ v stack. bind_d (Expressions.by_allocated by_outcome at r size (word_of v) zeroed 0) (gives_d stack))
-  performed_d (I.loading at t) stack = taking_spot_d stack (λ s stack. bind_d (Expressions.by_fetch by_outcome p at s t 0) (gives_d stack))
-  performed_d (I.addressing at) stack = taking_spot_d stack (λ s stack. bind_d (Expressions.by_address_of by_outcome at s 0) (λ q. gives_d stack (pointer q)))
-  performed_d (I.assigning at t) stack =
-      taking_d stack (λ v stack. taking_spot_d stack (λ s stack. bind_d (Expressions.by_put by_outcome p at s t v 0) (λ a. gives_d stack v)))
-  performed_d (I.updating at op t right) stack = taking_d stack (λ w stack. taking_spot_d stack (λ s stack.
-      bind_d (Expressions.by_fetch by_outcome p at s t 0) (λ v. bind_d (Runs.by_memory by_outcome 0) (λ m.
-      bind_d (Runs.by_tested by_outcome at (updated m op (element_size p (type_at p t)) (type_at p t) v (type_at p right) w) 0) (λ new.
-      bind_d (Expressions.by_put by_outcome p at s t new 0) (λ a. gives_d stack new))))))
-  performed_d (I.stepping at t op before) stack = taking_spot_d stack (λ s stack.
-      bind_d (Expressions.by_fetch by_outcome p at s t 0) (λ v. bind_d (Runs.by_memory by_outcome 0) (λ m.
-      bind_d (Runs.by_tested by_outcome at (next m op (element_size p (type_at p t)) (type_at p t) v) 0) (λ new.
-      bind_d (Expressions.by_put by_outcome p at s t new 0) (λ a. gives_d stack (if before then new else v))))))
-  performed_d (I.copying at size) stack =
-      taking_spot_d stack (λ r stack. taking_spot_d stack (λ s stack. bind_d (Expressions.by_copy_record by_outcome at size s r 0) (λ a. pure_d (value None ∷ stack))))
-  performed_d I.dereferencing stack = taking_d stack (λ v stack. leads_d stack (placed (pointer_of v)))
-  performed_d (I.indexing at size left right) stack = taking_d stack (λ w stack. taking_d stack (λ v stack.
-      bind_d (Runs.by_memory by_outcome 0) (λ m. bind_d (Runs.by_tested by_outcome at (moved m Add size left v right w) 0) (λ q. leads_d stack (placed (pointer_of q))))))
-  performed_d (I.field_of offset) stack = taking_spot_d stack (λ s stack. leads_d stack (part_of offset s))
-  performed_d (I.field_at at offset) stack = taking_d stack (λ v stack. bind_d (Expressions.by_field_through by_outcome at (pointer_of v) (pos offset) 0) (leads_d stack))
-  performed_d (I.field_of_element at right size offset) stack = taking_d stack (λ w stack. taking_d stack (λ v stack.
-      bind_d (Expressions.by_field_through by_outcome at (pointer_of v) (number_of right (word_of w) *ℤ pos size +ℤ pos offset) 0) (leads_d stack)))
-  performed_d (I.element_at at length size addressed kind) stack = taking_d stack (λ v stack. taking_spot_d stack (λ s stack.
-      bind_d (Expressions.by_element_of by_outcome at length size addressed s (number_of kind (word_of v)) 0) (leads_d stack)))
-  performed_d (I.naming x) stack = taking_d stack (λ v stack. bind_d (Expressions.by_with_slot by_outcome x (by_name (Some v)) 0) (λ a. pure_d stack))
-  performed_d (I.storing b offset at t) stack =
-      taking_d stack (λ v stack. bind_d (Runs.by_store by_outcome at (P.Block b offset) (access_at p t) v 0) (λ a. pure_d stack))
-  performed_d (I.copying_to b offset at size) stack =
-      taking_spot_d stack (λ s stack. bind_d (Expressions.by_copy_record by_outcome at size (placed (P.Block b offset)) s 0) (λ a. pure_d stack))
+  pub direct_performed : (a : Action) (stack : Stack) → IsDirect Stack (performed p a stack)
+  direct_performed (I.needing at) stack = direct_taking_any stack (λ v stack. direct_bind (Expressions.by_or_no_value by_outcome at v 0) (direct_gives stack))
+  direct_performed (I.converting t at) stack = direct_taking_any stack (λ v stack. direct_bind (direct_cast (type_at p t) at v) (λ v. direct_pure (value v ∷ stack)))
+  direct_performed (I.unary_on op) stack = direct_taking stack (λ v stack. direct_gives stack (unary op v))
+  direct_performed (I.binary_on at op left right) stack =
+      direct_taking stack (λ w stack. direct_taking stack (λ v stack. direct_bind (Runs.by_tested by_outcome at (binary op left v right w) 0) (direct_gives stack)))
+  direct_performed (I.comparing at op kind) stack = direct_taking stack (λ w stack. direct_taking stack (λ v stack.
+      direct_bind (Runs.by_memory by_outcome 0) (λ m. direct_bind (Runs.by_tested by_outcome at (compared op m kind v w) 0) (direct_gives stack))))
+  direct_performed (I.adding at op size left right) stack = direct_taking stack (λ w stack. direct_taking stack (λ v stack.
+      direct_bind (Runs.by_memory by_outcome 0) (λ m. direct_bind (Runs.by_tested by_outcome at (moved m op size left v right w) 0) (direct_gives stack))))
+  direct_performed (I.measuring at size) stack =
+      direct_taking stack (λ w stack. direct_taking stack (λ v stack. direct_bind (Runs.by_tested by_outcome at (distance size v w) 0) (direct_gives stack)))
+  direct_performed I.flagging stack = direct_taking stack (λ v stack. direct_gives stack (flag (is_true v)))
+  direct_performed I.negating stack = direct_taking stack (λ v stack. direct_gives stack (flag (not (is_true v))))
+  direct_performed I.dropping stack = direct_taking_any stack (λ v stack. direct_pure stack)
+  direct_performed (I.allocating at r size zeroed) stack = direct_taking stack (λ v stack. direct_bind (Expressions.by_allocated by_outcome at r size (word_of v) zeroed 0) (direct_gives stack))
+  direct_performed (I.loading at t) stack = direct_taking_spot stack (λ s stack. direct_bind (Expressions.by_fetch by_outcome p at s t 0) (direct_gives stack))
+  direct_performed (I.addressing at) stack = direct_taking_spot stack (λ s stack. direct_bind (Expressions.by_address_of by_outcome at s 0) (λ q. direct_gives stack (pointer q)))
+  direct_performed (I.assigning at t) stack =
+      direct_taking stack (λ v stack. direct_taking_spot stack (λ s stack. direct_bind (Expressions.by_put by_outcome p at s t v 0) (λ a. direct_gives stack v)))
+  direct_performed (I.updating at op t right) stack = direct_taking stack (λ w stack. direct_taking_spot stack (λ s stack.
+      direct_bind (Expressions.by_fetch by_outcome p at s t 0) (λ v. direct_bind (Runs.by_memory by_outcome 0) (λ m.
+      direct_bind (Runs.by_tested by_outcome at (updated m op (element_size p (type_at p t)) (type_at p t) v (type_at p right) w) 0) (λ new.
+      direct_bind (Expressions.by_put by_outcome p at s t new 0) (λ a. direct_gives stack new))))))
+  direct_performed (I.stepping at t op before) stack = direct_taking_spot stack (λ s stack.
+      direct_bind (Expressions.by_fetch by_outcome p at s t 0) (λ v. direct_bind (Runs.by_memory by_outcome 0) (λ m.
+      direct_bind (Runs.by_tested by_outcome at (next m op (element_size p (type_at p t)) (type_at p t) v) 0) (λ new.
+      direct_bind (Expressions.by_put by_outcome p at s t new 0) (λ a. direct_gives stack (if before then new else v))))))
+  direct_performed (I.copying at size) stack =
+      direct_taking_spot stack (λ r stack. direct_taking_spot stack (λ s stack. direct_bind (Expressions.by_copy_record by_outcome at size s r 0) (λ a. direct_pure (value None ∷ stack))))
+  direct_performed I.dereferencing stack = direct_taking stack (λ v stack. direct_leads stack (placed (pointer_of v)))
+  direct_performed (I.indexing at size left right) stack = direct_taking stack (λ w stack. direct_taking stack (λ v stack.
+      direct_bind (Runs.by_memory by_outcome 0) (λ m. direct_bind (Runs.by_tested by_outcome at (moved m Add size left v right w) 0) (λ q. direct_leads stack (placed (pointer_of q))))))
+  direct_performed (I.field_of offset) stack = direct_taking_spot stack (λ s stack. direct_leads stack (part_of offset s))
+  direct_performed (I.field_at at offset) stack = direct_taking stack (λ v stack. direct_bind (Expressions.by_field_through by_outcome at (pointer_of v) (pos offset) 0) (direct_leads stack))
+  direct_performed (I.field_of_element at right size offset) stack = direct_taking stack (λ w stack. direct_taking stack (λ v stack.
+      direct_bind (Expressions.by_field_through by_outcome at (pointer_of v) (number_of right (word_of w) *ℤ pos size +ℤ pos offset) 0) (direct_leads stack)))
+  direct_performed (I.element_at at length size addressed kind) stack = direct_taking stack (λ v stack. direct_taking_spot stack (λ s stack.
+      direct_bind (Expressions.by_element_of by_outcome at length size addressed s (number_of kind (word_of v)) 0) (direct_leads stack)))
+  direct_performed (I.naming x) stack = direct_taking stack (λ v stack. direct_bind (Expressions.by_with_slot by_outcome x (by_name (Some v)) 0) (λ a. direct_pure stack))
+  direct_performed (I.storing b offset at t) stack =
+      direct_taking stack (λ v stack. direct_bind (Runs.by_store by_outcome at (P.Block b offset) (access_at p t) v 0) (λ a. direct_pure stack))
+  direct_performed (I.copying_to b offset at size) stack =
+      direct_taking_spot stack (λ s stack. direct_bind (Expressions.by_copy_record by_outcome at size (placed (P.Block b offset)) s 0) (λ a. direct_pure stack))

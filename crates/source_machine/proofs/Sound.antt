@@ -9,7 +9,7 @@ use Rattle.c_meaning_laws.specs.Outcomes.{comes, over, with_rest, and_then, IsWi
 use Rattle.source_machine.specs.Finish.{finish}
 use Rattle.source_machine.specs.Moves.{Moved, Moves}
 use Rattle.source_machine.specs.Steps.{Left, started_with}
-use Rattle.source_machine.proofs.DirectSteps.{IsLess, stepped_l}
+use Rattle.source_machine.proofs.DirectSteps.{IsLess, lessens_stepped}
 use Rattle.source_machine.proofs.Sizes.{of_work}
 use Rattle.source_machine.proofs.Preserved.{preserved, begins}
 
@@ -24,19 +24,19 @@ status_in (out_of_room kind counted w) = 0
 module _ (p : ProgramData) where
   -- a step comes to something
   pub moved : Left → Frame → World → Moved
-  moved left f w = (stepped_l p left).direct.outcome f w
+  moved left f w = (lessens_stepped p left).direct.outcome f w
 
   pub moves : (left : Left) (f : Frame) (w : World) → Moves p left f w (moved left f w)
   unfolding moved
-  moves left f w rest = (stepped_l p left).direct.is rest f w
+  moves left f w rest = (lessens_stepped p left).direct.is rest f w
 
   pub moved_within : (left : Left) (f : Frame) (w : World) → IsWithin w.turns (moved left f w)
   unfolding moved
-  moved_within left f w = (stepped_l p left).direct.within f w
+  moved_within left f w = (lessens_stepped p left).direct.within f w
 
   pub moved_less : (left : Left) (f : Frame) (w : World) → IsLess w.turns (of_work left.work) (moved left f w)
   unfolding moved
-  moved_less left f w = (stepped_l p left).less f w
+  moved_less left f w = (lessens_stepped p left).less f w
 
   -- what a step goes on with has no more turns left
   no_more_turns : (o : Moved) (t : ℕ) (x : Left) (g : Frame) (u : World) → IsWithin t o → ((rest : Rest Frame Left) → with_rest o rest ≡ rest x g u) → u.turns ≤ t
