@@ -1,0 +1,4 @@
+pub mod Sums
+pub mod Maps
+pub mod Values
+pub mod Recognised
