@@ -2,3 +2,5 @@ pub mod Sums
 pub mod Maps
 pub mod Values
 pub mod Recognised
+pub mod Within
+pub mod Expressions
