@@ -4,3 +4,5 @@ pub mod Values
 pub mod Recognised
 pub mod Within
 pub mod Expressions
+pub mod Initializers
+pub mod Statements

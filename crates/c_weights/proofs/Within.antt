@@ -25,7 +25,7 @@ pub record AreWithin (n : Kind → ℕ) (most : ℕ) : Type 0 where
   pub case_label : n label ≤ most
   -- a declarator of a local, and one of a parameter
   pub named : n statement + n named_local ≤ most
-  pub block : n statement + n block_local ≤ most
+  pub block : n block_local ≤ n named_local
   pub parameter_name : n parameter ≤ most
   -- an item and its body
   pub item : n definition + n statement ≤ most + most
