@@ -6,3 +6,5 @@ pub mod Within
 pub mod Expressions
 pub mod Initializers
 pub mod Statements
+pub mod Numbered
+pub mod Functions

@@ -1,7 +1,7 @@
 -- Numbers that so much for each node of the syntax tree pays for: of what one node brings at most.
 use Rattle.std.proofs.Common.{ℕ, ◌+◌, ◌≤◌, arith}
 use Rattle.c_weights.specs.Counted.{Kind, begins, through, to_field, to_element, constant, load, conversion, pointer_sum, operator, assignment, call}
-use Rattle.c_weights.specs.Counted.{argument, part, statement, arm, label, definition, parameter, named_local, block_local, structure, code, frame}
+use Rattle.c_weights.specs.Counted.{argument, part, statement, arm, label, definition, parameter, named_local, block_local, structure, field, code, frame}
 
 pub record AreWithin (n : Kind → ℕ) (most : ℕ) : Type 0 where
   -- a null pointer weighs no more than the conversion that it stands for
@@ -31,6 +31,7 @@ pub record AreWithin (n : Kind → ℕ) (most : ℕ) : Type 0 where
   pub item : n definition + n statement ≤ most + most
   -- the definition of a structure
   pub structure_node : n structure ≤ most
+  pub field_name : n field ≤ most
 
 pub code_within : AreWithin code 512
 code_within = record {
@@ -53,6 +54,7 @@ code_within = record {
   parameter_name = omega arith;
   item = omega arith;
   structure_node = omega arith;
+  field_name = omega arith;
 }
 
 pub frame_within : AreWithin frame 64
@@ -76,4 +78,5 @@ frame_within = record {
   parameter_name = omega arith;
   item = omega arith;
   structure_node = omega arith;
+  field_name = omega arith;
 }

@@ -33,7 +33,9 @@ pub data Kind : Type 0 where
   -- a local that is kept by name, and one that has a block of memory
   named_local : Kind
   block_local : Kind
+  -- a record that is complete, and a field of it
   structure : Kind
+  field : Kind
 
 -- bytes of code
 abbrev pub code : Kind → ℕ
@@ -58,6 +60,7 @@ code parameter = 512
 code named_local = 320
 code block_local = 320
 code structure = 512
+code field = 512
 
 -- bytes of the frame, without the blocks of locals; what is defined once has no part in a frame
 abbrev pub frame : Kind → ℕ
@@ -82,3 +85,4 @@ frame parameter = 64
 frame named_local = 40
 frame block_local = 0
 frame structure = 0
+frame field = 0

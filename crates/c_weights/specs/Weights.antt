@@ -1,11 +1,11 @@
 -- What typed trees, functions, units and programs weigh: the sum of the numbers of all kinds of things that they hold.
 use Rattle.std.specs.Prelude.{ℕ, zero, ◌+◌, ◌*◌, List, [], ◌∷◌, length, Option, Some, None, if◌then◌else◌}
-use Rattle.c_types.specs.Types.{Record}
+use Rattle.c_types.specs.Types.{Record, Field}
 use Rattle.c_typed.specs.declared.program.Local.{Local}
 use Rattle.c_typed.specs.Trees as Trees
 use Rattle.c_typed.specs.Programs.{FunctionData, UnitData, ProgramData}
 use Rattle.c_weights.specs.Counted.{Kind, begins, through, to_field, to_element, constant, load, conversion, pointer_sum, operator, assignment, call}
-use Rattle.c_weights.specs.Counted.{argument, part, statement, arm, label, definition, parameter, named_local, block_local, structure, code, frame}
+use Rattle.c_weights.specs.Counted.{argument, part, statement, arm, label, definition, parameter, named_local, block_local, structure, field, code, frame}
 
 module _ (n : Kind → ℕ) where
   abbrev mutual
@@ -47,7 +47,7 @@ module _ (n : Kind → ℕ) where
     weight_of_step (Trees.object k) = n begins
     weight_of_step (Trees.deref e) = n through + weight e
     weight_of_step (Trees.index e i) = n to_element + weight e + weight i
-    weight_of_step (Trees.member p r field) = n to_field + weight_of_path p
+    weight_of_step (Trees.member p r k) = n to_field + weight_of_path p
     weight_of_step (Trees.element p i) = n to_element + weight_of_path p + weight i
 
     pub weight_of_all : {T : Type 0} → Trees.Expressions T → ℕ
@@ -133,9 +133,18 @@ module _ (n : Kind → ℕ) where
   weight_of_functions [] = 0
   weight_of_functions (g ∷ more) = weight_of_function g + weight_of_functions more
 
+  -- ---- records
+
+  abbrev pub weight_of_fields : List Field → ℕ
+  weight_of_fields [] = 0
+  weight_of_fields (x ∷ more) = n field + weight_of_fields more
+
+  abbrev pub weight_of_record : Record → ℕ
+  weight_of_record r = n structure + weight_of_fields r.fields
+
   abbrev pub weight_of_records : List Record → ℕ
   weight_of_records [] = 0
-  weight_of_records (r ∷ more) = n structure + weight_of_records more
+  weight_of_records (r ∷ more) = weight_of_record r + weight_of_records more
 
 -- ---- the two weights
 
