@@ -8,3 +8,5 @@ pub mod Initializers
 pub mod Statements
 pub mod Numbered
 pub mod Functions
+pub mod Found
+pub mod Structures
