@@ -20,7 +20,7 @@ use Rattle.c_weights.proofs.Expressions.{paid, operand_paid}
 use Rattle.c_weights.proofs.Within.{AreWithin}
 
 -- a node may stand above an expression that is an initializer
-node_above : (a : Trees.Expression) (own : Size) → own.nodes ≤ (as_initializer a own).nodes
+pub node_above : (a : Trees.Expression) (own : Size) → own.nodes ≤ (as_initializer a own).nodes
 node_above (Trees.braces left all comma right) own = omega arith
 node_above a own = omega arith
 
@@ -31,6 +31,13 @@ parts_append n (p ∷ a) b = let e = parts_append n a b in omega (arith, e)
 pub more_paid : (most i j : ℕ) → i ≤ j → most * i ≤ most * j
 more_paid most i j h = mul-le-mul_left most h
 
+-- what is not in braces
+abbrev pub IsSingle : Trees.Expression → Scope → CType → ℕ → List Part → Type 0
+IsSingle a s t at parts =
+    ((x : Expression) × (is_scalar t ≡ true) × (type_of x ≡ t) × (parts ≡ part_at at (Typed.value x)) × Values (Erases a s) x)
+    ⊎ ((r : ℕ) × (p : Typed.Path Noted) × (t ≡ structure r) × (type_of_path p ≡ t) × (parts ≡ part_at at (Typed.record_of p)) × Erases a s (an_object p))
+    ⊎ IsText (texts_of a) s t at parts
+
 module _ (n : Kind → ℕ) (most : ℕ) (w : AreWithin n most) where
   abbrev ArePaid : List Part → ℕ → Type 0
   ArePaid parts nodes = weight_of_parts n parts ≤ most * nodes
@@ -38,13 +45,6 @@ module _ (n : Kind → ℕ) (most : ℕ) (w : AreWithin n most) where
   text_paid : (o : Option (List Spelling)) (s : Scope) (t : CType) (at : ℕ) (parts : List Part) (k : ℕ) → IsText o s t at parts → ArePaid parts (k + 1)
   text_paid None s t at parts k h = absurd h
   text_paid (Some all) s t at parts k h = subst (λ parts. ArePaid parts (k + 1)) (sym h.3) (let a = w.part_node in omega (arith, a))
-
-  -- what is not in braces
-  abbrev IsSingle : Trees.Expression → Scope → CType → ℕ → List Part → Type 0
-  IsSingle a s t at parts =
-      ((x : Expression) × (is_scalar t ≡ true) × (type_of x ≡ t) × (parts ≡ part_at at (Typed.value x)) × Values (Erases a s) x)
-      ⊎ ((r : ℕ) × (p : Typed.Path Noted) × (t ≡ structure r) × (type_of_path p ≡ t) × (parts ≡ part_at at (Typed.record_of p)) × Erases a s (an_object p))
-      ⊎ IsText (texts_of a) s t at parts
 
   single_paid : (a : Trees.Expression) (s : Scope) (t : CType) (at : ℕ) (parts : List Part) → IsSingle a s t at parts → ArePaid parts ((size a).nodes + 1)
   single_paid a s t at parts (inl h) =

@@ -10,3 +10,4 @@ pub mod Numbered
 pub mod Functions
 pub mod Found
 pub mod Structures
+pub mod Items

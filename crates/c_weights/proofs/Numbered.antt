@@ -15,6 +15,15 @@ pub among_right : (j : ℕ) (a b : List ℕ) → IsAmong j b → IsAmong j (a ++
 among_right j [] b h = h
 among_right j (k ∷ a) b h = inr (among_right j a b h)
 
+pub among_either : (j : ℕ) (a b : List ℕ) → IsAmong j (a ++ b) → IsAmong j a ⊎ IsAmong j b
+among_either j [] b h = inr h
+among_either j (k ∷ a) b (inl h) = inl (inl h)
+among_either j (k ∷ a) b (inr h) = or_later (among_either j a b h)
+  where
+    or_later : IsAmong j a ⊎ IsAmong j b → IsAmong j (k ∷ a) ⊎ IsAmong j b
+    or_later (inl h) = inl (inr h)
+    or_later (inr h) = inr h
+
 -- the numbers behind the first, each one less
 abbrev lowered : List ℕ → List ℕ
 lowered [] = []
