@@ -11,3 +11,4 @@ pub mod Functions
 pub mod Found
 pub mod Structures
 pub mod Items
+pub mod Units
