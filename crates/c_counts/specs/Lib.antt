@@ -1,0 +1,4 @@
+pub mod Loops
+pub mod Order
+pub mod Counting
+pub mod Stale
