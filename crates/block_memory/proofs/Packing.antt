@@ -3,17 +3,18 @@ use Rattle.std.proofs.Common.{◌≡◌, ◌≢◌, ℕ, zero, suc, ◌+◌, ◌
 use Rattle.std.specs.Prelude.{◌⊎◌, ◌&&◌, ◌==◌}
 use Rattle.std.proofs.Math.ListN.{set, get_or-map}
 use Rattle.std.proofs.lemmas.Bool.{cases_eq, cases_lt, eqb-true}
-use Rattle.std.proofs.lemmas.List.{ext_get_or, get_or_append_left, get_or_past, get_or_push, get_or-replicate, get_or-take, length-map, length-replicate, length-set, length-take-le, length_push, map-set}
+use Rattle.std.proofs.lemmas.List.{map_push, take-map, get_or-map as get_or-map_at, ext_get_or, get_or_append_left, get_or_past, get_or_push, get_or-replicate, get_or-take, length-map, length-replicate, length-set, length-take-le, length_push, map-set}
 use Rattle.block_memory.specs.declared.cell.Cell.{Cell}
 use Rattle.block_memory.specs.declared.cell.Cell.TheVariants.{Empty, Byte, Fragment}
 use Rattle.block_memory.specs.declared.pointer.Ptr.{Ptr}
 use Rattle.block_memory.specs.declared.pointer.Ptr.TheVariants as P
 use Rattle.block_memory.specs.declared.word.Four.{Four}
+use Rattle.block_memory.specs.declared.word.Pooled.{Pooled}
 use Rattle.block_memory.specs.declared.word.Word.{Word}
 use Rattle.block_memory.specs.declared.word.Word.TheVariants as W
 use Rattle.block_memory.specs.Digits.{is_fragment}
 use Rattle.block_memory.specs.Held.{are_fragments, is_same}
-use Rattle.block_memory.specs.Words.{IsPacked, four_at, four_of, four_pointer, empty_word, is_mixed, mixed_in, nothing, one_if, whole, word_at, WordGives}
+use Rattle.block_memory.specs.Words.{fours_of, unpooled, IsPacked, four_at, four_of, four_pointer, empty_word, is_mixed, mixed_in, nothing, one_if, whole, word_at, WordGives}
 use Rattle.block_memory.proofs.CellsHold.{are_fragments_of}
 
 -- ---- new words
@@ -286,3 +287,22 @@ pub push_small : (words : List Word) (pool : List Four) (room i : ℕ) (old : Wo
     → old ≡ word_at words i → is_mixed old ≡ false → length pool < 2 ^ 32
 push_small words pool room i old packed known is plain =
     let fewer = mixed_few words i known (ap is_mixed (sym is) ∙ plain) in omega (arith, fewer, packed.count, packed.few)
+
+-- ---- the pool as it stands in memory
+
+pub four_pooled : (pool : List Pooled) (word : Word) (e : ℕ) (p : Pooled) (f : Four) → word ≡ W.Mixed e → e < length pool → p ≡ get_or pool e p → f ≡ unpooled p
+    → f ≡ four_of (fours_of pool) word
+four_pooled pool word e p f is lt read ef =
+    ef ∙ ap unpooled read ∙ sym (ap (four_of (fours_of pool)) is ∙ get_or-map_at unpooled pool e p nothing lt)
+
+pub pool_length : (pool : List Pooled) → length (fours_of pool) ≡ length pool
+pool_length pool = length-map pool unpooled
+
+pub pool_set : (pool : List Pooled) (e : ℕ) (p : Pooled) (f : Four) → unpooled p ≡ f → fours_of (set pool e p) ≡ set (fours_of pool) e f
+pool_set pool e p f is = map-set unpooled pool e p ∙ ap (λ f. set (fours_of pool) e f) is
+
+pub pool_take : (pool new : List Pooled) (n : ℕ) → new ≡ take n pool → fours_of new ≡ take n (fours_of pool)
+pool_take pool new n is = ap fours_of is ∙ sym (take-map unpooled n pool)
+
+pub pool_push : (pool new : List Pooled) (p : Pooled) (f : Four) → new ≡ pool ++ p ∷ [] → unpooled p ≡ f → fours_of new ≡ fours_of pool ++ f ∷ []
+pool_push pool new p f is same = ap fours_of is ∙ map_push unpooled pool p ∙ ap (λ f. fours_of pool ++ f ∷ []) same

@@ -1,5 +1,5 @@
 -- Cells in words of four.
-use Rattle.std.specs.Prelude.{◌≡◌, ℕ, zero, suc, ◌+◌, ◌<◌, ◌≤◌, ◌^◌, Bool, true, false, List, [], ◌∷◌, length, slice_index_or, Option, MatchOption}
+use Rattle.std.specs.Prelude.{◌≡◌, ℕ, zero, suc, ◌+◌, ◌<◌, ◌≤◌, ◌^◌, Bool, true, false, List, [], ◌∷◌, length, slice_index_or, Option, MatchOption, ◌*◌, map}
 use Rattle.block_memory.specs.declared.cell.Cell.{Cell}
 use Rattle.block_memory.specs.declared.cell.Cell.TheVariants.{Empty, Byte, Fragment}
 use Rattle.block_memory.specs.declared.pointer.Ptr.{Ptr}
@@ -7,6 +7,9 @@ use Rattle.block_memory.specs.declared.pointer.Ptr.TheVariants as P
 use Rattle.block_memory.specs.declared.word.Content.{Content}
 use Rattle.block_memory.specs.declared.word.Content.TheVariants as C
 use Rattle.block_memory.specs.declared.word.Four.{Four}
+use Rattle.block_memory.specs.declared.word.Part.{Part}
+use Rattle.block_memory.specs.declared.word.Part.TheVariants as R
+use Rattle.block_memory.specs.declared.word.Pooled.{Pooled}
 use Rattle.block_memory.specs.declared.word.Word.{Word}
 use Rattle.block_memory.specs.declared.word.Word.TheVariants as W
 
@@ -35,6 +38,21 @@ with_cell_in four (suc (suc (suc k))) c = record four { d = c }
 abbrev pub flat : List Four → List Cell
 flat [] = []
 flat (four ∷ more) = four.a ∷ four.b ∷ four.c ∷ four.d ∷ flat more
+
+-- ---- four cells in the pool
+
+abbrev pub cell_of_part : Part → Cell
+cell_of_part R.Empty = Empty
+cell_of_part (R.Byte x) = Byte x
+cell_of_part (R.Null k type) = Fragment type P.Null k
+cell_of_part (R.Block k type low high at) = Fragment type (P.Block (low + 2 ^ 32 * high) at) k
+cell_of_part (R.Function k type f) = Fragment type (P.Function f) k
+
+abbrev pub unpooled : Pooled → Four
+unpooled p = record { a = cell_of_part p.a; b = cell_of_part p.b; c = cell_of_part p.c; d = cell_of_part p.d }
+
+abbrev pub fours_of : List Pooled → List Four
+fours_of pool = map unpooled pool
 
 -- ---- words
 

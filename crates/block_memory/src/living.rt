@@ -13,7 +13,7 @@ use crate::holding::pointer_of;
 use crate::numbers::{in_four, in_one, in_two, valued};
 use crate::pointer::Ptr;
 use crate::whole::{cell_in, four_pointer, pointer_word, with_cell_in};
-use crate::word::{Four, Word};
+use crate::word::{Four, Pooled, Word};
 use crate::words::{empty_words, four_in, put_four, put_whole};
 use c_types::{IntKind, width};
 use lay_base::{NoMemory, UndefinedKind};
@@ -32,19 +32,19 @@ pub(crate) struct Living {
     next: u32,
     size: u32,
     words: Vec<Word>,
-    pool: Vec<Four>,
+    pool: Vec<Pooled>,
 }
 
 impl Model for Living {
     ghost use Rattle.std.specs.Prelude.{◌≤◌, ◌*◌, length, map, take, vec_capacity};
     ghost use Rattle.block_memory.specs.Rows.{Row};
-    ghost use Rattle.block_memory.specs.Words.{IsPacked, flat, four_of};
+    ghost use Rattle.block_memory.specs.Words.{IsPacked, flat, four_of, fours_of};
 
     ghost Value = { Row };
 
-    ghost view = { λ row. record { owner = row.owner; cells = take row.size (flat (map (four_of row.pool.items) row.words.items)) } };
+    ghost view = { λ row. record { owner = row.owner; cells = take row.size (flat (map (four_of (fours_of row.pool.items)) row.words.items)) } };
 
-    ghost invariant = { λ row. IsPacked row.words.items row.pool.items (vec_capacity row.pool) × (row.size ≤ 4 * length row.words.items) };
+    ghost invariant = { λ row. IsPacked row.words.items (fours_of row.pool.items) (vec_capacity row.pool) × (row.size ≤ 4 * length row.words.items) };
 }
 
 impl Living {

@@ -1,12 +1,13 @@
 //! Words for cells, and cells of words.
 
 ghost use Rattle.std.specs.Prelude.{◌≡◌, ◌<◌, false};
-ghost use Rattle.block_memory.specs.Words.{ContentGives, MixedGives, WordGives, cell_in, cell_of, four_pointer, is_mixed, whole, with_cell_in};
+ghost use Rattle.block_memory.specs.declared.cell.Cell.TheVariants.{Fragment};
+ghost use Rattle.block_memory.specs.Words.{ContentGives, MixedGives, WordGives, cell_in, cell_of, cell_of_part, four_pointer, is_mixed, unpooled, whole, with_cell_in};
 
 use crate::cell::Cell;
 use crate::holding::are_fragments;
 use crate::pointer::Ptr;
-use crate::word::{Content, Four, Word};
+use crate::word::{Content, Four, Part, Pooled, Word};
 
 fn cell_of(content: Content) -> Cell
     ensures { result ≡ cell_of content }
@@ -141,5 +142,68 @@ pub(crate) fn with_cell_in(four: Four, k: u32, cell: Cell) -> Four
         1 => Four { a, b: cell, c, d },
         2 => Four { a, b, c: cell, d },
         _ => Four { a, b, c, d: cell },
+    }
+}
+
+fn fragment_part(type_number: u32, p: Ptr, k: u8) -> Part
+    ensures { cell_of_part result ≡ Fragment type_number p k }
+{
+    match p {
+        Ptr::Null => Part::Null(k, type_number),
+        Ptr::Block(b, at) => {
+            let low = (b % 4_294_967_296) as u32;
+            let high = (b / 4_294_967_296) as u32;
+            Part::Block(k, type_number, low, high, at)
+        }
+        Ptr::Function(f) => Part::Function(k, type_number, f),
+    }
+}
+
+fn part_of(cell: Cell) -> Part
+    ensures { cell_of_part result ≡ cell }
+{
+    match cell {
+        Cell::Empty => Part::Empty,
+        Cell::Byte(x) => Part::Byte(x),
+        Cell::Fragment(t, p, k) => fragment_part(t, p, k),
+    }
+}
+
+fn cell_of_part(part: Part) -> Cell
+    ensures { result ≡ cell_of_part part }
+{
+    match part {
+        Part::Empty => Cell::Empty,
+        Part::Byte(x) => Cell::Byte(x),
+        Part::Null(k, t) => Cell::Fragment(t, Ptr::Null, k),
+        Part::Block(k, t, low, high, at) => {
+            let b = u64::from(low) + 4_294_967_296 * u64::from(high);
+            Cell::Fragment(t, Ptr::Block(b, at), k)
+        }
+        Part::Function(k, t, f) => Cell::Fragment(t, Ptr::Function(f), k),
+    }
+}
+
+/// Four cells as they stand in the pool.
+pub(crate) fn pooled(four: Four) -> Pooled
+    ensures { unpooled result ≡ four }
+{
+    Pooled {
+        a: part_of(four.a),
+        b: part_of(four.b),
+        c: part_of(four.c),
+        d: part_of(four.d),
+    }
+}
+
+/// Four cells that stand in the pool.
+pub(crate) fn unpooled(four: Pooled) -> Four
+    ensures { result ≡ unpooled four }
+{
+    Four {
+        a: cell_of_part(four.a),
+        b: cell_of_part(four.b),
+        c: cell_of_part(four.c),
+        d: cell_of_part(four.d),
     }
 }

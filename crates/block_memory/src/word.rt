@@ -29,3 +29,23 @@ pub(crate) enum Word {
     /// Any four cells: their place in the pool.
     Mixed(u32),
 }
+
+/// A cell in twenty bytes. The number of a pointer's block stands in two halves, the low one first.
+#[derive(Clone, Copy, Debug, PartialEq, Eq)]
+pub(crate) enum Part {
+    Empty,
+    Byte(u8),
+    /// Which fragment it is, and the pointer with the number of its type.
+    Null(u8, u32),
+    Block(u8, u32, u32, u32, u32),
+    Function(u8, u32, u32),
+}
+
+/// Four cells in the pool.
+#[derive(Clone, Copy, Debug, PartialEq, Eq)]
+pub(crate) struct Pooled {
+    pub(crate) a: Part,
+    pub(crate) b: Part,
+    pub(crate) c: Part,
+    pub(crate) d: Part,
+}

@@ -3,11 +3,11 @@
 //! The pool has room for all words, so that no store takes memory. A word keeps its place there, unless it is the last one.
 
 ghost use Rattle.std.specs.Prelude.{◌≡◌, ◌<◌, ℕ, false, length, map, replicate, slice_set, vec_capacity, MatchResult};
-ghost use Rattle.block_memory.specs.Words.{IsPacked, empty_word, four_of, is_mixed, whole, word_at};
+ghost use Rattle.block_memory.specs.Words.{IsPacked, empty_word, four_of, fours_of, is_mixed, whole, word_at};
 ghost use Rattle.block_memory.specs.declared.word.Word.TheVariants as W;
 
-use crate::whole::{mixed, whole, word_of};
-use crate::word::{Content, Four, Word};
+use crate::whole::{mixed, pooled, unpooled, whole, word_of};
+use crate::word::{Content, Four, Pooled, Word};
 use lay_base::NoMemory;
 use std::alloc::Global;
 
@@ -35,27 +35,26 @@ fn word(words: &[Word], i: usize) -> Word
 }
 
 /// The cells of a word.
-#[tactic(auto, using(crate::proofs::Packing::four_whole, crate::proofs::Packing::four_mixed))]
-pub(crate) fn four_in(words: &[Word], pool: &[Four], i: usize) -> Four
+#[tactic(auto, using(crate::proofs::Packing::four_whole, crate::proofs::Packing::four_pooled))]
+pub(crate) fn four_in(words: &[Word], pool: &[Pooled], i: usize) -> Four
     requires known { i < length words.now }
     requires within { (e : ℕ) → word_at words.now i ≡ W.Mixed e → e < length pool.now }
-    ensures { result ≡ four_of pool.now (word_at words.now i) }
+    ensures { result ≡ four_of (fours_of pool.now) (word_at words.now i) }
 {
     let word = word(words, i);
     match mixed(word) {
-        Some(e) => pool[e as usize],
+        Some(e) => unpooled(pool[e as usize]),
         None => whole(word),
     }
 }
 
 /// Puts a word that needs no pool in place of another one.
-#[tactic(auto, using(crate::proofs::Packing::plain_packed, crate::proofs::Packing::plain_fours, crate::proofs::Packing::pop_packed, crate::proofs::Packing::pop_fours, crate::proofs::Packing::pool_packed, crate::proofs::Packing::pool_fours))]
-pub(crate) fn put_whole(words: &mut Vec<Word>, pool: &mut Vec<Four>, i: usize, new: Word)
+pub(crate) fn put_whole(words: &mut Vec<Word>, pool: &mut Vec<Pooled>, i: usize, new: Word)
     requires known { i < length words.old.items }
-    requires packed { IsPacked words.old.items pool.old.items (vec_capacity pool.old) }
+    requires packed { IsPacked words.old.items (fours_of pool.old.items) (vec_capacity pool.old) }
     requires plain { is_mixed new ≡ false }
-    ensures packed { IsPacked words.new.items pool.new.items (vec_capacity pool.new) }
-    ensures is { map (four_of pool.new.items) words.new.items ≡ slice_set (map (four_of pool.old.items) words.old.items) i (whole new) }
+    ensures packed { IsPacked words.new.items (fours_of pool.new.items) (vec_capacity pool.new) }
+    ensures is { map (four_of (fours_of pool.new.items)) words.new.items ≡ slice_set (map (four_of (fours_of pool.old.items)) words.old.items) i (whole new) }
 {
     match mixed(word(words, i)) {
         None => words[i] = new,
@@ -64,38 +63,37 @@ pub(crate) fn put_whole(words: &mut Vec<Word>, pool: &mut Vec<Four>, i: usize, n
                 let _ = pool.pop();
                 words[i] = new;
             } else {
-                pool[e as usize] = whole(new);
+                pool[e as usize] = pooled(whole(new));
             }
         }
     }
 }
 
 /// Puts any four cells in place of a word's.
-#[tactic(auto, using(crate::proofs::Packing::push_packed, crate::proofs::Packing::push_fours, crate::proofs::Packing::push_fits, crate::proofs::Packing::pool_packed, crate::proofs::Packing::pool_fours))]
-fn put_mixed(words: &mut Vec<Word>, pool: &mut Vec<Four>, i: usize, new: Four)
+fn put_mixed(words: &mut Vec<Word>, pool: &mut Vec<Pooled>, i: usize, new: Four)
     requires known { i < length words.old.items }
-    requires packed { IsPacked words.old.items pool.old.items (vec_capacity pool.old) }
-    ensures packed { IsPacked words.new.items pool.new.items (vec_capacity pool.new) }
-    ensures is { map (four_of pool.new.items) words.new.items ≡ slice_set (map (four_of pool.old.items) words.old.items) i new }
+    requires packed { IsPacked words.old.items (fours_of pool.old.items) (vec_capacity pool.old) }
+    ensures packed { IsPacked words.new.items (fours_of pool.new.items) (vec_capacity pool.new) }
+    ensures is { map (four_of (fours_of pool.new.items)) words.new.items ≡ slice_set (map (four_of (fours_of pool.old.items)) words.old.items) i new }
 {
     match mixed(word(words, i)) {
         None => {
             let e = pool.len();
-            match pool.push(new) {
+            match pool.push(pooled(new)) {
                 Ok(()) => words[i] = Word::Mixed(e as u32),
                 Err(_) => unreachable!(),
             }
         }
-        Some(e) => pool[e as usize] = new,
+        Some(e) => pool[e as usize] = pooled(new),
     }
 }
 
 /// Puts four cells in place of a word's.
-pub(crate) fn put_four(words: &mut Vec<Word>, pool: &mut Vec<Four>, i: usize, new: Four)
+pub(crate) fn put_four(words: &mut Vec<Word>, pool: &mut Vec<Pooled>, i: usize, new: Four)
     requires known { i < length words.old.items }
-    requires packed { IsPacked words.old.items pool.old.items (vec_capacity pool.old) }
-    ensures packed { IsPacked words.new.items pool.new.items (vec_capacity pool.new) }
-    ensures is { map (four_of pool.new.items) words.new.items ≡ slice_set (map (four_of pool.old.items) words.old.items) i new }
+    requires packed { IsPacked words.old.items (fours_of pool.old.items) (vec_capacity pool.old) }
+    ensures packed { IsPacked words.new.items (fours_of pool.new.items) (vec_capacity pool.new) }
+    ensures is { map (four_of (fours_of pool.new.items)) words.new.items ≡ slice_set (map (four_of (fours_of pool.old.items)) words.old.items) i new }
 {
     match word_of(new) {
         Some(word) => put_whole(words, pool, i, word),
