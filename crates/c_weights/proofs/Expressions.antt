@@ -1,9 +1,7 @@
 -- What stands for an expression weighs so much for each of its nodes, also where it is an argument of a call (C99 6.5).
-use Rattle.std.proofs.Common.{◌≡◌, ℕ, ◌+◌, ◌*◌, ◌≤◌, refl, sym, ap, subst, List, [], ◌∷◌, length, arith, inl, inr}
-use Rattle.std.specs.Prelude.{◌⊎◌, Option, Some, None}
+use Rattle.std.proofs.Common.{ℕ, ◌+◌, ◌*◌, ◌≤◌, sym, subst, List, arith, inl, inr}
 use Rattle.lay_base.specs.declared.place.Place.{Place}
-use Rattle.c_types.specs.Types.{CType, integer, array}
-use Rattle.c_types.specs.declared.ty.IntKind.TheVariants.{Char}
+use Rattle.c_types.specs.Types.{CType}
 use Rattle.c_ast.specs.declared.operators.UnaryOp.TheVariants as U
 use Rattle.c_ast.specs.Trees
 use Rattle.c_ast.specs.Places.{first}
@@ -13,14 +11,14 @@ use Rattle.c_typed.specs.declared.operators.BinaryOp.TheVariants as B
 use Rattle.c_typed.specs.Trees as Typed
 use Rattle.c_erasure.specs.Erasure.{Erases, AreValues, Values, IsNamed, IsLiteralFor, IsAddress, IsPointed, IsSum, IsJoined, IsCall, IsSize, literal_of}
 use Rattle.c_erasure.specs.Erasure.{place_in}
-use Rattle.c_erasure.specs.Noted.{Noted, Expression, Node, Thing, an_object, a_value, a_function, a_function_at, a_library_function, value, value_of}
+use Rattle.c_erasure.specs.Noted.{Noted, Expression, Node, Thing, an_object, a_value, a_function, a_function_at, a_library_function}
 use Rattle.c_erasure.specs.Noted.{unconverted}
 use Rattle.c_erasure.specs.Operators.{Kind as JoinKind, computes, compares, all_of, any_of, kind_of}
 use Rattle.c_erasure.specs.Scopes as Scopes
 use Rattle.c_erasure.specs.Scopes.{Scope, Entity, Purpose, in_full, value_alone, type_alone}
-use Rattle.c_weights.specs.Counted.{Kind, load, conversion, argument, operator, pointer_sum, through, call}
-use Rattle.c_weights.specs.Weights.{weight, weight_of_node, weight_of_path, weight_of_all}
-use Rattle.c_weights.proofs.Values.{bare, cost, converted_less, value_less}
+use Rattle.c_weights.specs.Counted.{Kind, conversion, argument, operator, pointer_sum, call}
+use Rattle.c_weights.specs.Weights.{weight, weight_of_node, weight_of_all}
+use Rattle.c_weights.proofs.Values.{cost, converted_less, value_less}
 use Rattle.c_weights.proofs.Within.{AreWithin}
 
 module _ (n : Kind → ℕ) (most : ℕ) (w : AreWithin n most) where

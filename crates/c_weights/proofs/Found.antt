@@ -1,9 +1,9 @@
 -- What the marks of a part of the tree stand for in its file: structures, whose weight its nodes pay for, and names.
-use Rattle.std.proofs.Common.{◌≡◌, ℕ, ◌+◌, ◌*◌, ◌≤◌, refl, sym, ap, ◌∙◌, subst, List, [], ◌∷◌, ◌++◌, arith, inl, inr}
-use Rattle.std.specs.Prelude.{◌⊎◌, Option, Some, None, slice_get}
+use Rattle.std.proofs.Common.{◌≡◌, ℕ, ◌+◌, ◌*◌, ◌≤◌, refl, sym, ◌∙◌, subst, List, [], ◌∷◌, ◌++◌, arith, inl, inr}
+use Rattle.std.specs.Prelude.{◌⊎◌, Some, slice_get}
 use Rattle.c_types.specs.Types.{CType, Record}
 use Rattle.c_erasure.specs.Marks.{Mark, a_tag, an_end, a_name}
-use Rattle.c_erasure.specs.Scopes.{Entity, a_function, Bound, defines, FileScope, AFunction, Tag}
+use Rattle.c_erasure.specs.Scopes.{a_function, Bound, defines, FileScope, AFunction, Tag}
 use Rattle.c_erasure.specs.Units.{function}
 use Rattle.c_weights.specs.Counted.{Kind}
 use Rattle.c_weights.specs.Weights.{weight_of_record, weight_of_function}

@@ -1,11 +1,10 @@
 -- A function that is defined weighs so much for each node of its item (C99 6.9.1).
-use Rattle.std.proofs.Common.{◌≡◌, ℕ, zero, suc, ◌+◌, ◌*◌, ◌≤◌, Bool, true, false, refl, sym, ap, ◌∙◌, subst, List, [], ◌∷◌, ◌++◌, length, arith, inl, inr}
-use Rattle.std.specs.Prelude.{if◌then◌else◌, Option, Some, None}
+use Rattle.std.proofs.Common.{◌≡◌, ℕ, ◌+◌, ◌*◌, ◌≤◌, Bool, true, false, refl, sym, ap, subst, List, [], ◌∷◌, length, arith}
+use Rattle.std.specs.Prelude.{if◌then◌else◌, Option, Some}
 use Rattle.std.specs.Option.{option_map}
 use Rattle.c_types.specs.Types.{CType, CTypes}
 use Rattle.c_ast.specs.Trees
 use Rattle.c_ast.specs.Sizes.{size_declarator, size_optional, size_parameters, size_parameter_list, size_block_items}
-use Rattle.c_typed.specs.declared.program.Local.{Local}
 use Rattle.c_typed.specs.Trees as Typed
 use Rattle.c_typed.specs.Mapped.{of_types, mapped_statement}
 use Rattle.c_typed.specs.Programs.{FunctionData}
@@ -16,12 +15,12 @@ use Rattle.c_erasure.specs.Files.{parameters_of, AreNamed, HasParameters, count_
 use Rattle.c_erasure.specs.Noted.{Noted}
 use Rattle.c_erasure.specs.Scopes.{ALocal, AFunction, Bound, FileScope}
 use Rattle.c_erasure.specs.Units.{locals, number_in, types, function, taken_in, recognised_statement, is_block}
-use Rattle.c_weights.specs.Counted.{Kind, statement, definition, parameter, named_local, block_local}
-use Rattle.c_weights.specs.Weights.{weight_of_statement, weight_of_statements, weight_of_parameters, weight_of_locals, weight_of_body, weight_of_function}
+use Rattle.c_weights.specs.Counted.{Kind, definition, parameter, named_local, block_local}
+use Rattle.c_weights.specs.Weights.{weight_of_statement, weight_of_parameters, weight_of_locals, weight_of_body, weight_of_function}
 use Rattle.c_weights.proofs.Initializers.{more_paid}
 use Rattle.c_weights.proofs.Maps.{same_statement}
 use Rattle.c_weights.proofs.Recognised.{less_statement}
-use Rattle.c_weights.proofs.Statements.{name_counts, owed, items_paid, all_with_locals}
+use Rattle.c_weights.proofs.Statements.{name_counts, owed, items_paid}
 use Rattle.c_weights.proofs.Within.{AreWithin}
 
 -- ---- the nodes of a declarator beside its name, its parameters and its marks

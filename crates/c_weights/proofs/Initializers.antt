@@ -1,5 +1,5 @@
 -- An initializer weighs so much for each of its nodes (C99 6.7.8).
-use Rattle.std.proofs.Common.{◌≡◌, ℕ, ◌+◌, ◌*◌, ◌≤◌, true, refl, sym, ap, ◌∙◌, subst, List, [], ◌∷◌, ◌++◌, arith, inl, inr}
+use Rattle.std.proofs.Common.{◌≡◌, ℕ, ◌+◌, ◌*◌, ◌≤◌, true, sym, subst, List, [], ◌∷◌, ◌++◌, arith, inl, inr}
 use Rattle.std.proofs.Math.Nat.{mul-le-mul_left}
 use Rattle.std.specs.Prelude.{◌⊎◌, Option, Some, None}
 use Rattle.c_types.specs.Types.{CType, structure, Field}
@@ -14,8 +14,8 @@ use Rattle.c_erasure.specs.Initializers.{Part, part_at, texts_of, IsText, Initia
 use Rattle.c_erasure.specs.Noted.{Noted, Expression, an_object, type_of, type_of_path}
 use Rattle.c_erasure.specs.Scopes.{Scope}
 use Rattle.c_erasure.specs.Statements.{HasInitializer}
-use Rattle.c_weights.specs.Counted.{Kind, argument, part}
-use Rattle.c_weights.specs.Weights.{weight, weight_of_value, weight_of_parts, weight_of_initializer, weight_of_initial}
+use Rattle.c_weights.specs.Counted.{Kind, argument}
+use Rattle.c_weights.specs.Weights.{weight, weight_of_parts, weight_of_initializer, weight_of_initial}
 use Rattle.c_weights.proofs.Expressions.{paid, operand_paid}
 use Rattle.c_weights.proofs.Within.{AreWithin}
 

@@ -1,6 +1,6 @@
 -- The structures and functions that the items of a file define are paid for by the nodes of the items (C99 6.7, 6.9).
-use Rattle.std.proofs.Common.{◌≡◌, ℕ, ◌+◌, ◌*◌, ◌≤◌, Bool, true, false, refl, sym, ap, subst, List, [], ◌∷◌, ◌++◌, arith, inl, inr}
-use Rattle.std.specs.Prelude.{◌⊎◌, Option, Some, None, slice_get}
+use Rattle.std.proofs.Common.{◌≡◌, ℕ, ◌+◌, ◌*◌, ◌≤◌, refl, sym, subst, List, [], ◌∷◌, ◌++◌, arith, inl, inr}
+use Rattle.std.specs.Prelude.{Option, Some, None}
 use Rattle.std.specs.List.{AllByRecursion}
 use Rattle.c_types.specs.Types.{CType, Field, function}
 use Rattle.c_ast.specs.declared.words.Spelling.{Spelling}
@@ -10,10 +10,10 @@ use Rattle.c_ast.specs.Sizes.{size, size_initializers, size_initializer, as_init
 use Rattle.c_ast.specs.Sizes.{size_item, size_items, size_block_items}
 use Rattle.c_typed.specs.Trees as Typed
 use Rattle.c_erasure.specs.Declarators.{closed}
-use Rattle.c_erasure.specs.Erasure.{Values, Erases, IsBound}
+use Rattle.c_erasure.specs.Erasure.{IsBound}
 use Rattle.c_erasure.specs.Files.{bound, IsTypedef, IsObject, IsFunction, IsFileDeclarator, AreFileDeclarators, IsDefinition, ErasesItem, object_how}
 use Rattle.c_erasure.specs.Initializers.{Part, texts_of, IsText, Initializes, IsOneValue, InitializeElements, InitializeFields, IsInitializer}
-use Rattle.c_erasure.specs.Marks.{Mark, a_name, marks, marks_of_all, marks_of_initial, marks_of_specifiers, marks_of_declarator, marks_of_declarators}
+use Rattle.c_erasure.specs.Marks.{Mark, a_name, marks, marks_of_all, marks_of_initial, marks_of_declarator, marks_of_declarators}
 use Rattle.c_erasure.specs.Marks.{marks_of_item, marks_of_file, name_from, after_declarator}
 use Rattle.c_erasure.specs.Noted.{Noted, Expression, an_object}
 use Rattle.c_erasure.specs.Scopes.{How, declares, tentative, defines, Entity, a_function, typedef, a_library_function, Bound, AnObject, FileScope, Scope, at_file_scope}

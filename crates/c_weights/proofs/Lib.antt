@@ -12,3 +12,5 @@ pub mod Found
 pub mod Structures
 pub mod Items
 pub mod Units
+pub mod Shares
+pub mod Joined

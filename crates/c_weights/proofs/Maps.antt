@@ -1,5 +1,5 @@
 -- A tree with other things in place of its types and its numbers weighs the same.
-use Rattle.std.proofs.Common.{◌≡◌, ℕ, ◌+◌, refl, sym, ap, ◌∙◌, List, [], ◌∷◌, map, Option, Some, None, arith}
+use Rattle.std.proofs.Common.{◌≡◌, ℕ, ◌+◌, refl, ap, List, [], ◌∷◌, map, Option, Some, None, arith}
 use Rattle.std.specs.Option.{option_map}
 use Rattle.c_typed.specs.Trees as Trees
 use Rattle.c_typed.specs.Mapped.{Renaming, mapped, mapped_node, mapped_path, mapped_step, mapped_all, mapped_if_any, mapped_value, mapped_part}

@@ -1,6 +1,6 @@
 -- The sum over a list is no greater than that over numbers among which each of its elements has its own.
-use Rattle.std.proofs.Common.{◌≡◌, ℕ, zero, suc, ◌+◌, ◌≤◌, refl, sym, ap, subst, List, [], ◌∷◌, ◌++◌, arith, inl, inr}
-use Rattle.std.specs.Prelude.{◌⊎◌, Option, Some, None, slice_get}
+use Rattle.std.proofs.Common.{◌≡◌, ℕ, zero, suc, ◌+◌, ◌≤◌, refl, ap, List, [], ◌∷◌, ◌++◌, arith, inl, inr}
+use Rattle.std.specs.Prelude.{◌⊎◌, Some, slice_get}
 
 abbrev pub IsAmong : ℕ → List ℕ → Type 0
 IsAmong j [] = ⊥

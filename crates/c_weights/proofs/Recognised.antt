@@ -1,8 +1,7 @@
 -- A tree in which allocations are recognised weighs no more.
-use Rattle.std.proofs.Common.{◌≡◌, ℕ, ◌+◌, ◌≤◌, Bool, true, false, refl, sym, ap, subst, List, [], ◌∷◌, map, arith}
+use Rattle.std.proofs.Common.{ℕ, ◌+◌, ◌≤◌, Bool, true, false, List, [], ◌∷◌, map, arith}
 use Rattle.std.specs.Prelude.{if◌then◌else◌, Option, Some, None}
 use Rattle.std.specs.Option.{option_map}
-use Rattle.lay_base.specs.declared.place.Place.{Place}
 use Rattle.c_types.specs.declared.ty.IntKind.TheVariants.{UInt}
 use Rattle.c_types.specs.Types.{CType, integer, pointer, structure}
 use Rattle.c_types.specs.Sameness.{same_type}
@@ -16,7 +15,7 @@ use Rattle.c_erasure.specs.Units.{recognised_value, recognised_part, recognised_
 use Rattle.c_weights.specs.Counted.{Kind, constant, load, conversion, pointer_sum, operator, assignment, call, argument, through, to_field, to_element}
 use Rattle.c_weights.specs.Counted.{part, statement, arm}
 use Rattle.c_weights.specs.Weights.{weight, weight_of_node, weight_of_path, weight_of_step, weight_of_all, weight_of_count, weight_of_value, weight_of_parts}
-use Rattle.c_weights.specs.Weights.{weight_of_initializer, weight_of_initial, weight_if_any, weight_of_labels, weight_of_statement, weight_of_statements}
+use Rattle.c_weights.specs.Weights.{weight_of_initial, weight_if_any, weight_of_labels, weight_of_statement, weight_of_statements}
 use Rattle.c_weights.specs.Weights.{weight_of_arms}
 use Rattle.c_weights.proofs.Sums.{less_one, less_two, less_three}
 use Rattle.c_weights.proofs.Values.{bare_less}

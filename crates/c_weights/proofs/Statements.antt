@@ -1,21 +1,21 @@
 -- A statement weighs so much for each of its nodes, with the locals that it declares (C99 6.7, 6.8).
-use Rattle.std.proofs.Common.{◌≡◌, ℕ, zero, suc, ◌+◌, ◌*◌, ◌≤◌, Bool, true, false, refl, sym, ap, ◌∙◌, subst, List, [], ◌∷◌, ◌++◌, arith, inl, inr}
+use Rattle.std.proofs.Common.{◌≡◌, ℕ, zero, suc, ◌+◌, ◌*◌, ◌≤◌, Bool, true, false, sym, subst, List, [], ◌∷◌, ◌++◌, arith, inl, inr}
 use Rattle.std.specs.Prelude.{◌==◌, ◌⊎◌, Option, Some, None}
 use Rattle.c_types.specs.declared.ty.IntKind.{IntKind}
 use Rattle.c_types.specs.Types.{CType}
 use Rattle.c_ast.specs.declared.words.Spelling.{Spelling}
 use Rattle.c_ast.specs.Trees
-use Rattle.c_ast.specs.Sizes.{size, size_declarator, size_init_declarators, size_declaration, size_if_any, size_labels, size_for_start, size_value}
-use Rattle.c_ast.specs.Sizes.{size_specifiers, size_statement, size_block_item, size_block_items, size_switch_item, size_switch_items}
+use Rattle.c_ast.specs.Sizes.{size, size_declarator, size_init_declarators, size_declaration, size_if_any, size_labels, size_for_start}
+use Rattle.c_ast.specs.Sizes.{size_statement, size_block_item, size_block_items, size_switch_item, size_switch_items}
 use Rattle.c_typed.specs.Trees as Typed
 use Rattle.c_typed.specs.TypedStatements.{all_declared, all_declared_by, all_declared_by_arms}
 use Rattle.c_erasure.specs.Declarators.{declared_name}
-use Rattle.c_erasure.specs.Noted.{Noted, Expression}
+use Rattle.c_erasure.specs.Noted.{Expression}
 use Rattle.c_erasure.specs.Scopes.{Scope, inside}
 use Rattle.c_erasure.specs.Statements.{Statement, Statements, Arms, followed_by, with_object, with_variable, DeclareAll, IsLocalDeclaration, IsPlainIfAny, IsStart}
 use Rattle.c_erasure.specs.Statements.{AreLabels, with_first, IsArranged, ErasesStatement, ErasesItem, EraseItems, ErasesSwitchItem, EraseSwitchItems}
-use Rattle.c_weights.specs.Counted.{Kind, argument, statement, arm, label, named_local}
-use Rattle.c_weights.specs.Weights.{weight, weight_if_any, weight_of_labels, weight_of_statement, weight_of_statements, weight_of_arms}
+use Rattle.c_weights.specs.Counted.{Kind, statement, arm, named_local}
+use Rattle.c_weights.specs.Weights.{weight_if_any, weight_of_labels, weight_of_statement, weight_of_statements, weight_of_arms}
 use Rattle.c_weights.proofs.Expressions.{operand_paid}
 use Rattle.c_weights.proofs.Initializers.{more_paid, has_initializer_paid}
 use Rattle.c_weights.proofs.Within.{AreWithin}

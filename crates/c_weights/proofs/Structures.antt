@@ -1,26 +1,26 @@
 -- The structures that a part of the tree of a file defines are paid for by its nodes, and the names that begin there define no function
 -- (C99 6.2.1, 6.7.2).
-use Rattle.std.proofs.Common.{◌≡◌, ℕ, ◌+◌, ◌*◌, ◌≤◌, ◌%◌, ◌^◌, true, false, refl, sym, ap, ◌∙◌, subst, List, [], ◌∷◌, ◌++◌, arith, inl, inr}
-use Rattle.std.specs.Prelude.{◌⊎◌, Option, Some, None, slice_get}
-use Rattle.c_types.specs.Types.{CType, CTypes, Field, pointer, array, function}
+use Rattle.std.proofs.Common.{◌≡◌, ℕ, ◌+◌, ◌%◌, ◌^◌, true, refl, sym, subst, List, [], ◌∷◌, ◌++◌, arith, inl, inr}
+use Rattle.std.specs.Prelude.{Option, Some, None, slice_get}
+use Rattle.c_types.specs.Types.{CType, Field, pointer, array, function}
 use Rattle.c_ast.specs.declared.words.Spelling.{Spelling}
 use Rattle.c_ast.specs.declared.operators.UnaryOp.TheVariants as U
 use Rattle.c_ast.specs.Trees
-use Rattle.c_ast.specs.Sizes.{size, size_arguments, size_optional, size_type_name, size_specifiers, size_specifier, size_member_declarations}
+use Rattle.c_ast.specs.Sizes.{size, size_arguments, size_type_name, size_specifiers, size_specifier, size_member_declarations}
 use Rattle.c_ast.specs.Sizes.{size_member_declarators, size_enumerators, size_enumerator_value, size_declarator}
 use Rattle.c_typed.specs.Trees as Typed
 use Rattle.c_erasure.specs.Declarators.{Shape, closed, is_name}
 use Rattle.c_erasure.specs.Erasure.{Erases, AreValues, Values, IsTypeName, IsBase, IsOne, Specifies, Declares, AreFields, AreMembers, AreEnumerators}
-use Rattle.c_erasure.specs.Erasure.{IsEnumeratorValue, IsBound, IsConstant, tag_text, after_all, comma_or}
-use Rattle.c_erasure.specs.Marks.{Mark, a_tag, an_end, a_name, marks, marks_of_all, marks_if_any, marks_of_type, marks_of_specifiers, marks_of_specifier}
+use Rattle.c_erasure.specs.Erasure.{IsEnumeratorValue, IsBound, after_all, comma_or}
+use Rattle.c_erasure.specs.Marks.{Mark, a_name, marks, marks_of_all, marks_of_type, marks_of_specifiers, marks_of_specifier}
 use Rattle.c_erasure.specs.Marks.{marks_of_members, marks_of_member_declarators, marks_of_enumerators, marks_of_value, marks_of_declarator, an_enumeration}
-use Rattle.c_erasure.specs.Marks.{tag_name, tag_place}
+use Rattle.c_erasure.specs.Marks.{tag_name}
 use Rattle.c_erasure.specs.Noted.{Noted, Expression, Thing, an_object}
 use Rattle.c_erasure.specs.Scopes.{Scope, FileScope, measured, for_value, defines, enumerator, a_function}
 use Rattle.c_erasure.specs.Specifiers.{types_among}
-use Rattle.c_weights.specs.Counted.{Kind, structure, field}
+use Rattle.c_weights.specs.Counted.{Kind, field}
 use Rattle.c_weights.specs.Weights.{weight_of_fields, weight_of_record}
-use Rattle.c_weights.proofs.Found.{Found, nothing_found, none_found, both_found, two_found, found_in, more_nodes, tag_found, name_found, end_found}
+use Rattle.c_weights.proofs.Found.{Found, none_found, both_found, two_found, found_in, more_nodes, tag_found, name_found, end_found}
 use Rattle.c_weights.proofs.Functions.{lengths, lengths_less, lengths_and_name}
 use Rattle.c_weights.proofs.Initializers.{more_paid}
 use Rattle.c_weights.proofs.Within.{AreWithin}

@@ -2,25 +2,19 @@
 -- structures begin and end at different bytes, as they do in a text.
 use Rattle.std.proofs.Common.{◌≡◌, ℕ, zero, suc, ◌+◌, ◌*◌, ◌≤◌, ◌<◌, Bool, true, false, refl, sym, ap, ◌∙◌, subst, List, [], ◌∷◌, map, arith, inl, inr}
 use Rattle.std.proofs.lemmas.List.Elements.{recursion_from_All, All-from_recursion}
-use Rattle.std.specs.Prelude.{◌⊎◌, All, Option, Some, None, slice_get}
+use Rattle.std.specs.Prelude.{◌⊎◌, All, Some, None, slice_get}
 use Rattle.std.specs.List.{AllByRecursion}
 use Rattle.std.specs.Option.{option_map}
 use Rattle.c_lexer.specs.TokenPlaces.{TokensHavePlaces}
-use Rattle.c_types.specs.Types.{CType, Record}
+use Rattle.c_types.specs.Types.{Record}
 use Rattle.c_ast.specs.Trees
 use Rattle.c_ast.specs.Sizes.{size_items}
-use Rattle.c_ast.specs.TreesOfFiles.{IsTreeOf}
 use Rattle.c_typed.specs.Mapped.{of_types, mapped_statement}
-use Rattle.c_typed.specs.Programs.{FunctionData, UnitData}
-use Rattle.c_typed.specs.Trees as Typed
-use Rattle.c_erasure.specs.Erasing.{ErasesTo}
 use Rattle.c_erasure.specs.Files.{AreAscending, ErasesItem, IsFileOf, IsOpen, declarations_of, is_defined}
 use Rattle.c_erasure.specs.Marks.{Mark, a_tag, an_end, a_name, marks_of_file, scope_beginnings, ends_in, defined_in}
-use Rattle.c_erasure.specs.Noted.{Noted}
 use Rattle.c_erasure.specs.Scopes.{How, declares, tentative, defines, Entity, a_function, Bound, AFunction, FileScope}
 use Rattle.c_erasure.specs.Units.{unit_of, function, types, number_in, recognised_statement}
 use Rattle.c_order.proofs.Ordered.{marks_are_in_order}
-use Rattle.c_order.specs.Order.{MarksAreInOrder}
 use Rattle.c_weights.specs.Bounds.{IsBounded, UnitsAreBounded}
 use Rattle.c_weights.specs.Counted.{Kind, code, frame}
 use Rattle.c_weights.specs.Weights.{weight_of_body, weight_of_function, weight_of_functions, weight_of_record, weight_of_records}
@@ -39,7 +33,7 @@ mapped_at v [] k x h = cc
 mapped_at v (y ∷ xs) zero x h = ap (λ y. Some (v y)) (same y x h)
 mapped_at v (y ∷ xs) (suc k) x h = mapped_at v xs k x h
 
-all_at : {A : Type 0} (P : A → Type 0) (xs : List A) → AllByRecursion P xs → (k : ℕ) (x : A) → slice_get xs k ≡ Some x → P x
+pub all_at : {A : Type 0} (P : A → Type 0) (xs : List A) → AllByRecursion P xs → (k : ℕ) (x : A) → slice_get xs k ≡ Some x → P x
 all_at P [] h k x e = cc
 all_at P (y ∷ xs) h zero x e = subst P (same y x e) h.0
 all_at P (y ∷ xs) h (suc k) x e = all_at P xs h.1 k x e

@@ -1,10 +1,10 @@
 -- Implicit conversions, and the values of what an expression designates: what they weigh.
-use Rattle.std.proofs.Common.{◌≡◌, ℕ, ◌+◌, ◌≤◌, true, false, refl, sym, ap, subst, arith}
-use Rattle.std.specs.Prelude.{Option, Some, None}
+use Rattle.std.proofs.Common.{◌≡◌, ℕ, ◌+◌, ◌≤◌, false, subst, arith}
+use Rattle.std.specs.Prelude.{Some}
 use Rattle.c_types.specs.Types.{CType, void, integer, pointer, array, function, structure}
 use Rattle.c_typed.specs.Trees as Trees
-use Rattle.c_erasure.specs.Noted.{Noted, Note, nothing, size_of, Expression, Path, Thing, an_object, a_value, a_function, a_function_at, a_library_function}
-use Rattle.c_erasure.specs.Noted.{value, place_of_path, type_of_path, object_value, value_of, unless_noted, unconverted}
+use Rattle.c_erasure.specs.Noted.{Note, nothing, size_of, Expression, Path, Thing, an_object, a_value, a_function, a_function_at, a_library_function}
+use Rattle.c_erasure.specs.Noted.{type_of_path, object_value, value_of, unless_noted, unconverted}
 use Rattle.c_weights.specs.Counted.{Kind, constant, load, conversion, argument}
 use Rattle.c_weights.specs.Weights.{weight, weight_of_path}
 

@@ -39,7 +39,7 @@ pub data Kind : Type 0 where
 
 -- bytes of code
 abbrev pub code : Kind → ℕ
-code begins = 96
+code begins = 192
 code through = 96
 code to_field = 96
 code to_element = 192
@@ -55,7 +55,7 @@ code part = 512
 code statement = 192
 code arm = 128
 code label = 512
-code definition = 768
+code definition = 832
 code parameter = 512
 code named_local = 320
 code block_local = 320
@@ -64,7 +64,7 @@ code field = 512
 
 -- bytes of the frame, without the blocks of locals; what is defined once has no part in a frame
 abbrev pub frame : Kind → ℕ
-frame begins = 12
+frame begins = 24
 frame through = 12
 frame to_field = 12
 frame to_element = 24
@@ -80,7 +80,7 @@ frame part = 64
 frame statement = 24
 frame arm = 16
 frame label = 64
-frame definition = 96
+frame definition = 104
 frame parameter = 64
 frame named_local = 40
 frame block_local = 0

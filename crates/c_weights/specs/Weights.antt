@@ -1,5 +1,5 @@
 -- What typed trees, functions, units and programs weigh: the sum of the numbers of all kinds of things that they hold.
-use Rattle.std.specs.Prelude.{ℕ, zero, ◌+◌, ◌*◌, List, [], ◌∷◌, length, Option, Some, None, if◌then◌else◌}
+use Rattle.std.specs.Prelude.{ℕ, ◌+◌, List, [], ◌∷◌, Option, Some, None, if◌then◌else◌}
 use Rattle.c_types.specs.Types.{Record, Field}
 use Rattle.c_typed.specs.declared.program.Local.{Local}
 use Rattle.c_typed.specs.Trees as Trees
@@ -146,6 +146,18 @@ module _ (n : Kind → ℕ) where
   weight_of_records [] = 0
   weight_of_records (r ∷ more) = weight_of_record r + weight_of_records more
 
+  -- ---- units and programs; objects are data, and weigh nothing
+
+  abbrev pub weight_of_unit : UnitData → ℕ
+  weight_of_unit u = weight_of_functions u.functions + weight_of_records u.records
+
+  abbrev pub weight_of_units : List UnitData → ℕ
+  weight_of_units [] = 0
+  weight_of_units (u ∷ more) = weight_of_unit u + weight_of_units more
+
+  abbrev pub weight_of_program : ProgramData → ℕ
+  weight_of_program p = weight_of_functions p.functions + weight_of_records p.records
+
 -- ---- the two weights
 
 abbrev pub code_weight : FunctionData → ℕ
@@ -154,9 +166,11 @@ code_weight g = weight_of_function code g
 abbrev pub frame_weight : FunctionData → ℕ
 frame_weight g = weight_of_function frame g
 
--- objects are data, and weigh nothing
 abbrev pub code_weight_of_unit : UnitData → ℕ
-code_weight_of_unit u = weight_of_functions code u.functions + weight_of_records code u.records
+code_weight_of_unit u = weight_of_unit code u
+
+abbrev pub code_weight_of_units : List UnitData → ℕ
+code_weight_of_units units = weight_of_units code units
 
 abbrev pub code_weight_of_program : ProgramData → ℕ
-code_weight_of_program p = weight_of_functions code p.functions + weight_of_records code p.records
+code_weight_of_program p = weight_of_program code p
