@@ -34,9 +34,11 @@ module _ (r : Relation) (p : ProgramData) where
 
   -- calls, where n and m bound them
   abbrev Calling : (n m : ℕ) (call call' : Calls) → Type 0
-  Calling n m call call' = (b : ℕ) → r.Fuels b n m → (place : Place) (f : ℕ) (values : List Value) → r.Related b Frame (Option Value) (call place f values) (call' place f values)
+  Calling n m call call' =
+      (b : ℕ) → r.Fuels b n m → (place : Place) (f : ℕ) (values : List Value) → r.Related b Frame (Option Value) (call place f values) (call' place f values)
 
-  body_alike : (call call' : Calls) (n m : ℕ) → Calling n m call call' → (place : Place) (f : ℕ) (values : List Value) (g : FunctionData) (body : Option (Statement ℕ))
+  body_alike : (call call' : Calls) (n m : ℕ) → Calling n m call call'
+      → (place : Place) (f : ℕ) (values : List Value) (g : FunctionData) (body : Option (Statement ℕ))
       → Under r n m (Option Value) (body_of p call n place f values g body) (body_of p call' m place f values g body)
   body_alike call call' n m calls place f values g None b h = Runs.by_undefined r K.Call place b
   body_alike call call' n m calls place f values g (Some body) b h =

@@ -123,7 +123,8 @@ module _ (r : Relation) where
       abbrev Alike : (A : Type 0) → (m m' : Doing Frame A) → Type 0
       Alike A m m' = r.Related b Frame A m m'
 
-      bind : {A B : Type 0} {m m' : Doing Frame A} {next next' : A → Doing Frame B} → Alike A m m' → ((x : A) → Alike B (next x) (next' x)) → Alike B (m >>= next) (m' >>= next')
+      bind : {A B : Type 0} {m m' : Doing Frame A} {next next' : A → Doing Frame B} → Alike A m m' → ((x : A) → Alike B (next x) (next' x))
+          → Alike B (m >>= next) (m' >>= next')
       bind one other = Runs.bind r one other
 
       pure_alike : {A : Type 0} (x : A) → Alike A (pure x) (pure x)
@@ -143,7 +144,8 @@ module _ (r : Relation) where
       through_alike : (place : Place) (t : CType) (q : Ptr) (all : List Value) → Alike (Option Value) (through p call place t q all) (through p call' place t q all)
       through_alike place t (P.Function f) all = by_function (slice_get p.functions f) refl
         where
-          by_function : (g : Option FunctionData) → slice_get p.functions f ≡ g → Alike (Option Value) (through p call place t (P.Function f) all) (through p call' place t (P.Function f) all)
+          by_function : (g : Option FunctionData) → slice_get p.functions f ≡ g
+              → Alike (Option Value) (through p call place t (P.Function f) all) (through p call' place t (P.Function f) all)
           by_function None e = rw e (Runs.by_undefined r K.Call place b)
           by_function (Some g) e = rw e (choice_alike (same_type t (pointer_to (type_at p g.ty))) (calls place f all) (Runs.by_undefined r K.Call place b))
       through_alike place t P.Null all = Runs.by_undefined r K.Call place b
@@ -208,14 +210,16 @@ module _ (r : Relation) where
         pub spot_alike : (addressed : Bool) (q : Path ℕ) → Alike Spot (spot p call addressed q) (spot p call' addressed q)
         spot_alike addressed (path t at step) = step_alike t addressed at step
 
-        step_alike : (t : ℕ) (addressed : Bool) (at : Place) (step : PathNode ℕ) → Alike Spot (spot_of p call t addressed at step) (spot_of p call' t addressed at step)
+        step_alike : (t : ℕ) (addressed : Bool) (at : Place) (step : PathNode ℕ)
+            → Alike Spot (spot_of p call t addressed at step) (spot_of p call' t addressed at step)
         step_alike t addressed at (T.local x) = by_local_spot at x b
         step_alike t addressed at (T.object n) = pure_alike (placed (P.Block n 0))
         step_alike t addressed at (T.deref e) = bind (used_alike e) (λ v. pure_alike (placed (pointer_of v)))
         step_alike t addressed at (T.index e i) =
             bind (used_alike e) (λ v. bind (used_alike i) (λ w. bind (Runs.by_memory r b) (λ m.
             bind (Runs.by_tested r at (moved m Add (size_at p t) (kind_of (type_at p (ty e))) v (kind_of (type_at p (ty i))) w) b) (λ q. pure_alike (placed (pointer_of q))))))
-        step_alike t addressed at (T.member (path u c (T.deref e)) n field) = bind (used_alike e) (λ v. by_field_through at (pointer_of v) (pos (offset_of p.records n field)) b)
+        step_alike t addressed at (T.member (path u c (T.deref e)) n field) =
+            bind (used_alike e) (λ v. by_field_through at (pointer_of v) (pos (offset_of p.records n field)) b)
         step_alike t addressed at (T.member (path u c (T.index e i)) n field) =
             bind (used_alike e) (λ v. bind (used_alike i) (λ w. by_field_through at (pointer_of v)
             (number_of (kind_of (type_at p (ty i))) (word_of w) *ℤ pos (size_at p u) +ℤ pos (offset_of p.records n field)) b))

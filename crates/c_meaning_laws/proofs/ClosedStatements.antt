@@ -112,12 +112,14 @@ module _ (r : Relation) where
           (note event >> (body' >>= and_again (step' >> loop (turn >> note event) m test' step' body')))
       again more c k = bind (Runs.by_note r event c) (λ a. bind (one_more d c k) (and_again_alike (bind (one_more s c k) (λ a. more c k))))
 
-  pub loop_behind_alike : (event : Event) (n m : ℕ) (body body' : Doing Frame Way) (test test' : Doing Frame Bool) → Under n m Way body body' → Under n m Bool test test'
+  pub loop_behind_alike : (event : Event) (n m : ℕ) (body body' : Doing Frame Way) (test test' : Doing Frame Bool) → Under n m Way body body'
+      → Under n m Bool test test'
       → Under n m Way (loop_behind (turn >> note event) n body test) (loop_behind (turn >> note event) m body' test')
   loop_behind_alike event zero zero body body' test test' d t b h = r.on_none b _ _ h
   loop_behind_alike event zero (suc m) body body' test test' d t b h = absurd (r.not_left b m h)
   loop_behind_alike event (suc n) zero body body' test test' d t b h = absurd (r.not_right b n h)
-  loop_behind_alike event (suc n) (suc m) body body' test test' d t b h = r.on_turn b n m _ _ _ _ h (again (loop_behind_alike event n m body body' test test' (one_more d) (one_more t)))
+  loop_behind_alike event (suc n) (suc m) body body' test test' d t b h =
+      r.on_turn b n m _ _ _ _ h (again (loop_behind_alike event n m body body' test test' (one_more d) (one_more t)))
     where
       again : Under n m Way (loop_behind (turn >> note event) n body test) (loop_behind (turn >> note event) m body' test')
           → (c : ℕ) → r.Fuels c n m → r.Related c Frame Way

@@ -3,6 +3,8 @@ use Rattle.std.proofs.Common.{◌≡◌, refl, ◌∙◌, ℕ, zero, suc, ◌+�
 use Rattle.lay_base.specs.declared.faults.RoomKind.TheVariants.{Live, Depth}
 use Rattle.lay_base.specs.declared.faults.UndefinedKind.{UndefinedKind}
 use Rattle.lay_base.specs.declared.place.Place.{Place}
+use Rattle.c_typed.specs.declared.program.Local.{Local}
+use Rattle.c_typed.specs.Trees.{Expression, Path, Statement, Statements}
 use Rattle.c_typed.specs.Programs.{ProgramData}
 use Rattle.block_memory.specs.declared.kinds.BlockKind.{BlockKind}
 use Rattle.block_memory.specs.Blocks.{Memory}
@@ -12,11 +14,15 @@ use Rattle.runs.specs.Events.{Event, got, left}
 use Rattle.runs.specs.Library.{next_of, getchar}
 use Rattle.runs.specs.Scalars.{Value}
 use Rattle.runs.specs.Worlds.{World, End, ends, goes_on, undefined, out_of_room, greatest_live, greatest_depth, live_bytes}
-use Rattle.c_meaning.specs.Frames.{Frame}
+use Rattle.c_meaning.specs.Expressions.{value, used, spot}
+use Rattle.c_meaning.specs.Frames.{Frame, Spot}
 use Rattle.c_meaning.specs.Run.{called}
+use Rattle.c_meaning.specs.Statements.{Way, execute, execute_all}
 use Rattle.c_meaning_laws.specs.Outcomes.{Outcome, comes, over, with_rest, and_then, IsWithin}
 use Rattle.c_meaning_laws.proofs.Closed.{Relation, stops}
 use Rattle.c_meaning_laws.proofs.ClosedCalls as Calls
+use Rattle.c_meaning_laws.proofs.ClosedExpressions as Expressions
+use Rattle.c_meaning_laws.proofs.ClosedStatements as Statements
 
 pub record Direct (F A : Type 0) (m : Doing F A) : Type 0 where
   pub outcome : F → World → Outcome F A
@@ -42,7 +48,8 @@ joined_within t (over e) next h k = tt
 abbrev pub pure_direct : (b : ℕ) (F A : Type 0) (x : A) → Direct F A (pure x)
 pure_direct b F A x = record { outcome = λ f w. comes x f w; is = λ k f w. refl; within = λ f w. omega arith }
 
-abbrev pub bind_direct : (b : ℕ) (F A B : Type 0) (m m' : Doing F A) (next next' : A → Doing F B) → Direct F A m' → ((x : A) → Direct F B (next' x)) → Direct F B (m' >>= next')
+abbrev pub bind_direct : (b : ℕ) (F A B : Type 0) (m m' : Doing F A) (next next' : A → Doing F B) → Direct F A m' → ((x : A) → Direct F B (next' x))
+    → Direct F B (m' >>= next')
 bind_direct b F A B m m' next next' one other = record {
   outcome = λ f w. and_then (one.outcome f w) (λ x. (other x).outcome);
   is = λ k f w. one.is (λ x. next' x k) f w ∙ (λ i. with_rest (one.outcome f w) (λ x g u. (other x).is k g u i)) ∙ joined (one.outcome f w) (λ x. (other x).outcome) k;
@@ -196,3 +203,20 @@ by_outcome = record {
 -- the theorem: what a call comes to
 pub called_direct : (p : ProgramData) (n : ℕ) (place : Place) (f : ℕ) (values : List Value) → Direct Frame (Option Value) (called p n place f values)
 called_direct p n place f values = Calls.called_alike by_outcome p n n 0 refl place f values
+
+module _ (p : ProgramData) (n : ℕ) where
+  pub value_direct : (e : Expression ℕ) → Direct Frame (Option Value) (value p (called p n) e)
+  value_direct e = Expressions.value_alike by_outcome p (called p n) (called p n) 0 (called_direct p n) e
+
+  pub used_direct : (e : Expression ℕ) → Direct Frame Value (used p (called p n) e)
+  used_direct e = Expressions.used_alike by_outcome p (called p n) (called p n) 0 (called_direct p n) e
+
+  pub spot_direct : (addressed : Bool) (q : Path ℕ) → Direct Frame Spot (spot p (called p n) addressed q)
+  spot_direct addressed q = Expressions.spot_alike by_outcome p (called p n) (called p n) 0 (called_direct p n) addressed q
+
+  pub executed_direct : (g : ℕ) (locals : List Local) (l : ℕ) (s : Statement ℕ) → Direct Frame Way (execute p (called p n) g locals n l s)
+  executed_direct g locals l s = Statements.execute_alike by_outcome p (called p n) (called p n) n n (λ b h. called_direct p n) g locals l s 0 refl
+
+  pub executed_all_direct : (g : ℕ) (locals : List Local) (l : ℕ) (all : Statements ℕ) → Direct Frame Way (execute_all p (called p n) g locals n l all)
+  executed_all_direct g locals l all =
+      Statements.execute_all_alike by_outcome p (called p n) (called p n) n n (λ b h. called_direct p n) g locals l all 0 refl

@@ -4,7 +4,7 @@ use Rattle.lay_base.specs.declared.faults.RoomKind.TheVariants.{Live, Depth}
 use Rattle.lay_base.specs.declared.faults.UndefinedKind.{UndefinedKind}
 use Rattle.lay_base.specs.declared.place.Place.{Place}
 use Rattle.c_typed.specs.declared.program.Local.{Local}
-use Rattle.c_typed.specs.Trees.{Statement, Statements, Arms}
+use Rattle.c_typed.specs.Trees.{Expression, Path, Statement, Statements, Arms}
 use Rattle.c_typed.specs.Programs.{ProgramData}
 use Rattle.block_memory.specs.declared.kinds.BlockKind.{BlockKind}
 use Rattle.block_memory.specs.Blocks.{Memory}
@@ -14,11 +14,13 @@ use Rattle.runs.specs.Events.{Event}
 use Rattle.runs.specs.Library.{next_of, getchar}
 use Rattle.runs.specs.Scalars.{Value}
 use Rattle.runs.specs.Worlds.{World, End, ends, out_of_room, greatest_live, greatest_depth, live_bytes}
-use Rattle.c_meaning.specs.Frames.{Frame}
+use Rattle.c_meaning.specs.Expressions.{value, used, spot}
+use Rattle.c_meaning.specs.Frames.{Frame, Spot}
 use Rattle.c_meaning.specs.Run.{called}
 use Rattle.c_meaning.specs.Statements.{Way, normally, and_again, loop, loop_behind, execute, execute_all, enter}
 use Rattle.c_meaning_laws.proofs.Closed.{Relation, stops}
 use Rattle.c_meaning_laws.proofs.ClosedCalls as Calls
+use Rattle.c_meaning_laws.proofs.ClosedExpressions as Expressions
 use Rattle.c_meaning_laws.proofs.ClosedStatements as Statements
 
 -- what is done with a result is the same where at most so many turns are left
@@ -55,7 +57,8 @@ none_same b F A h = absurd (omega (arith, h.0))
 turned : (t b n n' : ℕ) (F A : Type 0) (m m' : Doing F A) → ((c : ℕ) → Suffice c n n' → Same c F A m m') → (k k' : Rest F A) (f : F) (w : World)
     → t ≤ b → b < suc n → b < suc n' → Rests t F A k k' → turn_of t (λ x. m k) f w ≡ turn_of t (λ x. m' k') f w
 turned zero b n n' F A m m' same k k' f w h i j c = refl
-turned (suc t) b n n' F A m m' same k k' f w h i j c = (same t (omega arith, omega arith)).at k k' f (record w { turns = t }) (omega arith) (λ x g u l. c x g u (omega arith))
+turned (suc t) b n n' F A m m' same k k' f w h i j c =
+    (same t (omega arith, omega arith)).at k k' f (record w { turns = t }) (omega arith) (λ x g u l. c x g u (omega arith))
 
 pub turn_same : (b n n' : ℕ) (F A : Type 0) (m m' : Doing F A) → Suffice b (suc n) (suc n') → ((c : ℕ) → Suffice c n n' → Same c F A m m')
     → Same b F A (turn >> m) (turn >> m')
@@ -142,6 +145,17 @@ pub called_same : (p : ProgramData) (b n m : ℕ) → b < n → b < m → (place
     → Same b Frame (Option Value) (called p n place f values) (called p m place f values)
 called_same p b n m h i place f values = Calls.called_alike by_turns p n m b (h, i) place f values
 
+pub value_same : (p : ProgramData) (b n m : ℕ) → b < n → b < m → (e : Expression ℕ)
+    → Same b Frame (Option Value) (value p (called p n) e) (value p (called p m) e)
+value_same p b n m h i e = Expressions.value_alike by_turns p (called p n) (called p m) b (called_same p b n m h i) e
+
+pub used_same : (p : ProgramData) (b n m : ℕ) → b < n → b < m → (e : Expression ℕ) → Same b Frame Value (used p (called p n) e) (used p (called p m) e)
+used_same p b n m h i e = Expressions.used_alike by_turns p (called p n) (called p m) b (called_same p b n m h i) e
+
+pub spot_same : (p : ProgramData) (b n m : ℕ) → b < n → b < m → (addressed : Bool) (q : Path ℕ)
+    → Same b Frame Spot (spot p (called p n) addressed q) (spot p (called p m) addressed q)
+spot_same p b n m h i addressed q = Expressions.spot_alike by_turns p (called p n) (called p m) b (called_same p b n m h i) addressed q
+
 pub executed_same : (p : ProgramData) (b n m : ℕ) → b < n → b < m → (g : ℕ) (locals : List Local) (l : ℕ) (s : Statement ℕ)
     → Same b Frame Way (execute p (called p n) g locals n l s) (execute p (called p m) g locals m l s)
 executed_same p b n m h i g locals l s =
@@ -173,7 +187,8 @@ loop_behind_same event b n m body body' test test' h i d t =
 
 -- a loop is its test, a turn, and the loop again, where its parts are the same as themselves
 pub loop_again : (event : Event) (b m : ℕ) (test : Doing Frame Bool) (step : Doing Frame (Unit {0})) (body : Doing Frame Way) → b < suc m
-    → ((c : ℕ) → c < suc m → Same c Frame Bool test test) → ((c : ℕ) → c < suc m → Same c Frame (Unit {0}) step step) → ((c : ℕ) → c < suc m → Same c Frame Way body body)
+    → ((c : ℕ) → c < suc m → Same c Frame Bool test test) → ((c : ℕ) → c < suc m → Same c Frame (Unit {0}) step step) → ((c : ℕ) → c < suc m
+    → Same c Frame Way body body)
     → Same b Frame Way (loop (turn >> note event) (suc m) test step body)
     (test >>= λ goes. if goes then (turn >> note event >> body >>= and_again (step >> loop (turn >> note event) (suc m) test step body)) else pure normally)
 loop_again event b m test step body h t s d =

@@ -23,7 +23,8 @@ here w = record { new = []; trace = refl; taken = []; input = refl }
 
 -- of two worlds only the trace and the input count
 pub as_seen : {w u : World} (v : World) → v.trace ≡ u.trace → v.input ≡ u.input → Onward w u → Onward w v
-as_seen v same_trace same_input o = record { new = o.new; trace = same_trace ∙ o.trace; taken = o.taken; input = o.input ∙ ap (λ rest. o.taken ++ rest) (sym same_input) }
+as_seen v same_trace same_input o =
+    record { new = o.new; trace = same_trace ∙ o.trace; taken = o.taken; input = o.input ∙ ap (λ rest. o.taken ++ rest) (sym same_input) }
 
 noted : {w u : World} (event : Event) (v : World) → v.trace ≡ event ∷ u.trace → v.input ≡ u.input → Onward w u → Onward w v
 noted event v same_trace same_input o = record {
@@ -65,7 +66,8 @@ grows_either true e a w one other = one
 grows_either false e a w one other = other
 
 grows_make : (F : Type 0) (size : ℕ) (kind : BlockKind) → Grows F ℕ (make size kind)
-grows_make F size kind k f w u o c = grows_either (u.is_limited && nat_lt greatest_live (live_bytes u.memory + size)) (out_of_room Live (live_bytes u.memory + size) u)
+grows_make F size kind k f w u o c =
+    grows_either (u.is_limited && nat_lt greatest_live (live_bytes u.memory + size)) (out_of_room Live (live_bytes u.memory + size) u)
     (k (length u.memory) f (record u { memory = with_block u.memory size kind })) w o (c _ f _ (as_seen (record u { memory = with_block u.memory size kind }) refl refl o))
 
 grows_deeper : (F : Type 0) → Grows F (Unit {0}) deeper
