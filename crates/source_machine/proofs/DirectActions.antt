@@ -1,5 +1,5 @@
 -- An action comes to one outcome, whatever the rest of the run is.
-use Rattle.std.proofs.Common.{not, Bool, true, false, if◌then◌else◌, pos, ◌+ℤ◌, ◌*ℤ◌, [], ◌∷◌, Option, Some, None}
+use Rattle.std.proofs.Common.{not, if◌then◌else◌, pos, ◌+ℤ◌, ◌*ℤ◌, [], ◌∷◌, Option, Some, None}
 use Rattle.lay_base.specs.declared.faults.UndefinedKind.{UndefinedKind}
 use Rattle.lay_base.specs.declared.faults.UndefinedKind.TheVariants as K
 use Rattle.lay_base.specs.declared.place.Place.{Place}
@@ -33,11 +33,8 @@ direct_bind {m = m} {next = next} one other = bind_direct 0 Frame _ _ m m next n
 abbrev pub direct_undefined : {A : Type 0} (kind : UndefinedKind) (place : Place) → IsDirect A (is_undefined kind place)
 direct_undefined kind place = undefined_direct 0 Frame _ kind place
 
-pub direct_either : {A : Type 0} (test : Bool) {m n : Doing Frame A} → IsDirect A m → IsDirect A n → IsDirect A (if test then m else n)
-direct_either true one other = one
-direct_either false one other = other
-
-pub direct_taking : {A : Type 0} (stack : Stack) {next : Value → Stack → Doing Frame A} → ((v : Value) (stack : Stack) → IsDirect A (next v stack)) → IsDirect A (taking stack next)
+pub direct_taking : {A : Type 0} (stack : Stack) {next : Value → Stack → Doing Frame A} → ((v : Value) (stack : Stack) → IsDirect A (next v stack))
+    → IsDirect A (taking stack next)
 direct_taking [] k = direct_undefined K.NoValue (record { file = 0; at = 0 })
 direct_taking (spot s ∷ stack) k = direct_undefined K.NoValue (record { file = 0; at = 0 })
 direct_taking (value None ∷ stack) k = direct_undefined K.NoValue (record { file = 0; at = 0 })
@@ -49,7 +46,8 @@ direct_taking_any [] k = direct_undefined K.NoValue (record { file = 0; at = 0 }
 direct_taking_any (spot s ∷ stack) k = direct_undefined K.NoValue (record { file = 0; at = 0 })
 direct_taking_any (value v ∷ stack) k = k v stack
 
-direct_taking_spot : {A : Type 0} (stack : Stack) {next : Spot → Stack → Doing Frame A} → ((s : Spot) (stack : Stack) → IsDirect A (next s stack)) → IsDirect A (taking_spot stack next)
+direct_taking_spot : {A : Type 0} (stack : Stack) {next : Spot → Stack → Doing Frame A} → ((s : Spot) (stack : Stack) → IsDirect A (next s stack))
+    → IsDirect A (taking_spot stack next)
 direct_taking_spot [] k = direct_undefined K.NoValue (record { file = 0; at = 0 })
 direct_taking_spot (value v ∷ stack) k = direct_undefined K.NoValue (record { file = 0; at = 0 })
 direct_taking_spot (spot s ∷ stack) k = k s stack
@@ -80,9 +78,11 @@ module _ (p : ProgramData) where
   direct_performed I.flagging stack = direct_taking stack (λ v stack. direct_gives stack (flag (is_true v)))
   direct_performed I.negating stack = direct_taking stack (λ v stack. direct_gives stack (flag (not (is_true v))))
   direct_performed I.dropping stack = direct_taking_any stack (λ v stack. direct_pure stack)
-  direct_performed (I.allocating at r size zeroed) stack = direct_taking stack (λ v stack. direct_bind (Expressions.by_allocated by_outcome at r size (word_of v) zeroed 0) (direct_gives stack))
+  direct_performed (I.allocating at r size zeroed) stack =
+      direct_taking stack (λ v stack. direct_bind (Expressions.by_allocated by_outcome at r size (word_of v) zeroed 0) (direct_gives stack))
   direct_performed (I.loading at t) stack = direct_taking_spot stack (λ s stack. direct_bind (Expressions.by_fetch by_outcome p at s t 0) (direct_gives stack))
-  direct_performed (I.addressing at) stack = direct_taking_spot stack (λ s stack. direct_bind (Expressions.by_address_of by_outcome at s 0) (λ q. direct_gives stack (pointer q)))
+  direct_performed (I.addressing at) stack =
+      direct_taking_spot stack (λ s stack. direct_bind (Expressions.by_address_of by_outcome at s 0) (λ q. direct_gives stack (pointer q)))
   direct_performed (I.assigning at t) stack =
       direct_taking stack (λ v stack. direct_taking_spot stack (λ s stack. direct_bind (Expressions.by_put by_outcome p at s t v 0) (λ a. direct_gives stack v)))
   direct_performed (I.updating at op t right) stack = direct_taking stack (λ w stack. direct_taking_spot stack (λ s stack.
@@ -99,12 +99,14 @@ module _ (p : ProgramData) where
   direct_performed (I.indexing at size left right) stack = direct_taking stack (λ w stack. direct_taking stack (λ v stack.
       direct_bind (Runs.by_memory by_outcome 0) (λ m. direct_bind (Runs.by_tested by_outcome at (moved m Add size left v right w) 0) (λ q. direct_leads stack (placed (pointer_of q))))))
   direct_performed (I.field_of offset) stack = direct_taking_spot stack (λ s stack. direct_leads stack (part_of offset s))
-  direct_performed (I.field_at at offset) stack = direct_taking stack (λ v stack. direct_bind (Expressions.by_field_through by_outcome at (pointer_of v) (pos offset) 0) (direct_leads stack))
+  direct_performed (I.field_at at offset) stack =
+      direct_taking stack (λ v stack. direct_bind (Expressions.by_field_through by_outcome at (pointer_of v) (pos offset) 0) (direct_leads stack))
   direct_performed (I.field_of_element at right size offset) stack = direct_taking stack (λ w stack. direct_taking stack (λ v stack.
       direct_bind (Expressions.by_field_through by_outcome at (pointer_of v) (number_of right (word_of w) *ℤ pos size +ℤ pos offset) 0) (direct_leads stack)))
   direct_performed (I.element_at at length size addressed kind) stack = direct_taking stack (λ v stack. direct_taking_spot stack (λ s stack.
       direct_bind (Expressions.by_element_of by_outcome at length size addressed s (number_of kind (word_of v)) 0) (direct_leads stack)))
-  direct_performed (I.naming x) stack = direct_taking stack (λ v stack. direct_bind (Expressions.by_with_slot by_outcome x (by_name (Some v)) 0) (λ a. direct_pure stack))
+  direct_performed (I.naming x) stack =
+      direct_taking stack (λ v stack. direct_bind (Expressions.by_with_slot by_outcome x (by_name (Some v)) 0) (λ a. direct_pure stack))
   direct_performed (I.storing b offset at t) stack =
       direct_taking stack (λ v stack. direct_bind (Runs.by_store by_outcome at (P.Block b offset) (access_at p t) v 0) (λ a. direct_pure stack))
   direct_performed (I.copying_to b offset at size) stack =

@@ -78,7 +78,8 @@ lessens_either : (j : ℕ) (test : Bool) {m n : Doing Frame Left} → Lessens j 
 lessens_either j true one other = one
 lessens_either j false one other = other
 
-lessens_taking : (j : ℕ) (stack : Stack) {next : Value → Stack → Doing Frame Left} → ((v : Value) (stack : Stack) → Lessens j (next v stack)) → Lessens j (taking stack next)
+lessens_taking : (j : ℕ) (stack : Stack) {next : Value → Stack → Doing Frame Left} → ((v : Value) (stack : Stack) → Lessens j (next v stack))
+    → Lessens j (taking stack next)
 lessens_taking j [] k = lessens_undefined j K.NoValue (record { file = 0; at = 0 })
 lessens_taking j (spot s ∷ stack) k = lessens_undefined j K.NoValue (record { file = 0; at = 0 })
 lessens_taking j (value None ∷ stack) k = lessens_undefined j K.NoValue (record { file = 0; at = 0 })
@@ -106,8 +107,10 @@ lessens_enters j g one = record {
 }
 
 module _ (p : ProgramData) where
-  lessens_located : (addressed : Bool) (q : Path ℕ) (more : Work) (stack : Stack) (j : ℕ) → of_path q + of_work more ≤ j → Lessens j (Steps.located p addressed q more stack)
-  lessens_located addressed (path t at (T.local x)) more stack j h = lessens_bind j (Expressions.by_local_spot by_outcome at x 0) (λ s. lessens_goes j more (spot s ∷ stack) (omega arith))
+  lessens_located : (addressed : Bool) (q : Path ℕ) (more : Work) (stack : Stack) (j : ℕ) → of_path q + of_work more ≤ j
+      → Lessens j (Steps.located p addressed q more stack)
+  lessens_located addressed (path t at (T.local x)) more stack j h =
+      lessens_bind j (Expressions.by_local_spot by_outcome at x 0) (λ s. lessens_goes j more (spot s ∷ stack) (omega arith))
   lessens_located addressed (path t at (T.object n)) more stack j h = lessens_goes j _ _ (omega arith)
   lessens_located addressed (path t at (T.deref e)) more stack j h = lessens_goes j _ _ (omega arith)
   lessens_located addressed (path t at (T.index e i)) more stack j h = lessens_goes j _ _ (omega arith)
@@ -123,9 +126,11 @@ module _ (p : ProgramData) where
   direct_started place f values g None caller more stack = direct_undefined K.Call place
   direct_started place f values g (Some body) caller more stack = direct_bind (Calls.by_receive by_outcome p place 0 g.parameters values 0) (λ a. direct_goes _ _)
 
-  lessens_called : (place : Place) (f : ℕ) (values : List Value) (g : Option FunctionData) (more : Work) (stack : Stack) (j : ℕ) → Lessens j (Steps.called_as p place f values g more stack)
+  lessens_called : (place : Place) (f : ℕ) (values : List Value) (g : Option FunctionData) (more : Work) (stack : Stack) (j : ℕ)
+      → Lessens j (Steps.called_as p place f values g more stack)
   lessens_called place f values None more stack j = lessens_undefined j K.Call place
-  lessens_called place f values (Some g) more stack j = lessens_enters j f (direct_bind (direct_in_frame (frame_of p g)) (λ caller. direct_started place f values g g.body caller more stack))
+  lessens_called place f values (Some g) more stack j =
+      lessens_enters j f (direct_bind (direct_in_frame (frame_of p g)) (λ caller. direct_started place f values g g.body caller more stack))
 
   lessens_typed : (place : Place) (t : CType) (f : ℕ) (values : List Value) (g : Option FunctionData) (more : Work) (stack : Stack) (j : ℕ)
       → Lessens j (Steps.called_typed p place t f values g more stack)
@@ -133,15 +138,18 @@ module _ (p : ProgramData) where
   lessens_typed place t f values (Some g) more stack j =
       lessens_either j (same_type t (pointer_to (type_at p g.ty))) (lessens_called place f values (slice_get p.functions f) more stack j) (lessens_undefined j K.Call place)
 
-  lessens_through : (place : Place) (t : CType) (q : Ptr) (values : List Value) (more : Work) (stack : Stack) (j : ℕ) → Lessens j (Steps.called_through p place t q values more stack)
+  lessens_through : (place : Place) (t : CType) (q : Ptr) (values : List Value) (more : Work) (stack : Stack) (j : ℕ)
+      → Lessens j (Steps.called_through p place t q values more stack)
   lessens_through place t (P.Function f) values more stack j = lessens_typed place t f values (slice_get p.functions f) more stack j
   lessens_through place t P.Null values more stack j = lessens_undefined j K.Call place
   lessens_through place t (P.Block b at) values more stack j = lessens_undefined j K.Call place
 
-  lessens_calls : (callee : Callee) (values : List Value) (more : Work) (stack : Stack) (j : ℕ) → of_work more < j → Lessens j (Steps.calls p callee values more stack)
+  lessens_calls : (callee : Callee) (values : List Value) (more : Work) (stack : Stack) (j : ℕ) → of_work more < j
+      → Lessens j (Steps.calls p callee values more stack)
   lessens_calls (I.function at f) values more stack j h = lessens_called at f values (slice_get p.functions f) more stack j
   lessens_calls (I.through at t) values more stack j h = lessens_taking j stack (λ v stack. lessens_through at (type_at p t) (pointer_of v) values more stack j)
-  lessens_calls (I.library at which) values more stack j h = lessens_bind j (Expressions.by_library by_outcome at which values 0) (λ v. lessens_goes j more (value v ∷ stack) h)
+  lessens_calls (I.library at which) values more stack j h =
+      lessens_bind j (Expressions.by_library by_outcome at which values 0) (λ v. lessens_goes j more (value v ∷ stack) h)
 
   lessens_gathers : (callee : Callee) (done : List Value) (all : Expressions ℕ) (more : Work) (stack : Stack) (j : ℕ) → of_arguments all + of_work more ≤ j
       → Lessens j (Steps.gathers p callee done all more stack)
@@ -150,7 +158,8 @@ module _ (p : ProgramData) where
 
   -- ---- expressions
 
-  lessens_evaluated : (t : ℕ) (at : Place) (node : Node ℕ) (more : Work) (stack : Stack) (j : ℕ) → of_node node + of_work more ≤ j → Lessens j (Steps.evaluated p t at node more stack)
+  lessens_evaluated : (t : ℕ) (at : Place) (node : Node ℕ) (more : Work) (stack : Stack) (j : ℕ) → of_node node + of_work more ≤ j
+      → Lessens j (Steps.evaluated p t at node more stack)
   lessens_evaluated t at (T.load q) more stack j h = lessens_located false q _ stack j (omega arith)
   lessens_evaluated t at (T.address_of q) more stack j h = lessens_located true q _ stack j (omega arith)
   lessens_evaluated t at (T.decay q) more stack j h = lessens_located false q _ stack j (omega arith)
@@ -169,22 +178,27 @@ module _ (p : ProgramData) where
   by_with_memory : (next : Memory → Memory) → IsDirect (Unit {0}) (memory_now >>= λ m. with_memory (next m))
   by_with_memory next = direct_bind (Runs.by_memory by_outcome 0) (λ m. Runs.by_with_memory by_outcome (next m) 0)
 
-  lessens_fills : (b offset : ℕ) (part : PartValue ℕ) (more : Work) (stack : Stack) (j : ℕ) → of_value part + of_work more < j → Lessens j (Steps.fills p b offset part more stack)
+  lessens_fills : (b offset : ℕ) (part : PartValue ℕ) (more : Work) (stack : Stack) (j : ℕ) → of_value part + of_work more < j
+      → Lessens j (Steps.fills p b offset part more stack)
   lessens_fills b offset (T.value e) more stack j h = lessens_goes j _ _ (omega arith)
   lessens_fills b offset (T.record_of q) more stack j h = lessens_goes j _ _ (omega arith)
-  lessens_fills b offset (T.text bytes) more stack j h = lessens_bind j (by_with_memory (λ m. with_cells m b offset (map Byte bytes))) (λ a. lessens_goes j more stack (omega arith))
+  lessens_fills b offset (T.text bytes) more stack j h =
+      lessens_bind j (by_with_memory (λ m. with_cells m b offset (map Byte bytes))) (λ a. lessens_goes j more stack (omega arith))
 
-  lessens_fills_all : (b : ℕ) (parts : List (Part ℕ)) (more : Work) (stack : Stack) (j : ℕ) → of_parts parts + of_work more ≤ j → Lessens j (Steps.fills_all p b parts more stack)
+  lessens_fills_all : (b : ℕ) (parts : List (Part ℕ)) (more : Work) (stack : Stack) (j : ℕ) → of_parts parts + of_work more ≤ j
+      → Lessens j (Steps.fills_all p b parts more stack)
   lessens_fills_all b [] more stack j h = lessens_goes j more stack (omega arith)
   lessens_fills_all b (part ∷ rest) more stack j h = lessens_fills b part.offset part.value (I.filling b rest ∷ more) stack j (omega arith)
 
-  lessens_initial_in : (b size : ℕ) (i : Initializer ℕ) (more : Work) (stack : Stack) (j : ℕ) → of_initializer i + of_work more ≤ j → Lessens j (Steps.initial_in p b size i more stack)
+  lessens_initial_in : (b size : ℕ) (i : Initializer ℕ) (more : Work) (stack : Stack) (j : ℕ) → of_initializer i + of_work more ≤ j
+      → Lessens j (Steps.initial_in p b size i more stack)
   lessens_initial_in b size (T.whole e) more stack j h = lessens_fills b 0 (T.value e) more stack j (omega arith)
   lessens_initial_in b size (T.whole_record q) more stack j h = lessens_fills b 0 (T.record_of q) more stack j (omega arith)
   lessens_initial_in b size (T.parts all) more stack j h =
       lessens_bind j (by_with_memory (λ m. with_cells m b 0 (replicate size (Byte 0)))) (λ a. lessens_goes j (I.filling b all ∷ more) stack (omega arith))
 
-  lessens_by_name : (x : ℕ) (i : Initializer ℕ) (more : Work) (stack : Stack) (j : ℕ) → of_initializer i + of_work more ≤ j → Lessens j (Steps.initial_by_name p x i more stack)
+  lessens_by_name : (x : ℕ) (i : Initializer ℕ) (more : Work) (stack : Stack) (j : ℕ) → of_initializer i + of_work more ≤ j
+      → Lessens j (Steps.initial_by_name p x i more stack)
   lessens_by_name x (T.whole e) more stack j h = lessens_goes j _ _ (omega arith)
   lessens_by_name x (T.whole_record q) more stack j h = lessens_goes j more stack (omega arith)
   lessens_by_name x (T.parts all) more stack j h = lessens_goes j more stack (omega arith)
@@ -202,14 +216,16 @@ module _ (p : ProgramData) where
   lessens_declared x None (Some i) more stack j h = lessens_goes j more stack (omega (arith, some_initializer i))
   lessens_declared x (Some l) None more stack j h =
       lessens_bind j (direct_bind (Expressions.by_slot_now by_outcome x 0) (λ s. Statements.by_emptied by_outcome p x l.ty s 0)) (λ a. lessens_goes j more stack (omega arith))
-  lessens_declared x (Some l) (Some i) more stack j h = lessens_bind j (Expressions.by_slot_now by_outcome x 0) (λ s. lessens_initial x (size_at p l.ty) i s more stack j h)
+  lessens_declared x (Some l) (Some i) more stack j h =
+      lessens_bind j (Expressions.by_slot_now by_outcome x 0) (λ s. lessens_initial x (size_at p l.ty) i s more stack j h)
 
   -- ---- loops
 
   lessens_begun : (l : Loop) (more : Work) (stack : Stack) (j : ℕ) → Lessens j (Steps.begun p l more stack)
   lessens_begun l more stack j = lessens_begins j l.context.function l.number (direct_goes _ _)
 
-  lessens_tests : (test : Option (Expression ℕ)) (l : Loop) (more : Work) (stack : Stack) (j : ℕ) → of_test test + of_work more < j → Lessens j (Steps.tests p test l more stack)
+  lessens_tests : (test : Option (Expression ℕ)) (l : Loop) (more : Work) (stack : Stack) (j : ℕ) → of_test test + of_work more < j
+      → Lessens j (Steps.tests p test l more stack)
   lessens_tests None l more stack j h = lessens_begun l more stack j
   lessens_tests (Some e) l more stack j h = lessens_goes j _ _ (omega arith)
 
@@ -223,10 +239,12 @@ module _ (p : ProgramData) where
 
   -- ---- statements
 
-  lessens_begin_all : (locals : List Local) (own : List ℕ) (work : Work) (stack : Stack) (j : ℕ) → of_work work < j → Lessens j (begin_all p locals own >> goes work stack)
+  lessens_begin_all : (locals : List Local) (own : List ℕ) (work : Work) (stack : Stack) (j : ℕ) → of_work work < j
+      → Lessens j (begin_all p locals own >> goes work stack)
   lessens_begin_all locals own work stack j h = lessens_bind j (Statements.by_begin_all by_outcome p locals own 0) (λ a. lessens_goes j work stack h)
 
-  lessens_executed : (c : Context) (k : ℕ) (s : Statement ℕ) (more : Work) (stack : Stack) (j : ℕ) → of_statement s + of_work more ≤ j → Lessens j (Steps.executed p c k s more stack)
+  lessens_executed : (c : Context) (k : ℕ) (s : Statement ℕ) (more : Work) (stack : Stack) (j : ℕ) → of_statement s + of_work more ≤ j
+      → Lessens j (Steps.executed p c k s more stack)
   lessens_executed c k (T.block own all) more stack j h = lessens_begin_all c.locals own _ stack j (omega arith)
   lessens_executed c k (T.declare x i) more stack j h = lessens_declared x (slice_get c.locals x) i more stack j h
   lessens_executed c k (T.do_while body e) more stack j h = lessens_begun_behind _ more stack j
@@ -251,12 +269,14 @@ module _ (p : ProgramData) where
   -- ---- the way out
 
   lessens_closed : (caller : Frame) (way : Way) (more : Work) (stack : Stack) (j : ℕ) → of_work more < j → Lessens j (Steps.closed p caller way more stack)
-  lessens_closed caller way more stack j h = lessens_bind j (direct_bind (direct_in_frame caller) (λ own. leave_direct 0 Frame)) (λ a. lessens_goes j more (value (result_of way) ∷ stack) h)
+  lessens_closed caller way more stack j h =
+      lessens_bind j (direct_bind (direct_in_frame caller) (λ own. leave_direct 0 Frame)) (λ a. lessens_goes j more (value (result_of way) ∷ stack) h)
 
   lessens_finished : (own : List ℕ) (work : Work) (stack : Stack) (j : ℕ) → of_work work < j → Lessens j (finish_all p own >> goes work stack)
   lessens_finished own work stack j h = lessens_bind j (Statements.by_finish_all by_outcome p own 0) (λ a. lessens_goes j work stack h)
 
-  lessens_passed : (way : Way) (item : Item) (more : Work) (stack : Stack) (j : ℕ) → 1 + of_item item + of_work more ≤ j → Lessens j (Steps.passed p way item more stack)
+  lessens_passed : (way : Way) (item : Item) (more : Work) (stack : Stack) (j : ℕ) → 1 + of_item item + of_work more ≤ j
+      → Lessens j (Steps.passed p way item more stack)
   lessens_passed normally item more stack j h = lessens_goes j (item ∷ more) stack (omega arith)
   lessens_passed by_break (framing caller) more stack j h = lessens_closed caller by_break more stack j (omega arith)
   lessens_passed by_break (ending locals) more stack j h = lessens_finished locals _ stack j (omega arith)
@@ -286,22 +306,28 @@ module _ (p : ProgramData) where
       let need : of_work (needing_if (may_lack node) at more) ≤ 1 + of_work more = with_need (may_lack node) at more (1 + of_work more) (omega arith) in
       lessens_evaluated t at node (needing_if (may_lack node) at more) stack j (omega (arith, need))
   lessens_enacted (spotting addressed q) more stack j h = lessens_located addressed q more stack j h
-  lessens_enacted (I.both_with y) more stack j h = lessens_taking j stack (λ v stack. lessens_either j (is_true v) (lessens_goes j _ _ (omega arith)) (lessens_goes j _ _ (omega arith)))
-  lessens_enacted (I.either_with y) more stack j h = lessens_taking j stack (λ v stack. lessens_either j (is_true v) (lessens_goes j _ _ (omega arith)) (lessens_goes j _ _ (omega arith)))
-  lessens_enacted (I.choosing y z) more stack j h = lessens_taking j stack (λ v stack. lessens_either j (is_true v) (lessens_goes j _ _ (omega arith)) (lessens_goes j _ _ (omega arith)))
+  lessens_enacted (I.both_with y) more stack j h =
+      lessens_taking j stack (λ v stack. lessens_either j (is_true v) (lessens_goes j _ _ (omega arith)) (lessens_goes j _ _ (omega arith)))
+  lessens_enacted (I.either_with y) more stack j h =
+      lessens_taking j stack (λ v stack. lessens_either j (is_true v) (lessens_goes j _ _ (omega arith)) (lessens_goes j _ _ (omega arith)))
+  lessens_enacted (I.choosing y z) more stack j h =
+      lessens_taking j stack (λ v stack. lessens_either j (is_true v) (lessens_goes j _ _ (omega arith)) (lessens_goes j _ _ (omega arith)))
   lessens_enacted (gathering callee done rest) more stack j h = lessens_gathers callee done rest more stack j h
   lessens_enacted (gathered callee done rest) more stack j h = lessens_taking j stack (λ v stack. lessens_gathers callee (done ++ v ∷ []) rest more stack j h)
   lessens_enacted (framing caller) more stack j h = lessens_closed caller normally more stack j (omega arith)
   lessens_enacted (executing c k s) more stack j h = lessens_executed c k s more stack j h
   lessens_enacted (executing_all c k all) more stack j h = lessens_executed_all c k all more stack j h
   lessens_enacted (entering c k arm arms) more stack j h = lessens_entered c k arm arms more stack j h
-  lessens_enacted (I.deciding c k one) more stack j h = lessens_taking j stack (λ v stack. lessens_either j (is_true v) (lessens_goes j _ _ (omega arith)) (lessens_goes j more stack (omega arith)))
+  lessens_enacted (I.deciding c k one) more stack j h =
+      lessens_taking j stack (λ v stack. lessens_either j (is_true v) (lessens_goes j _ _ (omega arith)) (lessens_goes j more stack (omega arith)))
   lessens_enacted (I.deciding_else c k one other) more stack j h =
       lessens_taking j stack (λ v stack. lessens_either j (is_true v) (lessens_goes j _ _ (omega arith)) (lessens_goes j _ _ (omega arith)))
   lessens_enacted (I.looping l) more stack j h = lessens_tests l.test l more stack j (omega arith)
-  lessens_enacted (tested l) more stack j h = lessens_taking j stack (λ v stack. lessens_either j (is_true v) (lessens_begun l more stack j) (lessens_goes j more stack (omega arith)))
+  lessens_enacted (tested l) more stack j h =
+      lessens_taking j stack (λ v stack. lessens_either j (is_true v) (lessens_begun l more stack j) (lessens_goes j more stack (omega arith)))
   lessens_enacted (repeating l) more stack j h = lessens_repeats l.step l more stack j (omega arith)
-  lessens_enacted (I.tested_behind l) more stack j h = lessens_taking j stack (λ v stack. lessens_either j (is_true v) (lessens_begun_behind l more stack j) (lessens_goes j more stack (omega arith)))
+  lessens_enacted (I.tested_behind l) more stack j h =
+      lessens_taking j stack (λ v stack. lessens_either j (is_true v) (lessens_begun_behind l more stack j) (lessens_goes j more stack (omega arith)))
   lessens_enacted (repeating_behind l) more stack j h = lessens_goes j _ _ (omega arith)
   lessens_enacted (I.selecting c k own arms) more stack j h = lessens_taking j stack (λ v stack. lessens_begin_all c.locals own _ stack j (omega arith))
   lessens_enacted I.switching more stack j h = lessens_goes j more stack (omega arith)

@@ -44,7 +44,8 @@ module _ (p : ProgramData) (n : ℕ) where
   choosing_item y z more (value None ∷ stack) f w = refl
   choosing_item y z more (value (Some v) ∷ stack) f w = either (is_true v) _ _ _ _ (finish p n) (onto p n more stack) f w refl refl
 
-  gathered_item : (callee : I.Callee) (done : List Value) (rest : Expressions ℕ) (more : Work) (stack : Stack) (f : Frame) (w : World) → w.turns < n → Holds (gathered callee done rest) more stack f w
+  gathered_item : (callee : I.Callee) (done : List Value) (rest : Expressions ℕ) (more : Work) (stack : Stack) (f : Frame) (w : World) → w.turns < n
+      → Holds (gathered callee done rest) more stack f w
   unfolding after finish
   gathered_item callee done rest more [] f w h = refl
   gathered_item callee done rest more (spot s ∷ stack) f w h = refl
@@ -58,7 +59,8 @@ module _ (p : ProgramData) (n : ℕ) where
   deciding_item c k one more (value None ∷ stack) f w = refl
   deciding_item c k one more (value (Some v) ∷ stack) f w = either (is_true v) _ _ _ _ (finish p n) (outof p n more stack) f w refl refl
 
-  deciding_else_item : (c : Context) (k : ℕ) (one : Statement ℕ) (other : Statement ℕ) (more : Work) (stack : Stack) (f : Frame) (w : World) → Holds (I.deciding_else c k one other) more stack f w
+  deciding_else_item : (c : Context) (k : ℕ) (one : Statement ℕ) (other : Statement ℕ) (more : Work) (stack : Stack) (f : Frame) (w : World)
+      → Holds (I.deciding_else c k one other) more stack f w
   unfolding after finish
   deciding_else_item c k one other more [] f w = refl
   deciding_else_item c k one other more (spot s ∷ stack) f w = refl
@@ -77,14 +79,17 @@ module _ (p : ProgramData) (n : ℕ) where
   tested_behind_item l more [] f w h = refl
   tested_behind_item l more (spot s ∷ stack) f w h = refl
   tested_behind_item l more (value None ∷ stack) f w h = refl
-  tested_behind_item l more (value (Some v) ∷ stack) f w h = either (is_true v) _ _ _ _ (finish p n) (outof p n more stack) f w (behind_step p n l more stack f w h) refl
+  tested_behind_item l more (value (Some v) ∷ stack) f w h =
+      either (is_true v) _ _ _ _ (finish p n) (outof p n more stack) f w (behind_step p n l more stack f w h) refl
 
-  selecting_item : (c : Context) (k : ℕ) (own : List ℕ) (arms : Arms ℕ) (more : Work) (stack : Stack) (f : Frame) (w : World) → Holds (I.selecting c k own arms) more stack f w
+  selecting_item : (c : Context) (k : ℕ) (own : List ℕ) (arms : Arms ℕ) (more : Work) (stack : Stack) (f : Frame) (w : World)
+      → Holds (I.selecting c k own arms) more stack f w
   unfolding after finish
   selecting_item c k own arms more [] f w = refl
   selecting_item c k own arms more (spot s ∷ stack) f w = refl
   selecting_item c k own arms more (value None ∷ stack) f w = refl
-  selecting_item c k own arms more (value (Some v) ∷ stack) f w = selecting_step p n c k own (or_default (arm_of (word_of v) 0 arms) (default_arm 0 arms)) arms more stack f w
+  selecting_item c k own arms more (value (Some v) ∷ stack) f w =
+      selecting_step p n c k own (or_default (arm_of (word_of v) 0 arms) (default_arm 0 arms)) arms more stack f w
 
   -- ---- the way out
 

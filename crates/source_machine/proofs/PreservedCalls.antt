@@ -31,7 +31,8 @@ pub choice : (test : Bool) (e e' a a' : End) → e ≡ e' → a ≡ a' → (if t
 choice true e e' a a' one other = one
 choice false e e' a a' one other = other
 
-pub either : {A B : Type 0} (test : Bool) (m n : Doing Frame A) (m' n' : Doing Frame B) (k : Rest Frame A) (k' : Rest Frame B) (f : Frame) (w : World) → m k f w ≡ m' k' f w
+pub either : {A B : Type 0} (test : Bool) (m n : Doing Frame A) (m' n' : Doing Frame B) (k : Rest Frame A) (k' : Rest Frame B) (f : Frame) (w : World)
+    → m k f w ≡ m' k' f w
     → n k f w ≡ n' k' f w → (if test then m else n) k f w ≡ (if test then m' else n') k' f w
 either true m n m' n' k k' f w one other = one
 either false m n m' n' k k' f w one other = other
@@ -63,7 +64,8 @@ module _ (p : ProgramData) (m : ℕ) where
       (executed_same p u.turns (suc m) m (omega arith) (omega arith) function (all_locals g) 0 body).at _ _ x u (omega arith) (λ way y v j.
       out_of_body p (suc m) way (numbers p (length g.parameters)) caller more stack y v))
 
-  turned_step : (t : ℕ) (place : Place) (function : ℕ) (values : List Value) (g : FunctionData) (more : Work) (stack : Stack) (f : Frame) (w : World) → t ≡ w.turns → t < suc m
+  turned_step : (t : ℕ) (place : Place) (function : ℕ) (values : List Value) (g : FunctionData) (more : Work) (stack : Stack) (f : Frame) (w : World)
+      → t ≡ w.turns → t < suc m
       → turn_of t (λ x f w. if w.is_limited && nat_lt greatest_depth (w.depth + 1) then out_of_room Depth (w.depth + 1) w
       else started p place function values g g.body f more stack (finish p (suc m)) (frame_of p g)
       (record w { depth = w.depth + 1; trace = entered function ∷ w.trace })) f w
@@ -75,7 +77,8 @@ module _ (p : ProgramData) (m : ℕ) where
       choice (w.is_limited && nat_lt greatest_depth (w.depth + 1)) _ _ _ _ refl (body_step place function values g g.body f more stack (frame_of p g)
       (record w { turns = t; depth = w.depth + 1; trace = entered function ∷ w.trace }) (omega arith))
 
-  function_step : (place : Place) (function : ℕ) (values : List Value) (g : Option FunctionData) (more : Work) (stack : Stack) (f : Frame) (w : World) → w.turns < suc m
+  function_step : (place : Place) (function : ℕ) (values : List Value) (g : Option FunctionData) (more : Work) (stack : Stack) (f : Frame) (w : World)
+      → w.turns < suc m
       → called_as p place function values g more stack (finish p (suc m)) f w ≡ function_of p (called p m) m place function values g (onto p (suc m) more stack) f w
   function_step place function values None more stack f w h = refl
   function_step place function values (Some g) more stack f w h = turned_step w.turns place function values g more stack f w refl h

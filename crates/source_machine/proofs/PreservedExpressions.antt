@@ -51,7 +51,8 @@ module _ (p : ProgramData) (n : ℕ) where
 
   -- the same of a value that is used, where the node may have none and where it may not
   abbrev Used : (t : ℕ) (at : Place) (node : Node ℕ) → Type 0
-  Used t at node = (more : Work) (stack : Stack) (f : Frame) (w : World) → w.turns < n → evaluated p t at node (needing_if (may_lack node) at more) stack (finish p n) f w
+  Used t at node =
+      (more : Work) (stack : Stack) (f : Frame) (w : World) → w.turns < n → evaluated p t at node (needing_if (may_lack node) at more) stack (finish p n) f w
       ≡ Meaning.value_of p (call p n) t at node (λ v. or_no_value at v (λ v. onto p n more stack (Some v))) f w
 
   both_used : (t : ℕ) (at : Place) (x y : Expression ℕ) → Used t at (T.both x y)

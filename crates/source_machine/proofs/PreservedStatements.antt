@@ -142,7 +142,8 @@ module _ (p : ProgramData) (n : ℕ) where
 
   -- what a loop does, one turn of it written out
   abbrev pub one_turn : Loop → Doing Frame Way
-  one_turn l = tests_if_any p (call p n) l.test >>= λ goes. if goes then (Steps.beginning l.context.function l.number >> body_of p n l >>= and_again (again p n l)) else pure normally
+  one_turn l =
+      tests_if_any p (call p n) l.test >>= λ goes. if goes then (Steps.beginning l.context.function l.number >> body_of p n l >>= and_again (again p n l)) else pure normally
 
   tests_step : (l : Loop) (test : Option (Expression ℕ)) (more : Work) (stack : Stack) (f : Frame) (w : World) → Steps.tests p test l more stack (finish p n) f w
       ≡ (tests_if_any p (call p n) test >>= λ goes. if goes then (Steps.beginning l.context.function l.number >> body_of p n l >>= and_again (again p n l)) else pure normally)
@@ -204,7 +205,8 @@ module _ (p : ProgramData) where
     statement_step c k (T.declare x i) more stack f w h = declared_step p n x (slice_get c.locals x) i more stack f w
     statement_step c k (T.when e one) more stack f w h = refl
     statement_step c k (T.when_else e one other) more stack f w h = refl
-    statement_step c k (T.while e body) more stack f w h = looping_step (record { context = c; number = k; test = Some e; step = None; body = body }) more stack f w h
+    statement_step c k (T.while e body) more stack f w h =
+        looping_step (record { context = c; number = k; test = Some e; step = None; body = body }) more stack f w h
     statement_step c k (T.do_while body e) more stack f w h = behind_step (record { context = c; number = k; body = body; test = e }) more stack f w h
     statement_step c k (T.for own start test step body) more stack f w h =
         λ i. begin_all p c.locals own (λ a. execute_all p (call p n) c.function c.locals n k start (λ way g u.
