@@ -189,7 +189,7 @@ module _ (n : Kind → ℕ) (most : ℕ) (w : AreWithin n most) (f : FileScope) 
       let j = (size_declarator d).nodes in
       let k = (size_block_items items).nodes in
       let each : of_function n most f h.5 ≤ most * h.5.nodes =
-          subst (λ m. of_function n most f h.5 ≤ most * m) (sym nodes) (omega (arith, p)) in
+      subst (λ m. of_function n most f h.5 ≤ most * m) (sym nodes) (omega (arith, p)) in
       function_found n most f left h.4 h.20.0 (bound h.3 left defines (a_function h.4 h.5.ty)) h.5 h.13 h.20.1 refl
       (λ m t e. number_of h.4 m h.5.ty t e) each
       (found_in n most f (of_function n most f h.5) (i + j + (k + 1) + 1) (omega (arith, p)) (both a b))

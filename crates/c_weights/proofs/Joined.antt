@@ -94,7 +94,7 @@ module _ (n : Kind → ℕ) where
   all_functions_less t k [] = omega arith
   all_functions_less t k (u ∷ more) =
       let a = total_append (λ (p : Key × FunctionData). weight_of_function n p.1) (functions_of t k u)
-          (flat_map (λ (u : ℕ × UnitData). functions_of t u.0 u.1) (numbered_from (k + 1) more)) in
+      (flat_map (λ (u : ℕ × UnitData). functions_of t u.0 u.1) (numbered_from (k + 1) more)) in
       let b = paired_less (function_identities k 0 u.functions) (map (function_in (renaming t k u)) u.functions) in
       let c = renumbered_functions (renaming t k u) u.functions in
       let d = all_functions_less t (k + 1) more in omega (arith, a, b, c, d)
@@ -111,7 +111,7 @@ module _ (n : Kind → ℕ) where
       let a = functions_total (functions units) in
       let b = records_total (records units) in
       let c = chosen_share (weight_of_function n) is_function_defined (all_functions_in units) []
-          (each_unit (λ k u. function_identities k 0 u.functions) units) in
+      (each_unit (λ k u. function_identities k 0 u.functions) units) in
       let d = records_share (weight_of_record n) (all_records_in units) [] (flat_map complete_in units) in
       let e = all_functions_less (tables units) 0 units in
       let g = all_records_less (all_tags units) units in
@@ -187,7 +187,7 @@ frame_bounded : (units : List UnitData) (g : FunctionData) → IsOfUnit units g
 frame_bounded units g o h =
     let x = h o.number o.unit o.is_unit in
     let l = all_at (λ g. weight_of_function frame g ≤ 64 * g.nodes) o.unit.functions
-        (recursion_from_All (λ g. weight_of_function frame g ≤ 64 * g.nodes) o.unit.functions x.1.frames) o.function o.own o.is_own in
+    (recursion_from_All (λ g. weight_of_function frame g ≤ 64 * g.nodes) o.unit.functions x.1.frames) o.function o.own o.is_own in
     let e = o.weight frame in
     let m = o.nodes in omega (arith, l, e, m)
 

@@ -60,7 +60,7 @@ each_once w x known (y ∷ more) =
         → (if b then w else 0) + matched w x (new_keys (y ∷ known) more) ≤ w
     by_key true e r =
         let k : is_among (y ∷ known) x ≡ true =
-            on_left (bytes_eq x y) (is_among known x) (subst (λ z. bytes_eq x z ≡ true) (sym (same_key y x e)) (self x)) in
+        on_left (bytes_eq x y) (is_among known x) (subst (λ z. bytes_eq x z ≡ true) (sym (same_key y x e)) (self x)) in
         let q = known_once w x (y ∷ known) more k in omega (arith, q)
     by_key false e r = omega (arith, r)
 
@@ -139,7 +139,7 @@ module _ {A : Type 0} (weigh : A → ℕ) where
   chosen_share d ps known xs =
       let a = total_flat weigh (λ i. if_any (chosen d (under i ps))) (new_keys known xs) in
       let b = total_less (λ i. total weigh (if_any (chosen d (under i ps)))) (share ps) (new_keys known xs)
-          (λ i. let c = chosen_less d (under i ps) in let e = under_share i ps in omega (arith, c, e)) in
+      (λ i. let c = chosen_less d (under i ps) in let e = under_share i ps in omega (arith, c, e)) in
       let c = shares_less ps known xs in omega (arith, a, b, c)
 
 -- ---- records under their tags

@@ -1,5 +1,5 @@
 -- Sums of lesser parts.
-use Rattle.std.proofs.Common.{ℕ, ◌+◌, ◌*◌, ◌≤◌, arith}
+use Rattle.std.proofs.Common.{ℕ, ◌+◌, ◌≤◌, arith}
 
 pub less_one : (k : ℕ) {a b : ℕ} → a ≤ b → k + a ≤ k + b
 less_one k h = omega (arith, h)

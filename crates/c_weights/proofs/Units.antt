@@ -118,10 +118,10 @@ module _ (n : Kind → ℕ) (most : ℕ) (w : AreWithin n most) (items : List Tr
             let d = h.functions j g e in
             let x = defining f.names (a_function j g.ty) d.0 d.2 t in
             let at : slice_get (scope_beginnings M) x.0 ≡ Some x.1.from =
-                subst (λ all. slice_get all x.0 ≡ Some x.1.from) h.names (mapped_at (λ (b : Bound). b.from) f.names x.0 x.1 x.2) in
+            subst (λ all. slice_get all x.0 ≡ Some x.1.from) h.names (mapped_at (λ (b : Bound). b.from) f.names x.0 x.1 x.2) in
             let y = known_at r.structures r.functions M r.marked x.0 x.1.from at in
             let too : slice_get (scope_beginnings M) y.0 ≡ Some y.1.from =
-                subst (λ all. slice_get all y.0 ≡ Some y.1.from) h.names (mapped_at (λ (b : Bound). b.from) f.names y.0 y.1 y.2) in
+            subst (λ all. slice_get all y.0 ≡ Some y.1.from) h.names (mapped_at (λ (b : Bound). b.from) f.names y.0 y.1 y.2) in
             let k = one_place (scope_beginnings M) names y.0 x.0 x.1.from (too ∙ ap (λ m. Some m) y.3) at in
             let b = same y.1 x.1 (sym y.2 ∙ ap (slice_get f.names) k ∙ x.2) in
             y.4 j g.ty (ap (λ (b : Bound). b.how) b ∙ x.3) (ap (λ (b : Bound). b.entity) b ∙ x.4)
