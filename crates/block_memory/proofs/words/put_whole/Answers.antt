@@ -1,4 +1,4 @@
-use Rattle.std.proofs.Common.{◌≡◌, ◌+◌, ◌-◌, length, take, vec_len, rules, refl, sym, arith, ap, ◌∙◌}
+use Rattle.std.proofs.Common.{◌≡◌, ◌+◌, ◌-◌, length, vec_len, rules, refl, sym, arith, ap, ◌∙◌}
 use Rattle.std.specs.Prelude.{slice_set, vec_capacity}
 use Rattle.block_memory.specs.Words.{fours_of, whole, word_at}
 use Rattle.block_memory.proofs.Packing.{plain_fours, plain_packed, pool_fours, pool_length, pool_packed, pool_set, pool_take, pop_fours, pop_packed}
