@@ -11,7 +11,7 @@ use Rattle.c_link.specs.Gaps.{first_limit, limits, or_limit, past}
 use Rattle.c_link.specs.declared.gap.Gap.TheVariants as G
 use Rattle.lay_compile.specs.declared.fault.CompileFault.{CompileFault}
 use Rattle.lay_compile.specs.declared.fault.CompileFault.TheVariants as C
-use Rattle.lay_compile.specs.Front.{FrontGives}
+use Rattle.lay_compile.specs.Front.{FrontGives, IsFaultOf}
 use Rattle.refusals.specs.declared.refusal.Refusal.{Refusal}
 use Rattle.refusals.specs.declared.refusal.Refusal.TheVariants as R
 use Rattle.thin_parser.specs.declared.thin_tree.Thin.{Thin}
@@ -32,10 +32,13 @@ not_files p n =
     no_other L.Nodes (past p L.Nodes) _ n (λ e. cc) (no_other L.Fields (past p L.Fields) _ n (λ e. cc)
     (no_other L.Frame (past p L.Frame) _ n (λ e. cc) (no_other L.Globals (past p L.Globals) _ n (λ e. cc) (λ e. cc))))
 
+fault_is : (files : List File) (fault : CompileFault) → FrontGives files (Err fault) → IsFaultOf files fault
+fault_is files fault (found, none) = found
+
 pub no_files_limit : (files : List File) (n : ℕ) → AreRefused files (R.Limit L.Files n) → ⊥
-no_files_limit files n refused =
-    let told : C.Joining (G.Limit (record { which = L.Files; counted = n })) ≡ refused.0 = let some = refused.1 in cc in
-    let gap = subst (λ (fault : CompileFault). FrontGives files (Err fault)) (sym told) refused.2 in
+no_files_limit files n (fault, told, gives) =
+    let same : C.Joining (G.Limit (record { which = L.Files; counted = n })) ≡ fault = let some = told in cc in
+    let gap = subst (λ (f : CompileFault). IsFaultOf files f) (sym same) (fault_is files fault gives) in
     not_files (joined gap.0) n gap.2.2
 
 -- ---- the program of files
