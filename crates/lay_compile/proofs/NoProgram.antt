@@ -45,7 +45,8 @@ unit_at number (f ∷ passed) file later units h =
 unit_there : (Before Passes Fails : Stage) (files : List File) (s : FirstFails Before Passes Fails files) (p : ProgramData) → IsProgramOf files p
     → (u : UnitData) × IsUnitOfFile (length s.passed) s.file u
 unit_there Before Passes Fails files s p h =
-    unit_at 0 s.passed s.file s.later h.units (subst (λ files. AreUnitsOf 0 files h.units) s.files_are h.of_files)
+    let r = unit_at 0 s.passed s.file s.later h.units (subst (λ files. AreUnitsOf 0 files h.units) s.files_are h.of_files) in
+    (r.0, subst (λ n. IsUnitOfFile n s.file r.0) (omega arith) r.1)
 
 module _ (reading : HaveOneReading) (trees : FilesHaveOneTree) (one : UnitsAreOne) where
   -- ---- a file has one unit, and files have one list of units

@@ -155,7 +155,6 @@ fn through_stages(alloc: Global, files: &[File]) -> Result<Typed, CompileFault>
 }
 
 /// The program of files; or, where they have none, the fault of the first file that fails the earliest stage that any file fails.
-#[tactic(auto, using(crate::proofs::NoProgram::gives))]
 pub fn front(alloc: Global, files: &Files) -> Result<Typed, CompileFault>
     requires few { length files.now ≤ 64 }
     requires short { All (λ file. length file.bytes ≤ 4194304) files.now }
