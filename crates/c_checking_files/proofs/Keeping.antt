@@ -1,15 +1,14 @@
 -- What finding keeps of a file, and which tags it finds fit (C99 6.5 to 6.7).
-use Rattle.std.proofs.Common.{◌≡◌, ◌≢◌, ℕ, zero, suc, ◌+◌, ◌≤◌, ◌<◌, Bool, true, false, refl, sym, ap, ◌∙◌, subst, List, [], ◌∷◌, ◌++◌, append-nil}
+use Rattle.std.proofs.Common.{◌≡◌, ◌≢◌, ℕ, ◌+◌, ◌≤◌, ◌<◌, Bool, true, false, refl, sym, ap, ◌∙◌, subst, List, [], ◌∷◌, ◌++◌, append-nil}
 use Rattle.std.proofs.Common.{length, length-append, arith, inl, inr}
 use Rattle.std.proofs.lemmas.Bool.{and_from, lt-ltb, eqb-true}
-use Rattle.std.specs.Prelude.{◌^◌, ◌%◌, ◌==◌, ◌⊎◌, Option, Some, None, Ok, nat_lt, slice_get}
+use Rattle.std.specs.Prelude.{◌^◌, ◌%◌, ◌==◌, Option, Some, None, Ok, nat_lt}
 use Rattle.lay_base.specs.declared.place.Place.{Place}
 use Rattle.c_types.specs.declared.ty.IntKind.{IntKind}
 use Rattle.c_types.specs.declared.ty.IntKind.TheVariants.{Char}
 use Rattle.c_types.specs.Objects.{is_object}
 use Rattle.c_types.specs.Types.{CType, CTypes, integer, array, no_types, and_type, Field, Record}
 use Rattle.c_ast.specs.declared.words.Spelling.{Spelling}
-use Rattle.c_ast.specs.declared.operators.UnaryOp.{UnaryOp}
 use Rattle.c_ast.specs.declared.operators.UnaryOp.TheVariants as U
 use Rattle.c_ast.specs.Trees
 use Rattle.c_ast.specs.WellFormed.{IsExpression, AreArguments, IsTypeName, AreSpecifiers, AreMoreSpecifiers, IsSpecifier}
@@ -17,7 +16,6 @@ use Rattle.c_ast.specs.WellFormed.{AreMemberDeclarations, AreMemberDeclarators, 
 use Rattle.c_lexer.specs.QuotedScan.{string_bytes}
 use Rattle.c_typed.specs.declared.program.MentionKind.{MentionKind}
 use Rattle.c_ast.specs.Places.{first, first_specifiers, first_declarator}
-use Rattle.c_typed.specs.declared.operators.BinaryOp.{BinaryOp}
 use Rattle.c_typed.specs.declared.program.MentionKind.TheVariants.{Named, Sizeof}
 use Rattle.c_typed.specs.Trees as Typed
 use Rattle.c_erasure.specs.Broken.{member_names, tag_place}
@@ -25,7 +23,7 @@ use Rattle.c_erasure.specs.Declarators.{declared_name, parameter_type}
 use Rattle.c_erasure.specs.Erasure.{place_in, tag_text, after_all, literal_of, with_parameter_if_named}
 use Rattle.c_erasure.specs.Literals.{literals, literals_of_all}
 use Rattle.c_erasure.specs.Marks as Marks
-use Rattle.c_erasure.specs.Marks.{Mark, a_tag, an_end, a_name, marks, marks_of_all, marks_if_any, marks_of_type, marks_of_specifiers}
+use Rattle.c_erasure.specs.Marks.{Mark, marks, marks_of_all, marks_of_type, marks_of_specifiers}
 use Rattle.c_erasure.specs.Marks.{marks_of_specifier, marks_of_members}
 use Rattle.c_erasure.specs.Marks.{marks_of_member_declarators, marks_of_enumerators, marks_of_value, marks_of_declarator, an_enumeration}
 use Rattle.c_erasure.specs.MentionPlaces.{spoken, spoken_of_all, spoken_of_type, spoken_of_specifiers, spoken_of_specifier, spoken_of_members}
@@ -34,28 +32,26 @@ use Rattle.c_erasure.specs.Noted.{Noted, Expression, Path, Thing}
 use Rattle.c_erasure.specs.Operators.{update_of}
 use Rattle.c_erasure.specs.Scopes.{Tag, tag_at, FileScope, Scope, Purpose, in_full, value_alone, type_alone, inside, measured, for_value}
 use Rattle.c_erasure.specs.Specifiers.{types_among, storage_of}
-use Rattle.c_checking.specs.Answers.{◌>>=◌, Checked, moved, with_file}
+use Rattle.c_checking.specs.Answers.{Checked, moved}
 use Rattle.c_checking.specs.Nodes.{worth, array_of, signature_in, argument_in}
-use Rattle.c_checking.specs.Nodes.{measured_in, sized_type, Target, scalar_at, record_at, target_in}
+use Rattle.c_checking.specs.Nodes.{measured_in, sized_type, target_in}
 use Rattle.c_checking.specs.Declaring.{tag_named, tagged, tagged_in, known_tag, definable, only_tag, enumeration_of}
-use Rattle.c_checking.specs.Nodes.{is_complete}
 use Rattle.c_checking.specs.Declaring.{with_mention, mentions_in, literal_for, literal_in, completed_in, enumerator_in}
 use Rattle.c_checking.specs.Declaring.{Derivation, derived, length_value, object_at, base_kind, without_storage, parameter_storage, scalar_parameter}
-use Rattle.c_checking.specs.Finding.{complete, value_at, tested_at, constant_at, on_value, unary_on, subscripted, assigned, base_type}
+use Rattle.c_checking.specs.Finding.{complete, value_at, tested_at, constant_at, subscripted, base_type}
 use Rattle.c_checking.specs.Finding.{type_of_derived, with_member}
 use Rattle.c_checking.specs.Finding.{find, arguments, type_name, one_of, specified, members, member_declarators, enumerators, enumerator_value}
 use Rattle.c_checking.specs.Finding.{derivations, array_step}
 use Rattle.c_checking.specs.Finding.{parameter_list, parameters}
-use Rattle.c_checking_laws.proofs.Results.{bound_ok, bound_with, chosen, given, only_if, with_file_ok}
-use Rattle.c_checking_laws.proofs.Extends.{one_of_both}
-use Rattle.c_checking_laws.proofs.NodesOfParts.{complete_is}
-use Rattle.c_checking_laws.proofs.Declared.{no_storage_is, parameter_storage_is, unless_ok}
+use Rattle.c_checking_laws.proofs.Results.{bound_ok, bound_with, chosen, given, with_file_ok}
+use Rattle.c_checking_laws.proofs.Declared.{no_storage_is, parameter_storage_is, unless_ok, completed_is}
+use Rattle.c_checking_laws.proofs.Settled.{object_more, object_whole, AreWhole, more_whole, first_whole, both_whole}
 use Rattle.c_checking_laws.proofs.Derived.{IsBaseOf, base_is, words_mark_nothing}
 use Rattle.c_checking_laws.proofs.FoundTypes.{bound_of}
-use Rattle.c_checking_laws.proofs.FoundDeclarators.{new_bound, parameter_inside}
+use Rattle.c_checking_laws.proofs.FilesOfNodes.{file_of_unary, file_of_assigned}
+use Rattle.c_checking_laws.proofs.FoundDeclarators.{new_bound, parameter_inside, parameter_untagged}
 use Rattle.c_checking_laws.proofs.Adding.{file_beside, file_of, file_of_value, file_of_tested, file_of_constant}
-use Rattle.c_checking_files.proofs.Layouts.{object_more}
-use Rattle.c_checking_files.proofs.Kept.{AreWhole, IsTagFit, completed_adds, enumerator_adds, Keeps, keeps_nothing, keeps_then, keeps_inside, keeps_mention}
+use Rattle.c_checking_files.proofs.Kept.{IsTagFit, enumerator_adds, Keeps, keeps_nothing, keeps_then, keeps_inside, keeps_mention}
 use Rattle.c_checking_files.proofs.Kept.{keeps_object, keeps_record, keeps_name, keeps_tag}
 
 abbrev Stays : Scope → List Mark → (types made : List ℕ) → FileScope → Type 0
@@ -123,45 +119,11 @@ index_grows s v y l count from left at x number u j k p later None z h =
     let i = bound_ok (number x.1) _ z w.2 in
     file_beside (Stays s (u ++ v) (j ++ y) (k ++ l)) i.0.1 _ z i.2 (keeps_then p (later i.0 i.1))
 
-operator_grows : (P : FileScope → Type 0) (s : Scope) (op : UnaryOp) (count from at : ℕ) (r : Checked Thing) → ((x : Thing × FileScope) → r ≡ Ok x → P x.1)
-    → (z : Thing × FileScope) → (value_at from r >>= λ x. with_file x.1 (on_value op count at s x.0)) ≡ Ok z → P z.1
-operator_grows P s op count from at r p z h =
-    let x = bound_ok (value_at from r) _ z h in
-    file_beside P x.0.1 _ z x.2 (file_of_value P from r x.0 x.1 p)
-
-unary_grows : (P : FileScope → Type 0) (s : Scope) (op : UnaryOp) (count from at : ℕ) (r : Checked Thing) → ((x : Thing × FileScope) → r ≡ Ok x → P x.1)
-    → (z : Thing × FileScope) → unary_on op count from at s r ≡ Ok z → P z.1
-unary_grows P s U.Address count from at r p z h = let x = bound_ok r _ z h in file_beside P x.0.1 _ z x.2 (p x.0 x.1)
-unary_grows P s U.Deref count from at r p z h = operator_grows P s U.Deref count from at r p z h
-unary_grows P s U.Plus count from at r p z h = operator_grows P s U.Plus count from at r p z h
-unary_grows P s U.Minus count from at r p z h = operator_grows P s U.Minus count from at r p z h
-unary_grows P s U.Complement count from at r p z h = operator_grows P s U.Complement count from at r p z h
-unary_grows P s U.Not count from at r p z h = operator_grows P s U.Not count from at r p z h
-
-assigned_grows : (P : FileScope → Type 0) (count op_at from : ℕ) (at : Place) (t : Target) (f : FileScope) (right : FileScope → Checked Thing)
-    → ((x : Thing × FileScope) → right f ≡ Ok x → P x.1) → (o : Option BinaryOp) (z : Thing × FileScope)
-    → assigned count op_at from at t f right o ≡ Ok z → P z.1
-assigned_grows P count op_at from at t f right p (Some op) z h =
-    let x = bound_ok (value_at from (right f)) _ z h in
-    file_beside P x.0.1 _ z x.2 (file_of_value P from (right f) x.0 x.1 p)
-assigned_grows P count op_at from at (scalar_at to) f right p None z h =
-    let x = bound_ok (value_at from (right f)) _ z h in
-    file_beside P x.0.1 _ z x.2 (file_of_value P from (right f) x.0 x.1 p)
-assigned_grows P count op_at from at (record_at to) f right p None z h =
-    let x = bound_ok (right f) _ z h in
-    file_beside P x.0.1 _ z x.2 (p x.0 x.1)
-
--- ---- specifiers
-
 -- ---- members and parameters
 
 mention_longer : (s : Scope) (n : ℕ) (kind : MentionKind) (t : CType) (at : ℕ) (f : FileScope)
     → length f.records ≤ length (with_mention s n kind t at f).records
 mention_longer s n kind t at f = (keeps_mention s n kind t at (keeps_nothing f true)).longer
-
-parameter_untagged : (s : Scope) (x : Option Spelling) (t : CType) → (with_parameter_if_named s x t).file.untagged ≡ s.file.untagged
-parameter_untagged s None t = refl
-parameter_untagged s (Some x) t = refl
 
 parameter_grows : (s : Scope) (x : Option Spelling) (t : CType) (y : List ℕ) (f : FileScope) → Stays (with_parameter_if_named s x t) [] y [] f
     → Stays s [] y [] f
@@ -214,16 +176,6 @@ defined_fit untagged s at (Some x) e h = record { enumeration = λ i. cc; struct
 
 -- ---- members
 
-mapped_whole : (n m : ℕ) → n ≤ m → (fields : List Field) → AreWhole n fields → AreWhole m fields
-mapped_whole n m l fields h j x e = object_more n m l x.ty (h j x e)
-
-fields_then : (n : ℕ) (own rest : List Field) → AreWhole n own → AreWhole n rest → AreWhole n (own ++ rest)
-fields_then n own rest p q j x e = by_part (one_of_both own rest j x e)
-  where
-    by_part : (slice_get own j ≡ Some x) ⊎ ((k : ℕ) × (j ≡ length own + k) × (slice_get rest k ≡ Some x)) → is_object n x.ty ≡ true
-    by_part (inl g) = p j x g
-    by_part (inr g) = q g.0 x g.2
-
 -- a field before others
 record IsMemberBefore (at : Place) (t : CType) (r : Checked (List Field)) (z : List Field × FileScope) : Type 0 where
   pub name : List ℕ
@@ -239,10 +191,6 @@ member_before at t (Some x) r z h =
     let y = bound_ok r _ z h in
     given (IsMemberBefore at t r) (record { name = x.text; ty = t; place = at } ∷ y.0.0, y.0.1) z y.2
     (record { name = x.text; later = y.0; later_is = y.1; fields = refl; file = refl })
-
-first_whole : (n : ℕ) (f : Field) (more : List Field) → is_object n f.ty ≡ true → AreWhole n more → AreWhole n (f ∷ more)
-first_whole n f more is h zero x e = let same : f ≡ x = cc in subst (λ (x : Field). is_object n x.ty ≡ true) same is
-first_whole n f more is h (suc j) x e = h j x e
 
 not_empty : {X : Type 0} (x : X) (xs all : List X) → all ≡ x ∷ xs → all ≢ []
 not_empty x xs all e h = let f : [] ≡ x ∷ xs = sym h ∙ e in cc
@@ -275,12 +223,6 @@ members_filled types (Trees.and_member_declaration specs ds semicolon more) s n 
     given (λ (z : List Field × FileScope). z.0 ≢ []) (own.0.0 ++ rest.0.0, rest.0.1) z rest.2
     (longer_filled own.0.0 rest.0.0 (declarators_filled ds b.0.0 semicolon (moved s b.0.1) g.1 own.0 own.1))
 
-object_whole : (records : List Record) (count at : ℕ) (t u : CType) → object_at records count at t ≡ Ok u → is_object (length records) u ≡ true
-unfolding object_at
-object_whole records count at t u h =
-    let c = only_if (is_complete records count t) _ _ _ u h in
-    given (λ u. is_object (length records) u ≡ true) t u c.1 (complete_is records count t c.0).1
-
 module _ (untagged : ℕ → List ℕ) (types : List (List ℕ)) where
   abbrev StaysBySpecifiers : Scope → Trees.Specifiers → FileScope → Type 0
   StaysBySpecifiers s specs f = Stays s (marks_of_specifiers untagged specs) (spoken_of_specifiers specs) [] f
@@ -312,14 +254,14 @@ module _ (untagged : ℕ → List ℕ) (types : List (List ℕ)) where
       → Stays s (marks_of_specifier untagged (Trees.struct_body at x from all to)) (spoken_of_members all) [] z.1
   struct_kept s at x from all to e d m p whole filled z h =
       let rec : Record = record { tag = tag_text s at x; place = place_in s at; fields = m.0 } in
-      let c = completed_adds m.1 (tag_place at x) (member_names all) rec z h in
+      let c = completed_is m.1 (tag_place at x) (member_names all) rec z h in
       keeps_tag (record {
         name = Marks.tag_name untagged at x;
         place = Marks.tag_place untagged at x;
         from = Marks.tag_place untagged at x;
         is_enumeration = false;
       }) (λ i. defined_fit untagged s at x e d)
-      (keeps_then p (keeps_record m.1 rec z.1 (Marks.tag_name untagged at x) to s.is_inside c whole filled))
+      (keeps_then p (keeps_record m.1 (member_names all) rec z (Marks.tag_name untagged at x) to s.is_inside c whole filled))
 
   enumeration_kept : (s : Scope) (x : Option Spelling) (to : ℕ) (f : FileScope) (u : List Mark) → Keeps s.file s.is_inside u f → (t : CType)
       → enumeration_of f x ≡ Ok t → Keeps s.file s.is_inside (u ++ an_enumeration untagged x to) f
@@ -369,7 +311,7 @@ module _ (untagged : ℕ → List ℕ) (types : List (List ℕ)) where
         let p = bound_ok (find a s) _ z h in
         file_beside (Stays s (marks untagged a) (spoken a) (literals a)) p.0.1 _ z p.2 (keep a s e (λ i. (g i).1) p.0 p.1)
     keep (Trees.unary op at a) s e g z h =
-        unary_grows (Stays s (marks untagged a) (spoken a) (literals a)) s op (complete s at) (first a) at (find a s) (λ x k. keep a s e (λ i. (g i).1) x k) z h
+        file_of_unary (Stays s (marks untagged a) (spoken a) (literals a)) s op (complete s at) (first a) at (find a s) (λ x k. keep a s e (λ i. (g i).1) x k) z h
     keep (Trees.sizeof_expression at a) s e g z h =
         let x = bound_ok (find a (measured s)) _ z h in
         let v = keep a (measured s) e (λ i. (g i).1) x.0 x.1 in
@@ -410,7 +352,7 @@ module _ (untagged : ℕ → List ℕ) (types : List (List ℕ)) where
         let p = bound_ok (find a s) _ z h in
         let v = keep a s e (λ i. (g i).2) p.0 p.1 in
         let t = bound_with p.0.1 (target_in (first a) p.0.0) _ z p.2 in
-        assigned_grows (Stays s (marks untagged a ++ marks untagged b) (spoken a ++ spoken b) (literals a ++ literals b))
+        file_of_assigned (Stays s (marks untagged a ++ marks untagged b) (spoken a ++ spoken b) (literals a ++ literals b))
         (complete s (first a)) at (first b) (place_in s (first a)) t.0 p.0.1 (λ f. find b (moved s f))
         (λ y k. keeps_then v (keep b (moved s p.0.1) (v.untagged ∙ e) (λ i. (g i).3) y k)) (update_of op) z t.2
     keep (Trees.comma a at b) s e g z h =
@@ -508,8 +450,8 @@ module _ (untagged : ℕ → List ℕ) (types : List (List ℕ)) where
         Keeps s.file s.is_inside (marks_of_members untagged (Trees.and_member_declaration specs ds semicolon more)) z.1 × AreWhole (length z.1.records) z.0)
         (own.0.0 ++ rest.0.0, rest.0.1) z rest.2 (
           keeps_then (keeps_then v w.0) t.0,
-          fields_then (length rest.0.1.records) own.0.0 rest.0.0
-              (mapped_whole (length own.0.1.records) (length rest.0.1.records) t.0.longer own.0.0 w.1) t.1,
+          both_whole (length rest.0.1.records) own.0.0 rest.0.0
+              (more_whole (length own.0.1.records) (length rest.0.1.records) t.0.longer own.0.0 w.1) t.1,
         )
 
     keep_declarators : (all : Trees.MemberDeclarators) (lead : Bool) (base : CType) (semicolon : ℕ) (s : Scope) → s.file.untagged ≡ untagged

@@ -1,105 +1,21 @@
--- What a part of the text keeps of a file: records are numbered by their tags, complete and small, objects are complete, and names differ.
+-- What a part of the text keeps of a file: records are settled (`Settled` of `c_checking_laws`), objects are complete, and names differ.
 use Rattle.std.proofs.Common.{◌≡◌, ◌≢◌, ℕ, zero, suc, ◌+◌, ◌≤◌, Bool, true, false, refl, sym, ap, ◌∙◌, subst, cond, List, [], ◌∷◌}
 use Rattle.std.proofs.Common.{◌++◌, length, take, drop, append-nil, append_assoc, length-append, arith, inl, inr}
-use Rattle.std.proofs.lemmas.Bool.{leb-true, eqb-true}
-use Rattle.std.proofs.lemmas.List.Elements.{All-cons, All-nil}
-use Rattle.std.proofs.lemmas.Option.{slice_get_within}
-use Rattle.std.specs.Prelude.{All, map, Option, Some, None, Ok, slice_get, nat_le, ◌⊎◌}
-use Rattle.c_types.specs.Layouts.{size_of, size_of_record}
-use Rattle.c_types.specs.Limits.{AreComplete}
+use Rattle.std.specs.Prelude.{Some, slice_get, ◌⊎◌}
 use Rattle.c_types.specs.Objects.{is_object}
-use Rattle.c_types.specs.Types.{CType, structure, Field, Record}
-use Rattle.c_types.proofs.Growing.{layouts_stay, has_its_size}
+use Rattle.c_types.specs.Types.{CType, structure, Record}
 use Rattle.c_ast.specs.declared.words.Spelling.{Spelling}
 use Rattle.c_typed.specs.declared.program.MentionKind.{MentionKind}
 use Rattle.c_erasure.specs.Erasure.{literal_of, literal_object}
 use Rattle.c_erasure.specs.Files.{AreConsistent}
 use Rattle.c_erasure.specs.Marks.{Mark, a_tag, an_end, a_name, tags_in}
 use Rattle.c_erasure.specs.Scopes.{Bound, Tag, AnObject, AMention, FileScope, Scope, is_measured, tag_at}
-use Rattle.c_checking.specs.Declaring.{with_mention, with_object, with_record, number_among, is_next, repeated, completed_in}
+use Rattle.c_checking.specs.Declaring.{with_mention, with_object}
 use Rattle.c_checking.specs.Declaring.{tag_named}
-use Rattle.c_checking_laws.proofs.Results.{given, chosen}
 use Rattle.c_checking_laws.proofs.Extends.{last_or, one_of_both}
-use Rattle.c_checking_laws.proofs.Declared.{unless_ok}
+use Rattle.c_checking_laws.proofs.Declared.{IsCompleted}
+use Rattle.c_checking_laws.proofs.Settled.{object_more, AreWhole, AreSettled, one_more_settled}
 pub use Rattle.c_checking_laws.proofs.Consistent.{one_more_consistent, undeclared, IsNamed, enumerator_adds, IsAnEnumerator}
-use Rattle.c_checking_files.proofs.Layouts.{object_more}
-
--- ---- records
-
--- fields of complete types, where so many records are complete
-abbrev pub AreWhole : (count : ℕ) → List Field → Type 0
-AreWhole count fields = (j : ℕ) (x : Field) → slice_get fields j ≡ Some x → is_object count x.ty ≡ true
-
-pub record AreSettled (numbered : List (List ℕ)) (records : List Record) : Type 0 where
-  pub first : (k : ℕ) (r : Record) → slice_get records k ≡ Some r → number_among numbered r.tag ≡ Some k
-  pub whole : (k : ℕ) (r : Record) → slice_get records k ≡ Some r → AreWhole k r.fields
-  pub filled : (k : ℕ) (r : Record) → slice_get records k ≡ Some r → r.fields ≢ []
-  pub small : (k : ℕ) (r : Record) → slice_get records k ≡ Some r → size_of records (structure k) ≤ 16777216
-
-all_fields : (count : ℕ) (fields : List Field) → AreWhole count fields → All (λ t. is_object count t ≡ true) (map (λ f. f.ty) fields)
-all_fields count [] h = All-nil (λ t. is_object count t ≡ true)
-all_fields count (f ∷ more) h =
-    All-cons (λ t. is_object count t ≡ true) f.ty (map (λ f. f.ty) more) (h 0 f refl) (all_fields count more (λ j x e. h (suc j) x e))
-
-pub are_complete : {numbered : List (List ℕ)} {records : List Record} → AreSettled numbered records → AreComplete records
-are_complete s k r e = all_fields k r.fields (s.whole k r e)
-
-next_number : (n : ℕ) (o : Option ℕ) → is_next n o ≡ true → o ≡ Some n
-next_number n None h = cc
-next_number n (Some r) h = ap Some (eqb-true r n h)
-
--- a definition that is completed
-pub record IsAdded (f : FileScope) (r : Record) (g : FileScope) : Type 0 where
-  pub file_is : g ≡ with_record f r
-  pub number : number_among f.numbered r.tag ≡ Some (length f.records)
-  pub small : size_of_record f.records r ≤ 16777216
-
-pub completed_adds : (f : FileScope) (named : ℕ) (names : List Spelling) (r : Record) (z : CType × FileScope) → completed_in f named names r ≡ Ok z
-    → IsAdded f r z.1
-unfolding completed_in
-completed_adds f named names r z h =
-    let u = unless_ok (repeated [] names) _ z h in
-    chosen (is_next (length f.records) (number_among f.numbered r.tag)) _ _ z (IsAdded f r z.1) u.1
-    (λ b h. chosen (nat_le (size_of_record f.records r) 16777216) _ _ z (IsAdded f r z.1) h
-    (λ c h. given (λ (z : CType × FileScope). IsAdded f r z.1) (structure (length f.records), with_record f r) z h (record {
-      file_is = refl;
-      number = next_number (length f.records) (number_among f.numbered r.tag) b;
-      small = leb-true (size_of_record f.records r) 16777216 c;
-    }))
-    (λ c h. cc))
-    (λ b h. cc)
-
-pub one_more_settled : (numbered : List (List ℕ)) (records : List Record) (r : Record) → number_among numbered r.tag ≡ Some (length records)
-    → size_of_record records r ≤ 16777216 → AreWhole (length records) r.fields → r.fields ≢ [] → AreSettled numbered records
-    → AreSettled numbered (records ++ r ∷ [])
-one_more_settled numbered records r n small whole filled s = record {
-  first = λ k q e. first_of k q (last_or records r k q e);
-  whole = λ k q e. whole_of k q (last_or records r k q e);
-  filled = λ k q e. filled_of k q (last_or records r k q e);
-  small = λ k q e. small_of k q (last_or records r k q e);
-}
-  where
-    first_of : (k : ℕ) (q : Record) → (slice_get records k ≡ Some q) ⊎ ((k ≡ length records) × (r ≡ q)) → number_among numbered q.tag ≡ Some k
-    first_of k q (inl e) = s.first k q e
-    first_of k q (inr e) = subst (λ (q : Record). number_among numbered q.tag ≡ Some k) e.1 (n ∙ ap Some (sym e.0))
-
-    whole_of : (k : ℕ) (q : Record) → (slice_get records k ≡ Some q) ⊎ ((k ≡ length records) × (r ≡ q)) → AreWhole k q.fields
-    whole_of k q (inl e) = s.whole k q e
-    whole_of k q (inr e) = subst (λ (q : Record). AreWhole k q.fields) e.1 (subst (λ k. AreWhole k r.fields) (sym e.0) whole)
-
-    filled_of : (k : ℕ) (q : Record) → (slice_get records k ≡ Some q) ⊎ ((k ≡ length records) × (r ≡ q)) → q.fields ≢ []
-    filled_of k q (inl e) = s.filled k q e
-    filled_of k q (inr e) = subst (λ (q : Record). q.fields ≢ []) e.1 filled
-
-    below : (k : ℕ) (q : Record) → slice_get records k ≡ Some q → is_object (length records) (structure k) ≡ true
-    below k q e = Rattle.std.proofs.lemmas.Bool.lt-ltb k (length records) (slice_get_within records k q e)
-
-    small_of : (k : ℕ) (q : Record) → (slice_get records k ≡ Some q) ⊎ ((k ≡ length records) × (r ≡ q))
-        → size_of (records ++ r ∷ []) (structure k) ≤ 16777216
-    small_of k q (inl e) =
-        subst (λ n. n ≤ 16777216) (sym ((layouts_stay records (r ∷ [])).sizes (structure k) (below k q e))) (s.small k q e)
-    small_of k q (inr e) =
-        subst (λ k. size_of (records ++ r ∷ []) (structure k) ≤ 16777216) (sym e.0) (subst (λ n. n ≤ 16777216) (sym (has_its_size records r)) small)
 
 -- ---- objects, and tags
 
@@ -270,9 +186,9 @@ keeps_object f at all i is =
       objects = (o ∷ [], refl, one_only (IsALiteral f.file) o (at, all, refl));
     }
 
-pub keeps_record : (f : FileScope) (r : Record) (g : FileScope) (tag : List ℕ) (right : ℕ) (i : Bool) → IsAdded f r g
-    → AreWhole (length f.records) r.fields → r.fields ≢ [] → Keeps f i (an_end tag right ∷ []) g
-keeps_record f r g tag right i a whole filled =
+pub keeps_record : (f : FileScope) (names : List Spelling) (r : Record) (z : CType × FileScope) (tag : List ℕ) (right : ℕ) (i : Bool)
+    → IsCompleted f names r z → AreWhole (length f.records) r.fields → r.fields ≢ [] → Keeps f i (an_end tag right ∷ []) z.1
+keeps_record f names r z tag right i a whole filled =
     let n = keeps_nothing f i in
     subst (Keeps f i (an_end tag right ∷ [])) (sym a.file_is) (record {
       file = refl;

@@ -1,11 +1,11 @@
 -- Where parts of objects lie, over a list of records that grows (C99 6.7.2.1).
 use Rattle.std.proofs.Common.{◌≡◌, ℕ, zero, suc, ◌+◌, ◌≤◌, ◌<◌, true, refl, sym, ap, ◌∙◌, subst, List, [], ◌∷◌, length}
-use Rattle.std.proofs.Common.{length-append, arith}
-use Rattle.std.proofs.lemmas.Bool.{and_from, and_parts, lt-ltb, ltb-true}
+use Rattle.std.proofs.Common.{arith}
+use Rattle.std.proofs.lemmas.Bool.{ltb-true}
 use Rattle.std.proofs.lemmas.Option.{slice_get_within, get_or_from_slice_get}
-use Rattle.std.specs.Prelude.{map, Option, Some, None, slice_get, nat_lt, IsSomeAnd}
+use Rattle.std.specs.Prelude.{map, Option, Some, None, slice_get, IsSomeAnd}
 use Rattle.std.specs.Option.{option_map}
-use Rattle.c_types.specs.Types.{CType, void, integer, pointer, array, function, structure, Field, Record, field_types}
+use Rattle.c_types.specs.Types.{CType, structure, Field, Record, field_types}
 use Rattle.c_types.specs.Layouts.{size_of, offset_of}
 use Rattle.c_types.specs.Limits.{AreComplete}
 use Rattle.c_types.specs.Objects.{is_object}
@@ -14,7 +14,8 @@ use Rattle.c_types.proofs.Growing.{layouts_stay}
 use Rattle.c_types.proofs.Apart.{fields_lie_apart}
 use Rattle.c_typed.specs.Typed.{type_in, field_type}
 use Rattle.c_erasure.specs.Scopes.{FileScope}
-use Rattle.c_checking_laws.proofs.Extends.{Extends, record_stays}
+use Rattle.c_checking_laws.proofs.Extends.{Extends, records_grow, record_stays}
+use Rattle.c_checking_laws.proofs.Settled.{object_more}
 
 -- what holds of the records of a whole file: their fields are complete, and no object is empty
 pub record IsLaid (g : FileScope) : Type 0 where
@@ -22,19 +23,6 @@ pub record IsLaid (g : FileScope) : Type 0 where
   pub not_empty : (t : CType) → is_object (length g.records) t ≡ true → 0 < size_of g.records t
 
 -- ---- what is complete stays so, and lies where it did
-
-pub object_more : (n m : ℕ) → n ≤ m → (t : CType) → is_object n t ≡ true → is_object m t ≡ true
-object_more n m h void e = cc
-object_more n m h (integer kind) e = refl
-object_more n m h (pointer t) e = refl
-object_more n m h (array t k) e =
-    let parts = and_parts (nat_lt 0 k) (is_object n t) e in
-    and_from (nat_lt 0 k) (is_object m t) parts.0 (object_more n m h t parts.1)
-object_more n m h (function t all) e = cc
-object_more n m h (structure r) e = lt-ltb r m (omega (arith, h, ltb-true r n e))
-
-pub records_grow : {f g : FileScope} → Extends f g → length f.records ≤ length g.records
-records_grow {f} {g} p = omega (arith, ap length p.records.1, length-append f.records p.records.0)
 
 pub object_stays : {f g : FileScope} → Extends f g → (t : CType) → is_object (length f.records) t ≡ true → is_object (length g.records) t ≡ true
 object_stays {f} {g} p t h = object_more (length f.records) (length g.records) (records_grow p) t h

@@ -43,13 +43,14 @@ use Rattle.c_erasure.specs.Noted.{Noted, nothing, size_of as sized, Expression, 
 use Rattle.c_erasure.specs.Noted.{type_of_path, value_of, object_value, unconverted, value, way, Node}
 use Rattle.c_erasure.specs.Operators.{Kind, computes, compares, all_of, any_of, kind_of}
 use Rattle.c_erasure.specs.Scopes as Scopes
-use Rattle.c_erasure.specs.Scopes.{FileScope, Scope, ALocal, AnObject, Entity, Purpose, in_full, value_alone, type_alone, declared, ended}
+use Rattle.c_erasure.specs.Scopes.{FileScope, Scope, ALocal, Entity, Purpose, in_full, value_alone, type_alone, declared, ended}
 use Rattle.c_checking.specs.Answers.{moved}
 use Rattle.c_checking_laws.proofs.Extends.{Extends}
 use Rattle.c_checking_laws.proofs.Values.{path_type_same}
 use Rattle.c_checking_files.proofs.InTime.{IsInTime}
 use Rattle.c_checking_files.proofs.Kept.{AreObjectsWhole}
-use Rattle.c_checking_files.proofs.Layouts.{size_stays, offset_stays, object_more, record_in, field_object}
+use Rattle.c_checking_laws.proofs.Settled.{object_more}
+use Rattle.c_checking_files.proofs.Layouts.{size_stays, offset_stays, record_in, field_object}
 use Rattle.c_checking_files.proofs.Longer.{seen}
 
 less_so : (n m : ℕ) → n ≤ m → nat_le n m ≡ true

@@ -2,8 +2,7 @@
 use Rattle.std.proofs.Common.{◌≡◌, ◌≢◌, ℕ, ◌+◌, ◌≤◌, ◌<◌, true, false, refl, sym, ap, ◌∙◌, subst, cond, List, [], ◌∷◌, ◌++◌, length}
 use Rattle.std.proofs.Common.{append-nil, arith, inl, inr}
 use Rattle.std.specs.Prelude.{◌⊎◌, map, Option, Some, None, Ok, slice_get, is_none}
-use Rattle.c_types.specs.Objects.{is_object}
-use Rattle.c_types.specs.Types.{CType, Record}
+use Rattle.c_types.specs.Types.{CType}
 use Rattle.c_ast.specs.declared.words.Spelling.{Spelling}
 use Rattle.c_ast.specs.Trees
 use Rattle.c_ast.specs.Places.{first_declarator}
@@ -25,7 +24,6 @@ use Rattle.c_checking.specs.Answers.{Answer, ◌>>=◌}
 use Rattle.c_checking.specs.Declaring.{declared_among, with_mention, mentions_in, Derivation, derived, object_at}
 use Rattle.c_checking.specs.Files.{library_named, declare_typedef, declare_function, declare_object, without_value, declare_as, declarator_named}
 use Rattle.c_checking.specs.Finding.{complete, derivations}
-use Rattle.c_checking.specs.Nodes.{is_complete}
 use Rattle.c_checking.specs.Statements.{sized_in}
 use Rattle.c_checking_laws.proofs.Adding.{Adds, mention_before}
 use Rattle.c_checking_laws.proofs.Agreement as Agreement
@@ -34,9 +32,9 @@ use Rattle.c_checking_laws.proofs.Declared.{mentioned}
 use Rattle.c_checking_laws.proofs.Extends.{Extends, further}
 use Rattle.c_checking_laws.proofs.Growth.{grow_steps}
 use Rattle.c_checking_laws.proofs.InRange.{IsDeclaratorInRange}
-use Rattle.c_checking_laws.proofs.NodesOfParts.{complete_is}
-use Rattle.c_checking_laws.proofs.Results.{bound_ok, given, only_if, chosen}
+use Rattle.c_checking_laws.proofs.Results.{bound_ok, chosen}
 use Rattle.c_checking_laws.proofs.Sound.{sound_steps}
+use Rattle.c_checking_laws.proofs.Settled.{object_whole}
 use Rattle.c_checking_files.proofs.FileDeclarators.{typedef_found, function_found}
 use Rattle.c_checking_files.proofs.FileObjectDeclarators.{object_found}
 use Rattle.c_checking_files.proofs.FileScopes.{Continues, MayDeclare}
@@ -58,12 +56,6 @@ no_value at (Some value) r z h = cc
 no_firsts : (more : List AnObject) → map (λ o. o.first) more ≡ [] → more ≡ []
 no_firsts [] e = refl
 no_firsts (o ∷ more) e = cc
-
-object_whole : (records : List Record) (count at : ℕ) (t u : CType) → object_at records count at t ≡ Ok u → is_object (length records) u ≡ true
-unfolding object_at
-object_whole records count at t u h =
-    let c = only_if (is_complete records count t) _ _ _ u h in
-    given (λ u. is_object (length records) u ≡ true) t u c.1 (complete_is records count t c.0).1
 
 -- ---- storage classes that may stand there
 

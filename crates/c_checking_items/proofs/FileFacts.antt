@@ -12,8 +12,8 @@ use Rattle.c_typed.specs.Typed.{field_type}
 use Rattle.c_erasure.specs.Declarators.{AreDifferent}
 use Rattle.c_erasure.specs.Scopes.{FileScope}
 use Rattle.c_checking.specs.Declaring.{number_among}
-use Rattle.c_checking_files.proofs.Kept.{AreSettled, are_complete}
-use Rattle.c_checking_files.proofs.Layouts.{IsLaid, object_more, fields_are, field_within, record_in}
+use Rattle.c_checking_laws.proofs.Settled.{AreSettled, are_complete, object_more}
+use Rattle.c_checking_files.proofs.Layouts.{IsLaid, fields_are, field_within, record_in}
 
 module _ (numbered : List (List ℕ)) (records : List Record) (s : AreSettled numbered records) where
   -- a record is as large as its first field

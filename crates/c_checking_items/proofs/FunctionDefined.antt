@@ -7,11 +7,11 @@ use Rattle.std.specs.Option.{IsSome}
 use Rattle.c_types.specs.Types.{CType, CTypes, function}
 use Rattle.c_ast.specs.declared.words.Spelling.{Spelling}
 use Rattle.c_ast.specs.Trees
-use Rattle.c_erasure.specs.Files.{IsMainType, IsOwnName, bound}
+use Rattle.c_erasure.specs.Files.{IsMainType, bound}
 use Rattle.c_erasure.specs.Literals.{made_by_items}
 use Rattle.c_erasure.specs.Marks.{a_name}
 use Rattle.c_erasure.specs.MentionPlaces.{spoken_by_items}
-use Rattle.c_erasure.specs.Scopes.{FileScope, Bound, defines, a_function, AnObject, AFunction, at_file_scope}
+use Rattle.c_erasure.specs.Scopes.{FileScope, defines, a_function, AnObject, AFunction}
 use Rattle.c_erasure.specs.Specifiers.{Storage}
 use Rattle.c_checking.specs.Declaring.{declared_among, with_bound}
 use Rattle.c_checking.specs.Files.{Received, received_by, function_of, defined_function, define_function, defined_among}
@@ -21,7 +21,7 @@ use Rattle.c_checking_files.proofs.Bodies.{IsReadyFile}
 use Rattle.c_checking_files.proofs.FileFunctions.{replaced_function, function_defined, IsFunctionDefined, FoundFunction, function_found}
 use Rattle.c_checking_files.proofs.FileObjects.{set_same, set_types}
 use Rattle.c_checking_files.proofs.FileScopes.{IsSameFunction, Continues, IsTheFunction}
-use Rattle.c_checking_files.proofs.Kept.{AreSettled, are_complete}
+use Rattle.c_checking_laws.proofs.Settled.{AreSettled, are_complete}
 use Rattle.c_checking_files.proofs.Parts.{parted_then, none_right}
 use Rattle.c_checking_files.proofs.Scoped.{records_same, IsInner, IsLater}
 use Rattle.c_checking_files.proofs.StatementLaws.{AreItemsInRange}

@@ -12,7 +12,8 @@ use Rattle.c_typed.specs.declared.operators.LibraryFunction.{LibraryFunction}
 use Rattle.c_checking.specs.Files.{library_named}
 use Rattle.c_checking_laws.proofs.Agreement.{AreFit}
 use Rattle.c_checking_laws.proofs.Extends.{kept, one_of_both}
-use Rattle.c_checking_files.proofs.Kept.{AreSettled, AreObjectsWhole}
+use Rattle.c_checking_laws.proofs.Settled.{AreSettled}
+use Rattle.c_checking_files.proofs.Kept.{AreObjectsWhole}
 
 -- ---- names that are bound to a thing
 

@@ -12,7 +12,8 @@ use Rattle.c_typed.specs.declared.operators.LibraryFunction.{LibraryFunction}
 use Rattle.c_checking_laws.proofs.Adding.{Adds}
 use Rattle.c_checking_laws.proofs.Agreement.{AreFit, IsGrown}
 use Rattle.c_checking_laws.proofs.Extends.{one_of_both}
-use Rattle.c_checking_files.proofs.Kept.{AreSettled, AreObjectsWhole, Keeps, IsAnEnumerator, IsALiteral}
+use Rattle.c_checking_laws.proofs.Settled.{AreSettled}
+use Rattle.c_checking_files.proofs.Kept.{AreObjectsWhole, Keeps, IsAnEnumerator, IsALiteral}
 use Rattle.c_checking_files.proofs.Scoped.{new_of}
 use Rattle.c_checking_items.proofs.Known.{others_more, others_define_none, AreOthers, IsObjectKnown, made_right, object_later, IsFunctionKnown, function_later}
 use Rattle.c_checking_items.proofs.Known.{AreLibrariesBound, libraries_bound_more, AreObjectsBound, AreFunctionsBound, IsKnown, objects_bound_more, functions_bound_more, objects_bound_longer}

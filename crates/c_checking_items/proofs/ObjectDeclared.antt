@@ -28,7 +28,8 @@ use Rattle.c_checking_files.proofs.FileObjectDeclarators.{IsObjectDeclared}
 use Rattle.c_checking_files.proofs.FileObjects.{IsTheObject, object_is, definition_found, object_defined, set_types, set_same}
 use Rattle.c_checking_files.proofs.FileScopes.{IsSameObject, Continues, continues_then, MayDeclare, own_answer, own_is, bound_there, bound_put, first_later}
 use Rattle.c_checking_files.proofs.InTime.{IsInTime}
-use Rattle.c_checking_files.proofs.Kept.{are_complete, AreTagsFit}
+use Rattle.c_checking_laws.proofs.Settled.{are_complete}
+use Rattle.c_checking_files.proofs.Kept.{AreTagsFit}
 use Rattle.c_checking_files.proofs.KeepingInitials.{keep_initializer}
 use Rattle.c_checking_files.proofs.LocalObjects.{IsValueInRange}
 use Rattle.c_checking_files.proofs.Parts.{parted_then}

@@ -24,7 +24,7 @@ module _ (places : TokensHavePlaces) (first : TreesBeginFirst) (texts : TextsAre
     order = texts.order bytes items untagged tree;
     beginnings = (marks_are_in_order places).beginnings bytes items untagged tree;
     fit = text_fits first untagged items tree.3.well_formed 0 (tree_ordered places bytes items tree)
-        (ranged_text untagged items (subst AreRanged tree.3.spelled (text_ranged bytes tree.0 tree.1)));
+        (ranged_text untagged items tree.3.well_formed (subst AreRanged tree.3.spelled (text_ranged bytes tree.0 tree.1)));
     spelled = λ k t e enumerates at same.
         all_at (λ (t : Tag). t.is_enumeration ≡ true → IsUnwritten t.name → ⊥) (tags_in (marks_of_file untagged items))
         (texts.enumerations bytes items untagged tree) k t e enumerates (subst IsUnwritten (sym same) (unwritten at));

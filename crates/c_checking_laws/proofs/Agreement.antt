@@ -12,6 +12,7 @@ use Rattle.c_erasure.specs.Scopes.{Bound, ALocal, FileScope, Scope, Entity, type
 use Rattle.c_erasure.specs.Scopes.{a_parameter}
 use Rattle.c_erasure.specs.Scopes.{declared_in, innermost, visible, named, or_else}
 use Rattle.c_checking_laws.proofs.Extends.{Extends, itself, further, behind, kept}
+use Rattle.c_checking_laws.proofs.Settled.{Settles}
 
 -- ---- names and what they stand for
 
@@ -134,6 +135,7 @@ pub record IsGrown (f : FileScope) (is_inside : Bool) (all : List Mark) (g : Fil
   pub counted : length g.records ≡ length f.records + added is_inside all
   pub names : (locals : List ALocal) → AreFit f locals f.names → AreFit g locals g.names
   pub steady : IsSteady f → IsSteady g
+  pub settled : Settles f g
   pub begun : (before : ℕ) → AreBegun f.names before → (is_inside ≡ false → AreBefore (scope_beginnings all) before) → AreBegun g.names before
 
 abbrev pub Grew : Scope → List Mark → FileScope → Type 0
@@ -169,6 +171,7 @@ none_grown f is_inside all e = record {
   counted = omega (arith, e);
   names = λ locals h. h;
   steady = λ h. h;
+  settled = λ h. h;
   begun = λ before h m. h;
 }
 
@@ -178,6 +181,7 @@ then {f} {g} {h} {is_inside} {u} {v} p q = record {
   counted = omega (arith, p.counted, q.counted, added_append is_inside u v);
   names = λ locals x. q.names locals (p.names locals x);
   steady = λ x. q.steady (p.steady x);
+  settled = λ x. q.settled (p.settled x);
   begun = λ before x m. q.begun before (p.begun before x (λ i. before_left u v before (m i))) (λ i. before_right u v before (m i));
 }
 
@@ -208,4 +212,11 @@ pub inside_ready : {f : FileScope} {locals : List ALocal} {blocks : List (List B
 inside_ready all n b = record { names_fit = n; blocks_fit = b; ends_stand = λ i k right h. cc }
 
 pub inside_grown : {f g : FileScope} (u v : List Mark) → IsGrown f true u g → IsGrown f true v g
-inside_grown u v p = record { extends = p.extends; counted = p.counted; names = p.names; steady = p.steady; begun = λ before h m. p.begun before h (λ i. cc) }
+inside_grown u v p = record {
+  extends = p.extends;
+  counted = p.counted;
+  names = p.names;
+  steady = p.steady;
+  settled = p.settled;
+  begun = λ before h m. p.begun before h (λ i. cc);
+}

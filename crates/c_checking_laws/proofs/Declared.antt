@@ -1,7 +1,7 @@
 -- What else a file declares: mentions, literals, constants, tags, structures and enumerators.
 use Rattle.std.proofs.Common.{add-one, ◌≡◌, ◌≢◌, ℕ, zero, suc, ◌+◌, ◌≤◌, ◌<◌, Bool, true, false, refl, sym, ap, ◌∙◌, subst, cond, List, [], ◌∷◌, ◌++◌}
 use Rattle.std.proofs.Common.{length, take, drop, length-append, arith, inl, inr}
-use Rattle.std.proofs.lemmas.Bool.{and_from, lt-ltb, ltb-true, eqb-true, eq-eqb}
+use Rattle.std.proofs.lemmas.Bool.{and_from, leb-true, lt-ltb, ltb-true, eqb-true, eq-eqb}
 use Rattle.std.proofs.lemmas.List.Elements.{All-cons, All-nil}
 use Rattle.std.proofs.lemmas.Slice.Eq.{bytes_eq-Decides}
 use Rattle.std.specs.Prelude.{All, Option, Some, None, Ok, slice_get, map, nat_lt, nat_le, ◌==◌, ◌^◌, ℤ, pos, negsuc, ◌⊎◌}
@@ -37,6 +37,7 @@ use Rattle.c_checking.specs.Declaring.{without_storage, parameter_storage, new_h
 use Rattle.c_checking_laws.proofs.Results.{given, only_if, chosen}
 use Rattle.c_checking_laws.proofs.Extends.{Extends, itself, further, kept, at_end, around, among, last_or}
 use Rattle.c_checking_laws.proofs.Agreement.{IsFit, fits_stay, IsObjectType, IsSteady, AreBegun, AreBefore, added, IsGrown, one_more_fits}
+use Rattle.c_checking_laws.proofs.Settled.{Settles}
 use Rattle.c_checking_laws.proofs.Values.{IsValue, Stands, unconverted_same}
 use Rattle.c_checking_laws.proofs.NodesOfParts.{same_bytes}
 
@@ -77,6 +78,11 @@ mention_steady : (b : Bool) (f : FileScope) (n : ℕ) (m : AMention) → IsStead
 mention_steady true f n m h = h
 mention_steady false f n m h = record { tagged = h.tagged; fields = h.fields; objects = h.objects }
 
+mention_settles : (b : Bool) (f : FileScope) (n : ℕ) (m : AMention)
+    → Settles f (cond b f (record f { mentions = take n f.mentions ++ m ∷ drop n f.mentions }))
+mention_settles true f n m = λ h. h
+mention_settles false f n m = λ h. h
+
 -- a mention beside what is declared
 pub mentioned : {f g : FileScope} {is_inside : Bool} {all : List Mark} (s : Scope) (n : ℕ) (kind : MentionKind) (t : CType) (at : ℕ)
     → IsGrown f is_inside all g → IsGrown f is_inside all (with_mention s n kind t at g)
@@ -88,6 +94,7 @@ mentioned {f} {g} {is_inside} {all} s n kind t at p =
       counted = mention_counted (is_measured s.purpose) g n m ∙ p.counted;
       names = λ locals h. rw (mention_names (is_measured s.purpose) g n m) (fits_stay e locals g.names (p.names locals h));
       steady = λ h. mention_steady (is_measured s.purpose) g n m (p.steady h);
+      settled = λ h. mention_settles (is_measured s.purpose) g n m (p.settled h);
       begun = λ before h w. subst (λ all. AreBegun all before) (sym (mention_names (is_measured s.purpose) g n m)) (p.begun before h w);
     }
 
@@ -151,11 +158,19 @@ object_grown f o b i = record {
   counted = omega (arith, added_nothing b);
   names = λ locals h. fits_stay (object_extends f o) locals f.names h;
   steady = object_steady f o i;
+  settled = λ h. h;
   begun = λ before h m. h;
 }
 
 pub nothing_grown : (f : FileScope) (is_inside : Bool) → IsGrown f is_inside [] f
-nothing_grown f b = record { extends = itself f; counted = omega (arith, added_nothing b); names = λ locals h. h; steady = λ h. h; begun = λ before h m. h }
+nothing_grown f b = record {
+  extends = itself f;
+  counted = omega (arith, added_nothing b);
+  names = λ locals h. h;
+  steady = λ h. h;
+  settled = λ h. h;
+  begun = λ before h m. h;
+}
 
 literal_length : (all : List Spelling) → 0 < length (literal_of all)
 literal_length [] = omega arith
@@ -366,7 +381,9 @@ record_grown f r = record {
 
 pub record IsCompleted (f : FileScope) (names : List Spelling) (r : Record) (z : CType × FileScope) : Type 0 where
   pub different : AreDifferent (map (λ x. x.text) names)
+  pub number : number_among f.numbered r.tag ≡ Some (length f.records)
   pub numbered : slice_get f.numbered (length f.records) ≡ Some r.tag
+  pub small : size_of_record f.records r ≤ 16777216
   pub ty_is : z.0 ≡ structure (length f.records)
   pub file_is : z.1 ≡ with_record f r
 
@@ -383,7 +400,9 @@ completed_is f named names r z h =
     (λ b h. chosen (nat_le (size_of_record f.records r) 16777216) _ _ z (IsCompleted f names r z) h
     (λ c h. given (IsCompleted f names r) (structure (length f.records), with_record f r) z h (record {
       different = are_different [] names u.0;
+      number = next_number (length f.records) (number_among f.numbered r.tag) b;
       numbered = number_is f.numbered r.tag (length f.records) (next_number (length f.records) (number_among f.numbered r.tag) b);
+      small = leb-true (size_of_record f.records r) 16777216 c;
       ty_is = refl;
       file_is = refl;
     }))
@@ -423,6 +442,7 @@ bound_grown f b is_inside all e begins fit = record {
   counted = omega (arith, e);
   names = λ locals h. one_more_fits (with_bound f b) locals f.names b (fits_stay (bound_extends f b) locals f.names h) (fit locals);
   steady = λ h. record { tagged = h.tagged; fields = h.fields; objects = h.objects };
+  settled = λ h. h;
   begun = λ before h m k c e. of_one before h m k c (last_or f.names b k c e);
 }
   where

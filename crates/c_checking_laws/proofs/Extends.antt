@@ -1,6 +1,6 @@
 -- A file in which more is declared: all that was found in the smaller one is found there.
-use Rattle.std.proofs.Common.{◌≡◌, ℕ, zero, suc, ◌+◌, List, [], ◌∷◌, ◌++◌, length, take, drop, refl, sym, ap, ◌∙◌, subst, append_assoc, append-nil, arith}
-use Rattle.std.proofs.Common.{inl, inr}
+use Rattle.std.proofs.Common.{◌≡◌, ℕ, zero, suc, ◌+◌, ◌≤◌, List, [], ◌∷◌, ◌++◌, length, take, drop, refl, sym, ap, ◌∙◌, subst, append_assoc, append-nil, arith}
+use Rattle.std.proofs.Common.{inl, inr, length-append}
 use Rattle.std.specs.Prelude.{map, Option, Some, None, IsSome, slice_get, ◌⊎◌}
 use Rattle.c_types.specs.Types.{CType, Record}
 use Rattle.c_typed.specs.declared.program.MentionKind.{MentionKind}
@@ -105,6 +105,9 @@ further {f} {g} {h} p q = record {
   objects = λ n o x i. q.objects n o (p.objects n o x i) i;
   functions = λ n t x. q.functions n t (p.functions n t x);
 }
+
+pub records_grow : {f g : FileScope} → Extends f g → length f.records ≤ length g.records
+records_grow {f} {g} p = omega (arith, ap length p.records.1, length-append f.records p.records.0)
 
 -- ---- what is found stays found
 

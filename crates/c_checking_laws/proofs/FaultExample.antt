@@ -90,6 +90,6 @@ ready = record {
 -- a member of no type of objects
 is_broken : Broken (Up scope (of_specifier untagged tree)) scope (λ s. IsBrokenSpecifier tree s (ill_typed R.Incomplete 20))
 is_broken =
-    faults_specifier untagged (22 ∷ []) (Up scope (of_specifier untagged tree)) tree scope 0 (((tt, tt), (tt, tt), ((tt, tt), (tt, tt), tt))) ready (omega arith)
+    faults_specifier untagged (22 ∷ []) (Up scope (of_specifier untagged tree)) tree scope 0 (tt, ((tt, tt), (tt, tt), ((tt, tt), (tt, tt), tt))) ready (omega arith)
     ((tt, (tt, omega arith, (word (codes "a") 13 14, refl), tt), (tt, (tt, omega arith, (word (codes "b") 20 21, refl), tt), tt))) (λ g w. w) refl
     (ill_typed R.Incomplete 20) refused

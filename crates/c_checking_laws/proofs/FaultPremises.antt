@@ -1,6 +1,6 @@
 -- What finding starts from, beside what its soundness asks: the lists of the whole file are in the order of the text, and a record that a
 -- byte asks for is known there.
-use Rattle.std.proofs.Common.{◌≡◌, ℕ, zero, suc, ◌+◌, ◌≤◌, ◌<◌, Bool, true, false, refl, sym, ap, ◌∙◌, subst, List, [], ◌∷◌, ◌++◌, length, length-append, arith}
+use Rattle.std.proofs.Common.{◌≡◌, ℕ, zero, suc, ◌+◌, ◌≤◌, ◌<◌, Bool, true, false, refl, sym, ap, ◌∙◌, subst, List, [], ◌∷◌, ◌++◌, length, arith}
 use Rattle.std.proofs.lemmas.Bool.{and_parts}
 use Rattle.std.specs.Prelude.{Option, Some, None, slice_get, map, nat_lt}
 use Rattle.std.specs.Option.{option_map}
@@ -19,9 +19,9 @@ use Rattle.c_erasure.specs.Marks.{marks_of_member_declarators, marks_of_value, m
 use Rattle.c_erasure.specs.Noted.{Thing, an_object, a_value, a_function, a_function_at, a_library_function}
 use Rattle.c_erasure.specs.Scopes.{Bound, ALocal, Tag, FileScope, Scope, ended, declared}
 use Rattle.c_checking.specs.Declaring.{number_among}
-use Rattle.c_checking_laws.proofs.Extends.{Extends, kept, behind}
+use Rattle.c_checking_laws.proofs.Extends.{kept, behind}
 use Rattle.c_checking_laws.proofs.Agreement as Agreement
-use Rattle.c_checking_laws.proofs.Agreement.{IsObjectType, IsSteady, AreBegun, AreBefore, IsReady, IsGrown, added, beginnings_append, none_grown}
+use Rattle.c_checking_laws.proofs.Agreement.{IsObjectType, IsSteady, AreBegun, IsReady, IsGrown, added, beginnings_append}
 use Rattle.c_checking_laws.proofs.Values.{typed_path, path_type_same}
 use Rattle.c_checking_laws.proofs.FaultNodes.{IsProper}
 use Rattle.c_checking_laws.proofs.FaultDeclaring.{IsOrderly, orderly_stays}
@@ -233,9 +233,6 @@ module _ (untagged : ℕ → List ℕ) (ends : List ℕ) where
     begun = λ e j from h. cc;
     ascending = λ e j k a b l c d. cc;
   }
-
-pub records_grow : {f g : FileScope} → Extends f g → length f.records ≤ length g.records
-records_grow {f} {g} p = omega (arith, ap length p.records.1, length-append f.records p.records.0)
 
 pub known_after : {f g : FileScope} {i : Bool} {u : List Mark} (n : ℕ) → n ≤ length f.records → IsGrown f i u g → n + added i u ≤ length g.records
 known_after n l w = omega (arith, l, w.counted)

@@ -8,6 +8,7 @@ use Rattle.c_erasure.specs.Scopes.{Tag, FileScope, Scope, inside, measured, for_
 use Rattle.c_checking.specs.Answers.{Answer, ◌>>=◌, refused, with_file, moved}
 use Rattle.c_checking.specs.Nodes.{or_else}
 use Rattle.c_checking_laws.proofs.Extends.{Extends, itself, further}
+use Rattle.c_checking_laws.proofs.Settled.{Settles}
 use Rattle.c_checking_laws.proofs.Agreement.{added, Grew}
 use Rattle.c_checking_laws.proofs.Adding.{Grows, makes_none, value_measures, value_makes_none}
 use Rattle.c_checking_laws.proofs.Within.{Additions, both, Within, within_nothing, within_all, within_left, within_then, within_tag, within_said}
@@ -109,15 +110,17 @@ allows_there May s i u v x k m = λ g w. m g (within_inside v i w)
 pub record Reaches (May : FileScope → Type 0) (f : FileScope) (is_inside : Bool) (g : FileScope) : Type 0 where
   pub extends : Extends f g
   pub counted : is_inside ≡ true → length g.records ≡ length f.records
+  pub settled : Settles f g
   pub allowed : (g ≡ f) ⊎ May g
 
 pub reaches_itself : (May : FileScope → Type 0) (f : FileScope) (i : Bool) → Reaches May f i f
-reaches_itself May f i = record { extends = itself f; counted = λ e. refl; allowed = inl refl }
+reaches_itself May f i = record { extends = itself f; counted = λ e. refl; settled = λ h. h; allowed = inl refl }
 
 pub reaches_then : {May : FileScope → Type 0} {f g h : FileScope} {i : Bool} → Reaches May f i g → Reaches May g i h → Reaches May f i h
 reaches_then {May} {f} {g} {h} {i} p q = record {
   extends = further p.extends q.extends;
   counted = λ e. q.counted e ∙ p.counted e;
+  settled = λ h. q.settled (p.settled h);
   allowed = by_part p.allowed q.allowed;
 }
   where
@@ -128,7 +131,7 @@ reaches_then {May} {f} {g} {h} {i} p q = record {
 
 -- inside of a parameter list more is asked
 pub reaches_outside : {May : FileScope → Type 0} {f g : FileScope} (i : Bool) → Reaches May f true g → Reaches May f i g
-reaches_outside i p = record { extends = p.extends; counted = λ e. p.counted refl; allowed = p.allowed }
+reaches_outside i p = record { extends = p.extends; counted = λ e. p.counted refl; settled = p.settled; allowed = p.allowed }
 
 -- where a part of the text is read, of whose literals some are made no objects
 pub reached_some : (May : FileScope → Type 0) (s : Scope) {u v : List Mark} {x made : List ℕ} {g : FileScope} (k : List ℕ) → Grew s u g
@@ -139,6 +142,7 @@ reached_some May s {u} {v} {x} {made} {g} k p q picked m = record {
       let c : length g.records ≡ length s.file.records + added true u =
       subst (λ b. length g.records ≡ length s.file.records + added b u) i p.counted in
       omega (arith, c);
+  settled = p.settled;
   allowed = inr (m g (within_all k q picked));
 }
 
@@ -165,6 +169,7 @@ reached_later s {v = v} {x = x} {f = f} {g = g} k q p grows picked r =
     record {
       extends = further p.extends r.extends;
       counted = λ e. r.counted e ∙ first.counted e;
+      settled = λ h. r.settled (first.settled h);
       allowed = inr (within_then k q grows picked (within_reached (moved s f) q r));
     }
 

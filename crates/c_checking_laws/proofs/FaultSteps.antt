@@ -15,7 +15,7 @@ use Rattle.c_checking.specs.Declaring.{Derivation, to_pointer, to_array, to_open
 use Rattle.c_checking.specs.Finding.{complete, value_at, constant_at, find, derivations, array_step, parameter_list}
 use Rattle.c_checking_laws.proofs.InRange.{IsDeclaratorInRange}
 use Rattle.c_checking_laws.proofs.Results.{bound_ok, bound_with, given}
-use Rattle.c_checking_laws.proofs.Extends.{Extends, further, constants_stay}
+use Rattle.c_checking_laws.proofs.Extends.{Extends, further, records_grow, constants_stay}
 use Rattle.c_checking_laws.proofs.Agreement.{Ready, left, right, added}
 use Rattle.c_checking_laws.proofs.Declared.{length_is}
 use Rattle.c_checking_laws.proofs.Found.{valued, constant_found}
@@ -24,7 +24,7 @@ use Rattle.c_checking_laws.proofs.Sound.{sound, sound_steps, sound_list}
 use Rattle.c_checking_laws.proofs.Derived.{element_is, small_is, result_is}
 use Rattle.c_checking_laws.proofs.FaultResults.{same_fault, bound_err}
 use Rattle.c_checking_laws.proofs.FaultDeclaring.{small_fault, element_incomplete, result_fault}
-use Rattle.c_checking_laws.proofs.FaultPremises.{AreKnown, IsDeclaratorTimely, records_grow, known_after}
+use Rattle.c_checking_laws.proofs.FaultPremises.{AreKnown, IsDeclaratorTimely, known_after}
 
 module _ (untagged : ℕ → List ℕ) (ends : List ℕ) where
   -- what the steps that are read tell of the declarator, in each file that goes on from the one that reading leaves

@@ -16,7 +16,7 @@ use Rattle.c_erasure.specs.Declarators.{declared_name, parameter_type, closed}
 use Rattle.c_erasure.specs.Erasure.{place_in, literal_of, comma_or, after_all, with_parameter_if_named}
 use Rattle.c_erasure.specs.Literals.{literals}
 use Rattle.c_erasure.specs.Marks as Marks
-use Rattle.c_erasure.specs.Marks.{Mark, a_tag, a_name, an_end, marks, marks_of_all, marks_of_type, marks_of_specifiers, marks_of_specifier, marks_of_members}
+use Rattle.c_erasure.specs.Marks.{Mark, a_name, an_end, marks, marks_of_all, marks_of_type, marks_of_specifiers, marks_of_specifier, marks_of_members}
 use Rattle.c_erasure.specs.Marks.{marks_of_member_declarators, marks_of_enumerators, marks_of_value, marks_of_declarator, an_enumeration}
 use Rattle.c_erasure.specs.MentionPlaces.{spoken, spoken_of_members, spoken_of_enumerators, spoken_of_specifiers, spoken_of_declarator, spoken_of_list}
 use Rattle.c_erasure.specs.MentionPlaces.{spoken_of_parameters}
@@ -32,7 +32,7 @@ use Rattle.c_checking.specs.Finding.{complete, value_at, constant_at, base_type,
 use Rattle.c_checking.specs.Finding.{with_member, member_declarators, enumerators, enumerator_value, derivations, array_step, parameter_list, parameters}
 use Rattle.c_checking_laws.proofs.InRange.{IsInRange, AreInRange, IsTypeInRange, AreSpecifiersInRange, IsSpecifierInRange, AreMembersInRange, AreDeclaratorsInRange}
 use Rattle.c_checking_laws.proofs.InRange.{AreEnumeratorsInRange, IsValueInRange, IsDeclaratorInRange, IsListInRange, AreParametersInRange}
-use Rattle.c_checking_laws.proofs.Extends.{Extends, itself, further, at_end, bound_stays, constants_stay}
+use Rattle.c_checking_laws.proofs.Extends.{Extends, itself, further, records_grow, at_end, bound_stays, constants_stay}
 use Rattle.c_checking_laws.proofs.Agreement.{added, none_grown, then}
 use Rattle.c_checking_laws.proofs.Declared.{mentioned, before_mention, no_storage_is, parameter_storage_is, enumerator_is}
 use Rattle.c_checking_laws.proofs.NodesOfParts.{signature_is}
@@ -56,7 +56,7 @@ use Rattle.c_checking_laws.proofs.FaultNodes.{named_fault, signature_fault, argu
 use Rattle.c_checking_laws.proofs.FaultDeclaring.{type_named_fault, unless_fault, definable_fault, enumeration_fault, int_fault, next_fault, length_fault}
 use Rattle.c_checking_laws.proofs.FaultDeclaring.{object_fault}
 use Rattle.c_checking_laws.proofs.FaultDeclaring.{orderly_stays, storage_fault, parameter_storage_fault, scalar_fault}
-use Rattle.c_checking_laws.proofs.FaultPremises.{Prepared, inside_prepared, records_grow, left, right, known_after, IsTimely, AreTimely, IsTypeTimely}
+use Rattle.c_checking_laws.proofs.FaultPremises.{Prepared, inside_prepared, left, right, known_after, IsTimely, AreTimely, IsTypeTimely}
 use Rattle.c_checking_laws.proofs.FaultPremises.{AreSpecifiersTimely, IsSpecifierTimely, AreMembersTimely}
 use Rattle.c_checking_laws.proofs.FaultPremises.{AreDeclaratorsTimely, AreEnumeratorsTimely, IsValueTimely, IsDeclaratorTimely, IsListTimely, AreParametersTimely}
 use Rattle.c_checking_laws.proofs.FaultRules.{tag_ends_nothing, new_stops, Stop, arguments_broken, argument_behind, size_broken, shape_broken, field_broken}
@@ -406,9 +406,9 @@ module _ (untagged : ℕ → List ℕ) (ends : List ℕ) (May : FileScope → Ty
         (allows_tag May s _ (record { marks = u ++ own; said = spoken_of_members all; made = [] }) may) in
         bound_err (members all s) _ f (Broken May s (λ s. IsBrokenSpecifier (Trees.struct_body at x from all to) s f)) h
         (λ e. whole May s (λ s. AreBrokenMembers all s f) (λ s. IsBrokenSpecifier (Trees.struct_body at x from all to) s f)
-        (faults_members all s n i before l t in_members f e) (λ g p h. inr (inl h)))
+        (faults_members all s n i.1 before l t in_members f e) (λ g p h. inr (inl h)))
         (λ m e h.
-        let v = sound_members untagged all s i before.ready m e in
+        let v = sound_members untagged all s i.1 before.ready m e in
         struct_body_stops untagged ends May s at x from all to p.untagged_are j m v
         (reached May s v.grew (grow_members untagged all s p.untagged_are m e) in_members) (right untagged ends u own after v.grew) f h)))
     faults_specifier (Trees.enum_named at x) s n i p l t may w f h = enum_named_stops untagged ends May s at x p f h

@@ -37,6 +37,10 @@ pub parameter_inside : (s : Scope) (x : Option Spelling) (t : CType) → s.is_in
 parameter_inside s None t i = i
 parameter_inside s (Some x) t i = refl
 
+pub parameter_untagged : (s : Scope) (x : Option Spelling) (t : CType) → (with_parameter_if_named s x t).file.untagged ≡ s.file.untagged
+parameter_untagged s None t = refl
+parameter_untagged s (Some x) t = refl
+
 -- what is read behind a parameter knows its name
 pub parameter_ready : (s : Scope) (x : Option Spelling) (t : CType) → is_scalar t ≡ true → s.is_inside ≡ true → Ready s []
     → Ready (with_parameter_if_named s x t) []
@@ -54,6 +58,7 @@ parameter_grown s (Some x) t f p = record {
   counted = omega (arith, p.counted, added_nothing s.is_inside);
   names = p.names;
   steady = p.steady;
+  settled = p.settled;
   begun = λ before h m. p.begun before h (λ i k from e. cc);
 }
 

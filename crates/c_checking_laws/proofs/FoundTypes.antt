@@ -1,5 +1,5 @@
 -- What is found for type names, specifiers and declarators, in each file that goes on from the one that finding leaves.
-use Rattle.std.proofs.Common.{◌≡◌, ℕ, zero, suc, ◌+◌, ◌<◌, Bool, true, false, refl, sym, ap, ◌∙◌, subst, List, [], ◌∷◌, ◌++◌, length, length-append, inl, inr}
+use Rattle.std.proofs.Common.{◌≡◌, ◌≢◌, ℕ, ◌+◌, ◌<◌, Bool, true, false, refl, sym, ap, ◌∙◌, subst, List, [], ◌∷◌, ◌++◌, length, length-append, inl, inr}
 use Rattle.std.proofs.Common.{arith}
 use Rattle.std.proofs.lemmas.List.{map-append}
 use Rattle.std.specs.Prelude.{◌⊎◌, ◌^◌, ◌%◌, map, Option, Some, None, Ok, slice_get}
@@ -15,7 +15,7 @@ use Rattle.c_erasure.specs.Declarators.{Shape, closed, declared_name, is_name, A
 use Rattle.c_erasure.specs.Erasure.{place_in, tag_text, comma_or, after_all, IsOne, Specifies, Declares, AreParameters}
 use Rattle.c_erasure.specs.Erasure.{AreListed, AreFields, AreMembers, AreEnumerators, IsEnumeratorValue, IsBase, IsStructTag}
 use Rattle.c_erasure.specs.Marks as Marks
-use Rattle.c_erasure.specs.Marks.{Mark, a_tag, an_end, a_name, marks, marks_if_any, marks_of_type, marks_of_specifiers, marks_of_specifier, marks_of_members}
+use Rattle.c_erasure.specs.Marks.{Mark, a_tag, an_end, a_name, marks, marks_of_specifiers, marks_of_specifier, marks_of_members}
 use Rattle.c_erasure.specs.Marks.{marks_of_member_declarators, marks_of_enumerators, marks_of_value, marks_of_declarator}
 use Rattle.c_erasure.specs.Scopes.{FileScope, Scope, Tag, typedef, enumerator, Bound, ALocal, defines, named, ended, tag_at}
 use Rattle.c_erasure.specs.Specifiers.{no_storage, types_among, storage_of}
@@ -25,10 +25,12 @@ use Rattle.c_checking.specs.Declaring.{int_value, next_value, enumeration_of, De
 use Rattle.c_checking.specs.Declaring.{object_at, base_kind, with_record, with_bound}
 use Rattle.c_checking.specs.Finding.{complete, base_type, type_of_derived, with_member}
 use Rattle.c_checking_laws.proofs.Results.{bound_ok, ok, given, with_file_ok}
-use Rattle.c_checking_laws.proofs.Extends.{Extends, itself, further, at_end, one_of_both, last_or, bound_stays, record_stays, named_stays, constants_stay}
+use Rattle.c_checking_laws.proofs.Extends.{Extends, itself, further, records_grow, at_end, last_or, bound_stays, record_stays, named_stays, constants_stay}
 use Rattle.c_checking_laws.proofs.Agreement.{IsObjectType, IsSteady, AreBefore, fits_stay, added, IsReady, Ready, IsGrown, Grew, none_grown, then, left, right}
 use Rattle.c_checking_laws.proofs.Declared.{added_nothing, mentioned, is_mentioned, before_mention, nothing_grown, int_is, next_is, tagged_is, enumerated_is, type_named_is}
-use Rattle.c_checking_laws.proofs.Declared.{record_grown, completed_is, enumerator_is, bound_grown, enumeration_is}
+use Rattle.c_checking_laws.proofs.InRange.{HasMember}
+use Rattle.c_checking_laws.proofs.Settled.{object_more, object_whole, AreWhole, more_whole, first_whole, both_whole, one_more_settled}
+use Rattle.c_checking_laws.proofs.Declared.{record_grown, IsCompleted, completed_is, enumerator_is, bound_grown, enumeration_is}
 use Rattle.c_checking_laws.proofs.Derived.{type_derived, object_is, IsBaseOf, base_is}
 use Rattle.c_checking_laws.proofs.Derived.{words_mark_nothing}
 use Rattle.c_checking_laws.proofs.Found.{FoundType, FoundConstant}
@@ -43,6 +45,7 @@ and_nothing {f} {g} {h} {b} {c} {u} {v} e n p q = record {
   counted = omega (arith, p.counted, q.counted, e);
   names = λ locals x. q.names locals (p.names locals x);
   steady = λ x. q.steady (p.steady x);
+  settled = λ x. q.settled (p.settled x);
   begun = λ before x m. q.begun before (p.begun before x m) (λ i. subst (λ all. AreBefore all before) (sym (n i)) (λ k from e. cc));
 }
 
@@ -52,6 +55,7 @@ as_marks {f} {g} {b} {u} {v} i e p = record {
   counted = omega (arith, p.counted, e);
   names = p.names;
   steady = p.steady;
+  settled = p.settled;
   begun = λ before h m. p.begun before h (λ j. cc);
 }
 
@@ -88,11 +92,13 @@ module _ (untagged : ℕ → List ℕ) where
   pub record FoundFields (s : Scope) (all : Trees.MemberDeclarations) (z : List Field × FileScope) : Type 0 where
     pub grew : Grew s (marks_of_members untagged all) z.1
     pub names : map (λ f. f.name) z.0 ≡ map (λ x. x.text) (member_names all)
+    pub whole : AreWhole (length z.1.records) z.0
     pub holds : (g : FileScope) → Extends z.1 g → AreFields (moved s g) all z.0
 
   pub record FoundMembers (s : Scope) (base : CType) (all : Trees.MemberDeclarators) (semicolon : ℕ) (z : List Field × FileScope) : Type 0 where
     pub grew : Grew s (marks_of_member_declarators untagged all) z.1
     pub names : map (λ f. f.name) z.0 ≡ map (λ x. x.text) (names_of_members all)
+    pub whole : AreWhole (length z.1.records) z.0
     pub holds : (g : FileScope) → Extends z.1 g → AreMembers (moved s g) base all semicolon z.0
 
   pub record FoundEnumerators (s : Scope) (next : ℕ) (all : Trees.Enumerators) (after : ℕ) (f : FileScope) : Type 0 where
@@ -212,43 +218,26 @@ module _ (untagged : ℕ → List ℕ) where
       of_fields k j q x (inl e) g = h.fields k j q x e g
       of_fields k j q x (inr e) g = i j x (subst (λ (q : Record). slice_get q.fields j ≡ Some x) (sym e.1) g)
 
-  end_grown : (f : FileScope) (b : Bool) → b ≡ false → (r : Record) (tag : List ℕ) (end : ℕ) → slice_get f.numbered (length f.records) ≡ Some r.tag
-      → ((j : ℕ) (x : Field) → slice_get r.fields j ≡ Some x → IsObjectType x.ty) → IsGrown f b (an_end tag end ∷ []) (with_record f r)
-  end_grown f true e r tag end n i = cc
-  end_grown f false e r tag end n i = record {
+  end_grown : (f : FileScope) (b : Bool) → b ≡ false → (r : Record) (tag : List ℕ) (end : ℕ) {names : List Spelling} {z : CType × FileScope}
+      → IsCompleted f names r z → AreWhole (length f.records) r.fields → r.fields ≢ [] → IsGrown f b (an_end tag end ∷ []) (with_record f r)
+  end_grown f true e r tag end c whole filled = cc
+  end_grown f false e r tag end c whole filled = record {
     extends = record_grown f r;
     counted = length-append f.records (r ∷ []);
     names = λ locals h. fits_stay (record_grown f r) locals f.names h;
-    steady = record_steady f r n i;
+    steady = record_steady f r c.numbered (λ j x e. (length f.records, whole j x e));
+    settled = one_more_settled f.numbered f.records r c.number c.small whole filled;
     begun = λ before h m. h;
   }
 
-  -- a field has a type of objects
-  members_proper : (s : Scope) (base : CType) (all : Trees.MemberDeclarators) (semicolon : ℕ) (fields : List Field) → AreMembers s base all semicolon fields
-      → (j : ℕ) (x : Field) → slice_get fields j ≡ Some x → IsObjectType x.ty
-  members_proper s base Trees.no_member_declarators semicolon fields h j x e =
-      let g : slice_get [] j ≡ Some x = subst (λ fields. slice_get fields j ≡ Some x) h e in cc
-  members_proper s base (Trees.and_member_declarator comma d more) semicolon fields (y, t, rest, named, declares, is, said, w, others) j x e =
-      by_place j (λ k g. members_proper s base more semicolon rest others k x g) (subst (λ fields. slice_get fields j ≡ Some x) w e)
-    where
-      own : Field
-      own = record { name = y.text; ty = t; place = place_in s (first_declarator d semicolon) }
-
-      by_place : (j : ℕ) → ((k : ℕ) → slice_get rest k ≡ Some x → IsObjectType x.ty) → slice_get (own ∷ rest) j ≡ Some x → IsObjectType x.ty
-      by_place zero later g = let z : own ≡ x = cc in subst (λ (x : Field). IsObjectType x.ty) z (ended s.file.ends (first_declarator d semicolon), is)
-      by_place (suc j) later g = later j g
-
-  fields_proper : (s : Scope) (all : Trees.MemberDeclarations) (fields : List Field) → AreFields s all fields
-      → (j : ℕ) (x : Field) → slice_get fields j ≡ Some x → IsObjectType x.ty
-  fields_proper s Trees.no_member_declarations fields h j x e =
-      let g : slice_get [] j ≡ Some x = subst (λ fields. slice_get fields j ≡ Some x) h e in cc
-  fields_proper s (Trees.and_member_declaration specs ds semicolon more) fields (base, own, rest, w, storage, is, members, others) j x e =
-      by_part (λ k g. fields_proper s more rest others k x g) (one_of_both own rest j x (subst (λ fields. slice_get fields j ≡ Some x) w e))
-    where
-      by_part : ((k : ℕ) → slice_get rest k ≡ Some x → IsObjectType x.ty)
-          → (slice_get own j ≡ Some x) ⊎ ((k : ℕ) × (j ≡ length own + k) × (slice_get rest k ≡ Some x)) → IsObjectType x.ty
-      by_part later (inl g) = members_proper s base ds semicolon own members j x g
-      by_part later (inr g) = later g.0 g.2
+  -- a structure that has a member has a field
+  fields_filled : (s : Scope) (all : Trees.MemberDeclarations) (fields : List Field) → HasMember all → AreFields s all fields → fields ≢ []
+  fields_filled s Trees.no_member_declarations fields m h = absurd m
+  fields_filled s (Trees.and_member_declaration specs Trees.no_member_declarators semicolon more) fields m h = absurd m
+  fields_filled s (Trees.and_member_declaration specs (Trees.and_member_declarator comma d others) semicolon more) fields m
+      (base, own, rest, w, storage, is, (y, t, later, named, declares, complete, said, v, next), behind) =
+      λ e. let f : [] ≡ record { name = y.text; ty = t; place = place_in s (first_declarator d semicolon) } ∷ (later ++ rest) =
+      sym e ∙ w ∙ ap (λ own. own ++ rest) v in cc
 
   pub struct_ready : (s : Scope) (at : ℕ) (x : Option Spelling) (left_at : ℕ) (all : Trees.MemberDeclarations) (right_at : ℕ)
       → Ready s (marks_of_specifier untagged (Trees.struct_body at x left_at all right_at)) → Ready s (marks_of_members untagged all)
@@ -256,11 +245,11 @@ module _ (untagged : ℕ → List ℕ) where
       left (marks_of_members untagged all) _ (after_mark (Marks.a_structure untagged at x) (marks_of_members untagged all ++ _ ∷ []) refl r)
 
   pub struct_body_found : (s : Scope) (at : ℕ) (x : Option Spelling) (left_at : ℕ) (all : Trees.MemberDeclarations) (right_at : ℕ)
-      → Ready s (marks_of_specifier untagged (Trees.struct_body at x left_at all right_at)) → s.is_inside ≡ false
+      → Ready s (marks_of_specifier untagged (Trees.struct_body at x left_at all right_at)) → s.is_inside ≡ false → HasMember all
       → (m : List Field × FileScope) → FoundFields s all m → (z : CType × FileScope)
       → completed_in m.1 (tag_place at x) (member_names all) (record { tag = tag_text s at x; place = place_in s at; fields = m.0 }) ≡ Ok z
       → FoundSpecifier s (Trees.struct_body at x left_at all right_at) z
-  struct_body_found s at x left_at all right_at r i m v z h =
+  struct_body_found s at x left_at all right_at r i some m v z h =
       let rec : Record = record { tag = tag_text s at x; place = place_in s at; fields = m.0 } in
       let c = completed_is m.1 (tag_place at x) (member_names all) rec z h in
       let u = marks_of_members untagged all in
@@ -270,8 +259,8 @@ module _ (untagged : ℕ → List ℕ) where
       let last = right u (an_end tag right_at ∷ []) after v.grew in
       let ended : slice_get m.1.ends (length m.1.records) ≡ Some right_at =
       subst (λ n. slice_get m.1.ends n ≡ Some right_at) (omega arith) (last.ends_stand i 0 right_at refl) in
-      let proper = fields_proper (moved s m.1) all m.0 (v.holds m.1 (itself m.1)) in
-      let grown = then v.grew (end_grown m.1 s.is_inside i rec tag right_at c.numbered proper) in
+      let filled = fields_filled (moved s m.1) all m.0 some (v.holds m.1 (itself m.1)) in
+      let grown = then v.grew (end_grown m.1 s.is_inside i rec tag right_at c v.whole filled) in
       record {
         grew = subst (λ f. Grew s (marks_of_specifier untagged (Trees.struct_body at x left_at all right_at)) f) (sym c.file_is)
             (then (tag_grown s.file s.is_inside _) grown);
@@ -382,7 +371,7 @@ module _ (untagged : ℕ → List ℕ) where
   pub no_members_found : (s : Scope) (z : List Field × FileScope) → ok ([], s.file) ≡ Ok z → FoundFields s Trees.no_member_declarations z
   no_members_found s z h =
       given (FoundFields s Trees.no_member_declarations) ([], s.file) z h
-      (record { grew = nothing_grown s.file s.is_inside; names = refl; holds = λ g p. refl })
+      (record { grew = nothing_grown s.file s.is_inside; names = refl; whole = λ j x e. cc; holds = λ g p. refl })
 
   pub members_found : (s : Scope) (specs : Trees.Specifiers) (ds : Trees.MemberDeclarators) (semicolon : ℕ) (more : Trees.MemberDeclarations)
       → storage_of specs ≡ no_storage → (b : CType × FileScope) → FoundBase s specs b
@@ -394,6 +383,8 @@ module _ (untagged : ℕ → List ℕ) where
         grew = then (then v.grew w.grew) u.grew;
         names = map-append (λ f. f.name) own.0 rest.0 ∙ ap (λ z. z ++ map (λ f. f.name) rest.0) w.names
             ∙ ap (λ z. map (λ x. x.text) (names_of_members ds) ++ z) u.names ∙ sym (map-append (λ x. x.text) (names_of_members ds) (member_names more));
+        whole = both_whole (length rest.1.records) own.0 rest.0
+            (more_whole (length own.1.records) (length rest.1.records) (records_grow u.grew.extends) own.0 w.whole) u.whole;
         holds = λ g p.
             let q = further u.grew.extends p in
             (b.0, own.0, rest.0, refl, storage, v.holds g (further w.grew.extends q), w.holds g q, u.holds g p);
@@ -403,7 +394,7 @@ module _ (untagged : ℕ → List ℕ) where
       → FoundMembers s base Trees.no_member_declarators semicolon z
   no_declarators_found s base semicolon z h =
       given (FoundMembers s base Trees.no_member_declarators semicolon) ([], s.file) z h
-      (record { grew = nothing_grown s.file s.is_inside; names = refl; holds = λ g p. refl })
+      (record { grew = nothing_grown s.file s.is_inside; names = refl; whole = λ j x e. cc; holds = λ g p. refl })
 
   -- the file in which a member is declared
   abbrev pub with_field : Scope → ℕ → CType → ℕ → FileScope → FileScope
@@ -436,6 +427,10 @@ module _ (untagged : ℕ → List ℕ) where
           given (FoundMembers s base (Trees.and_member_declarator comma d more) semicolon) _ z rest.2 (record {
             grew = then (mentioned s n Named u at v.grew) w.grew;
             names = ap (λ z. x.text ∷ z) w.names ∙ ap (λ y. map (λ (x : Spelling). x.text) (if_named y ++ names_of_members more)) (sym e);
+            whole = first_whole (length rest.0.1.records) (record { name = x.text; ty = u; place = place_in s at }) rest.0.0
+                (object_more (length steps.1.records) (length rest.0.1.records)
+                (records_grow (before_mention s steps.1 rest.0.1 n Named u at w.grew.extends)) u
+                (object_whole steps.1.records (complete s at) at t u j)) w.whole;
             holds = λ g p.
                 let q = further w.grew.extends p in
                 let l = before_mention s steps.1 g n Named u at q in

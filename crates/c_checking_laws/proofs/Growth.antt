@@ -5,11 +5,9 @@ use Rattle.lay_base.specs.declared.place.Place.{Place}
 use Rattle.c_types.specs.declared.ty.IntKind.{IntKind}
 use Rattle.c_types.specs.Types.{CType, CTypes, no_types, and_type, Field, Record}
 use Rattle.c_ast.specs.declared.words.Spelling.{Spelling}
-use Rattle.c_ast.specs.declared.operators.UnaryOp.{UnaryOp}
 use Rattle.c_ast.specs.declared.operators.UnaryOp.TheVariants as U
 use Rattle.c_ast.specs.Trees
 use Rattle.c_ast.specs.Places.{first, first_specifiers, first_declarator}
-use Rattle.c_typed.specs.declared.operators.BinaryOp.{BinaryOp}
 use Rattle.c_typed.specs.declared.program.MentionKind.TheVariants.{Named, Sizeof}
 use Rattle.c_typed.specs.Trees as Typed
 use Rattle.c_erasure.specs.Broken.{member_names, tag_place}
@@ -17,7 +15,7 @@ use Rattle.c_erasure.specs.Declarators.{declared_name, parameter_type}
 use Rattle.c_erasure.specs.Erasure.{place_in, tag_text, comma_or, after_all, literal_of, literal_object, with_parameter_if_named}
 use Rattle.c_erasure.specs.Literals.{literals, literals_of_all}
 use Rattle.c_erasure.specs.Marks as Marks
-use Rattle.c_erasure.specs.Marks.{Mark, a_tag, an_end, a_name, marks, marks_of_all, marks_if_any, marks_of_type, marks_of_specifiers}
+use Rattle.c_erasure.specs.Marks.{Mark, an_end, a_name, marks, marks_of_all, marks_of_type, marks_of_specifiers}
 use Rattle.c_erasure.specs.Marks.{marks_of_specifier, marks_of_members}
 use Rattle.c_erasure.specs.Marks.{marks_of_member_declarators, marks_of_enumerators, marks_of_value, marks_of_declarator, an_enumeration}
 use Rattle.c_erasure.specs.MentionPlaces.{spoken, spoken_of_all, spoken_of_type, spoken_of_specifiers, spoken_of_specifier, spoken_of_members, spoken_of_fields}
@@ -26,12 +24,12 @@ use Rattle.c_erasure.specs.Noted.{Noted, Expression, Path, Thing}
 use Rattle.c_erasure.specs.Operators.{update_of}
 use Rattle.c_erasure.specs.Scopes.{FileScope, Scope, Purpose, in_full, value_alone, type_alone, inside, measured, for_value, is_measured}
 use Rattle.c_erasure.specs.Specifiers.{types_among, storage_of}
-use Rattle.c_checking.specs.Answers.{◌>>=◌, Checked, moved, with_file}
+use Rattle.c_checking.specs.Answers.{Checked, moved}
 use Rattle.c_checking.specs.Nodes.{worth, array_of, signature_in, argument_in}
-use Rattle.c_checking.specs.Nodes.{measured_in, sized_type, Target, scalar_at, record_at, target_in}
+use Rattle.c_checking.specs.Nodes.{measured_in, sized_type, target_in}
 use Rattle.c_checking.specs.Declaring.{with_record, with_mention, mentions_in, literal_for, literal_in, completed_in, enumerator_in}
 use Rattle.c_checking.specs.Declaring.{Derivation, derived, length_value, object_at, base_kind, without_storage, parameter_storage, scalar_parameter}
-use Rattle.c_checking.specs.Finding.{complete, value_at, tested_at, constant_at, on_value, unary_on, subscripted, assigned, base_type}
+use Rattle.c_checking.specs.Finding.{complete, value_at, tested_at, constant_at, subscripted, base_type}
 use Rattle.c_checking.specs.Finding.{type_of_derived, with_member}
 use Rattle.c_checking.specs.Finding.{find, arguments, type_name, one_of, specified, members, member_declarators, enumerators, enumerator_value}
 use Rattle.c_checking.specs.Finding.{derivations, array_step}
@@ -41,7 +39,8 @@ use Rattle.c_checking_laws.proofs.Consistent.{enumerator_consistent}
 use Rattle.c_checking_laws.proofs.Declared.{no_storage_is, parameter_storage_is, unless_ok, completed_is, enumerator_is}
 use Rattle.c_checking_laws.proofs.Derived.{IsBaseOf, base_is, words_mark_nothing}
 use Rattle.c_checking_laws.proofs.FoundTypes.{bound_of}
-use Rattle.c_checking_laws.proofs.FoundDeclarators.{new_bound, parameter_inside}
+use Rattle.c_checking_laws.proofs.FilesOfNodes.{file_of_unary, file_of_assigned}
+use Rattle.c_checking_laws.proofs.FoundDeclarators.{new_bound, parameter_inside, parameter_untagged}
 use Rattle.c_checking_laws.proofs.Adding.{Adds, Grows, makes_none, adds_nothing, adds_then, as_measured, as_value, as_inside, value_measures, value_makes_none}
 use Rattle.c_checking_laws.proofs.Adding.{mention_between, mention_before, mention_behind, object_adds, record_adds, bound_adds, tag_adds, file_beside, file_of}
 use Rattle.c_checking_laws.proofs.Adding.{file_of_value, file_of_tested, file_of_constant}
@@ -121,34 +120,6 @@ index_grows s v y l count from left at x number u j k p later None z h =
     let i = bound_ok (number x.1) _ z w.2 in
     file_beside (Grows s (u ++ v) (j ++ y) (k ++ l)) i.0.1 _ z i.2 (adds_then p (later i.0 i.1))
 
-operator_grows : (P : FileScope → Type 0) (s : Scope) (op : UnaryOp) (count from at : ℕ) (r : Checked Thing) → ((x : Thing × FileScope) → r ≡ Ok x → P x.1)
-    → (z : Thing × FileScope) → (value_at from r >>= λ x. with_file x.1 (on_value op count at s x.0)) ≡ Ok z → P z.1
-operator_grows P s op count from at r p z h =
-    let x = bound_ok (value_at from r) _ z h in
-    file_beside P x.0.1 _ z x.2 (file_of_value P from r x.0 x.1 p)
-
-unary_grows : (P : FileScope → Type 0) (s : Scope) (op : UnaryOp) (count from at : ℕ) (r : Checked Thing) → ((x : Thing × FileScope) → r ≡ Ok x → P x.1)
-    → (z : Thing × FileScope) → unary_on op count from at s r ≡ Ok z → P z.1
-unary_grows P s U.Address count from at r p z h = let x = bound_ok r _ z h in file_beside P x.0.1 _ z x.2 (p x.0 x.1)
-unary_grows P s U.Deref count from at r p z h = operator_grows P s U.Deref count from at r p z h
-unary_grows P s U.Plus count from at r p z h = operator_grows P s U.Plus count from at r p z h
-unary_grows P s U.Minus count from at r p z h = operator_grows P s U.Minus count from at r p z h
-unary_grows P s U.Complement count from at r p z h = operator_grows P s U.Complement count from at r p z h
-unary_grows P s U.Not count from at r p z h = operator_grows P s U.Not count from at r p z h
-
-assigned_grows : (P : FileScope → Type 0) (count op_at from : ℕ) (at : Place) (t : Target) (f : FileScope) (right : FileScope → Checked Thing)
-    → ((x : Thing × FileScope) → right f ≡ Ok x → P x.1) → (o : Option BinaryOp) (z : Thing × FileScope)
-    → assigned count op_at from at t f right o ≡ Ok z → P z.1
-assigned_grows P count op_at from at t f right p (Some op) z h =
-    let x = bound_ok (value_at from (right f)) _ z h in
-    file_beside P x.0.1 _ z x.2 (file_of_value P from (right f) x.0 x.1 p)
-assigned_grows P count op_at from at (scalar_at to) f right p None z h =
-    let x = bound_ok (value_at from (right f)) _ z h in
-    file_beside P x.0.1 _ z x.2 (file_of_value P from (right f) x.0 x.1 p)
-assigned_grows P count op_at from at (record_at to) f right p None z h =
-    let x = bound_ok (right f) _ z h in
-    file_beside P x.0.1 _ z x.2 (p x.0 x.1)
-
 -- ---- specifiers
 
 words_say_nothing : (specs : Trees.Specifiers) → types_among specs ≡ [] → spoken_of_specifiers specs ≡ []
@@ -162,10 +133,6 @@ member_grows : (P : FileScope → Type 0) (at : Place) (t : CType) (x : Option S
     → ((y : List Field × FileScope) → r ≡ Ok y → P y.1) → (z : List Field × FileScope) → with_member at t x r ≡ Ok z → P z.1
 member_grows P at t None r p z h = cc
 member_grows P at t (Some x) r p z h = let y = bound_ok r _ z h in file_of P _ z y.2 (p y.0 y.1)
-
-parameter_untagged : (s : Scope) (x : Option Spelling) (t : CType) → (with_parameter_if_named s x t).file.untagged ≡ s.file.untagged
-parameter_untagged s None t = refl
-parameter_untagged s (Some x) t = refl
 
 parameter_grows : (s : Scope) (x : Option Spelling) (t : CType) (y : List ℕ) (f : FileScope) → Grows (with_parameter_if_named s x t) [] y [] f
     → Grows s [] y [] f
@@ -259,7 +226,7 @@ module _ (untagged : ℕ → List ℕ) where
         let p = bound_ok (find a s) _ z h in
         file_beside (Grows s (marks untagged a) (spoken a) (literals a)) p.0.1 _ z p.2 (grow a s e p.0 p.1)
     grow (Trees.unary op at a) s e z h =
-        unary_grows (Grows s (marks untagged a) (spoken a) (literals a)) s op (complete s at) (first a) at (find a s) (λ x k. grow a s e x k) z h
+        file_of_unary (Grows s (marks untagged a) (spoken a) (literals a)) s op (complete s at) (first a) at (find a s) (λ x k. grow a s e x k) z h
     grow (Trees.sizeof_expression at a) s e z h =
         let x = bound_ok (find a (measured s)) _ z h in
         let v = measured_grows s (marks untagged a) (spoken a) (literals a) x.0.1 (grow a (measured s) e x.0 x.1) in
@@ -300,7 +267,7 @@ module _ (untagged : ℕ → List ℕ) where
         let p = bound_ok (find a s) _ z h in
         let v = grow a s e p.0 p.1 in
         let t = bound_with p.0.1 (target_in (first a) p.0.0) _ z p.2 in
-        assigned_grows (Grows s (marks untagged a ++ marks untagged b) (spoken a ++ spoken b) (literals a ++ literals b))
+        file_of_assigned (Grows s (marks untagged a ++ marks untagged b) (spoken a ++ spoken b) (literals a ++ literals b))
         (complete s (first a)) at (first b) (place_in s (first a)) t.0 p.0.1 (λ f. find b (moved s f))
         (λ y k. adds_then v (grow b (moved s p.0.1) (v.untagged ∙ e) y k)) (update_of op) z t.2
     grow (Trees.comma a at b) s e z h =

@@ -1,8 +1,14 @@
--- The numbers of a tree are values of their types: those of number literals of the literal's type, those of characters of int (C99 6.4.4).
+-- The numbers of a tree are values of their types: those of number literals of the literal's type, those of characters of int (C99 6.4.4). And each
+-- structure that it defines has a member (6.7.2.1).
 use Rattle.std.specs.Prelude.{◌≡◌}
 use Rattle.c_types.specs.declared.ty.IntKind.TheVariants.{Int}
 use Rattle.c_typed.specs.Conversions.{as_kind}
 use Rattle.c_ast.specs.Trees
+
+-- its first declaration has a declarator
+abbrev pub HasMember : Trees.MemberDeclarations → Type 0
+HasMember (Trees.and_member_declaration specs (Trees.and_member_declarator comma d others) semicolon more) = Unit {0}
+HasMember all = ⊥
 
 abbrev mutual
   pub IsInRange : Trees.Expression → Type 0
@@ -46,7 +52,7 @@ abbrev mutual
   IsSpecifierInRange (Trees.plain word at) = Unit {0}
   IsSpecifierInRange (Trees.typename x) = Unit {0}
   IsSpecifierInRange (Trees.struct_named at x) = Unit {0}
-  IsSpecifierInRange (Trees.struct_body at x left all right) = AreMembersInRange all
+  IsSpecifierInRange (Trees.struct_body at x left all right) = HasMember all × AreMembersInRange all
   IsSpecifierInRange (Trees.enum_named at x) = Unit {0}
   IsSpecifierInRange (Trees.enum_body at x left all comma right) = AreEnumeratorsInRange all
 

@@ -2,6 +2,7 @@ mod Examples
 mod LongerExamples
 pub mod Results
 pub mod Extends
+pub mod Settled
 pub mod Agreement
 pub mod Values
 pub mod NodesOfOne
@@ -18,6 +19,7 @@ pub mod Sound
 pub mod Consistent
 pub mod Adding
 pub mod Within
+pub mod FilesOfNodes
 pub mod Growth
 pub mod CompleteValues
 pub mod CompleteNodes

@@ -191,7 +191,7 @@ module _ (untagged : ℕ → List ℕ) where
         (λ i h.
         let u = unless_ok _ _ z h in
         let m = bound_ok (members all s) _ z u.1 in
-        struct_body_found untagged s at x from all to r i m.0 (sound_members all s n (struct_ready untagged s at x from all to r) m.0 m.1) z m.2)
+        struct_body_found untagged s at x from all to r i n.0 m.0 (sound_members all s n.1 (struct_ready untagged s at x from all to r) m.0 m.1) z m.2)
     sound_specifier (Trees.enum_named at x) s n r z h = enum_named_found untagged s at x z h
     sound_specifier (Trees.enum_body at x from all comma to) s n r z h =
         chosen s.is_inside _ _ z (FoundSpecifier untagged s (Trees.enum_body at x from all comma to) z) h (λ i h. cc)

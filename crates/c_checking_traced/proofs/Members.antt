@@ -12,7 +12,7 @@ use Rattle.c_checking_laws.proofs.Agreement.{added}
 use Rattle.c_checking_laws.proofs.CompletePart.{complete_stays}
 use Rattle.c_checking_laws.proofs.Extends.{one_of_both}
 use Rattle.c_checking_laws.proofs.FaultPremises.{AreMembersTimely, AreDeclaratorsTimely}
-use Rattle.c_checking_files.proofs.Kept.{AreWhole}
+use Rattle.c_checking_laws.proofs.Settled.{AreWhole}
 use Rattle.c_checking_order.proofs.Ahead.{added_both}
 
 none_there : (n : ℕ) (fields : List Field) → fields ≡ [] → AreWhole n fields

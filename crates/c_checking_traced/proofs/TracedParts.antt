@@ -13,7 +13,7 @@ use Rattle.c_erasure.specs.Erasure.{typed, after_all, comma_or, tag_text, Erases
 use Rattle.c_erasure.specs.Erasure.{AreMembers, AreEnumerators, IsEnumeratorValue}
 use Rattle.c_erasure.specs.Files.{AreAscending}
 use Rattle.c_erasure.specs.Marks as Marks
-use Rattle.c_erasure.specs.Marks.{Mark, a_tag, an_end, a_name, marks, marks_of_all, marks_if_any, marks_of_type, marks_of_specifiers, marks_of_specifier}
+use Rattle.c_erasure.specs.Marks.{Mark, an_end, a_name, marks, marks_of_all, marks_of_type, marks_of_specifiers, marks_of_specifier}
 use Rattle.c_erasure.specs.Marks.{marks_of_members, marks_of_member_declarators, marks_of_enumerators, marks_of_value, marks_of_declarator, an_enumeration}
 use Rattle.c_erasure.specs.Noted.{Noted, Thing, an_object}
 use Rattle.c_erasure.specs.Scopes.{FileScope, Scope, enumerator, defines, for_value, measured, declared}
@@ -23,7 +23,7 @@ use Rattle.c_checking_laws.proofs.Derived.{words_mark_nothing}
 use Rattle.c_checking_laws.proofs.FaultPremises.{IsTimely, AreTimely, IsTypeTimely, AreSpecifiersTimely, AreMembersTimely, AreDeclaratorsTimely}
 use Rattle.c_checking_laws.proofs.FaultPremises.{AreEnumeratorsTimely, IsValueTimely, IsDeclaratorTimely}
 use Rattle.c_checking_laws.proofs.Ranges.{constant_below}
-use Rattle.c_checking_files.proofs.Kept.{AreWhole}
+use Rattle.c_checking_laws.proofs.Settled.{AreWhole}
 use Rattle.c_checking_order.proofs.Ahead.{Standing, standing_left, standing_right}
 use Rattle.c_checking_traced.proofs.Lists.{ascending_apart}
 use Rattle.c_checking_traced.proofs.Tracing.{AreTraced, traced_both, two, three}

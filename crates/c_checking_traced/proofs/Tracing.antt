@@ -10,7 +10,7 @@ use Rattle.c_erasure.specs.Erasure.{IsBound}
 use Rattle.c_erasure.specs.Marks.{Mark, a_tag, an_end, a_name, scope_beginnings, defined_in}
 use Rattle.c_erasure.specs.Scopes.{Bound, FileScope, enumerator, at_file_scope}
 use Rattle.c_checking_laws.proofs.Agreement.{added}
-use Rattle.c_checking_files.proofs.Kept.{AreWhole}
+use Rattle.c_checking_laws.proofs.Settled.{AreWhole}
 use Rattle.c_checking_order.proofs.Ahead.{Standing, standing_left, standing_right, added_both}
 
 -- ---- of each mark of a list

@@ -23,7 +23,7 @@ use Rattle.c_checking_laws.proofs.CompletePart.{IsFitFor, fit_stays}
 use Rattle.c_checking_laws.proofs.NodesOfParts.{same_bytes}
 use Rattle.c_checking_laws.proofs.CompleteWhole as Complete
 use Rattle.c_checking_complete.proofs.Objects.{mapped_at}
-use Rattle.c_checking_files.proofs.Kept.{AreWhole}
+use Rattle.c_checking_laws.proofs.Settled.{AreWhole}
 use Rattle.c_checking_whole.proofs.Filed.{IsWholeFile}
 use Rattle.c_checking_whole.proofs.FileFacts.{whole_file}
 use Rattle.c_checking_traced.proofs.Ended.{ended_grows}
