@@ -16,7 +16,7 @@ use Rattle.c_checking_files.proofs.Parts.{Parted, none, is_made, is_bytes, NoneB
 
 -- where more is allowed
 pub reaches_more : {May Can : FileScope → Type 0} {f g : FileScope} {i : Bool} → ((g : FileScope) → May g → Can g) → Reaches May f i g → Reaches Can f i g
-reaches_more {May} {Can} {f} {g} into p = record { extends = p.extends; counted = p.counted; allowed = by_part p.allowed }
+reaches_more {May} {Can} {f} {g} into p = record { extends = p.extends; counted = p.counted; settled = p.settled; allowed = by_part p.allowed }
   where
     by_part : (g ≡ f) ⊎ May g → (g ≡ f) ⊎ Can g
     by_part (inl e) = inl e

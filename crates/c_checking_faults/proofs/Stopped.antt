@@ -11,12 +11,13 @@ use Rattle.c_erasure.specs.Scopes.{AnObject, FileScope, Scope, ALocal, in_full, 
 use Rattle.c_checking_laws.proofs.Adding.{makes_none}
 use Rattle.c_checking_laws.proofs.Within.{Additions, both, Within, within_nothing, within_all, within_left, within_then, within_inside, ArePicked, picked_same}
 use Rattle.c_checking_laws.proofs.Agreement.{IsObjectType, IsSteady}
-use Rattle.c_checking_laws.proofs.Extends.{Extends, itself, further}
+use Rattle.c_checking_laws.proofs.Extends.{Extends, itself, further, records_grow}
 use Rattle.c_checking_laws.proofs.FaultDeclaring.{IsOrderly, orderly_stays}
 use Rattle.c_checking_laws.proofs.FaultPremises.{Prepared, inside_prepared}
 use Rattle.c_checking_laws.proofs.FaultResults.{Up, Reaches, reaches_itself, within_reached, Broken}
 use Rattle.c_checking_files.proofs.Kept.{AreObjectsWhole}
-use Rattle.c_checking_files.proofs.Layouts.{IsLaid, records_grow}
+use Rattle.c_checking_laws.proofs.Settled.{AreSettled, Settles}
+use Rattle.c_checking_files.proofs.Layouts.{IsLaid}
 use Rattle.c_checking_files.proofs.Longer.{seen, GoesOn, goes_further}
 use Rattle.c_checking_files.proofs.Scoped.{IsWithin, ready_for, AddsInside, records_same, FoundIn}
 use Rattle.c_checking_items.proofs.AddressesStay.{keeps_constants}
@@ -69,8 +70,13 @@ pub inside_reaches : (s : Scope) (all : Additions) {g : FileScope} → s.is_insi
 inside_reaches s all {g} i p r = record {
   extends = r.extends;
   counted = λ e. r.counted i;
+  settled = r.settled;
   allowed = inr (inner_of s all g i p (within_reached s all r));
 }
+
+settled_on : {f g : FileScope} → Extends f g → length g.records ≡ length f.records → Settles f g
+settled_on {f} {g} p e =
+    λ h. subst (λ numbered. AreSettled numbered g.records) (sym p.numbered) (subst (AreSettled f.numbered) (sym (records_same p e)) h)
 
 -- one part that is read inside of a function, and where reading goes on to
 pub inner_later : {f m g : FileScope} {x made : List ℕ} (k : List ℕ) (l : Additions) → Extends f m → AddsInside f x made m
@@ -79,6 +85,7 @@ pub inner_later : {f m g : FileScope} {x made : List ℕ} (k : List ℕ) (l : Ad
 inner_later k l p grows n picked r = record {
   extends = further p r.extends;
   counted = λ e. r.counted refl ∙ n;
+  settled = λ h. r.settled (settled_on p n h);
   allowed = inr (within_then k l grows picked (within_inner l r));
 }
 
@@ -158,7 +165,12 @@ module _ (untagged : ℕ → List ℕ) (ends : List ℕ) (f : FileScope) where
     begun = begin_at (within_all v.made v.grows (picked_same v.made))
 
     pub read_reaches : Reaches (Inner s.file (record { marks = []; said = x; made = k })) s.file true after.file
-    read_reaches = record { extends = v.extends; counted = λ e. tags_counted v.grows; allowed = inr own }
+    read_reaches = record {
+      extends = v.extends;
+      counted = λ e. tags_counted v.grows;
+      settled = settled_on v.extends (tags_counted v.grows);
+      allowed = inr own;
+    }
 
     -- it holds there
     pub holds_there : IsIn s → AreFresh s.file k → A after.file after.locals

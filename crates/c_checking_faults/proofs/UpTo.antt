@@ -15,6 +15,7 @@ use Rattle.c_text_order.specs.TextOrder.{Rising, places_of_item}
 use Rattle.c_checking.specs.Files.{unread}
 use Rattle.c_checking_laws.proofs.Adding.{unless, Adds, beginnings_append, defined_append, take_front}
 use Rattle.c_checking_laws.proofs.Extends.{Extends}
+use Rattle.c_checking_laws.proofs.Settled.{Settles}
 use Rattle.c_checking_laws.proofs.Within.{FirstOf, first_left, first_then, ArePicked, picked_left, picked_both, among_left, among_right, among_split}
 use Rattle.c_checking_laws.proofs.Within.{Additions, both, Within, within_all}
 use Rattle.c_checking_items.proofs.Items.{places_in}
@@ -63,6 +64,7 @@ pub record UpTo (f : FileScope) (all : Additions) (g : FileScope) : Type 0 where
   pub objects : PickedOf (map (λ o. o.first) f.objects) (map (λ o. o.first) g.objects) all.made
   pub functions : PickedOf (map (λ o. o.first) f.functions) (map (λ o. o.first) g.functions) all.made
   pub consistent : AreConsistent f.names → AreConsistent g.names
+  pub settled : Settles f g
 
 -- the whole part
 pub record Exactly (f : FileScope) (all : Additions) (g : FileScope) : Type 0 where
@@ -72,6 +74,7 @@ pub record Exactly (f : FileScope) (all : Additions) (g : FileScope) : Type 0 wh
   pub objects : PickedOf (map (λ o. o.first) f.objects) (map (λ o. o.first) g.objects) all.made
   pub functions : PickedOf (map (λ o. o.first) f.functions) (map (λ o. o.first) g.functions) all.made
   pub consistent : AreConsistent f.names → AreConsistent g.names
+  pub settled : Settles f g
 
 pub up_to_itself : (f : FileScope) (all : Additions) → UpTo f all f
 up_to_itself f all = record {
@@ -81,6 +84,7 @@ up_to_itself f all = record {
   objects = picked_none _ _ all.made refl;
   functions = picked_none _ _ all.made refl;
   consistent = λ h. h;
+  settled = λ h. h;
 }
 
 pub up_to_exactly : {f g : FileScope} {all : Additions} → Exactly f all g → UpTo f all g
@@ -91,6 +95,7 @@ up_to_exactly {f} {g} {all} p = record {
   objects = p.objects;
   functions = p.functions;
   consistent = p.consistent;
+  settled = p.settled;
 }
 
 pub up_to_first : {f g : FileScope} (p q : Additions) → UpTo f p g → UpTo f (both p q) g
@@ -101,6 +106,7 @@ up_to_first {f} {g} p q h = record {
   objects = picked_first _ _ p.made q.made h.objects;
   functions = picked_first _ _ p.made q.made h.functions;
   consistent = h.consistent;
+  settled = h.settled;
 }
 
 -- one part, and a first part of the next
@@ -112,6 +118,7 @@ up_to_then {f} {g} {h} p q a b = record {
   objects = picked_then _ _ _ p.made q.made a.objects b.objects;
   functions = picked_then _ _ _ p.made q.made a.functions b.functions;
   consistent = λ e. b.consistent (a.consistent e);
+  settled = λ e. b.settled (a.settled e);
 }
 
 pub exactly_then : {f g h : FileScope} (p q : Additions) → Exactly f p g → Exactly g q h → Exactly f (both p q) h
@@ -124,6 +131,7 @@ exactly_then {f} {g} {h} p q a b = record {
   objects = picked_then _ _ _ p.made q.made a.objects b.objects;
   functions = picked_then _ _ _ p.made q.made a.functions b.functions;
   consistent = λ e. b.consistent (a.consistent e);
+  settled = λ e. b.settled (a.settled e);
 }
 
 -- ---- what is known of parts
@@ -138,14 +146,15 @@ picked_any true (x ∷ w) all h = absurd h
 picked_any false w all h = h
 
 -- inside of a part of a declaration, where a law on faults says what the file has more
-pub up_to_within : {f g : FileScope} {b c : Bool} (all : Additions) → Within f false b c all g → UpTo f all g
-up_to_within {f} {g} {b} {c} all w = record {
+pub up_to_within : {f g : FileScope} {b c : Bool} (all : Additions) → Within f false b c all g → Settles f g → UpTo f all g
+up_to_within {f} {g} {b} {c} all w settled = record {
   names = w.names;
   records = w.records;
   mentions = λ at h. by_part at (w.mentions at h);
   objects = (w.firsts.0, w.firsts.1, picked_any c w.firsts.0 all.made w.firsts.2);
   functions = picked_none _ _ all.made (ap (λ all. map (λ o. o.first) all) w.functions);
   consistent = w.consistent;
+  settled = settled;
 }
   where
     by_part : (at : ℕ) → IsAmong (map (λ m. m.at) f.mentions) at ⊎ IsAmong (unless b all.said) at
@@ -155,9 +164,9 @@ up_to_within {f} {g} {b} {c} all w = record {
 
 -- a part of a declaration that is read
 pub exactly_adds : {f g : FileScope} {b c : Bool} {u : List Mark} {x made : List ℕ} (k : List ℕ) → Adds f false b c u x made g → ArePicked made k
-    → Exactly f (record { marks = u; said = x; made = k }) g
-exactly_adds {f} {g} {b} {c} {u} {x} {made} k p picked =
-    let w = up_to_within (record { marks = u; said = x; made = k }) (within_all k p picked) in
+    → Settles f g → Exactly f (record { marks = u; said = x; made = k }) g
+exactly_adds {f} {g} {b} {c} {u} {x} {made} k p picked settled =
+    let w = up_to_within (record { marks = u; said = x; made = k }) (within_all k p picked) settled in
     record {
       names = p.names;
       records = p.records;
@@ -165,18 +174,20 @@ exactly_adds {f} {g} {b} {c} {u} {x} {made} k p picked =
       objects = w.objects;
       functions = w.functions;
       consistent = w.consistent;
+      settled = settled;
     }
 
 -- declarators, definitions and items
 pub exactly_step : {nodes_at : ℕ → ℕ} {u : List Mark} {x k m : List ℕ} {A : FileScope → Type 0} {f g : FileScope} → Stepped nodes_at u x k m f A g
-    → (AreConsistent f.names → AreConsistent g.names) → Exactly f (record { marks = u; said = x; made = k }) g
-exactly_step {f = f} {g = g} s c = record {
+    → (AreConsistent f.names → AreConsistent g.names) → Settles f g → Exactly f (record { marks = u; said = x; made = k }) g
+exactly_step {f = f} {g = g} s c settled = record {
   names = s.names;
   records = s.records;
   mentions = λ at h. among_split _ _ at (subst (λ all. IsAmong all at) s.mentions h);
   objects = (s.objects, s.objects_are, picked_made s.objects_parted);
   functions = (s.functions, s.functions_are, picked_made s.functions_parted);
   consistent = c;
+  settled = settled;
 }
 
 -- ---- files

@@ -10,6 +10,7 @@ use Rattle.c_checking_laws.proofs.Agreement.{IsFit, AreFit, IsGrown, IsSteady, I
 use Rattle.c_checking_laws.proofs.Declared.{number_is}
 use Rattle.c_checking_laws.proofs.Extends.{Extends, kept, one_of_both}
 use Rattle.c_checking_laws.proofs.FaultResults.{Broken, Up, within_reached}
+use Rattle.c_checking_laws.proofs.Settled.{Settles}
 use Rattle.c_checking_laws.proofs.Within.{Additions, both, Within}
 use Rattle.c_checking_files.proofs.FileScopes.{Continues, IsSameObject, continues_itself, continues_then}
 use Rattle.c_checking_items.proofs.Known.{IsKnown}
@@ -61,6 +62,7 @@ module _ (nodes_at : ℕ → ℕ) (made : List ℕ) (P Q : ℕ → Type 0) where
     counted = counted_by u f g records;
     names = λ locals h. all_fit_anywhere g locals g.names k.fits;
     steady = λ h. steady_known g k;
+    settled = λ h. k.settled;
     begun = λ before h m n b e. by_part before h (m refl) n b
         (one_of_both (map (λ b. b.from) f.names) (scope_beginnings u) n b.from
         (subst (λ all. slice_get all n ≡ Some b.from) names (map_there (λ b. b.from) g.names n b e)));
@@ -134,14 +136,14 @@ stops_first p q Is b = record {
 }
 
 -- what a law on parts of the tree says
-pub stops_of : {f : FileScope} (p all : Additions) → NoneAt f p.made → ((g : FileScope) → Up (at_file_scope f) p g → UpTo f all g)
+pub stops_of : {f : FileScope} (p all : Additions) → NoneAt f p.made → ((g : FileScope) → Up (at_file_scope f) p g → Settles f g → UpTo f all g)
     → (Is : Scope → Type 0) (Js : FileScope → Type 0) → Broken (Up (at_file_scope f) p) (at_file_scope f) Is
     → ((g : FileScope) → Extends f g → Is (at_file_scope g) → Js g) → StopsIn all f Js
 stops_of {f} p all none up Is Js b into =
     let w = within_reached (at_file_scope f) p b.reaches in
     record {
       file = b.file;
-      reaches = record { continues = continues_within p b.reaches.extends w none; up_to = up b.file w };
+      reaches = record { continues = continues_within p b.reaches.extends w none; up_to = up b.file w b.reaches.settled };
       is = into b.file b.reaches.extends b.is;
     }
 

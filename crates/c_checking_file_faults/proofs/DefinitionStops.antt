@@ -34,7 +34,7 @@ use Rattle.c_checking_laws.proofs.FaultResults.{same_fault, bound_err}
 use Rattle.c_checking_laws.proofs.Within.{Additions, within_inside}
 use Rattle.c_checking_files.proofs.Bodies.{parameters_are}
 use Rattle.c_checking_files.proofs.FileScopes.{MayDeclare, IsTheFunction, function_is, bound_put, continues_then}
-use Rattle.c_checking_files.proofs.Kept.{are_complete}
+use Rattle.c_checking_laws.proofs.Settled.{are_complete}
 use Rattle.c_checking_files.proofs.StatementLaws.{AreItemsInRange}
 use Rattle.c_checking_items.proofs.DefinitionItems.{MayDefineIn}
 use Rattle.c_checking_items.proofs.FileFacts.{laid_file}
@@ -154,6 +154,7 @@ module _ (untagged : ℕ → List ℕ) (types_named : List (List ℕ)) (nodes_at
           objects = ([], ap (λ (g : FileScope). map (λ o. o.first) g.objects) i.same ∙ sym (append-nil _), tt);
           functions = (i.functions, i.functions_are, picked_made i.parted);
           consistent = λ h. i.known.consistent;
+          settled = λ h. i.known.settled;
         } in
         let is_fresh : AreFresh c (made_by_items items) =
         record { apart = fresh.apart; none_at = λ m o h j. fresh.none_at m o (subst (λ all. slice_get all m ≡ Some o) objects h) j } in
@@ -174,7 +175,7 @@ module _ (untagged : ℕ → List ℕ) (types_named : List (List ℕ)) (nodes_at
           file = stop.file;
           reaches = record {
             continues = continues_within (at_items items) stop.reaches.extends (within_inner (at_items items) stop.reaches) is_fresh.none_at;
-            up_to = up_to_within (at_items items) (within_inside {d = false} [] refl (within_inner (at_items items) stop.reaches));
+            up_to = up_to_within (at_items items) (within_inside {d = false} [] refl (within_inner (at_items items) stop.reaches)) stop.reaches.settled;
           };
           is = ruled stop.file specs d left items fault base (is_base stop.file (further q stop.reaches.extends)) x name t
               (declares stop.file (further q stop.reaches.extends)) (inr (inr (inr (inr (inr stop.is)))));

@@ -134,7 +134,8 @@ module _ (untagged : ℕ → List ℕ) (types : List (List ℕ)) (nodes_at : ℕ
       (DeclarationStops f d fault)
       (λ n. at_once f d fault (stops_here all f Is (inl (n.0, inr (inl n.1)))))
       (λ b. at_once f d fault (stops_of (of_specifiers untagged d.specs) all (λ n o e i. i)
-      (λ g w. up_to_first (of_specifiers untagged d.specs) (of_declarators d.all d.semicolon) (up_to_within (of_specifiers untagged d.specs) w))
+      (λ g w settled. up_to_first (of_specifiers untagged d.specs) (of_declarators d.all d.semicolon)
+      (up_to_within (of_specifiers untagged d.specs) w settled))
       (λ s. AreBroken d.specs s fault) Is b (λ g p h. inr (inl h)))))
       (λ b e h.
       chosen_err (is_empty d.all && not (declares_tag d.specs)) _ _ fault (DeclarationStops f d fault) h

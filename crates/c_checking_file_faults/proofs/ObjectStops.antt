@@ -32,7 +32,7 @@ use Rattle.c_checking_laws.proofs.FaultResults.{bound_err}
 use Rattle.c_checking_laws.proofs.Within.{Additions}
 use Rattle.c_checking_files.proofs.FileScopes.{MayDeclare, bound_put, continues_then}
 use Rattle.c_checking_files.proofs.FileObjects.{IsTheObject, object_is}
-use Rattle.c_checking_files.proofs.Kept.{are_complete}
+use Rattle.c_checking_laws.proofs.Settled.{are_complete}
 use Rattle.c_checking_files.proofs.KeepingInitials.{keep_initializer}
 use Rattle.c_checking_files.proofs.LocalObjects.{IsValueInRange}
 use Rattle.c_checking_files.proofs.Locals.{IsSizedOver, sized_later}
@@ -149,6 +149,7 @@ module _ (untagged : ℕ → List ℕ) (types : List (List ℕ)) (nodes_at : ℕ
           objects = (i.objects, i.objects_are, picked_made i.parted);
           functions = ([], ap (λ (g : FileScope). map (λ o. o.first) g.functions) i.same ∙ sym (append-nil _), tt);
           consistent = λ h. i.known.consistent;
+          settled = λ h. i.known.settled;
         } in
         let known : is_object (length c.records) t ≡ true = subst (λ records. is_object (length records) t ≡ true) (sym records) whole in
         let stop = constant_faults untagged ends c value (at_file_scope c) n asks.in_range.0 prepared many asks.timely
@@ -156,7 +157,7 @@ module _ (untagged : ℕ → List ℕ) (types : List (List ℕ)) (nodes_at : ℕ
         (λ y j. laid_file y.1 ((keep_initializer untagged types value.1 (at_file_scope c) same
         (λ e. asks.formed) t y j).settled i.known.settled)) fault h in
         stops_later (of_name place from) (of untagged value.1) Is (continues_then v.continues (bound_put z.1 b)) entered
-        (stops_of (of untagged value.1) (of untagged value.1) fresh.none_at (λ g w. up_to_within (of untagged value.1) w)
+        (stops_of (of untagged value.1) (of untagged value.1) fresh.none_at (λ g w settled. up_to_within (of untagged value.1) w settled)
         (λ s. IsBrokenInitial (Some value) s t fault ⊎ HasNoConstants (Some value) s t fault) Is stop
         (λ g q broken.
         let stands : slice_get g.names (length z.1.names) ≡ Some b = bound_stays q (length z.1.names) b (at_end z.1.names b) in

@@ -2,8 +2,7 @@
 use Rattle.std.proofs.Common.{◌≡◌, ℕ, ◌+◌, ◌≤◌, true, false, refl, sym, ap, ◌∙◌, subst, List, [], ◌∷◌, ◌++◌, length, inl, inr, arith}
 use Rattle.std.proofs.Common.{append-nil}
 use Rattle.std.specs.Prelude.{◌⊎◌, map, Some, None, Ok, Err, slice_get}
-use Rattle.c_types.specs.Objects.{is_object}
-use Rattle.c_types.specs.Types.{CType, Record}
+use Rattle.c_types.specs.Types.{CType}
 use Rattle.c_ast.specs.declared.words.Spelling.{Spelling}
 use Rattle.c_ast.specs.Trees
 use Rattle.c_ast.specs.Places.{first_declarator}
@@ -18,13 +17,12 @@ use Rattle.c_erasure.specs.Files.{may_stand_in_file}
 use Rattle.c_erasure.specs.Literals.{literals_of_value}
 use Rattle.c_erasure.specs.Marks.{Mark, a_name, marks_of_declarator, marks_of_initial, ends_in}
 use Rattle.c_erasure.specs.MentionPlaces.{spoken_of_declarator}
-use Rattle.c_erasure.specs.Scopes.{FileScope, AnObject, AFunction, at_file_scope, ended}
+use Rattle.c_erasure.specs.Scopes.{FileScope, AnObject, at_file_scope, ended}
 use Rattle.c_erasure.specs.Specifiers.{Storage, a_typedef}
 use Rattle.c_checking.specs.Answers.{◌>>=◌}
 use Rattle.c_checking.specs.Declaring.{Derivation, derived, with_mention, mentions_in, object_at}
 use Rattle.c_checking.specs.Files.{library_named, declare_typedef, declare_function, declare_object, without_value, declare_as, declarator_named}
 use Rattle.c_checking.specs.Finding.{complete, derivations}
-use Rattle.c_checking.specs.Nodes.{is_complete}
 use Rattle.c_checking.specs.Statements.{sized_in}
 use Rattle.c_checking_laws.proofs.Adding.{Adds, mention_before}
 use Rattle.c_checking_laws.proofs.Agreement.{IsGrown, AreBegun}
@@ -41,9 +39,8 @@ use Rattle.c_checking_laws.proofs.FaultTypes.{within_broken}
 use Rattle.c_checking_laws.proofs.Faults.{faults_steps}
 use Rattle.c_checking_laws.proofs.FoundTypes.{FoundSteps}
 use Rattle.c_checking_laws.proofs.Growth.{grow_steps}
-use Rattle.c_checking_laws.proofs.NodesOfParts.{complete_is}
-use Rattle.c_checking_laws.proofs.Results.{only_if, given}
 use Rattle.c_checking_laws.proofs.Sound.{sound_steps}
+use Rattle.c_checking_laws.proofs.Settled.{object_whole}
 use Rattle.c_checking_files.proofs.FileScopes.{MayDeclare, adds_continues}
 use Rattle.c_checking_files.proofs.Keeping.{keep_steps}
 use Rattle.c_checking_files.proofs.Kept.{Keeps, keeps_mention}
@@ -58,12 +55,6 @@ use Rattle.c_checking_file_faults.proofs.DeclaratorStops.{ruled_here, sized_faul
 use Rattle.c_checking_file_faults.proofs.DeclaratorStops.{by_storage, declared_as}
 use Rattle.c_checking_file_faults.proofs.ObjectStops.{IsValueTimely, of_initial, object_stops}
 use Rattle.c_checking_file_faults.proofs.Tests.{AreOwnFunctions}
-
-object_whole : (records : List Record) (count at : ℕ) (t u : CType) → object_at records count at t ≡ Ok u → is_object (length records) u ≡ true
-unfolding object_at
-object_whole records count at t u h =
-    let c = only_if (is_complete records count t) _ _ _ u h in
-    given (λ u. is_object (length records) u ≡ true) t u c.1 (complete_is records count t c.0).1
 
 module _ (untagged : ℕ → List ℕ) (types : List (List ℕ)) (nodes_at : ℕ → ℕ) (ends : List ℕ) where
   -- what is asked of the file and of a declarator; its name is in scope from a byte on
@@ -115,7 +106,7 @@ module _ (untagged : ℕ → List ℕ) (types : List (List ℕ)) (nodes_at : ℕ
       steps_reach = record {
         continues = adds_continues found.grew.extends (grow_steps untagged d.declarator (at_file_scope f) may.may.same steps is_steps);
         up_to = up_to_first own rest (up_to_within own (within_said place (of_declarator untagged d.declarator)
-            (within_all [] (grow_steps untagged d.declarator (at_file_scope f) may.may.same steps is_steps) tt)));
+            (within_all [] (grow_steps untagged d.declarator (at_file_scope f) may.may.same steps is_steps) tt)) found.grew.settled);
       }
 
       abbrev said : MentionKind → CType → FileScope
@@ -142,7 +133,7 @@ module _ (untagged : ℕ → List ℕ) (types : List (List ℕ)) (nodes_at : ℕ
           (at_file_scope f) may.may.same steps is_steps)
 
       said_exactly : (kind : MentionKind) (t : CType) → Exactly f own (said kind t)
-      said_exactly kind t = exactly_adds [] (said_adds kind t) tt
+      said_exactly kind t = exactly_adds [] (said_adds kind t) tt (said_grown kind t).settled
 
       said_reaches : (kind : MentionKind) (t : CType) → GoesUpTo all f (said kind t)
       said_reaches kind t = record {
@@ -263,7 +254,8 @@ module _ (untagged : ℕ → List ℕ) (types : List (List ℕ)) (nodes_at : ℕ
         let s = at_file_scope f in
         bound_err (derivations d.declarator s) _ fault (StopsIn all f Is) h
         (λ e. stops_of (of_declarator untagged d.declarator) all (λ n o e i. i)
-        (λ g w. up_to_first own rest (up_to_within own (within_said place (of_declarator untagged d.declarator) w))) (λ s. IsBrokenWithin d.declarator s fault) Is
+        (λ g w settled. up_to_first own rest (up_to_within own (within_said place (of_declarator untagged d.declarator) w) settled))
+        (λ s. IsBrokenWithin d.declarator s fault) Is
         (faults_steps untagged ends (Up s (of_declarator untagged d.declarator)) d.declarator s (length f.records) may.may.in_range before_name (omega arith) may.timely
         (λ g w. w) fault e)
         (λ g p h. inl (within_broken d.declarator (at_file_scope g) base fault h)))

@@ -131,7 +131,7 @@ module _ (untagged : ℕ → List ℕ) (types_named : List (List ℕ)) (nodes_at
       let keeps = keep_base untagged types_named specs s m.same (λ i. m.specifiers_formed) from b is_base in
       let first = found_step nodes_at f b.1 (λ h. Unit {0}) v.grew keeps adds (λ h e. tt) in
       let k1 = subst (λ made. IsKnown nodes_at made none_new none_new b.1) (append-nil before) (first.known before k) in
-      let read : Exactly f own b.1 = exactly_adds [] adds tt in
+      let read : Exactly f own b.1 = exactly_adds [] adds tt v.grew.settled in
       let s1 = at_file_scope b.1 in
       let same = v.grew.extends.untagged ∙ m.same in
       let prepared = right untagged ends u (w ++ a_name left_at ∷ []) may.prepared v.grew in
@@ -141,7 +141,8 @@ module _ (untagged : ℕ → List ℕ) (types_named : List (List ℕ)) (nodes_at
       bound_err (derivations d s1) _ fault (StopsIn all f Is) h
       (λ e. stops_later own (both named inner) Is (adds_continues v.grew.extends adds) read
       (stops_of (of_declarator untagged d) (both named inner) (λ n o e i. i)
-      (λ g w. up_to_first named inner (up_to_within named (within_said (first_declarator d x.from) (of_declarator untagged d) w))) (λ s. IsBrokenWithin d s fault) Is
+      (λ g w settled. up_to_first named inner (up_to_within named (within_said (first_declarator d x.from) (of_declarator untagged d) w) settled))
+      (λ s. IsBrokenWithin d s fault) Is
       (faults_steps untagged ends (Up s1 (of_declarator untagged d)) d s1 n1 m.in_range left_prepared many may.timely (λ g w. w) fault e)
       (λ g p h. inr (inr (b.0, v.holds g p, inl (within_broken d (at_file_scope g) b.0 fault h))))))
       (λ steps e h.
@@ -151,7 +152,7 @@ module _ (untagged : ℕ → List ℕ) (types_named : List (List ℕ)) (nodes_at
       let reach : GoesUpTo all f steps.1 = record {
         continues = continues_then (adds_continues v.grew.extends adds) (adds_continues found.grew.extends adds1);
         up_to = up_to_then own (both named inner) read (up_to_first named inner
-            (up_to_within named (within_said (first_declarator d x.from) (of_declarator untagged d) (within_all [] adds1 tt))));
+            (up_to_within named (within_said (first_declarator d x.from) (of_declarator untagged d) (within_all [] adds1 tt)) found.grew.settled));
       } in
       bound_err (derived steps.1.records steps.0 b.0) _ fault (StopsIn all f Is) h
       (λ i. stops_there all f steps.1 Is reach
@@ -181,7 +182,7 @@ module _ (untagged : ℕ → List ℕ) (types_named : List (List ℕ)) (nodes_at
       let counts : length f.records + length (ends_in u) + length (ends_in w) ≡ length said.records = omega (arith, c1, c2) in
       let said_ends : said.ends ≡ f.ends = grown.extends.ends ∙ v.grew.extends.ends in
       stops_later own (both named inner) Is (adds_continues v.grew.extends adds) read
-      (stops_later named inner Is (adds_continues (further found.grew.extends (said_so t)) adds2) (exactly_adds [] adds2 tt)
+      (stops_later named inner Is (adds_continues (further found.grew.extends (said_so t)) adds2) (exactly_adds [] adds2 tt grown.settled)
       (function_stops untagged types_named nodes_at ends before said specs d left_at items fault b.0
       (λ g p. v.holds g (further found.grew.extends (further (said_so t) p))) x name result types
       (λ g p. subst (Declares (at_file_scope g) d b.0) is
@@ -208,5 +209,6 @@ module _ (untagged : ℕ → List ℕ) (types_named : List (List ℕ)) (nodes_at
       (omega arith) may.specifiers_timely (λ g w. w) y q
       fault j) e (StopsIn all f Is)
       (λ m. stops_here all f Is (inl (m.0, inr (inl m.1))))
-      (λ b. stops_of own all (λ n o e i. i) (λ g w. up_to_first own (both named inner) (up_to_within own w)) (λ s. AreBroken specs s fault) Is b (λ g p h. inr (inl h))))
+      (λ b. stops_of own all (λ n o e i. i) (λ g w settled. up_to_first own (both named inner) (up_to_within own w settled))
+      (λ s. AreBroken specs s fault) Is b (λ g p h. inr (inl h))))
       (λ b e h. named_stops words b e (subst (λ o. definition_named b.1 specs b.0 d left_at nodes items o ≡ Err fault) name h)))
