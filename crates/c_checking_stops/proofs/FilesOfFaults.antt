@@ -1,4 +1,4 @@
--- The file of a fault: what is read before is declared in it too, where its records are laid out, and it is the file of a first part of the text.
+-- The file of a fault: what is read before is declared in it too, and it is the file of a first part of the text.
 use Rattle.std.proofs.Common.{◌≡◌, ℕ, zero, suc, sym, ap, ◌∙◌, subst, List, [], ◌∷◌, ◌++◌}
 use Rattle.std.proofs.Common.{inl, inr}
 use Rattle.std.specs.Prelude.{All, map, Some, slice_get}
@@ -14,10 +14,10 @@ use Rattle.c_types.specs.Types.{CType}
 use Rattle.c_checking.specs.Files.{unread}
 use Rattle.c_checking_laws.proofs.Extends.{kept, further}
 use Rattle.c_checking_laws.proofs.Within.{ArePicked}
-use Rattle.c_checking_files.proofs.Layouts.{IsLaid}
 use Rattle.c_checking_files.proofs.Parts.{Parted, is_made, is_bytes, parted_then, none_left, NoneBegins}
 use Rattle.c_text_order.specs.TextOrder.{Rising, IsUnwritten}
 use Rattle.c_checking_items.proofs.AddressesStay.{keeps_constants}
+use Rattle.c_checking_items.proofs.FileFacts.{laid_file}
 use Rattle.c_checking_items.proofs.Items.{places_in}
 use Rattle.c_checking_items.proofs.Known.{IsKnown, none_new}
 use Rattle.c_checking_items.proofs.Orders.{none_begins_there, rising_in}
@@ -76,7 +76,8 @@ module _ (file : ℕ) (untagged : ℕ → List ℕ) (items : List Trees.Item) (f
     pub up_to_there : UpTo start (of_file untagged items) h
     up_to_there =
         subst (λ all. UpTo start all h) (same_additions (u ++ v) all (x ++ y) (mentions_of_file items) (k ++ l) (places_in items) marks_are said_are places_are)
-        (up_to_then (record { marks = u; said = x; made = k }) (record { marks = v; said = y; made = l }) (exactly_step s (λ e. known.consistent)) r.up_to)
+        (up_to_then (record { marks = u; said = x; made = k }) (record { marks = v; said = y; made = l })
+        (exactly_step s (λ e. known.consistent) (λ e. known.settled)) r.up_to)
 
     -- names begin to be in scope where the marks say so
     beginning : (n : ℕ) (b : Bound) → slice_get h.names n ≡ Some b → slice_get (scope_beginnings all) n ≡ Some b.from
@@ -94,9 +95,9 @@ module _ (file : ℕ) (untagged : ℕ → List ℕ) (items : List Trees.Item) (f
         (subst (Rising 0) (sym places_are) (rising_in items 0 fit.order.places)) (parted_then s.objects_parted p.1)
         (w.1 ∙ ap (λ z. z ++ w.0) s.objects_are))
 
-    final_there : IsLaid h → IsFinal s.others h
-    final_there laid = record {
-      laid = laid;
+    final_there : IsFinal s.others h
+    final_there = record {
+      laid = laid_file h (r.up_to.settled known.settled);
       none_begins = none_there;
       constants = λ b p. keeps_constants b h p;
       consistent = r.up_to.consistent known.consistent;
@@ -104,8 +105,8 @@ module _ (file : ℕ) (untagged : ℕ → List ℕ) (items : List Trees.Item) (f
           ascending_at (scope_beginnings all) fit.beginnings i j a.from b.from l (beginning i a e) (beginning j b f);
     }
 
-    pub declared_there : IsLaid h → Holds h
-    declared_there laid = s.holds h r.continues (final_there laid)
+    pub declared_there : Holds h
+    declared_there = s.holds h r.continues final_there
 
     pub file_there : ((at : ℕ) → IsUnwritten (untagged at)) → (before : List Trees.Item) → All (ErasesItem h) before → IsFileUpTo before items h
     file_there unwritten before declared =

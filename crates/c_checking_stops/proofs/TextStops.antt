@@ -16,7 +16,6 @@ use Rattle.c_erasure.specs.Scopes.{FileScope}
 use Rattle.c_order.proofs.Ordered.{tree_ordered, marks_are_in_order}
 use Rattle.c_checking.specs.Files.{unread, annotated}
 use Rattle.c_checking_laws.proofs.Within.{Additions}
-use Rattle.c_checking_files.proofs.Layouts.{IsLaid}
 use Rattle.c_text_order.specs.TextOrder.{IsUnwritten, TextsAreInOrder, places_of_item}
 use Rattle.c_checking_items.proofs.Items.{places_in}
 use Rattle.c_checking_items.proofs.SoundFiles.{AreFitItems, start_may, nothing_known}
@@ -25,6 +24,7 @@ use Rattle.c_checking_items.proofs.TextFits.{text_is_fit}
 use Rattle.c_checking_faults.proofs.UpTo.{of_file, up_to_first}
 use Rattle.c_checking_file_faults.proofs.Behind.{GoesUpTo}
 use Rattle.c_checking_file_faults.proofs.ItemStops.{IsStoppedItem, ItemStops, item_stops, StopsAtItem, annotated_stops}
+use Rattle.c_checking_stops.specs.Faults.{FaultsBreakRules}
 use Rattle.c_checking_stops.proofs.BehindItems.{MayStopFile, item_may, IsBehind, behind_items}
 use Rattle.c_checking_stops.proofs.FilesOfFaults.{declared_there, file_there, is_broken_item}
 use Rattle.c_checking_stops.proofs.FilesSoFar.{marks_append, places_append, mentions_append, declared_so_far, file_up_to}
@@ -50,8 +50,8 @@ pub record StopsInText (items : List Trees.Item) (fault : Fault) : Type 0 where
   pub places_are : places ++ left.made ≡ places_of_item item
   pub reaches : GoesUpTo left known file
   pub broken : IsStoppedItem known file item fault
-  -- what is read is declared in that file too, where its records are laid out: it is the file of the fault
-  pub fault_of : IsLaid file → IsFaultOf items fault
+  -- what is read is declared in that file too: it is the file of the fault
+  pub fault_of : IsFaultOf items fault
 
 module _ (file : ℕ) (untagged : ℕ → List ℕ) (items : List Trees.Item) (fit : AreFitItems untagged items)
     (ends_ascend : AreAscending (ends_in (marks_of_file untagged items)))
@@ -132,9 +132,9 @@ module _ (file : ℕ) (untagged : ℕ → List ℕ) (items : List Trees.Item) (f
         places_are = s.places_are;
         reaches = s.reaches;
         broken = here.1;
-        fault_of = λ laid.
+        fault_of =
             let there = declared_there file untagged items fit u v x y k l made (Holds b.before b.item s.file fault) s.middle s.file so_far marks_are
-            said_are places_are reach laid in
+            said_are places_are reach in
             record {
               before = b.before;
               item = b.item;
@@ -159,3 +159,6 @@ module _ (places : TokensHavePlaces) (first : TreesBeginFirst) (texts : TextsAre
       let fit = text_is_fit places first texts untagged bytes items unwritten tree in
       file_stops file untagged items fit ((marks_are_in_order places).ends bytes items untagged tree)
       (text_timely first untagged (nodes_at items) items fit.formed 0 (tree_ordered places bytes items tree)) unwritten fault h
+
+  pub broken_text : FaultsBreakRules
+  broken_text number untagged bytes items fault unwritten tree h = (text_stops number untagged bytes items fault unwritten tree h).fault_of

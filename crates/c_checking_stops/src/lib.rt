@@ -3,3 +3,7 @@
 //!
 //! It stands on `c_checking_items` and `c_checking_file_faults`, and has laws alone.
 #![tactic(auto)]
+
+mod laws;
+
+pub use laws::faults_break_rules;
