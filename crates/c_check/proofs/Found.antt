@@ -15,8 +15,10 @@ use Rattle.c_erasure.specs.Scopes.{FileScope}
 use Rattle.c_checking.specs.Answers.{Answer}
 use Rattle.c_checking.specs.Files.{annotated}
 use Rattle.c_checking_items.specs.Found.{AnnotatedFilesAreFound, IsFound}
+use Rattle.c_checking_stops.specs.Faults.{FaultsBreakRules}
 use Rattle.c_checking_units.specs.Units.{FaultsHaveNoUnit}
 use Rattle.c_erasure.specs.Broken.{Fault as Broken}
+use Rattle.c_erasure.specs.BrokenFiles.{IsFaultOf}
 use Rattle.c_tags.specs.TagLists.{AreTagsOf, TagLists}
 use Rattle.c_tags.specs.Untagged.{untagged_by}
 use Rattle.c_check_files.specs.Lists.{AreListsOf}
@@ -56,20 +58,21 @@ pub same_unit_erases : (number : ℕ) (file : File) (items : List Trees.Item) (u
     → ErasesTo number file.name file.bytes items (unit_data u) → ErasesTo number file.name file.bytes items (unit_data given)
 same_unit_erases number file items u given same h = subst (λ it. ErasesTo number file.name file.bytes items (unit_data it)) (sym same) h
 
--- where the checker stops, there is no unit
-stops : FaultsHaveNoUnit → (number : ℕ) (file : File) (items : List Trees.Item) (t : TagLists) (f : Broken) → IsTreeOf file.bytes items
-    → AreTagsOf file.name file.bytes items t → annotated number (untagged_by t.untagged) items ≡ Err f
-    → Finds number file items (Err f) × HasNoUnit number file items
-stops law number file items t f tree h e = (
+-- where the checker stops, there is no unit, and a rule is broken
+stops : FaultsHaveNoUnit → FaultsBreakRules → (number : ℕ) (file : File) (items : List Trees.Item) (t : TagLists) (f : Broken)
+    → IsTreeOf file.bytes items → AreTagsOf file.name file.bytes items t → annotated number (untagged_by t.untagged) items ≡ Err f
+    → Finds number file items (Err f) × HasNoUnit number file items × IsFaultOf items f
+stops none rules number file items t f tree h e = (
   finds number file items t (Err f) h e,
-  λ u. law number file.name file.bytes items (untagged_by t.untagged) f u h.begin tree h.untagged e,
+  λ u. none number file.name file.bytes items (untagged_by t.untagged) f u h.begin tree h.untagged e,
+  rules number (untagged_by t.untagged) file.bytes items f h.begin tree e,
 )
 
-pub fault_found : FaultsHaveNoUnit → (number : ℕ) (file : File) (items : List Trees.Item) (t : TagLists) (fault : Fault) → IsTreeOf file.bytes items
-    → AreTagsOf file.name file.bytes items t → Fails fault (annotated number (untagged_by t.untagged) items)
-    → OnFault number (fault_in number fault) (λ f. Finds number file items (Err f) × HasNoUnit number file items)
-fault_found law number file items t (F.TooBig at) tree h e = (refl, stops law number file items t _ tree h e)
-fault_found law number file items t (F.IllTyped rule at) tree h e = (refl, stops law number file items t _ tree h e)
-fault_found law number file items t (F.Undeclared x at) tree h e = (refl, stops law number file items t _ tree h e)
-fault_found law number file items t (F.Redeclared x at first) tree h e = (refl, refl, stops law number file items t _ tree h e)
-fault_found law number file items t F.Memory tree h e = tt
+pub fault_found : FaultsHaveNoUnit → FaultsBreakRules → (number : ℕ) (file : File) (items : List Trees.Item) (t : TagLists) (fault : Fault)
+    → IsTreeOf file.bytes items → AreTagsOf file.name file.bytes items t → Fails fault (annotated number (untagged_by t.untagged) items)
+    → OnFault number (fault_in number fault) (λ f. Finds number file items (Err f) × HasNoUnit number file items × IsFaultOf items f)
+fault_found none rules number file items t (F.TooBig at) tree h e = (refl, stops none rules number file items t _ tree h e)
+fault_found none rules number file items t (F.IllTyped rule at) tree h e = (refl, stops none rules number file items t _ tree h e)
+fault_found none rules number file items t (F.Undeclared x at) tree h e = (refl, stops none rules number file items t _ tree h e)
+fault_found none rules number file items t (F.Redeclared x at first) tree h e = (refl, refl, stops none rules number file items t _ tree h e)
+fault_found none rules number file items t F.Memory tree h e = tt

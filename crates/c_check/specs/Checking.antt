@@ -1,5 +1,5 @@
--- What checking the types of a file answers: the unit that erases to its tree, or, where there is none, a fault at which the checker stops. Want of
--- memory is a free answer.
+-- What checking the types of a file answers: the unit that erases to its tree, or, where there is none, a fault at which the checker stops, with the
+-- rule that is broken there. Want of memory is a free answer.
 use Rattle.std.specs.Prelude.{◌≡◌, ℕ, List, ◌∷◌, Result, Ok, Err}
 use Rattle.lay_base.specs.declared.place.File.{File}
 use Rattle.c_ast.specs.Spelling.{spell}
@@ -7,6 +7,7 @@ use Rattle.c_ast.specs.Trees
 use Rattle.c_typed.specs.declared.program.Unit.{Unit as DeclaredUnit}
 use Rattle.c_typed.specs.Programs.{UnitData, unit_data}
 use Rattle.c_erasure.specs.Broken.{Fault, ill_typed, undeclared, redeclared, too_big}
+use Rattle.c_erasure.specs.BrokenFiles.{IsFaultOf}
 use Rattle.c_erasure.specs.Erasing.{ErasesTo}
 use Rattle.c_erasure.specs.Scopes.{FileScope}
 use Rattle.c_erasure.specs.Untagged.{AreTags, structs_in}
@@ -41,7 +42,7 @@ HasNoUnit number file items = (u : UnitData) → ErasesTo number file.name file.
 
 abbrev pub CheckGives : (number : ℕ) → File → List Trees.Item → Result DeclaredUnit CheckFault → Type 0
 CheckGives number file items (Ok u) = ErasesTo number file.name file.bytes items (unit_data u)
-CheckGives number file items (Err fault) = OnFault number fault (λ f. Finds number file items (Err f) × HasNoUnit number file items)
+CheckGives number file items (Err fault) = OnFault number fault (λ f. Finds number file items (Err f) × HasNoUnit number file items × IsFaultOf items f)
 
 -- ---- as the code says it
 

@@ -11,6 +11,7 @@ use crate::limits::within_limits;
 use c_ast::{Tree, nodes};
 use c_check_files::annotated;
 use c_checking_items::annotated_files_are_found;
+use c_checking_stops::faults_break_rules;
 use c_checking_units::faults_have_no_unit;
 use c_tags::Tags;
 use c_typed::Unit;
@@ -28,6 +29,7 @@ pub fn check(alloc: Global, number: u16, file: &File, tree: &Tree) -> Result<Uni
 {
     annotated_files_are_found();
     faults_have_no_unit();
+    faults_break_rules();
     let tags = Tags::of(alloc, tree, file)?;
     match annotated(alloc, number, tags, tree) {
         Ok(found) => Ok(within_limits(unit_of(alloc, found, nodes(tree))?)?),
