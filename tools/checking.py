@@ -20,8 +20,10 @@ COMPILERS = ["riscv64-unknown-elf-gcc", "riscv64-linux-gnu-gcc"]
 VALGRIND = "valgrind"
 TIME = "time"
 PACKAGES = {
+    "clang": "clang",
     "csmith": "csmith",
     "gcc": "gcc",
+    "ld.lld": "lld",
     "tcc": "tcc",
     EMULATOR: "qemu-user",
     OBJDUMP: "binutils-riscv64-linux-gnu",

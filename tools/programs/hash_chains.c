@@ -121,6 +121,8 @@ int main(void)
     kinds = table.used;
     for (i = 0; i < 5; i++) {
         struct Entry *best = most_frequent(&table);
+        if (!best)
+            break;
         putchar(best->pair[0]);
         putchar(best->pair[1]);
         putchar(' ');

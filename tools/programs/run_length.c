@@ -93,5 +93,5 @@ int main(void)
     free(text.at);
     free(again.at);
     free(code.at);
-    return same ? code.length * 100 / text.length : 255;
+    return same ? code.length * 100 / (text.length + 1) : 255;
 }
