@@ -1,0 +1,6 @@
+/* expect: ReadOnly at line 4 */
+int main(void) {
+	char *name = "layc";
+	name[0] = 'L';
+	return name[0];
+}
