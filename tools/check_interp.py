@@ -4,7 +4,8 @@
 - Each program of `programs/` under the interpreter and by GCC for 32 bits: output and status, on its input and on beginnings of it. The sanitizers of
   GCC and Clang have nothing to say of these programs.
 - Each program of `undefined/`, whose first line says which step is undefined and where: the interpreter's text names it, and a sanitizer reports the
-  line, but for those that no sanitizer sees.
+  line, but for those that no sanitizer sees. So with `examples/undefined`, whose texts `docs/MEANING.md` shows.
+- The programs of `examples/interp`: each prints what stands in its `.expected`, by GCC too.
 - Random programs of csmith under both, in one file and in several.
 - Streams that fail, input that comes byte by byte, and the limit of turns.
 
@@ -27,6 +28,8 @@ from csmith_programs import GCC
 
 HERE = os.path.dirname(os.path.abspath(__file__))
 PROGRAMS, UNDEFINED = os.path.join(HERE, "programs"), os.path.join(HERE, "undefined")
+EXAMPLES, UNDEFINED_EXAMPLES = [os.path.join(checking.HERE, "examples", name) for name in ["interp", "undefined"]]
+MEANING = os.path.join(checking.HERE, "docs", "MEANING.md")
 RANDOM_PROGRAMS = 200
 # A random program that GCC's plain code needs longer for is passed over; some never end.
 SECONDS_OF_RANDOM, MOST_SEEDS_EACH = 0.02, 10
@@ -82,15 +85,15 @@ def compare(what, got, wanted):
 
 
 class Program:
-    """A program of the folder: its name, its files in their order, and its input."""
+    """A program of a folder: its name, its files in their order, and its input."""
 
-    def __init__(self, name, names):
-        self.name, self.names = name, sorted(names)
-        path = os.path.join(PROGRAMS, name + ".in")
+    def __init__(self, folder, name, names):
+        self.folder, self.name, self.names = folder, name, sorted(names)
+        path = os.path.join(folder, name + ".in")
         self.text = read(path) if os.path.exists(path) else None
 
     def files(self):
-        return {name: read(os.path.join(PROGRAMS, name)).decode() for name in self.names}
+        return {name: read(os.path.join(self.folder, name)).decode() for name in self.names}
 
     def inputs(self):
         """The input, and beginnings of it."""
@@ -102,20 +105,26 @@ def read(path):
         return f.read()
 
 
-def programs():
+def programs(folder):
     names = {}
-    for name in sorted(os.listdir(PROGRAMS)):
+    for name in sorted(os.listdir(folder)):
         if name.endswith(".c"):
             names.setdefault(name.split(".")[0], []).append(name)
-    return [Program(name, files) for name, files in names.items()]
+    return [Program(folder, name, files) for name, files in names.items()]
 
 
 def check_program(ask, plain, program):
     for text in program.inputs():
-        wanted = plain.run(PROGRAMS, program.names, text)
+        wanted = plain.run(program.folder, program.names, text)
         check(wanted.status is not None and wanted.status >= 0 and wanted.errors == b"", f"{program.name}: GCC's code: {wanted.shown()}")
         if ask:
-            compare(f"{program.name} on {len(text)} bytes", ask.run(PROGRAMS, program.names, text), wanted)
+            compare(f"{program.name} on {len(text)} bytes", ask.run(program.folder, program.names, text), wanted)
+
+
+def check_expected(plain, program):
+    """That an example prints what stands beside it."""
+    got = plain.run(program.folder, program.names, program.text or b"")
+    check(got.output == read(os.path.join(program.folder, program.name + ".expected")), f"{program.name}: GCC's code: {got.shown()}")
 
 
 def check_clean(tools, program):
@@ -158,6 +167,8 @@ UNSEEN = {
     "edge_of_zero_bytes.c": "equality has a value for C99, though it does not say which",
     "dead_equality.c": "sanitizers look at accesses, and at the order of pointers, not at their equality",
     "outside_zero_bytes.c": "the sanitizers' malloc(0) gives one byte",
+    "Pointer.c": "the bytes of a pointer have values for C99",
+    "Edge.c": "equality has a value for C99, though it does not say which",
 }
 
 
@@ -167,12 +178,15 @@ def kind_and_line(name, text):
     return (found.group(1), int(found.group(2))) if found else (None, 0)
 
 
-def check_undefined(ask, tools, name):
-    text = read(os.path.join(UNDEFINED, name)).decode()
+def text_of_undefined(name, line, kind):
+    return f"layc: {name}:{line}: undefined: {kind}"
+
+
+def check_undefined(ask, tools, folder, name):
+    text = read(os.path.join(folder, name)).decode()
     kind, line = kind_and_line(name, text)
     if ask:
-        got = ask.run(UNDEFINED, [name])
-        wanted = f"layc: {name}:{line}: undefined: {kind}\n".encode()
+        got, wanted = ask.run(folder, [name]), text_of_undefined(name, line, kind).encode() + b"\n"
         check((got.status, got.errors) == (TRAP_STATUS, wanted), f"{name}: {got.shown()}, wanted {wanted!r}")
     reports = sanitizers.first_reports(tools, name, text)
     fits = [said for at, said in reports if at == line and re.search(SAID.get(kind, "$."), said)]
@@ -180,6 +194,20 @@ def check_undefined(ask, tools, name):
         check(reports == [], f"{name} is seen by a sanitizer: {reports}")
     elif fits or len(tools) == len(sanitizers.SANITIZERS):
         check(fits != [], f"{name}: {kind} at line {line}, the sanitizers say {reports}")
+
+
+def check_page():
+    """That the page on the meaning shows the step and the text of each example, and no other."""
+    page, shown = read(MEANING).decode(), 0
+    for name in sorted(os.listdir(UNDEFINED_EXAMPLES)):
+        text = read(os.path.join(UNDEFINED_EXAMPLES, name)).decode()
+        kind, line = kind_and_line(name, text)
+        step = text.split("\n")[line - 1].strip()
+        row = [each for each in page.split("\n") if f"`{text_of_undefined(name, line, kind)}`" in each]
+        check(len(row) == 1 and row[0].startswith(f"| `{step}` |"), f"docs/MEANING.md: {name} with {step!r}, the page has {row}")
+        check(name == kind + ".c", f"examples/undefined: {name} is of {kind}")
+        shown += 1
+    check(page.count(": undefined: ") == shown and shown == len(SAID) + len({"Pointer", "Edge"}), f"docs/MEANING.md: {shown} kinds are shown")
 
 
 # ---- random programs
@@ -383,11 +411,15 @@ def main():
         print("skipped: GCC makes no program for its 32-bit target here (package gcc-multilib)")
         return 0
     ask, plain, tools = interpreter(words), Compiled("-O0", words.seconds), sanitizers.that_work()
-    for program in programs():
+    for program in programs(PROGRAMS) + programs(EXAMPLES):
         check_program(ask, plain, program)
         check_clean(tools, program)
-    for name in sorted(os.listdir(UNDEFINED)):
-        check_undefined(None if words.stand_in else ask, tools, name)
+    for program in programs(EXAMPLES):
+        check_expected(plain, program)
+    for folder in [UNDEFINED, UNDEFINED_EXAMPLES]:
+        for name in sorted(os.listdir(folder)):
+            check_undefined(None if words.stand_in else ask, tools, folder, name)
+    check_page()
     if ask and csmith_programs.have_csmith():
         check_random(ask, plain, words.count)
     if ask and not words.stand_in:
