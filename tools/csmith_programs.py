@@ -52,7 +52,9 @@ def have_headers():
 
 def original(seed, flags=()):
     """csmith's program for a seed, as csmith writes it; None where csmith does not end."""
-    done = checking.run(["csmith", *LEFT_OUT, *flags, "--seed", str(seed)], seconds=60)
+    with tempfile.TemporaryDirectory() as folder:
+        # csmith leaves a file in the folder that it runs in
+        done = checking.run(["csmith", *LEFT_OUT, *flags, "--seed", str(seed)], cwd=folder, seconds=60)
     return done.stdout.decode() if done.returncode == 0 else None
 
 
