@@ -15,7 +15,7 @@ import tempfile
 
 import checking
 from benchmark import measured
-from checking import LAYC, TIME, have
+from checking import TIME, built, have
 from csmith_programs import GCC
 
 LEAST_SECONDS, RUNS = 1.0, 3
@@ -103,8 +103,11 @@ CASES = [EMPTY, SIMPLE, CHASE, BLOCKS]
 class Interpreter:
     name = "layc interp"
 
+    def __init__(self, layc):
+        self.layc = layc
+
     def words(self, folder, path):
-        return [LAYC, "interp", "--turns", str(TURNS), path]
+        return [self.layc, "interp", "--turns", str(TURNS), path]
 
 
 class Tcc:
@@ -119,8 +122,8 @@ class Gcc:
 
     def words(self, folder, path):
         program = os.path.join(folder, "program")
-        built = checking.run([*GCC, "-O0", "-w", "-o", program, path], seconds=120)
-        return [program] if built.returncode == 0 else ["false"]
+        done = checking.run([*GCC, "-O0", "-w", "-o", program, path], seconds=120)
+        return [program] if done.returncode == 0 else ["false"]
 
 
 def run_of(way, folder, case, count):
@@ -162,9 +165,13 @@ def show_growth(way, folder, least):
     print(f"  {way.name}: " + "; ".join(told))
 
 
-def is_there(folder):
-    """Whether the interpreter ends a program that does nothing."""
-    return run_of(Interpreter(), folder, EMPTY, 0) is not None
+def interpreter(folder):
+    """The interpreter, where it ends a program that does nothing."""
+    layc = built("layc")
+    if layc and run_of(Interpreter(layc), folder, EMPTY, 0):
+        return [Interpreter(layc)]
+    print("skipped: `layc interp`, which interprets no program yet")
+    return []
 
 
 def main():
@@ -175,10 +182,7 @@ def main():
     with tempfile.TemporaryDirectory() as folder:
         ways = [way for way, tool in [(Tcc(), "tcc"), (Gcc(), "gcc")] if have(tool)]
         if "--stand-in" not in words:
-            if is_there(folder):
-                ways.insert(0, Interpreter())
-            else:
-                print("skipped: `layc interp`, which interprets no program yet")
+            ways = interpreter(folder) + ways
         for case in CASES:
             print(case.name + ":")
             for way in ways:

@@ -23,7 +23,7 @@ import tempfile
 import checking
 import csmith_programs
 import sanitizers
-from checking import LAYC, LIMIT_STATUS, OUTSIDE_STATUS, TRAP_STATUS, check
+from checking import LIMIT_STATUS, OUTSIDE_STATUS, TRAP_STATUS, check
 from csmith_programs import GCC
 
 HERE = os.path.dirname(os.path.abspath(__file__))
@@ -50,11 +50,12 @@ class End:
 
 
 class Interpreter:
-    def __init__(self, turns, seconds):
-        self.words, self.seconds = [LAYC, "interp", "--turns", str(turns)], seconds
+    def __init__(self, layc, turns, seconds):
+        self.layc, self.turns, self.seconds = layc, turns, seconds
 
-    def run(self, folder, names, text=b""):
-        return End(checking.run([*self.words, *names], cwd=folder, input=text, seconds=self.seconds))
+    def run(self, folder, names, text=b"", turns=None):
+        words = [self.layc, "interp", "--turns", str(turns or self.turns), *names]
+        return End(checking.run(words, cwd=folder, input=text, seconds=self.seconds))
 
 
 class Compiled:
@@ -295,13 +296,13 @@ WRITE_FAILED, READ_FAILED = (OUTSIDE_STATUS, b"layc: write failed\n"), (OUTSIDE_
 LATE = TRAP_STATUS, b"layc: late.c:3: undefined: Division\n"
 
 
-def shell(folder, name, redirected):
+def shell(layc, folder, name, redirected):
     """Status and errors of a run under a shell's redirections."""
-    done = subprocess.run(["bash", "-c", f'exec "$0" interp {name} {redirected}', LAYC], cwd=folder, stderr=subprocess.PIPE, timeout=SECONDS)
+    done = subprocess.run(["bash", "-c", f'exec "$0" interp {name} {redirected}', layc], cwd=folder, stderr=subprocess.PIPE, timeout=SECONDS)
     return done.returncode, done.stderr
 
 
-def check_redirected(folder):
+def check_redirected(layc, folder):
     """Streams that fail, under programs that use them and under one that does not."""
     cases = {
         "writes.c": {">&-": WRITE_FAILED, "> /dev/full": WRITE_FAILED, "> /dev/null <&-": (6, b"")},
@@ -312,22 +313,22 @@ def check_redirected(folder):
     }
     for name, ends in cases.items():
         for redirected, end in ends.items():
-            got = shell(folder, name, redirected)
+            got = shell(layc, folder, name, redirected)
             check(got == end, f"{name} with {redirected}: interp gives {got}, wanted {end}")
 
 
-def check_broken_pipe(folder):
+def check_broken_pipe(layc, folder):
     reader, writer = os.pipe()
     os.close(reader)
-    done = subprocess.run([LAYC, "interp", "writes.c"], cwd=folder, stdout=writer, stderr=subprocess.PIPE, timeout=SECONDS)
+    done = subprocess.run([layc, "interp", "writes.c"], cwd=folder, stdout=writer, stderr=subprocess.PIPE, timeout=SECONDS)
     os.close(writer)
     got = done.returncode, done.stderr
     check(got == WRITE_FAILED, f"a pipe that nobody reads: interp gives {got}, wanted {WRITE_FAILED}")
 
 
-def is_answered_at_once(folder):
+def is_answered_at_once(layc, folder):
     """Whether each byte of the input comes back before the next one is sent."""
-    with subprocess.Popen([LAYC, "interp", "echo.c"], cwd=folder, stdin=subprocess.PIPE, stdout=subprocess.PIPE, bufsize=0) as process:
+    with subprocess.Popen([layc, "interp", "echo.c"], cwd=folder, stdin=subprocess.PIPE, stdout=subprocess.PIPE, bufsize=0) as process:
         for byte in [b"a", b"\n", b"\0", b"\xff"]:
             process.stdin.write(byte)
             if not select.select([process.stdout], [], [], 30)[0] or process.stdout.read(1) != byte:
@@ -337,7 +338,7 @@ def is_answered_at_once(folder):
         return process.stdout.read() == b"" and process.wait() == 5
 
 
-def check_ends(folder, seconds):
+def check_ends(ask, folder):
     """Output that stands before an end, and the limits of turns and of calls."""
     wanted = {
         (1000, "dots.c"): (b"." * 999, LIMIT_STATUS, b"layc: turn limit 1000 reached\n"),
@@ -349,19 +350,19 @@ def check_ends(folder, seconds):
         (TURNS, "deeper.c"): (b"", LIMIT_STATUS, b"layc: room Depth passed: 100001\n"),
     }
     for (turns, name), end in wanted.items():
-        got = Interpreter(turns, seconds).run(folder, [name])
+        got = ask.run(folder, [name], turns=turns)
         check((got.output, got.status, got.errors) == end, f"{name} with {turns} turns: {got.shown()}, wanted {end}")
 
 
-def check_streams(seconds):
+def check_streams(ask):
     with tempfile.TemporaryDirectory() as folder:
         csmith_programs.write_files(folder, SMALL)
-        check_redirected(folder)
-        check_broken_pipe(folder)
-        check(is_answered_at_once(folder), "a byte is answered before the next one comes")
-        check_ends(folder, seconds)
+        check_redirected(ask.layc, folder)
+        check_broken_pipe(ask.layc, folder)
+        check(is_answered_at_once(ask.layc, folder), "a byte is answered before the next one comes")
+        check_ends(ask, folder)
         long = bytes(i * i % 251 for i in range(100_000))
-        got = Interpreter(TURNS, seconds).run(folder, ["echo.c"], long)
+        got = ask.run(folder, ["echo.c"], long)
         check((got.output, got.status) == (long, 5), f"a copy of 100000 bytes: {got.shown()}")
 
 
@@ -384,8 +385,9 @@ class Words:
 def interpreter(words):
     if words.stand_in:
         return Compiled("-O2", words.seconds)
-    found = Interpreter(words.turns, words.seconds)
-    if has_interpreter(found):
+    layc = checking.built("layc")
+    found = Interpreter(layc, words.turns, words.seconds)
+    if layc and has_interpreter(found):
         return found
     print("skipped: comparisons with `layc interp`, which interprets no program yet; `--stand-in` tries the script with GCC")
     return None
@@ -423,7 +425,7 @@ def main():
     if ask and csmith_programs.have_csmith():
         check_random(ask, plain, words.count)
     if ask and not words.stand_in:
-        check_streams(words.seconds)
+        check_streams(ask)
     print(f"check_interp: {checking.made - checking.failed} comparisons hold, {checking.failed} do not")
     return 1 if checking.failed else 0
 
