@@ -6,6 +6,7 @@
 - Each program of `undefined/`, whose first line says which step is undefined and where: the interpreter's text names it, and a sanitizer reports the
   line, but for those that no sanitizer sees. So with `examples/undefined`, whose texts `docs/MEANING.md` shows.
 - The programs of `examples/interp`: each prints what stands in its `.expected`, by GCC too.
+- All these programs are taken by the front end.
 - Random programs of csmith under both, in one file and in several.
 - Streams that fail, input that comes byte by byte, and the limit of turns.
 
@@ -20,6 +21,7 @@ import subprocess
 import sys
 import tempfile
 
+import check_front
 import checking
 import csmith_programs
 import sanitizers
@@ -120,6 +122,12 @@ def check_program(ask, plain, program):
         check(wanted.status is not None and wanted.status >= 0 and wanted.errors == b"", f"{program.name}: GCC's code: {wanted.shown()}")
         if ask:
             compare(f"{program.name} on {len(text)} bytes", ask.run(program.folder, program.names, text), wanted)
+
+
+def check_accepted(program):
+    """That the front end takes the program, also where nothing interprets it yet."""
+    answer = check_front.front_answer(program.files())
+    check(check_front.is_taken(answer), f"{program.name}: the front end answers {answer!r}")
 
 
 def check_expected(plain, program):
@@ -382,10 +390,9 @@ class Words:
             at += 1
 
 
-def interpreter(words):
+def interpreter(layc, words):
     if words.stand_in:
         return Compiled("-O2", words.seconds)
-    layc = checking.built("layc")
     found = Interpreter(layc, words.turns, words.seconds)
     if layc and has_interpreter(found):
         return found
@@ -412,7 +419,11 @@ def main():
     if not makes_programs():
         print("skipped: GCC makes no program for its 32-bit target here (package gcc-multilib)")
         return 0
-    ask, plain, tools = interpreter(words), Compiled("-O0", words.seconds), sanitizers.that_work()
+    layc = None if words.stand_in else checking.built("layc")
+    ask, plain, tools = interpreter(layc, words), Compiled("-O0", words.seconds), sanitizers.that_work()
+    for folder in [PROGRAMS, EXAMPLES, UNDEFINED, UNDEFINED_EXAMPLES] if layc else []:
+        for program in programs(folder):
+            check_accepted(program)
     for program in programs(PROGRAMS) + programs(EXAMPLES):
         check_program(ask, plain, program)
         check_clean(tools, program)
