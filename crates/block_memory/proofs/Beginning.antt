@@ -1,5 +1,5 @@
 -- How blocks begin and end.
-use Rattle.std.proofs.Common.{◌≡◌, ◌≢◌, ℕ, ◌<◌, List, [], ◌∷◌, ◌++◌, length, replicate, true, false, sym, ap, ◌∙◌, arith, inl, inr, get_or-set_other, get_or-set_same}
+use Rattle.std.proofs.Common.{◌≡◌, ◌≢◌, ℕ, ◌+◌, ◌<◌, ◌≤◌, List, [], ◌∷◌, ◌++◌, length, replicate, true, false, sym, ap, ◌∙◌, arith, inl, inr, get_or-set_other, get_or-set_same}
 use Rattle.std.specs.Prelude.{◌⊎◌}
 use Rattle.std.proofs.Math.ListN.{set, get_or-map}
 use Rattle.std.proofs.lemmas.Bool.{cases_eq}
@@ -28,7 +28,7 @@ added_keeps slots rows new place row sound few (inr into) k known live =
     λ e. let owner : k ≡ nobody = sym (sound.owned k known live) ∙ ap (λ w. (row_at rows w).owner) e ∙ into.1 in absurd (omega arith) in
     ap (λ rows. row_at rows (slot_at slots k).word) into.2 ∙ get_or-set_other rows place (slot_at slots k).word row no_row apart
 
-added_here : (rows new : List Row) (place : ℕ) (row : Row) → IsAdded rows new place row → row_at new place ≡ row
+pub added_here : (rows new : List Row) (place : ℕ) (row : Row) → IsAdded rows new place row → row_at new place ≡ row
 added_here rows new place row (inl behind) = ap (λ rows. row_at rows place) behind.1 ∙ get_or_push rows row no_row place (sym behind.0)
 added_here rows new place row (inr into) = ap (λ rows. row_at rows place) into.2 ∙ get_or-set_same rows place row no_row into.0
 
@@ -124,19 +124,19 @@ begun_all slots all rows new n place size kind sound en few is ea =
     let added : IsAdded rows new place (record { owner = length slots; cells = replicate size Empty }) = rw en at is in
     (en ∙ sym (length-map slots (block_in rows)), ap (λ all. memory_in all new) ea ∙ begun slots rows new place size kind sound (omega arith) added)
 
--- ---- one cell
+-- ---- cells that are put into a block without a test
 
-pub set_live : (slots : List Slot) (rows new : List Row) (b at : ℕ) (slot : Slot) (c : Cell) → IsSound slots rows → slot ≡ slot_at slots b → slot.live ≡ true
-    → at < size (memory_in slots rows) b → new ≡ with_range rows slot.word at (c ∷ [])
-    → memory_in slots new ≡ with_cells (memory_in slots rows) b at (c ∷ [])
-set_live slots rows new b at slot c sound is lives within en =
+pub set_live : (slots : List Slot) (rows new : List Row) (b at : ℕ) (slot : Slot) (all : List Cell) → IsSound slots rows → slot ≡ slot_at slots b → slot.live ≡ true
+    → at + length all ≤ size (memory_in slots rows) b → new ≡ with_range rows slot.word at all
+    → memory_in slots new ≡ with_cells (memory_in slots rows) b at all
+set_live slots rows new b at slot all sound is lives within en =
     let live : (slot_at slots b).live ≡ true = ap (λ s. s.live) (sym is) ∙ lives in
     let known = known_of_live slots b live in
     let held : slot.word < length rows = rw is (row_within slots rows b sound known live) in
     let enough : length (cells_at rows slot.word) ≡ size (memory_in slots rows) b = ap (λ s. length (cells_at rows s.word)) is ∙ size_of_live slots rows b live in
-    let place : IsPlace slots rows b slot.word at 1 =
+    let place : IsPlace slots rows b slot.word at (length all) =
     record { known = known; lives = live; word = ap (λ s. s.word) (sym is); held = held; fits = omega (arith, enough) } in
-    ap (λ rows. memory_in slots rows) en ∙ changed_found slots rows b slot.word at 1 (c ∷ []) sound place
+    ap (λ rows. memory_in slots rows) en ∙ changed_found slots rows b slot.word at (length all) all sound place
 
 pub set_ended : (slots : List Slot) (rows : List Row) (b at : ℕ) (slot : Slot) (new : List Cell) → slot ≡ slot_at slots b → slot.live ≡ false
     → memory_in slots rows ≡ with_cells (memory_in slots rows) b at new

@@ -104,7 +104,7 @@ two_at : (all : List Cell) (at : ℕ) (kind : IntKind) → width kind ≡ 2 → 
 two_at all at kind w le =
     rw (w, take_two all at le) (ap (valued kind) (two_held (get_or all at Empty) (get_or all (at + 1) Empty)) ∙ valued_held (get_or all at Empty ∷ get_or all (at + 1) Empty ∷ []) kind)
 
-four_at : (all : List Cell) (at : ℕ) (kind : IntKind) → width kind ≡ 4 → at + 4 ≤ length all
+pub four_at : (all : List Cell) (at : ℕ) (kind : IntKind) → width kind ≡ 4 → at + 4 ≤ length all
     → valued kind (digit_before (get_or all at Empty) (digit_before (get_or all (at + 1) Empty) (digit_before (get_or all (at + 2) Empty) (digit_before (get_or all (at + 3) Empty) (Ok 0))))) ≡ number_at all at kind
 four_at all at kind w le =
     rw (w, take_four all at le) (ap (valued kind) (four_held (get_or all at Empty) (get_or all (at + 1) Empty) (get_or all (at + 2) Empty) (get_or all (at + 3) Empty))

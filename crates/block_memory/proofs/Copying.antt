@@ -1,9 +1,9 @@
 -- Cells that are copied one by one.
-use Rattle.std.proofs.Common.{◌≡◌, ◌≢◌, ℕ, ◌+◌, ◌-◌, ◌<◌, ◌≤◌, List, [], ◌∷◌, ◌++◌, length, take, drop, get_or, replicate, sym, ap, ◌∙◌, arith, inl, inr, ⊎_elim, get_or-set_other, get_or-set_same}
+use Rattle.std.proofs.Common.{◌≡◌, ◌≢◌, ℕ, ◌+◌, ◌-◌, ◌<◌, ◌≤◌, List, [], ◌∷◌, ◌++◌, length, take, drop, get_or, sym, ap, ◌∙◌, arith, inl, inr, ⊎_elim, get_or-set_other, get_or-set_same}
 use Rattle.std.specs.Prelude.{◌⊎◌}
 use Rattle.std.proofs.Math.ListN.{set}
 use Rattle.std.proofs.lemmas.Bool.{cases_eq, cases_lt}
-use Rattle.std.proofs.lemmas.List.{append-nil, append_assoc, drop_all, drop_more, get_or-append_right, get_or_append_left, get_or-drop, get_or-take, length-append, length-drop, length-set, length-take-le, length-replicate, replicate_more, set_past, set-get_or, set-set, set_at, take-append-drop, take_more, take_all}
+use Rattle.std.proofs.lemmas.List.{append-nil, append_assoc, drop_all, drop_more, get_or-append_right, get_or_append_left, get_or-drop, get_or-take, length-append, length-drop, length-set, length-take-le, set_past, set-get_or, set-set, set_at, take-append-drop, take_more, take_all}
 use Rattle.block_memory.specs.declared.cell.Cell.{Cell}
 use Rattle.block_memory.specs.declared.cell.Cell.TheVariants.{Empty}
 use Rattle.block_memory.specs.Rows.{Row, cells_at, no_row, over, range, row_at, with_cells_at, with_range}
@@ -64,7 +64,7 @@ cells_here rows place all lt = ap (λ r. r.cells) (get_or-set_same rows place (r
 cells_elsewhere : (rows : List Row) (place other : ℕ) (all : List Cell) → other ≢ place → cells_at (with_cells_at rows place all) other ≡ cells_at rows other
 cells_elsewhere rows place other all ne = ap (λ r. r.cells) (get_or-set_other rows place other (record { owner = (row_at rows place).owner; cells = all }) no_row ne)
 
-cells_twice : (rows : List Row) (place : ℕ) (all new : List Cell) → place < length rows → with_cells_at (with_cells_at rows place all) place new ≡ with_cells_at rows place new
+pub cells_twice : (rows : List Row) (place : ℕ) (all new : List Cell) → place < length rows → with_cells_at (with_cells_at rows place all) place new ≡ with_cells_at rows place new
 cells_twice rows place all new lt =
     ap (λ r. set (with_cells_at rows place all) place (record { owner = r.owner; cells = new }))
     (get_or-set_same rows place (record { owner = (row_at rows place).owner; cells = all }) no_row lt)
@@ -229,16 +229,3 @@ down_none rows place at from offset count known =
 pub down_all : (rows new : List Row) (place at from offset count : ℕ)
     → new ≡ with_range rows place (at + 0) (drop 0 (range rows from offset count)) → new ≡ with_range rows place at (range rows from offset count)
 down_all rows new place at from offset count en = let sum : at + 0 ≡ at = omega arith in en ∙ ap (λ n. with_range rows place n (range rows from offset count)) sum
-
--- ---- fills
-
-pub fill_more : (all : List Cell) (at i : ℕ) (c : Cell) → at + i < length all → set (over all at (replicate i c)) (at + i) c ≡ over all at (replicate (i + 1) c)
-fill_more all at i c lt = over_next all (replicate i c) at i c (length-replicate i c) lt ∙ ap (λ r. over all at r) (replicate_more i c)
-
-pub fill_fits : (all : List Cell) (at i : ℕ) (c : Cell) → at + i ≤ length all → length (over all at (replicate i c)) ≡ length all
-fill_fits all at i c le = length_over all (replicate i c) at (omega (arith, length-replicate i c))
-
-pub fill_none : (all : List Cell) (at : ℕ) (c : Cell) → all ≡ over all at (replicate 0 c)
-fill_none all at c =
-    let sum : at + 0 ≡ at = omega arith in
-    sym (ap (λ n. take at all ++ [] ++ drop n all) sum ∙ ap (λ r. r ++ drop at all) (append-nil (take at all)) ∙ take-append-drop at all)

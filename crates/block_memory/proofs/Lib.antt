@@ -8,3 +8,7 @@ pub mod Differences
 pub mod Copying
 pub mod Packing
 pub mod Flat
+pub mod Fills
+pub mod Hold
+pub mod Laid
+pub mod Rowing

@@ -8,9 +8,6 @@ use Rattle.block_memory.specs.Rows.{over}
 pub one_over : (all : List Cell) (at : ℕ) (a : Cell) → at + 1 ≤ length all → set all at a ≡ over all at (a ∷ [])
 one_over all at a le = sets-eq (a ∷ []) all at le
 
-pub two_over : (all : List Cell) (at : ℕ) (a b : Cell) → at + 2 ≤ length all → set (set all at a) (at + 1) b ≡ over all at (a ∷ b ∷ [])
-two_over all at a b le = let one : at + 1 ≡ suc at = omega arith in ap (λ n. set (set all at a) n b) one ∙ sets-eq (a ∷ b ∷ []) all at le
-
 pub four_over : (all : List Cell) (at : ℕ) (a b c d : Cell) → at + 4 ≤ length all
     → set (set (set (set all at a) (at + 1) b) (at + 2) c) (at + 3) d ≡ over all at (a ∷ b ∷ c ∷ d ∷ [])
 four_over all at a b c d le =

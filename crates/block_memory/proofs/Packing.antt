@@ -3,7 +3,7 @@ use Rattle.std.proofs.Common.{◌≡◌, ◌≢◌, ℕ, zero, suc, ◌+◌, ◌
 use Rattle.std.specs.Prelude.{◌⊎◌, ◌&&◌, ◌==◌}
 use Rattle.std.proofs.Math.ListN.{set, get_or-map}
 use Rattle.std.proofs.lemmas.Bool.{cases_eq, cases_lt, eqb-true}
-use Rattle.std.proofs.lemmas.List.{map_push, take-map, get_or-map as get_or-map_at, ext_get_or, get_or_append_left, get_or_past, get_or_push, get_or-replicate, get_or-take, length-map, length-replicate, length-set, length-take-le, length_push, map-set}
+use Rattle.std.proofs.lemmas.List.{map_push, take-map, get_or-map as get_or-map_at, ext_get_or, get_or_append_left, get_or-append_right, get_or_past, get_or_push, get_or-replicate, get_or-take, length-append, length-map, length-replicate, length-set, length-take-le, length_push, map-set, take_all}
 use Rattle.block_memory.specs.declared.cell.Cell.{Cell}
 use Rattle.block_memory.specs.declared.cell.Cell.TheVariants.{Empty, Byte, Fragment}
 use Rattle.block_memory.specs.declared.pointer.Ptr.{Ptr}
@@ -39,13 +39,6 @@ packed_new n room words pool few ew ep enough = rw (ew, ep) (record {
   apart = λ i j e is also. no_mixed n i e is;
 })
 
-map_new : (n : ℕ) (pool : List Four) → map (four_of pool) (replicate n empty_word) ≡ replicate n nothing
-map_new zero pool = refl
-map_new (suc n) pool = ap (λ more. nothing ∷ more) (map_new n pool)
-
-pub fours_new : (n : ℕ) (words : List Word) (pool : List Four) → words ≡ replicate n empty_word → map (four_of pool) words ≡ replicate n nothing
-fours_new n words pool e = ap (map (four_of pool)) e ∙ map_new n pool
-
 pub packed_none : (words : List Word) (pool : List Four) (room : ℕ) → words ≡ [] → pool ≡ [] → IsPacked words pool room
 packed_none words pool room ew ep = packed_new 0 room words pool (omega arith) ew ep (omega arith)
 
@@ -53,6 +46,7 @@ packed_none words pool room ew ep = packed_new 0 room words pool (omega arith) e
 
 pub four_whole : (pool : List Four) (word : Word) → is_mixed word ≡ false → whole word ≡ four_of pool word
 four_whole pool (W.Plain a b c d) e = refl
+four_whole pool (W.Number v) e = refl
 four_whole pool (W.Null type) e = refl
 four_whole pool (W.Block type b at) e = refl
 four_whole pool (W.Function type f) e = refl
@@ -140,6 +134,7 @@ mixed_few (w ∷ words) (suc i) lt e = let more = mixed_few words i (omega arith
 
 four_same : (pool new : List Four) (word : Word) → ((e : ℕ) → word ≡ W.Mixed e → four_at new e ≡ four_at pool e) → four_of new word ≡ four_of pool word
 four_same pool new (W.Plain a b c d) same = refl
+four_same pool new (W.Number v) same = refl
 four_same pool new (W.Null type) same = refl
 four_same pool new (W.Block type b at) same = refl
 four_same pool new (W.Function type f) same = refl
@@ -306,3 +301,31 @@ pool_take pool new n is = ap fours_of is ∙ sym (take-map unpooled n pool)
 
 pub pool_push : (pool new : List Pooled) (p : Pooled) (f : Four) → new ≡ pool ++ p ∷ [] → unpooled p ≡ f → fours_of new ≡ fours_of pool ++ f ∷ []
 pool_push pool new p f is same = ap fours_of is ∙ map_push unpooled pool p ∙ ap (λ f. fours_of pool ++ f ∷ []) same
+
+-- ---- more words that hold nothing
+
+mixed_append : (words more : List Word) → mixed_in (words ++ more) ≡ mixed_in words + mixed_in more
+mixed_append [] more = omega arith
+mixed_append (w ∷ words) more = let rest = mixed_append words more in omega (arith, rest)
+
+pub was_mixed : (words : List Word) (n i e : ℕ) → word_at (words ++ replicate n empty_word) i ≡ W.Mixed e → word_at words i ≡ W.Mixed e
+was_mixed words n i e is = ⊎_elim (λ lt. sym (get_or_append_left words (replicate n empty_word) empty_word i lt) ∙ is)
+    (λ past. no_mixed n (i - length words) e (sym (get_or-append_right words (replicate n empty_word) (length words) i empty_word refl past) ∙ is)) (cases_lt i (length words))
+
+pub packed_more : (words other : List Word) (pool new : List Four) (room wider n : ℕ) → IsPacked words pool room → length words + n < 2 ^ 32 → length words + n ≤ wider
+    → other ≡ words ++ replicate n empty_word → new ≡ pool → IsPacked other new wider
+packed_more words other pool new room wider n packed few enough is same =
+    let longer : length (words ++ replicate n empty_word) ≡ length words + n = omega (arith, length-append words (replicate n empty_word), length-replicate n empty_word) in
+    rw (is, same) (record {
+      few = omega (arith, longer);
+      count = let counted = mixed_append words (replicate n empty_word) in omega (arith, counted, mixed_in_new n, packed.count);
+      enough = omega (arith, longer);
+      within = λ i e there. packed.within i e (was_mixed words n i e there);
+      apart = λ i j e there also. packed.apart i j e (was_mixed words n i e there) (was_mixed words n j e also);
+    })
+
+pub resized : (words other : List Word) (many n len : ℕ) → many ≡ length words + n → len ≡ length words → other ≡ take many words ++ replicate (many - len) empty_word
+    → other ≡ words ++ replicate n empty_word
+resized words other many n len em el is =
+    let rest : many - len ≡ n = omega (arith, em, el) in
+    is ∙ ap (λ r. r ++ replicate (many - len) empty_word) (take_all many words (omega (arith, em))) ∙ ap (λ n. words ++ replicate n empty_word) rest

@@ -2,6 +2,7 @@ pub mod Accesses
 pub mod Blocks
 pub mod Digits
 pub mod Examples
+pub mod Extents
 pub mod Held
 pub mod Lifetimes
 pub mod Places

@@ -1,5 +1,5 @@
 -- Cells in words of four.
-use Rattle.std.specs.Prelude.{◌≡◌, ℕ, zero, suc, ◌+◌, ◌<◌, ◌≤◌, ◌^◌, Bool, true, false, List, [], ◌∷◌, length, slice_index_or, Option, MatchOption, ◌*◌, map}
+use Rattle.std.specs.Prelude.{◌≡◌, ℕ, zero, suc, ◌+◌, ◌/◌, ◌%◌, ◌<◌, ◌≤◌, ◌^◌, Bool, true, false, List, [], ◌∷◌, length, slice_index_or, Option, MatchOption, ◌*◌, map}
 use Rattle.block_memory.specs.declared.cell.Cell.{Cell}
 use Rattle.block_memory.specs.declared.cell.Cell.TheVariants.{Empty, Byte, Fragment}
 use Rattle.block_memory.specs.declared.pointer.Ptr.{Ptr}
@@ -34,6 +34,9 @@ with_cell_in four (suc zero) c = record four { b = c }
 with_cell_in four (suc (suc zero)) c = record four { c = c }
 with_cell_in four (suc (suc (suc k))) c = record four { d = c }
 
+abbrev pub cells_of : Four → List Cell
+cells_of four = four.a ∷ four.b ∷ four.c ∷ four.d ∷ []
+
 -- all cells of words
 abbrev pub flat : List Four → List Cell
 flat [] = []
@@ -63,6 +66,7 @@ cell_of (C.Byte x) = Byte x
 -- the cells of a word that needs no pool
 abbrev pub whole : Word → Four
 whole (W.Plain a b c d) = record { a = cell_of a; b = cell_of b; c = cell_of c; d = cell_of d }
+whole (W.Number v) = record { a = Byte (v % 256); b = Byte (v / 256 % 256); c = Byte (v / 256 / 256 % 256); d = Byte (v / 256 / 256 / 256 % 256) }
 whole (W.Null type) = four_pointer type P.Null
 whole (W.Block type b at) = four_pointer type (P.Block b at)
 whole (W.Function type f) = four_pointer type (P.Function f)
@@ -78,6 +82,7 @@ four_at fours i = slice_index_or fours i nothing
 abbrev pub four_of : List Four → Word → Four
 four_of pool (W.Mixed e) = four_at pool e
 four_of pool (W.Plain a b c d) = whole (W.Plain a b c d)
+four_of pool (W.Number v) = whole (W.Number v)
 four_of pool (W.Null type) = whole (W.Null type)
 four_of pool (W.Block type b at) = whole (W.Block type b at)
 four_of pool (W.Function type f) = whole (W.Function type f)
@@ -116,3 +121,7 @@ WordGives four result = MatchOption result (Unit {0}) (λ word. (is_mixed word �
 
 abbrev pub ContentGives : Cell → Option Content → Type 0
 ContentGives cell result = MatchOption result (Unit {0}) (λ content. cell_of content ≡ cell)
+
+-- the word with another cell, where it is plain to see
+abbrev pub PutGives : Word → (k : ℕ) → Cell → Option Word → Type 0
+PutGives word k c result = MatchOption result (Unit {0}) (λ new. (is_mixed word ≡ false) × (is_mixed new ≡ false) × (whole new ≡ with_cell_in (whole word) k c))

@@ -36,7 +36,7 @@ impl Store {
         if number >= u32::MAX as usize || self.slots.reserve(1).is_err() {
             return Err(NoMemory);
         }
-        let word = self.arena.add(alloc, number as u32, size)?;
+        let word = self.arena.add(number as u32, size)?;
         let slot = Slot {
             kind,
             live: true,

@@ -9,6 +9,7 @@ ghost use Rattle.block_memory.specs.View.{memory_of};
 use crate::place::Place;
 use crate::pointer::Ptr;
 use crate::store::Store;
+use crate::word::Content;
 use lay_base::UndefinedKind;
 
 /// Whether two ranges of one length have a byte in common.
@@ -75,7 +76,8 @@ impl Store {
         }
         match self.place(to, count, 1, true) {
             Ok(place) => {
-                self.arena.fill(place.row, place.at, byte, count);
+                self.arena
+                    .fill(place.row, place.at, Content::Byte(byte), count);
                 Ok(())
             }
             Err(fault) => Err(fault),

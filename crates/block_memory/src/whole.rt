@@ -1,15 +1,17 @@
 //! Words for cells, and cells of words.
 
-ghost use Rattle.std.specs.Prelude.{◌≡◌, ◌<◌, false};
-ghost use Rattle.block_memory.specs.declared.cell.Cell.TheVariants.{Fragment};
-ghost use Rattle.block_memory.specs.Words.{ContentGives, MixedGives, WordGives, cell_in, cell_of, cell_of_part, four_pointer, is_mixed, unpooled, whole, with_cell_in};
+ghost use Rattle.std.specs.Prelude.{◌≡◌, ◌<◌, false, MatchOption};
+ghost use Rattle.block_memory.specs.declared.cell.Cell.TheVariants.{Byte, Fragment};
+ghost use Rattle.block_memory.specs.declared.word.Word.TheVariants as W;
+ghost use Rattle.block_memory.specs.Words.{ContentGives, MixedGives, PutGives, WordGives, cell_in, cell_of, cell_of_part, four_pointer, is_mixed, unpooled, whole, with_cell_in};
 
 use crate::cell::Cell;
 use crate::holding::are_fragments;
 use crate::pointer::Ptr;
 use crate::word::{Content, Four, Part, Pooled, Word};
 
-fn cell_of(content: Content) -> Cell
+/// The cell of a content.
+pub(crate) fn cell_of(content: Content) -> Cell
     ensures { result ≡ cell_of content }
 {
     match content {
@@ -40,6 +42,18 @@ pub(crate) fn four_pointer(type_number: u32, p: Ptr) -> Four
     }
 }
 
+/// The bytes of a number.
+fn four_bytes(v: u32) -> Four
+    ensures { result ≡ whole (W.Number v) }
+{
+    Four {
+        a: Cell::Byte((v % 256) as u8),
+        b: Cell::Byte((v / 256 % 256) as u8),
+        c: Cell::Byte((v / 256 / 256 % 256) as u8),
+        d: Cell::Byte((v / 256 / 256 / 256 % 256) as u8),
+    }
+}
+
 /// The cells of a word that needs no pool.
 pub(crate) fn whole(word: Word) -> Four
     requires { is_mixed word ≡ false }
@@ -52,10 +66,33 @@ pub(crate) fn whole(word: Word) -> Four
             c: cell_of(c),
             d: cell_of(d),
         },
+        Word::Number(v) => four_bytes(v),
         Word::Null(t) => four_pointer(t, Ptr::Null),
         Word::Block(t, b, at) => four_pointer(t, Ptr::Block(u64::from(b), at)),
         Word::Function(t, f) => four_pointer(t, Ptr::Function(f)),
         Word::Mixed(_) => unreachable!(),
+    }
+}
+
+/// The number that a word holds as its four bytes.
+pub(crate) fn number_in(word: Word) -> Option<u32>
+    ensures { MatchOption result (Unit {0}) (λ v. word ≡ W.Number v) }
+{
+    match word {
+        Word::Number(v) => Some(v),
+        _ => None,
+    }
+}
+
+/// The whole pointer of a type that a word holds.
+pub(crate) fn pointer_in(word: Word, type_number: u32) -> Option<Ptr>
+    ensures { MatchOption result (Unit {0}) (λ p. (is_mixed word ≡ false) × (whole word ≡ four_pointer type_number p)) }
+{
+    match word {
+        Word::Null(t) if t == type_number => Some(Ptr::Null),
+        Word::Block(t, b, at) if t == type_number => Some(Ptr::Block(u64::from(b), at)),
+        Word::Function(t, f) if t == type_number => Some(Ptr::Function(f)),
+        _ => None,
     }
 }
 
@@ -65,6 +102,7 @@ pub(crate) fn mixed(word: Word) -> Option<u32>
 {
     match word {
         Word::Plain(_, _, _, _) => None,
+        Word::Number(_) => None,
         Word::Null(_) => None,
         Word::Block(_, _, _) => None,
         Word::Function(_, _) => None,
@@ -89,6 +127,27 @@ pub(crate) fn pointer_word(type_number: u32, p: Ptr) -> Option<Word>
     }
 }
 
+/// A word of four bytes.
+fn number_word(a: u8, b: u8, c: u8, d: u8) -> Word
+    ensures plain { is_mixed result ≡ false }
+    ensures is { whole result ≡ record { a = Byte a; b = Byte b; c = Byte c; d = Byte d } }
+{
+    Word::Number(u32::from(a) + 256 * (u32::from(b) + 256 * (u32::from(c) + 256 * u32::from(d))))
+}
+
+/// A word of cells that hold no part of a pointer.
+pub(crate) fn content_word(a: Content, b: Content, c: Content, d: Content) -> Word
+    ensures plain { is_mixed result ≡ false }
+    ensures is { whole result ≡ record { a = cell_of a; b = cell_of b; c = cell_of c; d = cell_of d } }
+{
+    match (a, b, c, d) {
+        (Content::Byte(x), Content::Byte(y), Content::Byte(z), Content::Byte(w)) => {
+            number_word(x, y, z, w)
+        }
+        _ => Word::Plain(a, b, c, d),
+    }
+}
+
 /// A word for cells that hold no part of a pointer.
 fn plain_word(four: Four) -> Option<Word>
     ensures { WordGives four result }
@@ -97,7 +156,7 @@ fn plain_word(four: Four) -> Option<Word>
     let b = content_of(four.b)?;
     let c = content_of(four.c)?;
     let d = content_of(four.d)?;
-    Some(Word::Plain(a, b, c, d))
+    Some(content_word(a, b, c, d))
 }
 
 /// A word for cells, where there is one that needs no pool.
@@ -142,6 +201,79 @@ pub(crate) fn with_cell_in(four: Four, k: u32, cell: Cell) -> Four
         1 => Four { a, b: cell, c, d },
         2 => Four { a, b, c: cell, d },
         _ => Four { a, b, c, d: cell },
+    }
+}
+
+/// One cell of a word that needs no pool.
+pub(crate) fn cell_in_whole(word: Word, k: u32) -> Cell
+    requires known { k < 4 }
+    requires plain { is_mixed word ≡ false }
+    ensures { result ≡ cell_in (whole word) k }
+{
+    match word {
+        Word::Plain(a, b, c, d) => match k {
+            0 => cell_of(a),
+            1 => cell_of(b),
+            2 => cell_of(c),
+            _ => cell_of(d),
+        },
+        Word::Number(v) => match k {
+            0 => Cell::Byte((v % 256) as u8),
+            1 => Cell::Byte((v / 256 % 256) as u8),
+            2 => Cell::Byte((v / 256 / 256 % 256) as u8),
+            _ => Cell::Byte((v / 256 / 256 / 256 % 256) as u8),
+        },
+        _ => cell_in(whole(word), k),
+    }
+}
+
+/// Four bytes with another one in place of one.
+fn number_with(v: u32, k: u32, x: u8) -> Word
+    requires { k < 4 }
+    ensures plain { is_mixed result ≡ false }
+    ensures is { whole result ≡ with_cell_in (whole (W.Number v)) k (Byte x) }
+{
+    let a = (v % 256) as u8;
+    let b = (v / 256 % 256) as u8;
+    let c = (v / 256 / 256 % 256) as u8;
+    let d = (v / 256 / 256 / 256 % 256) as u8;
+    match k {
+        0 => number_word(x, b, c, d),
+        1 => number_word(a, x, c, d),
+        2 => number_word(a, b, x, d),
+        _ => number_word(a, b, c, x),
+    }
+}
+
+/// A word of cells that hold no part of a pointer, with another one in place of one.
+fn plain_with(a: Content, b: Content, c: Content, d: Content, k: u32, content: Content) -> Word
+    requires { k < 4 }
+    ensures plain { is_mixed result ≡ false }
+    ensures is { whole result ≡ with_cell_in (whole (W.Plain a b c d)) k (cell_of content) }
+{
+    match k {
+        0 => content_word(content, b, c, d),
+        1 => content_word(a, content, c, d),
+        2 => content_word(a, b, content, d),
+        _ => content_word(a, b, c, content),
+    }
+}
+
+/// A word with another cell in place of one, where neither holds a part of a pointer.
+pub(crate) fn with_cell(word: Word, k: u32, cell: Cell) -> Option<Word>
+    requires { k < 4 }
+    ensures { PutGives word k cell result }
+{
+    match word {
+        Word::Plain(a, b, c, d) => {
+            let content = content_of(cell)?;
+            Some(plain_with(a, b, c, d, k, content))
+        }
+        Word::Number(v) => match cell {
+            Cell::Byte(x) => Some(number_with(v, k, x)),
+            _ => None,
+        },
+        _ => None,
     }
 }
 

@@ -22,6 +22,8 @@ pub(crate) struct Four {
 #[derive(Clone, Copy, Debug, PartialEq, Eq)]
 pub(crate) enum Word {
     Plain(Content, Content, Content, Content),
+    /// Four bytes, as the number that they hold, the least first.
+    Number(u32),
     /// A whole pointer, with the number of its type.
     Null(u32),
     Block(u32, u32, u32),

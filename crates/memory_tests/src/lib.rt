@@ -14,3 +14,5 @@ mod blocks;
 mod pointers;
 #[cfg(test)]
 mod ranges;
+#[cfg(test)]
+mod writes;

@@ -1,13 +1,13 @@
 use Rattle.block_memory.specs.declared.cell.Cell.TheVariants.{Byte}
-use Rattle.std.proofs.Common.{◌∷◌, []}
+use Rattle.std.proofs.Common.{◌∷◌, [], arith}
 use Rattle.block_memory.proofs.Beginning.{set_ended, set_live}
 use Rattle.block_memory.proofs.store.Store.set_text.Goals as goal
 
 pub returns-then-slot : goal.returns-then-slot
 returns-then-slot c =
     let s = c.args.self.now in
-    set_live s.slots.items s.arena c.put.new.self c.args.block c.args.at c.slot-slot.result (Byte c.args.byte)
-    s.sound c.slot-slot.ensures c.if-slot.true c.requires c.put.ensures
+    set_live s.slots.items s.arena c.put.new.self c.args.block c.args.at c.slot-slot.result (Byte c.args.byte ∷ [])
+    s.sound c.slot-slot.ensures c.if-slot.true (omega arith) c.put.ensures
 
 pub returns-else-slot : goal.returns-else-slot
 returns-else-slot c =
