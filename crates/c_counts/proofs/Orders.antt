@@ -63,7 +63,7 @@ one_way x y e = go (stands_before y x) refl
 
 -- ---- of each
 
-all_mapped : (P Q : Defined → Type 0) → ((x : Defined) → P x → Q x) → (xs : List Defined) → AllByRecursion P xs → AllByRecursion Q xs
+pub all_mapped : (P Q : Defined → Type 0) → ((x : Defined) → P x → Q x) → (xs : List Defined) → AllByRecursion P xs → AllByRecursion Q xs
 all_mapped P Q f [] h = tt
 all_mapped P Q f (x ∷ xs) h = (f x h.0, all_mapped P Q f xs h.1)
 
@@ -75,7 +75,7 @@ all_put P x (y ∷ more) h all = go (stands_before x y) (all_put P x more h all.
     go true later = (h, all)
     go false later = (all.0, later)
 
-all_in_order : (P : Defined → Type 0) (xs : List Defined) → AllByRecursion P xs → AllByRecursion P (in_order xs)
+pub all_in_order : (P : Defined → Type 0) (xs : List Defined) → AllByRecursion P xs → AllByRecursion P (in_order xs)
 all_in_order P [] h = tt
 all_in_order P (x ∷ more) h = all_put P x (in_order more) h.0 (all_in_order P more h.1)
 
