@@ -23,8 +23,12 @@ use Rattle.block_memory.specs.Tested.{Tested}
 use Rattle.runs.specs.Doing.{Doing, ◌>>=◌, ◌>>◌, pure, is_undefined, tested, memory_now, note}
 use Rattle.runs.specs.Events.{reached}
 use Rattle.runs.specs.Library as Library
-use Rattle.runs.specs.Scalars.{Value, word, pointer, word_of, pointer_of, note_in}
-use Rattle.c_meaning.specs.Frames.{Frame, Spot, kept, placed, local_spot, fetch, put}
+use Rattle.runs.specs.Scalars.{word_of, pointer_of, note_in}
+use Rattle.runs.specs.declared.value.Value.{Value}
+use Rattle.runs.specs.declared.value.Value.TheVariants.{Word as word, Pointer as pointer}
+use Rattle.c_meaning.specs.Frames.{Frame, local_spot, fetch, put}
+use Rattle.c_meaning.specs.declared.frame.Spot.{Spot}
+use Rattle.c_meaning.specs.declared.frame.Spot.TheVariants.{Kept as kept, Placed as placed}
 use Rattle.c_meaning.specs.Operators.{converted, is_true, flag, unary, binary, moved, distance, compared, updated, next}
 use Rattle.c_meaning.specs.Program.{type_at, size_at, element_size, length_of}
 

@@ -10,22 +10,16 @@ use Rattle.block_memory.specs.declared.pointer.Ptr.{Ptr}
 use Rattle.block_memory.specs.declared.pointer.Ptr.TheVariants as P
 use Rattle.block_memory.specs.Blocks.{with_cells}
 use Rattle.runs.specs.Doing.{Doing, ◌>>=◌, ◌>>◌, pure, is_undefined, memory_now, with_memory, make, end}
-use Rattle.runs.specs.Scalars.{Value, load, store}
+use Rattle.runs.specs.Scalars.{load, store}
+use Rattle.runs.specs.declared.value.Value.{Value}
+use Rattle.c_meaning.specs.declared.frame.Slot.{Slot}
+use Rattle.c_meaning.specs.declared.frame.Slot.TheVariants.{ByName as by_name, InBlock as in_block}
+use Rattle.c_meaning.specs.declared.frame.Spot.{Spot}
+use Rattle.c_meaning.specs.declared.frame.Spot.TheVariants.{Kept as kept, Placed as placed}
 use Rattle.c_meaning.specs.Program.{access_at, size_at, all_locals}
-
-pub data Slot : Type 0 where
-  -- none before a value is stored
-  by_name : (v : Option Value) → Slot
-  -- none outside of its scope
-  in_block : (b : Option ℕ) → Slot
 
 abbrev pub Frame : Type 0
 Frame = List Slot
-
--- where a path leads
-pub data Spot : Type 0 where
-  kept : (local : ℕ) → Spot
-  placed : (p : Ptr) → Spot
 
 -- ---- the frame
 

@@ -5,7 +5,6 @@ pub mod ExamplesOfOperators
 pub mod ExamplesOfStatements
 pub mod Expressions
 pub mod Frames
-pub mod Loops
 pub mod Operators
 pub mod Program
 pub mod Run

@@ -24,7 +24,9 @@ use Rattle.block_memory.specs.declared.pointer.Ptr.TheVariants as P
 use Rattle.block_memory.specs.Blocks.{Memory}
 use Rattle.block_memory.specs.Pointers.{stepped, difference, is_less, are_equal}
 use Rattle.block_memory.specs.Tested.{Tested, ◌>>=◌}
-use Rattle.runs.specs.Scalars.{Value, word, pointer, as_value}
+use Rattle.runs.specs.Scalars.{as_value}
+use Rattle.runs.specs.declared.value.Value.{Value}
+use Rattle.runs.specs.declared.value.Value.TheVariants.{Word as word, Pointer as pointer}
 
 -- ---- conversions (6.3): of the integer constant 0 to a null pointer, of numbers, and of pointers, which stay
 

@@ -10,17 +10,30 @@ use Rattle.c_typed.specs.Programs.{ProgramData, FunctionData}
 use Rattle.block_memory.specs.declared.pointer.Ptr.TheVariants as P
 use Rattle.runs.specs.Doing.{Doing, ◌>>=◌, ◌>>◌, pure, is_undefined, enter, leave, apart}
 use Rattle.runs.specs.Events.{output_of}
-use Rattle.runs.specs.Scalars.{Value, word_of, store}
+use Rattle.runs.specs.Scalars.{word_of, store}
+use Rattle.runs.specs.declared.value.Value.{Value}
 use Rattle.runs.specs.Worlds.{World, End, ends, goes_on, undefined, out_of_room}
-use Rattle.c_meaning.specs.Frames.{Frame, Slot, by_name, in_block, frame_of, begin, finish_all, with_slot, slot_now}
+use Rattle.c_meaning.specs.Frames.{Frame, frame_of, begin, finish_all, with_slot, slot_now}
+use Rattle.c_meaning.specs.declared.frame.Slot.{Slot}
+use Rattle.c_meaning.specs.declared.frame.Slot.TheVariants.{ByName as by_name, InBlock as in_block}
 use Rattle.c_meaning.specs.Program.{access_at, all_locals, initial_memory}
-use Rattle.c_meaning.specs.Statements.{Way, by_return, no_more, execute}
+use Rattle.c_meaning.specs.Statements.{no_more, execute}
+use Rattle.c_meaning.specs.declared.frame.Way.{Way}
+use Rattle.c_meaning.specs.declared.frame.Way.TheVariants.{ByReturn as by_return}
 
 -- ---- calls
 
 abbrev pub result_of : Way → Option Value
 result_of (by_return v) = v
 result_of way = None
+
+-- the numbers of the parameters, which come first among the locals
+abbrev pub numbers_from : (k count : ℕ) → List ℕ
+numbers_from k zero = []
+numbers_from k (suc n) = k ∷ numbers_from (k + 1) n
+
+abbrev pub numbers : (count : ℕ) → List ℕ
+numbers count = numbers_from 0 count
 
 module _ (p : ProgramData) where
   -- a parameter begins as the local that it is, with its argument (6.9.1)
@@ -32,13 +45,6 @@ module _ (p : ProgramData) where
   receive place x (l ∷ more) (v ∷ rest) =
       begin p x (Some l) >> (slot_now x >>= received place x l.ty v) >> receive place (x + 1) more rest
   receive place x locals values = pure tt
-
-  abbrev pub numbers : (count : ℕ) → List ℕ
-  numbers count = from_zero count 0
-    where
-      from_zero : ℕ → ℕ → List ℕ
-      from_zero zero k = []
-      from_zero (suc n) k = k ∷ from_zero n (k + 1)
 
   -- what a function does that has its arguments, where calls do so
   abbrev pub body_of : (call : Place → (f : ℕ) → List Value → Doing Frame (Option Value)) → (n : ℕ) → Place → (f : ℕ) → List Value → FunctionData

@@ -14,21 +14,22 @@ use Rattle.block_memory.specs.declared.pointer.Ptr.TheVariants as P
 use Rattle.block_memory.specs.Blocks.{with_cells}
 use Rattle.runs.specs.Doing.{Doing, Rest, ◌>>=◌, ◌>>◌, pure, memory_now, with_memory, turn, note}
 use Rattle.runs.specs.Events.{began}
-use Rattle.runs.specs.Scalars.{Value, word, word_of, store}
+use Rattle.runs.specs.Scalars.{word_of, store}
+use Rattle.runs.specs.declared.value.Value.{Value}
+use Rattle.runs.specs.declared.value.Value.TheVariants.{Word as word}
 use Rattle.runs.specs.Worlds.{World, End, goes_on}
 use Rattle.c_meaning.specs.Expressions.{value, used, spot, copy_record}
-use Rattle.c_meaning.specs.Frames.{Frame, Slot, by_name, in_block, placed, with_slot, slot_now, scoped, emptied}
-use Rattle.c_meaning.specs.Loops.{loops_in, loops_in_all}
+use Rattle.c_meaning.specs.Frames.{Frame, with_slot, slot_now, scoped, emptied}
+use Rattle.c_meaning.specs.declared.frame.Spot.TheVariants.{Placed as placed}
+use Rattle.c_meaning.specs.declared.frame.Slot.{Slot}
+use Rattle.c_meaning.specs.declared.frame.Slot.TheVariants.{ByName as by_name, InBlock as in_block}
+use Rattle.c_meaning.specs.declared.frame.Way.{Way}
+use Rattle.c_meaning.specs.declared.frame.Way.TheVariants.{Normally as normally, ByBreak as by_break, ByContinue as by_continue, ByReturn as by_return}
+use Rattle.c_counts.specs.Loops.{loops_in, loops_in_all}
 use Rattle.c_meaning.specs.Operators.{is_true}
 use Rattle.c_meaning.specs.Program.{access_at, size_at, all_locals}
 
 -- ---- how a statement is left (6.8.6)
-
-pub data Way : Type 0 where
-  normally : Way
-  by_break : Way
-  by_continue : Way
-  by_return : (v : Option Value) → Way
 
 -- the statements behind it come only where it is left normally
 abbrev pub and_then : Doing Frame Way → Way → Doing Frame Way

@@ -2,3 +2,7 @@
 //!
 //! It stands on `lay_base`, `c_types`, `c_typed`, whose trees it gives a meaning, on `block_memory` and on `runs`, whose world it changes.
 #![tactic(auto)]
+
+mod frame;
+
+pub use frame::{Slot, Spot, Way};

@@ -7,7 +7,7 @@ use Rattle.block_memory.specs.Blocks.{Memory}
 use Rattle.runs.specs.Doing.{Doing, ◌>>=◌, ◌>>◌, pure, is_undefined, memory_now, with_memory, note, turn, make, deeper, leave, apart}
 use Rattle.runs.specs.Events.{Event}
 use Rattle.runs.specs.Library.{getchar}
-use Rattle.runs.specs.Scalars.{Value}
+use Rattle.runs.specs.declared.value.Value.{Value}
 use Rattle.runs.specs.Worlds.{goes_on, ends}
 
 -- the turns are used up

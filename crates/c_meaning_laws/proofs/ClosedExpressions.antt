@@ -19,10 +19,16 @@ use Rattle.block_memory.specs.declared.pointer.Ptr.{Ptr}
 use Rattle.block_memory.specs.declared.pointer.Ptr.TheVariants as P
 use Rattle.runs.specs.Doing.{Doing, ◌>>=◌, pure}
 use Rattle.runs.specs.Events.{reached}
-use Rattle.runs.specs.Scalars.{Value, word, pointer, word_of, pointer_of}
+use Rattle.runs.specs.Scalars.{word_of, pointer_of}
+use Rattle.runs.specs.declared.value.Value.{Value}
+use Rattle.runs.specs.declared.value.Value.TheVariants.{Word as word, Pointer as pointer}
 use Rattle.c_meaning.specs.Expressions.{or_no_value, part_of, is_subscript, element_of, field_in, field_through, address_of, allocated, the, given, library, copy_record, is_same_place}
 use Rattle.c_meaning.specs.Expressions.{through, as_type, value, used, value_of, how_many, arguments, spot, spot_of}
-use Rattle.c_meaning.specs.Frames.{Frame, Slot, by_name, in_block, Spot, kept, placed, with_slot, slot_now, spot_of as slot_spot, local_spot, known, fetch, put}
+use Rattle.c_meaning.specs.Frames.{Frame, with_slot, slot_now, spot_of as slot_spot, local_spot, known, fetch, put}
+use Rattle.c_meaning.specs.declared.frame.Spot.{Spot}
+use Rattle.c_meaning.specs.declared.frame.Spot.TheVariants.{Kept as kept, Placed as placed}
+use Rattle.c_meaning.specs.declared.frame.Slot.{Slot}
+use Rattle.c_meaning.specs.declared.frame.Slot.TheVariants.{ByName as by_name, InBlock as in_block}
 use Rattle.c_meaning.specs.Operators.{converted, is_true, flag, unary, moved, updated, next}
 use Rattle.c_meaning.specs.Program.{type_at, size_at, element_size, length_of, access_at}
 use Rattle.c_meaning_laws.proofs.Closed.{Relation}

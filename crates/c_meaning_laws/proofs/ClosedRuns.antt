@@ -15,7 +15,9 @@ use Rattle.block_memory.specs.Tested.{Tested}
 use Rattle.runs.specs.Doing.{Doing, ◌>>=◌, pure, is_undefined, tested, memory_now, with_memory, note, make, end}
 use Rattle.runs.specs.Events.{Event, put, allocated, freed, loaded, stored}
 use Rattle.runs.specs.Library.{zeroed, allocate, note_freed, free, copy, fill, compare, putchar, getchar, exit}
-use Rattle.runs.specs.Scalars.{Value, word, pointer, width_of, load_in, store_in, note_if, note_in, load, store}
+use Rattle.runs.specs.Scalars.{width_of, load_in, store_in, note_if, note_in, load, store}
+use Rattle.runs.specs.declared.value.Value.{Value}
+use Rattle.runs.specs.declared.value.Value.TheVariants.{Word as word, Pointer as pointer}
 use Rattle.c_meaning_laws.proofs.Closed.{Relation}
 
 module _ (r : Relation) where

@@ -11,13 +11,19 @@ use Rattle.block_memory.specs.declared.kinds.BlockKind.TheVariants as Kind
 use Rattle.block_memory.specs.declared.pointer.Ptr.TheVariants as P
 use Rattle.runs.specs.Doing.{Doing, ◌>>=◌, ◌>>◌, pure, turn, note}
 use Rattle.runs.specs.Events.{Event, began}
-use Rattle.runs.specs.Scalars.{Value, word_of}
+use Rattle.runs.specs.Scalars.{word_of}
+use Rattle.runs.specs.declared.value.Value.{Value}
 use Rattle.c_meaning.specs.Expressions.{used}
-use Rattle.c_meaning.specs.Frames.{Frame, Slot, by_name, in_block, placed, begin, end_slot, begin_all, finish_all, scoped, emptied}
-use Rattle.c_meaning.specs.Loops.{loops_in, loops_in_all}
+use Rattle.c_meaning.specs.Frames.{Frame, begin, end_slot, begin_all, finish_all, scoped, emptied}
+use Rattle.c_meaning.specs.declared.frame.Spot.TheVariants.{Placed as placed}
+use Rattle.c_meaning.specs.declared.frame.Slot.{Slot}
+use Rattle.c_meaning.specs.declared.frame.Slot.TheVariants.{ByName as by_name, InBlock as in_block}
+use Rattle.c_counts.specs.Loops.{loops_in, loops_in_all}
 use Rattle.c_meaning.specs.Operators.{is_true}
 use Rattle.c_meaning.specs.Program.{access_at, size_at}
-use Rattle.c_meaning.specs.Statements.{Way, normally, by_break, by_continue, by_return, and_then, and_again, behind_switch, loop, loop_behind, arm_of, default_arm, or_default}
+use Rattle.c_meaning.specs.Statements.{and_then, and_again, behind_switch, loop, loop_behind, arm_of, default_arm, or_default}
+use Rattle.c_meaning.specs.declared.frame.Way.{Way}
+use Rattle.c_meaning.specs.declared.frame.Way.TheVariants.{Normally as normally, ByBreak as by_break, ByContinue as by_continue, ByReturn as by_return}
 use Rattle.c_meaning.specs.Statements.{put_part, put_parts, initial_in, initial_by_name, initial, declared, tests, tests_if_any, done, done_if_any, returned}
 use Rattle.c_meaning.specs.Statements.{execute, execute_all, enter}
 use Rattle.c_meaning_laws.proofs.Closed.{Relation}

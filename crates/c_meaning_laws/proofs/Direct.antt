@@ -12,12 +12,14 @@ use Rattle.block_memory.specs.Lifetimes.{with_block}
 use Rattle.runs.specs.Doing.{Rest, Doing, ◌>>=◌, ◌>>◌, pure, is_undefined, memory_now, with_memory, note, turn_of, turn, make, deeper, less_deep, leave, apart}
 use Rattle.runs.specs.Events.{Event, got, left}
 use Rattle.runs.specs.Library.{next_of, getchar}
-use Rattle.runs.specs.Scalars.{Value}
+use Rattle.runs.specs.declared.value.Value.{Value}
 use Rattle.runs.specs.Worlds.{World, End, ends, goes_on, undefined, out_of_room, greatest_live, greatest_depth, live_bytes}
 use Rattle.c_meaning.specs.Expressions.{value, used, spot}
-use Rattle.c_meaning.specs.Frames.{Frame, Spot}
+use Rattle.c_meaning.specs.Frames.{Frame}
+use Rattle.c_meaning.specs.declared.frame.Spot.{Spot}
 use Rattle.c_meaning.specs.Run.{called}
-use Rattle.c_meaning.specs.Statements.{Way, execute, execute_all}
+use Rattle.c_meaning.specs.Statements.{execute, execute_all}
+use Rattle.c_meaning.specs.declared.frame.Way.{Way}
 use Rattle.c_meaning_laws.specs.Outcomes.{Outcome, comes, over, with_rest, and_then, IsWithin}
 use Rattle.c_meaning_laws.proofs.Closed.{Relation, stops}
 use Rattle.c_meaning_laws.proofs.ClosedCalls as Calls

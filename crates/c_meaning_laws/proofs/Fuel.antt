@@ -12,12 +12,15 @@ use Rattle.block_memory.specs.Lifetimes.{with_block}
 use Rattle.runs.specs.Doing.{Rest, Doing, ◌>>=◌, ◌>>◌, pure, is_undefined, memory_now, with_memory, note, turn_of, turn, make, deeper, leave, apart}
 use Rattle.runs.specs.Events.{Event}
 use Rattle.runs.specs.Library.{next_of, getchar}
-use Rattle.runs.specs.Scalars.{Value}
+use Rattle.runs.specs.declared.value.Value.{Value}
 use Rattle.runs.specs.Worlds.{World, End, ends, out_of_room, greatest_live, greatest_depth, live_bytes}
 use Rattle.c_meaning.specs.Expressions.{value, used, spot}
-use Rattle.c_meaning.specs.Frames.{Frame, Spot}
+use Rattle.c_meaning.specs.Frames.{Frame}
+use Rattle.c_meaning.specs.declared.frame.Spot.{Spot}
 use Rattle.c_meaning.specs.Run.{called}
-use Rattle.c_meaning.specs.Statements.{Way, normally, and_again, loop, loop_behind, execute, execute_all, enter}
+use Rattle.c_meaning.specs.Statements.{and_again, loop, loop_behind, execute, execute_all, enter}
+use Rattle.c_meaning.specs.declared.frame.Way.{Way}
+use Rattle.c_meaning.specs.declared.frame.Way.TheVariants.{Normally as normally}
 use Rattle.c_meaning_laws.proofs.Closed.{Relation, stops}
 use Rattle.c_meaning_laws.proofs.ClosedCalls as Calls
 use Rattle.c_meaning_laws.proofs.ClosedExpressions as Expressions

@@ -11,7 +11,7 @@ use Rattle.block_memory.specs.Lifetimes.{with_block}
 use Rattle.runs.specs.Doing.{Rest, Doing, ◌>>=◌, ◌>>◌, pure, is_undefined, memory_now, with_memory, note, turn_of, turn, make, deeper, less_deep, leave, apart}
 use Rattle.runs.specs.Events.{Event, got, left}
 use Rattle.runs.specs.Library.{next_of, getchar}
-use Rattle.runs.specs.Scalars.{Value}
+use Rattle.runs.specs.declared.value.Value.{Value}
 use Rattle.runs.specs.Worlds.{World, End, ends, goes_on, undefined, out_of_room, greatest_live, greatest_depth, live_bytes}
 use Rattle.c_meaning_laws.specs.Longer.{Onward, Continues, still, later, Follows}
 use Rattle.c_meaning_laws.proofs.Closed.{Relation, stops}

@@ -11,7 +11,8 @@ use Rattle.block_memory.specs.Lifetimes as Lifetimes
 use Rattle.block_memory.specs.Ranges as Ranges
 use Rattle.runs.specs.Doing.{Doing, ◌>>=◌, ◌>>◌, pure, tested, memory_now, with_memory, note, make}
 use Rattle.runs.specs.Events.{put, got, allocated, freed}
-use Rattle.runs.specs.Scalars.{Value, word, pointer}
+use Rattle.runs.specs.declared.value.Value.{Value}
+use Rattle.runs.specs.declared.value.Value.TheVariants.{Word as word, Pointer as pointer}
 use Rattle.runs.specs.Worlds.{End, ends}
 
 -- ---- allocations (7.20.3): want of room never gives a null pointer (own)

@@ -13,11 +13,8 @@ use Rattle.block_memory.specs.Lifetimes.{is_heap}
 use Rattle.block_memory.specs.Tested.{Tested}
 use Rattle.runs.specs.Doing.{Doing, ◌>>=◌, ◌>>◌, pure, note, tested, memory_now, with_memory}
 use Rattle.runs.specs.Events.{Event, loaded, stored}
-
--- a number is the 32 bits that stand for it in two's complement
-pub data Value : Type 0 where
-  word : (v : ℕ) → Value
-  pointer : (p : Ptr) → Value
+use Rattle.runs.specs.declared.value.Value.{Value}
+use Rattle.runs.specs.declared.value.Value.TheVariants.{Word as word, Pointer as pointer}
 
 abbrev pub word_of : Value → ℕ
 word_of (word v) = v

@@ -2,3 +2,7 @@
 //!
 //! It stands on `lay_base`, `c_types` and `block_memory`, whose memory it has.
 #![tactic(auto)]
+
+mod value;
+
+pub use value::Value;

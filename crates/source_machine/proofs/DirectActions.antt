@@ -9,9 +9,14 @@ use Rattle.c_typed.specs.Conversions.{number_of}
 use Rattle.c_typed.specs.Programs.{ProgramData}
 use Rattle.block_memory.specs.declared.pointer.Ptr.TheVariants as P
 use Rattle.runs.specs.Doing.{Doing, ◌>>=◌, pure, is_undefined}
-use Rattle.runs.specs.Scalars.{Value, word_of, pointer_of, pointer}
+use Rattle.runs.specs.Scalars.{word_of, pointer_of}
+use Rattle.runs.specs.declared.value.Value.{Value}
+use Rattle.runs.specs.declared.value.Value.TheVariants.{Pointer as pointer}
 use Rattle.c_meaning.specs.Expressions.{part_of}
-use Rattle.c_meaning.specs.Frames.{Frame, by_name, Spot, placed}
+use Rattle.c_meaning.specs.Frames.{Frame}
+use Rattle.c_meaning.specs.declared.frame.Spot.{Spot}
+use Rattle.c_meaning.specs.declared.frame.Spot.TheVariants.{Placed as placed}
+use Rattle.c_meaning.specs.declared.frame.Slot.TheVariants.{ByName as by_name}
 use Rattle.c_meaning.specs.Operators.{converted, is_true, flag, unary, binary, moved, distance, compared, updated, next}
 use Rattle.c_meaning.specs.Program.{type_at, element_size, access_at}
 use Rattle.c_meaning_laws.proofs.ClosedRuns as Runs
@@ -19,7 +24,10 @@ use Rattle.c_meaning_laws.proofs.ClosedExpressions as Expressions
 use Rattle.c_meaning_laws.proofs.Direct.{Direct, pure_direct, bind_direct, undefined_direct, by_outcome}
 use Rattle.source_machine.specs.Actions.{taking, taking_any, taking_spot, gives, leads, cast_to, performed}
 use Rattle.source_machine.specs.Items as I
-use Rattle.source_machine.specs.Items.{value, spot, Stack, Action}
+use Rattle.source_machine.specs.Items.{Stack}
+use Rattle.source_machine.specs.declared.items.Action.{Action}
+use Rattle.source_machine.specs.declared.items.Action.TheVariants as OfAction
+use Rattle.source_machine.specs.declared.items.Operand.TheVariants.{Value as value, Spot as spot}
 
 abbrev pub IsDirect : (A : Type 0) → Doing Frame A → Type 0
 IsDirect A m = Direct Frame A m
@@ -64,50 +72,50 @@ direct_cast t place v = direct_bind (Expressions.by_or_no_value by_outcome place
 
 module _ (p : ProgramData) where
   pub direct_performed : (a : Action) (stack : Stack) → IsDirect Stack (performed p a stack)
-  direct_performed (I.needing at) stack = direct_taking_any stack (λ v stack. direct_bind (Expressions.by_or_no_value by_outcome at v 0) (direct_gives stack))
-  direct_performed (I.converting t at) stack = direct_taking_any stack (λ v stack. direct_bind (direct_cast (type_at p t) at v) (λ v. direct_pure (value v ∷ stack)))
-  direct_performed (I.unary_on op) stack = direct_taking stack (λ v stack. direct_gives stack (unary op v))
-  direct_performed (I.binary_on at op left right) stack =
+  direct_performed (OfAction.Needing at) stack = direct_taking_any stack (λ v stack. direct_bind (Expressions.by_or_no_value by_outcome at v 0) (direct_gives stack))
+  direct_performed (OfAction.Converting t at) stack = direct_taking_any stack (λ v stack. direct_bind (direct_cast (type_at p t) at v) (λ v. direct_pure (value v ∷ stack)))
+  direct_performed (OfAction.UnaryOn op) stack = direct_taking stack (λ v stack. direct_gives stack (unary op v))
+  direct_performed (OfAction.BinaryOn at op left right) stack =
       direct_taking stack (λ w stack. direct_taking stack (λ v stack. direct_bind (Runs.by_tested by_outcome at (binary op left v right w) 0) (direct_gives stack)))
-  direct_performed (I.comparing at op kind) stack = direct_taking stack (λ w stack. direct_taking stack (λ v stack.
+  direct_performed (OfAction.Comparing at op kind) stack = direct_taking stack (λ w stack. direct_taking stack (λ v stack.
       direct_bind (Runs.by_memory by_outcome 0) (λ m. direct_bind (Runs.by_tested by_outcome at (compared op m kind v w) 0) (direct_gives stack))))
-  direct_performed (I.adding at op size left right) stack = direct_taking stack (λ w stack. direct_taking stack (λ v stack.
+  direct_performed (OfAction.Adding at op size left right) stack = direct_taking stack (λ w stack. direct_taking stack (λ v stack.
       direct_bind (Runs.by_memory by_outcome 0) (λ m. direct_bind (Runs.by_tested by_outcome at (moved m op size left v right w) 0) (direct_gives stack))))
-  direct_performed (I.measuring at size) stack =
+  direct_performed (OfAction.Measuring at size) stack =
       direct_taking stack (λ w stack. direct_taking stack (λ v stack. direct_bind (Runs.by_tested by_outcome at (distance size v w) 0) (direct_gives stack)))
-  direct_performed I.flagging stack = direct_taking stack (λ v stack. direct_gives stack (flag (is_true v)))
-  direct_performed I.negating stack = direct_taking stack (λ v stack. direct_gives stack (flag (not (is_true v))))
-  direct_performed I.dropping stack = direct_taking_any stack (λ v stack. direct_pure stack)
-  direct_performed (I.allocating at r size zeroed) stack =
+  direct_performed OfAction.Flagging stack = direct_taking stack (λ v stack. direct_gives stack (flag (is_true v)))
+  direct_performed OfAction.Negating stack = direct_taking stack (λ v stack. direct_gives stack (flag (not (is_true v))))
+  direct_performed OfAction.Dropping stack = direct_taking_any stack (λ v stack. direct_pure stack)
+  direct_performed (OfAction.Allocating at r size zeroed) stack =
       direct_taking stack (λ v stack. direct_bind (Expressions.by_allocated by_outcome at r size (word_of v) zeroed 0) (direct_gives stack))
-  direct_performed (I.loading at t) stack = direct_taking_spot stack (λ s stack. direct_bind (Expressions.by_fetch by_outcome p at s t 0) (direct_gives stack))
-  direct_performed (I.addressing at) stack =
+  direct_performed (OfAction.Loading at t) stack = direct_taking_spot stack (λ s stack. direct_bind (Expressions.by_fetch by_outcome p at s t 0) (direct_gives stack))
+  direct_performed (OfAction.Addressing at) stack =
       direct_taking_spot stack (λ s stack. direct_bind (Expressions.by_address_of by_outcome at s 0) (λ q. direct_gives stack (pointer q)))
-  direct_performed (I.assigning at t) stack =
+  direct_performed (OfAction.Assigning at t) stack =
       direct_taking stack (λ v stack. direct_taking_spot stack (λ s stack. direct_bind (Expressions.by_put by_outcome p at s t v 0) (λ a. direct_gives stack v)))
-  direct_performed (I.updating at op t right) stack = direct_taking stack (λ w stack. direct_taking_spot stack (λ s stack.
+  direct_performed (OfAction.Updating at op t right) stack = direct_taking stack (λ w stack. direct_taking_spot stack (λ s stack.
       direct_bind (Expressions.by_fetch by_outcome p at s t 0) (λ v. direct_bind (Runs.by_memory by_outcome 0) (λ m.
       direct_bind (Runs.by_tested by_outcome at (updated m op (element_size p (type_at p t)) (type_at p t) v (type_at p right) w) 0) (λ new.
       direct_bind (Expressions.by_put by_outcome p at s t new 0) (λ a. direct_gives stack new))))))
-  direct_performed (I.stepping at t op before) stack = direct_taking_spot stack (λ s stack.
+  direct_performed (OfAction.Stepping at t op before) stack = direct_taking_spot stack (λ s stack.
       direct_bind (Expressions.by_fetch by_outcome p at s t 0) (λ v. direct_bind (Runs.by_memory by_outcome 0) (λ m.
       direct_bind (Runs.by_tested by_outcome at (next m op (element_size p (type_at p t)) (type_at p t) v) 0) (λ new.
       direct_bind (Expressions.by_put by_outcome p at s t new 0) (λ a. direct_gives stack (if before then new else v))))))
-  direct_performed (I.copying at size) stack =
+  direct_performed (OfAction.Copying at size) stack =
       direct_taking_spot stack (λ r stack. direct_taking_spot stack (λ s stack. direct_bind (Expressions.by_copy_record by_outcome at size s r 0) (λ a. direct_pure (value None ∷ stack))))
-  direct_performed I.dereferencing stack = direct_taking stack (λ v stack. direct_leads stack (placed (pointer_of v)))
-  direct_performed (I.indexing at size left right) stack = direct_taking stack (λ w stack. direct_taking stack (λ v stack.
+  direct_performed OfAction.Dereferencing stack = direct_taking stack (λ v stack. direct_leads stack (placed (pointer_of v)))
+  direct_performed (OfAction.Indexing at size left right) stack = direct_taking stack (λ w stack. direct_taking stack (λ v stack.
       direct_bind (Runs.by_memory by_outcome 0) (λ m. direct_bind (Runs.by_tested by_outcome at (moved m Add size left v right w) 0) (λ q. direct_leads stack (placed (pointer_of q))))))
-  direct_performed (I.field_of offset) stack = direct_taking_spot stack (λ s stack. direct_leads stack (part_of offset s))
-  direct_performed (I.field_at at offset) stack =
+  direct_performed (OfAction.FieldOf offset) stack = direct_taking_spot stack (λ s stack. direct_leads stack (part_of offset s))
+  direct_performed (OfAction.FieldAt at offset) stack =
       direct_taking stack (λ v stack. direct_bind (Expressions.by_field_through by_outcome at (pointer_of v) (pos offset) 0) (direct_leads stack))
-  direct_performed (I.field_of_element at right size offset) stack = direct_taking stack (λ w stack. direct_taking stack (λ v stack.
+  direct_performed (OfAction.FieldOfElement at right size offset) stack = direct_taking stack (λ w stack. direct_taking stack (λ v stack.
       direct_bind (Expressions.by_field_through by_outcome at (pointer_of v) (number_of right (word_of w) *ℤ pos size +ℤ pos offset) 0) (direct_leads stack)))
-  direct_performed (I.element_at at length size addressed kind) stack = direct_taking stack (λ v stack. direct_taking_spot stack (λ s stack.
+  direct_performed (OfAction.ElementAt at length size addressed kind) stack = direct_taking stack (λ v stack. direct_taking_spot stack (λ s stack.
       direct_bind (Expressions.by_element_of by_outcome at length size addressed s (number_of kind (word_of v)) 0) (direct_leads stack)))
-  direct_performed (I.naming x) stack =
+  direct_performed (OfAction.Naming x) stack =
       direct_taking stack (λ v stack. direct_bind (Expressions.by_with_slot by_outcome x (by_name (Some v)) 0) (λ a. direct_pure stack))
-  direct_performed (I.storing b offset at t) stack =
+  direct_performed (OfAction.Storing b offset at t) stack =
       direct_taking stack (λ v stack. direct_bind (Runs.by_store by_outcome at (P.Block b offset) (access_at p t) v 0) (λ a. direct_pure stack))
-  direct_performed (I.copying_to b offset at size) stack =
+  direct_performed (OfAction.CopyingTo b offset at size) stack =
       direct_taking_spot stack (λ s stack. direct_bind (Expressions.by_copy_record by_outcome at size (placed (P.Block b offset)) s 0) (λ a. direct_pure stack))

@@ -15,13 +15,17 @@ use Rattle.block_memory.specs.declared.pointer.Ptr.{Ptr}
 use Rattle.block_memory.specs.declared.pointer.Ptr.TheVariants as P
 use Rattle.runs.specs.Doing.{Doing, ◌>>=◌, ◌>>◌, is_undefined, memory_now, with_memory, enter}
 use Rattle.runs.specs.Events.{entered as entered_event, began}
-use Rattle.runs.specs.Scalars.{Value, pointer_of}
+use Rattle.runs.specs.Scalars.{pointer_of}
+use Rattle.runs.specs.declared.value.Value.{Value}
 use Rattle.runs.specs.Worlds.{World}
-use Rattle.c_meaning.specs.Frames.{Frame, Slot, by_name, in_block, frame_of, begin_all, finish_all}
+use Rattle.c_meaning.specs.Frames.{Frame, frame_of, begin_all, finish_all}
+use Rattle.c_meaning.specs.declared.frame.Slot.{Slot}
+use Rattle.c_meaning.specs.declared.frame.Slot.TheVariants.{ByName as by_name, InBlock as in_block}
 use Rattle.c_meaning.specs.Operators.{is_true}
 use Rattle.c_meaning.specs.Program.{type_at, size_at}
 use Rattle.c_meaning.specs.Run.{result_of, status_of}
-use Rattle.c_meaning.specs.Statements.{Way, normally, by_break, by_continue, by_return}
+use Rattle.c_meaning.specs.declared.frame.Way.{Way}
+use Rattle.c_meaning.specs.declared.frame.Way.TheVariants.{Normally as normally, ByBreak as by_break, ByContinue as by_continue, ByReturn as by_return}
 use Rattle.c_meaning_laws.specs.Outcomes.{Outcome, comes, over, and_then, IsWithin}
 use Rattle.c_meaning_laws.proofs.ClosedRuns as Runs
 use Rattle.c_meaning_laws.proofs.ClosedExpressions as Expressions
@@ -30,7 +34,10 @@ use Rattle.c_meaning_laws.proofs.ClosedCalls as Calls
 use Rattle.c_meaning_laws.proofs.Direct.{turn_outcome, behind_turn, end_direct, deeper_direct, leave_direct, own_direct, by_outcome}
 use Rattle.source_machine.specs.Actions.{taking}
 use Rattle.source_machine.specs.Items as I
-use Rattle.source_machine.specs.Items.{value, spot, Stack, Callee, Context, Loop, LoopBehind, Item, Work, acting, evaluating, using, spotting}
+use Rattle.source_machine.specs.Items.{Stack, Context, Loop, LoopBehind, Item, Work, acting, evaluating, using, spotting}
+use Rattle.source_machine.specs.declared.items.Callee.{Callee}
+use Rattle.source_machine.specs.declared.items.Callee.TheVariants as OfCallee
+use Rattle.source_machine.specs.declared.items.Operand.TheVariants.{Value as value, Spot as spot}
 use Rattle.source_machine.specs.Items.{gathering, gathered, framing, executing, executing_all, entering, tested, repeating, repeating_behind, ending, unwinding}
 use Rattle.source_machine.specs.Steps as Steps
 use Rattle.source_machine.specs.Steps.{Left, goes, may_lack, needing_if}
@@ -146,9 +153,9 @@ module _ (p : ProgramData) where
 
   lessens_calls : (callee : Callee) (values : List Value) (more : Work) (stack : Stack) (j : ℕ) → of_work more < j
       → Lessens j (Steps.calls p callee values more stack)
-  lessens_calls (I.function at f) values more stack j h = lessens_called at f values (slice_get p.functions f) more stack j
-  lessens_calls (I.through at t) values more stack j h = lessens_taking j stack (λ v stack. lessens_through at (type_at p t) (pointer_of v) values more stack j)
-  lessens_calls (I.library at which) values more stack j h =
+  lessens_calls (OfCallee.Function at f) values more stack j h = lessens_called at f values (slice_get p.functions f) more stack j
+  lessens_calls (OfCallee.Through at t) values more stack j h = lessens_taking j stack (λ v stack. lessens_through at (type_at p t) (pointer_of v) values more stack j)
+  lessens_calls (OfCallee.Library at which) values more stack j h =
       lessens_bind j (Expressions.by_library by_outcome at which values 0) (λ v. lessens_goes j more (value v ∷ stack) h)
 
   lessens_gathers : (callee : Callee) (done : List Value) (all : Expressions ℕ) (more : Work) (stack : Stack) (j : ℕ) → of_arguments all + of_work more ≤ j
@@ -167,8 +174,8 @@ module _ (p : ProgramData) where
   lessens_evaluated t at (T.assign_op op q x) more stack j h = lessens_located false q _ stack j (omega arith)
   lessens_evaluated t at (T.step op before q) more stack j h = lessens_located false q _ stack j (omega arith)
   lessens_evaluated t at (T.copy_record to from) more stack j h = lessens_located false to _ stack j (omega arith)
-  lessens_evaluated t at (T.call f all) more stack j h = lessens_gathers (I.function at f) [] all more stack j h
-  lessens_evaluated t at (T.library which all) more stack j h = lessens_gathers (I.library at which) [] all more stack j h
+  lessens_evaluated t at (T.call f all) more stack j h = lessens_gathers (OfCallee.Function at f) [] all more stack j h
+  lessens_evaluated t at (T.library which all) more stack j h = lessens_gathers (OfCallee.Library at which) [] all more stack j h
   lessens_evaluated t at (T.allocate r T.no_expression zeroed) more stack j h = lessens_goes j _ _ (omega arith)
   lessens_evaluated t at (T.allocate r (T.some_expression e) zeroed) more stack j h = lessens_goes j _ _ (omega arith)
   lessens_evaluated t at node more stack j h = lessens_goes j _ _ (omega arith)

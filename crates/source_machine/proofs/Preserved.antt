@@ -2,14 +2,19 @@
 use Rattle.std.proofs.Common.{◌≡◌, refl, ℕ, ◌+◌, ◌<◌, Bool, List, [], ◌∷◌, ◌++◌, Some, None}
 use Rattle.c_typed.specs.Trees.{Expression, expression, Expressions, Statement, Arms}
 use Rattle.c_typed.specs.Programs.{ProgramData}
-use Rattle.runs.specs.Scalars.{Value, word_of}
+use Rattle.runs.specs.Scalars.{word_of}
+use Rattle.runs.specs.declared.value.Value.{Value}
 use Rattle.runs.specs.Worlds.{World}
 use Rattle.c_meaning.specs.Frames.{Frame}
 use Rattle.c_meaning.specs.Operators.{is_true}
 use Rattle.c_meaning.specs.Run.{run_of, start}
-use Rattle.c_meaning.specs.Statements.{Way, normally, by_break, by_continue, by_return, arm_of, default_arm, or_default}
+use Rattle.c_meaning.specs.Statements.{arm_of, default_arm, or_default}
+use Rattle.c_meaning.specs.declared.frame.Way.{Way}
+use Rattle.c_meaning.specs.declared.frame.Way.TheVariants.{Normally as normally, ByBreak as by_break, ByContinue as by_continue, ByReturn as by_return}
 use Rattle.source_machine.specs.Items as I
-use Rattle.source_machine.specs.Items.{value, spot, Stack, Context, Loop, LoopBehind, Item, Work, acting, evaluating, using, spotting, gathering, gathered, framing}
+use Rattle.source_machine.specs.Items.{Stack, Context, Loop, LoopBehind, Item, Work, acting, evaluating, using, spotting, gathering, gathered, framing}
+use Rattle.source_machine.specs.declared.items.Callee.{Callee}
+use Rattle.source_machine.specs.declared.items.Operand.TheVariants.{Value as value, Spot as spot}
 use Rattle.source_machine.specs.Items.{executing, executing_all, entering, tested, repeating, repeating_behind, ending, unwinding}
 use Rattle.source_machine.specs.Steps.{Left, enacted, passed, stepped, stepped_at, started_with}
 use Rattle.source_machine.specs.Finish.{does, leaves, after, finish}
@@ -44,7 +49,7 @@ module _ (p : ProgramData) (n : ℕ) where
   choosing_item y z more (value None ∷ stack) f w = refl
   choosing_item y z more (value (Some v) ∷ stack) f w = either (is_true v) _ _ _ _ (finish p n) (onto p n more stack) f w refl refl
 
-  gathered_item : (callee : I.Callee) (done : List Value) (rest : Expressions ℕ) (more : Work) (stack : Stack) (f : Frame) (w : World) → w.turns < n
+  gathered_item : (callee : Callee) (done : List Value) (rest : Expressions ℕ) (more : Work) (stack : Stack) (f : Frame) (w : World) → w.turns < n
       → Holds (gathered callee done rest) more stack f w
   unfolding after finish
   gathered_item callee done rest more [] f w h = refl

@@ -12,17 +12,22 @@ use Rattle.block_memory.specs.declared.pointer.Ptr.{Ptr}
 use Rattle.block_memory.specs.declared.pointer.Ptr.TheVariants as P
 use Rattle.runs.specs.Doing.{Rest, Doing, turn_of, leave}
 use Rattle.runs.specs.Events.{entered}
-use Rattle.runs.specs.Scalars.{Value, pointer_of}
+use Rattle.runs.specs.Scalars.{pointer_of}
+use Rattle.runs.specs.declared.value.Value.{Value}
 use Rattle.runs.specs.Worlds.{World, End, out_of_room, greatest_depth}
 use Rattle.c_meaning.specs.Expressions as Meaning
 use Rattle.c_meaning.specs.Frames.{Frame, frame_of, finish_all}
 use Rattle.c_meaning.specs.Program.{type_at, all_locals}
 use Rattle.c_meaning.specs.Run.{called, function_of, body_of, numbers, result_of}
-use Rattle.c_meaning.specs.Statements.{Way, normally, by_break, by_continue, by_return}
+use Rattle.c_meaning.specs.declared.frame.Way.{Way}
+use Rattle.c_meaning.specs.declared.frame.Way.TheVariants.{Normally as normally, ByBreak as by_break, ByContinue as by_continue, ByReturn as by_return}
 use Rattle.c_meaning_laws.proofs.Fuel.{by_turns, executed_same}
 use Rattle.c_meaning_laws.proofs.ClosedCalls as Calls
 use Rattle.source_machine.specs.Items as I
-use Rattle.source_machine.specs.Items.{value, spot, Stack, Callee, Work, executing, ending, framing}
+use Rattle.source_machine.specs.Items.{Stack, Work, executing, ending, framing}
+use Rattle.source_machine.specs.declared.items.Callee.{Callee}
+use Rattle.source_machine.specs.declared.items.Callee.TheVariants as OfCallee
+use Rattle.source_machine.specs.declared.items.Operand.TheVariants.{Value as value, Spot as spot}
 use Rattle.source_machine.specs.Steps.{started, called_as, called_typed, called_through, calls, gathers}
 use Rattle.source_machine.specs.Finish as Finish
 use Rattle.source_machine.specs.Finish.{call, after, finish}
@@ -62,7 +67,7 @@ module _ (p : ProgramData) (m : ℕ) where
   body_step place function values g (Some body) caller more stack f w h =
       (Calls.by_receive by_turns p place 0 g.parameters values w.turns).at _ _ f w (omega arith) (λ a x u i.
       (executed_same p u.turns (suc m) m (omega arith) (omega arith) function (all_locals g) 0 body).at _ _ x u (omega arith) (λ way y v j.
-      out_of_body p (suc m) way (numbers p (length g.parameters)) caller more stack y v))
+      out_of_body p (suc m) way (numbers (length g.parameters)) caller more stack y v))
 
   turned_step : (t : ℕ) (place : Place) (function : ℕ) (values : List Value) (g : FunctionData) (more : Work) (stack : Stack) (f : Frame) (w : World)
       → t ≡ w.turns → t < suc m
@@ -107,12 +112,12 @@ module _ (p : ProgramData) where
     calls_step : (callee : Callee) (values : List Value) (more : Work) (stack : Stack) (f : Frame) (w : World) → w.turns < n
         → calls p callee values more stack (finish p n) f w ≡ Finish.calls p n callee values stack (after p n more) f w
     unfolding after finish
-    calls_step (I.function at function) values more stack f w h = called_step n at function values more stack f w h
-    calls_step (I.library at which) values more stack f w h = refl
-    calls_step (I.through at t) values more [] f w h = refl
-    calls_step (I.through at t) values more (spot s ∷ stack) f w h = refl
-    calls_step (I.through at t) values more (value None ∷ stack) f w h = refl
-    calls_step (I.through at t) values more (value (Some v) ∷ stack) f w h = through_step at (type_at p t) (pointer_of v) values more stack f w h
+    calls_step (OfCallee.Function at function) values more stack f w h = called_step n at function values more stack f w h
+    calls_step (OfCallee.Library at which) values more stack f w h = refl
+    calls_step (OfCallee.Through at t) values more [] f w h = refl
+    calls_step (OfCallee.Through at t) values more (spot s ∷ stack) f w h = refl
+    calls_step (OfCallee.Through at t) values more (value None ∷ stack) f w h = refl
+    calls_step (OfCallee.Through at t) values more (value (Some v) ∷ stack) f w h = through_step at (type_at p t) (pointer_of v) values more stack f w h
 
     pub gathers_step : (callee : Callee) (done : List Value) (all : Expressions ℕ) (more : Work) (stack : Stack) (f : Frame) (w : World) → w.turns < n
         → gathers p callee done all more stack (finish p n) f w ≡ Finish.gathers p n callee done all stack (after p n more) f w

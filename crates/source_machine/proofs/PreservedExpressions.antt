@@ -5,14 +5,17 @@ use Rattle.c_typed.specs.Trees as T
 use Rattle.c_typed.specs.Trees.{Expression, expression, Node, Path, path, PathNode, Expressions}
 use Rattle.c_typed.specs.Programs.{ProgramData}
 use Rattle.runs.specs.Doing.{pure}
-use Rattle.runs.specs.Scalars.{Value}
+use Rattle.runs.specs.declared.value.Value.{Value}
 use Rattle.runs.specs.Worlds.{World}
 use Rattle.c_meaning.specs.Expressions as Meaning
 use Rattle.c_meaning.specs.Expressions.{or_no_value, the}
 use Rattle.c_meaning.specs.Frames.{Frame}
 use Rattle.c_meaning.specs.Operators.{is_true, flag}
 use Rattle.source_machine.specs.Items as I
-use Rattle.source_machine.specs.Items.{value, spot, Stack, Work, acting, using}
+use Rattle.source_machine.specs.Items.{Stack, Work, acting, using}
+use Rattle.source_machine.specs.declared.items.Action.TheVariants as OfAction
+use Rattle.source_machine.specs.declared.items.Callee.TheVariants as OfCallee
+use Rattle.source_machine.specs.declared.items.Operand.TheVariants.{Value as value, Spot as spot}
 use Rattle.source_machine.specs.Steps.{evaluated, may_lack, needing_if}
 use Rattle.source_machine.specs.Finish.{call, after, finish}
 use Rattle.source_machine.proofs.PreservedPaths.{located_step}
@@ -25,9 +28,9 @@ module _ (p : ProgramData) (n : ℕ) where
   node_step t at (T.constant v) more stack f w h = refl
   node_step t at T.null more stack f w h = refl
   node_step t at (T.function_name g) more stack f w h = refl
-  node_step t at (T.load q) more stack f w h = located_step p n false q (acting (I.loading at t) ∷ more) stack f w
-  node_step t at (T.address_of q) more stack f w h = located_step p n true q (acting (I.addressing at) ∷ more) stack f w
-  node_step t at (T.decay q) more stack f w h = located_step p n false q (acting (I.addressing at) ∷ more) stack f w
+  node_step t at (T.load q) more stack f w h = located_step p n false q (acting (OfAction.Loading at t) ∷ more) stack f w
+  node_step t at (T.address_of q) more stack f w h = located_step p n true q (acting (OfAction.Addressing at) ∷ more) stack f w
+  node_step t at (T.decay q) more stack f w h = located_step p n false q (acting (OfAction.Addressing at) ∷ more) stack f w
   node_step t at (T.convert e written) more stack f w h = refl
   node_step t at (T.unary op x) more stack f w h = refl
   node_step t at (T.binary op x y) more stack f w h = refl
@@ -39,13 +42,13 @@ module _ (p : ProgramData) (n : ℕ) where
   node_step t at (T.not x) more stack f w h = refl
   node_step t at (T.choose x y z) more stack f w h = refl
   node_step t at (T.comma x y) more stack f w h = refl
-  node_step t at (T.assign q x) more stack f w h = located_step p n false q (using x ∷ acting (I.assigning at t) ∷ more) stack f w
+  node_step t at (T.assign q x) more stack f w h = located_step p n false q (using x ∷ acting (OfAction.Assigning at t) ∷ more) stack f w
   node_step t at (T.assign_op op q x) more stack f w h = located_step p n false q (using x ∷ _) stack f w
-  node_step t at (T.step op before q) more stack f w h = located_step p n false q (acting (I.stepping at t op before) ∷ more) stack f w
+  node_step t at (T.step op before q) more stack f w h = located_step p n false q (acting (OfAction.Stepping at t op before) ∷ more) stack f w
   node_step t at (T.copy_record to from) more stack f w h = located_step p n false to _ stack f w
-  node_step t at (T.call g all) more stack f w h = gathers_step p n (I.function at g) [] all more stack f w h
+  node_step t at (T.call g all) more stack f w h = gathers_step p n (OfCallee.Function at g) [] all more stack f w h
   node_step t at (T.call_through e all) more stack f w h = refl
-  node_step t at (T.library which all) more stack f w h = gathers_step p n (I.library at which) [] all more stack f w h
+  node_step t at (T.library which all) more stack f w h = gathers_step p n (OfCallee.Library at which) [] all more stack f w h
   node_step t at (T.allocate r T.no_expression zeroed) more stack f w h = refl
   node_step t at (T.allocate r (T.some_expression e) zeroed) more stack f w h = refl
 
@@ -79,11 +82,11 @@ module _ (p : ProgramData) (n : ℕ) where
   unfolding after finish
   used_step t at (T.both x y) more stack f w h = both_used t at x y more stack f w h
   used_step t at (T.either x y) more stack f w h = either_used t at x y more stack f w h
-  used_step t at (T.convert e written) more stack f w h = node_step t at (T.convert e written) (acting (I.needing at) ∷ more) stack f w h
-  used_step t at (T.choose x y z) more stack f w h = node_step t at (T.choose x y z) (acting (I.needing at) ∷ more) stack f w h
-  used_step t at (T.comma x y) more stack f w h = node_step t at (T.comma x y) (acting (I.needing at) ∷ more) stack f w h
-  used_step t at (T.copy_record to from) more stack f w h = node_step t at (T.copy_record to from) (acting (I.needing at) ∷ more) stack f w h
-  used_step t at (T.call g all) more stack f w h = node_step t at (T.call g all) (acting (I.needing at) ∷ more) stack f w h
-  used_step t at (T.call_through e all) more stack f w h = node_step t at (T.call_through e all) (acting (I.needing at) ∷ more) stack f w h
-  used_step t at (T.library which all) more stack f w h = node_step t at (T.library which all) (acting (I.needing at) ∷ more) stack f w h
+  used_step t at (T.convert e written) more stack f w h = node_step t at (T.convert e written) (acting (OfAction.Needing at) ∷ more) stack f w h
+  used_step t at (T.choose x y z) more stack f w h = node_step t at (T.choose x y z) (acting (OfAction.Needing at) ∷ more) stack f w h
+  used_step t at (T.comma x y) more stack f w h = node_step t at (T.comma x y) (acting (OfAction.Needing at) ∷ more) stack f w h
+  used_step t at (T.copy_record to from) more stack f w h = node_step t at (T.copy_record to from) (acting (OfAction.Needing at) ∷ more) stack f w h
+  used_step t at (T.call g all) more stack f w h = node_step t at (T.call g all) (acting (OfAction.Needing at) ∷ more) stack f w h
+  used_step t at (T.call_through e all) more stack f w h = node_step t at (T.call_through e all) (acting (OfAction.Needing at) ∷ more) stack f w h
+  used_step t at (T.library which all) more stack f w h = node_step t at (T.library which all) (acting (OfAction.Needing at) ∷ more) stack f w h
   used_step t at node more stack f w h = node_step t at node more stack f w h

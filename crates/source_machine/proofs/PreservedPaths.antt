@@ -8,9 +8,11 @@ use Rattle.runs.specs.Doing.{Rest}
 use Rattle.runs.specs.Worlds.{World}
 use Rattle.c_meaning.specs.Expressions.{value_of, spot_of}
 use Rattle.c_meaning.specs.Expressions as Meaning
-use Rattle.c_meaning.specs.Frames.{Frame, Spot}
-use Rattle.c_meaning.specs.Statements.{normally}
-use Rattle.source_machine.specs.Items.{spot, Stack, Work}
+use Rattle.c_meaning.specs.Frames.{Frame}
+use Rattle.c_meaning.specs.declared.frame.Spot.{Spot}
+use Rattle.c_meaning.specs.declared.frame.Way.TheVariants.{Normally as normally}
+use Rattle.source_machine.specs.Items.{Stack, Work}
+use Rattle.source_machine.specs.declared.items.Operand.TheVariants.{Spot as spot}
 use Rattle.source_machine.specs.Steps.{located_at, located}
 use Rattle.source_machine.specs.Finish.{call, after, finish}
 

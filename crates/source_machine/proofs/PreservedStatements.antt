@@ -8,16 +8,21 @@ use Rattle.c_typed.specs.Programs.{ProgramData}
 use Rattle.runs.specs.Doing.{Rest, Doing, ◌>>=◌, ◌>>◌, pure}
 use Rattle.runs.specs.Events.{began}
 use Rattle.runs.specs.Worlds.{World}
-use Rattle.c_meaning.specs.Frames.{Frame, Slot, by_name, in_block, begin_all, finish_all, scoped}
+use Rattle.c_meaning.specs.Frames.{Frame, begin_all, finish_all, scoped}
+use Rattle.c_meaning.specs.declared.frame.Slot.{Slot}
+use Rattle.c_meaning.specs.declared.frame.Slot.TheVariants.{ByName as by_name, InBlock as in_block}
 use Rattle.c_meaning.specs.Program.{size_at}
 use Rattle.c_meaning.specs.Statements as Statements
-use Rattle.c_meaning.specs.Statements.{Way, normally, by_break, by_continue, by_return, and_then, and_again, behind_switch, loop, loop_behind, tests, tests_if_any, done_if_any, execute, execute_all, enter}
-use Rattle.c_meaning.specs.Loops.{loops_in, loops_in_all}
-use Rattle.runs.specs.Scalars.{Value}
+use Rattle.c_meaning.specs.Statements.{and_then, and_again, behind_switch, loop, loop_behind, tests, tests_if_any, done_if_any, execute, execute_all, enter}
+use Rattle.c_meaning.specs.declared.frame.Way.{Way}
+use Rattle.c_meaning.specs.declared.frame.Way.TheVariants.{Normally as normally, ByBreak as by_break, ByContinue as by_continue, ByReturn as by_return}
+use Rattle.c_counts.specs.Loops.{loops_in, loops_in_all}
+use Rattle.runs.specs.declared.value.Value.{Value}
 use Rattle.c_meaning_laws.proofs.ClosedStatements as Closed
 use Rattle.c_meaning_laws.proofs.Fuel.{Same, by_turns, called_same, executed_same, loop_again, loop_behind_again}
 use Rattle.source_machine.specs.Items as I
-use Rattle.source_machine.specs.Items.{value, spot, Stack, Context, Loop, LoopBehind, Item, Work, acting, using, tested, repeating}
+use Rattle.source_machine.specs.Items.{Stack, Context, Loop, LoopBehind, Item, Work, acting, using, tested, repeating}
+use Rattle.source_machine.specs.declared.items.Operand.TheVariants.{Value as value, Spot as spot}
 use Rattle.source_machine.specs.Steps as Steps
 use Rattle.source_machine.specs.Finish.{call, after, finish, loop_of, again, body_of, loop_behind_of, again_behind, body_behind}
 

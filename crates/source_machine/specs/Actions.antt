@@ -8,15 +8,21 @@ use Rattle.c_typed.specs.Conversions.{number_of}
 use Rattle.c_typed.specs.Programs.{ProgramData}
 use Rattle.block_memory.specs.declared.pointer.Ptr.TheVariants as P
 use Rattle.runs.specs.Doing.{Doing, ◌>>=◌, ◌>>◌, pure, tested, memory_now}
-use Rattle.runs.specs.Scalars.{Value, pointer, word_of, pointer_of, store}
+use Rattle.runs.specs.Scalars.{word_of, pointer_of, store}
+use Rattle.runs.specs.declared.value.Value.{Value}
+use Rattle.runs.specs.declared.value.Value.TheVariants.{Pointer as pointer}
 use Rattle.runs.specs.Worlds.{World, End, undefined}
 use Rattle.c_meaning.specs.Expressions.{or_no_value, part_of, element_of, field_through, address_of, allocated, copy_record}
-use Rattle.c_meaning.specs.Frames.{Frame, by_name, Spot, placed, with_slot, fetch, put}
+use Rattle.c_meaning.specs.Frames.{Frame, with_slot, fetch, put}
+use Rattle.c_meaning.specs.declared.frame.Spot.{Spot}
+use Rattle.c_meaning.specs.declared.frame.Spot.TheVariants.{Placed as placed}
+use Rattle.c_meaning.specs.declared.frame.Slot.TheVariants.{ByName as by_name}
 use Rattle.c_meaning.specs.Operators.{converted, is_true, flag, unary, binary, moved, distance, compared, updated, next}
 use Rattle.c_meaning.specs.Program.{type_at, element_size, access_at}
-use Rattle.source_machine.specs.Items.{value, spot, Stack, Action, needing, converting, unary_on, binary_on, comparing, adding, measuring, flagging}
-use Rattle.source_machine.specs.Items.{negating, dropping, allocating, loading, addressing, assigning, updating, stepping, copying, dereferencing, indexing}
-use Rattle.source_machine.specs.Items.{field_of, field_at, field_of_element, element_at, naming, storing, copying_to}
+use Rattle.source_machine.specs.Items.{Stack}
+use Rattle.source_machine.specs.declared.items.Action.{Action}
+use Rattle.source_machine.specs.declared.items.Action.TheVariants as A
+use Rattle.source_machine.specs.declared.items.Operand.TheVariants.{Value as value, Spot as spot}
 
 -- ---- operands. No other operand ever lies there
 
@@ -58,44 +64,44 @@ cast_to t place v = or_no_value place v >>= λ v. pure (Some (converted t v))
 
 module _ (p : ProgramData) where
   abbrev pub performed : Action → Stack → Doing Frame Stack
-  performed (needing at) stack = taking_any stack (λ v stack. or_no_value at v >>= gives stack)
-  performed (converting t at) stack = taking_any stack (λ v stack. cast_to (type_at p t) at v >>= λ v. pure (value v ∷ stack))
-  performed (unary_on op) stack = taking stack (λ v stack. gives stack (unary op v))
-  performed (binary_on at op left right) stack = taking stack (λ w stack. taking stack (λ v stack. tested at (binary op left v right w) >>= gives stack))
-  performed (comparing at op kind) stack =
+  performed (A.Needing at) stack = taking_any stack (λ v stack. or_no_value at v >>= gives stack)
+  performed (A.Converting t at) stack = taking_any stack (λ v stack. cast_to (type_at p t) at v >>= λ v. pure (value v ∷ stack))
+  performed (A.UnaryOn op) stack = taking stack (λ v stack. gives stack (unary op v))
+  performed (A.BinaryOn at op left right) stack = taking stack (λ w stack. taking stack (λ v stack. tested at (binary op left v right w) >>= gives stack))
+  performed (A.Comparing at op kind) stack =
       taking stack (λ w stack. taking stack (λ v stack. memory_now >>= λ m. tested at (compared op m kind v w) >>= gives stack))
-  performed (adding at op size left right) stack =
+  performed (A.Adding at op size left right) stack =
       taking stack (λ w stack. taking stack (λ v stack. memory_now >>= λ m. tested at (moved m op size left v right w) >>= gives stack))
-  performed (measuring at size) stack = taking stack (λ w stack. taking stack (λ v stack. tested at (distance size v w) >>= gives stack))
-  performed flagging stack = taking stack (λ v stack. gives stack (flag (is_true v)))
-  performed negating stack = taking stack (λ v stack. gives stack (flag (not (is_true v))))
-  performed dropping stack = taking_any stack (λ v stack. pure stack)
-  performed (allocating at r size zeroed) stack = taking stack (λ v stack. allocated at r size (word_of v) zeroed >>= gives stack)
-  performed (loading at t) stack = taking_spot stack (λ s stack. fetch p at s t >>= gives stack)
-  performed (addressing at) stack = taking_spot stack (λ s stack. address_of at s >>= λ q. gives stack (pointer q))
-  performed (assigning at t) stack = taking stack (λ v stack. taking_spot stack (λ s stack. put p at s t v >> gives stack v))
-  performed (updating at op t right) stack = taking stack (λ w stack. taking_spot stack (λ s stack. do
+  performed (A.Measuring at size) stack = taking stack (λ w stack. taking stack (λ v stack. tested at (distance size v w) >>= gives stack))
+  performed A.Flagging stack = taking stack (λ v stack. gives stack (flag (is_true v)))
+  performed A.Negating stack = taking stack (λ v stack. gives stack (flag (not (is_true v))))
+  performed A.Dropping stack = taking_any stack (λ v stack. pure stack)
+  performed (A.Allocating at r size zeroed) stack = taking stack (λ v stack. allocated at r size (word_of v) zeroed >>= gives stack)
+  performed (A.Loading at t) stack = taking_spot stack (λ s stack. fetch p at s t >>= gives stack)
+  performed (A.Addressing at) stack = taking_spot stack (λ s stack. address_of at s >>= λ q. gives stack (pointer q))
+  performed (A.Assigning at t) stack = taking stack (λ v stack. taking_spot stack (λ s stack. put p at s t v >> gives stack v))
+  performed (A.Updating at op t right) stack = taking stack (λ w stack. taking_spot stack (λ s stack. do
     v ← fetch p at s t
     m ← memory_now
     new ← tested at (updated m op (element_size p (type_at p t)) (type_at p t) v (type_at p right) w)
     a ← put p at s t new
     gives stack new))
-  performed (stepping at t op before) stack = taking_spot stack (λ s stack. do
+  performed (A.Stepping at t op before) stack = taking_spot stack (λ s stack. do
     v ← fetch p at s t
     m ← memory_now
     new ← tested at (next m op (element_size p (type_at p t)) (type_at p t) v)
     a ← put p at s t new
     gives stack (if before then new else v))
-  performed (copying at size) stack = taking_spot stack (λ r stack. taking_spot stack (λ s stack. copy_record at size s r >> pure (value None ∷ stack)))
-  performed dereferencing stack = taking stack (λ v stack. leads stack (placed (pointer_of v)))
-  performed (indexing at size left right) stack = taking stack (λ w stack. taking stack (λ v stack.
+  performed (A.Copying at size) stack = taking_spot stack (λ r stack. taking_spot stack (λ s stack. copy_record at size s r >> pure (value None ∷ stack)))
+  performed A.Dereferencing stack = taking stack (λ v stack. leads stack (placed (pointer_of v)))
+  performed (A.Indexing at size left right) stack = taking stack (λ w stack. taking stack (λ v stack.
       memory_now >>= λ m. tested at (moved m Add size left v right w) >>= λ q. leads stack (placed (pointer_of q))))
-  performed (field_of offset) stack = taking_spot stack (λ s stack. leads stack (part_of offset s))
-  performed (field_at at offset) stack = taking stack (λ v stack. field_through at (pointer_of v) (pos offset) >>= leads stack)
-  performed (field_of_element at right size offset) stack = taking stack (λ w stack. taking stack (λ v stack.
+  performed (A.FieldOf offset) stack = taking_spot stack (λ s stack. leads stack (part_of offset s))
+  performed (A.FieldAt at offset) stack = taking stack (λ v stack. field_through at (pointer_of v) (pos offset) >>= leads stack)
+  performed (A.FieldOfElement at right size offset) stack = taking stack (λ w stack. taking stack (λ v stack.
       field_through at (pointer_of v) (number_of right (word_of w) *ℤ pos size +ℤ pos offset) >>= leads stack))
-  performed (element_at at length size addressed kind) stack = taking stack (λ v stack. taking_spot stack (λ s stack.
+  performed (A.ElementAt at length size addressed kind) stack = taking stack (λ v stack. taking_spot stack (λ s stack.
       element_of at length size addressed s (number_of kind (word_of v)) >>= leads stack))
-  performed (naming x) stack = taking stack (λ v stack. with_slot x (by_name (Some v)) >> pure stack)
-  performed (storing b offset at t) stack = taking stack (λ v stack. store at (P.Block b offset) (access_at p t) v >> pure stack)
-  performed (copying_to b offset at size) stack = taking_spot stack (λ s stack. copy_record at size (placed (P.Block b offset)) s >> pure stack)
+  performed (A.Naming x) stack = taking stack (λ v stack. with_slot x (by_name (Some v)) >> pure stack)
+  performed (A.Storing b offset at t) stack = taking stack (λ v stack. store at (P.Block b offset) (access_at p t) v >> pure stack)
+  performed (A.CopyingTo b offset at size) stack = taking_spot stack (λ s stack. copy_record at size (placed (P.Block b offset)) s >> pure stack)

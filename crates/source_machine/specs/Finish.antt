@@ -4,20 +4,27 @@ use Rattle.lay_base.specs.declared.place.Place.{Place}
 use Rattle.c_typed.specs.Trees.{Expressions}
 use Rattle.c_typed.specs.Programs.{ProgramData}
 use Rattle.runs.specs.Doing.{Doing, ◌>>=◌, ◌>>◌, pure, leave}
-use Rattle.runs.specs.Scalars.{Value, word_of, pointer_of}
+use Rattle.runs.specs.Scalars.{word_of, pointer_of}
+use Rattle.runs.specs.declared.value.Value.{Value}
 use Rattle.runs.specs.Worlds.{World, End, ends}
 use Rattle.c_meaning.specs.Expressions as Meaning
 use Rattle.c_meaning.specs.Expressions.{value as value_of, used, spot as spot_of, arguments, the}
 use Rattle.c_meaning.specs.Frames.{Frame, finish_all, scoped}
-use Rattle.c_meaning.specs.Loops.{loops_in}
+use Rattle.c_counts.specs.Loops.{loops_in}
 use Rattle.c_meaning.specs.Operators.{is_true, flag}
 use Rattle.c_meaning.specs.Program.{type_at}
 use Rattle.c_meaning.specs.Run.{called, result_of, status_of}
-use Rattle.c_meaning.specs.Statements.{Way, normally, by_break, by_continue, by_return, and_again, behind_switch, loop, loop_behind, arm_of, default_arm, or_default}
+use Rattle.c_meaning.specs.Statements.{and_again, behind_switch, loop, loop_behind, arm_of, default_arm, or_default}
+use Rattle.c_meaning.specs.declared.frame.Way.{Way}
+use Rattle.c_meaning.specs.declared.frame.Way.TheVariants.{Normally as normally, ByBreak as by_break, ByContinue as by_continue, ByReturn as by_return}
 use Rattle.c_meaning.specs.Statements.{tests, tests_if_any, done_if_any, execute, execute_all, enter, put_parts}
 use Rattle.source_machine.specs.Actions.{with_any, taking, performed}
 use Rattle.source_machine.specs.Items as I
-use Rattle.source_machine.specs.Items.{Operand, value, spot, Stack, Callee, Context, Loop, LoopBehind, Item, Work, acting, evaluating, using, spotting}
+use Rattle.source_machine.specs.Items.{Stack, Context, Loop, LoopBehind, Item, Work, acting, evaluating, using, spotting}
+use Rattle.source_machine.specs.declared.items.Callee.{Callee}
+use Rattle.source_machine.specs.declared.items.Callee.TheVariants as OfCallee
+use Rattle.source_machine.specs.declared.items.Operand.{Operand}
+use Rattle.source_machine.specs.declared.items.Operand.TheVariants.{Value as value, Spot as spot}
 use Rattle.source_machine.specs.Items.{gathering, gathered, framing, executing, executing_all, entering, tested, repeating, repeating_behind, ending, unwinding}
 use Rattle.source_machine.specs.Steps.{Left, in_frame, beginning}
 
@@ -38,9 +45,9 @@ module _ (p : ProgramData) (n : ℕ) where
   call = called p n
 
   abbrev pub calls : Callee → List Value → Stack → Doing Frame Exit
-  calls (I.function at f) values stack = call at f values >>= gives stack
-  calls (I.through at t) values stack = taking stack (λ v stack. Meaning.through p call at (type_at p t) (pointer_of v) values >>= gives stack)
-  calls (I.library at which) values stack = Meaning.library at which values >>= gives stack
+  calls (OfCallee.Function at f) values stack = call at f values >>= gives stack
+  calls (OfCallee.Through at t) values stack = taking stack (λ v stack. Meaning.through p call at (type_at p t) (pointer_of v) values >>= gives stack)
+  calls (OfCallee.Library at which) values stack = Meaning.library at which values >>= gives stack
 
   abbrev pub gathers : Callee → (done : List Value) → Expressions ℕ → Stack → Doing Frame Exit
   gathers callee done more stack = arguments p call more >>= λ values. calls callee (done ++ values) stack

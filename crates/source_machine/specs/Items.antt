@@ -10,58 +10,17 @@ use Rattle.c_typed.specs.declared.operators.StepOp.{StepOp}
 use Rattle.c_typed.specs.declared.operators.UnaryOp.{UnaryOp}
 use Rattle.c_typed.specs.declared.program.Local.{Local}
 use Rattle.c_typed.specs.Trees.{Expression, Path, Expressions, Part, Statement, Statements, Arms}
-use Rattle.runs.specs.Scalars.{Value}
-use Rattle.c_meaning.specs.Frames.{Frame, Spot}
-use Rattle.c_meaning.specs.Statements.{Way}
+use Rattle.runs.specs.declared.value.Value.{Value}
+use Rattle.source_machine.specs.declared.items.Action.{Action}
+use Rattle.source_machine.specs.declared.items.Callee.{Callee}
+use Rattle.source_machine.specs.declared.items.Operand.{Operand}
+use Rattle.c_meaning.specs.Frames.{Frame}
+use Rattle.c_meaning.specs.declared.frame.Spot.{Spot}
+use Rattle.c_meaning.specs.declared.frame.Way.{Way}
 
--- what lies on the stack
-pub data Operand : Type 0 where
-  -- the value of an expression, or none
-  value : (v : Option Value) → Operand
-  -- where a path leads
-  spot : (s : Spot) → Operand
-
+-- the last one first
 abbrev pub Stack : Type 0
 Stack = List Operand
-
--- what takes operands off the stack and puts its result on it; types are numbers of the program's types
-pub data Action : Type 0 where
-  -- of values: a value that is used at a place, a conversion, and operators
-  needing : (at : Place) → Action
-  converting : (type : ℕ) → (at : Place) → Action
-  unary_on : (op : UnaryOp) → Action
-  binary_on : (at : Place) → (op : BinaryOp) → (left right : IntKind) → Action
-  comparing : (at : Place) → (op : CompareOp) → (kind : IntKind) → Action
-  adding : (at : Place) → (op : PointerOp) → (size : ℕ) → (left right : IntKind) → Action
-  measuring : (at : Place) → (size : ℕ) → Action
-  flagging : Action
-  negating : Action
-  dropping : Action
-  allocating : (at : Place) → (r size : ℕ) → (zeroed : Bool) → Action
-  -- of a spot, and for some of the value above it
-  loading : (at : Place) → (type : ℕ) → Action
-  addressing : (at : Place) → Action
-  assigning : (at : Place) → (type : ℕ) → Action
-  updating : (at : Place) → (op : BinaryOp) → (type right : ℕ) → Action
-  stepping : (at : Place) → (type : ℕ) → (op : StepOp) → (before : Bool) → Action
-  copying : (at : Place) → (size : ℕ) → Action
-  -- towards a spot
-  dereferencing : Action
-  indexing : (at : Place) → (size : ℕ) → (left right : IntKind) → Action
-  field_of : (offset : ℕ) → Action
-  field_at : (at : Place) → (offset : ℕ) → Action
-  field_of_element : (at : Place) → (right : IntKind) → (size offset : ℕ) → Action
-  element_at : (at : Place) → (length size : ℕ) → (addressed : Bool) → (kind : IntKind) → Action
-  -- initial values: of a local that is kept by its name, and of a part of a block
-  naming : (local : ℕ) → Action
-  storing : (b offset : ℕ) → (at : Place) → (type : ℕ) → Action
-  copying_to : (b offset : ℕ) → (at : Place) → (size : ℕ) → Action
-
--- what is called with the arguments; a function through the pointer that lies below them, of a type
-pub data Callee : Type 0 where
-  function : (at : Place) → (f : ℕ) → Callee
-  through : (at : Place) → (type : ℕ) → Callee
-  library : (at : Place) → (which : LibraryFunction) → Callee
 
 -- the function that a statement stands in
 pub record Context : Type 0 where

@@ -18,18 +18,31 @@ use Rattle.block_memory.specs.declared.pointer.Ptr.TheVariants as P
 use Rattle.block_memory.specs.Blocks.{with_cells}
 use Rattle.runs.specs.Doing.{Doing, ◌>>=◌, ◌>>◌, pure, is_undefined, memory_now, with_memory, turn, note, enter, leave}
 use Rattle.runs.specs.Events.{began}
-use Rattle.runs.specs.Scalars.{Value, word, pointer, word_of, pointer_of}
+use Rattle.runs.specs.Scalars.{word_of, pointer_of}
+use Rattle.runs.specs.declared.value.Value.{Value}
+use Rattle.runs.specs.declared.value.Value.TheVariants.{Word as word, Pointer as pointer}
 use Rattle.runs.specs.Worlds.{ends}
 use Rattle.c_meaning.specs.Expressions as Meaning
-use Rattle.c_meaning.specs.Frames.{Frame, Slot, in_block, placed, local_spot, slot_now, begin_all, finish_all, emptied, frame_of}
-use Rattle.c_meaning.specs.Loops.{loops_in, loops_in_all}
+use Rattle.c_meaning.specs.Frames.{Frame, local_spot, slot_now, begin_all, finish_all, emptied, frame_of}
+use Rattle.c_meaning.specs.declared.frame.Spot.TheVariants.{Placed as placed}
+use Rattle.c_meaning.specs.declared.frame.Slot.{Slot}
+use Rattle.c_meaning.specs.declared.frame.Slot.TheVariants.{InBlock as in_block}
+use Rattle.c_counts.specs.Loops.{loops_in, loops_in_all}
 use Rattle.c_meaning.specs.Operators.{is_true, flag}
 use Rattle.c_meaning.specs.Program.{type_at, size_at, element_size, length_of, all_locals}
 use Rattle.c_meaning.specs.Run.{result_of, receive, numbers, status_of}
-use Rattle.c_meaning.specs.Statements.{Way, normally, by_break, by_continue, by_return, arm_of, default_arm, or_default}
+use Rattle.c_meaning.specs.Statements.{arm_of, default_arm, or_default}
+use Rattle.c_meaning.specs.declared.frame.Way.{Way}
+use Rattle.c_meaning.specs.declared.frame.Way.TheVariants.{Normally as normally, ByBreak as by_break, ByContinue as by_continue, ByReturn as by_return}
 use Rattle.source_machine.specs.Actions.{taking, taking_any, performed}
 use Rattle.source_machine.specs.Items as I
-use Rattle.source_machine.specs.Items.{Operand, value, spot, Stack, Action, Callee, Context, Loop, LoopBehind, Item, Work, acting, evaluating, using, spotting}
+use Rattle.source_machine.specs.Items.{Stack, Context, Loop, LoopBehind, Item, Work, acting, evaluating, using, spotting}
+use Rattle.source_machine.specs.declared.items.Action.{Action}
+use Rattle.source_machine.specs.declared.items.Action.TheVariants as OfAction
+use Rattle.source_machine.specs.declared.items.Callee.{Callee}
+use Rattle.source_machine.specs.declared.items.Callee.TheVariants as OfCallee
+use Rattle.source_machine.specs.declared.items.Operand.{Operand}
+use Rattle.source_machine.specs.declared.items.Operand.TheVariants.{Value as value, Spot as spot}
 use Rattle.source_machine.specs.Items.{gathering, gathered, framing, executing, executing_all, entering, tested, repeating, repeating_behind, ending, unwinding}
 
 -- what is left to do, beside the frame and the world
@@ -60,7 +73,7 @@ may_lack (T.library which all) = true
 may_lack node = false
 
 abbrev pub needing_if : Bool → Place → Work → Work
-needing_if true at more = acting (I.needing at) ∷ more
+needing_if true at more = acting (OfAction.Needing at) ∷ more
 needing_if false at more = more
 
 module _ (p : ProgramData) where
@@ -69,16 +82,16 @@ module _ (p : ProgramData) where
   abbrev pub located_at : (t : ℕ) → (addressed : Bool) → Place → PathNode ℕ → Work → Stack → Doing Frame Left
   located_at t addressed at (T.local x) more stack = local_spot at x >>= λ s. goes more (spot s ∷ stack)
   located_at t addressed at (T.object n) more stack = goes more (spot (placed (P.Block n 0)) ∷ stack)
-  located_at t addressed at (T.deref e) more stack = goes (using e ∷ acting I.dereferencing ∷ more) stack
+  located_at t addressed at (T.deref e) more stack = goes (using e ∷ acting OfAction.Dereferencing ∷ more) stack
   located_at t addressed at (T.index e i) more stack =
-      goes (using e ∷ using i ∷ acting (I.indexing at (size_at p t) (kind_of (type_at p (ty e))) (kind_of (type_at p (ty i)))) ∷ more) stack
+      goes (using e ∷ using i ∷ acting (OfAction.Indexing at (size_at p t) (kind_of (type_at p (ty e))) (kind_of (type_at p (ty i)))) ∷ more) stack
   located_at t addressed at (T.member (path u b (T.deref e)) r field) more stack =
-      goes (using e ∷ acting (I.field_at at (offset_of p.records r field)) ∷ more) stack
+      goes (using e ∷ acting (OfAction.FieldAt at (offset_of p.records r field)) ∷ more) stack
   located_at t addressed at (T.member (path u b (T.index e i)) r field) more stack =
-      goes (using e ∷ using i ∷ acting (I.field_of_element at (kind_of (type_at p (ty i))) (size_at p u) (offset_of p.records r field)) ∷ more) stack
-  located_at t addressed at (T.member q r field) more stack = goes (spotting false q ∷ acting (I.field_of (offset_of p.records r field)) ∷ more) stack
+      goes (using e ∷ using i ∷ acting (OfAction.FieldOfElement at (kind_of (type_at p (ty i))) (size_at p u) (offset_of p.records r field)) ∷ more) stack
+  located_at t addressed at (T.member q r field) more stack = goes (spotting false q ∷ acting (OfAction.FieldOf (offset_of p.records r field)) ∷ more) stack
   located_at t addressed at (T.element q i) more stack = goes (spotting false q ∷ using i
-      ∷ acting (I.element_at at (length_of (type_at p (path_ty q))) (size_at p t) addressed (kind_of (type_at p (ty i)))) ∷ more) stack
+      ∷ acting (OfAction.ElementAt at (length_of (type_at p (path_ty q))) (size_at p t) addressed (kind_of (type_at p (ty i)))) ∷ more) stack
 
   abbrev pub located : (addressed : Bool) → Path ℕ → Work → Stack → Doing Frame Left
   located addressed (path t at step) more stack = located_at t addressed at step more stack
@@ -88,7 +101,7 @@ module _ (p : ProgramData) where
   abbrev pub started : Place → (f : ℕ) → List Value → FunctionData → Option (Statement ℕ) → (caller : Frame) → Work → Stack → Doing Frame Left
   started place f values g None caller more stack = is_undefined K.Call place
   started place f values g (Some body) caller more stack = receive p place 0 g.parameters values
-      >> goes (executing (record { function = f; locals = all_locals g }) 0 body ∷ ending (numbers p (length g.parameters)) ∷ framing caller ∷ more) stack
+      >> goes (executing (record { function = f; locals = all_locals g }) 0 body ∷ ending (numbers (length g.parameters)) ∷ framing caller ∷ more) stack
 
   abbrev pub called_as : Place → (f : ℕ) → List Value → Option FunctionData → Work → Stack → Doing Frame Left
   called_as place f values None more stack = is_undefined K.Call place
@@ -105,9 +118,9 @@ module _ (p : ProgramData) where
   called_through place t q values more stack = is_undefined K.Call place
 
   abbrev pub calls : Callee → List Value → Work → Stack → Doing Frame Left
-  calls (I.function at f) values more stack = called_as at f values (slice_get p.functions f) more stack
-  calls (I.through at t) values more stack = taking stack (λ v stack. called_through at (type_at p t) (pointer_of v) values more stack)
-  calls (I.library at which) values more stack = Meaning.library at which values >>= λ v. goes more (value v ∷ stack)
+  calls (OfCallee.Function at f) values more stack = called_as at f values (slice_get p.functions f) more stack
+  calls (OfCallee.Through at t) values more stack = taking stack (λ v stack. called_through at (type_at p t) (pointer_of v) values more stack)
+  calls (OfCallee.Library at which) values more stack = Meaning.library at which values >>= λ v. goes more (value v ∷ stack)
 
   abbrev pub gathers : Callee → (done : List Value) → Expressions ℕ → Work → Stack → Doing Frame Left
   gathers callee done T.no_expressions more stack = calls callee done more stack
@@ -119,34 +132,34 @@ module _ (p : ProgramData) where
   evaluated t at (T.constant v) more stack = goes more (value (Some (word v)) ∷ stack)
   evaluated t at T.null more stack = goes more (value (Some (pointer P.Null)) ∷ stack)
   evaluated t at (T.function_name f) more stack = goes more (value (Some (pointer (P.Function f))) ∷ stack)
-  evaluated t at (T.load q) more stack = located false q (acting (I.loading at t) ∷ more) stack
-  evaluated t at (T.address_of q) more stack = located true q (acting (I.addressing at) ∷ more) stack
-  evaluated t at (T.decay q) more stack = located false q (acting (I.addressing at) ∷ more) stack
-  evaluated t at (T.convert e written) more stack = goes (evaluating e ∷ acting (I.converting t (at_of e)) ∷ more) stack
-  evaluated t at (T.unary op x) more stack = goes (using x ∷ acting (I.unary_on op) ∷ more) stack
+  evaluated t at (T.load q) more stack = located false q (acting (OfAction.Loading at t) ∷ more) stack
+  evaluated t at (T.address_of q) more stack = located true q (acting (OfAction.Addressing at) ∷ more) stack
+  evaluated t at (T.decay q) more stack = located false q (acting (OfAction.Addressing at) ∷ more) stack
+  evaluated t at (T.convert e written) more stack = goes (evaluating e ∷ acting (OfAction.Converting t (at_of e)) ∷ more) stack
+  evaluated t at (T.unary op x) more stack = goes (using x ∷ acting (OfAction.UnaryOn op) ∷ more) stack
   evaluated t at (T.binary op x y) more stack =
-      goes (using x ∷ using y ∷ acting (I.binary_on at op (kind_of (type_at p t)) (kind_of (type_at p (ty y)))) ∷ more) stack
-  evaluated t at (T.compare op x y) more stack = goes (using x ∷ using y ∷ acting (I.comparing at op (kind_of (type_at p (ty x)))) ∷ more) stack
+      goes (using x ∷ using y ∷ acting (OfAction.BinaryOn at op (kind_of (type_at p t)) (kind_of (type_at p (ty y)))) ∷ more) stack
+  evaluated t at (T.compare op x y) more stack = goes (using x ∷ using y ∷ acting (OfAction.Comparing at op (kind_of (type_at p (ty x)))) ∷ more) stack
   evaluated t at (T.pointer_add op x y) more stack = goes (using x ∷ using y
-      ∷ acting (I.adding at op (element_size p (type_at p t)) (kind_of (type_at p (ty x))) (kind_of (type_at p (ty y)))) ∷ more) stack
-  evaluated t at (T.pointer_difference x y) more stack = goes (using x ∷ using y ∷ acting (I.measuring at (element_size p (type_at p (ty x)))) ∷ more) stack
+      ∷ acting (OfAction.Adding at op (element_size p (type_at p t)) (kind_of (type_at p (ty x))) (kind_of (type_at p (ty y)))) ∷ more) stack
+  evaluated t at (T.pointer_difference x y) more stack = goes (using x ∷ using y ∷ acting (OfAction.Measuring at (element_size p (type_at p (ty x)))) ∷ more) stack
   evaluated t at (T.both x y) more stack = goes (using x ∷ I.both_with y ∷ more) stack
   evaluated t at (T.either x y) more stack = goes (using x ∷ I.either_with y ∷ more) stack
-  evaluated t at (T.not x) more stack = goes (using x ∷ acting I.negating ∷ more) stack
+  evaluated t at (T.not x) more stack = goes (using x ∷ acting OfAction.Negating ∷ more) stack
   evaluated t at (T.choose x y z) more stack = goes (using x ∷ I.choosing y z ∷ more) stack
-  evaluated t at (T.comma x y) more stack = goes (evaluating x ∷ acting I.dropping ∷ evaluating y ∷ more) stack
-  evaluated t at (T.assign q x) more stack = located false q (using x ∷ acting (I.assigning at t) ∷ more) stack
-  evaluated t at (T.assign_op op q x) more stack = located false q (using x ∷ acting (I.updating at op t (ty x)) ∷ more) stack
-  evaluated t at (T.step op before q) more stack = located false q (acting (I.stepping at t op before) ∷ more) stack
+  evaluated t at (T.comma x y) more stack = goes (evaluating x ∷ acting OfAction.Dropping ∷ evaluating y ∷ more) stack
+  evaluated t at (T.assign q x) more stack = located false q (using x ∷ acting (OfAction.Assigning at t) ∷ more) stack
+  evaluated t at (T.assign_op op q x) more stack = located false q (using x ∷ acting (OfAction.Updating at op t (ty x)) ∷ more) stack
+  evaluated t at (T.step op before q) more stack = located false q (acting (OfAction.Stepping at t op before) ∷ more) stack
   evaluated t at (T.copy_record to from) more stack =
-      located false to (spotting false from ∷ acting (I.copying at (size_at p (path_ty to))) ∷ more) stack
-  evaluated t at (T.call f all) more stack = gathers (I.function at f) [] all more stack
-  evaluated t at (T.call_through e all) more stack = goes (using e ∷ gathering (I.through at (ty e)) [] all ∷ more) stack
-  evaluated t at (T.library which all) more stack = gathers (I.library at which) [] all more stack
+      located false to (spotting false from ∷ acting (OfAction.Copying at (size_at p (path_ty to))) ∷ more) stack
+  evaluated t at (T.call f all) more stack = gathers (OfCallee.Function at f) [] all more stack
+  evaluated t at (T.call_through e all) more stack = goes (using e ∷ gathering (OfCallee.Through at (ty e)) [] all ∷ more) stack
+  evaluated t at (T.library which all) more stack = gathers (OfCallee.Library at which) [] all more stack
   evaluated t at (T.allocate r T.no_expression zeroed) more stack =
-      goes (acting (I.allocating at r (element_size p (type_at p t)) zeroed) ∷ more) (value (Some (word 1)) ∷ stack)
+      goes (acting (OfAction.Allocating at r (element_size p (type_at p t)) zeroed) ∷ more) (value (Some (word 1)) ∷ stack)
   evaluated t at (T.allocate r (T.some_expression e) zeroed) more stack =
-      goes (using e ∷ acting (I.allocating at r (element_size p (type_at p t)) zeroed) ∷ more) stack
+      goes (using e ∷ acting (OfAction.Allocating at r (element_size p (type_at p t)) zeroed) ∷ more) stack
 
   -- ---- initializers
 
@@ -155,8 +168,8 @@ module _ (p : ProgramData) where
   zeroed_in b size = memory_now >>= λ m. with_memory (with_cells m b 0 (replicate size (Byte 0)))
 
   abbrev pub fills : (b offset : ℕ) → PartValue ℕ → Work → Stack → Doing Frame Left
-  fills b offset (T.value e) more stack = goes (using e ∷ acting (I.storing b offset (at_of e) (ty e)) ∷ more) stack
-  fills b offset (T.record_of q) more stack = goes (spotting false q ∷ acting (I.copying_to b offset (path_at q) (size_at p (path_ty q))) ∷ more) stack
+  fills b offset (T.value e) more stack = goes (using e ∷ acting (OfAction.Storing b offset (at_of e) (ty e)) ∷ more) stack
+  fills b offset (T.record_of q) more stack = goes (spotting false q ∷ acting (OfAction.CopyingTo b offset (path_at q) (size_at p (path_ty q))) ∷ more) stack
   fills b offset (T.text bytes) more stack = memory_now >>= (λ m. with_memory (with_cells m b offset (map Byte bytes))) >> goes more stack
 
   abbrev pub fills_all : (b : ℕ) → List (Part ℕ) → Work → Stack → Doing Frame Left
@@ -169,7 +182,7 @@ module _ (p : ProgramData) where
   initial_in b size (T.parts all) more stack = zeroed_in b size >> goes (I.filling b all ∷ more) stack
 
   abbrev pub initial_by_name : (local : ℕ) → Initializer ℕ → Work → Stack → Doing Frame Left
-  initial_by_name x (T.whole e) more stack = goes (using e ∷ acting (I.naming x) ∷ more) stack
+  initial_by_name x (T.whole e) more stack = goes (using e ∷ acting (OfAction.Naming x) ∷ more) stack
   initial_by_name x i more stack = goes more stack
 
   abbrev pub initial : (local size : ℕ) → Initializer ℕ → Option Slot → Work → Stack → Doing Frame Left
@@ -192,7 +205,7 @@ module _ (p : ProgramData) where
 
   abbrev pub repeats : Option (Expression ℕ) → Loop → Work → Stack → Doing Frame Left
   repeats None l more stack = tests l.test l more stack
-  repeats (Some e) l more stack = goes (evaluating e ∷ acting I.dropping ∷ I.looping l ∷ more) stack
+  repeats (Some e) l more stack = goes (evaluating e ∷ acting OfAction.Dropping ∷ I.looping l ∷ more) stack
 
   abbrev pub begun_behind : LoopBehind → Work → Stack → Doing Frame Left
   begun_behind l more stack =
@@ -201,7 +214,7 @@ module _ (p : ProgramData) where
   -- ---- statements
 
   abbrev pub executed : Context → (loops : ℕ) → Statement ℕ → Work → Stack → Doing Frame Left
-  executed c l (T.evaluate e) more stack = goes (evaluating e ∷ acting I.dropping ∷ more) stack
+  executed c l (T.evaluate e) more stack = goes (evaluating e ∷ acting OfAction.Dropping ∷ more) stack
   executed c l (T.block own all) more stack = begin_all p c.locals own >> goes (executing_all c l all ∷ ending own ∷ more) stack
   executed c l (T.declare x i) more stack = declared x (slice_get c.locals x) i more stack
   executed c l (T.when e one) more stack = goes (using e ∷ I.deciding c l one ∷ more) stack
@@ -258,9 +271,9 @@ module _ (p : ProgramData) where
   enacted (using (expression t at node)) more stack = evaluated t at node (needing_if (may_lack node) at more) stack
   enacted (spotting addressed q) more stack = located addressed q more stack
   enacted (I.both_with y) more stack =
-      taking stack (λ v stack. if is_true v then goes (using y ∷ acting I.flagging ∷ more) stack else goes more (value (Some (flag false)) ∷ stack))
+      taking stack (λ v stack. if is_true v then goes (using y ∷ acting OfAction.Flagging ∷ more) stack else goes more (value (Some (flag false)) ∷ stack))
   enacted (I.either_with y) more stack =
-      taking stack (λ v stack. if is_true v then goes more (value (Some (flag true)) ∷ stack) else goes (using y ∷ acting I.flagging ∷ more) stack)
+      taking stack (λ v stack. if is_true v then goes more (value (Some (flag true)) ∷ stack) else goes (using y ∷ acting OfAction.Flagging ∷ more) stack)
   enacted (I.choosing y z) more stack = taking stack (λ v stack. if is_true v then goes (evaluating y ∷ more) stack else goes (evaluating z ∷ more) stack)
   enacted (gathering callee done rest) more stack = gathers callee done rest more stack
   enacted (gathered callee done rest) more stack = taking stack (λ v stack. gathers callee (done ++ v ∷ []) rest more stack)
@@ -294,4 +307,4 @@ module _ (p : ProgramData) where
 
   -- at the start
   abbrev pub started_with : Left
-  started_with = record { work = gathering (I.function (record { file = 0; at = 0 }) p.main) [] T.no_expressions ∷ []; stack = [] }
+  started_with = record { work = gathering (OfCallee.Function (record { file = 0; at = 0 }) p.main) [] T.no_expressions ∷ []; stack = [] }

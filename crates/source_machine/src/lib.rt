@@ -3,3 +3,7 @@
 //!
 //! It stands on `c_meaning`, whose run it is proved against, on the laws of `c_meaning_laws`, and on what they stand on.
 #![tactic(auto)]
+
+mod items;
+
+pub use items::{Action, Callee, Operand};

@@ -1,0 +1,32 @@
+//! What a function that runs has of its own (C99 6.2.4), and how its statements are left (6.8.6).
+
+use block_memory::Ptr;
+use runs::Value;
+
+/// A local of a function that runs.
+#[derive(Clone, Copy, Debug, PartialEq, Eq)]
+pub enum Slot {
+    /// A number or a pointer whose address is never taken; none before a value is stored.
+    ByName(Option<Value>),
+    /// Any other, by the number of its block; none outside of its scope.
+    InBlock(Option<u64>),
+}
+
+/// Where a path leads.
+#[derive(Clone, Copy, Debug, PartialEq, Eq)]
+pub enum Spot {
+    /// A local that is kept by its name, by its number.
+    Kept(u32),
+    /// A place in memory.
+    Placed(Ptr),
+}
+
+/// How a statement is left.
+#[derive(Clone, Copy, Debug, PartialEq, Eq)]
+pub enum Way {
+    Normally,
+    ByBreak,
+    ByContinue,
+    /// With the value that is returned, where there is one.
+    ByReturn(Option<Value>),
+}
