@@ -1,0 +1,10 @@
+pub mod Cores
+pub mod Counting
+pub mod Locals
+pub mod Memories
+pub mod Calls
+pub mod States
+pub mod Actions
+pub mod Expressions
+pub mod Statements
+pub mod Steps
