@@ -1,0 +1,118 @@
+-- Step by step a run comes from its start to its end.
+use Rattle.std.proofs.Common.{◌≡◌, refl, sym, ap, ◌∙◌, subst, ℕ, ◌+◌, ◌^◌, ◌<◌, true, List, [], Some, slice_get, arith}
+use Rattle.c_typed.specs.Programs.{ProgramData}
+use Rattle.runs.specs.Events.{Event, Call, output_of, calls_of, entries_of, begins_of}
+use Rattle.runs.specs.Worlds.{World}
+use Rattle.c_meaning.specs.Run.{kept, seen, ended, went_on, was_undefined, no_room}
+use Rattle.c_meaning_laws.specs.Longer.{world_of}
+use Rattle.source_machine.proofs.Preserved.{begins}
+use Rattle.source_machine.proofs.Sound.{goes_alike, over_alike}
+use Rattle.source_steps.specs.Cores.{Core}
+use Rattle.source_steps.specs.Counting.{Counting}
+use Rattle.source_steps.specs.States.{State, Step}
+use Rattle.source_steps.specs.Steps.{stepped}
+use Rattle.source_steps.specs.declared.ends.Final.{Final}
+use Rattle.source_steps.specs.declared.ends.Final.TheVariants.{Ends, TurnLimit, Undefined, Room}
+use Rattle.source_steps.specs.declared.ends.Moved.{Moved}
+use Rattle.source_steps.specs.declared.ends.Moved.TheVariants.{Goes, Puts, Gets, Over}
+use Rattle.source_step_laws.specs.Agreeing.{world, left_of, end_of, Agrees, Tells, output_with, calls_with}
+use Rattle.source_step_laws.specs.Came.{AreZero, state_at_start, Came, Ended, Comes, seen_as, trace_of}
+use Rattle.source_step_laws.proofs.Steps.{alike}
+
+module _ (p : ProgramData) (input : List ℕ) (turns : ℕ) where
+  -- ---- the start
+
+  agrees_at_start : (counts : Counting) → turns < 2 ^ 64 → AreZero counts → Agrees turns (state_at_start p turns counts).core []
+  agrees_at_start counts few none = record {
+    few = few;
+    live = refl;
+    entries = none.entries;
+    begins = none.begins;
+    all_entries = λ f. omega arith;
+    all_begins = λ f l. omega arith;
+  }
+
+  pub starts : (counts : Counting) → turns < 2 ^ 64 → AreZero counts → Came p input turns (state_at_start p turns counts) [] input []
+  starts counts few none = record {
+    trace = [];
+    agrees = agrees_at_start counts few none;
+    writes = refl;
+    calls_are = refl;
+    runs = begins p input turns true;
+  }
+
+  -- ---- a step
+
+  within : (s : State) (trace : List Event) → Agrees turns s.core trace → s.core.turns < turns + 1
+  within s trace h = let all = h.all_entries 0 in omega (arith, all)
+
+  module _ {s : State} {output rest : List ℕ} {calls : List Call} (came : Came p input turns s output rest calls) where
+    comes_by : (moved : Moved) (new : State) → Tells p turns s rest came.trace moved new → Comes p input turns moved new output rest calls
+    comes_by Goes new told = record {
+      trace = told.later;
+      agrees = told.agrees;
+      writes = told.writes ∙ came.writes;
+      calls_are = told.calls ∙ came.calls_are;
+      runs = (goes_alike p (turns + 1) (left_of s) s.core.frame (world s.core rest came.trace) _ _ _ (within s came.trace came.agrees) told.moves).0 ∙ came.runs;
+    }
+    comes_by (Puts byte) new told = record {
+      trace = told.later;
+      agrees = told.agrees;
+      writes = told.writes ∙ ap (output_with (Puts byte)) came.writes;
+      calls_are = told.calls ∙ ap (calls_with (Puts byte)) came.calls_are;
+      runs = (goes_alike p (turns + 1) (left_of s) s.core.frame (world s.core rest came.trace) _ _ _ (within s came.trace came.agrees) told.moves).0 ∙ came.runs;
+    }
+    comes_by Gets new told = record {
+      trace = told.later;
+      agrees = told.agrees;
+      writes = told.writes ∙ came.writes;
+      calls_are = told.calls ∙ ap (calls_with Gets) came.calls_are;
+      runs = (goes_alike p (turns + 1) (left_of s) s.core.frame (world s.core rest came.trace) _ _ _ (within s came.trace came.agrees) told.moves).0 ∙ came.runs;
+    }
+    comes_by (Over end) new told = record {
+      trace = told.later;
+      agrees = told.agrees;
+      writes = told.writes ∙ came.writes;
+      calls_are = told.calls ∙ came.calls_are;
+      runs = sym came.runs ∙ sym (over_alike p (turns + 1) (left_of s) s.core.frame (world s.core rest came.trace) _ (within s came.trace came.agrees) told.moves);
+    }
+
+    -- the theorem
+    pub comes : Comes p input turns (stepped p s).0 (stepped p s).1 output rest calls
+    comes = comes_by (stepped p s).0 (stepped p s).1 (alike p s turns rest came.trace came.agrees)
+
+    pub comes_where : (moved : Moved) (new : State) → stepped p s ≡ (moved, new) → Comes p input turns moved new output rest calls
+    comes_where moved new e = subst (λ (step : Step). Comes p input turns step.0 step.1 output rest calls) e comes
+
+  -- ---- the end
+
+  seen_so : (end : Final) (c : Core) (output rest : List ℕ) (trace : List Event) → output_of trace ≡ output → seen (end_of end (world c rest trace)) ≡ seen_as end output rest
+  seen_so (Ends status) c output rest trace e = ap (λ o. ended o status rest) e
+  seen_so TurnLimit c output rest trace e = ap (λ o. went_on o rest) e
+  seen_so (Undefined kind at) c output rest trace e = ap (λ o. was_undefined kind at o rest) e
+  seen_so (Room kind counted) c output rest trace e = ap (λ o. no_room kind counted o rest) e
+
+  told_so : (end : Final) (w : World) → world_of (end_of end w) ≡ w
+  told_so (Ends status) w = refl
+  told_so TurnLimit w = refl
+  told_so (Undefined kind at) w = refl
+  told_so (Room kind counted) w = refl
+
+  module _ {end : Final} {c : Core} {output rest : List ℕ} {calls : List Call} (over : Ended p input turns end c output rest calls) where
+    -- the theorem: what is seen of the run
+    pub kept_is : kept p input turns ≡ seen_as end output rest
+    kept_is = ap seen over.runs ∙ seen_so end c output rest over.trace over.writes
+
+    trace_is : trace_of p input turns ≡ over.trace
+    trace_is = ap (λ e. (world_of e).trace) over.runs ∙ ap (λ (w : World). w.trace) (told_so end (world c rest over.trace))
+
+    -- its calls of `putchar` and `getchar`
+    pub calls_are : calls_of (trace_of p input turns) ≡ calls
+    calls_are = ap calls_of trace_is ∙ over.calls_are
+
+    -- and its counts
+    pub entries_are : (f n : ℕ) → slice_get c.counts.entries f ≡ Some n → n ≡ entries_of f (trace_of p input turns)
+    entries_are f n e = over.agrees.entries f n e ∙ ap (entries_of f) (sym trace_is)
+
+    pub begins_are : (f l n : ℕ) (loops : List ℕ) → slice_get c.counts.begins f ≡ Some loops → slice_get loops l ≡ Some n → n ≡ begins_of f l (trace_of p input turns)
+    begins_are f l n loops d e = over.agrees.begins f l n loops d e ∙ ap (begins_of f l) (sym trace_is)

@@ -1,0 +1,13 @@
+pub mod Parts
+pub mod Memories
+pub mod Locals
+pub mod Counting
+pub mod Calls
+pub mod Actions
+pub mod Library
+pub mod Expressions
+pub mod Statements
+pub mod Steps
+pub mod Arriving
+pub mod Lessening
+pub mod Onwards
