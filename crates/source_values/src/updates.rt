@@ -1,0 +1,90 @@
+//! Compound assignments (C99 6.5.16.2), and `++` and `--` (6.5.2.4, 6.5.3.1).
+
+ghost use Rattle.std.specs.Prelude.{◌≡◌, ◌≤◌};
+ghost use Rattle.block_memory.specs.View.{memory_of};
+ghost use Rattle.c_meaning.specs.Operators.{common_kind, pointer_op, step_op};
+ghost use Rattle.c_types.specs.Limits.{greatest_size};
+ghost use Rattle.source_types.specs.Sorts.{next_by, updated_by};
+
+use crate::numbers::binary;
+use crate::pointers::moved;
+use block_memory::Store;
+use c_typed::{BinaryOp, PointerOp, StepOp, is_shift, promoted_kind};
+use c_types::IntKind;
+use lay_base::UndefinedKind;
+use runs::Value;
+use source_types::{Sort, convert};
+
+fn common_kind(op: BinaryOp, left: IntKind, right: IntKind) -> IntKind
+    ensures { result ≡ common_kind op left right }
+{
+    if is_shift(op) {
+        promoted_kind(left)
+    } else {
+        right
+    }
+}
+
+fn pointer_op(op: BinaryOp) -> PointerOp
+    ensures { result ≡ pointer_op op }
+{
+    match op {
+        BinaryOp::Subtract => PointerOp::Subtract,
+        _ => PointerOp::Add,
+    }
+}
+
+fn step_op(op: StepOp) -> BinaryOp
+    ensures { result ≡ step_op op }
+{
+    match op {
+        StepOp::Increment => BinaryOp::Add,
+        StepOp::Decrement => BinaryOp::Subtract,
+    }
+}
+
+/// What a compound assignment stores: the old value is of a type of that sort, with elements of a size where it is a pointer, and the
+/// operand of that kind.
+pub fn updated(
+    store: &Store,
+    op: BinaryOp,
+    size: u32,
+    sort: Sort,
+    old: Value,
+    right: IntKind,
+    v: Value,
+) -> Result<Value, UndefinedKind>
+    requires { size ≤ greatest_size }
+    ensures { result ≡ updated_by (memory_of store.now) op size sort old right v }
+{
+    match sort {
+        Sort::Number(kind) => {
+            let common = common_kind(op, kind, right);
+            match binary(op, common, convert(Sort::Number(common), old), right, v) {
+                Ok(new) => Ok(convert(sort, new)),
+                Err(undefined) => Err(undefined),
+            }
+        }
+        Sort::Void | Sort::Pointer | Sort::Other => {
+            moved(store, pointer_op(op), size, IntKind::Int, old, right, v)
+        }
+    }
+}
+
+/// What `++` and `--` store.
+pub fn next(
+    store: &Store,
+    op: StepOp,
+    size: u32,
+    sort: Sort,
+    old: Value,
+) -> Result<Value, UndefinedKind>
+    requires { size ≤ greatest_size }
+    ensures { result ≡ next_by (memory_of store.now) op size sort old }
+{
+    let kind = match sort {
+        Sort::Number(kind) => promoted_kind(kind),
+        Sort::Void | Sort::Pointer | Sort::Other => IntKind::Int,
+    };
+    updated(store, step_op(op), size, sort, old, kind, Value::Word(1))
+}
