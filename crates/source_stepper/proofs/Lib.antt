@@ -1,0 +1,6 @@
+pub mod Casts
+pub mod Slots
+pub mod Passing
+pub mod Both
+pub mod Numbers
+pub mod Arms

@@ -1,0 +1,5 @@
+pub mod Casts
+pub mod Parts
+pub mod Passing
+pub mod WorkView
+pub mod View

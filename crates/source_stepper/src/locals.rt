@@ -1,0 +1,230 @@
+//! The locals of blocks of statements, and what they hold at first (C99 6.2.4, 6.7.8).
+
+ghost use Rattle.std.specs.Prelude.{◌≡◌, IfOk, Some, map, slice_get};
+ghost use Rattle.std.specs.Option.{option_copied, option_map};
+ghost use Rattle.c_meaning.specs.Run.{numbers};
+ghost use Rattle.c_typed.specs.Programs.{program_data};
+ghost use Rattle.c_typed.specs.Views.{initializer_of, part_of, part_value_of};
+ghost use Rattle.source_core.specs.View.{core_of};
+ghost use Rattle.source_steps.specs.Locals.{begin, begin_all, finish_all, slot};
+ghost use Rattle.source_steps.specs.Statements.{declared, fills, fills_all, initial, initial_by_name, initial_in};
+ghost use Rattle.source_stepper.specs.View.{state_of};
+ghost use Rattle.source_stepper.specs.WorkView.{context_of};
+
+use crate::machine::Machine;
+use crate::work::{Scope, Work};
+use c_meaning::Slot;
+use c_typed::{Initializer, InitializerPart, Local, PartValue};
+use lay_base::NoMemory;
+use source_core::Room;
+use source_machine::Action;
+use source_steps::{Final, Moved};
+use source_types::Types;
+use std::alloc::Global;
+
+/// The local with that number; parameters come first.
+#[tactic(auto, using(crate::proofs::Both::in_first, crate::proofs::Both::in_second))]
+fn local_in<'a>(scope: Scope<'a>, number: u32) -> Option<&'a Local>
+    ensures { option_copied result ≡ slice_get (context_of scope.entry).locals number }
+{
+    let number = number as usize;
+    if number < scope.parameters.len() {
+        scope.parameters.get(number)
+    } else {
+        scope.locals.get(number - scope.parameters.len())
+    }
+}
+
+fn begin_one(
+    room: &mut Room,
+    alloc: Global,
+    types: &Types<'_>,
+    scope: Scope<'_>,
+    number: u32,
+) -> Result<Result<(), Final>, NoMemory>
+    ensures { IfOk result (λ r. (r, core_of room.new) ≡ begin (program_data types.now) number (slice_get (context_of scope.entry).locals number) (core_of room.old)) }
+{
+    match local_in(scope, number) {
+        Some(l) => room.begin(alloc, number, l.block, types.row(l.ty).size),
+        None => Ok(Ok(())),
+    }
+}
+
+/// Locals are made, with nothing stored.
+pub(crate) fn begin_all(
+    room: &mut Room,
+    alloc: Global,
+    types: &Types<'_>,
+    scope: Scope<'_>,
+    numbers: &[u32],
+) -> Result<Result<(), Final>, NoMemory>
+    ensures { IfOk result (λ r. (r, core_of room.new) ≡ begin_all (program_data types.now) (context_of scope.entry).locals numbers.now (core_of room.old)) }
+{
+    for number in numbers {
+        match begin_one(room, alloc, types, scope, *number)? {
+            Ok(()) => {}
+            Err(end) => return Ok(Err(end)),
+        }
+    }
+    Ok(Ok(()))
+}
+
+/// The parameters of a function end: so many locals, from the first one on.
+#[tactic(auto, using(crate::proofs::Numbers::next_number, crate::proofs::Numbers::no_number))]
+pub(crate) fn finish_first(room: &mut Room, count: usize) -> Result<(), NoMemory>
+    ensures { IfOk result (λ u. core_of room.new ≡ finish_all (numbers count) (core_of room.old)) }
+{
+    for number in 0..count {
+        let Ok(local) = u32::try_from(number) else {
+            return Err(NoMemory);
+        };
+        room.finish(local);
+    }
+    Ok(())
+}
+
+impl<'a> Machine<'a> {
+    // ---- initializers
+
+    /// A part of a block is stored.
+    fn fill(
+        &mut self,
+        types: &Types<'a>,
+        block: u64,
+        offset: u32,
+        value: &'a PartValue,
+    ) -> Result<Moved, NoMemory>
+        ensures { IfOk result (λ m. (m, state_of self.new) ≡ fills (program_data types.now) block offset (part_value_of value.now) (state_of self.old)) }
+    {
+        match value {
+            PartValue::Value(e) => {
+                let e = e.get();
+                self.use_one(e, Action::Storing(block, offset, e.place, e.ty))
+            }
+            PartValue::Record(q) => {
+                let size = types.row(q.ty).size;
+                self.spot_one(q, Action::CopyingTo(block, offset, q.place, size))
+            }
+            PartValue::Text(bytes) => {
+                self.room.write(block, offset, bytes.as_slice())?;
+                Ok(Moved::Goes)
+            }
+        }
+    }
+
+    /// Parts of a block are stored.
+    pub(crate) fn fill_all(
+        &mut self,
+        types: &Types<'a>,
+        block: u64,
+        parts: &'a [InitializerPart],
+    ) -> Result<Moved, NoMemory>
+        ensures { IfOk result (λ m. (m, state_of self.new) ≡ fills_all (program_data types.now) block (map part_of parts.now) (state_of self.old)) }
+    {
+        match parts.split_first() {
+            Some((part, rest)) => {
+                self.todo(Work::Filling(block, rest))?;
+                self.fill(types, block, part.offset, &part.value)
+            }
+            None => Ok(Moved::Goes),
+        }
+    }
+
+    fn initialize_in(
+        &mut self,
+        types: &Types<'a>,
+        block: u64,
+        size: u32,
+        initializer: &'a Initializer,
+    ) -> Result<Moved, NoMemory>
+        ensures { IfOk result (λ m. (m, state_of self.new) ≡ initial_in (program_data types.now) block size (initializer_of initializer.now) (state_of self.old)) }
+    {
+        match initializer {
+            Initializer::Value(e) => {
+                let e = e.get();
+                self.use_one(e, Action::Storing(block, 0, e.place, e.ty))
+            }
+            Initializer::Record(q) => {
+                let size = types.row(q.ty).size;
+                self.spot_one(q, Action::CopyingTo(block, 0, q.place, size))
+            }
+            Initializer::Parts(all) => {
+                self.room.zero(block, size)?;
+                self.todo(Work::Filling(block, all.as_slice()))?;
+                Ok(Moved::Goes)
+            }
+        }
+    }
+
+    fn initialize_by_name(
+        &mut self,
+        types: &Types<'a>,
+        local: u32,
+        initializer: &'a Initializer,
+    ) -> Result<Moved, NoMemory>
+        ensures { IfOk result (λ m. (m, state_of self.new) ≡ initial_by_name (program_data types.now) local (initializer_of initializer.now) (state_of self.old)) }
+    {
+        let _ = types;
+        match initializer {
+            Initializer::Value(e) => self.use_one(e.get(), Action::Naming(local)),
+            Initializer::Record(_) | Initializer::Parts(_) => Ok(Moved::Goes),
+        }
+    }
+
+    fn initialize(
+        &mut self,
+        types: &Types<'a>,
+        local: u32,
+        size: u32,
+        initializer: &'a Initializer,
+    ) -> Result<Moved, NoMemory>
+        ensures { IfOk result (λ m. (m, state_of self.new) ≡ initial (program_data types.now) local size (initializer_of initializer.now)
+            (slot (state_of self.old).core local) (state_of self.old)) }
+    {
+        match self.room.slot(local) {
+            Some(Slot::InBlock(Some(block))) => {
+                self.initialize_in(types, block, size, initializer)
+            }
+            Some(Slot::InBlock(None)) | Some(Slot::ByName(_)) | None => {
+                self.initialize_by_name(types, local, initializer)
+            }
+        }
+    }
+
+    fn declare_local(
+        &mut self,
+        types: &Types<'a>,
+        number: u32,
+        l: &'a Local,
+        initializer: &'a Option<Initializer>,
+    ) -> Result<Moved, NoMemory>
+        ensures { IfOk result (λ m. (m, state_of self.new) ≡ declared (program_data types.now) number (Some l.now)
+            (option_map initializer_of initializer.now) (state_of self.old)) }
+    {
+        let size = types.row(l.ty).size;
+        match initializer {
+            Some(initializer) => self.initialize(types, number, size, initializer),
+            None => {
+                self.room.empty_local(number, size)?;
+                Ok(Moved::Goes)
+            }
+        }
+    }
+
+    /// The declaration of a local is reached.
+    pub(crate) fn declare(
+        &mut self,
+        types: &Types<'a>,
+        scope: Scope<'a>,
+        number: u32,
+        initializer: &'a Option<Initializer>,
+    ) -> Result<Moved, NoMemory>
+        ensures { IfOk result (λ m. (m, state_of self.new) ≡ declared (program_data types.now) number (slice_get (context_of scope.entry).locals number)
+            (option_map initializer_of initializer.now) (state_of self.old)) }
+    {
+        match local_in(scope, number) {
+            Some(l) => self.declare_local(types, number, l, initializer),
+            None => Ok(Moved::Goes),
+        }
+    }
+}

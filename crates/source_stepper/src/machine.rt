@@ -1,0 +1,138 @@
+//! The interpreter between two steps.
+
+ghost use Rattle.std.specs.Prelude.{◌≡◌, ◌∷◌, [], IfOk, MatchOption, OnOk, Option, Some};
+ghost use Rattle.c_typed.specs.Trees.{no_expressions};
+ghost use Rattle.source_core.specs.View.{core_of};
+ghost use Rattle.source_machine.specs.Items.{gathering};
+ghost use Rattle.source_machine.specs.declared.items.Callee.TheVariants as OfCallee;
+ghost use Rattle.source_stepper.specs.View.{state_of};
+ghost use Rattle.source_stepper.specs.WorkView.{item_of};
+ghost use Rattle.source_steps.specs.States.{State, Step, doing, goes, led, pushed, stuck, taking, taking_any, taking_spot};
+ghost use Rattle.source_steps.specs.declared.ends.Final.TheVariants.{Undefined};
+ghost use Rattle.source_steps.specs.declared.ends.Moved.TheVariants.{Over};
+ghost use Rattle.runs.specs.declared.value.Value.{Value};
+ghost use Rattle.c_meaning.specs.declared.frame.Spot.{Spot};
+
+use crate::stack::Stack;
+use crate::work::{ForCall, Work};
+use c_meaning::Spot;
+use lay_base::{NoMemory, Place, UndefinedKind};
+use runs::Value;
+use source_core::Room;
+use source_machine::{Callee, Operand};
+use source_steps::{Final, Moved};
+use std::alloc::Global;
+
+/// The work that is left, the last first, the operands, and what is kept beside them.
+#[derive(Drop)]
+pub struct Machine<'a> {
+    pub(crate) work: Stack<Work<'a>>,
+    pub(crate) stack: Stack<Operand>,
+    pub(crate) room: Room,
+}
+
+/// What a step comes to where an operand is not of the sort that lies there in every run.
+pub(crate) const STUCK: Moved = Moved::Over(Final::Undefined(
+    UndefinedKind::NoValue,
+    Place { file: 0, at: 0 },
+));
+
+/// The end of a run at a step that has no defined meaning.
+pub(crate) fn undefined(kind: UndefinedKind, place: Place) -> Moved
+    ensures { result ≡ Over (Undefined kind place) }
+{
+    Moved::Over(Final::Undefined(kind, place))
+}
+
+impl<'a> Machine<'a> {
+    /// The machine before a call of the function of that number with no arguments, with nothing else to do.
+    pub fn new(alloc: Global, main: u32, room: Room) -> Result<Machine<'a>, NoMemory>
+        ensures { IfOk result (λ machine. state_of machine ≡ record {
+          work = gathering (OfCallee.Function (record { file = 0; at = 0 }) main) [] no_expressions ∷ [];
+          stack = [];
+          core = core_of room;
+        }) }
+    {
+        let mut machine = Machine {
+            work: Stack::new(alloc),
+            stack: Stack::new(alloc),
+            room,
+        };
+        let callee = Callee::Function(Place { file: 0, at: 0 }, main);
+        machine.todo(Work::Call(ForCall::Gathering, callee, Vec::new(alloc), &[]))?;
+        Ok(machine)
+    }
+
+    /// What is kept beside the work and the operands.
+    pub fn room(&self) -> &Room
+        ensures { core_of result.now ≡ (state_of self.now).core }
+    {
+        &self.room
+    }
+
+    /// More work, before all other.
+    pub(crate) fn todo(&mut self, work: Work<'a>) -> Result<(), NoMemory>
+        ensures { OnOk result (state_of self.new ≡ doing (item_of work.entry) (state_of self.old)) }
+    {
+        self.work.push(work)
+    }
+
+    /// A value, or none, on the stack.
+    pub(crate) fn push(&mut self, v: Option<Value>) -> Result<Moved, NoMemory>
+        ensures { IfOk result (λ m. (m, state_of self.new) ≡ goes (pushed v (state_of self.old))) }
+    {
+        self.stack.push(Operand::Value(v))?;
+        Ok(Moved::Goes)
+    }
+
+    /// A value on the stack.
+    pub fn give(&mut self, v: Value) -> Result<Moved, NoMemory>
+        ensures { IfOk result (λ m. (m, state_of self.new) ≡ goes (pushed (Some v) (state_of self.old))) }
+    {
+        self.push(Some(v))
+    }
+
+    /// A spot on the stack.
+    pub(crate) fn lead(&mut self, spot: Spot) -> Result<Moved, NoMemory>
+        ensures { IfOk result (λ m. (m, state_of self.new) ≡ goes (led spot (state_of self.old))) }
+    {
+        self.stack.push(Operand::Spot(spot))?;
+        Ok(Moved::Goes)
+    }
+
+    /// Takes the value on top of the stack off; none where no value lies there.
+    pub(crate) fn take(&mut self) -> Option<Value>
+        ensures { MatchOption result
+            ((next : Value → State → Step) → taking (state_of self.old) next ≡ stuck (state_of self.new))
+            (λ v. state_of self.old ≡ pushed (Some v) (state_of self.new)) }
+    {
+        match self.stack.pop() {
+            Some(Operand::Value(Some(v))) => Some(v),
+            Some(Operand::Value(None)) | Some(Operand::Spot(_)) | None => None,
+        }
+    }
+
+    /// Takes the value on top of the stack off, which may be that of an expression that has none; none where no value lies there.
+    pub(crate) fn take_any(&mut self) -> Option<Option<Value>>
+        ensures { MatchOption result
+            ((next : Option Value → State → Step) → taking_any (state_of self.old) next ≡ stuck (state_of self.new))
+            (λ v. state_of self.old ≡ pushed v (state_of self.new)) }
+    {
+        match self.stack.pop() {
+            Some(Operand::Value(v)) => Some(v),
+            Some(Operand::Spot(_)) | None => None,
+        }
+    }
+
+    /// Takes the spot on top of the stack off; none where no spot lies there.
+    pub(crate) fn take_spot(&mut self) -> Option<Spot>
+        ensures { MatchOption result
+            ((next : Spot → State → Step) → taking_spot (state_of self.old) next ≡ stuck (state_of self.new))
+            (λ q. state_of self.old ≡ led q (state_of self.new)) }
+    {
+        match self.stack.pop() {
+            Some(Operand::Spot(spot)) => Some(spot),
+            Some(Operand::Value(_)) | None => None,
+        }
+    }
+}
