@@ -1,0 +1,62 @@
+-- The last block of memory is that of an object.
+use Rattle.std.proofs.Common.{◌≡◌, refl, ap, ◌∙◌, ℕ, ◌+◌, true, false, List, [], ◌∷◌, ◌++◌, length, drop, fold, replicate, arith, append-nil}
+use Rattle.std.proofs.lemmas.List.{length-replicate, drop_all}
+use Rattle.block_memory.specs.declared.cell.Cell.{Cell}
+use Rattle.block_memory.specs.declared.cell.Cell.TheVariants.{Byte, Empty}
+use Rattle.block_memory.specs.declared.kinds.BlockKind.{BlockKind}
+use Rattle.block_memory.specs.Blocks.{Memory, Block, Contents, living, ended, block, is_live, lives_in, size, size_in, overwritten, with_cells}
+use Rattle.block_memory.specs.Lifetimes.{with_block}
+use Rattle.c_meaning.specs.Program.{cells_of}
+use Rattle.c_typed.specs.declared.program.Initial.{Initial}
+use Rattle.runs.specs.Worlds.{live_in}
+use Rattle.source_start.specs.Writing.{with_all}
+
+-- ---- the bytes that live in a block
+
+living_size : (c : Contents) → lives_in c ≡ true → live_in c ≡ size_in c
+living_size (living cells) e = refl
+living_size (ended n) e = cc
+
+ended_size : (c : Contents) → lives_in c ≡ false → live_in c ≡ 0
+ended_size (living cells) e = cc
+ended_size (ended n) e = refl
+
+pub living_bytes : (m : Memory) (b : ℕ) → is_live m b ≡ true → live_in (block m b).contents ≡ size m b
+living_bytes m b = living_size (block m b).contents
+
+pub ended_bytes : (m : Memory) (b : ℕ) → is_live m b ≡ false → live_in (block m b).contents ≡ 0
+ended_bytes m b = ended_size (block m b).contents
+
+-- ---- the block behind the others
+
+pub last_block : (m : Memory) (x : Block) → block (m ++ x ∷ []) (length m) ≡ x
+last_block [] x = refl
+last_block (y ∷ m) x = last_block m x
+
+with_last : (m : Memory) (x : Block) (at : ℕ) (new : List Cell)
+    → with_cells (m ++ x ∷ []) (length m) at new ≡ m ++ record { kind = x.kind; contents = overwritten x.contents at new } ∷ []
+with_last [] x at new = refl
+with_last (y ∷ m) x at new = ap (λ r. y ∷ r) (with_last m x at new)
+
+pub size_of_last : (m : Memory) (n : ℕ) (kind : BlockKind) → size (with_block m n kind) (length m) ≡ n
+size_of_last m n kind = ap (λ x. size_in x.contents) (last_block m (record { kind = kind; contents = living (replicate n Empty) })) ∙ length-replicate n Empty
+
+zeroed : (n : ℕ) → overwritten (living (replicate n Empty)) 0 (replicate n (Byte 0)) ≡ living (replicate n (Byte 0))
+zeroed n = ap living (ap (λ rest. replicate n (Byte 0) ++ rest) none ∙ append-nil (replicate n (Byte 0)))
+  where
+    none : drop (0 + length (replicate n (Byte 0))) (replicate n Empty) ≡ []
+    none = drop_all (0 + length (replicate n (Byte 0))) (replicate n Empty) (omega (arith, length-replicate n (Byte 0), length-replicate n Empty))
+
+pub zeroed_last : (m : Memory) (n : ℕ) (kind : BlockKind)
+    → with_cells (with_block m n kind) (length m) 0 (replicate n (Byte 0)) ≡ m ++ record { kind = kind; contents = living (replicate n (Byte 0)) } ∷ []
+zeroed_last m n kind =
+    with_last m (record { kind = kind; contents = living (replicate n Empty) }) 0 (replicate n (Byte 0))
+    ∙ ap (λ c. m ++ record { kind = kind; contents = c } ∷ []) (zeroed n)
+
+pub all_last : (m : Memory) (kind : BlockKind) (c : Contents) (all : List Initial)
+    → with_all (length m) (m ++ record { kind = kind; contents = c } ∷ []) all
+    ≡ m ++ record { kind = kind; contents = fold (λ c i. overwritten c i.offset (cells_of i.value)) c all } ∷ []
+all_last m kind c [] = refl
+all_last m kind c (i ∷ all) =
+    ap (λ n. with_all (length m) n all) (with_last m (record { kind = kind; contents = c }) i.offset (cells_of i.value))
+    ∙ all_last m kind (overwritten c i.offset (cells_of i.value)) all

@@ -1,0 +1,6 @@
+pub mod PointerPut
+pub mod LastBlock
+pub mod NoCounts
+pub mod Walks
+pub mod Shapes
+pub mod Telling

@@ -1,0 +1,4 @@
+pub mod Writing
+pub mod Zeros
+pub mod Shape
+pub mod Counted

@@ -1,0 +1,88 @@
+//! The blocks of the objects.
+
+ghost use Rattle.std.specs.Prelude.{◌≡◌, ◌∷◌, [], ◌++◌, IfOk, length, replicate};
+ghost use Rattle.block_memory.specs.declared.cell.Cell.TheVariants.{Byte};
+ghost use Rattle.block_memory.specs.Blocks.{block, living};
+ghost use Rattle.block_memory.specs.View.{memory_of};
+ghost use Rattle.c_meaning.specs.Program.{initial_memory, object_block, object_kind};
+ghost use Rattle.c_typed.specs.Programs.{program_data};
+ghost use Rattle.runs.specs.Worlds.{live_bytes, live_in};
+ghost use Rattle.source_start.specs.Writing.{AddGives};
+
+use crate::values::write_all;
+use block_memory::{BlockKind, Store};
+use c_typed::Object;
+use lay_base::NoMemory;
+use source_types::Types;
+use std::alloc::Global;
+
+fn object_kind(text: bool) -> BlockKind
+    ensures { result ≡ object_kind text }
+{
+    if text {
+        BlockKind::Text
+    } else {
+        BlockKind::Global
+    }
+}
+
+/// The bytes that live in a block.
+#[tactic(auto, using(crate::proofs::LastBlock::living_bytes, crate::proofs::LastBlock::ended_bytes))]
+fn live_in(store: &Store, number: u64) -> u64
+    ensures { result ≡ live_in (block (memory_of store.now) number).contents }
+{
+    if store.live(number) {
+        u64::from(store.size(number))
+    } else {
+        0
+    }
+}
+
+/// A new block of so many bytes that are 0: its number.
+#[tactic(auto, using(crate::proofs::LastBlock::zeroed_last, crate::proofs::LastBlock::size_of_last))]
+fn add_zeros(alloc: Global, store: &mut Store, size: u32, kind: BlockKind) -> Result<u64, NoMemory>
+    ensures { IfOk result (AddGives (memory_of store.old) (memory_of store.new) (record { kind = kind; contents = living (replicate size (Byte 0)) })) }
+{
+    let block = store.alloc(alloc, size, kind)?;
+    store.set_zero(block, size);
+    Ok(block)
+}
+
+/// A new block for an object, with what it holds at first: how many bytes live in it.
+#[tactic(auto, using(crate::proofs::LastBlock::all_last, crate::proofs::LastBlock::last_block))]
+fn add_object(
+    alloc: Global,
+    store: &mut Store,
+    types: &Types<'_>,
+    o: &Object,
+) -> Result<u64, NoMemory>
+    ensures memory { IfOk result (λ n. memory_of store.new ≡ memory_of store.old ++ object_block (program_data types.now) o.now ∷ []) }
+    ensures live { IfOk result (λ n. n ≡ live_in (object_block (program_data types.now) o.now).contents) }
+{
+    let size = types.row(o.ty).size;
+    let block = add_zeros(alloc, store, size, object_kind(o.text))?;
+    if let Some(all) = &o.initial {
+        write_all(store, block, all.as_slice())?;
+    }
+    Ok(live_in(store, block))
+}
+
+/// A new block for each object, with what it holds at first: how many bytes live in them.
+pub(crate) fn add_objects(
+    alloc: Global,
+    store: &mut Store,
+    types: &Types<'_>,
+) -> Result<u64, NoMemory>
+    ensures memory { IfOk result (λ n. memory_of store.new ≡ memory_of store.old ++ initial_memory (program_data types.now)) }
+    ensures live { IfOk result (λ n. n ≡ live_bytes (initial_memory (program_data types.now))) }
+{
+    let mut live: u64 = 0;
+    for o in types.typed().objects.as_slice() {
+        let size = add_object(alloc, store, types, o)?;
+        let Some(more) = live.checked_add(size) else {
+            return Err(NoMemory);
+        };
+        live = more;
+    }
+    Ok(live)
+}

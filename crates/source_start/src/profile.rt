@@ -1,0 +1,85 @@
+//! The counts of a run in the order of a profile.
+
+ghost use Rattle.std.specs.Prelude.{◌≡◌, ◌<◌, ◌^◌, IfOk, length, map};
+ghost use Rattle.c_counts.specs.Counting.{count_at, counts_by, name_at, numbers_below};
+ghost use Rattle.c_typed.specs.Programs.{program_data};
+ghost use Rattle.source_core.specs.CountsView.{counting_of};
+ghost use Rattle.source_start.specs.Counted.{begin_in, entry_in};
+
+use crate::counters::{begin, entry, loops_at};
+use c_counts::{Counts, FunCount, next_defined};
+use c_typed::Typed;
+use lay_base::{List, Name, NoMemory, add};
+use source_core::Counters;
+use std::alloc::Global;
+
+/// A copy of the name of the function of that number.
+fn name_at(alloc: Global, p: &Typed, f: u32) -> Result<Name, NoMemory>
+    ensures { IfOk result (λ name. name ≡ name_at (program_data p.now) f) }
+{
+    let name = match p.functions.get(f as usize) {
+        None => b"",
+        Some(f) => f.name.as_slice(),
+    };
+    match Vec::from_slice(alloc, name) {
+        Ok(bytes) => Ok(Name::of(bytes)),
+        Err(_) => Err(NoMemory),
+    }
+}
+
+/// How often the bodies of the first loops of a function began.
+#[tactic(auto, using(crate::proofs::Walks::next_number))]
+fn begins(alloc: Global, counters: &Counters, f: u32, count: u32) -> Result<List<u64>, NoMemory>
+    ensures { IfOk result (λ all. all ≡ map (begin_in (counting_of counters.now) f) (numbers_below count)) }
+{
+    let mut all = Vec::new(alloc);
+    for l in 0..count {
+        if all.push(begin(counters, f, l)).is_err() {
+            return Err(NoMemory);
+        }
+    }
+    Ok(List::of(all))
+}
+
+/// The counts of the function of that number.
+fn count_at(alloc: Global, p: &Typed, counters: &Counters, f: u32) -> Result<FunCount, NoMemory>
+    ensures { IfOk result (λ count. count ≡
+        count_at (entry_in (counting_of counters.now)) (begin_in (counting_of counters.now)) (program_data p.now) f) }
+{
+    let name = name_at(alloc, p, f)?;
+    let number = loops_at(p, f)?;
+    let loops = begins(alloc, counters, f, number)?;
+    Ok(FunCount {
+        name,
+        entries: entry(counters, f),
+        loops,
+    })
+}
+
+/// The counts of each function that a program with fewer than 2^32 functions defines.
+fn counts_of(alloc: Global, p: &Typed, counters: &Counters) -> Result<Counts, NoMemory>
+    requires { length p.now.functions < 2 ^ 32 }
+    ensures { IfOk result (λ counts. counts ≡
+        counts_by (entry_in (counting_of counters.now)) (begin_in (counting_of counters.now)) (program_data p.now)) }
+{
+    let mut functions = List::new(alloc);
+    let mut last = None;
+    while let Some(next) = next_defined(p, last) {
+        let count = count_at(alloc, p, counters, next.number)?;
+        add(&mut functions, count)?;
+        last = Some(next);
+    }
+    Ok(Counts { functions })
+}
+
+/// The counts of each function that the program defines, in the order of a profile. `NoMemory` comes for want of memory, and where there
+/// are 2^32 functions or more, or a function has 2^32 - 1 loops or more.
+pub fn counts(alloc: Global, p: &Typed, counters: &Counters) -> Result<Counts, NoMemory>
+    ensures { IfOk result (λ counts. counts ≡
+        counts_by (entry_in (counting_of counters.now)) (begin_in (counting_of counters.now)) (program_data p.now)) }
+{
+    if p.functions.len() > 0xFFFF_FFFF {
+        return Err(NoMemory);
+    }
+    counts_of(alloc, p, counters)
+}
