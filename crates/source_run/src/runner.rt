@@ -1,0 +1,146 @@
+//! The runner of a program.
+
+ghost use Rattle.std.specs.Prelude.{◌≡◌, IfOk};
+ghost use Rattle.c_typed.specs.Programs.{program_data};
+ghost use Rattle.source_run.specs.Starting.{IsAtStart, answer_of};
+ghost use Rattle.source_stepper.specs.View.{state_of};
+
+use crate::end::RunEnd;
+use crate::stepping::{Advance, make_step};
+use c_counts::Counts;
+use c_typed::Typed;
+use lay_base::{NoMemory, Sink, Source};
+use source_start::{counts, start};
+use source_stepper::Machine;
+use source_steps::Final;
+use source_types::Types;
+use std::alloc::Global;
+
+/// What a run answers that is over so.
+fn answer(end: Final, turns: u64) -> RunEnd
+    ensures { result ≡ answer_of end turns }
+{
+    match end {
+        Final::Ends(status) => RunEnd::Ends(status),
+        Final::TurnLimit => RunEnd::TurnLimit(turns),
+        Final::Undefined(kind, place) => RunEnd::Undefined(kind, place),
+        Final::Room(kind, counted) => RunEnd::Room(kind, counted),
+    }
+}
+
+/// A machine at the start of a run.
+fn machine_at_start<'a>(
+    alloc: Global,
+    types: &Types<'a>,
+    turns: u64,
+) -> Result<Machine<'a>, NoMemory>
+    ensures { IfOk result (λ machine. IsAtStart (program_data types.now) turns (state_of machine)) }
+{
+    let room = start(alloc, types, turns)?;
+    Machine::new(alloc, types.typed().main, room)
+}
+
+/// Runs a program once. It is as `new` made it, or it has run and keeps its end and its counts.
+#[derive(Drop)]
+pub struct Runner<'a> {
+    pub(crate) types: Types<'a>,
+    pub(crate) counts: Counts,
+    pub(crate) ended: Option<RunEnd>,
+}
+
+impl<'a> Runner<'a> {
+    ghost use Rattle.std.specs.Prelude.{◌≡◌, ◌≤◌, ◌^◌, IfOk, IsSome, Some};
+    ghost use Rattle.c_typed.specs.declared.program.Typed.{Typed};
+    ghost use Rattle.c_typed.specs.Programs.{program_data};
+    ghost use Rattle.source_run.specs.Fresh.{IsFresh, no_counts};
+    ghost use Rattle.source_run.specs.RunGives.{RunGives};
+    ghost use Rattle.source_run.specs.Starting.{HasFinished};
+    ghost use Rattle.source_run.specs.Streams.{streams};
+
+    /// A runner of the program, with counts that are all 0.
+    pub fn new(alloc: Global, p: &'a Typed) -> Result<Runner<'a>, NoMemory>
+        ensures fresh { IfOk result (λ runner. IsFresh p.entry.now runner) }
+        ensures zero { IfOk result (λ runner. runner.counts ≡ no_counts (program_data p.entry.now)) }
+    {
+        let types = Types::of(alloc, p)?;
+        let room = start(alloc, &types, 0)?;
+        let counts = counts(alloc, p, &room.counts)?;
+        Ok(Runner {
+            types,
+            counts,
+            ended: None,
+        })
+    }
+
+    /// The answer of a run that is over, with its counts.
+    fn finish(&mut self, alloc: Global, machine: &Machine<'a>, end: Final, turns: u64) -> RunEnd
+        ensures { HasFinished (program_data self.old.types) (state_of machine.now).core.counts self.new.counts end turns result }
+    {
+        match counts(alloc, self.types.typed(), &machine.room().counts) {
+            Ok(counts) => {
+                self.counts = counts;
+                answer(end, turns)
+            }
+            Err(_) => RunEnd::Memory,
+        }
+    }
+
+    /// Runs the program from its start.
+    fn go<I: Source, O: Sink>(
+        &mut self,
+        alloc: Global,
+        input: &mut I,
+        out: &mut O,
+        turns: u64,
+    ) -> RunEnd
+        ensures { RunGives (program_data self.old.types) turns
+            (streams (I.left input.old) (I.faults input.old) (O.written out.old) (O.faults out.old))
+            (streams (I.left input.new) (I.faults input.new) (O.written out.new) (O.faults out.new)) self.new.counts result }
+    {
+        let Ok(mut machine) = machine_at_start(alloc, &self.types, turns) else {
+            return RunEnd::Memory;
+        };
+        for _ in 0..u64::MAX {
+            match make_step(alloc, &self.types, &mut machine, input, out) {
+                Advance::Goes | Advance::Wrote(_) | Advance::Read => {}
+                Advance::Over(end) => return self.finish(alloc, &machine, end, turns),
+                Advance::ReadFails => return RunEnd::ReadFault,
+                Advance::WriteFails(_) => return RunEnd::WriteFault,
+                Advance::Memory => return RunEnd::Memory,
+            }
+        }
+        // No run makes so many steps in practice.
+        RunEnd::Memory
+    }
+
+    /// Runs the program until it ends, within the room of the interpreter, where at most so many turns begin; its input comes from
+    /// `input`, and its output goes to `out`. A runner that has run answers the same end again and touches neither.
+    pub fn run<I: Source, O: Sink>(
+        &mut self,
+        alloc: Global,
+        input: &mut I,
+        out: &mut O,
+        turns: u64,
+    ) -> RunEnd
+        requires { turns ≤ 10 ^ 18 }
+        ensures ended { self.new.ended ≡ Some result }
+        ensures again { IsSome self.old.ended → (self.new ≡ self.old) × (input.new ≡ input.old) × (out.new ≡ out.old) }
+        ensures gives { (p : Typed) → IsFresh p self.old → RunGives (program_data p) turns
+            (streams (I.left input.old) (I.faults input.old) (O.written out.old) (O.faults out.old))
+            (streams (I.left input.new) (I.faults input.new) (O.written out.new) (O.faults out.new)) self.new.counts result }
+    {
+        if let Some(end) = self.ended {
+            return end;
+        }
+        let end = self.go(alloc, input, out, turns);
+        self.ended = Some(end);
+        end
+    }
+
+    /// The counts of the run: of each function that the program defines, in the order of a profile.
+    pub fn counts(&self) -> &Counts
+        ensures { result.now ≡ self.now.counts }
+    {
+        &self.counts
+    }
+}
