@@ -4,20 +4,28 @@ use crate::compiling::{Fails, NONE, check, check_compiled, refused};
 use crate::world::PRINTS_A;
 use std::test::Fail;
 
-const USAGE: &[u8] = b"\
+pub const USAGE: &[u8] = b"\
     usage: layc compile -o OUT [--profile P] [--plain] [--heap MIB] [--stack MIB] FILE...\n       \
     layc profile -o P [--turns N] FILE...\n       \
     layc interp [--turns N] FILE...\n       \
     layc run [--steps N] ELF\n       \
     layc bench N\n";
 
-static ASK_FOR_NOTHING: [&[&str]; 36] = [
+static ASK_FOR_NOTHING: [&[&str]; 44] = [
     &[],
     &["--help"],
     &["help"],
     &["--version"],
     &["--", "run", "o"],
-    &["interp", "t.c"],
+    &["interp"],
+    &["interp", "-o", "p", "t.c"],
+    &["interp", "--turns", "1", "--turns", "1", "t.c"],
+    &["interp", "--turns", "1000000000000000001", "t.c"],
+    &["interp", "--steps", "1", "t.c"],
+    &["profile", "-o", "p"],
+    &["profile", "t.c"],
+    &["profile", "-o", "p", "--turns=x", "t.c"],
+    &["bench", "1"],
     &["compile", "--help"],
     &["compile", "-h"],
     // What is required is missing.

@@ -9,59 +9,36 @@ use Rattle.lay_base.specs.Known.{Contents, IfKnown, FilesKeep, FilesKeepBut}
 use Rattle.lay_base.specs.declared.place.File.{File}
 use Rattle.refusals.specs.declared.refusal.Refusal.{Refusal}
 use Rattle.refusals.specs.declared.refusal.Refusal.TheVariants as R
-use Rattle.lay_base.specs.declared.faults.LimitKind.TheVariants as L
 use Rattle.thin_parser.specs.ThinTree.{Program}
 use Rattle.thin_parser.specs.ThinText.{IsThinText}
-use Rattle.lay_commands.specs.Words.{Compilation}
-use Rattle.lay_commands.specs.Outside.{Stream, outside}
-use Rattle.lay_commands.specs.declared.front_end.PlaceTexts.{PlaceTexts}
-use Rattle.lay_commands.specs.FrontEnd.{AreRefused, AreTexts, IsRefused}
-use Rattle.lay_commands.specs.Compiling.{AgreesWith, most_files, IsRead, WereSo, SpellThin, AreNotBuilt, WasTextOf, IsCompiled, IsPartlyCompiled}
+use Rattle.command_words.specs.Words.{Compilation}
+use Rattle.program_files.specs.Outside.{Stream, outside}
+use Rattle.program_files.specs.Reading.{AreFilesOf, IsRead}
+use Rattle.program_files.proofs.FilesRead.{no_name}
+use Rattle.program_files.proofs.Sources.{files_refused}
+use Rattle.lay_commands.specs.Compiling.{AgreesWith, SpellThin, WasTextOf, IsCompiled, IsPartlyCompiled}
 use Rattle.lay_commands.specs.Compiling.{IsCompiledTo}
-use Rattle.lay_commands.specs.Stages.{ProgramGives, ElfGives, ReportGives, CompileGives, HasTexts}
+use Rattle.lay_commands.specs.Stages.{ThinProgramGives, WriteGives, ReportGives, CompileGives}
 use Rattle.lay_commands.proofs.Files.{keep_then_but, keep_then_same}
-use Rattle.lay_commands.proofs.FilesRead.{no_name}
-use Rattle.lay_commands.proofs.FrontFaults.{no_files_limit}
 
 -- ---- no program
 
 abbrev name_of : Bor (List ℕ) → List ℕ
 name_of name = name.now
 
--- the files were so at entry
-so : (f : Option Contents) (names : List (Bor (List ℕ))) (read : List File) (P : List File → Type 0) → length names ≤ most_files
-    → map (λ file. file.name) read ≡ map (λ name. name.now) names → All (IsRead f) read → P read → WereSo f (map (λ name. name.now) names) P
-so f names read P few named all holds = record { few = rw length-map few; read = read; named = named; as_known = all; holds = holds }
-
--- the texts of the places are those in these files
-pub program_texts : (f : Option Contents) (names : List (Bor (List ℕ))) (read : List File) (texts : PlaceTexts) (refusal : Refusal)
-    → length names ≤ most_files → map (λ file. file.name) read ≡ map (λ name. name.now) names → All (IsRead f) read → AreTexts read refusal texts
-    → HasTexts f (map (λ name. name.now) names) texts refusal
-program_texts f names read texts refusal few named all are = λ place. so f names read (λ r. AreTexts r refusal texts) few named all are
-
 module _ (c : Compilation) (f0 f1 : Option Contents) (reads0 reads1 writes0 writes1 : List ℕ → ℕ) (input reported : Stream)
-    (names : List (Bor (List ℕ))) (read : List File) (files : c.files ≡ map (λ name. name.now) names) (few : length names ≤ most_files) (kept : FilesKeep f0 f1)
-    (named : map (λ file. file.name) read ≡ map (λ name. name.now) names) (all : All (IsRead f0) read) where
-  -- for the cause that the refusal tells, or memory is out
-  files_refused : (refusal : Refusal) → IsRefused read refusal
-      → CompileGives c (outside f0 reads0 writes0 input reported) (outside f1 reads1 writes1 input reported) (Err refusal)
-  files_refused (R.Limit L.Files counted) refused = absurd (no_files_limit read counted refused)
-  files_refused (R.FileFault name) refused = let none = refused.1 in cc
-  files_refused (R.TooLong name) refused = let none = refused.1 in cc
-  files_refused (R.NotBuilt name) refused = let none = refused.1 in cc
-  files_refused R.WriteFault refused = let none = refused.1 in cc
-  files_refused R.Memory refused = record { files = kept; input = refl; out = refl }
-  files_refused refusal refused = (rw files (so f0 names read (λ r. AreRefused r refusal) few named all refused), record { files = kept; input = refl; out = refl })
-
+    (names : List (Bor (List ℕ))) (read : List File) (files : c.files ≡ map (λ name. name.now) names) (kept : FilesKeep f0 f1)
+    (are : AreFilesOf f0 c.files read) where
   -- they are no program, or no thin one, or memory is out
-  pub program_refused : (refusal : Refusal) → 1 ≤ length c.files → ProgramGives (get_or names 0 no_name).now read (Err refusal)
+  pub program_refused : (refusal : Refusal) → 1 ≤ length c.files → ThinProgramGives (get_or names 0 no_name).now read (Err refusal)
       → CompileGives c (outside f0 reads0 writes0 input reported) (outside f1 reads1 writes1 input reported) (Err refusal)
   program_refused (R.NotBuilt name) some gives = (
     rw (files, gives.0) (slice_get-map name_of names 0 ∙ ap (option_map name_of) (slice_get-get_or names 0 no_name (rw (files, length-map) at some))),
-    rw files (so f0 names read AreNotBuilt few named all gives.1),
+    (read, are, gives.1),
     record { files = kept; input = refl; out = refl },
   )
-  program_refused refusal some gives = files_refused refusal gives
+  program_refused R.WriteFault some gives = let none = gives.1 in cc
+  program_refused refusal some gives = files_refused f0 f1 reads0 reads1 writes0 writes1 input reported c.files read kept are refusal gives
 
 -- ---- a program
 
@@ -94,18 +71,18 @@ module _ (c : Compilation) (f0 f1 f2 : Option Contents) (reads0 reads2 writes0 w
       let was = All-head (IsRead f0) spell.0 [] (subst (All (IsRead f0)) spell.1 all) in
       text_with f0 c.files spell.0 p P one was spell.2 holds
 
-  pub write_elf_refused : (reported : Stream) (refusal : Refusal) → writes1 c.out ≡ writes0 c.out
-      → ElfGives (writes1 c.out) (writes2 c.out) f1 f2 c.out elf (Err refusal)
+  pub write_refused : (reported : Stream) (refusal : Refusal) → writes1 c.out ≡ writes0 c.out
+      → WriteGives (writes1 c.out) (writes2 c.out) f1 f2 c.out elf (Err refusal)
       → CompileGives c (outside f0 reads0 writes0 input reported) (outside f2 reads2 writes2 input reported) (Err refusal)
-  write_elf_refused reported R.WriteFault same gives = inl (record {
+  write_refused reported R.WriteFault same gives = inl (record {
     cause = rw (← same) gives.0;
     partly = text_of _ (left_partly c p elf f0 f1 f2 kept agrees gives.1);
     others = keep_then_but c.out f0 f1 f2 kept but;
     unreported = refl;
     unread = refl;
   })
-  write_elf_refused reported R.Memory same gives = record { files = keep_then_same c.out f0 f1 f2 kept but gives; input = refl; out = refl }
-  write_elf_refused reported _ same gives = absurd gives
+  write_refused reported R.Memory same gives = record { files = keep_then_same c.out f0 f1 f2 kept but gives; input = refl; out = refl }
+  write_refused reported _ same gives = absurd gives
 
   compiled_to : (was now : Stream) → IfKnown f2 c.out (λ file. file ≡ Some elf)
       → IsCompiledTo c (outside f0 reads0 writes0 input was) (outside f2 reads2 writes2 input now)

@@ -1,9 +1,6 @@
-pub mod Declared
-pub mod Found
-pub mod Spelled
 pub mod Files
-pub mod FilesRead
-pub mod FrontFaults
+pub mod ThinPrograms
 pub mod Compiled
+pub mod Interpreted
 pub mod Refused
 pub mod Ran

@@ -1,39 +1,60 @@
 -- When each outcome comes, and what it leaves.
-use Rattle.std.specs.Prelude.{◌≡◌, ℕ, List, take, Option, Some, None, Result, Ok, Err, ◌⊎◌, ⊤}
+use Rattle.std.specs.Prelude.{◌≡◌, ℕ, List, [], take, Option, Some, None, Result, Ok, Err, ◌⊎◌, ⊤}
 use Rattle.lay_base.specs.Known.{Contents, Rose, Appends}
 use Rattle.refusals.specs.Table.{refusal_text, HasPlace}
 use Rattle.refusals.specs.declared.refusal.Refusal.{Refusal}
 use Rattle.refusals.specs.declared.refusal.Refusal.TheVariants as R
+use Rattle.command_words.specs.Words.{Command, Compile, Profile, Interp, Run}
+use Rattle.program_files.specs.FrontEnd.{HaveTexts}
+use Rattle.program_files.specs.Outside.{Stream, Outside, IsUntouched}
+use Rattle.program_files.specs.Reading.{WereSo}
 use Rattle.lay_commands.specs.declared.outcome.Outcome.{Outcome}
 use Rattle.lay_commands.specs.declared.outcome.Outcome.TheVariants.{Program, Done, Refused}
-use Rattle.lay_commands.specs.Words.{Compilation, Command, Compile, Run}
-use Rattle.lay_commands.specs.Outside.{Stream, Outside, IsUntouched}
-use Rattle.lay_commands.specs.FrontEnd.{HaveTexts}
-use Rattle.lay_commands.specs.Compiling.{WereSo}
+use Rattle.lay_commands.specs.Interpreting.{InterpGives, ProfileGives}
 use Rattle.lay_commands.specs.Stages.{CompileGives, RunGives}
 
--- the command is to compile, and this holds of what it asks for
-abbrev pub AsksToCompile : Option Command → (Compilation → Type 0) → Type 0
-AsksToCompile command P = (c : Compilation) × (command ≡ Some (Compile c)) × P c
+-- ---- what is left of the host, the input and out
 
--- the command is to run, and this holds of the number of steps and the name
-abbrev pub AsksToRun : Option Command → ((steps : ℕ) (elf : List ℕ) → Type 0) → Type 0
-AsksToRun command P = (steps : ℕ) × (elf : List ℕ) × (command ≡ Some (Run steps elf)) × P steps elf
+-- by the outcome of a command that runs a program, and of one that does not
+abbrev pub ByStatus : (Result ℕ Refusal → Type 0) → Outcome → Type 0
+ByStatus Gives (Program status) = Gives (Ok status)
+ByStatus Gives Done = ⊥
+ByStatus Gives (Refused refusal) = Gives (Err refusal)
 
--- what a command leaves of the host, the input and out, by its outcome; memory may be out before there is one
+abbrev pub ByWork : (Result (Unit {0}) Refusal → Type 0) → Outcome → Type 0
+ByWork Gives (Program status) = ⊥
+ByWork Gives Done = Gives (Ok tt)
+ByWork Gives (Refused refusal) = Gives (Err refusal)
+
+abbrev pub CommandGives : Command → (before now : Outside) → Outcome → Type 0
+CommandGives (Compile c) before now outcome = ByWork (CompileGives c before now) outcome
+CommandGives (Profile c) before now outcome = ByStatus (ProfileGives c before now) outcome
+CommandGives (Interp c) before now outcome = ByStatus (InterpGives c before now) outcome
+CommandGives (Run steps elf) before now outcome = ByStatus (RunGives steps elf before now) outcome
+
+-- where the words ask for nothing, and where memory is out before they are read
+abbrev pub NoCommandGives : (before now : Outside) → Outcome → Type 0
+NoCommandGives before now (Refused R.Usage) = IsUntouched before now
+NoCommandGives before now (Refused R.Memory) = IsUntouched before now
+NoCommandGives before now _ = ⊥
+
 abbrev pub OutcomeGives : Option Command → (before now : Outside) → Outcome → Type 0
-OutcomeGives command before now Done = AsksToCompile command (λ c. CompileGives c before now (Ok tt))
-OutcomeGives command before now (Program status) = AsksToRun command (λ steps elf. RunGives steps elf before now (Ok status))
-OutcomeGives command before now (Refused R.Usage) = (command ≡ None) × IsUntouched before now
-OutcomeGives command before now (Refused R.Memory) = IsUntouched before now
-OutcomeGives command before now (Refused refusal) =
-    AsksToCompile command (λ c. CompileGives c before now (Err refusal))
-    ⊎ AsksToRun command (λ steps elf. RunGives steps elf before now (Err refusal))
+OutcomeGives None before now outcome = NoCommandGives before now outcome
+OutcomeGives (Some command) before now outcome = CommandGives command before now outcome
 
--- the places of a refusal, if it has any, are in the files that are compiled, as they were at entry, and have these texts
+-- ---- what is left of err
+
+-- the files of source text that a command names
+abbrev pub source_files : Command → List (List ℕ)
+source_files (Compile c) = c.files
+source_files (Profile c) = c.files
+source_files (Interp c) = c.files
+source_files (Run steps elf) = []
+
+-- the places of a refusal, if it has any, are in the files of the command, as they were at entry, and have these texts
 abbrev pub PlacesHave : Option Command → Option Contents → Refusal → (at first : List ℕ) → Type 0
 PlacesHave command files refusal at first =
-    HasPlace refusal → AsksToCompile command (λ c. WereSo files c.files (λ read. HaveTexts read refusal at first))
+    HasPlace refusal → (c : Command) × (command ≡ Some c) × WereSo files (source_files c) (λ read. HaveTexts read refusal at first)
 
 -- the same of an outcome that is a refusal
 abbrev pub OutcomeHas : Option Command → Option Contents → Outcome → (at first : List ℕ) → Type 0
@@ -53,15 +74,28 @@ abbrev pub ErrGives : Option Command → Option Contents → (before now : Strea
 ErrGives command files before now (Refused refusal) = (text : List ℕ) × IsText command files refusal text × IsReported before now text
 ErrGives command files before now _ = now ≡ before
 
+-- ---- who reads the input
+
 -- the outcomes of a program that ran on the machine
-abbrev pub IsOfProgram : Outcome → Type 0
-IsOfProgram (Program status) = ⊤
-IsOfProgram (Refused (R.Trap kind pc)) = ⊤
-IsOfProgram (Refused (R.Break pc)) = ⊤
-IsOfProgram (Refused (R.StepLimit steps)) = ⊤
-IsOfProgram (Refused R.ReadFault) = ⊤
-IsOfProgram (Refused R.WriteFault) = ⊤
-IsOfProgram _ = ⊥
+abbrev pub IsOfMachine : Outcome → Type 0
+IsOfMachine (Program status) = ⊤
+IsOfMachine (Refused (R.Trap kind pc)) = ⊤
+IsOfMachine (Refused (R.Break pc)) = ⊤
+IsOfMachine (Refused (R.StepLimit steps)) = ⊤
+IsOfMachine (Refused R.ReadFault) = ⊤
+IsOfMachine (Refused R.WriteFault) = ⊤
+IsOfMachine _ = ⊥
+
+-- the outcomes of a program that the interpreter ran
+abbrev pub IsOfSource : Outcome → Type 0
+IsOfSource (Program status) = ⊤
+IsOfSource (Refused (R.Undefined kind place)) = ⊤
+IsOfSource (Refused (R.TurnLimit turns)) = ⊤
+IsOfSource (Refused (R.Room what counted)) = ⊤
+IsOfSource (Refused R.ReadFault) = ⊤
+IsOfSource (Refused R.WriteFault) = ⊤
+IsOfSource (Refused R.Memory) = ⊤
+IsOfSource _ = ⊥
 
 -- the outcome of a run by its answer
 abbrev pub run_outcome : Result ℕ Refusal → Outcome
@@ -70,4 +104,7 @@ run_outcome (Err refusal) = Refused refusal
 
 -- only a program that ran may have read the input
 abbrev pub MayRead : Option Command → Outcome → Type 0
-MayRead command outcome = AsksToRun command (λ steps elf. IsOfProgram outcome)
+MayRead (Some (Profile c)) outcome = IsOfSource outcome
+MayRead (Some (Interp c)) outcome = IsOfSource outcome
+MayRead (Some (Run steps elf)) outcome = IsOfMachine outcome
+MayRead command outcome = ⊥

@@ -1,22 +1,14 @@
 -- The outside after `compile`.
-use Rattle.std.specs.Prelude.{◌≡◌, ℕ, ◌≤◌, List, [], ◌∷◌, ◌++◌, length, map, take, slice_get, codes, All, Option, Some, ◌⊎◌, ⊤}
+use Rattle.std.specs.Prelude.{◌≡◌, ℕ, List, [], ◌∷◌, ◌++◌, take, codes, Option, Some, ◌⊎◌}
 use Rattle.lay_base.specs.Known.{Contents, Rose, IfKnown, Appends, FilesKeepBut}
 use Rattle.lay_base.specs.declared.place.File.{File}
 use Rattle.thin_parser.specs.ThinTree.{Program}
 use Rattle.thin_parser.specs.ThinText.{IsThinText}
 use Rattle.thin_code.specs.Meaning.{thin_run, IsLight}
 use Rattle.agreement.specs.Agreement.{Agrees}
-use Rattle.lay_commands.specs.Words.{Compilation}
-use Rattle.lay_commands.specs.FrontEnd.{AreProgram}
-use Rattle.lay_commands.specs.Outside.{Outside, HoldsWithin}
-
--- the greatest number of files that a program has
-abbrev pub most_files : ℕ
-most_files = 64
-
--- the greatest number of bytes of a file
-abbrev pub file_limit : ℕ
-file_limit = 4194304
+use Rattle.command_words.specs.Words.{Compilation}
+use Rattle.program_files.specs.FrontEnd.{AreProgram}
+use Rattle.program_files.specs.Outside.{Outside}
 
 -- the report's first line
 abbrev pub report : List ℕ
@@ -27,27 +19,6 @@ abbrev pub AgreesWith : (heap stack : ℕ) → Program → (elf : List ℕ) → 
 AgreesWith heap stack p elf = Agrees (thin_run p) IsLight elf heap stack
 
 -- ---- the files at entry
-
--- where the files are known: the name has bytes within the limit of a file
-abbrev pub IsReadable : Option Contents → (name : List ℕ) → Type 0
-IsReadable files name = HoldsWithin file_limit files name (λ bytes. ⊤)
-
--- There are no more names than a program has files, and reading them in their order comes to this one: those before it can be read.
-pub record ComesTo (files : Option Contents) (names : List (List ℕ)) (name : List ℕ) : Type 0 where
-  pub few : length names ≤ most_files
-  pub place : (k : ℕ) × (slice_get names k ≡ Some name) × All (IsReadable files) (take k names)
-
--- the file has the bytes under its name, where these are known, and is within the limit
-abbrev pub IsRead : Option Contents → File → Type 0
-IsRead files file = IfKnown files file.name (λ was. was ≡ Some file.bytes) × (length file.bytes ≤ file_limit)
-
--- There are no more names than a program has files. The files under them, as they were at entry, are so.
-pub record WereSo (files : Option Contents) (names : List (List ℕ)) (P : List File → Type 0) : Type 0 where
-  pub few : length names ≤ most_files
-  pub read : List File
-  pub named : map (λ file. file.name) read ≡ names
-  pub as_known : All (IsRead files) read
-  pub holds : P read
 
 -- the files are one, whose bytes are the text of the program
 abbrev pub SpellThin : List File → Program → Type 0

@@ -1,8 +1,5 @@
-pub mod CommandLine
-pub mod Words
-pub mod Outside
-pub mod FrontEnd
 pub mod Compiling
+pub mod Interpreting
 pub mod Running
 pub mod Stages
 pub mod Answers

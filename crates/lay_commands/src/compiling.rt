@@ -1,55 +1,22 @@
 //! `compile`: from the texts of a program's files to an ELF file and a report.
 
-ghost use Rattle.std.specs.Prelude.{◌≡◌, ◌<◌, ◌≤◌, ℕ, List, IfOk, IfErr, OnOk, All, length, map, slice_get, Some};
-ghost use Rattle.lay_base.specs.Known.{FilesKeep, FilesKeepBut};
+ghost use Rattle.std.specs.Prelude.{◌≡◌, ◌<◌, ◌≤◌, ℕ, List, IfOk, IfErr, OnOk, All, length, slice_get, Some};
 ghost use Rattle.thin_parser.specs.ThinTree.{program_of};
 ghost use Rattle.thin_parser.specs.ThinText.{punctuators, whole_sums, spelled_program};
-ghost use Rattle.lay_commands.specs.Words.{IsInRange, compilation_of};
-ghost use Rattle.lay_commands.specs.Outside.{Stream, outside, stream};
-ghost use Rattle.lay_commands.specs.FrontEnd.{AreProgram, AreTexts};
-ghost use Rattle.lay_commands.specs.Compiling.{AgreesWith, most_files};
-ghost use Rattle.lay_commands.specs.Stages.{NumberGives, FilesGive, ThinGives, ProgramGives, ElfGives, ReportGives, CompileGives, HasTexts};
+ghost use Rattle.command_words.specs.Words.{IsInRange, compilation_of};
+ghost use Rattle.program_files.specs.FrontEnd.{AreProgram, AreTexts, HasTexts};
+ghost use Rattle.program_files.specs.Outside.{Stream, outside, stream};
+ghost use Rattle.lay_commands.specs.Compiling.{AgreesWith};
+ghost use Rattle.lay_commands.specs.Stages.{ThinGives, ThinProgramGives, ReportGives, CompileGives};
 
-use crate::front_end::{PlaceTexts, check_files};
-use crate::reading::bytes_of;
-use crate::words::CompileRequest;
-use lay_base::{Bytes, File, Files, Host, HostWrite, LimitKind, List, Name, NoMemory, Sink, add};
+use crate::writing::write_bytes;
+use command_words::CompileRequest;
+use lay_base::{Files, Host, Name, NoMemory, Sink};
+use program_files::{PlaceTexts, check_files, check_number, read_files};
 use refusals::Refusal;
 use std::alloc::Global;
 use thin_code::image_of_thin;
 use thin_parser::{Thin, thin};
-
-/// The greatest number of files of a program.
-const MOST_FILES: usize = 64;
-
-/// The greatest number of bytes of a file.
-const FILE_LIMIT: u64 = 4_194_304;
-
-/// Refuses more names than a program has files.
-fn check_number(names: &[&str]) -> Result<(), Refusal>
-    ensures { NumberGives (length names.now) result }
-{
-    if names.len() > MOST_FILES {
-        return Err(Refusal::Limit(LimitKind::Files, names.len() as u64));
-    }
-    Ok(())
-}
-
-/// The files, read in the order of their names.
-fn read_files<H: Host>(alloc: Global, host: &mut H, names: &[&str]) -> Result<Files, Refusal>
-    requires { length names.now ≤ most_files }
-    ensures files { FilesKeep (H.files host.old) (H.files host.new) }
-    ensures writes { OnOk result ((name : List ℕ) → H.failed_writes host.new name ≡ H.failed_writes host.old name) }
-    ensures gives { FilesGive (H.failed_reads host.old) (H.failed_reads host.new) (H.files host.old) (map (λ name. name.now) names.now) result }
-{
-    let mut files = List::new(alloc);
-    for &name in names {
-        let bytes = Bytes::of(bytes_of(alloc, host, name, FILE_LIMIT)?);
-        let name = Name::copy_of(alloc, name)?;
-        add(&mut files, File { name, bytes })?;
-    }
-    Ok(files)
-}
 
 /// The thin program that the files spell, which are a program. A refusal has the name that is given.
 fn thin_in(alloc: Global, name: &str, files: &Files) -> Result<Thin, Refusal>
@@ -65,7 +32,7 @@ fn thin_in(alloc: Global, name: &str, files: &Files) -> Result<Thin, Refusal>
 }
 
 /// The thin program of the files. It takes them, so that their memory is free after it. A refusal leaves the texts of its places.
-#[tactic(auto, using(crate::proofs::FrontFaults::refused_gives, crate::proofs::FrontFaults::thin_gives, crate::proofs::FrontFaults::thin_texts))]
+#[tactic(auto, using(crate::proofs::ThinPrograms::refused_gives, crate::proofs::ThinPrograms::thin_gives, crate::proofs::ThinPrograms::thin_texts))]
 fn program_in(
     alloc: Global,
     name: &str,
@@ -74,7 +41,7 @@ fn program_in(
 ) -> Result<Thin, Refusal>
     requires few { length files ≤ 64 }
     requires short { All (λ file. length file.bytes ≤ 4194304) files }
-    ensures gives { ProgramGives name.now files result }
+    ensures gives { ThinProgramGives name.now files result }
     ensures texts { IfErr result (λ refusal. AreTexts files refusal texts.new) }
 {
     check_files(alloc, &files, texts)?;
@@ -93,20 +60,6 @@ fn elf_of(alloc: Global, program: &Thin, heap: u32, stack: u32) -> Result<Vec<u8
     elf32::write(alloc, &image)
 }
 
-/// Writes the ELF file under its name.
-fn write_elf<H: Host>(host: &mut H, out: &str, elf: &[u8]) -> Result<(), Refusal>
-    ensures others { FilesKeepBut out.now (H.files host.old) (H.files host.new) }
-    ensures writes { OnOk result ((name : List ℕ) → H.failed_writes host.new name ≡ H.failed_writes host.old name) }
-    ensures gives { ElfGives (H.failed_writes host.old out.now) (H.failed_writes host.new out.now) (H.files host.old) (H.files host.new)
-        out.now elf.now result }
-{
-    match host.write_file(out, elf) {
-        Ok(()) => Ok(()),
-        Err(HostWrite::Failed) => Err(Refusal::WriteFault),
-        Err(HostWrite::Memory) => Err(Refusal::Memory),
-    }
-}
-
 /// Writes the report. It has one line as long as no record is laid out.
 fn write_report<O: Sink>(out: &mut O) -> Result<(), Refusal>
     ensures { ReportGives (O.faults out.old) (O.faults out.new) (O.written out.old) (O.written out.new) result }
@@ -118,7 +71,7 @@ fn write_report<O: Sink>(out: &mut O) -> Result<(), Refusal>
 }
 
 /// Compiles a program: each stage refuses what it cannot take, and only the last two write. A refusal leaves the texts of its places.
-#[tactic(auto, using(crate::proofs::FrontFaults::number_texts, crate::proofs::FrontFaults::files_texts, crate::proofs::FrontFaults::memory_texts, crate::proofs::FrontFaults::elf_texts, crate::proofs::FrontFaults::report_texts))]
+#[tactic(auto, using(program_files::proofs::FrontFaults::number_texts, program_files::proofs::FrontFaults::files_texts, program_files::proofs::FrontFaults::memory_texts, crate::proofs::ThinPrograms::write_texts, crate::proofs::ThinPrograms::report_texts))]
 pub fn compile<H: Host, O: Sink>(
     alloc: Global,
     request: CompileRequest<'_, '_>,
@@ -140,6 +93,6 @@ pub fn compile<H: Host, O: Sink>(
     let files = read_files(alloc, host, request.files)?;
     let program = program_in(alloc, request.files[0], files, texts)?;
     let elf = elf_of(alloc, &program, request.heap, request.stack)?;
-    write_elf(host, request.out, &elf)?;
+    write_bytes(host, request.out, &elf)?;
     write_report(out)
 }

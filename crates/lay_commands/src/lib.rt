@@ -5,15 +5,13 @@
 //! every outcome when it comes and what it leaves; the definitions that it cites are in `specs/`.
 #![tactic(auto)]
 
-mod command_line;
 mod compiling;
-mod front_end;
-mod numbers;
+mod interpreting;
 mod outcome;
-mod reading;
+mod profiling;
 mod running;
 mod top;
-mod words;
+mod writing;
 
 pub use outcome::{Outcome, status_of};
 pub use top::layc;

@@ -3,14 +3,14 @@
 ghost use Rattle.std.specs.Prelude.{◌≡◌, ◌⊎◌, IfOk};
 ghost use Rattle.rv_isa.specs.Placed.{IsPlaced};
 ghost use Rattle.rv_machine.specs.Runs.{IsFresh};
-ghost use Rattle.lay_commands.specs.Outside.{outside, stream};
+ghost use Rattle.program_files.specs.Outside.{outside, stream};
 ghost use Rattle.lay_commands.specs.Stages.{ImageGives, RunGives, answer_for};
-ghost use Rattle.lay_commands.specs.Answers.{IsOfProgram, run_outcome};
+ghost use Rattle.lay_commands.specs.Answers.{IsOfMachine, run_outcome};
 
-use crate::reading::bytes_of;
-use crate::words::RunRequest;
+use command_words::RunRequest;
 use elf32::ElfFault;
 use lay_base::{Host, NoMemory, Sink, Source};
+use program_files::bytes_of;
 use refusals::Refusal;
 use rv_isa::Image;
 use rv_machine::{Machine, MachineEnd};
@@ -61,7 +61,7 @@ pub fn run<H: Host, I: Source, O: Sink>(
     input: &mut I,
     out: &mut O,
 ) -> Result<u8, Refusal>
-    ensures input { (input.new ≡ input.old) ⊎ IsOfProgram (run_outcome result) }
+    ensures input { (input.new ≡ input.old) ⊎ IsOfMachine (run_outcome result) }
     ensures gives { let before = outside (H.files host.old) (H.failed_reads host.old) (H.failed_writes host.old)
         (stream (I.left input.old) (I.faults input.old)) (stream (O.written out.old) (O.faults out.old)) in
         let now = outside (H.files host.new) (H.failed_reads host.new) (H.failed_writes host.new)

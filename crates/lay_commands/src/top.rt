@@ -1,26 +1,66 @@
 //! The top call: words, a host and three streams in, an outcome out.
 
-ghost use Rattle.std.specs.Prelude.{◌≡◌, ◌⊎◌, map, option_and_then};
+ghost use Rattle.std.specs.Prelude.{◌≡◌, ◌⊎◌, map, option_and_then, option_map, Some};
 ghost use Rattle.std.specs.String.{string_bytes};
 ghost use Rattle.clap.specs.Simple.{subcommand_rows_of};
-ghost use Rattle.lay_commands.specs.Words.{command_found, command_of};
-ghost use Rattle.lay_commands.specs.Outside.{outside, stream};
-ghost use Rattle.lay_commands.specs.FrontEnd.{or_empty};
-ghost use Rattle.lay_commands.specs.Answers.{ErrGives, MayRead, OutcomeGives, OutcomeHas};
+ghost use Rattle.command_words.specs.Words.{command_found, command_of, requested, IsPossible};
+ghost use Rattle.program_files.specs.FrontEnd.{or_empty};
+ghost use Rattle.program_files.specs.Outside.{outside, stream};
+ghost use Rattle.lay_commands.specs.Answers.{ErrGives, MayRead, OutcomeGives, OutcomeHas, run_outcome};
 
 use crate::compiling::compile;
-use crate::front_end::PlaceTexts;
+use crate::interpreting::interp;
 use crate::outcome::Outcome;
+use crate::profiling::profile;
 use crate::running::run;
-use crate::words::{Request, matches_in, request_in};
 use clap::ArgMatches;
+use command_words::{Request, matches_in, request_in};
 use lay_base::{Bytes, Host, NoMemory, Sink, Source};
+use program_files::PlaceTexts;
 use refusals::{Refusal, put_refusal};
 use std::alloc::Global;
 
+/// The outcome of a command that runs a program.
+fn by_status(answer: Result<u8, Refusal>) -> Outcome
+    ensures { result ≡ run_outcome answer }
+{
+    match answer {
+        Ok(status) => Outcome::Program(status),
+        Err(refusal) => Outcome::Refused(refusal),
+    }
+}
+
 /// Does what is asked for. A refusal leaves the texts of its places, if it has any.
-#[tactic(auto, using(crate::proofs::Refused::compile_refused, crate::proofs::Refused::run_refused, crate::proofs::Refused::run_texts))]
 fn outcome_for<H: Host, I: Source, O: Sink>(
+    alloc: Global,
+    request: Request<'_, '_>,
+    host: &mut H,
+    input: &mut I,
+    out: &mut O,
+    texts: &mut PlaceTexts,
+) -> Outcome
+    requires { IsPossible request }
+    ensures input { (input.new ≡ input.old) ⊎ MayRead (Some (requested request.entry)) result }
+    ensures gives { let before = outside (H.files host.old) (H.failed_reads host.old) (H.failed_writes host.old)
+        (stream (I.left input.old) (I.faults input.old)) (stream (O.written out.old) (O.faults out.old)) in
+        let now = outside (H.files host.new) (H.failed_reads host.new) (H.failed_writes host.new)
+        (stream (I.left input.new) (I.faults input.new)) (stream (O.written out.new) (O.faults out.new)) in
+        OutcomeGives (Some (requested request.entry)) before now result }
+    ensures texts { OutcomeHas (Some (requested request.entry)) (H.files host.old) result (or_empty texts.new.at) (or_empty texts.new.first) }
+{
+    match request {
+        Request::Compile(request) => match compile(alloc, request, host, out, texts) {
+            Ok(()) => Outcome::Done,
+            Err(refusal) => Outcome::Refused(refusal),
+        },
+        Request::Profile(request) => by_status(profile(alloc, request, host, input, out, texts)),
+        Request::Interp(request) => by_status(interp(alloc, request, host, input, out, texts)),
+        Request::Run(request) => by_status(run(alloc, request, host, input, out)),
+    }
+}
+
+/// Does what is asked for by what was found. A refusal leaves the texts of its places, if it has any.
+fn outcome_in<H: Host, I: Source, O: Sink>(
     alloc: Global,
     matches: &ArgMatches<'_>,
     host: &mut H,
@@ -38,14 +78,7 @@ fn outcome_for<H: Host, I: Source, O: Sink>(
         (or_empty texts.new.at) (or_empty texts.new.first) }
 {
     match request_in(matches) {
-        Some(Request::Compile(request)) => match compile(alloc, request, host, out, texts) {
-            Ok(()) => Outcome::Done,
-            Err(refusal) => Outcome::Refused(refusal),
-        },
-        Some(Request::Run(request)) => match run(alloc, request, host, input, out) {
-            Ok(status) => Outcome::Program(status),
-            Err(refusal) => Outcome::Refused(refusal),
-        },
+        Some(request) => outcome_for(alloc, request, host, input, out, texts),
         None => Outcome::Refused(Refusal::Usage),
     }
 }
@@ -69,7 +102,7 @@ fn outcome_of<H: Host, I: Source, O: Sink>(
         (or_empty texts.new.at) (or_empty texts.new.first) }
 {
     match matches_in(alloc, words) {
-        Ok(Some(matches)) => outcome_for(alloc, &matches, host, input, out, texts),
+        Ok(Some(matches)) => outcome_in(alloc, &matches, host, input, out, texts),
         Ok(None) => Outcome::Refused(Refusal::Usage),
         Err(NoMemory) => Outcome::Refused(Refusal::Memory),
     }

@@ -1,7 +1,7 @@
 use Rattle.std.proofs.Common.{map, refl}
 use Rattle.std.specs.String.{string_bytes}
-use Rattle.lay_commands.specs.Words.{command_of}
-use Rattle.lay_commands.specs.FrontEnd.{or_empty}
+use Rattle.command_words.specs.Words.{command_of}
+use Rattle.program_files.specs.FrontEnd.{or_empty}
 use Rattle.lay_commands.proofs.Refused.{reported, unreported}
 use Rattle.lay_commands.proofs.top.layc.Goals.{in-Refused, in_default}
 use Rattle.lay_commands.proofs.top.layc.Goals as goal

@@ -1,0 +1,3 @@
+pub mod Declared
+pub mod Found
+pub mod Spelled

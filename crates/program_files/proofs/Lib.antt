@@ -1,0 +1,3 @@
+pub mod FilesRead
+pub mod FrontFaults
+pub mod Sources
