@@ -5,6 +5,7 @@
 
 mod fault;
 mod fitting;
+mod keywords;
 mod lines;
 mod numbers;
 mod reading;
