@@ -6,3 +6,4 @@ pub mod Differences
 pub mod Splitting
 pub mod Breaking
 pub mod Functions
+pub mod Uniqueness

@@ -68,3 +68,8 @@ text_of lines = flat_map ended lines
 
 abbrev pub profile_text : Counts → List ℕ
 profile_text c = text_of (profile_lines c)
+
+-- ---- a text is that of one profile at most
+
+abbrev pub CountsAreOne : Type 0
+CountsAreOne = (c d : Counts) → IsProfile c → IsProfile d → profile_text c ≡ profile_text d → c ≡ d
