@@ -1,5 +1,5 @@
 -- At which line bytes break off.
-use Rattle.std.proofs.Common.{◌≡◌, ℕ, ◌+◌, ◌≤◌, ◌⊎◌, inl, inr, true, List, [], ◌∷◌, ◌++◌, length, take, drop, Option, Some, None, refl, sym, ap, ◌∙◌, subst, arith, append_assoc, append-nil}
+use Rattle.std.proofs.Common.{◌≡◌, ℕ, ◌+◌, ◌≤◌, ◌⊎◌, inl, inr, List, [], ◌∷◌, ◌++◌, length, take, drop, Option, Some, None, refl, sym, ap, ◌∙◌, subst, arith, append_assoc, append-nil}
 use Rattle.std.specs.Prelude.{codes, flat_map, map, Result, Ok, Err}
 use Rattle.std.specs.List.{All, AllByRecursion}
 use Rattle.std.proofs.lemmas.List.{append_cancel_right, length-append, length-map, take-append-drop}
@@ -7,7 +7,7 @@ use Rattle.std.proofs.lemmas.List.Elements.{All-nil}
 use Rattle.std.proofs.Math.Seq.{take-append_seam}
 use Rattle.c_counts.specs.declared.counts.Counts.{Counts}
 use Rattle.c_counts.specs.declared.counts.FunCount.{FunCount}
-use Rattle.profile_file.specs.Text.{HasLines, IsProfile, ended, first_line, function_line, function_lines, greatest_count, is_name, last_line, loop_line, profile_lines, profile_text, text_of}
+use Rattle.profile_file.specs.Text.{HasLines, IsName, IsProfile, ended, first_line, function_line, function_lines, greatest_count, last_line, loop_line, profile_lines, profile_text, text_of}
 use Rattle.profile_file.specs.declared.fault.ProfileFault.{ProfileFault}
 use Rattle.profile_file.specs.declared.fault.ProfileFault.TheVariants.{BadProfile, Memory}
 use Rattle.profile_file.specs.Lines.{Begins, BreaksAt, ReadGives, lines_of}
@@ -32,17 +32,17 @@ front_and_one ls r rest =
     ap (λ n. take n (map ended ls ++ r ∷ rest)) long ∙ ap (take (length (map ended ls ++ r ∷ []))) (sym (append_assoc (map ended ls) (r ∷ []) rest))
     ∙ take-append_seam (map ended ls ++ r ∷ []) rest
 
-same_head : (x y : List ℕ) (xs ys : List (List ℕ)) → x ∷ xs ≡ y ∷ ys → x ≡ y
+pub same_head : (x y : List ℕ) (xs ys : List (List ℕ)) → x ∷ xs ≡ y ∷ ys → x ≡ y
 same_head x y xs ys e = cc
 
-same_tail : (x y : List ℕ) (xs ys : List (List ℕ)) → x ∷ xs ≡ y ∷ ys → xs ≡ ys
+pub same_tail : (x y : List ℕ) (xs ys : List (List ℕ)) → x ∷ xs ≡ y ∷ ys → xs ≡ ys
 same_tail x y xs ys e = cc
 
 nothing_ended : (line : List ℕ) → [] ≡ ended line → ⊥
 nothing_ended [] e = cc
 nothing_ended (b ∷ line) e = cc
 
-no_lines : (x : List ℕ) (xs : List (List ℕ)) → [] ≡ x ∷ xs → ⊥
+pub no_lines : (x : List ℕ) (xs : List (List ℕ)) → [] ≡ x ∷ xs → ⊥
 no_lines x xs e = cc
 
 -- a line is in front of what is left, or the text is over
@@ -76,11 +76,11 @@ begun bytes ls r rest e b =
 
 -- ---- the lines of counts
 
-abbrev function_part : List FunCount → List (List ℕ)
+abbrev pub function_part : List FunCount → List (List ℕ)
 function_part fs = flat_map function_lines fs
 
 abbrev IsFunctionLine : List ℕ → Type 0
-IsFunctionLine l = (name : List ℕ) × (n : ℕ) × (is_name name ≡ true) × (n ≤ greatest_count) × (l ≡ function_line name n)
+IsFunctionLine l = (name : List ℕ) × (n : ℕ) × IsName name × (n ≤ greatest_count) × (l ≡ function_line name n)
 
 abbrev IsLoopLine : List ℕ → Type 0
 IsLoopLine l = (n : ℕ) × (n ≤ greatest_count) × (l ≡ loop_line n)
@@ -101,7 +101,7 @@ function_no_last name n e = let first : ◌≡◌ {A = ℕ} 102 101 = ap first_b
 loop_no_last : (n : ℕ) → loop_line n ≡ last_line → ⊥
 loop_no_last n e = let first : ◌≡◌ {A = ℕ} 108 101 = ap first_byte e in omega (arith, first)
 
-function_no_loop : (name : List ℕ) (n m : ℕ) → function_line name n ≡ loop_line m → ⊥
+pub function_no_loop : (name : List ℕ) (n m : ℕ) → function_line name n ≡ loop_line m → ⊥
 function_no_loop name n m e = let first : ◌≡◌ {A = ℕ} 102 108 = ap first_byte e in omega (arith, first)
 
 no_last : (l : List ℕ) → IsCountLine l → l ≡ last_line → ⊥
@@ -126,7 +126,7 @@ last_once (l ∷ gs) (x ∷ xs) p more h e = last_once gs xs p more h.1 (same_ta
 
 -- ---- the lines before
 
-abbrev counts : List FunCount → Counts
+abbrev pub counts : List FunCount → Counts
 counts fs = record { functions = fs }
 
 begins_read : (bytes : List ℕ) (fs : List FunCount) (rest : List ℕ) → bytes ≡ text_of (read_lines fs) ++ rest → All HasLines fs → Begins (length (read_lines fs)) bytes

@@ -1,6 +1,6 @@
 -- Numbers and names, as the reader finds them and as the text has them.
 use Rattle.std.proofs.Common.{◌≡◌, ℕ, zero, suc, ◌+◌, ◌*◌, ◌-◌, ◌≤◌, ◌<◌, Bool, true, false, not, List, [], ◌∷◌, ◌++◌, length, take, drop, get_or}
-use Rattle.std.proofs.Common.{Option, Some, None, refl, sym, ap, ◌∙◌, arith, fold}
+use Rattle.std.proofs.Common.{Option, Some, None, refl, sym, ap, ◌∙◌, arith, fold, subst}
 use Rattle.std.specs.Prelude.{decimal, if◌then◌else◌, nat_le, option_map, ◌==◌, ◌&&◌}
 use Rattle.std.specs.Int.{IsInRange}
 use Rattle.std.specs.List.{list_all, prefix_len}
@@ -13,8 +13,9 @@ use Rattle.std.proofs.lemmas.List.Sums.{fold-append}
 use Rattle.std.proofs.lemmas.Slice.Eq.{bytes_eq-Decides}
 use Rattle.std.proofs.lemmas.Str.Parse.{IsDigitsTest, IsNumeralModel, numerals_by_fold}
 use Rattle.std.proofs.Math.Seq.{take-append_seam, drop-append_seam}
-use Rattle.profile_file.specs.Text.{begins_name, goes_on_in_name, greatest_count, is_name}
-use Rattle.profile_file.specs.Reading.{after, count_at, count_before, has_no_leading_zero, is_digit, is_numeral, name_at, name_before, number_of, value_of_digits}
+use Rattle.profile_file.specs.Text.{IsName, goes_on_in_name, greatest_count}
+use Rattle.profile_file.proofs.Names.{is_a_name, name_passes}
+use Rattle.profile_file.specs.Reading.{after, count_at, count_before, has_no_leading_zero, is_digit, is_name, is_numeral, name_at, name_before, number_of, value_of_digits}
 
 pub none_some : {A : Type 0} (x : A) → None ≡ Some x → ⊥
 none_some x e = cc
@@ -164,38 +165,33 @@ count_taken text v more e =
 
 -- ---- names
 
-pub name_goes_on : (name : List ℕ) → is_name name ≡ true → list_all goes_on_in_name name ≡ true
-name_goes_on name h =
-    (and_parts (list_all goes_on_in_name name) (nat_le (length name) 255)
-    (and_parts (begins_name name) (list_all goes_on_in_name name && nat_le (length name) 255) h).1).0
-
-pub name_read : (name more : List ℕ) → is_name name ≡ true → name_at (name ++ 32 ∷ more) ≡ Some (name, more)
+pub name_read : (name more : List ℕ) → IsName name → name_at (name ++ 32 ∷ more) ≡ Some (name, more)
 name_read name more h =
     let text = name ++ 32 ∷ more in
-    let run : prefix_len goes_on_in_name text ≡ length name = run_up_to goes_on_in_name name 32 more (name_goes_on name h) refl in
+    let run : prefix_len goes_on_in_name text ≡ length name = run_up_to goes_on_in_name name 32 more h.goes_on refl in
     let cut : name_at text ≡ name_before (take (length name) text) (drop (length name) text) = ap (λ n. name_before (take n text) (drop n text)) run in
     let parts : name_before (take (length name) text) (drop (length name) text) ≡ name_before name (32 ∷ more) =
     rw (take-append_seam name (32 ∷ more), drop-append_seam name (32 ∷ more)) refl in
-    let whole : name_before name (32 ∷ more) ≡ Some (name, more) = rw h refl in
+    let whole : name_before name (32 ∷ more) ≡ Some (name, more) = rw (name_passes name h) refl in
     cut ∙ parts ∙ whole
 
-name_before_taken : (front rest name more : List ℕ) → name_before front rest ≡ Some (name, more) → (is_name name ≡ true) × (front ++ rest ≡ name ++ 32 ∷ more)
+name_before_taken : (front rest name more : List ℕ) → name_before front rest ≡ Some (name, more) → IsName name × (front ++ rest ≡ name ++ 32 ∷ more)
 name_before_taken front [] name more e = absurd (none_some (name, more) e)
 name_before_taken front (b ∷ rest) name more e = go (b == 32 && is_name front) refl e
   where
-    known : (b == 32 && is_name front) ≡ true → ◌≡◌ {A = List ℕ × List ℕ} (front, rest) (name, more) → (is_name name ≡ true) × (front ++ b ∷ rest ≡ name ++ 32 ∷ more)
+    known : (b == 32 && is_name front) ≡ true → ◌≡◌ {A = List ℕ × List ℕ} (front, rest) (name, more) → IsName name × (front ++ b ∷ rest ≡ name ++ 32 ∷ more)
     known h same =
         let parts = and_parts (b == 32) (is_name front) h in
         let front_is : front ≡ name = ap (λ q. q.0) same in
         let rest_is : rest ≡ more = ap (λ q. q.1) same in
-        (ap is_name (sym front_is) ∙ parts.1, ap (λ xs. xs ++ b ∷ rest) front_is ∙ ap (λ c. name ++ c ∷ rest) (is_byte b 32 parts.0) ∙ ap (λ xs. name ++ 32 ∷ xs) rest_is)
+        (subst IsName front_is (is_a_name front parts.1), ap (λ xs. xs ++ b ∷ rest) front_is ∙ ap (λ c. name ++ c ∷ rest) (is_byte b 32 parts.0) ∙ ap (λ xs. name ++ 32 ∷ xs) rest_is)
 
     go : (c : Bool) → (b == 32 && is_name front) ≡ c → ◌≡◌ {A = Option (List ℕ × List ℕ)} (if◌then◌else◌ {A = Option (List ℕ × List ℕ)} c (Some (front, rest)) None) (Some (name, more))
-        → (is_name name ≡ true) × (front ++ b ∷ rest ≡ name ++ 32 ∷ more)
+        → IsName name × (front ++ b ∷ rest ≡ name ++ 32 ∷ more)
     go true h f = known h (some_same {A = List ℕ × List ℕ} (front, rest) (name, more) f)
     go false h f = absurd (none_some {A = List ℕ × List ℕ} (name, more) f)
 
-pub name_taken : (text name more : List ℕ) → name_at text ≡ Some (name, more) → (is_name name ≡ true) × (text ≡ name ++ 32 ∷ more)
+pub name_taken : (text name more : List ℕ) → name_at text ≡ Some (name, more) → IsName name × (text ≡ name ++ 32 ∷ more)
 name_taken text name more e =
     let n = prefix_len goes_on_in_name text in
     let taken = name_before_taken (take n text) (drop n text) name more e in

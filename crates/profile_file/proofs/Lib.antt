@@ -1,3 +1,4 @@
+pub mod Names
 pub mod Fronts
 pub mod Texts
 pub mod LineTexts
@@ -5,3 +6,4 @@ pub mod Differences
 pub mod Splitting
 pub mod Breaking
 pub mod Functions
+pub mod Uniqueness

@@ -1,10 +1,10 @@
 -- Lines of functions and loops, as the reader finds them and as the text has them.
-use Rattle.std.proofs.Common.{◌≡◌, ℕ, ◌+◌, ◌≤◌, ◌<◌, true, List, [], ◌∷◌, ◌++◌, length, Option, Some, None, refl, sym, ap, ◌∙◌, arith, append_assoc, append-nil}
+use Rattle.std.proofs.Common.{◌≡◌, ℕ, ◌+◌, ◌≤◌, ◌<◌, List, [], ◌∷◌, ◌++◌, length, Option, Some, None, refl, sym, ap, ◌∙◌, subst, arith, append_assoc, append-nil}
 use Rattle.std.specs.Prelude.{codes, decimal, map, option_map}
 use Rattle.std.specs.Option.{option_and_then}
 use Rattle.std.proofs.lemmas.List.{length-append, length-map}
 use Rattle.c_counts.specs.declared.counts.FunCount.{FunCount}
-use Rattle.profile_file.specs.Text.{ended, function_line, greatest_count, is_name, loop_line, text_of}
+use Rattle.profile_file.specs.Text.{IsName, ended, function_line, greatest_count, loop_line, text_of}
 use Rattle.profile_file.specs.Reading.{after, AreLoops, count_at, entries_at, function_at, IsFunction, loop_at, name_at}
 use Rattle.profile_file.proofs.Fronts.{after_front, after_taken, count_read, count_taken, name_read, name_taken, none_some, some_same}
 use Rattle.profile_file.proofs.Texts.{text_longer, text_of-append}
@@ -25,7 +25,7 @@ pub loop_read : (n : ℕ) (more : List ℕ) → n ≤ greatest_count → loop_at
 loop_read n more le =
     ap loop_at (loop_grouped n more) ∙ ap (option_and_then count_at) (after_front (codes "loop ") (decimal n ++ 10 ∷ more)) ∙ count_read n more le
 
-pub function_read : (name : List ℕ) (n : ℕ) (more : List ℕ) → is_name name ≡ true → n ≤ greatest_count
+pub function_read : (name : List ℕ) (n : ℕ) (more : List ℕ) → IsName name → n ≤ greatest_count
     → function_at (ended (function_line name n) ++ more) ≡ Some (name, n, more)
 function_read name n more is le =
     ap function_at (function_grouped name n more)
@@ -50,7 +50,7 @@ map_taken f None y h = absurd (none_some y h)
 map_taken f (Some x) y h = (x, refl, some_same (f x) y h)
 
 pub function_taken : (text name : List ℕ) (n : ℕ) (more : List ℕ) → function_at text ≡ Some (name, n, more)
-    → (is_name name ≡ true) × (n ≤ greatest_count) × (text ≡ ended (function_line name n) ++ more)
+    → IsName name × (n ≤ greatest_count) × (text ≡ ended (function_line name n) ++ more)
 function_taken text name n more e =
     let named = and_then_taken entries_at (option_and_then name_at (after (codes "fun ") text)) (name, n, more) e in
     let found = and_then_taken name_at (after (codes "fun ") text) named.0 named.1 in
@@ -60,7 +60,7 @@ function_taken text name n more e =
     let more_is : counted.0.1 ≡ more = ap (λ q. q.2) counted.2 in
     let a_name = name_taken found.0 named.0.0 named.0.1 found.2 in
     let a_count = count_taken named.0.1 counted.0.0 counted.0.1 counted.1 in (
-      ap is_name (sym name_is) ∙ a_name.0,
+      subst IsName name_is a_name.0,
       omega (arith, a_count.0, n_is),
       after_taken (codes "fun ") text found.0 found.1 ∙ ap (λ t. codes "fun " ++ t) (a_name.1 ∙ ap (λ t. named.0.0 ++ 32 ∷ t) a_count.1)
           ∙ sym (function_grouped named.0.0 counted.0.0 counted.0.1)
@@ -106,6 +106,6 @@ function_whole text name n rest f more e name_is n_is loops =
           ∙ sym (append_assoc (ended (function_line name n)) (text_of (map loop_line f.loops)) more)
           ∙ ap (λ x. (ended (function_line x n) ++ text_of (map loop_line f.loops)) ++ more) (sym name_is)
           ∙ ap (λ k. (ended (function_line f.name k) ++ text_of (map loop_line f.loops)) ++ more) (sym n_is);
-      has = record { name = ap is_name name_is ∙ taken.0; entries = omega (arith, n_is, taken.1); loops = loops.small };
+      has = record { name = subst IsName (sym name_is) taken.0; entries = omega (arith, n_is, taken.1); loops = loops.small };
       stops = loops.stops;
     }

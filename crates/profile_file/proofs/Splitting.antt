@@ -7,10 +7,10 @@ use Rattle.std.proofs.lemmas.Bool.Decides.{nat_tests}
 use Rattle.std.proofs.lemmas.List.Elements.{All-head, All-tail}
 use Rattle.c_counts.specs.declared.counts.Counts.{Counts}
 use Rattle.c_counts.specs.declared.counts.FunCount.{FunCount}
-use Rattle.profile_file.specs.Text.{HasLines, IsProfile, ended, first_line, function_line, function_lines, goes_on_in_name, greatest_count, is_name, last_line, loop_line, profile_lines, profile_text, text_of}
+use Rattle.profile_file.specs.Text.{HasLines, IsName, IsProfile, ended, first_line, function_line, function_lines, goes_on_in_name, greatest_count, last_line, loop_line, profile_lines, profile_text, text_of}
 use Rattle.profile_file.specs.Lines.{lines_of, with_byte}
 use Rattle.profile_file.specs.Reading.{is_digit}
-use Rattle.profile_file.proofs.Fronts.{decimal_digits, name_goes_on}
+use Rattle.profile_file.proofs.Fronts.{decimal_digits}
 
 -- ---- lines with no line feed in them
 
@@ -37,10 +37,10 @@ number_no_feed n le = no_feed_by is_digit digit_no_feed (decimal n) (decimal_dig
 loop_no_feed : (n : ℕ) → n ≤ greatest_count → NoFeed (loop_line n)
 loop_no_feed n le = no_feed-append (codes "loop ") (decimal n) (refl, (refl, (refl, (refl, (refl, tt))))) (number_no_feed n le)
 
-function_no_feed : (name : List ℕ) (n : ℕ) → is_name name ≡ true → n ≤ greatest_count → NoFeed (function_line name n)
+function_no_feed : (name : List ℕ) (n : ℕ) → IsName name → n ≤ greatest_count → NoFeed (function_line name n)
 function_no_feed name n is le =
     no_feed-append (codes "fun ") (name ++ 32 ∷ decimal n) (refl, (refl, (refl, (refl, tt))))
-    (no_feed-append name (32 ∷ decimal n) (no_feed_by goes_on_in_name name_no_feed name (name_goes_on name is)) (refl, number_no_feed n le))
+    (no_feed-append name (32 ∷ decimal n) (no_feed_by goes_on_in_name name_no_feed name is.goes_on) (refl, number_no_feed n le))
 
 abbrev AllNoFeed : List (List ℕ) → Type 0
 AllNoFeed lines = AllByRecursion NoFeed lines
@@ -54,7 +54,7 @@ loops_all : (P : List ℕ → Type 0) → ((n : ℕ) → n ≤ greatest_count �
 loops_all P f [] h = tt
 loops_all P f (n ∷ ns) h = (f n (All-head (λ m. m ≤ greatest_count) n ns h), loops_all P f ns (All-tail (λ m. m ≤ greatest_count) n ns h))
 
-pub functions_all : (P : List ℕ → Type 0) → ((name : List ℕ) (n : ℕ) → is_name name ≡ true → n ≤ greatest_count → P (function_line name n))
+pub functions_all : (P : List ℕ → Type 0) → ((name : List ℕ) (n : ℕ) → IsName name → n ≤ greatest_count → P (function_line name n))
     → ((n : ℕ) → n ≤ greatest_count → P (loop_line n)) → (fs : List FunCount) → All HasLines fs → AllByRecursion P (flat_map function_lines fs)
 functions_all P f g [] h = tt
 functions_all P f g (c ∷ fs) h =

@@ -1,10 +1,12 @@
 -- The text of a profile.
 use Rattle.std.specs.Prelude.{◌≡◌, ℕ, ◌≤◌, nat_le, ◌==◌, Bool, true, false, ◌&&◌, ◌||◌, List, [], ◌∷◌, ◌++◌, length, map, flat_map, codes, decimal}
 use Rattle.std.specs.List.{All, list_all}
+use Rattle.lay_base.specs.Keywords.{keyword_text}
+use Rattle.lay_base.specs.declared.faults.Keyword.{Keyword}
 use Rattle.c_counts.specs.declared.counts.Counts.{Counts}
 use Rattle.c_counts.specs.declared.counts.FunCount.{FunCount}
 
--- ---- names (C99 6.4.2.1), of at most 255 bytes
+-- ---- names (C99 6.4.2.1)
 
 abbrev pub is_letter : ℕ → Bool
 is_letter b = (nat_le 65 b && nat_le b 90) || (nat_le 97 b && nat_le b 122) || b == 95
@@ -16,8 +18,12 @@ abbrev pub begins_name : List ℕ → Bool
 begins_name [] = false
 begins_name (b ∷ more) = is_letter b
 
-abbrev pub is_name : List ℕ → Bool
-is_name name = begins_name name && (list_all goes_on_in_name name && nat_le (length name) 255)
+-- a letter, then letters and digits, of at most 255 bytes, and no keyword (6.4.1)
+pub record IsName (name : List ℕ) : Type 0 where
+  pub begins : begins_name name ≡ true
+  pub goes_on : list_all goes_on_in_name name ≡ true
+  pub short : length name ≤ 255
+  pub no_keyword : (keyword : Keyword) → name ≡ keyword_text keyword → ⊥
 
 -- ---- which counts have a text
 
@@ -25,7 +31,7 @@ abbrev pub greatest_count : ℕ
 greatest_count = 1000000000000000000
 
 pub record HasLines (f : FunCount) : Type 0 where
-  pub name : is_name f.name ≡ true
+  pub name : IsName f.name
   pub entries : f.entries ≤ greatest_count
   pub loops : All (λ n. n ≤ greatest_count) f.loops
 
@@ -62,3 +68,8 @@ text_of lines = flat_map ended lines
 
 abbrev pub profile_text : Counts → List ℕ
 profile_text c = text_of (profile_lines c)
+
+-- ---- a text is that of one profile at most
+
+abbrev pub CountsAreOne : Type 0
+CountsAreOne = (c d : Counts) → IsProfile c → IsProfile d → profile_text c ≡ profile_text d → c ≡ d

@@ -5,6 +5,8 @@
 
 mod fault;
 mod fitting;
+mod keywords;
+mod laws;
 mod lines;
 mod numbers;
 mod reading;
@@ -12,5 +14,6 @@ mod writing;
 
 pub use fault::ProfileFault;
 pub use fitting::fits;
+pub use laws::counts_are_one;
 pub use reading::read;
 pub use writing::write;

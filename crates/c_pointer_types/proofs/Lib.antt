@@ -1,0 +1,2 @@
+mod ExampleMemory
+mod Examples
