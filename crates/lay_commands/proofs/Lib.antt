@@ -3,4 +3,5 @@ pub mod ThinPrograms
 pub mod Compiled
 pub mod Interpreted
 pub mod Refused
+pub mod Requested
 pub mod Ran
