@@ -92,7 +92,7 @@ goes_over_white done at begins_line after text rest whole h p l d g =
     subst (λ all. Goes all (at + 1) after rest whole) (append-nil done)
     (goes_on done at begins_line text rest step whole h (white_step at begins_line after text p l) (omega arith) d g)
 
-one_byte : (text : List ℕ) → 0 < length text → length (take 1 text) ≡ 1
+pub one_byte : (text : List ℕ) → 0 < length text → length (take 1 text) ≡ 1
 one_byte [] h = absurd (omega (arith, h))
 one_byte (b ∷ text) h = refl
 

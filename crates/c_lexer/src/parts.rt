@@ -1,8 +1,10 @@
 //! The parts of a text: white space, comments, directives and words.
 
-ghost use Rattle.std.specs.Prelude.{◌≡◌, ◌≤◌, ◌<◌, ◌+◌, Bool, length, take, IfOk, IfSome, Ok, false};
+ghost use Rattle.std.specs.Prelude.{◌≡◌, ◌≤◌, ◌<◌, ◌+◌, Bool, fold, length, take, IfOk, IfSome, Ok, false};
 ghost use Rattle.c_lexer.specs.declared.part.PartKind.TheVariants as P;
 ghost use Rattle.c_lexer.specs.declared.part.Shape.TheVariants as S;
+ghost use Rattle.c_lexer.specs.declared.presuming.Lines.{Lines};
+ghost use Rattle.c_lexer.specs.Presuming.{after_byte};
 ghost use Rattle.c_lexer.specs.QuotedScan.{quoted_length};
 ghost use Rattle.c_lexer.specs.Scanning.{closed, comment_length, word_part, directive_part, slash_part, part_at, begins_line_after_kind, word_at};
 
@@ -80,10 +82,11 @@ fn quoted_part(shape: Shape, quote: u8, rest: &[u8]) -> Result<(PartKind, usize)
     }
 }
 
-/// The punctuator that the first byte is, whatever follows it.
+/// The punctuator that the first byte is, whatever follows it. No line ends with it.
 #[tactic(auto, unfolding(crate::specs::Scanning::part_at))]
 pub fn punctuator_alone(bytes: &[u8]) -> Option<Punctuator>
     ensures is { (begins_line : Bool) → IfSome result (λ punctuator. part_at begins_line bytes.now ≡ Ok (P.Word (S.Punctuator punctuator), 1)) }
+    ensures plain { (lines : Lines) → IfSome result (λ punctuator. fold after_byte lines (take 1 bytes.now) ≡ lines) }
     ensures within { IfSome result (λ punctuator. 0 < length bytes.now) }
 {
     match bytes {

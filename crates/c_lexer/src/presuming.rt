@@ -8,7 +8,7 @@ ghost use Rattle.c_lexer.specs.PresumingScan.{with_directive, after_part, IsRead
 use crate::directive::Directive;
 use crate::directives::directive_in;
 use crate::part::PartKind;
-use crate::parts::{after_white, begins_line_after_part, part_at};
+use crate::parts::{after_white, begins_line_after_part, part_at, punctuator_alone};
 use crate::presumed::Presumed;
 
 /// What is presumed of the line of a place, and of the next line.
@@ -140,7 +140,17 @@ fn after_next(bytes: &[u8], at: u32, reached: Reached) -> Option<Reached>
         return Some(Reached {
             from: reached.from + 1,
             begins_line,
-            lines: after_part(reached.from, PartKind::White, byte, reached.lines),
+            lines: after_bytes(reached.lines, byte),
+        });
+    }
+    if let Some(_punctuator) = punctuator_alone(rest) {
+        if reached.from >= at {
+            return None;
+        }
+        return Some(Reached {
+            from: reached.from + 1,
+            begins_line: false,
+            lines: reached.lines,
         });
     }
     let Ok((kind, size)) = part_at(reached.begins_line, rest) else {
