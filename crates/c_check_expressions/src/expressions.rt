@@ -45,6 +45,26 @@ pub fn find(
 ) -> Result<Thing, Fault>
     ensures { Finds thing_of result (find (tree_of e.now) (scope_of file.old scope.entry)) file.new }
 {
+    // These are most expressions. The function for all others needs much more room on the stack, which takes time to make.
+    match e {
+        Expression::Name(x) => name(alloc, file, scope, x),
+        Expression::Number(x, n, kind) => number(alloc, file, scope, x.from, *n, *kind),
+        Expression::Paren(_, a, _) => find(alloc, a.get(), file, scope),
+        _ => find_any(alloc, e, file, scope),
+    }
+}
+
+/// What an expression of any kind designates.
+#[cycle(finding)]
+#[tactic(auto, unfolding(c_checking::specs::Finding::find))]
+fn find_any(
+    alloc: Global,
+    e: &Expression,
+    file: &mut FileScope,
+    scope: Scope,
+) -> Result<Thing, Fault>
+    ensures { Finds thing_of result (find (tree_of e.now) (scope_of file.old scope.entry)) file.new }
+{
     match e {
         Expression::Name(x) => name(alloc, file, scope, x),
         Expression::Number(x, n, kind) => number(alloc, file, scope, x.from, *n, *kind),

@@ -1,5 +1,5 @@
 -- Steps of the loop over the parts of a text.
-use Rattle.std.proofs.Common.{◌≡◌, ◌≤◌, ◌<◌, ℕ, zero, suc, ◌+◌, Bool, List, [], ◌∷◌, ◌++◌, drop, length, Option, Some, None, Ok, Err, refl, ap, sym}
+use Rattle.std.proofs.Common.{◌≡◌, ◌≤◌, ◌<◌, ℕ, zero, suc, ◌+◌, Bool, false, List, [], ◌∷◌, ◌++◌, take, drop, length, Option, Some, None, Ok, Err, refl, ap, sym}
 use Rattle.std.proofs.Common.{subst, ◌∙◌, arith, append-nil, append_assoc}
 use Rattle.std.specs.Option.{option_to_list}
 use Rattle.c_lexer.specs.declared.fault.FaultKind.{FaultKind}
@@ -8,7 +8,11 @@ use Rattle.c_lexer.specs.declared.fault.LexFault.{LexFault}
 use Rattle.c_lexer.specs.declared.lexing.Step.{Step}
 use Rattle.c_lexer.specs.declared.token.Token.{Token}
 use Rattle.c_lexer.specs.Answers.{OnFault}
-use Rattle.c_lexer.specs.Scanning.{step_at, Scanned, with_token, with_step, scan, fault_at}
+use Rattle.c_lexer.specs.declared.part.PartKind.TheVariants as P
+use Rattle.c_lexer.specs.declared.part.Shape.TheVariants as S
+use Rattle.c_lexer.specs.declared.punctuator.Punctuator.{Punctuator}
+use Rattle.c_lexer.specs.declared.token.TokenKind.TheVariants as K
+use Rattle.c_lexer.specs.Scanning.{part_at, step_over, step_at, begins_line_after_kind, Scanned, with_token, with_step, scan, fault_at}
 use Rattle.c_lexer.proofs.Strings.{drop_shorter}
 
 -- the tokens so far, and those of the rest
@@ -71,3 +75,32 @@ unfolding scan
 ends done at begins_line [] whole h (zero, l, e) = sym e ∙ ap Ok (append-nil done)
 ends done at begins_line [] whole h (suc n, l, e) = sym e ∙ ap Ok (append-nil done)
 ends done at begins_line (b ∷ text) whole h g = absurd (omega (arith, h))
+
+-- ---- parts of one byte
+
+white_step : (at : ℕ) (begins_line after : Bool) (text : List ℕ) → part_at begins_line text ≡ Ok (P.White, 1)
+    → begins_line_after_kind begins_line P.White (take 1 text) ≡ after
+    → step_at at begins_line text ≡ Ok (record { found = None; size = 1; begins_line = after })
+unfolding step_at
+white_step at begins_line after text p l = ap (step_over at begins_line text) p ∙ ap (λ b. Ok (record { found = None; size = 1; begins_line = b })) l
+
+pub goes_over_white : (done : List Token) (at : ℕ) (begins_line after : Bool) (text rest : List ℕ) (whole : Scanned) → 0 < length text
+    → part_at begins_line text ≡ Ok (P.White, 1) → begins_line_after_kind begins_line P.White (take 1 text) ≡ after → rest ≡ drop 1 text
+    → Goes done at begins_line text whole → Goes done (at + 1) after rest whole
+goes_over_white done at begins_line after text rest whole h p l d g =
+    let step : Step = record { found = None; size = 1; begins_line = after } in
+    subst (λ all. Goes all (at + 1) after rest whole) (append-nil done)
+    (goes_on done at begins_line text rest step whole h (white_step at begins_line after text p l) (omega arith) d g)
+
+pub one_byte : (text : List ℕ) → 0 < length text → length (take 1 text) ≡ 1
+one_byte [] h = absurd (omega (arith, h))
+one_byte (b ∷ text) h = refl
+
+pub step_over_one : (at : ℕ) (begins_line : Bool) (text : List ℕ) (punctuator : Punctuator) → 0 < length text
+    → part_at begins_line text ≡ Ok (P.Word (S.Punctuator punctuator), 1)
+    → Ok (record { found = Some (record { kind = K.Punctuator punctuator; from = at; to = at + 1 }); size = 1; begins_line = false })
+    ≡ step_at at begins_line text
+unfolding step_at
+step_over_one at begins_line text punctuator h e =
+    sym (ap (step_over at begins_line text) e
+    ∙ ap (λ n. Ok (record { found = Some (record { kind = K.Punctuator punctuator; from = at; to = at + n }); size = 1; begins_line = false })) (one_byte text h))

@@ -8,11 +8,10 @@ ghost use Rattle.c_lexer.specs.Readings.{HaveOneReading};
 ghost use Rattle.c_lexer.specs.TokenTexts.{TokensHaveTexts};
 ghost use Rattle.c_lexer.specs.TokenPlaces.{TokensHavePlaces};
 
-use crate::characters::white;
 use crate::fault::{FaultKind, LexFault};
 use crate::part::PartKind;
-use crate::parts::{begins_line_after_part, part_at};
-use crate::token::{Token, Tokens};
+use crate::parts::{after_white, begins_line_after_part, part_at, punctuator_alone};
+use crate::token::{Token, TokenKind, Tokens};
 use crate::words::token_of;
 use lay_base::{Bytes, List};
 use std::alloc::Global;
@@ -57,24 +56,25 @@ fn step_over_part(at: u32, begins_line: bool, text: &[u8]) -> Result<Step, Fault
     })
 }
 
-/// What the part at the front gives. White space is most parts, and each byte of it is one.
-#[tactic(auto, unfolding(crate::specs::Scanning::step_at, crate::specs::Scanning::part_at))]
+/// What the part at the front gives. Most words are punctuators of one byte.
 fn step_at(at: u32, begins_line: bool, text: &[u8]) -> Result<Step, FaultKind>
     requires { at + length text.now ≤ 4194304 }
     ensures is { result ≡ step_at at begins_line text.now }
     ensures within { IfOk result (λ step. (0 < step.size) × (step.size ≤ length text.now)) }
 {
-    let [first, ..] = text else {
-        return Err(FaultKind::BadByte);
+    let Some(punctuator) = punctuator_alone(text) else {
+        return step_over_part(at, begins_line, text);
     };
-    if white(*first) {
-        return Ok(Step {
-            found: None,
-            size: 1,
-            begins_line: begins_line || *first == b'\n',
-        });
-    }
-    step_over_part(at, begins_line, text)
+    let token = Token {
+        kind: TokenKind::Punctuator(punctuator),
+        from: at,
+        to: at + 1,
+    };
+    Ok(Step {
+        found: Some(token),
+        size: 1,
+        begins_line: false,
+    })
 }
 
 fn add(tokens: &mut Vec<Token>, found: Option<Token>) -> Result<(), LexFault>
@@ -110,14 +110,20 @@ fn tokens_of(alloc: Global, bytes: &[u8]) -> Result<Vec<Token>, LexFault>
     let mut at = 0;
     let mut begins_line = true;
     while !rest.is_empty() {
-        let step = match step_at(at, begins_line, rest) {
-            Ok(step) => step,
-            Err(kind) => return Err(fault_at(kind, at)),
-        };
-        add(&mut tokens, step.found)?;
-        (_, rest) = rest.split_at(step.size);
-        at += step.size as u32;
-        begins_line = step.begins_line;
+        if let Some(begins) = after_white(begins_line, rest) {
+            (_, rest) = rest.split_at(1);
+            at += 1;
+            begins_line = begins;
+        } else {
+            let step = match step_at(at, begins_line, rest) {
+                Ok(step) => step,
+                Err(kind) => return Err(fault_at(kind, at)),
+            };
+            add(&mut tokens, step.found)?;
+            (_, rest) = rest.split_at(step.size);
+            at += step.size as u32;
+            begins_line = step.begins_line;
+        }
     }
     Ok(tokens)
 }

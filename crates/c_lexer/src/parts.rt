@@ -1,7 +1,10 @@
 //! The parts of a text: white space, comments, directives and words.
 
-ghost use Rattle.std.specs.Prelude.{◌≡◌, ◌≤◌, ◌<◌, ◌+◌, length, IfOk, IfSome, false};
+ghost use Rattle.std.specs.Prelude.{◌≡◌, ◌≤◌, ◌<◌, ◌+◌, Bool, fold, length, take, IfOk, IfSome, Ok, false};
 ghost use Rattle.c_lexer.specs.declared.part.PartKind.TheVariants as P;
+ghost use Rattle.c_lexer.specs.declared.part.Shape.TheVariants as S;
+ghost use Rattle.c_lexer.specs.declared.presuming.Lines.{Lines};
+ghost use Rattle.c_lexer.specs.Presuming.{after_byte};
 ghost use Rattle.c_lexer.specs.QuotedScan.{quoted_length};
 ghost use Rattle.c_lexer.specs.Scanning.{closed, comment_length, word_part, directive_part, slash_part, part_at, begins_line_after_kind, word_at};
 
@@ -9,6 +12,7 @@ use crate::characters::white;
 use crate::directives::directive_in;
 use crate::fault::FaultKind;
 use crate::part::{PartKind, Shape};
+use crate::punctuator::Punctuator;
 use crate::quoted::quoted_run;
 use crate::runs::line_run;
 use crate::words::word_at;
@@ -75,6 +79,43 @@ fn quoted_part(shape: Shape, quote: u8, rest: &[u8]) -> Result<(PartKind, usize)
     match quoted_run(quote, rest) {
         Some(size) => Ok((PartKind::Word(shape), size + 1)),
         None => Err(FaultKind::Unclosed),
+    }
+}
+
+/// The punctuator that the first byte is, whatever follows it. No line ends with it.
+#[tactic(auto, unfolding(crate::specs::Scanning::part_at))]
+pub fn punctuator_alone(bytes: &[u8]) -> Option<Punctuator>
+    ensures is { (begins_line : Bool) → IfSome result (λ punctuator. part_at begins_line bytes.now ≡ Ok (P.Word (S.Punctuator punctuator), 1)) }
+    ensures plain { (lines : Lines) → IfSome result (λ punctuator. fold after_byte lines (take 1 bytes.now) ≡ lines) }
+    ensures within { IfSome result (λ punctuator. 0 < length bytes.now) }
+{
+    match bytes {
+        [b'(', ..] => Some(Punctuator::Open),
+        [b')', ..] => Some(Punctuator::Close),
+        [b',', ..] => Some(Punctuator::Comma),
+        [b';', ..] => Some(Punctuator::Semicolon),
+        [b'[', ..] => Some(Punctuator::OpenSquare),
+        [b']', ..] => Some(Punctuator::CloseSquare),
+        [b'{', ..] => Some(Punctuator::OpenBrace),
+        [b'}', ..] => Some(Punctuator::CloseBrace),
+        _ => None,
+    }
+}
+
+/// Where a byte of white space is at the front, whether only white space stands after it on its line.
+#[tactic(auto, unfolding(crate::specs::Scanning::part_at))]
+pub fn after_white(begins_line: bool, bytes: &[u8]) -> Option<bool>
+    ensures is { IfSome result (λ after. part_at begins_line bytes.now ≡ Ok (P.White, 1)) }
+    ensures line { IfSome result (λ after. begins_line_after_kind begins_line P.White (take 1 bytes.now) ≡ after) }
+    ensures within { IfSome result (λ after. 0 < length bytes.now) }
+{
+    let [first, ..] = bytes else {
+        return None;
+    };
+    if white(*first) {
+        Some(begins_line || *first == b'\n')
+    } else {
+        None
     }
 }
 

@@ -8,7 +8,7 @@ ghost use Rattle.c_lexer.specs.PresumingScan.{with_directive, after_part, IsRead
 use crate::directive::Directive;
 use crate::directives::directive_in;
 use crate::part::PartKind;
-use crate::parts::{begins_line_after_part, part_at};
+use crate::parts::{after_white, begins_line_after_part, part_at, punctuator_alone};
 use crate::presumed::Presumed;
 
 /// What is presumed of the line of a place, and of the next line.
@@ -132,6 +132,27 @@ fn after_next(bytes: &[u8], at: u32, reached: Reached) -> Option<Reached>
     ensures within { IfSome result (λ next. (reached.from < next.from) × (next.from ≤ at)) }
 {
     let (_, rest) = bytes.split_at(reached.from as usize);
+    if let Some(begins_line) = after_white(reached.begins_line, rest) {
+        if reached.from >= at {
+            return None;
+        }
+        let (byte, _) = rest.split_at(1);
+        return Some(Reached {
+            from: reached.from + 1,
+            begins_line,
+            lines: after_bytes(reached.lines, byte),
+        });
+    }
+    if let Some(_punctuator) = punctuator_alone(rest) {
+        if reached.from >= at {
+            return None;
+        }
+        return Some(Reached {
+            from: reached.from + 1,
+            begins_line: false,
+            lines: reached.lines,
+        });
+    }
     let Ok((kind, size)) = part_at(reached.begins_line, rest) else {
         return None;
     };

@@ -40,6 +40,21 @@ impl Model for BoundNames {
     ghost invariant = { λ it. HasPlaces it.places.entries it.bounds.items };
 }
 
+/// Up to so many names are searched in their order, which takes less time than a look-up in their table.
+const FEW: usize = 8;
+
+/// The first declaration of a name among some.
+fn first_among<'a>(bounds: &'a [Bound], x: &[u8]) -> Option<&'a Bound>
+    ensures { option_map bound_of (option_copied result) ≡ declared_among (map bound_of bounds.now) x.now }
+{
+    for b in bounds {
+        if b.name.as_slice() == x {
+            return Some(b);
+        }
+    }
+    None
+}
+
 /// The first name among some whose scope began by a byte.
 fn visible_among<'a>(bounds: &'a [Bound], x: &[u8], at: u32) -> Option<&'a Entity>
     ensures { option_map entity_of (option_copied result) ≡ visible (map bound_of bounds.now) x.now at }
@@ -99,6 +114,9 @@ impl BoundNames {
     pub fn first(&self, x: &[u8]) -> Option<&Bound>
         ensures { option_map bound_of (option_copied result) ≡ declared_among (map bound_of self.now) x.now }
     {
+        if self.bounds.len() <= FEW {
+            return first_among(&self.bounds, x);
+        }
         match declared_at(&self.places, x) {
             Some(place) => bound_at(&self.bounds, place as usize),
             None => None,

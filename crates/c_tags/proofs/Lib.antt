@@ -8,3 +8,4 @@ pub mod Tagging
 pub mod Folds
 pub mod Structs
 pub mod Different
+pub mod StructTokens

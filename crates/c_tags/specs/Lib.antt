@@ -4,3 +4,4 @@ pub mod Keys
 pub mod Names
 pub mod Tables
 pub mod TagLists
+pub mod StructPlaces

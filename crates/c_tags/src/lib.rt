@@ -8,6 +8,7 @@
 mod marks;
 mod names;
 mod search;
+mod struct_places;
 mod table;
 mod tables;
 mod tags;

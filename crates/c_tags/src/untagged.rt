@@ -1,23 +1,21 @@
 //! The tags of structures that have none.
 
-ghost use Rattle.std.specs.Prelude.{◌≡◌, ◌≤◌, ◌+◌, ℕ, List, nat_eq, [], ◌∷◌, ◌++◌, All, IfOk, OnOk, length, if◌then◌else◌};
+ghost use Rattle.std.specs.Prelude.{◌≡◌, ◌≤◌, ◌+◌, ℕ, List, nat_eq, ◌∷◌, All, IfOk, OnOk, length, if◌then◌else◌};
 ghost use Rattle.c_lexer.specs.TokenPlaces.{IsPlaceIn};
 ghost use Rattle.c_ast.specs.Spelling.{spell};
 ghost use Rattle.c_ast.specs.TreesOfFiles.{IsTreeOf};
 ghost use Rattle.c_ast.specs.Views.{items_of};
 ghost use Rattle.c_erasure.specs.Files.{AreAscending};
-ghost use Rattle.c_erasure.specs.Untagged.{AreTags, Line, name_in, place_of_struct, structs_in, tag_text};
+ghost use Rattle.c_erasure.specs.Untagged.{AreTags, Line, name_in, structs_in, tag_text};
 ghost use Rattle.indexmap.specs.IndexMap.{insert_entry};
-ghost use Rattle.c_tags.specs.Untagged.{counted_at, is_line, structs_of, untagged_by};
+ghost use Rattle.c_tags.specs.Untagged.{counted_at, is_line, untagged_by};
 
+use crate::struct_places::places_of_structs;
 use c_ast::Tree;
-use c_lexer::{
-    Presumed, PresumedLines, Token, TokenKind, lex, texts_have_one_reading, tokens_have_places,
-    tokens_have_texts,
-};
+use c_lexer::{Presumed, PresumedLines, tokens_have_places, tokens_have_texts};
 use indexmap::IndexMap;
 use itoa::Buffer;
-use lay_base::{File, Keyword, Name, NoMemory};
+use lay_base::{File, Name, NoMemory};
 use std::alloc::{AllocError, Global};
 use std::marker::Model;
 
@@ -34,29 +32,6 @@ impl Model for Untagged {
     ghost Value = { Sequence (ℕ × Sequence ℕ) };
 
     ghost view = { λ it. it.tags.entries };
-}
-
-/// Where the keyword `struct` stands.
-pub fn struct_places(alloc: Global, tokens: &[Token]) -> Result<Vec<u32>, NoMemory>
-    ensures { IfOk result (λ places. places.items ≡ structs_of tokens.now) }
-{
-    let mut places = Vec::new(alloc);
-    for token in tokens {
-        note_place(&mut places, token)?;
-    }
-    Ok(places)
-}
-
-fn note_place(places: &mut Vec<u32>, token: &Token) -> Result<(), NoMemory>
-    ensures { OnOk result (places.new.items ≡ places.old.items ++ place_of_struct token.now.kind token.now.from) }
-{
-    match token.kind {
-        TokenKind::Keyword(Keyword::Struct) => match places.push(token.from) {
-            Ok(()) => Ok(()),
-            Err(_) => Err(NoMemory),
-        },
-        _ => Ok(()),
-    }
 }
 
 /// The name that is presumed of a place: the file's own where no marker gives one.
@@ -166,12 +141,8 @@ pub fn untagged_of(alloc: Global, tree: &Tree, file: &File) -> Result<Untagged, 
     ensures are { IfOk result (λ untagged. AreTags file.now.name file.now.bytes (structs_in (spell (items_of tree.now))) (untagged_by untagged)) }
     ensures begin { IfOk result (λ untagged. (at : ℕ) → (rest : List ℕ) × (untagged_by untagged at ≡ 64 ∷ rest)) }
 {
-    texts_have_one_reading();
     tokens_have_texts();
     tokens_have_places();
-    let Ok(tokens) = lex(alloc, file.bytes.as_slice(), tree.file) else {
-        return Err(NoMemory);
-    };
-    let places = struct_places(alloc, tokens.list.as_slice())?;
+    let places = places_of_structs(alloc, tree.items.as_slice())?;
     Untagged::of(alloc, file, &places)
 }

@@ -13,7 +13,7 @@ use std::alloc::Global;
 use std::marker::Model;
 
 /// How many hints there are.
-const HINTS: usize = 1024;
+const HINTS: usize = 4096;
 
 /// Types, each once, in the order in which they came, of which one is found in constant time.
 #[derive(Drop)]

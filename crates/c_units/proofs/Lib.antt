@@ -3,3 +3,4 @@ pub mod Alike
 pub mod Locals
 pub mod Whole
 pub mod Nodes
+pub mod Sizeofs

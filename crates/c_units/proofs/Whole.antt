@@ -1,5 +1,5 @@
 -- The parts of a unit, made stage by stage, are those of the definition.
-use Rattle.std.proofs.Common.{◌≡◌, ℕ, ◌+◌, Bool, List, [], ◌∷◌, ◌++◌, length, map, refl, sym, ap, ◌∙◌, append_assoc}
+use Rattle.std.proofs.Common.{◌≡◌, ℕ, ◌+◌, Bool, true, List, [], ◌∷◌, ◌++◌, length, map, refl, sym, ap, ◌∙◌, append_assoc}
 use Rattle.std.specs.Prelude.{drop, flat_map, Option, Some, None, is_some}
 use Rattle.std.specs.Option.{option_map}
 use Rattle.std.proofs.lemmas.List.{append-nil, map-append}
@@ -20,9 +20,10 @@ use Rattle.c_erasure.specs.Units as U
 use Rattle.c_units.specs.CollectedTypes.{all_types, function_types, object_types}
 use Rattle.c_units.specs.NumberedParts.{function_in, initial_in, locals_in, mention_in, object_in, taken_in}
 use Rattle.c_units.specs.RecognisedParts.{recognised_function, recognised_object}
-use Rattle.c_units.specs.SizeOperands.{kept, mentions_of, nodes_of, told}
+use Rattle.c_units.specs.SizeOperands.{has_sizeof, kept, mentions_of, nodes_of, told}
 use Rattle.c_units.specs.UnitWith.{GivenParts, given, given_by, numbered, unit_with}
 use Rattle.c_units.specs.ValuedObjects.{ValuedObject, valued}
+use Rattle.c_units.proofs.Sizeofs.{kept_before}
 
 -- ---- lists
 
@@ -88,10 +89,12 @@ mentions_are f =
     ∙ ap (λ them. kept (U.is_among (U.size_places (U.noted_in f))) (U.is_among (U.size_places (U.left_in f))) f.mentions ++ them) (told_is f.objects)
 
 pub mentions_left : (before : ℕ → Bool) (objects left : List AnObject) (functions done : List AFunction) (all : List AMention)
-    → before ≡ U.is_among (U.size_places (nodes_of objects functions)) → left ≡ map recognised_object objects → done ≡ map recognised_function functions
+    → (has_sizeof all ≡ true → before ≡ U.is_among (U.size_places (nodes_of objects functions))) → left ≡ map recognised_object objects
+    → done ≡ map recognised_function functions
     → kept before (U.is_among (U.size_places (nodes_of left done))) all ++ told left ≡ mentions_of objects functions all
 mentions_left before objects left functions done all b l d =
-    ap (λ them. kept them (U.is_among (U.size_places (nodes_of left done))) all ++ told left) b
+    ap (λ them. them ++ told left) (kept_before all before (U.is_among (U.size_places (nodes_of objects functions)))
+    (U.is_among (U.size_places (nodes_of left done))) b)
     ∙ ap (λ them. kept (U.is_among (U.size_places (nodes_of objects functions))) (U.is_among (U.size_places (nodes_of left them))) all ++ told left) d
     ∙ ap (λ them. kept (U.is_among (U.size_places (nodes_of objects functions)))
     (U.is_among (U.size_places (nodes_of them (map recognised_function functions)))) all ++ told them) l

@@ -1,5 +1,5 @@
 -- Mentions of a file: those of size operands are left out, and those of initializers are told.
-use Rattle.std.specs.Prelude.{ℕ, Bool, not, ◌&&◌, List, [], ◌∷◌, ◌++◌, filter, flat_map, map}
+use Rattle.std.specs.Prelude.{ℕ, Bool, false, not, ◌&&◌, ◌||◌, List, [], ◌∷◌, ◌++◌, filter, flat_map, map}
 use Rattle.std.specs.Option.{option_map}
 use Rattle.numbering.specs.Keys.{is_among}
 use Rattle.c_typed.specs.Mapped.{mapped_initializer, of_types}
@@ -18,6 +18,11 @@ nodes_of objects functions = flat_map (λ g. flat_map types_in_statement (if_any
 -- whether a number is a key
 abbrev pub holds : List (List ℕ) → ℕ → Bool
 holds keys n = is_among keys (n ∷ [])
+
+-- whether a mention is of a `sizeof`
+abbrev pub has_sizeof : List AMention → Bool
+has_sizeof [] = false
+has_sizeof (m ∷ more) = is_sizeof m.kind || has_sizeof more
 
 -- by which places have a `sizeof` before allocations are recognised, and which after
 abbrev pub is_operand : (ℕ → Bool) → (ℕ → Bool) → AMention → Bool

@@ -1,6 +1,6 @@
 //! Places of `sizeof`s in trees, and tables of numbers.
 
-ghost use Rattle.std.specs.Prelude.{◌≡◌, ◌++◌, ◌∷◌, [], IfOk, OnOk, flat_map, fold, map};
+ghost use Rattle.std.specs.Prelude.{◌≡◌, ◌++◌, ◌∷◌, [], IfOk, OnOk, flat_map, fold, map, true};
 ghost use Rattle.std.specs.Option.{option_copied, option_map};
 ghost use Rattle.c_annotated.specs.FileViews.{function_of, object_of};
 ghost use Rattle.c_annotated.specs.Views.{initializer_of, note_of, statement_of};
@@ -100,7 +100,7 @@ fn add_initials<'a>(found: &mut Nodes<'a>, objects: &'a [Object]) -> Result<(), 
 
 /// The places of the `sizeof`s in the trees of a file.
 #[tactic(auto, unfolding(c_walks::specs::NodeTypes::nodes_in))]
-pub fn places_of(
+fn places_of(
     alloc: Global,
     objects: &[Object],
     functions: &[Function],
@@ -113,4 +113,21 @@ pub fn places_of(
     let mut places = List::new(alloc);
     add_places(&mut places, found.list.as_slice())?;
     table_of(alloc, places.as_slice())
+}
+
+/// The places of the `sizeof`s where they are asked for, or an empty table.
+pub fn places_if(
+    alloc: Global,
+    is_asked: bool,
+    objects: &[Object],
+    functions: &[Function],
+) -> Result<KeyTable, NoMemory>
+    ensures { IfOk result (λ keys. is_asked ≡ true
+        → holds keys ≡ is_among (size_places (nodes_of (map object_of objects.now) (map function_of functions.now)))) }
+{
+    if is_asked {
+        places_of(alloc, objects, functions)
+    } else {
+        Ok(KeyTable::new(alloc))
+    }
 }

@@ -11,9 +11,9 @@ ghost use Rattle.c_units.specs.UnitWith.{given, given_by, parts_of, unit_with};
 ghost use Rattle.c_units.specs.ValuedObjects.{valued_of};
 ghost use Rattle.c_types.specs.Views.{records_of};
 
-use crate::mentions::mentions_of;
+use crate::mentions::{has_sizeof, mentions_of};
 use crate::numbers::{numbered_functions, numbered_mentions, numbered_objects};
-use crate::places::places_of;
+use crate::places::places_if;
 use crate::recognition::{recognised_functions, recognised_objects};
 use crate::types::types_of;
 use crate::values::{Valued, valued_objects};
@@ -44,7 +44,12 @@ fn recognise(
     ensures functions { IfOk result (λ r. map function_of r.functions ≡ map recognised_function (map function_of functions)) }
     ensures mentions { IfOk result (λ r. map mention_of r.mentions ≡ mentions_of (map object_of objects) (map function_of functions) (map mention_of mentions)) }
 {
-    let before = places_of(alloc, objects.as_slice(), functions.as_slice())?;
+    let before = places_if(
+        alloc,
+        has_sizeof(mentions.as_slice()),
+        objects.as_slice(),
+        functions.as_slice(),
+    )?;
     let objects = recognised_objects(alloc, objects)?;
     let functions = recognised_functions(alloc, functions)?;
     let mentions = mentions_of(

@@ -15,7 +15,7 @@ returns-in-Some-clause-is c =
     let types = c.self.inside.types.items in
     let s = c.in-Some.found.now in
     let t = type_of c.args.t.now in
-    let n = slice_index_or c.self.inside.hints (c.hint.result % 1024) 0 in
+    let n = slice_index_or c.self.inside.hints (c.hint.result % 4096) 0 in
     let at = c.in-Some.ensures.lookup.3 in
     let found : slice_get types n ≡ Some s =
     sym (ap (λ them. slice_get them n) c.deref.ensures.value) ∙ slice_get-get_or c.deref.result.now n s at.0 ∙ ap Some (sym (at.1 s)) in
@@ -26,7 +26,7 @@ returns-in-Some-clause-there c =
     let types = c.self.inside.types.items in
     let s = c.in-Some.found.now in
     let t = type_of c.args.t.now in
-    let n = slice_index_or c.self.inside.hints (c.hint.result % 1024) 0 in
+    let n = slice_index_or c.self.inside.hints (c.hint.result % 4096) 0 in
     let at = c.in-Some.ensures.lookup.3 in
     let found : slice_get types n ≡ Some s =
     sym (ap (λ them. slice_get them n) c.deref.ensures.value) ∙ slice_get-get_or c.deref.result.now n s at.0 ∙ ap Some (sym (at.1 s)) in

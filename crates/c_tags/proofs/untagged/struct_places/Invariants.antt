@@ -1,6 +1,0 @@
-use Rattle.std.proofs.Common.{◌≡◌, ◌++◌, drop}
-use Rattle.c_tags.specs.Untagged.{structs_of}
-use Rattle.c_tags.proofs.untagged.struct_places.Given as goal
-
-abbrev pub invariant-loop-token : goal.invariant-loop-token
-invariant-loop-token l = l.places.items ++ structs_of (drop l.token-index l.tokens) ≡ structs_of l.tokens
