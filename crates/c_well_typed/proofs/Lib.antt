@@ -1,0 +1,16 @@
+pub mod Fitting
+pub mod Notes
+pub mod Nulls
+pub mod Monotone
+pub mod Allocations
+pub mod Recognised
+pub mod StatementNotes
+pub mod Labels
+pub mod RecognisedStatements
+pub mod ErasedNotes
+pub mod Composed
+pub mod TypesMapped
+pub mod Numbers
+pub mod Enumerators
+pub mod Definitions
+pub mod UnitFunctions
