@@ -210,7 +210,7 @@ meeting_is (integer k) t u true c h = cc
 meeting_is (integer k) t u false c h = cc
 meeting_is s t u b c h = cc
 
-ordered_is : (s t u : CType) → ordered s t ≡ Some u → (s ≡ u) × (t ≡ u) × (is_pointer u ≡ true)
+pub ordered_is : (s t u : CType) → ordered s t ≡ Some u → (s ≡ u) × (t ≡ u) × (is_pointer u ≡ true)
 ordered_is (pointer s) (pointer t) u h = by_same (is_function s) (same_type s t) refl h
   where
     by_same : (f c : Bool) → same_type s t ≡ c → cond (not f && c) (Some (pointer s)) None ≡ Some u → (pointer s ≡ u) × (pointer t ≡ u) × (is_pointer u ≡ true)

@@ -14,3 +14,8 @@ pub mod Numbers
 pub mod Enumerators
 pub mod Definitions
 pub mod UnitFunctions
+pub mod RenumberedTypes
+pub mod RenumberedConversions
+pub mod Renumbered
+pub mod RenumberedStatements
+pub mod RenumberedParts

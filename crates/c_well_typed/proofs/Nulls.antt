@@ -123,15 +123,15 @@ module _ (d : Declared) where
 
 -- ---- null pointer constants
 
-is_zero_is : (c : Constant) → is_zero c ≡ true → (v : ℕ) × (c ≡ valued v)
+pub is_zero_is : (c : Constant) → is_zero c ≡ true → (v : ℕ) × (c ≡ valued v)
 is_zero_is (valued v) h = (v, refl)
 is_zero_is c h = cc
 
 -- a cast to `void *`, or an integer
-abbrev IsCast : Trees.Expression CType → Type 0
+abbrev pub IsCast : Trees.Expression CType → Type 0
 IsCast e = (at : Place) × (x : Trees.Expression CType) × (e ≡ Trees.expression (pointer void) at (Trees.convert x true)) × (is_zero (constant_of x) ≡ true)
 
-null_or_cast : (e : Trees.Expression CType) → is_null e ≡ true → (is_zero (constant_of e) ≡ true) ⊎ IsCast e
+pub null_or_cast : (e : Trees.Expression CType) → is_null e ≡ true → (is_zero (constant_of e) ≡ true) ⊎ IsCast e
 null_or_cast (Trees.expression (pointer void) at (Trees.convert x true)) h = inr (at, x, refl, h)
 null_or_cast e h = inl h
 

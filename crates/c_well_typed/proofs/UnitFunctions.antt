@@ -12,6 +12,7 @@ use Rattle.c_types.specs.Views.{listed}
 use Rattle.c_ast.specs.Laws.{TreesBeginFirst}
 use Rattle.c_ast.specs.Trees
 use Rattle.c_typed.specs.declared.program.Local.{Local}
+use Rattle.c_typed.specs.declared.program.Object.{Object}
 use Rattle.c_typed.specs.Conversions.{is_function}
 use Rattle.c_typed.specs.Mapped.{Renaming, of_types, mapped_statement}
 use Rattle.c_typed.specs.Programs.{FunctionData, UnitData}
@@ -298,6 +299,11 @@ module _ (items : List Trees.Item) (f : FileScope) (h : IsFileOf items f) (begin
       (each_mapped (IsTypedFunction L) (Units.function f) f.functions
       (λ j g e. typed_function g (at_place FunctionNumbered f.functions functions_numbered j g e) j e))
 
+  pub objects_ranged : All (λ o. o.ty < length T) (map (Units.object f) f.objects)
+  objects_ranged =
+      All-from_recursion (λ (o : Object). o.ty < length T) (map (Units.object f) f.objects)
+      (after_map ObjectNumbered (λ (o : Object). o.ty < length T) (Units.object f) f.objects (λ o k. k.0.0) objects_numbered)
+
   -- ---- types
 
   different : (all : List CType) → AreOnce all → AreDifferent L all
@@ -326,6 +332,7 @@ module _ (places : TokensHavePlaces) (first : TreesBeginFirst) (texts : TextsAre
         small_records = e.of_tree.small;
         different_types = types_different items f e.of_tree beginnings;
         functions = functions_typed items f e.of_tree beginnings;
+        object_types = objects_ranged items f e.of_tree beginnings;
       } in
       subst (λ (u : UnitData). HaveTypedFunctions (of_unit u) × All (IsWithinLimits (of_unit u)) u.types) (sym e.unit)
       (own, types_small items f e.of_tree beginnings e.small)

@@ -107,12 +107,13 @@ module _ (l : Lists) where
 
   -- ---- all of them
 
-  -- records are complete, types stand each once, and each function keeps its rules
+  -- records are complete, types stand each once, each function keeps its rules, and the objects that it names have types
   pub record HaveTypedFunctions : Type 0 where
     pub records : AreComplete l.records
     pub small_records : AreSmall l.records
     pub different_types : AreDifferent l.types
     pub functions : All IsTypedFunction l.functions
+    pub object_types : All (λ o. o.ty < length l.types) l.objects
 
   pub record AreWellTyped : Type 0 where
     pub functions : HaveTypedFunctions
