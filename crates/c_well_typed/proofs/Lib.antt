@@ -19,3 +19,7 @@ pub mod RenumberedConversions
 pub mod Renumbered
 pub mod RenumberedStatements
 pub mod RenumberedParts
+pub mod OneType
+pub mod LookedUp
+pub mod JoinedFunctions
+pub mod Programs

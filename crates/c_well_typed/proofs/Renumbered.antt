@@ -1,6 +1,6 @@
 -- An expression is well typed where records, objects and functions have other numbers, and types too.
 use Rattle.std.proofs.Common.{◌≡◌, ◌≢◌, ◌∙◌, ℕ, ◌<◌, Bool, true, false, refl, sym, ap, subst, cond, inl, inr, length}
-use Rattle.std.specs.Prelude.{◌⊎◌, Option, Some, None, slice_get, ◌&&◌, nat_lt}
+use Rattle.std.specs.Prelude.{◌⊎◌, Option, Some, None, slice_get}
 use Rattle.std.specs.Option.{option_map}
 use Rattle.std.proofs.lemmas.Bool.{and_parts, and_from, lt-ltb, ltb-true}
 use Rattle.lay_base.specs.declared.place.Place.{Place}
@@ -14,13 +14,13 @@ use Rattle.c_typed.specs.declared.operators.CompareOp.{CompareOp}
 use Rattle.c_typed.specs.declared.operators.PointerOp.{PointerOp}
 use Rattle.c_typed.specs.declared.operators.PointerOp.TheVariants as P
 use Rattle.c_typed.specs.Trees as Trees
-use Rattle.c_typed.specs.Conversions.{is_integer, is_pointer, is_scalar, pointed, element_of}
+use Rattle.c_typed.specs.Conversions.{is_integer, is_pointer, is_scalar, element_of}
 use Rattle.c_typed.specs.Constants.{constant_of, constant_in, is_zero, is_null, ty, unary_constant, negated}
-use Rattle.c_typed.specs.Fits.{assigns, casts}
+use Rattle.c_typed.specs.Fits.{assigns}
 use Rattle.c_typed.specs.Mapped.{Renaming, mapped, mapped_node, mapped_path, mapped_step, mapped_all, mapped_if_any}
 use Rattle.c_typed.specs.Parts.{IsPart}
-use Rattle.c_typed.specs.Rules.{promoting, on_numbers, comparing, choosing, points_to_object, moving, is_shift, is_move, updating, is_stepped, differing, arithmetic}
-use Rattle.c_typed.specs.Typed.{Declared, field_type, at_of, path_ty, path_at, bare, is_bare, bare_ty, is_decay, IsTested, IsConverted, IsSubscript, IsMoved}
+use Rattle.c_typed.specs.Rules.{promoting, comparing, choosing, points_to_object, moving, is_move, updating, is_stepped, differing}
+use Rattle.c_typed.specs.Typed.{Declared, field_type, at_of, path_ty, path_at, bare, is_bare, bare_ty, is_decay, IsTested, IsConverted, IsMoved}
 use Rattle.c_typed.specs.Typed.{IsMove, IsTyped, IsTypedNode, AreArguments, IsCount, IsTypedPath, IsTypedStep}
 use Rattle.c_well_typed.proofs.Allocations.{typed_bare}
 use Rattle.c_well_typed.proofs.Fitting.{promoting_is, on_numbers_is}
@@ -183,12 +183,11 @@ module _ (f object function' : ℕ → ℕ) where
 
       moved_again : (at : ℕ) (x y : Trees.Expression CType) (t : CType) → IsMoved (d.complete at) x y t
           → IsMoved (e.complete at) (mapped m x) (mapped m y) (R t)
-      moved_again at x y t h =
-          (
-            bare_same x ∙ h.0,
-            rw (type_is x, bare_type_is y, type_is y) (moving_again at (ty x) (bare_ty y) (ty y) h.1),
-            ap R h.2 ∙ sym (type_is x),
-          )
+      moved_again at x y t h = (
+        bare_same x ∙ h.0,
+        rw (type_is x, bare_type_is y, type_is y) (moving_again at (ty x) (bare_ty y) (ty y) h.1),
+        ap R h.2 ∙ sym (type_is x),
+      )
 
       move_again : (op : PointerOp) (at : ℕ) (x y : Trees.Expression CType) (t : CType) → IsMove op (d.complete at) x y t
           → IsMove op (e.complete at) (mapped m x) (mapped m y) (R t)
@@ -275,20 +274,18 @@ module _ (f object function' : ℕ → ℕ) where
 
       compared_fit : (op : CompareOp) (x y : Trees.Expression CType) → IsTyped d x → IsTyped d y
           → comparing op (bare_ty x) (is_null (bare x)) (bare_ty y) (is_null (bare y)) ≡ Some (ty x) → ty y ≡ ty x → Fits x × Fits y
-      compared_fit op x y h k c q =
-          (
-            fits_by x h (comparing_left_differ f (bare_ty x) (bare_ty y) (ty x) (is_null (bare x)) (is_null (bare y)) op (void_null_bare x h) c),
-            fits_by y k
-                (comparing_right_differ f (bare_ty x) (bare_ty y) (ty y) (is_null (bare x)) (is_null (bare y)) op (void_null_bare y k) (c ∙ ap Some (sym q))),
-          )
+      compared_fit op x y h k c q = (
+        fits_by x h (comparing_left_differ f (bare_ty x) (bare_ty y) (ty x) (is_null (bare x)) (is_null (bare y)) op (void_null_bare x h) c),
+        fits_by y k
+            (comparing_right_differ f (bare_ty x) (bare_ty y) (ty y) (is_null (bare x)) (is_null (bare y)) op (void_null_bare y k) (c ∙ ap Some (sym q))),
+      )
 
       chosen_fit : (x y : Trees.Expression CType) (t : CType) → IsTyped d x → IsTyped d y
           → choosing (bare_ty x) (is_null (bare x)) (bare_ty y) (is_null (bare y)) ≡ Some t → ty x ≡ t → ty y ≡ t → Fits x × Fits y
-      chosen_fit x y t h k c p q =
-          (
-            fits_by x h (choosing_left_differ f (bare_ty x) (bare_ty y) (ty x) (is_null (bare x)) (is_null (bare y)) (void_null_bare x h) (c ∙ ap Some (sym p))),
-            fits_by y k (choosing_right_differ f (bare_ty x) (bare_ty y) (ty y) (is_null (bare x)) (is_null (bare y)) (void_null_bare y k) (c ∙ ap Some (sym q))),
-          )
+      chosen_fit x y t h k c p q = (
+        fits_by x h (choosing_left_differ f (bare_ty x) (bare_ty y) (ty x) (is_null (bare x)) (is_null (bare y)) (void_null_bare x h) (c ∙ ap Some (sym p))),
+        fits_by y k (choosing_right_differ f (bare_ty x) (bare_ty y) (ty y) (is_null (bare x)) (is_null (bare y)) (void_null_bare y k) (c ∙ ap Some (sym q))),
+      )
 
       -- ---- expressions
 
@@ -309,26 +306,23 @@ module _ (f object function' : ℕ → ℕ) where
         node_again t at (Trees.load p) k h =
             (path_again p h.0, scalar_same f t ∙ h.1, ap R h.2 ∙ sym (path_type_is p), h.3 ∙ sym (path_place_is p))
         node_again t at (Trees.address_of p) k h = (path_again p h.0, ap R h.1 ∙ ap pointer (sym (path_type_is p)))
-        node_again t at (Trees.decay p) k h =
-            (
-              path_again p h.0,
-              rw (path_type_is p, element_same f (path_ty p)) (decayed_again (element_of (path_ty p)) t h.1),
-              h.2 ∙ sym (path_place_is p),
-            )
+        node_again t at (Trees.decay p) k h = (
+          path_again p h.0,
+          rw (path_type_is p, element_same f (path_ty p)) (decayed_again (element_of (path_ty p)) t h.1),
+          h.2 ∙ sym (path_place_is p),
+        )
         node_again t at (Trees.convert x written) k h = absurd k
         node_again t at (Trees.unary op x) k h =
             (again x (promoted_fits x t h.0 h.1 h.2) h.0, promoted_again x t h.1, type_is x ∙ ap R h.2)
         node_again t at (Trees.binary op x y) k h =
-            let i = on_numbers_is op (bare_ty x) (bare_ty y) t (ty y) h.2 in
-            (
+            let i = on_numbers_is op (bare_ty x) (bare_ty y) t (ty y) h.2 in (
               again x (number_fits x h.0 (subst (λ t. is_integer t ≡ true) (sym h.3) i.2)) h.0,
               again y (number_fits y h.1 i.3) h.1,
               rw (bare_type_is x, bare_type_is y, on_numbers_same f op (bare_ty x) (bare_ty y), type_is y, integer_stays f t i.2, integer_stays f (ty y) i.3) h.2,
               type_is x ∙ ap R h.3,
             )
         node_again t at (Trees.compare op x y) k h =
-            let g = compared_fit op x y h.0 h.1 h.2 h.3 in
-            (
+            let g = compared_fit op x y h.0 h.1 h.2 h.3 in (
               again x g.0 h.0,
               again y g.1 h.1,
               compared_again op x y h.2,
@@ -338,23 +332,21 @@ module _ (f object function' : ℕ → ℕ) where
         node_again t at (Trees.pointer_add op x y) k h =
             let g = move_fits op (d.complete at.at) x y t h.0 h.1 h.2 in
             (again x g.0 h.0, again y g.1 h.1, move_again op at.at x y t h.2)
-        node_again t at (Trees.pointer_difference x y) k h =
-            (
-              again x (bare_fits x h.2) h.0,
-              again y (bare_fits y h.3) h.1,
-              bare_same x ∙ h.2,
-              bare_same y ∙ h.3,
-              rw (type_is x, type_is y) (differing_again at.at (ty x) (ty y) h.4),
-              ap R h.5,
-            )
+        node_again t at (Trees.pointer_difference x y) k h = (
+          again x (bare_fits x h.2) h.0,
+          again y (bare_fits y h.3) h.1,
+          bare_same x ∙ h.2,
+          bare_same y ∙ h.3,
+          rw (type_is x, type_is y) (differing_again at.at (ty x) (ty y) h.4),
+          ap R h.5,
+        )
         node_again t at (Trees.both x y) k h =
             (again x (bare_fits x h.2.0) h.0, again y (bare_fits y h.3.0) h.1, tested_again x h.2, tested_again y h.3, ap R h.4)
         node_again t at (Trees.either x y) k h =
             (again x (bare_fits x h.2.0) h.0, again y (bare_fits y h.3.0) h.1, tested_again x h.2, tested_again y h.3, ap R h.4)
         node_again t at (Trees.not x) k h = (again x (bare_fits x h.1.0) h.0, tested_again x h.1, ap R h.2)
         node_again t at (Trees.choose x y z) k h =
-            let g = chosen_fit y z t h.1 h.2 h.4 h.5 h.6 in
-            (
+            let g = chosen_fit y z t h.1 h.2 h.4 h.5 h.6 in (
               again x (bare_fits x h.3.0) h.0,
               again y g.0 h.1,
               again z g.1 h.2,
@@ -365,31 +357,28 @@ module _ (f object function' : ℕ → ℕ) where
             )
         node_again t at (Trees.comma x y) k h =
             (again x (bare_fits x h.2) h.0, again y (bare_fits y h.3) h.1, bare_same x ∙ h.2, bare_same y ∙ h.3, ap R h.4 ∙ sym (type_is y))
-        node_again t at (Trees.assign p x) k h =
-            (
-              path_again p h.0,
-              again x (converted_fits x t h.1 h.4) h.1,
-              scalar_same f t ∙ h.2,
-              ap R h.3 ∙ sym (path_type_is p),
-              converted_again x t h.4,
-            )
+        node_again t at (Trees.assign p x) k h = (
+          path_again p h.0,
+          again x (converted_fits x t h.1 h.4) h.1,
+          scalar_same f t ∙ h.2,
+          ap R h.3 ∙ sym (path_type_is p),
+          converted_again x t h.4,
+        )
         node_again t at (Trees.assign_op op p x) k h =
-            let i = updated_number (d.complete at.at) op t (bare_ty x) (ty x) h.3 in
-            (
+            let i = updated_number (d.complete at.at) op t (bare_ty x) (ty x) h.3 in (
               path_again p h.0,
               again x (number_fits x h.1 i) h.1,
               ap R h.2 ∙ sym (path_type_is p),
               rw (bare_type_is x, type_is x) (updating_again op at.at t (bare_ty x) (ty x) h.3),
             )
         node_again t at (Trees.step op before p) k h = (path_again p h.0, ap R h.1 ∙ sym (path_type_is p), stepped_again at.at t h.2)
-        node_again t at (Trees.copy_record to from) k h =
-            (
-              path_again to h.0,
-              path_again from h.1,
-              ap R h.2,
-              path_type_is from ∙ ap R h.3 ∙ sym (path_type_is to),
-              (f h.4.0, path_type_is to ∙ ap R h.4.1),
-            )
+        node_again t at (Trees.copy_record to from) k h = (
+          path_again to h.0,
+          path_again from h.1,
+          ap R h.2,
+          path_type_is from ∙ ap R h.3 ∙ sym (path_type_is to),
+          (f h.4.0, path_type_is to ∙ ap R h.4.1),
+        )
         node_again t at (Trees.call g all) k h = (all_renumbered f h.0, a.functions g (function t h.0) h.1, all_again all h.0 h.2)
         node_again t at (Trees.call_through x all) k h =
             (all_renumbered f h.0, again x (bare_fits x h.2) h.1, bare_same x ∙ h.2, type_is x ∙ ap R h.3, all_again all h.0 h.4)
@@ -415,28 +404,25 @@ module _ (f object function' : ℕ → ℕ) where
         step_again : (t : CType) (at : Place) (step : Trees.PathNode CType) → IsTypedStep d t at step → IsTypedStep e (R t) at (mapped_step m step)
         step_again t at (Trees.local n) h = a.locals n t h
         step_again t at (Trees.object n) h = a.objects n t h
-        step_again t at (Trees.deref x) h =
-            (
-              again x (bare_fits x h.1) h.0,
-              bare_same x ∙ h.1,
-              rw (type_is x, pointed_same f (ty x)) (ap (option_map R) h.2),
-              a.complete at.at t h.3,
-            )
-        step_again t at (Trees.index x i) h =
-            (
-              again x (bare_fits x h.2) h.0,
-              again i (promoted_fits i (ty i) h.1 h.4 refl) h.1,
-              bare_same x ∙ h.2,
-              decay_same x ∙ h.3,
-              promoted_again i (ty i) h.4 ∙ ap Some (sym (type_is i)),
-              rw (type_is x, pointed_same f (ty x)) (ap (option_map R) h.5),
-              a.complete at.at t h.6,
-            )
+        step_again t at (Trees.deref x) h = (
+          again x (bare_fits x h.1) h.0,
+          bare_same x ∙ h.1,
+          rw (type_is x, pointed_same f (ty x)) (ap (option_map R) h.2),
+          a.complete at.at t h.3,
+        )
+        step_again t at (Trees.index x i) h = (
+          again x (bare_fits x h.2) h.0,
+          again i (promoted_fits i (ty i) h.1 h.4 refl) h.1,
+          bare_same x ∙ h.2,
+          decay_same x ∙ h.3,
+          promoted_again i (ty i) h.4 ∙ ap Some (sym (type_is i)),
+          rw (type_is x, pointed_same f (ty x)) (ap (option_map R) h.5),
+          a.complete at.at t h.6,
+        )
         step_again t at (Trees.member p r field) h = (path_again p h.0, path_type_is p ∙ ap R h.1, a.fields r field t h.2)
-        step_again t at (Trees.element p i) h =
-            (
-              path_again p h.0,
-              again i (promoted_fits i (ty i) h.1 h.2 refl) h.1,
-              promoted_again i (ty i) h.2 ∙ ap Some (sym (type_is i)),
-              rw (path_type_is p, element_same f (path_ty p)) (ap (option_map R) h.3),
-            )
+        step_again t at (Trees.element p i) h = (
+          path_again p h.0,
+          again i (promoted_fits i (ty i) h.1 h.2 refl) h.1,
+          promoted_again i (ty i) h.2 ∙ ap Some (sym (type_is i)),
+          rw (path_type_is p, element_same f (path_ty p)) (ap (option_map R) h.3),
+        )

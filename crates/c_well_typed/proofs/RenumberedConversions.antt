@@ -1,16 +1,16 @@
 -- An implicit conversion is one to another type, also where records have other numbers: of two pointer types that differ by their records none is
 -- converted to the other.
 use Rattle.std.proofs.Common.{◌≡◌, ◌≢◌, ◌∙◌, ℕ, Bool, true, false, refl, sym, ap, cond}
-use Rattle.std.specs.Prelude.{◌||◌, not, Option, Some, None}
+use Rattle.std.specs.Prelude.{◌||◌, Option, Some, None}
 use Rattle.c_types.specs.declared.ty.IntKind.{IntKind}
 use Rattle.c_types.specs.Types.{CType, void, integer, pointer, array, function, structure}
 use Rattle.c_types.specs.Sameness.{same_type}
 use Rattle.c_types.proofs.SameTypes.{same_is}
 use Rattle.c_type_table.specs.Renumbered.{renumbered}
 use Rattle.c_typed.specs.declared.operators.CompareOp.{CompareOp}
-use Rattle.c_typed.specs.declared.operators.CompareOp.TheVariants.{Equal, NotEqual, Less, Greater, LessEqual, GreaterEqual}
+use Rattle.c_typed.specs.declared.operators.CompareOp.TheVariants.{Equal, NotEqual}
 use Rattle.c_typed.specs.Conversions.{is_integer, is_pointer}
-use Rattle.c_typed.specs.Fits.{is_void_and_object, assigns, met, meeting, ordered, compared}
+use Rattle.c_typed.specs.Fits.{is_void_and_object, assigns, met, meeting, compared}
 use Rattle.c_typed.specs.Rules.{arithmetic, or_else, comparing, both_void, choosing}
 use Rattle.c_well_typed.proofs.Fitting.{arithmetic_is, ordered_is}
 

@@ -1,6 +1,6 @@
 -- A part of an object lies at the same byte where records have other numbers (C99 6.7.2.1).
-use Rattle.std.proofs.Common.{◌≡◌, ◌∙◌, ℕ, zero, suc, ◌+◌, ◌*◌, ◌<◌, true, IsTrue, refl, sym, ap, subst, List, [], ◌∷◌, ◌++◌, length, map, take, drop, arith}
-use Rattle.std.proofs.lemmas.Bool.{and_parts, lt-ltb}
+use Rattle.std.proofs.Common.{◌≡◌, ◌∙◌, ℕ, zero, suc, ◌+◌, ◌*◌, true, IsTrue, refl, sym, ap, subst, List, [], ◌∷◌, ◌++◌, length, map, take, drop, arith}
+use Rattle.std.proofs.lemmas.Bool.{and_parts}
 use Rattle.std.proofs.lemmas.List.Elements.{All-head, All-tail}
 use Rattle.std.proofs.lemmas.Option.{slice_get_within}
 use Rattle.std.specs.Prelude.{All, Option, Some, None, slice_get, slice_index, unwrap_or, nat_lt}

@@ -4,11 +4,9 @@ use Rattle.std.proofs.lemmas.List.Elements.{recursion_from_All, All-from_recursi
 use Rattle.std.specs.Prelude.{Option, Some, None}
 use Rattle.std.specs.List.{AllByRecursion}
 use Rattle.std.specs.Option.{option_map}
-use Rattle.c_types.specs.declared.ty.IntKind.{IntKind}
-use Rattle.c_types.specs.Types.{CType, void, integer, pointer, array, function, structure}
+use Rattle.c_types.specs.Types.{CType}
 use Rattle.c_types.specs.Objects.{is_object}
 use Rattle.c_type_table.specs.Renumbered.{renumbered}
-use Rattle.c_typed.specs.Conversions.{is_scalar}
 use Rattle.c_typed.specs.Constants.{ty}
 use Rattle.c_typed.specs.Mapped.{Renaming, mapped, mapped_value, mapped_part, mapped_initializer, mapped_statement, mapped_statements, mapped_arms}
 use Rattle.c_typed.specs.Trees as Trees
@@ -64,12 +62,11 @@ module _ (f object function' : ℕ → ℕ) (d e : Declared) (a : AreRenumbered 
     pub initializer_again : (i : Trees.Initializer CType) → IsTypedInitializer d t i → IsTypedInitializer e (R t) (mapped_initializer M i)
     initializer_again (Trees.whole x) h = value_again t (Trees.value x) h
     initializer_again (Trees.whole_record p) h = value_again t (Trees.record_of p) h
-    initializer_again (Trees.parts all) h =
-        (
-          scalar_same f t ∙ h.0,
-          All-from_recursion (IsTypedPart e (R t)) (map (mapped_part M) all) (parts_again all (recursion_from_All (IsTypedPart d t) all h.1)),
-          rising_again all h.2,
-        )
+    initializer_again (Trees.parts all) h = (
+      scalar_same f t ∙ h.0,
+      All-from_recursion (IsTypedPart e (R t)) (map (mapped_part M) all) (parts_again all (recursion_from_All (IsTypedPart d t) all h.1)),
+      rising_again all h.2,
+    )
 
     initial_again : (i : Option (Trees.Initializer CType)) → IsInitialized d t i → IsInitialized e (R t) (option_map (mapped_initializer M) i)
     initial_again None h = h
@@ -108,24 +105,22 @@ module _ (f object function' : ℕ → ℕ) (d e : Declared) (a : AreRenumbered 
           (one_again x h.1.0 h.0, tested_again f object function' x h.1, statement_again body true switch h.2)
       statement_again (Trees.do_while body x) loop switch h =
           (statement_again body true switch h.0, one_again x h.2.0 h.1, tested_again f object function' x h.2)
-      statement_again (Trees.for locals start test step body) loop switch h =
-          (
-            h.0 ∙ sym (declared_mapped M start),
-            statements_again start false false h.1,
-            condition_again test h.2,
-            effect_again step h.3,
-            statement_again body true switch h.4,
-          )
-      statement_again (Trees.switch x locals arms) loop switch h =
-          (
-            again f object function' d e a x (promoted_fits f object function' d e a x (ty x) h.0 h.1 refl) h.0,
-            promoted_again f object function' x (ty x) h.1 ∙ ap Some (sym (type_is f object function' x)),
-            h.2 ∙ sym (declared_arms_mapped M arms),
-            rw (type_is f object function' x) (subst (AreCases e (R (ty x))) (sym (cases_mapped M arms)) (cases_again (ty x) (all_cases arms) h.3)),
-            subst Typed.AreDifferent (sym (cases_mapped M arms)) h.4,
-            subst (λ n. n ≤ 1) (sym (defaults_mapped M arms)) h.5,
-            arms_again arms loop h.6,
-          )
+      statement_again (Trees.for locals start test step body) loop switch h = (
+        h.0 ∙ sym (declared_mapped M start),
+        statements_again start false false h.1,
+        condition_again test h.2,
+        effect_again step h.3,
+        statement_again body true switch h.4,
+      )
+      statement_again (Trees.switch x locals arms) loop switch h = (
+        again f object function' d e a x (promoted_fits f object function' d e a x (ty x) h.0 h.1 refl) h.0,
+        promoted_again f object function' x (ty x) h.1 ∙ ap Some (sym (type_is f object function' x)),
+        h.2 ∙ sym (declared_arms_mapped M arms),
+        rw (type_is f object function' x) (subst (AreCases e (R (ty x))) (sym (cases_mapped M arms)) (cases_again (ty x) (all_cases arms) h.3)),
+        subst Typed.AreDifferent (sym (cases_mapped M arms)) h.4,
+        subst (λ n. n ≤ 1) (sym (defaults_mapped M arms)) h.5,
+        arms_again arms loop h.6,
+      )
       statement_again Trees.break loop switch h = h
       statement_again Trees.continue loop switch h = h
       statement_again (Trees.return x) loop switch h = returned_again result x h

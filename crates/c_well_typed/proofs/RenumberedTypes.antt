@@ -1,23 +1,21 @@
 -- Rules on types hold of types with other numbers of records (C99 6.3, 6.5).
-use Rattle.std.proofs.Common.{◌≡◌, ◌≢◌, ◌∙◌, ℕ, Bool, true, false, refl, sym, ap, subst, cond, List, [], ◌∷◌, map}
+use Rattle.std.proofs.Common.{◌≡◌, ◌∙◌, ℕ, Bool, true, false, refl, sym, ap, subst, cond, List, [], ◌∷◌, map}
 use Rattle.std.specs.Prelude.{◌&&◌, ◌||◌, not, Option, Some, None}
 use Rattle.std.specs.Option.{option_map}
-use Rattle.std.proofs.lemmas.Bool.{and_parts, and_from}
-use Rattle.c_types.specs.declared.ty.IntKind.{IntKind}
-use Rattle.c_types.specs.Types.{CType, CTypes, void, integer, pointer, array, function, structure, no_types, and_type}
+use Rattle.c_types.specs.Types.{CType, void, integer, pointer, and_type}
 use Rattle.c_types.specs.Sameness.{same_type}
 use Rattle.c_types.specs.Views.{listed}
 use Rattle.c_types.proofs.SameTypes.{same_is, same_self}
 use Rattle.c_type_table.specs.Renumbered.{renumbered, all_renumbered}
 use Rattle.c_typed.specs.declared.operators.BinaryOp.{BinaryOp}
 use Rattle.c_typed.specs.declared.operators.CompareOp.{CompareOp}
-use Rattle.c_typed.specs.declared.operators.CompareOp.TheVariants.{Equal, NotEqual, Less, Greater, LessEqual, GreaterEqual}
+use Rattle.c_typed.specs.declared.operators.CompareOp.TheVariants.{Equal, NotEqual}
 use Rattle.c_typed.specs.declared.operators.LibraryFunction.{LibraryFunction}
 use Rattle.c_typed.specs.declared.operators.LibraryFunction.TheVariants.{Malloc, Calloc, Free, Memcpy, Memmove, Memset, Memcmp, Putchar, Getchar, Exit}
 use Rattle.c_typed.specs.Conversions.{is_integer, is_pointer, is_scalar, is_function, pointed, element_of}
 use Rattle.c_typed.specs.Constants.{Constant, kind_of, converted_constant}
 use Rattle.c_typed.specs.Fits.{is_void, is_void_and_object, assigns, casts, met, meeting, ordered, compared, library_type}
-use Rattle.c_typed.specs.Rules.{promoting, arithmetic, is_shift, shifting, twice, on_numbers, or_else, comparing, both_void, choosing}
+use Rattle.c_typed.specs.Rules.{promoting, arithmetic, on_numbers, or_else, comparing, both_void, choosing}
 
 module _ (f : ℕ → ℕ) where
   abbrev R : CType → CType

@@ -3,11 +3,12 @@ use Rattle.std.proofs.Common.{◌≡◌, ◌∙◌, ℕ, zero, suc, ◌+◌, ◌
 use Rattle.std.proofs.Common.{arith, inl, inr}
 use Rattle.std.proofs.lemmas.List.{map-append, length-map}
 use Rattle.std.proofs.lemmas.List.Elements.{recursion_from_All, All-from_recursion}
-use Rattle.std.specs.Prelude.{◌⊎◌, All, Some, None, slice_get, nat_lt}
+use Rattle.std.specs.Prelude.{◌⊎◌, All, Some, None, slice_get, nat_lt, codes}
 use Rattle.std.specs.List.{AllByRecursion}
 use Rattle.std.specs.Option.{option_map}
 use Rattle.c_lexer.specs.TokenPlaces.{TokensHavePlaces}
-use Rattle.c_types.specs.Types.{CType, CTypes, function}
+use Rattle.c_types.specs.declared.ty.IntKind.TheVariants.{Int}
+use Rattle.c_types.specs.Types.{CType, CTypes, integer, function, no_types}
 use Rattle.c_types.specs.Views.{listed}
 use Rattle.c_ast.specs.Laws.{TreesBeginFirst}
 use Rattle.c_ast.specs.Trees
@@ -299,6 +300,12 @@ module _ (items : List Trees.Item) (f : FileScope) (h : IsFileOf items f) (begin
       (each_mapped (IsTypedFunction L) (Units.function f) f.functions
       (λ j g e. typed_function g (at_place FunctionNumbered f.functions functions_numbered j g e) j e))
 
+  pub mains_typed : All (λ g. g.name ≡ codes "main" → type_at T g.ty ≡ function (integer Int) no_types) (map (Units.function f) f.functions)
+  mains_typed =
+      All-from_recursion (λ (g : FunctionData). g.name ≡ codes "main" → type_at T g.ty ≡ function (integer Int) no_types) (map (Units.function f) f.functions)
+      (each_mapped (λ (g : FunctionData). g.name ≡ codes "main" → type_at T g.ty ≡ function (integer Int) no_types) (Units.function f) f.functions
+      (λ j g e name. (at_place FunctionNumbered f.functions functions_numbered j g e).0.1 ∙ h.main j g e name))
+
   pub objects_ranged : All (λ o. o.ty < length T) (map (Units.object f) f.objects)
   objects_ranged =
       All-from_recursion (λ (o : Object). o.ty < length T) (map (Units.object f) f.objects)
@@ -333,6 +340,7 @@ module _ (places : TokensHavePlaces) (first : TreesBeginFirst) (texts : TextsAre
         different_types = types_different items f e.of_tree beginnings;
         functions = functions_typed items f e.of_tree beginnings;
         object_types = objects_ranged items f e.of_tree beginnings;
+        main_types = mains_typed items f e.of_tree beginnings;
       } in
       subst (λ (u : UnitData). HaveTypedFunctions (of_unit u) × All (IsWithinLimits (of_unit u)) u.types) (sym e.unit)
       (own, types_small items f e.of_tree beginnings e.small)

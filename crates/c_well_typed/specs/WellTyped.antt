@@ -107,13 +107,15 @@ module _ (l : Lists) where
 
   -- ---- all of them
 
-  -- records are complete, types stand each once, each function keeps its rules, and the objects that it names have types
+  -- records are complete, types stand each once, each function keeps its rules, and the objects that it
+  -- names have types; `main` takes nothing and gives an int (own)
   pub record HaveTypedFunctions : Type 0 where
     pub records : AreComplete l.records
     pub small_records : AreSmall l.records
     pub different_types : AreDifferent l.types
     pub functions : All IsTypedFunction l.functions
     pub object_types : All (λ o. o.ty < length l.types) l.objects
+    pub main_types : All (λ f. f.name ≡ codes "main" → ty f.ty ≡ function (integer Int) no_types) l.functions
 
   pub record AreWellTyped : Type 0 where
     pub functions : HaveTypedFunctions
@@ -128,6 +130,9 @@ IsWellTypedUnit u = AreWellTyped (of_unit u)
 abbrev pub IsMain : ProgramData → FunctionData → Type 0
 IsMain p f = (f.name ≡ codes "main") × (f.body ≢ None) × (ty (of_program p) f.ty ≡ function (integer Int) no_types)
 
+abbrev pub HasMain : ProgramData → Type 0
+HasMain p = (f : FunctionData) × (slice_get p.functions p.main ≡ Some f) × IsMain p f
+
 pub record IsWellTyped (p : ProgramData) : Type 0 where
   pub lists : AreWellTyped (of_program p)
-  pub main : (f : FunctionData) × (slice_get p.functions p.main ≡ Some f) × IsMain p f
+  pub main : HasMain p
