@@ -31,7 +31,7 @@ use Rattle.c_link.proofs.JoinedRecords as Joined
 use Rattle.c_link.proofs.JoinedRecords.{among_at, among_flat, among_map, stand_among}
 use Rattle.c_link.proofs.Layouts.{lies_alike}
 use Rattle.c_checking_complete.proofs.Objects.{mapped_at}
-use Rattle.c_well_typed.specs.WellTyped.{Lists, of_unit, of_program, count_up, declared_in, AreDifferent, HasBody, IsTypedFunction, HaveTypedFunctions, HasMain}
+use Rattle.c_well_typed.specs.WellTyped.{Lists, of_unit, of_program, count_up, declared_in, AreDifferent, HasBody, IsTypedFunction, HasObjectType, HaveTypedFunctions, HasMain}
 use Rattle.c_well_typed.proofs.Composed as Composed
 use Rattle.c_well_typed.proofs.Labels.{all_declared_mapped}
 use Rattle.c_well_typed.proofs.LookedUp.{from_zero, IsFound, looked_up, of_name, of_unit as found_unit, one_unit, unit_among}
@@ -139,10 +139,16 @@ module _ (units : List UnitData) (agree : Agree units) (complete : AreComplete (
   program_type_is : (u : UnitData) (i : ℕ) → program_type units agree.names u i ≡ R u (type_at u.types i)
   program_type_is u i = ap (R u) (sym (unwrap_or-slice_get u.types i void))
 
+  -- what is complete in a unit is complete in the program
+  lies_in : (u : UnitData) → Joined.IsAmong u units → (t : CType) → is_object (length u.records) t ≡ true → is_object (length (records units)) (R u t) ≡ true
+  lies_in u h t o =
+      (lies_alike (structure_in (all_tags units) u) u.records (records units) (each u h).records complete (stand_among units agree.tags u h) t o).object
+
   -- ---- objects by their numbers
 
-  object_ranged : (u : UnitData) → Joined.IsAmong u units → (o : Object) → Joined.IsAmong o u.objects → o.ty < length u.types
-  object_ranged u h o i = is_each (λ (o : Object). o.ty < length u.types) u.objects (recursion_from_All (λ (o : Object). o.ty < length u.types) u.objects (each u h).object_types) o i
+  object_typed : (u : UnitData) → Joined.IsAmong u units → (o : Object) → Joined.IsAmong o u.objects → HasObjectType (of_unit u) o
+  object_typed u h o i =
+      is_each (HasObjectType (of_unit u)) u.objects (recursion_from_All (HasObjectType (of_unit u)) u.objects (each u h).object_types) o i
 
   function_typed : (u : UnitData) → Joined.IsAmong u units → (g : FunctionData) → Joined.IsAmong g u.functions → IsTypedFunction (of_unit u) g
   function_typed u h g i = is_each (IsTypedFunction (of_unit u)) u.functions (recursion_from_All (IsTypedFunction (of_unit u)) u.functions (each u h).functions) g i
@@ -174,7 +180,7 @@ module _ (units : List UnitData) (agree : Agree units) (complete : AreComplete (
       ap (position (all_objects units)) (object_identity k 0 u.objects n o e ∙ ap (identity k o.linked o.name) (from_zero n)) in
       let there = unit_among 0 units (z.number, z.unit) z.numbered in
       let own = among_at z.unit.objects z.place z.thing z.there in
-      let ty = (type_is z.unit there z.number z.thing.ty (object_ranged z.unit there z.thing own)).1 in
+      let ty = (type_is z.unit there z.number z.thing.ty (object_typed z.unit there z.thing own).0).1 in
       mapped_at (λ (o : Object). type_at T o.ty) (objects units) ((N k u).object n) z.found (ap (slice_get (objects units)) number ∙ z.stands)
       ∙ ap (λ (y : Object). Some (type_at T y.ty)) z.is
       ∙ ap Some (ty ∙ by_case z.unit z.numbered z.thing z.there there own z.alike)
@@ -253,7 +259,7 @@ module _ (units : List UnitData) (agree : Agree units) (complete : AreComplete (
         ∙ locals_same (g.parameters ++ g.locals) ranged
 
     lies : (t : CType) → is_object (length u.records) t ≡ true → is_object (length (records units)) (R u t) ≡ true
-    lies t o = (lies_alike S u.records (records units) (each u there).records complete (stand_among units agree.tags u there) t o).object
+    lies t o = lies_in u there t o
 
     renumbers : AreRenumbered S (N k u).object (N k u).function (declared_in (of_unit u) g) (declared_in P G)
     renumbers = record {
@@ -336,16 +342,19 @@ module _ (units : List UnitData) (agree : Agree units) (complete : AreComplete (
           subst (IsTypedFunction P) (sym z.6)
           (again z.0 z.1 z.2 z.4 (function_typed z.1 (unit_among 0 units (z.0, z.1) z.2) z.4 (among_at z.1.functions z.3 z.4 z.5)))
 
-  objects_again : All (λ o. o.ty < length T) (objects units)
-  objects_again = All-from_recursion (λ (o : Object). o.ty < length T) (objects units) (each_is (λ (o : Object). o.ty < length T) (objects units) one)
+  objects_again : All (HasObjectType P) (objects units)
+  objects_again = All-from_recursion (HasObjectType P) (objects units) (each_is (HasObjectType P) (objects units) one)
     where
-      one : (o : Object) → Joined.IsAmong o (objects units) → o.ty < length T
+      one : (o : Object) → Joined.IsAmong o (objects units) → HasObjectType P o
       one o i =
           let z = found_unit (λ (o : Object). o.linked) (λ (o : Object). o.name) (λ (u : UnitData). u.objects) is_object_defined (λ k u o. object_in (N k u) o)
           object_identities (λ k n. refl) (λ k n x more. refl) units o i in
-          let there = unit_among 0 units (z.0, z.1) z.2 in
-          subst (λ (o : Object). o.ty < length T) (sym z.6)
-          (type_is z.1 there z.0 z.4.ty (object_ranged z.1 there z.4 (among_at z.1.objects z.3 z.4 z.5))).0
+          let u = z.1 in
+          let there = unit_among 0 units (z.0, u) z.2 in
+          let own = object_typed u there z.4 (among_at u.objects z.3 z.4 z.5) in
+          let type = type_is u there z.0 z.4.ty own.0 in
+          let complete = subst (λ t. is_object (length (records units)) t ≡ true) (sym type.1) (lies_in u there (type_at u.types z.4.ty) own.1) in
+          subst (HasObjectType P) (sym z.6) (type.0, complete)
 
   mains_again : All (λ F. F.name ≡ codes "main" → type_at T F.ty ≡ function (integer Int) no_types) (functions units)
   mains_again =

@@ -13,6 +13,7 @@ pub mod TypesMapped
 pub mod Numbers
 pub mod Enumerators
 pub mod Definitions
+pub mod WholeObjects
 pub mod UnitFunctions
 pub mod RenumberedTypes
 pub mod RenumberedConversions

@@ -8,6 +8,7 @@ use Rattle.std.specs.List.{AllByRecursion}
 use Rattle.std.specs.Option.{option_map}
 use Rattle.c_lexer.specs.TokenPlaces.{TokensHavePlaces}
 use Rattle.c_types.specs.declared.ty.IntKind.TheVariants.{Int}
+use Rattle.c_types.specs.Objects.{is_object}
 use Rattle.c_types.specs.Types.{CType, CTypes, integer, function, no_types}
 use Rattle.c_types.specs.Views.{listed}
 use Rattle.c_ast.specs.Laws.{TreesBeginFirst}
@@ -34,7 +35,7 @@ use Rattle.c_order.proofs.Ordered.{marks_are_in_order}
 use Rattle.c_text_order.specs.TextOrder.{TextsAreInOrder}
 use Rattle.c_checking_traced.proofs.WholeFiles.{text_whole}
 use Rattle.c_well_typed.specs.Laws.{UnitsHaveTypedFunctions}
-use Rattle.c_well_typed.specs.WellTyped.{Lists, of_unit, count_up, declared_in, AreDifferent, IsWithinLimits, HasBody, IsTypedFunction, HaveTypedFunctions}
+use Rattle.c_well_typed.specs.WellTyped.{Lists, of_unit, count_up, declared_in, AreDifferent, IsWithinLimits, HasBody, IsTypedFunction, HasObjectType, HaveTypedFunctions}
 use Rattle.c_well_typed.proofs.Composed as Composed
 use Rattle.c_well_typed.proofs.Definitions.{in_function, IsDefinedFunction, is_function_type, function_known}
 use Rattle.c_well_typed.proofs.Labels.{all_declared_mapped, all_declared_recognised, declared_mapped}
@@ -42,6 +43,7 @@ use Rattle.c_well_typed.proofs.Numbers.{all_among, two_parts, of_each, taken_up,
 use Rattle.c_well_typed.proofs.Recognised.{with_complete}
 use Rattle.c_well_typed.proofs.RecognisedStatements.{typed_statement, typed_statements, statement_keeps}
 use Rattle.c_well_typed.proofs.TypesMapped as TypesMapped
+use Rattle.c_well_typed.proofs.WholeObjects.{objects_whole}
 
 -- ---- lists
 
@@ -306,10 +308,13 @@ module _ (items : List Trees.Item) (f : FileScope) (h : IsFileOf items f) (begin
       (each_mapped (λ (g : FunctionData). g.name ≡ codes "main" → type_at T g.ty ≡ function (integer Int) no_types) (Units.function f) f.functions
       (λ j g e name. (at_place FunctionNumbered f.functions functions_numbered j g e).0.1 ∙ h.main j g e name))
 
-  pub objects_ranged : All (λ o. o.ty < length T) (map (Units.object f) f.objects)
-  objects_ranged =
-      All-from_recursion (λ (o : Object). o.ty < length T) (map (Units.object f) f.objects)
-      (after_map ObjectNumbered (λ (o : Object). o.ty < length T) (Units.object f) f.objects (λ o k. k.0.0) objects_numbered)
+  pub objects_typed : ((n : ℕ) (o : AnObject) → slice_get f.objects n ≡ Some o → is_object count o.ty ≡ true) → All (HasObjectType L) (map (Units.object f) f.objects)
+  objects_typed whole =
+      All-from_recursion (HasObjectType L) (map (Units.object f) f.objects)
+      (each_mapped (HasObjectType L) (Units.object f) f.objects
+      (λ j o e.
+      let k = (at_place ObjectNumbered f.objects objects_numbered j o e).0 in
+      (k.0, subst (λ t. is_object count t ≡ true) (sym k.1) (whole j o e))))
 
   -- ---- types
 
@@ -339,7 +344,7 @@ module _ (places : TokensHavePlaces) (first : TreesBeginFirst) (texts : TextsAre
         small_records = e.of_tree.small;
         different_types = types_different items f e.of_tree beginnings;
         functions = functions_typed items f e.of_tree beginnings;
-        object_types = objects_ranged items f e.of_tree beginnings;
+        object_types = objects_typed items f e.of_tree beginnings (objects_whole places first texts name bytes items f tree e.tags e.of_tree);
         main_types = mains_typed items f e.of_tree beginnings;
       } in
       subst (λ (u : UnitData). HaveTypedFunctions (of_unit u) × All (IsWithinLimits (of_unit u)) u.types) (sym e.unit)

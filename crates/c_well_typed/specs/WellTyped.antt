@@ -102,19 +102,23 @@ module _ (l : Lists) where
   AreInitials t None = Unit {0}
   AreInitials t (Some all) = All (IsTypedInitial t) all
 
+  -- one that is only declared has a complete type too (own)
+  abbrev pub HasObjectType : Object → Type 0
+  HasObjectType o = (o.ty < length l.types) × (is_object (length l.records) (ty o.ty) ≡ true)
+
   abbrev pub IsTypedObject : Object → Type 0
-  IsTypedObject o = (o.ty < length l.types) × (is_object (length l.records) (ty o.ty) ≡ true) × AreInitials (ty o.ty) o.initial
+  IsTypedObject o = HasObjectType o × AreInitials (ty o.ty) o.initial
 
   -- ---- all of them
 
-  -- records are complete, types stand each once, each function keeps its rules, and the objects that it
-  -- names have types; `main` takes nothing and gives an int (own)
+  -- records are complete, types stand each once, each function keeps its rules, and objects have
+  -- complete types; `main` takes nothing and gives an int (own)
   pub record HaveTypedFunctions : Type 0 where
     pub records : AreComplete l.records
     pub small_records : AreSmall l.records
     pub different_types : AreDifferent l.types
     pub functions : All IsTypedFunction l.functions
-    pub object_types : All (λ o. o.ty < length l.types) l.objects
+    pub object_types : All HasObjectType l.objects
     pub main_types : All (λ f. f.name ≡ codes "main" → ty f.ty ≡ function (integer Int) no_types) l.functions
 
   pub record AreWellTyped : Type 0 where
