@@ -1,5 +1,5 @@
 -- Each function of a file with a body is one that an item of the file defines, and each function has the type of one (C99 6.7, 6.9.1).
-use Rattle.std.proofs.Common.{◌≡◌, ◌≢◌, ◌∙◌, ℕ, zero, suc, ◌+◌, ◌≤◌, Bool, true, false, refl, sym, ap, subst, List, [], ◌∷◌, ◌++◌, length, map, inl, inr}
+use Rattle.std.proofs.Common.{◌≡◌, ◌≢◌, ◌∙◌, ℕ, zero, suc, ◌+◌, ◌≤◌, Bool, true, false, refl, sym, ap, subst, cond, List, [], ◌∷◌, ◌++◌, length, map, inl, inr}
 use Rattle.std.proofs.lemmas.List.Elements.{recursion_from_All}
 use Rattle.std.specs.Prelude.{◌⊎◌, Option, Some, None, slice_get}
 use Rattle.std.specs.List.{AllByRecursion}
@@ -13,8 +13,8 @@ use Rattle.c_typed.specs.Conversions.{is_function, is_scalar}
 use Rattle.c_typed.specs.Trees as Typed
 use Rattle.c_typed.specs.Typed.{Declared}
 use Rattle.c_typed.specs.TypedStatements.{declared_by, all_declared_by, AreTyped}
-use Rattle.c_erasure.specs.Declarators.{closed}
-use Rattle.c_erasure.specs.Erasure.{Values, Erases, IsBound}
+use Rattle.c_erasure.specs.Declarators.{closed, open_array, is_name}
+use Rattle.c_erasure.specs.Erasure.{Values, Erases, IsBound, Declares, AreParameters, AreListed}
 use Rattle.c_erasure.specs.Files.{bound, IsTypedef, IsObject, IsFunction, IsFileDeclarator, AreFileDeclarators, IsDefinition, ErasesItem, object_how, AreNamed}
 use Rattle.c_erasure.specs.Files.{HasParameters, parameters_of, in_body, count_up, without_notes, AreAscending, IsFileOf, IsOpen, declarations_of, is_defined}
 use Rattle.c_erasure.specs.Initializers.{Part, part_at, texts_of, IsText, Initializes, IsOneValue, InitializeElements, InitializeFields, IsInitializer}
@@ -29,6 +29,7 @@ use Rattle.c_checking_complete.proofs.Objects.{mapped_at}
 use Rattle.c_checking_traced.proofs.Lists.{ascending_apart}
 use Rattle.c_checking_traced.proofs.Tracing as Tracing
 use Rattle.c_checking_traced.proofs.Tracing.{AreAll, with_names, name_at}
+use Rattle.c_well_typed.specs.WellTyped.{IsResult, AreScalars}
 use Rattle.c_well_typed.proofs.Enumerators.{IsEnumerated, AreEnumerated, anything, found, value_found, base_found, lengths_found}
 use Rattle.c_well_typed.proofs.ErasedNotes.{items_noted}
 use Rattle.c_well_typed.proofs.StatementNotes.{AreStatementsNoted}
@@ -50,6 +51,51 @@ types_of_parameters None types locals bounds h = absurd h
 types_of_parameters (Some (Trees.void_alone at)) types locals bounds h = rw (h.1, h.0) refl
 types_of_parameters (Some (Trees.listed all)) types locals bounds h = types_of_named all types 0 locals bounds h
 
+-- they are numbers and pointers
+
+listed_scalars : (all : Trees.Parameters) (s : Scope) (types : CTypes) → AreListed s all types → AreScalars types
+listed_scalars Trees.no_parameters s types h = subst AreScalars (sym h) tt
+listed_scalars (Trees.and_parameter comma specs d more) s types h = subst AreScalars (sym h.3) (h.7, listed_scalars more _ h.2 h.10)
+
+parameters_scalars : (all : Trees.ParameterList) (s : Scope) (types : CTypes) → AreParameters s all types → AreScalars types
+parameters_scalars (Trees.void_alone at) s types h = subst AreScalars (sym h) tt
+parameters_scalars (Trees.listed all) s types h = listed_scalars all s types h
+
+-- where nothing but a name stands the type is the one before it
+name_is : (d : Trees.Declarator) (s : Scope) (t u : CType) → is_name d ≡ true → Declares s d t (closed u) → t ≡ u
+name_is Trees.nothing s t u n h = let is : closed u ≡ closed t = h in cc
+name_is (Trees.named x) s t u n h = let is : closed u ≡ closed t = h in cc
+name_is (Trees.enclosed left d right) s t u n h = name_is d s t u n h
+name_is (Trees.pointer at consts d) s t u n h = cc
+name_is (Trees.array d left length right) s t u n h = cc
+name_is (Trees.function d left all right) s t u n h = cc
+
+parts_are : (s t : CType) (p q : CTypes) → function s p ≡ function t q → (s ≡ t) × (p ≡ q)
+parts_are s t p q e = (cc, cc)
+
+no_open_array : (t u : CType) → closed t ≡ open_array u → ⊥
+no_open_array t u e = cc
+
+scalar_function : (d : Trees.Declarator) (s : Scope) (base result : CType) (types : CTypes) (locals : List ALocal) (bounds : List Bound)
+    → Declares s d base (closed (function result types)) → HasParameters (parameters_of d) types locals bounds → IsResult result × AreScalars types
+scalar_function Trees.nothing s base result types locals bounds h k = absurd k
+scalar_function (Trees.named x) s base result types locals bounds h k = absurd k
+scalar_function (Trees.pointer at consts d) s base result types locals bounds h k = scalar_function d s _ result types locals bounds h.1 k
+scalar_function (Trees.enclosed left d right) s base result types locals bounds h k = scalar_function d s base result types locals bounds h k
+scalar_function (Trees.array d left (Trees.some_expression a) right) s base result types locals bounds h k =
+    scalar_function d s _ result types locals bounds h.8 k
+scalar_function (Trees.array d left Trees.no_expression right) s base result types locals bounds h k =
+    absurd (no_open_array (function result types) base h.2)
+scalar_function (Trees.function d left all right) s base result types locals bounds h k =
+    by_name (is_name d) refl k (λ k. scalar_function d s _ result types locals bounds h.4 k)
+  where
+    by_name : (b : Bool) → is_name d ≡ b → HasParameters (cond b (Some all) (parameters_of d)) types locals bounds
+        → (HasParameters (parameters_of d) types locals bounds → IsResult result × AreScalars types) → IsResult result × AreScalars types
+    by_name true n k again =
+        let e = parts_are base result h.0 types (name_is d s (function base h.0) (function result types) n h.4) in
+        (subst IsResult e.0 h.2, subst AreScalars e.1 (parameters_scalars all _ h.0 h.1))
+    by_name false n k again = again k
+
 -- ---- what is defined
 
 abbrev pub in_function : FileScope → AFunction → Declared
@@ -65,6 +111,7 @@ pub record IsDefinedFunction (f : FileScope) (count : ℕ) (g : AFunction) : Typ
   pub result : CType
   pub types : CTypes
   pub ty_is : g.ty ≡ function result types
+  pub scalars : IsResult result × AreScalars types
   pub parameters : listed (map (λ l. l.ty) g.parameters) ≡ types
   pub all : Typed.Statements Noted
   pub body : g.body ≡ Some (Typed.block (declared_by all) all)
@@ -259,6 +306,7 @@ module _ (f : FileScope) (count : ℕ) (less : (at : ℕ) → ended f.ends at �
         result = h.1;
         types = h.2;
         ty_is = h.15;
+        scalars = scalar_function d (at_file_scope f) h.0 h.1 h.2 h.5.parameters h.6 h.10 h.21;
         parameters = types_of_parameters (parameters_of d) h.2 h.5.parameters h.6 h.21;
         all = body.0;
         body = body.1;

@@ -11,7 +11,7 @@ use Rattle.numbering.specs.Keys.{position}
 use Rattle.c_types.specs.Limits.{AreComplete, AreSmall}
 use Rattle.c_types.specs.Objects.{is_object}
 use Rattle.c_types.specs.declared.ty.IntKind.TheVariants.{Int}
-use Rattle.c_types.specs.Types.{CType, CTypes, void, integer, function, no_types}
+use Rattle.c_types.specs.Types.{CType, CTypes, void, integer, function, no_types, and_type}
 use Rattle.c_types.specs.Views.{listed}
 use Rattle.c_type_table.specs.Renumbered.{renumbered, all_renumbered}
 use Rattle.c_typed.specs.declared.program.Local.{Local}
@@ -31,7 +31,7 @@ use Rattle.c_link.proofs.JoinedRecords as Joined
 use Rattle.c_link.proofs.JoinedRecords.{among_at, among_flat, among_map, stand_among}
 use Rattle.c_link.proofs.Layouts.{lies_alike}
 use Rattle.c_checking_complete.proofs.Objects.{mapped_at}
-use Rattle.c_well_typed.specs.WellTyped.{Lists, of_unit, of_program, count_up, declared_in, AreDifferent, HasBody, IsTypedFunction, HasObjectType, HaveTypedFunctions, HasMain}
+use Rattle.c_well_typed.specs.WellTyped.{Lists, of_unit, of_program, count_up, declared_in, AreDifferent, IsResult, AreScalars, HasBody, IsTypedFunction, HasObjectType, HaveTypedFunctions, HasMain}
 use Rattle.c_well_typed.proofs.Composed as Composed
 use Rattle.c_well_typed.proofs.Labels.{all_declared_mapped}
 use Rattle.c_well_typed.proofs.LookedUp.{from_zero, IsFound, looked_up, of_name, of_unit as found_unit, one_unit, unit_among}
@@ -40,7 +40,7 @@ use Rattle.c_well_typed.proofs.OneType.{program_type, object_type, function_type
 use Rattle.c_well_typed.proofs.Renumbered.{m, AreRenumbered}
 use Rattle.c_well_typed.proofs.RenumberedParts.{fields_again, part_again}
 use Rattle.c_well_typed.proofs.RenumberedStatements.{statement_again}
-use Rattle.c_well_typed.proofs.RenumberedTypes.{types_listed}
+use Rattle.c_well_typed.proofs.RenumberedTypes.{scalar_same, types_listed}
 use Rattle.c_well_typed.proofs.TypesMapped.{types_of_statement}
 
 -- ---- lists
@@ -299,18 +299,28 @@ module _ (units : List UnitData) (agree : Agree units) (complete : AreComplete (
         (mapped_all (λ i. i < length u.types) (λ i. i < length T) (N k u).ty (types_in_statement body) (λ i l. (type_is u there k i l).0)
         (recursion_from_All (λ i. i < length u.types) (types_in_statement body) r)))
 
+    result_again : (t : CType) → IsResult t → IsResult (R u t)
+    result_again t (inl h) = inl (scalar_same S t ∙ h)
+    result_again t (inr h) = inr (ap (R u) h)
+
+    scalars_again : (all : CTypes) → AreScalars all → AreScalars (all_renumbered S all)
+    scalars_again no_types h = h
+    scalars_again (and_type t more) h = (scalar_same S t ∙ h.0, scalars_again more h.1)
+
     body_again : (result : CType) (parameters : CTypes) (b : Option (Trees.Statement ℕ)) → HasBody (of_unit u) g result parameters b
         → HasBody P G (R u result) (all_renumbered S parameters) (option_map (mapped_statement (N k u)) b)
     body_again result parameters None b = (ap (map (local_in (N k u))) b.0, ap (map (local_in (N k u))) b.1)
     body_again result parameters (Some body) b = (
+      result_again result b.0,
+      scalars_again parameters b.1,
       ap listed (locals_same g.parameters (front g.parameters g.locals ranged)) ∙ types_listed S (map (λ x. type_at u.types x.ty) g.parameters)
-          ∙ ap (all_renumbered S) b.0,
+          ∙ ap (all_renumbered S) b.2,
       (
-        body_ranged body b.1.0,
-        subst (IsTypedStatement (declared_in P G) (R u result) false false) (sym (body_same body b.1.0))
+        body_ranged body b.3.0,
+        subst (IsTypedStatement (declared_in P G) (R u result) false false) (sym (body_same body b.3.0))
             (statement_again S (N k u).object (N k u).function (declared_in (of_unit u) g) (declared_in P G) renumbers result
-            (mapped_statement (of_types (type_at u.types)) body) false false b.1.1),
-        all_declared_mapped (N k u) body ∙ b.1.2
+            (mapped_statement (of_types (type_at u.types)) body) false false b.3.1),
+        all_declared_mapped (N k u) body ∙ b.3.2
             ∙ ap (λ n. count_up n (length g.locals)) (sym (length-map g.parameters (local_in (N k u))))
             ∙ ap (count_up (length G.parameters)) (sym (length-map g.locals (local_in (N k u)))),
       ),

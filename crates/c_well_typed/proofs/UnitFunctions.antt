@@ -268,7 +268,7 @@ module _ (items : List Trees.Item) (f : FileScope) (h : IsFileOf items f) (begin
       has_body : HasBody L G d.result d.types (option_map (λ s. mapped_statement numbers (recognised_statement s)) g.body)
       has_body =
           subst (λ b. HasBody L G d.result d.types (option_map (λ s. mapped_statement numbers (recognised_statement s)) b)) (sym d.body)
-          (ap listed parameters_same ∙ d.parameters, (body_ranged, body_typed, body_declared))
+          (d.scalars.0, d.scalars.1, ap listed parameters_same ∙ d.parameters, (body_ranged, body_typed, body_declared))
 
       defined : IsTypedFunction L G
       defined = (d.result, d.types, own_types.0.0.0, own_types.0.0.1 ∙ d.ty_is, all_ranged, has_body)

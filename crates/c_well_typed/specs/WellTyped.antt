@@ -1,10 +1,10 @@
 -- Well typed units and programs: every node keeps its rule over the lists of its unit or program, and every number names something there.
 use Rattle.std.specs.Prelude.{◌≡◌, ◌≢◌, ℕ, zero, suc, ◌+◌, ◌≤◌, ◌<◌, true, false, List, [], ◌∷◌, ◌++◌, map, length, All, slice_get}
-use Rattle.std.specs.Prelude.{Option, Some, None, codes}
+use Rattle.std.specs.Prelude.{Option, Some, None, codes, ◌⊎◌}
 use Rattle.c_types.specs.declared.ty.IntKind.{IntKind}
 use Rattle.c_types.specs.declared.ty.IntKind.TheVariants.{Int}
 use Rattle.c_types.specs.IntKinds.{width}
-use Rattle.c_types.specs.Types.{CType, CTypes, integer, pointer, function, no_types, Record}
+use Rattle.c_types.specs.Types.{CType, CTypes, void, integer, pointer, function, no_types, and_type, Record}
 use Rattle.c_types.specs.Layouts.{size_of}
 use Rattle.c_types.specs.Limits.{AreComplete, AreSmall, greatest_size}
 use Rattle.c_types.specs.Objects.{is_object, parts}
@@ -15,7 +15,7 @@ use Rattle.c_typed.specs.declared.program.InitialValue.TheVariants as V
 use Rattle.c_typed.specs.declared.program.Local.{Local}
 use Rattle.c_typed.specs.declared.program.Object.{Object}
 use Rattle.c_typed.specs.Trees as Trees
-use Rattle.c_typed.specs.Conversions.{is_function, as_kind}
+use Rattle.c_typed.specs.Conversions.{is_function, is_scalar, as_kind}
 use Rattle.c_typed.specs.Mapped.{of_types, mapped_statement}
 use Rattle.c_typed.specs.Parts.{IsPart}
 use Rattle.c_typed.specs.Programs.{FunctionData, UnitData, ProgramData}
@@ -41,6 +41,14 @@ of_program p = record { records = p.records; types = p.types; objects = p.object
 abbrev pub count_up : (from count : ℕ) → List ℕ
 count_up from zero = []
 count_up from (suc count) = from ∷ count_up (from + 1) count
+
+-- a function gives a number, a pointer or nothing, and takes numbers and pointers (own)
+abbrev pub IsResult : CType → Type 0
+IsResult t = (is_scalar t ≡ true) ⊎ (t ≡ void)
+
+abbrev pub AreScalars : CTypes → Type 0
+AreScalars no_types = Unit {0}
+AreScalars (and_type t more) = (is_scalar t ≡ true) × AreScalars more
 
 module _ (l : Lists) where
   abbrev pub ty : ℕ → CType
@@ -79,7 +87,8 @@ module _ (l : Lists) where
   -- what is only declared has no locals
   abbrev pub HasBody : FunctionData → CType → CTypes → Option (Trees.Statement ℕ) → Type 0
   HasBody f result parameters None = (f.parameters ≡ []) × (f.locals ≡ [])
-  HasBody f result parameters (Some body) = (listed (local_types f.parameters) ≡ parameters) × IsTypedBody f result body
+  HasBody f result parameters (Some body) = IsResult result × AreScalars parameters × (listed (local_types f.parameters) ≡ parameters)
+      × IsTypedBody f result body
 
   abbrev pub IsTypedFunction : FunctionData → Type 0
   IsTypedFunction f = (result : CType) × (parameters : CTypes) × (f.ty < length l.types) × (ty f.ty ≡ function result parameters)
