@@ -1,5 +1,5 @@
 -- The functions of a program are well typed where those of its units are.
-use Rattle.std.proofs.Common.{◌≡◌, ◌∙◌, ℕ, zero, suc, ◌+◌, ◌<◌, true, false, refl, sym, ap, subst, List, [], ◌∷◌, ◌++◌, length, map, flat_map}
+use Rattle.std.proofs.Common.{◌≡◌, ◌∙◌, ℕ, zero, suc, ◌+◌, ◌≤◌, ◌<◌, true, false, refl, sym, ap, subst, List, [], ◌∷◌, ◌++◌, length, map, flat_map}
 use Rattle.std.proofs.Common.{arith, inl, inr}
 use Rattle.std.proofs.lemmas.List.{map-append, length-map}
 use Rattle.std.proofs.lemmas.List.Elements.{recursion_from_All, All-from_recursion}
@@ -31,16 +31,16 @@ use Rattle.c_link.proofs.JoinedRecords as Joined
 use Rattle.c_link.proofs.JoinedRecords.{among_at, among_flat, among_map, stand_among}
 use Rattle.c_link.proofs.Layouts.{lies_alike}
 use Rattle.c_checking_complete.proofs.Objects.{mapped_at}
-use Rattle.c_well_typed.specs.WellTyped.{Lists, of_unit, of_program, count_up, declared_in, AreDifferent, IsResult, AreScalars, HasBody, IsTypedFunction, HasObjectType, HaveTypedFunctions, HasMain}
+use Rattle.c_well_typed.specs.WellTyped.{Lists, of_unit, of_program, count_up, declared_in, AreDifferent, HasFewParts, IsResult, AreScalars, HasBody, IsTypedFunction, HasObjectType, HaveTypedFunctions, HasMain}
 use Rattle.c_well_typed.proofs.Composed as Composed
 use Rattle.c_well_typed.proofs.Labels.{all_declared_mapped}
-use Rattle.c_well_typed.proofs.LookedUp.{from_zero, IsFound, looked_up, of_name, of_unit as found_unit, one_unit, unit_among}
-use Rattle.c_well_typed.proofs.Numbers.{IsAmong, taken_up, AreOnce, once, IsNumbered, numbered}
+use Rattle.c_well_typed.proofs.LookedUp.{from_zero, flat_among, IsFound, looked_up, of_name, of_unit as found_unit, one_unit, unit_among}
+use Rattle.c_well_typed.proofs.Numbers.{IsAmong, all_among, of_all, taken_up, AreOnce, once, IsNumbered, numbered}
 use Rattle.c_well_typed.proofs.OneType.{program_type, object_type, function_type}
 use Rattle.c_well_typed.proofs.Renumbered.{m, AreRenumbered}
 use Rattle.c_well_typed.proofs.RenumberedParts.{fields_again, part_again}
 use Rattle.c_well_typed.proofs.RenumberedStatements.{statement_again}
-use Rattle.c_well_typed.proofs.RenumberedTypes.{scalar_same, types_listed}
+use Rattle.c_well_typed.proofs.RenumberedTypes.{scalar_same, parts_same, types_listed}
 use Rattle.c_well_typed.proofs.TypesMapped.{types_of_statement}
 
 -- ---- lists
@@ -388,11 +388,31 @@ module _ (units : List UnitData) (agree : Agree units) (complete : AreComplete (
   different [] k = tt
   different (t ∷ all) k = (k.0, different all k.1)
 
+  turned_back : {A : Type 0} (x : A) (xs : List A) → IsAmong x xs → Joined.IsAmong x xs
+  turned_back x [] i = i
+  turned_back x (y ∷ xs) (inl e) = inl e
+  turned_back x (y ∷ xs) (inr i) = inr (turned_back x xs i)
+
+  few_of : (u : UnitData) (all : List CType) → AllByRecursion (HasFewParts (of_unit u)) all → (t : CType)
+      → Joined.IsAmong t (map (type_in (all_tags units) u) all) → HasFewParts P t
+  few_of u [] k t i = absurd i
+  few_of u (s ∷ all) k t (inl e) = subst (HasFewParts P) (sym e) (subst (λ n. n ≤ 1024) (sym (parts_same (structure_in (all_tags units) u) s)) k.0)
+  few_of u (s ∷ all) k t (inr i) = few_of u all k.1 t i
+
+  few_again : All (HasFewParts P) T
+  few_again =
+      All-from_recursion (HasFewParts P) T
+      (all_among (HasFewParts P) T (λ t i.
+      let z = flat_among (types_in (all_tags units)) units t
+      (turned_back t (flat_map (types_in (all_tags units)) units) (of_all [] (flat_map (types_in (all_tags units)) units) t i)) in
+      few_of z.0 z.0.types (recursion_from_All (HasFewParts (of_unit z.0)) z.0.types (each z.0 z.1).few_parts) t z.2))
+
   pub program_typed : AreSmall (records units) → HaveTypedFunctions P
   program_typed small = record {
     records = complete;
     small_records = small;
     different_types = different T (once (flat_map (types_in (all_tags units)) units));
+    few_parts = few_again;
     functions = functions_again;
     object_types = objects_again;
     main_types = mains_again;

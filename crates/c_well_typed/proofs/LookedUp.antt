@@ -23,7 +23,7 @@ append_among x [] ys h = inr h
 append_among x (y ∷ more) ys (inl e) = inl (inl e)
 append_among x (y ∷ more) ys (inr h) = elim (append_among x more ys h) [ inl k ↦ inl (inr k) | inr k ↦ inr k ]
 
-flat_among : {A B : Type 0} (f : A → List B) (all : List A) (x : B) → IsAmong x (flat_map f all) → (y : A) × IsAmong y all × IsAmong x (f y)
+pub flat_among : {A B : Type 0} (f : A → List B) (all : List A) (x : B) → IsAmong x (flat_map f all) → (y : A) × IsAmong y all × IsAmong x (f y)
 flat_among f [] x h = absurd h
 flat_among f (y ∷ more) x h =
     elim (append_among x (f y) (flat_map f more) h) [

@@ -59,6 +59,16 @@ still_new t known (s ∷ more) h =
 pub taken_up : (all : List CType) (t : CType) → IsAmong t all → IsAmong t (new_among [] all)
 taken_up all t h = elim (still_new t [] all h) [ inl k ↦ absurd k | inr k ↦ k ]
 
+pub of_all : (known all : List CType) (t : CType) → IsAmong t (new_among known all) → IsAmong t all
+of_all known [] t h = h
+of_all known (s ∷ more) t h = go (list_any (same_type s) known) h (of_all known more t) (of_all (s ∷ known) more t)
+  where
+    go : (b : Bool) → IsAmong t (cond b (new_among known more) (s ∷ new_among (s ∷ known) more)) → (IsAmong t (new_among known more) → IsAmong t more)
+        → (IsAmong t (new_among (s ∷ known) more) → IsAmong t more) → IsAmong t (s ∷ more)
+    go true i f g = inr (f i)
+    go false (inl e) f g = inl e
+    go false (inr i) f g = inr (g i)
+
 -- ---- each once
 
 -- what is new is not known

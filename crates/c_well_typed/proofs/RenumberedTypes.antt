@@ -1,8 +1,9 @@
 -- Rules on types hold of types with other numbers of records (C99 6.3, 6.5).
-use Rattle.std.proofs.Common.{◌≡◌, ◌∙◌, ℕ, Bool, true, false, refl, sym, ap, subst, cond, List, [], ◌∷◌, map}
+use Rattle.std.proofs.Common.{◌≡◌, ◌∙◌, ℕ, ◌+◌, Bool, true, false, refl, sym, ap, subst, cond, List, [], ◌∷◌, map}
 use Rattle.std.specs.Prelude.{◌&&◌, ◌||◌, not, Option, Some, None}
 use Rattle.std.specs.Option.{option_map}
-use Rattle.c_types.specs.Types.{CType, void, integer, pointer, and_type}
+use Rattle.c_types.specs.Types.{CType, CTypes, void, integer, pointer, array, function, structure, no_types, and_type}
+use Rattle.c_types.specs.Objects.{parts, parts_of_all}
 use Rattle.c_types.specs.Sameness.{same_type}
 use Rattle.c_types.specs.Views.{listed}
 use Rattle.c_types.proofs.SameTypes.{same_is, same_self}
@@ -241,3 +242,18 @@ module _ (f : ℕ → ℕ) where
   library_same Putchar = refl
   library_same Getchar = refl
   library_same Exit = refl
+
+  -- ---- as many parts
+
+  mutual
+    pub parts_same : (t : CType) → parts (R t) ≡ parts t
+    parts_same void = refl
+    parts_same (integer k) = refl
+    parts_same (pointer t) = ap (λ n. n + 1) (parts_same t)
+    parts_same (array t n) = ap (λ n. n + 1) (parts_same t)
+    parts_same (function t all) = rw (parts_same t, all_parts_same all) refl
+    parts_same (structure r) = refl
+
+    all_parts_same : (all : CTypes) → parts_of_all (all_renumbered f all) ≡ parts_of_all all
+    all_parts_same no_types = refl
+    all_parts_same (and_type t more) = rw (parts_same t, all_parts_same more) refl

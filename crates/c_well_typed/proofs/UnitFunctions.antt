@@ -14,7 +14,6 @@ use Rattle.c_types.specs.Views.{listed}
 use Rattle.c_ast.specs.Laws.{TreesBeginFirst}
 use Rattle.c_ast.specs.Trees
 use Rattle.c_typed.specs.declared.program.Local.{Local}
-use Rattle.c_typed.specs.declared.program.Object.{Object}
 use Rattle.c_typed.specs.Conversions.{is_function}
 use Rattle.c_typed.specs.Mapped.{Renaming, of_types, mapped_statement}
 use Rattle.c_typed.specs.Programs.{FunctionData, UnitData}
@@ -35,7 +34,7 @@ use Rattle.c_order.proofs.Ordered.{marks_are_in_order}
 use Rattle.c_text_order.specs.TextOrder.{TextsAreInOrder}
 use Rattle.c_checking_traced.proofs.WholeFiles.{text_whole}
 use Rattle.c_well_typed.specs.Laws.{UnitsHaveTypedFunctions}
-use Rattle.c_well_typed.specs.WellTyped.{Lists, of_unit, count_up, declared_in, AreDifferent, IsWithinLimits, HasBody, IsTypedFunction, HasObjectType, HaveTypedFunctions}
+use Rattle.c_well_typed.specs.WellTyped.{Lists, of_unit, count_up, declared_in, AreDifferent, IsSmallType, HasFewParts, HasBody, IsTypedFunction, HasObjectType, HaveTypedFunctions}
 use Rattle.c_well_typed.proofs.Composed as Composed
 use Rattle.c_well_typed.proofs.Definitions.{in_function, IsDefinedFunction, is_function_type, function_known}
 use Rattle.c_well_typed.proofs.Labels.{all_declared_mapped, all_declared_recognised, declared_mapped}
@@ -322,17 +321,22 @@ module _ (items : List Trees.Item) (f : FileScope) (h : IsFileOf items f) (begin
   different [] k = tt
   different (t ∷ all) k = (k.0, different all k.1)
 
-  small_types : (all : List CType) → AllByRecursion (IsSmall f.records) all → AllByRecursion (IsWithinLimits L) all
+  few_parts : (all : List CType) → AllByRecursion (IsSmall f.records) all → AllByRecursion (HasFewParts L) all
+  few_parts [] k = tt
+  few_parts (t ∷ all) k = let s = k.0 in (s.parts, few_parts all k.1)
+
+  small_types : (all : List CType) → AllByRecursion (IsSmall f.records) all → AllByRecursion (IsSmallType L) all
   small_types [] k = tt
-  small_types (t ∷ all) k =
-      let s = k.0 in
-      (record { bytes = s.bytes; parts = s.parts }, small_types all k.1)
+  small_types (t ∷ all) k = let s = k.0 in (s.bytes, small_types all k.1)
 
   pub types_different : AreDifferent L T
   types_different = different T (once (all_types f))
 
-  pub types_small : All (IsSmall f.records) T → All (IsWithinLimits L) T
-  types_small k = All-from_recursion (IsWithinLimits L) T (small_types T (recursion_from_All (IsSmall f.records) T k))
+  pub types_few : All (IsSmall f.records) T → All (HasFewParts L) T
+  types_few k = All-from_recursion (HasFewParts L) T (few_parts T (recursion_from_All (IsSmall f.records) T k))
+
+  pub types_small : All (IsSmall f.records) T → All (IsSmallType L) T
+  types_small k = All-from_recursion (IsSmallType L) T (small_types T (recursion_from_All (IsSmall f.records) T k))
 
 module _ (places : TokensHavePlaces) (first : TreesBeginFirst) (texts : TextsAreInOrder) where
   pub units_have_typed_functions : UnitsHaveTypedFunctions
@@ -343,9 +347,10 @@ module _ (places : TokensHavePlaces) (first : TreesBeginFirst) (texts : TextsAre
         records = (text_whole places first texts bytes items f tree e.of_tree).complete;
         small_records = e.of_tree.small;
         different_types = types_different items f e.of_tree beginnings;
+        few_parts = types_few items f e.of_tree beginnings e.small;
         functions = functions_typed items f e.of_tree beginnings;
         object_types = objects_typed items f e.of_tree beginnings (objects_whole places first texts name bytes items f tree e.tags e.of_tree);
         main_types = mains_typed items f e.of_tree beginnings;
       } in
-      subst (λ (u : UnitData). HaveTypedFunctions (of_unit u) × All (IsWithinLimits (of_unit u)) u.types) (sym e.unit)
+      subst (λ (u : UnitData). HaveTypedFunctions (of_unit u) × All (IsSmallType (of_unit u)) u.types) (sym e.unit)
       (own, types_small items f e.of_tree beginnings e.small)

@@ -1,7 +1,6 @@
 -- The objects of the annotated file of a text have complete types (C99 6.7, 6.9.2): the checker answers that file, and keeps it so.
 use Rattle.std.proofs.Common.{◌≡◌, ◌∙◌, ℕ, true, refl, sym, ap, subst, List, [], ◌∷◌, length, drop, Ok}
 use Rattle.std.proofs.lemmas.List.Elements.{recursion_from_All, All-from_recursion}
-use Rattle.std.specs.Prelude.{Some, slice_get}
 use Rattle.std.specs.List.{AllByRecursion}
 use Rattle.c_lexer.specs.TokenPlaces.{TokensHavePlaces}
 use Rattle.c_types.specs.Objects.{is_object}

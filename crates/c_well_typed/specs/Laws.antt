@@ -6,12 +6,12 @@ use Rattle.c_ast.specs.TreesOfFiles.{IsTreeOf}
 use Rattle.c_erasure.specs.Erasing.{ErasesTo}
 use Rattle.c_link.specs.Programs.{IsProgramOf}
 use Rattle.c_typed.specs.Programs.{UnitData, ProgramData}
-use Rattle.c_well_typed.specs.WellTyped.{of_unit, of_program, IsWithinLimits, HaveTypedFunctions, HasMain}
+use Rattle.c_well_typed.specs.WellTyped.{of_unit, of_program, IsSmallType, HaveTypedFunctions, HasMain}
 
--- the functions of a unit that erases to the tree of a file are well typed, and its types are within the limits
+-- the functions of a unit that erases to the tree of a file are well typed, and its types are small
 abbrev pub UnitsHaveTypedFunctions : Type 0
 UnitsHaveTypedFunctions = (file : ℕ) (name bytes : List ℕ) (items : List Trees.Item) (u : UnitData) → IsTreeOf bytes items
-    → ErasesTo file name bytes items u → HaveTypedFunctions (of_unit u) × All (IsWithinLimits (of_unit u)) u.types
+    → ErasesTo file name bytes items u → HaveTypedFunctions (of_unit u) × All (IsSmallType (of_unit u)) u.types
 
 -- those of the program of some files, and it has a `main`
 abbrev pub ProgramHasTypedFunctions : ProgramData → Type 0

@@ -73,9 +73,11 @@ module _ (l : Lists) where
   AreDifferent [] = Unit {0}
   AreDifferent (t ∷ more) = All (λ u. u ≢ t) more × AreDifferent more
 
-  pub record IsWithinLimits (t : CType) : Type 0 where
-    pub bytes : size_of l.records t ≤ greatest_size
-    pub parts : parts t ≤ 1024
+  abbrev pub IsSmallType : CType → Type 0
+  IsSmallType t = size_of l.records t ≤ greatest_size
+
+  abbrev pub HasFewParts : CType → Type 0
+  HasFewParts t = parts t ≤ 1024
 
   -- ---- functions
 
@@ -126,13 +128,14 @@ module _ (l : Lists) where
     pub records : AreComplete l.records
     pub small_records : AreSmall l.records
     pub different_types : AreDifferent l.types
+    pub few_parts : All HasFewParts l.types
     pub functions : All IsTypedFunction l.functions
     pub object_types : All HasObjectType l.objects
     pub main_types : All (λ f. f.name ≡ codes "main" → ty f.ty ≡ function (integer Int) no_types) l.functions
 
   pub record AreWellTyped : Type 0 where
     pub functions : HaveTypedFunctions
-    pub small_types : All IsWithinLimits l.types
+    pub small_types : All IsSmallType l.types
     pub objects : All IsTypedObject l.objects
 
 -- ---- units and programs
