@@ -24,3 +24,4 @@ pub mod OneType
 pub mod LookedUp
 pub mod JoinedFunctions
 pub mod Programs
+pub mod CompleteLocals

@@ -1,7 +1,7 @@
 //! Laws about what is well typed.
 
 ghost use Rattle.c_typed.specs.Programs.{program_data};
-ghost use Rattle.c_well_typed.specs.Laws.{ProgramHasTypedFunctions, UnitsHaveTypedFunctions};
+ghost use Rattle.c_well_typed.specs.Laws.{LocalsAreComplete, ProgramHasTypedFunctions, UnitsHaveTypedFunctions};
 
 use c_lexer::tokens_have_places;
 use c_text_order::texts_are_in_order;
@@ -24,3 +24,9 @@ pub fn programs_have_typed_functions(p: &Typed)
     records_are_complete(&p.records);
     units_have_typed_functions();
 }
+
+/// Each parameter and local of a typed function with a body has a complete type (6.7, 6.9.1).
+#[tactic(auto, using(crate::proofs::CompleteLocals::locals_complete))]
+pub fn locals_are_complete()
+    ensures { LocalsAreComplete }
+{}

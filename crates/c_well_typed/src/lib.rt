@@ -5,4 +5,4 @@
 
 mod laws;
 
-pub use laws::{programs_have_typed_functions, units_have_typed_functions};
+pub use laws::{locals_are_complete, programs_have_typed_functions, units_have_typed_functions};
