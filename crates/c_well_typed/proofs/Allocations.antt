@@ -79,10 +79,10 @@ module _ (d : Declared) where
           different f e = let true_is_false = sym (same_self t.ty (integer UInt) (sym f)) ∙ e in cc
 
   module _ (count : ℕ) where
-    abbrev Noted_ : Expression → Type 0
-    Noted_ = IsNoted count (Unit {0})
+    abbrev IsNotedAfter : Expression → Type 0
+    IsNotedAfter = IsNoted count (Unit {0})
 
-    unsigned_typed : (e : Expression) → IsTyped d (typed e) → Noted_ e → is_integer (bare_ty (typed e)) ≡ true → IsNumber (as_unsigned e)
+    unsigned_typed : (e : Expression) → IsTyped d (typed e) → IsNotedAfter e → is_integer (bare_ty (typed e)) ≡ true → IsNumber (as_unsigned e)
     unsigned_typed e h n i =
         let is = sym (unconverted_is count (Unit {0}) e n) in
         let b = typed_bare (typed e) h in
@@ -98,7 +98,7 @@ module _ (d : Declared) where
     CountIsTyped r None = Unit {0}
     CountIsTyped r (Some n) = IsNumberOf r n
 
-    counted_typed : (r : ℕ) (e : Expression) → IsTyped d (typed e) → Noted_ e → CountIsTyped r (counted r e)
+    counted_typed : (r : ℕ) (e : Expression) → IsTyped d (typed e) → IsNotedAfter e → CountIsTyped r (counted r e)
     counted_typed r (Trees.expression t at (Trees.constant v)) h n = by_note (is_note_of r t.note) refl
       where
         by_note : (b : Bool) → is_note_of r t.note ≡ b → CountIsTyped r (cond b (Some Trees.no_expression) None)
@@ -129,7 +129,7 @@ module _ (d : Declared) where
     parameters_are : (s t : CType) (p q : CTypes) → function s p ≡ function t q → q ≡ p
     parameters_are s t p q e = cc
 
-    pub allocation_typed : (r : ℕ) (e : Expression) → IsTyped d (typed e) → Noted_ e → AllocationIsTyped r (allocation r e)
+    pub allocation_typed : (r : ℕ) (e : Expression) → IsTyped d (typed e) → IsNotedAfter e → AllocationIsTyped r (allocation r e)
     allocation_typed r (Trees.expression t at (Trees.library Malloc (Trees.and_expression x Trees.no_expressions))) h n =
         let all = Trees.and_expression (typed x) Trees.no_expressions in
         let a : AreArguments d (and_type (integer UInt) no_types) all =

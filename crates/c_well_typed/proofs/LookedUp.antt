@@ -128,12 +128,12 @@ identities_are j k true false x y i n e = cc
 identities_are j k false true x y i n e = cc
 identities_are j k false false x y i n e = inr (cc, cc)
 
-module _ {X : Type 0} (linked : X → Bool) (name : X → List ℕ) (items : UnitData → List X) (d : X → Bool) (put : ℕ → UnitData → X → X)
+module _ {X : Type 0} (linked : X → Bool) (name : X → List ℕ) (items : UnitData → List X) (d : X → Bool) (in_program : ℕ → UnitData → X → X)
     (ids : ℕ → ℕ → List X → List Key) (ids_none : (k n : ℕ) → ids k n [] ≡ [])
     (ids_more : (k n : ℕ) (x : X) (more : List X) → ids k n (x ∷ more) ≡ identity k (linked x) (name x) n ∷ ids k (n + 1) more) where
   -- the things of a unit with their identities
   abbrev pairs_of : ℕ × UnitData → List (Key × X)
-  pairs_of u = paired (ids u.0 0 (items u.1)) (map (put u.0 u.1) (items u.1))
+  pairs_of u = paired (ids u.0 0 (items u.1)) (map (in_program u.0 u.1) (items u.1))
 
   pair_at : (g : X → X) (k m : ℕ) (all : List X) (n : ℕ) (x : X) → slice_get all n ≡ Some x
       → IsAmong (identity k (linked x) (name x) (m + n), g x) (paired (ids k m all) (map g all))
@@ -180,7 +180,7 @@ module _ {X : Type 0} (linked : X → Bool) (name : X → List ℕ) (items : Uni
     all_keys [] = refl
     all_keys (u ∷ more) =
         map-append {B = Key} (λ (p : Key × X). p.0) (pairs_of u) (flat_map pairs_of more)
-        ∙ ap (λ ks. ks ++ map {B = Key} (λ (p : Key × X). p.0) (flat_map pairs_of more)) (keys_of (put u.0 u.1) u.0 0 (items u.1))
+        ∙ ap (λ ks. ks ++ map {B = Key} (λ (p : Key × X). p.0) (flat_map pairs_of more)) (keys_of (in_program u.0 u.1) u.0 0 (items u.1))
         ∙ ap (λ ks. ids u.0 0 (items u.1) ++ ks) (all_keys more)
 
     abbrev keys : List Key
@@ -199,20 +199,20 @@ module _ {X : Type 0} (linked : X → Bool) (name : X → List ℕ) (items : Uni
       pub place : ℕ
       pub thing : X
       pub there : slice_get (items unit) place ≡ Some thing
-      pub is : found ≡ put number unit thing
+      pub is : found ≡ in_program number unit thing
       pub alike : ((linked x ≡ true) × (linked thing ≡ true) × (name x ≡ name thing)) ⊎ ((k ≡ number) × (n ≡ place))
 
     pub looked_up : (k : ℕ) (u : UnitData) → IsAmong (k, u) (numbered_from 0 units) → (n : ℕ) (x : X) → slice_get (items u) n ≡ Some x → IsFound k u n x
     looked_up k u h n x e =
         let i = identity k (linked x) (name x) n in
-        let pair : IsAmong (i, put k u x) pairs =
-        among_flat pairs_of (k, u) (numbered_from 0 units) (i, put k u x) h
-        (subst (λ n. IsAmong (identity k (linked x) (name x) n, put k u x) (paired (ids k 0 (items u)) (map (put k u) (items u)))) (from_zero n)
-        (pair_at (put k u) k 0 (items u) n x e)) in
-        let c = some_chosen d (put k u x) (under i pairs) (under_has d i (put k u x) pairs pair) in
+        let pair : IsAmong (i, in_program k u x) pairs =
+        among_flat pairs_of (k, u) (numbered_from 0 units) (i, in_program k u x) h
+        (subst (λ n. IsAmong (identity k (linked x) (name x) n, in_program k u x) (paired (ids k 0 (items u)) (map (in_program k u) (items u)))) (from_zero n)
+        (pair_at (in_program k u) k 0 (items u) n x e)) in
+        let c = some_chosen d (in_program k u x) (under i pairs) (under_has d i (in_program k u x) pairs pair) in
         let p = under_from d i c.0 pairs c.2 in
         let w = flat_among pairs_of (numbered_from 0 units) p.0 p.1 in
-        let q = pair_from (put w.0.0 w.0.1) w.0.0 0 (items w.0.1) p.0 w.2 in
+        let q = pair_from (in_program w.0.0 w.0.1) w.0.0 0 (items w.0.1) p.0 w.2 in
         let same : new_keys [] (map {B = Key} (λ (p : Key × X). p.0) pairs) ≡ keys = ap (new_keys []) (all_keys (numbered_from 0 units)) in
         record {
           found = c.0;
@@ -235,7 +235,7 @@ module _ {X : Type 0} (linked : X → Bool) (name : X → List ℕ) (items : Uni
       pub place : ℕ
       pub thing : X
       pub there : slice_get (items unit) place ≡ Some thing
-      pub is : y ≡ put number unit thing
+      pub is : y ≡ in_program number unit thing
       pub key : i ≡ identity number (linked thing) (name thing) place
 
     from_chosen : (y : X) (xs : List X) → chosen d xs ≡ Some y → IsAmong y xs
@@ -251,7 +251,7 @@ module _ {X : Type 0} (linked : X → Bool) (name : X → List ℕ) (items : Uni
     of_key i y c =
         let p = under_from d i y pairs (from_chosen y (under i pairs) c) in
         let w = flat_among pairs_of (numbered_from 0 units) p.0 p.1 in
-        let q = pair_from (put w.0.0 w.0.1) w.0.0 0 (items w.0.1) p.0 w.2 in
+        let q = pair_from (in_program w.0.0 w.0.1) w.0.0 0 (items w.0.1) p.0 w.2 in
         record {
           number = w.0.0;
           unit = w.0.1;
@@ -265,7 +265,7 @@ module _ {X : Type 0} (linked : X → Bool) (name : X → List ℕ) (items : Uni
 
     -- what stands under a name is one of a unit that has the name
     pub of_name : (x : Key) (y : X) → slice_get chosen_all (position keys (named x)) ≡ Some y → (k : ℕ) × (u : UnitData)
-        × IsAmong (k, u) (numbered_from 0 units) × (z : X) × IsAmong z (items u) × (y ≡ put k u z) × (name z ≡ x)
+        × IsAmong (k, u) (numbered_from 0 units) × (z : X) × IsAmong z (items u) × (y ≡ in_program k u z) × (name z ≡ x)
     of_name x y h =
         let same : new_keys [] (map {B = Key} (λ (p : Key × X). p.0) pairs) ≡ keys = ap (new_keys []) (all_keys (numbered_from 0 units)) in
         let at = subst (λ ks. slice_get (flat_map (λ k. if_any (chosen d (under k pairs))) ks) (position ks (named x)) ≡ chosen d (under (named x) pairs)) same
@@ -276,7 +276,7 @@ module _ {X : Type 0} (linked : X → Bool) (name : X → List ℕ) (items : Uni
 
     -- one that is among them is one of some unit
     pub of_unit : (y : X) → IsAmong y chosen_all → (k : ℕ) × (u : UnitData) × IsAmong (k, u) (numbered_from 0 units) × (n : ℕ) × (x : X)
-        × (slice_get (items u) n ≡ Some x) × (y ≡ put k u x)
+        × (slice_get (items u) n ≡ Some x) × (y ≡ in_program k u x)
     of_unit y h =
         let a = flat_among (λ k. if_any (chosen d (under k pairs))) keys y h in
         let z = of_key a.0 y (any_is (chosen d (under a.0 pairs)) a.2) in

@@ -114,17 +114,17 @@ module _ (d : Declared) where
       after true n = absurd (contradiction (null_was_null e n))
       after false n = refl
 
-  abbrev Before_and_after : Expression → Expression → Type 0
-  Before_and_after e f = Under (ty (typed e)) (bare_ty (typed e)) (is_null (bare (typed e))) (bare_ty (typed f)) (is_null (bare (typed f)))
+  abbrev IsUnder : Expression → Expression → Type 0
+  IsUnder e f = Under (ty (typed e)) (bare_ty (typed e)) (is_null (bare (typed e))) (bare_ty (typed f)) (is_null (bare (typed f)))
 
-  of_bare : (e : Expression) → is_bare (typed e) ≡ true → Before_and_after e (recognised e)
+  of_bare : (e : Expression) → is_bare (typed e) ≡ true → IsUnder e (recognised e)
   of_bare e h =
       let a = bare_itself (typed e) h in
       let b = bare_itself (typed (recognised e)) (bare_stays e h) in
       rw (a, b) (unconverted refl (type_stays e) (null_was_null e))
 
   of_conversion : (s : CType) (note : Note) (at : Place) (e : Expression) → IsTyped d (typed e)
-      → Before_and_after (Trees.expression (record { ty = s; note = note }) at (Trees.convert e false))
+      → IsUnder (Trees.expression (record { ty = s; note = note }) at (Trees.convert e false))
       (Trees.expression (record { ty = s; note = note }) at (converted s (recognised e) false))
   of_conversion (pointer (structure r)) note at e h = by_null (is_null_constant (recognised e)) refl
     where
@@ -132,13 +132,13 @@ module _ (d : Declared) where
       t = record { ty = pointer (structure r); note = note }
 
       by_allocation : (a : Option (Trees.OptionalExpression Noted × Bool)) → is_null_constant (recognised e) ≡ false
-          → Before_and_after (Trees.expression (record { ty = pointer (structure r); note = note }) at (Trees.convert e false))
+          → IsUnder (Trees.expression (record { ty = pointer (structure r); note = note }) at (Trees.convert e false))
           (Trees.expression (record { ty = pointer (structure r); note = note }) at (or_converted r a (recognised e) false))
       by_allocation None f = let n = no_null e h f in address (type_stays e) n.0 n.1
       by_allocation (Some a) f = settled refl refl refl
 
       by_null : (b : Bool) → is_null_constant (recognised e) ≡ b
-          → Before_and_after (Trees.expression (record { ty = pointer (structure r); note = note }) at (Trees.convert e false))
+          → IsUnder (Trees.expression (record { ty = pointer (structure r); note = note }) at (Trees.convert e false))
           (Trees.expression (record { ty = pointer (structure r); note = note }) at
           (cond b Trees.null (or_converted r (allocation r (recognised e)) (recognised e) false)))
       by_null true f = settled refl refl refl
@@ -146,13 +146,13 @@ module _ (d : Declared) where
   of_conversion (pointer s) note at e h = by_null (is_null_constant (recognised e)) refl
     where
       by_null : (b : Bool) → is_null_constant (recognised e) ≡ b
-          → Before_and_after (Trees.expression (record { ty = pointer s; note = note }) at (Trees.convert e false))
+          → IsUnder (Trees.expression (record { ty = pointer s; note = note }) at (Trees.convert e false))
           (Trees.expression (record { ty = pointer s; note = note }) at (cond b Trees.null (Trees.convert (recognised e) false)))
       by_null true f = settled refl refl refl
       by_null false f = let n = no_null e h f in address (type_stays e) n.0 n.1
   of_conversion s note at e h = number refl (type_stays e)
 
-  under : (e : Expression) → IsTyped d (typed e) → Before_and_after e (recognised e)
+  under : (e : Expression) → IsTyped d (typed e) → IsUnder e (recognised e)
   under (Trees.expression t at (Trees.convert e false)) h = of_conversion t.ty t.note at e h.0
   under (Trees.expression t at (Trees.convert e true)) h = of_bare (Trees.expression t at (Trees.convert e true)) refl
   under (Trees.expression t at node) h = of_bare (Trees.expression t at node) refl

@@ -49,12 +49,12 @@ void_null d e h n p = by_case (null_or_cast e n)
         absurd (number (ty e) (valued_is_integer d e v.0 h v.1) p)
     by_case (inr c) = ap ty c.2
 
-module _ (f object function' : ℕ → ℕ) where
+module _ (f object callee : ℕ → ℕ) where
   abbrev R : CType → CType
   R t = renumbered f t
 
   abbrev pub m : Renaming CType CType
-  m = record { ty = λ t. renumbered f t; object = object; function = function'; structure = f }
+  m = record { ty = λ t. renumbered f t; object = object; function = callee; structure = f }
 
   -- ---- what is seen of a node
 
@@ -140,7 +140,7 @@ module _ (f object function' : ℕ → ℕ) where
     pub record AreRenumbered : Type 0 where
       pub locals : (n : ℕ) (t : CType) → slice_get d.locals n ≡ Some t → slice_get e.locals n ≡ Some (R t)
       pub objects : (n : ℕ) (t : CType) → slice_get d.objects n ≡ Some t → slice_get e.objects (object n) ≡ Some (R t)
-      pub functions : (n : ℕ) (t : CType) → slice_get d.functions n ≡ Some t → slice_get e.functions (function' n) ≡ Some (R t)
+      pub functions : (n : ℕ) (t : CType) → slice_get d.functions n ≡ Some t → slice_get e.functions (callee n) ≡ Some (R t)
       pub fields : (r k : ℕ) (t : CType) → field_type d.records r k ≡ Some t → field_type e.records (f r) k ≡ Some (R t)
       pub complete : (at : ℕ) (t : CType) → is_object (d.complete at) t ≡ true → is_object (e.complete at) (R t) ≡ true
       pub whole : (t : CType) → is_object (length d.records) t ≡ true → is_object (length e.records) (R t) ≡ true

@@ -19,27 +19,27 @@ use Rattle.c_well_typed.proofs.RenumberedTypes.{scalar_same}
 use Rattle.c_well_typed.proofs.Renumbered.{m, AreRenumbered, again, path_again, path_type_is, bare_fits, bare_same, tested_again, converted_again, converted_fits}
 use Rattle.c_well_typed.proofs.Renumbered.{promoted_fits, promoted_again, type_is}
 
-module _ (f object function' : ℕ → ℕ) (d e : Declared) (a : AreRenumbered f object function' d e) where
+module _ (f object callee : ℕ → ℕ) (d e : Declared) (a : AreRenumbered f object callee d e) where
   abbrev R : CType → CType
   R t = renumbered f t
 
   abbrev M : Renaming CType CType
-  M = m f object function'
+  M = m f object callee
 
   one_again : (x : Trees.Expression CType) → is_bare x ≡ true → IsTyped d x
       → IsTyped e (mapped M x)
-  one_again x b h = again f object function' d e a x (bare_fits f object function' x b) h
+  one_again x b h = again f object callee d e a x (bare_fits f object callee x b) h
 
   to_again : (x : Trees.Expression CType) (t : CType) → IsTyped d x → IsConverted x t
       → IsTyped e (mapped M x)
-  to_again x t h c = again f object function' d e a x (converted_fits f object function' d e a x t h c) h
+  to_again x t h c = again f object callee d e a x (converted_fits f object callee d e a x t h c) h
 
   -- ---- initializers
 
   value_again : (t : CType) (v : Trees.PartValue CType) → IsTypedValue d t v → IsTypedValue e (R t) (mapped_value M v)
-  value_again t (Trees.value x) h = (to_again x t h.0 h.2, scalar_same f t ∙ h.1, converted_again f object function' x t h.2)
+  value_again t (Trees.value x) h = (to_again x t h.0 h.2, scalar_same f t ∙ h.1, converted_again f object callee x t h.2)
   value_again t (Trees.record_of p) h =
-      (f h.0, path_again f object function' d e a p h.1, ap R h.2, path_type_is f object function' p ∙ ap R h.3)
+      (f h.0, path_again f object callee d e a p h.1, ap R h.2, path_type_is f object callee p ∙ ap R h.3)
   value_again t (Trees.text bytes) h = (h.0, h.1, ap R h.2, h.3, h.4)
 
   module _ (t : CType) (w : is_object (length d.records) t ≡ true) where
@@ -76,15 +76,15 @@ module _ (f object function' : ℕ → ℕ) (d e : Declared) (a : AreRenumbered 
 
   condition_again : (x : Option (Trees.Expression CType)) → IsCondition d x → IsCondition e (option_map (mapped M) x)
   condition_again None h = h
-  condition_again (Some x) h = (one_again x h.1.0 h.0, tested_again f object function' x h.1)
+  condition_again (Some x) h = (one_again x h.1.0 h.0, tested_again f object callee x h.1)
 
   effect_again : (x : Option (Trees.Expression CType)) → IsEffect d x → IsEffect e (option_map (mapped M) x)
   effect_again None h = h
-  effect_again (Some x) h = (one_again x h.1 h.0, bare_same f object function' x ∙ h.1)
+  effect_again (Some x) h = (one_again x h.1 h.0, bare_same f object callee x ∙ h.1)
 
   returned_again : (result : CType) (x : Option (Trees.Expression CType)) → IsReturned d result x → IsReturned e (R result) (option_map (mapped M) x)
   returned_again result None h = ap R h
-  returned_again result (Some x) h = (to_again x result h.0 h.1, converted_again f object function' x result h.1)
+  returned_again result (Some x) h = (to_again x result h.0 h.1, converted_again f object callee x result h.1)
 
   cases_again : (t : CType) (cases : List ℕ) → AreCases d t cases → AreCases e (R t) cases
   cases_again t cases h = (h.0, ap R h.1, h.2)
@@ -93,18 +93,18 @@ module _ (f object function' : ℕ → ℕ) (d e : Declared) (a : AreRenumbered 
     mutual
       pub statement_again : (s : Trees.Statement CType) (loop switch : Bool) → IsTypedStatement d result loop switch s
           → IsTypedStatement e (R result) loop switch (mapped_statement M s)
-      statement_again (Trees.evaluate x) loop switch h = (one_again x h.1 h.0, bare_same f object function' x ∙ h.1)
+      statement_again (Trees.evaluate x) loop switch h = (one_again x h.1 h.0, bare_same f object callee x ∙ h.1)
       statement_again (Trees.block locals all) loop switch h = (h.0 ∙ sym (declared_mapped M all), statements_again all loop switch h.1)
       statement_again (Trees.declare n initial) loop switch h =
           (R h.0, a.locals n h.0 h.1, a.whole h.0 h.2, initial_again h.0 h.2 initial h.3)
       statement_again (Trees.when x one) loop switch h =
-          (one_again x h.1.0 h.0, tested_again f object function' x h.1, statement_again one loop switch h.2)
+          (one_again x h.1.0 h.0, tested_again f object callee x h.1, statement_again one loop switch h.2)
       statement_again (Trees.when_else x one other) loop switch h =
-          (one_again x h.1.0 h.0, tested_again f object function' x h.1, statement_again one loop switch h.2, statement_again other loop switch h.3)
+          (one_again x h.1.0 h.0, tested_again f object callee x h.1, statement_again one loop switch h.2, statement_again other loop switch h.3)
       statement_again (Trees.while x body) loop switch h =
-          (one_again x h.1.0 h.0, tested_again f object function' x h.1, statement_again body true switch h.2)
+          (one_again x h.1.0 h.0, tested_again f object callee x h.1, statement_again body true switch h.2)
       statement_again (Trees.do_while body x) loop switch h =
-          (statement_again body true switch h.0, one_again x h.2.0 h.1, tested_again f object function' x h.2)
+          (statement_again body true switch h.0, one_again x h.2.0 h.1, tested_again f object callee x h.2)
       statement_again (Trees.for locals start test step body) loop switch h = (
         h.0 ∙ sym (declared_mapped M start),
         statements_again start false false h.1,
@@ -113,10 +113,10 @@ module _ (f object function' : ℕ → ℕ) (d e : Declared) (a : AreRenumbered 
         statement_again body true switch h.4,
       )
       statement_again (Trees.switch x locals arms) loop switch h = (
-        again f object function' d e a x (promoted_fits f object function' d e a x (ty x) h.0 h.1 refl) h.0,
-        promoted_again f object function' x (ty x) h.1 ∙ ap Some (sym (type_is f object function' x)),
+        again f object callee d e a x (promoted_fits f object callee d e a x (ty x) h.0 h.1 refl) h.0,
+        promoted_again f object callee x (ty x) h.1 ∙ ap Some (sym (type_is f object callee x)),
         h.2 ∙ sym (declared_arms_mapped M arms),
-        rw (type_is f object function' x) (subst (AreCases e (R (ty x))) (sym (cases_mapped M arms)) (cases_again (ty x) (all_cases arms) h.3)),
+        rw (type_is f object callee x) (subst (AreCases e (R (ty x))) (sym (cases_mapped M arms)) (cases_again (ty x) (all_cases arms) h.3)),
         subst Typed.AreDifferent (sym (cases_mapped M arms)) h.4,
         subst (λ n. n ≤ 1) (sym (defaults_mapped M arms)) h.5,
         arms_again arms loop h.6,
