@@ -15,5 +15,4 @@ pub mod InitialValues
 pub mod TypedStatements
 pub mod TypeNumbers
 pub mod Programs
-pub mod WellTyped
 pub mod AnswerViews

@@ -1,0 +1,25 @@
+-- What is well typed.
+use Rattle.std.specs.Prelude.{◌≡◌, ℕ, true, List, ◌++◌, length, All, Some}
+use Rattle.lay_base.specs.declared.place.File.{File}
+use Rattle.c_ast.specs.Trees
+use Rattle.c_ast.specs.TreesOfFiles.{IsTreeOf}
+use Rattle.c_erasure.specs.Erasing.{ErasesTo}
+use Rattle.c_link.specs.Programs.{IsProgramOf}
+use Rattle.c_types.specs.Objects.{is_object}
+use Rattle.c_typed.specs.Programs.{FunctionData, UnitData, ProgramData}
+use Rattle.c_typed.specs.Trees as Typed
+use Rattle.c_well_typed.specs.WellTyped.{Lists, ty, of_unit, of_program, IsSmallType, IsTypedFunction, HaveTypedFunctions, HasMain}
+
+-- the functions of a unit that erases to the tree of a file are well typed, and its types are small
+abbrev pub UnitsHaveTypedFunctions : Type 0
+UnitsHaveTypedFunctions = (file : ℕ) (name bytes : List ℕ) (items : List Trees.Item) (u : UnitData) → IsTreeOf bytes items
+    → ErasesTo file name bytes items u → HaveTypedFunctions (of_unit u) × All (IsSmallType (of_unit u)) u.types
+
+-- those of the program of some files, and it has a `main`
+abbrev pub ProgramHasTypedFunctions : ProgramData → Type 0
+ProgramHasTypedFunctions p = (files : List File) → IsProgramOf files p → HaveTypedFunctions (of_program p) × HasMain p
+
+-- the parameters and locals of a function with a body have complete types
+abbrev pub LocalsAreComplete : Type 0
+LocalsAreComplete = (l : Lists) (f : FunctionData) (body : Typed.Statement ℕ) → IsTypedFunction l f → f.body ≡ Some body
+    → All (λ x. is_object (length l.records) (ty l x.ty) ≡ true) (f.parameters ++ f.locals)
