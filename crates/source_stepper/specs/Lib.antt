@@ -1,3 +1,4 @@
+pub mod Ahead
 pub mod Casts
 pub mod Parts
 pub mod Passing

@@ -4,6 +4,7 @@
 #![tactic(auto)]
 
 mod actions;
+mod ahead;
 mod calls;
 mod expressions;
 mod locals;

@@ -10,7 +10,7 @@ ghost use Rattle.c_typed.specs.Trees as T;
 ghost use Rattle.c_typed.specs.Views.{arms_of, expression_of, statement_of, statements_of};
 ghost use Rattle.source_machine.specs.Items.{unwinding};
 ghost use Rattle.source_steps.specs.States.{doing, goes};
-ghost use Rattle.source_steps.specs.Statements.{entered, executed, executed_all, selected};
+ghost use Rattle.source_steps.specs.Statements.{entered, executed, selected};
 ghost use Rattle.source_stepper.specs.Parts.{begun_for};
 ghost use Rattle.source_stepper.specs.View.{state_of};
 ghost use Rattle.source_stepper.specs.WorkView.{context_of, loop_of};
@@ -18,7 +18,7 @@ ghost use Rattle.source_stepper.specs.WorkView.{context_of, loop_of};
 use crate::locals::begin_all;
 use crate::machine::Machine;
 use crate::work::{ForArms, ForLoop, ForStatement, Loop, LoopBehind, Scope, Work};
-use c_counts::{loops_in_statement, loops_in_statements};
+use c_counts::loops_in_statements;
 use c_meaning::Way;
 use c_typed::{Arm, Expression, Statement};
 use lay_base::{Boxed, NoMemory};
@@ -148,7 +148,7 @@ impl<'a> Machine<'a> {
     }
 
     /// A statement is left in a way.
-    fn leave(&mut self, way: Way) -> Result<Moved, NoMemory>
+    pub(crate) fn leave(&mut self, way: Way) -> Result<Moved, NoMemory>
         ensures { IfOk result (λ m. (m, state_of self.new) ≡ goes (doing (unwinding way) (state_of self.old))) }
     {
         self.todo(Work::Unwinding(way))?;
@@ -229,29 +229,6 @@ impl<'a> Machine<'a> {
                 self.todo(Work::Returning)?;
                 self.use_value(e.get())
             }
-        }
-    }
-
-    /// Statements in a row.
-    pub(crate) fn execute_all(
-        &mut self,
-        types: &Types<'a>,
-        scope: Scope<'a>,
-        loops: u64,
-        all: &'a [Statement],
-    ) -> Result<Moved, NoMemory>
-        ensures { IfOk result (λ m. (m, state_of self.new) ≡ executed_all (program_data types.now) (context_of scope.entry) loops
-            (statements_of (map statement_of all.now)) (state_of self.old)) }
-    {
-        let _ = types;
-        match all.split_first() {
-            Some((s, rest)) => {
-                let after = behind(loops, loops_in_statement(s))?;
-                self.todo(Work::Statements(scope, after, rest))?;
-                self.todo(Work::Statement(ForStatement::Executing, scope, loops, s))?;
-                Ok(Moved::Goes)
-            }
-            None => Ok(Moved::Goes),
         }
     }
 

@@ -8,18 +8,16 @@ ghost use Rattle.c_typed.specs.Views.{arms_of, expression_of, expressions_of, st
 ghost use Rattle.source_machine.specs.Items as I;
 ghost use Rattle.source_steps.specs.Statements.{closed, passed, unwound};
 ghost use Rattle.source_steps.specs.States.{doing, goes};
-ghost use Rattle.source_steps.specs.Steps.{enacted, stepped};
+ghost use Rattle.source_steps.specs.Ahead.{advanced, ahead};
 ghost use Rattle.source_stepper.specs.Passing.{IsAWayOut};
 ghost use Rattle.source_stepper.specs.View.{state_of};
 ghost use Rattle.source_stepper.specs.WorkView.{context_of, for_arms, for_call, for_expression, for_loop, for_loop_behind, for_statement, item_of, loop_behind_of, loop_of};
 
 use crate::locals::finish_first;
 use crate::machine::{Machine, STUCK};
-use crate::statements::behind;
 use crate::work::{
     ForArms, ForCall, ForExpression, ForLoop, ForStatement, Loop, LoopBehind, Scope, Work,
 };
-use c_counts::loops_in_statement;
 use c_meaning::{Slot, Way};
 use c_typed::{Arm, Expression, Statement};
 use lay_base::NoMemory;
@@ -223,11 +221,11 @@ impl<'a> Machine<'a> {
         what: ForExpression,
         e: &'a Expression,
     ) -> Result<Moved, NoMemory>
-        ensures { IfOk result (λ m. (m, state_of self.new) ≡ enacted (program_data types.now) (for_expression what (expression_of e.now)) (state_of self.old)) }
+        ensures { IfOk result (λ m. (m, state_of self.new) ≡ ahead (program_data types.now) (for_expression what (expression_of e.now)) (state_of self.old)) }
     {
         match what {
-            ForExpression::Evaluating => self.evaluate(alloc, types, e),
-            ForExpression::Using => self.evaluate_used(alloc, types, e),
+            ForExpression::Evaluating => self.evaluate_ahead(alloc, types, e),
+            ForExpression::Using => self.use_ahead(alloc, types, e),
             ForExpression::Both => match self.take() {
                 Some(v) => {
                     if is_true(v) {
@@ -257,7 +255,7 @@ impl<'a> Machine<'a> {
         y: &'a Expression,
         z: &'a Expression,
     ) -> Result<Moved, NoMemory>
-        ensures { IfOk result (λ m. (m, state_of self.new) ≡ enacted (program_data types.now) (I.choosing (expression_of y.now) (expression_of z.now)) (state_of self.old)) }
+        ensures { IfOk result (λ m. (m, state_of self.new) ≡ ahead (program_data types.now) (I.choosing (expression_of y.now) (expression_of z.now)) (state_of self.old)) }
     {
         let _ = types;
         let Some(v) = self.take() else {
@@ -280,7 +278,7 @@ impl<'a> Machine<'a> {
         done: Vec<Value>,
         more: &'a [Expression],
     ) -> Result<Moved, NoMemory>
-        ensures { IfOk result (λ m. (m, state_of self.new) ≡ enacted (program_data types.now)
+        ensures { IfOk result (λ m. (m, state_of self.new) ≡ ahead (program_data types.now)
             (for_call what callee done.items (expressions_of (map expression_of more.now))) (state_of self.old)) }
     {
         match what {
@@ -298,19 +296,16 @@ impl<'a> Machine<'a> {
         loops: u64,
         s: &'a Statement,
     ) -> Result<Moved, NoMemory>
-        ensures { IfOk result (λ m. (m, state_of self.new) ≡ enacted (program_data types.now)
+        ensures { IfOk result (λ m. (m, state_of self.new) ≡ ahead (program_data types.now)
             (for_statement what (context_of scope.entry) loops (statement_of s.now)) (state_of self.old)) }
     {
         match what {
-            ForStatement::Executing => self.execute(alloc, types, scope, loops, s),
+            ForStatement::Executing => self.execute_ahead(alloc, types, scope, loops, s),
             ForStatement::Deciding => {
                 let Some(v) = self.take() else {
                     return Ok(STUCK);
                 };
-                if is_true(v) {
-                    self.todo(Work::Statement(ForStatement::Executing, scope, loops, s))?;
-                }
-                Ok(Moved::Goes)
+                self.decide_if(v, scope, loops, s)
             }
         }
     }
@@ -323,20 +318,14 @@ impl<'a> Machine<'a> {
         one: &'a Statement,
         other: &'a Statement,
     ) -> Result<Moved, NoMemory>
-        ensures { IfOk result (λ m. (m, state_of self.new) ≡ enacted (program_data types.now)
+        ensures { IfOk result (λ m. (m, state_of self.new) ≡ ahead (program_data types.now)
             (I.deciding_else (context_of scope.entry) loops (statement_of one.now) (statement_of other.now)) (state_of self.old)) }
     {
         let _ = types;
         let Some(v) = self.take() else {
             return Ok(STUCK);
         };
-        if is_true(v) {
-            self.todo(Work::Statement(ForStatement::Executing, scope, loops, one))?;
-        } else {
-            let after = behind(loops, loops_in_statement(one))?;
-            self.todo(Work::Statement(ForStatement::Executing, scope, after, other))?;
-        }
-        Ok(Moved::Goes)
+        self.decide_else(v, scope, loops, one, other)
     }
 
     fn enact_arms(
@@ -349,7 +338,7 @@ impl<'a> Machine<'a> {
         own: &'a [u32],
         arms: &'a [Arm],
     ) -> Result<Moved, NoMemory>
-        ensures { IfOk result (λ m. (m, state_of self.new) ≡ enacted (program_data types.now)
+        ensures { IfOk result (λ m. (m, state_of self.new) ≡ ahead (program_data types.now)
             (for_arms what (context_of scope.entry) loops own.now (arms_of (map one_arm arms.now))) (state_of self.old)) }
     {
         match what {
@@ -367,21 +356,15 @@ impl<'a> Machine<'a> {
         what: ForLoop,
         l: Loop<'a>,
     ) -> Result<Moved, NoMemory>
-        ensures { IfOk result (λ m. (m, state_of self.new) ≡ enacted (program_data types.now) (for_loop what (loop_of l.entry)) (state_of self.old)) }
+        ensures { IfOk result (λ m. (m, state_of self.new) ≡ ahead (program_data types.now) (for_loop what (loop_of l.entry)) (state_of self.old)) }
     {
         match what {
-            ForLoop::Looping => self.test_loop(types, l),
+            ForLoop::Looping => self.test_ahead(types, l),
             ForLoop::Tested => match self.take() {
-                Some(v) => {
-                    if is_true(v) {
-                        self.begin_loop(types, l)
-                    } else {
-                        Ok(Moved::Goes)
-                    }
-                }
+                Some(v) => self.begin_if(types, v, l),
                 None => Ok(STUCK),
             },
-            ForLoop::Repeating => self.repeat_loop(types, l),
+            ForLoop::Repeating => self.repeat_ahead(types, l),
         }
     }
 
@@ -391,7 +374,7 @@ impl<'a> Machine<'a> {
         is_tested: bool,
         l: LoopBehind<'a>,
     ) -> Result<Moved, NoMemory>
-        ensures { IfOk result (λ m. (m, state_of self.new) ≡ enacted (program_data types.now) (for_loop_behind is_tested (loop_behind_of l.entry)) (state_of self.old)) }
+        ensures { IfOk result (λ m. (m, state_of self.new) ≡ ahead (program_data types.now) (for_loop_behind is_tested (loop_behind_of l.entry)) (state_of self.old)) }
     {
         if !is_tested {
             return self.test_behind(types, l);
@@ -409,7 +392,7 @@ impl<'a> Machine<'a> {
     }
 
     fn return_value(&mut self, types: &Types<'a>) -> Result<Moved, NoMemory>
-        ensures { IfOk result (λ m. (m, state_of self.new) ≡ enacted (program_data types.now) I.returning (state_of self.old)) }
+        ensures { IfOk result (λ m. (m, state_of self.new) ≡ ahead (program_data types.now) I.returning (state_of self.old)) }
     {
         let _ = types;
         match self.take() {
@@ -419,7 +402,7 @@ impl<'a> Machine<'a> {
     }
 
     fn enact(&mut self, alloc: Global, types: &Types<'a>, item: Work<'a>) -> Result<Moved, NoMemory>
-        ensures { IfOk result (λ m. (m, state_of self.new) ≡ enacted (program_data types.now) (item_of item.entry) (state_of self.old)) }
+        ensures { IfOk result (λ m. (m, state_of self.new) ≡ ahead (program_data types.now) (item_of item.entry) (state_of self.old)) }
     {
         match item {
             Work::Acting(action) => self.perform(alloc, types, action),
@@ -433,7 +416,9 @@ impl<'a> Machine<'a> {
             Work::Statement(what, scope, loops, s) => {
                 self.enact_statement(alloc, types, what, scope, loops, s)
             }
-            Work::Statements(scope, loops, all) => self.execute_all(types, scope, loops, all),
+            Work::Statements(scope, loops, all) => {
+                self.execute_all_ahead(alloc, types, scope, loops, all)
+            }
             Work::Deciding(scope, loops, one, other) => {
                 self.decide(types, scope, loops, one, other)
             }
@@ -458,9 +443,9 @@ impl<'a> Machine<'a> {
     }
 
     /// One step of the run.
-    #[tactic(auto, unfolding(source_steps::specs::Steps::stepped))]
+    #[tactic(auto, unfolding(source_steps::specs::Ahead::advanced))]
     pub fn step(&mut self, alloc: Global, types: &Types<'a>) -> Result<Moved, NoMemory>
-        ensures { IfOk result (λ m. (m, state_of self.new) ≡ stepped (program_data types.now) (state_of self.old)) }
+        ensures { IfOk result (λ m. (m, state_of self.new) ≡ advanced (program_data types.now) (state_of self.old)) }
     {
         match self.work.pop() {
             Some(item) => self.enact(alloc, types, item),
