@@ -9,8 +9,8 @@ ghost use Rattle.source_direct.specs.Members.{member_at};
 ghost use Rattle.source_steps.specs.Direct.{direct, direct_spot};
 
 use crate::operators::{
-    addressed, cast, element_of, field_of, field_through, indexed, loaded, of_addition, of_binary,
-    of_comparison, of_difference, of_local,
+    addressed, cast, element_of, field_of, field_through, indexed, loaded_if, of_addition, of_binary,
+    of_comparison, of_difference, of_local, of_not, of_truth, of_unary,
 };
 use block_memory::Ptr;
 use c_meaning::Spot;
@@ -18,51 +18,59 @@ use c_typed::{Expression, ExpressionNode, Path, PathNode};
 use runs::Value;
 use source_core::Room;
 use source_types::Types;
-use source_values::{flag, is_true, pointer_of, unary, way_to, word_of};
+use source_values::{flag, is_true, pointer_of, way_to, word_of};
 
 /// The value of an expression, where it is found in one step and changes nothing.
 #[cycle(direct)]
 pub fn direct(types: &Types<'_>, room: &Room, e: &Expression) -> Option<Value>
     ensures { result ≡ direct (program_data types.now) (core_of room.now) (expression_of e.now) }
 {
-    let row = types.row(e.ty);
     match &e.node {
         ExpressionNode::Constant(v) => Some(Value::Word(*v)),
         ExpressionNode::Null => Some(Value::Pointer(Ptr::Null)),
         ExpressionNode::FunctionName(f) => Some(Value::Pointer(Ptr::Function(*f))),
         ExpressionNode::Load(q) => {
-            let spot = direct_spot(types, room, false, q)?;
-            loaded(room, spot, row.access)
+            let spot = direct_spot(types, room, false, q);
+            loaded_if(room, spot, types.row(e.ty).access)
         }
-        ExpressionNode::AddressOf(q) => addressed(direct_spot(types, room, true, q)?),
-        ExpressionNode::Decay(q) => addressed(direct_spot(types, room, false, q)?),
-        ExpressionNode::Convert(x, _) => cast(types, e.ty, direct(types, room, x.get())?),
-        ExpressionNode::Unary(op, x) => Some(unary(*op, direct(types, room, x.get())?)),
-        ExpressionNode::Binary(op, x, y) => {
-            let v = direct(types, room, x.get())?;
-            let w = direct(types, room, y.get())?;
-            of_binary(*op, row.kind, v, types.row(y.get().ty).kind, w)
-        }
-        ExpressionNode::Compare(op, x, y) => {
-            let v = direct(types, room, x.get())?;
-            let w = direct(types, room, y.get())?;
-            of_comparison(room, *op, types.row(x.get().ty).kind, v, w)
-        }
-        ExpressionNode::PointerAdd(op, x, y) => {
-            let v = direct(types, room, x.get())?;
-            let w = direct(types, room, y.get())?;
-            let left = types.row(x.get().ty).kind;
-            let right = types.row(y.get().ty).kind;
-            of_addition(room, *op, row.element, left, v, right, w)
-        }
-        ExpressionNode::PointerDiff(x, y) => {
-            let v = direct(types, room, x.get())?;
-            let w = direct(types, room, y.get())?;
-            of_difference(types.row(x.get().ty).element, v, w)
-        }
+        ExpressionNode::AddressOf(q) => addressed(direct_spot(types, room, true, q)),
+        ExpressionNode::Decay(q) => addressed(direct_spot(types, room, false, q)),
+        ExpressionNode::Convert(x, _) => cast(types, e.ty, direct(types, room, x.get())),
+        ExpressionNode::Unary(op, x) => of_unary(*op, direct(types, room, x.get())),
+        ExpressionNode::Binary(op, x, y) => match direct(types, room, x.get()) {
+            Some(v) => {
+                let right = types.row(y.get().ty).kind;
+                let w = direct(types, room, y.get());
+                of_binary(*op, types.row(e.ty).kind, v, right, w)
+            }
+            None => None,
+        },
+        ExpressionNode::Compare(op, x, y) => match direct(types, room, x.get()) {
+            Some(v) => {
+                let w = direct(types, room, y.get());
+                of_comparison(room, *op, types.row(x.get().ty).kind, v, w)
+            }
+            None => None,
+        },
+        ExpressionNode::PointerAdd(op, x, y) => match direct(types, room, x.get()) {
+            Some(v) => {
+                let left = types.row(x.get().ty).kind;
+                let right = types.row(y.get().ty).kind;
+                let w = direct(types, room, y.get());
+                of_addition(room, *op, types.row(e.ty).element, left, v, right, w)
+            }
+            None => None,
+        },
+        ExpressionNode::PointerDiff(x, y) => match direct(types, room, x.get()) {
+            Some(v) => {
+                let w = direct(types, room, y.get());
+                of_difference(types.row(x.get().ty).element, v, w)
+            }
+            None => None,
+        },
         ExpressionNode::And(x, y) => {
             if is_true(direct(types, room, x.get())?) {
-                Some(flag(is_true(direct(types, room, y.get())?)))
+                of_truth(direct(types, room, y.get()))
             } else {
                 Some(flag(false))
             }
@@ -71,10 +79,10 @@ pub fn direct(types: &Types<'_>, room: &Room, e: &Expression) -> Option<Value>
             if is_true(direct(types, room, x.get())?) {
                 Some(flag(true))
             } else {
-                Some(flag(is_true(direct(types, room, y.get())?)))
+                of_truth(direct(types, room, y.get()))
             }
         }
-        ExpressionNode::Not(x) => Some(flag(!is_true(direct(types, room, x.get())?))),
+        ExpressionNode::Not(x) => of_not(direct(types, room, x.get())),
         ExpressionNode::Cond(x, y, z) => {
             if is_true(direct(types, room, x.get())?) {
                 direct(types, room, y.get())

@@ -1,13 +1,13 @@
 //! What operators and paths make of what is at hand; where that is undefined, there is none.
 
-ghost use Rattle.std.specs.Prelude.{◌≡◌, ◌≤◌, ◌^◌, Some, unsigned_abs};
+ghost use Rattle.std.specs.Prelude.{◌≡◌, ◌≤◌, ◌^◌, not, Some, unsigned_abs};
 ghost use Rattle.c_types.specs.Limits.{greatest_size};
 ghost use Rattle.c_typed.specs.Conversions.{number_of};
 ghost use Rattle.c_typed.specs.Programs.{program_data};
 ghost use Rattle.c_meaning.specs.Program.{type_at};
 ghost use Rattle.c_typed.specs.declared.operators.PointerOp.TheVariants.{Add};
 ghost use Rattle.c_meaning.specs.Expressions.{field_in, moved_by, part_of};
-ghost use Rattle.c_meaning.specs.Operators.{binary, compared, distance, moved};
+ghost use Rattle.c_meaning.specs.Operators.{binary, compared, distance, flag, is_true, moved, unary};
 ghost use Rattle.c_meaning.specs.declared.frame.Spot.TheVariants.{Placed};
 ghost use Rattle.runs.specs.Scalars.{pointer_of, word_of};
 ghost use Rattle.source_core.specs.View.{core_of};
@@ -18,15 +18,15 @@ ghost use Rattle.source_direct.specs.Sorts.{if_converted_by};
 
 use block_memory::{Access, Ptr};
 use c_meaning::Spot;
-use c_typed::{BinaryOp, CompareOp, PointerOp, TypeId};
+use c_typed::{BinaryOp, CompareOp, PointerOp, TypeId, UnaryOp};
 use c_types::IntKind;
 use lay_base::UndefinedKind;
 use runs::Value;
 use source_core::Room;
 use source_types::{Sort, Types, convert};
 use source_values::{
-    address_of, binary, bytes_of, compared, distance, field_in, is_subscript, moved, number_of,
-    pointer_of, word_of,
+    address_of, binary, bytes_of, compared, distance, field_in, flag, is_subscript, is_true, moved,
+    number_of, pointer_of, unary,
 };
 
 // ---- values
@@ -52,22 +52,66 @@ fn converted(sort: Sort, v: Value) -> Option<Value>
 
 /// A value converted to a type, where it has one then.
 #[tactic(auto, using(crate::proofs::Converting::converted_is))]
-pub(crate) fn cast(types: &Types<'_>, t: TypeId, v: Value) -> Option<Value>
+fn cast_one(types: &Types<'_>, t: TypeId, v: Value) -> Option<Value>
     ensures { result ≡ if_converted (type_at (program_data types.now) t) v }
 {
     converted(types.row(t).sort, v)
 }
 
+/// A value, if there is one, converted to a type.
+pub(crate) fn cast(types: &Types<'_>, t: TypeId, v: Option<Value>) -> Option<Value>
+    ensures { result ≡ and_if v (λ v. if_converted (type_at (program_data types.now) t) v) }
+{
+    match v {
+        Some(v) => cast_one(types, t, v),
+        None => None,
+    }
+}
+
+/// A unary operator on a value, if there is one.
+pub(crate) fn of_unary(op: UnaryOp, v: Option<Value>) -> Option<Value>
+    ensures { result ≡ and_if v (λ v. Some (unary op v)) }
+{
+    match v {
+        Some(v) => Some(unary(op, v)),
+        None => None,
+    }
+}
+
+/// Whether a value, if there is one, is not zero.
+pub(crate) fn of_truth(v: Option<Value>) -> Option<Value>
+    ensures { result ≡ and_if v (λ v. Some (flag (is_true v))) }
+{
+    match v {
+        Some(v) => Some(flag(is_true(v))),
+        None => None,
+    }
+}
+
+/// Whether a value, if there is one, is zero.
+pub(crate) fn of_not(v: Option<Value>) -> Option<Value>
+    ensures { result ≡ and_if v (λ v. Some (flag (not (is_true v)))) }
+{
+    match v {
+        Some(v) => Some(flag(!is_true(v))),
+        None => None,
+    }
+}
+
+/// A binary operator on a value and another one, if there is one.
 pub(crate) fn of_binary(
     op: BinaryOp,
     kind: IntKind,
     v: Value,
     right: IntKind,
-    w: Value,
+    w: Option<Value>,
 ) -> Option<Value>
-    ensures { result ≡ if_found (binary op kind v right w) }
+    ensures { result ≡ and_if w (λ w. if_found (binary op kind v right w)) }
 {
-    found(binary(op, kind, v, right, w))
+    match w {
+        Some(w) => found(binary(op, kind, v, right, w)),
+        None => None,
+    }
 }
 
 pub(crate) fn of_comparison(
@@ -75,11 +119,14 @@ pub(crate) fn of_comparison(
     op: CompareOp,
     kind: IntKind,
     v: Value,
-    w: Value,
+    w: Option<Value>,
 ) -> Option<Value>
-    ensures { result ≡ if_found (compared op (core_of room.now).memory kind v w) }
+    ensures { result ≡ and_if w (λ w. if_found (compared op (core_of room.now).memory kind v w)) }
 {
-    found(compared(&room.store, op, kind, v, w))
+    match w {
+        Some(w) => found(compared(&room.store, op, kind, v, w)),
+        None => None,
+    }
 }
 
 pub(crate) fn of_addition(
@@ -89,18 +136,24 @@ pub(crate) fn of_addition(
     left: IntKind,
     v: Value,
     right: IntKind,
-    w: Value,
+    w: Option<Value>,
 ) -> Option<Value>
     requires { size ≤ greatest_size }
-    ensures { result ≡ if_found (moved (core_of room.now).memory op size left v right w) }
+    ensures { result ≡ and_if w (λ w. if_found (moved (core_of room.now).memory op size left v right w)) }
 {
-    found(moved(&room.store, op, size, left, v, right, w))
+    match w {
+        Some(w) => found(moved(&room.store, op, size, left, v, right, w)),
+        None => None,
+    }
 }
 
-pub(crate) fn of_difference(size: u32, v: Value, w: Value) -> Option<Value>
-    ensures { result ≡ if_found (distance size v w) }
+pub(crate) fn of_difference(size: u32, v: Value, w: Option<Value>) -> Option<Value>
+    ensures { result ≡ and_if w (λ w. if_found (distance size v w)) }
 {
-    found(distance(size, v, w))
+    match w {
+        Some(w) => found(distance(size, v, w)),
+        None => None,
+    }
 }
 
 /// What lies at a spot.
@@ -110,11 +163,24 @@ pub(crate) fn loaded(room: &Room, spot: Spot, access: Access) -> Option<Value>
     found(room.fetch(spot, access))
 }
 
-/// The address of what lies there.
-pub(crate) fn addressed(spot: Spot) -> Option<Value>
-    ensures { result ≡ if_found (address_of spot) }
+/// The address of what lies at a spot, if there is one.
+pub(crate) fn addressed(spot: Option<Spot>) -> Option<Value>
+    ensures { result ≡ and_if spot (λ s. if_found (address_of s)) }
 {
-    found(address_of(spot))
+    match spot {
+        Some(spot) => found(address_of(spot)),
+        None => None,
+    }
+}
+
+/// What lies at a spot, if there is one.
+pub(crate) fn loaded_if(room: &Room, spot: Option<Spot>, access: Access) -> Option<Value>
+    ensures { result ≡ and_if spot (λ s. if_found (fetch s access (core_of room.now))) }
+{
+    match spot {
+        Some(spot) => loaded(room, spot, access),
+        None => None,
+    }
 }
 
 // ---- spots
