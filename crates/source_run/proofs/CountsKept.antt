@@ -1,5 +1,5 @@
 -- A fact of the counts that is kept where a function is entered and where the body of a loop begins is kept by each step.
-use Rattle.std.proofs.Common.{ℕ, ℤ, pos, ◌+ℤ◌, ◌*ℤ◌, zero, suc, ◌+◌, ◌*◌, ◌^◌, Bool, true, false, nat_lt, if◌then◌else◌, List, [], ◌∷◌, ◌++◌, Option, Some, None, slice_get, Result, Ok, Err}
+use Rattle.std.proofs.Common.{sym, subst, ℕ, ℤ, pos, ◌+ℤ◌, ◌*ℤ◌, zero, suc, ◌+◌, ◌*◌, ◌^◌, Bool, true, false, nat_lt, if◌then◌else◌, List, [], ◌∷◌, ◌++◌, Option, Some, None, slice_get, Result, Ok, Err}
 use Rattle.block_memory.specs.Blocks.{Memory}
 use Rattle.block_memory.specs.Tested.{Tested, ◌>>=◌}
 use Rattle.block_memory.specs.declared.kinds.Access.{Access}
@@ -49,8 +49,10 @@ use Rattle.source_steps.specs.Locals.{slot, local_spot, begin_as, begin, begin_a
 use Rattle.source_steps.specs.Memories.{make, zeroed, allocate, free, copy, fill, compare, copy_record, changed, with_memory}
 use Rattle.source_steps.specs.States.{State, Step, with_stack, with_core, with_value, with_any, with_spot, finding, in_core, doing_in, changing}
 use Rattle.source_steps.specs.Statements.{fills, fills_all, initial_in, initial_by_name, initial, declared, begun, tests, repeats, begun_behind, executed, executed_all, entered, passed, unwound}
-use Rattle.source_steps.specs.Steps as Steps
-use Rattle.source_steps.specs.Steps.{enacted, stepped}
+use Rattle.source_steps.specs.Ahead.{settled, at_hand, tests_ahead, repeats_ahead, executed_ahead, executed_all_ahead, ahead, advanced_at, advanced}
+use Rattle.source_steps.specs.Direct.{at_once}
+use Rattle.source_steps.specs.Steps.{enacted}
+use Rattle.source_step_laws.proofs.Ahead.{still_once}
 use Rattle.source_steps.specs.declared.ends.Final.{Final}
 
 module _ (Q : Counting → Type 0) (entry : (c : Counting) (f : ℕ) → Q c → Q (with_entry c f)) (begins : (c : Counting) (f l : ℕ) → Q c → Q (with_begin c f l)) where
@@ -490,11 +492,55 @@ module _ (Q : Counting → Type 0) (entry : (c : Counting) (f : ℕ) → Q c →
     enacted_kept (I.ending locals) s h = still (finish_all_in locals s.core h)
     enacted_kept (I.unwinding way) s h = unwound_kept way s.work s h
 
-    at_kept : (work : Work) (s : State) → In s.core → Behind (Steps.stepped_at p work s)
+    -- ---- the step that goes ahead
+
+    settled_kept : (r : Option Value × Core) (s : State) (next : Value → State → Step) (other : Step) → In r.1
+        → ((v : Value) (c : Core) → In c → Behind (next v (with_core c s))) → Behind other → Behind (settled r s next other)
+    settled_kept (Some v, c) s next other h k one = k v c h
+    settled_kept (None, c) s next other h k one = one
+
+    hand_kept : (e : Expression ℕ) (s : State) (next : Value → State → Step) (other : Step) → In s.core
+        → ((v : Value) (c : Core) → In c → Behind (next v (with_core c s))) → Behind other → Behind (at_hand p e s next other)
+    hand_kept e s next other h k one = settled_kept (at_once p s.core e) s next other (subst Q (sym (still_once p s.core e).counts) h) k one
+
+    tests_ahead_kept : (test : Option (Expression ℕ)) (l : Loop) (s : State) → In s.core → Behind (tests_ahead p test l s)
+    tests_ahead_kept None l s h = begun_kept l s h
+    tests_ahead_kept (Some e) l s h = hand_kept e s _ _ h (λ v c k. either (is_true v) _ _ (begun_kept l (with_core c s) k) (still k)) (tests_kept (Some e) l s h)
+
+    repeats_ahead_kept : (step : Option (Expression ℕ)) (l : Loop) (s : State) → In s.core → Behind (repeats_ahead p step l s)
+    repeats_ahead_kept None l s h = tests_ahead_kept l.test l s h
+    repeats_ahead_kept (Some e) l s h = hand_kept e s _ _ h (λ v c k. tests_ahead_kept l.test l (with_core c s) k) (repeats_kept (Some e) l s h)
+
+    executed_ahead_kept : (c : Context) (l : ℕ) (one : Statement ℕ) (s : State) → In s.core → Behind (executed_ahead p c l one s)
+    executed_ahead_kept c l (T.evaluate e) s h = hand_kept e s _ _ h (λ v d k. still k) (executed_kept c l (T.evaluate e) s h)
+    executed_ahead_kept c l (T.when e one) s h = hand_kept e s _ _ h (λ v d k. either (is_true v) _ _ (still k) (still k)) (executed_kept c l (T.when e one) s h)
+    executed_ahead_kept c l (T.when_else e one other) s h =
+        hand_kept e s _ _ h (λ v d k. either (is_true v) _ _ (still k) (still k)) (executed_kept c l (T.when_else e one other) s h)
+    executed_ahead_kept c l (T.while e body) s h = hand_kept e s _ _ h (λ v d k. either (is_true v) _ _
+        (begun_kept (record { context = c; number = l; test = Some e; step = None; body = body }) (with_core d s) k) (still k)) (executed_kept c l (T.while e body) s h)
+    executed_ahead_kept c l (T.switch e own arms) s h = hand_kept e s _ _ h
+        (λ v d k. doing_kept _ (with_core d s) _ (begin_all_in c.locals own d k) (λ u d h. still h)) (executed_kept c l (T.switch e own arms) s h)
+    executed_ahead_kept c l (T.return (Some e)) s h = hand_kept e s _ _ h (λ v d k. still k) (executed_kept c l (T.return (Some e)) s h)
+    executed_ahead_kept c l one s h = executed_kept c l one s h
+
+    executed_all_ahead_kept : (c : Context) (l : ℕ) (all : Statements ℕ) (s : State) → In s.core → Behind (executed_all_ahead p c l all s)
+    executed_all_ahead_kept c l T.no_statements s h = still h
+    executed_all_ahead_kept c l (T.and_statement one rest) s h = executed_ahead_kept c l one _ h
+
+    ahead_kept : (item : Item) (s : State) → In s.core → Behind (ahead p item s)
+    ahead_kept (I.evaluating e) s h = hand_kept e s _ _ h (λ v c k. still k) (enacted_kept (I.evaluating e) s h)
+    ahead_kept (I.using e) s h = hand_kept e s _ _ h (λ v c k. still k) (enacted_kept (I.using e) s h)
+    ahead_kept (I.executing c l one) s h = executed_ahead_kept c l one s h
+    ahead_kept (I.executing_all c l all) s h = executed_all_ahead_kept c l all s h
+    ahead_kept (I.looping l) s h = tests_ahead_kept l.test l s h
+    ahead_kept (I.repeating l) s h = repeats_ahead_kept l.step l s h
+    ahead_kept item s h = enacted_kept item s h
+
+    at_kept : (work : Work) (s : State) → In s.core → Behind (advanced_at p work s)
     at_kept [] s h = taking_any_kept s.stack s _ h (λ v st. still h)
-    at_kept (item ∷ more) s h = enacted_kept item _ h
+    at_kept (item ∷ more) s h = ahead_kept item _ h
 
     -- the theorem
-    pub counts_kept : (s : State) → Q s.core.counts → Q (stepped p s).1.core.counts
-    unfolding stepped
+    pub counts_kept : (s : State) → Q s.core.counts → Q (advanced p s).1.core.counts
+    unfolding advanced
     counts_kept s h = (at_kept s.work s h).kept

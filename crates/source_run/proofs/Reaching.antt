@@ -18,7 +18,7 @@ use Rattle.source_step_laws.specs.Came.{Came, Comes, Ended}
 use Rattle.source_step_laws.proofs.Arriving.{starts, comes, comes_where}
 use Rattle.source_steps.specs.Counting.{with_entry, with_begin}
 use Rattle.source_steps.specs.States.{State, Step, given}
-use Rattle.source_steps.specs.Steps.{stepped}
+use Rattle.source_steps.specs.Ahead.{advanced}
 use Rattle.source_steps.specs.declared.ends.Final.{Final}
 use Rattle.source_steps.specs.declared.ends.Moved.{Moved}
 use Rattle.source_steps.specs.declared.ends.Moved.TheVariants.{Goes, Puts, Gets, Over}
@@ -42,12 +42,12 @@ pub record Far (p : ProgramData) (turns : ℕ) (before now : Streams) (s : State
 pub steady_then : (before now here : Streams) → AreSteady before now → AreSteady now here → AreSteady before here
 steady_then before now here d e = record { reads = e.reads ∙ d.reads; writes = e.writes ∙ d.writes }
 
-keeps_all : (p : ProgramData) (s : State) → HasAll p s.core.counts → HasAll p (stepped p s).1.core.counts
+keeps_all : (p : ProgramData) (s : State) → HasAll p s.core.counts → HasAll p (advanced p s).1.core.counts
 keeps_all p = counts_kept (HasAll p)
     (λ c f h. has_all_still p c (with_entry c f) h (keeps_entry c f))
     (λ c f l h. has_all_still p c (with_begin c f l) h (keeps_begin c f l)) p
 
-pub keeps_all_where : (p : ProgramData) (s new : State) (moved : Moved) → stepped p s ≡ (moved, new) → HasAll p s.core.counts → HasAll p new.core.counts
+pub keeps_all_where : (p : ProgramData) (s new : State) (moved : Moved) → advanced p s ≡ (moved, new) → HasAll p s.core.counts → HasAll p new.core.counts
 keeps_all_where p s new moved e h = subst (λ (step : Step). HasAll p step.1.core.counts) e (keeps_all p s h)
 
 module _ (p : ProgramData) (turns : ℕ) where
@@ -74,25 +74,25 @@ module _ (p : ProgramData) (turns : ℕ) where
       (subst (λ (r : List ℕ). Came p input turns s output r calls) e h)
 
   module _ (input : List ℕ) (s new : State) (calls : List Call) (came : CameBy p turns input s calls) where
-    pub by_step : stepped p s ≡ (Goes, new) → CameBy p turns input new calls
+    pub by_step : advanced p s ≡ (Goes, new) → CameBy p turns input new calls
     by_step e = comes_where p input turns came Goes new e
 
-    pub by_put : (byte : ℕ) → stepped p s ≡ (Puts byte, new) → CameBy p turns input new (calls ++ putting byte ∷ [])
+    pub by_put : (byte : ℕ) → advanced p s ≡ (Puts byte, new) → CameBy p turns input new (calls ++ putting byte ∷ [])
     by_put byte e =
         same_place input _ _ new (calls ++ putting byte ∷ []) (sym (put_one calls byte)) (sym (rest_put calls byte input)) (comes_where p input turns came (Puts byte) new e)
 
-    pub by_get : (stepped p s).0 ≡ Gets → CameBy p turns input (given (next_in (rest_behind calls input)) (stepped p s).1) (calls ++ getting ∷ [])
+    pub by_get : (advanced p s).0 ≡ Gets → CameBy p turns input (given (next_in (rest_behind calls input)) (advanced p s).1) (calls ++ getting ∷ [])
     by_get e =
         same_place input _ _ _ (calls ++ getting ∷ []) (sym (put_got calls)) (sym (rest_got calls input))
-        (subst (λ (m : Moved). Comes p input turns m (stepped p s).1 (bytes_put calls) (rest_behind calls input) calls) e (comes p input turns came))
+        (subst (λ (m : Moved). Comes p input turns m (advanced p s).1 (bytes_put calls) (rest_behind calls input) calls) e (comes p input turns came))
 
-    pub by_end : (end : Final) → stepped p s ≡ (Over end, new) → Ended p input turns end new.core (bytes_put calls) (rest_behind calls input) calls
+    pub by_end : (end : Final) → advanced p s ≡ (Over end, new) → Ended p input turns end new.core (bytes_put calls) (rest_behind calls input) calls
     by_end end e = comes_where p input turns came (Over end) new e
 
   -- ---- a step
 
   module _ (before now here : Streams) (s new : State) (far : Far p turns before now s) where
-    pub far_by_step : stepped p s ≡ (Goes, new) → here ≡ now → Far p turns before here new
+    pub far_by_step : advanced p s ≡ (Goes, new) → here ≡ now → Far p turns before here new
     far_by_step e same = subst (λ (u : Streams). Far p turns before u new) (sym same) (record {
       steady = far.steady;
       reached = λ input known. let r = far.reached input known in record {

@@ -19,7 +19,7 @@ use Rattle.source_step_laws.specs.Came.{trace_of, seen_as}
 use Rattle.source_step_laws.proofs.Arriving.{kept_is, calls_are as calls_told, entries_are, begins_are}
 use Rattle.source_step_laws.proofs.Onwards.{goes_on}
 use Rattle.source_steps.specs.States.{State}
-use Rattle.source_steps.specs.Steps.{stepped}
+use Rattle.source_steps.specs.Ahead.{advanced}
 use Rattle.source_steps.specs.declared.ends.Final.{Final}
 use Rattle.source_steps.specs.declared.ends.Final.TheVariants.{Ends, TurnLimit, Undefined, Room}
 use Rattle.source_steps.specs.declared.ends.Moved.TheVariants.{Gets, Over}
@@ -36,7 +36,7 @@ module _ (p : ProgramData) (turns : ℕ) where
   module _ (before now here : Streams) (s new : State) (counts : Counts) where
     -- ---- it is over
 
-    comes_over : Far p turns before now s → (end : Final) → stepped p s ≡ (Over end, new) → here ≡ now → AreCounts p new.core.counts counts
+    comes_over : Far p turns before now s → (end : Final) → advanced p s ≡ (Over end, new) → here ≡ now → AreCounts p new.core.counts counts
         → Comes p turns before here counts (seen_as end)
     comes_over far end e same are = subst (λ (u : Streams). Comes p turns before u counts (seen_as end)) (sym same) (
       far.steady,
@@ -59,7 +59,7 @@ module _ (p : ProgramData) (turns : ℕ) where
     gives_end (Undefined kind at) h = h
     gives_end (Room kind counted) h = h
 
-    no_memory_over : Far p turns before now s → (end : Final) → stepped p s ≡ (Over end, new) → here ≡ now → RunGives p turns before here counts E.Memory
+    no_memory_over : Far p turns before now s → (end : Final) → advanced p s ≡ (Over end, new) → here ≡ now → RunGives p turns before here counts E.Memory
     no_memory_over far end e same = subst (λ (u : Streams). RunGives p turns before u counts E.Memory) (sym same) (
       far.steady,
       λ input known.
@@ -77,7 +77,7 @@ module _ (p : ProgramData) (turns : ℕ) where
           },
     )
 
-    pub is_over : Far p turns before now s → (end : Final) → stepped p s ≡ (Over end, new) × (here ≡ now) → (answer : Answer)
+    pub is_over : Far p turns before now s → (end : Final) → advanced p s ≡ (Over end, new) × (here ≡ now) → (answer : Answer)
         → HasFinished p new.core.counts counts end turns answer → RunGives p turns before here counts answer
     is_over far end step answer (inl h) =
         subst (λ (a : Answer). RunGives p turns before here counts a) (sym h.0) (gives_end end (comes_over far end step.0 step.1 h.1))
@@ -140,7 +140,7 @@ module _ (p : ProgramData) (turns : ℕ) where
     -- ---- there was no memory
 
     lacks_so : (input : List ℕ) → Reached p turns before now s input → here.written ≡ now.written
-        → (here.left ≡ now.left) ⊎ (((stepped p s).0 ≡ Gets) × ((rest : List ℕ) → now.left ≡ Some rest → here.left ≡ Some (behind_next rest)))
+        → (here.left ≡ now.left) ⊎ (((advanced p s).0 ≡ Gets) × ((rest : List ℕ) → now.left ≡ Some rest → here.left ≡ Some (behind_next rest)))
         → Stopped p turns before here any_calls nothing input
     lacks_so input r written (inl left) =
         let g = goes_on p input turns r.came in

@@ -8,7 +8,7 @@ use Rattle.source_run.specs.declared.stepping.Advance.{Advance}
 use Rattle.source_run.specs.declared.stepping.Advance.TheVariants as A
 use Rattle.source_step_laws.specs.Agreeing.{next_in, behind_next}
 use Rattle.source_steps.specs.States.{State, given}
-use Rattle.source_steps.specs.Steps.{stepped}
+use Rattle.source_steps.specs.Ahead.{advanced}
 use Rattle.source_steps.specs.declared.ends.Moved.{Moved}
 use Rattle.source_steps.specs.declared.ends.Moved.TheVariants.{Goes, Puts, Gets, Over}
 
@@ -27,7 +27,7 @@ WritesNone byte old new = Appends old new [] ⊎ Appends old new (byte ∷ [])
 module _ (p : ProgramData) (old new : State) (before now : Streams) where
   -- the step is that, and leads there
   abbrev pub Steps : Moved → Type 0
-  Steps moved = stepped p old ≡ (moved, new)
+  Steps moved = advanced p old ≡ (moved, new)
 
   pub record Wrote (byte : ℕ) : Type 0 where
     pub steps : Steps (Puts byte)
@@ -36,13 +36,13 @@ module _ (p : ProgramData) (old new : State) (before now : Streams) where
     pub left : now.left ≡ before.left
 
   pub record Read : Type 0 where
-    pub steps : (stepped p old).0 ≡ Gets
+    pub steps : (advanced p old).0 ≡ Gets
     pub steady : AreSteady before now
     pub written : now.written ≡ before.written
-    pub reads : (input : List ℕ) → before.left ≡ Some input → (now.left ≡ Some (behind_next input)) × (new ≡ given (next_in input) (stepped p old).1)
+    pub reads : (input : List ℕ) → before.left ≡ Some input → (now.left ≡ Some (behind_next input)) × (new ≡ given (next_in input) (advanced p old).1)
 
   pub record ReadFails : Type 0 where
-    pub steps : (stepped p old).0 ≡ Gets
+    pub steps : (advanced p old).0 ≡ Gets
     pub rose : Rose before.read_faults now.read_faults
     pub written : now.written ≡ before.written
     pub left : now.left ≡ before.left
@@ -57,7 +57,7 @@ module _ (p : ProgramData) (old new : State) (before now : Streams) where
   pub record Lacks : Type 0 where
     pub steady : AreSteady before now
     pub written : now.written ≡ before.written
-    pub left : (now.left ≡ before.left) ⊎ (((stepped p old).0 ≡ Gets) × Takes before.left now.left)
+    pub left : (now.left ≡ before.left) ⊎ (((advanced p old).0 ≡ Gets) × Takes before.left now.left)
 
   abbrev pub AdvanceGives : Advance → Type 0
   AdvanceGives A.Goes = Steps Goes × (now ≡ before)

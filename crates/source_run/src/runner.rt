@@ -3,7 +3,7 @@
 ghost use Rattle.std.specs.Prelude.{◌≡◌, IfOk};
 ghost use Rattle.c_typed.specs.Programs.{program_data};
 ghost use Rattle.source_run.specs.Starting.{IsAtStart, answer_of};
-ghost use Rattle.source_stepper.specs.View.{state_of};
+ghost use Rattle.source_state.specs.View.{state_of};
 
 use crate::end::RunEnd;
 use crate::stepping::{Advance, make_step};
@@ -11,7 +11,7 @@ use c_counts::Counts;
 use c_typed::Typed;
 use lay_base::{NoMemory, Sink, Source};
 use source_start::{counts, start};
-use source_stepper::Machine;
+use source_state::Machine;
 use source_steps::Final;
 use source_types::Types;
 use std::alloc::Global;

@@ -5,11 +5,12 @@ ghost use Rattle.c_typed.specs.Programs.{program_data};
 ghost use Rattle.lay_base.specs.Known.{Appends, Rose};
 ghost use Rattle.source_run.specs.Advances.{AdvanceGives, Reads, WritesNone};
 ghost use Rattle.source_run.specs.Streams.{streams};
-ghost use Rattle.source_stepper.specs.View.{state_of};
+ghost use Rattle.source_state.specs.View.{state_of};
 
 use lay_base::{NoMemory, Sink, SinkFault, Source, SourceFault};
 use runs::Value;
-use source_stepper::Machine;
+use source_state::Machine;
+use source_stepper::step;
 use source_steps::{Final, Moved};
 use source_types::Types;
 use std::alloc::Global;
@@ -65,7 +66,7 @@ pub(crate) fn make_step<'a, I: Source, O: Sink>(
         (streams (I.left input.old) (I.faults input.old) (O.written out.old) (O.faults out.old))
         (streams (I.left input.new) (I.faults input.new) (O.written out.new) (O.faults out.new)) result }
 {
-    match machine.step(alloc, types) {
+    match step(machine, alloc, types) {
         Ok(Moved::Goes) => Advance::Goes,
         Ok(Moved::Puts(byte)) => match put_byte(byte, out) {
             Ok(()) => Advance::Wrote(byte),

@@ -128,7 +128,7 @@ acts_address at (Kept x) s = record { same = (acts_undefined K.Dead at s).same }
 quiet_reached : (b at : ℕ) → IsQuiet (reached b at)
 quiet_reached b at = record { writes = λ t. refl; calls = λ t. refl; entries = λ f t. refl; begins = λ f l t. refl }
 
-reached_part : (at : Place) (q : Ptr) (by : ℤ) (c : Core)
+pub reached_part : (at : Place) (q : Ptr) (by : ℤ) (c : Core)
     → Part c (memory_now >>= λ m. tested at (field_in m q by) >>= λ r. note_in m r (λ b at. reached b at) >>= λ a. pure r) (reading at (field_in c.memory q by) c)
 reached_part at q by c =
     let one : Part c (tested at (field_in c.memory q by) >>= λ r. note_in c.memory r (λ b at. reached b at) >>= λ a. pure r) (reading at (field_in c.memory q by) c)

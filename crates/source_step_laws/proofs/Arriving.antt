@@ -6,18 +6,19 @@ use Rattle.runs.specs.Worlds.{World}
 use Rattle.c_meaning.specs.Run.{kept, seen, ended, went_on, was_undefined, no_room}
 use Rattle.c_meaning_laws.specs.Longer.{world_of}
 use Rattle.source_machine.proofs.Preserved.{begins}
-use Rattle.source_machine.proofs.Sound.{goes_alike, over_alike}
 use Rattle.source_steps.specs.Cores.{Core}
 use Rattle.source_steps.specs.Counting.{Counting}
 use Rattle.source_steps.specs.States.{State, Step}
-use Rattle.source_steps.specs.Steps.{stepped}
+use Rattle.source_steps.specs.Ahead.{advanced}
 use Rattle.source_steps.specs.declared.ends.Final.{Final}
 use Rattle.source_steps.specs.declared.ends.Final.TheVariants.{Ends, TurnLimit, Undefined, Room}
 use Rattle.source_steps.specs.declared.ends.Moved.{Moved}
 use Rattle.source_steps.specs.declared.ends.Moved.TheVariants.{Goes, Puts, Gets, Over}
-use Rattle.source_step_laws.specs.Agreeing.{world, left_of, end_of, Agrees, Tells, output_with, calls_with}
+use Rattle.source_step_laws.specs.Agreeing.{world, end_of, Agrees, output_with, calls_with}
 use Rattle.source_step_laws.specs.Came.{AreZero, state_at_start, Came, Ended, Comes, seen_as, trace_of}
-use Rattle.source_step_laws.proofs.Steps.{alike}
+use Rattle.source_step_laws.proofs.Ahead.{advances}
+use Rattle.source_step_laws.proofs.Leading.{Leads}
+use Rattle.source_step_laws.proofs.Lessening.{Lessens}
 
 module _ (p : ProgramData) (input : List ℕ) (turns : ℕ) where
   -- ---- the start
@@ -43,46 +44,47 @@ module _ (p : ProgramData) (input : List ℕ) (turns : ℕ) where
 
   -- ---- a step
 
-  within : (s : State) (trace : List Event) → Agrees turns s.core trace → s.core.turns < turns + 1
-  within s trace h = let all = h.all_entries 0 in omega (arith, all)
-
   module _ {s : State} {output rest : List ℕ} {calls : List Call} (came : Came p input turns s output rest calls) where
-    comes_by : (moved : Moved) (new : State) → Tells p turns s rest came.trace moved new → Comes p input turns moved new output rest calls
-    comes_by Goes new told = record {
-      trace = told.later;
-      agrees = told.agrees;
-      writes = told.writes ∙ came.writes;
-      calls_are = told.calls ∙ came.calls_are;
-      runs = (goes_alike p (turns + 1) (left_of s) s.core.frame (world s.core rest came.trace) _ _ _ (within s came.trace came.agrees) told.moves).0 ∙ came.runs;
+    comes_by : (moved : Moved) (new : State) → Leads p turns s rest came.trace moved new → Comes p input turns moved new output rest calls
+    comes_by Goes new led = record {
+      trace = led.later;
+      agrees = led.agrees;
+      writes = led.writes ∙ came.writes;
+      calls_are = led.calls ∙ came.calls_are;
+      runs = led.stays ∙ came.runs;
     }
-    comes_by (Puts byte) new told = record {
-      trace = told.later;
-      agrees = told.agrees;
-      writes = told.writes ∙ ap (output_with (Puts byte)) came.writes;
-      calls_are = told.calls ∙ ap (calls_with (Puts byte)) came.calls_are;
-      runs = (goes_alike p (turns + 1) (left_of s) s.core.frame (world s.core rest came.trace) _ _ _ (within s came.trace came.agrees) told.moves).0 ∙ came.runs;
+    comes_by (Puts byte) new led = record {
+      trace = led.later;
+      agrees = led.agrees;
+      writes = led.writes ∙ ap (output_with (Puts byte)) came.writes;
+      calls_are = led.calls ∙ ap (calls_with (Puts byte)) came.calls_are;
+      runs = led.stays ∙ came.runs;
     }
-    comes_by Gets new told = record {
-      trace = told.later;
-      agrees = told.agrees;
-      writes = told.writes ∙ came.writes;
-      calls_are = told.calls ∙ ap (calls_with Gets) came.calls_are;
-      runs = (goes_alike p (turns + 1) (left_of s) s.core.frame (world s.core rest came.trace) _ _ _ (within s came.trace came.agrees) told.moves).0 ∙ came.runs;
+    comes_by Gets new led = record {
+      trace = led.later;
+      agrees = led.agrees;
+      writes = led.writes ∙ came.writes;
+      calls_are = led.calls ∙ ap (calls_with Gets) came.calls_are;
+      runs = led.stays ∙ came.runs;
     }
-    comes_by (Over end) new told = record {
-      trace = told.later;
-      agrees = told.agrees;
-      writes = told.writes ∙ came.writes;
-      calls_are = told.calls ∙ came.calls_are;
-      runs = sym came.runs ∙ sym (over_alike p (turns + 1) (left_of s) s.core.frame (world s.core rest came.trace) _ (within s came.trace came.agrees) told.moves);
+    comes_by (Over end) new led = record {
+      trace = led.later;
+      agrees = led.agrees;
+      writes = led.writes ∙ came.writes;
+      calls_are = led.calls ∙ came.calls_are;
+      runs = sym came.runs ∙ sym led.stays;
     }
 
     -- the theorem
-    pub comes : Comes p input turns (stepped p s).0 (stepped p s).1 output rest calls
-    comes = comes_by (stepped p s).0 (stepped p s).1 (alike p s turns rest came.trace came.agrees)
+    pub comes : Comes p input turns (advanced p s).0 (advanced p s).1 output rest calls
+    comes = comes_by (advanced p s).0 (advanced p s).1 ((advances p s).leads turns rest came.trace came.agrees)
 
-    pub comes_where : (moved : Moved) (new : State) → stepped p s ≡ (moved, new) → Comes p input turns moved new output rest calls
+    pub comes_where : (moved : Moved) (new : State) → advanced p s ≡ (moved, new) → Comes p input turns moved new output rest calls
     comes_where moved new e = subst (λ (step : Step). Comes p input turns step.0 step.1 output rest calls) e comes
+
+    -- fewer turns are left then, or as many and less work
+    pub lessens : Lessens (advanced p s).0 s (advanced p s).1
+    lessens = ((advances p s).leads turns rest came.trace came.agrees).less
 
   -- ---- the end
 

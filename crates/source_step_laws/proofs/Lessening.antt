@@ -12,12 +12,9 @@ use Rattle.source_machine.proofs.DirectSteps.{IsLess}
 use Rattle.source_machine.proofs.Sizes.{of_work}
 use Rattle.source_machine.proofs.Sound.{moved, moves, moved_less, turns_fall}
 use Rattle.source_steps.specs.States.{State, Step}
-use Rattle.source_steps.specs.Steps.{stepped}
 use Rattle.source_steps.specs.declared.ends.Moved.{Moved}
 use Rattle.source_steps.specs.declared.ends.Moved.TheVariants.{Goes, Puts, Gets, Over}
 use Rattle.source_step_laws.specs.Agreeing.{world, left_of, Tells}
-use Rattle.source_step_laws.specs.Came.{Came}
-use Rattle.source_step_laws.proofs.Steps.{alike}
 
 abbrev pub Lessens : Moved → (old new : State) → Type 0
 Lessens (Over end) old new = Unit {0}
@@ -55,18 +52,8 @@ module _ (p : ProgramData) where
       (less_of w.turns (of_work left.work) (moved p left f w) x g u (moved_less p left f w) (λ rest. sym (moves p left f w rest) ∙ m rest))
 
   module _ (turns : ℕ) {s : State} {input : List ℕ} where
-    lessens_by : (trace : List Event) (to : Moved) (new : State) → Tells p turns s input trace to new → Lessens to s new
+    pub lessens_by : (trace : List Event) (to : Moved) (new : State) → Tells p turns s input trace to new → Lessens to s new
     lessens_by trace Goes new told = goes_less (left_of s) s.core.frame (world s.core input trace) _ _ _ told.moves
     lessens_by trace (Puts byte) new told = goes_less (left_of s) s.core.frame (world s.core input trace) _ _ _ told.moves
     lessens_by trace Gets new told = goes_less (left_of s) s.core.frame (world s.core input trace) _ _ _ told.moves
     lessens_by trace (Over end) new told = tt
-
-  -- the theorem: where a run has come to a state
-  pub lessens : {input : List ℕ} {turns : ℕ} {s : State} {output rest : List ℕ} {calls : List Call} → Came p input turns s output rest calls
-      → Lessens (stepped p s).0 s (stepped p s).1
-  lessens {turns = turns} {s = s} {rest = rest} came =
-      lessens_by turns came.trace (stepped p s).0 (stepped p s).1 (alike p s turns rest came.trace came.agrees)
-
-  pub lessens_where : {input : List ℕ} {turns : ℕ} {s : State} {output rest : List ℕ} {calls : List Call} → Came p input turns s output rest calls
-      → (to : Moved) (new : State) → stepped p s ≡ (to, new) → Lessens to s new
-  lessens_where {s = s} came to new e = subst (λ (step : Step). Lessens step.0 s step.1) e (lessens came)

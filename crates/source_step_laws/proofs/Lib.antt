@@ -8,6 +8,9 @@ pub mod Library
 pub mod Expressions
 pub mod Statements
 pub mod Steps
-pub mod Arriving
 pub mod Lessening
+pub mod Found
+pub mod Leading
+pub mod Ahead
+pub mod Arriving
 pub mod Onwards

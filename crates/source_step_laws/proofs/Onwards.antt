@@ -6,15 +6,15 @@ use Rattle.runs.specs.Events.{Call, putting, getting}
 use Rattle.c_meaning_laws.specs.Longer.{output_in, rest_in}
 use Rattle.source_machine.proofs.Sizes.{of_work}
 use Rattle.source_steps.specs.States.{State}
-use Rattle.source_steps.specs.Steps.{stepped}
+use Rattle.source_steps.specs.Ahead.{advanced}
 use Rattle.source_steps.specs.declared.ends.Final.{Final}
 use Rattle.source_steps.specs.declared.ends.Final.TheVariants.{Ends, TurnLimit, Undefined, Room}
 use Rattle.source_steps.specs.declared.ends.Moved.{Moved}
 use Rattle.source_steps.specs.declared.ends.Moved.TheVariants.{Goes, Puts, Gets, Over}
 use Rattle.source_step_laws.specs.Agreeing.{state_behind, behind_next}
 use Rattle.source_step_laws.specs.Came.{Came, Comes, GoesOn, seen_as}
-use Rattle.source_step_laws.proofs.Arriving.{comes, kept_is, calls_are}
-use Rattle.source_step_laws.proofs.Lessening.{Lessens, lessens}
+use Rattle.source_step_laws.proofs.Arriving.{comes, lessens, kept_is, calls_are}
+use Rattle.source_step_laws.proofs.Lessening.{Lessens}
 
 shown : (end : Final) (output rest : List ℕ) → output_in (seen_as end output rest) ≡ output
 shown (Ends status) output rest = refl
@@ -86,7 +86,7 @@ module _ (p : ProgramData) (input : List ℕ) (turns : ℕ) where
 
   a_step : (s : State) → ((u : State) → u.core.turns < s.core.turns → Onward u) → ((u : State) → u.core.turns ≡ s.core.turns → of_work u.work < of_work s.work → Onward u) → Onward s
   a_step s fewer less output rest calls came =
-      one_step s (stepped p s).0 (stepped p s).1 (lessens p came) fewer less output rest calls (comes p input turns came)
+      one_step s (advanced p s).0 (advanced p s).1 (lessens p input turns came) fewer less output rest calls (comes p input turns came)
 
   within : (t : ℕ) → ((u : State) → u.core.turns < t → Onward u) → (j : ℕ) (s : State) → s.core.turns ≤ t → of_work s.work ≤ j → Onward s
   within t below zero s h k = a_step s (λ u i. below u (omega arith)) (λ u i l. absurd (omega arith))

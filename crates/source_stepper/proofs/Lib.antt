@@ -1,4 +1,3 @@
-pub mod Casts
 pub mod Slots
 pub mod Passing
 pub mod Both

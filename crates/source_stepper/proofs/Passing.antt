@@ -12,15 +12,15 @@ use Rattle.source_machine.specs.Items.{Item, Context, unwinding}
 use Rattle.source_steps.specs.States.{State, goes, doing}
 use Rattle.source_steps.specs.Statements.{passed}
 use Rattle.source_stepper.specs.Passing.{IsAWayOut, IsPassedBy}
-use Rattle.source_stepper.specs.WorkView.{for_expression, for_call, for_statement, for_arms}
-use Rattle.source_stepper.specs.declared.work.ForExpression.{ForExpression}
-use Rattle.source_stepper.specs.declared.work.ForExpression.TheVariants as E
-use Rattle.source_stepper.specs.declared.work.ForCall.{ForCall}
-use Rattle.source_stepper.specs.declared.work.ForCall.TheVariants as C
-use Rattle.source_stepper.specs.declared.work.ForStatement.{ForStatement}
-use Rattle.source_stepper.specs.declared.work.ForStatement.TheVariants as S
-use Rattle.source_stepper.specs.declared.work.ForArms.{ForArms}
-use Rattle.source_stepper.specs.declared.work.ForArms.TheVariants as A
+use Rattle.source_state.specs.WorkView.{for_expression, for_call, for_statement, for_arms}
+use Rattle.source_state.specs.declared.work.ForExpression.{ForExpression}
+use Rattle.source_state.specs.declared.work.ForExpression.TheVariants as E
+use Rattle.source_state.specs.declared.work.ForCall.{ForCall}
+use Rattle.source_state.specs.declared.work.ForCall.TheVariants as C
+use Rattle.source_state.specs.declared.work.ForStatement.{ForStatement}
+use Rattle.source_state.specs.declared.work.ForStatement.TheVariants as S
+use Rattle.source_state.specs.declared.work.ForArms.{ForArms}
+use Rattle.source_state.specs.declared.work.ForArms.TheVariants as A
 
 module _ (p : ProgramData) where
   by_break : (item : Item) (s : State) → IsPassedBy item → passed p ByBreak item s ≡ goes (doing (unwinding ByBreak) s)

@@ -1,5 +1,3 @@
-pub mod Casts
+pub mod Ahead
 pub mod Parts
 pub mod Passing
-pub mod WorkView
-pub mod View

@@ -6,21 +6,22 @@ ghost use Rattle.c_typed.specs.Programs.{data_of, program_data};
 ghost use Rattle.c_meaning.specs.Program.{type_at};
 ghost use Rattle.c_typed.specs.Views.{expression_of, expressions_of, statement_of};
 ghost use Rattle.source_core.specs.View.{core_of};
-ghost use Rattle.source_stepper.specs.View.{state_of};
+ghost use Rattle.source_state.specs.View.{state_of};
 ghost use Rattle.source_steps.specs.Calls.{receive, receive_one};
 ghost use Rattle.source_steps.specs.Memories.{allocate};
 ghost use Rattle.source_steps.specs.States.{doing_in, given, goes, taking};
 ghost use Rattle.source_steps.specs.Expressions.{called_as, called_through, calls, copied, framed, gathers, library, started};
 
-use crate::machine::{Machine, STUCK, undefined};
-use crate::work::{ForCall, ForStatement, Scope, Work};
+use crate::expressions::use_value;
 use block_memory::Ptr;
 use c_meaning::Slot;
 use c_typed::{Expression, Function, LibraryFunction, Local, Statement, TypeId};
 use lay_base::{NoMemory, Place, UndefinedKind};
 use runs::Value;
+use source_actions::found;
 use source_core::Room;
 use source_machine::Callee;
+use source_state::{ForCall, ForStatement, Machine, STUCK, Scope, Work, undefined};
 use source_steps::{Final, Moved};
 use source_types::Types;
 use source_values::{pointer_of, word_of};
@@ -110,249 +111,252 @@ fn receive(
     Ok(Ok(()))
 }
 
-impl<'a> Machine<'a> {
-    // ---- the library
+// ---- the library
 
-    fn allocate(&mut self, alloc: Global, size: u64, zero: bool) -> Result<Moved, NoMemory>
-        ensures { IfOk result (λ m. (m, state_of self.new) ≡ doing_in (allocate size zero (state_of self.old).core) (state_of self.old) (λ v s. goes (given v s))) }
-    {
-        match self.room.allocate(alloc, size, zero)? {
-            Ok(v) => self.give(v),
-            Err(end) => Ok(Moved::Over(end)),
-        }
+fn allocate<'a>(
+    machine: &mut Machine<'a>,
+    alloc: Global,
+    size: u64,
+    zero: bool,
+) -> Result<Moved, NoMemory>
+    ensures { IfOk result (λ m. (m, state_of machine.new) ≡ doing_in (allocate size zero (state_of machine.old).core) (state_of machine.old) (λ v s. goes (given v s))) }
+{
+    match machine.room.allocate(alloc, size, zero)? {
+        Ok(v) => machine.give(v),
+        Err(end) => Ok(Moved::Over(end)),
     }
+}
 
-    fn copy(
-        &mut self,
-        place: Place,
-        to: Value,
-        from: Value,
-        count: u32,
-        overlap: bool,
-    ) -> Result<Moved, NoMemory>
-        ensures { IfOk result (λ m. (m, state_of self.new) ≡ copied place to from count overlap (state_of self.old)) }
+fn copy<'a>(
+    machine: &mut Machine<'a>,
+    place: Place,
+    to: Value,
+    from: Value,
+    count: u32,
+    overlap: bool,
+) -> Result<Moved, NoMemory>
+    ensures { IfOk result (λ m. (m, state_of machine.new) ≡ copied place to from count overlap (state_of machine.old)) }
+{
+    match machine
+        .room
+        .copy(pointer_of(to), pointer_of(from), count, overlap)
     {
-        match self
-            .room
-            .copy(pointer_of(to), pointer_of(from), count, overlap)
-        {
-            Ok(()) => self.give(Value::Pointer(pointer_of(to))),
+        Ok(()) => machine.give(Value::Pointer(pointer_of(to))),
+        Err(kind) => Ok(undefined(kind, place)),
+    }
+}
+
+/// What a function of the library does with its arguments. What is written or read outside is left to the run.
+fn library<'a>(
+    machine: &mut Machine<'a>,
+    alloc: Global,
+    place: Place,
+    which: LibraryFunction,
+    values: &[Value],
+) -> Result<Moved, NoMemory>
+    ensures { IfOk result (λ m. (m, state_of machine.new) ≡ library place which values.now (state_of machine.old)) }
+{
+    match (which, values) {
+        (LibraryFunction::Malloc, [v]) => {
+            allocate(machine, alloc, u64::from(word_of(*v)), false)
+        }
+        (LibraryFunction::Calloc, [v, w]) => {
+            let size = u64::from(word_of(*v)) * u64::from(word_of(*w));
+            allocate(machine, alloc, size, true)
+        }
+        (LibraryFunction::Free, [v]) => match machine.room.free(pointer_of(*v)) {
+            Ok(()) => machine.push(None),
             Err(kind) => Ok(undefined(kind, place)),
-        }
-    }
-
-    /// What a function of the library does with its arguments. What is written or read outside is left to the run.
-    fn library(
-        &mut self,
-        alloc: Global,
-        place: Place,
-        which: LibraryFunction,
-        values: &[Value],
-    ) -> Result<Moved, NoMemory>
-        ensures { IfOk result (λ m. (m, state_of self.new) ≡ library place which values.now (state_of self.old)) }
-    {
-        match (which, values) {
-            (LibraryFunction::Malloc, [v]) => {
-                self.allocate(alloc, u64::from(word_of(*v)), false)
-            }
-            (LibraryFunction::Calloc, [v, w]) => {
-                let size = u64::from(word_of(*v)) * u64::from(word_of(*w));
-                self.allocate(alloc, size, true)
-            }
-            (LibraryFunction::Free, [v]) => match self.room.free(pointer_of(*v)) {
-                Ok(()) => self.push(None),
+        },
+        (LibraryFunction::Memcpy, [v, w, n]) => copy(machine, place, *v, *w, word_of(*n), false),
+        (LibraryFunction::Memmove, [v, w, n]) => copy(machine, place, *v, *w, word_of(*n), true),
+        (LibraryFunction::Memset, [v, c, n]) => {
+            match machine.room.fill(pointer_of(*v), word_of(*c), word_of(*n)) {
+                Ok(()) => machine.give(Value::Pointer(pointer_of(*v))),
                 Err(kind) => Ok(undefined(kind, place)),
-            },
-            (LibraryFunction::Memcpy, [v, w, n]) => self.copy(place, *v, *w, word_of(*n), false),
-            (LibraryFunction::Memmove, [v, w, n]) => self.copy(place, *v, *w, word_of(*n), true),
-            (LibraryFunction::Memset, [v, c, n]) => {
-                match self.room.fill(pointer_of(*v), word_of(*c), word_of(*n)) {
-                    Ok(()) => self.give(Value::Pointer(pointer_of(*v))),
-                    Err(kind) => Ok(undefined(kind, place)),
-                }
             }
-            (LibraryFunction::Memcmp, [v, w, n]) => {
-                let order = self
-                    .room
-                    .compare(pointer_of(*v), pointer_of(*w), word_of(*n));
-                self.found(place, order)
-            }
-            (LibraryFunction::Putchar, [v]) => {
-                let byte = word_of(*v) % 0x100;
-                self.give(Value::Word(byte))?;
-                Ok(Moved::Puts(byte as u8))
-            }
-            (LibraryFunction::Getchar, []) => Ok(Moved::Gets),
-            (LibraryFunction::Exit, [v]) => {
-                let status = word_of(*v) % 0x100;
-                Ok(Moved::Over(Final::Ends(status as u8)))
-            }
-            _ => Ok(undefined(UndefinedKind::Call, place)),
         }
+        (LibraryFunction::Memcmp, [v, w, n]) => {
+            let order = machine
+                .room
+                .compare(pointer_of(*v), pointer_of(*w), word_of(*n));
+            found(machine, place, order)
+        }
+        (LibraryFunction::Putchar, [v]) => {
+            let byte = word_of(*v) % 0x100;
+            machine.give(Value::Word(byte))?;
+            Ok(Moved::Puts(byte as u8))
+        }
+        (LibraryFunction::Getchar, []) => Ok(Moved::Gets),
+        (LibraryFunction::Exit, [v]) => {
+            let status = word_of(*v) % 0x100;
+            Ok(Moved::Over(Final::Ends(status as u8)))
+        }
+        _ => Ok(undefined(UndefinedKind::Call, place)),
     }
+}
 
-    // ---- functions of the program
+// ---- functions of the program
 
-    /// The body of a function that is entered and has its frame.
-    fn begin_function(
-        &mut self,
-        alloc: Global,
-        types: &Types<'a>,
-        place: Place,
-        f: u32,
-        values: &[Value],
-        g: &'a Function,
-        body: &'a Statement,
-        caller: Vec<Slot>,
-    ) -> Result<Moved, NoMemory>
-        ensures { IfOk result (λ m. (m, state_of self.new) ≡ started (program_data types.now) place f values.now (data_of g.now)
-            (Some (statement_of body.now)) caller.items (state_of self.old)) }
-    {
-        let parameters = g.parameters.as_slice();
-        match receive(&mut self.room, alloc, types, place, parameters, values)? {
-            Ok(()) => {
-                let scope = Scope {
-                    function: f,
-                    parameters,
-                    locals: g.locals.as_slice(),
-                };
-                self.todo(Work::Framing(caller))?;
-                self.todo(Work::EndingParameters(parameters.len()))?;
-                self.todo(Work::Statement(ForStatement::Executing, scope, 0, body))?;
-                Ok(Moved::Goes)
-            }
+/// The body of a function that is entered and has its frame.
+fn begin_function<'a>(
+    machine: &mut Machine<'a>,
+    alloc: Global,
+    types: &Types<'a>,
+    place: Place,
+    f: u32,
+    values: &[Value],
+    g: &'a Function,
+    body: &'a Statement,
+    caller: Vec<Slot>,
+) -> Result<Moved, NoMemory>
+    ensures { IfOk result (λ m. (m, state_of machine.new) ≡ started (program_data types.now) place f values.now (data_of g.now)
+        (Some (statement_of body.now)) caller.items (state_of machine.old)) }
+{
+    let parameters = g.parameters.as_slice();
+    match receive(&mut machine.room, alloc, types, place, parameters, values)? {
+        Ok(()) => {
+            let scope = Scope {
+                function: f,
+                parameters,
+                locals: g.locals.as_slice(),
+            };
+            machine.todo(Work::Framing(caller))?;
+            machine.todo(Work::EndingParameters(parameters.len()))?;
+            machine.todo(Work::Statement(ForStatement::Executing, scope, 0, body))?;
+            Ok(Moved::Goes)
+        }
+        Err(end) => Ok(Moved::Over(end)),
+    }
+}
+
+/// A function that is entered.
+fn start<'a>(
+    machine: &mut Machine<'a>,
+    alloc: Global,
+    types: &Types<'a>,
+    place: Place,
+    f: u32,
+    values: &[Value],
+    g: &'a Function,
+) -> Result<Moved, NoMemory>
+    ensures { IfOk result (λ m. (m, state_of machine.new) ≡ started (program_data types.now) place f values.now (data_of g.now)
+        (data_of g.now).body (state_of machine.old).core.frame (framed (frame_of (program_data types.now) (data_of g.now)) (state_of machine.old))) }
+{
+    let frame = frame_of(alloc, types, g)?;
+    let caller = machine.room.exchange(frame);
+    match &g.body {
+        Some(body) => begin_function(machine, alloc, types, place, f, values, g, body, caller),
+        None => Ok(undefined(UndefinedKind::Call, place)),
+    }
+}
+
+/// A call of the function of that number.
+fn call_function<'a>(
+    machine: &mut Machine<'a>,
+    alloc: Global,
+    types: &Types<'a>,
+    place: Place,
+    f: u32,
+    values: &[Value],
+) -> Result<Moved, NoMemory>
+    ensures { IfOk result (λ m. (m, state_of machine.new) ≡ called_as (program_data types.now) place f values.now
+        (slice_get (program_data types.now).functions f) (state_of machine.old)) }
+{
+    match types.typed().functions.get(f as usize) {
+        Some(g) => match machine.room.enter(f)? {
+            Ok(()) => start(machine, alloc, types, place, f, values, g),
             Err(end) => Ok(Moved::Over(end)),
-        }
+        },
+        None => Ok(undefined(UndefinedKind::Call, place)),
     }
+}
 
-    /// A function that is entered.
-    fn start(
-        &mut self,
-        alloc: Global,
-        types: &Types<'a>,
-        place: Place,
-        f: u32,
-        values: &[Value],
-        g: &'a Function,
-    ) -> Result<Moved, NoMemory>
-        ensures { IfOk result (λ m. (m, state_of self.new) ≡ started (program_data types.now) place f values.now (data_of g.now)
-            (data_of g.now).body (state_of self.old).core.frame (framed (frame_of (program_data types.now) (data_of g.now)) (state_of self.old))) }
-    {
-        let frame = frame_of(alloc, types, g)?;
-        let caller = self.room.exchange(frame);
-        match &g.body {
-            Some(body) => self.begin_function(alloc, types, place, f, values, g, body, caller),
-            None => Ok(undefined(UndefinedKind::Call, place)),
-        }
-    }
-
-    /// A call of the function of that number.
-    fn call_function(
-        &mut self,
-        alloc: Global,
-        types: &Types<'a>,
-        place: Place,
-        f: u32,
-        values: &[Value],
-    ) -> Result<Moved, NoMemory>
-        ensures { IfOk result (λ m. (m, state_of self.new) ≡ called_as (program_data types.now) place f values.now
-            (slice_get (program_data types.now).functions f) (state_of self.old)) }
-    {
-        match types.typed().functions.get(f as usize) {
-            Some(g) => match self.room.enter(f)? {
-                Ok(()) => self.start(alloc, types, place, f, values, g),
-                Err(end) => Ok(Moved::Over(end)),
-            },
-            None => Ok(undefined(UndefinedKind::Call, place)),
-        }
-    }
-
-    /// A call through a pointer of a type.
-    fn call_through(
-        &mut self,
-        alloc: Global,
-        types: &Types<'a>,
-        place: Place,
-        t: TypeId,
-        p: Ptr,
-        values: &[Value],
-    ) -> Result<Moved, NoMemory>
-        ensures { IfOk result (λ m. (m, state_of self.new) ≡ called_through (program_data types.now) place (type_at (program_data types.now) t) p values.now (state_of self.old)) }
-    {
-        let Ptr::Function(f) = p else {
-            return Ok(undefined(UndefinedKind::Call, place));
-        };
-        match types.typed().functions.get(f as usize) {
-            Some(g) => {
-                if types.is_called_as(t, g.ty) {
-                    self.call_function(alloc, types, place, f, values)
-                } else {
-                    Ok(undefined(UndefinedKind::Call, place))
-                }
+/// A call through a pointer of a type.
+fn call_through<'a>(
+    machine: &mut Machine<'a>,
+    alloc: Global,
+    types: &Types<'a>,
+    place: Place,
+    t: TypeId,
+    p: Ptr,
+    values: &[Value],
+) -> Result<Moved, NoMemory>
+    ensures { IfOk result (λ m. (m, state_of machine.new) ≡ called_through (program_data types.now) place (type_at (program_data types.now) t) p values.now (state_of machine.old)) }
+{
+    let Ptr::Function(f) = p else {
+        return Ok(undefined(UndefinedKind::Call, place));
+    };
+    match types.typed().functions.get(f as usize) {
+        Some(g) => {
+            if types.is_called_as(t, g.ty) {
+                call_function(machine, alloc, types, place, f, values)
+            } else {
+                Ok(undefined(UndefinedKind::Call, place))
             }
-            None => Ok(undefined(UndefinedKind::Call, place)),
         }
+        None => Ok(undefined(UndefinedKind::Call, place)),
     }
+}
 
-    /// A call with its arguments.
-    fn call(
-        &mut self,
-        alloc: Global,
-        types: &Types<'a>,
-        callee: Callee,
-        values: &[Value],
-    ) -> Result<Moved, NoMemory>
-        ensures { IfOk result (λ m. (m, state_of self.new) ≡ calls (program_data types.now) callee values.now (state_of self.old)) }
-    {
-        match callee {
-            Callee::Function(at, f) => self.call_function(alloc, types, at, f, values),
-            Callee::Through(at, t) => match self.take() {
-                Some(v) => self.call_through(alloc, types, at, t, pointer_of(v), values),
-                None => Ok(STUCK),
-            },
-            Callee::Library(at, which) => self.library(alloc, at, which, values),
-        }
+/// A call with its arguments.
+fn call<'a>(
+    machine: &mut Machine<'a>,
+    alloc: Global,
+    types: &Types<'a>,
+    callee: Callee,
+    values: &[Value],
+) -> Result<Moved, NoMemory>
+    ensures { IfOk result (λ m. (m, state_of machine.new) ≡ calls (program_data types.now) callee values.now (state_of machine.old)) }
+{
+    match callee {
+        Callee::Function(at, f) => call_function(machine, alloc, types, at, f, values),
+        Callee::Through(at, t) => match machine.take() {
+            Some(v) => call_through(machine, alloc, types, at, t, pointer_of(v), values),
+            None => Ok(STUCK),
+        },
+        Callee::Library(at, which) => library(machine, alloc, at, which, values),
     }
+}
 
-    /// A call with its arguments so far.
-    pub(crate) fn gather(
-        &mut self,
-        alloc: Global,
-        types: &Types<'a>,
-        callee: Callee,
-        done: Vec<Value>,
-        more: &'a [Expression],
-    ) -> Result<Moved, NoMemory>
-        ensures { IfOk result (λ m. (m, state_of self.new) ≡ gathers (program_data types.now) callee done.items
-            (expressions_of (map expression_of more.now)) (state_of self.old)) }
-    {
-        match more.split_first() {
-            Some((e, rest)) => {
-                self.todo(Work::Call(ForCall::Gathered, callee, done, rest))?;
-                self.use_value(e)
-            }
-            None => self.call(alloc, types, callee, &done),
+/// A call with its arguments so far.
+pub(crate) fn gather<'a>(
+    machine: &mut Machine<'a>,
+    alloc: Global,
+    types: &Types<'a>,
+    callee: Callee,
+    done: Vec<Value>,
+    more: &'a [Expression],
+) -> Result<Moved, NoMemory>
+    ensures { IfOk result (λ m. (m, state_of machine.new) ≡ gathers (program_data types.now) callee done.items
+        (expressions_of (map expression_of more.now)) (state_of machine.old)) }
+{
+    match more.split_first() {
+        Some((e, rest)) => {
+            machine.todo(Work::Call(ForCall::Gathered, callee, done, rest))?;
+            use_value(machine, e)
         }
+        None => call(machine, alloc, types, callee, &done),
     }
+}
 
-    /// The same where the next argument is on top of the stack.
-    pub(crate) fn gather_one(
-        &mut self,
-        alloc: Global,
-        types: &Types<'a>,
-        callee: Callee,
-        mut done: Vec<Value>,
-        more: &'a [Expression],
-    ) -> Result<Moved, NoMemory>
-        ensures { IfOk result (λ m. (m, state_of self.new) ≡ taking (state_of self.old) (λ v s. gathers (program_data types.now) callee (done.items ++ v ∷ [])
-            (expressions_of (map expression_of more.now)) s)) }
-    {
-        let Some(v) = self.take() else {
-            return Ok(STUCK);
-        };
-        if done.push(v).is_err() {
-            return Err(NoMemory);
-        }
-        self.gather(alloc, types, callee, done, more)
+/// The same where the next argument is on top of the stack.
+pub(crate) fn gather_one<'a>(
+    machine: &mut Machine<'a>,
+    alloc: Global,
+    types: &Types<'a>,
+    callee: Callee,
+    mut done: Vec<Value>,
+    more: &'a [Expression],
+) -> Result<Moved, NoMemory>
+    ensures { IfOk result (λ m. (m, state_of machine.new) ≡ taking (state_of machine.old) (λ v s. gathers (program_data types.now) callee (done.items ++ v ∷ [])
+        (expressions_of (map expression_of more.now)) s)) }
+{
+    let Some(v) = machine.take() else {
+        return Ok(STUCK);
+    };
+    if done.push(v).is_err() {
+        return Err(NoMemory);
     }
+    gather(machine, alloc, types, callee, done, more)
 }

@@ -8,16 +8,16 @@ ghost use Rattle.c_typed.specs.Views.{initializer_of, part_of, part_value_of};
 ghost use Rattle.source_core.specs.View.{core_of};
 ghost use Rattle.source_steps.specs.Locals.{begin, begin_all, finish_all, slot};
 ghost use Rattle.source_steps.specs.Statements.{declared, fills, fills_all, initial, initial_by_name, initial_in};
-ghost use Rattle.source_stepper.specs.View.{state_of};
-ghost use Rattle.source_stepper.specs.WorkView.{context_of};
+ghost use Rattle.source_state.specs.View.{state_of};
+ghost use Rattle.source_state.specs.WorkView.{context_of};
 
-use crate::machine::Machine;
-use crate::work::{Scope, Work};
+use crate::expressions::{spot_one, use_one};
 use c_meaning::Slot;
 use c_typed::{Initializer, InitializerPart, Local, PartValue};
 use lay_base::NoMemory;
 use source_core::Room;
 use source_machine::Action;
+use source_state::{Machine, Scope, Work};
 use source_steps::{Final, Moved};
 use source_types::Types;
 use std::alloc::Global;
@@ -83,148 +83,146 @@ pub(crate) fn finish_first(room: &mut Room, count: usize) -> Result<(), NoMemory
     Ok(())
 }
 
-impl<'a> Machine<'a> {
-    // ---- initializers
+// ---- initializers
 
-    /// A part of a block is stored.
-    fn fill(
-        &mut self,
-        types: &Types<'a>,
-        block: u64,
-        offset: u32,
-        value: &'a PartValue,
-    ) -> Result<Moved, NoMemory>
-        ensures { IfOk result (λ m. (m, state_of self.new) ≡ fills (program_data types.now) block offset (part_value_of value.now) (state_of self.old)) }
-    {
-        match value {
-            PartValue::Value(e) => {
-                let e = e.get();
-                self.use_one(e, Action::Storing(block, offset, e.place, e.ty))
-            }
-            PartValue::Record(q) => {
-                let size = types.row(q.ty).size;
-                self.spot_one(q, Action::CopyingTo(block, offset, q.place, size))
-            }
-            PartValue::Text(bytes) => {
-                self.room.write(block, offset, bytes.as_slice())?;
-                Ok(Moved::Goes)
-            }
+/// A part of a block is stored.
+fn fill<'a>(
+    machine: &mut Machine<'a>,
+    types: &Types<'a>,
+    block: u64,
+    offset: u32,
+    value: &'a PartValue,
+) -> Result<Moved, NoMemory>
+    ensures { IfOk result (λ m. (m, state_of machine.new) ≡ fills (program_data types.now) block offset (part_value_of value.now) (state_of machine.old)) }
+{
+    match value {
+        PartValue::Value(e) => {
+            let e = e.get();
+            use_one(machine, e, Action::Storing(block, offset, e.place, e.ty))
+        }
+        PartValue::Record(q) => {
+            let size = types.row(q.ty).size;
+            spot_one(machine, q, Action::CopyingTo(block, offset, q.place, size))
+        }
+        PartValue::Text(bytes) => {
+            machine.room.write(block, offset, bytes.as_slice())?;
+            Ok(Moved::Goes)
         }
     }
+}
 
-    /// Parts of a block are stored.
-    pub(crate) fn fill_all(
-        &mut self,
-        types: &Types<'a>,
-        block: u64,
-        parts: &'a [InitializerPart],
-    ) -> Result<Moved, NoMemory>
-        ensures { IfOk result (λ m. (m, state_of self.new) ≡ fills_all (program_data types.now) block (map part_of parts.now) (state_of self.old)) }
-    {
-        match parts.split_first() {
-            Some((part, rest)) => {
-                self.todo(Work::Filling(block, rest))?;
-                self.fill(types, block, part.offset, &part.value)
-            }
-            None => Ok(Moved::Goes),
+/// Parts of a block are stored.
+pub(crate) fn fill_all<'a>(
+    machine: &mut Machine<'a>,
+    types: &Types<'a>,
+    block: u64,
+    parts: &'a [InitializerPart],
+) -> Result<Moved, NoMemory>
+    ensures { IfOk result (λ m. (m, state_of machine.new) ≡ fills_all (program_data types.now) block (map part_of parts.now) (state_of machine.old)) }
+{
+    match parts.split_first() {
+        Some((part, rest)) => {
+            machine.todo(Work::Filling(block, rest))?;
+            fill(machine, types, block, part.offset, &part.value)
+        }
+        None => Ok(Moved::Goes),
+    }
+}
+
+fn initialize_in<'a>(
+    machine: &mut Machine<'a>,
+    types: &Types<'a>,
+    block: u64,
+    size: u32,
+    initializer: &'a Initializer,
+) -> Result<Moved, NoMemory>
+    ensures { IfOk result (λ m. (m, state_of machine.new) ≡ initial_in (program_data types.now) block size (initializer_of initializer.now) (state_of machine.old)) }
+{
+    match initializer {
+        Initializer::Value(e) => {
+            let e = e.get();
+            use_one(machine, e, Action::Storing(block, 0, e.place, e.ty))
+        }
+        Initializer::Record(q) => {
+            let size = types.row(q.ty).size;
+            spot_one(machine, q, Action::CopyingTo(block, 0, q.place, size))
+        }
+        Initializer::Parts(all) => {
+            machine.room.zero(block, size)?;
+            machine.todo(Work::Filling(block, all.as_slice()))?;
+            Ok(Moved::Goes)
         }
     }
+}
 
-    fn initialize_in(
-        &mut self,
-        types: &Types<'a>,
-        block: u64,
-        size: u32,
-        initializer: &'a Initializer,
-    ) -> Result<Moved, NoMemory>
-        ensures { IfOk result (λ m. (m, state_of self.new) ≡ initial_in (program_data types.now) block size (initializer_of initializer.now) (state_of self.old)) }
-    {
-        match initializer {
-            Initializer::Value(e) => {
-                let e = e.get();
-                self.use_one(e, Action::Storing(block, 0, e.place, e.ty))
-            }
-            Initializer::Record(q) => {
-                let size = types.row(q.ty).size;
-                self.spot_one(q, Action::CopyingTo(block, 0, q.place, size))
-            }
-            Initializer::Parts(all) => {
-                self.room.zero(block, size)?;
-                self.todo(Work::Filling(block, all.as_slice()))?;
-                Ok(Moved::Goes)
-            }
+fn initialize_by_name<'a>(
+    machine: &mut Machine<'a>,
+    types: &Types<'a>,
+    local: u32,
+    initializer: &'a Initializer,
+) -> Result<Moved, NoMemory>
+    ensures { IfOk result (λ m. (m, state_of machine.new) ≡ initial_by_name (program_data types.now) local (initializer_of initializer.now) (state_of machine.old)) }
+{
+    let _ = types;
+    match initializer {
+        Initializer::Value(e) => use_one(machine, e.get(), Action::Naming(local)),
+        Initializer::Record(_) | Initializer::Parts(_) => Ok(Moved::Goes),
+    }
+}
+
+fn initialize<'a>(
+    machine: &mut Machine<'a>,
+    types: &Types<'a>,
+    local: u32,
+    size: u32,
+    initializer: &'a Initializer,
+) -> Result<Moved, NoMemory>
+    ensures { IfOk result (λ m. (m, state_of machine.new) ≡ initial (program_data types.now) local size (initializer_of initializer.now)
+        (slot (state_of machine.old).core local) (state_of machine.old)) }
+{
+    match machine.room.slot(local) {
+        Some(Slot::InBlock(Some(block))) => {
+            initialize_in(machine, types, block, size, initializer)
+        }
+        Some(Slot::InBlock(None)) | Some(Slot::ByName(_)) | None => {
+            initialize_by_name(machine, types, local, initializer)
         }
     }
+}
 
-    fn initialize_by_name(
-        &mut self,
-        types: &Types<'a>,
-        local: u32,
-        initializer: &'a Initializer,
-    ) -> Result<Moved, NoMemory>
-        ensures { IfOk result (λ m. (m, state_of self.new) ≡ initial_by_name (program_data types.now) local (initializer_of initializer.now) (state_of self.old)) }
-    {
-        let _ = types;
-        match initializer {
-            Initializer::Value(e) => self.use_one(e.get(), Action::Naming(local)),
-            Initializer::Record(_) | Initializer::Parts(_) => Ok(Moved::Goes),
+fn declare_local<'a>(
+    machine: &mut Machine<'a>,
+    types: &Types<'a>,
+    number: u32,
+    l: &'a Local,
+    initializer: &'a Option<Initializer>,
+) -> Result<Moved, NoMemory>
+    ensures { IfOk result (λ m. (m, state_of machine.new) ≡ declared (program_data types.now) number (Some l.now)
+        (option_map initializer_of initializer.now) (state_of machine.old)) }
+{
+    let size = types.row(l.ty).size;
+    match initializer {
+        Some(initializer) => initialize(machine, types, number, size, initializer),
+        None => {
+            machine.room.empty_local(number, size)?;
+            Ok(Moved::Goes)
         }
     }
+}
 
-    fn initialize(
-        &mut self,
-        types: &Types<'a>,
-        local: u32,
-        size: u32,
-        initializer: &'a Initializer,
-    ) -> Result<Moved, NoMemory>
-        ensures { IfOk result (λ m. (m, state_of self.new) ≡ initial (program_data types.now) local size (initializer_of initializer.now)
-            (slot (state_of self.old).core local) (state_of self.old)) }
-    {
-        match self.room.slot(local) {
-            Some(Slot::InBlock(Some(block))) => {
-                self.initialize_in(types, block, size, initializer)
-            }
-            Some(Slot::InBlock(None)) | Some(Slot::ByName(_)) | None => {
-                self.initialize_by_name(types, local, initializer)
-            }
-        }
-    }
-
-    fn declare_local(
-        &mut self,
-        types: &Types<'a>,
-        number: u32,
-        l: &'a Local,
-        initializer: &'a Option<Initializer>,
-    ) -> Result<Moved, NoMemory>
-        ensures { IfOk result (λ m. (m, state_of self.new) ≡ declared (program_data types.now) number (Some l.now)
-            (option_map initializer_of initializer.now) (state_of self.old)) }
-    {
-        let size = types.row(l.ty).size;
-        match initializer {
-            Some(initializer) => self.initialize(types, number, size, initializer),
-            None => {
-                self.room.empty_local(number, size)?;
-                Ok(Moved::Goes)
-            }
-        }
-    }
-
-    /// The declaration of a local is reached.
-    pub(crate) fn declare(
-        &mut self,
-        types: &Types<'a>,
-        scope: Scope<'a>,
-        number: u32,
-        initializer: &'a Option<Initializer>,
-    ) -> Result<Moved, NoMemory>
-        ensures { IfOk result (λ m. (m, state_of self.new) ≡ declared (program_data types.now) number (slice_get (context_of scope.entry).locals number)
-            (option_map initializer_of initializer.now) (state_of self.old)) }
-    {
-        match local_in(scope, number) {
-            Some(l) => self.declare_local(types, number, l, initializer),
-            None => Ok(Moved::Goes),
-        }
+/// The declaration of a local is reached.
+pub(crate) fn declare<'a>(
+    machine: &mut Machine<'a>,
+    types: &Types<'a>,
+    scope: Scope<'a>,
+    number: u32,
+    initializer: &'a Option<Initializer>,
+) -> Result<Moved, NoMemory>
+    ensures { IfOk result (λ m. (m, state_of machine.new) ≡ declared (program_data types.now) number (slice_get (context_of scope.entry).locals number)
+        (option_map initializer_of initializer.now) (state_of machine.old)) }
+{
+    match local_in(scope, number) {
+        Some(l) => declare_local(machine, types, number, l, initializer),
+        None => Ok(Moved::Goes),
     }
 }

@@ -10,19 +10,20 @@ ghost use Rattle.c_typed.specs.Trees as T;
 ghost use Rattle.c_typed.specs.Views.{arms_of, expression_of, statement_of, statements_of};
 ghost use Rattle.source_machine.specs.Items.{unwinding};
 ghost use Rattle.source_steps.specs.States.{doing, goes};
-ghost use Rattle.source_steps.specs.Statements.{entered, executed, executed_all, selected};
+ghost use Rattle.source_steps.specs.Statements.{entered, executed, selected};
 ghost use Rattle.source_stepper.specs.Parts.{begun_for};
-ghost use Rattle.source_stepper.specs.View.{state_of};
-ghost use Rattle.source_stepper.specs.WorkView.{context_of, loop_of};
+ghost use Rattle.source_state.specs.View.{state_of};
+ghost use Rattle.source_state.specs.WorkView.{context_of, loop_of};
 
-use crate::locals::begin_all;
-use crate::machine::Machine;
-use crate::work::{ForArms, ForLoop, ForStatement, Loop, LoopBehind, Scope, Work};
-use c_counts::{loops_in_statement, loops_in_statements};
+use crate::expressions::{evaluate_one, use_value};
+use crate::locals::{begin_all, declare};
+use crate::loops::begin_behind;
+use c_counts::loops_in_statements;
 use c_meaning::Way;
 use c_typed::{Arm, Expression, Statement};
 use lay_base::{Boxed, NoMemory};
 use source_machine::Action;
+use source_state::{ForArms, ForLoop, ForStatement, Loop, LoopBehind, Machine, Scope, Work};
 use source_steps::Moved;
 use source_types::Types;
 use std::alloc::Global;
@@ -100,218 +101,201 @@ fn selected_arm(arms: &[Arm], v: u32) -> Option<u64>
     }
 }
 
-impl<'a> Machine<'a> {
-    /// The statements of a block, with its locals.
-    fn execute_block(
-        &mut self,
-        alloc: Global,
-        types: &Types<'a>,
-        scope: Scope<'a>,
-        loops: u64,
-        own: &'a [u32],
-        all: &'a [Statement],
-    ) -> Result<Moved, NoMemory>
-        ensures { IfOk result (λ m. (m, state_of self.new) ≡ executed (program_data types.now) (context_of scope.entry) loops
-            (T.block own.now (statements_of (map statement_of all.now))) (state_of self.old)) }
-    {
-        match begin_all(&mut self.room, alloc, types, scope, own)? {
-            Ok(()) => {
-                self.todo(Work::Ending(own))?;
-                self.todo(Work::Statements(scope, loops, all))?;
-                Ok(Moved::Goes)
-            }
-            Err(end) => Ok(Moved::Over(end)),
+/// The statements of a block, with its locals.
+fn execute_block<'a>(
+    machine: &mut Machine<'a>,
+    alloc: Global,
+    types: &Types<'a>,
+    scope: Scope<'a>,
+    loops: u64,
+    own: &'a [u32],
+    all: &'a [Statement],
+) -> Result<Moved, NoMemory>
+    ensures { IfOk result (λ m. (m, state_of machine.new) ≡ executed (program_data types.now) (context_of scope.entry) loops
+        (T.block own.now (statements_of (map statement_of all.now))) (state_of machine.old)) }
+{
+    match begin_all(&mut machine.room, alloc, types, scope, own)? {
+        Ok(()) => {
+            machine.todo(Work::Ending(own))?;
+            machine.todo(Work::Statements(scope, loops, all))?;
+            Ok(Moved::Goes)
+        }
+        Err(end) => Ok(Moved::Over(end)),
+    }
+}
+
+/// A `for`, with its locals.
+fn execute_for<'a>(
+    machine: &mut Machine<'a>,
+    alloc: Global,
+    types: &Types<'a>,
+    own: &'a [u32],
+    start: &'a [Statement],
+    l: Loop<'a>,
+) -> Result<Moved, NoMemory>
+    ensures { IfOk result (λ m. (m, state_of machine.new) ≡ begun_for (program_data types.now) own.now (statements_of (map statement_of start.now))
+        (loop_of l.entry) (state_of machine.old)) }
+{
+    match begin_all(&mut machine.room, alloc, types, l.scope, own)? {
+        Ok(()) => {
+            machine.todo(Work::Ending(own))?;
+            machine.todo(Work::Loop(ForLoop::Looping, l))?;
+            machine.todo(Work::Statements(l.scope, l.number, start))?;
+            Ok(Moved::Goes)
+        }
+        Err(end) => Ok(Moved::Over(end)),
+    }
+}
+
+/// A statement is left in a way.
+pub(crate) fn leave<'a>(machine: &mut Machine<'a>, way: Way) -> Result<Moved, NoMemory>
+    ensures { IfOk result (λ m. (m, state_of machine.new) ≡ goes (doing (unwinding way) (state_of machine.old))) }
+{
+    machine.todo(Work::Unwinding(way))?;
+    Ok(Moved::Goes)
+}
+
+/// A statement, before which so many loops stand in its function.
+pub(crate) fn execute<'a>(
+    machine: &mut Machine<'a>,
+    alloc: Global,
+    types: &Types<'a>,
+    scope: Scope<'a>,
+    loops: u64,
+    s: &'a Statement,
+) -> Result<Moved, NoMemory>
+    ensures { IfOk result (λ m. (m, state_of machine.new) ≡ executed (program_data types.now) (context_of scope.entry) loops (statement_of s.now) (state_of machine.old)) }
+{
+    match s {
+        Statement::Do(e) => evaluate_one(machine, e.get(), Action::Dropping),
+        Statement::Block(own, all) => {
+            execute_block(
+                machine,
+                alloc,
+                types,
+                scope,
+                loops,
+                own.as_slice(),
+                all.as_slice(),
+            )
+        }
+        Statement::Declare(number, initializer) => {
+            declare(machine, types, scope, *number, initializer)
+        }
+        Statement::If(e, one, None) => {
+            machine.todo(Work::Statement(ForStatement::Deciding, scope, loops, one.get()))?;
+            use_value(machine, e.get())
+        }
+        Statement::If(e, one, Some(other)) => {
+            machine.todo(Work::Deciding(scope, loops, one.get(), other.get()))?;
+            use_value(machine, e.get())
+        }
+        Statement::While(e, body) => {
+            let l = Loop {
+                scope,
+                number: loops,
+                test: Some(e.get()),
+                step: None,
+                body: body.get(),
+            };
+            machine.todo(Work::Loop(ForLoop::Tested, l))?;
+            use_value(machine, e.get())
+        }
+        Statement::DoWhile(body, e) => {
+            let l = LoopBehind {
+                scope,
+                number: loops,
+                body: body.get(),
+                test: e.get(),
+            };
+            begin_behind(machine, types, l)
+        }
+        Statement::For(own, start, test, step, body) => {
+            let l = Loop {
+                scope,
+                number: loops,
+                test: lent(test),
+                step: lent(step),
+                body: body.get(),
+            };
+            execute_for(machine, alloc, types, own.as_slice(), start.as_slice(), l)
+        }
+        Statement::Switch(e, own, arms) => {
+            machine.todo(Work::Arms(
+                ForArms::Selecting,
+                scope,
+                loops,
+                own.as_slice(),
+                arms.as_slice(),
+            ))?;
+            use_value(machine, e.get())
+        }
+        Statement::Break => leave(machine, Way::ByBreak),
+        Statement::Continue => leave(machine, Way::ByContinue),
+        Statement::Return(None) => leave(machine, Way::ByReturn(None)),
+        Statement::Return(Some(e)) => {
+            machine.todo(Work::Returning)?;
+            use_value(machine, e.get())
         }
     }
+}
 
-    /// A `for`, with its locals.
-    fn execute_for(
-        &mut self,
-        alloc: Global,
-        types: &Types<'a>,
-        own: &'a [u32],
-        start: &'a [Statement],
-        l: Loop<'a>,
-    ) -> Result<Moved, NoMemory>
-        ensures { IfOk result (λ m. (m, state_of self.new) ≡ begun_for (program_data types.now) own.now (statements_of (map statement_of start.now))
-            (loop_of l.entry) (state_of self.old)) }
-    {
-        match begin_all(&mut self.room, alloc, types, l.scope, own)? {
-            Ok(()) => {
-                self.todo(Work::Ending(own))?;
-                self.todo(Work::Loop(ForLoop::Looping, l))?;
-                self.todo(Work::Statements(l.scope, l.number, start))?;
-                Ok(Moved::Goes)
+/// The arms of a `switch` from the one with that number on, or none.
+pub(crate) fn enter_arms<'a>(
+    machine: &mut Machine<'a>,
+    types: &Types<'a>,
+    scope: Scope<'a>,
+    loops: u64,
+    arm: Option<u64>,
+    own: &'a [u32],
+    arms: &'a [Arm],
+) -> Result<Moved, NoMemory>
+    ensures { IfOk result (λ m. (m, state_of machine.new) ≡ entered (program_data types.now) (context_of scope.entry) loops arm
+        (arms_of (map one_arm arms.now)) (state_of machine.old)) }
+{
+    let _ = types;
+    let Some(number) = arm else {
+        return Ok(Moved::Goes);
+    };
+    match arms.split_first() {
+        Some((arm, rest)) => {
+            let all = arm.statements.as_slice();
+            let after = behind(loops, loops_in_statements(all))?;
+            if number == 0 {
+                machine.todo(Work::Arms(ForArms::Entering(Some(0)), scope, after, own, rest))?;
+                machine.todo(Work::Statements(scope, loops, all))?;
+            } else {
+                let next = ForArms::Entering(Some(number - 1));
+                machine.todo(Work::Arms(next, scope, after, own, rest))?;
             }
-            Err(end) => Ok(Moved::Over(end)),
+            Ok(Moved::Goes)
         }
+        None => Ok(Moved::Goes),
     }
+}
 
-    /// A statement is left in a way.
-    fn leave(&mut self, way: Way) -> Result<Moved, NoMemory>
-        ensures { IfOk result (λ m. (m, state_of self.new) ≡ goes (doing (unwinding way) (state_of self.old))) }
-    {
-        self.todo(Work::Unwinding(way))?;
-        Ok(Moved::Goes)
-    }
-
-    /// A statement, before which so many loops stand in its function.
-    pub(crate) fn execute(
-        &mut self,
-        alloc: Global,
-        types: &Types<'a>,
-        scope: Scope<'a>,
-        loops: u64,
-        s: &'a Statement,
-    ) -> Result<Moved, NoMemory>
-        ensures { IfOk result (λ m. (m, state_of self.new) ≡ executed (program_data types.now) (context_of scope.entry) loops (statement_of s.now) (state_of self.old)) }
-    {
-        match s {
-            Statement::Do(e) => self.evaluate_one(e.get(), Action::Dropping),
-            Statement::Block(own, all) => {
-                self.execute_block(alloc, types, scope, loops, own.as_slice(), all.as_slice())
-            }
-            Statement::Declare(number, initializer) => {
-                self.declare(types, scope, *number, initializer)
-            }
-            Statement::If(e, one, None) => {
-                self.todo(Work::Statement(ForStatement::Deciding, scope, loops, one.get()))?;
-                self.use_value(e.get())
-            }
-            Statement::If(e, one, Some(other)) => {
-                self.todo(Work::Deciding(scope, loops, one.get(), other.get()))?;
-                self.use_value(e.get())
-            }
-            Statement::While(e, body) => {
-                let l = Loop {
-                    scope,
-                    number: loops,
-                    test: Some(e.get()),
-                    step: None,
-                    body: body.get(),
-                };
-                self.todo(Work::Loop(ForLoop::Tested, l))?;
-                self.use_value(e.get())
-            }
-            Statement::DoWhile(body, e) => {
-                let l = LoopBehind {
-                    scope,
-                    number: loops,
-                    body: body.get(),
-                    test: e.get(),
-                };
-                self.begin_behind(types, l)
-            }
-            Statement::For(own, start, test, step, body) => {
-                let l = Loop {
-                    scope,
-                    number: loops,
-                    test: lent(test),
-                    step: lent(step),
-                    body: body.get(),
-                };
-                self.execute_for(alloc, types, own.as_slice(), start.as_slice(), l)
-            }
-            Statement::Switch(e, own, arms) => {
-                self.todo(Work::Arms(
-                    ForArms::Selecting,
-                    scope,
-                    loops,
-                    own.as_slice(),
-                    arms.as_slice(),
-                ))?;
-                self.use_value(e.get())
-            }
-            Statement::Break => self.leave(Way::ByBreak),
-            Statement::Continue => self.leave(Way::ByContinue),
-            Statement::Return(None) => self.leave(Way::ByReturn(None)),
-            Statement::Return(Some(e)) => {
-                self.todo(Work::Returning)?;
-                self.use_value(e.get())
-            }
+/// The arms of a `switch` behind its operand.
+pub(crate) fn select<'a>(
+    machine: &mut Machine<'a>,
+    alloc: Global,
+    types: &Types<'a>,
+    scope: Scope<'a>,
+    loops: u64,
+    own: &'a [u32],
+    arms: &'a [Arm],
+    v: u32,
+) -> Result<Moved, NoMemory>
+    ensures { IfOk result (λ m. (m, state_of machine.new) ≡ selected (program_data types.now) (context_of scope.entry) loops own.now
+        (arms_of (map one_arm arms.now)) v (state_of machine.old)) }
+{
+    match begin_all(&mut machine.room, alloc, types, scope, own)? {
+        Ok(()) => {
+            let arm = selected_arm(arms, v);
+            machine.todo(Work::Switching)?;
+            machine.todo(Work::Ending(own))?;
+            machine.todo(Work::Arms(ForArms::Entering(arm), scope, loops, own, arms))?;
+            Ok(Moved::Goes)
         }
-    }
-
-    /// Statements in a row.
-    pub(crate) fn execute_all(
-        &mut self,
-        types: &Types<'a>,
-        scope: Scope<'a>,
-        loops: u64,
-        all: &'a [Statement],
-    ) -> Result<Moved, NoMemory>
-        ensures { IfOk result (λ m. (m, state_of self.new) ≡ executed_all (program_data types.now) (context_of scope.entry) loops
-            (statements_of (map statement_of all.now)) (state_of self.old)) }
-    {
-        let _ = types;
-        match all.split_first() {
-            Some((s, rest)) => {
-                let after = behind(loops, loops_in_statement(s))?;
-                self.todo(Work::Statements(scope, after, rest))?;
-                self.todo(Work::Statement(ForStatement::Executing, scope, loops, s))?;
-                Ok(Moved::Goes)
-            }
-            None => Ok(Moved::Goes),
-        }
-    }
-
-    /// The arms of a `switch` from the one with that number on, or none.
-    pub(crate) fn enter_arms(
-        &mut self,
-        types: &Types<'a>,
-        scope: Scope<'a>,
-        loops: u64,
-        arm: Option<u64>,
-        own: &'a [u32],
-        arms: &'a [Arm],
-    ) -> Result<Moved, NoMemory>
-        ensures { IfOk result (λ m. (m, state_of self.new) ≡ entered (program_data types.now) (context_of scope.entry) loops arm
-            (arms_of (map one_arm arms.now)) (state_of self.old)) }
-    {
-        let _ = types;
-        let Some(number) = arm else {
-            return Ok(Moved::Goes);
-        };
-        match arms.split_first() {
-            Some((arm, rest)) => {
-                let all = arm.statements.as_slice();
-                let after = behind(loops, loops_in_statements(all))?;
-                if number == 0 {
-                    self.todo(Work::Arms(ForArms::Entering(Some(0)), scope, after, own, rest))?;
-                    self.todo(Work::Statements(scope, loops, all))?;
-                } else {
-                    let next = ForArms::Entering(Some(number - 1));
-                    self.todo(Work::Arms(next, scope, after, own, rest))?;
-                }
-                Ok(Moved::Goes)
-            }
-            None => Ok(Moved::Goes),
-        }
-    }
-
-    /// The arms of a `switch` behind its operand.
-    pub(crate) fn select(
-        &mut self,
-        alloc: Global,
-        types: &Types<'a>,
-        scope: Scope<'a>,
-        loops: u64,
-        own: &'a [u32],
-        arms: &'a [Arm],
-        v: u32,
-    ) -> Result<Moved, NoMemory>
-        ensures { IfOk result (λ m. (m, state_of self.new) ≡ selected (program_data types.now) (context_of scope.entry) loops own.now
-            (arms_of (map one_arm arms.now)) v (state_of self.old)) }
-    {
-        match begin_all(&mut self.room, alloc, types, scope, own)? {
-            Ok(()) => {
-                let arm = selected_arm(arms, v);
-                self.todo(Work::Switching)?;
-                self.todo(Work::Ending(own))?;
-                self.todo(Work::Arms(ForArms::Entering(arm), scope, loops, own, arms))?;
-                Ok(Moved::Goes)
-            }
-            Err(end) => Ok(Moved::Over(end)),
-        }
+        Err(end) => Ok(Moved::Over(end)),
     }
 }

@@ -8,3 +8,5 @@ pub mod Actions
 pub mod Expressions
 pub mod Statements
 pub mod Steps
+pub mod Direct
+pub mod Ahead

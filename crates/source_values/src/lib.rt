@@ -9,7 +9,7 @@ mod paths;
 mod pointers;
 mod updates;
 
-pub use numbers::{binary, flag, is_true, number_of, pointer_of, unary, word_of};
+pub use numbers::{binary, bytes_of, flag, is_true, number_of, pointer_of, unary, word_of};
 pub use paths::{address_of, element, field_in, is_subscript, part_of, way_to};
 pub use pointers::{compared, distance, moved};
 pub use updates::{next, updated};

@@ -44,7 +44,7 @@ pub fn number_of(kind: IntKind, word: u32) -> i64
 }
 
 /// So many elements of a size, in bytes.
-pub(crate) fn bytes_of(kind: IntKind, word: u32, size: u32) -> i64
+pub fn bytes_of(kind: IntKind, word: u32, size: u32) -> i64
     requires { size ≤ greatest_size }
     ensures value { result ≡ number_of kind word *ℤ pos size }
     ensures small { unsigned_abs result ≤ 2 ^ 56 }

@@ -2,7 +2,7 @@ use Rattle.std.proofs.Common.{◌≡◌, drop}
 use Rattle.c_typed.specs.Programs.{program_data}
 use Rattle.source_core.specs.View.{core_of}
 use Rattle.source_steps.specs.Locals.{begin_all}
-use Rattle.source_stepper.specs.WorkView.{context_of}
+use Rattle.source_state.specs.WorkView.{context_of}
 use Rattle.source_stepper.proofs.locals.begin_all.Given as goal
 
 abbrev pub invariant-loop-number : goal.invariant-loop-number

@@ -4,7 +4,7 @@ use Rattle.c_typed.specs.declared.program.Typed.{Typed}
 use Rattle.source_run.specs.Streams.{Streams, streams}
 use Rattle.source_run.proofs.Reaching.{Far}
 use Rattle.source_run.proofs.runner.Runner.go.Given as goal
-use Rattle.source_stepper.specs.View.{state_of}
+use Rattle.source_state.specs.View.{state_of}
 use Rattle.source_steps.specs.States.{State}
 
 pub record Going (was here : Typed) (turns : ℕ) (before now : Streams) (s : State) : Type 0 where

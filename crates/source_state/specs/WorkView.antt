@@ -9,21 +9,21 @@ use Rattle.runs.specs.declared.value.Value.{Value}
 use Rattle.source_machine.specs.declared.items.Callee.{Callee}
 use Rattle.source_machine.specs.Items as I
 use Rattle.source_machine.specs.Items.{Item, Context}
-use Rattle.source_stepper.specs.declared.work.ForExpression.{ForExpression}
-use Rattle.source_stepper.specs.declared.work.ForExpression.TheVariants as E
-use Rattle.source_stepper.specs.declared.work.ForCall.{ForCall}
-use Rattle.source_stepper.specs.declared.work.ForCall.TheVariants as C
-use Rattle.source_stepper.specs.declared.work.ForStatement.{ForStatement}
-use Rattle.source_stepper.specs.declared.work.ForStatement.TheVariants as S
-use Rattle.source_stepper.specs.declared.work.ForArms.{ForArms}
-use Rattle.source_stepper.specs.declared.work.ForArms.TheVariants as A
-use Rattle.source_stepper.specs.declared.work.ForLoop.{ForLoop}
-use Rattle.source_stepper.specs.declared.work.ForLoop.TheVariants as L
-use Rattle.source_stepper.specs.declared.work.Scope.{Scope}
-use Rattle.source_stepper.specs.declared.work.Loop.{Loop}
-use Rattle.source_stepper.specs.declared.work.LoopBehind.{LoopBehind}
-use Rattle.source_stepper.specs.declared.work.Work.{Work}
-use Rattle.source_stepper.specs.declared.work.Work.TheVariants as W
+use Rattle.source_state.specs.declared.work.ForExpression.{ForExpression}
+use Rattle.source_state.specs.declared.work.ForExpression.TheVariants as E
+use Rattle.source_state.specs.declared.work.ForCall.{ForCall}
+use Rattle.source_state.specs.declared.work.ForCall.TheVariants as C
+use Rattle.source_state.specs.declared.work.ForStatement.{ForStatement}
+use Rattle.source_state.specs.declared.work.ForStatement.TheVariants as S
+use Rattle.source_state.specs.declared.work.ForArms.{ForArms}
+use Rattle.source_state.specs.declared.work.ForArms.TheVariants as A
+use Rattle.source_state.specs.declared.work.ForLoop.{ForLoop}
+use Rattle.source_state.specs.declared.work.ForLoop.TheVariants as L
+use Rattle.source_state.specs.declared.work.Scope.{Scope}
+use Rattle.source_state.specs.declared.work.Loop.{Loop}
+use Rattle.source_state.specs.declared.work.LoopBehind.{LoopBehind}
+use Rattle.source_state.specs.declared.work.Work.{Work}
+use Rattle.source_state.specs.declared.work.Work.TheVariants as W
 
 abbrev pub context_of : Scope → Context
 context_of c = record { function = c.function; locals = c.parameters.now ++ c.locals.now }

@@ -1,8 +1,8 @@
 -- The interpreter's parts as its state.
 use Rattle.std.specs.Prelude.{map}
 use Rattle.source_core.specs.View.{core_of}
-use Rattle.source_stepper.specs.WorkView.{item_of}
-use Rattle.source_stepper.specs.declared.machine.Machine.{Machine}
+use Rattle.source_state.specs.WorkView.{item_of}
+use Rattle.source_state.specs.declared.machine.Machine.{Machine}
 use Rattle.source_steps.specs.States.{State}
 
 abbrev pub state_of : Machine → State

@@ -5,8 +5,8 @@ ghost use Rattle.c_typed.specs.Trees.{no_expressions};
 ghost use Rattle.source_core.specs.View.{core_of};
 ghost use Rattle.source_machine.specs.Items.{gathering};
 ghost use Rattle.source_machine.specs.declared.items.Callee.TheVariants as OfCallee;
-ghost use Rattle.source_stepper.specs.View.{state_of};
-ghost use Rattle.source_stepper.specs.WorkView.{item_of};
+ghost use Rattle.source_state.specs.View.{state_of};
+ghost use Rattle.source_state.specs.WorkView.{item_of};
 ghost use Rattle.source_steps.specs.States.{State, Step, doing, goes, led, pushed, stuck, taking, taking_any, taking_spot};
 ghost use Rattle.source_steps.specs.declared.ends.Final.TheVariants.{Undefined};
 ghost use Rattle.source_steps.specs.declared.ends.Moved.TheVariants.{Over};
@@ -26,19 +26,19 @@ use std::alloc::Global;
 /// The work that is left, the last first, the operands, and what is kept beside them.
 #[derive(Drop)]
 pub struct Machine<'a> {
-    pub(crate) work: Stack<Work<'a>>,
-    pub(crate) stack: Stack<Operand>,
-    pub(crate) room: Room,
+    pub work: Stack<Work<'a>>,
+    pub stack: Stack<Operand>,
+    pub room: Room,
 }
 
 /// What a step comes to where an operand is not of the sort that lies there in every run.
-pub(crate) const STUCK: Moved = Moved::Over(Final::Undefined(
+pub const STUCK: Moved = Moved::Over(Final::Undefined(
     UndefinedKind::NoValue,
     Place { file: 0, at: 0 },
 ));
 
 /// The end of a run at a step that has no defined meaning.
-pub(crate) fn undefined(kind: UndefinedKind, place: Place) -> Moved
+pub fn undefined(kind: UndefinedKind, place: Place) -> Moved
     ensures { result ≡ Over (Undefined kind place) }
 {
     Moved::Over(Final::Undefined(kind, place))
@@ -71,14 +71,14 @@ impl<'a> Machine<'a> {
     }
 
     /// More work, before all other.
-    pub(crate) fn todo(&mut self, work: Work<'a>) -> Result<(), NoMemory>
+    pub fn todo(&mut self, work: Work<'a>) -> Result<(), NoMemory>
         ensures { OnOk result (state_of self.new ≡ doing (item_of work.entry) (state_of self.old)) }
     {
         self.work.push(work)
     }
 
     /// A value, or none, on the stack.
-    pub(crate) fn push(&mut self, v: Option<Value>) -> Result<Moved, NoMemory>
+    pub fn push(&mut self, v: Option<Value>) -> Result<Moved, NoMemory>
         ensures { IfOk result (λ m. (m, state_of self.new) ≡ goes (pushed v (state_of self.old))) }
     {
         self.stack.push(Operand::Value(v))?;
@@ -93,7 +93,7 @@ impl<'a> Machine<'a> {
     }
 
     /// A spot on the stack.
-    pub(crate) fn lead(&mut self, spot: Spot) -> Result<Moved, NoMemory>
+    pub fn lead(&mut self, spot: Spot) -> Result<Moved, NoMemory>
         ensures { IfOk result (λ m. (m, state_of self.new) ≡ goes (led spot (state_of self.old))) }
     {
         self.stack.push(Operand::Spot(spot))?;
@@ -101,7 +101,7 @@ impl<'a> Machine<'a> {
     }
 
     /// Takes the value on top of the stack off; none where no value lies there.
-    pub(crate) fn take(&mut self) -> Option<Value>
+    pub fn take(&mut self) -> Option<Value>
         ensures { MatchOption result
             ((next : Value → State → Step) → taking (state_of self.old) next ≡ stuck (state_of self.new))
             (λ v. state_of self.old ≡ pushed (Some v) (state_of self.new)) }
@@ -113,7 +113,7 @@ impl<'a> Machine<'a> {
     }
 
     /// Takes the value on top of the stack off, which may be that of an expression that has none; none where no value lies there.
-    pub(crate) fn take_any(&mut self) -> Option<Option<Value>>
+    pub fn take_any(&mut self) -> Option<Option<Value>>
         ensures { MatchOption result
             ((next : Option Value → State → Step) → taking_any (state_of self.old) next ≡ stuck (state_of self.new))
             (λ v. state_of self.old ≡ pushed v (state_of self.new)) }
@@ -125,7 +125,7 @@ impl<'a> Machine<'a> {
     }
 
     /// Takes the spot on top of the stack off; none where no spot lies there.
-    pub(crate) fn take_spot(&mut self) -> Option<Spot>
+    pub fn take_spot(&mut self) -> Option<Spot>
         ensures { MatchOption result
             ((next : Spot → State → Step) → taking_spot (state_of self.old) next ≡ stuck (state_of self.new))
             (λ q. state_of self.old ≡ led q (state_of self.new)) }

@@ -1,0 +1,8 @@
+-- What a call gives that finds a value, or finds none and changes nothing.
+use Rattle.std.specs.Prelude.{◌≡◌, Option, Some, None}
+use Rattle.runs.specs.declared.value.Value.{Value}
+use Rattle.source_steps.specs.Cores.{Core}
+
+abbrev pub Finds : Option Value → (old new : Core) → (defined : Option Value × Core) → Type 0
+Finds None old new defined = (defined ≡ (None, old)) × (new ≡ old)
+Finds (Some v) old new defined = defined ≡ (Some v, new)

@@ -1,0 +1,275 @@
+//! What operators and paths make of what is at hand; where that is undefined, there is none.
+
+ghost use Rattle.std.specs.Prelude.{◌≡◌, ◌≤◌, ◌^◌, not, Some, unsigned_abs};
+ghost use Rattle.c_types.specs.Limits.{greatest_size};
+ghost use Rattle.c_typed.specs.Conversions.{number_of};
+ghost use Rattle.c_typed.specs.Programs.{program_data};
+ghost use Rattle.c_meaning.specs.Program.{type_at};
+ghost use Rattle.c_typed.specs.declared.operators.PointerOp.TheVariants.{Add};
+ghost use Rattle.c_meaning.specs.Expressions.{field_in, moved_by, part_of};
+ghost use Rattle.c_meaning.specs.Operators.{binary, compared, distance, flag, is_true, moved, unary};
+ghost use Rattle.c_meaning.specs.declared.frame.Spot.TheVariants.{Placed};
+ghost use Rattle.runs.specs.Scalars.{pointer_of, word_of};
+ghost use Rattle.source_core.specs.View.{core_of};
+ghost use Rattle.source_steps.specs.Actions.{address_of, lies_at};
+ghost use Rattle.source_steps.specs.Direct.{and_if, if_converted, if_element, if_found, if_near};
+ghost use Rattle.source_steps.specs.Locals.{fetch, local_spot};
+ghost use Rattle.source_direct.specs.Sorts.{if_converted_by};
+
+use block_memory::{Access, Ptr};
+use c_meaning::Spot;
+use c_typed::{BinaryOp, CompareOp, PointerOp, TypeId, UnaryOp};
+use c_types::IntKind;
+use lay_base::UndefinedKind;
+use runs::Value;
+use source_core::Room;
+use source_types::{Sort, Types, convert};
+use source_values::{
+    address_of, binary, bytes_of, compared, distance, field_in, flag, is_subscript, is_true, moved,
+    number_of, pointer_of, unary,
+};
+
+// ---- values
+
+/// A value that is found.
+pub(crate) fn found(value: Result<Value, UndefinedKind>) -> Option<Value>
+    ensures { result ≡ if_found value }
+{
+    match value {
+        Ok(v) => Some(v),
+        Err(_) => None,
+    }
+}
+
+fn converted(sort: Sort, v: Value) -> Option<Value>
+    ensures { result ≡ if_converted_by sort v }
+{
+    match sort {
+        Sort::Void => None,
+        Sort::Number(_) | Sort::Pointer | Sort::Other => Some(convert(sort, v)),
+    }
+}
+
+/// A value converted to a type, where it has one then.
+#[tactic(auto, using(crate::proofs::Converting::converted_is))]
+fn cast_one(types: &Types<'_>, t: TypeId, v: Value) -> Option<Value>
+    ensures { result ≡ if_converted (type_at (program_data types.now) t) v }
+{
+    converted(types.row(t).sort, v)
+}
+
+/// A value, if there is one, converted to a type.
+pub(crate) fn cast(types: &Types<'_>, t: TypeId, v: Option<Value>) -> Option<Value>
+    ensures { result ≡ and_if v (λ v. if_converted (type_at (program_data types.now) t) v) }
+{
+    match v {
+        Some(v) => cast_one(types, t, v),
+        None => None,
+    }
+}
+
+/// A unary operator on a value, if there is one.
+pub(crate) fn of_unary(op: UnaryOp, v: Option<Value>) -> Option<Value>
+    ensures { result ≡ and_if v (λ v. Some (unary op v)) }
+{
+    match v {
+        Some(v) => Some(unary(op, v)),
+        None => None,
+    }
+}
+
+/// Whether a value, if there is one, is not zero.
+pub(crate) fn of_truth(v: Option<Value>) -> Option<Value>
+    ensures { result ≡ and_if v (λ v. Some (flag (is_true v))) }
+{
+    match v {
+        Some(v) => Some(flag(is_true(v))),
+        None => None,
+    }
+}
+
+/// Whether a value, if there is one, is zero.
+pub(crate) fn of_not(v: Option<Value>) -> Option<Value>
+    ensures { result ≡ and_if v (λ v. Some (flag (not (is_true v)))) }
+{
+    match v {
+        Some(v) => Some(flag(!is_true(v))),
+        None => None,
+    }
+}
+
+/// A binary operator on a value and another one, if there is one.
+pub(crate) fn of_binary(
+    op: BinaryOp,
+    kind: IntKind,
+    v: Value,
+    right: IntKind,
+    w: Option<Value>,
+) -> Option<Value>
+    ensures { result ≡ and_if w (λ w. if_found (binary op kind v right w)) }
+{
+    match w {
+        Some(w) => found(binary(op, kind, v, right, w)),
+        None => None,
+    }
+}
+
+pub(crate) fn of_comparison(
+    room: &Room,
+    op: CompareOp,
+    kind: IntKind,
+    v: Value,
+    w: Option<Value>,
+) -> Option<Value>
+    ensures { result ≡ and_if w (λ w. if_found (compared op (core_of room.now).memory kind v w)) }
+{
+    match w {
+        Some(w) => found(compared(&room.store, op, kind, v, w)),
+        None => None,
+    }
+}
+
+pub(crate) fn of_addition(
+    room: &Room,
+    op: PointerOp,
+    size: u32,
+    left: IntKind,
+    v: Value,
+    right: IntKind,
+    w: Option<Value>,
+) -> Option<Value>
+    requires { size ≤ greatest_size }
+    ensures { result ≡ and_if w (λ w. if_found (moved (core_of room.now).memory op size left v right w)) }
+{
+    match w {
+        Some(w) => found(moved(&room.store, op, size, left, v, right, w)),
+        None => None,
+    }
+}
+
+pub(crate) fn of_difference(size: u32, v: Value, w: Option<Value>) -> Option<Value>
+    ensures { result ≡ and_if w (λ w. if_found (distance size v w)) }
+{
+    match w {
+        Some(w) => found(distance(size, v, w)),
+        None => None,
+    }
+}
+
+/// What lies at a spot.
+pub(crate) fn loaded(room: &Room, spot: Spot, access: Access) -> Option<Value>
+    ensures { result ≡ if_found (fetch spot access (core_of room.now)) }
+{
+    found(room.fetch(spot, access))
+}
+
+/// The address of what lies at a spot, if there is one.
+pub(crate) fn addressed(spot: Option<Spot>) -> Option<Value>
+    ensures { result ≡ and_if spot (λ s. if_found (address_of s)) }
+{
+    match spot {
+        Some(spot) => found(address_of(spot)),
+        None => None,
+    }
+}
+
+/// What lies at a spot, if there is one.
+pub(crate) fn loaded_if(room: &Room, spot: Option<Spot>, access: Access) -> Option<Value>
+    ensures { result ≡ and_if spot (λ s. if_found (fetch s access (core_of room.now))) }
+{
+    match spot {
+        Some(spot) => loaded(room, spot, access),
+        None => None,
+    }
+}
+
+// ---- spots
+
+/// Where a local lies.
+pub(crate) fn of_local(room: &Room, local: u32) -> Option<Spot>
+    ensures { result ≡ if_found (local_spot local (core_of room.now)) }
+{
+    match room.local_spot(local) {
+        Ok(spot) => Some(spot),
+        Err(_) => None,
+    }
+}
+
+/// So many bytes on from where a pointer leads, in the same object.
+fn near(by: i64, p: Ptr) -> Option<Spot>
+    requires { unsigned_abs by ≤ 2 ^ 56 }
+    ensures { result ≡ if_near (Placed (moved_by by p)) }
+{
+    match p {
+        Ptr::Block(block, at) => {
+            let sum = i64::from(at) + by;
+            if sum < 0 {
+                Some(Spot::Placed(p))
+            } else if sum < 0x1_0000_0000 {
+                Some(Spot::Placed(Ptr::Block(block, sum as u32)))
+            } else {
+                None
+            }
+        }
+        Ptr::Null | Ptr::Function(_) => Some(Spot::Placed(p)),
+    }
+}
+
+/// A field at an offset.
+pub(crate) fn field_of(offset: u32, spot: Spot) -> Option<Spot>
+    ensures { result ≡ if_near (part_of offset spot) }
+{
+    match spot {
+        Spot::Placed(p) => near(i64::from(offset), p),
+        Spot::Kept(_) => Some(spot),
+    }
+}
+
+/// An element of an array itself, by a subscript of a kind.
+pub(crate) fn element_of(
+    length: u32,
+    size: u32,
+    is_addressed: bool,
+    spot: Spot,
+    kind: IntKind,
+    word: u32,
+) -> Option<Spot>
+    requires { size ≤ greatest_size }
+    ensures { result ≡ if_element length size is_addressed spot (number_of kind word) }
+{
+    if !is_subscript(length, is_addressed, number_of(kind, word)) {
+        return None;
+    }
+    match spot {
+        Spot::Placed(p) => near(bytes_of(kind, word, size), p),
+        Spot::Kept(_) => Some(spot),
+    }
+}
+
+/// What a subscript on a pointer leads to.
+pub(crate) fn indexed(
+    room: &Room,
+    size: u32,
+    left: IntKind,
+    v: Value,
+    right: IntKind,
+    w: Value,
+) -> Option<Spot>
+    requires { size ≤ greatest_size }
+    ensures { result ≡ and_if (if_found (moved (core_of room.now).memory Add size left v right w)) (λ q. Some (lies_at q)) }
+{
+    match moved(&room.store, PointerOp::Add, size, left, v, right, w) {
+        Ok(q) => Some(Spot::Placed(pointer_of(q))),
+        Err(_) => None,
+    }
+}
+
+/// A field through a pointer, so many bytes on.
+pub(crate) fn field_through(room: &Room, v: Value, by: i64) -> Option<Spot>
+    ensures { result ≡ and_if (if_found (field_in (core_of room.now).memory (pointer_of v) by)) (λ q. Some (Placed q)) }
+{
+    match field_in(&room.store, pointer_of(v), by) {
+        Ok(q) => Some(Spot::Placed(q)),
+        Err(_) => None,
+    }
+}

@@ -1,0 +1,2 @@
+pub mod WorkView
+pub mod View

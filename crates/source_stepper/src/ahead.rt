@@ -1,0 +1,227 @@
+//! Steps that go ahead: where an expression is evaluated in one step, what comes behind it is done at once.
+
+ghost use Rattle.std.specs.Prelude.{◌≡◌, IfOk, map};
+ghost use Rattle.c_typed.specs.Programs.{program_data};
+ghost use Rattle.c_typed.specs.Views.{expression_of, statement_of, statements_of};
+ghost use Rattle.source_machine.specs.Items as I;
+ghost use Rattle.source_steps.specs.Ahead.{ahead, executed_ahead, executed_all_ahead, repeats_ahead, tests_ahead};
+ghost use Rattle.source_stepper.specs.Ahead.{decided, decided_else, tested_by};
+ghost use Rattle.source_state.specs.View.{state_of};
+ghost use Rattle.source_state.specs.WorkView.{context_of, loop_of};
+
+use crate::expressions::{evaluate, evaluate_used};
+use crate::loops::{begin_loop, repeat_loop, test_loop};
+use crate::statements::{behind, execute, leave, select};
+use c_counts::loops_in_statement;
+use c_meaning::Way;
+use c_typed::{Expression, Statement};
+use lay_base::NoMemory;
+use runs::Value;
+use source_direct::at_once;
+use source_state::{ForStatement, Loop, Machine, Scope, Work};
+use source_steps::Moved;
+use source_types::Types;
+use source_values::{is_true, word_of};
+use std::alloc::Global;
+
+// ---- expressions
+
+/// An expression, whose value may be none.
+pub(crate) fn evaluate_ahead<'a>(
+    machine: &mut Machine<'a>,
+    alloc: Global,
+    types: &Types<'a>,
+    e: &'a Expression,
+) -> Result<Moved, NoMemory>
+    ensures { IfOk result (λ m. (m, state_of machine.new) ≡ ahead (program_data types.now) (I.evaluating (expression_of e.now)) (state_of machine.old)) }
+{
+    match at_once(types, &mut machine.room, e) {
+        Some(v) => machine.give(v),
+        None => evaluate(machine, alloc, types, e),
+    }
+}
+
+/// An expression whose value is used.
+pub(crate) fn use_ahead<'a>(
+    machine: &mut Machine<'a>,
+    alloc: Global,
+    types: &Types<'a>,
+    e: &'a Expression,
+) -> Result<Moved, NoMemory>
+    ensures { IfOk result (λ m. (m, state_of machine.new) ≡ ahead (program_data types.now) (I.using (expression_of e.now)) (state_of machine.old)) }
+{
+    match at_once(types, &mut machine.room, e) {
+        Some(v) => machine.give(v),
+        None => evaluate_used(machine, alloc, types, e),
+    }
+}
+
+// ---- loops
+
+/// A loop whose test has that value.
+pub(crate) fn begin_if<'a>(
+    machine: &mut Machine<'a>,
+    types: &Types<'a>,
+    v: Value,
+    l: Loop<'a>,
+) -> Result<Moved, NoMemory>
+    ensures { IfOk result (λ m. (m, state_of machine.new) ≡ tested_by (program_data types.now) v (loop_of l.entry) (state_of machine.old)) }
+{
+    if is_true(v) {
+        begin_loop(machine, types, l)
+    } else {
+        Ok(Moved::Goes)
+    }
+}
+
+/// A loop before its test.
+pub(crate) fn test_ahead<'a>(
+    machine: &mut Machine<'a>,
+    types: &Types<'a>,
+    l: Loop<'a>,
+) -> Result<Moved, NoMemory>
+    ensures { IfOk result (λ m. (m, state_of machine.new) ≡ tests_ahead (program_data types.now) (loop_of l.entry).test (loop_of l.entry) (state_of machine.old)) }
+{
+    match l.test {
+        Some(e) => match at_once(types, &mut machine.room, e) {
+            Some(v) => begin_if(machine, types, v, l),
+            None => test_loop(machine, types, l),
+        },
+        None => begin_loop(machine, types, l),
+    }
+}
+
+/// A loop behind its body.
+pub(crate) fn repeat_ahead<'a>(
+    machine: &mut Machine<'a>,
+    types: &Types<'a>,
+    l: Loop<'a>,
+) -> Result<Moved, NoMemory>
+    ensures { IfOk result (λ m. (m, state_of machine.new) ≡ repeats_ahead (program_data types.now) (loop_of l.entry).step (loop_of l.entry) (state_of machine.old)) }
+{
+    match l.step {
+        Some(e) => match at_once(types, &mut machine.room, e) {
+            Some(_) => test_ahead(machine, types, l),
+            None => repeat_loop(machine, types, l),
+        },
+        None => test_ahead(machine, types, l),
+    }
+}
+
+// ---- statements
+
+/// A statement behind the operand of an `if`.
+pub(crate) fn decide_if<'a>(
+    machine: &mut Machine<'a>,
+    v: Value,
+    scope: Scope<'a>,
+    loops: u64,
+    one: &'a Statement,
+) -> Result<Moved, NoMemory>
+    ensures { IfOk result (λ m. (m, state_of machine.new) ≡ decided v (context_of scope.entry) loops (statement_of one.now) (state_of machine.old)) }
+{
+    if is_true(v) {
+        machine.todo(Work::Statement(ForStatement::Executing, scope, loops, one))?;
+    }
+    Ok(Moved::Goes)
+}
+
+/// Both statements of an `if` behind its operand.
+pub(crate) fn decide_else<'a>(
+    machine: &mut Machine<'a>,
+    v: Value,
+    scope: Scope<'a>,
+    loops: u64,
+    one: &'a Statement,
+    other: &'a Statement,
+) -> Result<Moved, NoMemory>
+    ensures { IfOk result (λ m. (m, state_of machine.new) ≡ decided_else v (context_of scope.entry) loops (statement_of one.now) (statement_of other.now) (state_of machine.old)) }
+{
+    if is_true(v) {
+        machine.todo(Work::Statement(ForStatement::Executing, scope, loops, one))?;
+    } else {
+        let after = behind(loops, loops_in_statement(one))?;
+        machine.todo(Work::Statement(ForStatement::Executing, scope, after, other))?;
+    }
+    Ok(Moved::Goes)
+}
+
+/// A statement, before which so many loops stand in its function.
+pub(crate) fn execute_ahead<'a>(
+    machine: &mut Machine<'a>,
+    alloc: Global,
+    types: &Types<'a>,
+    scope: Scope<'a>,
+    loops: u64,
+    s: &'a Statement,
+) -> Result<Moved, NoMemory>
+    ensures { IfOk result (λ m. (m, state_of machine.new) ≡ executed_ahead (program_data types.now) (context_of scope.entry) loops (statement_of s.now) (state_of machine.old)) }
+{
+    match s {
+        Statement::Do(e) => match at_once(types, &mut machine.room, e.get()) {
+            Some(_) => Ok(Moved::Goes),
+            None => execute(machine, alloc, types, scope, loops, s),
+        },
+        Statement::If(e, one, None) => match at_once(types, &mut machine.room, e.get()) {
+            Some(v) => decide_if(machine, v, scope, loops, one.get()),
+            None => execute(machine, alloc, types, scope, loops, s),
+        },
+        Statement::If(e, one, Some(other)) => match at_once(types, &mut machine.room, e.get()) {
+            Some(v) => decide_else(machine, v, scope, loops, one.get(), other.get()),
+            None => execute(machine, alloc, types, scope, loops, s),
+        },
+        Statement::While(e, body) => match at_once(types, &mut machine.room, e.get()) {
+            Some(v) => {
+                let l = Loop {
+                    scope,
+                    number: loops,
+                    test: Some(e.get()),
+                    step: None,
+                    body: body.get(),
+                };
+                begin_if(machine, types, v, l)
+            }
+            None => execute(machine, alloc, types, scope, loops, s),
+        },
+        Statement::Switch(e, own, arms) => match at_once(types, &mut machine.room, e.get()) {
+            Some(v) => {
+                let (own, arms) = (own.as_slice(), arms.as_slice());
+                select(machine, alloc, types, scope, loops, own, arms, word_of(v))
+            }
+            None => execute(machine, alloc, types, scope, loops, s),
+        },
+        Statement::Return(Some(e)) => match at_once(types, &mut machine.room, e.get()) {
+            Some(v) => leave(machine, Way::ByReturn(Some(v))),
+            None => execute(machine, alloc, types, scope, loops, s),
+        },
+        Statement::Block(..)
+        | Statement::Declare(..)
+        | Statement::DoWhile(..)
+        | Statement::For(..)
+        | Statement::Break
+        | Statement::Continue
+        | Statement::Return(None) => execute(machine, alloc, types, scope, loops, s),
+    }
+}
+
+/// Statements in a row.
+pub(crate) fn execute_all_ahead<'a>(
+    machine: &mut Machine<'a>,
+    alloc: Global,
+    types: &Types<'a>,
+    scope: Scope<'a>,
+    loops: u64,
+    all: &'a [Statement],
+) -> Result<Moved, NoMemory>
+    ensures { IfOk result (λ m. (m, state_of machine.new) ≡ executed_all_ahead (program_data types.now) (context_of scope.entry) loops
+        (statements_of (map statement_of all.now)) (state_of machine.old)) }
+{
+    match all.split_first() {
+        Some((s, rest)) => {
+            let after = behind(loops, loops_in_statement(s))?;
+            machine.todo(Work::Statements(scope, after, rest))?;
+            execute_ahead(machine, alloc, types, scope, loops, s)
+        }
+        None => Ok(Moved::Goes),
+    }
+}
