@@ -1,10 +1,11 @@
 #!/usr/bin/env python3
 """Tries the wrong bodies of tools/wrong_bodies: the proof of their crate has to refuse each of them.
 
-    try_wrong_bodies.py [CRATE ...]
+    try_wrong_bodies.py [CRATE | CRATE/NAME.edit ...]
 
-It tries those of the crates named, or all, on a copy of the repository. The exit status is 1 where one was
-not refused, could not be applied or was not tried."""
+It tries those that are named, or all, on a copy of their crate, over what earlier checks kept of it and of the
+crates below it. So a trial proves anew little more than what the edit changes. What is missing is proved first.
+The exit status is 1 where one was not refused, could not be applied or was not tried."""
 
 import os
 import re
@@ -12,6 +13,8 @@ import shutil
 import subprocess
 import sys
 import tempfile
+
+from building import crates, crates_for
 
 HERE = os.path.dirname(os.path.dirname(os.path.abspath(__file__)))
 WRONG_BODIES = os.path.join(HERE, "tools", "wrong_bodies")
@@ -27,55 +30,126 @@ def edits_of(crate):
     return sorted(name for name in os.listdir(folder) if name.endswith(".edit")) if os.path.isdir(folder) else []
 
 
-def copy_repository(folder):
-    """A copy without what `rt` made, which proves anew only what no checkout on this machine has kept."""
-    for part in ["crates", "crates.txt", "HANDLES"]:
-        path = os.path.join(HERE, part)
-        if os.path.isdir(path):
-            shutil.copytree(path, os.path.join(folder, part), ignore=shutil.ignore_patterns("out"))
-        else:
-            shutil.copy(path, folder)
+def asked(words):
+    """The edits that the words name, by crate; None where a word names none."""
+    edits = {}
+    for word in words or crates_with_edits():
+        crate, slash, name = word.partition("/")
+        known = edits_of(crate)
+        if not known or slash and name not in known:
+            print(f"no wrong bodies in tools/wrong_bodies for {word}", file=sys.stderr)
+            return None
+        edits.setdefault(crate, []).extend([name] if slash else known)
+    return edits
 
 
-def put_edits(folder, crate):
-    """Puts a crate's wrong bodies in the place of the edits that the gate tries."""
-    target = os.path.join(folder, "crates", crate, "must-fail")
-    shutil.rmtree(target, ignore_errors=True)
-    os.mkdir(target)
-    for name in edits_of(crate):
-        shutil.copy(os.path.join(WRONG_BODIES, crate, name), target)
+# ---- a copy of one crate
 
 
-def results_in(crate, text):
-    """What became of each wrong body of a crate, by what `rt must-fail` printed."""
-    said = dict(re.findall(rf"^rt: must-fail {re.escape(crate)}/(.*?\.edit): ({REFUSED}|{NOT_REFUSED}|{BAD_EDIT})\b", text, re.M))
-    return {name: said.get(name, NOT_TRIED) for name in edits_of(crate)}
+def put_copy(folder, crate):
+    """A copy of the repository, with the libraries below that crate that were built, and with the work that was kept of the crate."""
+    here, there = os.path.join(HERE, "crates"), os.path.join(folder, "crates")
+    shutil.copytree(here, there, ignore=shutil.ignore_patterns("out", "must-fail"))
+    below = [name for name in crates_for(crate, crates()) if name != crate]
+    for part in [os.path.join(name, "out", "rlib") for name in below] + [os.path.join(crate, "out", "incremental")]:
+        if os.path.isdir(os.path.join(here, part)):
+            shutil.copytree(os.path.join(here, part), os.path.join(there, part))
+    for name in ["crates.txt", "HANDLES"]:
+        shutil.copy(os.path.join(HERE, name), folder)
+    return os.path.join(there, crate)
 
 
-def try_crate(folder, crate):
-    put_edits(folder, crate)
-    done = subprocess.run(["rt", "must-fail", crate], cwd=folder, stdin=subprocess.DEVNULL, capture_output=True, text=True, errors="replace")
-    text = done.stdout + done.stderr
-    results = results_in(crate, text)
-    for name, result in results.items():
-        print(f"{crate}/{name}: {result}", flush=True)
-    if NOT_TRIED in results.values():
-        print(text)
-    return results.values()
+# ---- one edit
+
+
+def texts_with(edit, folder):
+    """The texts of the files that an edit changes, as they become, by their path in the crate; or why it cannot be applied."""
+    path, old, texts = None, None, {}
+    with open(edit) as lines:
+        for line in lines.read().split("\n"):
+            word, colon, text = line.partition(":")
+            text = text[1:] if text.startswith(" ") else text
+            if word == "file":
+                path = text
+            elif word == "old":
+                old = text
+            elif word == "new":
+                if path not in texts:
+                    with open(os.path.join(folder, path)) as file:
+                        texts[path] = file.read()
+                if texts[path].count(old) != 1:
+                    return None, f"an old text is in {path} {texts[path].count(old)} times, and not once"
+                texts[path] = texts[path].replace(old, text)
+    return (texts, "") if texts else (None, "it changes nothing")
+
+
+def put_texts(folder, texts):
+    """Puts texts in the place of those of a crate, and answers what was there."""
+    before = {}
+    for path, text in texts.items():
+        file = os.path.join(folder, path)
+        with open(file) as old:
+            before[path] = old.read()
+        with open(file, "w") as new:
+            new.write(text)
+    return before
+
+
+def check(folder):
+    done = subprocess.run(["rt", "check"], cwd=folder, stdin=subprocess.DEVNULL, capture_output=True, text=True, errors="replace")
+    return done.returncode, done.stdout + done.stderr
+
+
+def judged(status, text):
+    """What became of a wrong body, by the status and the text of its check, and the line that says so."""
+    unread = re.search(r"^(\./)?(src|specs)/\S+: error.*", text, re.M)
+    open_goal = re.search(r"^note: src/\S+: it is not .*", text, re.M)
+    broken = re.search(r"^(\./)?proofs/\S+: error.*", text, re.M)
+    if status == 0:
+        return NOT_REFUSED, "the crate is still proved"
+    if unread:
+        return BAD_EDIT, unread[0]
+    if status == 1 and re.search(r"^logic=not-proved", text, re.M):
+        if broken and not open_goal:
+            return REFUSED, f"by a proof file, which may only name what the edit takes away: {broken[0]}"
+        return REFUSED, open_goal[0] if open_goal else ""
+    return BAD_EDIT, "it did not reach the prover"
+
+
+def try_edit(folder, crate, name):
+    texts, why = texts_with(os.path.join(WRONG_BODIES, crate, name), folder)
+    if not texts:
+        return BAD_EDIT, why
+    before = put_texts(folder, texts)
+    try:
+        return judged(*check(folder))
+    finally:
+        put_texts(folder, before)
+
+
+def try_crate(crate, names):
+    """What became of each of these edits. None is tried where the crate itself is not proved."""
+    results = []
+    with tempfile.TemporaryDirectory(prefix="wrong_bodies_") as room:
+        folder = put_copy(room, crate)
+        status, text = check(folder)
+        if status != 0:
+            print(text)
+        for name in names:
+            result, said = (NOT_TRIED, "the crate itself is not proved") if status else try_edit(folder, crate, name)
+            print(f"{crate}/{name}: {result}: {said[:200]}", flush=True)
+            results.append(result)
+    return results
 
 
 def main():
-    crates = sys.argv[1:] or crates_with_edits()
-    without = [crate for crate in crates if not edits_of(crate)]
-    if without:
-        print(f"no wrong bodies in tools/wrong_bodies for {', '.join(without)}", file=sys.stderr)
+    edits = asked(sys.argv[1:])
+    if edits is None:
         return 1
     if not shutil.which("rt"):
         print("skipped: the wrong bodies, which need the Rattle toolchain's command rt")
         return 0
-    with tempfile.TemporaryDirectory(prefix="wrong_bodies_") as folder:
-        copy_repository(folder)
-        results = [result for crate in crates for result in try_crate(folder, crate)]
+    results = [result for crate, names in edits.items() for result in try_crate(crate, names)]
     print(", ".join(f"{results.count(kind)} {kind}" for kind in [REFUSED, NOT_REFUSED, BAD_EDIT, NOT_TRIED] if kind in results))
     return 0 if results.count(REFUSED) == len(results) else 1
 

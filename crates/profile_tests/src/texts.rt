@@ -55,11 +55,12 @@ fn is_text(alloc: Global, counts: &Counts, text: &[u8]) -> Result<bool, NoMemory
     Ok(again.as_slice() == text)
 }
 
-static TEXTS: [&[u8]; 4] = [
+static TEXTS: [&[u8]; 5] = [
     b"layc-profile 1\nfun main 1\nloop 1000\nloop 100\nloop 100000\nend\n",
     b"layc-profile 1\nend\n",
     b"layc-profile 1\nfun _f9 0\nfun main 1000000000000000000\nloop 0\nfun _f9 7\nend\n",
     b"layc-profile 1\nfun f 10\nloop 18\nloop 999999999999999999\nend\n",
+    b"layc-profile 1\nfun Int 3\nfun integer 3\nfun _Bool_ 3\nfun main 1\nfun inline_ 1\nend\n",
 ];
 
 #[test]
@@ -109,7 +110,7 @@ fn a_text_that_is_cut_off_is_refused_at_its_last_line(rt: HostRuntime) -> Result
     Ok(())
 }
 
-static BROKEN: [(&[u8], u32); 18] = [
+static BROKEN: [(&[u8], u32); 22] = [
     (b"layc-profile 9\nfun main 1\nend\n", 1),
     (b"layc-profile 1 \nend\n", 1),
     (b"layc-profile 1\r\nend\n", 1),
@@ -122,6 +123,10 @@ static BROKEN: [(&[u8], u32); 18] = [
     (b"layc-profile 1\nfun main 1000000000000000001\nend\n", 2),
     (b"layc-profile 1\nfun 1main 1\nend\n", 2),
     (b"layc-profile 1\nfun main  1\nend\n", 2),
+    (b"layc-profile 1\nfun int 3\nend\n", 2),
+    (b"layc-profile 1\nfun main 1\nloop 1\nfun auto 1\nend\n", 4),
+    (b"layc-profile 1\nfun while 1\nend\n", 2),
+    (b"layc-profile 1\nfun _Imaginary 1\nend\n", 2),
     (b"layc-profile 1\nfun main 1 \nend\n", 2),
     (b"layc-profile 1\nfun main 1\nloop -1\nend\n", 3),
     (b"layc-profile 1\nfun main 1\nloop 1\n\nend\n", 4),

@@ -9,8 +9,8 @@ ghost use Rattle.source_direct.specs.Members.{member_at};
 ghost use Rattle.source_steps.specs.Direct.{direct, direct_spot};
 
 use crate::operators::{
-    addressed, cast, element_of, field_of, field_through, indexed, loaded_if, of_addition, of_binary,
-    of_comparison, of_difference, of_local, of_not, of_truth, of_unary,
+    addressed, cast, element_of, field_of, field_through, indexed, loaded_if, of_addition,
+    of_binary, of_comparison, of_difference, of_local, of_not, of_truth, of_unary,
 };
 use block_memory::Ptr;
 use c_meaning::Spot;

@@ -46,7 +46,7 @@ module _ (p : ProgramData) where
 
   stays_by : (turns : ℕ) (s : State) (input : List ℕ) (trace : List Event) → Agrees turns s.core trace → (moved : Moved) (new : State)
       → (told : Tells p turns s input trace moved new) → left_behind turns moved (state_behind moved input new) (world new.core (input_behind moved input) told.later)
-        ≡ finish p (turns + 1) (left_of s) s.core.frame (world s.core input trace)
+      ≡ finish p (turns + 1) (left_of s) s.core.frame (world s.core input trace)
   stays_by turns s input trace h Goes new told = (goes_alike p (turns + 1) (left_of s) s.core.frame (world s.core input trace) _ _ _ (within turns s trace h) told.moves).0
   stays_by turns s input trace h (Puts byte) new told = (goes_alike p (turns + 1) (left_of s) s.core.frame (world s.core input trace) _ _ _ (within turns s trace h) told.moves).0
   stays_by turns s input trace h Gets new told = (goes_alike p (turns + 1) (left_of s) s.core.frame (world s.core input trace) _ _ _ (within turns s trace h) told.moves).0
