@@ -486,6 +486,17 @@ fn world_of(
     })
 }
 
+/// Whether the host holds this profile, or none.
+fn holds(host: &MemHost, profile: Option<&[u8]>) -> bool {
+    match host.bytes_of("p") {
+        None => profile.is_none(),
+        Some(bytes) => match profile {
+            None => false,
+            Some(wanted) => bytes == wanted,
+        },
+    }
+}
+
 /// What differs first from what the row says.
 fn difference(row: &Row, status: u8, world: &mut World) -> Option<&'static str> {
     if status != row.status {
@@ -494,7 +505,7 @@ fn difference(row: &Row, status: u8, world: &mut World) -> Option<&'static str> 
         Some("what was written to out")
     } else if world.streams.err.bytes() != row.err {
         Some("what was written to err")
-    } else if world.host.bytes_of("p") != row.profile {
+    } else if !holds(&world.host, row.profile) {
         Some("the profile")
     } else if has_left(&mut world.streams.input, row.left) {
         None
