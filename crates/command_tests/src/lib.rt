@@ -5,8 +5,6 @@
 #[cfg(test)]
 mod compiling;
 #[cfg(test)]
-mod interpreting;
-#[cfg(test)]
 mod refusing;
 #[cfg(test)]
 mod running;
