@@ -1,0 +1,13 @@
+pub mod Given
+pub mod Tokens
+pub mod Blocks
+pub mod Firsts
+pub mod Nodes
+pub mod Declaring
+pub mod Finding
+pub mod Initializers
+pub mod Statements
+pub mod Bodies
+pub mod Files
+pub mod Definitions
+pub mod Texts
