@@ -1,12 +1,18 @@
--- Where the faults of a file's types stand.
-use Rattle.std.specs.Prelude.{◌≡◌, ℕ, List, Err}
+-- Where the faults of files stand.
+use Rattle.std.specs.Prelude.{◌≡◌, ℕ, List, Some, Err, slice_get}
+use Rattle.lay_base.specs.declared.place.File.{File}
+use Rattle.lay_base.specs.declared.place.Place.{Place}
 use Rattle.c_lexer.specs.TokenPlaces.{IsPlaceIn}
 use Rattle.c_ast.specs.Trees
 use Rattle.c_ast.specs.TreesOfFiles.{IsTreeOf}
 use Rattle.c_erasure.specs.Broken.{Fault, ill_typed, undeclared, redeclared, too_big}
 use Rattle.c_checking.specs.Files.{annotated}
 
--- each place that a fault names is so
+-- a place of one of the files, with tokens before it
+abbrev pub IsPlaceOf : List File → Place → Type 0
+IsPlaceOf files place = (file : File) × (slice_get files place.file ≡ Some file) × IsPlaceIn file.bytes place.at
+
+-- each place that a fault of types names is so
 abbrev pub Stands : (ℕ → Type 0) → Fault → Type 0
 Stands Is (ill_typed rule at) = Is at
 Stands Is (undeclared x at) = Is at
