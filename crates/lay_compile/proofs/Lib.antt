@@ -2,3 +2,4 @@ mod Steps
 mod Next
 mod Rounds
 mod NoProgram
+mod FaultPlaces
