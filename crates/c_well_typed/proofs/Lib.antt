@@ -25,3 +25,10 @@ pub mod LookedUp
 pub mod JoinedFunctions
 pub mod Programs
 pub mod CompleteLocals
+pub mod ConstantsFit
+pub mod InitialAddresses
+pub mod InitialFunctions
+pub mod InitialStores
+pub mod TokenBytes
+pub mod LiteralObjects
+pub mod StatementObjects
