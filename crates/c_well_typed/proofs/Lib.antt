@@ -32,3 +32,7 @@ pub mod InitialStores
 pub mod TokenBytes
 pub mod LiteralObjects
 pub mod StatementObjects
+pub mod FileObjects
+pub mod UnitObjects
+pub mod WholeUnits
+pub mod JoinedObjects

@@ -1,7 +1,7 @@
 //! Laws about what is well typed.
 
 ghost use Rattle.c_typed.specs.Programs.{program_data};
-ghost use Rattle.c_well_typed.specs.Laws.{LocalsAreComplete, ProgramHasTypedFunctions, UnitsHaveTypedFunctions};
+ghost use Rattle.c_well_typed.specs.Laws.{LocalsAreComplete, ProgramHasTypedFunctions, ProgramHasTypedObjects, UnitsAreWellTyped, UnitsHaveTypedFunctions};
 
 use c_lexer::tokens_have_places;
 use c_text_order::texts_are_in_order;
@@ -17,12 +17,29 @@ pub fn units_have_typed_functions()
     texts_are_in_order();
 }
 
-/// So are those of a program of files, over the program's lists, where files share names and structures (6.2.2, 6.2.7); and it has a `main`.
+/// The unit of a file is well typed: its functions are, its types are small, and what each object holds at first are values of the parts at their
+/// bytes (6.7.8). A number is one of its part's type, an address is that of an object of the unit, at a byte of it or its end, or of a function.
+pub fn units_are_well_typed()
+    ensures { UnitsAreWellTyped }
+{
+    tokens_have_places();
+    texts_are_in_order();
+}
+
+/// So are the functions of a program of files, over the program's lists, where files share names and structures (6.2.2, 6.2.7); and it has a `main`.
 pub fn programs_have_typed_functions(p: &Typed)
     ensures { ProgramHasTypedFunctions (program_data p.now) }
 {
     records_are_complete(&p.records);
     units_have_typed_functions();
+}
+
+/// And so is what the objects of a program of files hold at first, where files share names and structures (6.2.2, 6.2.7, 6.7.8).
+pub fn programs_have_typed_objects(p: &Typed)
+    ensures { ProgramHasTypedObjects (program_data p.now) }
+{
+    records_are_complete(&p.records);
+    units_are_well_typed();
 }
 
 /// Each parameter and local of a typed function with a body has a complete type (6.7, 6.9.1).
