@@ -1,7 +1,7 @@
 -- What each object of a file holds at first are bytes where string literals initialize it (C99 6.4.5, 6.7.8, 6.9.2).
 use Rattle.std.proofs.Common.{◌≡◌, ◌≢◌, ◌∙◌, ℕ, zero, suc, ◌≤◌, Bool, true, false, refl, sym, ap, subst, List, [], ◌∷◌, ◌++◌, map, inl, inr}
 use Rattle.std.proofs.lemmas.List.Elements.{recursion_from_All}
-use Rattle.std.specs.Prelude.{◌⊎◌, Option, Some, None, All, slice_get}
+use Rattle.std.specs.Prelude.{Option, Some, None, slice_get}
 use Rattle.std.specs.List.{AllByRecursion}
 use Rattle.c_types.specs.Types.{CType, function}
 use Rattle.c_ast.specs.declared.words.Spelling.{Spelling}
@@ -13,11 +13,11 @@ use Rattle.c_typed.specs.Trees as Typed
 use Rattle.c_erasure.specs.Declarators.{closed}
 use Rattle.c_erasure.specs.Erasure.{IsBound}
 use Rattle.c_erasure.specs.Files.{bound, object_how, IsTypedef, IsObject, IsFunction, IsFileDeclarator, AreFileDeclarators, IsDefinition, ErasesItem, in_body}
-use Rattle.c_erasure.specs.Files.{IsMade, AreAscending, IsFileOf, IsIntroduced, IsLeft, declarations_of, is_defined, is_tentative}
+use Rattle.c_erasure.specs.Files.{IsMade, AreAscending, IsFileOf, IsIntroduced, IsLeft, is_defined, is_tentative}
 use Rattle.c_erasure.specs.Literals.{literals_of_value, initial_literals, made_by_file_item, made_by_file}
 use Rattle.c_erasure.specs.Marks.{Mark, a_name, marks_of_initial, marks_of_declarator, marks_of_declarators, marks_of_item, marks_of_file, name_from}
 use Rattle.c_erasure.specs.Marks.{after_declarator, scope_beginnings}
-use Rattle.c_erasure.specs.Scopes.{How, declares, tentative, defines, Entity, typedef, an_object, a_function, a_library_function, enumerator, Bound, AnObject}
+use Rattle.c_erasure.specs.Scopes.{How, declares, defines, Entity, typedef, an_object, a_function, a_library_function, enumerator, Bound, AnObject}
 use Rattle.c_erasure.specs.Scopes.{FileScope, at_file_scope, ended}
 use Rattle.c_erasure.specs.Specifiers.{Storage, storage_of, no_storage, a_typedef, is_extern, is_static, is_auto, is_register, several}
 use Rattle.c_checking_complete.proofs.Objects.{mapped_at}
@@ -26,7 +26,6 @@ use Rattle.c_checking_traced.proofs.Tracing as Tracing
 use Rattle.c_checking_traced.proofs.Tracing.{AreAll, with_names, name_at}
 use Rattle.c_well_typed.proofs.Definitions.{IsDefining, defining, value_of_object}
 use Rattle.c_well_typed.proofs.Enumerators.{IsEnumerated, AreEnumerated, anything, base_found, lengths_found}
-use Rattle.c_well_typed.proofs.InitialStores.{HoldsBytes}
 use Rattle.c_well_typed.proofs.LiteralObjects.{Holds, IsAccounted, AreAccounted, join, holds, constants_held}
 use Rattle.c_well_typed.proofs.StatementObjects.{items_done}
 use Rattle.c_well_typed.proofs.TokenBytes.{AreOfBytes, behind_comma, behind_specifiers, behind_declarator, behind_value, behind_declaration, behind_items}
@@ -179,8 +178,7 @@ module _ (f : FileScope) (count : ℕ) (less : (at : ℕ) → ended f.ends at �
       (name_both (enumerators_name (base_found f d.specs (at_file_scope f) h.0 refl h.2)) own.0, own.1, behind_declaration d rest b)
   item_found (Trees.defines specs d left items right) rest b h =
       let body = h.22 in
-      let tokens = (behind_declarator d _ (behind_specifiers specs _ b)).1 in
-      (
+      let tokens = (behind_declarator d _ (behind_specifiers specs _ b)).1 in (
         name_both
             (name_both (enumerators_name (base_found f specs (at_file_scope f) h.0 refl h.7))
             (enumerators_name (lengths_found f d (at_file_scope f) h.0 (closed (function h.1 h.2)) refl h.10)))

@@ -1,7 +1,7 @@
 -- The objects of a program hold at first values of the parts at their bytes where those of its units do (C99 6.7.8).
-use Rattle.std.proofs.Common.{◌≡◌, ◌∙◌, ℕ, ◌≤◌, ◌<◌, true, refl, sym, ap, subst, List, [], ◌∷◌, length, map}
+use Rattle.std.proofs.Common.{◌≡◌, ◌∙◌, ℕ, ◌≤◌, true, refl, sym, ap, subst, List, [], ◌∷◌, length, map}
 use Rattle.std.proofs.lemmas.List.Elements.{recursion_from_All, All-from_recursion}
-use Rattle.std.specs.Prelude.{Option, Some, None, All, slice_get}
+use Rattle.std.specs.Prelude.{Option, Some, None, All}
 use Rattle.std.specs.List.{AllByRecursion}
 use Rattle.std.specs.Option.{option_map}
 use Rattle.c_types.specs.Layouts.{size_of}
@@ -58,9 +58,13 @@ module _ (units : List UnitData) (agree : Agree units) (complete : AreComplete (
         let z = unmapped_at (λ (o : Object). type_at Types o.ty) (objects units) _ _ (object_again units agree complete each k u h n o there_is) in
         let own = object_typed units agree complete each u there o (among_at u.objects n o there_is) in
         let same = (lies_alike S u.records (records units) (each u there).records complete (stand_among units agree.tags u there)
-        (type_at u.types o.ty) own.1).alike.sizes in
-        (
-          z.0, Again w, number.0, number.1 ∙ ap Again e, ap Again p, z.1,
+        (type_at u.types o.ty) own.1).alike.sizes in (
+          z.0,
+          Again w,
+          number.0,
+          number.1 ∙ ap Again e,
+          ap Again p,
+          z.1,
           subst (λ t. offset ≤ size_of (records units) t) (sym z.2) (subst (λ n. offset ≤ n) (sym same) less),
         )
     value_again t (V.Function i n) (g, w, l, e, p, there_is, points) =

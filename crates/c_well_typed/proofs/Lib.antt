@@ -36,3 +36,5 @@ pub mod FileObjects
 pub mod UnitObjects
 pub mod WholeUnits
 pub mod JoinedObjects
+pub mod SmallTypes
+pub mod PartsWithin

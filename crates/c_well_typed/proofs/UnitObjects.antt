@@ -1,5 +1,5 @@
 -- The objects of a unit hold at first values of the parts at their bytes (C99 6.7.8).
-use Rattle.std.proofs.Common.{◌≡◌, ◌∙◌, ℕ, zero, suc, ◌≤◌, ◌<◌, Bool, true, false, refl, sym, ap, subst, cond, List, [], ◌∷◌, ◌++◌, length, map, flat_map, append-nil}
+use Rattle.std.proofs.Common.{◌≡◌, ◌∙◌, ℕ, zero, suc, ◌≤◌, true, refl, sym, ap, subst, cond, List, [], ◌∷◌, length, map, flat_map, append-nil}
 use Rattle.std.proofs.lemmas.List.Elements.{All-from_recursion}
 use Rattle.std.specs.Prelude.{Option, Some, None, All, slice_get}
 use Rattle.std.specs.List.{AllByRecursion}
@@ -7,7 +7,6 @@ use Rattle.std.specs.Option.{option_map}
 use Rattle.c_types.specs.Layouts.{size_of}
 use Rattle.c_types.specs.Types.{CType, pointer}
 use Rattle.c_ast.specs.Trees
-use Rattle.c_typed.specs.declared.program.Initial.{Initial}
 use Rattle.c_typed.specs.declared.program.Object.{Object}
 use Rattle.c_typed.specs.Conversions.{is_pointer, is_function}
 use Rattle.c_typed.specs.InitialValues.{InitialValue, a_number, a_null, an_address, a_function}
@@ -19,12 +18,12 @@ use Rattle.c_erasure.specs.Noted.{Noted}
 use Rattle.c_erasure.specs.Scopes.{AnObject, AFunction, FileScope, at_file_scope, declared}
 use Rattle.c_erasure.specs.Units as Units
 use Rattle.c_erasure.specs.Units.{Stores, of_initializer, typed_initializer, stored_in, type_if_pointer, object_types, function_types, types, unit_of}
-use Rattle.c_well_typed.specs.WellTyped.{Lists, of_unit, IsTypedInitial, AreInitials, HasObjectType, IsTypedObject}
+use Rattle.c_well_typed.specs.WellTyped.{Lists, of_unit, IsTypedInitial, AreInitials}
 use Rattle.c_well_typed.proofs.Definitions.{is_function_type}
-use Rattle.c_well_typed.proofs.InitialStores.{HoldsBytes, IsStored, initializer_stored}
+use Rattle.c_well_typed.proofs.InitialStores.{IsStored, initializer_stored}
 use Rattle.c_well_typed.proofs.LiteralObjects.{Holds}
 use Rattle.c_well_typed.proofs.Numbers.{two_parts, IsNumbered}
-use Rattle.c_well_typed.proofs.UnitFunctions.{records_ended, objects_numbered, functions_numbered}
+use Rattle.c_well_typed.proofs.UnitFunctions.{records_ended, objects_numbered}
 
 some_is : {A : Type 0} (x y : A) → Some x ≡ Some y → x ≡ y
 some_is x y h = cc
@@ -86,9 +85,9 @@ module _ (items : List Trees.Item) (f : FileScope) (h : IsFileOf items f) (begin
       let within = i.2.2 in
       let o = before_at (λ (o : AnObject). o.ty) f.objects a.object within.0 within.1 in
       let there = after_at (Units.object f) f.objects a.object o.0 o.1 in
-      let same : type_at T (Units.object f o.0).ty ≡ within.0 = object_type a.object o.0 o.1 ∙ o.2 in
-      (
-        i.0, i.1,
+      let same : type_at T (Units.object f o.0).ty ≡ within.0 = object_type a.object o.0 o.1 ∙ o.2 in (
+        i.0,
+        i.1,
         (Units.object f o.0, w.0, n.0, n.1 ∙ i.2.0, w.1, there, subst (λ t. a.offset ≤ size_of f.records t) (sym same) within.2),
       )
   initial_typed t (at, s, a_function g) i k =

@@ -1,5 +1,5 @@
 -- The unit of a file is well typed: its functions are, and what its objects hold at first.
-use Rattle.std.proofs.Common.{◌≡◌, sym, subst, List, [], ◌∷◌, length}
+use Rattle.std.proofs.Common.{sym, subst, List, [], ◌∷◌, length}
 use Rattle.std.proofs.lemmas.List.Elements.{recursion_from_All, All-from_recursion}
 use Rattle.std.specs.Prelude.{All}
 use Rattle.std.specs.List.{AllByRecursion}
@@ -8,11 +8,10 @@ use Rattle.c_ast.specs.Laws.{TreesBeginFirst}
 use Rattle.c_typed.specs.declared.program.Object.{Object}
 use Rattle.c_typed.specs.Programs.{UnitData}
 use Rattle.c_typed.specs.TypeNumbers.{type_at}
-use Rattle.c_erasure.specs.Units.{unit_of}
 use Rattle.c_order.proofs.Ordered.{marks_are_in_order}
 use Rattle.c_text_order.specs.TextOrder.{TextsAreInOrder}
 use Rattle.c_well_typed.specs.Laws.{UnitsAreWellTyped}
-use Rattle.c_well_typed.specs.WellTyped.{of_unit, AreInitials, HasObjectType, IsTypedObject}
+use Rattle.c_well_typed.specs.WellTyped.{of_unit, AreInitials, HasObjectType}
 use Rattle.c_well_typed.proofs.FileObjects.{objects_hold}
 use Rattle.c_well_typed.proofs.TokenBytes.{tree_of_bytes}
 use Rattle.c_well_typed.proofs.UnitFunctions.{records_ended, units_have_typed_functions}

@@ -1,7 +1,8 @@
 //! Laws about what is well typed.
 
 ghost use Rattle.c_typed.specs.Programs.{program_data};
-ghost use Rattle.c_well_typed.specs.Laws.{LocalsAreComplete, ProgramHasTypedFunctions, ProgramHasTypedObjects, UnitsAreWellTyped, UnitsHaveTypedFunctions};
+ghost use Rattle.c_well_typed.specs.Within.{InitialsLieWithin};
+ghost use Rattle.c_well_typed.specs.Laws.{LocalsAreComplete, ProgramHasTypedFunctions, ProgramHasTypedObjects, ProgramIsWellTyped, UnitsAreWellTyped, UnitsHaveTypedFunctions};
 
 use c_lexer::tokens_have_places;
 use c_text_order::texts_are_in_order;
@@ -42,8 +43,23 @@ pub fn programs_have_typed_objects(p: &Typed)
     units_are_well_typed();
 }
 
+/// The program of some files is well typed, where in each of its units the elements of array types are complete (6.7.5.2): each type of it is then as
+/// large as in a unit.
+pub fn programs_are_well_typed(p: &Typed)
+    ensures { ProgramIsWellTyped (program_data p.now) }
+{
+    records_are_complete(&p.records);
+    units_have_typed_functions();
+    units_are_well_typed();
+}
+
 /// Each parameter and local of a typed function with a body has a complete type (6.7, 6.9.1).
 #[tactic(auto, using(crate::proofs::CompleteLocals::locals_complete))]
 pub fn locals_are_complete()
     ensures { LocalsAreComplete }
+{}
+
+/// What a typed object holds at first lies in it, each value at a multiple of its size (6.2.8, 6.7.8).
+pub fn initials_lie_within()
+    ensures { InitialsLieWithin }
 {}

@@ -5,4 +5,7 @@
 
 mod laws;
 
-pub use laws::{locals_are_complete, programs_have_typed_functions, programs_have_typed_objects, units_are_well_typed, units_have_typed_functions};
+pub use laws::{
+    locals_are_complete, programs_are_well_typed, programs_have_typed_functions,
+    programs_have_typed_objects, units_are_well_typed, units_have_typed_functions,
+};
