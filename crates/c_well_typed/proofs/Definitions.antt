@@ -328,13 +328,13 @@ module _ (f : FileScope) (count : ℕ) (less : (at : ℕ) → ended f.ends at �
 
   -- ---- declarations of a function
 
-  abbrev IsDeclaring : List Bound → Entity → Type 0
+  abbrev pub IsDeclaring : List Bound → Entity → Type 0
   IsDeclaring names e = (k : ℕ) × (b : Bound) × (slice_get names k ≡ Some b) × (b.entity ≡ e)
 
   abbrev pub IsDefining : List Bound → Entity → Type 0
   IsDefining names e = (k : ℕ) × (b : Bound) × (slice_get names k ≡ Some b) × (b.entity ≡ e) × (b.how ≡ defines)
 
-  declaring : (names : List Bound) (e : Entity) (all : List How) → declarations_of names e all → all ≢ [] → IsDeclaring names e
+  pub declaring : (names : List Bound) (e : Entity) (all : List How) → declarations_of names e all → all ≢ [] → IsDeclaring names e
   declaring [] e all h n = absurd (n h)
   declaring (b ∷ names) e all (inl h) n = (zero, b, refl, h.0)
   declaring (b ∷ names) e all (inr h) n = let r = declaring names e all h.1 n in (suc r.0, r.1, r.2, r.3)

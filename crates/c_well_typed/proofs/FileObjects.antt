@@ -24,9 +24,9 @@ use Rattle.c_checking_complete.proofs.Objects.{mapped_at}
 use Rattle.c_checking_traced.proofs.Lists.{ascending_apart}
 use Rattle.c_checking_traced.proofs.Tracing as Tracing
 use Rattle.c_checking_traced.proofs.Tracing.{AreAll, with_names, name_at}
-use Rattle.c_well_typed.proofs.Definitions.{IsDefining, defining, value_of_object}
+use Rattle.c_well_typed.proofs.Definitions.{IsDeclaring, IsDefining, declaring, defining, value_of_object}
 use Rattle.c_well_typed.proofs.Enumerators.{IsEnumerated, AreEnumerated, anything, base_found, lengths_found}
-use Rattle.c_well_typed.proofs.LiteralObjects.{Holds, IsAccounted, AreAccounted, join, holds, constants_held}
+use Rattle.c_well_typed.proofs.LiteralObjects.{Holds, IsTextual, IsAccounted, AreAccounted, join, holds, constants_held}
 use Rattle.c_well_typed.proofs.StatementObjects.{items_done}
 use Rattle.c_well_typed.proofs.TokenBytes.{AreOfBytes, behind_comma, behind_specifiers, behind_declarator, behind_value, behind_declaration, behind_items}
 
@@ -57,8 +57,12 @@ module _ (f : FileScope) (count : ℕ) (less : (at : ℕ) → ended f.ends at �
   abbrev IsDefinedObject : ℕ → Type 0
   IsDefinedObject n = (o : AnObject) × (slice_get f.objects n ≡ Some o) × Holds o
 
+  -- one that is declared is that of no literal
+  abbrev IsOwnObject : ℕ → Type 0
+  IsOwnObject n = (o : AnObject) × (slice_get f.objects n ≡ Some o) × (o.literal ≡ None)
+
   abbrev IsObjectName : Bound → Type 0
-  IsObjectName b = (n : ℕ) (t : CType) → b.entity ≡ an_object n t → b.how ≡ defines → IsDefinedObject n
+  IsObjectName b = (n : ℕ) (t : CType) → b.entity ≡ an_object n t → IsOwnObject n × (b.how ≡ defines → IsDefinedObject n)
 
   abbrev IsNamedBy : ℕ → Type 0
   IsNamedBy from = (b : Bound) × IsBound (at_file_scope f) b × (b.from ≡ from) × IsObjectName b
@@ -78,7 +82,7 @@ module _ (f : FileScope) (count : ℕ) (less : (at : ℕ) → ended f.ends at �
   enumerators_name : {a : List Mark} → AreEnumerated f a → AreNames a
   enumerators_name {a} x = record {
     all = with_names (IsEnumerated f) IsNamedBy anything a
-        (λ from h. (h.0, h.2, h.3, (λ n t e d. absurd (no_enumerator h.1 n t (sym h.4 ∙ e))))) x.all;
+        (λ from h. (h.0, h.2, h.3, (λ n t e. absurd (no_enumerator h.1 n t (sym h.4 ∙ e))))) x.all;
   }
 
   one_name : (x : Spelling) (from : ℕ) (how : How) (e : Entity) → IsBound (at_file_scope f) (bound x from how e) → IsObjectName (bound x from how e)
@@ -122,7 +126,7 @@ module _ (f : FileScope) (count : ℕ) (less : (at : ℕ) → ended f.ends at �
   typedef_found : (base : CType) (d : Trees.InitDeclarator) (x : Spelling) (place from : ℕ) → IsTypedef f base d x place from → IsDeclarator d from
   typedef_found base d x place from h =
       with_name d from (lengths_found f d.declarator (at_file_scope f) base (closed h.0) refl h.3)
-      (one_name x from defines (typedef h.0) h.5 (λ n t e d. absurd (no_typedef h.0 n t e))) (no_value d.value h.1)
+      (one_name x from defines (typedef h.0) h.5 (λ n t e. absurd (no_typedef h.0 n t e))) (no_value d.value h.1)
 
   object_found : (words : Storage) (base : CType) (d : Trees.InitDeclarator) (x : Spelling) (place from : ℕ) (rest : List Lexeme)
       → AreOfBytes (spelled_value d.value rest) → IsObject f words base d x place from → IsDeclarator d from
@@ -130,15 +134,15 @@ module _ (f : FileScope) (count : ℕ) (less : (at : ℕ) → ended f.ends at �
       let k = defined words d.value place h.1 h.3 rest b h.16 in
       with_name d from (lengths_found f d.declarator (at_file_scope f) base h.0 refl h.4)
       (one_name x from (object_how words d.value) (an_object h.2 h.1) h.15
-      (λ n t e d. subst IsDefinedObject (same_object h.2 n h.1 t e) (h.3, h.9, k.1 d)))
+      (λ n t e. (subst IsOwnObject (same_object h.2 n h.1 t e) (h.3, h.9, h.12), λ d. subst IsDefinedObject (same_object h.2 n h.1 t e) (h.3, h.9, k.1 d))))
       (value_of_object f count less d.value place h.1 h.3 h.16, k.0)
 
   function_named : (words : Storage) (base : CType) (d : Trees.InitDeclarator) (x : Spelling) (place from : ℕ) → IsFunction f words base d x place from
       → AreNames (a_name from ∷ [])
   function_named words base d x place from (t, v, de, fn, me, inl k) =
-      one_name x from declares (a_library_function k.0) k.4 (λ n t e d. absurd (no_library k.0 n t e))
+      one_name x from declares (a_library_function k.0) k.4 (λ n t e. absurd (no_library k.0 n t e))
   function_named words base d x place from (t, v, de, fn, me, inr k) =
-      one_name x from declares (a_function k.0 t) k.8 (λ n s e d. absurd (no_function k.0 t n s e))
+      one_name x from declares (a_function k.0 t) k.8 (λ n s e. absurd (no_function k.0 t n s e))
 
   function_found : (words : Storage) (base : CType) (d : Trees.InitDeclarator) (x : Spelling) (place from : ℕ) → IsFunction f words base d x place from
       → IsDeclarator d from
@@ -182,7 +186,7 @@ module _ (f : FileScope) (count : ℕ) (less : (at : ℕ) → ended f.ends at �
         name_both
             (name_both (enumerators_name (base_found f specs (at_file_scope f) h.0 refl h.7))
             (enumerators_name (lengths_found f d (at_file_scope f) h.0 (closed (function h.1 h.2)) refl h.10)))
-            (one_name h.3 left defines (a_function h.4 h.5.ty) h.20 (λ n t e d. absurd (no_function h.4 h.5.ty n t e))),
+            (one_name h.3 left defines (a_function h.4 h.5.ty) h.20 (λ n t e. absurd (no_function h.4 h.5.ty n t e))),
         items_done f items (in_body f h.6 (h.5.parameters ++ h.5.locals)) body.0 _ (refl, refl) tokens body.2,
         (behind_items items _ tokens).1,
       )
@@ -214,22 +218,33 @@ module _ (f : FileScope) (count : ℕ) (less : (at : ℕ) → ended f.ends at �
           let there : slice_get f.names k ≡ Some z.0 = subst (λ k. slice_get f.names k ≡ Some z.0) number z.1.1 in
           subst IsObjectName (some_is z.0 b (sym there ∙ e)) z.3
 
-      pub objects_hold : (n : ℕ) (o : AnObject) → slice_get f.objects n ≡ Some o → Holds o
-      objects_hold n o e = by_maker (h.objects n o e)
+      abbrev IsKnown : AnObject → Type 0
+      IsKnown o = Holds o × IsTextual o
+
+      pub objects_known : (n : ℕ) (o : AnObject) → slice_get f.objects n ≡ Some o → IsKnown o
+      objects_known n o e = by_maker (h.objects n o e)
         where
-          made : IsAccounted f o.first → Holds o
+          made : IsAccounted f o.first → IsKnown o
           made (inl k) =
               let first = mapped_at (λ (o : AnObject). o.first) f.objects n o e in
               let other = mapped_at (λ (o : AnObject). o.first) f.objects k.0 k.1 k.2 ∙ ap Some k.3 in
               let number : k.0 ≡ n = ascending_apart (map (λ o. o.first) f.objects) h.objects_in_order k.0 n o.first other first in
               let there : slice_get f.objects n ≡ Some k.1 = subst (λ n. slice_get f.objects n ≡ Some k.1) number k.2 in
-              subst Holds (some_is k.1 o (sym there ∙ e)) k.4
+              subst IsKnown (some_is k.1 o (sym there ∙ e)) (k.4, k.5)
           made (inr k) =
               absurd (at_place (λ (p : AnObject). p.first ≢ o.first) f.objects (recursion_from_All (λ (p : AnObject). p.first ≢ o.first) f.objects k) n o e refl)
 
           of_name : IsDefining f count less f.names (an_object n o.ty) → Holds o
           of_name d =
-              let k = name_known d.0 d.1 d.2 n o.ty d.3 d.4 in subst Holds (some_is k.0 o (sym k.1 ∙ e)) k.2
+              let k = (name_known d.0 d.1 d.2 n o.ty d.3).1 d.4 in subst Holds (some_is k.0 o (sym k.1 ∙ e)) k.2
+
+          no_literal : o.literal ≡ None → IsTextual o
+          no_literal q bytes k = let none : None ≡ Some bytes = sym q ∙ k in cc
+
+          own : IsDeclaring f count less f.names (an_object n o.ty) → IsTextual o
+          own d =
+              let k = (name_known d.0 d.1 d.2 n o.ty d.3).0 in
+              no_literal (subst (λ (o : AnObject). o.literal ≡ None) (some_is k.0 o (sym k.1 ∙ e)) k.2)
 
           no_initial : o.initial ≡ None → Holds o
           no_initial q i k = let none : None ≡ Some i = sym q ∙ k in cc
@@ -239,7 +254,9 @@ module _ (f : FileScope) (count : ℕ) (less : (at : ℕ) → ended f.ends at �
           by_left false true l k = holds o (Typed.parts []) l.1 tt
           by_left false false l k = no_initial l.1
 
-          by_maker : IsIntroduced f items n o → Holds o
+          by_maker : IsIntroduced f items n o → IsKnown o
           by_maker (inl m) = made (among f (made_by_file items) o.first m known.1)
-          by_maker (inr d) =
-              by_left (is_defined d.0) (is_tentative d.0) d.3 (λ t. of_name (defining f count less f.names (an_object n o.ty) d.0 d.2 t))
+          by_maker (inr d) = (
+            by_left (is_defined d.0) (is_tentative d.0) d.3 (λ t. of_name (defining f count less f.names (an_object n o.ty) d.0 d.2 t)),
+            own (declaring f count less f.names (an_object n o.ty) d.0 d.2 d.1),
+          )

@@ -21,6 +21,7 @@ use Rattle.c_link.proofs.JoinedRecords as Joined
 use Rattle.c_link.proofs.JoinedRecords.{among_at, stand_among}
 use Rattle.c_link.proofs.Layouts.{lies_alike}
 use Rattle.c_well_typed.specs.WellTyped.{of_unit, IsTypedInitial, IsTypedInitialValue, AreInitials, HaveTypedFunctions}
+use Rattle.c_well_typed.specs.Within.{IsTextObject}
 use Rattle.c_well_typed.proofs.JoinedFunctions.{each_is, is_each, unmapped_at, T, P, R, N, type_is, object_typed, object_again, function_again}
 use Rattle.c_well_typed.proofs.LookedUp.{of_unit as found_unit, unit_among}
 use Rattle.c_well_typed.proofs.RenumberedParts.{part_again}
@@ -107,3 +108,24 @@ module _ (units : List UnitData) (agree : Agree units) (complete : AreComplete (
           subst AreHeld (sym z.6)
           (subst (λ t. AreInitials (P units agree complete each) t all) (sym type.1)
           (initials_again z.0 u z.2 (type_at u.types z.4.ty) own.1 z.4.initial held))
+
+  -- ---- the objects of literals
+
+  module _ (texts : (u : UnitData) → Joined.IsAmong u units → All (IsTextObject (of_unit u)) u.objects) where
+    abbrev IsText : Object → Type 0
+    IsText o = IsTextObject (P units agree complete each) o
+
+    pub texts_again : All IsText (objects units)
+    texts_again = All-from_recursion IsText (objects units) (each_is IsText (objects units) one)
+      where
+        one : (o : Object) → Joined.IsAmong o (objects units) → IsText o
+        one o i =
+            let z = found_unit (λ (o : Object). o.linked) (λ (o : Object). o.name) (λ (u : UnitData). u.objects) is_object_defined
+            (λ k u o. object_in (N units agree complete each k u) o) object_identities (λ k n. refl) (λ k n x more. refl) units o i in
+            let u = z.1 in
+            let there = unit_among 0 units (z.0, u) z.2 in
+            let among = among_at u.objects z.3 z.4 z.5 in
+            let own = object_typed units agree complete each u there z.4 among in
+            let type = type_is units agree complete each u there z.0 z.4.ty own.0 in
+            let text = is_each (IsTextObject (of_unit u)) u.objects (recursion_from_All (IsTextObject (of_unit u)) u.objects (texts u there)) z.4 among in
+            subst IsText (sym z.6) (λ t. let k = text t in (k.0, type.1 ∙ ap (R units agree complete each u) k.1))

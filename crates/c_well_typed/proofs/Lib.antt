@@ -38,3 +38,4 @@ pub mod WholeUnits
 pub mod JoinedObjects
 pub mod SmallTypes
 pub mod PartsWithin
+pub mod Limits

@@ -2,7 +2,8 @@
 use Rattle.std.proofs.Common.{◌≡◌, ◌≢◌, ◌∙◌, ℕ, ◌+◌, true, refl, sym, subst, List, [], ◌∷◌, ◌++◌, length, ◌≤◌, inl, inr}
 use Rattle.std.specs.Prelude.{◌⊎◌, Option, Some, None, All, slice_get}
 use Rattle.std.specs.List.{AllByRecursion}
-use Rattle.c_types.specs.Types.{CType, structure, Field}
+use Rattle.c_types.specs.declared.ty.IntKind.TheVariants.{Char}
+use Rattle.c_types.specs.Types.{CType, integer, array, structure, Field}
 use Rattle.c_ast.specs.declared.words.Spelling.{Spelling}
 use Rattle.c_ast.specs.declared.operators.UnaryOp.TheVariants as U
 use Rattle.c_ast.specs.Places.{first_text}
@@ -25,9 +26,14 @@ some_is x y h = cc
 abbrev pub Holds : AnObject → Type 0
 Holds o = (i : Typed.Initializer Noted) → o.initial ≡ Some i → HoldsBytes i
 
+-- that of a literal is an array of characters
+abbrev pub IsTextual : AnObject → Type 0
+IsTextual o = (bytes : List ℕ) → o.literal ≡ Some bytes → (n : ℕ) × (o.ty ≡ array (integer Char) n)
+
 -- the object that begins there holds bytes, or none begins there
 abbrev pub IsAccounted : FileScope → ℕ → Type 0
-IsAccounted f at = ((n : ℕ) × (o : AnObject) × (slice_get f.objects n ≡ Some o) × (o.first ≡ at) × Holds o) ⊎ All (λ o. o.first ≢ at) f.objects
+IsAccounted f at = ((n : ℕ) × (o : AnObject) × (slice_get f.objects n ≡ Some o) × (o.first ≡ at) × Holds o × IsTextual o)
+    ⊎ All (λ o. o.first ≢ at) f.objects
 
 abbrev pub AreAccounted : FileScope → List ℕ → Type 0
 AreAccounted f places = AllByRecursion (IsAccounted f) places
@@ -64,6 +70,7 @@ module _ (f : FileScope) where
           subst (λ (f : FileScope). slice_get f.objects k.0 ≡ Some o) e.0 k.2,
           refl,
           holds o (Typed.parts (record { offset = 0; value = Typed.text (literal_of all) } ∷ [])) refl (b, tt),
+          λ bytes e. (length (literal_of all), refl),
         ),
         tt,
       )

@@ -10,14 +10,14 @@ use Rattle.c_types.proofs.Multiples.{sizes_are_multiples}
 use Rattle.c_types.specs.Laws.{IsField, FieldsLieApart, SizesAreMultiples}
 use Rattle.c_types.specs.Layouts.{size_of, align_of, offset_of}
 use Rattle.c_types.specs.Limits.{AreComplete}
-use Rattle.c_types.specs.Types.{CType, structure, Field, Record, field_types}
+use Rattle.c_types.specs.Types.{CType, integer, array, structure, Field, Record, field_types}
 use Rattle.c_typed.specs.declared.program.Initial.{Initial}
 use Rattle.c_typed.specs.declared.program.InitialValue.{InitialValue}
 use Rattle.c_typed.specs.declared.program.InitialValue.TheVariants as V
 use Rattle.c_typed.specs.Parts.{IsPart, itself, of_element, of_field}
 use Rattle.c_typed.specs.Typed.{type_in, field_type}
 use Rattle.c_well_typed.specs.WellTyped.{Lists, ty, IsTypedInitial, IsTypedInitialValue, AreInitials}
-use Rattle.c_well_typed.specs.Within.{value_size, IsWithin, AreWithin, InitialsLieWithin}
+use Rattle.c_well_typed.specs.Within.{value_size, IsWithin, AreWithin, InitialsLieWithin, IsNumber, AreNumbers, TextsHoldNumbers}
 
 -- ---- multiples of alignments
 
@@ -142,3 +142,38 @@ module _ (l : Lists) (complete : AreComplete l.records) where
 
 pub initials_lie_within : InitialsLieWithin
 initials_lie_within l complete o h = all_within l complete (ty l o.ty) o.initial h.1
+
+-- ---- parts of arrays of numbers are no pointers
+
+abbrev HasNoPointer : CType → Type 0
+HasNoPointer (integer kind) = Unit {0}
+HasNoPointer (array t n) = HasNoPointer t
+HasNoPointer t = ⊥
+
+no_pointer : (records : List Record) (t u : CType) (at : ℕ) → IsPart records t at u → HasNoPointer t → HasNoPointer u
+no_pointer records t u at (itself s) h = h
+no_pointer records t u at (of_element s v n k b l p) h = no_pointer records s v b p h
+no_pointer records t u at (of_field s v r field b e p) h = absurd h
+
+number_alone : (l : Lists) (u : CType) (v : InitialValue) → HasNoPointer u → IsTypedInitialValue l u v → IsNumber v
+number_alone l u (V.Number kind v) n h = tt
+number_alone l u (V.Address i k offset) n (o, w, less, e, p, there, fits) = absurd (subst HasNoPointer p n)
+number_alone l u (V.Function i k) n (g, w, less, e, p, there, points) = absurd (subst HasNoPointer p n)
+
+numbers_alone : (l : Lists) (t : CType) (all : List Initial) → HasNoPointer t → AllByRecursion (IsTypedInitial l t) all
+    → AllByRecursion (λ (i : Initial). IsNumber i.value) all
+numbers_alone l t [] n h = tt
+numbers_alone l t (i ∷ all) n h =
+    (number_alone l h.0.0 i.value (no_pointer l.records t h.0.0 i.offset h.0.1 n) h.0.2, numbers_alone l t all n h.1)
+
+pub texts_hold_numbers : TextsHoldNumbers
+texts_hold_numbers l o h text is = by_initial o.initial h.1
+  where
+    none : HasNoPointer (ty l o.ty)
+    none = let k = text is in subst HasNoPointer (sym k.1) tt
+
+    by_initial : (all : Option (List Initial)) → AreInitials l (ty l o.ty) all → AreNumbers all
+    by_initial None i = tt
+    by_initial (Some all) i =
+        All-from_recursion (λ (i : Initial). IsNumber i.value) all
+        (numbers_alone l (ty l o.ty) all none (recursion_from_All (IsTypedInitial l (ty l o.ty)) all i))

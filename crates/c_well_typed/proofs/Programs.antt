@@ -8,14 +8,18 @@ use Rattle.c_types.specs.Limits.{AreComplete, AreSmall}
 use Rattle.c_typed.specs.declared.program.Object.{Object}
 use Rattle.c_typed.specs.Programs.{UnitData, ProgramData}
 use Rattle.c_typed.specs.TypeNumbers.{type_at}
+use Rattle.c_ast.specs.Trees
+use Rattle.c_ast.specs.TreesOfFiles.{IsTreeOf}
+use Rattle.c_erasure.specs.Erasing.{ErasesTo}
 use Rattle.c_joining.specs.Joining.{joined, objects}
 use Rattle.c_link.specs.Programs.{AreUnitsOf, IsUnitOfFile}
 use Rattle.c_link.proofs.JoinedRecords.{IsAmong}
 use Rattle.c_well_typed.specs.Laws.{UnitsHaveTypedFunctions, UnitsAreWellTyped, ProgramHasTypedFunctions, ProgramHasTypedObjects, ProgramIsWellTyped}
 use Rattle.c_well_typed.specs.WellTyped.{of_unit, of_program, AreInitials, HasObjectType, IsTypedObject, IsSmallType, HaveTypedFunctions}
 use Rattle.c_well_typed.specs.WellTyped.{HaveWholeElements, IsWellTypedUnit, HasMain}
+use Rattle.c_well_typed.specs.Within.{IsTextObject, ProgramHasTexts}
 use Rattle.c_well_typed.proofs.JoinedFunctions.{program_typed, main_again}
-use Rattle.c_well_typed.proofs.JoinedObjects.{objects_hold_again}
+use Rattle.c_well_typed.proofs.JoinedObjects.{objects_hold_again, texts_again}
 use Rattle.c_well_typed.proofs.SmallTypes.{small_again}
 use Rattle.c_well_typed.proofs.WholeUnits.{all_both}
 
@@ -91,3 +95,23 @@ program_is_well_typed functions_law law p complete small files h wholes =
       lists = record { functions = own.0; small_types = types; objects = program_has_typed_objects law p complete small files h };
       main = own.1;
     }
+
+-- ---- the objects of literals
+
+abbrev UnitsHaveTexts : Type 0
+UnitsHaveTexts = (file : ℕ) (name bytes : List ℕ) (items : List Trees.Item) (u : UnitData) → IsTreeOf bytes items → ErasesTo file name bytes items u
+    → All (IsTextObject (of_unit u)) u.objects
+
+pub program_has_texts : UnitsHaveTexts → UnitsAreWellTyped → (p : ProgramData) → AreComplete p.records → ProgramHasTexts p
+program_has_texts texts_law law p complete files h =
+    let e = h.program.joined_units in
+    let whole = subst (λ (p : ProgramData). AreComplete p.records) e complete in
+    let well = each_unit IsWellTypedUnit (λ number file u own. law number file.name file.bytes own.items u own.tree own.erases) 0 files h.units h.of_files in
+    let texts = each_unit (λ u. All (IsTextObject (of_unit u)) u.objects)
+    (λ number file u own. texts_law number file.name file.bytes own.items u own.tree own.erases) 0 files h.units h.of_files in
+    let each : (u : UnitData) → IsAmong u h.units → HaveTypedFunctions (of_unit u) = λ u i. let w = well u i in w.functions in
+    let values : (u : UnitData) → IsAmong u h.units → All (λ (o : Object). AreInitials (of_unit u) (type_at u.types o.ty) o.initial) u.objects =
+    λ u i. let w = well u i in
+    All-from_recursion (λ (o : Object). AreInitials (of_unit u) (type_at u.types o.ty) o.initial) u.objects
+    (held law u u.objects (recursion_from_All (IsTypedObject (of_unit u)) u.objects w.objects)) in
+    subst (λ (p : ProgramData). All (IsTextObject (of_program p)) p.objects) (sym e) (texts_again h.units h.program.agree whole each values texts)

@@ -57,7 +57,7 @@ module _ (f : FileScope) where
         literal = None;
         initial = Some h.0;
       } in
-      (inl (n, o, subst (λ (f : FileScope). slice_get f.objects n ≡ Some o) e.0 h.2, same, holds o h.0 refl k.0), k.1)
+      (inl (n, o, subst (λ (f : FileScope). slice_get f.objects n ≡ Some o) e.0 h.2, same, holds o h.0 refl k.0, λ bytes e. cc), k.1)
 
   statics : (all : List Trees.InitDeclarator) (s : Scope) (base : CType) (sts : Statements) (after : Scope) (semicolon : ℕ) (rest : List Lexeme) → Full s
       → AreOfBytes (spelled_init_declarators all rest) → DeclareAll all s true base sts after

@@ -1,11 +1,12 @@
 -- The objects of a unit hold at first values of the parts at their bytes (C99 6.7.8).
 use Rattle.std.proofs.Common.{◌≡◌, ◌∙◌, ℕ, zero, suc, ◌≤◌, true, refl, sym, ap, subst, cond, List, [], ◌∷◌, length, map, flat_map, append-nil}
 use Rattle.std.proofs.lemmas.List.Elements.{All-from_recursion}
-use Rattle.std.specs.Prelude.{Option, Some, None, All, slice_get}
+use Rattle.std.specs.Prelude.{Option, Some, None, All, slice_get, is_some}
 use Rattle.std.specs.List.{AllByRecursion}
 use Rattle.std.specs.Option.{option_map}
 use Rattle.c_types.specs.Layouts.{size_of}
-use Rattle.c_types.specs.Types.{CType, pointer}
+use Rattle.c_types.specs.declared.ty.IntKind.TheVariants.{Char}
+use Rattle.c_types.specs.Types.{CType, integer, pointer, array}
 use Rattle.c_ast.specs.Trees
 use Rattle.c_typed.specs.declared.program.Object.{Object}
 use Rattle.c_typed.specs.Conversions.{is_pointer, is_function}
@@ -19,9 +20,10 @@ use Rattle.c_erasure.specs.Scopes.{AnObject, AFunction, FileScope, at_file_scope
 use Rattle.c_erasure.specs.Units as Units
 use Rattle.c_erasure.specs.Units.{Stores, of_initializer, typed_initializer, stored_in, type_if_pointer, object_types, function_types, types, unit_of}
 use Rattle.c_well_typed.specs.WellTyped.{Lists, of_unit, IsTypedInitial, AreInitials}
+use Rattle.c_well_typed.specs.Within.{IsTextObject}
 use Rattle.c_well_typed.proofs.Definitions.{is_function_type}
 use Rattle.c_well_typed.proofs.InitialStores.{IsStored, initializer_stored}
-use Rattle.c_well_typed.proofs.LiteralObjects.{Holds}
+use Rattle.c_well_typed.proofs.LiteralObjects.{Holds, IsTextual}
 use Rattle.c_well_typed.proofs.Numbers.{two_parts, IsNumbered}
 use Rattle.c_well_typed.proofs.UnitFunctions.{records_ended, objects_numbered}
 
@@ -51,7 +53,7 @@ each_mapped P v [] h = tt
 each_mapped P v (x ∷ xs) h = (h 0 x refl, each_mapped P v xs (λ j y e. h (suc j) y e))
 
 module _ (items : List Trees.Item) (f : FileScope) (h : IsFileOf items f) (beginnings : AreAscending (scope_beginnings (marks_of_file f.untagged items)))
-    (bytes : (n : ℕ) (o : AnObject) → slice_get f.objects n ≡ Some o → Holds o) where
+    (known : (n : ℕ) (o : AnObject) → slice_get f.objects n ≡ Some o → Holds o × IsTextual o) where
   abbrev T : List CType
   T = types f
 
@@ -115,7 +117,7 @@ module _ (items : List Trees.Item) (f : FileScope) (h : IsFileOf items f) (begin
       by_initial None q = tt
       by_initial (Some i) q =
           let all = of_initializer f (typed_initializer i) in
-          let stored = initializer_stored f all_functions o.ty i (bytes n o e i q) (h.initialized n o i e q) in
+          let stored = initializer_stored f all_functions o.ty i ((known n o e).0 i q) (h.initialized n o i e q) in
           let k = subst (λ q. AllByRecursion (IsNumbered T) (flat_map type_if_pointer (flat_map (λ i. of_initializer f (typed_initializer i)) (Units.if_any q)))) q
           numbered.1 in
           let own : AllByRecursion (IsNumbered T) (flat_map type_if_pointer all) =
@@ -127,3 +129,17 @@ module _ (items : List Trees.Item) (f : FileScope) (h : IsFileOf items f) (begin
       All-from_recursion (λ (o : Object). AreInitials L (type_at T o.ty) o.initial) (map (Units.object f) f.objects)
       (each_mapped (λ (o : Object). AreInitials L (type_at T o.ty) o.initial) (Units.object f) f.objects
       (λ n o e. subst (λ t. AreInitials L t (Units.object f o).initial) (sym (object_type n o e)) (are_initials n o e)))
+
+  -- ---- the objects of literals are arrays of characters
+
+  text_typed : (n : ℕ) (o : AnObject) → slice_get f.objects n ≡ Some o → IsTextObject L (Units.object f o)
+  text_typed n o e text = by_literal o.literal refl text
+    where
+      by_literal : (b : Option (List ℕ)) → o.literal ≡ b → is_some b ≡ true → (n : ℕ) × (type_at T (Units.object f o).ty ≡ array (integer Char) n)
+      by_literal None q t = cc
+      by_literal (Some bytes) q t = let k = (known n o e).1 bytes q in (k.0, object_type n o e ∙ k.1)
+
+  pub texts_all : All (IsTextObject L) (map (Units.object f) f.objects)
+  texts_all =
+      All-from_recursion (IsTextObject L) (map (Units.object f) f.objects)
+      (each_mapped (IsTextObject L) (Units.object f) f.objects text_typed)

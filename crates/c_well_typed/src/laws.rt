@@ -1,7 +1,7 @@
 //! Laws about what is well typed.
 
 ghost use Rattle.c_typed.specs.Programs.{program_data};
-ghost use Rattle.c_well_typed.specs.Within.{InitialsLieWithin};
+ghost use Rattle.c_well_typed.specs.Within.{InitialsLieWithin, ProgramHasTexts, ProgramsAreWithinLimits, TextsHoldNumbers};
 ghost use Rattle.c_well_typed.specs.Laws.{LocalsAreComplete, ProgramHasTypedFunctions, ProgramHasTypedObjects, ProgramIsWellTyped, UnitsAreWellTyped, UnitsHaveTypedFunctions};
 
 use c_lexer::tokens_have_places;
@@ -62,4 +62,24 @@ pub fn locals_are_complete()
 /// What a typed object holds at first lies in it, each value at a multiple of its size (6.2.8, 6.7.8).
 pub fn initials_lie_within()
     ensures { InitialsLieWithin }
+{}
+
+/// The object of each string literal of a program of files is an array of characters (6.4.5).
+pub fn programs_have_texts(p: &Typed)
+    ensures { ProgramHasTexts (program_data p.now) }
+{
+    records_are_complete(&p.records);
+    units_are_well_typed();
+    tokens_have_places();
+    texts_are_in_order();
+}
+
+/// Where it is so and the object is typed, it holds no pointer.
+pub fn texts_hold_numbers()
+    ensures { TextsHoldNumbers }
+{}
+
+/// A program of files has few nodes, and few bytes of locals and of objects.
+pub fn programs_are_within_limits()
+    ensures { ProgramsAreWithinLimits }
 {}
