@@ -39,3 +39,6 @@ pub mod JoinedObjects
 pub mod SmallTypes
 pub mod PartsWithin
 pub mod Limits
+pub mod StatementLoops
+pub mod FileLoops
+pub mod ProgramLoops

@@ -24,7 +24,7 @@ use Rattle.c_well_typed.proofs.SmallTypes.{small_again}
 use Rattle.c_well_typed.proofs.WholeUnits.{all_both}
 
 -- what is known of the unit of each file
-each_unit : (Q : UnitData → Type 0) → ((number : ℕ) (file : File) (u : UnitData) → IsUnitOfFile number file u → Q u) → (number : ℕ) (files : List File)
+pub each_unit : (Q : UnitData → Type 0) → ((number : ℕ) (file : File) (u : UnitData) → IsUnitOfFile number file u → Q u) → (number : ℕ) (files : List File)
     (units : List UnitData) → AreUnitsOf number files units → (u : UnitData) → IsAmong u units → Q u
 each_unit Q own number [] units h u i = absurd (subst (IsAmong u) h i)
 each_unit Q own number (file ∷ more) units h u i =

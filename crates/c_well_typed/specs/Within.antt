@@ -6,6 +6,7 @@ use Rattle.c_types.specs.IntKinds.{width}
 use Rattle.c_types.specs.Layouts.{size_of}
 use Rattle.c_types.specs.Limits.{AreComplete}
 use Rattle.c_types.specs.Types.{CType, integer, array}
+use Rattle.c_counts.specs.Loops.{loops_of}
 use Rattle.c_typed.specs.declared.program.Initial.{Initial}
 use Rattle.c_typed.specs.declared.program.InitialValue.{InitialValue}
 use Rattle.c_typed.specs.declared.program.InitialValue.TheVariants as V
@@ -66,3 +67,7 @@ pub record IsWithinLimits (p : ProgramData) : Type 0 where
 
 abbrev pub ProgramsAreWithinLimits : Type 0
 ProgramsAreWithinLimits = (files : List File) (p : ProgramData) → IsProgramOf files p → IsWithinLimits p
+
+-- each function has as few loops as a program may have nodes
+abbrev pub ProgramsHaveFewLoops : Type 0
+ProgramsHaveFewLoops = (files : List File) (p : ProgramData) → IsProgramOf files p → All (λ f. loops_of f ≤ 131072) p.functions

@@ -1,7 +1,7 @@
 //! Laws about what is well typed.
 
 ghost use Rattle.c_typed.specs.Programs.{program_data};
-ghost use Rattle.c_well_typed.specs.Within.{InitialsLieWithin, ProgramHasTexts, ProgramsAreWithinLimits, TextsHoldNumbers};
+ghost use Rattle.c_well_typed.specs.Within.{InitialsLieWithin, ProgramHasTexts, ProgramsAreWithinLimits, ProgramsHaveFewLoops, TextsHoldNumbers};
 ghost use Rattle.c_well_typed.specs.Laws.{LocalsAreComplete, ProgramHasTypedFunctions, ProgramHasTypedObjects, ProgramIsWellTyped, UnitsAreWellTyped, UnitsHaveTypedFunctions};
 
 use c_lexer::tokens_have_places;
@@ -83,3 +83,10 @@ pub fn texts_hold_numbers()
 pub fn programs_are_within_limits()
     ensures { ProgramsAreWithinLimits }
 {}
+
+/// So each of its functions has few loops.
+pub fn programs_have_few_loops()
+    ensures { ProgramsHaveFewLoops }
+{
+    tokens_have_places();
+}
