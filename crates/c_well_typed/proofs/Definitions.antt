@@ -229,7 +229,7 @@ module _ (f : FileScope) (count : ℕ) (less : (at : ℕ) → ended f.ends at �
   no_value : (v : Option (ℕ × Trees.Expression)) → v ≡ None → E (marks_of_initial u v)
   no_value v h = subst (λ v. E (marks_of_initial u v)) (sym h) no_marks
 
-  value_of_object : (v : Option (ℕ × Trees.Expression)) (place : ℕ) (t : CType) (o : Scopes.AnObject) → IsDefinition (at_file_scope f) place t v o
+  pub value_of_object : (v : Option (ℕ × Trees.Expression)) (place : ℕ) (t : CType) (o : Scopes.AnObject) → IsDefinition (at_file_scope f) place t v o
       → E (marks_of_initial u v)
   value_of_object None place t o h = no_marks
   value_of_object (Some v) place t o h = initializer_found v.1 (at_file_scope f) t h.0 refl h.1.0
@@ -328,13 +328,13 @@ module _ (f : FileScope) (count : ℕ) (less : (at : ℕ) → ended f.ends at �
 
   -- ---- declarations of a function
 
-  abbrev IsDeclaring : List Bound → Entity → Type 0
+  abbrev pub IsDeclaring : List Bound → Entity → Type 0
   IsDeclaring names e = (k : ℕ) × (b : Bound) × (slice_get names k ≡ Some b) × (b.entity ≡ e)
 
-  abbrev IsDefining : List Bound → Entity → Type 0
+  abbrev pub IsDefining : List Bound → Entity → Type 0
   IsDefining names e = (k : ℕ) × (b : Bound) × (slice_get names k ≡ Some b) × (b.entity ≡ e) × (b.how ≡ defines)
 
-  declaring : (names : List Bound) (e : Entity) (all : List How) → declarations_of names e all → all ≢ [] → IsDeclaring names e
+  pub declaring : (names : List Bound) (e : Entity) (all : List How) → declarations_of names e all → all ≢ [] → IsDeclaring names e
   declaring [] e all h n = absurd (n h)
   declaring (b ∷ names) e all (inl h) n = (zero, b, refl, h.0)
   declaring (b ∷ names) e all (inr h) n = let r = declaring names e all h.1 n in (suc r.0, r.1, r.2, r.3)
@@ -342,7 +342,7 @@ module _ (f : FileScope) (count : ℕ) (less : (at : ℕ) → ended f.ends at �
   one_further : (b : Bound) (names : List Bound) (e : Entity) → IsDefining names e → IsDefining (b ∷ names) e
   one_further b names e h = (suc h.0, h.1, h.2, h.3, h.4)
 
-  defining : (names : List Bound) (e : Entity) (all : List How) → declarations_of names e all → is_defined all ≡ true → IsDefining names e
+  pub defining : (names : List Bound) (e : Entity) (all : List How) → declarations_of names e all → is_defined all ≡ true → IsDefining names e
   defining [] e all h d = let x : is_defined [] ≡ true = subst (λ all. is_defined all ≡ true) h d in cc
   defining (b ∷ names) e all (inl h) d =
       by_how b.how refl (subst (λ all. is_defined all ≡ true) h.1.1 d) (λ d. defining names e h.1.0 h.1.2 d)

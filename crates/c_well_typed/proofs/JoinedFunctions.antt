@@ -53,16 +53,16 @@ turned x [] h = h
 turned x (y ∷ xs) (inl e) = inl e
 turned x (y ∷ xs) (inr h) = inr (turned x xs h)
 
-each_is : {A : Type 0} (P : A → Type 0) (xs : List A) → ((x : A) → Joined.IsAmong x xs → P x) → AllByRecursion P xs
+pub each_is : {A : Type 0} (P : A → Type 0) (xs : List A) → ((x : A) → Joined.IsAmong x xs → P x) → AllByRecursion P xs
 each_is P [] h = tt
 each_is P (x ∷ xs) h = (h x (inl refl), each_is P xs (λ y k. h y (inr k)))
 
-is_each : {A : Type 0} (P : A → Type 0) (xs : List A) → AllByRecursion P xs → (x : A) → Joined.IsAmong x xs → P x
+pub is_each : {A : Type 0} (P : A → Type 0) (xs : List A) → AllByRecursion P xs → (x : A) → Joined.IsAmong x xs → P x
 is_each P [] h x k = absurd k
 is_each P (y ∷ xs) h x (inl e) = subst P (sym e) h.0
 is_each P (y ∷ xs) h x (inr k) = is_each P xs h.1 x k
 
-unmapped_at : {A B : Type 0} (v : A → B) (xs : List A) (n : ℕ) (y : B) → slice_get (map v xs) n ≡ Some y → (x : A) × (slice_get xs n ≡ Some x) × (v x ≡ y)
+pub unmapped_at : {A B : Type 0} (v : A → B) (xs : List A) (n : ℕ) (y : B) → slice_get (map v xs) n ≡ Some y → (x : A) × (slice_get xs n ≡ Some x) × (v x ≡ y)
 unmapped_at v [] n y h = cc
 unmapped_at v (x ∷ xs) zero y h = (x, refl, some_is (v x) y h)
 unmapped_at v (x ∷ xs) (suc n) y h = unmapped_at v xs n y h
@@ -107,16 +107,16 @@ function_identity k n (p ∷ all) (suc i) o h =
 
 module _ (units : List UnitData) (agree : Agree units) (complete : AreComplete (records units))
     (each : (u : UnitData) → Joined.IsAmong u units → HaveTypedFunctions (of_unit u)) where
-  abbrev T : List CType
+  abbrev pub T : List CType
   T = types units
 
-  abbrev P : Lists
+  abbrev pub P : Lists
   P = of_program (joined units)
 
-  abbrev R : UnitData → CType → CType
+  abbrev pub R : UnitData → CType → CType
   R u t = renumbered (structure_in (all_tags units) u) t
 
-  abbrev N : ℕ → UnitData → Renaming ℕ ℕ
+  abbrev pub N : ℕ → UnitData → Renaming ℕ ℕ
   N k u = renaming (tables units) k u
 
   -- ---- types
@@ -130,7 +130,7 @@ module _ (units : List UnitData) (agree : Agree units) (complete : AreComplete (
       let there = among_flat (types_in (all_tags units)) u units (type_in (all_tags units) u t) h own in
       numbered T (R u t) (taken_up all (R u t) (turned (R u t) all there))
 
-  type_is : (u : UnitData) → Joined.IsAmong u units → (k i : ℕ) → i < length u.types
+  pub type_is : (u : UnitData) → Joined.IsAmong u units → (k i : ℕ) → i < length u.types
       → ((N k u).ty i < length T) × (type_at T ((N k u).ty i) ≡ R u (type_at u.types i))
   type_is u h k i l =
       subst (λ t. (number_in T (type_in (all_tags units) u t) < length T) × (type_at T (number_in T (type_in (all_tags units) u t)) ≡ R u (type_at u.types i)))
@@ -146,7 +146,7 @@ module _ (units : List UnitData) (agree : Agree units) (complete : AreComplete (
 
   -- ---- objects by their numbers
 
-  object_typed : (u : UnitData) → Joined.IsAmong u units → (o : Object) → Joined.IsAmong o u.objects → HasObjectType (of_unit u) o
+  pub object_typed : (u : UnitData) → Joined.IsAmong u units → (o : Object) → Joined.IsAmong o u.objects → HasObjectType (of_unit u) o
   object_typed u h o i =
       is_each (HasObjectType (of_unit u)) u.objects (recursion_from_All (HasObjectType (of_unit u)) u.objects (each u h).object_types) o i
 
@@ -172,7 +172,7 @@ module _ (units : List UnitData) (agree : Agree units) (complete : AreComplete (
       (λ k u o. function_in (N k u) o) function_identities (λ k n. refl) (λ k n x more. refl) units
 
   -- what is under the number of an object has its type
-  object_again : (k : ℕ) (u : UnitData) → Joined.IsAmong (k, u) (numbered_from 0 units) → (n : ℕ) (o : Object) → slice_get u.objects n ≡ Some o
+  pub object_again : (k : ℕ) (u : UnitData) → Joined.IsAmong (k, u) (numbered_from 0 units) → (n : ℕ) (o : Object) → slice_get u.objects n ≡ Some o
       → slice_get (map (λ o. type_at T o.ty) (objects units)) ((N k u).object n) ≡ Some (R u (type_at u.types o.ty))
   object_again k u h n o e =
       let z = find_object k u h n o e in
@@ -199,7 +199,7 @@ module _ (units : List UnitData) (agree : Agree units) (complete : AreComplete (
           let is = some_is o q (sym e ∙ thing) in
           ap (λ (v : UnitData). R v (type_at v.types q.ty)) (sym same) ∙ ap (λ (q : Object). R u (type_at u.types q.ty)) (sym is)
 
-  function_again : (k : ℕ) (u : UnitData) → Joined.IsAmong (k, u) (numbered_from 0 units) → (n : ℕ) (o : FunctionData) → slice_get u.functions n ≡ Some o
+  pub function_again : (k : ℕ) (u : UnitData) → Joined.IsAmong (k, u) (numbered_from 0 units) → (n : ℕ) (o : FunctionData) → slice_get u.functions n ≡ Some o
       → slice_get (map (λ o. type_at T o.ty) (functions units)) ((N k u).function n) ≡ Some (R u (type_at u.types o.ty))
   function_again k u h n o e =
       let z = find_function k u h n o e in

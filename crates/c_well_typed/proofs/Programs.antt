@@ -1,34 +1,117 @@
--- The functions of a program of files are well typed, since those of its units are.
+-- A program of files has typed functions and objects, since its units have.
 use Rattle.std.proofs.Common.{◌≡◌, ℕ, ◌+◌, sym, subst, List, [], ◌∷◌, inl, inr}
-use Rattle.std.specs.Prelude.{◌⊎◌}
+use Rattle.std.specs.Prelude.{◌⊎◌, All}
+use Rattle.std.proofs.lemmas.List.Elements.{recursion_from_All, All-from_recursion}
+use Rattle.std.specs.List.{AllByRecursion}
 use Rattle.lay_base.specs.declared.place.File.{File}
 use Rattle.c_types.specs.Limits.{AreComplete, AreSmall}
+use Rattle.c_typed.specs.declared.program.Object.{Object}
 use Rattle.c_typed.specs.Programs.{UnitData, ProgramData}
+use Rattle.c_typed.specs.TypeNumbers.{type_at}
+use Rattle.c_ast.specs.Trees
+use Rattle.c_ast.specs.TreesOfFiles.{IsTreeOf}
+use Rattle.c_erasure.specs.Erasing.{ErasesTo}
+use Rattle.c_joining.specs.Joining.{joined, objects}
 use Rattle.c_link.specs.Programs.{AreUnitsOf, IsUnitOfFile}
 use Rattle.c_link.proofs.JoinedRecords.{IsAmong}
-use Rattle.c_well_typed.specs.Laws.{UnitsHaveTypedFunctions, ProgramHasTypedFunctions}
-use Rattle.c_well_typed.specs.WellTyped.{of_unit, of_program, HaveTypedFunctions, HasMain}
+use Rattle.c_well_typed.specs.Laws.{UnitsHaveTypedFunctions, UnitsAreWellTyped, ProgramHasTypedFunctions, ProgramHasTypedObjects, ProgramIsWellTyped}
+use Rattle.c_well_typed.specs.WellTyped.{of_unit, of_program, AreInitials, HasObjectType, IsTypedObject, IsSmallType, HaveTypedFunctions}
+use Rattle.c_well_typed.specs.WellTyped.{HaveWholeElements, IsWellTypedUnit, HasMain}
+use Rattle.c_well_typed.specs.Within.{IsTextObject, ProgramHasTexts}
 use Rattle.c_well_typed.proofs.JoinedFunctions.{program_typed, main_again}
+use Rattle.c_well_typed.proofs.JoinedObjects.{objects_hold_again, texts_again}
+use Rattle.c_well_typed.proofs.SmallTypes.{small_again}
+use Rattle.c_well_typed.proofs.WholeUnits.{all_both}
+
+-- what is known of the unit of each file
+pub each_unit : (Q : UnitData → Type 0) → ((number : ℕ) (file : File) (u : UnitData) → IsUnitOfFile number file u → Q u) → (number : ℕ) (files : List File)
+    (units : List UnitData) → AreUnitsOf number files units → (u : UnitData) → IsAmong u units → Q u
+each_unit Q own number [] units h u i = absurd (subst (IsAmong u) h i)
+each_unit Q own number (file ∷ more) units h u i =
+    by_place (subst (IsAmong u) h.2 i) (each_unit Q own (number + 1) more h.1 h.4 u)
+  where
+    by_place : (u ≡ h.0) ⊎ IsAmong u h.1 → (IsAmong u h.1 → Q u) → Q u
+    by_place (inl e) later = subst Q (sym e) (own number file h.0 h.3)
+    by_place (inr j) later = later j
 
 module _ (law : UnitsHaveTypedFunctions) where
-  each_unit : (number : ℕ) (files : List File) (units : List UnitData) → AreUnitsOf number files units → (u : UnitData) → IsAmong u units
-      → HaveTypedFunctions (of_unit u)
-  each_unit number [] units h u i = absurd (subst (IsAmong u) h i)
-  each_unit number (file ∷ more) units h u i = by_place (subst (IsAmong u) h.2 i) (each_unit (number + 1) more h.1 h.4 u)
-    where
-      by_place : (u ≡ h.0) ⊎ IsAmong u h.1 → (IsAmong u h.1 → HaveTypedFunctions (of_unit u)) → HaveTypedFunctions (of_unit u)
-      by_place (inl e) later =
-          let own : IsUnitOfFile number file h.0 = h.3 in
-          subst (λ (u : UnitData). HaveTypedFunctions (of_unit u)) (sym e) (law number file.name file.bytes own.items h.0 own.tree own.erases).0
-      by_place (inr j) later = later j
-
   pub program_has_typed_functions : (p : ProgramData) → AreComplete p.records → AreSmall p.records → ProgramHasTypedFunctions p
   program_has_typed_functions p complete small files h =
       let e = h.program.joined_units in
       let whole = subst (λ (p : ProgramData). AreComplete p.records) e complete in
-      let each = each_unit 0 files h.units h.of_files in
+      let each = each_unit (λ u. HaveTypedFunctions (of_unit u)) (λ number file u own. (law number file.name file.bytes own.items u own.tree own.erases).0)
+      0 files h.units h.of_files in
       let main = h.program.complete.main in
       subst (λ (p : ProgramData). HaveTypedFunctions (of_program p) × HasMain p) (sym e) (
         program_typed h.units h.program.agree whole each (subst (λ (p : ProgramData). AreSmall p.records) e small),
         main_again h.units h.program.agree whole each main.0 main.1 main.2,
       )
+
+module _ (law : UnitsAreWellTyped) where
+  -- the second half of what is said of each object
+  held : (u : UnitData) (all : List Object) → AllByRecursion (IsTypedObject (of_unit u)) all
+      → AllByRecursion (λ (o : Object). AreInitials (of_unit u) (type_at u.types o.ty) o.initial) all
+  held u [] h = tt
+  held u (o ∷ all) h = (h.0.1, held u all h.1)
+
+  pub program_has_typed_objects : (p : ProgramData) → AreComplete p.records → AreSmall p.records → ProgramHasTypedObjects p
+  program_has_typed_objects p complete small files h =
+      let e = h.program.joined_units in
+      let whole = subst (λ (p : ProgramData). AreComplete p.records) e complete in
+      let well = each_unit IsWellTypedUnit (λ number file u own. law number file.name file.bytes own.items u own.tree own.erases) 0 files h.units h.of_files in
+      let each : (u : UnitData) → IsAmong u h.units → HaveTypedFunctions (of_unit u) = λ u i. let w = well u i in w.functions in
+      let values : (u : UnitData) → IsAmong u h.units → All (λ (o : Object). AreInitials (of_unit u) (type_at u.types o.ty) o.initial) u.objects =
+      λ u i. let w = well u i in
+      All-from_recursion (λ (o : Object). AreInitials (of_unit u) (type_at u.types o.ty) o.initial) u.objects
+      (held u u.objects (recursion_from_All (IsTypedObject (of_unit u)) u.objects w.objects)) in
+      let P = of_program (joined h.units) in
+      let typed = program_typed h.units h.program.agree whole each (subst (λ (p : ProgramData). AreSmall p.records) e small) in
+      subst (λ (p : ProgramData). All (IsTypedObject (of_program p)) p.objects) (sym e)
+      (all_both (HasObjectType P) (λ (o : Object). AreInitials P (type_at P.types o.ty) o.initial) (objects h.units) typed.object_types
+      (objects_hold_again h.units h.program.agree whole each values))
+
+-- ---- a whole program
+
+all_is : {A : Type 0} (Q : A → Type 0) (xs : List A) → AllByRecursion Q xs → (x : A) → IsAmong x xs → Q x
+all_is Q [] h x i = absurd i
+all_is Q (y ∷ xs) h x (inl e) = subst Q (sym e) h.0
+all_is Q (y ∷ xs) h x (inr i) = all_is Q xs h.1 x i
+
+pub program_is_well_typed : UnitsHaveTypedFunctions → UnitsAreWellTyped → (p : ProgramData) → AreComplete p.records → AreSmall p.records
+    → ProgramIsWellTyped p
+program_is_well_typed functions_law law p complete small files h wholes =
+    let e = h.program.joined_units in
+    let whole = subst (λ (p : ProgramData). AreComplete p.records) e complete in
+    let few = subst (λ (p : ProgramData). AreSmall p.records) e small in
+    let well = each_unit IsWellTypedUnit (λ number file u own. law number file.name file.bytes own.items u own.tree own.erases) 0 files h.units h.of_files in
+    let each : (u : UnitData) → IsAmong u h.units → HaveTypedFunctions (of_unit u) = λ u i. let w = well u i in w.functions in
+    let smalls : (u : UnitData) → IsAmong u h.units → All (IsSmallType (of_unit u)) u.types = λ u i. let w = well u i in w.small_types in
+    let elements : (u : UnitData) → IsAmong u h.units → HaveWholeElements u =
+    all_is HaveWholeElements h.units (recursion_from_All HaveWholeElements h.units wholes) in
+    let own = program_has_typed_functions functions_law p complete small files h in
+    let types = subst (λ (p : ProgramData). All (IsSmallType (of_program p)) p.types) (sym e)
+    (small_again h.units h.program.agree whole each few smalls elements) in
+    record {
+      lists = record { functions = own.0; small_types = types; objects = program_has_typed_objects law p complete small files h };
+      main = own.1;
+    }
+
+-- ---- the objects of literals
+
+abbrev UnitsHaveTexts : Type 0
+UnitsHaveTexts = (file : ℕ) (name bytes : List ℕ) (items : List Trees.Item) (u : UnitData) → IsTreeOf bytes items → ErasesTo file name bytes items u
+    → All (IsTextObject (of_unit u)) u.objects
+
+pub program_has_texts : UnitsHaveTexts → UnitsAreWellTyped → (p : ProgramData) → AreComplete p.records → ProgramHasTexts p
+program_has_texts texts_law law p complete files h =
+    let e = h.program.joined_units in
+    let whole = subst (λ (p : ProgramData). AreComplete p.records) e complete in
+    let well = each_unit IsWellTypedUnit (λ number file u own. law number file.name file.bytes own.items u own.tree own.erases) 0 files h.units h.of_files in
+    let texts = each_unit (λ u. All (IsTextObject (of_unit u)) u.objects)
+    (λ number file u own. texts_law number file.name file.bytes own.items u own.tree own.erases) 0 files h.units h.of_files in
+    let each : (u : UnitData) → IsAmong u h.units → HaveTypedFunctions (of_unit u) = λ u i. let w = well u i in w.functions in
+    let values : (u : UnitData) → IsAmong u h.units → All (λ (o : Object). AreInitials (of_unit u) (type_at u.types o.ty) o.initial) u.objects =
+    λ u i. let w = well u i in
+    All-from_recursion (λ (o : Object). AreInitials (of_unit u) (type_at u.types o.ty) o.initial) u.objects
+    (held law u u.objects (recursion_from_All (IsTypedObject (of_unit u)) u.objects w.objects)) in
+    subst (λ (p : ProgramData). All (IsTextObject (of_program p)) p.objects) (sym e) (texts_again h.units h.program.agree whole each values texts)

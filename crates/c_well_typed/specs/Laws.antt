@@ -8,16 +8,30 @@ use Rattle.c_link.specs.Programs.{IsProgramOf}
 use Rattle.c_types.specs.Objects.{is_object}
 use Rattle.c_typed.specs.Programs.{FunctionData, UnitData, ProgramData}
 use Rattle.c_typed.specs.Trees as Typed
-use Rattle.c_well_typed.specs.WellTyped.{Lists, ty, of_unit, of_program, IsSmallType, IsTypedFunction, HaveTypedFunctions, HasMain}
+use Rattle.c_well_typed.specs.WellTyped.{Lists, ty, of_unit, of_program, IsSmallType, IsTypedFunction, IsTypedObject, HaveTypedFunctions}
+use Rattle.c_well_typed.specs.WellTyped.{HaveWholeElements, IsWellTypedUnit, HasMain, IsWellTyped}
 
 -- the functions of a unit that erases to the tree of a file are well typed, and its types are small
 abbrev pub UnitsHaveTypedFunctions : Type 0
 UnitsHaveTypedFunctions = (file : ℕ) (name bytes : List ℕ) (items : List Trees.Item) (u : UnitData) → IsTreeOf bytes items
     → ErasesTo file name bytes items u → HaveTypedFunctions (of_unit u) × All (IsSmallType (of_unit u)) u.types
 
+-- that unit is well typed
+abbrev pub UnitsAreWellTyped : Type 0
+UnitsAreWellTyped = (file : ℕ) (name bytes : List ℕ) (items : List Trees.Item) (u : UnitData) → IsTreeOf bytes items → ErasesTo file name bytes items u
+    → IsWellTypedUnit u
+
 -- those of the program of some files, and it has a `main`
 abbrev pub ProgramHasTypedFunctions : ProgramData → Type 0
 ProgramHasTypedFunctions p = (files : List File) → IsProgramOf files p → HaveTypedFunctions (of_program p) × HasMain p
+
+-- what the objects of the program of some files hold at first are values of the parts at their bytes
+abbrev pub ProgramHasTypedObjects : ProgramData → Type 0
+ProgramHasTypedObjects p = (files : List File) → IsProgramOf files p → All (IsTypedObject (of_program p)) p.objects
+
+-- that program is well typed where in each unit the elements of array types are complete
+abbrev pub ProgramIsWellTyped : ProgramData → Type 0
+ProgramIsWellTyped p = (files : List File) (h : IsProgramOf files p) → All HaveWholeElements h.units → IsWellTyped p
 
 -- the parameters and locals of a function with a body have complete types
 abbrev pub LocalsAreComplete : Type 0

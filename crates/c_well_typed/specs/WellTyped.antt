@@ -4,7 +4,7 @@ use Rattle.std.specs.Prelude.{Option, Some, None, codes, ◌⊎◌}
 use Rattle.c_types.specs.declared.ty.IntKind.{IntKind}
 use Rattle.c_types.specs.declared.ty.IntKind.TheVariants.{Int}
 use Rattle.c_types.specs.IntKinds.{width}
-use Rattle.c_types.specs.Types.{CType, CTypes, void, integer, pointer, function, no_types, and_type, Record}
+use Rattle.c_types.specs.Types.{CType, CTypes, void, integer, pointer, array, function, no_types, and_type, Record}
 use Rattle.c_types.specs.Layouts.{size_of}
 use Rattle.c_types.specs.Limits.{AreComplete, AreSmall, greatest_size}
 use Rattle.c_types.specs.Objects.{is_object, parts}
@@ -139,6 +139,14 @@ module _ (l : Lists) where
     pub objects : All IsTypedObject l.objects
 
 -- ---- units and programs
+
+-- the elements of an array type are of a complete object type (6.7.5.2), so that no other file completes it
+abbrev pub HasWholeElements : UnitData → CType → Type 0
+HasWholeElements u (array t n) = is_object (length u.records) t ≡ true
+HasWholeElements u t = Unit {0}
+
+abbrev pub HaveWholeElements : UnitData → Type 0
+HaveWholeElements u = All (HasWholeElements u) u.types
 
 abbrev pub IsWellTypedUnit : UnitData → Type 0
 IsWellTypedUnit u = AreWellTyped (of_unit u)

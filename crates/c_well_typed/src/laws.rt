@@ -1,7 +1,8 @@
 //! Laws about what is well typed.
 
 ghost use Rattle.c_typed.specs.Programs.{program_data};
-ghost use Rattle.c_well_typed.specs.Laws.{LocalsAreComplete, ProgramHasTypedFunctions, UnitsHaveTypedFunctions};
+ghost use Rattle.c_well_typed.specs.Within.{InitialsLieWithin, ProgramHasTexts, ProgramsAreWithinLimits, ProgramsHaveFewLoops, TextsHoldNumbers};
+ghost use Rattle.c_well_typed.specs.Laws.{LocalsAreComplete, ProgramHasTypedFunctions, ProgramHasTypedObjects, ProgramIsWellTyped, UnitsAreWellTyped, UnitsHaveTypedFunctions};
 
 use c_lexer::tokens_have_places;
 use c_text_order::texts_are_in_order;
@@ -17,7 +18,16 @@ pub fn units_have_typed_functions()
     texts_are_in_order();
 }
 
-/// So are those of a program of files, over the program's lists, where files share names and structures (6.2.2, 6.2.7); and it has a `main`.
+/// The unit of a file is well typed: its functions are, its types are small, and what each object holds at first are values of the parts at their
+/// bytes (6.7.8). A number is one of its part's type, an address is that of an object of the unit, at a byte of it or its end, or of a function.
+pub fn units_are_well_typed()
+    ensures { UnitsAreWellTyped }
+{
+    tokens_have_places();
+    texts_are_in_order();
+}
+
+/// So are the functions of a program of files, over the program's lists, where files share names and structures (6.2.2, 6.2.7); and it has a `main`.
 pub fn programs_have_typed_functions(p: &Typed)
     ensures { ProgramHasTypedFunctions (program_data p.now) }
 {
@@ -25,8 +35,58 @@ pub fn programs_have_typed_functions(p: &Typed)
     units_have_typed_functions();
 }
 
+/// And so is what the objects of a program of files hold at first, where files share names and structures (6.2.2, 6.2.7, 6.7.8).
+pub fn programs_have_typed_objects(p: &Typed)
+    ensures { ProgramHasTypedObjects (program_data p.now) }
+{
+    records_are_complete(&p.records);
+    units_are_well_typed();
+}
+
+/// The program of some files is well typed, where in each of its units the elements of array types are complete (6.7.5.2): each type of it is then as
+/// large as in a unit.
+pub fn programs_are_well_typed(p: &Typed)
+    ensures { ProgramIsWellTyped (program_data p.now) }
+{
+    records_are_complete(&p.records);
+    units_have_typed_functions();
+    units_are_well_typed();
+}
+
 /// Each parameter and local of a typed function with a body has a complete type (6.7, 6.9.1).
 #[tactic(auto, using(crate::proofs::CompleteLocals::locals_complete))]
 pub fn locals_are_complete()
     ensures { LocalsAreComplete }
 {}
+
+/// What a typed object holds at first lies in it, each value at a multiple of its size (6.2.8, 6.7.8).
+pub fn initials_lie_within()
+    ensures { InitialsLieWithin }
+{}
+
+/// The object of each string literal of a program of files is an array of characters (6.4.5).
+pub fn programs_have_texts(p: &Typed)
+    ensures { ProgramHasTexts (program_data p.now) }
+{
+    records_are_complete(&p.records);
+    units_are_well_typed();
+    tokens_have_places();
+    texts_are_in_order();
+}
+
+/// Where it is so and the object is typed, it holds no pointer.
+pub fn texts_hold_numbers()
+    ensures { TextsHoldNumbers }
+{}
+
+/// A program of files has few nodes, and few bytes of locals and of objects.
+pub fn programs_are_within_limits()
+    ensures { ProgramsAreWithinLimits }
+{}
+
+/// So each of its functions has few loops.
+pub fn programs_have_few_loops()
+    ensures { ProgramsHaveFewLoops }
+{
+    tokens_have_places();
+}

@@ -2,3 +2,4 @@ pub mod Writing
 pub mod Zeros
 pub mod Shape
 pub mod Counted
+pub mod Fits
