@@ -25,3 +25,5 @@ pub mod LookedUp
 pub mod JoinedFunctions
 pub mod Programs
 pub mod CompleteLocals
+pub mod CountableUnits
+pub mod Moved

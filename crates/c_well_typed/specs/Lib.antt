@@ -1,2 +1,4 @@
 pub mod WellTyped
 pub mod Laws
+pub mod CountableUnits
+pub mod Moves

@@ -1,6 +1,8 @@
 //! Laws about what is well typed.
 
 ghost use Rattle.c_typed.specs.Programs.{program_data};
+ghost use Rattle.c_well_typed.specs.CountableUnits.{UnitsAreCountable};
+ghost use Rattle.c_well_typed.specs.Moves.{MovesKeepTyping};
 ghost use Rattle.c_well_typed.specs.Laws.{LocalsAreComplete, ProgramHasTypedFunctions, UnitsHaveTypedFunctions};
 
 use c_lexer::tokens_have_places;
@@ -29,4 +31,19 @@ pub fn programs_have_typed_functions(p: &Typed)
 #[tactic(auto, using(crate::proofs::CompleteLocals::locals_complete))]
 pub fn locals_are_complete()
     ensures { LocalsAreComplete }
+{}
+
+/// The records of the unit of a file are complete, and each object, parameter and local of it has a complete type within the limits, so its
+/// objects can be counted (6.7, 6.9).
+pub fn units_are_countable()
+    ensures { UnitsAreCountable }
+{
+    units_have_typed_functions();
+}
+
+/// What is well typed over some lists is so, with other numbers, over lists in which each type, record, object and function keeps what it is
+/// under its new number.
+#[tactic(auto, using(crate::proofs::Moved::moves_keep_typing))]
+pub fn moves_keep_typing()
+    ensures { MovesKeepTyping }
 {}

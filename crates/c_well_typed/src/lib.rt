@@ -5,4 +5,7 @@
 
 mod laws;
 
-pub use laws::{locals_are_complete, programs_have_typed_functions, units_have_typed_functions};
+pub use laws::{
+    locals_are_complete, moves_keep_typing, programs_have_typed_functions, units_are_countable,
+    units_have_typed_functions,
+};
