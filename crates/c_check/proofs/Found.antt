@@ -1,19 +1,18 @@
 -- What is found of a file, from what its tags and its annotated file are.
 use Rattle.std.proofs.Common.{subst, sym, ◌≡◌, ◌∙◌, ℕ, List, refl}
-use Rattle.std.specs.Prelude.{All, Ok, Err}
+use Rattle.std.specs.Prelude.{◌≤◌, length, Ok, Err}
 use Rattle.lay_base.specs.declared.place.File.{File}
 use Rattle.c_ast.specs.Sizes.{size_items}
 use Rattle.c_ast.specs.Trees
 use Rattle.c_ast.specs.TreesOfFiles.{IsTreeOf}
-use Rattle.c_typed.specs.Programs.{UnitData, unit_data}
-use Rattle.c_typed.specs.declared.program.Unit.{Unit as DeclaredUnit}
-use Rattle.c_erasure.specs.Declarators.{IsSmall}
+use Rattle.c_typed.specs.Programs.{UnitData}
 use Rattle.c_erasure.specs.Erasing.{ErasesTo}
 use Rattle.c_erasure.specs.Untagged.{AreTags, structs_in}
 use Rattle.c_ast.specs.Spelling.{spell}
 use Rattle.c_erasure.specs.Scopes.{FileScope}
 use Rattle.c_checking.specs.Answers.{Answer}
 use Rattle.c_checking.specs.Files.{annotated}
+use Rattle.c_checking_limits.specs.Limits.{TypesAreSmall}
 use Rattle.c_checking_items.specs.Found.{AnnotatedFilesAreFound, IsFound}
 use Rattle.c_checking_stops.specs.Faults.{FaultsBreakRules}
 use Rattle.c_checking_units.specs.Units.{FaultsHaveNoUnit}
@@ -40,23 +39,20 @@ finds number file items t answer h e = record {
   is_found = e;
 }
 
-pub unit_erases : AnnotatedFilesAreFound → (number : ℕ) (file : File) (items : List Trees.Item) (t : TagLists) (f : FileScope) (nodes : ℕ) (u : UnitData)
-    → IsTreeOf file.bytes items → AreTagsOf file.name file.bytes items t → annotated number (untagged_by t.untagged) items ≡ Ok f
-    → nodes ≡ (size_items items).nodes → u ≡ unit_with nodes f → All (IsSmall u.records) u.types → ErasesTo number file.name file.bytes items u
-unit_erases law number file items t f nodes u tree h e n is small =
+pub unit_erases : AnnotatedFilesAreFound → TypesAreSmall → (number : ℕ) (file : File) (items : List Trees.Item) (t : TagLists) (f : FileScope) (nodes : ℕ)
+    (u : UnitData) → length file.bytes ≤ 4194304 → IsTreeOf file.bytes items → AreTagsOf file.name file.bytes items t
+    → annotated number (untagged_by t.untagged) items ≡ Ok f → nodes ≡ (size_items items).nodes → u ≡ unit_with nodes f
+    → ErasesTo number file.name file.bytes items u
+unit_erases law limits number file items t f nodes u short tree h e n is =
     let found : IsFound number (untagged_by t.untagged) items f = law number (untagged_by t.untagged) file.bytes items f h.begin tree e in
     record {
       annotated = f;
       number = found.number;
       tags = subst (AreTags file.name file.bytes (structs_in (spell items))) (sym found.untagged_are) h.untagged;
       of_tree = found.is_file;
-      small = subst (λ (d : UnitData). All (IsSmall d.records) d.types) is small;
+      small = limits number (untagged_by t.untagged) file.bytes items f short tree e;
       unit = is ∙ is_unit_of items f nodes n;
     }
-
-pub same_unit_erases : (number : ℕ) (file : File) (items : List Trees.Item) (u given : DeclaredUnit) → given ≡ u
-    → ErasesTo number file.name file.bytes items (unit_data u) → ErasesTo number file.name file.bytes items (unit_data given)
-same_unit_erases number file items u given same h = subst (λ it. ErasesTo number file.name file.bytes items (unit_data it)) (sym same) h
 
 -- where the checker stops, there is no unit, and a rule is broken
 stops : FaultsHaveNoUnit → FaultsBreakRules → (number : ℕ) (file : File) (items : List Trees.Item) (t : TagLists) (f : Broken)

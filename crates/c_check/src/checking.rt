@@ -7,10 +7,10 @@ ghost use Rattle.c_ast.specs.Views.{items_of};
 ghost use Rattle.c_check.specs.Checking.{CheckGives};
 
 use crate::fault::{CheckFault, fault_in};
-use crate::limits::within_limits;
 use c_ast::{Tree, nodes};
 use c_check_files::annotated;
 use c_checking_items::annotated_files_are_found;
+use c_checking_limits::types_are_small;
 use c_checking_stops::faults_break_rules;
 use c_checking_units::faults_have_no_unit;
 use c_tags::Tags;
@@ -30,9 +30,10 @@ pub fn check(alloc: Global, number: u16, file: &File, tree: &Tree) -> Result<Uni
     annotated_files_are_found();
     faults_have_no_unit();
     faults_break_rules();
+    types_are_small();
     let tags = Tags::of(alloc, tree, file)?;
     match annotated(alloc, number, tags, tree) {
-        Ok(found) => Ok(within_limits(unit_of(alloc, found, nodes(tree))?)?),
+        Ok(found) => Ok(unit_of(alloc, found, nodes(tree))?),
         Err(fault) => Err(fault_in(number, fault)),
     }
 }

@@ -5,7 +5,6 @@
 #![tactic(auto)]
 
 mod clashes;
-mod countable;
 mod gap;
 mod limits;
 mod linked;
@@ -18,7 +17,6 @@ mod structures;
 mod tag_names;
 mod troubles;
 
-pub use countable::is_countable;
 pub use gap::Gap;
 pub use limits::Passed;
 pub use linking::link;

@@ -14,3 +14,4 @@ pub mod Items
 pub mod Units
 pub mod Shares
 pub mod Joined
+pub mod Programs

@@ -1,11 +1,13 @@
 -- The bounds on nodes: what a unit weighs against the tree of its file, and a program against its units.
 use Rattle.std.specs.Prelude.{◌≡◌, ℕ, ◌*◌, ◌≤◌, List, All, Some, slice_get}
+use Rattle.lay_base.specs.declared.place.File.{File}
 use Rattle.c_ast.specs.Trees as Syntax
 use Rattle.c_ast.specs.Sizes.{size_items}
 use Rattle.c_ast.specs.TreesOfFiles.{IsTreeOf}
 use Rattle.c_typed.specs.Programs.{FunctionData, UnitData, ProgramData}
 use Rattle.c_erasure.specs.Erasing.{ErasesTo}
 use Rattle.c_joining.specs.Joining.{joined}
+use Rattle.c_link.specs.Programs.{IsProgramOf}
 use Rattle.c_weights.specs.Counted.{Kind}
 use Rattle.c_weights.specs.Weights.{code_weight_of_unit, code_weight_of_units, code_weight_of_program, frame_weight, weight_of_function}
 
@@ -47,3 +49,7 @@ abbrev pub JoinedAreBounded : Type 0
 JoinedAreBounded = (units : List UnitData)
     → ((k : ℕ) (u : UnitData) → slice_get units k ≡ Some u → (items : List Syntax.Item) × IsBounded items u × (u.nodes ≡ (size_items items).nodes))
     → IsProgramBounded (joined units)
+
+-- the program of some files is within the bounds, by the number of nodes of their trees
+abbrev pub ProgramsAreBounded : Type 0
+ProgramsAreBounded = (files : List File) (p : ProgramData) → IsProgramOf files p → IsProgramBounded p

@@ -42,3 +42,5 @@ pub mod Limits
 pub mod StatementLoops
 pub mod FileLoops
 pub mod ProgramLoops
+pub mod CountableUnits
+pub mod Moved

@@ -1,3 +1,5 @@
 pub mod WellTyped
 pub mod Laws
 pub mod Within
+pub mod CountableUnits
+pub mod Moves

@@ -3,6 +3,8 @@
 ghost use Rattle.c_typed.specs.Programs.{program_data};
 ghost use Rattle.c_well_typed.specs.Within.{InitialsLieWithin, ProgramHasTexts, ProgramsAreWithinLimits, ProgramsHaveFewLoops, TextsHoldNumbers};
 ghost use Rattle.c_well_typed.specs.Laws.{LocalsAreComplete, ProgramHasTypedFunctions, ProgramHasTypedObjects, ProgramIsWellTyped, UnitsAreWellTyped, UnitsHaveTypedFunctions};
+ghost use Rattle.c_well_typed.specs.CountableUnits.{UnitsAreCountable};
+ghost use Rattle.c_well_typed.specs.Moves.{MovesKeepTyping};
 
 use c_lexer::tokens_have_places;
 use c_text_order::texts_are_in_order;
@@ -90,3 +92,17 @@ pub fn programs_have_few_loops()
 {
     tokens_have_places();
 }
+/// The records of the unit of a file are complete, and each object, parameter and local of it has a complete type within the limits, so its
+/// objects can be counted (6.7, 6.9).
+pub fn units_are_countable()
+    ensures { UnitsAreCountable }
+{
+    units_have_typed_functions();
+}
+
+/// What is well typed over some lists is so, with other numbers, over lists in which each type, record, object and function keeps what it is
+/// under its new number.
+#[tactic(auto, using(crate::proofs::Moved::moves_keep_typing))]
+pub fn moves_keep_typing()
+    ensures { MovesKeepTyping }
+{}

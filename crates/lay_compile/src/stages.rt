@@ -16,9 +16,10 @@ use c_ast::Tree;
 use c_check::{CheckFault, check};
 use c_checking_units::units_are_one;
 use c_lexer::{Tokens, lex, texts_have_one_reading};
-use c_link::{is_countable, link};
+use c_link::link;
 use c_parser::{ParseFault, files_have_one_tree, parse, trees_are_small};
 use c_typed::{Typed, Unit};
+use c_well_typed::units_are_countable;
 use lay_base::{File, Files, List, NoMemory, add};
 use std::alloc::Global;
 
@@ -42,14 +43,10 @@ fn tree_of(alloc: Global, tokens: Tokens) -> Result<Tree, ParseFault>
     parse(alloc, &tokens)
 }
 
-/// The units with one more. Those of `check` can be counted; it is asked here, since no contract says it.
-fn with_countable(units: List<Unit>, unit: Unit) -> Result<List<Unit>, NoMemory>
-    ensures added { IfOk result (λ all. all ≡ units ++ unit ∷ []) }
-    ensures countable { IfOk result (λ _. IsCountable (unit_data unit)) }
+/// The units with one more.
+fn with_one_more(units: List<Unit>, unit: Unit) -> Result<List<Unit>, NoMemory>
+    ensures { IfOk result (λ all. all ≡ units ++ unit ∷ []) }
 {
-    if !is_countable(&unit) {
-        return Err(NoMemory);
-    }
     let mut all = units;
     add(&mut all, unit)?;
     Ok(all)
@@ -72,8 +69,9 @@ fn with_unit(
         Err(fault) => return Ok(Reached::Tokens(fault)),
     };
     trees_are_small();
+    units_are_countable();
     match check(alloc, number, file, &tree) {
-        Ok(unit) => Ok(Reached::Units(with_countable(units, unit)?)),
+        Ok(unit) => Ok(Reached::Units(with_one_more(units, unit)?)),
         Err(fault) => Ok(Reached::Trees(fault)),
     }
 }

@@ -1,0 +1,13 @@
+pub mod Types
+pub mod Trees
+pub mod TreesKept
+pub mod Nodes
+pub mod States
+pub mod Literals
+pub mod Derived
+pub mod Finding
+pub mod Initials
+pub mod Statements
+pub mod Files
+pub mod Texts
+pub mod Whole
