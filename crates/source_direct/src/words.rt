@@ -1,0 +1,237 @@
+//! Numbers, and places in blocks, that are found with few tests. Where there is none here, `direct` may still find a value.
+
+ghost use Rattle.std.specs.Prelude.{◌≡◌, false, IfSome, Ok, Some};
+ghost use Rattle.block_memory.specs.declared.pointer.Ptr.TheVariants as P;
+ghost use Rattle.c_meaning.specs.Operators.{binary, compared};
+ghost use Rattle.c_meaning.specs.Program.{access_at, length_of, size_at, type_at};
+ghost use Rattle.c_meaning.specs.declared.frame.Spot.TheVariants.{Placed};
+ghost use Rattle.c_typed.specs.Arithmetic.{truth};
+ghost use Rattle.c_typed.specs.Constants.{kind_of};
+ghost use Rattle.c_typed.specs.Conversions.{number_of};
+ghost use Rattle.c_typed.specs.Programs.{program_data};
+ghost use Rattle.c_typed.specs.Views.{expression_of, path_of};
+ghost use Rattle.runs.specs.Scalars.{load_in};
+ghost use Rattle.runs.specs.declared.value.Value.TheVariants.{Word};
+ghost use Rattle.source_core.specs.View.{core_of};
+ghost use Rattle.source_direct.specs.Sorts.{if_converted_by};
+ghost use Rattle.source_steps.specs.Direct.{and_if, direct, direct_spot, if_converted, if_element, if_found};
+ghost use Rattle.source_steps.specs.Locals.{fetch, local_spot};
+
+use crate::operators::element_of;
+use block_memory::{Access, Ptr};
+use c_meaning::{Slot, Spot};
+use c_typed::{
+    BinaryOp, CompareOp, Expression, ExpressionNode, Path, PathNode, TypeId, as_kind, binary_value,
+    holds, unary_value,
+};
+use runs::Value;
+use source_core::Room;
+use source_types::{Sort, Types};
+use source_values::is_true;
+
+/// A byte of a block.
+#[derive(Clone, Copy, Debug, PartialEq, Eq)]
+pub(crate) struct Location {
+    pub(crate) block: u64,
+    pub(crate) at: u32,
+}
+
+// ---- operators
+
+fn truth(test: bool) -> u32
+    ensures { result ≡ truth test }
+{
+    u32::from(test)
+}
+
+fn converted_word(sort: Sort, v: u32) -> Option<u32>
+    ensures { IfSome result (λ w. if_converted_by sort (Word v) ≡ Some (Word w)) }
+{
+    match sort {
+        Sort::Number(kind) => Some(as_kind(kind, v)),
+        Sort::Void | Sort::Pointer | Sort::Other => None,
+    }
+}
+
+/// A number converted to a type.
+#[tactic(auto, using(crate::proofs::Converting::converted_is))]
+fn cast_word(types: &Types<'_>, t: TypeId, v: u32) -> Option<u32>
+    ensures { IfSome result (λ w. if_converted (type_at (program_data types.now) t) (Word v) ≡ Some (Word w)) }
+{
+    converted_word(types.row(t).sort, v)
+}
+
+/// A binary operator whose result, and whose right operand, are of these types.
+fn binary_word(
+    types: &Types<'_>,
+    op: BinaryOp,
+    t: TypeId,
+    v: u32,
+    right: TypeId,
+    w: u32,
+) -> Option<u32>
+    ensures { IfSome result (λ it. if_found (binary op (kind_of (type_at (program_data types.now) t)) (Word v)
+        (kind_of (type_at (program_data types.now) right)) (Word w)) ≡ Some (Word it)) }
+{
+    match binary_value(op, types.row(t).kind, v, types.row(right).kind, w) {
+        Some(it) => Some(it),
+        None => None,
+    }
+}
+
+/// A comparison of operands of a type.
+fn compared_word(types: &Types<'_>, room: &Room, op: CompareOp, t: TypeId, v: u32, w: u32) -> u32
+    ensures { if_found (compared op (core_of room.now).memory (kind_of (type_at (program_data types.now) t)) (Word v) (Word w)) ≡ Some (Word result) }
+{
+    let _ = room;
+    truth(holds(op, types.row(t).kind, v, w))
+}
+
+// ---- memory
+
+fn number_at(room: &Room, block: u64, at: u32, access: Access) -> Option<u32>
+    ensures { IfSome result (λ w. load_in (core_of room.now).memory (P.Block block at) access ≡ Ok (Word w)) }
+{
+    match access {
+        Access::Number(kind) => match room.store.load_int(Ptr::Block(block, at), kind) {
+            Ok(w) => Some(w),
+            Err(_) => None,
+        },
+        Access::Pointer(_) => None,
+    }
+}
+
+/// The number that a local holds.
+fn local_word(types: &Types<'_>, room: &Room, local: u32, t: TypeId) -> Option<u32>
+    ensures { IfSome result (λ w. and_if (if_found (local_spot local (core_of room.now)))
+        (λ s. if_found (fetch s (access_at (program_data types.now) t) (core_of room.now))) ≡ Some (Word w)) }
+{
+    match room.frame.get(local as usize) {
+        Some(Slot::ByName(Some(Value::Word(w)))) => Some(*w),
+        Some(Slot::InBlock(Some(block))) => number_at(room, *block, 0, types.row(t).access),
+        _ => None,
+    }
+}
+
+/// Where a local lies that has a block.
+fn local_place(room: &Room, local: u32) -> Option<Location>
+    ensures { IfSome result (λ it. if_found (local_spot local (core_of room.now)) ≡ Some (Placed (P.Block it.block it.at))) }
+{
+    match room.frame.get(local as usize) {
+        Some(Slot::InBlock(Some(block))) => Some(Location {
+            block: *block,
+            at: 0,
+        }),
+        _ => None,
+    }
+}
+
+/// An element of an array of one type, of another, by a subscript of a third.
+fn element_at(
+    types: &Types<'_>,
+    of: TypeId,
+    t: TypeId,
+    subscript: TypeId,
+    from: Location,
+    w: u32,
+) -> Option<Location>
+    ensures { IfSome result (λ it. if_element (length_of (type_at (program_data types.now) of)) (size_at (program_data types.now) t) false
+        (Placed (P.Block from.block from.at)) (number_of (kind_of (type_at (program_data types.now) subscript)) w) ≡ Some (Placed (P.Block it.block it.at))) }
+{
+    let length = types.row(of).length;
+    let size = types.row(t).size;
+    let kind = types.row(subscript).kind;
+    let spot = Spot::Placed(Ptr::Block(from.block, from.at));
+    match element_of(length, size, false, spot, kind, w) {
+        Some(Spot::Placed(Ptr::Block(block, at))) => Some(Location { block, at }),
+        _ => None,
+    }
+}
+
+// ---- expressions and paths
+
+/// The number that is the value of an expression.
+#[cycle(word)]
+pub(crate) fn word(types: &Types<'_>, room: &Room, e: &Expression) -> Option<u32>
+    ensures { IfSome result (λ w. direct (program_data types.now) (core_of room.now) (expression_of e.now) ≡ Some (Word w)) }
+{
+    match &e.node {
+        ExpressionNode::Constant(v) => Some(*v),
+        ExpressionNode::Load(q) => word_at(types, room, e.ty, q),
+        ExpressionNode::Convert(x, _) => cast_word(types, e.ty, word(types, room, x.get())?),
+        ExpressionNode::Unary(op, x) => Some(unary_value(*op, word(types, room, x.get())?)),
+        ExpressionNode::Binary(op, x, y) => {
+            let v = word(types, room, x.get())?;
+            let w = word(types, room, y.get())?;
+            binary_word(types, *op, e.ty, v, y.get().ty, w)
+        }
+        ExpressionNode::Compare(op, x, y) => {
+            let v = word(types, room, x.get())?;
+            let w = word(types, room, y.get())?;
+            Some(compared_word(types, room, *op, x.get().ty, v, w))
+        }
+        ExpressionNode::And(x, y) => {
+            if is_true(Value::Word(word(types, room, x.get())?)) {
+                let w = word(types, room, y.get())?;
+                Some(truth(is_true(Value::Word(w))))
+            } else {
+                Some(0)
+            }
+        }
+        ExpressionNode::Or(x, y) => {
+            if is_true(Value::Word(word(types, room, x.get())?)) {
+                Some(1)
+            } else {
+                let w = word(types, room, y.get())?;
+                Some(truth(is_true(Value::Word(w))))
+            }
+        }
+        ExpressionNode::Not(x) => {
+            let v = word(types, room, x.get())?;
+            Some(truth(!is_true(Value::Word(v))))
+        }
+        ExpressionNode::Cond(x, y, z) => {
+            if is_true(Value::Word(word(types, room, x.get())?)) {
+                word(types, room, y.get())
+            } else {
+                word(types, room, z.get())
+            }
+        }
+        _ => None,
+    }
+}
+
+/// The number of a type that lies where a path leads.
+#[cycle(word)]
+fn word_at(types: &Types<'_>, room: &Room, t: TypeId, q: &Path) -> Option<u32>
+    ensures { IfSome result (λ w. and_if (direct_spot (program_data types.now) (core_of room.now) false (path_of q.now))
+        (λ s. if_found (fetch s (access_at (program_data types.now) t) (core_of room.now))) ≡ Some (Word w)) }
+{
+    match &q.node {
+        PathNode::Named(local) => local_word(types, room, *local, t),
+        _ => {
+            let it = place(types, room, q)?;
+            number_at(room, it.block, it.at, types.row(t).access)
+        }
+    }
+}
+
+/// The byte of a block to which a path leads.
+#[cycle(word)]
+pub(crate) fn place(types: &Types<'_>, room: &Room, q: &Path) -> Option<Location>
+    ensures { IfSome result (λ it. direct_spot (program_data types.now) (core_of room.now) false (path_of q.now) ≡ Some (Placed (P.Block it.block it.at))) }
+{
+    match &q.node {
+        PathNode::Named(local) => local_place(room, *local),
+        PathNode::Object(number) => Some(Location {
+            block: u64::from(*number),
+            at: 0,
+        }),
+        PathNode::Element(of, i) => {
+            let from = place(types, room, of.get())?;
+            let w = word(types, room, i.get())?;
+            element_at(types, of.get().ty, q.ty, i.get().ty, from, w)
+        }
+        _ => None,
+    }
+}
