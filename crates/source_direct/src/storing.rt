@@ -4,15 +4,15 @@ ghost use Rattle.std.specs.Prelude.{◌≡◌, false};
 ghost use Rattle.c_typed.specs.Programs.{program_data};
 ghost use Rattle.c_typed.specs.Views.{expression_of, path_of};
 ghost use Rattle.source_core.specs.View.{core_of};
-ghost use Rattle.source_direct.specs.Finding.{Finds};
-ghost use Rattle.source_steps.specs.Direct.{at_once, direct, direct_spot, shown_if, stepped_once, updated_once};
-ghost use Rattle.source_steps.specs.Locals.{put};
+ghost use Rattle.source_direct.specs.Finding.{Finds, FindsIf};
+ghost use Rattle.source_steps.specs.Direct.{and_then, at_once, direct, direct_spot, if_found, shown_if, stepped_once, updated_once};
+ghost use Rattle.source_steps.specs.Locals.{local_spot, put};
 
 use crate::evaluating::{direct, direct_spot};
 use crate::operators::{loaded, of_local};
-use crate::words::{place, word};
+use crate::words::{named_word, place, stepped_word, word};
 use block_memory::{Access, Ptr};
-use c_meaning::Spot;
+use c_meaning::{Slot, Spot};
 use c_typed::{BinaryOp, Expression, ExpressionNode, Path, PathNode, StepOp, TypeId};
 use runs::Value;
 use source_core::Room;
@@ -94,6 +94,66 @@ fn step(
     }
 }
 
+/// `++` or `--` of a number that a local without a block holds.
+fn step_word(
+    types: &Types<'_>,
+    room: &mut Room,
+    op: StepOp,
+    before: bool,
+    t: TypeId,
+    local: u32,
+) -> Option<Value>
+    ensures { FindsIf result (core_of room.old) (core_of room.new) (and_then (if_found (local_spot local (core_of room.old))) (core_of room.old)
+        (λ s. stepped_once (program_data types.now) op before t s (core_of room.old))) }
+{
+    let v = named_word(room, local)?;
+    let new = stepped_word(types, room, op, t, v)?;
+    room.set_slot(local, Slot::ByName(Some(Value::Word(new))));
+    Some(Value::Word(if before { new } else { v }))
+}
+
+/// `++` or `--` of a local.
+fn step_local(
+    types: &Types<'_>,
+    room: &mut Room,
+    op: StepOp,
+    before: bool,
+    t: TypeId,
+    local: u32,
+) -> Option<Value>
+    ensures { Finds result (core_of room.old) (core_of room.new) (and_then (if_found (local_spot local (core_of room.old))) (core_of room.old)
+        (λ s. stepped_once (program_data types.now) op before t s (core_of room.old))) }
+{
+    match step_word(types, room, op, before, t, local) {
+        Some(v) => Some(v),
+        None => {
+            let spot = of_local(room, local)?;
+            step(types, room, op, before, t, spot)
+        }
+    }
+}
+
+/// `++` or `--` of what a path leads to.
+fn step_at(
+    types: &Types<'_>,
+    room: &mut Room,
+    op: StepOp,
+    before: bool,
+    t: TypeId,
+    q: &Path,
+) -> Option<Value>
+    ensures { Finds result (core_of room.old) (core_of room.new) (and_then (direct_spot (program_data types.now) (core_of room.old) false (path_of q.now))
+        (core_of room.old) (λ s. stepped_once (program_data types.now) op before t s (core_of room.old))) }
+{
+    match &q.node {
+        PathNode::Named(local) => step_local(types, room, op, before, t, *local),
+        _ => {
+            let spot = spot(types, room, q)?;
+            step(types, room, op, before, t, spot)
+        }
+    }
+}
+
 /// The value of an expression, where it is found in one step.
 pub fn at_once(types: &Types<'_>, room: &mut Room, e: &Expression) -> Option<Value>
     ensures { Finds result (core_of room.old) (core_of room.new) (at_once (program_data types.now) (core_of room.old) (expression_of e.now)) }
@@ -109,10 +169,7 @@ pub fn at_once(types: &Types<'_>, room: &mut Room, e: &Expression) -> Option<Val
             let w = value(types, room, x.get())?;
             update(types, room, *op, e.ty, x.get().ty, spot, w)
         }
-        ExpressionNode::Step(op, before, q) => {
-            let spot = spot(types, room, q)?;
-            step(types, room, *op, *before, e.ty, spot)
-        }
+        ExpressionNode::Step(op, before, q) => { step_at(types, room, *op, *before, e.ty, q) }
         ExpressionNode::Constant(..)
         | ExpressionNode::Null
         | ExpressionNode::FunctionName(..)

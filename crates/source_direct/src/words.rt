@@ -2,8 +2,9 @@
 
 ghost use Rattle.std.specs.Prelude.{◌≡◌, false, IfSome, Ok, Some};
 ghost use Rattle.block_memory.specs.declared.pointer.Ptr.TheVariants as P;
-ghost use Rattle.c_meaning.specs.Operators.{binary, compared};
-ghost use Rattle.c_meaning.specs.Program.{access_at, length_of, size_at, type_at};
+ghost use Rattle.c_meaning.specs.Operators.{binary, compared, next};
+ghost use Rattle.c_meaning.specs.Program.{access_at, element_size, length_of, size_at, type_at};
+ghost use Rattle.c_meaning.specs.declared.frame.Slot.TheVariants.{ByName};
 ghost use Rattle.c_meaning.specs.declared.frame.Spot.TheVariants.{Placed};
 ghost use Rattle.c_typed.specs.Arithmetic.{truth};
 ghost use Rattle.c_typed.specs.Constants.{kind_of};
@@ -14,15 +15,16 @@ ghost use Rattle.runs.specs.Scalars.{load_in};
 ghost use Rattle.runs.specs.declared.value.Value.TheVariants.{Word};
 ghost use Rattle.source_core.specs.View.{core_of};
 ghost use Rattle.source_direct.specs.Sorts.{if_converted_by};
+ghost use Rattle.source_types.specs.Sorts.{next_by};
 ghost use Rattle.source_steps.specs.Direct.{and_if, direct, direct_spot, if_converted, if_element, if_found};
-ghost use Rattle.source_steps.specs.Locals.{fetch, local_spot};
+ghost use Rattle.source_steps.specs.Locals.{fetch, local_spot, slot};
 
 use crate::operators::element_of;
 use block_memory::{Access, Ptr};
 use c_meaning::{Slot, Spot};
 use c_typed::{
-    BinaryOp, CompareOp, Expression, ExpressionNode, Path, PathNode, TypeId, as_kind, binary_value,
-    holds, unary_value,
+    BinaryOp, CompareOp, Expression, ExpressionNode, Path, PathNode, StepOp, TypeId, as_kind,
+    binary_value, holds, promoted_kind, unary_value,
 };
 use runs::Value;
 use source_core::Room;
@@ -87,6 +89,40 @@ fn compared_word(types: &Types<'_>, room: &Room, op: CompareOp, t: TypeId, v: u3
     truth(holds(op, types.row(t).kind, v, w))
 }
 
+/// The next number of a type of that sort, or the one before.
+fn next_word(room: &Room, op: StepOp, size: u32, sort: Sort, v: u32) -> Option<u32>
+    ensures { IfSome result (λ w. next_by (core_of room.now).memory op size sort (Word v) ≡ Ok (Word w)) }
+{
+    let _ = room;
+    let _ = size;
+    match sort {
+        Sort::Number(kind) => {
+            let v = as_kind(promoted_kind(kind), v);
+            match op {
+                StepOp::Increment => Some(as_kind(kind, v.wrapping_add(1))),
+                StepOp::Decrement => Some(as_kind(kind, v.wrapping_sub(1))),
+            }
+        }
+        Sort::Void | Sort::Pointer | Sort::Other => None,
+    }
+}
+
+/// The next number of a type, or the one before.
+#[tactic(auto, using(source_types::proofs::BySort::next_is))]
+pub(crate) fn stepped_word(
+    types: &Types<'_>,
+    room: &Room,
+    op: StepOp,
+    t: TypeId,
+    v: u32,
+) -> Option<u32>
+    ensures { IfSome result (λ w. next (core_of room.now).memory op (element_size (program_data types.now) (type_at (program_data types.now) t))
+        (type_at (program_data types.now) t) (Word v) ≡ Ok (Word w)) }
+{
+    let row = types.row(t);
+    next_word(room, op, row.element, row.sort, v)
+}
+
 // ---- memory
 
 fn number_at(room: &Room, block: u64, at: u32, access: Access) -> Option<u32>
@@ -98,6 +134,16 @@ fn number_at(room: &Room, block: u64, at: u32, access: Access) -> Option<u32>
             Err(_) => None,
         },
         Access::Pointer(_) => None,
+    }
+}
+
+/// The number that a local holds that has no block.
+pub(crate) fn named_word(room: &Room, local: u32) -> Option<u32>
+    ensures { IfSome result (λ w. slot (core_of room.now) local ≡ Some (ByName (Some (Word w)))) }
+{
+    match room.frame.get(local as usize) {
+        Some(Slot::ByName(Some(Value::Word(w)))) => Some(*w),
+        _ => None,
     }
 }
 
