@@ -44,9 +44,11 @@ impl<T: Drop> Stack<T> {
     pub fn push(&mut self, item: T) -> Result<(), NoMemory>
         ensures { OnOk result (self.new ≡ item ∷ self.old) }
     {
-        match self.items.push(item) {
-            Ok(()) => Ok(()),
-            Err(_) => Err(NoMemory),
+        // An item that may come back is dear to pass on, so room for it is made first.
+        if self.items.reserve(1).is_err() {
+            return Err(NoMemory);
         }
+        self.items.push_reserved(item);
+        Ok(())
     }
 }
