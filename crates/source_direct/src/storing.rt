@@ -1,6 +1,8 @@
 //! Expressions with an assignment at the top.
 
 ghost use Rattle.std.specs.Prelude.{◌≡◌, false};
+ghost use Rattle.c_meaning.specs.Program.{access_at};
+ghost use Rattle.c_typed.specs.Constants.{ty};
 ghost use Rattle.c_typed.specs.Programs.{program_data};
 ghost use Rattle.c_typed.specs.Views.{expression_of, path_of};
 ghost use Rattle.source_core.specs.View.{core_of};
@@ -10,7 +12,7 @@ ghost use Rattle.source_steps.specs.Locals.{local_spot, put};
 
 use crate::evaluating::{direct, direct_spot};
 use crate::operators::{loaded, of_local};
-use crate::words::{named_word, place, stepped_word, word};
+use crate::words::{kept, named_word, place, stepped_word, word};
 use block_memory::{Access, Ptr};
 use c_meaning::{Slot, Spot};
 use c_typed::{BinaryOp, Expression, ExpressionNode, Path, PathNode, StepOp, TypeId};
@@ -154,21 +156,88 @@ fn step_at(
     }
 }
 
+/// A number is assigned to a local of a type without a block.
+fn assign_word(
+    types: &Types<'_>,
+    room: &mut Room,
+    t: TypeId,
+    local: u32,
+    x: &Expression,
+) -> Option<Value>
+    ensures { FindsIf result (core_of room.old) (core_of room.new) (and_then (if_found (local_spot local (core_of room.old))) (core_of room.old)
+        (λ s. and_then (direct (program_data types.now) (core_of room.old) (expression_of x.now)) (core_of room.old)
+        (λ v. shown_if (put s (access_at (program_data types.now) t) v (core_of room.old)) v (core_of room.old)))) }
+{
+    let _ = t;
+    let local = kept(room, local)?;
+    let w = word(types, room, x)?;
+    room.set_slot(local, Slot::ByName(Some(Value::Word(w))));
+    Some(Value::Word(w))
+}
+
+/// A value is assigned to a local of a type.
+fn assign_local(
+    types: &Types<'_>,
+    room: &mut Room,
+    t: TypeId,
+    local: u32,
+    x: &Expression,
+) -> Option<Value>
+    ensures { Finds result (core_of room.old) (core_of room.new) (and_then (if_found (local_spot local (core_of room.old))) (core_of room.old)
+        (λ s. and_then (direct (program_data types.now) (core_of room.old) (expression_of x.now)) (core_of room.old)
+        (λ v. shown_if (put s (access_at (program_data types.now) t) v (core_of room.old)) v (core_of room.old)))) }
+{
+    match assign_word(types, room, t, local, x) {
+        Some(v) => Some(v),
+        None => {
+            let spot = of_local(room, local)?;
+            let v = value(types, room, x)?;
+            store(room, spot, types.row(t).access, v, v)
+        }
+    }
+}
+
+/// A value is assigned to what a path of a type leads to.
+fn assign(types: &Types<'_>, room: &mut Room, t: TypeId, q: &Path, x: &Expression) -> Option<Value>
+    ensures { Finds result (core_of room.old) (core_of room.new) (and_then (direct_spot (program_data types.now) (core_of room.old) false (path_of q.now))
+        (core_of room.old) (λ s. and_then (direct (program_data types.now) (core_of room.old) (expression_of x.now)) (core_of room.old)
+        (λ v. shown_if (put s (access_at (program_data types.now) t) v (core_of room.old)) v (core_of room.old)))) }
+{
+    match &q.node {
+        PathNode::Named(local) => assign_local(types, room, t, *local, x),
+        _ => {
+            let spot = spot(types, room, q)?;
+            let v = value(types, room, x)?;
+            store(room, spot, types.row(t).access, v, v)
+        }
+    }
+}
+
+/// A compound assignment of an operand to what a path of a type leads to.
+fn update_at(
+    types: &Types<'_>,
+    room: &mut Room,
+    op: BinaryOp,
+    t: TypeId,
+    q: &Path,
+    x: &Expression,
+) -> Option<Value>
+    ensures { Finds result (core_of room.old) (core_of room.new) (and_then (direct_spot (program_data types.now) (core_of room.old) false (path_of q.now))
+        (core_of room.old) (λ s. and_then (direct (program_data types.now) (core_of room.old) (expression_of x.now)) (core_of room.old)
+        (λ w. updated_once (program_data types.now) op t (ty (expression_of x.now)) s w (core_of room.old)))) }
+{
+    let spot = spot(types, room, q)?;
+    let w = value(types, room, x)?;
+    update(types, room, op, t, x.ty, spot, w)
+}
+
 /// The value of an expression, where it is found in one step.
 pub fn at_once(types: &Types<'_>, room: &mut Room, e: &Expression) -> Option<Value>
     ensures { Finds result (core_of room.old) (core_of room.new) (at_once (program_data types.now) (core_of room.old) (expression_of e.now)) }
 {
     match &e.node {
-        ExpressionNode::Assign(q, x) => {
-            let spot = spot(types, room, q)?;
-            let v = value(types, room, x.get())?;
-            store(room, spot, types.row(e.ty).access, v, v)
-        }
-        ExpressionNode::AssignOp(op, q, x) => {
-            let spot = spot(types, room, q)?;
-            let w = value(types, room, x.get())?;
-            update(types, room, *op, e.ty, x.get().ty, spot, w)
-        }
+        ExpressionNode::Assign(q, x) => assign(types, room, e.ty, q, x.get()),
+        ExpressionNode::AssignOp(op, q, x) => update_at(types, room, *op, e.ty, q, x.get()),
         ExpressionNode::Step(op, before, q) => { step_at(types, room, *op, *before, e.ty, q) }
         ExpressionNode::Constant(..)
         | ExpressionNode::Null

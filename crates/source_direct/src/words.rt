@@ -5,7 +5,7 @@ ghost use Rattle.block_memory.specs.declared.pointer.Ptr.TheVariants as P;
 ghost use Rattle.c_meaning.specs.Operators.{binary, compared, next};
 ghost use Rattle.c_meaning.specs.Program.{access_at, element_size, length_of, size_at, type_at};
 ghost use Rattle.c_meaning.specs.declared.frame.Slot.TheVariants.{ByName};
-ghost use Rattle.c_meaning.specs.declared.frame.Spot.TheVariants.{Placed};
+ghost use Rattle.c_meaning.specs.declared.frame.Spot.TheVariants.{Kept, Placed};
 ghost use Rattle.c_typed.specs.Arithmetic.{truth};
 ghost use Rattle.c_typed.specs.Constants.{kind_of};
 ghost use Rattle.c_typed.specs.Conversions.{number_of};
@@ -134,6 +134,16 @@ fn number_at(room: &Room, block: u64, at: u32, access: Access) -> Option<u32>
             Err(_) => None,
         },
         Access::Pointer(_) => None,
+    }
+}
+
+/// The local itself, where it has no block.
+pub(crate) fn kept(room: &Room, local: u32) -> Option<u32>
+    ensures { IfSome result (λ it. local_spot local (core_of room.now) ≡ Ok (Kept it)) }
+{
+    match room.frame.get(local as usize) {
+        Some(Slot::ByName(_)) => Some(local),
+        _ => None,
     }
 }
 
