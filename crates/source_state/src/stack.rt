@@ -34,6 +34,7 @@ impl<T: Drop> Stack<T> {
     }
 
     /// Takes the last item off.
+    #[inline(always)]
     pub fn pop(&mut self) -> Option<T>
         ensures { MatchOption result ((self.old ≡ []) × (self.new ≡ [])) (λ last. self.old ≡ last ∷ self.new) }
     {
@@ -41,6 +42,7 @@ impl<T: Drop> Stack<T> {
     }
 
     /// Puts an item on top.
+    #[inline(always)]
     pub fn push(&mut self, item: T) -> Result<(), NoMemory>
         ensures { OnOk result (self.new ≡ item ∷ self.old) }
     {
