@@ -2,24 +2,28 @@
 
 ghost use Rattle.std.specs.Prelude.{◌≡◌, false, IfSome, Ok, Some};
 ghost use Rattle.block_memory.specs.declared.pointer.Ptr.TheVariants as P;
-ghost use Rattle.c_meaning.specs.Operators.{binary, compared, next};
+ghost use Rattle.c_meaning.specs.Expressions.{field_in, part_of};
+ghost use Rattle.c_meaning.specs.Operators.{binary, compared, moved, next};
 ghost use Rattle.c_meaning.specs.Program.{access_at, element_size, length_of, size_at, type_at};
 ghost use Rattle.c_meaning.specs.declared.frame.Slot.TheVariants.{ByName};
 ghost use Rattle.c_meaning.specs.declared.frame.Spot.TheVariants.{Kept, Placed};
 ghost use Rattle.c_typed.specs.Arithmetic.{truth};
+ghost use Rattle.c_typed.specs.declared.operators.PointerOp.TheVariants.{Add};
 ghost use Rattle.c_typed.specs.Constants.{kind_of};
 ghost use Rattle.c_typed.specs.Conversions.{number_of};
 ghost use Rattle.c_typed.specs.Programs.{program_data};
 ghost use Rattle.c_typed.specs.Views.{expression_of, path_of};
 ghost use Rattle.runs.specs.Scalars.{load_in};
-ghost use Rattle.runs.specs.declared.value.Value.TheVariants.{Word};
+ghost use Rattle.runs.specs.declared.value.Value.TheVariants.{Pointer, Word};
 ghost use Rattle.source_core.specs.View.{core_of};
 ghost use Rattle.source_direct.specs.Sorts.{if_converted_by};
 ghost use Rattle.source_types.specs.Sorts.{next_by};
-ghost use Rattle.source_steps.specs.Direct.{and_if, direct, direct_spot, if_converted, if_element, if_found};
+ghost use Rattle.source_direct.specs.Members.{member_at};
+ghost use Rattle.source_steps.specs.Actions.{lies_at};
+ghost use Rattle.source_steps.specs.Direct.{and_if, direct, direct_spot, if_converted, if_element, if_found, if_near};
 ghost use Rattle.source_steps.specs.Locals.{fetch, local_spot, slot};
 
-use crate::operators::element_of;
+use crate::operators::{element_of, field_of, indexed};
 use block_memory::{Access, Ptr};
 use c_meaning::{Slot, Spot};
 use c_typed::{
@@ -29,7 +33,7 @@ use c_typed::{
 use runs::Value;
 use source_core::Room;
 use source_types::{Sort, Types};
-use source_values::is_true;
+use source_values::{field_in, is_true, way_to};
 
 /// A byte of a block.
 #[derive(Clone, Copy, Debug, PartialEq, Eq)]
@@ -204,6 +208,79 @@ fn element_at(
     }
 }
 
+/// The pointer to a block that lies at a byte.
+fn pointer_in(room: &Room, block: u64, at: u32, access: Access) -> Option<Location>
+    ensures { IfSome result (λ it. load_in (core_of room.now).memory (P.Block block at) access ≡ Ok (Pointer (P.Block it.block it.at))) }
+{
+    match access {
+        Access::Pointer(number) => match room.store.load_pointer(Ptr::Block(block, at), number) {
+            Ok(Ptr::Block(block, at)) => Some(Location { block, at }),
+            _ => None,
+        },
+        Access::Number(_) => None,
+    }
+}
+
+/// The pointer to a block that a local holds.
+fn local_pointer(types: &Types<'_>, room: &Room, local: u32, t: TypeId) -> Option<Location>
+    ensures { IfSome result (λ it. and_if (if_found (local_spot local (core_of room.now)))
+        (λ s. if_found (fetch s (access_at (program_data types.now) t) (core_of room.now))) ≡ Some (Pointer (P.Block it.block it.at))) }
+{
+    match room.frame.get(local as usize) {
+        Some(Slot::ByName(Some(Value::Pointer(Ptr::Block(block, at))))) => Some(Location {
+            block: *block,
+            at: *at,
+        }),
+        Some(Slot::InBlock(Some(block))) => pointer_in(room, *block, 0, types.row(t).access),
+        _ => None,
+    }
+}
+
+/// An element of a type, by a subscript of another one, behind a byte to which a pointer of a third leads.
+fn indexed_at(
+    types: &Types<'_>,
+    room: &Room,
+    of: TypeId,
+    t: TypeId,
+    subscript: TypeId,
+    from: Location,
+    w: u32,
+) -> Option<Location>
+    ensures { IfSome result (λ it. and_if (if_found (moved (core_of room.now).memory Add (size_at (program_data types.now) t)
+        (kind_of (type_at (program_data types.now) of)) (Pointer (P.Block from.block from.at))
+        (kind_of (type_at (program_data types.now) subscript)) (Word w))) (λ q. Some (lies_at q)) ≡ Some (Placed (P.Block it.block it.at))) }
+{
+    let size = types.row(t).size;
+    let left = types.row(of).kind;
+    let right = types.row(subscript).kind;
+    let v = Value::Pointer(Ptr::Block(from.block, from.at));
+    match indexed(room, size, left, v, right, Value::Word(w)) {
+        Some(Spot::Placed(Ptr::Block(block, at))) => Some(Location { block, at }),
+        _ => None,
+    }
+}
+
+/// A field so many bytes on from where a pointer leads.
+fn field_at(room: &Room, from: Location, by: i64) -> Option<Location>
+    ensures { IfSome result (λ it. and_if (if_found (field_in (core_of room.now).memory (P.Block from.block from.at) by)) (λ q. Some (Placed q))
+        ≡ Some (Placed (P.Block it.block it.at))) }
+{
+    match field_in(&room.store, Ptr::Block(from.block, from.at), by) {
+        Ok(Ptr::Block(block, at)) => Some(Location { block, at }),
+        _ => None,
+    }
+}
+
+/// A part at an offset.
+fn part_at(offset: u32, from: Location) -> Option<Location>
+    ensures { IfSome result (λ it. if_near (part_of offset (Placed (P.Block from.block from.at))) ≡ Some (Placed (P.Block it.block it.at))) }
+{
+    match field_of(offset, Spot::Placed(Ptr::Block(from.block, from.at))) {
+        Some(Spot::Placed(Ptr::Block(block, at))) => Some(Location { block, at }),
+        _ => None,
+    }
+}
+
 // ---- expressions and paths
 
 /// The number that is the value of an expression.
@@ -272,6 +349,33 @@ fn word_at(types: &Types<'_>, room: &Room, t: TypeId, q: &Path) -> Option<u32>
     }
 }
 
+/// The byte of a block to which the value of an expression points.
+#[cycle(word)]
+fn pointer(types: &Types<'_>, room: &Room, e: &Expression) -> Option<Location>
+    ensures { IfSome result (λ it. direct (program_data types.now) (core_of room.now) (expression_of e.now) ≡ Some (Pointer (P.Block it.block it.at))) }
+{
+    match &e.node {
+        ExpressionNode::Load(q) => pointer_at(types, room, e.ty, q),
+        ExpressionNode::Decay(q) => place(types, room, q),
+        _ => None,
+    }
+}
+
+/// The byte to which the pointer of a type points that lies where a path leads.
+#[cycle(word)]
+fn pointer_at(types: &Types<'_>, room: &Room, t: TypeId, q: &Path) -> Option<Location>
+    ensures { IfSome result (λ it. and_if (direct_spot (program_data types.now) (core_of room.now) false (path_of q.now))
+        (λ s. if_found (fetch s (access_at (program_data types.now) t) (core_of room.now))) ≡ Some (Pointer (P.Block it.block it.at))) }
+{
+    match &q.node {
+        PathNode::Named(local) => local_pointer(types, room, *local, t),
+        _ => {
+            let it = place(types, room, q)?;
+            pointer_in(room, it.block, it.at, types.row(t).access)
+        }
+    }
+}
+
 /// The byte of a block to which a path leads.
 #[cycle(word)]
 pub(crate) fn place(types: &Types<'_>, room: &Room, q: &Path) -> Option<Location>
@@ -283,11 +387,43 @@ pub(crate) fn place(types: &Types<'_>, room: &Room, q: &Path) -> Option<Location
             block: u64::from(*number),
             at: 0,
         }),
+        PathNode::Deref(e) => pointer(types, room, e.get()),
+        PathNode::Index(e, i) => {
+            let from = pointer(types, room, e.get())?;
+            let w = word(types, room, i.get())?;
+            indexed_at(types, room, e.get().ty, q.ty, i.get().ty, from, w)
+        }
+        PathNode::Member(of, record, field) => {
+            member(types, room, of.get(), types.offset(*record, *field))
+        }
         PathNode::Element(of, i) => {
             let from = place(types, room, of.get())?;
             let w = word(types, room, i.get())?;
             element_at(types, of.get().ty, q.ty, i.get().ty, from, w)
         }
-        _ => None,
+    }
+}
+
+/// A field at an offset of what a path leads to.
+#[cycle(word)]
+fn member(types: &Types<'_>, room: &Room, q: &Path, offset: u32) -> Option<Location>
+    ensures { IfSome result (λ it. member_at (program_data types.now) (core_of room.now) (path_of q.now) offset ≡ Some (Placed (P.Block it.block it.at))) }
+{
+    match &q.node {
+        PathNode::Deref(e) => { field_at(room, pointer(types, room, e.get())?, i64::from(offset)) }
+        PathNode::Index(e, i) => {
+            let from = pointer(types, room, e.get())?;
+            let w = word(types, room, i.get())?;
+            let kind = types.row(i.get().ty).kind;
+            field_at(
+                room,
+                from,
+                way_to(kind, Value::Word(w), types.row(q.ty).size, offset),
+            )
+        }
+        PathNode::Named(_)
+        | PathNode::Object(_)
+        | PathNode::Member(_, _, _)
+        | PathNode::Element(_, _) => part_at(offset, place(types, room, q)?),
     }
 }
