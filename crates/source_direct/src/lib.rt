@@ -7,6 +7,7 @@
 mod evaluating;
 mod operators;
 mod storing;
+mod words;
 
 pub use evaluating::direct;
 pub use storing::at_once;

@@ -196,6 +196,7 @@ pub(crate) fn of_local(room: &Room, local: u32) -> Option<Spot>
 }
 
 /// So many bytes on from where a pointer leads, in the same object.
+#[inline(always)]
 fn near(by: i64, p: Ptr) -> Option<Spot>
     requires { unsigned_abs by ≤ 2 ^ 56 }
     ensures { result ≡ if_near (Placed (moved_by by p)) }
@@ -226,6 +227,7 @@ pub(crate) fn field_of(offset: u32, spot: Spot) -> Option<Spot>
 }
 
 /// An element of an array itself, by a subscript of a kind.
+#[inline(always)]
 pub(crate) fn element_of(
     length: u32,
     size: u32,

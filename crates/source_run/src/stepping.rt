@@ -55,6 +55,7 @@ fn put_byte<O: Sink>(byte: u8, out: &mut O) -> Result<(), SinkFault>
 }
 
 /// One step.
+#[inline(always)]
 pub(crate) fn make_step<'a, I: Source, O: Sink>(
     alloc: Global,
     types: &Types<'a>,

@@ -71,6 +71,7 @@ impl<'a> Machine<'a> {
     }
 
     /// More work, before all other.
+    #[inline(always)]
     pub fn todo(&mut self, work: Work<'a>) -> Result<(), NoMemory>
         ensures { OnOk result (state_of self.new ≡ doing (item_of work.entry) (state_of self.old)) }
     {

@@ -34,6 +34,7 @@ impl<T: Drop> Stack<T> {
     }
 
     /// Takes the last item off.
+    #[inline(always)]
     pub fn pop(&mut self) -> Option<T>
         ensures { MatchOption result ((self.old ≡ []) × (self.new ≡ [])) (λ last. self.old ≡ last ∷ self.new) }
     {
@@ -41,12 +42,15 @@ impl<T: Drop> Stack<T> {
     }
 
     /// Puts an item on top.
+    #[inline(always)]
     pub fn push(&mut self, item: T) -> Result<(), NoMemory>
         ensures { OnOk result (self.new ≡ item ∷ self.old) }
     {
-        match self.items.push(item) {
-            Ok(()) => Ok(()),
-            Err(_) => Err(NoMemory),
+        // An item that may come back is dear to pass on, so room for it is made first.
+        if self.items.reserve(1).is_err() {
+            return Err(NoMemory);
         }
+        self.items.push_reserved(item);
+        Ok(())
     }
 }

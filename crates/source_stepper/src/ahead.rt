@@ -75,6 +75,7 @@ pub(crate) fn begin_if<'a>(
 }
 
 /// A loop before its test.
+#[inline(always)]
 pub(crate) fn test_ahead<'a>(
     machine: &mut Machine<'a>,
     types: &Types<'a>,
@@ -92,6 +93,7 @@ pub(crate) fn test_ahead<'a>(
 }
 
 /// A loop behind its body.
+#[inline(always)]
 pub(crate) fn repeat_ahead<'a>(
     machine: &mut Machine<'a>,
     types: &Types<'a>,

@@ -423,6 +423,7 @@ fn return_value<'a>(machine: &mut Machine<'a>, types: &Types<'a>) -> Result<Move
     }
 }
 
+#[inline(always)]
 fn enact<'a>(
     machine: &mut Machine<'a>,
     alloc: Global,
@@ -471,6 +472,7 @@ fn enact<'a>(
 
 /// One step of the run.
 #[tactic(auto, unfolding(source_steps::specs::Ahead::advanced))]
+#[inline(always)]
 pub fn step<'a>(
     machine: &mut Machine<'a>,
     alloc: Global,

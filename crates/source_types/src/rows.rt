@@ -82,6 +82,7 @@ pub fn rows(alloc: Global, typed: &Typed) -> Result<Vec<TypeRow>, NoMemory>
     Ok(rows)
 }
 
+#[inline(always)]
 pub fn row_at(rows: &[TypeRow], number: u32) -> Option<TypeRow>
     ensures { result ≡ slice_get rows.now number }
 {
@@ -89,6 +90,7 @@ pub fn row_at(rows: &[TypeRow], number: u32) -> Option<TypeRow>
 }
 
 /// What is kept of `void` with that number.
+#[inline(always)]
 pub fn row_of_void(number: u32) -> TypeRow
     ensures { (p : ProgramData) → result ≡ row_for p void number }
 {

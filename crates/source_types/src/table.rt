@@ -61,6 +61,7 @@ impl<'a> Types<'a> {
 
     /// What is kept of the type with that number, which is `void` past the end.
     #[tactic(auto, using(crate::proofs::ByNumber::found_is, crate::proofs::ByNumber::found_small, crate::proofs::ByNumber::missing_is))]
+    #[inline(always)]
     pub fn row(&self, number: u32) -> TypeRow
         ensures row { result ≡ row_of (program_data self.now) number }
         ensures small { IsSmall result }
