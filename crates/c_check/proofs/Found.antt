@@ -13,7 +13,7 @@ use Rattle.c_erasure.specs.Scopes.{FileScope}
 use Rattle.c_checking.specs.Answers.{Answer}
 use Rattle.c_checking.specs.Files.{annotated}
 use Rattle.c_checking_limits.specs.Limits.{TypesAreSmall}
-use Rattle.c_checking_items.specs.Found.{AnnotatedFilesAreFound, IsFound}
+use Rattle.c_checking_files.specs.Found.{AnnotatedFilesAreFound, IsFound}
 use Rattle.c_checking_stops.specs.Faults.{FaultsBreakRules}
 use Rattle.c_checking_units.specs.Units.{FaultsHaveNoUnit}
 use Rattle.c_erasure.specs.Broken.{Fault as Broken}

@@ -9,7 +9,7 @@ ghost use Rattle.c_check.specs.Checking.{CheckGives};
 use crate::fault::{CheckFault, fault_in};
 use c_ast::{Tree, nodes};
 use c_check_files::annotated;
-use c_checking_items::annotated_files_are_found;
+use c_checking_files::annotated_files_are_found;
 use c_checking_limits::types_are_small;
 use c_checking_stops::faults_break_rules;
 use c_checking_units::faults_have_no_unit;

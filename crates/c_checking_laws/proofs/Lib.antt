@@ -59,3 +59,6 @@ mod FaultExample
 pub mod CompleteSwitches
 pub mod CompleteArms
 mod CompleteExamples
+pub mod Ahead
+pub mod Timely
+pub mod FaultsInText

@@ -14,16 +14,16 @@ use Rattle.c_checking.specs.Files.{item_nodes, filed_item, filed}
 use Rattle.c_checking_laws.proofs.Agreement.{Ready}
 use Rattle.c_checking_laws.proofs.FaultPremises.{IsPrepared, left, right}
 use Rattle.c_checking_laws.proofs.Results.{given}
-use Rattle.c_checking_items.proofs.Known.{IsKnown, none_new}
-use Rattle.c_checking_items.proofs.Items.{MayFile, MayFileAll, IsFiled, AreFiled, item_filed, first_may, others_may, split}
-use Rattle.c_checking_items.proofs.Stepping.{stepped_then, no_step, counted_by}
-use Rattle.c_checking_file_faults.proofs.Behind.{grown_by}
-use Rattle.c_checking_file_faults.proofs.DeclaratorsStop.{fresh_rising}
-use Rattle.c_checking_file_faults.proofs.DefinitionStops.{MayStopIn}
-use Rattle.c_checking_file_faults.proofs.FileDeclarations.{MayStopDeclaration}
-use Rattle.c_checking_file_faults.proofs.ItemStops.{MayStopItem}
-use Rattle.c_checking_file_faults.proofs.OwnItems.{item_own}
-use Rattle.c_checking_file_faults.proofs.Tests.{AreOwnFunctions}
+use Rattle.c_checking_files.proofs.Known.{IsKnown, none_new}
+use Rattle.c_checking_files.proofs.Items.{MayFile, MayFileAll, IsFiled, AreFiled, item_filed, first_may, others_may, split}
+use Rattle.c_checking_files.proofs.Stepping.{stepped_then, no_step, counted_by}
+use Rattle.c_checking_stops.proofs.Behind.{grown_by}
+use Rattle.c_checking_stops.proofs.DeclaratorsStop.{fresh_rising}
+use Rattle.c_checking_stops.proofs.DefinitionStops.{MayStopIn}
+use Rattle.c_checking_stops.proofs.FileDeclarations.{MayStopDeclaration}
+use Rattle.c_checking_stops.proofs.ItemStops.{MayStopItem}
+use Rattle.c_checking_stops.proofs.OwnItems.{item_own}
+use Rattle.c_checking_stops.proofs.Tests.{AreOwnFunctions}
 use Rattle.c_checking_stops.proofs.DeclaratorsInTime.{name_of}
 use Rattle.c_checking_stops.proofs.ItemsInTime.{IsItemTimely, AreAllTimely}
 

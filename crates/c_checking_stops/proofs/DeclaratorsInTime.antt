@@ -17,9 +17,9 @@ use Rattle.c_order.proofs.MarksOfParts.{declarator_along, optional_along, parame
 use Rattle.c_order.proofs.MarksOfFiles.{declarators_along}
 use Rattle.c_checking_laws.proofs.Agreement.{added}
 use Rattle.c_checking_laws.proofs.FaultPremises.{AreKnown}
-use Rattle.c_checking_order.proofs.Ahead.{Ahead, Standing, standing_left, standing_right, known, earlier, back, ahead_same, added_both}
-use Rattle.c_checking_order.proofs.Timely.{timely_declarator}
-use Rattle.c_checking_file_faults.proofs.DeclaratorsStop.{AreTimely}
+use Rattle.c_checking_laws.proofs.Ahead.{Ahead, Standing, standing_left, standing_right, known, earlier, back, ahead_same, added_both}
+use Rattle.c_checking_laws.proofs.Timely.{timely_declarator}
+use Rattle.c_checking_stops.proofs.DeclaratorsStop.{AreTimely}
 use Rattle.c_checking_stops.proofs.InitialsInTime.{behind, ahead_of, value_timely, before_value}
 
 pub name_of : (d : Trees.Declarator) → has_name d ≡ true → (x : Spelling) × (declared_name d ≡ Some x)

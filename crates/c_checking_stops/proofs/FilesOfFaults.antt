@@ -16,18 +16,18 @@ use Rattle.c_checking_laws.proofs.Extends.{kept, further}
 use Rattle.c_checking_laws.proofs.Within.{ArePicked}
 use Rattle.c_checking_files.proofs.Parts.{Parted, is_made, is_bytes, parted_then, none_left, NoneBegins}
 use Rattle.c_text_order.specs.TextOrder.{Rising, IsUnwritten}
-use Rattle.c_checking_items.proofs.AddressesStay.{keeps_constants}
-use Rattle.c_checking_items.proofs.FileFacts.{laid_file}
-use Rattle.c_checking_items.proofs.Items.{places_in}
-use Rattle.c_checking_items.proofs.Known.{IsKnown, none_new}
-use Rattle.c_checking_items.proofs.Orders.{none_begins_there, rising_in}
-use Rattle.c_checking_items.proofs.SoundFiles.{AreFitItems, ascending_at, nothing_known}
-use Rattle.c_checking_items.proofs.Stepping.{Stepped, IsFinal, all_bytes}
-use Rattle.c_checking_faults.proofs.UpTo.{UpTo, exactly_step, up_to_then, of_file, is_up_to}
-use Rattle.c_checking_file_faults.proofs.Behind.{GoesUpTo, same_additions}
-use Rattle.c_checking_file_faults.proofs.DeclaratorsStop.{AreStopped}
-use Rattle.c_checking_file_faults.proofs.FileDeclarations.{IsStoppedDeclaration}
-use Rattle.c_checking_file_faults.proofs.ItemStops.{IsStoppedItem}
+use Rattle.c_checking_files.proofs.AddressesStay.{keeps_constants}
+use Rattle.c_checking_files.proofs.FileFacts.{laid_file}
+use Rattle.c_checking_files.proofs.Items.{places_in}
+use Rattle.c_checking_files.proofs.Known.{IsKnown, none_new}
+use Rattle.c_checking_files.proofs.Orders.{none_begins_there, rising_in}
+use Rattle.c_checking_files.proofs.SoundFiles.{AreFitItems, ascending_at, nothing_known}
+use Rattle.c_checking_files.proofs.Stepping.{Stepped, IsFinal, all_bytes}
+use Rattle.c_checking_stops.proofs.UpTo.{UpTo, exactly_step, up_to_then, of_file, is_up_to}
+use Rattle.c_checking_stops.proofs.Behind.{GoesUpTo, same_additions}
+use Rattle.c_checking_stops.proofs.DeclaratorsStop.{AreStopped}
+use Rattle.c_checking_stops.proofs.FileDeclarations.{IsStoppedDeclaration}
+use Rattle.c_checking_stops.proofs.ItemStops.{IsStoppedItem}
 
 -- ---- an item that stops in one file alone
 

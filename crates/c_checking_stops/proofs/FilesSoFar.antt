@@ -13,14 +13,14 @@ use Rattle.c_checking_laws.proofs.Agreement.{beginnings_append}
 use Rattle.c_checking_laws.proofs.Extends.{kept}
 use Rattle.c_checking_files.proofs.FileScopes.{continues_itself}
 use Rattle.c_text_order.specs.TextOrder.{Rising, IsUnwritten, places_of_item}
-use Rattle.c_checking_items.proofs.AddressesStay.{keeps_constants}
-use Rattle.c_checking_items.proofs.FileFacts.{laid_file}
-use Rattle.c_checking_items.proofs.Items.{places_in}
-use Rattle.c_checking_items.proofs.Known.{IsKnown, none_new, made_left}
-use Rattle.c_checking_items.proofs.Orders.{all_from_slices, made_ascend, none_begins_there, rising_in}
-use Rattle.c_checking_items.proofs.Rises.{rising_front}
-use Rattle.c_checking_items.proofs.SoundFiles.{AreFitItems, ascending_at, nothing_known}
-use Rattle.c_checking_items.proofs.Stepping.{Stepped, IsFinal, defined_append}
+use Rattle.c_checking_files.proofs.AddressesStay.{keeps_constants}
+use Rattle.c_checking_files.proofs.FileFacts.{laid_file}
+use Rattle.c_checking_files.proofs.Items.{places_in}
+use Rattle.c_checking_files.proofs.Known.{IsKnown, none_new, made_left}
+use Rattle.c_checking_files.proofs.Orders.{all_from_slices, made_ascend, none_begins_there, rising_in}
+use Rattle.c_checking_files.proofs.Rises.{rising_front}
+use Rattle.c_checking_files.proofs.SoundFiles.{AreFitItems, ascending_at, nothing_known}
+use Rattle.c_checking_files.proofs.Stepping.{Stepped, IsFinal, defined_append}
 
 -- ---- first parts of lists
 

@@ -12,11 +12,11 @@ use Rattle.c_order.specs.Places.{AreOrdered, Along}
 use Rattle.c_order.proofs.Walks.{comma_along}
 use Rattle.c_order.proofs.MarksOfFiles.{initializer_along}
 use Rattle.c_checking_laws.proofs.Agreement.{added}
-use Rattle.c_checking_order.proofs.Ahead.{Ahead, Standing, standing_left, standing_right, earlier, back, ahead_same, added_both}
-use Rattle.c_checking_order.proofs.Timely.{timely}
-use Rattle.c_checking_items.proofs.InTextTime as Text
-use Rattle.c_checking_faults.proofs.BracesFaults.{IsInitialTimely, AreInitialsTimely}
-use Rattle.c_checking_file_faults.proofs.ObjectStops.{IsValueTimely}
+use Rattle.c_checking_laws.proofs.Ahead.{Ahead, Standing, standing_left, standing_right, earlier, back, ahead_same, added_both}
+use Rattle.c_checking_laws.proofs.Timely.{timely}
+use Rattle.c_checking_files.proofs.InTextTime as Text
+use Rattle.c_checking_stops.proofs.BracesFaults.{IsInitialTimely, AreInitialsTimely}
+use Rattle.c_checking_stops.proofs.ObjectStops.{IsValueTimely}
 
 module _ (untagged : ℕ → List ℕ) (types : List (List ℕ)) (ends : List ℕ) (law : TreesBeginFirst) where
   pub behind : {u : List Mark} {tokens rest : List Lexeme} (from : ℕ) → Along u tokens rest → AreOrdered from tokens → (to : ℕ) × AreOrdered to rest

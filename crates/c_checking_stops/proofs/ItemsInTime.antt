@@ -13,11 +13,11 @@ use Rattle.c_order.proofs.MarksOfParts.{declarator_along, specifiers_along}
 use Rattle.c_order.proofs.MarksOfFiles.{block_items_along, declarators_along, item_along, items_along}
 use Rattle.c_checking_laws.proofs.Agreement.{added}
 use Rattle.c_checking_laws.proofs.FaultPremises.{AreSpecifiersTimely, IsDeclaratorTimely}
-use Rattle.c_checking_order.proofs.Ahead.{Ahead, Standing, standing_left, standing_right, earlier, back, ahead_same, added_both, none_left}
-use Rattle.c_checking_order.proofs.Timely.{timely_specifiers, timely_declarator}
-use Rattle.c_checking_faults.proofs.StatementTimely.{AreItemsTimely}
-use Rattle.c_checking_faults.proofs.TextTimely.{items_timely}
-use Rattle.c_checking_file_faults.proofs.DeclaratorsStop.{AreTimely}
+use Rattle.c_checking_laws.proofs.Ahead.{Ahead, Standing, standing_left, standing_right, earlier, back, ahead_same, added_both, none_left}
+use Rattle.c_checking_laws.proofs.Timely.{timely_specifiers, timely_declarator}
+use Rattle.c_checking_stops.proofs.StatementTimely.{AreItemsTimely}
+use Rattle.c_checking_stops.proofs.TextTimely.{items_timely}
+use Rattle.c_checking_stops.proofs.DeclaratorsStop.{AreTimely}
 use Rattle.c_checking_stops.proofs.InitialsInTime.{behind, ahead_of}
 use Rattle.c_checking_stops.proofs.DeclaratorsInTime.{declarators_timely}
 

@@ -17,13 +17,13 @@ use Rattle.c_order.proofs.Ordered.{tree_ordered, marks_are_in_order}
 use Rattle.c_checking.specs.Files.{unread, annotated}
 use Rattle.c_checking_laws.proofs.Within.{Additions}
 use Rattle.c_text_order.specs.TextOrder.{IsUnwritten, TextsAreInOrder, places_of_item}
-use Rattle.c_checking_items.proofs.Items.{places_in}
-use Rattle.c_checking_items.proofs.SoundFiles.{AreFitItems, start_may, nothing_known}
-use Rattle.c_checking_items.proofs.Stepping.{Stepped, stepped_then}
-use Rattle.c_checking_items.proofs.TextFits.{text_is_fit}
-use Rattle.c_checking_faults.proofs.UpTo.{of_file, up_to_first}
-use Rattle.c_checking_file_faults.proofs.Behind.{GoesUpTo}
-use Rattle.c_checking_file_faults.proofs.ItemStops.{IsStoppedItem, ItemStops, item_stops, StopsAtItem, annotated_stops}
+use Rattle.c_checking_files.proofs.Items.{places_in}
+use Rattle.c_checking_files.proofs.SoundFiles.{AreFitItems, start_may, nothing_known}
+use Rattle.c_checking_files.proofs.Stepping.{Stepped, stepped_then}
+use Rattle.c_checking_files.proofs.TextFits.{text_is_fit}
+use Rattle.c_checking_stops.proofs.UpTo.{of_file, up_to_first}
+use Rattle.c_checking_stops.proofs.Behind.{GoesUpTo}
+use Rattle.c_checking_stops.proofs.ItemStops.{IsStoppedItem, ItemStops, item_stops, StopsAtItem, annotated_stops}
 use Rattle.c_checking_stops.specs.Faults.{FaultsBreakRules}
 use Rattle.c_checking_stops.proofs.BehindItems.{MayStopFile, item_may, IsBehind, behind_items}
 use Rattle.c_checking_stops.proofs.FilesOfFaults.{declared_there, file_there, is_broken_item}

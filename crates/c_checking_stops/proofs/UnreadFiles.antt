@@ -16,8 +16,8 @@ use Rattle.c_checking_laws.proofs.FaultDeclaring.{IsOrderly}
 use Rattle.c_checking_laws.proofs.FaultPremises.{IsPrepared}
 use Rattle.c_checking_laws.proofs.NodesOfParts.{same_bytes}
 use Rattle.c_text_order.specs.TextOrder.{IsTagBefore, AreTagsInOrder}
-use Rattle.c_checking_items.proofs.Names.{all_at}
-use Rattle.c_checking_items.proofs.SoundFiles.{AreFitItems, ascending_at, start_may}
+use Rattle.c_checking_files.proofs.Names.{all_at}
+use Rattle.c_checking_files.proofs.SoundFiles.{AreFitItems, ascending_at, start_may}
 
 -- ---- the first tag of each name
 

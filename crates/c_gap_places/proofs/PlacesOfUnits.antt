@@ -17,8 +17,8 @@ use Rattle.c_erasure.specs.Units.{unit_of, object, function}
 use Rattle.c_erasure.specs.Untagged.{AreTags, structs_in}
 use Rattle.c_text_order.specs.TextOrder.{IsUnwritten, TextsAreInOrder}
 use Rattle.c_untagged.proofs.OneLine.{IsTagAt}
-use Rattle.c_checking_steps.proofs.StepsOfFiles.{text_steps}
-use Rattle.c_checking_traced.proofs.OneUnit.{HaveSteps, found_unit}
+use Rattle.c_checking_units.proofs.StepsOfFiles.{text_steps}
+use Rattle.c_checking_units.proofs.OneUnit.{HaveSteps, found_unit}
 use Rattle.c_link.specs.Programs.{IsUnitOfFile, AreUnitsOf}
 use Rattle.c_fault_places.specs.Places.{IsPlaceOf}
 use Rattle.c_fault_places.proofs.Given.{AreAt, IsAt}

@@ -25,10 +25,10 @@ use Rattle.c_erasure.specs.Scopes.{How, declares, tentative, defines, Entity, a_
 use Rattle.c_erasure.specs.Scopes.{FileScope, Scope, at_file_scope, declared, ended}
 use Rattle.c_erasure.specs.Scopes as Scopes
 use Rattle.c_erasure.specs.Specifiers.{Storage, storage_of, no_storage, a_typedef, is_extern, is_static, is_auto, is_register, several}
-use Rattle.c_checking_complete.proofs.Objects.{mapped_at}
-use Rattle.c_checking_traced.proofs.Lists.{ascending_apart}
-use Rattle.c_checking_traced.proofs.Tracing as Tracing
-use Rattle.c_checking_traced.proofs.Tracing.{AreAll, with_names, name_at}
+use Rattle.c_checking_files.proofs.CompleteObjects.{mapped_at}
+use Rattle.c_checking_units.proofs.Lists.{ascending_apart}
+use Rattle.c_checking_units.proofs.Tracing as Tracing
+use Rattle.c_checking_units.proofs.Tracing.{AreAll, with_names, name_at}
 use Rattle.c_well_typed.specs.WellTyped.{IsResult, AreScalars}
 use Rattle.c_well_typed.proofs.Enumerators.{IsEnumerated, AreEnumerated, anything, found, value_found, base_found, lengths_found}
 use Rattle.c_well_typed.proofs.ErasedNotes.{items_noted}

@@ -15,8 +15,8 @@ use Rattle.c_erasure.specs.Marks.{tag_name}
 use Rattle.c_erasure.specs.Noted.{Noted, Expression, Thing, an_object}
 use Rattle.c_erasure.specs.Scopes.{Bound, Tag, Scope, FileScope, measured, for_value, defines, enumerator, at_file_scope}
 use Rattle.c_erasure.specs.Specifiers.{types_among}
-use Rattle.c_checking_traced.proofs.Tracing as Tracing
-use Rattle.c_checking_traced.proofs.Tracing.{AreAll}
+use Rattle.c_checking_units.proofs.Tracing as Tracing
+use Rattle.c_checking_units.proofs.Tracing.{AreAll}
 
 -- the enumerator whose name is in scope from there on
 abbrev pub IsEnumerated : FileScope → ℕ → Type 0

@@ -30,10 +30,10 @@ use Rattle.c_erasure.specs.Specifiers.{Storage, storage_of, no_storage, a_typede
 use Rattle.c_erasure.specs.Units as Units
 use Rattle.c_erasure.specs.Units.{recognised_statement, number_in, types, unit_of}
 use Rattle.c_order.proofs.Ordered.{marks_are_in_order}
-use Rattle.c_checking_complete.proofs.Objects.{mapped_at}
-use Rattle.c_checking_traced.proofs.Lists.{ascending_apart}
-use Rattle.c_checking_traced.proofs.Tracing as Tracing
-use Rattle.c_checking_traced.proofs.Tracing.{AreAll, with_names, name_at}
+use Rattle.c_checking_files.proofs.CompleteObjects.{mapped_at}
+use Rattle.c_checking_units.proofs.Lists.{ascending_apart}
+use Rattle.c_checking_units.proofs.Tracing as Tracing
+use Rattle.c_checking_units.proofs.Tracing.{AreAll, with_names, name_at}
 use Rattle.c_well_typed.proofs.Definitions.{defining, value_of_object}
 use Rattle.c_well_typed.proofs.Enumerators.{IsEnumerated, AreEnumerated, anything, base_found, lengths_found}
 use Rattle.c_well_typed.proofs.StatementLoops.{loops_mapped, loops_recognised, items_few}

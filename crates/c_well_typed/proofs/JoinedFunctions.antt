@@ -30,7 +30,7 @@ use Rattle.c_link.specs.Gaps.{Agree}
 use Rattle.c_link.proofs.JoinedRecords as Joined
 use Rattle.c_link.proofs.JoinedRecords.{among_at, among_flat, among_map, stand_among}
 use Rattle.c_link.proofs.Layouts.{lies_alike}
-use Rattle.c_checking_complete.proofs.Objects.{mapped_at}
+use Rattle.c_checking_files.proofs.CompleteObjects.{mapped_at}
 use Rattle.c_well_typed.specs.WellTyped.{Lists, of_unit, of_program, count_up, declared_in, AreDifferent, HasFewParts, IsResult, AreScalars, HasBody, IsTypedFunction, HasObjectType, HaveTypedFunctions, HasMain}
 use Rattle.c_well_typed.proofs.Composed as Composed
 use Rattle.c_well_typed.proofs.Labels.{all_declared_mapped}

@@ -20,7 +20,7 @@ use Rattle.c_typed.specs.TypeNumbers.{type_at}
 use Rattle.c_typed.specs.Walk.{types_in_statement}
 use Rattle.c_renumbering.specs.Parts.{function_in, local_in, object_in}
 use Rattle.c_link.proofs.Layouts.{lies_alike}
-use Rattle.c_checking_complete.proofs.Objects.{mapped_at}
+use Rattle.c_checking_files.proofs.CompleteObjects.{mapped_at}
 use Rattle.c_well_typed.specs.Moves.{IsMove, KeepsTyping, MovesKeepTyping, over}
 use Rattle.c_well_typed.specs.WellTyped.{Lists, count_up, declared_in, IsResult, AreScalars, HasBody, IsTypedFunction, HasObjectType}
 use Rattle.c_well_typed.proofs.Composed as Composed

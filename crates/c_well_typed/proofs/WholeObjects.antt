@@ -16,12 +16,12 @@ use Rattle.c_untagged.proofs.OtherParts.{with_tags}
 use Rattle.c_text_order.specs.TextOrder.{IsUnwritten, TextsAreInOrder}
 use Rattle.c_checking.specs.Files.{unread, closed_file, filed, annotated}
 use Rattle.c_checking_files.proofs.Kept.{AreObjectsWhole}
-use Rattle.c_checking_items.proofs.Closing.{settled_same, closed_object}
-use Rattle.c_checking_items.proofs.SoundFiles.{AreFitItems, filed_known}
-use Rattle.c_checking_items.proofs.TextFits.{text_is_fit}
+use Rattle.c_checking_files.proofs.Closing.{settled_same, closed_object}
+use Rattle.c_checking_files.proofs.SoundFiles.{AreFitItems, filed_known}
+use Rattle.c_checking_files.proofs.TextFits.{text_is_fit}
 use Rattle.c_checking_laws.proofs.Results.{bound_ok, given}
-use Rattle.c_checking_steps.proofs.StepsOfFiles.{text_steps}
-use Rattle.c_checking_traced.proofs.OneUnit.{HaveSteps, found_by}
+use Rattle.c_checking_units.proofs.StepsOfFiles.{text_steps}
+use Rattle.c_checking_units.proofs.OneUnit.{HaveSteps, found_by}
 
 -- names of structures without a tag that begin as no identifier does
 abbrev unwritten_by : (ℕ → List ℕ) → ℕ → List ℕ
