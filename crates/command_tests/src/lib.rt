@@ -5,6 +5,8 @@
 #[cfg(test)]
 mod compiling;
 #[cfg(test)]
+mod interpreting;
+#[cfg(test)]
 mod refusing;
 #[cfg(test)]
 mod running;

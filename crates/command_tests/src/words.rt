@@ -4,7 +4,7 @@ use crate::compiling::{Fails, NONE, check, check_compiled, refused};
 use crate::world::PRINTS_A;
 use std::test::Fail;
 
-const USAGE: &[u8] = b"\
+pub const USAGE: &[u8] = b"\
     usage: layc compile -o OUT [--profile P] [--plain] [--heap MIB] [--stack MIB] FILE...\n       \
     layc profile -o P [--turns N] FILE...\n       \
     layc interp [--turns N] FILE...\n       \
