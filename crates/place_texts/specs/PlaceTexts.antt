@@ -19,6 +19,11 @@ IsTextAt file at text = IsPlaceIn file.bytes at → (line : Line) × IsLineOf fi
 abbrev pub IsPlaceText : List File → Place → List ℕ → Type 0
 IsPlaceText files place text = (file : File) → slice_get files place.file ≡ Some file → IsTextAt file place.at text
 
+-- the place is in one of the files, and the text is the presumed file and line of it
+abbrev pub HasPlaceText : List File → Place → List ℕ → Type 0
+HasPlaceText files place text = (file : File) × (slice_get files place.file ≡ Some file)
+    × ((line : Line) × IsLineOf file.name file.bytes place.at line × (text ≡ line_text line))
+
 -- what is presumed of a byte, where there are tokens before it
 abbrev pub PresumesIfAny : List ℕ → ℕ → Option Presumed → Type 0
 PresumesIfAny bytes at (Some presumed) = IsPresumed (take at bytes) presumed

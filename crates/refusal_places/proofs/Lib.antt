@@ -1,0 +1,2 @@
+pub mod FilesOfNames
+pub mod PlacesOfRefusals
