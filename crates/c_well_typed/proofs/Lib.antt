@@ -42,3 +42,11 @@ pub mod Limits
 pub mod StatementLoops
 pub mod FileLoops
 pub mod ProgramLoops
+pub mod WellMade
+pub mod NamedTypes
+pub mod KnownTypes
+pub mod Leaves
+pub mod MadeLeaves
+pub mod MadeNodes
+pub mod MadeStatements
+pub mod RecognisedTypes

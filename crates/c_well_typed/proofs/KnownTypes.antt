@@ -1,0 +1,48 @@
+-- The types that the tree of a file names (C99 6.7.2 to 6.7.6), where all that its names stand for has types whose functions give no arrays and whose
+-- arrays have complete elements.
+use Rattle.std.proofs.Common.{◌≡◌, ℕ, ◌≤◌, true, sym, subst, List}
+use Rattle.std.specs.Prelude.{Option, Some, None}
+use Rattle.c_types.specs.Objects.{is_object}
+use Rattle.c_types.specs.Types.{CType, array}
+use Rattle.c_ast.specs.declared.words.Spelling.{Spelling}
+use Rattle.c_ast.specs.Trees
+use Rattle.c_erasure.specs.Declarators.{Shape, closed, open_array}
+use Rattle.c_erasure.specs.Erasure.{IsTypeName, IsBase, IsOne, Declares}
+use Rattle.c_erasure.specs.Scopes.{Entity, typedef, FileScope, Scope, visible, named, ended}
+use Rattle.c_erasure.specs.Statements.{IsSized, IsVariable}
+use Rattle.c_well_typed.proofs.WellMade.{IsWellMade}
+use Rattle.c_well_typed.proofs.NamedTypes.{IsMadeEntity, IsMadeScope, IsMadeShape, named_made, base_made, declarator_made}
+
+module _ (f : FileScope) (count : ℕ) (less : (at : ℕ) → ended f.ends at ≤ count)
+    (visible_made : (x : List ℕ) (at : ℕ) (e : Entity) → visible f.names x at ≡ Some e → IsMadeEntity f count less e) where
+  abbrev In : Scope → Type 0
+  In s = IsMadeScope f count less s
+
+  pub entity_known : (s : Scope) (x : List ℕ) (at : ℕ) (e : Entity) → In s → named s x at ≡ Some e → IsMadeEntity f count less e
+  entity_known s x at e i h = named_made f count less s x at e i (visible_made x at e) h
+
+  pub base_known : (specs : Trees.Specifiers) (s : Scope) (t : CType) → In s → IsBase (IsOne s specs) specs t → IsWellMade count t
+  base_known specs s t i h =
+      base_made f count less (λ specs. Unit {0}) (λ x. Unit {0}) (λ d. Unit {0}) (λ all. Unit {0}) (λ x more w. (tt, tt)) (λ at consts d w. tt)
+      (λ left d right w. tt) (λ d left bound right w. tt) (λ d left all right w. tt) (λ d left all right w. tt) (λ comma specs d more w. (tt, tt, tt))
+      (λ s x t i w h. entity_known s x.text x.from (typedef t) i h) specs s t i tt h
+
+  pub declarator_known : (d : Trees.Declarator) (s : Scope) (t : CType) (shape : Shape) → In s → IsWellMade count t → Declares s d t shape
+      → IsMadeShape f count less shape
+  declarator_known d s t shape i m h =
+      declarator_made f count less (λ specs. Unit {0}) (λ x. Unit {0}) (λ d. Unit {0}) (λ all. Unit {0}) (λ x more w. (tt, tt)) (λ at consts d w. tt)
+      (λ left d right w. tt) (λ d left bound right w. tt) (λ d left all right w. tt) (λ d left all right w. tt) (λ comma specs d more w. (tt, tt, tt))
+      (λ s x t i w h. entity_known s x.text x.from (typedef t) i h) d s t shape i tt m h
+
+  pub type_known : (n : Trees.TypeName) (s : Scope) (t : CType) → In s → IsTypeName s n t → IsWellMade count t
+  type_known (Trees.type_name specs d) s t i h = declarator_known d s h.0 (closed t) i (base_known specs s h.0 i h.2) h.3
+
+  pub sized_known : (shape : Shape) (v : Option (ℕ × Trees.Expression)) (s : Scope) (t : CType) → IsMadeShape f count less shape → IsSized s shape v t
+      → IsWellMade count t
+  sized_known (closed u) v s t m h = subst (IsWellMade count) (sym h) m
+  sized_known (open_array u) None s t m h = absurd h
+  sized_known (open_array u) (Some v) s t m h = subst (IsWellMade count) (sym h.0) m
+
+  pub variable_known : (d : Trees.InitDeclarator) (s : Scope) (base : CType) (x : Spelling) (t : CType) → In s → IsWellMade count base
+      → IsVariable s base d x t → IsWellMade count t
+  variable_known d s base x t i m h = sized_known h.0 d.value s t (declarator_known d.declarator s base h.0 i m h.2) h.3
