@@ -9,9 +9,9 @@ use Rattle.c_ast.specs.Trees
 use Rattle.c_erasure.specs.Declarators.{Shape, closed, open_array}
 use Rattle.c_erasure.specs.Erasure.{IsTypeName, IsBase, IsOne, Declares}
 use Rattle.c_erasure.specs.Scopes.{Entity, typedef, FileScope, Scope, visible, named, ended}
-use Rattle.c_erasure.specs.Statements.{IsSized, IsVariable}
+use Rattle.c_erasure.specs.Statements.{IsVariable}
 use Rattle.c_well_typed.proofs.WellMade.{IsWellMade}
-use Rattle.c_well_typed.proofs.NamedTypes.{IsMadeEntity, IsMadeScope, IsMadeShape, named_made, base_made, declarator_made}
+use Rattle.c_well_typed.proofs.NamedTypes.{IsMadeEntity, IsMadeScope, IsMadeShape, named_made, base_made, declarator_made, sized_made}
 
 module _ (f : FileScope) (count : ℕ) (less : (at : ℕ) → ended f.ends at ≤ count)
     (visible_made : (x : List ℕ) (at : ℕ) (e : Entity) → visible f.names x at ≡ Some e → IsMadeEntity f count less e) where
@@ -37,12 +37,6 @@ module _ (f : FileScope) (count : ℕ) (less : (at : ℕ) → ended f.ends at �
   pub type_known : (n : Trees.TypeName) (s : Scope) (t : CType) → In s → IsTypeName s n t → IsWellMade count t
   type_known (Trees.type_name specs d) s t i h = declarator_known d s h.0 (closed t) i (base_known specs s h.0 i h.2) h.3
 
-  pub sized_known : (shape : Shape) (v : Option (ℕ × Trees.Expression)) (s : Scope) (t : CType) → IsMadeShape f count less shape → IsSized s shape v t
-      → IsWellMade count t
-  sized_known (closed u) v s t m h = subst (IsWellMade count) (sym h) m
-  sized_known (open_array u) None s t m h = absurd h
-  sized_known (open_array u) (Some v) s t m h = subst (IsWellMade count) (sym h.0) m
-
   pub variable_known : (d : Trees.InitDeclarator) (s : Scope) (base : CType) (x : Spelling) (t : CType) → In s → IsWellMade count base
       → IsVariable s base d x t → IsWellMade count t
-  variable_known d s base x t i m h = sized_known h.0 d.value s t (declarator_known d.declarator s base h.0 i m h.2) h.3
+  variable_known d s base x t i m h = sized_made f count less h.0 d.value s t (declarator_known d.declarator s base h.0 i m h.2) h.3

@@ -50,3 +50,4 @@ pub mod MadeLeaves
 pub mod MadeNodes
 pub mod MadeStatements
 pub mod RecognisedTypes
+pub mod MadeNames

@@ -14,6 +14,7 @@ use Rattle.c_erasure.specs.Declarators.{Shape, closed, open_array, declared_name
 use Rattle.c_erasure.specs.Erasure.{IsTypeName, IsBase, IsOne, Specifies, Declares, AreParameters, AreListed, with_parameter_if_named}
 use Rattle.c_erasure.specs.Scopes.{Entity, typedef, enumerator, an_object, a_function, a_library_function, a_local, a_parameter, Bound, FileScope, Scope}
 use Rattle.c_erasure.specs.Scopes.{inside, with_name, with_local, with_parameter, declared_in, innermost, visible, named, or_else, ended}
+use Rattle.c_erasure.specs.Statements.{IsSized}
 use Rattle.c_erasure.specs.Specifiers.{Words, words_of, same_words, table, found_in, named_by}
 use Rattle.c_types.specs.declared.ty.IntKind.TheVariants.{Int}
 use Rattle.c_checking_laws.proofs.CompletePart.{complete_stays}
@@ -132,6 +133,12 @@ module _ (f : FileScope) (count : ℕ) (less : (at : ℕ) → ended f.ends at �
   parameter_made (closed (array t n)) h = h.1
   parameter_made (closed t) h = h
   parameter_made (open_array t) h = h.1
+
+  -- an array whose length is left to its initializer
+  pub sized_made : (shape : Shape) (v : Option (ℕ × Trees.Expression)) (s : Scope) (t : CType) → IsMadeShape shape → IsSized s shape v t → W t
+  sized_made (closed u) v s t m h = type_is t _ h m
+  sized_made (open_array u) None s t m h = absurd h
+  sized_made (open_array u) (Some v) s t m h = type_is t _ h.0 m
 
   -- ---- parts of the tree of which it is known that their typedefs stand for such types
 
