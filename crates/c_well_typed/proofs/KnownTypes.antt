@@ -3,15 +3,15 @@
 use Rattle.std.proofs.Common.{◌≡◌, ℕ, ◌≤◌, true, sym, subst, List}
 use Rattle.std.specs.Prelude.{Option, Some, None}
 use Rattle.c_types.specs.Objects.{is_object}
-use Rattle.c_types.specs.Types.{CType, array}
+use Rattle.c_types.specs.Types.{CType, CTypes}
 use Rattle.c_ast.specs.declared.words.Spelling.{Spelling}
 use Rattle.c_ast.specs.Trees
 use Rattle.c_erasure.specs.Declarators.{Shape, closed, open_array}
-use Rattle.c_erasure.specs.Erasure.{IsTypeName, IsBase, IsOne, Declares}
+use Rattle.c_erasure.specs.Erasure.{IsTypeName, IsBase, IsOne, Declares, AreListed}
 use Rattle.c_erasure.specs.Scopes.{Entity, typedef, FileScope, Scope, visible, named, ended}
 use Rattle.c_erasure.specs.Statements.{IsVariable}
-use Rattle.c_well_typed.proofs.WellMade.{IsWellMade}
-use Rattle.c_well_typed.proofs.NamedTypes.{IsMadeEntity, IsMadeScope, IsMadeShape, named_made, base_made, declarator_made, sized_made}
+use Rattle.c_well_typed.proofs.WellMade.{IsWellMade, AreWellMade}
+use Rattle.c_well_typed.proofs.NamedTypes.{IsMadeEntity, IsMadeScope, IsMadeShape, named_made, base_made, declarator_made, listed_made, sized_made}
 
 module _ (f : FileScope) (count : ℕ) (less : (at : ℕ) → ended f.ends at ≤ count)
     (visible_made : (x : List ℕ) (at : ℕ) (e : Entity) → visible f.names x at ≡ Some e → IsMadeEntity f count less e) where
@@ -33,6 +33,12 @@ module _ (f : FileScope) (count : ℕ) (less : (at : ℕ) → ended f.ends at �
       declarator_made f count less (λ specs. Unit {0}) (λ x. Unit {0}) (λ d. Unit {0}) (λ all. Unit {0}) (λ x more w. (tt, tt)) (λ at consts d w. tt)
       (λ left d right w. tt) (λ d left bound right w. tt) (λ d left all right w. tt) (λ d left all right w. tt) (λ comma specs d more w. (tt, tt, tt))
       (λ s x t i w h. entity_known s x.text x.from (typedef t) i h) d s t shape i tt m h
+
+  pub listed_known : (all : Trees.Parameters) (s : Scope) (types : CTypes) → In s → AreListed s all types → AreWellMade count types
+  listed_known all s types i h =
+      listed_made f count less (λ specs. Unit {0}) (λ x. Unit {0}) (λ d. Unit {0}) (λ all. Unit {0}) (λ x more w. (tt, tt)) (λ at consts d w. tt)
+      (λ left d right w. tt) (λ d left bound right w. tt) (λ d left all right w. tt) (λ d left all right w. tt) (λ comma specs d more w. (tt, tt, tt))
+      (λ s x t i w h. entity_known s x.text x.from (typedef t) i h) all s types i tt h
 
   pub type_known : (n : Trees.TypeName) (s : Scope) (t : CType) → In s → IsTypeName s n t → IsWellMade count t
   type_known (Trees.type_name specs d) s t i h = declarator_known d s h.0 (closed t) i (base_known specs s h.0 i h.2) h.3

@@ -51,3 +51,4 @@ pub mod MadeNodes
 pub mod MadeStatements
 pub mod RecognisedTypes
 pub mod MadeNames
+pub mod SpokenTypes

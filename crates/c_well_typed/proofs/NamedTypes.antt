@@ -90,7 +90,7 @@ module _ (f : FileScope) (count : ℕ) (less : (at : ℕ) → ended f.ends at �
   pub inside_made : (s : Scope) → IsMadeScope s → IsMadeScope (inside s)
   inside_made s i = (i.0, (tt, i.1))
 
-  parameter_in : (s : Scope) (x : Option Spelling) (t : CType) → IsMadeScope s → W t → IsMadeScope (with_parameter_if_named s x t)
+  pub parameter_in : (s : Scope) (x : Option Spelling) (t : CType) → IsMadeScope s → W t → IsMadeScope (with_parameter_if_named s x t)
   parameter_in s None t i m = i
   parameter_in s (Some x) t i m = with_name_in
     where
@@ -126,10 +126,10 @@ module _ (f : FileScope) (count : ℕ) (less : (at : ℕ) → ended f.ends at �
   types_are : (all own : CTypes) → all ≡ own → AreWellMade count own → AreWellMade count all
   types_are all own e h = subst (AreWellMade count) (sym e) h
 
-  elements : (s : Scope) (at : ℕ) (t : CType) → s.file ≡ f → is_object (ended s.file.ends at) t ≡ true → is_object count t ≡ true
+  pub elements : (s : Scope) (at : ℕ) (t : CType) → s.file ≡ f → is_object (ended s.file.ends at) t ≡ true → is_object count t ≡ true
   elements s at t e h = complete_stays (ended f.ends at) count t (less at) (subst (λ (f : FileScope). is_object (ended f.ends at) t ≡ true) e h)
 
-  parameter_made : (shape : Shape) → IsMadeShape shape → W (parameter_type shape)
+  pub parameter_made : (shape : Shape) → IsMadeShape shape → W (parameter_type shape)
   parameter_made (closed (array t n)) h = h.1
   parameter_made (closed t) h = h
   parameter_made (open_array t) h = h.1
@@ -186,7 +186,7 @@ module _ (f : FileScope) (count : ℕ) (less : (at : ℕ) → ended f.ends at �
           declarator_made d s (function t h.0) shape i (of_function d left (Trees.listed all) right w)
           (h.2, m, listed_made all (inside s) h.0 (inside_made s i) (listed d left all right w) h.1) h.4
 
-      listed_made : (all : Trees.Parameters) (s : Scope) (types : CTypes) → IsMadeScope s → AreAll all → AreListed s all types → AreWellMade count types
+      pub listed_made : (all : Trees.Parameters) (s : Scope) (types : CTypes) → IsMadeScope s → AreAll all → AreListed s all types → AreWellMade count types
       listed_made Trees.no_parameters s types i w h = types_are types _ h tt
       listed_made (Trees.and_parameter comma specs d more) s types i w h =
           let p = parameters comma specs d more w in
