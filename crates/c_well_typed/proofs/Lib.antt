@@ -52,3 +52,4 @@ pub mod MadeStatements
 pub mod RecognisedTypes
 pub mod MadeNames
 pub mod SpokenTypes
+pub mod SpokenStatements

@@ -310,3 +310,7 @@ module _ (f : FileScope) (count : ℕ) (less : (at : ℕ) → ended f.ends at �
         (parameter_in f count less s (declared_name d) (parameter_type h.1) e m) h.10 (parameter_told s (declared_name d) (parameter_type h.1) n) in
         spoken_both (spoken_of_specifiers specs ++ first_declarator d (first_specifiers specs) ∷ spoken_of_declarator d) (spoken_of_parameters more)
         (spoken_both (spoken_of_specifiers specs) (first_declarator d (first_specifiers specs) ∷ spoken_of_declarator d) (b.spoken n) (own, c.spoken n)) r
+
+  pub base_told : (specs : Trees.Specifiers) (s : Scope) (t : CType) → In s → IsBase (IsOne s specs) specs t
+      → IsTold s.purpose (marks_of_specifiers u specs) (spoken_of_specifiers specs)
+  base_told specs s t e h = by_words specs s t h (λ k. one_told specs s t e k)
