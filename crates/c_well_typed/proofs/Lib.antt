@@ -53,3 +53,4 @@ pub mod RecognisedTypes
 pub mod MadeNames
 pub mod SpokenTypes
 pub mod SpokenStatements
+pub mod SpokenFiles
