@@ -54,3 +54,5 @@ pub mod MadeNames
 pub mod SpokenTypes
 pub mod SpokenStatements
 pub mod SpokenFiles
+pub mod ToldTypes
+pub mod WholeElements

@@ -21,6 +21,11 @@ abbrev pub UnitsAreWellTyped : Type 0
 UnitsAreWellTyped = (file : ℕ) (name bytes : List ℕ) (items : List Trees.Item) (u : UnitData) → IsTreeOf bytes items → ErasesTo file name bytes items u
     → IsWellTypedUnit u
 
+-- the elements of its array types are complete
+abbrev pub UnitsHaveWholeElements : Type 0
+UnitsHaveWholeElements = (file : ℕ) (name bytes : List ℕ) (items : List Trees.Item) (u : UnitData) → IsTreeOf bytes items
+    → ErasesTo file name bytes items u → HaveWholeElements u
+
 -- those of the program of some files, and it has a `main`
 abbrev pub ProgramHasTypedFunctions : ProgramData → Type 0
 ProgramHasTypedFunctions p = (files : List File) → IsProgramOf files p → HaveTypedFunctions (of_program p) × HasMain p
