@@ -5,7 +5,7 @@ use Rattle.std.specs.Prelude.{Option, Some, None}
 use Rattle.c_types.specs.Types.{CType, CTypes, and_type}
 use Rattle.c_ast.specs.declared.words.Spelling.{Spelling}
 use Rattle.c_ast.specs.Trees
-use Rattle.c_erasure.specs.Declarators.{Shape, closed, open_array}
+use Rattle.c_erasure.specs.Declarators.{Shape, closed}
 use Rattle.c_erasure.specs.Erasure.{IsTypeName, IsBase, IsOne, Declares, AreListed}
 use Rattle.c_erasure.specs.Files.{AreNamed, HasParameters, in_body}
 use Rattle.c_erasure.specs.Scopes.{Entity, typedef, ALocal, Bound, FileScope, Scope, visible, named, ended}

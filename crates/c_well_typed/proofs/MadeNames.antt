@@ -1,12 +1,11 @@
 -- The names of the file scope have types whose functions give no arrays and whose arrays have complete elements (C99 6.2.1, 6.7.7): a typedef stands for a
 -- type that is built of those of earlier items.
-use Rattle.std.proofs.Common.{◌≡◌, ◌≢◌, ◌∙◌, ℕ, zero, suc, ◌≤◌, Bool, true, false, ◌||◌, refl, sym, ap, subst, cond, List, [], ◌∷◌, ◌++◌, map, inl, inr}
+use Rattle.std.proofs.Common.{◌≡◌, ◌∙◌, ℕ, zero, suc, ◌≤◌, Bool, true, false, ◌||◌, refl, sym, ap, subst, List, [], ◌∷◌, ◌++◌, map, inl, inr}
 use Rattle.std.proofs.lemmas.List.Elements.{recursion_from_All}
 use Rattle.std.specs.Prelude.{◌⊎◌, Option, Some, None, slice_get}
 use Rattle.std.specs.List.{AllByRecursion, list_any}
 use Rattle.std.specs.Str.{bytes_eq}
 use Rattle.c_types.specs.Types.{CType, function}
-use Rattle.c_ast.specs.declared.operators.SpecifierKeyword.{SpecifierKeyword}
 use Rattle.c_ast.specs.declared.operators.SpecifierKeyword.TheVariants as S
 use Rattle.c_ast.specs.declared.words.Spelling.{Spelling}
 use Rattle.c_ast.specs.Places.{first_declarator}
@@ -16,7 +15,7 @@ use Rattle.c_ast.specs.WellFormed.{is_typename, has_typedef, types_after}
 use Rattle.c_erasure.specs.Declarators.{Shape, closed, declared_name}
 use Rattle.c_erasure.specs.Erasure.{IsBound, IsBase, IsOne, Declares}
 use Rattle.c_erasure.specs.Files.{bound, object_how, IsTypedef, IsObject, IsFunction, IsFileDeclarator, AreFileDeclarators, ErasesItem, AreConsistent}
-use Rattle.c_erasure.specs.Files.{MayStandTogether, may_stand_in_file, AreAscending, IsFileOf}
+use Rattle.c_erasure.specs.Files.{MayStandTogether, AreAscending, IsFileOf}
 use Rattle.c_erasure.specs.Marks.{Mark, a_name, marks_of_declarator, marks_of_initial, marks_of_declarators, marks_of_item, marks_of_file, name_from}
 use Rattle.c_erasure.specs.Marks.{after_declarator, scope_beginnings}
 use Rattle.c_erasure.specs.Scopes.{How, declares, defines, Entity, typedef, a_function, a_library_function, Bound, AFunction, FileScope, Scope}

@@ -11,7 +11,7 @@ use Rattle.c_typed.specs.Constants.{ty}
 use Rattle.c_typed.specs.Typed.{Declared, bare_ty, field_type}
 use Rattle.c_typed.specs.TypedStatements.{IsTypedValue, IsTypedPart, IsTypedInitializer, IsInitialized, IsCondition, IsEffect, IsReturned, IsTypedStatement}
 use Rattle.c_typed.specs.TypedStatements.{AreTyped, AreTypedArms}
-use Rattle.c_typed.specs.Walk.{types_in, types_in_path, types_in_value, types_in_initializer, types_in_initial, types_if_any, types_in_statement}
+use Rattle.c_typed.specs.Walk.{types_in, types_in_value, types_in_initializer, types_in_initial, types_if_any, types_in_statement}
 use Rattle.c_typed.specs.Walk.{types_in_statements, types_in_arms}
 use Rattle.c_erasure.specs.Erasure.{typed}
 use Rattle.c_erasure.specs.Noted.{Noted, Expression}

@@ -1,22 +1,20 @@
 -- The types that specifiers, declarators and type names name (C99 6.7.2, 6.7.5, 6.7.6): their functions give no arrays, and their arrays have complete
 -- elements, where it is so of the types for which the names of typedefs stand.
-use Rattle.std.proofs.Common.{◌≡◌, ◌∙◌, ℕ, ◌≤◌, Bool, true, false, refl, sym, ap, subst, cond, List, [], ◌∷◌, ◌++◌, inl, inr}
-use Rattle.std.specs.Prelude.{◌⊎◌, Option, Some, None}
+use Rattle.std.proofs.Common.{◌≡◌, ℕ, ◌≤◌, Bool, true, false, refl, sym, subst, cond, List, [], ◌∷◌, ◌++◌, inl, inr}
+use Rattle.std.specs.Prelude.{Option, Some, None}
 use Rattle.std.specs.List.{AllByRecursion}
 use Rattle.std.specs.Option.{option_map}
 use Rattle.std.specs.Str.{bytes_eq}
 use Rattle.c_types.specs.Objects.{is_object}
-use Rattle.c_types.specs.Types.{CType, CTypes, void, integer, pointer, array, function, structure}
+use Rattle.c_types.specs.Types.{CType, CTypes, pointer, array, function}
 use Rattle.c_ast.specs.declared.words.Spelling.{Spelling}
 use Rattle.c_ast.specs.Trees
-use Rattle.c_typed.specs.Conversions.{adjusted}
 use Rattle.c_erasure.specs.Declarators.{Shape, closed, open_array, declared_name, parameter_type}
-use Rattle.c_erasure.specs.Erasure.{IsTypeName, IsBase, IsOne, Specifies, Declares, AreParameters, AreListed, with_parameter_if_named}
+use Rattle.c_erasure.specs.Erasure.{IsBase, IsOne, Specifies, Declares, AreListed, with_parameter_if_named}
 use Rattle.c_erasure.specs.Scopes.{Entity, typedef, enumerator, an_object, a_function, a_library_function, a_local, a_parameter, Bound, FileScope, Scope}
 use Rattle.c_erasure.specs.Scopes.{inside, with_name, with_local, with_parameter, declared_in, innermost, visible, named, or_else, ended}
 use Rattle.c_erasure.specs.Statements.{IsSized}
 use Rattle.c_erasure.specs.Specifiers.{Words, words_of, same_words, table, found_in, named_by}
-use Rattle.c_types.specs.declared.ty.IntKind.TheVariants.{Int}
 use Rattle.c_checking_laws.proofs.CompletePart.{complete_stays}
 use Rattle.c_ast.specs.declared.operators.SpecifierKeyword.{SpecifierKeyword}
 use Rattle.c_erasure.specs.Specifiers.{counted}

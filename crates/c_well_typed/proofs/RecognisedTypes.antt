@@ -1,6 +1,6 @@
 -- Where allocations and null pointers are recognised in a tree no other types stand in it but `unsigned`: where one is an array its elements stay
 -- complete.
-use Rattle.std.proofs.Common.{◌≡◌, ℕ, Bool, true, false, cond, List, [], ◌∷◌, ◌++◌, map, flat_map}
+use Rattle.std.proofs.Common.{ℕ, Bool, true, false, cond, List, [], ◌∷◌, ◌++◌, map, flat_map}
 use Rattle.std.specs.Prelude.{Option, Some, None}
 use Rattle.std.specs.Option.{option_map}
 use Rattle.lay_base.specs.declared.place.Place.{Place}

@@ -1,8 +1,8 @@
 -- The types of which a file speaks outside of its expressions, and those of the fields of its structures (C99 6.7, 6.9): where one is an array its
 -- elements are complete.
-use Rattle.std.proofs.Common.{◌≡◌, ◌∙◌, ℕ, zero, suc, ◌≤◌, true, false, refl, sym, ap, subst, List, [], ◌∷◌, ◌++◌, map, inl, inr}
+use Rattle.std.proofs.Common.{◌≡◌, ◌∙◌, ℕ, zero, suc, ◌≤◌, refl, sym, ap, subst, List, [], ◌∷◌, ◌++◌, map, inl, inr}
 use Rattle.std.proofs.lemmas.List.Elements.{recursion_from_All}
-use Rattle.std.specs.Prelude.{◌⊎◌, Option, Some, None, slice_get}
+use Rattle.std.specs.Prelude.{Option, Some, None, slice_get}
 use Rattle.std.specs.List.{AllByRecursion}
 use Rattle.std.specs.Option.{option_map}
 use Rattle.c_types.specs.Types.{CType, function, Field, Record}
@@ -17,7 +17,7 @@ use Rattle.c_erasure.specs.Declarators.{AreDifferent, Shape, closed, declared_na
 use Rattle.c_erasure.specs.Erasure.{Declares}
 use Rattle.c_erasure.specs.Files.{IsTypedef, IsObject, IsFunction, IsFileDeclarator, AreFileDeclarators, IsDefinition, ErasesItem, parameters_of, in_body, IsFileOf}
 use Rattle.c_erasure.specs.Marks.{Mark, a_name, marks_of_specifiers, marks_of_declarator, marks_of_initial, marks_of_declarators, marks_of_item, marks_of_file}
-use Rattle.c_erasure.specs.Marks.{name_from, after_declarator, defined_in}
+use Rattle.c_erasure.specs.Marks.{name_from, after_declarator}
 use Rattle.c_erasure.specs.MentionPlaces.{spoken_of_specifiers, spoken_of_declarator, spoken_by_value, spoken_of_declarators, spoken_by_items}
 use Rattle.c_erasure.specs.MentionPlaces.{mentions_of_item, mentions_of_file}
 use Rattle.c_erasure.specs.Scopes.{Entity, Scope, FileScope, AnObject, AMention, in_full, at_file_scope, IsMentioned, visible, ended}

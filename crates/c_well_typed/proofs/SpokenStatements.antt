@@ -1,8 +1,7 @@
 -- The types of which a file speaks in initializers, declarations of blocks and statements (C99 6.7, 6.7.8, 6.8): where one is an array its elements are
 -- complete.
-use Rattle.std.proofs.Common.{◌≡◌, ◌∙◌, ℕ, ◌+◌, ◌≤◌, Bool, true, false, sym, subst, List, [], ◌∷◌, ◌++◌, inl, inr}
+use Rattle.std.proofs.Common.{◌≡◌, ℕ, ◌+◌, ◌≤◌, Bool, true, false, sym, subst, List, [], ◌∷◌, ◌++◌, inl, inr}
 use Rattle.std.specs.Prelude.{◌⊎◌, Option, Some, None}
-use Rattle.lay_base.specs.declared.place.Place.{Place}
 use Rattle.c_types.specs.declared.ty.IntKind.{IntKind}
 use Rattle.c_types.specs.Types.{CType, structure, Field}
 use Rattle.c_ast.specs.Places.{first_declarator}
@@ -147,16 +146,20 @@ module _ (f : FileScope) (count : ℕ) (less : (at : ℕ) → ended f.ends at �
       let t = variable_known f count less visible_made d s base h.0 h.1 i.0 m h.3 in
       let next : In (with_object s h.0 h.2 h.1) = (with_local_made f count less s _ i.0 t, i.1) in
       let r = declarators_spoken more (with_object s h.0 h.2 h.1) true base all after semicolon next m h.5 in
-      let own = first_declarator d.declarator semicolon ∷ spoken_of_declarator d.declarator in
-      (two (own ++ spoken_by_value d.value) (spoken_of_declarators more semicolon)
-      (two own (spoken_by_value d.value) (variable d s base h.0 h.1 semicolon i m h.3) (constant d.value (with_object s h.0 h.2 h.1) h.1 h.4.0 next h.4.1)) r.0, r.1)
+      let own = first_declarator d.declarator semicolon ∷ spoken_of_declarator d.declarator in (
+        two (own ++ spoken_by_value d.value) (spoken_of_declarators more semicolon)
+            (two own (spoken_by_value d.value) (variable d s base h.0 h.1 semicolon i m h.3) (constant d.value (with_object s h.0 h.2 h.1) h.1 h.4.0 next h.4.1)) r.0,
+        r.1,
+      )
   declarators_spoken (d ∷ more) s false base all after semicolon i m h =
       let t = variable_known f count less visible_made d s base h.0 h.1 i.0 m h.5 in
       let next : In (with_variable s h.0 h.2 h.1) = (with_local_made f count less s _ i.0 t, i.1) in
       let r = declarators_spoken more (with_variable s h.0 h.2 h.1) false base h.4 after semicolon next m h.9 in
-      let own = first_declarator d.declarator semicolon ∷ spoken_of_declarator d.declarator in
-      (two (own ++ spoken_by_value d.value) (spoken_of_declarators more semicolon)
-      (two own (spoken_by_value d.value) (variable d s base h.0 h.1 semicolon i m h.5) (initialized d.value (with_variable s h.0 h.2 h.1) h.1 h.3 next h.8)) r.0, r.1)
+      let own = first_declarator d.declarator semicolon ∷ spoken_of_declarator d.declarator in (
+        two (own ++ spoken_by_value d.value) (spoken_of_declarators more semicolon)
+            (two own (spoken_by_value d.value) (variable d s base h.0 h.1 semicolon i m h.5) (initialized d.value (with_variable s h.0 h.2 h.1) h.1 h.3 next h.8)) r.0,
+        r.1,
+      )
 
   either_way : {A B : Type 0} (d : Trees.Declaration) (s : Scope) (base : CType) (all : Statements) (after : Scope) → In s → IsWellMade count base
       → (A × DeclareAll d.all s true base all after) ⊎ (B × DeclareAll d.all s false base all after)

@@ -1,8 +1,8 @@
 -- The types of which a file speaks in its expressions, specifiers and declarators, and those of the fields of the structures that it defines there
 -- (C99 6.5.3.4, 6.5.4, 6.7.2 to 6.7.6): where one is an array its elements are complete.
-use Rattle.std.proofs.Common.{◌≡◌, ◌∙◌, ℕ, ◌+◌, ◌≤◌, ◌%◌, ◌^◌, Bool, true, false, refl, sym, ap, subst, List, [], ◌∷◌, ◌++◌, inl, inr}
+use Rattle.std.proofs.Common.{◌≡◌, ◌∙◌, ℕ, ◌+◌, ◌≤◌, ◌%◌, ◌^◌, true, false, refl, sym, ap, subst, List, [], ◌∷◌, ◌++◌, inl, inr}
 use Rattle.std.proofs.lemmas.Bool.{and_parts}
-use Rattle.std.specs.Prelude.{◌⊎◌, Option, Some, None, slice_get, nat_lt}
+use Rattle.std.specs.Prelude.{Option, Some, None, slice_get, nat_lt}
 use Rattle.std.specs.List.{AllByRecursion}
 use Rattle.c_types.specs.Types.{CType, CTypes, pointer, array, function, Field, Record}
 use Rattle.c_types.specs.Objects.{is_object}
@@ -13,15 +13,15 @@ use Rattle.c_ast.specs.Trees
 use Rattle.c_typed.specs.declared.program.MentionKind.{MentionKind}
 use Rattle.c_typed.specs.declared.program.MentionKind.TheVariants.{Named, Sizeof}
 use Rattle.c_typed.specs.Trees as Typed
-use Rattle.c_erasure.specs.Declarators.{closed, open_array, is_name, Shape, declared_name, parameter_type}
-use Rattle.c_erasure.specs.Erasure.{Erases, AreValues, Values, IsTypeName, IsBase, IsOne, Specifies, Declares, AreFields, AreMembers, AreEnumerators}
+use Rattle.c_erasure.specs.Declarators.{closed, is_name, Shape, declared_name, parameter_type}
+use Rattle.c_erasure.specs.Erasure.{Erases, AreValues, IsTypeName, IsBase, IsOne, Specifies, Declares, AreFields, AreMembers, AreEnumerators}
 use Rattle.c_erasure.specs.Erasure.{IsEnumeratorValue, AreListed, IsSize, after_all, comma_or, place_of_name, tag_text, with_parameter_if_named}
-use Rattle.c_erasure.specs.Marks.{Mark, a_tag, an_end, a_name, marks, marks_of_all, marks_of_type, marks_of_specifiers, marks_of_specifier}
+use Rattle.c_erasure.specs.Marks.{Mark, an_end, a_name, marks, marks_of_all, marks_of_type, marks_of_specifiers, marks_of_specifier}
 use Rattle.c_erasure.specs.Marks.{marks_of_members, marks_of_member_declarators, marks_of_enumerators, marks_of_value, marks_of_declarator, an_enumeration}
 use Rattle.c_erasure.specs.Marks.{tag_name}
 use Rattle.c_erasure.specs.MentionPlaces.{spoken, spoken_of_all, spoken_of_type, spoken_of_specifiers, spoken_of_specifier, spoken_of_members}
 use Rattle.c_erasure.specs.MentionPlaces.{spoken_of_fields, spoken_of_enumerators, spoken_of_value, spoken_of_declarator, spoken_of_parameters}
-use Rattle.c_erasure.specs.Noted.{Noted, Expression, Thing, an_object}
+use Rattle.c_erasure.specs.Noted.{Noted, Thing, an_object}
 use Rattle.c_erasure.specs.Scopes.{Entity, Scope, FileScope, Purpose, in_full, value_alone, type_alone, purpose_of_value, is_measured, IsListedAt, IsMentioned}
 use Rattle.c_erasure.specs.Scopes.{measured, for_value, inside, visible, ended}
 use Rattle.c_erasure.specs.Specifiers.{types_among}

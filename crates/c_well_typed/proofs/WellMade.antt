@@ -1,17 +1,16 @@
 -- Types of which each function gives a number, a pointer or nothing, and each array has elements of a complete type (C99 6.7.5.2, 6.7.5.3), where
 -- so many records are complete. What the rules of operators make of such types is such a type.
-use Rattle.std.proofs.Common.{◌≡◌, ◌∙◌, ℕ, Bool, true, false, refl, sym, ap, subst, cond, inl, inr}
-use Rattle.std.specs.Prelude.{◌⊎◌, Option, Some, None}
+use Rattle.std.proofs.Common.{◌≡◌, ℕ, Bool, true, false, refl, subst, cond, inl, inr}
+use Rattle.std.specs.Prelude.{Option, Some, None}
 use Rattle.std.specs.Option.{option_map}
 use Rattle.c_types.specs.Objects.{is_object}
 use Rattle.c_types.specs.Sameness.{same_type}
 use Rattle.c_types.specs.Types.{CType, CTypes, void, integer, pointer, array, function, structure, no_types, and_type}
-use Rattle.c_typed.specs.declared.operators.BinaryOp.{BinaryOp}
 use Rattle.c_typed.specs.declared.operators.CompareOp.{CompareOp}
 use Rattle.c_typed.specs.declared.operators.CompareOp.TheVariants.{Equal, NotEqual}
 use Rattle.c_typed.specs.declared.operators.LibraryFunction.{LibraryFunction}
 use Rattle.c_typed.specs.declared.operators.LibraryFunction.TheVariants.{Malloc, Calloc, Free, Memcpy, Memmove, Memset, Memcmp, Putchar, Getchar, Exit}
-use Rattle.c_typed.specs.Conversions.{is_integer, is_function, pointed, element_of}
+use Rattle.c_typed.specs.Conversions.{is_integer, pointed, element_of}
 use Rattle.c_typed.specs.Fits.{library_type, is_void_and_object, met, meeting, ordered, compared}
 use Rattle.c_typed.specs.Rules.{arithmetic, or_else, both_void, comparing, choosing}
 use Rattle.c_well_typed.specs.WellTyped.{IsResult}

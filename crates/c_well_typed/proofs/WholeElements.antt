@@ -1,25 +1,23 @@
 -- In the unit of a file the elements of array types are complete (C99 6.7.5.2): of the types of objects and functions, of those at the nodes of bodies,
 -- and of those of which the file speaks.
-use Rattle.std.proofs.Common.{◌≡◌, ◌∙◌, ℕ, zero, suc, ◌≤◌, Bool, true, false, refl, sym, ap, subst, cond, List, [], ◌∷◌, ◌++◌, length, map, flat_map, filter}
+use Rattle.std.proofs.Common.{◌≡◌, ℕ, suc, ◌≤◌, Bool, true, false, refl, sym, ap, subst, cond, List, [], ◌∷◌, ◌++◌, length, map, flat_map, filter}
 use Rattle.std.proofs.Common.{inl, inr}
 use Rattle.std.proofs.lemmas.List.Elements.{recursion_from_All, All-from_recursion}
-use Rattle.std.specs.Prelude.{◌⊎◌, not, All, Option, Some, None, slice_get}
+use Rattle.std.specs.Prelude.{◌⊎◌, not, Option, Some, None, slice_get}
 use Rattle.std.specs.List.{AllByRecursion}
 use Rattle.std.specs.Option.{option_map}
 use Rattle.c_types.specs.Objects.{is_object}
-use Rattle.c_types.specs.Types.{CType, pointer, array, function}
+use Rattle.c_types.specs.Types.{CType, pointer, array}
 use Rattle.c_lexer.specs.TokenPlaces.{TokensHavePlaces}
 use Rattle.c_ast.specs.Laws.{TreesBeginFirst}
 use Rattle.c_ast.specs.Trees
 use Rattle.c_ast.specs.TreesOfFiles.{IsTreeOf}
 use Rattle.c_typed.specs.declared.program.Local.{Local}
 use Rattle.c_typed.specs.Mapped.{of_types, mapped_statement}
-use Rattle.c_typed.specs.Programs.{FunctionData, UnitData}
 use Rattle.c_typed.specs.Trees as Typed
 use Rattle.c_typed.specs.TypedStatements.{declared_by}
 use Rattle.c_typed.specs.TypeNumbers.{type_at}
 use Rattle.c_typed.specs.Walk.{types_in_statement}
-use Rattle.c_erasure.specs.Erasing.{ErasesTo}
 use Rattle.c_erasure.specs.Files.{AreAscending, IsFileOf}
 use Rattle.c_erasure.specs.InitialMentions.{told_by_initial}
 use Rattle.c_erasure.specs.Marks.{marks_of_file, scope_beginnings}
@@ -31,7 +29,7 @@ use Rattle.c_erasure.specs.Units.{type_if_pointer, stored_in, number_in, unit_of
 use Rattle.c_order.proofs.Ordered.{marks_are_in_order}
 use Rattle.c_text_order.specs.TextOrder.{TextsAreInOrder}
 use Rattle.c_well_typed.specs.Laws.{UnitsHaveWholeElements}
-use Rattle.c_well_typed.specs.WellTyped.{Lists, of_unit, ty, IsResult, IsTypedFunction, HasWholeElements, HaveWholeElements}
+use Rattle.c_well_typed.specs.WellTyped.{of_unit, IsResult, HasWholeElements, HaveWholeElements}
 use Rattle.c_well_typed.proofs.CompleteLocals.{locals_complete}
 use Rattle.c_well_typed.proofs.Definitions.{in_function, IsDefinedFunction, function_known}
 use Rattle.c_well_typed.proofs.KnownTypes.{body_scope}

@@ -21,7 +21,7 @@ abbrev pub UnitsAreWellTyped : Type 0
 UnitsAreWellTyped = (file : ℕ) (name bytes : List ℕ) (items : List Trees.Item) (u : UnitData) → IsTreeOf bytes items → ErasesTo file name bytes items u
     → IsWellTypedUnit u
 
--- the elements of its array types are complete
+-- in it the elements of array types are complete
 abbrev pub UnitsHaveWholeElements : Type 0
 UnitsHaveWholeElements = (file : ℕ) (name bytes : List ℕ) (items : List Trees.Item) (u : UnitData) → IsTreeOf bytes items
     → ErasesTo file name bytes items u → HaveWholeElements u
@@ -34,9 +34,9 @@ ProgramHasTypedFunctions p = (files : List File) → IsProgramOf files p → Hav
 abbrev pub ProgramHasTypedObjects : ProgramData → Type 0
 ProgramHasTypedObjects p = (files : List File) → IsProgramOf files p → All (IsTypedObject (of_program p)) p.objects
 
--- that program is well typed where in each unit the elements of array types are complete
+-- that program is well typed
 abbrev pub ProgramIsWellTyped : ProgramData → Type 0
-ProgramIsWellTyped p = (files : List File) (h : IsProgramOf files p) → All HaveWholeElements h.units → IsWellTyped p
+ProgramIsWellTyped p = (files : List File) → IsProgramOf files p → IsWellTyped p
 
 -- the parameters and locals of a function with a body have complete types
 abbrev pub LocalsAreComplete : Type 0
