@@ -31,15 +31,11 @@ use Rattle.c_checking_traced.proofs.Tracing.{AreAll, with_names, name_at}
 use Rattle.c_checking_traced.proofs.WholeFiles.{visible_is}
 use Rattle.c_well_typed.proofs.Definitions.{declaring, value_of_object}
 use Rattle.c_well_typed.proofs.Enumerators.{IsEnumerated, AreEnumerated, anything, base_found, lengths_found}
-use Rattle.c_well_typed.proofs.NamedTypes.{IsMadeEntity, IsMadeScope, IsMadeShape, named_made, base_made, declarator_made, sized_made}
+use Rattle.c_well_typed.proofs.NamedTypes.{IsMadeEntity, IsMadeScope, IsMadeShape, named_made, base_made, declarator_made, sized_made, joined}
 use Rattle.c_well_typed.proofs.WellMade.{IsWellMade}
 
 some_is : {A : Type 0} (x y : A) → Some x ≡ Some y → x ≡ y
 some_is x y h = cc
-
-joined : {A : Type 0} (P : A → Type 0) (xs ys : List A) → AllByRecursion P xs → AllByRecursion P ys → AllByRecursion P (xs ++ ys)
-joined P [] ys h k = k
-joined P (x ∷ xs) ys h k = (h.0, joined P xs ys h.1 k)
 
 -- ---- one name stands for one thing
 

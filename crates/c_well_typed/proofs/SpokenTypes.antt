@@ -30,12 +30,8 @@ use Rattle.c_checking_traced.proofs.Tracing as Tracing
 use Rattle.c_checking_traced.proofs.Tracing.{AreAll}
 use Rattle.c_well_typed.proofs.KnownTypes.{base_known, declarator_known, listed_known, type_known}
 use Rattle.c_well_typed.proofs.MadeNodes.{HasWhole, made_whole}
-use Rattle.c_well_typed.proofs.NamedTypes.{IsMadeEntity, IsMadeScope, inside_made, parameter_in, parameter_made, elements}
+use Rattle.c_well_typed.proofs.NamedTypes.{IsMadeEntity, IsMadeScope, inside_made, parameter_in, parameter_made, elements, joined}
 use Rattle.c_well_typed.proofs.WellMade.{IsWellMade, AreWellMade}
-
-joined : {A : Type 0} (P : A → Type 0) (xs ys : List A) → AllByRecursion P xs → AllByRecursion P ys → AllByRecursion P (xs ++ ys)
-joined P [] ys h k = k
-joined P (x ∷ xs) ys h k = (h.0, joined P xs ys h.1 k)
 
 pub object_whole : (count : ℕ) (t : CType) → is_object count t ≡ true → HasWhole count t
 object_whole count (array t n) h = (and_parts (nat_lt 0 n) (is_object count t) h).1

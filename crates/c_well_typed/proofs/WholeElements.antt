@@ -38,7 +38,7 @@ use Rattle.c_well_typed.proofs.MadeLeaves.{items_leaves}
 use Rattle.c_well_typed.proofs.MadeNames as MadeNames
 use Rattle.c_well_typed.proofs.MadeNodes.{HasWhole, AreWhole, made_whole, scalar_whole}
 use Rattle.c_well_typed.proofs.MadeStatements.{statement_whole}
-use Rattle.c_well_typed.proofs.NamedTypes.{IsMadeEntity}
+use Rattle.c_well_typed.proofs.NamedTypes.{IsMadeEntity, joined}
 use Rattle.c_well_typed.proofs.Numbers.{IsAmong, IsNumbered, all_among, of_all}
 use Rattle.c_well_typed.proofs.RecognisedTypes.{statement_types}
 use Rattle.c_well_typed.proofs.SpokenFiles.{mention_whole, field_made}
@@ -50,10 +50,6 @@ use Rattle.c_well_typed.proofs.WellMade.{IsWellMade}
 use Rattle.c_well_typed.proofs.WholeObjects.{objects_whole}
 
 -- ---- lists
-
-joined : {A : Type 0} (P : A → Type 0) (xs ys : List A) → AllByRecursion P xs → AllByRecursion P ys → AllByRecursion P (xs ++ ys)
-joined P [] ys h k = k
-joined P (x ∷ xs) ys h k = (h.0, joined P xs ys h.1 k)
 
 each : {A : Type 0} (P : A → Type 0) (xs : List A) → ((n : ℕ) (x : A) → slice_get xs n ≡ Some x → P x) → AllByRecursion P xs
 each P [] h = tt
