@@ -24,6 +24,7 @@ use Rattle.c_erasure.specs.Noted.{Noted, Expression, Path, an_object, type_of, t
 use Rattle.c_erasure.specs.Scopes.{How, declares, tentative, defines, Entity, a_function, typedef, a_library_function, enumerator, Bound, ALocal, AFunction}
 use Rattle.c_erasure.specs.Scopes.{FileScope, Scope, at_file_scope, declared, ended}
 use Rattle.c_erasure.specs.Scopes as Scopes
+use Rattle.c_erasure.specs.Statements.{EraseItems}
 use Rattle.c_erasure.specs.Specifiers.{Storage, storage_of, no_storage, a_typedef, is_extern, is_static, is_auto, is_register, several}
 use Rattle.c_checking_files.proofs.CompleteObjects.{mapped_at}
 use Rattle.c_checking_units.proofs.Lists.{ascending_apart}
@@ -118,6 +119,12 @@ pub record IsDefinedFunction (f : FileScope) (count : ℕ) (g : AFunction) : Typ
   pub typed : AreTyped (in_function f g) result false false (without_notes all)
   pub declared_all : all_declared_by all ≡ count_up (length g.parameters) (length g.locals)
   pub noted : AreStatementsNoted count ⊥ all
+  -- what its body is the tree of
+  pub list : Option Trees.ParameterList
+  pub bounds : List Bound
+  pub of_list : HasParameters list types g.parameters bounds
+  pub items : Trees.BlockItems
+  pub erased : EraseItems items (in_body f bounds (g.parameters ++ g.locals)) all
 
 module _ (f : FileScope) (count : ℕ) (less : (at : ℕ) → ended f.ends at ≤ count) where
   abbrev u : ℕ → List ℕ
@@ -313,6 +320,11 @@ module _ (f : FileScope) (count : ℕ) (less : (at : ℕ) → ended f.ends at �
         typed = body.3;
         declared_all = body.4;
         noted = items_noted f count less items (in_body f h.6 (h.5.parameters ++ h.5.locals)) body.0 refl body.2;
+        list = parameters_of d;
+        bounds = h.6;
+        of_list = h.21;
+        items = items;
+        erased = body.2;
       } in
       name_both
       (name_both (enumerators_name (base_found f specs (at_file_scope f) h.0 refl h.7))

@@ -44,3 +44,17 @@ pub mod FileLoops
 pub mod ProgramLoops
 pub mod CountableUnits
 pub mod Moved
+pub mod WellMade
+pub mod NamedTypes
+pub mod KnownTypes
+pub mod Leaves
+pub mod MadeLeaves
+pub mod MadeNodes
+pub mod MadeStatements
+pub mod RecognisedTypes
+pub mod MadeNames
+pub mod SpokenTypes
+pub mod SpokenStatements
+pub mod SpokenFiles
+pub mod ToldTypes
+pub mod WholeElements

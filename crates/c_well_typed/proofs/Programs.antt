@@ -15,6 +15,7 @@ use Rattle.c_joining.specs.Joining.{joined, objects}
 use Rattle.c_link.specs.Programs.{AreUnitsOf, IsUnitOfFile}
 use Rattle.c_link.proofs.JoinedRecords.{IsAmong}
 use Rattle.c_well_typed.specs.Laws.{UnitsHaveTypedFunctions, UnitsAreWellTyped, ProgramHasTypedFunctions, ProgramHasTypedObjects, ProgramIsWellTyped}
+use Rattle.c_well_typed.specs.Laws.{UnitsHaveWholeElements}
 use Rattle.c_well_typed.specs.WellTyped.{of_unit, of_program, AreInitials, HasObjectType, IsTypedObject, IsSmallType, HaveTypedFunctions}
 use Rattle.c_well_typed.specs.WellTyped.{HaveWholeElements, IsWellTypedUnit, HasMain}
 use Rattle.c_well_typed.specs.Within.{IsTextObject, ProgramHasTexts}
@@ -72,22 +73,16 @@ module _ (law : UnitsAreWellTyped) where
 
 -- ---- a whole program
 
-all_is : {A : Type 0} (Q : A → Type 0) (xs : List A) → AllByRecursion Q xs → (x : A) → IsAmong x xs → Q x
-all_is Q [] h x i = absurd i
-all_is Q (y ∷ xs) h x (inl e) = subst Q (sym e) h.0
-all_is Q (y ∷ xs) h x (inr i) = all_is Q xs h.1 x i
-
-pub program_is_well_typed : UnitsHaveTypedFunctions → UnitsAreWellTyped → (p : ProgramData) → AreComplete p.records → AreSmall p.records
+pub program_is_well_typed : UnitsHaveTypedFunctions → UnitsAreWellTyped → UnitsHaveWholeElements → (p : ProgramData) → AreComplete p.records → AreSmall p.records
     → ProgramIsWellTyped p
-program_is_well_typed functions_law law p complete small files h wholes =
+program_is_well_typed functions_law law elements_law p complete small files h =
     let e = h.program.joined_units in
     let whole = subst (λ (p : ProgramData). AreComplete p.records) e complete in
     let few = subst (λ (p : ProgramData). AreSmall p.records) e small in
     let well = each_unit IsWellTypedUnit (λ number file u own. law number file.name file.bytes own.items u own.tree own.erases) 0 files h.units h.of_files in
     let each : (u : UnitData) → IsAmong u h.units → HaveTypedFunctions (of_unit u) = λ u i. let w = well u i in w.functions in
     let smalls : (u : UnitData) → IsAmong u h.units → All (IsSmallType (of_unit u)) u.types = λ u i. let w = well u i in w.small_types in
-    let elements : (u : UnitData) → IsAmong u h.units → HaveWholeElements u =
-    all_is HaveWholeElements h.units (recursion_from_All HaveWholeElements h.units wholes) in
+    let elements = each_unit HaveWholeElements (λ number file u own. elements_law number file.name file.bytes own.items u own.tree own.erases) 0 files h.units h.of_files in
     let own = program_has_typed_functions functions_law p complete small files h in
     let types = subst (λ (p : ProgramData). All (IsSmallType (of_program p)) p.types) (sym e)
     (small_again h.units h.program.agree whole each few smalls elements) in

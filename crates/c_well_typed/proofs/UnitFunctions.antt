@@ -49,7 +49,7 @@ use Rattle.c_well_typed.proofs.WholeObjects.{objects_whole}
 some_is : {A : Type 0} (x y : A) → Some x ≡ Some y → x ≡ y
 some_is x y h = cc
 
-at_place : {A : Type 0} (P : A → Type 0) (xs : List A) → AllByRecursion P xs → (k : ℕ) (x : A) → slice_get xs k ≡ Some x → P x
+pub at_place : {A : Type 0} (P : A → Type 0) (xs : List A) → AllByRecursion P xs → (k : ℕ) (x : A) → slice_get xs k ≡ Some x → P x
 at_place P [] h k x e = cc
 at_place P (y ∷ xs) h zero x e = subst P (some_is y x e) h.0
 at_place P (y ∷ xs) h (suc k) x e = at_place P xs h.1 k x e
@@ -64,7 +64,7 @@ before_map : {A B : Type 0} (P : B → Type 0) (Q : A → Type 0) (v : A → B) 
 before_map P Q v [] f h = tt
 before_map P Q v (x ∷ xs) f h = (f x h.0, before_map P Q v xs f h.1)
 
-after_map : {A B : Type 0} (P : A → Type 0) (Q : B → Type 0) (v : A → B) (xs : List A) → ((x : A) → P x → Q (v x)) → AllByRecursion P xs
+pub after_map : {A B : Type 0} (P : A → Type 0) (Q : B → Type 0) (v : A → B) (xs : List A) → ((x : A) → P x → Q (v x)) → AllByRecursion P xs
     → AllByRecursion Q (map v xs)
 after_map P Q v [] f h = tt
 after_map P Q v (x ∷ xs) f h = (f x h.0, after_map P Q v xs f h.1)
@@ -203,7 +203,7 @@ module _ (items : List Trees.Item) (f : FileScope) (h : IsFileOf items f) (begin
     parameters_same : map (λ x. type_at T x.ty) G.parameters ≡ map (λ l. l.ty) g.parameters
     parameters_same = locals_same (taken_in g) 0 g.parameters of_locals.0
 
-    all_same : map (λ x. type_at T x.ty) (G.parameters ++ G.locals) ≡ map (λ l. l.ty) (g.parameters ++ g.locals)
+    pub all_same : map (λ x. type_at T x.ty) (G.parameters ++ G.locals) ≡ map (λ l. l.ty) (g.parameters ++ g.locals)
     all_same =
         map-append (λ (x : Local). type_at T x.ty) G.parameters G.locals
         ∙ ap (λ own. own ++ map (λ (x : Local). type_at T x.ty) G.locals) parameters_same
@@ -235,7 +235,7 @@ module _ (items : List Trees.Item) (f : FileScope) (h : IsFileOf items f) (begin
           Composed.of_statement numbers (of_types (type_at T)) (of_types (λ (t : Noted). t.ty)) (λ i. refl) (λ i. refl) (λ i. refl) R
           (before_map Is (λ (t : Noted). type_at T (number_in T t.ty) ≡ t.ty) (λ (t : Noted). t.ty) (types_in_statement R) (λ t i. i.1) body_numbered)
 
-      source_typed : IsTypedStatement (in_function f g) d.result false false (typed_statement S)
+      pub source_typed : IsTypedStatement (in_function f g) d.result false false (typed_statement S)
       source_typed = (
         sym (declared_mapped (of_types (λ (t : Noted). t.ty)) d.all),
         subst (AreTyped (in_function f g) d.result false false) (without_is d.all) d.typed,
@@ -286,7 +286,7 @@ module _ (items : List Trees.Item) (f : FileScope) (h : IsFileOf items f) (begin
               (ap (locals f (taken_in g) 0) e.1, ap (locals f (taken_in g) (length g.parameters)) e.2),
         )
 
-    typed_function : (n : ℕ) → slice_get f.functions n ≡ Some g → IsTypedFunction L G
+    pub typed_function : (n : ℕ) → slice_get f.functions n ≡ Some g → IsTypedFunction L G
     typed_function n e = by_body (function_known f count records_ended items h beginnings n g e)
       where
         by_body : ((g.body ≡ None) × (g.parameters ≡ []) × (g.locals ≡ [])) ⊎ IsDefinedFunction f count g → IsTypedFunction L G

@@ -31,7 +31,7 @@ some_is : {A : Type 0} (x y : A) → Some x ≡ Some y → x ≡ y
 some_is x y h = cc
 
 -- what stands in a list after each is changed
-before_at : {A B : Type 0} (v : A → B) (xs : List A) (k : ℕ) (y : B) → slice_get (map v xs) k ≡ Some y
+pub before_at : {A B : Type 0} (v : A → B) (xs : List A) (k : ℕ) (y : B) → slice_get (map v xs) k ≡ Some y
     → (x : A) × (slice_get xs k ≡ Some x) × (v x ≡ y)
 before_at v [] k y h = cc
 before_at v (x ∷ xs) zero y h = (x, refl, some_is (v x) y h)

@@ -21,6 +21,11 @@ abbrev pub UnitsAreWellTyped : Type 0
 UnitsAreWellTyped = (file : ℕ) (name bytes : List ℕ) (items : List Trees.Item) (u : UnitData) → IsTreeOf bytes items → ErasesTo file name bytes items u
     → IsWellTypedUnit u
 
+-- in it the elements of array types are complete
+abbrev pub UnitsHaveWholeElements : Type 0
+UnitsHaveWholeElements = (file : ℕ) (name bytes : List ℕ) (items : List Trees.Item) (u : UnitData) → IsTreeOf bytes items
+    → ErasesTo file name bytes items u → HaveWholeElements u
+
 -- those of the program of some files, and it has a `main`
 abbrev pub ProgramHasTypedFunctions : ProgramData → Type 0
 ProgramHasTypedFunctions p = (files : List File) → IsProgramOf files p → HaveTypedFunctions (of_program p) × HasMain p
@@ -29,9 +34,9 @@ ProgramHasTypedFunctions p = (files : List File) → IsProgramOf files p → Hav
 abbrev pub ProgramHasTypedObjects : ProgramData → Type 0
 ProgramHasTypedObjects p = (files : List File) → IsProgramOf files p → All (IsTypedObject (of_program p)) p.objects
 
--- that program is well typed where in each unit the elements of array types are complete
+-- that program is well typed
 abbrev pub ProgramIsWellTyped : ProgramData → Type 0
-ProgramIsWellTyped p = (files : List File) (h : IsProgramOf files p) → All HaveWholeElements h.units → IsWellTyped p
+ProgramIsWellTyped p = (files : List File) → IsProgramOf files p → IsWellTyped p
 
 -- the parameters and locals of a function with a body have complete types
 abbrev pub LocalsAreComplete : Type 0

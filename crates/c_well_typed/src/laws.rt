@@ -2,7 +2,7 @@
 
 ghost use Rattle.c_typed.specs.Programs.{program_data};
 ghost use Rattle.c_well_typed.specs.Within.{InitialsLieWithin, ProgramHasTexts, ProgramsAreWithinLimits, ProgramsHaveFewLoops, TextsHoldNumbers};
-ghost use Rattle.c_well_typed.specs.Laws.{LocalsAreComplete, ProgramHasTypedFunctions, ProgramHasTypedObjects, ProgramIsWellTyped, UnitsAreWellTyped, UnitsHaveTypedFunctions};
+ghost use Rattle.c_well_typed.specs.Laws.{LocalsAreComplete, ProgramHasTypedFunctions, ProgramHasTypedObjects, ProgramIsWellTyped, UnitsAreWellTyped, UnitsHaveTypedFunctions, UnitsHaveWholeElements};
 ghost use Rattle.c_well_typed.specs.CountableUnits.{UnitsAreCountable};
 ghost use Rattle.c_well_typed.specs.Moves.{MovesKeepTyping};
 
@@ -45,14 +45,23 @@ pub fn programs_have_typed_objects(p: &Typed)
     units_are_well_typed();
 }
 
-/// The program of some files is well typed, where in each of its units the elements of array types are complete (6.7.5.2): each type of it is then as
-/// large as in a unit.
+/// In the unit of a file the elements of array types are complete (6.7.5.2): an array is declared of a complete type alone, and a call gives none,
+/// since each function type that is declared there gives a number, a pointer or nothing.
+pub fn units_have_whole_elements()
+    ensures { UnitsHaveWholeElements }
+{
+    tokens_have_places();
+    texts_are_in_order();
+}
+
+/// The program of some files is well typed: each type of it is as large as in a unit, since no other file completes the elements of an array (6.7.5.2).
 pub fn programs_are_well_typed(p: &Typed)
     ensures { ProgramIsWellTyped (program_data p.now) }
 {
     records_are_complete(&p.records);
     units_have_typed_functions();
     units_are_well_typed();
+    units_have_whole_elements();
 }
 
 /// Each parameter and local of a typed function with a body has a complete type (6.7, 6.9.1).

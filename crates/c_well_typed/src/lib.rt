@@ -10,4 +10,5 @@ pub use laws::{
     programs_are_within_limits, programs_have_few_loops, programs_have_texts,
     programs_have_typed_functions, programs_have_typed_objects, texts_hold_numbers,
     units_are_countable, units_are_well_typed, units_have_typed_functions,
+    units_have_whole_elements,
 };
