@@ -22,13 +22,13 @@ use Rattle.c_erasure.specs.Scopes.{How, declares, defines, Entity, typedef, a_fu
 use Rattle.c_erasure.specs.Scopes.{at_file_scope, visible, named, ended}
 use Rattle.c_erasure.specs.Scopes as Scopes
 use Rattle.c_erasure.specs.Specifiers.{Storage, storage_of, storage_word, together, no_storage, a_typedef, is_extern, is_static, is_auto, is_register, several}
-use Rattle.c_checking_complete.proofs.Objects.{mapped_at}
-use Rattle.c_checking_items.proofs.Names.{all_at}
+use Rattle.c_checking_files.proofs.CompleteObjects.{mapped_at}
+use Rattle.c_checking_files.proofs.Names.{all_at}
 use Rattle.c_checking_laws.proofs.NodesOfParts.{same_bytes}
-use Rattle.c_checking_traced.proofs.Lists.{ascending_apart}
-use Rattle.c_checking_traced.proofs.Tracing as Tracing
-use Rattle.c_checking_traced.proofs.Tracing.{AreAll, with_names, name_at}
-use Rattle.c_checking_traced.proofs.WholeFiles.{visible_is}
+use Rattle.c_checking_units.proofs.Lists.{ascending_apart}
+use Rattle.c_checking_units.proofs.Tracing as Tracing
+use Rattle.c_checking_units.proofs.Tracing.{AreAll, with_names, name_at}
+use Rattle.c_checking_units.proofs.WholeFiles.{visible_is}
 use Rattle.c_well_typed.proofs.Definitions.{declaring, value_of_object}
 use Rattle.c_well_typed.proofs.Enumerators.{IsEnumerated, AreEnumerated, anything, base_found, lengths_found}
 use Rattle.c_well_typed.proofs.NamedTypes.{IsMadeEntity, IsMadeScope, IsMadeShape, named_made, base_made, declarator_made, sized_made, joined}

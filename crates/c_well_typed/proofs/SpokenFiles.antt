@@ -22,11 +22,11 @@ use Rattle.c_erasure.specs.MentionPlaces.{spoken_of_specifiers, spoken_of_declar
 use Rattle.c_erasure.specs.MentionPlaces.{mentions_of_item, mentions_of_file}
 use Rattle.c_erasure.specs.Scopes.{Entity, Scope, FileScope, AnObject, AMention, in_full, at_file_scope, IsMentioned, visible, ended}
 use Rattle.c_erasure.specs.Specifiers.{Storage, storage_of, no_storage, a_typedef, is_extern, is_static, is_auto, is_register, several}
-use Rattle.c_checking_complete.proofs.Objects.{mapped_at}
+use Rattle.c_checking_files.proofs.CompleteObjects.{mapped_at}
 use Rattle.c_checking_files.proofs.Declarations.{first_named}
-use Rattle.c_checking_traced.proofs.Lists.{different_apart}
-use Rattle.c_checking_traced.proofs.SpokenItems.{mentions_apart}
-use Rattle.c_checking_traced.proofs.Tracing.{record_at}
+use Rattle.c_checking_units.proofs.Lists.{different_apart}
+use Rattle.c_checking_units.proofs.SpokenItems.{mentions_apart}
+use Rattle.c_checking_units.proofs.Tracing.{record_at}
 use Rattle.c_well_typed.proofs.KnownTypes.{base_known, declarator_known, body_scope}
 use Rattle.c_well_typed.proofs.MadeNodes.{HasWhole, made_whole}
 use Rattle.c_well_typed.proofs.NamedTypes.{IsMadeEntity, IsMadeScope, sized_made}

@@ -26,8 +26,8 @@ use Rattle.c_erasure.specs.Scopes.{Entity, Scope, FileScope, Purpose, in_full, v
 use Rattle.c_erasure.specs.Scopes.{measured, for_value, inside, visible, ended}
 use Rattle.c_erasure.specs.Specifiers.{types_among}
 use Rattle.c_checking_laws.proofs.CompletePart.{complete_stays}
-use Rattle.c_checking_traced.proofs.Tracing as Tracing
-use Rattle.c_checking_traced.proofs.Tracing.{AreAll}
+use Rattle.c_checking_units.proofs.Tracing as Tracing
+use Rattle.c_checking_units.proofs.Tracing.{AreAll}
 use Rattle.c_well_typed.proofs.KnownTypes.{base_known, declarator_known, listed_known, type_known}
 use Rattle.c_well_typed.proofs.MadeNodes.{HasWhole, made_whole}
 use Rattle.c_well_typed.proofs.NamedTypes.{IsMadeEntity, IsMadeScope, inside_made, parameter_in, parameter_made, elements, joined}
