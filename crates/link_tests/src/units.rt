@@ -10,9 +10,9 @@ ghost use Rattle.c_typed.specs.Programs.{unit_data};
 use c_ast::Tree;
 use c_check::check;
 use c_lexer::{Tokens, lex};
-use c_link::is_countable;
 use c_parser::{parse, trees_are_small};
 use c_typed::Unit;
+use c_well_typed::units_are_countable;
 use lay_base::{Bytes, File, List, Name, add};
 use std::alloc::Global;
 
@@ -61,12 +61,9 @@ fn unit_of_tree(alloc: Global, number: u16, file: &File, tree: &Tree) -> Option<
     ensures { IfSome result (λ unit. IsCountable (unit_data unit)) }
 {
     trees_are_small();
+    units_are_countable();
     match check(alloc, number, file, tree) {
-        Ok(unit) => if is_countable(&unit) {
-            Some(unit)
-        } else {
-            None
-        },
+        Ok(unit) => Some(unit),
         Err(_) => None,
     }
 }
