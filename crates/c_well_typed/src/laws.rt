@@ -101,6 +101,7 @@ pub fn programs_have_few_loops()
 {
     tokens_have_places();
 }
+
 /// The records of the unit of a file are complete, and each object, parameter and local of it has a complete type within the limits, so its
 /// objects can be counted (6.7, 6.9).
 pub fn units_are_countable()

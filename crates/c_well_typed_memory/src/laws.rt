@@ -1,4 +1,4 @@
-//! The law.
+//! A law about the start of a run.
 
 ghost use Rattle.c_typed.specs.Programs.{program_data};
 ghost use Rattle.c_well_typed_memory.specs.Laws.{ProgramStartsFit};
