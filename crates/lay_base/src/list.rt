@@ -1,8 +1,5 @@
 //! `List`: a vector that contracts see as the list of its elements.
 
-ghost use Rattle.std.specs.Prelude.{◌≡◌, [], ◌∷◌, ◌++◌, ◌<◌, length, slice_get, ◌↔◌, IsTrue, MatchOption, MatchResult, OnOk, OnSome};
-ghost use Rattle.std.specs.Option.{option_copied};
-
 use std::alloc::{AllocFailed, Global};
 use std::marker::Model;
 
@@ -24,6 +21,14 @@ impl<T> Model for List<T> {
 }
 
 impl<T> List<T> {
+    ghost use Rattle.std.specs.Prelude.{◌≡◌, [], ◌∷◌, ◌++◌, ◌<◌, length, slice_get, ◌↔◌, IsTrue, MatchOption, MatchResult, OnOk, OnSome};
+    ghost use Rattle.std.specs.Option.{option_copied};
+    ghost use Rattle.std.specs.Borrow.{Lends, sem};
+    ghost use Rattle.lay_base.specs.contracts.list.List.{the_row};
+    ghost use Rattle.std.specs.contracts.vec.Vec as vec;
+    ghost use Rattle.std.specs.contracts.alloc.Global as heap;
+    ghost use Rattle.std.specs.contracts.impls.GlobalAllocator.TheImpl.{ghosts};
+
     /// The empty list, which takes no memory.
     pub fn new(alloc: Global) -> List<T>
         ensures { result ≡ [] }
@@ -53,6 +58,14 @@ impl<T> List<T> {
         ensures { result.now ≡ self.now }
     {
         self.items.as_slice()
+    }
+
+    /// The vector of the elements, lent to be changed.
+    pub fn as_mut_vec(&mut self) -> &mut Vec<T>
+        ensures* lends { sem 𝓛 (Lends (the_row T.row) (vec.the_row T.row heap.the_row ghosts) self.entry result (λ w. w.items)) }
+        ensures value { result.now.items ≡ self.old }
+    {
+        &mut self.items
     }
 
     /// How many elements there are.

@@ -1,7 +1,5 @@
 //! `Boxed`: a box that contracts see as its value.
 
-ghost use Rattle.std.specs.Prelude.{◌≡◌, MatchResult};
-
 use std::alloc::{AllocFailed, Global};
 use std::marker::Model;
 
@@ -20,6 +18,10 @@ impl<T> Model for Boxed<T> {
 }
 
 impl<T> Boxed<T> {
+    ghost use Rattle.std.specs.Prelude.{◌≡◌, MatchResult};
+    ghost use Rattle.std.specs.Borrow.{Lends, sem};
+    ghost use Rattle.lay_base.specs.contracts.value_box.Boxed.{the_row};
+
     /// Boxes a value. Its one refusal is want of memory, which gives the value back.
     pub fn new(alloc: Global, value: T) -> Result<Boxed<T>, T>
         ensures { MatchResult result (λ boxed. boxed ≡ value) (λ back. back ≡ value) }
@@ -38,6 +40,14 @@ impl<T> Boxed<T> {
         ensures { result.now ≡ self.now }
     {
         &self.inner
+    }
+
+    /// The value, lent to be changed.
+    pub fn get_mut(&mut self) -> &mut T
+        ensures* lends { sem 𝓛 (Lends (the_row T.row) T.row self.entry result (λ w. w)) }
+        ensures value { result.now ≡ self.old }
+    {
+        &mut self.inner
     }
 
     /// The value, out of its box.
