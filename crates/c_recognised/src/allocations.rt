@@ -1,10 +1,11 @@
 //! Conversions that are allocations of records or null pointers.
 
-ghost use Rattle.std.specs.Prelude.{◌≡◌, ◌∷◌, [], IfOk, IfSome, Some, is_some, map};
+ghost use Rattle.std.specs.Prelude.{◌≡◌, ◌∷◌, [], IfOk, IfSome, OnOk, Some, is_some, map};
 ghost use Rattle.std.specs.Option.{option_map};
 ghost use Rattle.c_annotated.specs.Views.{expression_of, expressions_of, optional_of};
-ghost use Rattle.c_erasure.specs.Recognised.{allocation, converted, is_null_constant, or_converted};
+ghost use Rattle.c_erasure.specs.Recognised.{allocation, is_null_constant};
 ghost use Rattle.c_recognised.specs.Calls.{is_calloc_of, is_malloc_of};
+ghost use Rattle.c_recognised.specs.Conversions.{allocated_by, became, reconverted};
 ghost use Rattle.c_annotated.specs.Nodes.{node_of};
 ghost use Rattle.c_types.specs.Sameness.{same_type};
 ghost use Rattle.c_types.specs.Types.{pointer, void};
@@ -16,6 +17,7 @@ use c_typed::{LibraryFunction, is_integer, is_void};
 use c_types::Ty;
 use lay_base::{Boxed, List, NoMemory};
 use std::alloc::Global;
+use std::mem::replace;
 
 /// How many records are allocated, where that is written, and whether all bytes are zero.
 type Allocation = (Option<Boxed<Expression>>, bool);
@@ -96,23 +98,6 @@ fn allocation(alloc: Global, r: u32, e: Boxed<Expression>) -> Result<Allocation,
     }
 }
 
-/// A conversion to a pointer to a record, or the allocation that it is.
-fn or_converted(
-    alloc: Global,
-    r: u32,
-    e: Boxed<Expression>,
-    written: bool,
-) -> Result<ExpressionNode, NoMemory>
-    ensures { IfOk result (λ node. node_of node ≡ or_converted r (allocation r (expression_of e)) (expression_of e) written) }
-{
-    if allocates(r, e.get()) {
-        let (count, zeroed) = allocation(alloc, r, e)?;
-        Ok(ExpressionNode::Allocate(r, count, zeroed))
-    } else {
-        Ok(ExpressionNode::Convert(e, written))
-    }
-}
-
 /// Whether an expression, whose null pointers are recognised, is a null pointer constant where it is converted to a pointer.
 fn is_null_constant(e: &Expression) -> bool
     ensures { result ≡ is_null_constant (expression_of e.now) }
@@ -132,25 +117,60 @@ fn is_void_pointer(t: &Ty) -> bool
     }
 }
 
-/// A conversion to a type, or the allocation or the null pointer that it is.
-pub fn converted(
-    alloc: Global,
-    t: &Ty,
-    e: Boxed<Expression>,
-    written: bool,
-) -> Result<ExpressionNode, NoMemory>
-    ensures { IfOk result (λ node. node_of node ≡ converted (type_of t.now) (expression_of e) written) }
+/// What a node becomes that is a conversion, or is none.
+enum Becomes {
+    /// What it is.
+    Same,
+    Null,
+    /// An allocation of records with that number.
+    Records(u32),
+}
+
+/// What a node of a type becomes, where its operands are done.
+fn conversion(node: &ExpressionNode, t: &Ty) -> Becomes
+    ensures { became result (node_of node.now) ≡ reconverted (type_of t.now) (node_of node.now) }
 {
-    match t {
-        Ty::Pointer(to) => {
-            if is_null_constant(e.get()) {
-                return Ok(ExpressionNode::Null);
+    match node {
+        ExpressionNode::Convert(e, _) => match t {
+            Ty::Pointer(to) => {
+                if is_null_constant(e.get()) {
+                    return Becomes::Null;
+                }
+                match to.get() {
+                    Ty::Record(r) if allocates(*r, e.get()) => Becomes::Records(*r),
+                    _ => Becomes::Same,
+                }
             }
-            match to.get() {
-                Ty::Record(r) => or_converted(alloc, *r, e, written),
-                _ => Ok(ExpressionNode::Convert(e, written)),
-            }
+            _ => Becomes::Same,
+        },
+        _ => Becomes::Same,
+    }
+}
+
+/// Makes a conversion that allocates records with a number an allocation. There is no other node for which it is asked.
+fn allocate(alloc: Global, r: u32, node: &mut ExpressionNode) -> Result<(), NoMemory>
+    ensures { OnOk result (node_of node.new ≡ allocated_by r (node_of node.old)) }
+{
+    match replace(node, ExpressionNode::Null) {
+        ExpressionNode::Convert(e, _) => {
+            let (count, zeroed) = allocation(alloc, r, e)?;
+            *node = ExpressionNode::Allocate(r, count, zeroed);
+            Ok(())
         }
-        _ => Ok(ExpressionNode::Convert(e, written)),
+        _ => Err(NoMemory),
+    }
+}
+
+/// Makes a node of a type, whose operands are done, an allocation or a null pointer where it is a conversion that is one.
+pub fn converted(alloc: Global, node: &mut ExpressionNode, t: &Ty) -> Result<(), NoMemory>
+    ensures { OnOk result (node_of node.new ≡ reconverted (type_of t.now) (node_of node.old)) }
+{
+    match conversion(node, t) {
+        Becomes::Same => Ok(()),
+        Becomes::Null => {
+            *node = ExpressionNode::Null;
+            Ok(())
+        }
+        Becomes::Records(r) => allocate(alloc, r, node),
     }
 }
