@@ -37,7 +37,7 @@ any_note t note (Trees.call_through e all) = refl
 any_note t note (Trees.library which all) = refl
 any_note t note (Trees.allocate r count zeroed) = refl
 
-expression_is : (e : Expression) → expression_of e
+pub expression_is : (e : Expression) → expression_of e
     ≡ Trees.expression (record { ty = type_of e.ty; note = note_of e.note }) e.place (node_of e.node)
 expression_is e = search (rules, the_lemmas)
 

@@ -1,13 +1,21 @@
--- Which arguments make a call of `malloc` or `calloc` an allocation of records with a number.
-use Rattle.std.specs.Prelude.{ℕ, Bool, false, is_some}
+-- How many records with a number a call of the library allocates by its arguments, and whether they are zero.
+use Rattle.std.specs.Prelude.{ℕ, Bool, true, false, if◌then◌else◌, Option, Some, None}
+use Rattle.c_typed.specs.declared.operators.LibraryFunction.{LibraryFunction}
+use Rattle.c_typed.specs.declared.operators.LibraryFunction.TheVariants.{Malloc, Calloc}
 use Rattle.c_typed.specs.Trees as Trees
 use Rattle.c_erasure.specs.Noted.{Noted, unconverted}
-use Rattle.c_erasure.specs.Recognised.{counted, is_size}
+use Rattle.c_erasure.specs.Recognised.{allocated, as_unsigned, counted, is_size}
 
-abbrev pub is_malloc_of : ℕ → Trees.Expressions Noted → Bool
-is_malloc_of r (Trees.and_expression x Trees.no_expressions) = is_some (counted r (unconverted x))
-is_malloc_of r all = false
+abbrev pub malloc_count : ℕ → Trees.Expressions Noted → Option (Trees.OptionalExpression Noted)
+malloc_count r (Trees.and_expression x Trees.no_expressions) = counted r (unconverted x)
+malloc_count r all = None
 
-abbrev pub is_calloc_of : ℕ → Trees.Expressions Noted → Bool
-is_calloc_of r (Trees.and_expression x (Trees.and_expression y Trees.no_expressions)) = is_size r y
-is_calloc_of r all = false
+abbrev pub calloc_count : ℕ → Trees.Expressions Noted → Option (Trees.OptionalExpression Noted)
+calloc_count r (Trees.and_expression x (Trees.and_expression y Trees.no_expressions)) =
+    if is_size r y then Some (Trees.some_expression (as_unsigned x)) else None
+calloc_count r all = None
+
+abbrev pub by_call : ℕ → LibraryFunction → Trees.Expressions Noted → Option (Trees.OptionalExpression Noted × Bool)
+by_call r Malloc all = allocated (malloc_count r all) false
+by_call r Calloc all = allocated (calloc_count r all) true
+by_call r which all = None

@@ -1,10 +1,11 @@
 //! Conversions that are allocations of records or null pointers.
 
-ghost use Rattle.std.specs.Prelude.{◌≡◌, ◌∷◌, [], IfOk, IfSome, Some, is_some, map};
+ghost use Rattle.std.specs.Prelude.{◌≡◌, IfOk, OnOk, Some, is_some, map};
 ghost use Rattle.std.specs.Option.{option_map};
 ghost use Rattle.c_annotated.specs.Views.{expression_of, expressions_of, optional_of};
-ghost use Rattle.c_erasure.specs.Recognised.{allocation, converted, is_null_constant, or_converted};
-ghost use Rattle.c_recognised.specs.Calls.{is_calloc_of, is_malloc_of};
+ghost use Rattle.c_erasure.specs.Recognised.{allocation, is_null_constant};
+ghost use Rattle.c_recognised.specs.Calls.{by_call, calloc_count, malloc_count};
+ghost use Rattle.c_recognised.specs.Conversions.{allocated_by, became, reconverted};
 ghost use Rattle.c_annotated.specs.Nodes.{node_of};
 ghost use Rattle.c_types.specs.Sameness.{same_type};
 ghost use Rattle.c_types.specs.Types.{pointer, void};
@@ -23,7 +24,7 @@ type Allocation = (Option<Boxed<Expression>>, bool);
 /// Whether `malloc` with those arguments allocates records with a number.
 #[tactic(auto, using(crate::proofs::Calls::malloc_of_more))]
 fn is_malloc_of(r: u32, all: &[Expression]) -> bool
-    ensures { result ≡ is_malloc_of r (expressions_of (map expression_of all.now)) }
+    ensures { result ≡ is_some (malloc_count r (expressions_of (map expression_of all.now))) }
 {
     match all {
         [x] => is_counted(r, x),
@@ -32,9 +33,9 @@ fn is_malloc_of(r: u32, all: &[Expression]) -> bool
 }
 
 /// Whether `calloc` with those arguments allocates records with a number.
-#[tactic(auto, using(crate::proofs::Calls::calloc_of_less, crate::proofs::Calls::calloc_of_more))]
+#[tactic(auto, using(crate::proofs::Calls::calloc_of_less, crate::proofs::Calls::calloc_of_two, crate::proofs::Calls::calloc_of_more))]
 fn is_calloc_of(r: u32, all: &[Expression]) -> bool
-    ensures { result ≡ is_calloc_of r (expressions_of (map expression_of all.now)) }
+    ensures { result ≡ is_some (calloc_count r (expressions_of (map expression_of all.now))) }
 {
     match all {
         [_, y] => is_size(r, y),
@@ -43,7 +44,7 @@ fn is_calloc_of(r: u32, all: &[Expression]) -> bool
 }
 
 /// Whether an expression allocates records with a number.
-#[tactic(auto, using(crate::proofs::Calls::malloc_is, crate::proofs::Calls::calloc_is))]
+#[tactic(auto, using(crate::proofs::Calls::malloc_found, crate::proofs::Calls::calloc_found))]
 fn allocates(r: u32, e: &Expression) -> bool
     ensures { result ≡ is_some (allocation r (expression_of e.now)) }
 {
@@ -54,62 +55,66 @@ fn allocates(r: u32, e: &Expression) -> bool
     }
 }
 
-/// The one item of a list.
-fn only<T: Drop>(all: List<T>) -> Option<T>
-    ensures { IfSome result (λ x. all ≡ x ∷ []) }
+/// How many records with a number `malloc` with those arguments allocates. There are no others for which it is asked.
+fn malloc_count(
+    alloc: Global,
+    r: u32,
+    all: &mut List<Expression>,
+) -> Result<Option<Boxed<Expression>>, NoMemory>
+    ensures { IfOk result (λ count. malloc_count r (expressions_of (map expression_of all.old)) ≡ Some (optional_of (option_map expression_of count))) }
 {
-    let mut all = all;
-    let x = all.pop()?;
-    if all.is_empty() { Some(x) } else { None }
+    match all.as_mut_vec().as_mut_slice() {
+        [x] => counted(alloc, r, x),
+        _ => Err(NoMemory),
+    }
 }
 
-/// The two items of a list.
-fn both<T: Drop>(all: List<T>) -> Option<(T, T)>
-    ensures { IfSome result (λ two. all ≡ two.0 ∷ two.1 ∷ []) }
+/// How many records with a number `calloc` with those arguments allocates. There are no others for which it is asked.
+fn calloc_count(
+    alloc: Global,
+    r: u32,
+    all: &mut List<Expression>,
+) -> Result<Option<Boxed<Expression>>, NoMemory>
+    ensures { IfOk result (λ count. calloc_count r (expressions_of (map expression_of all.old)) ≡ Some (optional_of (option_map expression_of count))) }
 {
-    let mut all = all;
-    let y = all.pop()?;
-    let x = only(all)?;
-    Some((x, y))
-}
-
-/// What an expression that allocates records with a number allocates. There is no other expression for which it is asked.
-fn allocation(alloc: Global, r: u32, e: Boxed<Expression>) -> Result<Allocation, NoMemory>
-    ensures { IfOk result (λ a. allocation r (expression_of e) ≡ Some (optional_of (option_map expression_of a.0), a.1)) }
-{
-    let Expression { node, .. } = e.into_inner();
-    match node {
-        ExpressionNode::Library(LibraryFunction::Malloc, all) => {
-            let x = only(all).ok_or(NoMemory)?;
-            let count = counted(alloc, r, x)?;
-            Ok((count, false))
-        }
-        ExpressionNode::Library(LibraryFunction::Calloc, all) => {
-            let (x, y) = both(all).ok_or(NoMemory)?;
-            if !is_size(r, &y) {
-                return Err(NoMemory);
-            }
-            let count = as_unsigned(alloc, x)?;
-            Ok((Some(count), true))
+    match all.as_mut_vec().as_mut_slice() {
+        [x, y] if is_size(r, y) => {
+            let x = as_unsigned(alloc, x)?;
+            Ok(Some(x))
         }
         _ => Err(NoMemory),
     }
 }
 
-/// A conversion to a pointer to a record, or the allocation that it is.
-fn or_converted(
+/// What a call of the library with those arguments allocates. There are no others for which it is asked.
+fn by_call(
     alloc: Global,
     r: u32,
-    e: Boxed<Expression>,
-    written: bool,
-) -> Result<ExpressionNode, NoMemory>
-    ensures { IfOk result (λ node. node_of node ≡ or_converted r (allocation r (expression_of e)) (expression_of e) written) }
+    which: LibraryFunction,
+    all: &mut List<Expression>,
+) -> Result<Allocation, NoMemory>
+    ensures { IfOk result (λ a. by_call r which (expressions_of (map expression_of all.old)) ≡ Some (optional_of (option_map expression_of a.0), a.1)) }
 {
-    if allocates(r, e.get()) {
-        let (count, zeroed) = allocation(alloc, r, e)?;
-        Ok(ExpressionNode::Allocate(r, count, zeroed))
-    } else {
-        Ok(ExpressionNode::Convert(e, written))
+    match which {
+        LibraryFunction::Malloc => {
+            let count = malloc_count(alloc, r, all)?;
+            Ok((count, false))
+        }
+        LibraryFunction::Calloc => {
+            let count = calloc_count(alloc, r, all)?;
+            Ok((count, true))
+        }
+        _ => Err(NoMemory),
+    }
+}
+
+/// What an expression that allocates records with a number allocates. There is no other expression for which it is asked.
+fn allocation(alloc: Global, r: u32, e: &mut Expression) -> Result<Allocation, NoMemory>
+    ensures { IfOk result (λ a. allocation r (expression_of e.old) ≡ Some (optional_of (option_map expression_of a.0), a.1)) }
+{
+    match &mut e.node {
+        ExpressionNode::Library(which, all) => by_call(alloc, r, *which, all),
+        _ => Err(NoMemory),
     }
 }
 
@@ -132,25 +137,67 @@ fn is_void_pointer(t: &Ty) -> bool
     }
 }
 
-/// A conversion to a type, or the allocation or the null pointer that it is.
-pub fn converted(
-    alloc: Global,
-    t: &Ty,
-    e: Boxed<Expression>,
-    written: bool,
-) -> Result<ExpressionNode, NoMemory>
-    ensures { IfOk result (λ node. node_of node ≡ converted (type_of t.now) (expression_of e) written) }
+/// What a node becomes that is a conversion, or is none.
+enum Becomes {
+    /// What it is.
+    Same,
+    Null,
+    /// An allocation of records with that number.
+    Records(u32),
+}
+
+/// What a node of a type becomes, where its operands are done.
+fn conversion(node: &ExpressionNode, t: &Ty) -> Becomes
+    ensures { became result (node_of node.now) ≡ reconverted (type_of t.now) (node_of node.now) }
 {
-    match t {
-        Ty::Pointer(to) => {
-            if is_null_constant(e.get()) {
-                return Ok(ExpressionNode::Null);
+    match node {
+        ExpressionNode::Convert(e, _) => match t {
+            Ty::Pointer(to) => {
+                if is_null_constant(e.get()) {
+                    return Becomes::Null;
+                }
+                match to.get() {
+                    Ty::Record(r) if allocates(*r, e.get()) => Becomes::Records(*r),
+                    _ => Becomes::Same,
+                }
             }
-            match to.get() {
-                Ty::Record(r) => or_converted(alloc, *r, e, written),
-                _ => Ok(ExpressionNode::Convert(e, written)),
-            }
+            _ => Becomes::Same,
+        },
+        _ => Becomes::Same,
+    }
+}
+
+/// Puts a node in the place of another, which is let go.
+fn put(node: &mut ExpressionNode, other: ExpressionNode)
+    ensures { node.new ≡ other }
+{
+    *node = other;
+}
+
+/// Makes a conversion that allocates records with a number an allocation. There is no other node for which it is asked.
+fn allocate(alloc: Global, r: u32, node: &mut ExpressionNode) -> Result<(), NoMemory>
+    ensures { OnOk result (node_of node.new ≡ allocated_by r (node_of node.old)) }
+{
+    match node {
+        ExpressionNode::Convert(e, _) => {
+            let (count, zeroed) = allocation(alloc, r, e.get_mut())?;
+            put(node, ExpressionNode::Allocate(r, count, zeroed));
+            Ok(())
         }
-        _ => Ok(ExpressionNode::Convert(e, written)),
+        _ => Err(NoMemory),
+    }
+}
+
+/// Makes a node of a type, whose operands are done, an allocation or a null pointer where it is a conversion that is one.
+pub fn converted(alloc: Global, node: &mut ExpressionNode, t: &Ty) -> Result<(), NoMemory>
+    ensures { OnOk result (node_of node.new ≡ reconverted (type_of t.now) (node_of node.old)) }
+{
+    match conversion(node, t) {
+        Becomes::Same => Ok(()),
+        Becomes::Null => {
+            put(node, ExpressionNode::Null);
+            Ok(())
+        }
+        Becomes::Records(r) => allocate(alloc, r, node),
     }
 }

@@ -1,6 +1,6 @@
 //! Expressions and paths with allocations of records and null pointers recognised.
 
-ghost use Rattle.std.specs.Prelude.{◌≡◌, IfOk, map};
+ghost use Rattle.std.specs.Prelude.{◌≡◌, OnOk, map};
 ghost use Rattle.c_annotated.specs.Views.{expression_of, expressions_of, path_of};
 ghost use Rattle.c_erasure.specs.Noted.{plain};
 ghost use Rattle.c_erasure.specs.Recognised.{recognised, recognised_all, recognised_node, recognised_path, recognised_step};
@@ -10,178 +10,125 @@ ghost use Rattle.c_types.specs.Views.{type_of};
 use crate::allocations::converted;
 use c_annotated::{Expression, ExpressionNode, Path, PathNode};
 use c_types::Ty;
-use lay_base::{Boxed, List, NoMemory, add, boxed};
+use lay_base::{List, NoMemory};
 use std::alloc::Global;
 
+/// Recognises what stands in an expression.
 #[cycle(expression_recognition)]
 #[tactic(auto, using(crate::proofs::Notes::with_node))]
-pub fn expression(alloc: Global, e: Expression) -> Result<Expression, NoMemory>
-    ensures { IfOk result (λ r. expression_of r ≡ recognised (expression_of e)) }
+pub fn expression(alloc: Global, e: &mut Expression) -> Result<(), NoMemory>
+    ensures { OnOk result (expression_of e.new ≡ recognised (expression_of e.old)) }
 {
-    let Expression {
-        ty,
-        note,
-        place,
-        node,
-    } = e;
-    let node = node_in(alloc, node, &ty)?;
-    Ok(Expression {
-        ty,
-        note,
-        place,
-        node,
-    })
+    node_in(alloc, &mut e.node, &e.ty)
 }
 
 #[cycle(expression_recognition)]
-fn node_in(alloc: Global, node: ExpressionNode, t: &Ty) -> Result<ExpressionNode, NoMemory>
-    ensures { IfOk result (λ r. node_of r ≡ recognised_node (plain (type_of t.now)) (node_of node)) }
+fn node_in(alloc: Global, node: &mut ExpressionNode, t: &Ty) -> Result<(), NoMemory>
+    ensures { OnOk result (node_of node.new ≡ recognised_node (plain (type_of t.now)) (node_of node.old)) }
 {
     match node {
-        ExpressionNode::Constant(v) => Ok(ExpressionNode::Constant(v)),
-        ExpressionNode::Null => Ok(ExpressionNode::Null),
-        ExpressionNode::FunctionName(f) => Ok(ExpressionNode::FunctionName(f)),
-        ExpressionNode::Load(p) => Ok(ExpressionNode::Load(path(alloc, p)?)),
-        ExpressionNode::AddressOf(p) => Ok(ExpressionNode::AddressOf(path(alloc, p)?)),
-        ExpressionNode::Decay(p) => Ok(ExpressionNode::Decay(path(alloc, p)?)),
-        ExpressionNode::Convert(x, written) => {
-            let x = operand(alloc, x)?;
-            converted(alloc, t, x, written)
+        ExpressionNode::Constant(_) => Ok(()),
+        ExpressionNode::Null => Ok(()),
+        ExpressionNode::FunctionName(_) => Ok(()),
+        ExpressionNode::Load(p) => path(alloc, p.get_mut()),
+        ExpressionNode::AddressOf(p) => path(alloc, p.get_mut()),
+        ExpressionNode::Decay(p) => path(alloc, p.get_mut()),
+        ExpressionNode::Convert(x, _) => {
+            expression(alloc, x.get_mut())?;
+            converted(alloc, node, t)
         }
-        ExpressionNode::Unary(op, x) => {
-            let x = operand(alloc, x)?;
-            Ok(ExpressionNode::Unary(op, x))
+        ExpressionNode::Unary(_, x) => expression(alloc, x.get_mut()),
+        ExpressionNode::Binary(_, x, y) => {
+            expression(alloc, x.get_mut())?;
+            expression(alloc, y.get_mut())
         }
-        ExpressionNode::Binary(op, x, y) => {
-            let x = operand(alloc, x)?;
-            let y = operand(alloc, y)?;
-            Ok(ExpressionNode::Binary(op, x, y))
+        ExpressionNode::Compare(_, x, y) => {
+            expression(alloc, x.get_mut())?;
+            expression(alloc, y.get_mut())
         }
-        ExpressionNode::Compare(op, x, y) => {
-            let x = operand(alloc, x)?;
-            let y = operand(alloc, y)?;
-            Ok(ExpressionNode::Compare(op, x, y))
-        }
-        ExpressionNode::PointerAdd(op, x, y) => {
-            let x = operand(alloc, x)?;
-            let y = operand(alloc, y)?;
-            Ok(ExpressionNode::PointerAdd(op, x, y))
+        ExpressionNode::PointerAdd(_, x, y) => {
+            expression(alloc, x.get_mut())?;
+            expression(alloc, y.get_mut())
         }
         ExpressionNode::PointerDiff(x, y) => {
-            let x = operand(alloc, x)?;
-            let y = operand(alloc, y)?;
-            Ok(ExpressionNode::PointerDiff(x, y))
+            expression(alloc, x.get_mut())?;
+            expression(alloc, y.get_mut())
         }
         ExpressionNode::And(x, y) => {
-            let x = operand(alloc, x)?;
-            let y = operand(alloc, y)?;
-            Ok(ExpressionNode::And(x, y))
+            expression(alloc, x.get_mut())?;
+            expression(alloc, y.get_mut())
         }
         ExpressionNode::Or(x, y) => {
-            let x = operand(alloc, x)?;
-            let y = operand(alloc, y)?;
-            Ok(ExpressionNode::Or(x, y))
+            expression(alloc, x.get_mut())?;
+            expression(alloc, y.get_mut())
         }
-        ExpressionNode::Not(x) => Ok(ExpressionNode::Not(operand(alloc, x)?)),
+        ExpressionNode::Not(x) => expression(alloc, x.get_mut()),
         ExpressionNode::Cond(x, y, z) => {
-            let x = operand(alloc, x)?;
-            let y = operand(alloc, y)?;
-            let z = operand(alloc, z)?;
-            Ok(ExpressionNode::Cond(x, y, z))
+            expression(alloc, x.get_mut())?;
+            expression(alloc, y.get_mut())?;
+            expression(alloc, z.get_mut())
         }
         ExpressionNode::Comma(x, y) => {
-            let x = operand(alloc, x)?;
-            let y = operand(alloc, y)?;
-            Ok(ExpressionNode::Comma(x, y))
+            expression(alloc, x.get_mut())?;
+            expression(alloc, y.get_mut())
         }
         ExpressionNode::Assign(p, x) => {
-            let p = path(alloc, p)?;
-            let x = operand(alloc, x)?;
-            Ok(ExpressionNode::Assign(p, x))
+            path(alloc, p.get_mut())?;
+            expression(alloc, x.get_mut())
         }
-        ExpressionNode::AssignOp(op, p, x) => {
-            let p = path(alloc, p)?;
-            let x = operand(alloc, x)?;
-            Ok(ExpressionNode::AssignOp(op, p, x))
+        ExpressionNode::AssignOp(_, p, x) => {
+            path(alloc, p.get_mut())?;
+            expression(alloc, x.get_mut())
         }
-        ExpressionNode::Step(op, before, p) => {
-            let p = path(alloc, p)?;
-            Ok(ExpressionNode::Step(op, before, p))
-        }
+        ExpressionNode::Step(_, _, p) => path(alloc, p.get_mut()),
         ExpressionNode::CopyRecord(p, from) => {
-            let p = path(alloc, p)?;
-            let from = path(alloc, from)?;
-            Ok(ExpressionNode::CopyRecord(p, from))
+            path(alloc, p.get_mut())?;
+            path(alloc, from.get_mut())
         }
-        ExpressionNode::Call(f, all) => {
-            let all = expressions(alloc, all)?;
-            Ok(ExpressionNode::Call(f, all))
-        }
+        ExpressionNode::Call(_, all) => expressions(alloc, all),
         ExpressionNode::CallThrough(e, all) => {
-            let e = operand(alloc, e)?;
-            let all = expressions(alloc, all)?;
-            Ok(ExpressionNode::CallThrough(e, all))
+            expression(alloc, e.get_mut())?;
+            expressions(alloc, all)
         }
-        ExpressionNode::Library(which, all) => {
-            let all = expressions(alloc, all)?;
-            Ok(ExpressionNode::Library(which, all))
-        }
-        ExpressionNode::Allocate(r, count, zeroed) => Ok(ExpressionNode::Allocate(
-            r, count, zeroed,
-        )),
+        ExpressionNode::Library(_, all) => expressions(alloc, all),
+        ExpressionNode::Allocate(_, _, _) => Ok(()),
     }
 }
 
+/// Recognises what stands in a path.
 #[cycle(expression_recognition)]
-pub fn operand(alloc: Global, e: Boxed<Expression>) -> Result<Boxed<Expression>, NoMemory>
-    ensures { IfOk result (λ r. expression_of r ≡ recognised (expression_of e)) }
+pub fn path(alloc: Global, p: &mut Path) -> Result<(), NoMemory>
+    ensures { OnOk result (path_of p.new ≡ recognised_path (path_of p.old)) }
 {
-    let e = expression(alloc, e.into_inner())?;
-    boxed(alloc, e)
+    path_node(alloc, &mut p.node)
 }
 
 #[cycle(expression_recognition)]
-pub fn path(alloc: Global, p: Boxed<Path>) -> Result<Boxed<Path>, NoMemory>
-    ensures { IfOk result (λ r. path_of r ≡ recognised_path (path_of p)) }
-{
-    let Path { ty, place, node } = p.into_inner();
-    let node = path_node(alloc, node)?;
-    boxed(alloc, Path { ty, place, node })
-}
-
-#[cycle(expression_recognition)]
-fn path_node(alloc: Global, node: PathNode) -> Result<PathNode, NoMemory>
-    ensures { IfOk result (λ r. path_node_of r ≡ recognised_step (path_node_of node)) }
+fn path_node(alloc: Global, node: &mut PathNode) -> Result<(), NoMemory>
+    ensures { OnOk result (path_node_of node.new ≡ recognised_step (path_node_of node.old)) }
 {
     match node {
-        PathNode::Named(n) => Ok(PathNode::Named(n)),
-        PathNode::Object(n) => Ok(PathNode::Object(n)),
-        PathNode::Deref(e) => Ok(PathNode::Deref(operand(alloc, e)?)),
+        PathNode::Named(_) => Ok(()),
+        PathNode::Object(_) => Ok(()),
+        PathNode::Deref(e) => expression(alloc, e.get_mut()),
         PathNode::Index(e, i) => {
-            let e = operand(alloc, e)?;
-            let i = operand(alloc, i)?;
-            Ok(PathNode::Index(e, i))
+            expression(alloc, e.get_mut())?;
+            expression(alloc, i.get_mut())
         }
-        PathNode::Member(p, r, field) => {
-            let p = path(alloc, p)?;
-            Ok(PathNode::Member(p, r, field))
-        }
+        PathNode::Member(p, _, _) => path(alloc, p.get_mut()),
         PathNode::Element(p, i) => {
-            let p = path(alloc, p)?;
-            let i = operand(alloc, i)?;
-            Ok(PathNode::Element(p, i))
+            path(alloc, p.get_mut())?;
+            expression(alloc, i.get_mut())
         }
     }
 }
 
 #[cycle(expression_recognition)]
-fn expressions(alloc: Global, all: List<Expression>) -> Result<List<Expression>, NoMemory>
-    ensures { IfOk result (λ r. expressions_of (map expression_of r) ≡ recognised_all (expressions_of (map expression_of all))) }
+fn expressions(alloc: Global, all: &mut List<Expression>) -> Result<(), NoMemory>
+    ensures { OnOk result (expressions_of (map expression_of all.new) ≡ recognised_all (expressions_of (map expression_of all.old))) }
 {
-    let mut done = List::new(alloc);
-    for e in all.into_vec() {
-        let e = expression(alloc, e)?;
-        add(&mut done, e)?;
+    for e in all.as_mut_vec().iter_mut() {
+        expression(alloc, e)?;
     }
-    Ok(done)
+    Ok(())
 }

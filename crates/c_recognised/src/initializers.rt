@@ -1,98 +1,70 @@
 //! Initializers with allocations of records and null pointers recognised.
 
-ghost use Rattle.std.specs.Prelude.{◌≡◌, IfOk, map};
+ghost use Rattle.std.specs.Prelude.{◌≡◌, OnOk, map};
 ghost use Rattle.std.specs.Option.{option_map};
 ghost use Rattle.c_annotated.specs.Views.{expression_of, initializer_of, part_of, part_value_of};
 ghost use Rattle.c_erasure.specs.Recognised.{recognised};
 ghost use Rattle.c_erasure.specs.Units.{recognised_initializer, recognised_part, recognised_value};
 
-use crate::expressions::{operand, path};
+use crate::expressions::{expression, path};
 use c_annotated::{Expression, Initializer, InitializerPart, PartValue};
-use lay_base::{Boxed, List, NoMemory, add};
+use lay_base::{Boxed, List, NoMemory};
 use std::alloc::Global;
 
-/// An expression, where there is one.
-pub fn optional_expression(
-    alloc: Global,
-    e: Option<Boxed<Expression>>,
-) -> Result<Option<Boxed<Expression>>, NoMemory>
-    ensures { IfOk result (λ r. option_map expression_of r ≡ option_map recognised (option_map expression_of e)) }
+/// Recognises what stands in an expression, where there is one.
+pub fn optional_expression(alloc: Global, e: &mut Option<Boxed<Expression>>) -> Result<(), NoMemory>
+    ensures { OnOk result (option_map expression_of e.new ≡ option_map recognised (option_map expression_of e.old)) }
 {
     match e {
-        None => Ok(None),
-        Some(e) => {
-            let e = operand(alloc, e)?;
-            Ok(Some(e))
-        }
+        None => Ok(()),
+        Some(e) => expression(alloc, e.get_mut()),
     }
 }
 
-fn part_value(alloc: Global, value: PartValue) -> Result<PartValue, NoMemory>
-    ensures { IfOk result (λ r. part_value_of r ≡ recognised_value (part_value_of value)) }
+fn part_value(alloc: Global, value: &mut PartValue) -> Result<(), NoMemory>
+    ensures { OnOk result (part_value_of value.new ≡ recognised_value (part_value_of value.old)) }
 {
     match value {
-        PartValue::Value(e) => {
-            let e = operand(alloc, e)?;
-            Ok(PartValue::Value(e))
-        }
-        PartValue::Record(p) => {
-            let p = path(alloc, p)?;
-            Ok(PartValue::Record(p))
-        }
-        PartValue::Text(bytes) => Ok(PartValue::Text(bytes)),
+        PartValue::Value(e) => expression(alloc, e.get_mut()),
+        PartValue::Record(p) => path(alloc, p.get_mut()),
+        PartValue::Text(_) => Ok(()),
     }
 }
 
-fn part(alloc: Global, it: InitializerPart) -> Result<InitializerPart, NoMemory>
-    ensures { IfOk result (λ r. part_of r ≡ recognised_part (part_of it)) }
+fn part(alloc: Global, it: &mut InitializerPart) -> Result<(), NoMemory>
+    ensures { OnOk result (part_of it.new ≡ recognised_part (part_of it.old)) }
 {
-    let InitializerPart { offset, value } = it;
-    let value = part_value(alloc, value)?;
-    Ok(InitializerPart { offset, value })
+    part_value(alloc, &mut it.value)
 }
 
-fn parts(alloc: Global, all: List<InitializerPart>) -> Result<List<InitializerPart>, NoMemory>
-    ensures { IfOk result (λ r. map part_of r ≡ map recognised_part (map part_of all)) }
+fn parts(alloc: Global, all: &mut List<InitializerPart>) -> Result<(), NoMemory>
+    ensures { OnOk result (map part_of all.new ≡ map recognised_part (map part_of all.old)) }
 {
-    let mut done = List::new(alloc);
-    for it in all.into_vec() {
-        let it = part(alloc, it)?;
-        add(&mut done, it)?;
+    for it in all.as_mut_vec().iter_mut() {
+        part(alloc, it)?;
     }
-    Ok(done)
+    Ok(())
 }
 
-fn initializer(alloc: Global, initial: Initializer) -> Result<Initializer, NoMemory>
-    ensures { IfOk result (λ r. initializer_of r ≡ recognised_initializer (initializer_of initial)) }
+fn initializer(alloc: Global, initial: &mut Initializer) -> Result<(), NoMemory>
+    ensures { OnOk result (initializer_of initial.new ≡ recognised_initializer (initializer_of initial.old)) }
 {
     match initial {
-        Initializer::Value(e) => {
-            let e = operand(alloc, e)?;
-            Ok(Initializer::Value(e))
-        }
-        Initializer::Record(p) => {
-            let p = path(alloc, p)?;
-            Ok(Initializer::Record(p))
-        }
-        Initializer::Parts(all) => {
-            let all = parts(alloc, all)?;
-            Ok(Initializer::Parts(all))
-        }
+        Initializer::Value(e) => expression(alloc, e.get_mut()),
+        Initializer::Record(p) => path(alloc, p.get_mut()),
+        Initializer::Parts(all) => parts(alloc, all),
     }
 }
 
-/// An initializer, where there is one.
+/// Recognises what stands in an initializer, where there is one.
 pub fn optional_initializer(
     alloc: Global,
-    initial: Option<Initializer>,
-) -> Result<Option<Initializer>, NoMemory>
-    ensures { IfOk result (λ r. option_map initializer_of r ≡ option_map recognised_initializer (option_map initializer_of initial)) }
+    initial: &mut Option<Initializer>,
+) -> Result<(), NoMemory>
+    ensures { OnOk result (option_map initializer_of initial.new ≡ option_map recognised_initializer (option_map initializer_of initial.old)) }
 {
     match initial {
-        None => Ok(None),
-        Some(initial) => {
-            let initial = initializer(alloc, initial)?;
-            Ok(Some(initial))
-        }
+        None => Ok(()),
+        Some(initial) => initializer(alloc, initial),
     }
 }

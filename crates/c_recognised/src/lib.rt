@@ -11,4 +11,4 @@ mod sizes;
 mod statements;
 
 pub use initializers::optional_initializer;
-pub use statements::{optional_statement, recognised_statement};
+pub use statements::{optional_statement, recognise_statement};

@@ -1,10 +1,11 @@
 //! Which expressions are the size of one record, and how many records a number of bytes is.
 
-ghost use Rattle.std.specs.Prelude.{◌≡◌, IfOk, Some, is_some};
+ghost use Rattle.std.specs.Prelude.{◌≡◌, IfOk, Some, false, is_some};
 ghost use Rattle.std.specs.Option.{option_copied, option_map};
 ghost use Rattle.c_annotated.specs.Views.{expression_of, note_of, optional_of};
-ghost use Rattle.c_erasure.specs.Noted.{unconverted};
-ghost use Rattle.c_erasure.specs.Recognised.{as_unsigned, counted, is_constant_of, is_note_of, is_size};
+ghost use Rattle.c_erasure.specs.Noted.{unconverted, value};
+ghost use Rattle.c_erasure.specs.Recognised.{as_unsigned, as_unsigned_from, counted, is_constant_of, is_note_of, is_size};
+ghost use Rattle.c_typed.specs.Trees;
 ghost use Rattle.c_types.specs.Sameness.{same_type};
 ghost use Rattle.c_types.specs.Types.{integer, structure};
 ghost use Rattle.c_types.specs.declared.ty.IntKind.TheVariants.{UInt};
@@ -13,8 +14,9 @@ ghost use Rattle.c_types.specs.Views.{type_of};
 use c_annotated::{Expression, ExpressionNode, SizeOf};
 use c_typed::BinaryOp;
 use c_types::{IntKind, Ty};
-use lay_base::{Boxed, NoMemory, boxed};
+use lay_base::{Boxed, NoMemory, Place, boxed};
 use std::alloc::Global;
+use std::mem::replace;
 
 /// Whether a type is that of the record with a number.
 fn is_record(r: u32, t: &Ty) -> bool
@@ -49,33 +51,17 @@ fn lent_unconverted(e: &Expression) -> &Expression
     }
 }
 
-/// An expression without the implicit conversion at its top, where no note stands beside that.
-pub fn unconverted(e: Expression) -> Expression
-    ensures { expression_of result ≡ unconverted (expression_of e) }
+/// An expression, out of a place where no one asks for it again.
+fn take(e: &mut Expression) -> Expression
+    ensures { result ≡ e.old }
 {
-    let Expression {
-        ty,
-        note,
-        place,
-        node,
-    } = e;
-    match node {
-        ExpressionNode::Convert(x, false) => match note {
-            None => x.into_inner(),
-            Some(size) => Expression {
-                ty,
-                note: Some(size),
-                place,
-                node: ExpressionNode::Convert(x, false),
-            },
-        },
-        node => Expression {
-            ty,
-            note,
-            place,
-            node,
-        },
-    }
+    let left = Expression {
+        ty: Ty::Void,
+        note: None,
+        place: e.place,
+        node: ExpressionNode::Constant(0),
+    };
+    replace(e, left)
 }
 
 /// Whether an expression is a constant that is the size of the record with a number.
@@ -120,43 +106,85 @@ fn is_unsigned(t: &Ty) -> bool
     matches!(t, Ty::Int(IntKind::UInt))
 }
 
-/// An expression's value as an `unsigned`.
-pub fn as_unsigned(alloc: Global, e: Expression) -> Result<Boxed<Expression>, NoMemory>
-    ensures { IfOk result (λ r. expression_of r ≡ as_unsigned (expression_of e)) }
+/// An implicit conversion to `unsigned`.
+fn to_unsigned(e: Boxed<Expression>, place: Place) -> Expression
+    ensures { expression_of result ≡ value (integer UInt) place (Trees.convert (expression_of e) false) }
 {
-    let e = unconverted(e);
-    if is_unsigned(&e.ty) {
-        return boxed(alloc, e);
-    }
-    let place = e.place;
-    let e = boxed(alloc, e)?;
-    let converted = Expression {
+    Expression {
         ty: Ty::Int(IntKind::UInt),
         note: None,
         place,
         node: ExpressionNode::Convert(e, false),
-    };
-    boxed(alloc, converted)
+    }
 }
 
-/// How many records a number of bytes is, where it is one of theirs.
-pub fn counted(alloc: Global, r: u32, e: Expression) -> Result<Option<Boxed<Expression>>, NoMemory>
-    ensures { IfOk result (λ count. counted r (unconverted (expression_of e)) ≡ Some (optional_of (option_map expression_of count))) }
+/// An expression, which is not looked into, as an `unsigned`, out of a place where no one asks for it again.
+fn as_unsigned_from(alloc: Global, e: &mut Expression) -> Result<Boxed<Expression>, NoMemory>
+    ensures { IfOk result (λ r. expression_of r ≡ as_unsigned_from (expression_of e.old)) }
 {
-    let Expression { note, node, .. } = unconverted(e);
-    match node {
-        ExpressionNode::Constant(_) if is_note_of(r, &note) => Ok(None),
+    let place = e.place;
+    let is_other = !is_unsigned(&e.ty);
+    let e = boxed(alloc, take(e))?;
+    if is_other {
+        boxed(alloc, to_unsigned(e, place))
+    } else {
+        Ok(e)
+    }
+}
+
+/// An expression's value as an `unsigned`, out of a place where no one asks for it again.
+pub fn as_unsigned(alloc: Global, e: &mut Expression) -> Result<Boxed<Expression>, NoMemory>
+    ensures { IfOk result (λ r. expression_of r ≡ as_unsigned (expression_of e.old)) }
+{
+    match &mut e.node {
+        ExpressionNode::Convert(x, false) if e.note.is_none() => as_unsigned_from(
+            alloc,
+            x.get_mut(),
+        ),
+        _ => as_unsigned_from(alloc, e),
+    }
+}
+
+/// How many records a number of bytes is, where it is one of theirs. There is no other expression for which it is asked.
+fn counted_from(
+    alloc: Global,
+    r: u32,
+    e: &mut Expression,
+) -> Result<Option<Boxed<Expression>>, NoMemory>
+    ensures { IfOk result (λ count. counted r (expression_of e.old) ≡ Some (optional_of (option_map expression_of count))) }
+{
+    match &mut e.node {
+        ExpressionNode::Constant(_) if is_note_of(r, &e.note) => Ok(None),
         ExpressionNode::Binary(BinaryOp::Multiply, x, y) => {
             if is_size(r, y.get()) {
-                let x = as_unsigned(alloc, x.into_inner())?;
+                let x = as_unsigned(alloc, x.get_mut())?;
                 Ok(Some(x))
             } else if is_size(r, x.get()) {
-                let y = as_unsigned(alloc, y.into_inner())?;
+                let y = as_unsigned(alloc, y.get_mut())?;
                 Ok(Some(y))
             } else {
                 Err(NoMemory)
             }
         }
         _ => Err(NoMemory),
+    }
+}
+
+/// How many records a number of bytes, converted or not, is, where it is one of theirs. There is no other expression for which it is
+/// asked.
+pub fn counted(
+    alloc: Global,
+    r: u32,
+    e: &mut Expression,
+) -> Result<Option<Boxed<Expression>>, NoMemory>
+    ensures { IfOk result (λ count. counted r (unconverted (expression_of e.old)) ≡ Some (optional_of (option_map expression_of count))) }
+{
+    match &mut e.node {
+        ExpressionNode::Convert(x, false) if e.note.is_none() => counted_from(
+            alloc,
+            r,
+            x.get_mut(),
+        ),
+        _ => counted_from(alloc, r, e),
     }
 }

@@ -1,155 +1,92 @@
 //! Statements with allocations of records and null pointers recognised.
 
-ghost use Rattle.std.specs.Prelude.{◌≡◌, IfOk, map};
+ghost use Rattle.std.specs.Prelude.{◌≡◌, OnOk, map};
 ghost use Rattle.std.specs.Option.{option_map};
-ghost use Rattle.c_annotated.specs.Views.{arms_of, expression_of, statement_of, statements_of};
-ghost use Rattle.c_erasure.specs.Recognised.{recognised};
+ghost use Rattle.c_annotated.specs.Views.{arms_of, statement_of, statements_of};
 ghost use Rattle.c_erasure.specs.Units.{recognised_arms, recognised_statement, recognised_statements};
 ghost use Rattle.c_annotated.specs.Nodes.{arm_of};
 ghost use Rattle.c_recognised.specs.Arms.{recognised_arm};
 
-use crate::expressions::operand;
+use crate::expressions::expression;
 use crate::initializers::{optional_expression, optional_initializer};
-use c_annotated::{Arm, Expression, Statement};
-use lay_base::{Boxed, List, NoMemory, add, boxed};
+use c_annotated::{Arm, Statement};
+use lay_base::{List, NoMemory};
 use std::alloc::Global;
 
-type TestAndStep = (Option<Boxed<Expression>>, Option<Boxed<Expression>>);
-
-/// The test and the step of a `for`.
-fn test_and_step(
-    alloc: Global,
-    test: Option<Boxed<Expression>>,
-    step: Option<Boxed<Expression>>,
-) -> Result<TestAndStep, NoMemory>
-    ensures test { IfOk result (λ r. option_map expression_of r.0 ≡ option_map recognised (option_map expression_of test)) }
-    ensures step { IfOk result (λ r. option_map expression_of r.1 ≡ option_map recognised (option_map expression_of step)) }
-{
-    let test = optional_expression(alloc, test)?;
-    let step = optional_expression(alloc, step)?;
-    Ok((test, step))
-}
-
-/// A statement with allocations of records and null pointers recognised.
+/// Recognises what stands in a statement.
 #[cycle(statement_recognition)]
-pub fn recognised_statement(alloc: Global, s: Statement) -> Result<Statement, NoMemory>
-    ensures { IfOk result (λ r. statement_of r ≡ recognised_statement (statement_of s)) }
+pub fn recognise_statement(alloc: Global, s: &mut Statement) -> Result<(), NoMemory>
+    ensures { OnOk result (statement_of s.new ≡ recognised_statement (statement_of s.old)) }
 {
     match s {
-        Statement::Do(e) => {
-            let e = operand(alloc, e)?;
-            Ok(Statement::Do(e))
-        }
-        Statement::Block(locals, all) => {
-            let all = statements(alloc, all)?;
-            Ok(Statement::Block(locals, all))
-        }
-        Statement::Declare(n, initial) => {
-            let initial = optional_initializer(alloc, initial)?;
-            Ok(Statement::Declare(n, initial))
-        }
+        Statement::Do(e) => expression(alloc, e.get_mut()),
+        Statement::Block(_, all) => statements(alloc, all),
+        Statement::Declare(_, initial) => optional_initializer(alloc, initial),
         Statement::If(e, one, other) => {
-            let e = operand(alloc, e)?;
-            let one = inner(alloc, one)?;
+            expression(alloc, e.get_mut())?;
+            recognise_statement(alloc, one.get_mut())?;
             match other {
-                None => Ok(Statement::If(e, one, None)),
-                Some(other) => {
-                    let other = inner(alloc, other)?;
-                    Ok(Statement::If(e, one, Some(other)))
-                }
+                None => Ok(()),
+                Some(other) => recognise_statement(alloc, other.get_mut()),
             }
         }
         Statement::While(e, body) => {
-            let e = operand(alloc, e)?;
-            let body = inner(alloc, body)?;
-            Ok(Statement::While(e, body))
+            expression(alloc, e.get_mut())?;
+            recognise_statement(alloc, body.get_mut())
         }
         Statement::DoWhile(body, e) => {
-            let body = inner(alloc, body)?;
-            let e = operand(alloc, e)?;
-            Ok(Statement::DoWhile(body, e))
+            recognise_statement(alloc, body.get_mut())?;
+            expression(alloc, e.get_mut())
         }
-        Statement::For(locals, start, test, step, body) => {
-            let (test, step) = test_and_step(alloc, test, step)?;
-            let start = statements(alloc, start)?;
-            let body = inner(alloc, body)?;
-            Ok(Statement::For(locals, start, test, step, body))
+        Statement::For(_, start, test, step, body) => {
+            statements(alloc, start)?;
+            optional_expression(alloc, test)?;
+            optional_expression(alloc, step)?;
+            recognise_statement(alloc, body.get_mut())
         }
-        Statement::Switch(e, locals, all) => {
-            let e = operand(alloc, e)?;
-            let all = arms(alloc, all)?;
-            Ok(Statement::Switch(e, locals, all))
+        Statement::Switch(e, _, all) => {
+            expression(alloc, e.get_mut())?;
+            arms(alloc, all)
         }
-        Statement::Break => Ok(Statement::Break),
-        Statement::Continue => Ok(Statement::Continue),
-        Statement::Return(e) => {
-            let e = optional_expression(alloc, e)?;
-            Ok(Statement::Return(e))
-        }
+        Statement::Break => Ok(()),
+        Statement::Continue => Ok(()),
+        Statement::Return(e) => optional_expression(alloc, e),
     }
 }
 
 #[cycle(statement_recognition)]
-fn inner(alloc: Global, s: Boxed<Statement>) -> Result<Boxed<Statement>, NoMemory>
-    ensures { IfOk result (λ r. statement_of r ≡ recognised_statement (statement_of s)) }
+fn statements(alloc: Global, all: &mut List<Statement>) -> Result<(), NoMemory>
+    ensures { OnOk result (statements_of (map statement_of all.new) ≡ recognised_statements (statements_of (map statement_of all.old))) }
 {
-    let s = recognised_statement(alloc, s.into_inner())?;
-    boxed(alloc, s)
-}
-
-#[cycle(statement_recognition)]
-fn statements(alloc: Global, all: List<Statement>) -> Result<List<Statement>, NoMemory>
-    ensures { IfOk result (λ r. statements_of (map statement_of r) ≡ recognised_statements (statements_of (map statement_of all))) }
-{
-    let mut done = List::new(alloc);
-    for s in all.into_vec() {
-        let s = recognised_statement(alloc, s)?;
-        add(&mut done, s)?;
+    for s in all.as_mut_vec().iter_mut() {
+        recognise_statement(alloc, s)?;
     }
-    Ok(done)
+    Ok(())
 }
 
 #[cycle(statement_recognition)]
-fn arm(alloc: Global, it: Arm) -> Result<Arm, NoMemory>
-    ensures { IfOk result (λ r. arm_of r ≡ recognised_arm (arm_of it)) }
+fn arm(alloc: Global, it: &mut Arm) -> Result<(), NoMemory>
+    ensures { OnOk result (arm_of it.new ≡ recognised_arm (arm_of it.old)) }
 {
-    let Arm {
-        cases,
-        is_default,
-        statements: all,
-    } = it;
-    let all = statements(alloc, all)?;
-    Ok(Arm {
-        cases,
-        is_default,
-        statements: all,
-    })
+    statements(alloc, &mut it.statements)
 }
 
 #[cycle(statement_recognition)]
-fn arms(alloc: Global, all: List<Arm>) -> Result<List<Arm>, NoMemory>
-    ensures { IfOk result (λ r. arms_of (map arm_of r) ≡ recognised_arms (arms_of (map arm_of all))) }
+fn arms(alloc: Global, all: &mut List<Arm>) -> Result<(), NoMemory>
+    ensures { OnOk result (arms_of (map arm_of all.new) ≡ recognised_arms (arms_of (map arm_of all.old))) }
 {
-    let mut done = List::new(alloc);
-    for it in all.into_vec() {
-        let it = arm(alloc, it)?;
-        add(&mut done, it)?;
+    for it in all.as_mut_vec().iter_mut() {
+        arm(alloc, it)?;
     }
-    Ok(done)
+    Ok(())
 }
 
-/// A statement, where there is one.
-pub fn optional_statement(
-    alloc: Global,
-    s: Option<Statement>,
-) -> Result<Option<Statement>, NoMemory>
-    ensures { IfOk result (λ r. option_map statement_of r ≡ option_map recognised_statement (option_map statement_of s)) }
+/// Recognises what stands in a statement, where there is one.
+pub fn optional_statement(alloc: Global, s: &mut Option<Statement>) -> Result<(), NoMemory>
+    ensures { OnOk result (option_map statement_of s.new ≡ option_map recognised_statement (option_map statement_of s.old)) }
 {
     match s {
-        None => Ok(None),
-        Some(s) => {
-            let s = recognised_statement(alloc, s)?;
-            Ok(Some(s))
-        }
+        None => Ok(()),
+        Some(s) => recognise_statement(alloc, s),
     }
 }

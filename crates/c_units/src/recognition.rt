@@ -1,86 +1,42 @@
-//! Objects and functions with allocations and null pointers recognised.
+//! Allocations and null pointers are recognised in objects and functions.
 
-ghost use Rattle.std.specs.Prelude.{◌≡◌, IfOk, map};
+ghost use Rattle.std.specs.Prelude.{◌≡◌, OnOk, map};
 ghost use Rattle.c_annotated.specs.FileViews.{function_of, object_of};
 ghost use Rattle.c_units.specs.RecognisedParts.{recognised_function, recognised_object};
 
 use c_annotated::{Function, Object};
 use c_recognised::{optional_initializer, optional_statement};
-use lay_base::{List, NoMemory, add};
+use lay_base::{List, NoMemory};
 use std::alloc::Global;
 
-fn object(alloc: Global, o: Object) -> Result<Object, NoMemory>
-    ensures { IfOk result (λ r. object_of r ≡ recognised_object (object_of o)) }
+fn object(alloc: Global, o: &mut Object) -> Result<(), NoMemory>
+    ensures { OnOk result (object_of o.new ≡ recognised_object (object_of o.old)) }
 {
-    let Object {
-        name,
-        place,
-        first,
-        ty,
-        is_linked,
-        literal,
-        initial,
-    } = o;
-    let initial = optional_initializer(alloc, initial)?;
-    Ok(Object {
-        name,
-        place,
-        first,
-        ty,
-        is_linked,
-        literal,
-        initial,
-    })
+    optional_initializer(alloc, &mut o.initial)
 }
 
-/// The objects, in order.
-pub fn recognised_objects(alloc: Global, all: List<Object>) -> Result<List<Object>, NoMemory>
-    ensures { IfOk result (λ r. map object_of r ≡ map recognised_object (map object_of all)) }
+/// Recognises what stands in objects.
+pub fn recognise_objects(alloc: Global, all: &mut List<Object>) -> Result<(), NoMemory>
+    ensures { OnOk result (map object_of all.new ≡ map recognised_object (map object_of all.old)) }
 {
-    let mut done = List::new(alloc);
-    for o in all.into_vec() {
-        let o = object(alloc, o)?;
-        add(&mut done, o)?;
+    for o in all.as_mut_vec().iter_mut() {
+        object(alloc, o)?;
     }
-    Ok(done)
+    Ok(())
 }
 
-fn function(alloc: Global, f: Function) -> Result<Function, NoMemory>
-    ensures { IfOk result (λ r. function_of r ≡ recognised_function (function_of f)) }
+fn function(alloc: Global, f: &mut Function) -> Result<(), NoMemory>
+    ensures { OnOk result (function_of f.new ≡ recognised_function (function_of f.old)) }
 {
-    let Function {
-        name,
-        place,
-        first,
-        ty,
-        is_linked,
-        parameters,
-        locals,
-        body,
-        nodes,
-    } = f;
-    let body = optional_statement(alloc, body)?;
-    Ok(Function {
-        name,
-        place,
-        first,
-        ty,
-        is_linked,
-        parameters,
-        locals,
-        body,
-        nodes,
-    })
+    optional_statement(alloc, &mut f.body)
 }
 
-/// The functions, in order.
-pub fn recognised_functions(alloc: Global, all: List<Function>) -> Result<List<Function>, NoMemory>
-    ensures { IfOk result (λ r. map function_of r ≡ map recognised_function (map function_of all)) }
+/// Recognises what stands in functions.
+pub fn recognise_functions(alloc: Global, all: &mut List<Function>) -> Result<(), NoMemory>
+    ensures { OnOk result (map function_of all.new ≡ map recognised_function (map function_of all.old)) }
 {
-    let mut done = List::new(alloc);
-    for f in all.into_vec() {
-        let f = function(alloc, f)?;
-        add(&mut done, f)?;
+    for f in all.as_mut_vec().iter_mut() {
+        function(alloc, f)?;
     }
-    Ok(done)
+    Ok(())
 }

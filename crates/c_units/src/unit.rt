@@ -14,7 +14,7 @@ ghost use Rattle.c_types.specs.Views.{records_of};
 use crate::mentions::{has_sizeof, mentions_of};
 use crate::numbers::{numbered_functions, numbered_mentions, numbered_objects};
 use crate::places::places_if;
-use crate::recognition::{recognised_functions, recognised_objects};
+use crate::recognition::{recognise_functions, recognise_objects};
 use crate::types::types_of;
 use crate::values::{Valued, valued_objects};
 use c_annotated::{Function, Mention, Object};
@@ -50,8 +50,10 @@ fn recognise(
         objects.as_slice(),
         functions.as_slice(),
     )?;
-    let objects = recognised_objects(alloc, objects)?;
-    let functions = recognised_functions(alloc, functions)?;
+    let mut objects = objects;
+    let mut functions = functions;
+    recognise_objects(alloc, &mut objects)?;
+    recognise_functions(alloc, &mut functions)?;
     let mentions = mentions_of(
         alloc,
         &before,

@@ -1,7 +1,10 @@
-use Rattle.std.proofs.Common.{◌≡◌, map}
+use Rattle.std.proofs.Common.{◌≡◌, map, take}
 use Rattle.c_annotated.specs.Views.{expression_of}
 use Rattle.c_erasure.specs.Recognised.{recognised}
 use Rattle.c_recognised.proofs.expressions.+expression_recognition.Given as goal
 
 abbrev pub invariant-expressions-loop-e : goal.invariant-expressions-loop-e
-invariant-expressions-loop-e l = map expression_of l.done ≡ map (λ e. recognised (expression_of e)) l.yielded
+invariant-expressions-loop-e l = record {
+  unvisited : goal.unvisited-expressions-loop-e l;
+  visited : map expression_of (take l.e-index l.e-items) ≡ map (λ e. recognised (expression_of e)) (take l.e-index l.initial.e-items);
+}

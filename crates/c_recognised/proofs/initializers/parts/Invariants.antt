@@ -1,7 +1,9 @@
-use Rattle.std.proofs.Common.{◌≡◌, map}
+use Rattle.std.proofs.Common.{◌≡◌, ◌++◌, drop, map, take}
 use Rattle.c_annotated.specs.Views.{part_of}
 use Rattle.c_erasure.specs.Units.{recognised_part}
 use Rattle.c_recognised.proofs.initializers.parts.Given as goal
 
 abbrev pub invariant-loop-it : goal.invariant-loop-it
-invariant-loop-it l = map part_of l.done ≡ map recognised_part (map part_of l.yielded)
+invariant-loop-it l =
+    let before = map part_of l.initial.it-items in
+    map part_of l.it-items ≡ map recognised_part (take l.it-index before) ++ drop l.it-index before

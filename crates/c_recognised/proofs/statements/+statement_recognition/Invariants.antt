@@ -1,4 +1,4 @@
-use Rattle.std.proofs.Common.{◌≡◌, map}
+use Rattle.std.proofs.Common.{◌≡◌, map, take}
 use Rattle.c_annotated.specs.Views.{statement_of}
 use Rattle.c_erasure.specs.Units.{recognised_statement}
 use Rattle.c_annotated.specs.Nodes.{arm_of}
@@ -6,7 +6,13 @@ use Rattle.c_recognised.specs.Arms.{recognised_arm}
 use Rattle.c_recognised.proofs.statements.+statement_recognition.Given as goal
 
 abbrev pub invariant-statements-loop-s : goal.invariant-statements-loop-s
-invariant-statements-loop-s l = map statement_of l.done ≡ map (λ s. recognised_statement (statement_of s)) l.yielded
+invariant-statements-loop-s l = record {
+  unvisited : goal.unvisited-statements-loop-s l;
+  visited : map statement_of (take l.s-index l.s-items) ≡ map (λ s. recognised_statement (statement_of s)) (take l.s-index l.initial.s-items);
+}
 
 abbrev pub invariant-arms-loop-it : goal.invariant-arms-loop-it
-invariant-arms-loop-it l = map arm_of l.done ≡ map (λ a. recognised_arm (arm_of a)) l.yielded
+invariant-arms-loop-it l = record {
+  unvisited : goal.unvisited-arms-loop-it l;
+  visited : map arm_of (take l.it-index l.it-items) ≡ map (λ a. recognised_arm (arm_of a)) (take l.it-index l.initial.it-items);
+}

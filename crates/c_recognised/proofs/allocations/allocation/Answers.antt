@@ -1,0 +1,8 @@
+use Rattle.c_recognised.proofs.Calls.{of_call}
+use Rattle.c_recognised.proofs.allocations.allocation.Goals as goal
+
+pub returns-in-Library : goal.returns-in-Library
+returns-in-Library c =
+    let a = c.in-Library in
+    let h = rw (a.which-is, a.all-is) at c.by_call.ensures in
+    rw (of_call c.args.r c.args.e.now a.which a.all a.is) h
