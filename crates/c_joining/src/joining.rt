@@ -12,7 +12,7 @@ ghost use Rattle.numbering.specs.Keys.{position};
 use crate::identities::{next, number_of};
 use crate::placing::{place_function, place_object};
 use crate::tables::{Tables, renumbering};
-use c_renumbering::{Renumbering, renumbered_function, renumbered_mention, renumbered_object};
+use c_renumbering::{Renumbering, renumber_function, renumber_mention, renumber_object};
 use c_typed::{Function, Mention, Object, Unit};
 use lay_base::{List, NoMemory, add};
 use numbering::KeyTable;
@@ -34,12 +34,12 @@ fn join_object(
     unit: u32,
     n: u32,
     all: &mut Vec<Object>,
-    o: Object,
+    mut o: Object,
 ) -> Result<(), NoMemory>
     ensures { OnOk result (all.new.items ≡ place is_object_defined all.old.items (position keys.now (identity unit o.linked o.name n)) (object_in (renaming_of to.now) o)) }
 {
     let number = number_of(alloc, keys, unit, o.linked, &o.name, n)?;
-    let o = renumbered_object(alloc, to, o)?;
+    renumber_object(to, &mut o);
     place_object(all, number, o)
 }
 
@@ -68,12 +68,12 @@ fn join_function(
     unit: u32,
     n: u32,
     all: &mut Vec<Function>,
-    f: Function,
+    mut f: Function,
 ) -> Result<(), NoMemory>
     ensures { OnOk result (map data_of all.new.items ≡ place is_function_defined (map data_of all.old.items) (position keys.now (identity unit f.linked f.name n)) (function_in (renaming_of to.now) (data_of f))) }
 {
     let number = number_of(alloc, keys, unit, f.linked, &f.name, n)?;
-    let f = renumbered_function(alloc, to, f)?;
+    renumber_function(to, &mut f);
     place_function(all, number, f)
 }
 
@@ -102,8 +102,9 @@ fn join_mentions(
 ) -> Result<(), NoMemory>
     ensures { OnOk result (all.new ≡ all.old ++ map (mention_in (renaming_of to.now)) mentions) }
 {
-    for it in mentions.into_vec() {
-        add(all, renumbered_mention(to, it))?;
+    for mut it in mentions.into_vec() {
+        renumber_mention(to, &mut it);
+        add(all, it)?;
     }
     Ok(())
 }

@@ -1,13 +1,17 @@
 -- What is looked for among the keys of all references is what is used and not defined.
-use Rattle.std.proofs.Common.{◌≡◌, ℕ, ◌+◌, ◌<◌, ◌≤◌, ◌==◌, length, Bool, true, false, ◌&&◌, ◌||◌, List, [], ◌∷◌, ◌++◌, Option, fold, map, refl, sym, ap, ◌∙◌}
-use Rattle.std.specs.Prelude.{if◌then◌else◌, is_some, nat_lt, MatchOption}
+use Rattle.std.proofs.Common.{◌≡◌, ℕ, ◌+◌, ◌<◌, ◌≤◌, ◌==◌, length, Bool, true, false, ◌&&◌, ◌||◌, List, [], ◌∷◌, ◌++◌, Option, All, fold, map, refl, sym, ap, ◌∙◌}
+use Rattle.std.specs.Prelude.{if◌then◌else◌, None, Some, is_some, nat_lt, MatchOption}
 use Rattle.std.specs.List.{list_any}
 use Rattle.std.specs.Option.{option_map}
 use Rattle.std.specs.Str.{bytes_eq}
+use Rattle.std.proofs.lemmas.List.Elements.{All-cons, All-head, All-nil, All-tail}
 use Rattle.std.proofs.lemmas.List.Folds.{list_any-append}
 use Rattle.std.proofs.lemmas.Slice.Eq.{bytes_eq-Decides}
 use Rattle.c_typed.specs.declared.program.Object.{Object}
-use Rattle.c_typed.specs.Programs.{FunctionData, ProgramData}
+use Rattle.c_typed.specs.declared.program.Function.{Function}
+use Rattle.c_typed.specs.declared.statement.Statement.{Statement}
+use Rattle.c_typed.specs.Programs.{FunctionData, ProgramData, data_of}
+use Rattle.c_typed.specs.Views.{statement_of}
 use Rattle.c_typed.specs.References.{Reference, an_object, a_function}
 use Rattle.std.proofs.lemmas.Bool.{ltb-false, ltb-true}
 use Rattle.numbering.proofs.Laws.{absent, found}
@@ -113,3 +117,43 @@ nowhere_is p used h =
 pub missing_or_none : (p : ProgramData) (o : Option troubles.Trouble) → option_map trouble_of o ≡ earliest_of (all_missing p)
     → MatchOption o (HasNone (IsMissing p)) (λ t. IsEarliest (IsMissing p) (trouble_of t))
 missing_or_none p o h = earliest_or_none (IsMissing p) (all_missing p) (λ t w. w) (λ t w. w) o h
+
+-- ---- where all are defined, none is missing
+
+false_is_true : false ≡ true → ⊥
+false_is_true h = cc
+
+defined_nowhere : (is_used is_defined : Bool) (t : Trouble) → is_defined ≡ true → nowhere is_used is_defined t ≡ []
+defined_nowhere true true t h = refl
+defined_nowhere false true t h = refl
+defined_nowhere true false t h = absurd (false_is_true h)
+defined_nowhere false false t h = refl
+
+no_object : (all : List Reference) (n : ℕ) (os : List Object) → All (λ o. is_some o.initial ≡ true) os → missing_objects all n os ≡ []
+no_object all n [] h = refl
+no_object all n (o ∷ more) h =
+    let t : Trouble = record { name = o.name; place = o.place; first = o.place } in
+    ap (λ them. them ++ missing_objects all (n + 1) more) (defined_nowhere (list_any (is_object n) all) (is_some o.initial) t (All-head (λ o. is_some o.initial ≡ true) o more h))
+    ∙ no_object all (n + 1) more (All-tail (λ o. is_some o.initial ≡ true) o more h)
+
+no_function : (all : List Reference) (n : ℕ) (fs : List FunctionData) → All (λ f. is_some f.body ≡ true) fs → missing_functions all n fs ≡ []
+no_function all n [] h = refl
+no_function all n (f ∷ more) h =
+    let t : Trouble = record { name = f.name; place = f.place; first = f.place } in
+    ap (λ them. them ++ missing_functions all (n + 1) more) (defined_nowhere (list_any (is_function n) all) (is_some f.body) t (All-head (λ f. is_some f.body ≡ true) f more h))
+    ∙ no_function all (n + 1) more (All-tail (λ f. is_some f.body ≡ true) f more h)
+
+has_body : (o : Option Statement) → is_some o ≡ true → is_some (option_map statement_of o) ≡ true
+has_body None h = h
+has_body (Some s) h = refl
+
+pub have_bodies : (fs : List Function) → All (λ f. is_some f.body ≡ true) fs → All (λ f. is_some f.body ≡ true) (map data_of fs)
+have_bodies [] h = All-nil (λ f. is_some f.body ≡ true)
+have_bodies (f ∷ more) h =
+    All-cons (λ f. is_some f.body ≡ true) (data_of f) (map data_of more) (has_body f.body (All-head (λ f. is_some f.body ≡ true) f more h))
+    (have_bodies more (All-tail (λ f. is_some f.body ≡ true) f more h))
+
+pub none_missing : (p : ProgramData) → All (λ o. is_some o.initial ≡ true) p.objects → All (λ f. is_some f.body ≡ true) p.functions → [] ≡ all_missing p
+none_missing p h k =
+    let all = all_references p in
+    sym (ap (λ them. them ++ missing_functions all 0 p.functions) (no_object all 0 p.objects h) ∙ no_function all 0 p.functions k)

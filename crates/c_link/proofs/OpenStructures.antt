@@ -1,5 +1,5 @@
 -- The least number that is found is that of the open structure whose tag stands first.
-use Rattle.std.proofs.Common.{◌≡◌, ℕ, ◌≤◌, ◌==◌, Bool, true, false, ◌||◌, List, [], ◌∷◌, ◌++◌, Option, Some, None, All, fold, map, flat_map, get_or, length, refl, sym, ap, ◌∙◌, subst, arith}
+use Rattle.std.proofs.Common.{◌≡◌, ℕ, zero, suc, ◌≤◌, ◌==◌, Bool, true, false, ◌||◌, List, [], ◌∷◌, ◌++◌, Option, Some, None, All, fold, map, flat_map, get_or, length, refl, sym, ap, ◌∙◌, subst, arith}
 use Rattle.std.specs.Prelude.{if◌then◌else◌, nat_le, nat_lt, filter, MatchOption}
 use Rattle.std.specs.List.{list_any}
 use Rattle.std.proofs.lemmas.Bool.{eq-eqb, ltb-false, ltb-true}
@@ -9,7 +9,10 @@ use Rattle.std.proofs.Math.ListN.{get_or-map}
 use Rattle.c_types.specs.Types.{CType, void}
 use Rattle.c_typed.specs.Programs.{ProgramData}
 use Rattle.c_link.specs.Gaps.{IsLeast, held_types, open_structures, structures_in}
-use Rattle.c_link.specs.Missing.{least_among, least_in, lesser, lesser_at, lesser_if_any, lesser_of}
+use Rattle.c_link.specs.Missing.{have_none, least_among, least_in, lesser, lesser_at, lesser_if_any, lesser_of}
+
+false_is_true : false ≡ true → ⊥
+false_is_true h = cc
 
 -- ---- the lesser of two, one after another
 
@@ -61,13 +64,22 @@ by_numbers count types best (i ∷ more) =
     ∙ ap (λ o. least_among count o (flat_map structures_in (map (λ i. get_or types i void) more))) e
     ∙ sym (fold-append (lesser count) best (structures_in t) (flat_map structures_in (map (λ i. get_or types i void) more)))
 
+none_at : (leasts : List (Option ℕ)) → have_none leasts ≡ true → (i : ℕ) → get_or leasts i None ≡ None
+none_at [] h i = refl
+none_at (None ∷ more) h zero = refl
+none_at (None ∷ more) h (suc i) = none_at more h i
+none_at (Some n ∷ more) h i = absurd (false_is_true h)
+
+-- where no type has an open structure, no number has
+pub none_lesser : (leasts : List (Option ℕ)) (best : Option ℕ) (numbers : List ℕ) → have_none leasts ≡ true → best ≡ fold (lesser_at leasts) best numbers
+none_lesser leasts best [] h = refl
+none_lesser leasts best (i ∷ more) h =
+    none_lesser leasts best more h ∙ ap (λ o. fold (lesser_at leasts) (lesser_if_any best o) more) (sym (none_at leasts h i))
+
 -- ---- what the least is
 
 abbrev opens : ℕ → List ℕ → List ℕ
 opens count all = filter (λ r. nat_le count r) all
-
-false_is_true : false ≡ true → ⊥
-false_is_true h = cc
 
 same : (n : ℕ) → (n == n) ≡ true
 same n = eq-eqb n n refl

@@ -1,5 +1,5 @@
 -- What is missing, as it is looked for: references by keys, and the least number of a structure that no file completes.
-use Rattle.std.specs.Prelude.{ℕ, Bool, not, ◌&&◌, if◌then◌else◌, nat_le, nat_lt, List, [], ◌∷◌, ◌++◌, ◌+◌, map, fold, get_or, Option, Some, None, is_some}
+use Rattle.std.specs.Prelude.{ℕ, Bool, false, true, not, ◌&&◌, if◌then◌else◌, nat_le, nat_lt, List, [], ◌∷◌, ◌++◌, ◌+◌, map, fold, get_or, Option, Some, None, is_some}
 use Rattle.numbering.specs.Keys.{is_among, with_key}
 use Rattle.c_types.specs.Types.{CType}
 use Rattle.c_typed.specs.declared.program.Object.{Object}
@@ -55,3 +55,7 @@ lesser_if_any best (Some n) = lesser_of best n
 -- the least found before and that of the type with a number
 abbrev pub lesser_at : List (Option ℕ) → Option ℕ → ℕ → Option ℕ
 lesser_at leasts best n = lesser_if_any best (get_or leasts n None)
+
+abbrev pub have_none : List (Option ℕ) → Bool
+have_none [] = true
+have_none (least ∷ more) = if is_some least then false else have_none more

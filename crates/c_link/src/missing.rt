@@ -1,8 +1,8 @@
 //! Objects and functions that are used and not defined (C99 6.9).
 
-ghost use Rattle.std.specs.Prelude.{◌≡◌, ◌++◌, ◌∷◌, [], IfOk, MatchOption, OnOk, if◌then◌else◌, map};
+ghost use Rattle.std.specs.Prelude.{◌≡◌, ◌++◌, ◌∷◌, [], true, All, IfOk, IsTrue, MatchOption, OnOk, if◌then◌else◌, is_some, map};
 ghost use Rattle.c_link.specs.Clashes.{trouble_of};
-ghost use Rattle.c_link.specs.Gaps.{HasNone, IsEarliest, IsMissing};
+ghost use Rattle.c_link.specs.Gaps.{HasNone, IsEarliest, IsMissing, all_missing};
 ghost use Rattle.c_link.specs.Missing.{function_nowhere, functions_nowhere, key_of, keys_of, nowhere, object_nowhere, objects_nowhere};
 ghost use Rattle.c_typed.specs.Programs.{data_of, program_data};
 ghost use Rattle.c_uses.specs.Uses.{reference_of};
@@ -129,14 +129,46 @@ fn add_functions(
     Ok(())
 }
 
+fn are_objects_defined(objects: &[Object]) -> bool
+    ensures { IsTrue result → All (λ o. is_some o.initial ≡ true) objects.now }
+{
+    for o in objects {
+        if o.initial.is_none() {
+            return false;
+        }
+    }
+    true
+}
+
+fn are_functions_defined(functions: &[Function]) -> bool
+    ensures { IsTrue result → All (λ f. is_some f.body ≡ true) functions.now }
+{
+    for f in functions {
+        if f.body.is_none() {
+            return false;
+        }
+    }
+    true
+}
+
+/// The objects and functions that are used and not defined. Where all are defined, nothing has to be asked of the trees.
+fn all_missing(alloc: Global, p: &Typed) -> Result<List<Trouble>, NoMemory>
+    ensures { IfOk result (λ missing. map trouble_of missing ≡ all_missing (program_data p.now)) }
+{
+    let mut missing = List::new(alloc);
+    if are_objects_defined(p.objects.as_slice()) && are_functions_defined(p.functions.as_slice()) {
+        return Ok(missing);
+    }
+    let references = all_references(alloc, p)?;
+    let used = keys_of(alloc, references.as_slice())?;
+    add_objects(alloc, &used, p.objects.as_slice(), &mut missing)?;
+    add_functions(alloc, &used, p.functions.as_slice(), &mut missing)?;
+    Ok(missing)
+}
+
 /// The earliest object or function of a program that is used and not defined, if there is one.
 pub fn missing_name(alloc: Global, p: &Typed) -> Result<Option<Trouble>, NoMemory>
     ensures { IfOk result (λ found. MatchOption found (HasNone (IsMissing (program_data p.now))) (λ t. IsEarliest (IsMissing (program_data p.now)) (trouble_of t))) }
 {
-    let references = all_references(alloc, p)?;
-    let used = keys_of(alloc, references.as_slice())?;
-    let mut missing = List::new(alloc);
-    add_objects(alloc, &used, p.objects.as_slice(), &mut missing)?;
-    add_functions(alloc, &used, p.functions.as_slice(), &mut missing)?;
-    Ok(earliest(missing))
+    Ok(earliest(all_missing(alloc, p)?))
 }

@@ -2,7 +2,7 @@
 
 ghost use Rattle.std.specs.Prelude.{◌≡◌, ◌++◌, [], IfOk, MatchOption, None, OnOk, flat_map, fold, map};
 ghost use Rattle.c_link.specs.Gaps.{IsLeast, open_structures, structures_in, types_of_function, types_of_object};
-ghost use Rattle.c_link.specs.Missing.{least_among, least_in, lesser, lesser_at, lesser_if_any, lesser_of};
+ghost use Rattle.c_link.specs.Missing.{have_none, least_among, least_in, lesser, lesser_at, lesser_if_any, lesser_of};
 ghost use Rattle.c_typed.specs.Programs.{data_of, program_data};
 ghost use Rattle.c_types.specs.Types.{field_types};
 ghost use Rattle.c_types.specs.Views.{field_of, records_of, type_of};
@@ -172,13 +172,41 @@ fn least_in_numbers(best: Option<u32>, leasts: &[Option<u32>], numbers: &[u32]) 
     best
 }
 
+fn have_none(leasts: &[Option<u32>]) -> bool
+    ensures { result ≡ have_none leasts.now }
+{
+    for least in leasts {
+        if least.is_some() {
+            return false;
+        }
+    }
+    true
+}
+
+/// The least number found before and in the types that are held. Where no type has one, nothing has to be asked of the trees.
+#[tactic(auto, using(crate::proofs::OpenStructures::none_lesser))]
+fn least_in_held(
+    alloc: Global,
+    p: &Typed,
+    best: Option<u32>,
+    leasts: &[Option<u32>],
+) -> Result<Option<u32>, NoMemory>
+    ensures { IfOk result (λ least. least ≡ fold (lesser_at leasts.now) best (flat_map types_of_object (program_data p.now).objects ++ flat_map types_of_function (program_data p.now).functions)) }
+{
+    if have_none(leasts) {
+        return Ok(best);
+    }
+    let numbers = held_numbers(alloc, p)?;
+    Ok(least_in_numbers(best, leasts, numbers.as_slice()))
+}
+
 /// The least number of a structure that no file completes, where a type of the program holds one.
 pub fn least_open(alloc: Global, p: &Typed) -> Result<Option<u32>, NoMemory>
     ensures { IfOk result (λ found. MatchOption found (open_structures (program_data p.now) ≡ []) (λ r. IsLeast (open_structures (program_data p.now)) r)) }
 {
     let count = p.records.len();
     let leasts = least_of_each(alloc, count, p.types.as_slice())?;
-    let numbers = held_numbers(alloc, p)?;
     let best = least_in_records(count, p.records.as_slice());
-    Ok(least_in_numbers(best, leasts.as_slice(), numbers.as_slice()))
+    let least = least_in_held(alloc, p, best, leasts.as_slice())?;
+    Ok(least)
 }

@@ -9,6 +9,7 @@ ghost use Rattle.c_typed.specs.Mapped.{mapped, mapped_all, mapped_node, mapped_p
 ghost use Rattle.c_typed.specs.Views.{expression_of, expressions_of, path_of};
 
 use crate::numbers::number_of;
+use crate::room::with_room;
 use c_type_table::TypeTable;
 use c_typed::{Expression, ExpressionNode, Path, PathNode};
 use lay_base::{Boxed, List, NoMemory, add, boxed};
@@ -215,7 +216,7 @@ fn expressions(
 ) -> Result<List<Expression>, NoMemory>
     ensures { IfOk result (λ r. expressions_of (map expression_of r) ≡ mapped_all (numbered types.now) (noted_expressions (map noted_expression all))) }
 {
-    let mut done = List::new(alloc);
+    let mut done = with_room(alloc, all.len())?;
     for e in all.into_vec() {
         let e = expression(alloc, types, e)?;
         add(&mut done, e)?;

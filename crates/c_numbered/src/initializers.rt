@@ -9,6 +9,7 @@ ghost use Rattle.c_typed.specs.Mapped.{mapped, mapped_initializer, mapped_part, 
 ghost use Rattle.c_typed.specs.Views.{expression_of, initializer_of, part_of, part_value_of};
 
 use crate::expressions::{operand, path};
+use crate::room::with_room;
 use c_type_table::TypeTable;
 use c_typed::{Expression, Initializer, InitializerPart, PartValue};
 use lay_base::{Boxed, List, NoMemory, add};
@@ -70,7 +71,7 @@ fn parts(
 ) -> Result<List<InitializerPart>, NoMemory>
     ensures { IfOk result (λ r. map part_of r ≡ map (mapped_part (numbered types.now)) (map noted_part all)) }
 {
-    let mut done = List::new(alloc);
+    let mut done = with_room(alloc, all.len())?;
     for it in all.into_vec() {
         let it = part(alloc, types, it)?;
         add(&mut done, it)?;

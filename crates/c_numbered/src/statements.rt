@@ -12,6 +12,7 @@ ghost use Rattle.c_typed.specs.Views.{arms_of, expression_of, statement_of, stat
 
 use crate::expressions::operand;
 use crate::initializers::{optional_expression, optional_initializer};
+use crate::room::with_room;
 use c_type_table::TypeTable;
 use c_typed::{Arm, Expression, Statement};
 use lay_base::{Boxed, List, NoMemory, add, boxed};
@@ -117,7 +118,7 @@ fn statements(
 ) -> Result<List<Statement>, NoMemory>
     ensures { IfOk result (λ r. statements_of (map statement_of r) ≡ mapped_statements (numbered types.now) (noted_statements (map noted_statement all))) }
 {
-    let mut done = List::new(alloc);
+    let mut done = with_room(alloc, all.len())?;
     for s in all.into_vec() {
         let s = numbered_statement(alloc, types, s)?;
         add(&mut done, s)?;
@@ -150,7 +151,7 @@ fn arms(
 ) -> Result<List<Arm>, NoMemory>
     ensures { IfOk result (λ r. arms_of (map arm_of r) ≡ mapped_arms (numbered types.now) (noted_arms (map noted_arm all))) }
 {
-    let mut done = List::new(alloc);
+    let mut done = with_room(alloc, all.len())?;
     for it in all.into_vec() {
         let it = arm(alloc, types, it)?;
         add(&mut done, it)?;

@@ -1,6 +1,7 @@
 //! Expressions and paths with other numbers.
 
-ghost use Rattle.std.specs.Prelude.{◌≡◌, IfOk, map};
+ghost use Rattle.std.specs.Prelude.{◌≡◌, map};
+ghost use Rattle.std.specs.Option.{option_map};
 ghost use Rattle.c_renumbering.specs.Numbers.{renaming_of};
 ghost use Rattle.c_renumbering.specs.Nodes.{node_of, path_node_of};
 ghost use Rattle.c_typed.specs.Mapped.{mapped, mapped_all, mapped_node, mapped_path, mapped_step};
@@ -8,200 +9,140 @@ ghost use Rattle.c_typed.specs.Views.{expression_of, expressions_of, path_of};
 
 use crate::numbers::Renumbering;
 use c_typed::{Expression, ExpressionNode, Path, PathNode};
-use lay_base::{Boxed, List, NoMemory, add, boxed};
-use std::alloc::Global;
+use lay_base::{Boxed, List};
 
+/// Gives an expression other numbers.
 #[cycle(expression_renumbering)]
-pub fn expression(alloc: Global, to: &Renumbering, e: Expression) -> Result<Expression, NoMemory>
-    ensures { IfOk result (λ r. expression_of r ≡ mapped (renaming_of to.now) (expression_of e)) }
+pub fn expression(to: &Renumbering, e: &mut Expression)
+    ensures { expression_of e.new ≡ mapped (renaming_of to.now) (expression_of e.old) }
 {
-    let Expression { ty, place, node } = e;
-    Ok(Expression {
-        ty: to.types.at(ty),
-        place,
-        node: node_in(alloc, to, node)?,
-    })
+    e.ty = to.types.at(e.ty);
+    node_in(to, &mut e.node);
 }
 
 #[cycle(expression_renumbering)]
-fn node_in(
-    alloc: Global,
-    to: &Renumbering,
-    node: ExpressionNode,
-) -> Result<ExpressionNode, NoMemory>
-    ensures { IfOk result (λ r. node_of r ≡ mapped_node (renaming_of to.now) (node_of node)) }
+#[tactic(auto, using(crate::proofs::Optional::count_mapped))]
+fn node_in(to: &Renumbering, node: &mut ExpressionNode)
+    ensures { node_of node.new ≡ mapped_node (renaming_of to.now) (node_of node.old) }
 {
     match node {
-        ExpressionNode::Constant(v) => Ok(ExpressionNode::Constant(v)),
-        ExpressionNode::Null => Ok(ExpressionNode::Null),
-        ExpressionNode::FunctionName(f) => Ok(ExpressionNode::FunctionName(to.functions.at(f))),
-        ExpressionNode::Load(p) => Ok(ExpressionNode::Load(path(alloc, to, p)?)),
-        ExpressionNode::AddressOf(p) => Ok(ExpressionNode::AddressOf(path(alloc, to, p)?)),
-        ExpressionNode::Decay(p) => Ok(ExpressionNode::Decay(path(alloc, to, p)?)),
-        ExpressionNode::Convert(x, written) => {
-            let x = operand(alloc, to, x)?;
-            Ok(ExpressionNode::Convert(x, written))
+        ExpressionNode::Constant(_) | ExpressionNode::Null => {}
+        ExpressionNode::FunctionName(f) => *f = to.functions.at(*f),
+        ExpressionNode::Load(p) => path(to, p),
+        ExpressionNode::AddressOf(p) => path(to, p),
+        ExpressionNode::Decay(p) => path(to, p),
+        ExpressionNode::Convert(x, _) => expression(to, x.get_mut()),
+        ExpressionNode::Unary(_, x) => expression(to, x.get_mut()),
+        ExpressionNode::Not(x) => expression(to, x.get_mut()),
+        ExpressionNode::Binary(_, x, y) => {
+            expression(to, x.get_mut());
+            expression(to, y.get_mut());
         }
-        ExpressionNode::Unary(op, x) => {
-            let x = operand(alloc, to, x)?;
-            Ok(ExpressionNode::Unary(op, x))
+        ExpressionNode::Compare(_, x, y) => {
+            expression(to, x.get_mut());
+            expression(to, y.get_mut());
         }
-        ExpressionNode::Binary(op, x, y) => {
-            let x = operand(alloc, to, x)?;
-            let y = operand(alloc, to, y)?;
-            Ok(ExpressionNode::Binary(op, x, y))
-        }
-        ExpressionNode::Compare(op, x, y) => {
-            let x = operand(alloc, to, x)?;
-            let y = operand(alloc, to, y)?;
-            Ok(ExpressionNode::Compare(op, x, y))
-        }
-        ExpressionNode::PointerAdd(op, x, y) => {
-            let x = operand(alloc, to, x)?;
-            let y = operand(alloc, to, y)?;
-            Ok(ExpressionNode::PointerAdd(op, x, y))
+        ExpressionNode::PointerAdd(_, x, y) => {
+            expression(to, x.get_mut());
+            expression(to, y.get_mut());
         }
         ExpressionNode::PointerDiff(x, y) => {
-            let x = operand(alloc, to, x)?;
-            let y = operand(alloc, to, y)?;
-            Ok(ExpressionNode::PointerDiff(x, y))
+            expression(to, x.get_mut());
+            expression(to, y.get_mut());
         }
         ExpressionNode::And(x, y) => {
-            let x = operand(alloc, to, x)?;
-            let y = operand(alloc, to, y)?;
-            Ok(ExpressionNode::And(x, y))
+            expression(to, x.get_mut());
+            expression(to, y.get_mut());
         }
         ExpressionNode::Or(x, y) => {
-            let x = operand(alloc, to, x)?;
-            let y = operand(alloc, to, y)?;
-            Ok(ExpressionNode::Or(x, y))
-        }
-        ExpressionNode::Not(x) => Ok(ExpressionNode::Not(operand(alloc, to, x)?)),
-        ExpressionNode::Cond(x, y, z) => {
-            let x = operand(alloc, to, x)?;
-            let y = operand(alloc, to, y)?;
-            let z = operand(alloc, to, z)?;
-            Ok(ExpressionNode::Cond(x, y, z))
+            expression(to, x.get_mut());
+            expression(to, y.get_mut());
         }
         ExpressionNode::Comma(x, y) => {
-            let x = operand(alloc, to, x)?;
-            let y = operand(alloc, to, y)?;
-            Ok(ExpressionNode::Comma(x, y))
+            expression(to, x.get_mut());
+            expression(to, y.get_mut());
+        }
+        ExpressionNode::Cond(x, y, z) => {
+            expression(to, x.get_mut());
+            expression(to, y.get_mut());
+            expression(to, z.get_mut());
         }
         ExpressionNode::Assign(p, x) => {
-            let p = path(alloc, to, p)?;
-            let x = operand(alloc, to, x)?;
-            Ok(ExpressionNode::Assign(p, x))
+            path(to, p);
+            expression(to, x.get_mut());
         }
-        ExpressionNode::AssignOp(op, p, x) => {
-            let p = path(alloc, to, p)?;
-            let x = operand(alloc, to, x)?;
-            Ok(ExpressionNode::AssignOp(op, p, x))
+        ExpressionNode::AssignOp(_, p, x) => {
+            path(to, p);
+            expression(to, x.get_mut());
         }
-        ExpressionNode::Step(op, before, p) => {
-            let p = path(alloc, to, p)?;
-            Ok(ExpressionNode::Step(op, before, p))
-        }
+        ExpressionNode::Step(_, _, p) => path(to, p),
         ExpressionNode::CopyRecord(p, from) => {
-            let p = path(alloc, to, p)?;
-            let from = path(alloc, to, from)?;
-            Ok(ExpressionNode::CopyRecord(p, from))
+            path(to, p);
+            path(to, from);
         }
         ExpressionNode::Call(f, all) => {
-            let all = expressions(alloc, to, all)?;
-            Ok(ExpressionNode::Call(to.functions.at(f), all))
+            *f = to.functions.at(*f);
+            expressions(to, all);
         }
         ExpressionNode::CallThrough(e, all) => {
-            let e = operand(alloc, to, e)?;
-            let all = expressions(alloc, to, all)?;
-            Ok(ExpressionNode::CallThrough(e, all))
+            expression(to, e.get_mut());
+            expressions(to, all);
         }
-        ExpressionNode::Library(which, all) => {
-            let all = expressions(alloc, to, all)?;
-            Ok(ExpressionNode::Library(which, all))
-        }
-        ExpressionNode::Allocate(r, count, zeroed) => {
-            let r = to.records.at(r);
-            match count {
-                None => Ok(ExpressionNode::Allocate(r, None, zeroed)),
-                Some(count) => {
-                    let count = operand(alloc, to, count)?;
-                    Ok(ExpressionNode::Allocate(r, Some(count), zeroed))
-                }
-            }
+        ExpressionNode::Library(_, all) => expressions(to, all),
+        ExpressionNode::Allocate(r, count, _) => {
+            *r = to.records.at(*r);
+            optional_expression(to, count);
         }
     }
 }
 
 #[cycle(expression_renumbering)]
-pub fn operand(
-    alloc: Global,
-    to: &Renumbering,
-    e: Boxed<Expression>,
-) -> Result<Boxed<Expression>, NoMemory>
-    ensures { IfOk result (λ r. expression_of r ≡ mapped (renaming_of to.now) (expression_of e)) }
+fn expressions(to: &Renumbering, all: &mut List<Expression>)
+    ensures { expressions_of (map expression_of all.new) ≡ mapped_all (renaming_of to.now) (expressions_of (map expression_of all.old)) }
 {
-    let e = expression(alloc, to, e.into_inner())?;
-    boxed(alloc, e)
+    for e in all.as_mut_vec().iter_mut() {
+        expression(to, e);
+    }
+}
+
+/// Gives an expression other numbers, where there is one.
+#[cycle(expression_renumbering)]
+pub fn optional_expression(to: &Renumbering, e: &mut Option<Boxed<Expression>>)
+    ensures { option_map expression_of e.new ≡ option_map (mapped (renaming_of to.now)) (option_map expression_of e.old) }
+{
+    if let Some(e) = e {
+        expression(to, e.get_mut());
+    }
+}
+
+/// Gives a path other numbers.
+#[cycle(expression_renumbering)]
+pub fn path(to: &Renumbering, p: &mut Path)
+    ensures { path_of p.new ≡ mapped_path (renaming_of to.now) (path_of p.old) }
+{
+    p.ty = to.types.at(p.ty);
+    path_node(to, &mut p.node);
 }
 
 #[cycle(expression_renumbering)]
-pub fn path(alloc: Global, to: &Renumbering, p: Path) -> Result<Path, NoMemory>
-    ensures { IfOk result (λ r. path_of r ≡ mapped_path (renaming_of to.now) (path_of p)) }
-{
-    let Path { ty, place, node } = p;
-    Ok(Path {
-        ty: to.types.at(ty),
-        place,
-        node: path_node(alloc, to, node)?,
-    })
-}
-
-#[cycle(expression_renumbering)]
-fn path_node(alloc: Global, to: &Renumbering, node: PathNode) -> Result<PathNode, NoMemory>
-    ensures { IfOk result (λ r. path_node_of r ≡ mapped_step (renaming_of to.now) (path_node_of node)) }
+fn path_node(to: &Renumbering, node: &mut PathNode)
+    ensures { path_node_of node.new ≡ mapped_step (renaming_of to.now) (path_node_of node.old) }
 {
     match node {
-        PathNode::Named(n) => Ok(PathNode::Named(n)),
-        PathNode::Object(n) => Ok(PathNode::Object(to.objects.at(n))),
-        PathNode::Deref(e) => Ok(PathNode::Deref(operand(alloc, to, e)?)),
-        PathNode::Index(e, i) => {
-            let e = operand(alloc, to, e)?;
-            let i = operand(alloc, to, i)?;
-            Ok(PathNode::Index(e, i))
+        PathNode::Named(_) => {}
+        PathNode::Object(n) => *n = to.objects.at(*n),
+        PathNode::Deref(e) => expression(to, e.get_mut()),
+        PathNode::Index(e, by) => {
+            expression(to, e.get_mut());
+            expression(to, by.get_mut());
         }
-        PathNode::Member(p, r, field) => {
-            let p = inner_path(alloc, to, p)?;
-            Ok(PathNode::Member(p, to.records.at(r), field))
+        PathNode::Member(p, r, _) => {
+            path(to, p.get_mut());
+            *r = to.records.at(*r);
         }
-        PathNode::Element(p, i) => {
-            let p = inner_path(alloc, to, p)?;
-            let i = operand(alloc, to, i)?;
-            Ok(PathNode::Element(p, i))
+        PathNode::Element(p, by) => {
+            path(to, p.get_mut());
+            expression(to, by.get_mut());
         }
     }
-}
-
-#[cycle(expression_renumbering)]
-fn inner_path(alloc: Global, to: &Renumbering, p: Boxed<Path>) -> Result<Boxed<Path>, NoMemory>
-    ensures { IfOk result (λ r. path_of r ≡ mapped_path (renaming_of to.now) (path_of p)) }
-{
-    let p = path(alloc, to, p.into_inner())?;
-    boxed(alloc, p)
-}
-
-#[cycle(expression_renumbering)]
-fn expressions(
-    alloc: Global,
-    to: &Renumbering,
-    all: List<Expression>,
-) -> Result<List<Expression>, NoMemory>
-    ensures { IfOk result (λ r. expressions_of (map expression_of r) ≡ mapped_all (renaming_of to.now) (expressions_of (map expression_of all))) }
-{
-    let mut done = List::new(alloc);
-    for e in all.into_vec() {
-        let e = expression(alloc, to, e)?;
-        add(&mut done, e)?;
-    }
-    Ok(done)
 }

@@ -1,6 +1,6 @@
 //! Typed trees with other numbers for their types, objects, functions and records.
 //!
-//! It stands on `c_typed`. It promises that a tree is rebuilt as `c_typed` defines a renaming of it, whatever the numbers are.
+//! It stands on `c_typed`. It promises that a tree is changed into what `c_typed` defines as its renaming, whatever the numbers are.
 #![tactic(auto)]
 
 mod expressions;
@@ -10,5 +10,5 @@ mod parts;
 mod statements;
 
 pub use numbers::{Numbers, Renumbering};
-pub use parts::{renumbered_function, renumbered_mention, renumbered_object};
-pub use statements::renumbered_statement;
+pub use parts::{renumber_function, renumber_mention, renumber_object};
+pub use statements::renumber_statement;

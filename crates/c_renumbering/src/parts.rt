@@ -1,6 +1,6 @@
 //! What a unit has beside trees, with other numbers.
 
-ghost use Rattle.std.specs.Prelude.{◌≡◌, IfOk, map};
+ghost use Rattle.std.specs.Prelude.{◌≡◌, map};
 ghost use Rattle.std.specs.Option.{option_map};
 ghost use Rattle.c_renumbering.specs.Numbers.{renaming_of};
 ghost use Rattle.c_renumbering.specs.Parts.{function_in, initial_in, local_in, mention_in, object_in, value_in};
@@ -9,154 +9,91 @@ ghost use Rattle.c_typed.specs.Programs.{data_of};
 ghost use Rattle.c_typed.specs.Views.{statement_of};
 
 use crate::numbers::Renumbering;
-use crate::statements::renumbered_statement;
+use crate::statements::renumber_statement;
 use c_typed::{Function, Initial, InitialValue, Local, Mention, Object, Statement};
-use lay_base::{List, NoMemory, add};
-use std::alloc::Global;
+use lay_base::List;
 
-fn value(to: &Renumbering, value: InitialValue) -> InitialValue
-    ensures { result ≡ value_in (renaming_of to.now) value }
+fn value(to: &Renumbering, value: &mut InitialValue)
+    ensures { value.new ≡ value_in (renaming_of to.now) value.old }
 {
     match value {
-        InitialValue::Number(kind, v) => InitialValue::Number(kind, v),
-        InitialValue::Address(t, n, offset) => {
-            InitialValue::Address(to.types.at(t), to.objects.at(n), offset)
+        InitialValue::Number(_, _) => {}
+        InitialValue::Address(t, n, _) => {
+            *t = to.types.at(*t);
+            *n = to.objects.at(*n);
         }
-        InitialValue::Function(t, n) => InitialValue::Function(to.types.at(t), to.functions.at(n)),
-    }
-}
-
-fn initials(alloc: Global, to: &Renumbering, all: List<Initial>) -> Result<List<Initial>, NoMemory>
-    ensures { IfOk result (λ r. r ≡ map (initial_in (renaming_of to.now)) all) }
-{
-    let mut done = List::new(alloc);
-    for it in all.into_vec() {
-        let Initial {
-            offset,
-            value: kept,
-        } = it;
-        let kept = value(to, kept);
-        add(
-            &mut done,
-            Initial {
-                offset,
-                value: kept,
-            },
-        )?;
-    }
-    Ok(done)
-}
-
-fn optional_initials(
-    alloc: Global,
-    to: &Renumbering,
-    all: Option<List<Initial>>,
-) -> Result<Option<List<Initial>>, NoMemory>
-    ensures { IfOk result (λ r. r ≡ option_map (map (initial_in (renaming_of to.now))) all) }
-{
-    match all {
-        None => Ok(None),
-        Some(all) => {
-            let all = initials(alloc, to, all)?;
-            Ok(Some(all))
+        InitialValue::Function(t, n) => {
+            *t = to.types.at(*t);
+            *n = to.functions.at(*n);
         }
     }
 }
 
-/// An object with other numbers.
-pub fn renumbered_object(alloc: Global, to: &Renumbering, o: Object) -> Result<Object, NoMemory>
-    ensures { IfOk result (λ r. r ≡ object_in (renaming_of to.now) o) }
+fn initial(to: &Renumbering, it: &mut Initial)
+    ensures { it.new ≡ initial_in (renaming_of to.now) it.old }
 {
-    let Object {
-        name,
-        place,
-        ty,
-        linked,
-        text,
-        initial,
-    } = o;
-    let ty = to.types.at(ty);
-    let initial = optional_initials(alloc, to, initial)?;
-    Ok(Object {
-        name,
-        place,
-        ty,
-        linked,
-        text,
-        initial,
-    })
+    value(to, &mut it.value);
 }
 
-fn locals(alloc: Global, to: &Renumbering, all: List<Local>) -> Result<List<Local>, NoMemory>
-    ensures { IfOk result (λ r. r ≡ map (local_in (renaming_of to.now)) all) }
+fn initials(to: &Renumbering, all: &mut List<Initial>)
+    ensures { all.new ≡ map (initial_in (renaming_of to.now)) all.old }
 {
-    let mut done = List::new(alloc);
-    for it in all.into_vec() {
-        let Local { name, ty, block } = it;
-        let ty = to.types.at(ty);
-        add(&mut done, Local { name, ty, block })?;
-    }
-    Ok(done)
-}
-
-fn body(
-    alloc: Global,
-    to: &Renumbering,
-    it: Option<Statement>,
-) -> Result<Option<Statement>, NoMemory>
-    ensures { IfOk result (λ r. option_map statement_of r ≡ option_map (mapped_statement (renaming_of to.now)) (option_map statement_of it)) }
-{
-    match it {
-        None => Ok(None),
-        Some(it) => {
-            let it = renumbered_statement(alloc, to, it)?;
-            Ok(Some(it))
-        }
+    for it in all.as_mut_vec().iter_mut() {
+        initial(to, it);
     }
 }
 
-/// A function with other numbers.
-pub fn renumbered_function(
-    alloc: Global,
-    to: &Renumbering,
-    f: Function,
-) -> Result<Function, NoMemory>
-    ensures { IfOk result (λ r. data_of r ≡ function_in (renaming_of to.now) (data_of f)) }
+fn optional_initials(to: &Renumbering, all: &mut Option<List<Initial>>)
+    ensures { all.new ≡ option_map (map (initial_in (renaming_of to.now))) all.old }
 {
-    let Function {
-        name,
-        place,
-        ty,
-        linked,
-        parameters,
-        locals: others,
-        body: statement,
-        nodes,
-    } = f;
-    let ty = to.types.at(ty);
-    let statement = body(alloc, to, statement)?;
-    let parameters = locals(alloc, to, parameters)?;
-    let others = locals(alloc, to, others)?;
-    Ok(Function {
-        name,
-        place,
-        ty,
-        linked,
-        parameters,
-        locals: others,
-        body: statement,
-        nodes,
-    })
+    if let Some(all) = all {
+        initials(to, all);
+    }
 }
 
-/// A mention with another number for its type.
-pub fn renumbered_mention(to: &Renumbering, it: Mention) -> Mention
-    ensures { result ≡ mention_in (renaming_of to.now) it }
+/// Gives an object other numbers.
+pub fn renumber_object(to: &Renumbering, o: &mut Object)
+    ensures { o.new ≡ object_in (renaming_of to.now) o.old }
 {
-    let Mention { kind, ty, place } = it;
-    Mention {
-        kind,
-        ty: to.types.at(ty),
-        place,
+    o.ty = to.types.at(o.ty);
+    optional_initials(to, &mut o.initial);
+}
+
+fn local(to: &Renumbering, it: &mut Local)
+    ensures { it.new ≡ local_in (renaming_of to.now) it.old }
+{
+    it.ty = to.types.at(it.ty);
+}
+
+fn locals(to: &Renumbering, all: &mut List<Local>)
+    ensures { all.new ≡ map (local_in (renaming_of to.now)) all.old }
+{
+    for it in all.as_mut_vec().iter_mut() {
+        local(to, it);
     }
+}
+
+fn body(to: &Renumbering, it: &mut Option<Statement>)
+    ensures { option_map statement_of it.new ≡ option_map (mapped_statement (renaming_of to.now)) (option_map statement_of it.old) }
+{
+    if let Some(it) = it {
+        renumber_statement(to, it);
+    }
+}
+
+/// Gives a function other numbers.
+pub fn renumber_function(to: &Renumbering, f: &mut Function)
+    ensures { data_of f.new ≡ function_in (renaming_of to.now) (data_of f.old) }
+{
+    f.ty = to.types.at(f.ty);
+    locals(to, &mut f.parameters);
+    locals(to, &mut f.locals);
+    body(to, &mut f.body);
+}
+
+/// Gives the type of a mention another number.
+pub fn renumber_mention(to: &Renumbering, it: &mut Mention)
+    ensures { it.new ≡ mention_in (renaming_of to.now) it.old }
+{
+    it.ty = to.types.at(it.ty);
 }

@@ -1,148 +1,79 @@
 //! Statements with other numbers.
 
-ghost use Rattle.std.specs.Prelude.{◌≡◌, IfOk, map};
+ghost use Rattle.std.specs.Prelude.{◌≡◌, map};
 ghost use Rattle.std.specs.Option.{option_map};
 ghost use Rattle.c_renumbering.specs.Nodes.{arm_of, mapped_arm};
 ghost use Rattle.c_renumbering.specs.Numbers.{renaming_of};
-ghost use Rattle.c_typed.specs.Mapped.{mapped, mapped_arms, mapped_statement, mapped_statements};
-ghost use Rattle.c_typed.specs.Views.{arms_of, expression_of, statement_of, statements_of};
+ghost use Rattle.c_typed.specs.Mapped.{mapped_arms, mapped_statement, mapped_statements};
+ghost use Rattle.c_typed.specs.Views.{arms_of, statement_of, statements_of};
 
-use crate::expressions::operand;
-use crate::initializers::{optional_expression, optional_initializer};
+use crate::expressions::{expression, optional_expression};
+use crate::initializers::optional_initializer;
 use crate::numbers::Renumbering;
-use c_typed::{Arm, Expression, Statement};
-use lay_base::{Boxed, List, NoMemory, add, boxed};
-use std::alloc::Global;
+use c_typed::{Arm, Statement};
+use lay_base::{Boxed, List};
 
-type TestAndStep = (Option<Boxed<Expression>>, Option<Boxed<Expression>>);
-
-/// The test and the step of a `for`.
-fn test_and_step(
-    alloc: Global,
-    to: &Renumbering,
-    test: Option<Boxed<Expression>>,
-    step: Option<Boxed<Expression>>,
-) -> Result<TestAndStep, NoMemory>
-    ensures test { IfOk result (λ r. option_map expression_of r.0 ≡ option_map (mapped (renaming_of to.now)) (option_map expression_of test)) }
-    ensures step { IfOk result (λ r. option_map expression_of r.1 ≡ option_map (mapped (renaming_of to.now)) (option_map expression_of step)) }
-{
-    let test = optional_expression(alloc, to, test)?;
-    let step = optional_expression(alloc, to, step)?;
-    Ok((test, step))
-}
-
-/// A statement with other numbers.
+/// Gives a statement other numbers.
 #[cycle(statement_renumbering)]
-pub fn renumbered_statement(
-    alloc: Global,
-    to: &Renumbering,
-    s: Statement,
-) -> Result<Statement, NoMemory>
-    ensures { IfOk result (λ r. statement_of r ≡ mapped_statement (renaming_of to.now) (statement_of s)) }
+#[tactic(auto, using(crate::proofs::Optional::other_mapped))]
+pub fn renumber_statement(to: &Renumbering, s: &mut Statement)
+    ensures { statement_of s.new ≡ mapped_statement (renaming_of to.now) (statement_of s.old) }
 {
     match s {
-        Statement::Do(e) => {
-            let e = operand(alloc, to, e)?;
-            Ok(Statement::Do(e))
-        }
-        Statement::Block(locals, all) => {
-            let all = statements(alloc, to, all)?;
-            Ok(Statement::Block(locals, all))
-        }
-        Statement::Declare(n, initial) => {
-            let initial = optional_initializer(alloc, to, initial)?;
-            Ok(Statement::Declare(n, initial))
-        }
+        Statement::Do(e) => expression(to, e.get_mut()),
+        Statement::Block(_, all) => statements(to, all),
+        Statement::Declare(_, initial) => optional_initializer(to, initial),
         Statement::If(e, one, other) => {
-            let e = operand(alloc, to, e)?;
-            let one = inner(alloc, to, one)?;
-            match other {
-                None => Ok(Statement::If(e, one, None)),
-                Some(other) => {
-                    let other = inner(alloc, to, other)?;
-                    Ok(Statement::If(e, one, Some(other)))
-                }
-            }
+            expression(to, e.get_mut());
+            renumber_statement(to, one.get_mut());
+            optional_statement(to, other);
         }
         Statement::While(e, body) => {
-            let e = operand(alloc, to, e)?;
-            let body = inner(alloc, to, body)?;
-            Ok(Statement::While(e, body))
+            expression(to, e.get_mut());
+            renumber_statement(to, body.get_mut());
         }
         Statement::DoWhile(body, e) => {
-            let body = inner(alloc, to, body)?;
-            let e = operand(alloc, to, e)?;
-            Ok(Statement::DoWhile(body, e))
+            renumber_statement(to, body.get_mut());
+            expression(to, e.get_mut());
         }
-        Statement::For(locals, start, test, step, body) => {
-            let (test, step) = test_and_step(alloc, to, test, step)?;
-            let start = statements(alloc, to, start)?;
-            let body = inner(alloc, to, body)?;
-            Ok(Statement::For(locals, start, test, step, body))
+        Statement::For(_, start, test, step, body) => {
+            statements(to, start);
+            optional_expression(to, test);
+            optional_expression(to, step);
+            renumber_statement(to, body.get_mut());
         }
-        Statement::Switch(e, locals, all) => {
-            let e = operand(alloc, to, e)?;
-            let all = arms(alloc, to, all)?;
-            Ok(Statement::Switch(e, locals, all))
+        Statement::Switch(e, _, all) => {
+            expression(to, e.get_mut());
+            arms(to, all);
         }
-        Statement::Break => Ok(Statement::Break),
-        Statement::Continue => Ok(Statement::Continue),
-        Statement::Return(e) => {
-            let e = optional_expression(alloc, to, e)?;
-            Ok(Statement::Return(e))
-        }
+        Statement::Break | Statement::Continue => {}
+        Statement::Return(e) => optional_expression(to, e),
     }
 }
 
 #[cycle(statement_renumbering)]
-fn inner(alloc: Global, to: &Renumbering, s: Boxed<Statement>) -> Result<Boxed<Statement>, NoMemory>
-    ensures { IfOk result (λ r. statement_of r ≡ mapped_statement (renaming_of to.now) (statement_of s)) }
+fn optional_statement(to: &Renumbering, s: &mut Option<Boxed<Statement>>)
+    ensures { option_map statement_of s.new ≡ option_map (mapped_statement (renaming_of to.now)) (option_map statement_of s.old) }
 {
-    let s = renumbered_statement(alloc, to, s.into_inner())?;
-    boxed(alloc, s)
-}
-
-#[cycle(statement_renumbering)]
-fn statements(
-    alloc: Global,
-    to: &Renumbering,
-    all: List<Statement>,
-) -> Result<List<Statement>, NoMemory>
-    ensures { IfOk result (λ r. statements_of (map statement_of r) ≡ mapped_statements (renaming_of to.now) (statements_of (map statement_of all))) }
-{
-    let mut done = List::new(alloc);
-    for s in all.into_vec() {
-        let s = renumbered_statement(alloc, to, s)?;
-        add(&mut done, s)?;
+    if let Some(s) = s {
+        renumber_statement(to, s.get_mut());
     }
-    Ok(done)
 }
 
 #[cycle(statement_renumbering)]
-fn arm(alloc: Global, to: &Renumbering, it: Arm) -> Result<Arm, NoMemory>
-    ensures { IfOk result (λ r. arm_of r ≡ mapped_arm (renaming_of to.now) (arm_of it)) }
+fn statements(to: &Renumbering, all: &mut List<Statement>)
+    ensures { statements_of (map statement_of all.new) ≡ mapped_statements (renaming_of to.now) (statements_of (map statement_of all.old)) }
 {
-    let Arm {
-        cases,
-        is_default,
-        statements: all,
-    } = it;
-    let all = statements(alloc, to, all)?;
-    Ok(Arm {
-        cases,
-        is_default,
-        statements: all,
-    })
-}
-
-#[cycle(statement_renumbering)]
-fn arms(alloc: Global, to: &Renumbering, all: List<Arm>) -> Result<List<Arm>, NoMemory>
-    ensures { IfOk result (λ r. arms_of (map arm_of r) ≡ mapped_arms (renaming_of to.now) (arms_of (map arm_of all))) }
-{
-    let mut done = List::new(alloc);
-    for it in all.into_vec() {
-        let it = arm(alloc, to, it)?;
-        add(&mut done, it)?;
+    for s in all.as_mut_vec().iter_mut() {
+        renumber_statement(to, s);
     }
-    Ok(done)
+}
+
+#[cycle(statement_renumbering)]
+fn arms(to: &Renumbering, all: &mut List<Arm>)
+    ensures { arms_of (map arm_of all.new) ≡ mapped_arms (renaming_of to.now) (arms_of (map arm_of all.old)) }
+{
+    for it in all.as_mut_vec().iter_mut() {
+        statements(to, &mut it.statements);
+    }
 }

@@ -96,15 +96,6 @@ fn add_function_types<'a>(found: &mut Nodes<'a>, f: &'a Function) -> Result<(), 
     add_body_types(found, &f.body)
 }
 
-fn add_types_of_functions<'a>(found: &mut Nodes<'a>, all: &'a [Function]) -> Result<(), NoMemory>
-    ensures { OnOk result (types_in found.new ≡ types_in found.old ++ flat_map function_types (map function_of all.now)) }
-{
-    for f in all {
-        add_function_types(found, f)?;
-    }
-    Ok(())
-}
-
 fn add_mention_types<'a>(found: &mut Nodes<'a>, all: &'a [Mention]) -> Result<(), NoMemory>
     ensures { OnOk result (types_in found.new ≡ types_in found.old ++ map (λ m. m.ty) (map mention_of all.now)) }
 {
@@ -114,18 +105,57 @@ fn add_mention_types<'a>(found: &mut Nodes<'a>, all: &'a [Mention]) -> Result<()
     Ok(())
 }
 
-fn table_of(alloc: Global, nodes: &[NodeType]) -> Result<TypeTable, NoMemory>
-    ensures { IfOk result (λ types. map type_of types ≡ new_among [] (map (λ t. t.ty) (map noted_of nodes.now))) }
+/// Adds the types of nodes to a table.
+fn add_nodes(alloc: Global, types: &mut TypeTable, nodes: &[NodeType]) -> Result<(), NoMemory>
+    ensures { OnOk result (map type_of types.new ≡ fold with_type (map type_of types.old) (map (λ t. t.ty) (map noted_of nodes.now))) }
 {
-    let mut types = TypeTable::new(alloc);
     for node in nodes {
         types.add_copy(alloc, node.ty)?;
     }
-    Ok(types)
+    Ok(())
+}
+
+/// Adds the types of a function to a table.
+#[tactic(auto, unfolding(crate::specs::CollectedTypes::types_in, c_walks::specs::NodeTypes::nodes_in))]
+fn add_function(alloc: Global, types: &mut TypeTable, f: &Function) -> Result<(), NoMemory>
+    ensures { OnOk result (map type_of types.new ≡ fold with_type (map type_of types.old) (function_types (function_of f.now))) }
+{
+    let mut found = Nodes::new(alloc);
+    add_function_types(&mut found, f)?;
+    add_nodes(alloc, types, found.list.as_slice())
+}
+
+/// Adds the types of functions to a table, one after the other: a function's nodes are then still at hand when its types are looked up.
+fn add_functions(alloc: Global, types: &mut TypeTable, all: &[Function]) -> Result<(), NoMemory>
+    ensures { OnOk result (map type_of types.new ≡ fold with_type (map type_of types.old) (flat_map function_types (map function_of all.now))) }
+{
+    for f in all {
+        add_function(alloc, types, f)?;
+    }
+    Ok(())
+}
+
+/// Adds the types of objects to a table.
+#[tactic(auto, unfolding(crate::specs::CollectedTypes::types_in, c_walks::specs::NodeTypes::nodes_in))]
+fn add_objects(alloc: Global, types: &mut TypeTable, all: &[Valued]) -> Result<(), NoMemory>
+    ensures { OnOk result (map type_of types.new ≡ fold with_type (map type_of types.old) (flat_map object_types (map valued_of all.now))) }
+{
+    let mut found = Nodes::new(alloc);
+    add_types_of_objects(&mut found, all)?;
+    add_nodes(alloc, types, found.list.as_slice())
+}
+
+/// Adds the types of mentions to a table.
+#[tactic(auto, unfolding(crate::specs::CollectedTypes::types_in, c_walks::specs::NodeTypes::nodes_in))]
+fn add_mentions(alloc: Global, types: &mut TypeTable, all: &[Mention]) -> Result<(), NoMemory>
+    ensures { OnOk result (map type_of types.new ≡ fold with_type (map type_of types.old) (map (λ m. m.ty) (map mention_of all.now))) }
+{
+    let mut found = Nodes::new(alloc);
+    add_mention_types(&mut found, all)?;
+    add_nodes(alloc, types, found.list.as_slice())
 }
 
 /// The types of a file, each once, in the order in which they stand first: in objects, functions and mentions.
-#[tactic(auto, unfolding(crate::specs::CollectedTypes::types_in, c_walks::specs::NodeTypes::nodes_in))]
 pub fn types_of(
     alloc: Global,
     objects: &[Valued],
@@ -135,9 +165,9 @@ pub fn types_of(
     ensures { IfOk result (λ types. map type_of types
         ≡ new_among [] (all_types (map valued_of objects.now) (map function_of functions.now) (map mention_of mentions.now))) }
 {
-    let mut found = Nodes::new(alloc);
-    add_types_of_objects(&mut found, objects)?;
-    add_types_of_functions(&mut found, functions)?;
-    add_mention_types(&mut found, mentions)?;
-    table_of(alloc, found.list.as_slice())
+    let mut types = TypeTable::new(alloc);
+    add_objects(alloc, &mut types, objects)?;
+    add_functions(alloc, &mut types, functions)?;
+    add_mentions(alloc, &mut types, mentions)?;
+    Ok(types)
 }

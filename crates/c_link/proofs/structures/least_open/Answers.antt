@@ -16,14 +16,13 @@ returns c =
     let fields = flat_map structures_in (flat_map field_types p.records) in
     let held = flat_map types_of_object p.objects ++ flat_map types_of_function p.functions in
     let l : c.as_slice-3.result.now ≡ map (least_in count) p.types = search rules in
-    let n : c.as_slice-4.result.now ≡ held = search rules in
     let b : c.least_in_records-best.result ≡ least_among count None fields = search rules in
     let m : count ≡ length c.args.p.now.records = search rules in
-    let k = c.least_in_numbers.ensures
-    ∙ ap (λ ls. fold (lesser_at ls) c.least_in_records-best.result c.as_slice-4.result.now) l
-    ∙ ap (fold (lesser_at (map (least_in count) p.types)) c.least_in_records-best.result) n
+    let r : c.in_ok-least.least ≡ fold (lesser_at c.as_slice-3.result.now) c.least_in_records-best.result held = search rules in
+    let k = r
+    ∙ ap (λ ls. fold (lesser_at ls) c.least_in_records-best.result held) l
     ∙ ap (λ best. fold (lesser_at (map (least_in count) p.types)) best held) b
     ∙ by_numbers count p.types (least_among count None fields) held
     ∙ sym (least_append count None fields (flat_map structures_in (map (type_at p) held)))
     ∙ ap (least_among count None) (sym (flat_map-append structures_in (flat_map field_types p.records) (map (type_at p) held))) in
-    open_or_none p count c.least_in_numbers.result k (m ∙ sym (length-map c.args.p.now.records record_of))
+    open_or_none p count c.in_ok-least.least k (m ∙ sym (length-map c.args.p.now.records record_of))

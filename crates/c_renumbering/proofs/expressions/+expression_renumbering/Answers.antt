@@ -1,30 +1,14 @@
-use Rattle.std.proofs.Common.{◌≡◌, ◌∙◌, map, ap, sym}
-use Rattle.std.specs.Prelude.{Some}
-use Rattle.std.proofs.lemmas.Iterator.Adapters.{YieldsList-from_vec}
-use Rattle.std.proofs.lemmas.Iterator.Consumers.{YieldsList-end}
-use Rattle.std.proofs.lemmas.List.{map-id}
+use Rattle.std.proofs.Common.{rules}
 use Rattle.c_renumbering.specs.Numbers.{renaming_of}
-use Rattle.c_renumbering.specs.Nodes.{node_of}
-use Rattle.c_renumbering.proofs.Lists.{all_mapped, counted}
-use Rattle.c_renumbering.proofs.Optional.{allocated}
-use Rattle.c_typed.specs.Mapped.{mapped_all, mapped_node}
-use Rattle.c_typed.specs.Views.{expression_of, expressions_of}
-use Rattle.c_typed.specs.declared.expression.ExpressionNode.TheVariants as E
+use Rattle.c_renumbering.proofs.Lists.{all_mapped, ended}
+use Rattle.c_typed.specs.Mapped.{mapped}
+use Rattle.c_typed.specs.Views.{expression_of}
 use Rattle.c_renumbering.proofs.expressions.+expression_renumbering.Goals as goal
 
 pub expressions-returns : goal.expressions-returns
 expressions-returns t c =
     let m = renaming_of c.args.to.now in
-    let g = c.into_iter-e-iterator.ensures.into_iter_gives in
-    let all = YieldsList-end (YieldsList-from_vec _ g.0 (g.1 ∙ counted c.into_vec-e-items.result)) c.loop-e.yielded c.loop-e.e-iterator c.loop-e.yielded_by c.next.result c.next.new.self c.in-None.is c.next.ensures.steps in
-    let e : c.loop-e.yielded ≡ c.args.all = sym (map-id c.loop-e.yielded) ∙ all.0 ∙ c.into_vec-e-items.ensures in
-    all_mapped m c.loop-e.yielded c.loop-e.done c.loop-e.invariant ∙ ap (λ es. mapped_all m (expressions_of (map expression_of es))) e
-
-pub node_in-returns-in_ok-count-in-Some : goal.node_in-returns-in_ok-count-in-Some
-node_in-returns-in_ok-count-in-Some t c =
-    let m = renaming_of c.args.to.now in
-    let a = c.in-Allocate in
-    let e : c.args.node ≡ E.Allocate a.r (Some c.in-Some.count) a.zeroed = a.is ∙ ap (λ count. E.Allocate a.r count a.zeroed) c.in-Some.is in
-    ap (λ r. node_of (E.Allocate r (Some c.in_ok-count-in-Some.count) a.zeroed)) c.at-r.ensures
-    ∙ allocated m a.r c.in-Some.count c.in_ok-count-in-Some.count a.zeroed c.in_ok-count-in-Some.ensures
-    ∙ ap (λ node. mapped_node m (node_of node)) (sym e)
+    let v = c.as_mut_vec.result.now in
+    all_mapped m c.args.all.now _
+    (ended expression_of (λ e. mapped m (expression_of e)) c.loop-e.e-items c.deref_mut-e-items.result.now v.items c.args.all.now c.loop-e.e-index v.len
+    (search rules) (search rules) c.as_mut_vec.ensures.value (search rules) (search rules) c.loop-e.invariant.visited)

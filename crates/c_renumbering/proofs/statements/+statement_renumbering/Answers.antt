@@ -1,39 +1,23 @@
-use Rattle.std.proofs.Common.{◌≡◌, ◌∙◌, map, ap, sym}
-use Rattle.std.proofs.lemmas.Iterator.Adapters.{YieldsList-from_vec}
-use Rattle.std.proofs.lemmas.Iterator.Consumers.{YieldsList-end}
-use Rattle.std.proofs.lemmas.List.{map-id}
-use Rattle.c_renumbering.specs.Nodes.{arm_of}
+use Rattle.std.proofs.Common.{rules}
+use Rattle.c_renumbering.specs.Nodes.{arm_of, mapped_arm}
 use Rattle.c_renumbering.specs.Numbers.{renaming_of}
-use Rattle.c_renumbering.proofs.Optional.{either_mapped}
-use Rattle.c_typed.specs.declared.statement.Statement.TheVariants as S
-use Rattle.c_renumbering.proofs.Lists.{all_arms_mapped, all_statements_mapped, counted}
-use Rattle.c_typed.specs.Mapped.{mapped_arms, mapped_statement, mapped_statements}
-use Rattle.c_typed.specs.Views.{arms_of, statement_of, statements_of}
+use Rattle.c_renumbering.proofs.Lists.{all_arms_mapped, all_statements_mapped, ended}
+use Rattle.c_typed.specs.Mapped.{mapped_statement}
+use Rattle.c_typed.specs.Views.{statement_of}
 use Rattle.c_renumbering.proofs.statements.+statement_renumbering.Goals as goal
 
 pub statements-returns : goal.statements-returns
 statements-returns t c =
     let m = renaming_of c.args.to.now in
-    let g = c.into_iter-s-iterator.ensures.into_iter_gives in
-    let all = YieldsList-end (YieldsList-from_vec _ g.0 (g.1 ∙ counted c.into_vec-s-items.result)) c.loop-s.yielded c.loop-s.s-iterator c.loop-s.yielded_by c.next.result
-    c.next.new.self c.in-None.is c.next.ensures.steps in
-    let e : c.loop-s.yielded ≡ c.args.all = sym (map-id c.loop-s.yielded) ∙ all.0 ∙ c.into_vec-s-items.ensures in
-    all_statements_mapped m c.loop-s.yielded c.loop-s.done c.loop-s.invariant ∙ ap (λ them. mapped_statements m (statements_of (map statement_of them))) e
+    let v = c.as_mut_vec.result.now in
+    all_statements_mapped m c.args.all.now _
+    (ended statement_of (λ s. mapped_statement m (statement_of s)) c.loop-s.s-items c.deref_mut-s-items.result.now v.items c.args.all.now c.loop-s.s-index
+    v.len (search rules) (search rules) c.as_mut_vec.ensures.value (search rules) (search rules) c.loop-s.invariant.visited)
 
 pub arms-returns : goal.arms-returns
 arms-returns t c =
     let m = renaming_of c.args.to.now in
-    let g = c.into_iter-it-iterator.ensures.into_iter_gives in
-    let all = YieldsList-end (YieldsList-from_vec _ g.0 (g.1 ∙ counted c.into_vec-it-items.result)) c.loop-it.yielded c.loop-it.it-iterator c.loop-it.yielded_by c.next.result
-    c.next.new.self c.in-None.is c.next.ensures.steps in
-    let e : c.loop-it.yielded ≡ c.args.all = sym (map-id c.loop-it.yielded) ∙ all.0 ∙ c.into_vec-it-items.ensures in
-    all_arms_mapped m c.loop-it.yielded c.loop-it.done c.loop-it.invariant ∙ ap (λ them. mapped_arms m (arms_of (map arm_of them))) e
-
-pub renumbered_statement-returns-in_ok-other-in-Some : goal.renumbered_statement-returns-in_ok-other-in-Some
-renumbered_statement-returns-in_ok-other-in-Some t c =
-    let m = renaming_of c.args.to.now in
-    let a = c.in-If in
-    let e = a.is ∙ ap (λ other. S.If a.e a.one other) c.in-Some.is in
-    either_mapped m a.e c.in_ok-e-in-If.e a.one c.in_ok-one-in-If.one c.in-Some.other c.in_ok-other-in-Some.other c.in_ok-e-in-If.ensures
-    c.in_ok-one-in-If.ensures c.in_ok-other-in-Some.ensures
-    ∙ ap (λ s. mapped_statement m (statement_of s)) (sym e)
+    let v = c.as_mut_vec.result.now in
+    all_arms_mapped m c.args.all.now _
+    (ended arm_of (λ a. mapped_arm m (arm_of a)) c.loop-it.it-items c.deref_mut-it-items.result.now v.items c.args.all.now c.loop-it.it-index v.len
+    (search rules) (search rules) c.as_mut_vec.ensures.value (search rules) (search rules) c.loop-it.invariant.visited)

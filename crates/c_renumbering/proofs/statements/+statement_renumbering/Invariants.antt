@@ -1,4 +1,4 @@
-use Rattle.std.proofs.Common.{◌≡◌, map}
+use Rattle.std.proofs.Common.{◌≡◌, map, take}
 use Rattle.c_typed.specs.Mapped.{mapped_statement}
 use Rattle.c_typed.specs.Views.{statement_of}
 use Rattle.c_renumbering.specs.Nodes.{arm_of, mapped_arm}
@@ -6,7 +6,13 @@ use Rattle.c_renumbering.specs.Numbers.{renaming_of}
 use Rattle.c_renumbering.proofs.statements.+statement_renumbering.Given as goal
 
 abbrev pub invariant-statements-loop-s : goal.invariant-statements-loop-s
-invariant-statements-loop-s l = map statement_of l.done ≡ map (λ s. mapped_statement (renaming_of l.to) (statement_of s)) l.yielded
+invariant-statements-loop-s l = record {
+  unvisited : goal.unvisited-statements-loop-s l;
+  visited : map statement_of (take l.s-index l.s-items) ≡ map (λ s. mapped_statement (renaming_of l.to) (statement_of s)) (take l.s-index l.initial.s-items);
+}
 
 abbrev pub invariant-arms-loop-it : goal.invariant-arms-loop-it
-invariant-arms-loop-it l = map arm_of l.done ≡ map (λ a. mapped_arm (renaming_of l.to) (arm_of a)) l.yielded
+invariant-arms-loop-it l = record {
+  unvisited : goal.unvisited-arms-loop-it l;
+  visited : map arm_of (take l.it-index l.it-items) ≡ map (λ a. mapped_arm (renaming_of l.to) (arm_of a)) (take l.it-index l.initial.it-items);
+}
