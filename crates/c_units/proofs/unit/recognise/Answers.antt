@@ -14,6 +14,6 @@ returns-clause-mentions c =
     λ h. c.in_ok-before.ensures (c.has_sizeof.ensures ∙ (ap (λ them. has_sizeof (map mention_of them)) c.as_slice.ensures ∙ h))
     ∙ ap (λ them. is_among (size_places (nodes_of (map object_of them) (map function_of c.as_slice-3.result.now)))) c.as_slice-2.ensures
     ∙ ap (λ them. is_among (size_places (nodes_of objects (map function_of them)))) c.as_slice-3.ensures in
-    let o : map object_of c.as_slice-4.result.now ≡ map recognised_object objects = ap (map object_of) c.as_slice-4.ensures ∙ c.in_ok-objects.ensures in
-    let g : map function_of c.as_slice-5.result.now ≡ map recognised_function functions = ap (map function_of) c.as_slice-5.ensures ∙ c.in_ok-functions.ensures in
+    let o : map object_of c.as_slice-4.result.now ≡ map recognised_object objects = ap (map object_of) c.as_slice-4.ensures ∙ c.in_ok-recognise_objects.ensures in
+    let g : map function_of c.as_slice-5.result.now ≡ map recognised_function functions = ap (map function_of) c.as_slice-5.ensures ∙ c.in_ok-recognise_functions.ensures in
     c.in_ok-mentions.ensures ∙ mentions_left (holds c.in_ok-before.before) objects _ functions _ (map mention_of c.args.mentions) b o g
