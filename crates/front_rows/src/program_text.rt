@@ -1,4 +1,4 @@
-//! Programs as text: their parts after the word for each, in parentheses.
+//! Programs as text: their parts on lines of their own, after the word for each, in parentheses.
 
 use crate::type_text::{put_kind, put_type, put_type_at};
 use crate::writer::Writer;
@@ -23,7 +23,7 @@ fn put_field(out: &mut Writer, field: &Field) {
 }
 
 fn put_record(out: &mut Writer, record: &Record) {
-    out.open("struct");
+    out.open_line("struct");
     out.bytes(record.tag.as_slice());
     put_place(out, record.place);
     for field in record.fields.as_slice() {
@@ -84,7 +84,7 @@ fn put_initial(out: &mut Writer, types: &[Ty], initial: &Option<List<Initial>>) 
 }
 
 fn put_object(out: &mut Writer, types: &[Ty], object: &Object) {
-    out.open(if object.text { "string" } else { "object" });
+    out.open_line(if object.text { "string" } else { "object" });
     out.bytes(object.name.as_slice());
     put_place(out, object.place);
     put_type_at(out, types, object.ty);
@@ -121,7 +121,7 @@ fn put_body(out: &mut Writer, alloc: Global, body: &Statement) {
 }
 
 fn put_function(out: &mut Writer, alloc: Global, types: &[Ty], function: &Function) {
-    out.open("function");
+    out.open_line("function");
     out.bytes(function.name.as_slice());
     put_place(out, function.place);
     put_type_at(out, types, function.ty);
@@ -149,7 +149,7 @@ fn mention_word(kind: MentionKind) -> &'static str {
 }
 
 fn put_mention(out: &mut Writer, types: &[Ty], mention: &Mention) {
-    out.open(mention_word(mention.kind));
+    out.open_line(mention_word(mention.kind));
     put_type_at(out, types, mention.ty);
     put_place(out, mention.place);
     out.close();
@@ -162,7 +162,7 @@ fn put_records(out: &mut Writer, records: &[Record]) {
 }
 
 fn put_types(out: &mut Writer, types: &[Ty]) {
-    out.open("types");
+    out.open_line("types");
     for t in types {
         put_type(out, t);
     }
@@ -194,7 +194,7 @@ pub fn put_program(out: &mut Writer, alloc: Global, p: &Typed) {
     put_objects(out, types, p.objects.as_slice());
     put_functions(out, alloc, types, p.functions.as_slice());
     put_mentions(out, types, p.mentions.as_slice());
-    out.open("main");
+    out.open_line("main");
     out.number(u64::from(p.main));
     out.number(p.nodes);
     out.close();
