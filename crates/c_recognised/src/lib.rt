@@ -1,7 +1,7 @@
 //! Annotated trees with allocations of records and null pointers recognised.
 //!
-//! It stands on `c_annotated`, whose trees it takes and gives back, and on the definitions of `c_erasure`. It promises that a tree is
-//! rebuilt with a node for each allocation of records and for each null pointer constant that is converted to a pointer.
+//! It stands on `c_annotated`, whose trees it changes where they stand, and on the definitions of `c_erasure`. It promises that a tree then
+//! has a node for each allocation of records and for each null pointer constant that is converted to a pointer.
 #![tactic(auto)]
 
 mod allocations;
