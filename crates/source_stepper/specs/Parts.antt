@@ -1,23 +1,10 @@
--- Parts of steps by what the interpreter looks at.
-use Rattle.std.specs.Prelude.{ℕ, Bool, List, Option, Some, None}
+-- A part of a step by what the interpreter looks at.
+use Rattle.std.specs.Prelude.{ℕ, List}
 use Rattle.c_typed.specs.Programs.{ProgramData}
-use Rattle.c_typed.specs.Trees.{Expression, expression, Statements}
-use Rattle.c_typed.specs.Views.{AnExpression}
-use Rattle.runs.specs.declared.value.Value.TheVariants.{Word}
-use Rattle.source_machine.specs.Items.{Loop, acting, using, executing_all, looping, ending}
-use Rattle.source_machine.specs.Steps.{may_lack}
-use Rattle.source_machine.specs.declared.items.Action.{Action}
+use Rattle.c_typed.specs.Trees.{Statements}
+use Rattle.source_machine.specs.Items.{Loop, executing_all, looping, ending}
 use Rattle.source_steps.specs.Locals.{begin_all}
-use Rattle.source_steps.specs.States.{State, Step, goes, doing, doing_in, given}
-
--- whether the value of an expression may be none
-abbrev pub lacks : AnExpression → Bool
-lacks (expression t at node) = may_lack node
-
--- an allocation of as many records as an expression says, or of one
-abbrev pub allocating_by : (count : Option AnExpression) → Action → State → Step
-allocating_by None action s = goes (doing (acting action) (given (Word 1) s))
-allocating_by (Some e) action s = goes (doing (using e) (doing (acting action) s))
+use Rattle.source_steps.specs.States.{State, Step, goes, doing, doing_in}
 
 -- a `for` with its locals and the statements before the loop
 abbrev pub begun_for : ProgramData → (own : List ℕ) → Statements ℕ → Loop → State → Step

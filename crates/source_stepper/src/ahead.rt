@@ -9,7 +9,6 @@ ghost use Rattle.source_stepper.specs.Ahead.{decided, decided_else, tested_by};
 ghost use Rattle.source_state.specs.View.{state_of};
 ghost use Rattle.source_state.specs.WorkView.{context_of, loop_of};
 
-use crate::expressions::{evaluate, evaluate_used};
 use crate::loops::{begin_loop, repeat_loop, test_loop};
 use crate::statements::{behind, execute, leave, select};
 use c_counts::loops_in_statement;
@@ -18,6 +17,7 @@ use c_typed::{Expression, Statement};
 use lay_base::NoMemory;
 use runs::Value;
 use source_direct::at_once;
+use source_expressions::{evaluate, evaluate_used};
 use source_state::{ForStatement, Loop, Machine, Scope, Work};
 use source_steps::Moved;
 use source_types::Types;

@@ -5,9 +5,6 @@
 #![tactic(auto)]
 
 mod ahead;
-mod calls;
-mod expressions;
-mod locals;
 mod loops;
 mod statements;
 mod stepping;

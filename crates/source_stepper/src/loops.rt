@@ -6,8 +6,8 @@ ghost use Rattle.source_steps.specs.Statements.{begun, begun_behind, repeats, te
 ghost use Rattle.source_state.specs.View.{state_of};
 ghost use Rattle.source_state.specs.WorkView.{loop_behind_of, loop_of};
 
-use crate::expressions::{evaluate_one, use_value};
 use lay_base::NoMemory;
+use source_expressions::{evaluate_one, use_value};
 use source_machine::Action;
 use source_state::{ForLoop, ForStatement, Loop, LoopBehind, Machine, Work};
 use source_steps::Moved;

@@ -15,13 +15,12 @@ ghost use Rattle.source_stepper.specs.Parts.{begun_for};
 ghost use Rattle.source_state.specs.View.{state_of};
 ghost use Rattle.source_state.specs.WorkView.{context_of, loop_of};
 
-use crate::expressions::{evaluate_one, use_value};
-use crate::locals::{begin_all, declare};
 use crate::loops::begin_behind;
 use c_counts::loops_in_statements;
 use c_meaning::Way;
 use c_typed::{Arm, Expression, Statement};
 use lay_base::{Boxed, NoMemory};
+use source_expressions::{begin_all, declare, evaluate_one, use_value};
 use source_machine::Action;
 use source_state::{ForArms, ForLoop, ForStatement, Loop, LoopBehind, Machine, Scope, Work};
 use source_steps::Moved;

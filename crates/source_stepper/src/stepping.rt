@@ -17,9 +17,6 @@ use crate::ahead::{
     begin_if, decide_else, decide_if, evaluate_ahead, execute_ahead, execute_all_ahead,
     repeat_ahead, test_ahead, use_ahead,
 };
-use crate::calls::{gather, gather_one};
-use crate::expressions::{locate, use_one};
-use crate::locals::{fill_all, finish_first};
 use crate::loops::{begin_behind, repeat_loop, test_behind};
 use crate::statements::{enter_arms, select};
 use c_meaning::{Slot, Way};
@@ -27,6 +24,7 @@ use c_typed::{Arm, Expression, Statement};
 use lay_base::NoMemory;
 use runs::Value;
 use source_actions::perform;
+use source_expressions::{fill_all, finish_first, gather, gather_one, locate, use_one};
 use source_machine::{Action, Callee};
 use source_state::{
     ForArms, ForCall, ForExpression, ForLoop, ForStatement, Loop, LoopBehind, Machine, STUCK,

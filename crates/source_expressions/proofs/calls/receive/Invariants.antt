@@ -2,7 +2,7 @@ use Rattle.std.proofs.Common.{◌≡◌, drop}
 use Rattle.c_typed.specs.Programs.{program_data}
 use Rattle.source_core.specs.View.{core_of}
 use Rattle.source_steps.specs.Calls.{receive}
-use Rattle.source_stepper.proofs.calls.receive.Given as goal
+use Rattle.source_expressions.proofs.calls.receive.Given as goal
 
 abbrev pub invariant-loop-number : goal.invariant-loop-number
 invariant-loop-number l = receive (program_data l.types) l.place l.number (drop l.number l.parameters) (drop l.number l.values) (core_of l.room)

@@ -5,7 +5,7 @@ ghost use Rattle.std.specs.Option.{option_copied, option_map};
 ghost use Rattle.c_typed.specs.Programs.{program_data};
 ghost use Rattle.c_typed.specs.Views.{expression_of, path_of};
 ghost use Rattle.source_machine.specs.Items.{acting, evaluating, spotting, using};
-ghost use Rattle.source_stepper.specs.Parts.{allocating_by, lacks};
+ghost use Rattle.source_expressions.specs.Parts.{allocating_by, lacks};
 ghost use Rattle.source_state.specs.View.{state_of};
 ghost use Rattle.source_steps.specs.Expressions.{located, member_of, used, valued};
 ghost use Rattle.source_steps.specs.States.{doing, goes};
@@ -46,7 +46,7 @@ pub(crate) fn act<'a>(machine: &mut Machine<'a>, action: Action) -> Result<(), N
 }
 
 /// The value of an expression, which is used.
-pub(crate) fn use_value<'a>(machine: &mut Machine<'a>, e: &'a Expression) -> Result<Moved, NoMemory>
+pub fn use_value<'a>(machine: &mut Machine<'a>, e: &'a Expression) -> Result<Moved, NoMemory>
     ensures { IfOk result (λ m. (m, state_of machine.new) ≡ goes (doing (using (expression_of e.now)) (state_of machine.old))) }
 {
     machine.todo(Work::Expression(ForExpression::Using, e))?;
@@ -54,7 +54,7 @@ pub(crate) fn use_value<'a>(machine: &mut Machine<'a>, e: &'a Expression) -> Res
 }
 
 /// The value of an expression, and then an action on it.
-pub(crate) fn use_one<'a>(
+pub fn use_one<'a>(
     machine: &mut Machine<'a>,
     x: &'a Expression,
     action: Action,
@@ -81,7 +81,7 @@ fn use_both<'a>(
 }
 
 /// The value of an expression or none, and then an action on it.
-pub(crate) fn evaluate_one<'a>(
+pub fn evaluate_one<'a>(
     machine: &mut Machine<'a>,
     x: &'a Expression,
     action: Action,
@@ -138,7 +138,7 @@ fn member<'a>(
 }
 
 /// Where a path leads; it may be the operand of `&`.
-pub(crate) fn locate<'a>(
+pub fn locate<'a>(
     machine: &mut Machine<'a>,
     types: &Types<'a>,
     addressed: bool,
@@ -203,7 +203,7 @@ fn allocate_all<'a>(
 }
 
 /// The first step of an expression.
-pub(crate) fn evaluate<'a>(
+pub fn evaluate<'a>(
     machine: &mut Machine<'a>,
     alloc: Global,
     types: &Types<'a>,
@@ -335,7 +335,7 @@ pub(crate) fn evaluate<'a>(
 }
 
 /// The first step of an expression whose value is used.
-pub(crate) fn evaluate_used<'a>(
+pub fn evaluate_used<'a>(
     machine: &mut Machine<'a>,
     alloc: Global,
     types: &Types<'a>,

@@ -51,7 +51,7 @@ fn begin_one(
 }
 
 /// Locals are made, with nothing stored.
-pub(crate) fn begin_all(
+pub fn begin_all(
     room: &mut Room,
     alloc: Global,
     types: &Types<'_>,
@@ -71,7 +71,7 @@ pub(crate) fn begin_all(
 
 /// The parameters of a function end: so many locals, from the first one on.
 #[tactic(auto, using(crate::proofs::Numbers::next_number, crate::proofs::Numbers::no_number))]
-pub(crate) fn finish_first(room: &mut Room, count: usize) -> Result<(), NoMemory>
+pub fn finish_first(room: &mut Room, count: usize) -> Result<(), NoMemory>
     ensures { IfOk result (λ u. core_of room.new ≡ finish_all (numbers count) (core_of room.old)) }
 {
     for number in 0..count {
@@ -112,7 +112,7 @@ fn fill<'a>(
 }
 
 /// Parts of a block are stored.
-pub(crate) fn fill_all<'a>(
+pub fn fill_all<'a>(
     machine: &mut Machine<'a>,
     types: &Types<'a>,
     block: u64,
@@ -211,7 +211,7 @@ fn declare_local<'a>(
 }
 
 /// The declaration of a local is reached.
-pub(crate) fn declare<'a>(
+pub fn declare<'a>(
     machine: &mut Machine<'a>,
     types: &Types<'a>,
     scope: Scope<'a>,

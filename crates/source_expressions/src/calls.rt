@@ -320,7 +320,7 @@ fn call<'a>(
 }
 
 /// A call with its arguments so far.
-pub(crate) fn gather<'a>(
+pub fn gather<'a>(
     machine: &mut Machine<'a>,
     alloc: Global,
     types: &Types<'a>,
@@ -341,7 +341,7 @@ pub(crate) fn gather<'a>(
 }
 
 /// The same where the next argument is on top of the stack.
-pub(crate) fn gather_one<'a>(
+pub fn gather_one<'a>(
     machine: &mut Machine<'a>,
     alloc: Global,
     types: &Types<'a>,

@@ -1,0 +1,12 @@
+//! The first steps of expressions, with calls, and what is done with the locals of functions and blocks.
+//!
+//! It stands on `source_state`, whose machine it moves on, and on `source_actions` and `source_core`, which do what calls and locals come to.
+#![tactic(auto)]
+
+mod calls;
+mod expressions;
+mod locals;
+
+pub use calls::{gather, gather_one};
+pub use expressions::{evaluate, evaluate_one, evaluate_used, locate, use_one, use_value};
+pub use locals::{begin_all, declare, fill_all, finish_first};
