@@ -11,7 +11,8 @@ As a command it shows the numbers.
 
 What is refused before types are looked at stands in `before_types.txt` (BadByte, BadLiteral, Unclosed, TooWide, NoParse, Unsupported KEYWORD), and what is
 refused when files are joined in `after_types.txt` (Missing NAME, Twice NAME, TagClash TAG, NameClash NAME, NoMain, Limit WHICH COUNTED). There a line `== NAME`
-begins a file of that name."""
+begins a file of that name, and a line `== program` the text of the program that the files are, as `crates/front_rows/README.md` says; a line of it that begins with
+a space goes on the one before. `{;}*9` stands for nine semicolons."""
 
 import os
 import re
@@ -27,19 +28,23 @@ NAMING = ["Undeclared", "Redeclared", "Unsupported", "Missing", "Twice", "TagCla
 WITH_FIRST = ["Redeclared", "Twice", "TagClash", "NameClash"]
 PLACELESS = ["accepted", "Missing", "NoMain", "Limit"]
 PLACE, FIRST = "@", "$"
+PROGRAM = "program"
 
 
 class Row:
-    """`files` are the names and texts; `text` is that of the first. `places` and `first` are byte offsets in `place_file` and `first_file`.
+    """`files` are the names and texts; `text` is that of the first. `program` is the text of their program, where the row has it. `places` and `first` are byte offsets in `place_file` and `first_file`.
     `subject` is what an answer names, and `counted` the number that passes a limit. `kind` is `own`, `warns`, `asks` or empty, and `reason` why."""
 
     def __init__(self, file, name, answer, clause, kind, reason, marked):
         self.file, self.name, self.clause, self.kind, self.reason = file, name, clause, kind, reason
         self.answer, self.subject, self.counted = (answer.split(" ") + ["", ""])[:3]
-        self.files, self.places, self.first = [], [], None
+        self.files, self.places, self.first, self.program = [], [], None, None
         self.place_file = self.first_file = None
-        for file_name, part in files_in(marked):
-            self.files.append((file_name, self.unmarked(part, file_name)))
+        for file_name, part in parts_in(marked):
+            if file_name == PROGRAM:
+                self.program = re.sub(r"\n +", " ", part)
+            else:
+                self.files.append((file_name, self.unmarked(repeated(part), file_name)))
         self.text = self.files[0][1]
         self.check(marked)
 
@@ -68,6 +73,7 @@ class Row:
         assert self.answer in ["accepted", "open", *OF_TYPES, *BEFORE_TYPES, *AFTER_TYPES], f"{where}: {self.answer}"
         assert (self.answer in NAMING) == bool(self.subject), f"{where}: which name?"
         assert (self.answer == "Limit") == bool(self.counted), f"{where}: which number?"
+        assert self.program is None or self.answer == "accepted", f"{where}: which program?"
         assert (self.answer == "open") == (self.kind == "asks"), f"{where}: open and asks: go together"
         assert self.answer == "open" or bool(self.places) == (self.answer not in PLACELESS), f"{where}: the mark of the place"
         assert self.answer == "open" or (self.first is not None) == (self.answer in WITH_FIRST), f"{where}: the mark of the first declaration"
@@ -76,7 +82,11 @@ class Row:
             assert all(self.text[at:].startswith(self.subject) for at in self.places), f"{where}: {self.subject} is not there"
 
 
-def files_in(marked):
+def repeated(text):
+    return re.sub(r"\{(.)\}\*(\d+)", lambda m: m[1] * int(m[2]), text)
+
+
+def parts_in(marked):
     parts = re.split(r"(?m)^== (\S+)\n", marked)
     return list(zip(parts[1::2], parts[2::2])) or [("t.c", marked)]
 

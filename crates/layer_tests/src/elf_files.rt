@@ -1,5 +1,5 @@
 //! ELF32 files: the file of an image beside the tables of the System V ABI, a small file as it is read, and
-//! one whose segments meet. Each field that is refused stands in `command_tests`.
+//! one whose segments meet. Each field that is refused stands in `command_rows`.
 
 ghost use Rattle.std.specs.Prelude.{◌≡◌, IfOk};
 ghost use Rattle.elf32.specs.Written.{IsWritable};

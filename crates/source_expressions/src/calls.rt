@@ -12,7 +12,7 @@ ghost use Rattle.source_steps.specs.Memories.{allocate};
 ghost use Rattle.source_steps.specs.States.{doing_in, given, goes, taking};
 ghost use Rattle.source_steps.specs.Expressions.{called_as, called_through, calls, copied, framed, gathers, library, started};
 
-use crate::expressions::use_value;
+use crate::expressions::{go_on, use_then};
 use block_memory::Ptr;
 use c_meaning::Slot;
 use c_typed::{Expression, Function, LibraryFunction, Local, Statement, TypeId};
@@ -223,8 +223,8 @@ fn begin_function<'a>(
             };
             machine.todo(Work::Framing(caller))?;
             machine.todo(Work::EndingParameters(parameters.len()))?;
-            machine.todo(Work::Statement(ForStatement::Executing, scope, 0, body))?;
-            Ok(Moved::Goes)
+            let work = Work::Statement(ForStatement::Executing, scope, 0, body);
+            go_on(machine, work)
         }
         Err(end) => Ok(Moved::Over(end)),
     }
@@ -333,8 +333,11 @@ pub fn gather<'a>(
 {
     match more.split_first() {
         Some((e, rest)) => {
-            machine.todo(Work::Call(ForCall::Gathered, callee, done, rest))?;
-            use_value(machine, e)
+            use_then(
+                machine,
+                e,
+                Work::Call(ForCall::Gathered, callee, done, rest),
+            )
         }
         None => call(machine, alloc, types, callee, &done),
     }

@@ -8,5 +8,7 @@ mod expressions;
 mod locals;
 
 pub use calls::{gather, gather_one};
-pub use expressions::{evaluate, evaluate_one, evaluate_used, locate, use_one, use_value};
+pub use expressions::{
+    evaluate, evaluate_one, evaluate_used, go_on, locate, use_one, use_then, use_value,
+};
 pub use locals::{begin_all, declare, fill_all, finish_first};

@@ -11,7 +11,7 @@ ghost use Rattle.source_steps.specs.Statements.{declared, fills, fills_all, init
 ghost use Rattle.source_state.specs.View.{state_of};
 ghost use Rattle.source_state.specs.WorkView.{context_of};
 
-use crate::expressions::{spot_one, use_one};
+use crate::expressions::{go_on, spot_one, use_one};
 use c_meaning::Slot;
 use c_typed::{Initializer, InitializerPart, Local, PartValue};
 use lay_base::NoMemory;
@@ -149,8 +149,7 @@ fn initialize_in<'a>(
         }
         Initializer::Parts(all) => {
             machine.room.zero(block, size)?;
-            machine.todo(Work::Filling(block, all.as_slice()))?;
-            Ok(Moved::Goes)
+            go_on(machine, Work::Filling(block, all.as_slice()))
         }
     }
 }

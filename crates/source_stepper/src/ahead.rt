@@ -10,14 +10,14 @@ ghost use Rattle.source_state.specs.View.{state_of};
 ghost use Rattle.source_state.specs.WorkView.{context_of, loop_of};
 
 use crate::loops::{begin_loop, repeat_loop, test_loop};
-use crate::statements::{behind, execute, leave, select};
+use crate::statements::{behind, execute, leave, select, while_loop};
 use c_counts::loops_in_statement;
 use c_meaning::Way;
 use c_typed::{Expression, Statement};
 use lay_base::NoMemory;
 use runs::Value;
 use source_direct::at_once;
-use source_expressions::{evaluate, evaluate_used};
+use source_expressions::{evaluate, evaluate_used, go_on};
 use source_state::{ForStatement, Loop, Machine, Scope, Work};
 use source_steps::Moved;
 use source_types::Types;
@@ -123,9 +123,13 @@ pub(crate) fn decide_if<'a>(
     ensures { IfOk result (λ m. (m, state_of machine.new) ≡ decided v (context_of scope.entry) loops (statement_of one.now) (state_of machine.old)) }
 {
     if is_true(v) {
-        machine.todo(Work::Statement(ForStatement::Executing, scope, loops, one))?;
+        go_on(
+            machine,
+            Work::Statement(ForStatement::Executing, scope, loops, one),
+        )
+    } else {
+        Ok(Moved::Goes)
     }
-    Ok(Moved::Goes)
 }
 
 /// Both statements of an `if` behind its operand.
@@ -140,12 +144,17 @@ pub(crate) fn decide_else<'a>(
     ensures { IfOk result (λ m. (m, state_of machine.new) ≡ decided_else v (context_of scope.entry) loops (statement_of one.now) (statement_of other.now) (state_of machine.old)) }
 {
     if is_true(v) {
-        machine.todo(Work::Statement(ForStatement::Executing, scope, loops, one))?;
+        go_on(
+            machine,
+            Work::Statement(ForStatement::Executing, scope, loops, one),
+        )
     } else {
         let after = behind(loops, loops_in_statement(one))?;
-        machine.todo(Work::Statement(ForStatement::Executing, scope, after, other))?;
+        go_on(
+            machine,
+            Work::Statement(ForStatement::Executing, scope, after, other),
+        )
     }
-    Ok(Moved::Goes)
 }
 
 /// A statement, before which so many loops stand in its function.
@@ -174,13 +183,7 @@ pub(crate) fn execute_ahead<'a>(
         },
         Statement::While(e, body) => match at_once(types, &mut machine.room, e.get()) {
             Some(v) => {
-                let l = Loop {
-                    scope,
-                    number: loops,
-                    test: Some(e.get()),
-                    step: None,
-                    body: body.get(),
-                };
+                let l = while_loop(scope, loops, e.get(), body.get());
                 begin_if(machine, types, v, l)
             }
             None => execute(machine, alloc, types, scope, loops, s),

@@ -7,7 +7,7 @@ ghost use Rattle.source_state.specs.View.{state_of};
 ghost use Rattle.source_state.specs.WorkView.{loop_behind_of, loop_of};
 
 use lay_base::NoMemory;
-use source_expressions::{evaluate_one, use_value};
+use source_expressions::{evaluate_one, go_on, use_then};
 use source_machine::Action;
 use source_state::{ForLoop, ForStatement, Loop, LoopBehind, Machine, Work};
 use source_steps::Moved;
@@ -33,8 +33,8 @@ pub(crate) fn begin_loop<'a>(
     match machine.room.begin_body(l.scope.function, l.number) {
         Ok(()) => {
             machine.todo(Work::Loop(ForLoop::Repeating, l))?;
-            machine.todo(Work::Statement(ForStatement::Executing, l.scope, loops, l.body))?;
-            Ok(Moved::Goes)
+            let body = Work::Statement(ForStatement::Executing, l.scope, loops, l.body);
+            go_on(machine, body)
         }
         Err(end) => Ok(Moved::Over(end)),
     }
@@ -49,10 +49,7 @@ pub(crate) fn test_loop<'a>(
     ensures { IfOk result (λ m. (m, state_of machine.new) ≡ tests (program_data types.now) (loop_of l.entry).test (loop_of l.entry) (state_of machine.old)) }
 {
     match l.test {
-        Some(e) => {
-            machine.todo(Work::Loop(ForLoop::Tested, l))?;
-            use_value(machine, e)
-        }
+        Some(e) => use_then(machine, e, Work::Loop(ForLoop::Tested, l)),
         None => begin_loop(machine, types, l),
     }
 }
@@ -87,8 +84,8 @@ pub(crate) fn begin_behind<'a>(
     match machine.room.begin_body(l.scope.function, l.number) {
         Ok(()) => {
             machine.todo(Work::LoopBehind(false, l))?;
-            machine.todo(Work::Statement(ForStatement::Executing, l.scope, loops, l.body))?;
-            Ok(Moved::Goes)
+            let body = Work::Statement(ForStatement::Executing, l.scope, loops, l.body);
+            go_on(machine, body)
         }
         Err(end) => Ok(Moved::Over(end)),
     }
@@ -103,6 +100,5 @@ pub(crate) fn test_behind<'a>(
     ensures { IfOk result (λ m. (m, state_of machine.new) ≡ tests_behind (program_data types.now) (loop_behind_of l.entry) (state_of machine.old)) }
 {
     let _ = types;
-    machine.todo(Work::LoopBehind(true, l))?;
-    use_value(machine, l.test)
+    use_then(machine, l.test, Work::LoopBehind(true, l))
 }

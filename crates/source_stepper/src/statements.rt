@@ -1,6 +1,6 @@
 //! The first step of a statement (C99 6.8).
 
-ghost use Rattle.std.specs.Prelude.{◌≡◌, ◌+◌, ◌-◌, ◌^◌, ◌<◌, ◌==◌, IfOk, map};
+ghost use Rattle.std.specs.Prelude.{◌≡◌, ◌+◌, ◌-◌, ◌^◌, ◌<◌, ◌==◌, IfOk, None, Some, map};
 ghost use Rattle.std.specs.List.{list_any};
 ghost use Rattle.std.specs.Option.{option_map};
 ghost use Rattle.c_counts.specs.Loops.{arm_of as one_arm, loops_in};
@@ -20,7 +20,7 @@ use c_counts::loops_in_statements;
 use c_meaning::Way;
 use c_typed::{Arm, Expression, Statement};
 use lay_base::{Boxed, NoMemory};
-use source_expressions::{begin_all, declare, evaluate_one, use_value};
+use source_expressions::{begin_all, declare, evaluate_one, go_on, use_then};
 use source_machine::Action;
 use source_state::{ForArms, ForLoop, ForStatement, Loop, LoopBehind, Machine, Scope, Work};
 use source_steps::Moved;
@@ -116,8 +116,7 @@ fn execute_block<'a>(
     match begin_all(&mut machine.room, alloc, types, scope, own)? {
         Ok(()) => {
             machine.todo(Work::Ending(own))?;
-            machine.todo(Work::Statements(scope, loops, all))?;
-            Ok(Moved::Goes)
+            go_on(machine, Work::Statements(scope, loops, all))
         }
         Err(end) => Ok(Moved::Over(end)),
     }
@@ -139,19 +138,37 @@ fn execute_for<'a>(
         Ok(()) => {
             machine.todo(Work::Ending(own))?;
             machine.todo(Work::Loop(ForLoop::Looping, l))?;
-            machine.todo(Work::Statements(l.scope, l.number, start))?;
-            Ok(Moved::Goes)
+            go_on(machine, Work::Statements(l.scope, l.number, start))
         }
         Err(end) => Ok(Moved::Over(end)),
     }
 }
 
+/// A `while`.
+#[inline(always)]
+pub(crate) fn while_loop<'a>(
+    scope: Scope<'a>,
+    number: u64,
+    test: &'a Expression,
+    body: &'a Statement,
+) -> Loop<'a>
+    ensures { loop_of result ≡ record { context = context_of scope.entry; number = number; test = Some (expression_of test.entry.now); step = None; body = statement_of body.entry.now } }
+{
+    Loop {
+        scope,
+        number,
+        test: Some(test),
+        step: None,
+        body,
+    }
+}
+
 /// A statement is left in a way.
+#[inline(always)]
 pub(crate) fn leave<'a>(machine: &mut Machine<'a>, way: Way) -> Result<Moved, NoMemory>
     ensures { IfOk result (λ m. (m, state_of machine.new) ≡ goes (doing (unwinding way) (state_of machine.old))) }
 {
-    machine.todo(Work::Unwinding(way))?;
-    Ok(Moved::Goes)
+    go_on(machine, Work::Unwinding(way))
 }
 
 /// A statement, before which so many loops stand in its function.
@@ -182,23 +199,17 @@ pub(crate) fn execute<'a>(
             declare(machine, types, scope, *number, initializer)
         }
         Statement::If(e, one, None) => {
-            machine.todo(Work::Statement(ForStatement::Deciding, scope, loops, one.get()))?;
-            use_value(machine, e.get())
+            let work = Work::Statement(ForStatement::Deciding, scope, loops, one.get());
+            use_then(machine, e.get(), work)
         }
         Statement::If(e, one, Some(other)) => {
-            machine.todo(Work::Deciding(scope, loops, one.get(), other.get()))?;
-            use_value(machine, e.get())
+            let work = Work::Deciding(scope, loops, one.get(), other.get());
+            use_then(machine, e.get(), work)
         }
         Statement::While(e, body) => {
-            let l = Loop {
-                scope,
-                number: loops,
-                test: Some(e.get()),
-                step: None,
-                body: body.get(),
-            };
-            machine.todo(Work::Loop(ForLoop::Tested, l))?;
-            use_value(machine, e.get())
+            let e = e.get();
+            let l = while_loop(scope, loops, e, body.get());
+            use_then(machine, e, Work::Loop(ForLoop::Tested, l))
         }
         Statement::DoWhile(body, e) => {
             let l = LoopBehind {
@@ -220,22 +231,14 @@ pub(crate) fn execute<'a>(
             execute_for(machine, alloc, types, own.as_slice(), start.as_slice(), l)
         }
         Statement::Switch(e, own, arms) => {
-            machine.todo(Work::Arms(
-                ForArms::Selecting,
-                scope,
-                loops,
-                own.as_slice(),
-                arms.as_slice(),
-            ))?;
-            use_value(machine, e.get())
+            let (own, arms) = (own.as_slice(), arms.as_slice());
+            let work = Work::Arms(ForArms::Selecting, scope, loops, own, arms);
+            use_then(machine, e.get(), work)
         }
         Statement::Break => leave(machine, Way::ByBreak),
         Statement::Continue => leave(machine, Way::ByContinue),
         Statement::Return(None) => leave(machine, Way::ByReturn(None)),
-        Statement::Return(Some(e)) => {
-            machine.todo(Work::Returning)?;
-            use_value(machine, e.get())
-        }
+        Statement::Return(Some(e)) => { use_then(machine, e.get(), Work::Returning) }
     }
 }
 
@@ -262,12 +265,11 @@ pub(crate) fn enter_arms<'a>(
             let after = behind(loops, loops_in_statements(all))?;
             if number == 0 {
                 machine.todo(Work::Arms(ForArms::Entering(Some(0)), scope, after, own, rest))?;
-                machine.todo(Work::Statements(scope, loops, all))?;
+                go_on(machine, Work::Statements(scope, loops, all))
             } else {
                 let next = ForArms::Entering(Some(number - 1));
-                machine.todo(Work::Arms(next, scope, after, own, rest))?;
+                go_on(machine, Work::Arms(next, scope, after, own, rest))
             }
-            Ok(Moved::Goes)
         }
         None => Ok(Moved::Goes),
     }
@@ -292,8 +294,8 @@ pub(crate) fn select<'a>(
             let arm = selected_arm(arms, v);
             machine.todo(Work::Switching)?;
             machine.todo(Work::Ending(own))?;
-            machine.todo(Work::Arms(ForArms::Entering(arm), scope, loops, own, arms))?;
-            Ok(Moved::Goes)
+            let work = Work::Arms(ForArms::Entering(arm), scope, loops, own, arms);
+            go_on(machine, work)
         }
         Err(end) => Ok(Moved::Over(end)),
     }

@@ -7,7 +7,7 @@ ghost use Rattle.c_typed.specs.Programs.{program_data};
 ghost use Rattle.c_typed.specs.Views.{arms_of, expression_of, expressions_of, statement_of};
 ghost use Rattle.source_machine.specs.Items as I;
 ghost use Rattle.source_steps.specs.Statements.{closed, passed, unwound};
-ghost use Rattle.source_steps.specs.States.{doing, goes};
+ghost use Rattle.source_steps.specs.States.{goes};
 ghost use Rattle.source_steps.specs.Ahead.{advanced, ahead};
 ghost use Rattle.source_stepper.specs.Passing.{IsAWayOut};
 ghost use Rattle.source_state.specs.View.{state_of};
@@ -18,13 +18,13 @@ use crate::ahead::{
     repeat_ahead, test_ahead, use_ahead,
 };
 use crate::loops::{begin_behind, repeat_loop, test_behind};
-use crate::statements::{enter_arms, select};
+use crate::statements::{enter_arms, leave, select};
 use c_meaning::{Slot, Way};
 use c_typed::{Arm, Expression, Statement};
 use lay_base::NoMemory;
 use runs::Value;
 use source_actions::perform;
-use source_expressions::{fill_all, finish_first, gather, gather_one, locate, use_one};
+use source_expressions::{fill_all, finish_first, gather, gather_one, go_on, locate, use_one};
 use source_machine::{Action, Callee};
 use source_state::{
     ForArms, ForCall, ForExpression, ForLoop, ForStatement, Loop, LoopBehind, Machine, STUCK,
@@ -60,14 +60,6 @@ fn close<'a>(machine: &mut Machine<'a>, caller: Vec<Slot>, way: Way) -> Result<M
     machine.push(v)
 }
 
-/// What stands below is left in the same way.
-fn pass_on<'a>(machine: &mut Machine<'a>, way: Way) -> Result<Moved, NoMemory>
-    ensures { IfOk result (λ m. (m, state_of machine.new) ≡ goes (doing (I.unwinding way) (state_of machine.old))) }
-{
-    machine.todo(Work::Unwinding(way))?;
-    Ok(Moved::Goes)
-}
-
 /// A loop below a statement that is left by `break`, `continue` or `return`.
 #[tactic(auto, using(crate::proofs::Passing::by))]
 fn pass_loop<'a>(
@@ -81,11 +73,11 @@ fn pass_loop<'a>(
     ensures { IfOk result (λ m. (m, state_of machine.new) ≡ passed (program_data types.now) way (for_loop what (loop_of l.entry)) (state_of machine.old)) }
 {
     match what {
-        ForLoop::Looping | ForLoop::Tested => pass_on(machine, way),
+        ForLoop::Looping | ForLoop::Tested => leave(machine, way),
         ForLoop::Repeating => match way {
             Way::ByBreak => Ok(Moved::Goes),
             Way::ByContinue => repeat_loop(machine, types, l),
-            Way::ByReturn(_) | Way::Normally => pass_on(machine, way),
+            Way::ByReturn(_) | Way::Normally => leave(machine, way),
         },
     }
 }
@@ -103,12 +95,12 @@ fn pass_behind<'a>(
     ensures { IfOk result (λ m. (m, state_of machine.new) ≡ passed (program_data types.now) way (for_loop_behind is_tested (loop_behind_of l.entry)) (state_of machine.old)) }
 {
     if is_tested {
-        return pass_on(machine, way);
+        return leave(machine, way);
     }
     match way {
         Way::ByBreak => Ok(Moved::Goes),
         Way::ByContinue => test_behind(machine, types, l),
-        Way::ByReturn(_) | Way::Normally => pass_on(machine, way),
+        Way::ByReturn(_) | Way::Normally => leave(machine, way),
     }
 }
 
@@ -124,7 +116,7 @@ fn pass_switch<'a>(
     let _ = types;
     match way {
         Way::ByBreak => Ok(Moved::Goes),
-        Way::ByContinue | Way::ByReturn(_) | Way::Normally => pass_on(machine, way),
+        Way::ByContinue | Way::ByReturn(_) | Way::Normally => leave(machine, way),
     }
 }
 
@@ -140,7 +132,7 @@ fn pass_locals<'a>(
 {
     let _ = types;
     machine.room.finish_all(locals);
-    pass_on(machine, way)
+    leave(machine, way)
 }
 
 /// Parameters that end.
@@ -155,7 +147,7 @@ fn pass_parameters<'a>(
 {
     let _ = types;
     finish_first(&mut machine.room, count)?;
-    pass_on(machine, way)
+    leave(machine, way)
 }
 
 /// The body of a function.
@@ -201,7 +193,7 @@ fn pass_out<'a>(
         | Work::Arms(_, _, _, _, _)
         | Work::Filling(_, _)
         | Work::Returning
-        | Work::Unwinding(_) => pass_on(machine, way),
+        | Work::Unwinding(_) => leave(machine, way),
     }
 }
 
@@ -215,10 +207,7 @@ fn pass<'a>(
     ensures { IfOk result (λ m. (m, state_of machine.new) ≡ passed (program_data types.now) way (item_of item.entry) (state_of machine.old)) }
 {
     match way {
-        Way::Normally => {
-            machine.todo(item)?;
-            Ok(Moved::Goes)
-        }
+        Way::Normally => go_on(machine, item),
         Way::ByBreak | Way::ByContinue | Way::ByReturn(_) => pass_out(machine, types, way, item),
     }
 }
@@ -282,11 +271,10 @@ fn choose<'a>(
         return Ok(STUCK);
     };
     if is_true(v) {
-        machine.todo(Work::Expression(ForExpression::Evaluating, y))?;
+        go_on(machine, Work::Expression(ForExpression::Evaluating, y))
     } else {
-        machine.todo(Work::Expression(ForExpression::Evaluating, z))?;
+        go_on(machine, Work::Expression(ForExpression::Evaluating, z))
     }
-    Ok(Moved::Goes)
 }
 
 fn enact_call<'a>(
@@ -416,7 +404,7 @@ fn return_value<'a>(machine: &mut Machine<'a>, types: &Types<'a>) -> Result<Move
 {
     let _ = types;
     match machine.take() {
-        Some(v) => pass_on(machine, Way::ByReturn(Some(v))),
+        Some(v) => leave(machine, Way::ByReturn(Some(v))),
         None => Ok(STUCK),
     }
 }

@@ -1,4 +1,4 @@
-use Rattle.std.proofs.Common.{◌≡◌, sym, ◌∙◌}
+use Rattle.std.proofs.Common.{sym, ◌∙◌}
 use Rattle.source_stepper.proofs.Arms.{selected_at, selected_later}
 use Rattle.source_stepper.proofs.statements.arm_with.Goals as goal
 

@@ -1,0 +1,70 @@
+//! What becomes of the files of a row, as text.
+
+ghost use Rattle.std.specs.Prelude.{◌≤◌, All, IsTrue, length};
+
+use crate::faults::{Spots, put_fault};
+use crate::program_text::put_program;
+use crate::row::{Question, Row};
+use crate::writer::Writer;
+use c_link::Gap;
+use c_typed::Typed;
+use lay_base::{File, Files};
+use lay_compile::{CompileFault, front};
+use std::alloc::Global;
+use std::io::{self, Write};
+
+/// Whether there are at most 64 files, of at most 4 MiB each.
+fn are_within_bounds(files: &[File]) -> bool
+    ensures { IsTrue result → (length files.now ≤ 64) × All (λ file. length file.bytes ≤ 4194304) files.now }
+{
+    files.len() <= 64 && files.iter().all(|file| file.bytes.len() <= 4_194_304)
+}
+
+fn put_of_program(out: &mut Writer, alloc: Global, question: Question, program: &Typed) {
+    match question {
+        Question::Check => out.word("accepted"),
+        Question::Link => out.word("program"),
+        Question::Show => put_program(out, alloc, program),
+    }
+}
+
+/// Whether each file has its unit, though they are no program.
+fn has_units(fault: &CompileFault) -> bool {
+    match fault {
+        CompileFault::Joining(gap) => !matches!(gap, Gap::Memory),
+        _ => false,
+    }
+}
+
+fn put_of_fault(out: &mut Writer, row: &Row, files: &[File], fault: &CompileFault) {
+    if row.question == Question::Check && has_units(fault) {
+        return out.word("accepted");
+    }
+    let places = row.places.as_slice();
+    put_fault(out, Spots { files, places }, fault);
+}
+
+fn put_of_files(out: &mut Writer, alloc: Global, row: &Row, files: &Files) {
+    if !are_within_bounds(files.as_slice()) {
+        return out.word("too many files or bytes");
+    }
+    match front(alloc, files) {
+        Ok(program) => put_of_program(out, alloc, row.question, &program),
+        Err(fault) => put_of_fault(out, row, files.as_slice(), &fault),
+    }
+}
+
+/// Writes the name of a row, and what becomes of its files.
+pub fn put_answer<W: Write>(
+    alloc: Global,
+    row: &Row,
+    files: &Files,
+    output: &mut W,
+) -> io::Result<()> {
+    let mut text = Writer::new(alloc);
+    text.word(row.name);
+    text.add(b":");
+    put_of_files(&mut text, alloc, row, files);
+    text.add(b"\n");
+    output.write_all(text.written()?)
+}

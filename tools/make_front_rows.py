@@ -1,0 +1,96 @@
+#!/usr/bin/env python3
+"""Makes what the program `crates/front_rows` is run on, and what it has to print, from `checker_rows/*.txt`.
+
+With `--check` it writes nothing, and the exit status is 1 where a file is another than the rows have it."""
+
+import os
+import re
+import sys
+
+import checker_rows
+import checking
+from checking import HERE, check
+
+FOLDER = os.path.join(HERE, "crates", "front_rows")
+# Of a character that stands more often than this the number is written.
+MOST_TIMES = 200
+
+
+def lines_of(text):
+    """The lines that stand for a text, each of whose lines ends."""
+    for line in text.splitlines():
+        *parts, last = re.split(rf"((.)\2{{{MOST_TIMES},}})", line)
+        for part, run, character in zip(parts[::3], parts[1::3], parts[2::3]):
+            yield f":{part}"
+            yield f"times {len(run)} {ord(character):02X}"
+        yield f"|{last}"
+
+
+def question(row):
+    if row.program is not None:
+        return "show"
+    return "link" if row.file == "after_types.txt" else "check"
+
+
+def asked(row):
+    """The block of a row on the input."""
+    yield f"{question(row)} {row.name}"
+    if len(row.places) > 1:
+        yield f"places {' '.join(map(str, row.places))}"
+    for name, text in row.files:
+        yield f"file {name}"
+        yield from lines_of(text)
+
+
+def variant(keyword):
+    """A keyword as the name of its variant."""
+    return "".join("Underscore" if part == "" else part.capitalize() for part in re.split("_", keyword))
+
+
+def answer_of(row):
+    """What has to become of a row's files."""
+    if row.program is not None:
+        return f"\n{row.program.rstrip()}"
+    if row.answer == "accepted":
+        return " program" if question(row) == "link" else " accepted"
+    if row.answer == "NoParse":
+        return " NoParse"
+    subject = variant(row.subject) if row.answer == "Unsupported" else row.subject
+    words = [row.answer, *filter(None, [subject, row.counted])]
+    if row.places:
+        words += ["at", row.place_file, " or ".join(map(str, row.places))]
+    if row.first is not None:
+        words += ["first at", row.first_file, str(row.first)]
+    return f" {' '.join(words)}"
+
+
+def files():
+    """The text of each file by its path."""
+    rows = [row for row in checker_rows.every_row() if row.answer != "open"]
+    blocks = ["\n".join(asked(row)) + "\n" for row in rows]
+    yield os.path.join(FOLDER, "stdin"), "\n".join(blocks)
+    yield os.path.join(FOLDER, "stdout"), "".join(f"{row.name}:{answer_of(row)}\n" for row in rows)
+
+
+def text_in(path):
+    if not os.path.exists(path):
+        return None
+    with open(path) as f:
+        return f.read()
+
+
+def main():
+    made = list(files())
+    if "--check" not in sys.argv:
+        for path, text in made:
+            with open(path, "w") as f:
+                f.write(text)
+        return 0
+    for path, text in made:
+        check(text_in(path) == text, f"{os.path.relpath(path, HERE)} is not what tools/make_front_rows.py makes of the rows")
+    print(f"rows of the front end: {checking.made - checking.failed} of {checking.made} files are as the rows have them")
+    return 1 if checking.failed else 0
+
+
+if __name__ == "__main__":
+    sys.exit(main())
