@@ -7,7 +7,7 @@ ghost use Rattle.c_ast.specs.Views.{items_of};
 ghost use Rattle.c_check.specs.Checking.{CheckGives};
 
 use crate::fault::{CheckFault, fault_in};
-use c_ast::{Tree, nodes};
+use c_ast::Tree;
 use c_check_files::annotated;
 use c_checking_files::annotated_files_are_found;
 use c_checking_limits::types_are_small;
@@ -33,7 +33,7 @@ pub fn check(alloc: Global, number: u16, file: &File, tree: &Tree) -> Result<Uni
     types_are_small();
     let tags = Tags::of(alloc, tree, file)?;
     match annotated(alloc, number, tags, tree) {
-        Ok(found) => Ok(unit_of(alloc, found, nodes(tree))?),
+        Ok((found, nodes)) => Ok(unit_of(alloc, found, nodes)?),
         Err(fault) => Err(fault_in(number, fault)),
     }
 }

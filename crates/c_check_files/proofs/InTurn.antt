@@ -62,6 +62,10 @@ module _ (all : List Item) (i : ℕ) where
   unfolding filed
   no_items f h = ap (λ rest. filed rest f) (at_drop_all (map item_of) all i h)
 
+  pub nodes_next : (item : Item) → i < length all → item ≡ get_or all i item
+      → (size_items (map item_of (drop i all))).nodes ≡ (size_item (item_of item)).nodes + (size_items (map item_of (drop (i + 1) all))).nodes
+  nodes_next item h e = ap (λ rest. (size_items rest).nodes) (next_mapped item_of all i item h e)
+
   pub rest_countable : (item : Item) → i < length all → item ≡ get_or all i item
       → IsCountable (size_items (map item_of (drop i all))) → IsCountable (size_items (map item_of (drop (i + 1) all)))
   rest_countable item h e k =

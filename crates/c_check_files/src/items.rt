@@ -1,6 +1,6 @@
 //! The items of a file (C99 6.9).
 
-ghost use Rattle.std.specs.Prelude.{◌≡◌, [], map};
+ghost use Rattle.std.specs.Prelude.{◌≡◌, [], IfOk, map};
 ghost use Rattle.c_ast.specs.Sizes.{IsCountable, size_item, size_items};
 ghost use Rattle.c_ast.specs.Trees;
 ghost use Rattle.c_ast.specs.Views.{item_of, items_of};
@@ -37,41 +37,53 @@ fn unread(alloc: Global, number: u16, tags: Tags) -> FileScope
     }
 }
 
-/// An item of a file, after those before it.
+/// An item of a file, after those before it: how many nodes it has.
 #[tactic(auto, unfolding(c_checking::specs::Files::filed_item))]
-fn file_item(alloc: Global, item: &Item, file: &mut FileScope) -> Result<(), Fault>
+fn file_item(alloc: Global, item: &Item, file: &mut FileScope) -> Result<u64, Fault>
     requires { IsCountable (size_item (item_of item.now)) }
-    ensures { Files result (filed_item (item_of item.now) (file_of file.old)) file.new }
+    ensures filed { Files result (filed_item (item_of item.now) (file_of file.old)) file.new }
+    ensures nodes { IfOk result (λ nodes. nodes ≡ (size_item (item_of item.now)).nodes) }
 {
     let nodes = nodes_of_item(item);
     match item {
-        Item::Function(f) => definition(alloc, f, nodes, file),
-        Item::Declaration(d) => declaration(alloc, d, nodes, file),
+        Item::Function(f) => definition(alloc, f, nodes, file)?,
+        Item::Declaration(d) => declaration(alloc, d, nodes, file)?,
     }
+    Ok(nodes)
 }
 
-/// The items of a file, one after the other.
-fn file_items(alloc: Global, items: &[Item], file: &mut FileScope) -> Result<(), Fault>
+/// The items of a file, one after the other: how many nodes they have.
+fn file_items(alloc: Global, items: &[Item], file: &mut FileScope) -> Result<u64, Fault>
     requires { IsCountable (size_items (map item_of items.now)) }
-    ensures { Files result (filed (map item_of items.now) (file_of file.old)) file.new }
+    ensures filed { Files result (filed (map item_of items.now) (file_of file.old)) file.new }
+    ensures nodes { IfOk result (λ nodes. nodes ≡ (size_items (map item_of items.now)).nodes) }
 {
+    let mut nodes: u64 = 0;
     for item in items {
         match file_item(alloc, item, file) {
-            Ok(()) => {}
+            Ok(count) => nodes += count,
             Err(fault) => return Err(fault),
         }
     }
-    Ok(())
+    Ok(nodes)
 }
 
-/// The annotated file of a tree, which has that number among the files of its program, or a fault of it. `tags` are those of the tree.
+/// The annotated file of a tree, which has that number among the files of its program, and how many nodes the tree has; or a fault of it. `tags` are
+/// those of the tree.
 #[tactic(auto, unfolding(c_checking::specs::Files::annotated))]
-pub fn annotated(alloc: Global, number: u16, tags: Tags, tree: &Tree) -> Result<FileScope, Fault>
+pub fn annotated(
+    alloc: Global,
+    number: u16,
+    tags: Tags,
+    tree: &Tree,
+) -> Result<(FileScope, u64), Fault>
     requires lists { AreListsOf (items_of tree.now) tags }
     requires countable { IsCountable (size_items (items_of tree.now)) }
-    ensures { Gives file_of result (annotated_in number (untagged_by tags.untagged) (items_of tree.now)) }
+    ensures found { Gives (λ found. file_of found.0) result (annotated_in number (untagged_by tags.untagged) (items_of tree.now)) }
+    ensures nodes { IfOk result (λ found. found.1 ≡ (size_items (items_of tree.now)).nodes) }
 {
     let mut file = unread(alloc, number, tags);
-    file_items(alloc, tree.items.as_slice(), &mut file)?;
-    Ok(closed(alloc, file)?)
+    let nodes = file_items(alloc, tree.items.as_slice(), &mut file)?;
+    let file = closed(alloc, file)?;
+    Ok((file, nodes))
 }
