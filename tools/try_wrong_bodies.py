@@ -1,9 +1,9 @@
 #!/usr/bin/env python3
 """Tries the wrong bodies of tools/wrong_bodies: the proof of their crate has to refuse each of them.
 
-    try_wrong_bodies.py [CRATE | CRATE/NAME.edit ...]
+    try_wrong_bodies.py [--check] [CRATE | CRATE/NAME.edit ...]
 
-It tries those that are named, or all, on a copy of their crate, over what earlier checks kept of it and of the
+With `--check` it tries none, and says of each whether it can be applied to its crate as that stands, which takes a second. Else it tries those that are named, or all, on a copy of their crate, over what earlier checks kept of it and of the
 crates below it. So a trial proves anew little more than what the edit changes. What is missing is proved first.
 The exit status is 1 where one was not refused, could not be applied or was not tried."""
 
@@ -142,10 +142,27 @@ def try_crate(crate, names):
     return results
 
 
+def applied(edits):
+    """How many of these edits there are, and how many cannot be applied, each of which is printed."""
+    made = bad = 0
+    for crate, names in edits.items():
+        for name in names:
+            texts, why = texts_with(os.path.join(WRONG_BODIES, crate, name), os.path.join(HERE, "crates", crate))
+            made, bad = made + 1, bad + (not texts)
+            if not texts:
+                print(f"{crate}/{name}: {BAD_EDIT}: {why}")
+    return made, bad
+
+
 def main():
-    edits = asked(sys.argv[1:])
+    words = [word for word in sys.argv[1:] if word != "--check"]
+    edits = asked(words)
     if edits is None:
         return 1
+    if len(words) < len(sys.argv) - 1:
+        made, bad = applied(edits)
+        print(f"wrong bodies: {made - bad} of {made} edits can be applied")
+        return 1 if bad else 0
     if not shutil.which("rt"):
         print("skipped: the wrong bodies, which need the Rattle toolchain's command rt")
         return 0
