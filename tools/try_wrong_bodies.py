@@ -3,8 +3,9 @@
 
     try_wrong_bodies.py [--check] [CRATE | CRATE/NAME.edit ...]
 
-With `--check` it tries none, and says of each whether it can be applied to its crate as that stands, which takes a second. Else it tries those that are named, or all, on a copy of their crate, over what earlier checks kept of it and of the
+It tries those that are named, or all, on a copy of their crate, over what earlier checks kept of it and of the
 crates below it. So a trial proves anew little more than what the edit changes. What is missing is proved first.
+With `--check` it tries none, and says of each whether it can be applied to its crate as that stands.
 The exit status is 1 where one was not refused, could not be applied or was not tried."""
 
 import os
