@@ -19,19 +19,19 @@ use c_units::unit_of;
 use lay_base::File;
 use std::alloc::Global;
 
-/// What a file with that number gives to its program, by its tree, or a fault of its types.
+/// What a file with that number gives to its program, by its tree, or a fault of its types. The tree is let go item by item.
 #[tactic(auto, using(crate::proofs::Found::lists_are, crate::proofs::Found::fault_found))]
-pub fn check(alloc: Global, number: u16, file: &File, tree: &Tree) -> Result<Unit, CheckFault>
+pub fn check(alloc: Global, number: u16, file: &File, tree: Tree) -> Result<Unit, CheckFault>
     requires short { length file.now.bytes ≤ 4194304 }
-    requires tree { IsTreeOf file.now.bytes (items_of tree.now) }
-    requires countable { IsCountable (size_items (items_of tree.now)) }
-    ensures { CheckGives number file.now (items_of tree.now) result }
+    requires tree { IsTreeOf file.now.bytes (items_of tree) }
+    requires countable { IsCountable (size_items (items_of tree)) }
+    ensures { CheckGives number file.now (items_of tree) result }
 {
     annotated_files_are_found();
     faults_have_no_unit();
     faults_break_rules();
     types_are_small();
-    let tags = Tags::of(alloc, tree, file)?;
+    let tags = Tags::of(alloc, &tree, file)?;
     match annotated(alloc, number, tags, tree) {
         Ok((found, nodes)) => Ok(unit_of(alloc, found, nodes)?),
         Err(fault) => Err(fault_in(number, fault)),

@@ -1,5 +1,5 @@
 -- Declarators and items in turn: one, and those after it.
-use Rattle.std.proofs.Common.{◌≡◌, ◌∙◌, ◌<◌, ◌≤◌, ℕ, ◌+◌, List, length, drop, get_or, map, sym, ap, subst, arith}
+use Rattle.std.proofs.Common.{◌≡◌, ◌∙◌, ◌<◌, ◌≤◌, ℕ, ◌+◌, List, Vec, length, drop, get_or, map, sym, ap, subst, arith, rules}
 use Rattle.std.specs.Prelude.{Ok, max, unwrap_or}
 use Rattle.std.proofs.Math.Nat.{le-max_right}
 use Rattle.std.specs.Option.{option_map}
@@ -75,3 +75,6 @@ module _ (all : List Item) (i : ℕ) where
       let b = size_items (map item_of (drop (i + 1) all)) in
       let m : b.depth ≤ max a.depth b.depth = le-max_right a.depth b.depth in
       (omega (arith, both.0, m), omega (arith, both.1))
+
+pub counted : {X Z : Type 0} (v : Vec X Z) → v.len ≡ length v.items
+counted v = search rules

@@ -52,15 +52,24 @@ fn file_item(alloc: Global, item: &Item, file: &mut FileScope) -> Result<u64, Fa
     Ok(nodes)
 }
 
-/// The items of a file, one after the other: how many nodes they have.
-fn file_items(alloc: Global, items: &[Item], file: &mut FileScope) -> Result<u64, Fault>
-    requires { IsCountable (size_items (map item_of items.now)) }
-    ensures filed { Files result (filed (map item_of items.now) (file_of file.old)) file.new }
-    ensures nodes { IfOk result (λ nodes. nodes ≡ (size_items (map item_of items.now)).nodes) }
+/// An item of a file, which is let go behind it.
+fn finished_item(alloc: Global, item: Item, file: &mut FileScope) -> Result<u64, Fault>
+    requires { IsCountable (size_item (item_of item)) }
+    ensures filed { Files result (filed_item (item_of item) (file_of file.old)) file.new }
+    ensures nodes { IfOk result (λ nodes. nodes ≡ (size_item (item_of item)).nodes) }
+{
+    file_item(alloc, &item, file)
+}
+
+/// The items of a file, one after the other: how many nodes they have. Each is let go before the next, while it is still at hand.
+fn file_items(alloc: Global, items: List<Item>, file: &mut FileScope) -> Result<u64, Fault>
+    requires { IsCountable (size_items (map item_of items)) }
+    ensures filed { Files result (filed (map item_of items) (file_of file.old)) file.new }
+    ensures nodes { IfOk result (λ nodes. nodes ≡ (size_items (map item_of items)).nodes) }
 {
     let mut nodes: u64 = 0;
-    for item in items {
-        match file_item(alloc, item, file) {
+    for item in items.into_vec() {
+        match finished_item(alloc, item, file) {
             Ok(count) => nodes += count,
             Err(fault) => return Err(fault),
         }
@@ -75,15 +84,15 @@ pub fn annotated(
     alloc: Global,
     number: u16,
     tags: Tags,
-    tree: &Tree,
+    tree: Tree,
 ) -> Result<(FileScope, u64), Fault>
-    requires lists { AreListsOf (items_of tree.now) tags }
-    requires countable { IsCountable (size_items (items_of tree.now)) }
-    ensures found { Gives (λ found. file_of found.0) result (annotated_in number (untagged_by tags.untagged) (items_of tree.now)) }
-    ensures nodes { IfOk result (λ found. found.1 ≡ (size_items (items_of tree.now)).nodes) }
+    requires lists { AreListsOf (items_of tree) tags }
+    requires countable { IsCountable (size_items (items_of tree)) }
+    ensures found { Gives (λ found. file_of found.0) result (annotated_in number (untagged_by tags.untagged) (items_of tree)) }
+    ensures nodes { IfOk result (λ found. found.1 ≡ (size_items (items_of tree)).nodes) }
 {
     let mut file = unread(alloc, number, tags);
-    let nodes = file_items(alloc, tree.items.as_slice(), &mut file)?;
+    let nodes = file_items(alloc, tree.items, &mut file)?;
     let file = closed(alloc, file)?;
     Ok((file, nodes))
 }

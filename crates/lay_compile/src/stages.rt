@@ -70,7 +70,7 @@ fn with_unit(
     };
     trees_are_small();
     units_are_countable();
-    match check(alloc, number, file, &tree) {
+    match check(alloc, number, file, tree) {
         Ok(unit) => Ok(Reached::Units(with_one_more(units, unit)?)),
         Err(fault) => Ok(Reached::Trees(fault)),
     }

@@ -1,4 +1,4 @@
-use Rattle.std.proofs.Common.{◌≡◌, ◌+◌, map, drop}
+use Rattle.std.proofs.Common.{◌≡◌, ◌+◌, length, map, drop}
 use Rattle.c_ast.specs.Sizes.{IsCountable, size_items}
 use Rattle.c_ast.specs.Views.{item_of}
 use Rattle.c_checking.specs.Files.{filed}
@@ -6,6 +6,6 @@ use Rattle.c_scopes.specs.Scoping.{file_of}
 use Rattle.c_check_files.proofs.items.file_items.Given as goal
 
 abbrev pub invariant-loop-item : goal.invariant-loop-item
-invariant-loop-item l = (filed (map item_of l.items) (file_of l.fn.file) ≡ filed (map item_of (drop l.item-index l.items)) (file_of l.file))
-    × (l.nodes + (size_items (map item_of (drop l.item-index l.items))).nodes ≡ (size_items (map item_of l.items)).nodes)
-    × IsCountable (size_items (map item_of (drop l.item-index l.items)))
+invariant-loop-item l = (filed (map item_of l.fn.items) (file_of l.fn.file) ≡ filed (map item_of (drop (length l.yielded) l.fn.items)) (file_of l.file))
+    × (l.nodes + (size_items (map item_of (drop (length l.yielded) l.fn.items))).nodes ≡ (size_items (map item_of l.fn.items)).nodes)
+    × IsCountable (size_items (map item_of (drop (length l.yielded) l.fn.items)))
