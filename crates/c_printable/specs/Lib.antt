@@ -1,0 +1,5 @@
+pub mod Declarable
+pub mod Expressions
+pub mod Initializers
+pub mod Statements
+pub mod Programs
