@@ -1,3 +1,4 @@
 pub mod Conversions
 pub mod Tokens
 pub mod Expressions
+pub mod Initializers
