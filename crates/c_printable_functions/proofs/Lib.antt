@@ -2,3 +2,4 @@ pub mod Conversions
 pub mod Tokens
 pub mod Expressions
 pub mod Initializers
+pub mod Declarations
