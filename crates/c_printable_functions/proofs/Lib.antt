@@ -3,3 +3,4 @@ pub mod Tokens
 pub mod Expressions
 pub mod Initializers
 pub mod Declarations
+pub mod Statements
