@@ -4,3 +4,4 @@ pub mod Expressions
 pub mod Initializers
 pub mod Declarations
 pub mod Statements
+pub mod Bodies
