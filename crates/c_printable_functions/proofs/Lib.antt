@@ -5,3 +5,4 @@ pub mod Initializers
 pub mod Declarations
 pub mod Statements
 pub mod Bodies
+pub mod Addressed
