@@ -6,3 +6,4 @@ pub mod Declarations
 pub mod Statements
 pub mod Bodies
 pub mod Addressed
+pub mod Offsets
