@@ -7,3 +7,4 @@ pub mod Statements
 pub mod Bodies
 pub mod Addressed
 pub mod Offsets
+pub mod Units
