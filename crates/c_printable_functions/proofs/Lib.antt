@@ -8,3 +8,4 @@ pub mod Bodies
 pub mod Addressed
 pub mod Offsets
 pub mod Units
+pub mod Programs

@@ -1,2 +1,8 @@
 //! The functions of a program of files can be said in a C text.
+//!
+//! It stands on `c_printable`, which says what a text can say, on `c_well_typed`, and on what those stand on. It has a law alone.
 #![tactic(auto)]
+
+mod laws;
+
+pub use laws::programs_have_printable_functions;
