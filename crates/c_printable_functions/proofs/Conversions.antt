@@ -1,9 +1,9 @@
 -- Conversions, null pointers and allocations that are recognised in an annotated tree are printable, with other numbers too (C99 6.3.2.3).
-use Rattle.std.proofs.Common.{◌≡◌, ◌≢◌, ◌∙◌, ℕ, Bool, true, false, refl, sym, subst, cond, Some, None}
+use Rattle.std.proofs.Common.{◌≡◌, ◌≢◌, ◌∙◌, ℕ, Bool, true, false, refl, cond, Some, None}
 use Rattle.std.specs.Prelude.{Option}
 use Rattle.lay_base.specs.declared.place.Place.{Place}
 use Rattle.c_types.specs.declared.ty.IntKind.TheVariants.{UInt}
-use Rattle.c_types.specs.Types.{CType, void, integer, pointer, array, function, structure}
+use Rattle.c_types.specs.Types.{CType, void, integer, pointer, structure}
 use Rattle.c_types.specs.Sameness.{same_type}
 use Rattle.c_type_table.specs.Renumbered.{renumbered}
 use Rattle.c_typed.specs.declared.operators.BinaryOp.TheVariants.{Multiply}
@@ -12,9 +12,10 @@ use Rattle.c_typed.specs.Trees as Trees
 use Rattle.c_typed.specs.Constants.{ty}
 use Rattle.c_typed.specs.Conversions.{is_integer}
 use Rattle.c_typed.specs.Mapped.{Renaming, mapped, mapped_node, mapped_if_any}
-use Rattle.c_erasure.specs.Noted.{Noted, Note, nothing, size_of, plain, Expression, Node, value, type_of, unless_noted, unconverted}
+use Rattle.c_erasure.specs.Noted.{Noted, Note, nothing, size_of, Expression, Node, value, unless_noted, unconverted}
 use Rattle.c_erasure.specs.Recognised.{as_unsigned, as_unsigned_from, counted, is_size, is_note_of, allocated, allocation, or_converted, is_null_constant, converted}
-use Rattle.c_printable.specs.Expressions.{is_void_null, IsConversion, IsAllocation, IsPrintable, IsPrintableNode, IsPrintableCount}
+use Rattle.c_well_typed.proofs.RenumberedTypes.{integer_same}
+use Rattle.c_printable.specs.Expressions.{is_void_null, IsAllocation, IsPrintable, IsPrintableNode, IsPrintableCount}
 
 -- what stands in the program for an annotated tree: records, objects and functions have other numbers
 abbrev pub renamed : (n object callee : ℕ → ℕ) → Renaming Noted CType
@@ -32,7 +33,7 @@ module _ (n object callee : ℕ → ℕ) where
   abbrev R : CType → CType
   R t = renumbered n t
 
-  abbrev pub Is : Expression → Type 0
+  abbrev Is : Expression → Type 0
   Is e = IsPrintable (mapped K e)
 
   -- ---- operands without their conversions
@@ -101,13 +102,9 @@ module _ (n object callee : ℕ → ℕ) where
 
   -- ---- conversions to pointers
 
-  integer_same : (t : CType) → is_integer (R t) ≡ is_integer t
-  integer_same void = refl
-  integer_same t = refl
-
   no_number : (e : Expression) → HasPointerType e → is_null_constant e ≡ false → is_integer (ty (mapped K e)) ≡ false
-  no_number (Trees.expression t at Trees.null) p h = integer_same t.ty ∙ p
-  no_number (Trees.expression t at node) p h = integer_same t.ty ∙ h
+  no_number (Trees.expression t at Trees.null) p h = integer_same n t.ty ∙ p
+  no_number (Trees.expression t at node) p h = integer_same n t.ty ∙ h
 
   no_null_type : (t : CType) (at : Place) → same_type t (pointer void) ≡ false → is_void_null (Trees.expression (R t) at Trees.null) ≡ false
   no_null_type (pointer void) at h = cc
@@ -130,7 +127,7 @@ module _ (n object callee : ℕ → ℕ) where
   no_null (Trees.expression t at node) h = no_null_node (R t.ty) at (mapped_node K node) tt
 
   -- what a conversion to that type becomes
-  abbrev pub IsNode : CType → Node → Type 0
+  abbrev IsNode : CType → Node → Type 0
   IsNode t node = IsPrintableNode (R t) (mapped_node K node) × ((note : Note) (at : Place) → HasPointerType (Trees.expression (record { ty = t; note = note }) at node))
 
   to_pointer : (t : CType) (e : Expression) (written : Bool) → Is e → HasPointerType e → is_null_constant e ≡ false → IsNode (pointer t) (Trees.convert e written)

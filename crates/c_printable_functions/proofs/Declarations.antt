@@ -1,10 +1,10 @@
 -- What stands for a declaration in a block is printable (C99 6.7): each local has its type, and declarators make their types of one.
-use Rattle.std.proofs.Common.{◌≡◌, ◌≢◌, ◌∙◌, ℕ, ◌≤◌, Bool, true, false, refl, sym, ap, subst, List, [], ◌∷◌, map, length, inl, inr, Some, None}
+use Rattle.std.proofs.Common.{◌≡◌, ◌∙◌, ℕ, ◌≤◌, Bool, true, false, sym, ap, subst, List, [], ◌∷◌, map, length, inl, inr, Some, None}
 use Rattle.std.proofs.lemmas.Option.{slice_get-map}
 use Rattle.std.specs.Prelude.{◌⊎◌, Option, slice_get}
 use Rattle.std.specs.Option.{option_map}
 use Rattle.c_types.specs.Objects.{is_object}
-use Rattle.c_types.specs.Types.{CType, void, pointer, array, function, Record}
+use Rattle.c_types.specs.Types.{CType, pointer, array, function, Record}
 use Rattle.c_type_table.specs.Renumbered.{renumbered}
 use Rattle.c_lexer.specs.declared.punctuator.Punctuator.TheVariants as M
 use Rattle.c_ast.specs.declared.words.Spelling.{Spelling}
@@ -17,7 +17,6 @@ use Rattle.c_erasure.specs.Declarators.{Shape, closed, open_array}
 use Rattle.c_erasure.specs.Erasure.{Declares}
 use Rattle.c_erasure.specs.Noted.{Noted}
 use Rattle.c_erasure.specs.Scopes.{ALocal, FileScope, Scope, ended}
-use Rattle.c_erasure.specs.Specifiers.{storage_of, is_static}
 use Rattle.c_erasure.specs.Statements.{Statements, IsSized, HasInitializer, with_object, with_variable, IsVariable, DeclareAll, IsLocalDeclaration}
 use Rattle.c_erasure.specs.Units.{recognised_initializer, recognised_statements}
 use Rattle.c_order.proofs.MarksOfFiles.{initializer_along}

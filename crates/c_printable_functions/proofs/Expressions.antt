@@ -1,8 +1,6 @@
 -- What stands for an expression of a text is printable where its allocations and null pointers are recognised, with other numbers too (C99 6.5).
-use Rattle.std.proofs.Common.{◌≡◌, ℕ, Bool, true, false, refl, sym, subst, List, [], ◌∷◌, inl, inr, Some, None}
-use Rattle.std.specs.Prelude.{◌⊎◌, Option}
+use Rattle.std.proofs.Common.{◌≡◌, ℕ, Bool, true, false, sym, subst, List, [], inl, inr, Some}
 use Rattle.lay_base.specs.declared.place.Place.{Place}
-use Rattle.c_types.specs.declared.ty.IntKind.TheVariants.{Int, UInt}
 use Rattle.c_types.specs.Types.{CType, integer, pointer, array}
 use Rattle.c_ast.specs.declared.operators.UnaryOp.TheVariants as U
 use Rattle.c_ast.specs.Places.{first}
@@ -23,17 +21,18 @@ use Rattle.c_erasure.specs.Scopes as Scopes
 use Rattle.c_order.proofs.MarksOfParts.{along, type_name_along}
 use Rattle.c_order.proofs.Walks.{comma_along}
 use Rattle.c_printable.specs.Expressions.{IsPrintable, IsPrintablePath, ArePrintable}
-use Rattle.c_printable_functions.proofs.Conversions.{renamed, HasPointerType, IsNode, conversion}
+use Rattle.c_printable_functions.proofs.Conversions.{renamed, HasPointerType, conversion}
 use Rattle.c_printable_functions.proofs.Tokens.{HaveValues, behind}
 
 some_is : {A : Type 0} (x y : A) → Some x ≡ Some y → x ≡ y
 some_is x y h = cc
 
--- names for the structures without a tag, of which nothing here depends
+-- names for the structures without a tag, on which nothing here depends
 abbrev pub no_tags : ℕ → List ℕ
 no_tags at = []
 
 module _ (n object callee : ℕ → ℕ) where
+  -- a text can say what is recognised of it
   abbrev pub IsSaid : Expression → Type 0
   IsSaid e = IsPrintable (mapped (renamed n object callee) (recognised e)) × HasPointerType (recognised e)
 
@@ -223,6 +222,6 @@ module _ (n object callee : ℕ → ℕ) where
           subst AreSaid (sym h.2)
           ((valued h.3.0 h.0 h.3.1 (said a s h.3.0 _ w.2 own h.3.2)).0, values_said false s h.1 more rest w.3 (past a w.2 _ own) h.4)
 
-    pub value_said_of : (a : Trees.Expression) (s : Scope) (x : Expression) (rest : List Lexeme) → IsExpression types a → HaveValues (spelled a rest)
+    pub said_value : (a : Trees.Expression) (s : Scope) (x : Expression) (rest : List Lexeme) → IsExpression types a → HaveValues (spelled a rest)
         → Values (Erases a s) x → IsSaid x
-    value_said_of a s x rest w k h = valued h.0 x h.1 (said a s h.0 rest w k h.2)
+    said_value a s x rest w k h = valued h.0 x h.1 (said a s h.0 rest w k h.2)

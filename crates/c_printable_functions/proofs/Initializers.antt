@@ -1,15 +1,14 @@
 -- What stands for an initializer of a text is printable (C99 6.7.8): braces name parts from the first on.
-use Rattle.std.proofs.Common.{◌≡◌, ◌≢◌, ◌∙◌, ℕ, zero, suc, ◌+◌, ◌≤◌, ◌<◌, Bool, true, false, refl, sym, ap, subst, List, [], ◌∷◌, ◌++◌, map, length, append-nil}
+use Rattle.std.proofs.Common.{◌≡◌, ◌≢◌, ◌∙◌, ℕ, suc, ◌+◌, ◌≤◌, ◌<◌, Bool, true, false, refl, sym, ap, subst, List, [], ◌∷◌, ◌++◌, map, length, append-nil}
 use Rattle.std.proofs.Common.{arith, inl, inr, Some, None}
 use Rattle.std.proofs.lemmas.Bool.{and_parts}
 use Rattle.std.proofs.lemmas.List.{map-append}
 use Rattle.std.proofs.lemmas.List.Elements.{All-from_recursion}
 use Rattle.std.specs.Prelude.{◌⊎◌, Option, slice_get, nat_lt}
 use Rattle.std.specs.Option.{option_map}
-use Rattle.c_types.specs.declared.ty.IntKind.{IntKind}
 use Rattle.c_types.specs.Layouts.{size_of, offset_of}
 use Rattle.c_types.specs.Objects.{is_object}
-use Rattle.c_types.specs.Types.{CType, void, integer, pointer, array, function, structure, Field, Record, field_types}
+use Rattle.c_types.specs.Types.{CType, void, array, structure, Field, Record, field_types}
 use Rattle.c_type_table.specs.Renumbered.{renumbered}
 use Rattle.c_ast.specs.declared.words.Spelling.{Spelling}
 use Rattle.c_ast.specs.Spelling.{Lexeme, spelled, spelled_arguments}
@@ -27,11 +26,12 @@ use Rattle.c_erasure.specs.Scopes.{Scope, FileScope}
 use Rattle.c_erasure.specs.Units.{recognised_value, recognised_part, recognised_initializer}
 use Rattle.c_order.proofs.MarksOfFiles.{initializer_along}
 use Rattle.c_order.proofs.Walks.{comma_along}
+use Rattle.c_well_typed.proofs.RenumberedTypes.{scalar_same}
 use Rattle.c_printable.specs.Initializers.{IsNamed, AreElements, AreFields, by_value, by_elements, by_fields, one_element, and_elements, one_field, and_fields}
 use Rattle.c_printable.specs.Initializers.{IsValue, IsPart, IsPrintableInitializer}
 use Rattle.c_printable.specs.Initializers as Printable
 use Rattle.c_printable_functions.proofs.Conversions.{renamed}
-use Rattle.c_printable_functions.proofs.Expressions.{no_tags, IsSaid, said, value_said_of}
+use Rattle.c_printable_functions.proofs.Expressions.{no_tags, IsSaid, said, said_value}
 use Rattle.c_printable_functions.proofs.Tokens.{AreBytes, HaveValues, behind, literal_has_bytes, literal_ends}
 
 -- the records of a file among those of the program: complete types are as large there, and fields begin at the same bytes
@@ -99,10 +99,6 @@ module _ (n object callee : ℕ → ℕ) (f : FileScope) (records : List Record)
 
   -- ---- sorts of types
 
-  scalar_same : (t : CType) → is_scalar (R t) ≡ is_scalar t
-  scalar_same void = refl
-  scalar_same t = refl
-
   record_same : (t : CType) → is_record (R t) ≡ is_record t
   record_same void = refl
   record_same t = refl
@@ -115,7 +111,7 @@ module _ (n object callee : ℕ → ℕ) (f : FileScope) (records : List Record)
 
   scalar : (t : CType) (at : ℕ) (parts : List Part) (x : Expression) → is_scalar t ≡ true → parts ≡ part_at at (Typed.value x) → IsSaid n object callee x
       → Named t at parts
-  scalar t at parts x i e h = one t at parts (Typed.value x) e (scalar_same t ∙ i, h.0)
+  scalar t at parts x i e h = one t at parts (Typed.value x) e (scalar_same n t ∙ i, h.0)
 
   text : (all : List Spelling) (s : Scope) (t : CType) (at : ℕ) (parts : List Part) → AreBytes (literal_of all) → IsText (Some all) s t at parts
       → Named t at parts
@@ -149,7 +145,7 @@ module _ (n object callee : ℕ → ℕ) (f : FileScope) (records : List Record)
 
   single : (a : Trees.Expression) (s : Scope) (t : CType) (at : ℕ) (parts : List Part) (rest : List Lexeme) → IsExpression types a
       → HaveValues (spelled a rest) → IsSingle a s t at parts → Named t at parts
-  single a s t at parts rest w k (inl h) = scalar t at parts h.0 h.1 h.3 (value_said_of n object callee types a s h.0 rest w k h.4)
+  single a s t at parts rest w k (inl h) = scalar t at parts h.0 h.1 h.3 (said_value n object callee types a s h.0 rest w k h.4)
   single a s t at parts rest w k (inr (inl h)) =
       one t at parts (Typed.record_of h.1) h.4
       (record_same t ∙ ap is_record h.2, said n object callee types a s (an_object h.1) rest w k h.5)
@@ -158,7 +154,7 @@ module _ (n object callee : ℕ → ℕ) (f : FileScope) (records : List Record)
   value_in : (a : Trees.Expression) (s : Scope) (x : Expression) (rest : List Lexeme) → IsInitializer types a → HaveValues (spelled a rest)
       → Values (Erases a s) x → IsSaid n object callee x
   value_in (Trees.braces left all last right) s x rest w k h = absurd h.2
-  value_in a s x rest w k h = value_said_of n object callee types a s x rest w.1 k h
+  value_in a s x rest w k h = said_value n object callee types a s x rest w.1 k h
 
   one_value : (all : Trees.Arguments) (s : Scope) (x : Expression) (rest : List Lexeme) → AreInitializers types true all
       → HaveValues (spelled_arguments all rest) → IsOneValue all s x → IsSaid n object callee x
@@ -312,7 +308,7 @@ module _ (n object callee : ℕ → ℕ) (f : FileScope) (records : List Record)
   pub initializer_said : (a : Trees.Expression) (s : Scope) (t : CType) (i : Typed.Initializer Noted) (rest : List Lexeme) → s.file ≡ f
       → IsInitializer types a → HaveValues (spelled a rest) → IsWhole t → Erased.IsInitializer a s t i → Is t (Some i)
   initializer_said a s t i rest e w k o (inl h) =
-      let part = scalar_part (R t) 0 (moved (part_at 0 (Typed.value h.0))) (scalar_same t ∙ h.2) (named a s t 0 _ rest e w k o h.3) in
+      let part = scalar_part (R t) 0 (moved (part_at 0 (Typed.value h.0))) (scalar_same n t ∙ h.2) (named a s t 0 _ rest e w k o h.3) in
       subst (λ i. Is t (Some i)) (sym h.1) part.1.1
   initializer_said a s t i rest e w k o (inr (inl h)) = subst (λ i. Is t (Some i)) (sym h.1) (record_said a s t h.0 rest w k h.3 h.4)
   initializer_said a s t i rest e w k o (inr (inr h)) = subst (λ i. Is t (Some i)) (sym h.1) (named a s t 0 h.0 rest e w k o h.3)

@@ -8,7 +8,7 @@ use Rattle.std.specs.Option.{option_map}
 use Rattle.c_types.proofs.Before.{layout_of}
 use Rattle.c_types.proofs.Growing.{layouts_stay}
 use Rattle.c_types.specs.declared.layout.Layout.{Layout}
-use Rattle.c_types.specs.Layouts.{layout_at, alignment_in, size_in, begin_after, end_after, offsets_after, layout, layouts, size_of, offset_of}
+use Rattle.c_types.specs.Layouts.{layout_at, alignment_in, size_in, begin_after, end_after, offsets_after, layout, layouts, offset_of}
 use Rattle.c_types.specs.Limits.{AreComplete}
 use Rattle.c_types.specs.Objects.{is_object}
 use Rattle.c_types.specs.Types.{CType, Field, Record, field_types}

@@ -1,14 +1,13 @@
 -- The functions of a program of files are printable, since those of its units are.
-use Rattle.std.proofs.Common.{◌≡◌, ◌∙◌, ℕ, ◌+◌, ◌<◌, Bool, refl, sym, ap, subst, List, [], ◌∷◌, ◌++◌, length, map, Some, None}
+use Rattle.std.proofs.Common.{◌≡◌, ◌∙◌, ℕ, ◌+◌, ◌<◌, refl, sym, ap, subst, List, [], ◌∷◌, ◌++◌, length, map, Some, None}
 use Rattle.std.proofs.lemmas.List.{map-append}
 use Rattle.std.proofs.lemmas.List.Elements.{recursion_from_All, All-from_recursion}
 use Rattle.std.specs.Prelude.{◌||◌, ◌==◌, not, All, Option, slice_get}
 use Rattle.std.specs.List.{AllByRecursion, list_any}
 use Rattle.std.specs.Option.{option_map}
-use Rattle.lay_base.specs.declared.place.File.{File}
 use Rattle.c_lexer.specs.TokenPlaces.{TokensHavePlaces}
 use Rattle.c_types.specs.Limits.{AreComplete}
-use Rattle.c_types.specs.Types.{CType, void}
+use Rattle.c_types.specs.Types.{CType}
 use Rattle.c_type_table.specs.Renumbered.{renumbered}
 use Rattle.c_typed.specs.declared.program.Local.{Local}
 use Rattle.c_typed.specs.Addressed.{addressed_by_statement}
@@ -28,13 +27,14 @@ use Rattle.c_well_typed.proofs.Composed as Composed
 use Rattle.c_well_typed.proofs.JoinedFunctions.{each_is, is_each, type_is}
 use Rattle.c_well_typed.proofs.LookedUp.{of_unit as found_unit, unit_among}
 use Rattle.c_well_typed.proofs.Programs.{each_unit}
+use Rattle.c_well_typed.proofs.RenumberedTypes.{scalar_same}
 use Rattle.c_printable.specs.Programs.{if_any, AreMarked, IsBody, IsPrintableFunction}
 use Rattle.c_printable.specs.Statements.{IsPrintableStatement}
 use Rattle.c_printable_functions.specs.Laws.{ProgramHasPrintableFunctions}
 use Rattle.c_printable_functions.proofs.Addressed.{statement_same}
 use Rattle.c_printable_functions.proofs.Initializers.{LieAlike}
 use Rattle.c_printable_functions.proofs.Offsets.{lie_alike}
-use Rattle.c_printable_functions.proofs.Units.{AreMarkedBy, stand_for, IsBlock, IsPrintableBody, HasPrintableFunctions, unit_has_printable_functions}
+use Rattle.c_printable_functions.proofs.Units.{AreMarkedBy, stand_for, IsBlock, HasPrintableFunctions, unit_has_printable_functions}
 
 each_so : {A : Type 0} (P Q : A → Type 0) (xs : List A) → ((x : A) → P x → Q x) → AllByRecursion P xs → AllByRecursion Q xs
 each_so P Q [] f h = tt
@@ -78,10 +78,6 @@ module _ (units : List UnitData) (agree : Agree units) (complete : AreComplete (
     type_again : (i : ℕ) → i < length u.types → type_at T ((N k u).ty i) ≡ R (type_at u.types i)
     type_again i l = (type_is units agree complete typed u there k i l).1
 
-    scalar_same : (t : CType) → is_scalar (R t) ≡ is_scalar t
-    scalar_same void = refl
-    scalar_same t = refl
-
     abbrev Ranged : List Local → Type 0
     Ranged all = AllByRecursion (λ (l : Local). l.ty < length u.types) all
 
@@ -97,7 +93,7 @@ module _ (units : List UnitData) (agree : Agree units) (complete : AreComplete (
     marks_again taken i [] r m = tt
     marks_again taken i (l ∷ all) r m =
         let same : is_scalar (type_at T ((N k u).ty l.ty)) ≡ is_scalar (type_at u.types l.ty) =
-        ap is_scalar (type_again l.ty r.0) ∙ scalar_same (type_at u.types l.ty) in
+        ap is_scalar (type_again l.ty r.0) ∙ scalar_same S (type_at u.types l.ty) in
         (m.0 ∙ ap (λ b. not b || list_any (λ m. m == i) taken) (sym same), marks_again taken (i + 1) all r.1 m.1)
 
     -- the parameters and locals, with their numbers in the program

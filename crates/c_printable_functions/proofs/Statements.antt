@@ -1,17 +1,18 @@
 -- What stands for a statement of a text is printable (C99 6.8): an `else` finds its `if`, branches declare nothing, and arms have labels.
-use Rattle.std.proofs.Common.{◌≡◌, ◌≢◌, ◌∙◌, ℕ, zero, suc, ◌+◌, ◌≤◌, ◌==◌, Bool, true, false, refl, sym, ap, subst, List, [], ◌∷◌, length, arith, inl, inr, Some, None}
+use Rattle.std.proofs.Common.{◌≡◌, ◌≢◌, ◌∙◌, ℕ, zero, suc, ◌≤◌, ◌==◌, Bool, true, false, refl, sym, subst, List, [], ◌∷◌, length, arith, inl, inr, Some, None}
 use Rattle.std.proofs.lemmas.Bool.{eq-eqb}
 use Rattle.std.specs.Prelude.{◌⊎◌, Option}
 use Rattle.std.specs.Option.{option_map}
 use Rattle.c_types.specs.declared.ty.IntKind.{IntKind}
 use Rattle.c_types.specs.Types.{CType, void, Record}
-use Rattle.c_ast.specs.Spelling.{Lexeme, spelled_if_any, spelled_for_start, spelled_statement, spelled_block_item, spelled_block_items}
+use Rattle.c_ast.specs.Spelling.{Lexeme, spelled, spelled_if_any, spelled_for_start, spelled_statement, spelled_block_item, spelled_block_items}
 use Rattle.c_ast.specs.Spelling.{spelled_switch_item, spelled_switch_items}
 use Rattle.c_ast.specs.Trees
-use Rattle.c_ast.specs.WellFormed.{IsExpressionIfAny, IsForStart, IsStatement, IsBlockItem, AreBlockItems, IsSwitchItem, AreSwitchItems}
+use Rattle.c_ast.specs.WellFormed.{IsExpression, IsExpressionIfAny, IsForStart, IsStatement, IsBlockItem, AreBlockItems, IsSwitchItem, AreSwitchItems}
 use Rattle.c_ast.specs.WellFormed as WellFormed
 use Rattle.c_typed.specs.Mapped.{mapped, mapped_statement, mapped_statements, mapped_arms}
 use Rattle.c_typed.specs.Trees as Typed
+use Rattle.c_erasure.specs.Erasure.{Values, Erases}
 use Rattle.c_erasure.specs.Noted.{Expression}
 use Rattle.c_erasure.specs.Recognised.{recognised}
 use Rattle.c_erasure.specs.Scopes.{ALocal, FileScope, Scope, ended}
@@ -21,12 +22,13 @@ use Rattle.c_erasure.specs.Statements.{EraseItems, ErasesSwitchItem, EraseSwitch
 use Rattle.c_erasure.specs.Units.{recognised_statement, recognised_statements, recognised_arms}
 use Rattle.c_order.proofs.MarksOfFiles.{if_any_along, labels_along, for_start_along, statement_along, block_item_along, switch_item_along}
 use Rattle.c_order.proofs.MarksOfParts.{along}
+use Rattle.c_printable.specs.Expressions.{IsPrintable}
 use Rattle.c_printable.specs.Statements.{is_open, is_declaration, begins_with_statement, IsPrintableIfAny, AreDeclared, IsPrintableStatement}
 use Rattle.c_printable.specs.Statements.{ArePrintableStatements, AreArms}
 use Rattle.c_printable.specs.Statements as Printable
 use Rattle.c_printable_functions.proofs.Conversions.{renamed}
 use Rattle.c_printable_functions.proofs.Declarations.{locals, IsIn, declaration}
-use Rattle.c_printable_functions.proofs.Expressions.{no_tags, value_said_of}
+use Rattle.c_printable_functions.proofs.Expressions.{no_tags, said_value}
 use Rattle.c_printable_functions.proofs.Initializers.{LieAlike}
 use Rattle.c_printable_functions.proofs.Tokens.{HaveValues, behind}
 
@@ -86,12 +88,11 @@ module _ (n object callee : ℕ → ℕ) (f : FileScope) (less : (at : ℕ) → 
   in_after : (s after : Scope) → after ≡ s → In s → In after
   in_after s after e h = subst In (sym e) h
 
-  value : (a : Trees.Expression) (s : Scope) (x : Expression) (rest : List Lexeme) → WellFormed.IsExpression types a
-      → HaveValues (spelled_if_any (Some a) rest) → Rattle.c_erasure.specs.Erasure.Values (Rattle.c_erasure.specs.Erasure.Erases a s) x
-      → Rattle.c_printable.specs.Expressions.IsPrintable (mapped (renamed n object callee) (recognised x))
-  value a s x rest w k h = (value_said_of n object callee types a s x rest w k h).0
+  value : (a : Trees.Expression) (s : Scope) (x : Expression) (rest : List Lexeme) → IsExpression types a → HaveValues (spelled a rest)
+      → Values (Erases a s) x → IsPrintable (mapped (renamed n object callee) (recognised x))
+  value a s x rest w k h = (said_value n object callee types a s x rest w k h).0
 
-  past : (a : Trees.Expression) → WellFormed.IsExpression types a → (rest : List Lexeme) → HaveValues (spelled_if_any (Some a) rest) → HaveValues rest
+  past : (a : Trees.Expression) → IsExpression types a → (rest : List Lexeme) → HaveValues (spelled a rest) → HaveValues rest
   past a w rest k = behind (along no_tags types a w) k
 
   abbrev IfAny : Option Expression → Type 0

@@ -1,11 +1,10 @@
 -- The values of a text's tokens (C99 6.4.4, 6.4.5): a number is one of a type that a literal can have, and the characters of a string literal are bytes.
-use Rattle.std.proofs.Common.{◌≡◌, ℕ, ◌≤◌, ◌<◌, ◌^◌, nat_le, Bool, true, false, refl, sym, subst, cond, List, [], ◌∷◌, ◌++◌, map, arith, Some, None, append_assoc, ap, ◌∙◌}
+use Rattle.std.proofs.Common.{◌≡◌, ℕ, ◌≤◌, ◌<◌, nat_le, Bool, true, false, refl, sym, subst, cond, List, [], ◌∷◌, ◌++◌, map, arith, Some, append_assoc, ap, ◌∙◌}
 use Rattle.std.proofs.lemmas.Bool.{leb-true}
 use Rattle.std.proofs.lemmas.List.Elements.{recursion_from_All}
 use Rattle.std.specs.List.{AllByRecursion}
-use Rattle.std.specs.Prelude.{Option}
 use Rattle.c_types.specs.declared.ty.IntKind.{IntKind}
-use Rattle.c_types.specs.declared.ty.IntKind.TheVariants.{Char, SChar, UChar, Short, UShort, Int, UInt, Long, ULong}
+use Rattle.c_types.specs.declared.ty.IntKind.TheVariants.{Int, UInt, Long, ULong}
 use Rattle.c_types.specs.IntKinds.{greatest}
 use Rattle.c_types.specs.Types.{integer}
 use Rattle.c_lexer.proofs.StringBytes.{strings_have_bytes}

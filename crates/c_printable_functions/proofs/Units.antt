@@ -1,5 +1,5 @@
 -- The functions of the unit of a file are printable, with other numbers too.
-use Rattle.std.proofs.Common.{◌≡◌, ◌∙◌, ℕ, suc, ◌+◌, ◌≤◌, Bool, true, false, refl, sym, ap, subst, List, [], ◌∷◌, ◌++◌, length, map, flat_map, inl, inr, append-nil}
+use Rattle.std.proofs.Common.{◌≡◌, ◌∙◌, ℕ, suc, ◌+◌, ◌≤◌, refl, sym, ap, subst, List, [], ◌∷◌, ◌++◌, length, map, flat_map, inl, inr, append-nil}
 use Rattle.std.proofs.Common.{arith, Some, None}
 use Rattle.std.proofs.lemmas.List.{map-append}
 use Rattle.std.specs.Prelude.{◌⊎◌, ◌||◌, ◌==◌, not, Option, slice_get}
@@ -70,11 +70,6 @@ HasPrintableFunctions u = (n object callee : ℕ → ℕ) (records : List Record
 
 -- ---- lists
 
-joined : {A : Type 0} (P : A → Type 0) (a b : List A) → AllByRecursion P a → AllByRecursion P b → AllByRecursion P (a ++ b)
-joined P [] b h k = k
-joined P (x ∷ a) b h k = (h.0, joined P a b h.1 k)
-
--- with other numbers for types: what a map of the types of a tree gives
 before : {A B : Type 0} (P : B → Type 0) (Q : A → Type 0) (v : A → B) (xs : List A) → ((x : A) → P (v x) → Q x) → AllByRecursion P (map v xs)
     → AllByRecursion Q xs
 before P Q v [] f h = tt

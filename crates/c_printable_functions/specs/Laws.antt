@@ -1,4 +1,4 @@
--- The functions of a program of files can be said in a C text.
+-- The functions of a program of files are printable.
 use Rattle.std.specs.Prelude.{List, All}
 use Rattle.lay_base.specs.declared.place.File.{File}
 use Rattle.c_link.specs.Programs.{IsProgramOf}

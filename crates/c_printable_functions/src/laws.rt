@@ -8,8 +8,9 @@ use c_typed::Typed;
 use c_types::records_are_complete;
 use c_well_typed::units_have_typed_functions;
 
-/// A C text can say each function of a program of files (C99 6.5, 6.7.8, 6.8): constants are of literals and enumerators, braces name the parts of locals in
-/// order, an `else` finds its `if`, and a local is marked as a block just where it is no number or pointer, or its address is taken.
+/// Each function of a program of files is printable (C99 6.5, 6.7.8, 6.8): its body is a block, constants are values of literals, enumerators and `sizeof`,
+/// braces name the parts of a local in order, an `else` finds its `if`, arms have labels, and a local is marked as a block just where it is no number or
+/// pointer, or its address is taken.
 pub fn programs_have_printable_functions(p: &Typed)
     ensures { ProgramHasPrintableFunctions (program_data p.now) }
 {

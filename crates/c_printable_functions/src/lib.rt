@@ -1,6 +1,6 @@
-//! The functions of a program of files can be said in a C text.
+//! The functions of a program of files are printable.
 //!
-//! It stands on `c_printable`, which says what a text can say, on `c_well_typed`, and on what those stand on. It has a law alone.
+//! It stands on `c_printable`, which says what that is, on `c_well_typed`, and on what those stand on. It has a law alone.
 #![tactic(auto)]
 
 mod laws;
