@@ -4,3 +4,5 @@ pub mod Locals
 pub mod Whole
 pub mod Nodes
 pub mod Sizeofs
+pub mod Agreeing
+pub mod Stable

@@ -34,13 +34,17 @@ pub record GivenParts : Type 0 where
 abbrev pub parts_of : Given → GivenParts
 parts_of g = record { types = map type_of g.types; objects = g.objects; functions = map data_of g.functions; mentions = g.mentions }
 
-abbrev pub numbered : List CType → ℕ → List ValuedObject → List AFunction → List AMention → GivenParts
-numbered all file os gs ms = record {
+-- by the list of all types, and with numbered functions
+abbrev pub given_with : List CType → ℕ → List ValuedObject → List FunctionData → List AMention → GivenParts
+given_with all file os gs ms = record {
   types = all;
   objects = map (object_in all) os;
-  functions = map (function_in all) gs;
+  functions = gs;
   mentions = map (mention_in all file) ms;
 }
+
+abbrev pub numbered : List CType → ℕ → List ValuedObject → List AFunction → List AMention → GivenParts
+numbered all file os gs ms = given_with all file os (map (function_in all) gs) ms
 
 abbrev pub given : ℕ → List ValuedObject → List AFunction → List AMention → GivenParts
 given file os gs ms = numbered (new_among [] (all_types os gs ms)) file os gs ms

@@ -1,29 +1,31 @@
 //! Objects, functions and mentions with numbers of types.
 
-ghost use Rattle.std.specs.Prelude.{◌≡◌, ◌+◌, ◌++◌, IfOk, OnOk, flat_map, length, map};
+ghost use Rattle.std.specs.Prelude.{◌≡◌, ◌+◌, List as Sequence, IfOk, OnOk, flat_map, fold, length, map};
 ghost use Rattle.std.specs.Option.{option_map};
 ghost use Rattle.c_annotated.specs.FileViews.{function_of, local_of, mention_of};
 ghost use Rattle.c_annotated.specs.Views.{statement_of as noted_statement};
 ghost use Rattle.c_numbered.specs.Numbered.{numbered};
 ghost use Rattle.c_typed.specs.Mapped.{mapped_statement};
 ghost use Rattle.c_typed.specs.Views.{statement_of};
-ghost use Rattle.c_erasure.specs.Units.{if_any, is_among, number_in};
+ghost use Rattle.c_erasure.specs.Units.{is_among, number_in};
 ghost use Rattle.c_initial_values.specs.Values.{store_of, stores_in};
-ghost use Rattle.c_typed.specs.Addressed.{addressed_by_statement};
 ghost use Rattle.c_typed.specs.Programs.{data_of};
+ghost use Rattle.c_type_table.specs.Adding.{with_type};
+ghost use Rattle.c_types.specs.Types.{CType};
 ghost use Rattle.c_types.specs.Views.{type_of};
-ghost use Rattle.c_units.specs.NumberedParts.{function_in, initial_in, local_in, locals_in, mention_in, object_in};
+ghost use Rattle.c_units.specs.CollectedTypes.{function_types};
+ghost use Rattle.c_units.specs.NumberedParts.{function_in, initial_in, local_in, locals_in, mention_in, object_in, taken_in};
 ghost use Rattle.c_units.specs.SizeOperands.{holds};
 ghost use Rattle.c_units.specs.ValuedObjects.{valued_of};
 
-use crate::places::{contains, table_of};
+use crate::places::contains;
+use crate::types::add_function;
 use crate::values::Valued;
 use c_initial_values::{Store, Value};
 use c_numbered::{number_of, optional_statement};
 use c_type_table::TypeTable;
 use c_typed::{Function, Initial, InitialValue, Local, Mention, Object, Statement, is_scalar};
 use c_types::{IntKind, Ty};
-use c_walks::addressed_by_statement;
 use lay_base::{List, NoMemory, Place, add};
 use numbering::KeyTable;
 use std::alloc::Global;
@@ -180,41 +182,20 @@ fn locals(
     Ok(done)
 }
 
-fn add_taken(found: &mut List<u32>, body: &Option<c_annotated::Statement>) -> Result<(), NoMemory>
-    ensures { OnOk result (found.new ≡ found.old ++ flat_map addressed_by_statement (if_any (option_map noted_statement body.now))) }
-{
-    match body {
-        None => Ok(()),
-        Some(body) => addressed_by_statement(found, body),
-    }
-}
-
-/// The locals whose address a body takes.
-fn taken_in(alloc: Global, body: &Option<c_annotated::Statement>) -> Result<KeyTable, NoMemory>
-    ensures { IfOk result (λ keys. holds keys ≡ is_among (flat_map addressed_by_statement (if_any (option_map noted_statement body.now)))) }
-{
-    let mut found = List::new(alloc);
-    add_taken(&mut found, body)?;
-    table_of(alloc, found.as_slice())
-}
-
 /// The parameters, and the locals that follow them.
 fn parameters_and_locals(
     alloc: Global,
     types: &TypeTable,
-    body: &Option<c_annotated::Statement>,
+    taken: &KeyTable,
     parameters: List<c_annotated::Local>,
     others: List<c_annotated::Local>,
 ) -> Result<(List<Local>, List<Local>), NoMemory>
-    ensures parameters { IfOk result (λ r. r.0
-        ≡ locals_in (map type_of types.now) (is_among (flat_map addressed_by_statement (if_any (option_map noted_statement body.now)))) 0 (map local_of parameters)) }
-    ensures locals { IfOk result (λ r. r.1
-        ≡ locals_in (map type_of types.now) (is_among (flat_map addressed_by_statement (if_any (option_map noted_statement body.now)))) (length parameters) (map local_of others)) }
+    ensures parameters { IfOk result (λ r. r.0 ≡ locals_in (map type_of types.now) (holds taken.now) 0 (map local_of parameters)) }
+    ensures locals { IfOk result (λ r. r.1 ≡ locals_in (map type_of types.now) (holds taken.now) (length parameters) (map local_of others)) }
 {
-    let taken = taken_in(alloc, body)?;
     let first = count(parameters.as_slice())?;
-    let parameters = locals(alloc, types, &taken, 0, parameters)?;
-    let others = locals(alloc, types, &taken, first, others)?;
+    let parameters = locals(alloc, types, taken, 0, parameters)?;
+    let others = locals(alloc, types, taken, first, others)?;
     Ok((parameters, others))
 }
 
@@ -234,12 +215,14 @@ fn type_and_body(
     Ok((ty, body))
 }
 
+/// A function by the numbers of its types, which are in the table, and by the locals whose address it takes.
 fn function(
     alloc: Global,
     types: &TypeTable,
+    taken: &KeyTable,
     f: c_annotated::Function,
 ) -> Result<Function, NoMemory>
-    ensures { IfOk result (λ r. data_of r ≡ function_in (map type_of types.now) (function_of f)) }
+    ensures { holds taken.now ≡ is_among (taken_in (function_of f)) → IfOk result (λ r. data_of r ≡ function_in (map type_of types.now) (function_of f)) }
 {
     let c_annotated::Function {
         name,
@@ -252,7 +235,7 @@ fn function(
         nodes,
         ..
     } = f;
-    let (parameters, locals) = parameters_and_locals(alloc, types, &body, parameters, locals)?;
+    let (parameters, locals) = parameters_and_locals(alloc, types, taken, parameters, locals)?;
     let (ty, body) = type_and_body(alloc, types, ty, body)?;
     Ok(Function {
         name,
@@ -266,17 +249,32 @@ fn function(
     })
 }
 
-/// The functions, in order.
+/// Adds the types of a function to the table, and numbers it. Types that are added later change no number.
+fn added_function(
+    alloc: Global,
+    types: &mut TypeTable,
+    f: c_annotated::Function,
+) -> Result<Function, NoMemory>
+    ensures types { OnOk result (map type_of types.new ≡ fold with_type (map type_of types.old) (function_types (function_of f))) }
+    ensures numbered { (later : Sequence CType) → IfOk result (λ r. data_of r ≡ function_in (fold with_type (map type_of types.new) later) (function_of f)) }
+{
+    let taken = add_function(alloc, types, &f)?;
+    function(alloc, types, &taken, f)
+}
+
+/// The functions, in order, each of which is numbered while its nodes are near. Their types are added to the table.
 pub fn numbered_functions(
     alloc: Global,
-    types: &TypeTable,
+    types: &mut TypeTable,
     all: List<c_annotated::Function>,
 ) -> Result<List<Function>, NoMemory>
-    ensures { IfOk result (λ r. map data_of r ≡ map (function_in (map type_of types.now)) (map function_of all)) }
+    ensures types { OnOk result (map type_of types.new ≡ fold with_type (map type_of types.old) (flat_map function_types (map function_of all))) }
+    ensures numbered { (later : Sequence CType)
+        → IfOk result (λ r. map data_of r ≡ map (function_in (fold with_type (map type_of types.new) later)) (map function_of all)) }
 {
     let mut done = List::new(alloc);
     for f in all.into_vec() {
-        let f = function(alloc, types, f)?;
+        let f = added_function(alloc, types, f)?;
         add(&mut done, f)?;
     }
     Ok(done)

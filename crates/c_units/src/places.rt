@@ -5,13 +5,14 @@ ghost use Rattle.std.specs.Option.{option_copied, option_map};
 ghost use Rattle.c_annotated.specs.FileViews.{function_of, object_of};
 ghost use Rattle.c_annotated.specs.Views.{initializer_of, note_of, statement_of};
 ghost use Rattle.c_erasure.specs.Units.{if_any, is_among, place_of_size, size_places};
+ghost use Rattle.c_typed.specs.Addressed.{addressed_by_statement};
 ghost use Rattle.c_typed.specs.Walk.{types_in_initializer, types_in_statement};
 ghost use Rattle.c_units.specs.SizeOperands.{holds, nodes_of};
-ghost use Rattle.c_walks.specs.NodeTypes.{noted_of, nodes_in};
+ghost use Rattle.c_walks.specs.NodeTypes.{noted_of, nodes_in, taken_in};
 ghost use Rattle.numbering.specs.Keys.{with_key};
 
 use c_annotated::{Function, Initializer, Object, SizeOf, Statement};
-use c_walks::{NodeType, Nodes, initializer_types, statement_types};
+use c_walks::{NodeType, Nodes, walk_initializer, walk_statement};
 use lay_base::{List, NoMemory, add};
 use numbering::KeyTable;
 use std::alloc::Global;
@@ -59,13 +60,14 @@ fn add_places(places: &mut List<u32>, nodes: &[NodeType]) -> Result<(), NoMemory
     Ok(())
 }
 
-/// The types at the nodes of a body.
+/// What stands at the nodes of a body.
 pub fn add_body<'a>(found: &mut Nodes<'a>, body: &'a Option<Statement>) -> Result<(), NoMemory>
-    ensures { OnOk result (nodes_in found.new ≡ nodes_in found.old ++ flat_map types_in_statement (if_any (option_map statement_of body.now))) }
+    ensures types { OnOk result (nodes_in found.new ≡ nodes_in found.old ++ flat_map types_in_statement (if_any (option_map statement_of body.now))) }
+    ensures taken { OnOk result (taken_in found.new ≡ taken_in found.old ++ flat_map addressed_by_statement (if_any (option_map statement_of body.now))) }
 {
     match body {
         None => Ok(()),
-        Some(body) => statement_types(found, body),
+        Some(body) => walk_statement(found, body),
     }
 }
 
@@ -74,7 +76,7 @@ fn add_initial<'a>(found: &mut Nodes<'a>, initial: &'a Option<Initializer>) -> R
 {
     match initial {
         None => Ok(()),
-        Some(initial) => initializer_types(found, initial),
+        Some(initial) => walk_initializer(found, initial),
     }
 }
 

@@ -1,19 +1,22 @@
-//! The types of a file, each once.
+//! The types of a file, each once, in the order in which they stand first: in objects, functions and mentions.
 
 ghost use Rattle.std.specs.Prelude.{◌≡◌, ◌++◌, ◌∷◌, [], IfOk, OnOk, flat_map, fold, map};
 ghost use Rattle.std.specs.Option.{option_map};
 ghost use Rattle.c_annotated.specs.FileViews.{function_of, local_of, mention_of};
 ghost use Rattle.c_annotated.specs.Views.{statement_of};
-ghost use Rattle.c_erasure.specs.Units.{if_any, new_among, type_if_pointer};
+ghost use Rattle.c_erasure.specs.Units.{if_any, is_among, type_if_pointer};
 ghost use Rattle.c_initial_values.specs.Values.{store_of, stores_in};
 ghost use Rattle.c_type_table.specs.Adding.{with_type};
+ghost use Rattle.c_typed.specs.Addressed.{addressed_by_statement};
 ghost use Rattle.c_typed.specs.Walk.{types_in_statement};
 ghost use Rattle.c_types.specs.Views.{type_of};
-ghost use Rattle.c_units.specs.CollectedTypes.{all_types, function_types, object_types, types_in};
+ghost use Rattle.c_units.specs.CollectedTypes.{function_types, object_types, types_in};
+ghost use Rattle.c_units.specs.NumberedParts.{taken_in};
+ghost use Rattle.c_units.specs.SizeOperands.{holds};
 ghost use Rattle.c_units.specs.ValuedObjects.{valued_of};
-ghost use Rattle.c_walks.specs.NodeTypes.{noted_of, nodes_in};
+ghost use Rattle.c_walks.specs.NodeTypes.{noted_of, nodes_in, taken_in as walked};
 
-use crate::places::add_body;
+use crate::places::{add_body, table_of};
 use crate::values::Valued;
 use c_annotated::{Function, Local, Mention, Statement};
 use c_initial_values::Store;
@@ -21,20 +24,23 @@ use c_type_table::TypeTable;
 use c_typed::is_pointer;
 use c_types::Ty;
 use c_walks::{NodeType, Nodes};
-use lay_base::{List, NoMemory};
+use lay_base::NoMemory;
+use numbering::KeyTable;
 use std::alloc::Global;
 
 #[tactic(auto, unfolding(crate::specs::CollectedTypes::types_in))]
 fn add_type<'a>(found: &mut Nodes<'a>, t: &'a Ty) -> Result<(), NoMemory>
-    ensures { OnOk result (types_in found.new ≡ types_in found.old ++ type_of t.now ∷ []) }
+    ensures types { OnOk result (types_in found.new ≡ types_in found.old ++ type_of t.now ∷ []) }
+    ensures taken { OnOk result (walked found.new ≡ walked found.old) }
 {
     found.add(t, None)
 }
 
 #[tactic(auto, unfolding(crate::specs::CollectedTypes::types_in))]
 fn add_body_types<'a>(found: &mut Nodes<'a>, body: &'a Option<Statement>) -> Result<(), NoMemory>
-    ensures { OnOk result (types_in found.new
+    ensures types { OnOk result (types_in found.new
         ≡ types_in found.old ++ flat_map (λ s. map (λ t. t.ty) (types_in_statement s)) (if_any (option_map statement_of body.now))) }
+    ensures taken { OnOk result (walked found.new ≡ walked found.old ++ flat_map addressed_by_statement (if_any (option_map statement_of body.now))) }
 {
     add_body(found, body)
 }
@@ -79,7 +85,8 @@ fn add_types_of_objects<'a>(found: &mut Nodes<'a>, all: &'a [Valued]) -> Result<
 }
 
 fn add_local_types<'a>(found: &mut Nodes<'a>, all: &'a [Local]) -> Result<(), NoMemory>
-    ensures { OnOk result (types_in found.new ≡ types_in found.old ++ map (λ l. l.ty) (map local_of all.now)) }
+    ensures types { OnOk result (types_in found.new ≡ types_in found.old ++ map (λ l. l.ty) (map local_of all.now)) }
+    ensures taken { OnOk result (walked found.new ≡ walked found.old) }
 {
     for l in all {
         add_type(found, &l.ty)?;
@@ -88,7 +95,8 @@ fn add_local_types<'a>(found: &mut Nodes<'a>, all: &'a [Local]) -> Result<(), No
 }
 
 fn add_function_types<'a>(found: &mut Nodes<'a>, f: &'a Function) -> Result<(), NoMemory>
-    ensures { OnOk result (types_in found.new ≡ types_in found.old ++ function_types (function_of f.now)) }
+    ensures types { OnOk result (types_in found.new ≡ types_in found.old ++ function_types (function_of f.now)) }
+    ensures taken { OnOk result (walked found.new ≡ walked found.old ++ taken_in (function_of f.now)) }
 {
     add_type(found, &f.ty)?;
     add_local_types(found, f.parameters.as_slice())?;
@@ -115,29 +123,25 @@ fn add_nodes(alloc: Global, types: &mut TypeTable, nodes: &[NodeType]) -> Result
     Ok(())
 }
 
-/// Adds the types of a function to a table.
+/// Adds the types of a function to a table, and gives the locals whose address it takes.
 #[tactic(auto, unfolding(crate::specs::CollectedTypes::types_in, c_walks::specs::NodeTypes::nodes_in))]
-fn add_function(alloc: Global, types: &mut TypeTable, f: &Function) -> Result<(), NoMemory>
-    ensures { OnOk result (map type_of types.new ≡ fold with_type (map type_of types.old) (function_types (function_of f.now))) }
+pub fn add_function(
+    alloc: Global,
+    types: &mut TypeTable,
+    f: &Function,
+) -> Result<KeyTable, NoMemory>
+    ensures types { OnOk result (map type_of types.new ≡ fold with_type (map type_of types.old) (function_types (function_of f.now))) }
+    ensures taken { IfOk result (λ keys. holds keys ≡ is_among (taken_in (function_of f.now))) }
 {
     let mut found = Nodes::new(alloc);
     add_function_types(&mut found, f)?;
-    add_nodes(alloc, types, found.list.as_slice())
-}
-
-/// Adds the types of functions to a table, one after the other: a function's nodes are then still at hand when its types are looked up.
-fn add_functions(alloc: Global, types: &mut TypeTable, all: &[Function]) -> Result<(), NoMemory>
-    ensures { OnOk result (map type_of types.new ≡ fold with_type (map type_of types.old) (flat_map function_types (map function_of all.now))) }
-{
-    for f in all {
-        add_function(alloc, types, f)?;
-    }
-    Ok(())
+    add_nodes(alloc, types, found.list.as_slice())?;
+    table_of(alloc, found.taken.as_slice())
 }
 
 /// Adds the types of objects to a table.
 #[tactic(auto, unfolding(crate::specs::CollectedTypes::types_in, c_walks::specs::NodeTypes::nodes_in))]
-fn add_objects(alloc: Global, types: &mut TypeTable, all: &[Valued]) -> Result<(), NoMemory>
+pub fn add_objects(alloc: Global, types: &mut TypeTable, all: &[Valued]) -> Result<(), NoMemory>
     ensures { OnOk result (map type_of types.new ≡ fold with_type (map type_of types.old) (flat_map object_types (map valued_of all.now))) }
 {
     let mut found = Nodes::new(alloc);
@@ -147,27 +151,10 @@ fn add_objects(alloc: Global, types: &mut TypeTable, all: &[Valued]) -> Result<(
 
 /// Adds the types of mentions to a table.
 #[tactic(auto, unfolding(crate::specs::CollectedTypes::types_in, c_walks::specs::NodeTypes::nodes_in))]
-fn add_mentions(alloc: Global, types: &mut TypeTable, all: &[Mention]) -> Result<(), NoMemory>
+pub fn add_mentions(alloc: Global, types: &mut TypeTable, all: &[Mention]) -> Result<(), NoMemory>
     ensures { OnOk result (map type_of types.new ≡ fold with_type (map type_of types.old) (map (λ m. m.ty) (map mention_of all.now))) }
 {
     let mut found = Nodes::new(alloc);
     add_mention_types(&mut found, all)?;
     add_nodes(alloc, types, found.list.as_slice())
-}
-
-/// The types of a file, each once, in the order in which they stand first: in objects, functions and mentions.
-pub fn types_of(
-    alloc: Global,
-    objects: &[Valued],
-    functions: &[Function],
-    mentions: &[Mention],
-) -> Result<TypeTable, NoMemory>
-    ensures { IfOk result (λ types. map type_of types
-        ≡ new_among [] (all_types (map valued_of objects.now) (map function_of functions.now) (map mention_of mentions.now))) }
-{
-    let mut types = TypeTable::new(alloc);
-    add_objects(alloc, &mut types, objects)?;
-    add_functions(alloc, &mut types, functions)?;
-    add_mentions(alloc, &mut types, mentions)?;
-    Ok(types)
 }

@@ -4,22 +4,23 @@ ghost use Rattle.std.specs.Prelude.{◌≡◌, IfOk, drop, map};
 ghost use Rattle.c_annotated.specs.FileViews.{function_of, mention_of, object_of};
 ghost use Rattle.c_erasure.specs.Scopes;
 ghost use Rattle.c_scopes.specs.Scoping.{file_of};
-ghost use Rattle.c_typed.specs.Programs.{unit_data};
+ghost use Rattle.c_typed.specs.Programs.{data_of, unit_data};
 ghost use Rattle.c_units.specs.RecognisedParts.{recognised_function, recognised_object};
 ghost use Rattle.c_units.specs.SizeOperands.{mentions_of};
-ghost use Rattle.c_units.specs.UnitWith.{given, given_by, parts_of, unit_with};
+ghost use Rattle.c_units.specs.UnitWith.{given, given_by, given_with, parts_of, unit_with};
 ghost use Rattle.c_units.specs.ValuedObjects.{valued_of};
-ghost use Rattle.c_types.specs.Views.{records_of};
+ghost use Rattle.c_types.specs.Views.{records_of, type_of};
 
 use crate::mentions::{has_sizeof, mentions_of};
 use crate::numbers::{numbered_functions, numbered_mentions, numbered_objects};
 use crate::places::places_if;
 use crate::recognition::{recognise_functions, recognise_objects};
-use crate::types::types_of;
+use crate::types::{add_mentions, add_objects};
 use crate::values::{Valued, valued_objects};
 use c_annotated::{Function, Mention, Object};
 use c_scopes::FileScope;
 use c_tags::Tags;
+use c_type_table::TypeTable;
 use c_typed::Unit;
 use c_types::{Records, Ty};
 use lay_base::{List, Name, NoMemory};
@@ -77,6 +78,27 @@ struct Given {
     mentions: List<c_typed::Mention>,
 }
 
+/// What a file gives, by the table of all types and by its functions.
+fn given_with(
+    alloc: Global,
+    file: u16,
+    types: TypeTable,
+    objects: List<Valued>,
+    functions: List<c_typed::Function>,
+    mentions: List<Mention>,
+) -> Result<Given, NoMemory>
+    ensures { IfOk result (λ r. parts_of r ≡ given_with (map type_of types) file (map valued_of objects) (map data_of functions) (map mention_of mentions)) }
+{
+    let objects = numbered_objects(alloc, &types, objects)?;
+    let mentions = numbered_mentions(alloc, &types, file, mentions)?;
+    Ok(Given {
+        types: types.into_list(),
+        objects,
+        functions,
+        mentions,
+    })
+}
+
 /// Numbers the types.
 fn numbered(
     alloc: Global,
@@ -87,21 +109,11 @@ fn numbered(
 ) -> Result<Given, NoMemory>
     ensures { IfOk result (λ r. parts_of r ≡ given file (map valued_of objects) (map function_of functions) (map mention_of mentions)) }
 {
-    let types = types_of(
-        alloc,
-        objects.as_slice(),
-        functions.as_slice(),
-        mentions.as_slice(),
-    )?;
-    let objects = numbered_objects(alloc, &types, objects)?;
-    let functions = numbered_functions(alloc, &types, functions)?;
-    let mentions = numbered_mentions(alloc, &types, file, mentions)?;
-    Ok(Given {
-        types: types.into_list(),
-        objects,
-        functions,
-        mentions,
-    })
+    let mut types = TypeTable::new(alloc);
+    add_objects(alloc, &mut types, objects.as_slice())?;
+    let functions = numbered_functions(alloc, &mut types, functions)?;
+    add_mentions(alloc, &mut types, mentions.as_slice())?;
+    given_with(alloc, file, types, objects, functions, mentions)
 }
 
 /// The tags of the records that are not complete.

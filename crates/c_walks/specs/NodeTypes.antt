@@ -1,5 +1,5 @@
--- What the types of nodes stand for that are collected.
-use Rattle.std.specs.Prelude.{List, map}
+-- What stands at nodes, as it is collected: types, and locals of which the address is taken.
+use Rattle.std.specs.Prelude.{ℕ, List, map}
 use Rattle.std.specs.Option.{option_copied}
 use Rattle.c_types.specs.Types.{CType}
 use Rattle.c_types.specs.Views.{type_of}
@@ -16,3 +16,6 @@ noted_of n = noted (type_of n.ty.now) (note_of (option_copied n.note))
 
 unfoldable pub nodes_in : Nodes → List Noted
 nodes_in found = map noted_of found.list.items
+
+abbrev pub taken_in : Nodes → List ℕ
+taken_in found = found.taken

@@ -1,0 +1,19 @@
+use Rattle.std.proofs.Common.{◌≡◌, ◌∙◌, IfOk, ap, fold, map, subst, sym}
+use Rattle.c_annotated.specs.FileViews.{function_of}
+use Rattle.c_type_table.specs.Adding.{with_type}
+use Rattle.c_typed.specs.Programs.{data_of}
+use Rattle.c_types.specs.Views.{type_of}
+use Rattle.c_units.specs.CollectedTypes.{function_types}
+use Rattle.c_units.specs.NumberedParts.{function_in}
+use Rattle.c_units.proofs.Stable.{function_stable}
+use Rattle.c_units.proofs.numbers.added_function.Goals as goal
+
+pub returns-clause-numbered : goal.returns-clause-numbered
+returns-clause-numbered c later =
+    let f = function_of c.args.f in
+    let before = map type_of c.args.types.now in
+    let after = map type_of c.add_function.new.types in
+    let h : after ≡ fold with_type before (function_types f) = c.in_ok-taken.ensures.types in
+    subst (λ it. IfOk c.function.result (λ r. data_of r ≡ it))
+    (ap (λ types. function_in types f) h ∙ sym (function_stable before later f) ∙ ap (λ types. function_in (fold with_type types later) f) (sym h))
+    (c.function.ensures c.in_ok-taken.ensures.taken)
