@@ -1,8 +1,8 @@
 use Rattle.std.proofs.Common.{rules, ◌≡◌}
-use Rattle.c_tags.specs.Untagged.{counted_at}
-use Rattle.c_tags.proofs.Counting.{one_number, one_counted}
-use Rattle.c_tags.proofs.untagged.count_one.Goals as goal
-use Rattle.c_tags.proofs.untagged.count_one.Goals.{in-Ok, in-Err}
+use Rattle.c_struct_places.specs.Untagged.{counted_at}
+use Rattle.c_struct_places.proofs.Counting.{one_number, one_counted}
+use Rattle.c_struct_places.proofs.untagged.count_one.Goals as goal
+use Rattle.c_struct_places.proofs.untagged.count_one.Goals.{in-Ok, in-Err}
 
 pub returns-clause-number : goal.returns-clause-number
 returns-clause-number c =

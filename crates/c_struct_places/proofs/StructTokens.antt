@@ -12,11 +12,11 @@ use Rattle.c_ast.specs.Spelling.{spelled_member_declarations, spelled_member_dec
 use Rattle.c_ast.specs.Spelling.{spelled_specifier, spelled_specifiers, spelled_statement, spelled_switch_item, spelled_switch_items, spelled_tag, spelled_texts}
 use Rattle.c_ast.specs.Spelling.{spelled_type_name, spelled_value}
 use Rattle.c_erasure.specs.Untagged.{structs_in}
-use Rattle.c_tags.specs.StructPlaces.{structs, structs_if_any, structs_of_all, structs_of_block_item, structs_of_block_items, structs_of_declaration}
-use Rattle.c_tags.specs.StructPlaces.{structs_of_declarator, structs_of_enumerators, structs_of_for_start, structs_of_init_declarators, structs_of_initial}
-use Rattle.c_tags.specs.StructPlaces.{structs_of_item, structs_of_items, structs_of_labels, structs_of_member_declarators, structs_of_members, structs_of_optional}
-use Rattle.c_tags.specs.StructPlaces.{structs_of_parameter_list, structs_of_parameters, structs_of_specifier, structs_of_specifiers, structs_of_statement}
-use Rattle.c_tags.specs.StructPlaces.{structs_of_switch_item, structs_of_switch_items, structs_of_type, structs_of_value}
+use Rattle.c_struct_places.specs.StructPlaces.{structs, structs_if_any, structs_of_all, structs_of_block_item, structs_of_block_items, structs_of_declaration}
+use Rattle.c_struct_places.specs.StructPlaces.{structs_of_declarator, structs_of_enumerators, structs_of_for_start, structs_of_init_declarators, structs_of_initial}
+use Rattle.c_struct_places.specs.StructPlaces.{structs_of_item, structs_of_items, structs_of_labels, structs_of_member_declarators, structs_of_members, structs_of_optional}
+use Rattle.c_struct_places.specs.StructPlaces.{structs_of_parameter_list, structs_of_parameters, structs_of_specifier, structs_of_specifiers, structs_of_statement}
+use Rattle.c_struct_places.specs.StructPlaces.{structs_of_switch_item, structs_of_switch_items, structs_of_type, structs_of_value}
 
 -- ---- one after another
 

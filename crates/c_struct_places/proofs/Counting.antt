@@ -8,7 +8,7 @@ use Rattle.std.specs.Str.{bytes_eq}
 use Rattle.std.proofs.lemmas.Slice.Eq.{bytes_eq-Decides}
 use Rattle.indexmap.specs.IndexMap.{insert_entry}
 use Rattle.c_erasure.specs.Untagged.{Line, IsLineOf, AreOnLine}
-use Rattle.c_tags.specs.Untagged.{is_line, counted_at}
+use Rattle.c_struct_places.specs.Untagged.{is_line, counted_at}
 
 -- ---- equality of lines
 

@@ -1,10 +1,10 @@
 use Rattle.std.proofs.Common.{◌≡◌, ◌++◌, drop}
 use Rattle.std.specs.Prelude.{map}
-use Rattle.c_tags.specs.StructPlaces.{structs_of_all, structs_of_specifiers, structs_of_members, structs_of_member_declarators}
-use Rattle.c_tags.specs.StructPlaces.{structs_of_enumerators, structs_of_parameters}
+use Rattle.c_struct_places.specs.StructPlaces.{structs_of_all, structs_of_specifiers, structs_of_members, structs_of_member_declarators}
+use Rattle.c_struct_places.specs.StructPlaces.{structs_of_enumerators, structs_of_parameters}
 use Rattle.c_ast.specs.Views.{argument_of, arguments_of, specifier_of, specifiers_of, member_declaration_of, member_declarations_of}
 use Rattle.c_ast.specs.Views.{member_declarator_of, member_declarators_of, enumerator_of, enumerators_of, parameter_of, parameters_of}
-use Rattle.c_tags.proofs.struct_places.+expression_structs.Given as goal
+use Rattle.c_struct_places.proofs.struct_places.+expression_structs.Given as goal
 
 abbrev pub invariant-arguments_structs-loop-item : goal.invariant-arguments_structs-loop-item
 invariant-arguments_structs-loop-item l =

@@ -6,11 +6,11 @@ ghost use Rattle.c_ast.specs.Views.{argument_of, arguments_of, block_item_of, bl
 ghost use Rattle.c_ast.specs.Views.{expression_of, for_start_of, function_of, init_declarator_of, item_of, label_of, member_declaration_of};
 ghost use Rattle.c_ast.specs.Views.{member_declarations_of, member_declarator_of, member_declarators_of, parameter_list_of, parameter_of, parameters_of};
 ghost use Rattle.c_ast.specs.Views.{specifier_of, specifiers_of, statement_of, switch_item_of, switch_items_of, type_name_of};
-ghost use Rattle.c_tags.specs.StructPlaces.{structs, structs_if_any, structs_of_all, structs_of_block_items, structs_of_declaration};
-ghost use Rattle.c_tags.specs.StructPlaces.{structs_of_declarator, structs_of_enumerators, structs_of_for_start, structs_of_init_declarators};
-ghost use Rattle.c_tags.specs.StructPlaces.{structs_of_item, structs_of_items, structs_of_labels, structs_of_member_declarators, structs_of_members};
-ghost use Rattle.c_tags.specs.StructPlaces.{structs_of_parameter_list, structs_of_parameters, structs_of_specifier, structs_of_specifiers};
-ghost use Rattle.c_tags.specs.StructPlaces.{structs_of_statement, structs_of_switch_items, structs_of_type};
+ghost use Rattle.c_struct_places.specs.StructPlaces.{structs, structs_if_any, structs_of_all, structs_of_block_items, structs_of_declaration};
+ghost use Rattle.c_struct_places.specs.StructPlaces.{structs_of_declarator, structs_of_enumerators, structs_of_for_start, structs_of_init_declarators};
+ghost use Rattle.c_struct_places.specs.StructPlaces.{structs_of_item, structs_of_items, structs_of_labels, structs_of_member_declarators, structs_of_members};
+ghost use Rattle.c_struct_places.specs.StructPlaces.{structs_of_parameter_list, structs_of_parameters, structs_of_specifier, structs_of_specifiers};
+ghost use Rattle.c_struct_places.specs.StructPlaces.{structs_of_statement, structs_of_switch_items, structs_of_type};
 
 use c_ast::{
     Argument, At, BlockItem, Declaration, Declarator, Enumerator, Expression, ForStart, Function,

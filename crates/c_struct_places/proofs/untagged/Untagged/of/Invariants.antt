@@ -1,8 +1,8 @@
 use Rattle.std.proofs.Common.{◌≡◌, ◌≤◌, take, drop}
 use Rattle.std.specs.List.{AllByRecursion}
-use Rattle.c_tags.specs.Untagged.{counted_at}
-use Rattle.c_tags.proofs.Tagging.{AreTagged}
-use Rattle.c_tags.proofs.untagged.Untagged.of.Given as goal
+use Rattle.c_struct_places.specs.Untagged.{counted_at}
+use Rattle.c_struct_places.proofs.Tagging.{AreTagged}
+use Rattle.c_struct_places.proofs.untagged.Untagged.of.Given as goal
 
 abbrev pub invariant-loop-at : goal.invariant-loop-at
 invariant-loop-at l = record {

@@ -16,7 +16,7 @@ use Rattle.c_ast.specs.Lexemes.{lexemes_of}
 use Rattle.c_ast.specs.TreesOfFiles.{IsTreeOf}
 use Rattle.c_erasure.specs.Files.{AreAscending}
 use Rattle.c_erasure.specs.Untagged.{place_of_struct, structs_in}
-use Rattle.c_tags.specs.Untagged.{structs_of}
+use Rattle.c_struct_places.specs.Untagged.{structs_of}
 
 -- ---- they ascend
 

@@ -1,8 +1,8 @@
 use Rattle.std.proofs.Common.{◌≡◌, ◌++◌, drop}
 use Rattle.std.specs.Prelude.{map}
-use Rattle.c_tags.specs.StructPlaces.{structs_of_labels}
+use Rattle.c_struct_places.specs.StructPlaces.{structs_of_labels}
 use Rattle.c_ast.specs.Views.{label_of}
-use Rattle.c_tags.proofs.struct_places.labels_structs.Given as goal
+use Rattle.c_struct_places.proofs.struct_places.labels_structs.Given as goal
 
 abbrev pub invariant-loop-label : goal.invariant-loop-label
 invariant-loop-label l =

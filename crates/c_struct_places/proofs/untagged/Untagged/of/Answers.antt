@@ -1,7 +1,7 @@
 use Rattle.std.proofs.Common.{◌∙◌, subst, arith}
-use Rattle.c_tags.specs.Untagged.{counted_at}
-use Rattle.c_tags.proofs.Tagging.{AreTagged, next_tagged, later, all_taken, all_tagged, all_begin}
-use Rattle.c_tags.proofs.untagged.Untagged.of.Goals as goal
+use Rattle.c_struct_places.specs.Untagged.{counted_at}
+use Rattle.c_struct_places.proofs.Tagging.{AreTagged, next_tagged, later, all_taken, all_tagged, all_begin}
+use Rattle.c_struct_places.proofs.untagged.Untagged.of.Goals as goal
 
 pub loop-at-preserved : goal.loop-at-preserved
 loop-at-preserved c = record {

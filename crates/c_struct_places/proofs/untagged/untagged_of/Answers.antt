@@ -4,11 +4,11 @@ use Rattle.c_lexer.specs.TokenPlaces.{IsPlaceIn}
 use Rattle.c_ast.specs.Views.{items_of}
 use Rattle.c_erasure.specs.Files.{AreAscending}
 use Rattle.c_erasure.specs.Untagged.{AreTags}
-use Rattle.c_tags.specs.StructPlaces.{structs_of_items}
-use Rattle.c_tags.specs.Untagged.{untagged_by}
-use Rattle.c_tags.proofs.Structs.{structs_ascend, structs_are_places, structs_of_tree}
-use Rattle.c_tags.proofs.StructTokens.{structs_of_file}
-use Rattle.c_tags.proofs.untagged.untagged_of.Goals as goal
+use Rattle.c_struct_places.specs.StructPlaces.{structs_of_items}
+use Rattle.c_struct_places.specs.Untagged.{untagged_by}
+use Rattle.c_struct_places.proofs.Structs.{structs_ascend, structs_are_places, structs_of_tree}
+use Rattle.c_struct_places.proofs.StructTokens.{structs_of_file}
+use Rattle.c_struct_places.proofs.untagged.untagged_of.Goals as goal
 
 pub of-requires-clause-order : goal.of-requires-clause-order
 of-requires-clause-order c =

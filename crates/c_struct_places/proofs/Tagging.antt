@@ -11,9 +11,9 @@ use Rattle.c_erasure.specs.Untagged.{Line, name_in, IsLineOf, AreOnLine, AreTags
 use Rattle.c_lexer.specs.declared.presumed.Presumed.{Presumed}
 use Rattle.c_lexer.specs.Presuming.{IsPresumed}
 use Rattle.c_erasure.specs.Files.{AreAscending}
-use Rattle.c_tags.specs.Untagged.{is_line, untagged_by}
-use Rattle.c_tags.proofs.Numbers.{inserted_last}
-use Rattle.c_tags.proofs.Counting.{own_line, on_line_more}
+use Rattle.c_struct_places.specs.Untagged.{is_line, untagged_by}
+use Rattle.c_struct_places.proofs.Inserting.{inserted_last}
+use Rattle.c_struct_places.proofs.Counting.{own_line, on_line_more}
 
 abbrev IsTagged : List ℕ → List ℕ → List ℕ → List (ℕ × List ℕ) → ℕ → Type 0
 IsTagged name bytes places tags at = (line : Line) × (k : ℕ) × IsLineOf name bytes at line

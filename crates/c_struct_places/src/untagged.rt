@@ -8,7 +8,7 @@ ghost use Rattle.c_ast.specs.Views.{items_of};
 ghost use Rattle.c_erasure.specs.Files.{AreAscending};
 ghost use Rattle.c_erasure.specs.Untagged.{AreTags, Line, name_in, structs_in, tag_text};
 ghost use Rattle.indexmap.specs.IndexMap.{insert_entry};
-ghost use Rattle.c_tags.specs.Untagged.{counted_at, is_line, untagged_by};
+ghost use Rattle.c_struct_places.specs.Untagged.{counted_at, is_line, untagged_by};
 
 use crate::struct_places::places_of_structs;
 use c_ast::Tree;
@@ -104,7 +104,7 @@ fn add_tag(
 
 impl Untagged {
     /// The tags of the structures that begin at these bytes.
-    pub fn of(alloc: Global, file: &File, places: &[u32]) -> Result<Untagged, NoMemory>
+    fn of(alloc: Global, file: &File, places: &[u32]) -> Result<Untagged, NoMemory>
         requires short { length file.now.bytes ≤ 4194304 }
         requires order { AreAscending places.now }
         requires tokens { All (IsPlaceIn file.now.bytes) places.now }
