@@ -15,11 +15,11 @@ use Rattle.c_annotated.specs.declared.statement.Statement.{Statement}
 use Rattle.c_annotated.specs.Views.{OneArm, arms_of}
 use Rattle.c_checking.specs.Answers.{◌>>=◌}
 use Rattle.c_checking.specs.Statements.{Found, Performed, arranged, local_declaration, switch_item, switch_items}
+use Rattle.c_check_locals.specs.Performing.{body_of, statements_after}
+use Rattle.c_check_locals.proofs.InTurn.{followed_in_turn, nothing_after}
+use Rattle.c_check_locals.proofs.Lists.{next_mapped}
 use Rattle.c_check_statements.specs.Arms.{arms_after, arms_with, closed_arm, item_added, joined, unless_empty, went_on, with_closed}
 use Rattle.c_check_statements.specs.Parts.{with_first_arm}
-use Rattle.c_check_statements.specs.Performing.{body_of, statements_after}
-use Rattle.c_check_statements.proofs.InTurn.{followed_in_turn, nothing_after}
-use Rattle.c_check_statements.proofs.Lists.{next_mapped}
 
 joined_in_turn : (one two : List OneArm) (later : Arms) → joined (one ++ two) later ≡ joined one (joined two later)
 joined_in_turn [] two later = refl

@@ -6,14 +6,14 @@ ghost use Rattle.c_typed.specs.Trees.{no_statements};
 ghost use Rattle.c_checking.specs.Statements.{local_declaration as local_declaration_in};
 ghost use Rattle.c_erasure.specs.Statements.{followed_by};
 ghost use Rattle.c_annotated.specs.Nodes.{arm_of};
+ghost use Rattle.c_check_locals.specs.Parts.{alone};
+ghost use Rattle.c_check_locals.specs.Performing.{Performs, body_of, standing};
 ghost use Rattle.c_check_statements.specs.Arms.{arms_with, last_arm_of, unless_empty, went_on, with_closed};
-ghost use Rattle.c_check_statements.specs.Parts.{alone};
-ghost use Rattle.c_check_statements.specs.Performing.{Performs, body_of, standing};
 
-use crate::declarations::local_declaration;
 use crate::labels::ArmLabels;
 use c_annotated::{Arm, Local, Statement};
 use c_ast::Declaration;
+use c_check_locals::local_declaration;
 use c_nodes::Fault;
 use c_scopes::{Block, FileScope};
 use lay_base::{Boxed, List, NoMemory, add};
@@ -86,7 +86,7 @@ pub fn close(alloc: Global, arms: &mut List<Arm>, last: LastArm) -> Result<(), N
 }
 
 /// A statement without labels in the last arm.
-#[tactic(auto, using(crate::proofs::InTurn::longer_body))]
+#[tactic(auto, using(c_check_locals::proofs::InTurn::longer_body))]
 fn go_on(last: &mut LastArm, statement: Boxed<Statement>) -> Result<(), NoMemory>
     ensures { OnOk result (last_arm_of last.new
         ≡ (last.old.has_labels, (last.old.cases, last.old.is_default, followed_by (body_of last.old.statements) (alone statement)))) }

@@ -4,13 +4,12 @@ ghost use Rattle.std.specs.Prelude.{◌≡◌, ◌++◌, IfOk, Ok, OnOk, map};
 ghost use Rattle.std.specs.Option.{option_map};
 ghost use Rattle.c_typed.specs.Trees as Typed;
 ghost use Rattle.c_typed.specs.TypedStatements.{declared_by, declared_by_arms};
-ghost use Rattle.c_erasure.specs.Statements.{followed_by};
 ghost use Rattle.c_annotated.specs.Nodes.{arm_of};
 ghost use Rattle.c_annotated.specs.Views.{arms_of, expression_of, statement_of, statements_of};
 ghost use Rattle.c_nodes.specs.Gives.{Gives};
 ghost use Rattle.c_nodes.specs.Parts.{switch_view};
-ghost use Rattle.c_check_statements.specs.Parts.{alone, number_declared};
-ghost use Rattle.c_check_statements.specs.Performing.{body_of};
+ghost use Rattle.c_check_locals.specs.Performing.{body_of};
+ghost use Rattle.c_check_statements.specs.Parts.{number_declared};
 
 use c_annotated::{Arm, Expression, Statement};
 use c_nodes::{Fault, SwitchValue};
@@ -22,17 +21,6 @@ pub fn statement(alloc: Global, st: Statement) -> Result<Boxed<Statement>, Fault
     ensures { Gives statement_of result (Ok (statement_of st)) }
 {
     Ok(boxed(alloc, st)?)
-}
-
-/// A statement after others.
-#[tactic(auto, using(crate::proofs::InTurn::longer_body))]
-pub fn add_statement(all: &mut List<Statement>, st: Statement) -> Result<(), Fault>
-    ensures { Gives (λ done. body_of all.new) result (Ok (followed_by (body_of all.old) (alone st))) }
-{
-    match add(all, st) {
-        Ok(()) => Ok(()),
-        Err(_) => Err(Fault::Memory),
-    }
 }
 
 /// The local that a statement declares itself.

@@ -10,15 +10,14 @@ ghost use Rattle.c_checking.specs.Statements.{condition as condition_of, conditi
 ghost use Rattle.c_checking.specs.Statements.{jump as jump_in, local_declaration as local_declaration_in, returned_nothing};
 ghost use Rattle.c_checking.specs.Statements.{value_if_any as value_of_option, value_of_expression as value_of};
 ghost use Rattle.c_nodes.specs.Gives.{Gives};
+ghost use Rattle.c_check_locals.specs.Performing.{Performs, body_of, standing};
 ghost use Rattle.c_check_statements.specs.Parts.{value_returned as value_returned_in};
-ghost use Rattle.c_check_statements.specs.Performing.{Performs, body_of, standing};
 
-use crate::declarations::local_declaration;
 use crate::making::statement;
-use crate::places::scope_in;
 use c_annotated::{Expression, Local, Statement};
 use c_ast::{Declaration, ForStart, first_of_declaration, first_of_expression};
 use c_check_expressions::value;
+use c_check_locals::{local_declaration, scope_in};
 use c_declarators::{Storage, storage_of};
 use c_nodes::{Fault, condition as tested, returned};
 use c_scopes::{Block, FileScope};
@@ -143,7 +142,7 @@ fn evaluated(alloc: Global, x: Boxed<Expression>) -> Result<List<Statement>, Fau
 }
 
 /// The statements of a declaration alone.
-#[tactic(auto, using(crate::proofs::InTurn::after_nothing))]
+#[tactic(auto, using(c_check_locals::proofs::InTurn::after_nothing))]
 fn declared(
     alloc: Global,
     d: &Declaration,

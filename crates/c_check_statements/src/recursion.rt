@@ -8,21 +8,20 @@ ghost use Rattle.c_annotated.specs.Nodes.{arm_of};
 ghost use Rattle.c_annotated.specs.Views.{arms_of, statement_of};
 ghost use Rattle.c_checking.specs.Statements.{item_in as item_in_block, items_in as items_in_block, performed as performed_in};
 ghost use Rattle.c_checking.specs.Statements.{switch_item as item_of_switch, switch_items as items_of_switch};
+ghost use Rattle.c_check_locals.specs.Performing.{Performs, body_of, standing, statements_after};
 ghost use Rattle.c_check_statements.specs.Arms.{item_added, last_arm_of};
 ghost use Rattle.c_check_statements.specs.Parts.{switch_labels_of, with_first_arm};
-ghost use Rattle.c_check_statements.specs.Performing.{Performs, body_of, standing, statements_after};
 
 use crate::arms::{LastArm, add_labelled, close, declare_in_arm, first_arm};
-use crate::declarations::local_declaration;
 use crate::labels::{SwitchLabels, labels_in, no_labels};
-use crate::making::{add_statement, block_of, for_of, if_else_of, statement, switch_of};
+use crate::making::{block_of, for_of, if_else_of, statement, switch_of};
 use crate::parts::{
     condition, condition_if_any, jump, nothing_returned, start_of, value_if_any,
     value_of_expression, value_returned,
 };
-use crate::places::{inside, scope_in};
 use c_annotated::{Arm, Local, Statement};
 use c_ast::{BlockItem, SwitchItem, first_of_expression};
+use c_check_locals::{add_statement, inside, local_declaration, scope_in};
 use c_nodes::{Fault, switched};
 use c_scopes::{Block, FileScope};
 use c_types::{IntKind, Ty};
@@ -212,7 +211,7 @@ fn items_in(
 
 /// The items of a block.
 #[cycle(performed)]
-#[tactic(auto, using(crate::proofs::InTurn::after_nothing))]
+#[tactic(auto, using(c_check_locals::proofs::InTurn::after_nothing))]
 pub fn block_items(
     alloc: Global,
     items: &[BlockItem],

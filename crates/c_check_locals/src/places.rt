@@ -4,7 +4,7 @@ ghost use Rattle.std.specs.Prelude.{◌≡◌, ◌∷◌, []};
 ghost use Rattle.c_scopes.specs.declared.file_scope.FileScope.{FileScope};
 ghost use Rattle.c_scopes.specs.Scoping.{scope_of};
 ghost use Rattle.c_scopes.specs.Views.{blocks_of};
-ghost use Rattle.c_check_statements.specs.Performing.{standing};
+ghost use Rattle.c_check_locals.specs.Performing.{standing};
 
 use c_annotated::Local;
 use c_scopes::{Block, BoundNames, Purpose, Scope};

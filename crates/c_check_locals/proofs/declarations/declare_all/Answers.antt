@@ -4,9 +4,9 @@ use Rattle.c_ast.specs.Views.{init_declarator_of}
 use Rattle.c_checking.specs.Answers.{◌>>=◌}
 use Rattle.c_checking.specs.Statements.{declare_all}
 use Rattle.c_check_initializers.proofs.Turns.{fails_along, fails_on}
-use Rattle.c_check_statements.specs.Performing.{body_of, standing, statements_after}
-use Rattle.c_check_statements.proofs.InTurn.{declarators_next, no_declarators}
-use Rattle.c_check_statements.proofs.declarations.declare_all.Goals as goal
+use Rattle.c_check_locals.specs.Performing.{body_of, standing, statements_after}
+use Rattle.c_check_locals.proofs.InTurn.{declarators_next, no_declarators}
+use Rattle.c_check_locals.proofs.declarations.declare_all.Goals as goal
 
 pub returns-in-Err : goal.returns-in-Err
 returns-in-Err c =

@@ -15,12 +15,12 @@ ghost use Rattle.c_declarators.specs.DeclaratorViews.{derivations_of};
 ghost use Rattle.c_nodes.specs.Gives.{Gives};
 ghost use Rattle.c_scopes.specs.Scoping.{scope_of};
 ghost use Rattle.c_check_expressions.specs.Finds.{Finds};
-ghost use Rattle.c_check_statements.specs.Parts.{alone, declared_with, variable_made as variable_made_in};
-ghost use Rattle.c_check_statements.specs.Performing.{Performs, body_of, standing, statements_after};
+ghost use Rattle.c_check_locals.specs.Parts.{alone, declared_with, variable_made as variable_made_in};
+ghost use Rattle.c_check_locals.specs.Performing.{Performs, body_of, standing, statements_after};
 
-use crate::making::add_statement;
 use crate::names::{add_local, add_object, replace_object, static_object};
 use crate::places::scope_in;
+use crate::statements::add_statement;
 use c_annotated::{Bound, Local, Statement};
 use c_ast::{Declaration, InitDeclarator, Spelling, first_of_declaration, first_of_declarator};
 use c_check_expressions::{base, derivations};

@@ -12,7 +12,7 @@ use Rattle.c_checking.specs.Answers.{Answer, ◌>>=◌, Checked, with_file}
 use Rattle.c_checking.specs.Declaring.{Derivation, derived, mentions_in, new_here, with_mention}
 use Rattle.c_checking.specs.Finding.{complete, derivations}
 use Rattle.c_checking.specs.Statements.{sized_in, variable_of, variable_type}
-use Rattle.c_check_statements.specs.Parts.{variable_made}
+use Rattle.c_check_locals.specs.Parts.{variable_made}
 
 -- where the name is new, what follows is answered
 named : {A : Type 0} (x : Spelling) (old : Option Bound) (r : Answer A) → new_here x old r ≡ (new_here x old (Ok (tt {0})) >>= λ done. r)

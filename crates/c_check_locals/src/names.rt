@@ -9,8 +9,8 @@ ghost use Rattle.c_annotated.specs.Views.{initializer_of};
 ghost use Rattle.c_checking.specs.Statements.{with_new_local};
 ghost use Rattle.c_scopes.specs.declared.file_scope.FileScope.{FileScope};
 ghost use Rattle.c_scopes.specs.Views.{blocks_of};
-ghost use Rattle.c_check_statements.specs.Parts.{object_at, with_new_object};
-ghost use Rattle.c_check_statements.specs.Performing.{standing};
+ghost use Rattle.c_check_locals.specs.Parts.{object_at, with_new_object};
+ghost use Rattle.c_check_locals.specs.Performing.{standing};
 
 use c_annotated::{Bound, Entity, How, Initializer, Local, Object};
 use c_ast::Spelling;

@@ -12,7 +12,7 @@ use Rattle.c_erasure.specs.Noted.{Noted}
 use Rattle.c_erasure.specs.Scopes.{AnObject, FileScope, Scope}
 use Rattle.c_checking.specs.Answers.{◌>>=◌, moved}
 use Rattle.c_checking.specs.Statements.{constants_if_any, declare_static, objects_in, replaced_object, static_object, with_static}
-use Rattle.c_check_statements.specs.Parts.{object_at, with_new_object}
+use Rattle.c_check_locals.specs.Parts.{object_at, with_new_object}
 
 pub static_found : (s : Scope) (d : Trees.InitDeclarator) (x : Spelling) (t : CType) (place : Place) (one : Scope) (i : Typed.Initializer Noted)
     (f : FileScope) (o : AnObject) → place ≡ place_in s (first_declarator d.declarator x.from) → one ≡ with_new_object s x place t

@@ -2,8 +2,8 @@ use Rattle.std.proofs.Common.{◌≡◌, map, drop}
 use Rattle.c_types.specs.Views.{type_of}
 use Rattle.c_ast.specs.Views.{init_declarator_of}
 use Rattle.c_checking.specs.Statements.{declare_all}
-use Rattle.c_check_statements.specs.Performing.{body_of, standing, statements_after}
-use Rattle.c_check_statements.proofs.declarations.declare_all.Given as goal
+use Rattle.c_check_locals.specs.Performing.{body_of, standing, statements_after}
+use Rattle.c_check_locals.proofs.declarations.declare_all.Given as goal
 
 abbrev pub invariant-loop-d : goal.invariant-loop-d
 invariant-loop-d l =

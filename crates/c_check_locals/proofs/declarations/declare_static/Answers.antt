@@ -10,9 +10,9 @@ use Rattle.c_annotated.specs.Views.{initializer_of}
 use Rattle.c_checking.specs.Answers.{moved}
 use Rattle.c_checking.specs.Statements.{constants_if_any}
 use Rattle.c_scopes.specs.Scoping.{file_of}
-use Rattle.c_check_statements.specs.Performing.{standing}
-use Rattle.c_check_statements.proofs.StaticObjects.{static_found}
-use Rattle.c_check_statements.proofs.declarations.declare_static.Goals as goal
+use Rattle.c_check_locals.specs.Performing.{standing}
+use Rattle.c_check_locals.proofs.StaticObjects.{static_found}
+use Rattle.c_check_locals.proofs.declarations.declare_static.Goals as goal
 
 pub returns : goal.returns
 returns c =
