@@ -1,22 +1,18 @@
 -- Statements in turn: those of one item, and of those after it.
-use Rattle.std.proofs.Common.{◌≡◌, ◌∙◌, ◌<◌, ◌≤◌, ℕ, ◌+◌, List, ◌∷◌, length, drop, get_or, Bool, refl, ap}
-use Rattle.std.specs.Prelude.{Ok, Some, None, map}
+use Rattle.std.proofs.Common.{◌≡◌, ◌∙◌, ◌<◌, ◌≤◌, ℕ, ◌+◌, List, length, drop, get_or, Bool, ap}
+use Rattle.std.specs.Prelude.{Ok, map}
 use Rattle.std.proofs.lemmas.List.{at_drop_all}
 use Rattle.c_types.specs.Types.{CType}
 use Rattle.c_ast.specs.declared.statement.BlockItem.{BlockItem}
 use Rattle.c_ast.specs.Trees
 use Rattle.c_ast.specs.Views.{block_item_of, block_items_of}
-use Rattle.c_typed.specs.Trees as Typed
-use Rattle.c_typed.specs.TypedStatements.{declared_by}
 use Rattle.c_erasure.specs.Scopes.{Scope}
 use Rattle.c_erasure.specs.Statements.{Statements}
-use Rattle.c_annotated.specs.Views.{AStatement}
 use Rattle.c_checking.specs.Answers.{◌>>=◌}
 use Rattle.c_checking.specs.Statements.{item_in, items_in}
 use Rattle.c_check_locals.specs.Performing.{statements_after}
 use Rattle.c_check_locals.proofs.InTurn.{in_turn, nothing_after}
 use Rattle.c_check_locals.proofs.Lists.{next_mapped}
-use Rattle.c_check_statements.specs.Parts.{number_declared}
 
 pub items_turn : (result : CType) (before : Statements) (e : Trees.BlockItem) (more : Trees.BlockItems) (s : Scope) (loop switch : Bool)
     → statements_after before (items_in result (Trees.and_block_item e more) s loop switch)
@@ -28,16 +24,6 @@ pub items_end : (result : CType) (before : Statements) (s : Scope) (loop switch 
     → statements_after before (items_in result Trees.no_block_items s loop switch) ≡ Ok (before, s)
 unfolding items_in
 items_end result before s loop switch = ap (λ all. Ok (all, s)) (nothing_after before)
-
--- ---- the locals that statements declare
-
-pub declared_number : (st : AStatement) (more : Statements) (n : ℕ) → number_declared st ≡ Some n → declared_by (Typed.and_statement st more) ≡ n ∷ declared_by more
-declared_number (Typed.declare m initial) more n h = cc
-declared_number st more n h = cc
-
-pub declared_nothing : (st : AStatement) (more : Statements) → number_declared st ≡ None → declared_by (Typed.and_statement st more) ≡ declared_by more
-declared_nothing (Typed.declare m initial) more h = cc
-declared_nothing st more h = refl
 
 -- ---- the next item of a list, and its end
 

@@ -1,3 +1,1 @@
 pub mod InTurn
-pub mod LabelsInTurn
-pub mod ArmsInTurn

@@ -18,8 +18,8 @@ use Rattle.c_checking.specs.Statements.{Found, Performed, arranged, local_declar
 use Rattle.c_check_locals.specs.Performing.{body_of, statements_after}
 use Rattle.c_check_locals.proofs.InTurn.{followed_in_turn, nothing_after}
 use Rattle.c_check_locals.proofs.Lists.{next_mapped}
-use Rattle.c_check_statements.specs.Arms.{arms_after, arms_with, closed_arm, item_added, joined, unless_empty, went_on, with_closed}
-use Rattle.c_check_statements.specs.Parts.{with_first_arm}
+use Rattle.c_check_statement_parts.specs.Arms.{arms_after, arms_with, closed_arm, item_added, joined, unless_empty, went_on, with_closed}
+use Rattle.c_check_statement_parts.specs.Parts.{with_first_arm}
 
 joined_in_turn : (one two : List OneArm) (later : Arms) → joined (one ++ two) later ≡ joined one (joined two later)
 joined_in_turn [] two later = refl

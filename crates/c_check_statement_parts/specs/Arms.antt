@@ -7,7 +7,7 @@ use Rattle.c_annotated.specs.Views.{OneArm}
 use Rattle.c_checking.specs.Answers.{◌>>=◌}
 use Rattle.c_checking.specs.Statements.{Found, Performed}
 use Rattle.c_check_locals.specs.Performing.{body_of}
-use Rattle.c_check_statements.specs.declared.arms.LastArm.{LastArm}
+use Rattle.c_check_statement_parts.specs.declared.arms.LastArm.{LastArm}
 
 -- the last arm: whether it has labels, and what stands in it up to there
 abbrev pub last_arm_of : LastArm → Bool × OneArm

@@ -1,8 +1,8 @@
 use Rattle.std.proofs.Common.{◌≡◌, ◌∙◌, ◌++◌, ◌∷◌, [], Bool, false, ap, sym, refl}
 use Rattle.std.specs.Prelude.{◌==◌, if◌then◌else◌}
 use Rattle.std.specs.List.{list_any}
-use Rattle.c_check_statements.proofs.LabelsInTurn.{case_added}
-use Rattle.c_check_statements.proofs.labels.with_case.Goals as goal
+use Rattle.c_check_statement_parts.proofs.LabelsInTurn.{case_added}
+use Rattle.c_check_statement_parts.proofs.labels.with_case.Goals as goal
 
 pub returns-in-Ok : goal.returns-in-Ok
 returns-in-Ok c =

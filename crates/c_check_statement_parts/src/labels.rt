@@ -7,7 +7,7 @@ ghost use Rattle.c_checking.specs.Statements.{labels_in as labels_in_switch, wit
 ghost use Rattle.c_nodes.specs.Gives.{Gives};
 ghost use Rattle.c_scopes.specs.Scoping.{scope_of};
 ghost use Rattle.c_check_expressions.specs.Finds.{Finds};
-ghost use Rattle.c_check_statements.specs.Parts.{case_in, default_in, labels_after, labels_of, switch_labels_of};
+ghost use Rattle.c_check_statement_parts.specs.Parts.{case_in, default_in, labels_after, labels_of, switch_labels_of};
 
 use c_ast::Label;
 use c_check_expressions::constant;

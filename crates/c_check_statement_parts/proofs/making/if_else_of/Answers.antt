@@ -5,7 +5,7 @@ use Rattle.c_annotated.specs.declared.statement.Statement.{the_lemmas}
 use Rattle.c_annotated.specs.declared.statement.Statement.TheVariants as S
 use Rattle.c_annotated.specs.Views.{AStatement, expression_of, statement_of}
 use Rattle.c_nodes.specs.Gives.{Gives}
-use Rattle.c_check_statements.proofs.making.if_else_of.Goals as goal
+use Rattle.c_check_statement_parts.proofs.making.if_else_of.Goals as goal
 
 pub returns : goal.returns
 returns c =

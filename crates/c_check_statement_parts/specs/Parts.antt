@@ -9,8 +9,8 @@ use Rattle.c_erasure.specs.Statements.{Arms, Statement, Statements, with_first}
 use Rattle.c_checking.specs.Answers.{Answer, ◌>>=◌, Checked}
 use Rattle.c_checking.specs.Statements.{Found, Performed, returned_in, unless_void}
 use Rattle.c_checking.specs.Statements.{value_of_expression, with_case, with_default}
-use Rattle.c_check_statements.specs.declared.labels.ArmLabels.{ArmLabels}
-use Rattle.c_check_statements.specs.declared.labels.SwitchLabels.{SwitchLabels}
+use Rattle.c_check_statement_parts.specs.declared.labels.ArmLabels.{ArmLabels}
+use Rattle.c_check_statement_parts.specs.declared.labels.SwitchLabels.{SwitchLabels}
 
 -- ---- what a function gives
 

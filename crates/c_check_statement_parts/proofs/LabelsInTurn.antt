@@ -17,8 +17,8 @@ use Rattle.c_checking.specs.Answers.{Answer, ◌>>=◌, Checked, moved, refused,
 use Rattle.c_checking.specs.Finding.{constant_at, find, value_at}
 use Rattle.c_checking.specs.Statements.{Found, labels_in, with_case, with_default}
 use Rattle.c_check_locals.proofs.Lists.{next_mapped}
-use Rattle.c_check_statements.specs.declared.labels.SwitchLabels.{SwitchLabels}
-use Rattle.c_check_statements.specs.Parts.{case_in, default_in, labels_after, switch_labels_of}
+use Rattle.c_check_statement_parts.specs.declared.labels.SwitchLabels.{SwitchLabels}
+use Rattle.c_check_statement_parts.specs.Parts.{case_in, default_in, labels_after, switch_labels_of}
 
 or_false : (b : Bool) → (b || false) ≡ b
 or_false true = refl

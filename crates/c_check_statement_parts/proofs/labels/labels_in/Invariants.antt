@@ -2,8 +2,8 @@ use Rattle.std.proofs.Common.{◌≡◌, map, drop}
 use Rattle.c_ast.specs.Views.{label_of}
 use Rattle.c_checking.specs.Statements.{labels_in}
 use Rattle.c_scopes.specs.Scoping.{scope_of}
-use Rattle.c_check_statements.specs.Parts.{labels_after, switch_labels_of}
-use Rattle.c_check_statements.proofs.labels.labels_in.Given as goal
+use Rattle.c_check_statement_parts.specs.Parts.{labels_after, switch_labels_of}
+use Rattle.c_check_statement_parts.proofs.labels.labels_in.Given as goal
 
 abbrev pub invariant-loop-label : goal.invariant-loop-label
 invariant-loop-label l =

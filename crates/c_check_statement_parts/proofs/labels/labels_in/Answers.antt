@@ -4,9 +4,9 @@ use Rattle.c_checking.specs.Answers.{◌>>=◌, moved}
 use Rattle.c_checking.specs.Statements.{labels_in}
 use Rattle.c_scopes.specs.Scoping.{scope_of}
 use Rattle.c_check_initializers.proofs.Turns.{fails_along, fails_on}
-use Rattle.c_check_statements.specs.Parts.{labels_after, switch_labels_of}
-use Rattle.c_check_statements.proofs.LabelsInTurn.{labels_end, labels_next}
-use Rattle.c_check_statements.proofs.labels.labels_in.Goals as goal
+use Rattle.c_check_statement_parts.specs.Parts.{labels_after, switch_labels_of}
+use Rattle.c_check_statement_parts.proofs.LabelsInTurn.{labels_end, labels_next}
+use Rattle.c_check_statement_parts.proofs.labels.labels_in.Goals as goal
 
 pub returns-in-Err : goal.returns-in-Err
 returns-in-Err c =

@@ -8,7 +8,7 @@ ghost use Rattle.c_erasure.specs.Statements.{followed_by};
 ghost use Rattle.c_annotated.specs.Nodes.{arm_of};
 ghost use Rattle.c_check_locals.specs.Parts.{alone};
 ghost use Rattle.c_check_locals.specs.Performing.{Performs, body_of, standing};
-ghost use Rattle.c_check_statements.specs.Arms.{arms_with, last_arm_of, unless_empty, went_on, with_closed};
+ghost use Rattle.c_check_statement_parts.specs.Arms.{arms_with, last_arm_of, unless_empty, went_on, with_closed};
 
 use crate::labels::ArmLabels;
 use c_annotated::{Arm, Local, Statement};

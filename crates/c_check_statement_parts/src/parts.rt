@@ -11,7 +11,7 @@ ghost use Rattle.c_checking.specs.Statements.{jump as jump_in, local_declaration
 ghost use Rattle.c_checking.specs.Statements.{value_if_any as value_of_option, value_of_expression as value_of};
 ghost use Rattle.c_nodes.specs.Gives.{Gives};
 ghost use Rattle.c_check_locals.specs.Performing.{Performs, body_of, standing};
-ghost use Rattle.c_check_statements.specs.Parts.{value_returned as value_returned_in};
+ghost use Rattle.c_check_statement_parts.specs.Parts.{value_returned as value_returned_in};
 
 use crate::making::statement;
 use c_annotated::{Expression, Local, Statement};

@@ -9,7 +9,7 @@ ghost use Rattle.c_annotated.specs.Views.{arms_of, expression_of, statement_of, 
 ghost use Rattle.c_nodes.specs.Gives.{Gives};
 ghost use Rattle.c_nodes.specs.Parts.{switch_view};
 ghost use Rattle.c_check_locals.specs.Performing.{body_of};
-ghost use Rattle.c_check_statements.specs.Parts.{number_declared};
+ghost use Rattle.c_check_statement_parts.specs.Parts.{number_declared};
 
 use c_annotated::{Arm, Expression, Statement};
 use c_nodes::{Fault, SwitchValue};
@@ -34,7 +34,7 @@ fn number_declared(st: &Statement) -> Option<u32>
 }
 
 /// The locals that statements declare themselves, after others.
-#[tactic(auto, using(crate::proofs::InTurn::declared_number, crate::proofs::InTurn::declared_nothing))]
+#[tactic(auto, using(crate::proofs::Declared::declared_number, crate::proofs::Declared::declared_nothing))]
 fn add_declared(locals: &mut List<u32>, all: &[Statement]) -> Result<(), NoMemory>
     ensures { OnOk result (locals.new ≡ locals.old ++ declared_by (statements_of (map statement_of all.now))) }
 {
