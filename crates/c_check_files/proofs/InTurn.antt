@@ -15,7 +15,7 @@ use Rattle.c_erasure.specs.Scopes.{FileScope}
 use Rattle.c_erasure.specs.Specifiers.{Storage}
 use Rattle.c_checking.specs.Answers.{◌>>=◌}
 use Rattle.c_checking.specs.Files.{declarator_named, file_declarators, filed, filed_item}
-use Rattle.c_check_statements.proofs.Lists.{next_mapped}
+use Rattle.c_check_locals.proofs.Lists.{next_mapped}
 
 module _ (all : List InitDeclarator) (i : ℕ) where
   pub next_comma : (d : InitDeclarator) (semicolon : ℕ) → i + 1 < length all → d ≡ get_or all (i + 1) d

@@ -2,8 +2,8 @@
 use Rattle.std.specs.Prelude.{◌≡◌, ◌++◌, List, []}
 use Rattle.c_ast.specs.Trees
 use Rattle.c_erasure.specs.Marks.{marks_of_file, firsts, tags_in, ends_in, defined_in, undefined_in}
+use Rattle.c_struct_places.specs.Untagged.{untagged_by}
 use Rattle.c_tags.specs.TagLists.{TagLists}
-use Rattle.c_tags.specs.Untagged.{untagged_by}
 
 -- the lists of those items, whose structures without a tag have the tags of the lists
 pub record AreListsOf (items : List Trees.Item) (t : TagLists) : Type 0 where

@@ -20,7 +20,8 @@ ghost use Rattle.c_check_files.specs.Defined.{body_in, function_defined, functio
 use c_annotated::{Local, Statement};
 use c_ast::{Function, Spelling, first_of_declarator, first_of_specifiers};
 use c_check_expressions::{base, derivations};
-use c_check_statements::{Around, block_items, block_of};
+use c_check_statement_parts::block_of;
+use c_check_statements::{Around, block_items};
 use c_declarators::{Shape, Storage, derived, storage_of};
 use c_declaring::{declared_name, mention};
 use c_externals::{

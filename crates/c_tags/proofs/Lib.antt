@@ -3,9 +3,5 @@ pub mod NextScopes
 pub mod Numbers
 pub mod TagTables
 pub mod Searching
-pub mod Counting
-pub mod Tagging
 pub mod Folds
-pub mod Structs
 pub mod Different
-pub mod StructTokens

@@ -9,21 +9,11 @@ use Rattle.std.proofs.lemmas.Slice.Eq.{bytes_eq-Decides}
 use Rattle.indexmap.specs.IndexMap.{insert_entry}
 use Rattle.c_erasure.specs.Scopes.{or_else}
 use Rattle.c_erasure.specs.Marks.{is_among}
+use Rattle.c_struct_places.proofs.Inserting.{inserted_last}
 use Rattle.c_tags.specs.Keys.{found_at}
 use Rattle.c_tags.specs.Names.{number_in, with_new}
 
 -- ---- tables
-
--- a key that is not there goes last
-pub inserted_last : {K V : Type 0} (eq : K → K → Bool) (es : List (K × V)) (k : K) (v : V) → lookup (eq k) es ≡ None
-    → insert_entry eq es k v ≡ es ++ (k, v) ∷ []
-inserted_last eq [] k v h = refl
-inserted_last {K} {V} eq (e ∷ es) k v h = by (eq k e.0) h (inserted_last eq es k v)
-  where
-    by : (b : Bool) → cond b (Some e.1) (lookup (eq k) es) ≡ None → (lookup (eq k) es ≡ None → insert_entry eq es k v ≡ es ++ (k, v) ∷ [])
-        → (if b then (e.0, v) ∷ es else e ∷ insert_entry eq es k v) ≡ e ∷ (es ++ (k, v) ∷ [])
-    by true h rest = cc
-    by false h rest = ap (λ more. e ∷ more) (rest h)
 
 pub found_more : {V : Type 0} (es : List (Vec ℕ × V)) (k : Vec ℕ) (v : V) (x : List ℕ)
     → found_at (es ++ (k, v) ∷ []) x ≡ or_else (found_at es x) (if bytes_eq x k.items then Some v else None)

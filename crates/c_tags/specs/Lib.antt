@@ -1,7 +1,5 @@
 pub mod Marks
-pub mod Untagged
 pub mod Keys
 pub mod Names
 pub mod Tables
 pub mod TagLists
-pub mod StructPlaces

@@ -3,16 +3,16 @@
 ghost use Rattle.std.specs.Prelude.{◌≡◌, ◌<◌, ◌^◌, ◌++◌, [], ◌∷◌, IfOk, OnOk, length};
 ghost use Rattle.c_ast.specs.Views.{items_of};
 ghost use Rattle.c_erasure.specs.Marks.{defined_in, ends_in, firsts, marks_of_file, tags_in, undefined_in};
+ghost use Rattle.c_struct_places.specs.Untagged.{untagged_by};
 ghost use Rattle.c_tags.specs.Marks.{mark_of, marks_in};
 ghost use Rattle.c_tags.specs.Tables.{after_structure, after_tag};
-ghost use Rattle.c_tags.specs.Untagged.{untagged_by};
 
 use crate::marks::{Mark, Marks};
 use crate::names::Names;
 use crate::table::TagTable;
-use crate::untagged::Untagged;
 use crate::walk::file_marks;
 use c_ast::Tree;
+use c_struct_places::Untagged;
 use lay_base::NoMemory;
 use std::alloc::Global;
 

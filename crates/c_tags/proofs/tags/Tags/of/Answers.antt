@@ -2,7 +2,7 @@ use Rattle.std.proofs.Common.{sym, subst}
 use Rattle.c_ast.specs.Views.{items_of}
 use Rattle.c_erasure.specs.Files.{AreAscending}
 use Rattle.c_order.proofs.Ordered.{marks_are_in_order}
-use Rattle.c_tags.specs.Untagged.{untagged_by}
+use Rattle.c_struct_places.specs.Untagged.{untagged_by}
 use Rattle.c_tags.proofs.tags.Tags.of.Goals as goal
 
 pub invariant_of-result : goal.invariant_of-result

@@ -1,0 +1,4 @@
+pub mod Lists
+pub mod InTurn
+pub mod Variables
+pub mod StaticObjects

@@ -1,0 +1,5 @@
+pub mod Inserting
+pub mod Counting
+pub mod Tagging
+pub mod Structs
+pub mod StructTokens
