@@ -19,7 +19,7 @@ use std::io::{self, Write};
 /// The most bytes of a profile.
 const LONGEST: usize = 67_108_864;
 
-/// The most functions of a program.
+/// The most functions that a program may have here, as many as its nodes may be.
 const MOST_FUNCTIONS: usize = 131_072;
 
 /// What is asked of the text of a profile.
@@ -33,9 +33,8 @@ pub enum Question {
     Fit,
 }
 
-/// What a block of lines asks, and its name, where it is a row about a profile.
-pub fn question_in(block: &str) -> Option<(Question, &str)> {
-    let line = head_of(block).split('\n').find(|line| !is_comment(line))?;
+/// What the first line of a row asks of a profile, and the name of the row.
+fn question_of(line: &str) -> Option<(Question, &str)> {
     let (word, name) = line.split_once(' ')?;
     match word {
         "profile" => Some((Question::Text, name)),
@@ -43,6 +42,16 @@ pub fn question_in(block: &str) -> Option<(Question, &str)> {
         "fits" => Some((Question::Fit, name)),
         _ => None,
     }
+}
+
+/// What a block of lines asks of a profile, and its name, where it is a row about one.
+pub fn question_in(block: &str) -> Option<(Question, &str)> {
+    for line in head_of(block).split('\n') {
+        if !is_comment(line) {
+            return question_of(line);
+        }
+    }
+    None
 }
 
 fn put_refusal(out: &mut Writer, fault: &ProfileFault) {
