@@ -1,5 +1,5 @@
 #!/usr/bin/env python3
-"""Makes what the program `crates/front_rows` is run on, and what it has to print, from `checker_rows/*.txt`.
+"""Makes what the program `crates/front_rows` is run on, and what it has to print, from `checker_rows/*.txt` and `profile_rows.txt`.
 
 With `--check` it writes nothing, and the exit status is 1 where a file is another than the rows have it."""
 
@@ -12,6 +12,8 @@ import checking
 from checking import HERE, check
 
 FOLDER = os.path.join(HERE, "crates", "front_rows")
+# Rows as they stand on the input, each with what has to be printed after its name below it, after `=`.
+PROFILE_ROWS = os.path.join(HERE, "tools", "profile_rows.txt")
 # Of a character that stands more often than this the number is written.
 MOST_TIMES = 200
 
@@ -64,12 +66,27 @@ def answer_of(row):
     return f" {' '.join(words)}"
 
 
+def of_checker_rows():
+    """The name of each row on files of C, its block on the input, and its answer."""
+    for row in checker_rows.every_row():
+        if row.answer != "open":
+            yield row.name, "\n".join(asked(row)), answer_of(row)
+
+
+def of_profile_rows():
+    """The same of each row on profiles."""
+    text = re.sub(r"(?m)^#.*\n", "", text_in(PROFILE_ROWS))
+    for block in text.strip().split("\n\n"):
+        lines, _, answer = block.partition("\n=")
+        yield lines.split("\n")[0].split(" ")[1], lines, answer
+
+
 def files():
     """The text of each file by its path."""
-    rows = [row for row in checker_rows.every_row() if row.answer != "open"]
-    blocks = ["\n".join(asked(row)) + "\n" for row in rows]
-    yield os.path.join(FOLDER, "stdin"), "\n".join(blocks)
-    yield os.path.join(FOLDER, "stdout"), "".join(f"{row.name}:{answer_of(row)}\n" for row in rows)
+    rows = [*of_checker_rows(), *of_profile_rows()]
+    assert len({name for name, _, _ in rows}) == len(rows), "two rows have one name"
+    yield os.path.join(FOLDER, "stdin"), "\n\n".join(block for _, block, _ in rows) + "\n"
+    yield os.path.join(FOLDER, "stdout"), "".join(f"{name}:{answer}\n" for name, _, answer in rows)
 
 
 def text_in(path):

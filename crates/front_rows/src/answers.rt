@@ -14,7 +14,7 @@ use std::alloc::Global;
 use std::io::{self, Write};
 
 /// Whether there are at most 64 files, of at most 4 MiB each.
-fn are_within_bounds(files: &[File]) -> bool
+pub fn are_within_bounds(files: &[File]) -> bool
     ensures { IsTrue result → (length files.now ≤ 64) × All (λ file. length file.bytes ≤ 4194304) files.now }
 {
     files.len() <= 64 && files.iter().all(|file| file.bytes.len() <= 4_194_304)

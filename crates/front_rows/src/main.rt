@@ -1,13 +1,15 @@
-//! Reads rows of C files and prints what the front end makes of each, to be compared with what was written down by
+//! Reads rows of C files and of profiles, and prints what is made of each, to be compared with what was written down by
 //! hand.
 //!
 //! A row is a block of lines: `check NAME`, `link NAME` or `show NAME`; `places 5 9` where a fault may stand at either
-//! byte; and its files, as `row_lines` has them. For each row the program prints `NAME: ` and what became of its files.
+//! byte; and its files, as `row_lines` has them. Or it is `profile NAME`, `fronts NAME` or `fits NAME`, with files of
+//! which the last is a profile. For each row the program prints `NAME: ` and what became of its files.
 //! At a block that is no row it stops with status 1; those above have been answered.
 #![tactic(auto)]
 
 mod answers;
 mod faults;
+mod profiles;
 mod program_text;
 mod row;
 mod type_text;
@@ -22,9 +24,11 @@ use std::io::{self, BufWriter, Write};
 
 /// Answers a row.
 fn answer_row<W: Write>(alloc: Global, block: &str, output: &mut W) -> anyhow::Result<()> {
-    let row = row_in(alloc, block)?;
     let files = files_in(alloc, block)?;
-    put_answer(alloc, &row, &files, output)?;
+    match profiles::question_in(block) {
+        Some((question, name)) => profiles::put_answer(alloc, question, name, files, output)?,
+        None => put_answer(alloc, &row_in(alloc, block)?, &files, output)?,
+    }
     Ok(())
 }
 

@@ -1,0 +1,198 @@
+//! Rows about profiles: texts that are read, and written again; texts that are cut off; and whether a profile fits a program.
+
+ghost use Rattle.std.specs.Prelude.{◌≤◌, ◌<◌, ◌^◌, All, IsTrue, length};
+ghost use Rattle.c_counts.specs.Loops.{loops_of};
+ghost use Rattle.c_typed.specs.Programs.{data_of};
+
+use crate::answers::are_within_bounds;
+use crate::faults::{Spots, put_fault};
+use crate::writer::Writer;
+use c_counts::{Counts, loops_within};
+use c_typed::{Function, Typed};
+use lay_base::{Files, Stale};
+use lay_compile::front;
+use profile_file::{ProfileFault, fits, read, write};
+use row_lines::{head_of, is_comment, put_lines};
+use std::alloc::Global;
+use std::io::{self, Write};
+
+/// The most bytes of a profile.
+const LONGEST: usize = 67_108_864;
+
+/// The most functions that a program may have here, as many as its nodes may be.
+const MOST_FUNCTIONS: usize = 131_072;
+
+/// What is asked of the text of a profile.
+#[derive(Clone, Copy)]
+pub enum Question {
+    /// Which text the counts have that are read from it.
+    Text,
+    /// At which line each front of it is refused.
+    Fronts,
+    /// Whether it fits the program of the files before it.
+    Fit,
+}
+
+/// What the first line of a row asks of a profile, and the name of the row.
+fn question_of(line: &str) -> Option<(Question, &str)> {
+    let (word, name) = line.split_once(' ')?;
+    match word {
+        "profile" => Some((Question::Text, name)),
+        "fronts" => Some((Question::Fronts, name)),
+        "fits" => Some((Question::Fit, name)),
+        _ => None,
+    }
+}
+
+/// What a block of lines asks of a profile, and its name, where it is a row about one.
+pub fn question_in(block: &str) -> Option<(Question, &str)> {
+    for line in head_of(block).split('\n') {
+        if !is_comment(line) {
+            return question_of(line);
+        }
+    }
+    None
+}
+
+fn put_refusal(out: &mut Writer, fault: &ProfileFault) {
+    match fault {
+        ProfileFault::BadProfile(line) => {
+            out.word("BadProfile at line");
+            out.number(u64::from(*line));
+        }
+        ProfileFault::Memory => out.word("out of memory"),
+    }
+}
+
+/// A text by lines that stand for it, below the name of its row.
+fn put_lines_of(out: &mut Writer, alloc: Global, text: &[u8]) {
+    let mut lines = Vec::new(alloc);
+    if put_lines(&mut lines, text).is_err() {
+        return out.word("out of memory");
+    }
+    out.add(b"\n");
+    out.add(lines.as_slice().strip_suffix(b"\n").unwrap_or_default());
+}
+
+fn put_counts(out: &mut Writer, alloc: Global, counts: &Counts) {
+    match write(alloc, counts) {
+        Ok(text) => put_lines_of(out, alloc, text.as_slice()),
+        Err(_) => out.word("out of memory"),
+    }
+}
+
+fn put_text(out: &mut Writer, alloc: Global, text: &[u8])
+    requires { length text.now ≤ 67108864 }
+{
+    match read(alloc, text) {
+        Ok(counts) => put_counts(out, alloc, &counts),
+        Err(fault) => put_refusal(out, &fault),
+    }
+}
+
+/// The number of the line at which a text is refused.
+fn put_line(out: &mut Writer, alloc: Global, text: &[u8])
+    requires { length text.now ≤ 67108864 }
+{
+    match read(alloc, text) {
+        Ok(_) => out.word("read"),
+        Err(ProfileFault::BadProfile(line)) => out.number(u64::from(line)),
+        Err(ProfileFault::Memory) => out.word("out of memory"),
+    }
+}
+
+/// The line for each front of a text, from the empty one on, but not the whole.
+fn put_fronts(out: &mut Writer, alloc: Global, text: &[u8])
+    requires { length text.now ≤ 67108864 }
+{
+    for count in 0..text.len() {
+        put_line(out, alloc, &text[..count]);
+    }
+}
+
+fn put_difference(out: &mut Writer, difference: &Stale) {
+    out.value(&difference.kind);
+    out.word("at function");
+    out.number(u64::from(difference.function));
+    out.word("expected");
+    out.number(difference.expected);
+    out.word("found");
+    out.number(difference.found);
+}
+
+/// Whether functions and their loops are as few as `fits` asks for.
+fn are_few(functions: &[Function]) -> bool
+    ensures { IsTrue result → (length functions.now < 2 ^ 32) × All (λ f. loops_of (data_of f) < 2 ^ 32) functions.now }
+{
+    functions.len() <= MOST_FUNCTIONS && functions.iter().all(|f| loops_within(f) < u32::MAX)
+}
+
+fn put_fit(out: &mut Writer, counts: &Counts, program: &Typed) {
+    if !are_few(program.functions.as_slice()) {
+        return out.word("too many functions or loops");
+    }
+    match fits(counts, program) {
+        Ok(()) => out.word("fits"),
+        Err(difference) => put_difference(out, &difference),
+    }
+}
+
+fn put_fit_of(out: &mut Writer, alloc: Global, text: &[u8], program: &Typed)
+    requires { length text.now ≤ 67108864 }
+{
+    match read(alloc, text) {
+        Ok(counts) => put_fit(out, &counts, program),
+        Err(fault) => put_refusal(out, &fault),
+    }
+}
+
+/// Whether a profile fits the program of some files.
+fn put_fit_of_files(out: &mut Writer, alloc: Global, text: &[u8], files: &Files)
+    requires { length text.now ≤ 67108864 }
+{
+    if !are_within_bounds(files.as_slice()) {
+        return out.word("too many files or bytes");
+    }
+    match front(alloc, files) {
+        Ok(program) => put_fit_of(out, alloc, text, &program),
+        Err(fault) => put_fault(
+            out,
+            Spots {
+                files: files.as_slice(),
+                places: &[],
+            },
+            &fault,
+        ),
+    }
+}
+
+fn put_of_files(out: &mut Writer, alloc: Global, question: Question, mut files: Files) {
+    let Some(profile) = files.pop() else {
+        return out.word("no profile");
+    };
+    let text = profile.bytes.as_slice();
+    if text.len() > LONGEST {
+        return out.word("too many bytes");
+    }
+    match question {
+        Question::Text => put_text(out, alloc, text),
+        Question::Fronts => put_fronts(out, alloc, text),
+        Question::Fit => put_fit_of_files(out, alloc, text, &files),
+    }
+}
+
+/// Writes the name of a row, and what becomes of the profile, which is its last file.
+pub fn put_answer<W: Write>(
+    alloc: Global,
+    question: Question,
+    name: &str,
+    files: Files,
+    output: &mut W,
+) -> io::Result<()> {
+    let mut text = Writer::new(alloc);
+    text.word(name);
+    text.add(b":");
+    put_of_files(&mut text, alloc, question, files);
+    text.add(b"\n");
+    output.write_all(text.written()?)
+}
