@@ -11,7 +11,6 @@ mod faults;
 mod program_text;
 mod row;
 mod type_text;
-mod writer;
 
 use answers::put_answer;
 use anyhow::Context;

@@ -1,13 +1,13 @@
 //! Programs as text: their parts on lines of their own, after the word for each, in parentheses.
 
 use crate::type_text::{put_kind, put_type, put_type_at};
-use crate::writer::Writer;
 use c_typed::{
     Function, Initial, InitialValue, Local, Mention, MentionKind, Object, Statement, Typed,
 };
 use c_types::{Field, Record, Ty};
 use c_uses::{Reference, references_by_statement};
 use lay_base::{List, Place};
+use row_lines::Writer;
 use std::alloc::{AllocError, Global};
 
 fn put_place(out: &mut Writer, place: Place) {
