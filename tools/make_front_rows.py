@@ -3,15 +3,12 @@
 
 With `--check` it writes nothing, and the exit status is 1 where a file is another than the rows have it."""
 
-import os
 import re
 import sys
 
 import checker_rows
-import checking
-from checking import HERE, check
+import row_files
 
-FOLDER = os.path.join(HERE, "crates", "front_rows")
 # Of a character that stands more often than this the number is written.
 MOST_TIMES = 200
 
@@ -64,32 +61,10 @@ def answer_of(row):
     return f" {' '.join(words)}"
 
 
-def files():
-    """The text of each file by its path."""
+def main():
     rows = [row for row in checker_rows.every_row() if row.answer != "open"]
     blocks = ["\n".join(asked(row)) + "\n" for row in rows]
-    yield os.path.join(FOLDER, "stdin"), "\n".join(blocks)
-    yield os.path.join(FOLDER, "stdout"), "".join(f"{row.name}:{answer_of(row)}\n" for row in rows)
-
-
-def text_in(path):
-    if not os.path.exists(path):
-        return None
-    with open(path) as f:
-        return f.read()
-
-
-def main():
-    made = list(files())
-    if "--check" not in sys.argv:
-        for path, text in made:
-            with open(path, "w") as f:
-                f.write(text)
-        return 0
-    for path, text in made:
-        check(text_in(path) == text, f"{os.path.relpath(path, HERE)} is not what tools/make_front_rows.py makes of the rows")
-    print(f"rows of the front end: {checking.made - checking.failed} of {checking.made} files are as the rows have them")
-    return 1 if checking.failed else 0
+    return row_files.main("front_rows", blocks, [f"{row.name}:{answer_of(row)}\n" for row in rows])
 
 
 if __name__ == "__main__":

@@ -6,6 +6,7 @@
 //! At a block that is no row it stops with status 1; those above have been answered.
 #![tactic(auto)]
 
+mod allocation_text;
 mod answers;
 mod faults;
 mod program_text;
