@@ -1,6 +1,6 @@
 //! What is asked of the tree of a text.
 
-ghost use Rattle.std.specs.Prelude.{◌≡◌, ◌≤◌, All, length, map};
+ghost use Rattle.std.specs.Prelude.{◌≡◌, ◌≤◌, All, length};
 ghost use Rattle.c_ast.specs.Sizes.{IsCountable, size_item, size_items};
 ghost use Rattle.c_ast.specs.TreesOfFiles.{IsTreeOf};
 ghost use Rattle.c_ast.specs.Views.{item_of, items_of};
@@ -61,7 +61,7 @@ fn put_size(out: &mut Writer, tree: &Tree)
 
 /// The number of nodes of each item.
 fn put_items(out: &mut Writer, items: &[Item])
-    requires { All (λ item. IsCountable (size_item item)) (map item_of items.now) }
+    requires { All (λ item. IsCountable (size_item (item_of item))) items.now }
 {
     for item in items {
         out.number(nodes_of_item(item));
@@ -78,6 +78,7 @@ fn put_tags_of(out: &mut Writer, alloc: Global, file: &File, tokens: &Tokens, tr
     }
 }
 
+#[tactic(auto, using(crate::proofs::Items::are_countable))]
 fn put_asked(
     out: &mut Writer,
     alloc: Global,
