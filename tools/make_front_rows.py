@@ -8,10 +8,9 @@ import re
 import sys
 
 import checker_rows
-import checking
-from checking import HERE, check
+import row_files
+from checking import HERE
 
-FOLDER = os.path.join(HERE, "crates", "front_rows")
 # Rows as they stand on the input, each with what has to be printed after its name below it, after `=`.
 PROFILE_ROWS = os.path.join(HERE, "tools", "profile_rows.txt")
 # Of a character that stands more often than this the number is written.
@@ -75,38 +74,16 @@ def of_checker_rows():
 
 def of_profile_rows():
     """The same of each row on profiles."""
-    text = re.sub(r"(?m)^#.*\n", "", text_in(PROFILE_ROWS))
+    text = re.sub(r"(?m)^#.*\n", "", row_files.text_in(PROFILE_ROWS))
     for block in text.strip().split("\n\n"):
         lines, _, answer = block.partition("\n=")
         yield lines.split("\n")[0].split(" ")[1], lines, answer
 
 
-def files():
-    """The text of each file by its path."""
+def main():
     rows = [*of_checker_rows(), *of_profile_rows()]
     assert len({name for name, _, _ in rows}) == len(rows), "two rows have one name"
-    yield os.path.join(FOLDER, "stdin"), "\n\n".join(block for _, block, _ in rows) + "\n"
-    yield os.path.join(FOLDER, "stdout"), "".join(f"{name}:{answer}\n" for name, _, answer in rows)
-
-
-def text_in(path):
-    if not os.path.exists(path):
-        return None
-    with open(path) as f:
-        return f.read()
-
-
-def main():
-    made = list(files())
-    if "--check" not in sys.argv:
-        for path, text in made:
-            with open(path, "w") as f:
-                f.write(text)
-        return 0
-    for path, text in made:
-        check(text_in(path) == text, f"{os.path.relpath(path, HERE)} is not what tools/make_front_rows.py makes of the rows")
-    print(f"rows of the front end: {checking.made - checking.failed} of {checking.made} files are as the rows have them")
-    return 1 if checking.failed else 0
+    return row_files.main("front_rows", [f"{block}\n" for _, block, _ in rows], [f"{name}:{answer}\n" for name, _, answer in rows])
 
 
 if __name__ == "__main__":

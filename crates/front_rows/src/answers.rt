@@ -5,11 +5,11 @@ ghost use Rattle.std.specs.Prelude.{◌≤◌, All, IsTrue, length};
 use crate::faults::{Spots, put_fault};
 use crate::program_text::put_program;
 use crate::row::{Question, Row};
-use crate::writer::Writer;
 use c_link::Gap;
 use c_typed::Typed;
 use lay_base::{File, Files};
 use lay_compile::{CompileFault, front};
+use row_lines::Writer;
 use std::alloc::Global;
 use std::io::{self, Write};
 

@@ -1,12 +1,12 @@
 //! The faults of files, as text.
 
-use crate::writer::Writer;
 use c_check::CheckFault;
 use c_lexer::LexFault;
 use c_link::{Gap, Trouble};
 use c_parser::ParseFault;
 use lay_base::{File, Name, Place};
 use lay_compile::CompileFault;
+use row_lines::Writer;
 
 /// What the text of a place depends on.
 #[derive(Clone, Copy)]

@@ -7,13 +7,13 @@
 //! At a block that is no row it stops with status 1; those above have been answered.
 #![tactic(auto)]
 
+mod allocation_text;
 mod answers;
 mod faults;
 mod profiles;
 mod program_text;
 mod row;
 mod type_text;
-mod writer;
 
 use answers::put_answer;
 use anyhow::Context;

@@ -6,13 +6,12 @@ ghost use Rattle.c_typed.specs.Programs.{data_of};
 
 use crate::answers::are_within_bounds;
 use crate::faults::{Spots, put_fault};
-use crate::writer::Writer;
 use c_counts::{Counts, loops_within};
 use c_typed::{Function, Typed};
 use lay_base::{Files, Stale};
 use lay_compile::front;
 use profile_file::{ProfileFault, fits, read, write};
-use row_lines::{head_of, is_comment, put_lines};
+use row_lines::{Writer, head_of, is_comment, put_lines};
 use std::alloc::Global;
 use std::io::{self, Write};
 

@@ -1,13 +1,14 @@
 //! Programs as text: their parts on lines of their own, after the word for each, in parentheses.
 
+use crate::allocation_text::put_allocations;
 use crate::type_text::{put_kind, put_type, put_type_at};
-use crate::writer::Writer;
 use c_typed::{
     Function, Initial, InitialValue, Local, Mention, MentionKind, Object, Statement, Typed,
 };
 use c_types::{Field, Record, Ty};
 use c_uses::{Reference, references_by_statement};
 use lay_base::{List, Place};
+use row_lines::Writer;
 use std::alloc::{AllocError, Global};
 
 fn put_place(out: &mut Writer, place: Place) {
@@ -111,13 +112,14 @@ fn put_references(out: &mut Writer, references: &[Reference]) {
     out.close();
 }
 
-/// What a body refers to.
+/// What a body refers to, and what it allocates.
 fn put_body(out: &mut Writer, alloc: Global, body: &Statement) {
     let mut found = List::new(alloc);
     match references_by_statement(&mut found, body) {
         Ok(()) => put_references(out, found.as_slice()),
         Err(_) => out.word("no-memory"),
     }
+    put_allocations(out, body);
 }
 
 fn put_function(out: &mut Writer, alloc: Global, types: &[Ty], function: &Function) {

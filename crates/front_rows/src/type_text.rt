@@ -1,7 +1,7 @@
 //! Types as text.
 
-use crate::writer::Writer;
 use c_types::{IntKind, Ty};
+use row_lines::Writer;
 
 fn kind_word(kind: IntKind) -> &'static str {
     match kind {

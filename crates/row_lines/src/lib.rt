@@ -9,13 +9,15 @@
 //! | `file NAME` | a file of that name, whose bytes are those of the lines after it |
 //! | `# TEXT`, and an empty line | nothing |
 //!
-//! It stands on `lay_base`.
+//! What such a program prints are lines for bytes, or words and parentheses. It stands on `lay_base`.
 #![tactic(auto)]
 
 mod fault;
 mod reading;
+mod writer;
 mod writing;
 
 pub use fault::RowFault;
 pub use reading::{bytes_in, files_in, head_of, is_comment};
+pub use writer::Writer;
 pub use writing::put_lines;

@@ -8,14 +8,25 @@ use std::fmt::Debug;
 pub struct Writer {
     text: Vec<u8>,
     fault: Option<AllocError>,
+    has_places: bool,
+    // Whether what follows stands with no space before it.
+    is_joined: bool,
 }
 
 impl Writer {
+    /// An empty text, without places.
     pub fn new(alloc: Global) -> Writer {
         Writer {
             text: Vec::new(alloc),
             fault: None,
+            has_places: false,
+            is_joined: false,
         }
+    }
+
+    /// From here on places are written.
+    pub fn show_places(&mut self) {
+        self.has_places = true;
     }
 
     /// The text, if there was memory for all of it.
@@ -33,19 +44,23 @@ impl Writer {
         }
     }
 
-    /// A space, but at the start of a line and after an opening parenthesis.
+    /// A space, but at the start of a line, after an opening parenthesis and after a place.
     fn gap(&mut self) {
         match self.text.last() {
             None | Some(b'(') | Some(b'\n') => {}
+            Some(_) if self.is_joined => {}
             Some(_) => self.add(b" "),
         }
+        self.is_joined = false;
     }
 
+    /// Text as it is.
     pub fn bytes(&mut self, text: &[u8]) {
         self.gap();
         self.add(text);
     }
 
+    /// A word.
     pub fn word(&mut self, text: &str) {
         self.bytes(text.as_bytes());
     }
@@ -59,8 +74,18 @@ impl Writer {
         }
     }
 
+    /// A number in decimal.
     pub fn number(&mut self, value: u64) {
         self.value(&value);
+    }
+
+    /// Where places are written, the byte at which what follows stands, and a colon between the two.
+    pub fn place(&mut self, at: u32) {
+        if self.has_places {
+            self.number(u64::from(at));
+            self.add(b":");
+            self.is_joined = true;
+        }
     }
 
     /// `(`, and the first word after it.
@@ -75,6 +100,7 @@ impl Writer {
         self.open(head);
     }
 
+    /// `)`, with no space before it.
     pub fn close(&mut self) {
         self.add(b")");
     }
