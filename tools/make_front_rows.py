@@ -73,11 +73,12 @@ def of_checker_rows():
 
 
 def of_profile_rows():
-    """The same of each row on profiles."""
+    """The same of each row on profiles. The last line of a text below `=` ends too."""
     text = re.sub(r"(?m)^#.*\n", "", row_files.text_in(PROFILE_ROWS))
     for block in text.strip().split("\n\n"):
         lines, _, answer = block.partition("\n=")
-        yield lines.split("\n")[0].split(" ")[1], lines, answer
+        end = "\n" if answer.startswith("\n") else ""
+        yield lines.split("\n")[0].split(" ")[1], lines, answer + end
 
 
 def main():

@@ -11,7 +11,7 @@ use c_typed::{Function, Typed};
 use lay_base::{Files, Stale};
 use lay_compile::front;
 use profile_file::{ProfileFault, fits, read, write};
-use row_lines::{Writer, head_of, is_comment, put_lines};
+use row_lines::{Writer, head_of, is_comment};
 use std::alloc::Global;
 use std::io::{self, Write};
 
@@ -63,19 +63,13 @@ fn put_refusal(out: &mut Writer, fault: &ProfileFault) {
     }
 }
 
-/// A text by lines that stand for it, below the name of its row.
-fn put_lines_of(out: &mut Writer, alloc: Global, text: &[u8]) {
-    let mut lines = Vec::new(alloc);
-    if put_lines(&mut lines, text).is_err() {
-        return out.word("out of memory");
-    }
-    out.add(b"\n");
-    out.add(lines.as_slice().strip_suffix(b"\n").unwrap_or_default());
-}
-
+/// The text of counts, below the name of their row.
 fn put_counts(out: &mut Writer, alloc: Global, counts: &Counts) {
     match write(alloc, counts) {
-        Ok(text) => put_lines_of(out, alloc, text.as_slice()),
+        Ok(text) => {
+            out.add(b"\n");
+            out.add(text.as_slice());
+        }
         Err(_) => out.word("out of memory"),
     }
 }
