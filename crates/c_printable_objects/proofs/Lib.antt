@@ -1,0 +1,4 @@
+pub mod Counts
+pub mod Constants
+pub mod Renamed
+pub mod Kept
