@@ -28,7 +28,7 @@ alike false false f g = refl
 -- ---- references
 
 pub times_both : (n : ℕ) (a b : List Reference) → times n (a ++ b) ≡ times n a + times n b
-times_both n [] b = refl
+times_both n [] b = omega arith
 times_both n (an_object m ∷ a) b = let r = times_both n a b in omega (arith, r)
 times_both n (a_function f ∷ a) b = times_both n a b
 
@@ -39,7 +39,7 @@ occurs n [] = 0
 occurs n (m ∷ more) = (if m == n then 1 else 0) + occurs n more
 
 pub occurs_both : (n : ℕ) (a b : List ℕ) → occurs n (a ++ b) ≡ occurs n a + occurs n b
-occurs_both n [] b = refl
+occurs_both n [] b = omega arith
 occurs_both n (m ∷ a) b = let r = occurs_both n a b in omega (arith, r)
 
 abbrev pub IsIn : ℕ → List ℕ → Type 0
@@ -63,7 +63,7 @@ module _ (w : ℕ → ℕ) where
   sum_of (m ∷ more) = w m + sum_of more
 
   pub sum_both : (a b : List ℕ) → sum_of (a ++ b) ≡ sum_of a + sum_of b
-  sum_both [] b = refl
+  sum_both [] b = omega arith
   sum_both (m ∷ a) b = let r = sum_both a b in omega (arith, r)
 
   -- of the numbers below one
@@ -98,29 +98,30 @@ module _ (w : ℕ → ℕ) where
   -- where each number that weighs something is in a list, those below one weigh no more than the list
   pub below_covered : (k : ℕ) (all : List ℕ) → ((n : ℕ) → n < k → w n ≢ 0 → IsIn n all) → sum_below k ≤ sum_of all
   below_covered zero all h = omega arith
-  below_covered (suc k) all h = by_weight (w k) refl
+  below_covered (suc k) all h = by_weight (w k) refl (below_covered k)
     where
-      by_weight : (m : ℕ) → w k ≡ m → sum_below k + w k ≤ sum_of all
-      by_weight zero e = let r = below_covered k all (λ n l. h n (omega (arith, l))) in omega (arith, r, e)
-      by_weight (suc m) e =
+      by_weight : (m : ℕ) → w k ≡ m → ((rest : List ℕ) → ((n : ℕ) → n < k → w n ≢ 0 → IsIn n rest) → sum_below k ≤ sum_of rest)
+          → sum_below k + w k ≤ sum_of all
+      by_weight zero e again = let r = again all (λ n l. h n (omega (arith, l))) in omega (arith, r, e)
+      by_weight (suc m) e again =
           let i = h k (omega arith) (λ z. omega (arith, z, e)) in
           let s = sum_without k all i in
-          let r = below_covered k (without k all) (λ n l d. still_in n k all (λ is. omega (arith, l, is)) (h n (omega (arith, l)) d)) in
+          let r = again (without k all) (λ n l d. still_in n k all (λ is. omega (arith, l, is)) (h n (omega (arith, l)) d)) in
           omega (arith, r, s)
 
   pub one_below : (k n : ℕ) → n < k → w n ≤ sum_below k
   one_below zero n l = absurd (omega (arith, l))
-  one_below (suc k) n l = by_last (n == k) refl
+  one_below (suc k) n l = by_last (n == k) refl (one_below k n)
     where
-      by_last : (b : Bool) → (n == k) ≡ b → w n ≤ sum_below k + w k
-      by_last true e = let same = ap w (same_number n k e) in omega (arith, same)
-      by_last false e = let d = other_number n k e in let r = one_below k n (omega (arith, l, d)) in omega (arith, r)
+      by_last : (b : Bool) → (n == k) ≡ b → (n < k → w n ≤ sum_below k) → w n ≤ sum_below k + w k
+      by_last true e again = let same = ap w (same_number n k e) in omega (arith, same)
+      by_last false e again = let d = other_number n k e in let r = again (omega (arith, l, d)) in omega (arith, r)
 
   -- a list that weighs something has a number that does
   pub some_weighs : (all : List ℕ) → sum_of all ≢ 0 → (n : ℕ) × (w n ≢ 0)
   some_weighs [] d = absurd (d refl)
-  some_weighs (m ∷ all) d = by_weight (w m) refl
+  some_weighs (m ∷ all) d = by_weight (w m) refl (some_weighs all)
     where
-      by_weight : (v : ℕ) → w m ≡ v → (n : ℕ) × (w n ≢ 0)
-      by_weight (suc v) e = (m, λ z. omega (arith, z, e))
-      by_weight zero e = some_weighs all (λ z. d (omega (arith, z, e)))
+      by_weight : (v : ℕ) → w m ≡ v → (sum_of all ≢ 0 → (n : ℕ) × (w n ≢ 0)) → (n : ℕ) × (w n ≢ 0)
+      by_weight (suc v) e again = (m, λ z. omega (arith, z, e))
+      by_weight zero e again = again (λ z. d (omega (arith, z, e)))

@@ -16,7 +16,7 @@ use Rattle.c_typed.specs.Conversions.{is_integer, is_pointer}
 use Rattle.c_typed.specs.Constants.{none, ty, constant_of, is_zero, is_null}
 use Rattle.c_typed.specs.Fits.{assigns, casts, meeting, ordered, compared}
 use Rattle.c_typed.specs.Mapped.{of_types, mapped_node}
-use Rattle.c_typed.specs.References.{Reference, references, references_by_node, references_by_path, references_by_step, references_by_all, references_by_optional}
+use Rattle.c_typed.specs.References.{Reference, a_function, references, references_by_node, references_by_path, references_by_step, references_by_all, references_by_optional}
 use Rattle.c_typed.specs.Rules.{arithmetic, or_else, both_void, comparing, choosing}
 use Rattle.c_typed.specs.Typed.{Declared, bare, is_bare, bare_ty, IsTested, IsConverted, IsSubscript, IsMoved, IsMove, IsTyped, IsTypedNode, AreArguments}
 use Rattle.c_typed.specs.Typed.{IsTypedPath, IsTypedStep}
@@ -27,7 +27,7 @@ use Rattle.c_erasure.specs.Recognised.{recognised, recognised_node, recognised_p
 use Rattle.c_well_typed.proofs.Allocations.{bare_itself}
 use Rattle.c_well_typed.proofs.Fitting.{promoting_is, on_numbers_is, no_pointer}
 use Rattle.c_well_typed.proofs.Monotone.{moved_number, updated_number}
-use Rattle.c_well_typed.proofs.Nulls.{is_zero_is, null_or_cast}
+use Rattle.c_well_typed.proofs.Nulls.{is_zero_is, IsCast, null_or_cast}
 use Rattle.c_well_typed.proofs.Recognised.{typed_path, typed_step, typed_all}
 use Rattle.c_printable_objects.proofs.Constants.{constant_alone, unconverted_same, size_alone, unsigned_same}
 use Rattle.c_printable_objects.proofs.Renamed.{types_alike}
@@ -111,7 +111,7 @@ assigned (integer k) b (pointer t) h p i = h
 assigned s b (pointer t) h p i = cc
 assigned s b t h p i = cc
 
-cast : (s : CType) (b : Bool) (t : CType) → casts s b t ≡ true → is_pointer t ≡ true → is_integer s ≡ true → b ≡ true
+pub cast : (s : CType) (b : Bool) (t : CType) → casts s b t ≡ true → is_pointer t ≡ true → is_integer s ≡ true → b ≡ true
 cast (integer k) b (pointer t) h p i = h
 cast s b (pointer t) h p i = cc
 cast s b t h p i = cc
@@ -175,7 +175,7 @@ number_settled e n p i = absurd (no_both (ty e) p n)
 pub converted_settled : (e : Trees.Expression CType) (t : CType) → IsConverted e t → IsSettled e
 converted_settled e t h p i = assigned (bare_ty e) (is_null (bare e)) t h.0 (subst (λ t. is_pointer t ≡ true) h.1 p) i
 
-subscript_settled : (e : Trees.Expression CType) → IsSubscript e → IsSettled e
+pub subscript_settled : (e : Trees.Expression CType) → IsSubscript e → IsSettled e
 subscript_settled e h = number_settled e (promoting_is (bare_ty e) (ty e) h).1
 
 -- ---- null pointer constants refer to nothing
@@ -186,16 +186,12 @@ zero_alone e z = let v = is_zero_is (constant_of e) z in constant_alone e (λ n.
 null_alone : (e : Expression) → is_integer (ty (typed e)) ≡ true → is_null (typed e) ≡ true → references e ≡ []
 null_alone e i n = sym (types_alike (λ (t : Noted). t.ty) e) ∙ by_case (null_or_cast (typed e) n)
   where
-    abbrev IsCast : Type 0
-    IsCast = (at : Place) × (x : Trees.Expression CType) × (typed e ≡ Trees.expression (pointer void) at (Trees.convert x true))
-        × (is_zero (constant_of x) ≡ true)
-
-    by_case : (is_zero (constant_of (typed e)) ≡ true) ⊎ IsCast → references (typed e) ≡ []
+    by_case : (is_zero (constant_of (typed e)) ≡ true) ⊎ IsCast (typed e) → references (typed e) ≡ []
     by_case (inl z) = zero_alone (typed e) z
     by_case (inr c) = absurd (no_both (pointer void) refl (subst (λ x. is_integer (ty x) ≡ true) c.2 i))
 
 -- after its nulls are recognised an expression is a null pointer, or an integer as it was
-recognised_alone : (e : Expression) → (is_integer (ty (typed e)) ≡ true → is_null (typed e) ≡ true) → references (recognised e) ≡ references e
+pub recognised_alone : (e : Expression) → (is_integer (ty (typed e)) ≡ true → is_null (typed e) ≡ true) → references (recognised e) ≡ references e
     → is_null_constant (recognised e) ≡ true → references (recognised e) ≡ []
 recognised_alone (Trees.expression t at node) null kept n = by_node (recognised_node t node) kept n
   where
@@ -218,79 +214,76 @@ module _ (d : Declared) where
   moved n x y t h =
       (bare_settled (typed x) h.0, number_settled (typed y) (moved_number n (ty (typed x)) (bare_ty (typed y)) (ty (typed y)) h.1))
 
-  move : (op : PointerOp) (n : ℕ) (x y : Expression) (t : CType) → IsMove op n (typed x) (typed y) t → IsSettled (typed x) × IsSettled (typed y)
+  pub move : (op : PointerOp) (n : ℕ) (x y : Expression) (t : CType) → IsMove op n (typed x) (typed y) t → IsSettled (typed x) × IsSettled (typed y)
   move P.Add n x y t (inl h) = moved n x y t h
   move P.Add n x y t (inr h) = let r = moved n y x t h in (r.1, r.0)
   move P.Subtract n x y t h = moved n x y t h
 
   mutual
     pub kept : (e : Expression) → IsTyped d (typed e) → IsSettled (typed e) → references (recognised e) ≡ references e
-    kept (Trees.expression t at (Trees.convert e false)) h s =
+    kept (Trees.expression t at node) h s = kept_node t at node h s
+
+    kept_node : (t : Noted) (at : Place) (node : Node) → IsTypedNode d t.ty at (bare_node node) → IsSettled (typed (Trees.expression t at node))
+        → references_by_node (recognised_node t node) ≡ references_by_node node
+    kept_node t at (Trees.constant v) h s = refl
+    kept_node t at Trees.null h s = refl
+    kept_node t at (Trees.function_name g) h s = refl
+    kept_node t at (Trees.load p) h s = path_kept p h.0
+    kept_node t at (Trees.address_of p) h s = path_kept p h.0
+    kept_node t at (Trees.decay p) h s = path_kept p h.0
+    kept_node t at (Trees.convert e false) h s =
         let k = kept e h.0 (bare_settled (typed e) h.1) in
         converted_kept t.ty (recognised e) false (λ p n. recognised_alone e (s p) k n) ∙ k
-    kept (Trees.expression t at node) h s = kept_node t at node h
-
-    -- of a node that is no implicit conversion
-    kept_node : (t : Noted) (at : Place) (node : Node) → IsTypedNode d t.ty at (bare_node node)
-        → references_by_node (recognised_node t node) ≡ references_by_node node
-    kept_node t at (Trees.constant v) h = refl
-    kept_node t at Trees.null h = refl
-    kept_node t at (Trees.function_name g) h = refl
-    kept_node t at (Trees.load p) h = path_kept p h.0
-    kept_node t at (Trees.address_of p) h = path_kept p h.0
-    kept_node t at (Trees.decay p) h = path_kept p h.0
-    kept_node t at (Trees.convert e true) h =
+    kept_node t at (Trees.convert e true) h s =
         let k = kept e h.0 (bare_settled (typed e) h.1) in
         converted_kept t.ty (recognised e) true (λ p n. recognised_alone e (λ i. cast (ty (typed e)) (is_null (typed e)) t.ty h.2 p i) k n) ∙ k
-    kept_node t at (Trees.unary op x) h =
+    kept_node t at (Trees.unary op x) h s =
         kept x h.0 (number_settled (typed x) (subst (λ t. is_integer t ≡ true) (sym h.2) (promoting_is (bare_ty (typed x)) t.ty h.1).1))
-    kept_node t at (Trees.binary op x y) h =
+    kept_node t at (Trees.binary op x y) h s =
         let i = on_numbers_is op (bare_ty (typed x)) (bare_ty (typed y)) t.ty (ty (typed y)) h.2 in
         two (references (recognised x)) (references (recognised y)) (references x) (references y)
         (kept x h.0 (number_settled (typed x) (subst (λ t. is_integer t ≡ true) (sym h.3) i.2))) (kept y h.1 (number_settled (typed y) i.3))
-    kept_node t at (Trees.compare op x y) h =
+    kept_node t at (Trees.compare op x y) h s =
         let n = comparing_null op (bare_ty (typed x)) (is_null (bare (typed x))) (bare_ty (typed y)) (is_null (bare (typed y))) (ty (typed x)) h.2 in
         two (references (recognised x)) (references (recognised y)) (references x) (references y) (kept x h.0 (λ p. (n p).0))
         (kept y h.1 (λ p. (n (subst (λ t. is_pointer t ≡ true) h.3 p)).1))
-    kept_node t at (Trees.pointer_add op x y) h =
+    kept_node t at (Trees.pointer_add op x y) h s =
         let m = move op (d.complete at.at) x y t.ty h.2 in
         two (references (recognised x)) (references (recognised y)) (references x) (references y) (kept x h.0 m.0) (kept y h.1 m.1)
-    kept_node t at (Trees.pointer_difference x y) h =
+    kept_node t at (Trees.pointer_difference x y) h s =
         two (references (recognised x)) (references (recognised y)) (references x) (references y) (kept x h.0 (bare_settled (typed x) h.2))
         (kept y h.1 (bare_settled (typed y) h.3))
-    kept_node t at (Trees.both x y) h = tested x y h.0 h.1 h.2 h.3
-    kept_node t at (Trees.either x y) h = tested x y h.0 h.1 h.2 h.3
-    kept_node t at (Trees.not x) h = kept x h.0 (bare_settled (typed x) h.1.0)
-    kept_node t at (Trees.choose x y z) h =
+    kept_node t at (Trees.both x y) h s =
+        two (references (recognised x)) (references (recognised y)) (references x) (references y) (kept x h.0 (bare_settled (typed x) h.2.0))
+        (kept y h.1 (bare_settled (typed y) h.3.0))
+    kept_node t at (Trees.either x y) h s =
+        two (references (recognised x)) (references (recognised y)) (references x) (references y) (kept x h.0 (bare_settled (typed x) h.2.0))
+        (kept y h.1 (bare_settled (typed y) h.3.0))
+    kept_node t at (Trees.not x) h s = kept x h.0 (bare_settled (typed x) h.1.0)
+    kept_node t at (Trees.choose x y z) h s =
         let n = choosing_null (bare_ty (typed y)) (is_null (bare (typed y))) (bare_ty (typed z)) (is_null (bare (typed z))) t.ty h.4 in
         two (references (recognised x) ++ references (recognised y)) (references (recognised z)) (references x ++ references y) (references z)
         (two (references (recognised x)) (references (recognised y)) (references x) (references y) (kept x h.0 (bare_settled (typed x) h.3.0))
         (kept y h.1 (λ p. (n (subst (λ t. is_pointer t ≡ true) h.5 p)).0))) (kept z h.2 (λ p. (n (subst (λ t. is_pointer t ≡ true) h.6 p)).1))
-    kept_node t at (Trees.comma x y) h =
+    kept_node t at (Trees.comma x y) h s =
         two (references (recognised x)) (references (recognised y)) (references x) (references y) (kept x h.0 (bare_settled (typed x) h.2))
         (kept y h.1 (bare_settled (typed y) h.3))
-    kept_node t at (Trees.assign p x) h =
+    kept_node t at (Trees.assign p x) h s =
         two (references_by_path (recognised_path p)) (references (recognised x)) (references_by_path p) (references x) (path_kept p h.0)
         (kept x h.1 (converted_settled (typed x) t.ty h.4))
-    kept_node t at (Trees.assign_op op p x) h =
+    kept_node t at (Trees.assign_op op p x) h s =
         two (references_by_path (recognised_path p)) (references (recognised x)) (references_by_path p) (references x) (path_kept p h.0)
         (kept x h.1 (number_settled (typed x) (updated_number (d.complete at.at) op t.ty (bare_ty (typed x)) (ty (typed x)) h.3)))
-    kept_node t at (Trees.step op before p) h = path_kept p h.0
-    kept_node t at (Trees.copy_record to from) h =
+    kept_node t at (Trees.step op before p) h s = path_kept p h.0
+    kept_node t at (Trees.copy_record to from) h s =
         two (references_by_path (recognised_path to)) (references_by_path (recognised_path from)) (references_by_path to) (references_by_path from)
         (path_kept to h.0) (path_kept from h.1)
-    kept_node t at (Trees.call g all) h = ap (λ own. Rattle.c_typed.specs.References.a_function g ∷ own) (arguments_kept h.0 all h.2)
-    kept_node t at (Trees.call_through e all) h =
+    kept_node t at (Trees.call g all) h s = ap (λ own. a_function g ∷ own) (arguments_kept h.0 all h.2)
+    kept_node t at (Trees.call_through e all) h s =
         two (references (recognised e)) (references_by_all (recognised_all all)) (references e) (references_by_all all)
         (kept e h.1 (bare_settled (typed e) h.2)) (arguments_kept h.0 all h.4)
-    kept_node t at (Trees.library which all) h = arguments_kept h.0 all h.2
-    kept_node t at (Trees.allocate r n zeroed) h = refl
-
-    tested : (x y : Expression) → IsTyped d (typed x) → IsTyped d (typed y) → IsTested (typed x) → IsTested (typed y)
-        → references (recognised x) ++ references (recognised y) ≡ references x ++ references y
-    tested x y h k i j =
-        two (references (recognised x)) (references (recognised y)) (references x) (references y) (kept x h (bare_settled (typed x) i.0))
-        (kept y k (bare_settled (typed y) j.0))
+    kept_node t at (Trees.library which all) h s = arguments_kept h.0 all h.2
+    kept_node t at (Trees.allocate r n zeroed) h s = refl
 
     arguments_kept : (parameters : CTypes) (all : Trees.Expressions Noted) → AreArguments d parameters (typed_all all)
         → references_by_all (recognised_all all) ≡ references_by_all all

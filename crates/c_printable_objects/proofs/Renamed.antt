@@ -25,6 +25,11 @@ module _ {T S : Type 0} (m : Renaming T S) where
       → Same (references (mapped m x) ++ references (mapped m y)) (references x ++ references y)
   pairs x y h k = two (references (mapped m x)) (references (mapped m y)) (references x) (references y) h k
 
+  with_path : (p : Trees.Path T) (x : Trees.Expression T) → Same (references_by_path (mapped_path m p)) (references_by_path p)
+      → Same (references (mapped m x)) (references x)
+      → Same (references_by_path (mapped_path m p) ++ references (mapped m x)) (references_by_path p ++ references x)
+  with_path p x h k = two (references_by_path (mapped_path m p)) (references (mapped m x)) (references_by_path p) (references x) h k
+
   mutual
     pub expression_same : (e : Trees.Expression T) → Same (references (mapped m e)) (references e)
     expression_same (Trees.expression t at node) = node_same node
@@ -60,11 +65,6 @@ module _ {T S : Type 0} (m : Renaming T S) where
         two (references (mapped m e)) (references_by_all (mapped_all m all)) (references e) (references_by_all all) (expression_same e) (all_same all)
     node_same (Trees.library which all) = all_same all
     node_same (Trees.allocate r n zeroed) = count_same n
-
-    with_path : (p : Trees.Path T) (x : Trees.Expression T) → Same (references_by_path (mapped_path m p)) (references_by_path p)
-        → Same (references (mapped m x)) (references x)
-        → Same (references_by_path (mapped_path m p) ++ references (mapped m x)) (references_by_path p ++ references x)
-    with_path p x h k = two (references_by_path (mapped_path m p)) (references (mapped m x)) (references_by_path p) (references x) h k
 
     pub path_same : (p : Trees.Path T) → Same (references_by_path (mapped_path m p)) (references_by_path p)
     path_same (Trees.path t at step) = step_same step
