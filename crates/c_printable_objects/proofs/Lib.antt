@@ -5,3 +5,8 @@ pub mod Kept
 pub mod KeptStatements
 pub mod Addresses
 pub mod StayingValues
+pub mod OwnNames
+pub mod Literals
+pub mod LiteralInitializers
+pub mod Sources
+pub mod WalkedStatements
