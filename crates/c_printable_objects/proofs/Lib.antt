@@ -10,3 +10,4 @@ pub mod Literals
 pub mod LiteralInitializers
 pub mod Sources
 pub mod WalkedStatements
+pub mod WalkedFiles
