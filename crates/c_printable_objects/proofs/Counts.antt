@@ -125,3 +125,7 @@ module _ (w : ℕ → ℕ) where
       by_weight : (v : ℕ) → w m ≡ v → (sum_of all ≢ 0 → (n : ℕ) × (w n ≢ 0)) → (n : ℕ) × (w n ≢ 0)
       by_weight (suc v) e again = (m, λ z. omega (arith, z, e))
       by_weight zero e again = again (λ z. d (omega (arith, z, e)))
+
+pub sum_below_same : (v w : ℕ → ℕ) → ((n : ℕ) → v n ≡ w n) → (k : ℕ) → sum_below v k ≡ sum_below w k
+sum_below_same v w h zero = refl
+sum_below_same v w h (suc k) = let r = sum_below_same v w h k in let s = h k in omega (arith, r, s)

@@ -11,3 +11,5 @@ pub mod LiteralInitializers
 pub mod Sources
 pub mod WalkedStatements
 pub mod WalkedFiles
+pub mod Totals
+pub mod FileLiterals
