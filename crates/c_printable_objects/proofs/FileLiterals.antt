@@ -116,8 +116,17 @@ module _ (bytes : List ℕ) (items : List Trees.Item) (f : FileScope) (tree : Is
             → (i ≡ Some (Typed.parts [])) ⊎ (i ≡ None) → IsCovered m o
         of_initial d i q known =
             let k = name_fine d.0 d.1 d.2 in
-            inr (record { made = (k.object m o.ty d.3).0; filled = λ j r. filled j (sym q ∙ r) known }, λ z. absurd (z (no_weight i q (weightless known))))
+            inr (
+              record { own = own; made = (k.object m o.ty d.3).0; filled = λ j r. filled j (sym q ∙ r) known },
+              λ z. absurd (z (no_weight i q (weightless known))),
+            )
           where
+            own : o.literal ≡ None
+            own =
+                let k = name_known f count less items (tree_of_bytes bytes items tree) h beginnings d.0 d.1 d.2 in
+                let z = (k m o.ty d.3).0 in
+                subst (λ (o : AnObject). o.literal ≡ None) (some_is z.0 o (sym z.1 ∙ e)) z.2
+
             filled : (j : Typed.Initializer Noted) → i ≡ Some j → (i ≡ Some (Typed.parts [])) ⊎ (i ≡ None) → IsFilled w o.ty j
             filled j r (inl p) = inl (some_is j (Typed.parts []) (sym r ∙ p))
             filled j r (inr p) = let no : None ≡ Some j = sym p ∙ r in cc

@@ -13,3 +13,4 @@ pub mod WalkedStatements
 pub mod WalkedFiles
 pub mod Totals
 pub mod FileLiterals
+pub mod NamedParts

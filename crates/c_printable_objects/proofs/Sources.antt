@@ -35,6 +35,7 @@ module _ (w : Walk) where
   IsFilled t i = (i ≡ Typed.parts []) ⊎ IsSource t i
 
   pub record IsSourced (o : AnObject) : Type 0 where
+    pub own : o.literal ≡ None
     pub made : IsWellMade w.count o.ty
     pub filled : (i : Typed.Initializer Noted) → o.initial ≡ Some i → IsFilled o.ty i
 

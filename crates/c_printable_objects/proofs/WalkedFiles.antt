@@ -195,12 +195,13 @@ module _ (w : Walk) where
 
   -- an object with its initializer, where it has one
   object_made : (words : Storage) (types : List (List ℕ)) (v : Option (ℕ × Trees.Expression)) (x : Spelling) (place from m : ℕ) (t : CType) (o : AnObject) → W t
-      → Formed.IsValue types v → slice_get f.objects m ≡ Some o → o.ty ≡ t → IsBound F (bound x from (object_how words v) (an_object m t))
+      → Formed.IsValue types v → slice_get f.objects m ≡ Some o → o.ty ≡ t → o.literal ≡ None
+      → IsBound F (bound x from (object_how words v) (an_object m t))
       → IsDefinition F place t v o → IsMade (a_name from ∷ []) (literals_of_value v)
-  object_made words types None x place from m t o made well e ty h k =
+  object_made words types None x place from m t o made well e ty own h k =
       one_name x from (object_how words None) (an_object m t) h
       (λ L M. object_fine L M x from m (object_how words None) t made (λ d. absurd (no_definition words d)))
-  object_made words types (Some v) x place from m t o made well e ty h k = record {
+  object_made words types (Some v) x place from m t o made well e ty own h k = record {
     origins = m ∷ [];
     functions = [];
     sum = λ z.
@@ -218,6 +219,7 @@ module _ (w : Walk) where
 
       sourced : IsSourced w o
       sourced = record {
+        own = own;
         made = subst W (sym ty) made;
         filled = λ i q.
             let is = some_is k.0 i (sym k.2 ∙ q) in
@@ -234,7 +236,7 @@ module _ (w : Walk) where
       let made = sized_made f w.count w.less h.0 d.value F h.1 shape h.5 in
       append_none (literals_of_value d.value)
       (with_name d from (lengths_found f d.declarator F base h.0 refl h.4)
-      (object_made words types d.value x place from h.2 h.1 h.3 made well h.9 h.11 h.15 h.16)
+      (object_made words types d.value x place from h.2 h.1 h.3 made well h.9 h.11 h.12 h.15 h.16)
       (value_of_object f w.count w.less d.value place h.1 h.3 h.16))
 
   function_fine : (L M : List ℕ) (x : Spelling) (from m : ℕ) (how : How) (t : CType) → (how ≡ defines → IsIn m M)

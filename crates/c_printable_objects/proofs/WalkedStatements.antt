@@ -187,6 +187,7 @@ module _ (w : Walk) (types : List (List ℕ)) (locals : List ALocal) where
         where
           sourced : Sources.IsSourced w o
           sourced = record {
+            own = refl;
             made = made;
             filled = λ j e. subst (Sources.IsFilled w t) (some_is h.0 j e) (filled_by w types d.value (with_object s x m t) t h.0 full.0 well h.1);
           }
