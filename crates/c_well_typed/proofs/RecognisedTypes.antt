@@ -194,7 +194,7 @@ module _ (H : CType → Type 0) (unsigned : H (integer UInt)) where
       both (types_in_value part.value) (types_in_value (recognised_value part.value)) (in_parts all) (in_parts (map recognised_part all))
       (value_types part.value) (parts_types all) h
 
-  initializer_types : (i : Trees.Initializer Noted) → A (types_in_initializer i) → A (types_in_initializer (recognised_initializer i))
+  pub initializer_types : (i : Trees.Initializer Noted) → A (types_in_initializer i) → A (types_in_initializer (recognised_initializer i))
   initializer_types (Trees.whole e) h = recognised_types e h
   initializer_types (Trees.whole_record p) h = path_types p h
   initializer_types (Trees.parts all) h = parts_types all h
