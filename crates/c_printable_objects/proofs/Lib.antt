@@ -14,3 +14,4 @@ pub mod WalkedFiles
 pub mod Totals
 pub mod FileLiterals
 pub mod NamedParts
+pub mod UnitObjects
