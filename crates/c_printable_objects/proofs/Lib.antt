@@ -15,3 +15,4 @@ pub mod Totals
 pub mod FileLiterals
 pub mod NamedParts
 pub mod UnitObjects
+pub mod JoinedObjects
