@@ -16,3 +16,4 @@ pub mod FileLiterals
 pub mod NamedParts
 pub mod UnitObjects
 pub mod JoinedObjects
+pub mod Programs

@@ -2,3 +2,7 @@
 //!
 //! It stands on `c_printable`, which says what can be, on `c_link`, and on the laws of `c_well_typed`. It has laws alone.
 #![tactic(auto)]
+
+mod laws;
+
+pub use laws::programs_have_printable_objects;

@@ -1,0 +1,37 @@
+-- The program of some files can be said in C, but for its functions, since its units can.
+use Rattle.std.proofs.Common.{ℕ, sym, subst, List}
+use Rattle.std.specs.Prelude.{All}
+use Rattle.lay_base.specs.declared.place.File.{File}
+use Rattle.c_types.specs.Limits.{AreComplete}
+use Rattle.c_lexer.specs.TokenPlaces.{TokensHavePlaces}
+use Rattle.c_ast.specs.Trees
+use Rattle.c_ast.specs.TreesOfFiles.{IsTreeOf}
+use Rattle.c_typed.specs.Programs.{UnitData, ProgramData}
+use Rattle.c_erasure.specs.Erasing.{ErasesTo}
+use Rattle.c_order.proofs.Ordered.{marks_are_in_order}
+use Rattle.c_link.proofs.JoinedRecords.{IsAmong}
+use Rattle.c_well_typed.specs.Laws.{UnitsHaveTypedFunctions}
+use Rattle.c_well_typed.specs.WellTyped.{of_unit, HaveTypedFunctions}
+use Rattle.c_well_typed.proofs.Programs.{each_unit}
+use Rattle.c_printable.specs.Programs.{IsPrintableObject}
+use Rattle.c_printable_objects.specs.Laws.{HasPrintableObjects}
+use Rattle.c_printable_objects.proofs.JoinedObjects.{objects_said_again}
+use Rattle.c_printable_objects.proofs.UnitObjects.{as_program, objects_said}
+
+module _ (places : TokensHavePlaces) (functions : UnitsHaveTypedFunctions) where
+  unit_objects : (file : ℕ) (name bytes : List ℕ) (items : List Trees.Item) (u : UnitData) → IsTreeOf bytes items → ErasesTo file name bytes items u
+      → All (IsPrintableObject (as_program u)) u.objects
+  unit_objects file name bytes items u tree e =
+      let f = e.annotated in
+      let beginnings = (marks_are_in_order places).beginnings bytes items f.untagged tree in
+      subst (λ (u : UnitData). All (IsPrintableObject (as_program u)) u.objects) (sym e.unit) (objects_said bytes items f tree e.of_tree beginnings)
+
+  pub program_has_printable_objects : (p : ProgramData) → AreComplete p.records → HasPrintableObjects p
+  program_has_printable_objects p complete files h =
+      let e = h.program.joined_units in
+      let whole = subst (λ (p : ProgramData). AreComplete p.records) e complete in
+      let each = each_unit (λ u. HaveTypedFunctions (of_unit u))
+      (λ number file u own. (functions number file.name file.bytes own.items u own.tree own.erases).0) 0 files h.units h.of_files in
+      let said = each_unit (λ u. All (IsPrintableObject (as_program u)) u.objects)
+      (λ number file u own. unit_objects number file.name file.bytes own.items u own.tree own.erases) 0 files h.units h.of_files in
+      subst (λ (p : ProgramData). All (IsPrintableObject p) p.objects) (sym e) (objects_said_again h.units h.program.agree whole each said)

@@ -1,0 +1,19 @@
+//! Laws about what can be said in C.
+
+ghost use Rattle.c_typed.specs.Programs.{program_data};
+ghost use Rattle.c_printable_objects.specs.Laws.{HasPrintableObjects};
+
+use c_lexer::tokens_have_places;
+use c_typed::Typed;
+use c_types::records_are_complete;
+use c_well_typed::units_have_typed_functions;
+
+/// What the objects of a program of files hold at first is named by braces in the order of their parts, and the object of a string literal holds its
+/// bytes and a zero (C99 6.4.5, 6.7.8).
+pub fn programs_have_printable_objects(p: &Typed)
+    ensures { HasPrintableObjects (program_data p.now) }
+{
+    records_are_complete(&p.records);
+    units_have_typed_functions();
+    tokens_have_places();
+}
