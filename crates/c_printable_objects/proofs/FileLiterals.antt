@@ -1,6 +1,6 @@
 -- In the tree of a text each object is that of a string literal, or has an initializer of the tree; and what initializes objects and the bodies of functions
 -- refer to each object of a literal once (C99 6.4.5, 6.7.8, 6.9).
-use Rattle.std.proofs.Common.{◌≡◌, ◌≢◌, ◌∙◌, ℕ, zero, suc, ◌+◌, ◌≤◌, ◌<◌, Bool, true, false, refl, sym, ap, subst, List, [], ◌∷◌, length, map, arith, inl, inr}
+use Rattle.std.proofs.Common.{◌≡◌, ◌≢◌, ◌∙◌, ℕ, zero, suc, ◌+◌, ◌≤◌, ◌<◌, Bool, true, false, refl, sym, ap, subst, List, [], ◌∷◌, ◌++◌, length, map, arith, inl, inr}
 use Rattle.std.proofs.lemmas.List.Elements.{recursion_from_All}
 use Rattle.std.specs.Prelude.{◌⊎◌, Option, Some, None, slice_get}
 use Rattle.std.specs.List.{AllByRecursion}
@@ -11,7 +11,7 @@ use Rattle.c_ast.specs.TreesOfFiles.{IsTreeOf}
 use Rattle.c_typed.specs.References.{references_by_initial}
 use Rattle.c_typed.specs.Trees as Typed
 use Rattle.c_erasure.specs.Erasure.{literal_object, literal_of}
-use Rattle.c_erasure.specs.Files.{AreAscending, ErasesItem, IsFileOf, IsMade as IsMadeThere, IsIntroduced, IsLeft, IsOpen, is_defined, is_tentative}
+use Rattle.c_erasure.specs.Files.{count_up, AreAscending, ErasesItem, IsFileOf, IsMade as IsMadeThere, IsIntroduced, IsLeft, IsOpen, is_defined, is_tentative}
 use Rattle.c_erasure.specs.Literals.{made_by_file}
 use Rattle.c_erasure.specs.Marks.{Mark, marks_of_file, scope_beginnings}
 use Rattle.c_erasure.specs.Noted.{Noted}
@@ -33,7 +33,7 @@ use Rattle.c_printable.specs.Programs.{times}
 use Rattle.c_printable_objects.proofs.Counts.{occurs, IsIn, sum_of, sum_below, sum_below_same, below_covered, one_below, some_weighs}
 use Rattle.c_printable_objects.proofs.Literals.{Walk, IsLiteralObject, IsTextAt}
 use Rattle.c_printable_objects.proofs.OwnNames.{IsOwn, IsOwnEntity}
-use Rattle.c_printable_objects.proofs.Sources.{IsSourced, IsFilled, weight, weight_of, IsPlaced}
+use Rattle.c_printable_objects.proofs.Sources.{IsMadeLocal, IsSourced, IsFilled, weight, weight_of, IsPlaced}
 use Rattle.c_printable_objects.proofs.Totals.{total, at_place, past_end, by_places, at_most_once, file_fewer, at_least_once}
 use Rattle.c_printable_objects.proofs.WalkedFiles.{body_weight, function_weight, function_weight_of, IsFine, IsNamedBy, IsMade, items_made}
 
@@ -186,8 +186,24 @@ module _ (bytes : List ℕ) (items : List Trees.Item) (f : FileScope) (tree : Is
                 let z = h.functions k g e in
                 let b = defining f count less f.names (a_function k g.ty) z.0 z.2 t in
                 let x = name_fine b.0 b.1 b.2 in
-                x.function k g.ty b.3 b.4
+                (x.function k g.ty b.3 b.4).0
             by_open false t o = absurd (d (ap (function_weight_of w) e ∙ ap (body_weight w) o.0))
+
+    -- its locals have types that functions and arrays can have
+    pub locals_made : (k : ℕ) (g : AFunction) → slice_get f.functions k ≡ Some g → g.body ≢ None
+        → AllByRecursion (IsMadeLocal w (g.parameters ++ g.locals)) (count_up (length g.parameters) (length g.locals))
+    locals_made k g e d = let z = h.functions k g e in by_open (is_defined z.0) refl z.3
+      where
+        by_open : (b : Bool) → is_defined (h.functions k g e).0 ≡ b → IsOpen f items g b
+            → AllByRecursion (IsMadeLocal w (g.parameters ++ g.locals)) (count_up (length g.parameters) (length g.locals))
+        by_open true t o =
+            let z = h.functions k g e in
+            let b = defining f count less f.names (a_function k g.ty) z.0 z.2 t in
+            let x = name_fine b.0 b.1 b.2 in
+            let own = (x.function k g.ty b.3 b.4).1 in
+            subst (λ (g : AFunction). AllByRecursion (IsMadeLocal w (g.parameters ++ g.locals)) (count_up (length g.parameters) (length g.locals)))
+            (some_is own.0 g (sym own.1 ∙ e)) own.2
+        by_open false t o = absurd (d o.0)
 
     -- ---- all of them
 

@@ -17,3 +17,4 @@ pub mod NamedParts
 pub mod UnitObjects
 pub mod JoinedObjects
 pub mod Programs
+pub mod BareThings

@@ -1,6 +1,6 @@
 -- What the items of a file define: the initializers of its objects and the bodies of its functions refer to the objects of its string literals, each where
 -- it stands (C99 6.4.5, 6.7, 6.9).
-use Rattle.std.proofs.Common.{◌≡◌, ◌∙◌, ℕ, ◌+◌, Bool, true, false, refl, sym, ap, subst, List, [], ◌∷◌, ◌++◌, arith, append-nil, inl, inr}
+use Rattle.std.proofs.Common.{◌≡◌, ◌∙◌, ℕ, ◌+◌, Bool, true, false, refl, sym, ap, subst, List, [], ◌∷◌, ◌++◌, length, arith, append-nil, inl, inr}
 use Rattle.std.specs.Prelude.{◌⊎◌, Option, Some, None, slice_get}
 use Rattle.std.specs.List.{AllByRecursion}
 use Rattle.c_types.specs.Types.{CType, CTypes, function}
@@ -16,7 +16,7 @@ use Rattle.c_typed.specs.TypedStatements.{all_declared_by}
 use Rattle.c_erasure.specs.Declarators.{closed}
 use Rattle.c_erasure.specs.Erasure.{IsBound}
 use Rattle.c_erasure.specs.Files.{bound, object_how, IsTypedef, IsObject, IsFunction, IsFileDeclarator, AreFileDeclarators, IsDefinition, ErasesItem, in_body}
-use Rattle.c_erasure.specs.Files.{parameters_of, AreNamed, HasParameters}
+use Rattle.c_erasure.specs.Files.{parameters_of, AreNamed, HasParameters, count_up}
 use Rattle.c_erasure.specs.Literals.{literals_of_value, made_by_items, initial_literals, made_by_file_item, made_by_file}
 use Rattle.c_erasure.specs.Marks.{Mark, a_name, marks_of_initial, marks_of_declarator, marks_of_declarators, marks_of_item, marks_of_file, name_from}
 use Rattle.c_erasure.specs.Marks.{after_declarator}
@@ -36,7 +36,7 @@ use Rattle.c_printable_objects.proofs.Counts.{occurs, occurs_both, IsIn, in_left
 use Rattle.c_printable_objects.proofs.LiteralInitializers.{constants_counted}
 use Rattle.c_printable_objects.proofs.Literals.{Walk, IsTextAt, Counts, IsFull, both_each}
 use Rattle.c_printable_objects.proofs.OwnNames.{AreOwnBlocks, IsOwnEntity}
-use Rattle.c_printable_objects.proofs.Sources.{Walked, IsSourced, IsFilled, filled_by, weight, weight_of, IsPlaced, literal_places}
+use Rattle.c_printable_objects.proofs.Sources.{IsMadeLocal, Walked, IsSourced, IsFilled, filled_by, weight, weight_of, IsPlaced, literal_places}
 use Rattle.c_printable_objects.proofs.WalkedStatements.{items_walked}
 
 some_is : {A : Type 0} (x y : A) → Some x ≡ Some y → x ≡ y
@@ -82,9 +82,14 @@ module _ (w : Walk) where
   abbrev IsSourcedAt : List ℕ → ℕ → Type 0
   IsSourcedAt L k = IsIn k L × ((o : AnObject) × (slice_get f.objects k ≡ Some o) × IsSourced w o)
 
+  -- all locals of a function are declared in its body
+  abbrev pub HasMadeLocals : ℕ → Type 0
+  HasMadeLocals k = (g : AFunction) × (slice_get f.functions k ≡ Some g)
+      × AllByRecursion (IsMadeLocal w (g.parameters ++ g.locals)) (count_up (length g.parameters) (length g.locals))
+
   pub record IsFine (L M : List ℕ) (b : Bound) : Type 0 where
     pub object : (k : ℕ) (t : CType) → b.entity ≡ an_object k t → W t × (b.how ≡ defines → IsSourcedAt L k)
-    pub function : (k : ℕ) (t : CType) → b.entity ≡ a_function k t → b.how ≡ defines → IsIn k M
+    pub function : (k : ℕ) (t : CType) → b.entity ≡ a_function k t → b.how ≡ defines → IsIn k M × HasMadeLocals k
 
   abbrev pub IsNamedBy : (L M : List ℕ) → ℕ → Type 0
   IsNamedBy L M from = (b : Bound) × IsBound F b × (b.from ≡ from) × IsFine L M b
@@ -239,11 +244,11 @@ module _ (w : Walk) where
       (object_made words types d.value x place from h.2 h.1 h.3 made well h.9 h.11 h.12 h.15 h.16)
       (value_of_object f w.count w.less d.value place h.1 h.3 h.16))
 
-  function_fine : (L M : List ℕ) (x : Spelling) (from m : ℕ) (how : How) (t : CType) → (how ≡ defines → IsIn m M)
+  function_fine : (L M : List ℕ) (x : Spelling) (from m : ℕ) (how : How) (t : CType) → (how ≡ defines → IsIn m M × HasMadeLocals m)
       → IsFine L M (bound x from how (a_function m t))
   function_fine L M x from m how t i = record {
     object = λ k s e. let no : a_function m t ≡ an_object k s = e in cc;
-    function = λ k s e d. let is : m ≡ k = cc in subst (λ k. IsIn k M) is (i d);
+    function = λ k s e d. let is : m ≡ k = cc in subst (λ k. IsIn k M × HasMadeLocals k) is (i d);
   }
 
   no_defining : declares ≡ defines → ⊥
@@ -321,6 +326,9 @@ module _ (w : Walk) where
           items_walked w types (h.5.parameters ++ h.5.locals) items (in_body f h.6 (h.5.parameters ++ h.5.locals)) h.22.0
           (body_full (parameters_of d) h.2 h.5.parameters h.6 (h.5.parameters ++ h.5.locals) h.21 made.2, refl) well.3 h.22.2
 
+      made_locals : HasMadeLocals h.4
+      made_locals = (h.5, h.13, subst (AllByRecursion (IsMadeLocal w (h.5.parameters ++ h.5.locals))) h.22.4 walked.made)
+
       own : IsMade (a_name left ∷ []) (made_by_items items)
       own = record {
         origins = walked.origins;
@@ -331,7 +339,7 @@ module _ (w : Walk) where
             omega (arith, a, b);
         placed = λ L g. walked.placed L g;
         names = λ L M g k.
-            ((bound h.3 left defines (a_function h.4 h.5.ty), h.20, refl, function_fine L M h.3 left h.4 defines h.5.ty (λ e. k h.4 (inl refl))), tt);
+            ((bound h.3 left defines (a_function h.4 h.5.ty), h.20, refl, function_fine L M h.3 left h.4 defines h.5.ty (λ e. (k h.4 (inl refl), made_locals))), tt);
       }
 
   -- ---- items
