@@ -18,3 +18,5 @@ pub mod UnitObjects
 pub mod JoinedObjects
 pub mod Programs
 pub mod BareThings
+pub mod ToldTypes
+pub mod MadeTypes
