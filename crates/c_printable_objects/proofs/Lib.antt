@@ -20,3 +20,4 @@ pub mod Programs
 pub mod BareThings
 pub mod ToldTypes
 pub mod MadeTypes
+pub mod FullRecords
