@@ -21,3 +21,4 @@ pub mod BareThings
 pub mod ToldTypes
 pub mod MadeTypes
 pub mod FullRecords
+pub mod JoinedTypes
