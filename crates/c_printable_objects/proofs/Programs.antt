@@ -1,22 +1,35 @@
 -- The program of some files can be said in C, but for its functions, since its units can.
-use Rattle.std.proofs.Common.{ℕ, sym, subst, List}
-use Rattle.std.specs.Prelude.{All}
+use Rattle.std.proofs.Common.{◌≡◌, ◌∙◌, ℕ, zero, suc, refl, sym, ap, subst, List, [], ◌∷◌, length}
+use Rattle.std.specs.Prelude.{All, Some, slice_get}
+use Rattle.std.specs.List.{AllByRecursion}
+use Rattle.std.specs.Option.{option_map}
 use Rattle.lay_base.specs.declared.place.File.{File}
 use Rattle.c_types.specs.Limits.{AreComplete}
+use Rattle.c_types.specs.Types.{Field, Record}
 use Rattle.c_lexer.specs.TokenPlaces.{TokensHavePlaces}
 use Rattle.c_ast.specs.Trees
 use Rattle.c_ast.specs.TreesOfFiles.{IsTreeOf}
 use Rattle.c_typed.specs.Programs.{UnitData, ProgramData}
+use Rattle.c_typed.specs.Typed.{field_type, type_in}
 use Rattle.c_erasure.specs.Erasing.{ErasesTo}
 use Rattle.c_order.proofs.Ordered.{marks_are_in_order}
 use Rattle.c_link.proofs.JoinedRecords.{IsAmong}
 use Rattle.c_well_typed.specs.Laws.{UnitsHaveTypedFunctions}
 use Rattle.c_well_typed.specs.WellTyped.{of_unit, HaveTypedFunctions}
 use Rattle.c_well_typed.proofs.Programs.{each_unit}
-use Rattle.c_printable.specs.Programs.{IsPrintableObject}
-use Rattle.c_printable_objects.specs.Laws.{HasPrintableObjects}
+use Rattle.c_well_typed.proofs.WellMade.{IsWellMade}
+use Rattle.c_printable.specs.Declarable.{IsDeclarable}
+use Rattle.c_printable.specs.Programs.{IsPrintableRecord, IsPrintableObject}
+use Rattle.c_printable_objects.specs.Laws.{HasPrintableTypes, HasPrintableObjects}
+use Rattle.c_printable_objects.proofs.FullRecords.{records_full}
 use Rattle.c_printable_objects.proofs.JoinedObjects.{objects_said_again}
+use Rattle.c_printable_objects.proofs.JoinedTypes.{IsMadeRecord, HasMadeTypes, types_said_again, records_said_again}
+use Rattle.c_printable_objects.proofs.MadeTypes.{types_all_made, fields_made}
 use Rattle.c_printable_objects.proofs.UnitObjects.{as_program, objects_said}
+
+each : {A : Type 0} (P : A → Type 0) (xs : List A) → ((n : ℕ) (x : A) → slice_get xs n ≡ Some x → P x) → AllByRecursion P xs
+each P [] h = tt
+each P (x ∷ xs) h = (h 0 x refl, each P xs (λ n y e. h (suc n) y e))
 
 module _ (places : TokensHavePlaces) (functions : UnitsHaveTypedFunctions) where
   unit_objects : (file : ℕ) (name bytes : List ℕ) (items : List Trees.Item) (u : UnitData) → IsTreeOf bytes items → ErasesTo file name bytes items u
@@ -35,3 +48,27 @@ module _ (places : TokensHavePlaces) (functions : UnitsHaveTypedFunctions) where
       let said = each_unit (λ u. All (IsPrintableObject (as_program u)) u.objects)
       (λ number file u own. unit_objects number file.name file.bytes own.items u own.tree own.erases) 0 files h.units h.of_files in
       subst (λ (p : ProgramData). All (IsPrintableObject p) p.objects) (sym e) (objects_said_again h.units h.program.agree whole each said)
+
+  unit_types : (file : ℕ) (name bytes : List ℕ) (items : List Trees.Item) (u : UnitData) → IsTreeOf bytes items → ErasesTo file name bytes items u
+      → HasMadeTypes u
+  unit_types file name bytes items u tree e =
+      let f = e.annotated in
+      let beginnings = (marks_are_in_order places).beginnings bytes items f.untagged tree in
+      subst HasMadeTypes (sym e.unit) (record {
+        types = types_all_made bytes items f tree e.of_tree beginnings;
+        records = each (IsMadeRecord (length f.records)) f.records (λ r rec q. (
+          records_full f items tree.3.well_formed e.of_tree r rec q,
+          each (λ (x : Field). IsWellMade (length f.records) x.ty) rec.fields
+          (λ k x there. fields_made bytes items f tree e.of_tree beginnings r k x.ty (ap (λ o. type_in o k) q ∙ ap (option_map (λ (x : Field). x.ty)) there)),
+        ));
+      })
+
+  pub program_has_printable_types : (p : ProgramData) → AreComplete p.records → HasPrintableTypes p
+  program_has_printable_types p complete files h =
+      let e = h.program.joined_units in
+      let whole = subst (λ (p : ProgramData). AreComplete p.records) e complete in
+      let each = each_unit (λ u. HaveTypedFunctions (of_unit u))
+      (λ number file u own. (functions number file.name file.bytes own.items u own.tree own.erases).0) 0 files h.units h.of_files in
+      let made = each_unit HasMadeTypes (λ number file u own. unit_types number file.name file.bytes own.items u own.tree own.erases) 0 files h.units h.of_files in
+      subst (λ (p : ProgramData). All (IsDeclarable (length p.records)) p.types × All (IsPrintableRecord p) p.records) (sym e)
+      (types_said_again h.units h.program.agree whole each made, records_said_again h.units h.program.agree whole each made)

@@ -5,4 +5,4 @@
 
 mod laws;
 
-pub use laws::programs_have_printable_objects;
+pub use laws::{programs_have_printable_objects, programs_have_printable_types};
