@@ -9,12 +9,14 @@ pub mod OwnNames
 pub mod Literals
 pub mod LiteralInitializers
 pub mod Sources
+pub mod StoredReferences
 pub mod WalkedStatements
 pub mod WalkedFiles
 pub mod Totals
 pub mod FileLiterals
 pub mod NamedParts
 pub mod UnitObjects
+pub mod UnitLiterals
 pub mod JoinedObjects
 pub mod Programs
 pub mod BareThings

@@ -307,7 +307,7 @@ module _ (d : Declared) where
 
   -- ---- values
 
-  abbrev HasValue : Trees.Expression CType → Type 0
+  abbrev pub HasValue : Trees.Expression CType → Type 0
   HasValue e = (v : InitialValue) × (initial_value d e ≡ Some v)
 
   pub value_stays : (e : Expression) → IsTyped d (typed e) → IsSettled (typed e) → HasValue (typed e) → HasValue (typed (recognised e))
