@@ -22,6 +22,7 @@ use Rattle.c_checking_units.proofs.Lists.{ascending_apart}
 use Rattle.c_checking_units.proofs.Tracing.{name_at}
 use Rattle.c_checking_units.proofs.WholeFiles.{visible_is}
 use Rattle.c_text_order.specs.TextOrder.{AreInTextOrder, places_of_file}
+use Rattle.c_weights.proofs.Numbered.{total}
 use Rattle.c_well_typed.proofs.Definitions.{IsDeclaring, IsDefining, declaring, defining}
 use Rattle.c_well_typed.proofs.Enumerators.{anything}
 use Rattle.c_well_typed.proofs.FileObjects.{IsObjectName, name_known}
@@ -34,7 +35,7 @@ use Rattle.c_printable_objects.proofs.Counts.{occurs, IsIn, sum_of, sum_below, s
 use Rattle.c_printable_objects.proofs.Literals.{Walk, IsLiteralObject, IsTextAt}
 use Rattle.c_printable_objects.proofs.OwnNames.{IsOwn, IsOwnEntity}
 use Rattle.c_printable_objects.proofs.Sources.{IsMadeLocal, IsSourced, IsFilled, weight, weight_of, IsPlaced}
-use Rattle.c_printable_objects.proofs.Totals.{total, at_place, past_end, by_places, at_most_once, file_fewer, at_least_once}
+use Rattle.c_printable_objects.proofs.Totals.{at_place, past_end, by_places, at_most_once, file_fewer, at_least_once}
 use Rattle.c_printable_objects.proofs.WalkedFiles.{body_weight, function_weight, function_weight_of, IsFine, IsNamedBy, IsMade, items_made}
 
 some_is : {A : Type 0} (x y : A) → Some x ≡ Some y → x ≡ y

@@ -17,7 +17,9 @@ pub mod FileLiterals
 pub mod NamedParts
 pub mod UnitObjects
 pub mod UnitLiterals
+pub mod OneDefinition
 pub mod JoinedObjects
+pub mod JoinedLiterals
 pub mod Programs
 pub mod BareThings
 pub mod ToldTypes

@@ -1,20 +1,17 @@
 -- Sums over lists, by the places of their elements; and how often a number stands in a list that rises.
-use Rattle.std.proofs.Common.{◌≡◌, ◌≢◌, ◌∙◌, ℕ, zero, suc, ◌+◌, ◌≤◌, ◌<◌, Bool, true, false, refl, sym, ap, subst, List, [], ◌∷◌, ◌++◌, length, arith, inl, inr}
+use Rattle.std.proofs.Common.{◌≡◌, ◌≢◌, ◌∙◌, ℕ, zero, suc, ◌+◌, ◌≤◌, ◌<◌, Bool, true, false, refl, sym, ap, subst, List, [], ◌∷◌, ◌++◌, length, map, arith, inl, inr}
 use Rattle.std.specs.Prelude.{◌⊎◌, ◌==◌, if◌then◌else◌, Option, Some, None, slice_get}
 use Rattle.c_ast.specs.Places.{first_declarator, first_item}
 use Rattle.c_ast.specs.Trees
 use Rattle.c_erasure.specs.Files.{IsMade}
 use Rattle.c_erasure.specs.Literals.{literals_of_value, made_by_items, initial_literals, made_by_file_item, made_by_file}
 use Rattle.c_text_order.specs.TextOrder.{Rising, places_of_declarators, places_of_item, places_of_file}
+use Rattle.c_weights.proofs.Numbered.{total}
 use Rattle.c_printable_objects.proofs.Counts.{same_number, is_same, occurs, occurs_both, sum_below}
 
 -- ---- sums
 
 module _ {A : Type 0} (g : A → ℕ) where
-  abbrev pub total : List A → ℕ
-  total [] = 0
-  total (x ∷ more) = g x + total more
-
   abbrev pub at_place : Option A → ℕ
   at_place None = 0
   at_place (Some x) = g x
@@ -23,6 +20,38 @@ module _ {A : Type 0} (g : A → ℕ) where
   past_end [] n h = absurd (h refl)
   past_end (x ∷ xs) zero h = omega arith
   past_end (x ∷ xs) (suc n) h = let r = past_end xs n h in omega (arith, r)
+
+  -- one of them weighs no more than all, and neither do two
+  pub one_place : (xs : List A) (n : ℕ) (x : A) → slice_get xs n ≡ Some x → g x ≤ total g xs
+  one_place [] n x e = cc
+  one_place (y ∷ xs) zero x e = let is : y ≡ x = cc in let s = ap g is in omega (arith, s)
+  one_place (y ∷ xs) (suc n) x e = let r = one_place xs n x e in omega (arith, r)
+
+  pub two_places : (xs : List A) (m n : ℕ) (x y : A) → m ≢ n → slice_get xs m ≡ Some x → slice_get xs n ≡ Some y → g x + g y ≤ total g xs
+  two_places [] m n x y d e k = cc
+  two_places (z ∷ xs) zero zero x y d e k = absurd (d refl)
+  two_places (z ∷ xs) zero (suc n) x y d e k =
+      let is : z ≡ x = cc in let s = ap g is in let r = one_place xs n y k in omega (arith, s, r)
+  two_places (z ∷ xs) (suc m) zero x y d e k =
+      let is : z ≡ y = cc in let s = ap g is in let r = one_place xs m x e in omega (arith, s, r)
+  two_places (z ∷ xs) (suc m) (suc n) x y d e k = let r = two_places xs m n x y (λ is. d (ap suc is)) e k in omega (arith, r)
+
+  pub some_place : (xs : List A) → total g xs ≢ 0 → (n : ℕ) × (x : A) × (slice_get xs n ≡ Some x) × (g x ≢ 0)
+  some_place [] d = absurd (d refl)
+  some_place (x ∷ xs) d = by_weight (g x) refl (some_place xs)
+    where
+      by_weight : (m : ℕ) → g x ≡ m → (total g xs ≢ 0 → (n : ℕ) × (y : A) × (slice_get xs n ≡ Some y) × (g y ≢ 0))
+          → (n : ℕ) × (y : A) × (slice_get (x ∷ xs) n ≡ Some y) × (g y ≢ 0)
+      by_weight (suc m) e again = (0, x, refl, λ z. omega (arith, z, e))
+      by_weight zero e again = let r = again (λ z. d (omega (arith, z, e))) in (suc r.0, r.1, r.2, r.3)
+
+pub total_mapped : {A B : Type 0} (h : B → ℕ) (g : A → ℕ) (v : A → B) (xs : List A) → ((n : ℕ) (x : A) → slice_get xs n ≡ Some x → h (v x) ≡ g x)
+    → total h (map v xs) ≡ total g xs
+total_mapped h g v [] k = refl
+total_mapped h g v (x ∷ xs) k =
+    let r = total_mapped h g v xs (λ n y e. k (suc n) y e) in
+    let s = k 0 x refl in
+    omega (arith, r, s)
 
 from_first : (w v : ℕ → ℕ) → ((n : ℕ) → w (suc n) ≡ v n) → (k : ℕ) → sum_below w (suc k) ≡ w 0 + sum_below v k
 from_first w v h zero = omega arith

@@ -21,6 +21,7 @@ use Rattle.c_erasure.specs.Scopes.{ALocal, AFunction, AnObject, FileScope, at_fi
 use Rattle.c_erasure.specs.Units as Units
 use Rattle.c_erasure.specs.Units.{recognised_statement, number_in, of_initializer, typed_initializer, types, unit_of}
 use Rattle.c_text_order.specs.TextOrder.{AreInTextOrder}
+use Rattle.c_weights.proofs.Numbered.{total}
 use Rattle.c_well_typed.proofs.Definitions.{in_function, IsDefinedFunction, function_known}
 use Rattle.c_well_typed.proofs.JoinedFunctions.{unmapped_at}
 use Rattle.c_well_typed.proofs.RecognisedStatements.{typed_initial}
@@ -34,7 +35,7 @@ use Rattle.c_printable_objects.proofs.Renamed.{statements_alike}
 use Rattle.c_printable_objects.proofs.Sources.{IsSourced, IsFilled, IsSource}
 use Rattle.c_printable_objects.proofs.StayingValues.{with_locals}
 use Rattle.c_printable_objects.proofs.StoredReferences.{referred_by_all, initializer_refers}
-use Rattle.c_printable_objects.proofs.Totals.{total}
+use Rattle.c_printable_objects.proofs.Totals.{total_mapped}
 use Rattle.c_printable_objects.proofs.UnitObjects.{as_program}
 use Rattle.c_printable_objects.proofs.WalkedFiles.{body_weight}
 
@@ -57,14 +58,6 @@ times_in n p =
     let b = times_each n by_object p.objects in
     let c = times_each n by_function p.functions in
     omega (arith, a, b, c)
-
-total_mapped : {A B : Type 0} (h : B → ℕ) (g : A → ℕ) (v : A → B) (xs : List A) → ((n : ℕ) (x : A) → slice_get xs n ≡ Some x → h (v x) ≡ g x)
-    → total h (map v xs) ≡ total g xs
-total_mapped h g v [] k = refl
-total_mapped h g v (x ∷ xs) k =
-    let r = total_mapped h g v xs (λ n y e. k (suc n) y e) in
-    let s = k 0 x refl in
-    omega (arith, r, s)
 
 module _ (bytes : List ℕ) (items : List Trees.Item) (f : FileScope) (tree : IsTreeOf bytes items) (h : IsFileOf items f)
     (beginnings : AreAscending (scope_beginnings (marks_of_file f.untagged items))) where
