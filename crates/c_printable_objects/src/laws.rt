@@ -1,9 +1,10 @@
 //! Laws about what can be said in C.
 
 ghost use Rattle.c_typed.specs.Programs.{program_data};
-ghost use Rattle.c_printable_objects.specs.Laws.{HasPrintableTypes, HasPrintableObjects};
+ghost use Rattle.c_printable_objects.specs.Laws.{HasLiteralsOnce, HasPrintableObjects, HasPrintableTypes};
 
 use c_lexer::tokens_have_places;
+use c_text_order::texts_are_in_order;
 use c_typed::Typed;
 use c_types::records_are_complete;
 use c_well_typed::units_have_typed_functions;
@@ -25,4 +26,13 @@ pub fn programs_have_printable_objects(p: &Typed)
     records_are_complete(&p.records);
     units_have_typed_functions();
     tokens_have_places();
+}
+
+/// The object of each string literal of a program of files is referred to once, in the bodies of its functions or in what its objects hold at first
+/// (C99 6.4.5).
+pub fn literals_stand_once(p: &Typed)
+    ensures { HasLiteralsOnce (program_data p.now) }
+{
+    tokens_have_places();
+    texts_are_in_order();
 }
