@@ -54,14 +54,14 @@ module _ (f : FileScope) (count : ℕ) (less : (at : ℕ) → ended f.ends at �
 
   -- ---- names of the file scope
 
-  abbrev IsDefinedObject : ℕ → Type 0
+  abbrev pub IsDefinedObject : ℕ → Type 0
   IsDefinedObject n = (o : AnObject) × (slice_get f.objects n ≡ Some o) × Holds o
 
   -- one that is declared is that of no literal
-  abbrev IsOwnObject : ℕ → Type 0
+  abbrev pub IsOwnObject : ℕ → Type 0
   IsOwnObject n = (o : AnObject) × (slice_get f.objects n ≡ Some o) × (o.literal ≡ None)
 
-  abbrev IsObjectName : Bound → Type 0
+  abbrev pub IsObjectName : Bound → Type 0
   IsObjectName b = (n : ℕ) (t : CType) → b.entity ≡ an_object n t → IsOwnObject n × (b.how ≡ defines → IsDefinedObject n)
 
   abbrev IsNamedBy : ℕ → Type 0
@@ -207,7 +207,7 @@ module _ (f : FileScope) (count : ℕ) (less : (at : ℕ) → ended f.ends at �
       known : AreNames (marks_of_file f.untagged items) × AreAccounted f (made_by_file items)
       known = items_found items [] b (recursion_from_All (ErasesItem f) items h.each_item)
 
-      name_known : (k : ℕ) (b : Bound) → slice_get f.names k ≡ Some b → IsObjectName b
+      pub name_known : (k : ℕ) (b : Bound) → slice_get f.names k ≡ Some b → IsObjectName b
       name_known k b e =
           let names = subst AreAscending (sym h.names) beginnings in
           let from : slice_get (map (λ (b : Bound). b.from) f.names) k ≡ Some b.from = mapped_at (λ (b : Bound). b.from) f.names k b e in

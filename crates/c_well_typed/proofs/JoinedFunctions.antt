@@ -87,7 +87,7 @@ always Q (x ∷ xs) f = (f x, always Q xs f)
 
 -- ---- identities by their places
 
-object_identity : (k n : ℕ) (all : List Object) (i : ℕ) (o : Object) → slice_get all i ≡ Some o
+pub object_identity : (k n : ℕ) (all : List Object) (i : ℕ) (o : Object) → slice_get all i ≡ Some o
     → get_or (object_identities k n all) i [] ≡ identity k o.linked o.name (n + i)
 object_identity k n [] i o h = cc
 object_identity k n (p ∷ all) zero o h =

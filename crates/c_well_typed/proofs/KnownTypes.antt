@@ -55,7 +55,7 @@ module _ (f : FileScope) (count : ℕ) (less : (at : ℕ) → ended f.ends at �
   named_parameters Trees.no_parameters types k locals bounds h m = subst (AreMadeNames f count less) (sym h.2) tt
   named_parameters (Trees.and_parameter comma specs d more) types k locals bounds h m =
       let own : AreWellMade count (and_type h.1 h.2) = subst (AreWellMade count) h.6 m in
-      subst (AreMadeNames f count less) (sym h.8) (own.0, named_parameters more h.2 (k + 1) h.3 h.4 h.9 own.1)
+      subst (AreMadeNames f count less) (sym h.8) (own.1, named_parameters more h.2 (k + 1) h.3 h.4 h.9 own.2)
 
   parameter_names : (all : Option Trees.ParameterList) (types : CTypes) (locals : List ALocal) (bounds : List Bound) → HasParameters all types locals bounds
       → AreWellMade count types → AreMadeNames f count less bounds

@@ -1,12 +1,12 @@
 -- What stands in a program under the number of an object or a function of a unit: one that has the same identity there.
-use Rattle.std.proofs.Common.{◌≡◌, ◌∙◌, ℕ, zero, suc, ◌+◌, ◌≤◌, Bool, true, false, refl, sym, ap, subst, cond, List, [], ◌∷◌, ◌++◌, map, flat_map, inl, inr}
+use Rattle.std.proofs.Common.{◌≡◌, ◌∙◌, ℕ, zero, suc, ◌+◌, ◌≤◌, Bool, true, false, ◌||◌, refl, sym, ap, subst, cond, List, [], ◌∷◌, ◌++◌, map, flat_map, inl, inr}
 use Rattle.std.proofs.Common.{arith}
 use Rattle.std.proofs.lemmas.List.{append-nil, map-append}
 use Rattle.std.proofs.lemmas.Slice.Eq.{bytes_eq-Decides}
 use Rattle.std.specs.Prelude.{◌⊎◌, Option, Some, None, slice_get}
 use Rattle.std.specs.Str.{bytes_eq}
 use Rattle.numbering.proofs.Laws.{all_new}
-use Rattle.numbering.specs.Keys.{new_keys, position}
+use Rattle.numbering.specs.Keys.{is_among, new_keys, position}
 use Rattle.c_typed.specs.Programs.{UnitData}
 use Rattle.c_joining.specs.Joining.{numbered_from, named, identity, paired, under, chosen, chosen_among, or_first, if_any}
 use Rattle.c_joining.specs.Placing.{placed}
@@ -52,6 +52,75 @@ unit_among k [] p h = absurd h
 unit_among k (v ∷ more) p (inl e) = inl (ap (λ (p : ℕ × UnitData). p.1) e)
 unit_among k (v ∷ more) p (inr h) = inr (unit_among (k + 1) more p h)
 
+-- ---- keys that stand once
+
+some_is : {A : Type 0} (x y : A) → Some x ≡ Some y → x ≡ y
+some_is x y h = cc
+
+-- what stands under a number among what some keys give, of which each gives one thing
+chosen_index : {X : Type 0} (f : Key → Option X) (keys : List Key) → ((k : Key) → IsAmong k keys → (x : X) × (f k ≡ Some x)) → (j : ℕ) (y : X)
+    → slice_get (flat_map (λ k. if_any (f k)) keys) j ≡ Some y → (k : Key) × (slice_get keys j ≡ Some k) × (f k ≡ Some y)
+chosen_index f [] each j y h = cc
+chosen_index {X = X} f (k ∷ keys) each j y h =
+    let e = each k (inl refl) in
+    go e.0 e.1 j (subst (λ o. slice_get (if_any o ++ flat_map (λ k. if_any (f k)) keys) j ≡ Some y) e.1 h) (λ i. chosen_index f keys (λ k i. each k (inr i)) i y)
+  where
+    go : (x : X) → f k ≡ Some x → (j : ℕ) → slice_get (x ∷ flat_map (λ k. if_any (f k)) keys) j ≡ Some y
+        → ((i : ℕ) → slice_get (flat_map (λ k. if_any (f k)) keys) i ≡ Some y → (l : Key) × (slice_get keys i ≡ Some l) × (f l ≡ Some y))
+        → (l : Key) × (slice_get (k ∷ keys) j ≡ Some l) × (f l ≡ Some y)
+    go x e zero h again = (k, refl, e ∙ h)
+    go x e (suc i) h again = again i h
+
+new_among : (k : Key) (known all : List Key) → IsAmong k (new_keys known all) → IsAmong k all
+new_among k known [] h = h
+new_among k known (x ∷ all) h = go (is_among known x) h (new_among k known all) (new_among k (x ∷ known) all)
+  where
+    go : (b : Bool) → IsAmong k (cond b (new_keys known all) (x ∷ new_keys (x ∷ known) all)) → (IsAmong k (new_keys known all) → IsAmong k all)
+        → (IsAmong k (new_keys (x ∷ known) all) → IsAmong k all) → IsAmong k (x ∷ all)
+    go true i f g = inr (f i)
+    go false (inl e) f g = inl e
+    go false (inr i) f g = inr (g i)
+
+-- one that is known is not new
+not_new : (k : Key) (known all : List Key) (j : ℕ) → is_among known k ≡ true → slice_get (new_keys known all) j ≡ Some k → ⊥
+not_new k known [] j q h = cc
+not_new k known (x ∷ all) j q h = go (is_among known x) refl j h (not_new k known all) (not_new k (x ∷ known) all)
+  where
+    or_true : (b : Bool) → (b || is_among known k) ≡ true
+    or_true true = refl
+    or_true false = q
+
+    go : (b : Bool) → is_among known x ≡ b → (j : ℕ) → slice_get (cond b (new_keys known all) (x ∷ new_keys (x ∷ known) all)) j ≡ Some k
+        → ((j : ℕ) → is_among known k ≡ true → slice_get (new_keys known all) j ≡ Some k → ⊥)
+        → ((j : ℕ) → is_among (x ∷ known) k ≡ true → slice_get (new_keys (x ∷ known) all) j ≡ Some k → ⊥) → ⊥
+    go true e j h f g = f j q h
+    go false e zero h f g =
+        let is = some_is x k h in let true_is_false : true ≡ false = sym q ∙ ap (is_among known) (sym is) ∙ e in cc
+    go false e (suc j) h f g = g j (or_true (bytes_eq k x)) h
+
+-- the place of a key is where it stands
+position_at : (known all : List Key) (j : ℕ) (k : Key) → slice_get (new_keys known all) j ≡ Some k → position (new_keys known all) k ≡ j
+position_at known [] j k h = cc
+position_at known (x ∷ all) j k h = go (is_among known x) j h (position_at known all) (position_at (x ∷ known) all)
+  where
+    go : (b : Bool) (j : ℕ) → slice_get (cond b (new_keys known all) (x ∷ new_keys (x ∷ known) all)) j ≡ Some k
+        → ((j : ℕ) (k : Key) → slice_get (new_keys known all) j ≡ Some k → position (new_keys known all) k ≡ j)
+        → ((j : ℕ) (k : Key) → slice_get (new_keys (x ∷ known) all) j ≡ Some k → position (new_keys (x ∷ known) all) k ≡ j)
+        → position (cond b (new_keys known all) (x ∷ new_keys (x ∷ known) all)) k ≡ j
+    go true j h f g = f j k h
+    go false zero h f g = let is = some_is x k h in ap (λ b. cond b 0 (position (new_keys (x ∷ known) all) k + 1)) ((bytes_eq-Decides k x).1 (sym is))
+    go false (suc j) h f g = by_test (bytes_eq k x) refl
+      where
+        by_test : (b : Bool) → bytes_eq k x ≡ b → cond b 0 (position (new_keys (x ∷ known) all) k + 1) ≡ suc j
+        by_test true e =
+            absurd (not_new k (x ∷ known) all j (ap (λ b. b || is_among known k) e) h)
+        by_test false e = let r = g j k h in omega (arith, r)
+
+mapped_among : {X : Type 0} (k : Key) (ps : List (Key × X)) → IsAmong k (map {B = Key} (λ p. p.0) ps) → (p : Key × X) × IsAmong p ps × (p.0 ≡ k)
+mapped_among k [] h = absurd h
+mapped_among k (p ∷ ps) (inl e) = (p, inl refl, sym e)
+mapped_among k (p ∷ ps) (inr h) = let r = mapped_among k ps h in (r.0, inr r.1, r.2)
+
 -- ---- under an identity
 
 module _ {X : Type 0} (d : X → Bool) where
@@ -94,6 +163,35 @@ module _ {X : Type 0} (d : X → Bool) where
       go true o e = (z, refl, inl refl)
       go false None e = (z, refl, inl refl)
       go false (Some y) e = (y, refl, inr (among_found more y e))
+
+  among_defined : (xs : List X) (y : X) → chosen_among d xs ≡ Some y → d y ≡ true
+  among_defined [] y h = cc
+  among_defined (x ∷ more) y h = go (d x) refl h (among_defined more y)
+    where
+      go : (b : Bool) → d x ≡ b → cond b (Some x) (chosen_among d more) ≡ Some y → (chosen_among d more ≡ Some y → d y ≡ true) → d y ≡ true
+      go true q e f = let is : x ≡ y = cc in subst (λ x. d x ≡ true) is q
+      go false q e f = f e
+
+  among_there : (x : X) (xs : List X) → IsAmong x xs → d x ≡ true → chosen_among d xs ≡ None → ⊥
+  among_there x [] i q h = i
+  among_there x (y ∷ more) i q h = go (d y) refl i h (among_there x more)
+    where
+      go : (b : Bool) → d y ≡ b → (x ≡ y) ⊎ IsAmong x more → cond b (Some y) (chosen_among d more) ≡ None
+          → (IsAmong x more → d x ≡ true → chosen_among d more ≡ None → ⊥) → ⊥
+      go true e i h f = cc
+      go false e (inl is) h f = let true_is_false : true ≡ false = sym q ∙ ap d is ∙ e in cc
+      go false e (inr i) h f = f i q h
+
+  -- where one of them is defined, so is what is chosen
+  chosen_defined : (x : X) (xs : List X) (y : X) → IsAmong x xs → d x ≡ true → chosen d xs ≡ Some y → d y ≡ true
+  chosen_defined x [] y i q h = absurd i
+  chosen_defined x (z ∷ more) y i q h = go (d z) refl i (chosen_among d more) refl h
+    where
+      go : (b : Bool) → d z ≡ b → (x ≡ z) ⊎ IsAmong x more → (o : Option X) → chosen_among d more ≡ o → cond b (Some z) (or_first z o) ≡ Some y → d y ≡ true
+      go true e i o c h = let is : z ≡ y = cc in subst (λ z. d z ≡ true) is e
+      go false e (inl is) o c h = let true_is_false : true ≡ false = sym q ∙ ap d is ∙ e in cc
+      go false e (inr i) None c h = absurd (among_there x more i q c)
+      go false e (inr i) (Some w) c h = let is : w ≡ y = cc in among_defined more y (c ∙ ap Some is)
 
   -- what stands at the place of an identity
   at_place : (ps : List (Key × X)) (i : Key)
@@ -201,6 +299,7 @@ module _ {X : Type 0} (linked : X → Bool) (name : X → List ℕ) (items : Uni
       pub there : slice_get (items unit) place ≡ Some thing
       pub is : found ≡ in_program number unit thing
       pub alike : ((linked x ≡ true) × (linked thing ≡ true) × (name x ≡ name thing)) ⊎ ((k ≡ number) × (n ≡ place))
+      pub defined : d (in_program k u x) ≡ true → d found ≡ true
 
     pub looked_up : (k : ℕ) (u : UnitData) → IsAmong (k, u) (numbered_from 0 units) → (n : ℕ) (x : X) → slice_get (items u) n ≡ Some x → IsFound k u n x
     looked_up k u h n x e =
@@ -225,6 +324,7 @@ module _ {X : Type 0} (linked : X → Bool) (name : X → List ℕ) (items : Uni
           there = q.2;
           is = sym p.3 ∙ q.4;
           alike = identities_are k w.0.0 (linked x) (linked q.1) (name x) (name q.1) n q.0 (sym p.2 ∙ q.3 ∙ ap (identity w.0.0 (linked q.1) (name q.1)) (from_zero q.0));
+          defined = λ t. chosen_defined d (in_program k u x) (under i pairs) c.0 (under_has d i (in_program k u x) pairs pair) t c.1;
         }
 
     -- one of some unit, under a key
@@ -286,3 +386,37 @@ module _ {X : Type 0} (linked : X → Bool) (name : X → List ℕ) (items : Uni
         any_is None h = absurd h
         any_is (Some x) (inl e) = ap Some (sym e)
         any_is (Some x) (inr e) = absurd e
+
+    -- what stands under a number has an identity, whose place that number is
+    pub record IsNumbered (j : ℕ) (y : X) : Type 0 where
+      pub number : ℕ
+      pub unit : UnitData
+      pub numbered : IsAmong (number, unit) (numbered_from 0 units)
+      pub place : ℕ
+      pub thing : X
+      pub there : slice_get (items unit) place ≡ Some thing
+      pub is : y ≡ in_program number unit thing
+      pub position_is : j ≡ position keys (identity number (linked thing) (name thing) place)
+
+    pub under_number : (j : ℕ) (y : X) → slice_get chosen_all j ≡ Some y → IsNumbered j y
+    under_number j y h =
+        let a = chosen_index (λ k. chosen d (under k pairs)) keys each j y h in
+        let z = of_key a.0 y a.2 in
+        record {
+          number = z.number;
+          unit = z.unit;
+          numbered = z.numbered;
+          place = z.place;
+          thing = z.thing;
+          there = z.there;
+          is = z.is;
+          position_is = sym (position_at [] (flat_map (λ (u : ℕ × UnitData). ids u.0 0 (items u.1)) (numbered_from 0 units)) j a.0 a.1) ∙ ap (position keys) z.key;
+        }
+      where
+        each : (k : Key) → IsAmong k keys → (x : X) × (chosen d (under k pairs) ≡ Some x)
+        each k i =
+            let all = flat_map (λ (u : ℕ × UnitData). ids u.0 0 (items u.1)) (numbered_from 0 units) in
+            let own = subst (IsAmong k) (sym (all_keys (numbered_from 0 units))) (new_among k [] all i) in
+            let p = mapped_among k pairs own in
+            let c = some_chosen d p.0.1 (under k pairs) (under_has d k p.0.1 pairs (subst (λ k. IsAmong (pair_of k p.0.1) pairs) p.2 p.1)) in
+            (c.0, c.1)

@@ -1,10 +1,11 @@
 -- In what stands for an expression, an initializer or a statement the types of names, casts and null pointers are those that the file names: their
 -- functions give no arrays, and their arrays have complete elements (C99 6.5.1, 6.5.4).
-use Rattle.std.proofs.Common.{◌≡◌, ℕ, zero, suc, ◌+◌, ◌≤◌, Bool, true, false, refl, sym, subst, List, [], ◌∷◌, ◌++◌, inl, inr}
+use Rattle.std.proofs.Common.{◌≡◌, ℕ, zero, suc, ◌+◌, ◌≤◌, Bool, true, false, refl, sym, subst, List, [], ◌∷◌, ◌++◌, length, length-append, arith, inl, inr}
 use Rattle.std.specs.Prelude.{◌⊎◌, Option, Some, None}
 use Rattle.lay_base.specs.declared.place.Place.{Place}
 use Rattle.c_types.specs.declared.ty.IntKind.{IntKind}
 use Rattle.c_types.specs.Types.{CType, integer, pointer, array, structure, Field}
+use Rattle.c_lexer.specs.QuotedScan.{string_bytes}
 use Rattle.c_ast.specs.declared.words.Spelling.{Spelling}
 use Rattle.c_ast.specs.declared.operators.UnaryOp.TheVariants as U
 use Rattle.c_ast.specs.Trees
@@ -12,7 +13,7 @@ use Rattle.c_typed.specs.declared.operators.BinaryOp.{BinaryOp}
 use Rattle.c_typed.specs.declared.operators.BinaryOp.TheVariants as B
 use Rattle.c_typed.specs.Conversions.{is_scalar}
 use Rattle.c_typed.specs.Trees as Typed
-use Rattle.c_erasure.specs.Erasure.{IsNamed, IsLiteralFor, IsSum, IsJoined, IsCall, IsAddress, IsPointed, IsSize, Values, Erases, AreValues}
+use Rattle.c_erasure.specs.Erasure.{literal_of, IsNamed, IsLiteralFor, IsSum, IsJoined, IsCall, IsAddress, IsPointed, IsSize, Values, Erases, AreValues}
 use Rattle.c_erasure.specs.Initializers.{part_at, texts_of, IsText, Initializes, IsOneValue, InitializeElements, InitializeFields, IsInitializer}
 use Rattle.c_erasure.specs.Noted.{Noted, Expression, Path, Node, Thing, an_object, a_value, a_function, a_function_at, a_library_function}
 use Rattle.c_erasure.specs.Noted.{type_of, type_of_path, object_value, value_of, unconverted}
@@ -30,6 +31,12 @@ use Rattle.c_well_typed.proofs.Leaves as Leaves
 
 some_is : {A : Type 0} (x y : A) → Some x ≡ Some y → x ≡ y
 some_is x y h = cc
+
+-- a string literal has a zero at its end
+literal_long : (all : List Spelling) → 1 ≤ length (literal_of all)
+literal_long [] = omega arith
+literal_long (x ∷ more) =
+    let l = literal_long more in let s = length-append (string_bytes x.text) (literal_of more) in omega (arith, l, s)
 
 module _ (f : FileScope) (count : ℕ) (less : (at : ℕ) → ended f.ends at ≤ count)
     (visible_made : (x : List ℕ) (at : ℕ) (e : Entity) → visible f.names x at ≡ Some e → IsMadeEntity f count less e) where
@@ -82,10 +89,10 @@ module _ (f : FileScope) (count : ℕ) (less : (at : ℕ) → ended f.ends at �
   name_leaves at (a_local n t) th m h = is_thing th _ h m
   name_leaves at (a_parameter t) th m h = is_thing th _ h m
 
-  literal_leaves : (p : Purpose) (s : Scope) (at : Place) (bytes : List ℕ) (th : Thing) → IsLiteralFor p s at bytes th → NThing th
-  literal_leaves in_full s at bytes th h = is_thing th _ h.1 (refl, tt)
-  literal_leaves value_alone s at bytes th h = is_thing th _ h (refl, tt)
-  literal_leaves type_alone s at bytes th h = is_thing th _ h (refl, tt)
+  literal_leaves : (p : Purpose) (s : Scope) (at : Place) (bytes : List ℕ) (th : Thing) → 1 ≤ length bytes → IsLiteralFor p s at bytes th → NThing th
+  literal_leaves in_full s at bytes th l h = is_thing th _ h.1 (l, refl, tt)
+  literal_leaves value_alone s at bytes th l h = is_thing th _ h (l, refl, tt)
+  literal_leaves type_alone s at bytes th l h = is_thing th _ h (l, refl, tt)
 
   size_leaves : (s : Scope) (at by : ℕ) (t : CType) (th : Thing) → IsSize s at by t th → NThing th
   size_leaves s at by t th h = is_thing th _ h.2 tt
@@ -134,7 +141,7 @@ module _ (f : FileScope) (count : ℕ) (less : (at : ℕ) → ended f.ends at �
     leaves (Trees.name x) s th e h = name_leaves _ h.0 th (entity_known f count less visible_made s x.text x.from h.0 e h.1) h.2
     leaves (Trees.number x v kind) s th e h = is_thing th _ h tt
     leaves (Trees.character x v) s th e h = is_thing th _ h tt
-    leaves (Trees.texts all) s th e h = literal_leaves s.purpose s _ _ th h
+    leaves (Trees.texts all) s th e h = literal_leaves s.purpose s _ _ th (literal_long all) h
     leaves (Trees.paren left a right) s th e h = leaves a s th e h
     leaves (Trees.index a left b right) s th e (inl h) = is_thing th _ h.4 (leaves a s (an_object h.1) e h.5, valued h.6.0 h.2 h.6.1 (leaves b s h.6.0 e h.6.2))
     leaves (Trees.index a left b right) s th e (inr (inl h)) = is_thing th _ h.3 (valued h.4.0 h.1 h.4.1 (leaves a s h.4.0 e h.4.2), valued h.5.0 h.2 h.5.1 (leaves b s h.5.0 e h.5.2))

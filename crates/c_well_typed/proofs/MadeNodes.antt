@@ -1,11 +1,13 @@
--- The types of the nodes of a typed tree (C99 6.5): no function in them gives an array, and where one is an array its elements are complete, since it is so of the
--- types of names, casts, null pointers, functions and fields.
+-- The types of the nodes of a typed tree (C99 6.5) are such that functions and arrays can have them (`IsWellMade`), since it is so of the types of names,
+-- casts, null pointers, functions and fields; so what holds of all such types holds of them.
 use Rattle.std.proofs.Common.{◌≡◌, ℕ, true, false, sym, subst, List, [], ◌∷◌, ◌++◌, inl, inr}
-use Rattle.std.specs.Prelude.{Some, slice_get}
+use Rattle.std.proofs.lemmas.Bool.{and_parts}
+use Rattle.std.specs.Prelude.{Some, slice_get, nat_lt}
 use Rattle.std.specs.List.{AllByRecursion}
 use Rattle.lay_base.specs.declared.place.Place.{Place}
 use Rattle.c_types.specs.Objects.{is_object}
-use Rattle.c_types.specs.Types.{CType, CTypes, pointer, array, function, no_types, and_type}
+use Rattle.c_types.specs.declared.ty.IntKind.TheVariants.{UInt}
+use Rattle.c_types.specs.Types.{CType, CTypes, integer, pointer, array, function, no_types, and_type}
 use Rattle.c_typed.specs.declared.operators.LibraryFunction.{LibraryFunction}
 use Rattle.c_typed.specs.declared.operators.PointerOp.{PointerOp}
 use Rattle.c_typed.specs.declared.operators.PointerOp.TheVariants as P
@@ -33,27 +35,28 @@ HasWhole count (array t n) = is_object count t ≡ true
 HasWhole count t = Unit {0}
 
 pub made_whole : (count : ℕ) (t : CType) → IsWellMade count t → HasWhole count t
-made_whole count (array t n) h = h.0
+made_whole count (array t n) h = h.1
 made_whole count t h = tt
+
+pub object_whole : (count : ℕ) (t : CType) → is_object count t ≡ true → HasWhole count t
+object_whole count (array t n) h = (and_parts (nat_lt 0 n) (is_object count t) h).1
+object_whole count t h = tt
 
 pub scalar_whole : (count : ℕ) (t : CType) → is_scalar t ≡ true → HasWhole count t
 scalar_whole count (array t n) h = cc
 scalar_whole count t h = tt
 
-abbrev pub AreWhole : ℕ → List Noted → Type 0
-AreWhole count types = AllByRecursion (λ t. HasWhole count t.ty) types
+abbrev pub AreWhole : (CType → Type 0) → List Noted → Type 0
+AreWhole H types = AllByRecursion (λ t. H t.ty) types
 
-pub joined : (count : ℕ) (a b : List Noted) → AreWhole count a → AreWhole count b → AreWhole count (a ++ b)
-joined count [] b h k = k
-joined count (t ∷ a) b h k = (h.0, joined count a b h.1 k)
+pub joined : (H : CType → Type 0) (a b : List Noted) → AreWhole H a → AreWhole H b → AreWhole H (a ++ b)
+joined H [] b h k = k
+joined H (t ∷ a) b h k = (h.0, joined H a b h.1 k)
 
 module _ (d : Declared) (count : ℕ) (functions : (n : ℕ) (t : CType) → slice_get d.functions n ≡ Some t → IsWellMade count t)
     (fields : (r k : ℕ) (t : CType) → field_type d.records r k ≡ Some t → IsWellMade count t) where
   abbrev W : CType → Type 0
   W = IsWellMade count
-
-  abbrev A : List Noted → Type 0
-  A = AreWhole count
 
   abbrev typed_node : Node → Trees.Node CType
   typed_node = mapped_node (of_types (λ (t : Noted). t.ty))
@@ -119,92 +122,96 @@ module _ (d : Declared) (count : ℕ) (functions : (n : ℕ) (t : CType) → sli
     path_made (Trees.path t at (Trees.member p r field)) h l = fields r field t.ty h.2
     path_made (Trees.path t at (Trees.element p i)) h l = element_made count (path_ty (typed_path p)) t.ty h.3 (path_made p h.0 l.0)
 
-  -- ---- all types of a tree, where its own is such
+  -- ---- all types of a tree, where its own has what all such types have
 
-  pub bare_whole : (e : Expression) → is_bare (typed e) ≡ true → IsTyped d (typed e) → HasMadeLeaves count e → HasWhole count (ty (typed e))
-  bare_whole e b h l = made_whole count (ty (typed e)) (own e b (made e h l))
+  module _ (H : CType → Type 0) (of_made : (t : CType) → W t → H t) where
+    abbrev A : List Noted → Type 0
+    A = AreWhole H
 
-  pub number_whole : (t : CType) → is_integer t ≡ true → HasWhole count t
-  number_whole t i = made_whole count t (integer_made count t i)
+    pub bare_whole : (e : Expression) → is_bare (typed e) ≡ true → IsTyped d (typed e) → HasMadeLeaves count e → H (ty (typed e))
+    bare_whole e b h l = of_made (ty (typed e)) (own e b (made e h l))
 
-  two : (x y : Expression) → A (types_in x) → A (types_in y) → A (types_in x ++ types_in y)
-  two x y a b = joined count (types_in x) (types_in y) a b
+    pub number_whole : (t : CType) → is_integer t ≡ true → H t
+    number_whole t i = of_made t (integer_made count t i)
 
-  mutual
-    pub all_whole : (e : Expression) → IsTyped d (typed e) → HasMadeLeaves count e → HasWhole count (ty (typed e)) → A (types_in e)
-    all_whole (Trees.expression t at node) h l m = joined count (types_in_node node) (t ∷ []) (node_whole t.ty at node h l) (m, tt)
+    two : (x y : Expression) → A (types_in x) → A (types_in y) → A (types_in x ++ types_in y)
+    two x y a b = joined H (types_in x) (types_in y) a b
 
-    node_whole : (t : CType) (at : Place) (node : Node) → IsTypedNode d t at (typed_node node) → InNode count t node → A (types_in_node node)
-    node_whole t at (Trees.constant v) h l = tt
-    node_whole t at Trees.null h l = tt
-    node_whole t at (Trees.function_name g) h l = tt
-    node_whole t at (Trees.load p) h l = path_whole p h.0 l
-    node_whole t at (Trees.address_of p) h l = path_whole p h.0 l
-    node_whole t at (Trees.decay p) h l = path_whole p h.0 l
-    node_whole t at (Trees.convert e false) h l = all_whole e h.0 l (bare_whole e h.1 h.0 l)
-    node_whole t at (Trees.convert e true) h l = all_whole e h.0 l.1 (bare_whole e h.1 h.0 l.1)
-    node_whole t at (Trees.unary op x) h l =
-        all_whole x h.0 l (number_whole (ty (typed x)) (subst (λ t. is_integer t ≡ true) (sym h.2) (promoting_is (bare_ty (typed x)) t h.1).1))
-    node_whole t at (Trees.binary op x y) h l =
-        let i = on_numbers_is op (bare_ty (typed x)) (bare_ty (typed y)) t (ty (typed y)) h.2 in
-        two x y (all_whole x h.0 l.0 (number_whole (ty (typed x)) (subst (λ t. is_integer t ≡ true) (sym h.3) i.2)))
-        (all_whole y h.1 l.1 (number_whole (ty (typed y)) i.3))
-    node_whole t at (Trees.compare op x y) h l =
-        let m = made_whole count (ty (typed x)) (comparing_made count op (bare_ty (typed x)) (is_null (bare (typed x))) (bare_ty (typed y)) (is_null (bare (typed y))) (ty (typed x)) (made x h.0 l.0) (made y h.1 l.1) h.2) in
-        two x y (all_whole x h.0 l.0 m) (all_whole y h.1 l.1 (subst (HasWhole count) (sym h.3) m))
-    node_whole t at (Trees.pointer_add op x y) h l =
-        let m = move op (d.complete at.at) x y t h.2 (made x h.0 l.0) (made y h.1 l.1) in
-        two x y (all_whole x h.0 l.0 (made_whole count (ty (typed x)) m.1)) (all_whole y h.1 l.1 (made_whole count (ty (typed y)) m.2))
-    node_whole t at (Trees.pointer_difference x y) h l = two x y (all_whole x h.0 l.0 (bare_whole x h.2 h.0 l.0)) (all_whole y h.1 l.1 (bare_whole y h.3 h.1 l.1))
-    node_whole t at (Trees.both x y) h l = two x y (all_whole x h.0 l.0 (bare_whole x h.2.0 h.0 l.0)) (all_whole y h.1 l.1 (bare_whole y h.3.0 h.1 l.1))
-    node_whole t at (Trees.either x y) h l = two x y (all_whole x h.0 l.0 (bare_whole x h.2.0 h.0 l.0)) (all_whole y h.1 l.1 (bare_whole y h.3.0 h.1 l.1))
-    node_whole t at (Trees.not x) h l = all_whole x h.0 l (bare_whole x h.1.0 h.0 l)
-    node_whole t at (Trees.choose x y z) h l =
-        let m = made_whole count t (choosing_made count (bare_ty (typed y)) (is_null (bare (typed y))) (bare_ty (typed z)) (is_null (bare (typed z))) t (made y h.1 l.1) (made z h.2 l.2) h.4) in
-        joined count (types_in x ++ types_in y) (types_in z)
-        (two x y (all_whole x h.0 l.0 (bare_whole x h.3.0 h.0 l.0)) (all_whole y h.1 l.1 (subst (HasWhole count) (sym h.5) m)))
-        (all_whole z h.2 l.2 (subst (HasWhole count) (sym h.6) m))
-    node_whole t at (Trees.comma x y) h l = two x y (all_whole x h.0 l.0 (bare_whole x h.2 h.0 l.0)) (all_whole y h.1 l.1 (bare_whole y h.3 h.1 l.1))
-    node_whole t at (Trees.assign p x) h l =
-        joined count (types_in_path p) (types_in x) (path_whole p h.0 l.0)
-        (all_whole x h.1 l.1 (scalar_whole count (ty (typed x)) (subst (λ t. is_scalar t ≡ true) (sym h.4.1) h.2)))
-    node_whole t at (Trees.assign_op op p x) h l =
-        joined count (types_in_path p) (types_in x) (path_whole p h.0 l.0)
-        (all_whole x h.1 l.1 (number_whole (ty (typed x)) (updated_number (d.complete at.at) op t (bare_ty (typed x)) (ty (typed x)) h.3)))
-    node_whole t at (Trees.step op before p) h l = path_whole p h.0 l
-    node_whole t at (Trees.copy_record to from) h l =
-        joined count (types_in_path to) (types_in_path from) (path_whole to h.0 l.0) (path_whole from h.1 l.1)
-    node_whole t at (Trees.call g all) h l = arguments_whole h.0 all h.2 (functions g (function t h.0) h.1).2 l
-    node_whole t at (Trees.call_through e all) h l =
-        joined count (types_in e) (types_in_all all) (all_whole e h.1 l.0 (bare_whole e h.2 h.1 l.0))
-        (arguments_whole h.0 all h.4 (called e t h.0 h.3 (own e h.2 (made e h.1 l.0))).2 l.1)
-    node_whole t at (Trees.library which all) h l = arguments_whole h.0 all h.2 (of_library which t h.0 h.1).2 l
-    node_whole t at (Trees.allocate r n zeroed) h l = count_whole n h.2 l
+    mutual
+      pub all_whole : (e : Expression) → IsTyped d (typed e) → HasMadeLeaves count e → H (ty (typed e)) → A (types_in e)
+      all_whole (Trees.expression t at node) h l m = joined H (types_in_node node) (t ∷ []) (node_whole t.ty at node h l) (m, tt)
 
-    arguments_whole : (parameters : CTypes) (all : Trees.Expressions Noted) → AreArguments d parameters (typed_all all) → AreWellMade count parameters
-        → InAll count all → A (types_in_all all)
-    arguments_whole no_types Trees.no_expressions h m l = tt
-    arguments_whole no_types (Trees.and_expression x all) h m l = absurd h
-    arguments_whole (and_type t more) Trees.no_expressions h m l = absurd h
-    arguments_whole (and_type t more) (Trees.and_expression x all) h m l =
-        joined count (types_in x) (types_in_all all) (all_whole x h.0 l.0 (subst (HasWhole count) (sym h.1.1) (made_whole count t m.0)))
-        (arguments_whole more all h.2 m.1 l.1)
+      node_whole : (t : CType) (at : Place) (node : Node) → IsTypedNode d t at (typed_node node) → InNode count t node → A (types_in_node node)
+      node_whole t at (Trees.constant v) h l = tt
+      node_whole t at Trees.null h l = tt
+      node_whole t at (Trees.function_name g) h l = tt
+      node_whole t at (Trees.load p) h l = path_whole p h.0 l
+      node_whole t at (Trees.address_of p) h l = path_whole p h.0 l
+      node_whole t at (Trees.decay p) h l = path_whole p h.0 l
+      node_whole t at (Trees.convert e false) h l = all_whole e h.0 l (bare_whole e h.1 h.0 l)
+      node_whole t at (Trees.convert e true) h l = all_whole e h.0 l.1 (bare_whole e h.1 h.0 l.1)
+      node_whole t at (Trees.unary op x) h l =
+          all_whole x h.0 l (number_whole (ty (typed x)) (subst (λ t. is_integer t ≡ true) (sym h.2) (promoting_is (bare_ty (typed x)) t h.1).1))
+      node_whole t at (Trees.binary op x y) h l =
+          let i = on_numbers_is op (bare_ty (typed x)) (bare_ty (typed y)) t (ty (typed y)) h.2 in
+          two x y (all_whole x h.0 l.0 (number_whole (ty (typed x)) (subst (λ t. is_integer t ≡ true) (sym h.3) i.2)))
+          (all_whole y h.1 l.1 (number_whole (ty (typed y)) i.3))
+      node_whole t at (Trees.compare op x y) h l =
+          let m = of_made (ty (typed x)) (comparing_made count op (bare_ty (typed x)) (is_null (bare (typed x))) (bare_ty (typed y)) (is_null (bare (typed y))) (ty (typed x)) (made x h.0 l.0) (made y h.1 l.1) h.2) in
+          two x y (all_whole x h.0 l.0 m) (all_whole y h.1 l.1 (subst H (sym h.3) m))
+      node_whole t at (Trees.pointer_add op x y) h l =
+          let m = move op (d.complete at.at) x y t h.2 (made x h.0 l.0) (made y h.1 l.1) in
+          two x y (all_whole x h.0 l.0 (of_made (ty (typed x)) m.1)) (all_whole y h.1 l.1 (of_made (ty (typed y)) m.2))
+      node_whole t at (Trees.pointer_difference x y) h l = two x y (all_whole x h.0 l.0 (bare_whole x h.2 h.0 l.0)) (all_whole y h.1 l.1 (bare_whole y h.3 h.1 l.1))
+      node_whole t at (Trees.both x y) h l = two x y (all_whole x h.0 l.0 (bare_whole x h.2.0 h.0 l.0)) (all_whole y h.1 l.1 (bare_whole y h.3.0 h.1 l.1))
+      node_whole t at (Trees.either x y) h l = two x y (all_whole x h.0 l.0 (bare_whole x h.2.0 h.0 l.0)) (all_whole y h.1 l.1 (bare_whole y h.3.0 h.1 l.1))
+      node_whole t at (Trees.not x) h l = all_whole x h.0 l (bare_whole x h.1.0 h.0 l)
+      node_whole t at (Trees.choose x y z) h l =
+          let m = of_made t (choosing_made count (bare_ty (typed y)) (is_null (bare (typed y))) (bare_ty (typed z)) (is_null (bare (typed z))) t (made y h.1 l.1) (made z h.2 l.2) h.4) in
+          joined H (types_in x ++ types_in y) (types_in z)
+          (two x y (all_whole x h.0 l.0 (bare_whole x h.3.0 h.0 l.0)) (all_whole y h.1 l.1 (subst H (sym h.5) m)))
+          (all_whole z h.2 l.2 (subst H (sym h.6) m))
+      node_whole t at (Trees.comma x y) h l = two x y (all_whole x h.0 l.0 (bare_whole x h.2 h.0 l.0)) (all_whole y h.1 l.1 (bare_whole y h.3 h.1 l.1))
+      node_whole t at (Trees.assign p x) h l =
+          joined H (types_in_path p) (types_in x) (path_whole p h.0 l.0)
+          (all_whole x h.1 l.1 (of_made (ty (typed x)) (subst W (sym h.4.1) (subst W (sym h.3) (path_made p h.0 l.0)))))
+      node_whole t at (Trees.assign_op op p x) h l =
+          joined H (types_in_path p) (types_in x) (path_whole p h.0 l.0)
+          (all_whole x h.1 l.1 (number_whole (ty (typed x)) (updated_number (d.complete at.at) op t (bare_ty (typed x)) (ty (typed x)) h.3)))
+      node_whole t at (Trees.step op before p) h l = path_whole p h.0 l
+      node_whole t at (Trees.copy_record to from) h l =
+          joined H (types_in_path to) (types_in_path from) (path_whole to h.0 l.0) (path_whole from h.1 l.1)
+      node_whole t at (Trees.call g all) h l = arguments_whole h.0 all h.2 (functions g (function t h.0) h.1).2 l
+      node_whole t at (Trees.call_through e all) h l =
+          joined H (types_in e) (types_in_all all) (all_whole e h.1 l.0 (bare_whole e h.2 h.1 l.0))
+          (arguments_whole h.0 all h.4 (called e t h.0 h.3 (own e h.2 (made e h.1 l.0))).2 l.1)
+      node_whole t at (Trees.library which all) h l = arguments_whole h.0 all h.2 (of_library which t h.0 h.1).2 l
+      node_whole t at (Trees.allocate r n zeroed) h l = count_whole n h.2 l
 
-    count_whole : (n : Trees.OptionalExpression Noted) → IsCount d (mapped_if_any (of_types (λ (t : Noted). t.ty)) n) → InCount count n → A (types_in_optional n)
-    count_whole Trees.no_expression h l = tt
-    count_whole (Trees.some_expression x) h l = all_whole x h.0 l (subst (HasWhole count) (sym h.1.1) tt)
+      arguments_whole : (parameters : CTypes) (all : Trees.Expressions Noted) → AreArguments d parameters (typed_all all) → AreWellMade count parameters
+          → InAll count all → A (types_in_all all)
+      arguments_whole no_types Trees.no_expressions h m l = tt
+      arguments_whole no_types (Trees.and_expression x all) h m l = absurd h
+      arguments_whole (and_type t more) Trees.no_expressions h m l = absurd h
+      arguments_whole (and_type t more) (Trees.and_expression x all) h m l =
+          joined H (types_in x) (types_in_all all) (all_whole x h.0 l.0 (subst H (sym h.1.1) (of_made t m.1)))
+          (arguments_whole more all h.2 m.2 l.1)
 
-    pub path_whole : (p : Path) → IsTypedPath d (typed_path p) → InPath count p → A (types_in_path p)
-    path_whole (Trees.path t at step) h l =
-        joined count (types_in_step step) (t ∷ []) (step_whole t.ty at step h l) (made_whole count t.ty (path_made (Trees.path t at step) h l), tt)
+      count_whole : (n : Trees.OptionalExpression Noted) → IsCount d (mapped_if_any (of_types (λ (t : Noted). t.ty)) n) → InCount count n → A (types_in_optional n)
+      count_whole Trees.no_expression h l = tt
+      count_whole (Trees.some_expression x) h l = all_whole x h.0 l (subst H (sym h.1.1) (of_made (integer UInt) tt))
 
-    step_whole : (t : CType) (at : Place) (step : PathNode) → IsTypedStep d t at (typed_step step) → InStep count t step → A (types_in_step step)
-    step_whole t at (Trees.local n) h l = tt
-    step_whole t at (Trees.object n) h l = tt
-    step_whole t at (Trees.deref e) h l = all_whole e h.0 l (bare_whole e h.1 h.0 l)
-    step_whole t at (Trees.index e i) h l =
-        two e i (all_whole e h.0 l.0 (bare_whole e h.2 h.0 l.0)) (all_whole i h.1 l.1 (number_whole (ty (typed i)) (promoting_is (bare_ty (typed i)) (ty (typed i)) h.4).1))
-    step_whole t at (Trees.member p r field) h l = path_whole p h.0 l
-    step_whole t at (Trees.element p i) h l =
-        joined count (types_in_path p) (types_in i) (path_whole p h.0 l.0)
-        (all_whole i h.1 l.1 (number_whole (ty (typed i)) (promoting_is (bare_ty (typed i)) (ty (typed i)) h.2).1))
+      pub path_whole : (p : Path) → IsTypedPath d (typed_path p) → InPath count p → A (types_in_path p)
+      path_whole (Trees.path t at step) h l =
+          joined H (types_in_step step) (t ∷ []) (step_whole t.ty at step h l) (of_made t.ty (path_made (Trees.path t at step) h l), tt)
+
+      step_whole : (t : CType) (at : Place) (step : PathNode) → IsTypedStep d t at (typed_step step) → InStep count t step → A (types_in_step step)
+      step_whole t at (Trees.local n) h l = tt
+      step_whole t at (Trees.object n) h l = tt
+      step_whole t at (Trees.deref e) h l = all_whole e h.0 l (bare_whole e h.1 h.0 l)
+      step_whole t at (Trees.index e i) h l =
+          two e i (all_whole e h.0 l.0 (bare_whole e h.2 h.0 l.0)) (all_whole i h.1 l.1 (number_whole (ty (typed i)) (promoting_is (bare_ty (typed i)) (ty (typed i)) h.4).1))
+      step_whole t at (Trees.member p r field) h l = path_whole p h.0 l
+      step_whole t at (Trees.element p i) h l =
+          joined H (types_in_path p) (types_in i) (path_whole p h.0 l.0)
+          (all_whole i h.1 l.1 (number_whole (ty (typed i)) (promoting_is (bare_ty (typed i)) (ty (typed i)) h.2).1))

@@ -1,5 +1,5 @@
--- The types that specifiers, declarators and type names name (C99 6.7.2, 6.7.5, 6.7.6): their functions give no arrays, and their arrays have complete
--- elements, where it is so of the types for which the names of typedefs stand.
+-- The types that specifiers, declarators and type names name (C99 6.7.2, 6.7.5, 6.7.6): their functions give and take no arrays, and their arrays have
+-- elements of complete types, where it is so of the types for which the names of typedefs stand.
 use Rattle.std.proofs.Common.{◌≡◌, ℕ, ◌≤◌, Bool, true, false, refl, sym, subst, cond, List, [], ◌∷◌, ◌++◌, inl, inr}
 use Rattle.std.specs.Prelude.{Option, Some, None}
 use Rattle.std.specs.List.{AllByRecursion}
@@ -129,7 +129,7 @@ module _ (f : FileScope) (count : ℕ) (less : (at : ℕ) → ended f.ends at �
   elements s at t e h = complete_stays (ended f.ends at) count t (less at) (subst (λ (f : FileScope). is_object (ended f.ends at) t ≡ true) e h)
 
   pub parameter_made : (shape : Shape) → IsMadeShape shape → W (parameter_type shape)
-  parameter_made (closed (array t n)) h = h.1
+  parameter_made (closed (array t n)) h = h.2
   parameter_made (closed t) h = h
   parameter_made (open_array t) h = h.1
 
@@ -137,7 +137,7 @@ module _ (f : FileScope) (count : ℕ) (less : (at : ℕ) → ended f.ends at �
   pub sized_made : (shape : Shape) (v : Option (ℕ × Trees.Expression)) (s : Scope) (t : CType) → IsMadeShape shape → IsSized s shape v t → W t
   sized_made (closed u) v s t m h = type_is t _ h m
   sized_made (open_array u) None s t m h = absurd h
-  sized_made (open_array u) (Some v) s t m h = type_is t _ h.0 m
+  sized_made (open_array u) (Some v) s t m h = type_is t _ h.0 (h.1, m.0, m.1)
 
   -- ---- parts of the tree of which it is known that their typedefs stand for such types
 
@@ -177,7 +177,7 @@ module _ (f : FileScope) (count : ℕ) (less : (at : ℕ) → ended f.ends at �
       declarator_made (Trees.pointer at consts d) s t shape i w m h = declarator_made d s (pointer t) shape i (behind_pointer at consts d w) m h.1
       declarator_made (Trees.enclosed left d right) s t shape i w m h = declarator_made d s t shape i (in_parentheses left d right w) m h
       declarator_made (Trees.array d left (Trees.some_expression a) right) s t shape i w m h =
-          declarator_made d s (array t h.2) shape i (of_array d left (Trees.some_expression a) right w) (elements s left t i.0 h.6, m) h.8
+          declarator_made d s (array t h.2) shape i (of_array d left (Trees.some_expression a) right w) (h.5, elements s left t i.0 h.6, m) h.8
       declarator_made (Trees.array d left Trees.no_expression right) s t shape i w m h = shape_is shape _ h.2 (elements s left t i.0 h.0, m)
       declarator_made (Trees.function d left (Trees.void_alone at) right) s t shape i w m h =
           declarator_made d s (function t h.0) shape i (of_function d left (Trees.void_alone at) right w) (h.2, m, types_are h.0 _ h.1 tt) h.4
@@ -192,4 +192,4 @@ module _ (f : FileScope) (count : ℕ) (less : (at : ℕ) → ended f.ends at �
           let b = base_made specs s h.0 i p.0 h.5 in
           let m = parameter_made h.1 (declarator_made d s h.0 h.1 i p.1 b h.6) in
           types_are types _ h.3
-          (m, listed_made more (with_parameter_if_named s (declared_name d) (parameter_type h.1)) h.2 (parameter_in s (declared_name d) (parameter_type h.1) i m) p.2 h.10)
+          (h.7, m, listed_made more (with_parameter_if_named s (declared_name d) (parameter_type h.1)) h.2 (parameter_in s (declared_name d) (parameter_type h.1) i m) p.2 h.10)

@@ -1,5 +1,5 @@
--- Where allocations and null pointers are recognised in a tree no other types stand in it but `unsigned`: where one is an array its elements stay
--- complete.
+-- Where allocations and null pointers are recognised in a tree no other types stand in it but `unsigned`: what holds of each type that stands there,
+-- and of that one, still does.
 use Rattle.std.proofs.Common.{ℕ, Bool, true, false, cond, List, [], ◌∷◌, ◌++◌, map, flat_map}
 use Rattle.std.specs.Prelude.{Option, Some, None}
 use Rattle.std.specs.Option.{option_map}
@@ -17,17 +17,17 @@ use Rattle.c_erasure.specs.Recognised.{as_unsigned, as_unsigned_from, counted, i
 use Rattle.c_erasure.specs.Recognised.{converted, recognised, recognised_node, recognised_path, recognised_step, recognised_all}
 use Rattle.c_erasure.specs.Units.{recognised_value, recognised_part, recognised_initializer, recognised_statement, recognised_statements, recognised_arms}
 use Rattle.c_well_typed.proofs.Numbers.{two_parts}
-use Rattle.c_well_typed.proofs.MadeNodes.{HasWhole, AreWhole, joined}
+use Rattle.c_well_typed.proofs.MadeNodes.{AreWhole, joined}
 
-module _ (count : ℕ) where
+module _ (H : CType → Type 0) (unsigned : H (integer UInt)) where
   abbrev A : List Noted → Type 0
-  A = AreWhole count
+  A = AreWhole H
 
   split : (a b : List Noted) → A (a ++ b) → A a × A b
-  split a b h = two_parts (λ (t : Noted). HasWhole count t.ty) a b h
+  split a b h = two_parts (λ (t : Noted). H t.ty) a b h
 
   both : (a b c e : List Noted) → (A a → A b) → (A c → A e) → A (a ++ c) → A (b ++ e)
-  both a b c e f g h = let s = split a c h in joined count b e (f s.0) (g s.1)
+  both a b c e f g h = let s = split a c h in joined H b e (f s.0) (g s.1)
 
   -- ---- without the conversion at the top
 
@@ -48,7 +48,7 @@ module _ (count : ℕ) where
     where
       by_type : (b : Bool) → A (types_in (cond b (Trees.expression t at node) (value (integer UInt) at (Trees.convert (Trees.expression t at node) false))))
       by_type true = h
-      by_type false = joined count (types_in (Trees.expression t at node)) (plain (integer UInt) ∷ []) h (tt, tt)
+      by_type false = joined H (types_in (Trees.expression t at node)) (plain (integer UInt) ∷ []) h (unsigned, tt)
 
   unsigned_types : (e : Expression) → A (types_in e) → A (types_in (as_unsigned e))
   unsigned_types e h = unsigned_from_types (unconverted e) (unconverted_types e h)
@@ -194,7 +194,7 @@ module _ (count : ℕ) where
       both (types_in_value part.value) (types_in_value (recognised_value part.value)) (in_parts all) (in_parts (map recognised_part all))
       (value_types part.value) (parts_types all) h
 
-  initializer_types : (i : Trees.Initializer Noted) → A (types_in_initializer i) → A (types_in_initializer (recognised_initializer i))
+  pub initializer_types : (i : Trees.Initializer Noted) → A (types_in_initializer i) → A (types_in_initializer (recognised_initializer i))
   initializer_types (Trees.whole e) h = recognised_types e h
   initializer_types (Trees.whole_record p) h = path_types p h
   initializer_types (Trees.parts all) h = parts_types all h

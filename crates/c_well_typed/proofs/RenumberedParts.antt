@@ -126,7 +126,7 @@ module _ (f : ℕ → ℕ) (records others : List Record) (complete : AreComplet
       field_back (x ∷ more) zero h = h
       field_back (x ∷ more) (suc k) h = field_back more k h
 
-  offset_again : (r k : ℕ) (t : CType) → field_type records r k ≡ Some t → offset_of others (f r) k ≡ offset_of records r k
+  pub offset_again : (r k : ℕ) (t : CType) → field_type records r k ≡ Some t → offset_of others (f r) k ≡ offset_of records r k
   offset_again r k t h =
       let z = field_at r k t h in
       let q = among r z.0 z.1 in

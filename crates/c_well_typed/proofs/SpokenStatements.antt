@@ -1,8 +1,9 @@
--- The types of which a file speaks in initializers, declarations of blocks and statements (C99 6.7, 6.7.8, 6.8): where one is an array its elements are
--- complete.
+-- The types of which a file speaks in initializers, declarations of blocks and statements (C99 6.7, 6.7.8, 6.8) have what all types have that functions and
+-- arrays can have (`IsWellMade`), where the operands of `sizeof` have it.
 use Rattle.std.proofs.Common.{◌≡◌, ℕ, ◌+◌, ◌≤◌, Bool, true, false, sym, subst, List, [], ◌∷◌, ◌++◌, inl, inr}
 use Rattle.std.specs.Prelude.{◌⊎◌, Option, Some, None}
 use Rattle.c_types.specs.declared.ty.IntKind.{IntKind}
+use Rattle.c_types.specs.Objects.{is_object}
 use Rattle.c_types.specs.Types.{CType, structure, Field}
 use Rattle.c_ast.specs.Places.{first_declarator}
 use Rattle.c_ast.specs.Trees
@@ -10,7 +11,7 @@ use Rattle.c_typed.specs.declared.program.MentionKind.TheVariants.{Object}
 use Rattle.c_typed.specs.Conversions.{is_scalar}
 use Rattle.c_typed.specs.Trees as Typed
 use Rattle.c_ast.specs.declared.words.Spelling.{Spelling}
-use Rattle.c_erasure.specs.Erasure.{Values, Erases}
+use Rattle.c_erasure.specs.Erasure.{Values, IsMeasured, Erases}
 use Rattle.c_erasure.specs.Initializers.{Part, part_at, texts_of, IsText, Initializes, IsOneValue, InitializeElements, InitializeFields, IsInitializer}
 use Rattle.c_erasure.specs.Marks.{Mark, marks, marks_of_all}
 use Rattle.c_erasure.specs.MentionPlaces.{spoken, spoken_of_all, spoken_of_specifiers, spoken_of_declarator, spoken_by_value, spoken_of_declarators}
@@ -22,31 +23,32 @@ use Rattle.c_erasure.specs.Statements.{Statement, Statements, Arms, HasInitializ
 use Rattle.c_erasure.specs.Statements.{IsLocalDeclaration, IsPlainIfAny, IsStart, AreLabels, ErasesStatement, ErasesItem, EraseItems, ErasesSwitchItem, EraseSwitchItems}
 use Rattle.c_checking_files.proofs.Declarations.{first_named}
 use Rattle.c_well_typed.proofs.KnownTypes.{base_known, variable_known}
-use Rattle.c_well_typed.proofs.MadeNodes.{made_whole}
 use Rattle.c_well_typed.proofs.NamedTypes.{IsMadeEntity, IsMadeScope, inside_made, with_local_made}
 use Rattle.c_well_typed.proofs.SpokenTypes as Spoken
 use Rattle.c_well_typed.proofs.SpokenTypes.{value_told}
 use Rattle.c_well_typed.proofs.WellMade.{IsWellMade}
 
 module _ (f : FileScope) (count : ℕ) (less : (at : ℕ) → ended f.ends at ≤ count)
-    (visible_made : (x : List ℕ) (at : ℕ) (e : Entity) → visible f.names x at ≡ Some e → IsMadeEntity f count less e) where
+    (visible_made : (x : List ℕ) (at : ℕ) (e : Entity) → visible f.names x at ≡ Some e → IsMadeEntity f count less e)
+    (H : CType → Type 0) (of_made : (t : CType) → IsWellMade count t → H t)
+    (sized : (a : Trees.Expression) (s : Scope) (t : CType) → IsMadeScope f count less s → IsMeasured (Erases a) s t → is_object count t ≡ true → H t) where
   abbrev u : ℕ → List ℕ
   u = f.untagged
 
   abbrev IsTold : Purpose → List Mark → List ℕ → Type 0
-  IsTold p u places = Spoken.IsTold f count less visible_made p u places
+  IsTold p u places = Spoken.IsTold f count less visible_made H of_made sized p u places
 
   abbrev AreSpoken : List ℕ → Type 0
-  AreSpoken places = Spoken.AreSpoken f count less visible_made places
+  AreSpoken places = Spoken.AreSpoken f count less visible_made H of_made sized places
 
   -- ---- initializers
 
   text_told : {p : Purpose} (a : Trees.Expression) (s : Scope) (t : CType) (at : ℕ) (parts : List Part) → IsText (texts_of a) s t at parts
       → IsTold p (marks u a) (spoken a)
-  text_told (Trees.texts all) s t at parts h = Spoken.none f count less visible_made
+  text_told (Trees.texts all) s t at parts h = Spoken.none f count less visible_made H of_made sized
   text_told (Trees.braces left Trees.no_arguments last right) s t at parts h = absurd h
   text_told (Trees.braces left (Trees.and_argument comma (Trees.texts all) Trees.no_arguments) last right) s t at parts h =
-      Spoken.none f count less visible_made
+      Spoken.none f count less visible_made H of_made sized
   text_told (Trees.braces left (Trees.and_argument comma (Trees.texts all) (Trees.and_argument second b more)) last right) s t at parts h = absurd h
   text_told (Trees.braces left (Trees.and_argument comma a more) last right) s t at parts h = absurd h
   text_told a s t at parts h = absurd h
@@ -61,19 +63,19 @@ module _ (f : FileScope) (count : ℕ) (less : (at : ℕ) → ended f.ends at �
   Made s = IsMadeScope f count less s
 
   value_is_told : (a : Trees.Expression) (s : Scope) (x : Expression) → Made s → Values (Erases a s) x → IsTold s.purpose (marks u a) (spoken a)
-  value_is_told a s x e h = Spoken.told f count less visible_made a s h.0 e h.2
+  value_is_told a s x e h = Spoken.told f count less visible_made H of_made sized a s h.0 e h.2
 
   single_told : (a : Trees.Expression) (s : Scope) (t : CType) (at : ℕ) (parts : List Part) → Made s → IsSingle a s t at parts
       → IsTold s.purpose (marks u a) (spoken a)
   single_told a s t at parts e (inl h) = value_is_told a s h.0 e h.4
-  single_told a s t at parts e (inr (inl h)) = Spoken.told f count less visible_made a s (an_object h.1) e h.5
+  single_told a s t at parts e (inr (inl h)) = Spoken.told f count less visible_made H of_made sized a s (an_object h.1) e h.5
   single_told a s t at parts e (inr (inr h)) = text_told a s t at parts h
 
   one_told : (all : Trees.Arguments) (s : Scope) (x : Expression) → Made s → IsOneValue all s x
       → IsTold s.purpose (marks_of_all u all) (spoken_of_all all)
   one_told Trees.no_arguments s x e h = absurd h
   one_told (Trees.and_argument comma a Trees.no_arguments) s x e h =
-      Spoken.both f count less visible_made (value_is_told a s x e h) (Spoken.none f count less visible_made)
+      Spoken.both f count less visible_made H of_made sized (value_is_told a s x e h) (Spoken.none f count less visible_made H of_made sized)
   one_told (Trees.and_argument comma a (Trees.and_argument second b more)) s x e h = absurd h
 
   mutual
@@ -88,15 +90,15 @@ module _ (f : FileScope) (count : ℕ) (less : (at : ℕ) → ended f.ends at �
 
     elements_told : (all : Trees.Arguments) (s : Scope) (ty : CType) (k at : ℕ) (parts : List Part) → Made s → InitializeElements all s ty k at parts
         → IsTold s.purpose (marks_of_all u all) (spoken_of_all all)
-    elements_told Trees.no_arguments s ty k at parts e h = Spoken.none f count less visible_made
+    elements_told Trees.no_arguments s ty k at parts e h = Spoken.none f count less visible_made H of_made sized
     elements_told (Trees.and_argument comma a more) s ty k at parts e h =
-        Spoken.both f count less visible_made (initial_told a s ty at h.1 e h.5) (elements_told more s ty h.0 _ h.2 e h.6)
+        Spoken.both f count less visible_made H of_made sized (initial_told a s ty at h.1 e h.5) (elements_told more s ty h.0 _ h.2 e h.6)
 
     fields_told : (all : Trees.Arguments) (s : Scope) (r k : ℕ) (fields : List Field) (at : ℕ) (parts : List Part) → Made s
         → InitializeFields all s r k fields at parts → IsTold s.purpose (marks_of_all u all) (spoken_of_all all)
-    fields_told Trees.no_arguments s r k fields at parts e h = Spoken.none f count less visible_made
+    fields_told Trees.no_arguments s r k fields at parts e h = Spoken.none f count less visible_made H of_made sized
     fields_told (Trees.and_argument comma a more) s r k fields at parts e h =
-        Spoken.both f count less visible_made (initial_told a s h.0.ty _ h.2 e h.6) (fields_told more s r (k + 1) h.1 at h.3 e h.7)
+        Spoken.both f count less visible_made H of_made sized (initial_told a s h.0.ty _ h.2 e h.6) (fields_told more s r (k + 1) h.1 at h.3 e h.7)
 
   pub initializer_told : (a : Trees.Expression) (s : Scope) (t : CType) (i : Typed.Initializer Noted) → Made s → IsInitializer a s t i
       → IsTold s.purpose (marks u a) (spoken a)
@@ -110,7 +112,7 @@ module _ (f : FileScope) (count : ℕ) (less : (at : ℕ) → ended f.ends at �
   In s = IsMadeScope f count less s × (is_measured s.purpose ≡ false)
 
   two : (a b : List ℕ) → AreSpoken a → AreSpoken b → AreSpoken (a ++ b)
-  two a b h k = Spoken.spoken_both f count less visible_made a b h k
+  two a b h k = Spoken.spoken_both f count less visible_made H of_made sized a b h k
 
   scope_is : (s t : Scope) → t ≡ s → In s → In t
   scope_is s t e h = subst In (sym e) h
@@ -134,10 +136,10 @@ module _ (f : FileScope) (count : ℕ) (less : (at : ℕ) → ended f.ends at �
   variable : (d : Trees.InitDeclarator) (s : Scope) (base : CType) (x : Spelling) (t : CType) (semicolon : ℕ) → In s → IsWellMade count base
       → IsVariable s base d x t → AreSpoken (first_declarator d.declarator semicolon ∷ spoken_of_declarator d.declarator)
   variable d s base x t semicolon i m h =
-      let w = made_whole count t (variable_known f count less visible_made d s base x t i.0 m h) in
-      let own = Spoken.place_told f count less visible_made s Object t (first_declarator d.declarator x.from) i.0 h.6 w i.1 in
-      let r = Spoken.lengths_told f count less visible_made d.declarator s base h.0 i.0 m h.2 in
-      (subst (Spoken.IsSpoken f count less visible_made) (first_named d.declarator x h.1 x.from semicolon) own, r.spoken i.1)
+      let w = of_made t (variable_known f count less visible_made d s base x t i.0 m h) in
+      let own = Spoken.place_told f count less visible_made H of_made sized s Object t (first_declarator d.declarator x.from) i.0 h.6 w i.1 in
+      let r = Spoken.lengths_told f count less visible_made H of_made sized d.declarator s base h.0 i.0 m h.2 in
+      (subst (Spoken.IsSpoken f count less visible_made H of_made sized) (first_named d.declarator x h.1 x.from semicolon) own, r.spoken i.1)
 
   declarators_spoken : (ds : List Trees.InitDeclarator) (s : Scope) (static : Bool) (base : CType) (all : Statements) (after : Scope) (semicolon : ℕ) → In s
       → IsWellMade count base → DeclareAll ds s static base all after → AreSpoken (spoken_of_declarators ds semicolon) × In after
@@ -170,7 +172,7 @@ module _ (f : FileScope) (count : ℕ) (less : (at : ℕ) → ended f.ends at �
   local_spoken : (d : Trees.Declaration) (s : Scope) (all : Statements) (after : Scope) → In s → IsLocalDeclaration d s all after
       → AreSpoken (spoken_of_declaration d) × In after
   local_spoken d s all after i h =
-      let b = Spoken.base_told f count less visible_made d.specs s h.0 i.0 h.1 in
+      let b = Spoken.base_told f count less visible_made H of_made sized d.specs s h.0 i.0 h.1 in
       let r = either_way d s h.0 all after i (base_known f count less visible_made d.specs s h.0 i.0 h.1) h.3 in
       (two (spoken_of_specifiers d.specs) (spoken_of_declarators d.all d.semicolon) (b.spoken i.1) r.0, r.1)
 
@@ -191,7 +193,7 @@ module _ (f : FileScope) (count : ℕ) (less : (at : ℕ) → ended f.ends at �
   labels_spoken [] s kind cases defaults i h = tt
   labels_spoken (Trees.case at a colon ∷ more) s kind cases defaults i h =
       let c = h.3 in
-      let r = Spoken.told f count less visible_made a _ c.1.0 i.0 c.1.2 in
+      let r = Spoken.told f count less visible_made H of_made sized a _ c.1.0 i.0 c.1.2 in
       two (spoken a) (spoken_of_labels more) (r.spoken (value_told s.purpose i.1)) (labels_spoken more s kind h.2 defaults i h.5)
   labels_spoken (Trees.default at colon ∷ more) s kind cases defaults i h = labels_spoken more s kind cases h.0 i h.2
 

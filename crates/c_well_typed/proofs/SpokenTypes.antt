@@ -1,8 +1,7 @@
 -- The types of which a file speaks in its expressions, specifiers and declarators, and those of the fields of the structures that it defines there
--- (C99 6.5.3.4, 6.5.4, 6.7.2 to 6.7.6): where one is an array its elements are complete.
+-- (C99 6.5.3.4, 6.5.4, 6.7.2 to 6.7.6), have what all types have that functions and arrays can have (`IsWellMade`), where the operands of `sizeof` have it.
 use Rattle.std.proofs.Common.{◌≡◌, ◌∙◌, ℕ, ◌+◌, ◌≤◌, ◌%◌, ◌^◌, true, false, refl, sym, ap, subst, List, [], ◌∷◌, ◌++◌, inl, inr}
-use Rattle.std.proofs.lemmas.Bool.{and_parts}
-use Rattle.std.specs.Prelude.{Option, Some, None, slice_get, nat_lt}
+use Rattle.std.specs.Prelude.{Option, Some, None, slice_get}
 use Rattle.std.specs.List.{AllByRecursion}
 use Rattle.c_types.specs.Types.{CType, CTypes, pointer, array, function, Field, Record}
 use Rattle.c_types.specs.Objects.{is_object}
@@ -14,7 +13,7 @@ use Rattle.c_typed.specs.declared.program.MentionKind.{MentionKind}
 use Rattle.c_typed.specs.declared.program.MentionKind.TheVariants.{Named, Sizeof}
 use Rattle.c_typed.specs.Trees as Typed
 use Rattle.c_erasure.specs.Declarators.{closed, is_name, Shape, declared_name, parameter_type}
-use Rattle.c_erasure.specs.Erasure.{Erases, AreValues, IsTypeName, IsBase, IsOne, Specifies, Declares, AreFields, AreMembers, AreEnumerators}
+use Rattle.c_erasure.specs.Erasure.{IsMeasured, Erases, AreValues, IsTypeName, IsBase, IsOne, Specifies, Declares, AreFields, AreMembers, AreEnumerators}
 use Rattle.c_erasure.specs.Erasure.{IsEnumeratorValue, AreListed, IsSize, after_all, comma_or, place_of_name, tag_text, with_parameter_if_named}
 use Rattle.c_erasure.specs.Marks.{Mark, an_end, a_name, marks, marks_of_all, marks_of_type, marks_of_specifiers, marks_of_specifier}
 use Rattle.c_erasure.specs.Marks.{marks_of_members, marks_of_member_declarators, marks_of_enumerators, marks_of_value, marks_of_declarator, an_enumeration}
@@ -29,13 +28,8 @@ use Rattle.c_checking_laws.proofs.CompletePart.{complete_stays}
 use Rattle.c_checking_units.proofs.Tracing as Tracing
 use Rattle.c_checking_units.proofs.Tracing.{AreAll}
 use Rattle.c_well_typed.proofs.KnownTypes.{base_known, declarator_known, listed_known, type_known}
-use Rattle.c_well_typed.proofs.MadeNodes.{HasWhole, made_whole}
 use Rattle.c_well_typed.proofs.NamedTypes.{IsMadeEntity, IsMadeScope, inside_made, parameter_in, parameter_made, elements, joined}
 use Rattle.c_well_typed.proofs.WellMade.{IsWellMade, AreWellMade}
-
-pub object_whole : (count : ℕ) (t : CType) → is_object count t ≡ true → HasWhole count t
-object_whole count (array t n) h = (and_parts (nat_lt 0 n) (is_object count t) h).1
-object_whole count t h = tt
 
 pub value_told : (p : Purpose) → is_measured p ≡ false → is_measured (purpose_of_value p) ≡ false
 value_told in_full h = refl
@@ -51,7 +45,9 @@ abbrev pub anywhere : ℕ → Type 0
 anywhere from = Unit {0}
 
 module _ (f : FileScope) (count : ℕ) (less : (at : ℕ) → ended f.ends at ≤ count)
-    (visible_made : (x : List ℕ) (at : ℕ) (e : Entity) → visible f.names x at ≡ Some e → IsMadeEntity f count less e) where
+    (visible_made : (x : List ℕ) (at : ℕ) (e : Entity) → visible f.names x at ≡ Some e → IsMadeEntity f count less e)
+    (H : CType → Type 0) (of_made : (t : CType) → IsWellMade count t → H t)
+    (sized : (a : Trees.Expression) (s : Scope) (t : CType) → IsMadeScope f count less s → IsMeasured (Erases a) s t → is_object count t ≡ true → H t) where
   abbrev u : ℕ → List ℕ
   u = f.untagged
 
@@ -68,9 +64,9 @@ module _ (f : FileScope) (count : ℕ) (less : (at : ℕ) → ended f.ends at �
   abbrev pub IsMadeRecord : List ℕ → Type 0
   IsMadeRecord tag = (r : ℕ) × (rec : Record) × (slice_get f.records r ≡ Some rec) × (rec.tag ≡ tag) × AreMadeFields rec.fields
 
-  -- the file speaks there of a type whose elements are complete
+  -- the file speaks there of such a type
   abbrev pub IsSpoken : ℕ → Type 0
-  IsSpoken at = (kind : MentionKind) × (t : CType) × IsListedAt f.mentions kind t at × HasWhole count t
+  IsSpoken at = (kind : MentionKind) × (t : CType) × IsListedAt f.mentions kind t at × H t
 
   abbrev pub AreSpoken : List ℕ → Type 0
   AreSpoken places = AllByRecursion IsSpoken places
@@ -95,7 +91,7 @@ module _ (f : FileScope) (count : ℕ) (less : (at : ℕ) → ended f.ends at �
   pub of_value : {p : Purpose} {a : List Mark} {x : List ℕ} → IsTold (purpose_of_value p) a x → IsTold p a x
   of_value {p} h = record { marks = h.marks; spoken = λ n. h.spoken (value_told p n) }
 
-  pub place_told : (s : Scope) (kind : MentionKind) (t : CType) (at : ℕ) → In s → IsMentioned s kind t at → HasWhole count t → is_measured s.purpose ≡ false
+  pub place_told : (s : Scope) (kind : MentionKind) (t : CType) (at : ℕ) → In s → IsMentioned s kind t at → H t → is_measured s.purpose ≡ false
       → IsSpoken at
   place_told s kind t at i (inl m) w n = let true_is_false : true ≡ false = sym m ∙ n in cc
   place_told s kind t at i (inr l) w n = (kind, t, subst (λ (f : FileScope). IsListedAt f.mentions kind t at) i.0 l, w)
@@ -153,10 +149,12 @@ module _ (f : FileScope) (count : ℕ) (less : (at : ℕ) → ended f.ends at �
       → rec.tag ≡ tag_text s at x → AreMadeFields rec.fields → IsMadeRecord (tag_name u at x)
   record_made s at x r rec e h t m = (r, rec, subst (λ (f : FileScope). slice_get f.records r ≡ Some rec) e h, t ∙ tag_same s at x e, m)
 
-  size_told : (s : Scope) (at by : ℕ) (t : CType) (th : Thing) → In s → IsSize s at by t th → is_measured s.purpose ≡ false → IsSpoken at
-  size_told s at by t th i h n =
-      place_told s Sizeof t at i h.1
-      (object_whole count t (complete_stays (ended f.ends by) count t (less by) (subst (λ (f : FileScope). is_object (ended f.ends by) t ≡ true) i.0 h.0))) n
+  size_complete : (s : Scope) (at by : ℕ) (t : CType) (th : Thing) → In s → IsSize s at by t th → is_object count t ≡ true
+  size_complete s at by t th i h =
+      complete_stays (ended f.ends by) count t (less by) (subst (λ (f : FileScope). is_object (ended f.ends by) t ≡ true) i.0 h.0)
+
+  size_told : (s : Scope) (at by : ℕ) (t : CType) (th : Thing) → In s → IsSize s at by t th → H t → is_measured s.purpose ≡ false → IsSpoken at
+  size_told s at by t th i h w n = place_told s Sizeof t at i h.1 w n
 
   mutual
     pub told : (a : Trees.Expression) (s : Scope) (th : Thing) → In s → Erases a s th → IsTold s.purpose (marks u a) (spoken a)
@@ -181,10 +179,12 @@ module _ (f : FileScope) (count : ℕ) (less : (at : ℕ) → ended f.ends at �
     told (Trees.unary U.Not at a) s th e h = told a s h.3.0 e h.3.2
     told (Trees.sizeof_expression at a) s th e h =
         let r = told a (measured s) h.1.0 e h.1.1 in
-        record { marks = r.marks; spoken = λ n. (size_told s at at h.0 th e h.2 n, tt) }
+        let w = sized a s h.0 e h.1 (size_complete s at at h.0 th e h.2) in
+        record { marks = r.marks; spoken = λ n. (size_told s at at h.0 th e h.2 w n, tt) }
     told (Trees.sizeof_type at left t right) s th e h =
         let r = type_told t s h.0 e h.2 h.1 in
-        record { marks = r.marks; spoken = λ n. (size_told s at right h.0 th e h.3 n, r.spoken n) }
+        let w = of_made h.0 (type_known f count less visible_made t s h.0 e h.1) in
+        record { marks = r.marks; spoken = λ n. (size_told s at right h.0 th e h.3 w n, r.spoken n) }
     told (Trees.cast left t right a) s th e h = both (type_told t s h.0 e h.3 h.2) (told a s h.4.0 e h.4.2)
     told (Trees.binary a op at b) s th e h = both (told a s h.4.0 e h.4.2) (told b s h.5.0 e h.5.2)
     told (Trees.cond a question b colon c) s th e h =
@@ -203,7 +203,7 @@ module _ (f : FileScope) (count : ℕ) (less : (at : ℕ) → ended f.ends at �
     type_told : (t : Trees.TypeName) (s : Scope) (ty : CType) → In s → IsMentioned s Named ty (place_of_name t) → IsTypeName s t ty
         → IsTold s.purpose (marks_of_type u t) (spoken_of_type t)
     type_told (Trees.type_name specs d) s ty e m h =
-        let w = made_whole count ty (type_known f count less visible_made (Trees.type_name specs d) s ty e h) in
+        let w = of_made ty (type_known f count less visible_made (Trees.type_name specs d) s ty e h) in
         let b = by_words specs s h.0 h.2 (λ k. one_told specs s h.0 e k) in
         let c = lengths_told d s h.0 (closed ty) e (base_known f count less visible_made specs s h.0 e h.2) h.3 in
         both b (record { marks = c.marks; spoken = λ n. (place_told s Named ty (first_declarator d (first_specifiers specs)) e m w n, c.spoken n) })
@@ -244,7 +244,7 @@ module _ (f : FileScope) (count : ℕ) (less : (at : ℕ) → ended f.ends at �
     lengths_told (Trees.pointer at consts d) s t shape e m h = lengths_told d s (pointer t) shape e m h.1
     lengths_told (Trees.enclosed left d right) s t shape e m h = lengths_told d s t shape e m h
     lengths_told (Trees.array d left (Trees.some_expression a) right) s t shape e m h =
-        let own : W (array t h.2) = (elements f count less s left t e.0 h.6, m) in
+        let own : W (array t h.2) = (h.5, elements f count less s left t e.0 h.6, m) in
         both (lengths_told d s (array t h.2) shape e own h.8) (of_value (told a (for_value s) h.3.1.0 e h.3.1.2))
     lengths_told (Trees.array d left Trees.no_expression right) s t shape e m h = both (bare_told d h.1) none
     lengths_told (Trees.function d left (Trees.void_alone at) right) s t shape e m h =
@@ -272,7 +272,7 @@ module _ (f : FileScope) (count : ℕ) (less : (at : ℕ) → ended f.ends at �
     line_told Trees.no_member_declarators s base semicolon fields e m h = none
     line_told (Trees.and_member_declarator comma d more) s base semicolon fields e m h =
         let c = lengths_told d s base (closed h.1) e m h.4 in
-        let w = made_whole count h.1 (declarator_known f count less visible_made d s base (closed h.1) e m h.4) in
+        let w = of_made h.1 (declarator_known f count less visible_made d s base (closed h.1) e m h.4) in
         let r = line_told more s base semicolon h.2 e m h.8 in
         both {x = first_declarator d semicolon ∷ spoken_of_declarator d}
         (record { marks = c.marks; spoken = λ n. (place_told s Named h.1 (first_declarator d semicolon) e h.6 w n, c.spoken n) }) r
@@ -301,7 +301,7 @@ module _ (f : FileScope) (count : ℕ) (less : (at : ℕ) → ended f.ends at �
         let m = parameter_made f count less h.1 (declarator_known f count less visible_made d s h.0 h.1 e base h.6) in
         let b = by_words specs s h.0 h.5 (λ k. one_told specs s h.0 e k) in
         let c = lengths_told d s h.0 h.1 e base h.6 in
-        let own = place_told s Named (parameter_type h.1) (first_declarator d (first_specifiers specs)) e h.9 (made_whole count (parameter_type h.1) m) n in
+        let own = place_told s Named (parameter_type h.1) (first_declarator d (first_specifiers specs)) e h.9 (of_made (parameter_type h.1) m) n in
         let r = parameters_told more (with_parameter_if_named s (declared_name d) (parameter_type h.1)) h.2
         (parameter_in f count less s (declared_name d) (parameter_type h.1) e m) h.10 (parameter_told s (declared_name d) (parameter_type h.1) n) in
         spoken_both (spoken_of_specifiers specs ++ first_declarator d (first_specifiers specs) ∷ spoken_of_declarator d) (spoken_of_parameters more)

@@ -1,6 +1,6 @@
--- Types of which each function gives a number, a pointer or nothing, and each array has elements of a complete type (C99 6.7.5.2, 6.7.5.3), where
--- so many records are complete. What the rules of operators make of such types is such a type.
-use Rattle.std.proofs.Common.{◌≡◌, ℕ, Bool, true, false, refl, subst, cond, inl, inr}
+-- Types of which each function gives a number, a pointer or nothing and takes numbers and pointers, and each array has elements of a complete type, and at
+-- least one (C99 6.7.5.2, 6.7.5.3), where so many records are complete. What the rules of operators make of such types is such a type.
+use Rattle.std.proofs.Common.{◌≡◌, ℕ, ◌≤◌, Bool, true, false, refl, subst, cond, inl, inr}
 use Rattle.std.specs.Prelude.{Option, Some, None}
 use Rattle.std.specs.Option.{option_map}
 use Rattle.c_types.specs.Objects.{is_object}
@@ -10,7 +10,7 @@ use Rattle.c_typed.specs.declared.operators.CompareOp.{CompareOp}
 use Rattle.c_typed.specs.declared.operators.CompareOp.TheVariants.{Equal, NotEqual}
 use Rattle.c_typed.specs.declared.operators.LibraryFunction.{LibraryFunction}
 use Rattle.c_typed.specs.declared.operators.LibraryFunction.TheVariants.{Malloc, Calloc, Free, Memcpy, Memmove, Memset, Memcmp, Putchar, Getchar, Exit}
-use Rattle.c_typed.specs.Conversions.{is_integer, pointed, element_of}
+use Rattle.c_typed.specs.Conversions.{is_integer, is_scalar, pointed, element_of}
 use Rattle.c_typed.specs.Fits.{library_type, is_void_and_object, met, meeting, ordered, compared}
 use Rattle.c_typed.specs.Rules.{arithmetic, or_else, both_void, comparing, choosing}
 use Rattle.c_well_typed.specs.WellTyped.{IsResult}
@@ -25,13 +25,13 @@ module _ (count : ℕ) where
     IsWellMade void = Unit {0}
     IsWellMade (integer kind) = Unit {0}
     IsWellMade (pointer t) = IsWellMade t
-    IsWellMade (array t n) = (is_object count t ≡ true) × IsWellMade t
+    IsWellMade (array t n) = (1 ≤ n) × (is_object count t ≡ true) × IsWellMade t
     IsWellMade (function t all) = IsResult t × IsWellMade t × AreWellMade all
     IsWellMade (structure r) = Unit {0}
 
     pub AreWellMade : CTypes → Type 0
     AreWellMade no_types = Unit {0}
-    AreWellMade (and_type t more) = IsWellMade t × AreWellMade more
+    AreWellMade (and_type t more) = (is_scalar t ≡ true) × IsWellMade t × AreWellMade more
 
   abbrev W : CType → Type 0
   W = IsWellMade
@@ -47,11 +47,11 @@ module _ (count : ℕ) where
   pointed_made p t h w = cc
 
   pub decayed_made : (a t : CType) → option_map pointer (element_of a) ≡ Some t → W a → W t
-  decayed_made (array u n) t h w = subst W (some_is (pointer u) t h) w.1
+  decayed_made (array u n) t h w = subst W (some_is (pointer u) t h) w.2
   decayed_made a t h w = cc
 
   pub element_made : (a t : CType) → element_of a ≡ Some t → W a → W t
-  element_made (array u n) t h w = subst W (some_is u t h) w.1
+  element_made (array u n) t h w = subst W (some_is u t h) w.2
   element_made a t h w = cc
 
   -- ---- operators
@@ -109,13 +109,13 @@ module _ (count : ℕ) where
   -- ---- the library's functions
 
   pub library_made : (which : LibraryFunction) → W (library_type which)
-  library_made Malloc = (inl refl, tt, (tt, tt))
-  library_made Calloc = (inl refl, tt, (tt, (tt, tt)))
-  library_made Free = (inr refl, tt, (tt, tt))
-  library_made Memcpy = (inl refl, tt, (tt, (tt, (tt, tt))))
-  library_made Memmove = (inl refl, tt, (tt, (tt, (tt, tt))))
-  library_made Memset = (inl refl, tt, (tt, (tt, (tt, tt))))
-  library_made Memcmp = (inl refl, tt, (tt, (tt, (tt, tt))))
-  library_made Putchar = (inl refl, tt, (tt, tt))
+  library_made Malloc = (inl refl, tt, (refl, tt, tt))
+  library_made Calloc = (inl refl, tt, (refl, tt, (refl, tt, tt)))
+  library_made Free = (inr refl, tt, (refl, tt, tt))
+  library_made Memcpy = (inl refl, tt, (refl, tt, (refl, tt, (refl, tt, tt))))
+  library_made Memmove = (inl refl, tt, (refl, tt, (refl, tt, (refl, tt, tt))))
+  library_made Memset = (inl refl, tt, (refl, tt, (refl, tt, (refl, tt, tt))))
+  library_made Memcmp = (inl refl, tt, (refl, tt, (refl, tt, (refl, tt, tt))))
+  library_made Putchar = (inl refl, tt, (refl, tt, tt))
   library_made Getchar = (inl refl, tt, tt)
-  library_made Exit = (inr refl, tt, (tt, tt))
+  library_made Exit = (inr refl, tt, (refl, tt, tt))

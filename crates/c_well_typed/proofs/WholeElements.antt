@@ -15,6 +15,7 @@ use Rattle.c_ast.specs.TreesOfFiles.{IsTreeOf}
 use Rattle.c_typed.specs.declared.program.Local.{Local}
 use Rattle.c_typed.specs.Mapped.{of_types, mapped_statement}
 use Rattle.c_typed.specs.Trees as Typed
+use Rattle.c_typed.specs.Typed.{field_type}
 use Rattle.c_typed.specs.TypedStatements.{declared_by}
 use Rattle.c_typed.specs.TypeNumbers.{type_at}
 use Rattle.c_typed.specs.Walk.{types_in_statement}
@@ -22,7 +23,8 @@ use Rattle.c_erasure.specs.Files.{AreAscending, IsFileOf}
 use Rattle.c_erasure.specs.InitialMentions.{told_by_initial}
 use Rattle.c_erasure.specs.Marks.{marks_of_file, scope_beginnings}
 use Rattle.c_erasure.specs.Noted.{Noted}
-use Rattle.c_erasure.specs.Scopes.{Entity, ALocal, AFunction, AnObject, AMention, FileScope, visible, ended}
+use Rattle.c_erasure.specs.Erasure.{IsMeasured, Erases}
+use Rattle.c_erasure.specs.Scopes.{Entity, ALocal, AFunction, AnObject, AMention, FileScope, Scope, visible, ended}
 use Rattle.c_erasure.specs.Units as Units
 use Rattle.c_erasure.specs.Units.{Stores, recognised_statement, typed_initializer, if_any, is_size_operand, all_types, types, object_types, function_types}
 use Rattle.c_erasure.specs.Units.{type_if_pointer, stored_in, number_in, unit_of}
@@ -36,13 +38,12 @@ use Rattle.c_well_typed.proofs.KnownTypes.{body_scope}
 use Rattle.c_well_typed.proofs.Leaves.{InStatements}
 use Rattle.c_well_typed.proofs.MadeLeaves.{items_leaves}
 use Rattle.c_well_typed.proofs.MadeNames as MadeNames
-use Rattle.c_well_typed.proofs.MadeNodes.{HasWhole, AreWhole, made_whole, scalar_whole}
+use Rattle.c_well_typed.proofs.MadeNodes.{HasWhole, AreWhole, made_whole, object_whole, scalar_whole}
 use Rattle.c_well_typed.proofs.MadeStatements.{statement_whole}
-use Rattle.c_well_typed.proofs.NamedTypes.{IsMadeEntity, joined}
+use Rattle.c_well_typed.proofs.NamedTypes.{IsMadeEntity, IsMadeScope, joined}
 use Rattle.c_well_typed.proofs.Numbers.{IsAmong, IsNumbered, all_among, of_all}
 use Rattle.c_well_typed.proofs.RecognisedTypes.{statement_types}
 use Rattle.c_well_typed.proofs.SpokenFiles.{mention_whole, field_made}
-use Rattle.c_well_typed.proofs.SpokenTypes.{object_whole}
 use Rattle.c_well_typed.proofs.ToldTypes.{initial_told}
 use Rattle.c_well_typed.proofs.UnitFunctions.{at_place, after_map, records_ended, functions_numbered, all_same, source_typed, typed_function}
 use Rattle.c_well_typed.proofs.UnitObjects.{before_at}
@@ -96,6 +97,13 @@ module _ (bytes : List ℕ) (items : List Trees.Item) (f : FileScope) (tree : Is
   function_made : (n : ℕ) (g : AFunction) → slice_get f.functions n ≡ Some g → IsWellMade count g.ty
   function_made = MadeNames.function_made f count less h.consistent items tree.3.well_formed h beginnings
 
+  -- what stands in a `sizeof` is complete
+  sized : (a : Trees.Expression) (s : Scope) (t : CType) → IsMadeScope f count less s → IsMeasured (Erases a) s t → is_object count t ≡ true → H t
+  sized a s t i m o = object_whole count t o
+
+  fields : (r k : ℕ) (t : CType) → field_type f.records r k ≡ Some t → IsWellMade count t
+  fields = field_made f count less visible_made H (made_whole count) sized bytes items tree h
+
   -- ---- objects
 
   store_whole : (s : Stores) → A (type_if_pointer s)
@@ -131,11 +139,11 @@ module _ (bytes : List ℕ) (items : List Trees.Item) (f : FileScope) (tree : Is
           let i = body_scope f count less d.list d.types g.parameters d.bounds (g.parameters ++ g.locals) d.of_list t.2 in
           items_leaves f count less visible_made d.items _ d.all i d.erased
 
-      nodes_whole : AreWhole count (types_in_statement (recognised_statement S))
+      nodes_whole : AreWhole H (types_in_statement (recognised_statement S))
       nodes_whole =
-          statement_types count S
-          (statement_whole (in_function f g) count declared_functions (field_made f count less visible_made bytes items tree h) d.result
-          (result_whole d.result d.scalars.0) S false false (source_typed items f h beginnings g numbered d) made_leaves)
+          statement_types H tt S
+          (statement_whole (in_function f g) count declared_functions fields H (made_whole count) d.result
+          (result_whole d.result d.scalars.0) (λ n t e at u p. scalar_whole count u) S false false (source_typed items f h beginnings g numbered d) made_leaves)
 
       body_whole : A (flat_map of_body (if_any g.body))
       body_whole =
@@ -188,7 +196,7 @@ module _ (bytes : List ℕ) (items : List Trees.Item) (f : FileScope) (tree : Is
       joined IsWholeMention (filter (λ m. not (is_size_operand f m)) f.mentions)
       (flat_map (λ (o : AnObject). told_by_initial (option_map typed_initializer o.initial)) f.objects)
       (filtered IsWholeMention (λ m. not (is_size_operand f m)) f.mentions
-      (each IsWholeMention f.mentions (mention_whole f count less visible_made bytes items tree h)))
+      (each IsWholeMention f.mentions (mention_whole f count less visible_made H (made_whole count) sized bytes items tree h)))
       (of_lists IsWholeMention (λ (o : AnObject). told_by_initial (option_map typed_initializer o.initial)) f.objects object_mentions)
 
   -- ---- all of them
