@@ -16,9 +16,6 @@ other_number m n h = grind (arith, nat_tests)
 pub is_same : (m n : ℕ) → m ≡ n → (m == n) ≡ true
 is_same m n h = grind (arith, nat_tests)
 
-pub is_other : (m n : ℕ) → m ≢ n → (m == n) ≡ false
-is_other m n h = grind (arith, nat_tests)
-
 -- two tests that are true of the same
 pub alike : (a b : Bool) → (a ≡ true → b ≡ true) → (b ≡ true → a ≡ true) → a ≡ b
 alike true b f g = sym (f refl)

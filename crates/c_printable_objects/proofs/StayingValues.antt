@@ -26,12 +26,6 @@ use Rattle.c_printable_objects.proofs.Addresses.{if_some, address_alone, functio
 use Rattle.c_printable_objects.proofs.Kept.{IsSettled, bare_settled, cast, recognised_alone, kept, move}
 use Rattle.c_printable_objects.proofs.Renamed.{types_alike}
 
-some_is : {A : Type 0} (x y : A) → Some x ≡ Some y → x ≡ y
-some_is x y h = cc
-
-abbrev Allocation : Type 0
-Allocation = Option (Trees.OptionalExpression Noted × Bool)
-
 -- ---- whatever locals there are
 
 abbrev pub with_locals : List CType → Declared → Declared
