@@ -1,11 +1,11 @@
 -- A constant expression that stands for an address refers to the object or function that it names and to nothing else, and a null pointer refers to
 -- nothing (C99 6.6).
-use Rattle.std.proofs.Common.{◌≡◌, ◌≢◌, ◌∙◌, ℕ, Bool, true, false, refl, sym, ap, subst, cond, List, [], ◌∷◌, ◌++◌, append-nil, inl, inr}
+use Rattle.std.proofs.Common.{◌≡◌, ◌≢◌, ◌∙◌, ℕ, Bool, true, false, refl, sym, ap, subst, cond, List, [], ◌∷◌, ◌++◌, inl, inr}
 use Rattle.std.proofs.lemmas.Bool.{and_parts}
-use Rattle.std.specs.Prelude.{◌⊎◌, ◌&&◌, get_or, nat_le, Option, Some, None, ℤ, pos, negsuc}
-use Rattle.lay_base.specs.declared.place.Place.{Place}
+use Rattle.std.specs.Prelude.{◌⊎◌, get_or, nat_le, Option, Some, None, ℤ, pos, negsuc}
+use Rattle.c_types.specs.declared.ty.IntKind.{IntKind}
 use Rattle.c_types.specs.Layouts.{size_of, offset_of}
-use Rattle.c_types.specs.Types.{CType, void, pointer, array}
+use Rattle.c_types.specs.Types.{CType, void, integer, array}
 use Rattle.c_typed.specs.declared.operators.PointerOp.{PointerOp}
 use Rattle.c_typed.specs.declared.operators.PointerOp.TheVariants as P
 use Rattle.c_typed.specs.Trees as Trees
@@ -159,7 +159,7 @@ module _ (d : Declared) where
   abbrev IsOf : Trees.Expression CType → InitialValue → Type 0
   IsOf e v = references e ≡ referred v
 
-  number_of : (e : Trees.Expression CType) (kind : Rattle.c_types.specs.declared.ty.IntKind.IntKind) (c : Constant) (v : InitialValue) → constant_of e ≡ c
+  number_of : (e : Trees.Expression CType) (kind : IntKind) (c : Constant) (v : InitialValue) → constant_of e ≡ c
       → as_number d kind c ≡ Some v → IsOf e v
   number_of e kind (valued w) v q h =
       subst (IsOf e) (some_is (a_number kind w) v h) (constant_alone e (λ n. let no : valued w ≡ none = sym q ∙ n in cc))
@@ -185,5 +185,5 @@ module _ (d : Declared) where
   value_alone e v h = by_type (ty e) h
     where
       by_type : (t : CType) → initial_in d t e ≡ Some v → IsOf e v
-      by_type (Rattle.c_types.specs.Types.integer kind) h = number_of e kind (constant_of e) v refl h
+      by_type (integer kind) h = number_of e kind (constant_of e) v refl h
       by_type t h = pointer_of e (is_null_in d e) v refl h

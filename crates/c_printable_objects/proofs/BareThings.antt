@@ -1,6 +1,6 @@
 -- What stands for an expression as a value is no implicit conversion: those are made where the value is used (C99 6.3).
 use Rattle.std.proofs.Common.{◌≡◌, ◌∙◌, ℕ, true, refl, sym, ap, subst, List, inl, inr}
-use Rattle.std.specs.Prelude.{Option, Some, None}
+use Rattle.std.specs.Prelude.{Some}
 use Rattle.lay_base.specs.declared.place.Place.{Place}
 use Rattle.c_types.specs.Types.{CType, integer, pointer, array}
 use Rattle.c_ast.specs.declared.operators.UnaryOp.TheVariants as U
@@ -10,9 +10,9 @@ use Rattle.c_typed.specs.declared.operators.BinaryOp.{BinaryOp}
 use Rattle.c_typed.specs.declared.operators.BinaryOp.TheVariants as B
 use Rattle.c_typed.specs.Trees as Typed
 use Rattle.c_typed.specs.Typed.{is_bare}
-use Rattle.c_erasure.specs.Erasure.{typed, place_in, IsNamed, IsLiteralFor, IsSum, IsJoined, IsCall, IsAddress, IsPointed, Values, Erases}
+use Rattle.c_erasure.specs.Erasure.{typed, place_in, IsNamed, IsLiteralFor, IsSum, IsJoined, IsCall, IsAddress, Erases}
 use Rattle.c_erasure.specs.Noted.{Noted, Expression, Path, Node, Thing, an_object, a_value, a_function, a_function_at, a_library_function}
-use Rattle.c_erasure.specs.Noted.{value, type_of_path, object_value, value_of, unconverted}
+use Rattle.c_erasure.specs.Noted.{value, type_of_path, object_value, value_of}
 use Rattle.c_erasure.specs.Operators.{Kind, computes, compares, all_of, any_of, kind_of}
 use Rattle.c_erasure.specs.Scopes.{Entity, typedef, enumerator, a_local, a_parameter, Scope, Purpose, in_full, value_alone, type_alone}
 use Rattle.c_erasure.specs.Scopes as Scopes

@@ -1,6 +1,6 @@
 -- An integer constant expression refers to no object and no function, nor does the size of a record, and a conversion refers to what its operand does
 -- (C99 6.6).
-use Rattle.std.proofs.Common.{◌≡◌, ◌≢◌, ◌∙◌, ℕ, zero, suc, Bool, true, false, refl, sym, ap, cond, List, [], ◌++◌}
+use Rattle.std.proofs.Common.{◌≡◌, ◌≢◌, ◌∙◌, ℕ, Bool, true, false, refl, sym, cond, List, [], ◌++◌}
 use Rattle.lay_base.specs.declared.place.Place.{Place}
 use Rattle.c_types.specs.declared.ty.IntKind.TheVariants.{UInt}
 use Rattle.c_types.specs.Types.{CType, integer}
@@ -9,8 +9,8 @@ use Rattle.c_typed.specs.declared.operators.UnaryOp.{UnaryOp}
 use Rattle.c_typed.specs.Trees as Trees
 use Rattle.c_typed.specs.Constants.{Constant, none, undefined, valued, converted_constant, unary_constant, with_both, decided_by, chosen, negated, constant_of, constant_in}
 use Rattle.c_typed.specs.References.{Reference, references, references_by_node}
-use Rattle.c_erasure.specs.Noted.{Noted, Note, nothing, size_of, Expression, value, unconverted}
-use Rattle.c_erasure.specs.Recognised.{is_note_of, is_constant_of, is_size, as_unsigned_from, as_unsigned}
+use Rattle.c_erasure.specs.Noted.{Note, nothing, size_of, Expression, value, unconverted}
+use Rattle.c_erasure.specs.Recognised.{is_constant_of, is_size, as_unsigned_from, as_unsigned}
 
 -- ---- parts of constants
 

@@ -5,17 +5,15 @@ use Rattle.std.proofs.lemmas.List.Elements.{recursion_from_All}
 use Rattle.std.specs.Prelude.{◌⊎◌, Option, Some, None, slice_get}
 use Rattle.std.specs.List.{AllByRecursion}
 use Rattle.c_types.specs.Types.{CType}
-use Rattle.c_ast.specs.Spelling.{spell}
 use Rattle.c_ast.specs.Trees
 use Rattle.c_ast.specs.TreesOfFiles.{IsTreeOf}
 use Rattle.c_typed.specs.References.{references_by_initial}
 use Rattle.c_typed.specs.Trees as Typed
-use Rattle.c_erasure.specs.Erasure.{literal_object, literal_of}
 use Rattle.c_erasure.specs.Files.{count_up, AreAscending, ErasesItem, IsFileOf, IsMade as IsMadeThere, IsIntroduced, IsLeft, IsOpen, is_defined, is_tentative}
 use Rattle.c_erasure.specs.Literals.{made_by_file}
-use Rattle.c_erasure.specs.Marks.{Mark, marks_of_file, scope_beginnings}
+use Rattle.c_erasure.specs.Marks.{marks_of_file, scope_beginnings}
 use Rattle.c_erasure.specs.Noted.{Noted}
-use Rattle.c_erasure.specs.Scopes.{Entity, typedef, enumerator, an_object, a_function, a_library_function, a_local, a_parameter, Bound, AFunction, AnObject, FileScope}
+use Rattle.c_erasure.specs.Scopes.{Entity, an_object, a_function, Bound, AFunction, AnObject, FileScope}
 use Rattle.c_erasure.specs.Scopes.{visible, ended}
 use Rattle.c_checking_files.proofs.CompleteObjects.{mapped_at}
 use Rattle.c_checking_units.proofs.Lists.{ascending_apart}
@@ -31,7 +29,7 @@ use Rattle.c_well_typed.proofs.NamedTypes.{IsMadeEntity}
 use Rattle.c_well_typed.proofs.TokenBytes.{tree_of_bytes}
 use Rattle.c_well_typed.proofs.UnitFunctions.{records_ended}
 use Rattle.c_printable.specs.Programs.{times}
-use Rattle.c_printable_objects.proofs.Counts.{occurs, IsIn, sum_of, sum_below, sum_below_same, below_covered, one_below, some_weighs}
+use Rattle.c_printable_objects.proofs.Counts.{IsIn, sum_of, sum_below, sum_below_same, below_covered, one_below, some_weighs}
 use Rattle.c_printable_objects.proofs.Literals.{Walk, IsLiteralObject, IsTextAt}
 use Rattle.c_printable_objects.proofs.OwnNames.{IsOwn, IsOwnEntity}
 use Rattle.c_printable_objects.proofs.Sources.{IsMadeLocal, IsSourced, IsFilled, weight, weight_of, IsPlaced}
@@ -40,7 +38,6 @@ use Rattle.c_printable_objects.proofs.WalkedFiles.{body_weight, function_weight,
 
 some_is : {A : Type 0} (x y : A) → Some x ≡ Some y → x ≡ y
 some_is x y h = cc
-
 
 module _ (bytes : List ℕ) (items : List Trees.Item) (f : FileScope) (tree : IsTreeOf bytes items) (h : IsFileOf items f)
     (beginnings : AreAscending (scope_beginnings (marks_of_file f.untagged items))) where

@@ -14,7 +14,7 @@ use Rattle.c_typed.specs.Trees as Typed
 use Rattle.c_erasure.specs.Declarators.{AreDifferent, Shape, closed, is_name}
 use Rattle.c_erasure.specs.Erasure.{Erases, AreValues, Values, IsTypeName, IsBase, IsOne, Specifies, Declares, AreFields, AreMembers, AreEnumerators}
 use Rattle.c_erasure.specs.Erasure.{IsEnumeratorValue, after_all, comma_or, tag_text}
-use Rattle.c_erasure.specs.Files.{IsTypedef, IsObject, IsFunction, IsFileDeclarator, AreFileDeclarators, IsDefinition, ErasesItem, IsFileOf}
+use Rattle.c_erasure.specs.Files.{IsFileDeclarator, AreFileDeclarators, IsDefinition, ErasesItem, IsFileOf}
 use Rattle.c_erasure.specs.Initializers.{Part, part_at, texts_of, IsText, Initializes, IsOneValue, InitializeElements, InitializeFields, IsInitializer}
 use Rattle.c_erasure.specs.Marks.{Mark, an_end, a_name, marks, marks_of_all, marks_of_type, marks_of_specifiers, marks_of_specifier, marks_of_members}
 use Rattle.c_erasure.specs.Marks.{marks_of_member_declarators, marks_of_enumerators, marks_of_value, marks_of_declarator, an_enumeration, tag_name}

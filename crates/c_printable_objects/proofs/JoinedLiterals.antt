@@ -7,7 +7,7 @@ use Rattle.std.proofs.lemmas.Slice.Eq.{bytes_eq-Decides}
 use Rattle.std.specs.Prelude.{◌⊎◌, ◌==◌, if◌then◌else◌, Option, Some, None, is_some, slice_get, get_or}
 use Rattle.std.specs.Option.{option_map}
 use Rattle.std.specs.Str.{bytes_eq}
-use Rattle.numbering.specs.Keys.{new_keys, position}
+use Rattle.numbering.specs.Keys.{position}
 use Rattle.c_typed.specs.declared.program.Initial.{Initial}
 use Rattle.c_typed.specs.declared.program.InitialValue.{InitialValue}
 use Rattle.c_typed.specs.declared.program.InitialValue.TheVariants as V
@@ -27,7 +27,7 @@ use Rattle.c_link.proofs.JoinedRecords.{among_at}
 use Rattle.c_weights.proofs.Numbered.{total}
 use Rattle.c_weights.proofs.Shares.{Key, total_flat, total_less, chosen_share}
 use Rattle.c_well_typed.proofs.JoinedFunctions.{object_identity}
-use Rattle.c_well_typed.proofs.LookedUp.{from_zero, IsFound, IsNumbered, looked_up, one_unit, under_number, unit_among}
+use Rattle.c_well_typed.proofs.LookedUp.{from_zero, IsFound, looked_up, one_unit, under_number, unit_among}
 use Rattle.c_printable.specs.Programs.{if_any, times, references, referred_by, StandsOnce}
 use Rattle.c_printable_objects.proofs.Counts.{same_number, is_same, alike}
 use Rattle.c_printable_objects.proofs.OneDefinition.{one_object, one_function}

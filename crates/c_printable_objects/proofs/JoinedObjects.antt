@@ -1,17 +1,16 @@
 -- What the objects of a program hold at first is named by braces where it is so in its units: fields and elements lie at the same bytes where records have other
 -- numbers (C99 6.7.8).
-use Rattle.std.proofs.Common.{◌≡◌, ◌∙◌, ℕ, zero, suc, ◌+◌, Bool, true, false, refl, sym, ap, subst, List, [], ◌∷◌, ◌++◌, length, map, arith, inl, inr}
+use Rattle.std.proofs.Common.{◌≡◌, ◌∙◌, ℕ, suc, ◌+◌, Bool, true, false, refl, sym, ap, subst, List, [], ◌∷◌, ◌++◌, length, map, arith, inl, inr}
 use Rattle.std.proofs.lemmas.Bool.{and_parts}
 use Rattle.std.proofs.lemmas.List.{map-append}
 use Rattle.std.proofs.lemmas.List.Elements.{recursion_from_All, All-from_recursion}
-use Rattle.std.specs.Prelude.{◌⊎◌, All, Option, Some, None, slice_get, nat_lt}
-use Rattle.std.specs.List.{AllByRecursion}
+use Rattle.std.specs.Prelude.{All, Option, Some, None, slice_get, nat_lt}
 use Rattle.std.specs.Option.{option_map}
 use Rattle.c_types.specs.declared.ty.IntKind.TheVariants.{Char}
 use Rattle.c_types.specs.Layouts.{size_of, offset_of}
 use Rattle.c_types.specs.Limits.{AreComplete}
 use Rattle.c_types.specs.Objects.{is_object}
-use Rattle.c_types.specs.Types.{CType, integer, pointer, array, structure, Field, Record, field_types}
+use Rattle.c_types.specs.Types.{CType, integer, pointer, array, Field, Record}
 use Rattle.c_type_table.specs.Renumbered.{renumbered}
 use Rattle.c_typed.specs.declared.program.Initial.{Initial}
 use Rattle.c_typed.specs.declared.program.InitialValue.TheVariants as V
@@ -33,7 +32,7 @@ use Rattle.c_well_typed.proofs.LookedUp.{of_unit as found_unit, unit_among}
 use Rattle.c_well_typed.proofs.RenumberedParts.{offset_again}
 use Rattle.c_printable.specs.Initializers.{IsNamed, by_value, by_elements, by_fields, AreElements, one_element, and_elements, AreFields, one_field, and_fields}
 use Rattle.c_printable.specs.Initializers.{of_text, IsStored}
-use Rattle.c_printable.specs.Programs.{IsLiteral, IsInitial, IsObject, IsPrintableObject}
+use Rattle.c_printable.specs.Programs.{IsInitial, IsObject, IsPrintableObject}
 use Rattle.c_printable_objects.proofs.UnitObjects.{as_program}
 
 module _ (number : ℕ → ℕ) (m : Renaming ℕ ℕ) where

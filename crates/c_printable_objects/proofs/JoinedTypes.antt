@@ -1,11 +1,10 @@
 -- The types of a program are such that declarators make them, and its records have members, where it is so in its units (C99 6.7.2.1, 6.7.5).
-use Rattle.std.proofs.Common.{◌≡◌, ◌≢◌, ◌∙◌, ℕ, ◌≤◌, Bool, true, false, refl, sym, ap, subst, cond, List, [], ◌∷◌, length, map, flat_map, inl, inr}
+use Rattle.std.proofs.Common.{◌≡◌, ◌≢◌, ◌∙◌, ℕ, Bool, true, false, refl, sym, ap, subst, cond, List, [], ◌∷◌, length, map, flat_map, inl, inr}
 use Rattle.std.proofs.lemmas.List.Elements.{recursion_from_All, All-from_recursion}
-use Rattle.std.specs.Prelude.{◌⊎◌, All, Some, slice_get}
+use Rattle.std.specs.Prelude.{◌⊎◌, All}
 use Rattle.std.specs.List.{AllByRecursion}
 use Rattle.std.specs.Str.{bytes_eq}
 use Rattle.c_types.specs.Limits.{AreComplete}
-use Rattle.c_types.specs.Objects.{is_object}
 use Rattle.c_types.specs.Types.{CType, CTypes, void, integer, pointer, array, function, structure, no_types, and_type, Field, Record}
 use Rattle.c_type_table.specs.Renumbered.{renumbered, all_renumbered, field_in, record_in}
 use Rattle.c_typed.specs.Conversions.{is_scalar}

@@ -1,10 +1,9 @@
 -- A well typed expression refers to the same objects and functions where its allocations and null pointers are recognised (C99 6.3.2.3): what is dropped
 -- is an integer constant or the size of a record.
-use Rattle.std.proofs.Common.{◌≡◌, ◌≢◌, ◌∙◌, ℕ, Bool, true, false, refl, sym, ap, subst, cond, List, [], ◌∷◌, ◌++◌, append-nil, inl, inr}
+use Rattle.std.proofs.Common.{◌≡◌, ◌∙◌, ℕ, Bool, true, false, refl, sym, ap, subst, cond, List, [], ◌∷◌, ◌++◌, append-nil, inl, inr}
 use Rattle.std.specs.Prelude.{◌⊎◌, Option, Some, None}
 use Rattle.lay_base.specs.declared.place.Place.{Place}
-use Rattle.c_types.specs.Types.{CType, CTypes, void, integer, pointer, array, function, structure, no_types, and_type}
-use Rattle.c_types.specs.Sameness.{same_type}
+use Rattle.c_types.specs.Types.{CType, CTypes, void, integer, pointer, structure, no_types, and_type}
 use Rattle.c_typed.specs.declared.operators.BinaryOp.TheVariants.{Multiply}
 use Rattle.c_typed.specs.declared.operators.CompareOp.{CompareOp}
 use Rattle.c_typed.specs.declared.operators.CompareOp.TheVariants.{Equal, NotEqual}
@@ -18,14 +17,14 @@ use Rattle.c_typed.specs.Fits.{assigns, casts, meeting, ordered, compared}
 use Rattle.c_typed.specs.Mapped.{of_types, mapped_node}
 use Rattle.c_typed.specs.References.{Reference, a_function, references, references_by_node, references_by_path, references_by_step, references_by_all, references_by_optional}
 use Rattle.c_typed.specs.Rules.{arithmetic, or_else, both_void, comparing, choosing}
-use Rattle.c_typed.specs.Typed.{Declared, bare, is_bare, bare_ty, IsTested, IsConverted, IsSubscript, IsMoved, IsMove, IsTyped, IsTypedNode, AreArguments}
+use Rattle.c_typed.specs.Typed.{Declared, bare, is_bare, bare_ty, IsConverted, IsSubscript, IsMoved, IsMove, IsTyped, IsTypedNode, AreArguments}
 use Rattle.c_typed.specs.Typed.{IsTypedPath, IsTypedStep}
 use Rattle.c_erasure.specs.Erasure.{typed}
-use Rattle.c_erasure.specs.Noted.{Noted, Expression, Path, Node, PathNode, type_of, unconverted}
+use Rattle.c_erasure.specs.Noted.{Noted, Expression, Path, Node, PathNode, unconverted}
 use Rattle.c_erasure.specs.Recognised.{is_note_of, is_size, counted, allocated, allocation, or_converted, is_null_constant, converted, as_unsigned}
 use Rattle.c_erasure.specs.Recognised.{recognised, recognised_node, recognised_path, recognised_step, recognised_all}
 use Rattle.c_well_typed.proofs.Allocations.{bare_itself}
-use Rattle.c_well_typed.proofs.Fitting.{promoting_is, on_numbers_is, no_pointer}
+use Rattle.c_well_typed.proofs.Fitting.{promoting_is, on_numbers_is}
 use Rattle.c_well_typed.proofs.Monotone.{moved_number, updated_number}
 use Rattle.c_well_typed.proofs.Nulls.{is_zero_is, IsCast, null_or_cast}
 use Rattle.c_well_typed.proofs.Recognised.{typed_path, typed_step, typed_all}

@@ -1,16 +1,16 @@
 -- What stands for an initializer refers to the objects of its string literals, each where it stands; one that gives its bytes to an array has no object
 -- (C99 6.4.5, 6.7.8).
 use Rattle.std.proofs.Common.{◌≡◌, ◌≢◌, ◌∙◌, ℕ, ◌+◌, Bool, true, false, refl, sym, ap, subst, List, [], ◌∷◌, ◌++◌, flat_map, arith, append-nil, inl, inr}
-use Rattle.std.specs.Prelude.{◌⊎◌, ◌==◌, if◌then◌else◌, Option, Some, None, slice_get}
+use Rattle.std.specs.Prelude.{◌⊎◌, ◌==◌, if◌then◌else◌, All, Option, Some, None, slice_get}
 use Rattle.c_types.specs.Types.{CType, structure, Field}
 use Rattle.c_ast.specs.declared.words.Spelling.{Spelling}
 use Rattle.c_ast.specs.Places.{first_text}
 use Rattle.c_ast.specs.Trees
 use Rattle.c_typed.specs.Conversions.{is_scalar}
-use Rattle.c_typed.specs.References.{Reference, references, references_by_path, references_by_value, references_by_initializer, references_by_initial}
+use Rattle.c_typed.specs.References.{Reference, references, references_by_value, references_by_initializer, references_by_initial}
 use Rattle.c_typed.specs.Trees as Typed
 use Rattle.c_erasure.specs.Erasure.{Values, Erases}
-use Rattle.c_erasure.specs.Initializers.{Part, part_at, texts_of, IsNoObject, IsText, Initializes, IsOneValue, InitializeElements, InitializeFields, IsInitializer}
+use Rattle.c_erasure.specs.Initializers.{Part, part_at, texts_of, IsText, Initializes, IsOneValue, InitializeElements, InitializeFields, IsInitializer}
 use Rattle.c_erasure.specs.Literals.{literals, literals_of_all, literals_of_value}
 use Rattle.c_erasure.specs.Noted.{Noted, Expression, Path, an_object, type_of, type_of_path}
 use Rattle.c_erasure.specs.Scopes.{AnObject, FileScope, Scope}
@@ -18,7 +18,7 @@ use Rattle.c_erasure.specs.Statements.{HasInitializer, HasConstants}
 use Rattle.c_checking_files.proofs.Names.{all_at}
 use Rattle.c_printable.specs.Programs.{times}
 use Rattle.c_printable_objects.proofs.Counts.{same_number, times_both}
-use Rattle.c_printable_objects.proofs.Literals.{Walk, IsTextAt, IsLiteralPlace, Counts, none, both, IsFull, counted, value_counted}
+use Rattle.c_printable_objects.proofs.Literals.{Walk, IsTextAt, Counts, none, both, IsFull, counted, value_counted}
 
 -- what some parts refer to
 abbrev pub of_parts : List Part → List Reference
@@ -64,7 +64,7 @@ module _ (w : Walk) where
     where
       elsewhere : (m : ℕ) (q : AnObject) → slice_get w.file.objects m ≡ Some q → q.first ≡ first_text all → ⊥
       elsewhere m q e first =
-          all_at (λ (o : AnObject). o.first ≢ first_text all) w.file.objects (subst (λ (f : FileScope). Rattle.std.specs.Prelude.All (λ o. o.first ≢ first_text all) f.objects) i.made.0 h.2) m q e first
+          all_at (λ (o : AnObject). o.first ≢ first_text all) w.file.objects (subst (λ (f : FileScope). All (λ o. o.first ≢ first_text all) f.objects) i.made.0 h.2) m q e first
 
       alone : IsTextAt w → 0 ≡ (if first_text all == w.at then 1 else 0) + 0
       alone x = by_test (first_text all == w.at) refl

@@ -1,6 +1,6 @@
 -- What stands for an expression refers to the objects of its string literals, each where it stands, and to no other object of a literal (C99 6.4.5).
 use Rattle.std.proofs.Common.{◌≡◌, ◌≢◌, ◌∙◌, ℕ, ◌+◌, ◌≤◌, Bool, true, false, refl, sym, ap, subst, List, [], ◌∷◌, ◌++◌, map, arith, inl, inr}
-use Rattle.std.specs.Prelude.{◌⊎◌, ◌==◌, if◌then◌else◌, Option, Some, None, slice_get}
+use Rattle.std.specs.Prelude.{◌==◌, if◌then◌else◌, Some, None, slice_get}
 use Rattle.std.specs.List.{AllByRecursion}
 use Rattle.lay_base.specs.declared.place.Place.{Place}
 use Rattle.c_types.specs.Types.{CType, integer, pointer, array}
@@ -13,7 +13,7 @@ use Rattle.c_typed.specs.declared.operators.BinaryOp.TheVariants as B
 use Rattle.c_typed.specs.References.{Reference, references, references_by_node, references_by_path, references_by_all}
 use Rattle.c_typed.specs.References as References
 use Rattle.c_typed.specs.Trees as Typed
-use Rattle.c_erasure.specs.Erasure.{literal_of, literal_object, place_in, IsNamed, IsLiteralFor, IsSum, IsJoined, IsCall, IsAddress, IsPointed, IsSize}
+use Rattle.c_erasure.specs.Erasure.{literal_of, literal_object, place_in, IsNamed, IsLiteralFor, IsSum, IsJoined, IsCall, IsAddress, IsPointed}
 use Rattle.c_erasure.specs.Erasure.{Values, Erases, AreValues}
 use Rattle.c_erasure.specs.Files.{AreAscending}
 use Rattle.c_erasure.specs.Literals.{literals, literals_of_all}

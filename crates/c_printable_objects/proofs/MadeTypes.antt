@@ -1,20 +1,18 @@
 -- The types of the unit of a file are those that declarators can make: of objects and functions, at the nodes of bodies and initializers, and those of which the
 -- file speaks (C99 6.7.5).
-use Rattle.std.proofs.Common.{◌≡◌, ◌≢◌, ◌∙◌, ℕ, zero, suc, ◌+◌, ◌≤◌, ◌<◌, Bool, true, false, refl, sym, ap, subst, cond, List, [], ◌∷◌, ◌++◌, length, length-append, map}
+use Rattle.std.proofs.Common.{◌≡◌, ◌∙◌, ℕ, suc, ◌+◌, ◌≤◌, Bool, true, false, refl, sym, ap, subst, cond, List, [], ◌∷◌, ◌++◌, length, length-append, map}
 use Rattle.std.proofs.Common.{flat_map, filter, append-nil, arith, inl, inr}
 use Rattle.std.proofs.lemmas.List.{map-append}
-use Rattle.std.proofs.lemmas.List.Elements.{recursion_from_All, All-from_recursion}
+use Rattle.std.proofs.lemmas.List.Elements.{All-from_recursion}
 use Rattle.std.specs.Prelude.{◌⊎◌, not, All, Option, Some, None, slice_get}
 use Rattle.std.specs.List.{AllByRecursion}
 use Rattle.std.specs.Option.{option_map}
-use Rattle.c_types.specs.declared.ty.IntKind.TheVariants.{Char}
 use Rattle.c_types.specs.Objects.{is_object}
-use Rattle.c_types.specs.Types.{CType, CTypes, integer, array, structure, no_types, and_type}
+use Rattle.c_types.specs.Types.{CType, CTypes, and_type}
 use Rattle.c_types.specs.Views.{listed}
 use Rattle.c_ast.specs.Trees
 use Rattle.c_ast.specs.TreesOfFiles.{IsTreeOf}
 use Rattle.c_typed.specs.Constants.{ty}
-use Rattle.c_typed.specs.Conversions.{is_scalar}
 use Rattle.c_typed.specs.Parts.{IsPart, itself, of_element, of_field}
 use Rattle.c_typed.specs.Trees as Typed
 use Rattle.c_typed.specs.Typed.{Declared, path_ty, field_type}
@@ -45,11 +43,11 @@ use Rattle.c_well_typed.proofs.SpokenFiles.{mention_whole, field_made}
 use Rattle.c_well_typed.proofs.UnitFunctions.{at_place, after_map, functions_numbered, source_typed}
 use Rattle.c_well_typed.proofs.UnitObjects.{before_at}
 use Rattle.c_well_typed.proofs.WellMade.{IsWellMade, AreWellMade}
-use Rattle.c_printable_objects.proofs.BareThings.{IsBareThing, bare_thing}
-use Rattle.c_printable_objects.proofs.FileLiterals.{count, less, visible_made, walk, IsCovered, object_covered, locals_made}
+use Rattle.c_printable_objects.proofs.BareThings.{bare_thing}
+use Rattle.c_printable_objects.proofs.FileLiterals.{less, visible_made, walk, IsCovered, object_covered, locals_made}
 use Rattle.c_printable_objects.proofs.Literals.{IsLiteralObject}
 use Rattle.c_printable_objects.proofs.NamedParts.{front_of}
-use Rattle.c_printable_objects.proofs.Sources.{IsMadeLocal, IsSourced, IsFilled}
+use Rattle.c_printable_objects.proofs.Sources.{IsMadeLocal, IsFilled}
 use Rattle.c_printable_objects.proofs.ToldTypes as Told
 
 some_is : {A : Type 0} (x y : A) → Some x ≡ Some y → x ≡ y

@@ -1,5 +1,5 @@
 -- What an object holds at first by an initializer of constants is named by its braces, part after part (C99 6.7.8).
-use Rattle.std.proofs.Common.{◌≡◌, ◌≢◌, ◌∙◌, ℕ, zero, suc, ◌+◌, ◌≤◌, ◌<◌, ◌^◌, Bool, true, false, refl, sym, ap, subst, List, [], ◌∷◌, ◌++◌, length, map}
+use Rattle.std.proofs.Common.{◌≡◌, ◌≢◌, ◌∙◌, ℕ, ◌+◌, ◌≤◌, ◌<◌, Bool, true, false, refl, sym, ap, subst, List, [], ◌∷◌, ◌++◌, length, map}
 use Rattle.std.proofs.Common.{flat_map, arith, append-nil, append_assoc, inl, inr}
 use Rattle.std.proofs.lemmas.List.{map-append}
 use Rattle.std.proofs.lemmas.List.Elements.{recursion_from_All, All-from_recursion}
@@ -7,7 +7,6 @@ use Rattle.std.specs.Prelude.{◌⊎◌, All, Option, Some, None, slice_get}
 use Rattle.std.specs.List.{AllByRecursion}
 use Rattle.c_types.specs.declared.ty.IntKind.{IntKind}
 use Rattle.c_types.specs.declared.ty.IntKind.TheVariants.{Char}
-use Rattle.c_types.specs.IntKinds.{width}
 use Rattle.c_types.specs.Layouts.{size_of, offset_of}
 use Rattle.c_types.specs.Types.{CType, integer, pointer, array, structure, Field, Record}
 use Rattle.c_lexer.specs.QuotedScan.{string_bytes}
@@ -17,20 +16,20 @@ use Rattle.c_ast.specs.WellFormed as Formed
 use Rattle.c_typed.specs.declared.program.Initial.{Initial}
 use Rattle.c_typed.specs.declared.program.InitialValue.TheVariants as V
 use Rattle.c_typed.specs.Constants.{Constant, none, undefined, valued, ty, constant_of}
-use Rattle.c_typed.specs.Conversions.{is_scalar, is_array, is_record}
-use Rattle.c_typed.specs.InitialValues.{InitialValue, a_number, a_null, an_address, a_function, as_number, initial_in, initial_value}
+use Rattle.c_typed.specs.Conversions.{is_scalar}
+use Rattle.c_typed.specs.InitialValues.{InitialValue, a_number, a_null, an_address, a_function, as_number, initial_in}
 use Rattle.c_typed.specs.Mapped.{of_types, mapped_part, mapped_value}
 use Rattle.c_typed.specs.Trees as Typed
 use Rattle.c_typed.specs.Typed.{Declared}
 use Rattle.c_erasure.specs.Erasure.{typed, literal_of, Values, Erases}
-use Rattle.c_erasure.specs.Initializers.{Part, part_at, texts_of, IsTextOf, IsText, Initializes, IsOneValue, InitializeElements, InitializeFields, IsInitializer}
+use Rattle.c_erasure.specs.Initializers.{Part, part_at, texts_of, IsText, Initializes, InitializeElements, InitializeFields, IsInitializer}
 use Rattle.c_erasure.specs.Initializers.{HasConstant, AreConstants}
 use Rattle.c_erasure.specs.Noted.{Noted, Expression, Path, an_object, type_of, type_of_path}
 use Rattle.c_erasure.specs.Recognised.{recognised}
 use Rattle.c_erasure.specs.Scopes.{FileScope, Scope, at_file_scope, declared}
 use Rattle.c_erasure.specs.Units as Units
 use Rattle.c_erasure.specs.Units.{Stores, recognised_part, recognised_value, typed_initializer, stored, of_part, of_value, of_initializer}
-use Rattle.c_well_typed.proofs.InitialStores.{AreBytes, HasBytes, HaveBytes, HoldsBytes}
+use Rattle.c_well_typed.proofs.InitialStores.{AreBytes, HaveBytes, HoldsBytes}
 use Rattle.c_well_typed.proofs.Nulls.{type_stays, constant_stays}
 use Rattle.c_printable.specs.Initializers.{IsText as IsTextIn, IsNamed, by_value, by_elements, by_fields, AreElements, one_element, and_elements}
 use Rattle.c_printable.specs.Initializers.{AreFields, one_field, and_fields, of_text, IsStored}

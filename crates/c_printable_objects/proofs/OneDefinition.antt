@@ -1,10 +1,10 @@
 -- Of units in which no name is defined twice, two things of a name with linkage that are both defined are one (C99 6.9).
-use Rattle.std.proofs.Common.{◌≡◌, ◌≢◌, ◌∙◌, ℕ, zero, suc, ◌+◌, ◌≤◌, Bool, true, false, refl, sym, ap, subst, cond, List, [], ◌∷◌, ◌++◌, map, flat_map, filter}
+use Rattle.std.proofs.Common.{◌≡◌, ◌∙◌, ℕ, ◌+◌, ◌≤◌, Bool, true, false, refl, sym, ap, subst, cond, List, [], ◌∷◌, ◌++◌, flat_map, filter}
 use Rattle.std.proofs.Common.{append-nil, append_assoc, arith}
 use Rattle.std.proofs.lemmas.Slice.Eq.{bytes_eq-Decides}
 use Rattle.std.specs.Prelude.{◌&&◌, ◌==◌, if◌then◌else◌, Some, is_some, slice_get, get_or}
 use Rattle.std.specs.Str.{bytes_eq}
-use Rattle.c_types.specs.Types.{CType, void}
+use Rattle.c_types.specs.Types.{void}
 use Rattle.c_type_table.specs.Renumbered.{renumbered}
 use Rattle.c_typed.specs.declared.program.Object.{Object}
 use Rattle.c_typed.specs.Programs.{FunctionData, UnitData}
@@ -147,8 +147,8 @@ module _ (units : List UnitData) (none : HasNone (IsTwice units)) where
       let own : defines x (record { name = o.name; place = o.place; ty = renumbered (structure_in tags u) (get_or u.types o.ty void); is_defined = is_some o.initial }) ≡ 1 =
       rw (same, d) refl in
       subst (λ b. 1 ≤ total (defines x) (if b
-        then record { name = o.name; place = o.place; ty = renumbered (structure_in tags u) (get_or u.types o.ty void); is_defined = is_some o.initial } ∷ []
-        else [])) (sym l) (omega (arith, own))
+      then record { name = o.name; place = o.place; ty = renumbered (structure_in tags u) (get_or u.types o.ty void); is_defined = is_some o.initial } ∷ []
+      else [])) (sym l) (omega (arith, own))
 
   function_defines : (u : UnitData) (o : FunctionData) (x : List ℕ) → o.is_linked ≡ true → o.name ≡ x → is_some o.body ≡ true
       → 1 ≤ total (defines x) (of_function u o)
@@ -157,8 +157,8 @@ module _ (units : List UnitData) (none : HasNone (IsTwice units)) where
       let own : defines x (record { name = o.name; place = o.place; ty = renumbered (structure_in tags u) (get_or u.types o.ty void); is_defined = is_some o.body }) ≡ 1 =
       rw (same, d) refl in
       subst (λ b. 1 ≤ total (defines x) (if b
-        then record { name = o.name; place = o.place; ty = renumbered (structure_in tags u) (get_or u.types o.ty void); is_defined = is_some o.body } ∷ []
-        else [])) (sym l) (omega (arith, own))
+      then record { name = o.name; place = o.place; ty = renumbered (structure_in tags u) (get_or u.types o.ty void); is_defined = is_some o.body } ∷ []
+      else [])) (sym l) (omega (arith, own))
 
   pub one_object : (j k m n : ℕ) (u v : UnitData) (a b : Object) → slice_get units j ≡ Some u → slice_get units k ≡ Some v → slice_get u.objects m ≡ Some a
       → slice_get v.objects n ≡ Some b → a.linked ≡ true → b.linked ≡ true → a.name ≡ b.name → is_some a.initial ≡ true → is_some b.initial ≡ true

@@ -1,18 +1,18 @@
 -- The program of some files can be said in C, but for its functions, since its units can.
-use Rattle.std.proofs.Common.{◌≡◌, ◌∙◌, ℕ, zero, suc, Bool, true, false, refl, sym, ap, subst, List, [], ◌∷◌, length}
+use Rattle.std.proofs.Common.{◌≡◌, ◌∙◌, ℕ, suc, true, false, refl, sym, ap, subst, List, [], ◌∷◌, length}
 use Rattle.std.proofs.lemmas.List.Elements.{recursion_from_All}
 use Rattle.std.specs.Prelude.{All, Some, slice_get}
 use Rattle.std.specs.List.{AllByRecursion}
 use Rattle.std.specs.Option.{option_map}
 use Rattle.lay_base.specs.declared.place.File.{File}
 use Rattle.c_types.specs.Limits.{AreComplete}
-use Rattle.c_types.specs.Types.{Field, Record}
+use Rattle.c_types.specs.Types.{Field}
 use Rattle.c_lexer.specs.TokenPlaces.{TokensHavePlaces}
 use Rattle.c_ast.specs.Trees
 use Rattle.c_ast.specs.TreesOfFiles.{IsTreeOf}
 use Rattle.c_typed.specs.declared.program.Object.{Object}
 use Rattle.c_typed.specs.Programs.{UnitData, ProgramData}
-use Rattle.c_typed.specs.Typed.{field_type, type_in}
+use Rattle.c_typed.specs.Typed.{type_in}
 use Rattle.c_erasure.specs.Erasing.{ErasesTo}
 use Rattle.c_order.proofs.Ordered.{marks_are_in_order}
 use Rattle.c_text_order.specs.TextOrder.{TextsAreInOrder}
@@ -51,7 +51,7 @@ module _ (places : TokensHavePlaces) where
         records = each (IsMadeRecord (length f.records)) f.records (λ r rec q. (
           records_full f items tree.3.well_formed e.of_tree r rec q,
           each (λ (x : Field). IsWellMade (length f.records) x.ty) rec.fields
-          (λ k x there. fields_made bytes items f tree e.of_tree beginnings r k x.ty (ap (λ o. type_in o k) q ∙ ap (option_map (λ (x : Field). x.ty)) there)),
+              (λ k x there. fields_made bytes items f tree e.of_tree beginnings r k x.ty (ap (λ o. type_in o k) q ∙ ap (option_map (λ (x : Field). x.ty)) there)),
         ));
       })
 

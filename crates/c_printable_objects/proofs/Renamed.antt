@@ -1,5 +1,5 @@
 -- A typed tree with other numbers refers to what stands for its objects and functions there, in the same order.
-use Rattle.std.proofs.Common.{◌≡◌, ◌∙◌, ℕ, refl, sym, ap, List, [], ◌∷◌, ◌++◌, map, flat_map}
+use Rattle.std.proofs.Common.{◌≡◌, ◌∙◌, refl, sym, ap, List, [], ◌∷◌, ◌++◌, map, flat_map}
 use Rattle.std.proofs.lemmas.List.{map-append}
 use Rattle.std.specs.Prelude.{Option, Some, None}
 use Rattle.std.specs.Option.{option_map}
@@ -31,7 +31,7 @@ module _ {T S : Type 0} (m : Renaming T S) where
   with_path p x h k = two (references_by_path (mapped_path m p)) (references (mapped m x)) (references_by_path p) (references x) h k
 
   mutual
-    pub expression_same : (e : Trees.Expression T) → Same (references (mapped m e)) (references e)
+    expression_same : (e : Trees.Expression T) → Same (references (mapped m e)) (references e)
     expression_same (Trees.expression t at node) = node_same node
 
     node_same : (node : Trees.Node T) → Same (references_by_node (mapped_node m node)) (references_by_node node)
@@ -66,7 +66,7 @@ module _ {T S : Type 0} (m : Renaming T S) where
     node_same (Trees.library which all) = all_same all
     node_same (Trees.allocate r n zeroed) = count_same n
 
-    pub path_same : (p : Trees.Path T) → Same (references_by_path (mapped_path m p)) (references_by_path p)
+    path_same : (p : Trees.Path T) → Same (references_by_path (mapped_path m p)) (references_by_path p)
     path_same (Trees.path t at step) = step_same step
 
     step_same : (step : Trees.PathNode T) → Same (references_by_step (mapped_step m step)) (references_by_step step)
@@ -166,9 +166,6 @@ module _ {T S : Type 0} (f : T → S) where
 
   pub types_alike : (e : Trees.Expression T) → references (mapped (of_types f) e) ≡ references e
   types_alike e = expression_same (of_types f) e ∙ alike (references e)
-
-  pub paths_alike : (p : Trees.Path T) → references_by_path (mapped_path (of_types f) p) ≡ references_by_path p
-  paths_alike p = path_same (of_types f) p ∙ alike (references_by_path p)
 
   pub statements_alike : (s : Trees.Statement T) → references_by_statement (mapped_statement (of_types f) s) ≡ references_by_statement s
   statements_alike s = statement_same (of_types f) s ∙ alike (references_by_statement s)

@@ -1,5 +1,5 @@
 -- What initializes the objects of a file that are none of literals: an initializer of the tree, in the scope where it stands (C99 6.7.8).
-use Rattle.std.proofs.Common.{◌≡◌, ℕ, ◌+◌, refl, sym, subst, List, [], ◌∷◌, ◌++◌, arith, inl, inr}
+use Rattle.std.proofs.Common.{◌≡◌, ℕ, ◌+◌, sym, subst, List, [], ◌∷◌, ◌++◌, arith, inl, inr}
 use Rattle.std.specs.Prelude.{◌⊎◌, Option, Some, None, slice_get}
 use Rattle.std.specs.List.{AllByRecursion}
 use Rattle.c_types.specs.Types.{CType}
@@ -9,7 +9,7 @@ use Rattle.c_typed.specs.References.{Reference, references_by_initial}
 use Rattle.c_typed.specs.Trees as Typed
 use Rattle.c_erasure.specs.Initializers.{IsInitializer, AreConstants}
 use Rattle.c_erasure.specs.Noted.{Noted}
-use Rattle.c_erasure.specs.Scopes.{ALocal, AnObject, FileScope, Scope, declared}
+use Rattle.c_erasure.specs.Scopes.{ALocal, AnObject, Scope, declared}
 use Rattle.c_erasure.specs.Statements.{HasConstants}
 use Rattle.c_well_typed.proofs.WellMade.{IsWellMade}
 use Rattle.c_printable.specs.Programs.{times}

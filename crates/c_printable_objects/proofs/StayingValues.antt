@@ -1,38 +1,30 @@
 -- A constant expression still has a value where allocations and null pointers are recognised in it, and whatever locals there are (C99 6.6).
-use Rattle.std.proofs.Common.{◌≡◌, ◌≢◌, ◌∙◌, ℕ, Bool, true, false, refl, sym, ap, subst, cond, List, [], ◌∷◌}
+use Rattle.std.proofs.Common.{◌≡◌, ◌∙◌, ℕ, Bool, true, false, refl, sym, ap, subst, cond, List, [], ◌∷◌}
 use Rattle.std.proofs.lemmas.Bool.{and_parts}
-use Rattle.std.specs.Prelude.{◌&&◌, get_or, nat_le, Option, Some, None, ℤ, pos, negsuc}
+use Rattle.std.specs.Prelude.{◌&&◌, nat_le, Option, Some, None, ℤ, pos, negsuc}
 use Rattle.lay_base.specs.declared.place.Place.{Place}
 use Rattle.c_types.specs.declared.ty.IntKind.{IntKind}
 use Rattle.c_types.specs.Layouts.{size_of, offset_of}
-use Rattle.c_types.specs.Types.{CType, void, integer, pointer, array, structure}
-use Rattle.c_typed.specs.declared.operators.LibraryFunction.TheVariants.{Malloc, Calloc}
+use Rattle.c_types.specs.Types.{CType, integer, pointer, array, structure}
 use Rattle.c_typed.specs.declared.operators.PointerOp.{PointerOp}
 use Rattle.c_typed.specs.declared.operators.PointerOp.TheVariants as P
 use Rattle.c_typed.specs.Trees as Trees
-use Rattle.c_typed.specs.Conversions.{is_integer, is_pointer}
+use Rattle.c_typed.specs.Conversions.{is_pointer}
 use Rattle.c_typed.specs.Constants.{Constant, none, undefined, valued, ty, constant_of, is_null}
-use Rattle.c_typed.specs.InitialValues.{Address, InitialValue, a_number, a_null, an_address, a_function, element_size, number_in, within, moved, subscripted}
+use Rattle.c_typed.specs.InitialValues.{Address, InitialValue, a_null, an_address, a_function, element_size, number_in, within, moved, subscripted}
 use Rattle.c_typed.specs.InitialValues.{or_negated, path_type, address_of_path, address_of_step, address_in, address_in_node, function_in, function_in_node}
 use Rattle.c_typed.specs.InitialValues.{is_null_in, is_null_in_node, as_function, as_address, as_number, initial_in, initial_value}
-use Rattle.c_typed.specs.Mapped.{of_types, mapped_node, mapped_path, mapped_step}
 use Rattle.c_typed.specs.References.{Reference, references}
 use Rattle.c_typed.specs.References as References
-use Rattle.c_typed.specs.Typed.{Declared, IsMoved, IsMove, IsTyped, IsTypedNode, IsTypedPath, IsTypedStep}
+use Rattle.c_typed.specs.Typed.{Declared, IsTyped, IsTypedNode, IsTypedPath, IsTypedStep}
 use Rattle.c_erasure.specs.Erasure.{typed}
 use Rattle.c_erasure.specs.Noted.{Noted, Expression, Path, Node, PathNode}
-use Rattle.c_erasure.specs.Recognised.{allocation, or_converted, is_null_constant, converted, recognised, recognised_node, recognised_path, recognised_step}
+use Rattle.c_erasure.specs.Recognised.{allocation, is_null_constant, converted, recognised, recognised_node, recognised_path, recognised_step}
 use Rattle.c_well_typed.proofs.InitialAddresses.{bare_path, bare_step}
 use Rattle.c_well_typed.proofs.Nulls.{bare_node, type_stays, constant_stays, null_is_null}
-use Rattle.c_printable_objects.proofs.Addresses.{if_some, to, address_alone, function_alone}
+use Rattle.c_printable_objects.proofs.Addresses.{if_some, address_alone, function_alone}
 use Rattle.c_printable_objects.proofs.Kept.{IsSettled, bare_settled, cast, recognised_alone, kept, move}
 use Rattle.c_printable_objects.proofs.Renamed.{types_alike}
-
-some_is : {A : Type 0} (x y : A) → Some x ≡ Some y → x ≡ y
-some_is x y h = cc
-
-abbrev Allocation : Type 0
-Allocation = Option (Trees.OptionalExpression Noted × Bool)
 
 -- ---- whatever locals there are
 
@@ -76,9 +68,13 @@ module _ (d : Declared) (L : List CType) where
     node_same t (Trees.decay p) = path_same p
     node_same t (Trees.convert e written) = ap (λ o. cond (is_pointer t) o None) (address_same e)
     node_same t (Trees.pointer_add op x y) =
-        rw (address_same x, address_same y, negated_same op (number_in (ty y) (constant_of y)),
-        moved_same (address_in d x) (or_negated d op (number_in (ty y) (constant_of y))) (element_size d.records t),
-        moved_same (address_in d y) (number_in (ty x) (constant_of x)) (element_size d.records t)) refl
+        rw (
+          address_same x,
+          address_same y,
+          negated_same op (number_in (ty y) (constant_of y)),
+          moved_same (address_in d x) (or_negated d op (number_in (ty y) (constant_of y))) (element_size d.records t),
+          moved_same (address_in d y) (number_in (ty x) (constant_of x)) (element_size d.records t),
+        ) refl
     node_same t node = refl
 
     path_same : (p : Trees.Path CType) → address_of_path D p ≡ address_of_path d p

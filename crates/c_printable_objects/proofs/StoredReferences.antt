@@ -1,21 +1,21 @@
 -- What a file's objects hold at first refers to what their initializers do, in the same order, where they are constants: a number and a null pointer refer to
 -- nothing, and an address or a function to one thing (C99 6.6, 6.7.8).
-use Rattle.std.proofs.Common.{◌≡◌, ◌∙◌, ℕ, zero, suc, ◌+◌, refl, sym, ap, subst, List, [], ◌∷◌, ◌++◌, map, flat_map}
+use Rattle.std.proofs.Common.{◌≡◌, ◌∙◌, ℕ, ◌+◌, refl, sym, ap, List, [], ◌∷◌, ◌++◌, map, flat_map}
 use Rattle.std.proofs.lemmas.List.{map-append}
 use Rattle.std.proofs.lemmas.List.Elements.{recursion_from_All}
-use Rattle.std.specs.Prelude.{Option, Some, None}
+use Rattle.std.specs.Prelude.{Some}
 use Rattle.std.specs.List.{AllByRecursion}
 use Rattle.c_types.specs.Types.{CType}
 use Rattle.c_typed.specs.declared.program.Initial.{Initial}
 use Rattle.c_typed.specs.Constants.{ty}
-use Rattle.c_typed.specs.InitialValues.{InitialValue, a_number, a_null, an_address, a_function, initial_value}
-use Rattle.c_typed.specs.References.{Reference, references, references_by_value, references_by_initializer}
+use Rattle.c_typed.specs.InitialValues.{InitialValue, a_number, a_null, an_address, a_function}
+use Rattle.c_typed.specs.References.{Reference, references_by_value, references_by_initializer}
 use Rattle.c_typed.specs.Trees as Typed
 use Rattle.c_typed.specs.Typed.{Declared}
 use Rattle.c_typed.specs.TypedStatements.{IsTypedValue, IsTypedPart, IsTypedInitializer}
 use Rattle.c_erasure.specs.Erasure.{typed}
 use Rattle.c_erasure.specs.Initializers.{Part, HasConstant, AreConstants}
-use Rattle.c_erasure.specs.Noted.{Noted, Expression}
+use Rattle.c_erasure.specs.Noted.{Noted}
 use Rattle.c_erasure.specs.Recognised.{recognised}
 use Rattle.c_erasure.specs.Scopes.{FileScope, at_file_scope, declared}
 use Rattle.c_erasure.specs.Units as Units

@@ -9,8 +9,8 @@ use Rattle.c_types.specs.Types.{CType, structure}
 use Rattle.c_typed.specs.declared.program.MentionKind.TheVariants.{From, To, Field}
 use Rattle.c_typed.specs.Constants.{ty}
 use Rattle.c_typed.specs.Conversions.{is_pointer}
-use Rattle.c_typed.specs.InitialValues.{InitialValue, a_number, a_null, an_address, a_function, initial_value}
-use Rattle.c_typed.specs.Mapped.{of_types, mapped_node, mapped_path, mapped_step, mapped_part, mapped_value, mapped_initializer}
+use Rattle.c_typed.specs.InitialValues.{InitialValue, a_number, a_null, an_address, a_function}
+use Rattle.c_typed.specs.Mapped.{of_types, mapped_node}
 use Rattle.c_typed.specs.Trees as Trees
 use Rattle.c_typed.specs.Walk.{types_in, types_in_node, types_in_path, types_in_step, types_in_value, types_in_initializer}
 use Rattle.c_erasure.specs.Erasure.{typed}

@@ -1,10 +1,10 @@
 -- Sums over lists, by the places of their elements; and how often a number stands in a list that rises.
-use Rattle.std.proofs.Common.{◌≡◌, ◌≢◌, ◌∙◌, ℕ, zero, suc, ◌+◌, ◌≤◌, ◌<◌, Bool, true, false, refl, sym, ap, subst, List, [], ◌∷◌, ◌++◌, length, map, arith, inl, inr}
-use Rattle.std.specs.Prelude.{◌⊎◌, ◌==◌, if◌then◌else◌, Option, Some, None, slice_get}
+use Rattle.std.proofs.Common.{◌≡◌, ◌≢◌, ℕ, zero, suc, ◌+◌, ◌≤◌, ◌<◌, Bool, true, false, refl, sym, ap, List, [], ◌∷◌, length, map, arith, inl, inr}
+use Rattle.std.specs.Prelude.{◌==◌, if◌then◌else◌, Option, Some, None, slice_get}
 use Rattle.c_ast.specs.Places.{first_declarator, first_item}
 use Rattle.c_ast.specs.Trees
 use Rattle.c_erasure.specs.Files.{IsMade}
-use Rattle.c_erasure.specs.Literals.{literals_of_value, made_by_items, initial_literals, made_by_file_item, made_by_file}
+use Rattle.c_erasure.specs.Literals.{literals_of_value, initial_literals, made_by_file_item, made_by_file}
 use Rattle.c_text_order.specs.TextOrder.{Rising, places_of_declarators, places_of_item, places_of_file}
 use Rattle.c_weights.proofs.Numbered.{total}
 use Rattle.c_printable_objects.proofs.Counts.{same_number, is_same, occurs, occurs_both, sum_below}

@@ -1,7 +1,7 @@
 -- In the unit of a file what objects hold at first and the bodies of functions refer to the object of each string literal once (C99 6.4.5).
-use Rattle.std.proofs.Common.{◌≡◌, ◌≢◌, ◌∙◌, ℕ, zero, suc, ◌+◌, true, false, refl, sym, ap, subst, List, [], ◌∷◌, ◌++◌, length, map, flat_map, append-nil, arith, inl, inr}
+use Rattle.std.proofs.Common.{◌≡◌, ◌≢◌, ◌∙◌, ℕ, ◌+◌, true, false, refl, sym, ap, subst, List, [], ◌∷◌, length, map, flat_map, append-nil, arith, inl, inr}
 use Rattle.std.proofs.lemmas.List.Elements.{All-from_recursion}
-use Rattle.std.specs.Prelude.{◌⊎◌, All, Option, Some, None, slice_get, is_some}
+use Rattle.std.specs.Prelude.{◌⊎◌, Option, Some, None, slice_get, is_some}
 use Rattle.std.specs.Option.{option_map}
 use Rattle.c_types.specs.Types.{CType}
 use Rattle.c_ast.specs.Trees
@@ -12,7 +12,7 @@ use Rattle.c_typed.specs.Programs.{FunctionData, ProgramData}
 use Rattle.c_typed.specs.References.{Reference, references_by_initializer, references_by_initial, references_by_statement}
 use Rattle.c_typed.specs.Trees as Typed
 use Rattle.c_typed.specs.TypedStatements.{declared_by, IsTypedInitializer}
-use Rattle.c_erasure.specs.Erasure.{literal_of, literal_object}
+use Rattle.c_erasure.specs.Erasure.{literal_of}
 use Rattle.c_erasure.specs.Files.{AreAscending, IsFileOf, IsTypedObject}
 use Rattle.c_erasure.specs.Initializers.{Part, HasConstant, AreConstants}
 use Rattle.c_erasure.specs.Marks.{marks_of_file, scope_beginnings}
@@ -30,9 +30,8 @@ use Rattle.c_printable.specs.Programs.{if_any, times, references, referred_by, S
 use Rattle.c_printable_objects.proofs.Counts.{times_both}
 use Rattle.c_printable_objects.proofs.FileLiterals.{walk, IsCovered, object_covered, object_weight, weight_of_function, once}
 use Rattle.c_printable_objects.proofs.KeptStatements.{statement_kept}
-use Rattle.c_printable_objects.proofs.Literals.{IsLiteralObject}
 use Rattle.c_printable_objects.proofs.Renamed.{statements_alike}
-use Rattle.c_printable_objects.proofs.Sources.{IsSourced, IsFilled, IsSource}
+use Rattle.c_printable_objects.proofs.Sources.{IsFilled}
 use Rattle.c_printable_objects.proofs.StayingValues.{with_locals}
 use Rattle.c_printable_objects.proofs.StoredReferences.{referred_by_all, initializer_refers}
 use Rattle.c_printable_objects.proofs.Totals.{total_mapped}

@@ -1,7 +1,7 @@
 -- What the objects of the unit of a file hold at first is named by braces, and those of string literals hold their bytes and a zero (C99 6.4.5, 6.7.8).
-use Rattle.std.proofs.Common.{◌≡◌, ◌∙◌, ℕ, zero, suc, ◌+◌, Bool, true, false, refl, sym, ap, subst, List, [], ◌∷◌, ◌++◌, length, length-append, map, append-nil, inl, inr}
+use Rattle.std.proofs.Common.{◌≡◌, ◌∙◌, ℕ, suc, refl, sym, ap, subst, List, [], ◌∷◌, ◌++◌, length, length-append, map, append-nil, inl, inr}
 use Rattle.std.proofs.lemmas.List.Elements.{All-from_recursion}
-use Rattle.std.specs.Prelude.{◌⊎◌, All, Option, Some, None, slice_get, is_some}
+use Rattle.std.specs.Prelude.{All, Option, Some, None, slice_get, is_some}
 use Rattle.std.specs.List.{AllByRecursion}
 use Rattle.std.specs.Option.{option_map}
 use Rattle.lay_base.specs.declared.place.Place.{Place}
@@ -10,7 +10,6 @@ use Rattle.c_types.specs.Types.{CType, integer, array}
 use Rattle.c_ast.specs.Trees
 use Rattle.c_ast.specs.TreesOfFiles.{IsTreeOf}
 use Rattle.c_ast.specs.declared.words.Spelling.{Spelling}
-use Rattle.c_typed.specs.declared.program.Object.{Object}
 use Rattle.c_typed.specs.Programs.{UnitData, ProgramData}
 use Rattle.c_typed.specs.Trees as Typed
 use Rattle.c_typed.specs.TypeNumbers.{type_at}
@@ -22,7 +21,7 @@ use Rattle.c_erasure.specs.Scopes.{AnObject, FileScope, declared}
 use Rattle.c_erasure.specs.Units as Units
 use Rattle.c_erasure.specs.Units.{types, number_in, object_types, of_initializer, typed_initializer, unit_of}
 use Rattle.c_well_typed.proofs.FileObjects.{objects_known}
-use Rattle.c_well_typed.proofs.InitialStores.{AreBytes, HoldsBytes}
+use Rattle.c_well_typed.proofs.InitialStores.{AreBytes}
 use Rattle.c_well_typed.proofs.LiteralObjects.{Holds}
 use Rattle.c_well_typed.proofs.Numbers.{IsNumbered}
 use Rattle.c_well_typed.proofs.TokenBytes.{tree_of_bytes}
@@ -32,7 +31,7 @@ use Rattle.c_printable.specs.Programs.{IsLiteral, IsInitial, IsObject, IsPrintab
 use Rattle.c_printable_objects.proofs.FileLiterals.{walk, IsCovered, object_covered}
 use Rattle.c_printable_objects.proofs.Literals.{IsLiteralObject}
 use Rattle.c_printable_objects.proofs.NamedParts.{front_of, are_below, texts_same, initializer_named}
-use Rattle.c_printable_objects.proofs.Sources.{IsSourced, IsFilled, IsSource}
+use Rattle.c_printable_objects.proofs.Sources.{IsSourced, IsFilled}
 
 -- a unit by itself, whatever function would be its `main`
 abbrev pub as_program : UnitData → ProgramData

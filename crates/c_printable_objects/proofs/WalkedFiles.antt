@@ -1,7 +1,7 @@
 -- What the items of a file define: the initializers of its objects and the bodies of its functions refer to the objects of its string literals, each where
 -- it stands (C99 6.4.5, 6.7, 6.9).
 use Rattle.std.proofs.Common.{◌≡◌, ◌∙◌, ℕ, ◌+◌, Bool, true, false, refl, sym, ap, subst, List, [], ◌∷◌, ◌++◌, length, arith, append-nil, inl, inr}
-use Rattle.std.specs.Prelude.{◌⊎◌, Option, Some, None, slice_get}
+use Rattle.std.specs.Prelude.{Option, Some, None, slice_get}
 use Rattle.std.specs.List.{AllByRecursion}
 use Rattle.c_types.specs.Types.{CType, CTypes, function}
 use Rattle.c_ast.specs.declared.words.Spelling.{Spelling}
@@ -9,7 +9,6 @@ use Rattle.c_ast.specs.Places.{first_declarator}
 use Rattle.c_ast.specs.Trees
 use Rattle.c_ast.specs.WellFormed as Formed
 use Rattle.c_ast.specs.WellFormed.{types_after}
-use Rattle.c_typed.specs.declared.operators.LibraryFunction.{LibraryFunction}
 use Rattle.c_typed.specs.References.{references_by_initializer, references_by_initial, references_by_statement, references_by_statements}
 use Rattle.c_typed.specs.Trees as Typed
 use Rattle.c_typed.specs.TypedStatements.{all_declared_by}
@@ -35,7 +34,7 @@ use Rattle.c_printable.specs.Programs.{times}
 use Rattle.c_printable_objects.proofs.Counts.{occurs, occurs_both, IsIn, in_left, in_right, sum_of, sum_both}
 use Rattle.c_printable_objects.proofs.LiteralInitializers.{constants_counted}
 use Rattle.c_printable_objects.proofs.Literals.{Walk, IsTextAt, Counts, IsFull, both_each}
-use Rattle.c_printable_objects.proofs.OwnNames.{AreOwnBlocks, IsOwnEntity}
+use Rattle.c_printable_objects.proofs.OwnNames.{IsOwnEntity}
 use Rattle.c_printable_objects.proofs.Sources.{IsMadeLocal, Walked, IsSourced, IsFilled, filled_by, weight, weight_of, IsPlaced, literal_places}
 use Rattle.c_printable_objects.proofs.WalkedStatements.{items_walked}
 

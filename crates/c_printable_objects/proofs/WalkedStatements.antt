@@ -1,8 +1,7 @@
 -- What stands for a statement refers to the objects of its string literals; the literals in the initializers of its `static` locals are referred to by those
 -- objects (C99 6.4.5, 6.7.8, 6.8).
-use Rattle.std.proofs.Common.{◌≡◌, ◌≢◌, ◌∙◌, ℕ, zero, suc, ◌+◌, Bool, true, false, refl, sym, ap, subst, List, [], ◌∷◌, ◌++◌, arith, append-nil, append_assoc, inl, inr}
+use Rattle.std.proofs.Common.{◌≡◌, ◌∙◌, ℕ, zero, suc, ◌+◌, Bool, true, false, refl, sym, ap, subst, List, [], ◌∷◌, ◌++◌, arith, append-nil, append_assoc, inl, inr}
 use Rattle.std.specs.Prelude.{◌⊎◌, ◌==◌, if◌then◌else◌, Option, Some, None, slice_get}
-use Rattle.std.specs.List.{AllByRecursion}
 use Rattle.c_types.specs.declared.ty.IntKind.{IntKind}
 use Rattle.c_types.specs.Types.{CType}
 use Rattle.c_ast.specs.declared.words.Spelling.{Spelling}
@@ -17,16 +16,16 @@ use Rattle.c_erasure.specs.Erasure.{place_in, Values, Erases}
 use Rattle.c_erasure.specs.Literals.{literals, literals_if_any, literals_of_value, place_if_static, made_by_declarators, made_by_declaration, made_by_start}
 use Rattle.c_erasure.specs.Literals.{made_by, made_by_item, made_by_items, made_by_switch_item, made_by_switch_items}
 use Rattle.c_erasure.specs.Noted.{Noted, Expression}
-use Rattle.c_erasure.specs.Scopes.{a_local, an_object, ALocal, AnObject, FileScope, Scope, inside}
+use Rattle.c_erasure.specs.Scopes.{ALocal, AnObject, FileScope, Scope, inside}
 use Rattle.c_erasure.specs.Specifiers.{Storage, is_static, is_auto, is_register, no_storage, storage_of}
-use Rattle.c_erasure.specs.Statements.{Statement, Statements, Arms, followed_by, with_object, with_variable, IsStaticLocal, IsVariable, DeclareAll}
+use Rattle.c_erasure.specs.Statements.{Statement, Statements, Arms, followed_by, with_object, with_variable, IsStaticLocal, DeclareAll}
 use Rattle.c_erasure.specs.Statements.{IsLocalDeclaration, IsPlainIfAny, IsStart, with_first, IsArranged, ErasesStatement, ErasesItem, EraseItems}
 use Rattle.c_erasure.specs.Statements.{ErasesSwitchItem, EraseSwitchItems}
 use Rattle.c_well_typed.proofs.KnownTypes.{base_known, variable_known}
 use Rattle.c_well_typed.proofs.NamedTypes.{inside_made, with_local_made}
 use Rattle.c_well_typed.proofs.WellMade.{IsWellMade}
 use Rattle.c_printable.specs.Programs.{times}
-use Rattle.c_printable_objects.proofs.Counts.{same_number, IsIn, sum_of}
+use Rattle.c_printable_objects.proofs.Counts.{same_number, IsIn}
 use Rattle.c_printable_objects.proofs.LiteralInitializers.{constants_counted, initial_counted}
 use Rattle.c_printable_objects.proofs.Literals.{Walk, IsTextAt, Counts, IsFull, one_object, value_counted}
 use Rattle.c_printable_objects.proofs.OwnNames.{with_own}

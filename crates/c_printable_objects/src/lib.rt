@@ -5,4 +5,6 @@
 
 mod laws;
 
-pub use laws::{literals_stand_once, programs_have_printable_objects, programs_have_printable_types};
+pub use laws::{
+    literals_stand_once, programs_have_printable_objects, programs_have_printable_types,
+};
