@@ -2,8 +2,7 @@
 //! down by hand.
 //!
 //! A row is a block of lines: what is asked and a name, as `tree a_sum`, and then the lines that stand for its text, as
-//! `row_lines` has them. For each row the program prints `NAME: ` and what was asked of the text.
-//! At a block that is no row it stops with status 1; those above have been answered.
+//! `row_lines` has them. For each row the program prints `NAME: ` and what was asked of the text, or why there is none.
 #![tactic(auto)]
 
 mod answers;
@@ -18,7 +17,6 @@ mod tree_text;
 mod trees;
 
 use answers::put_answer;
-use anyhow::Context;
 use lay_base::{File, Name};
 use row::row_in;
 use row_lines::{RowFault, bytes_in};
@@ -35,26 +33,22 @@ fn file_of(alloc: Global, lines: &str) -> Result<File, RowFault> {
     Ok(File { name, bytes })
 }
 
-/// Answers a row.
-fn answer_row<W: Write>(alloc: Global, block: &str, output: &mut W) -> anyhow::Result<()> {
-    let row = row_in(block)?;
-    let file = file_of(alloc, row.lines)?;
-    put_answer(alloc, row, &file, output)?;
-    Ok(())
-}
-
-/// Answers each row of a text.
-fn answer_rows<W: Write>(alloc: Global, text: &str, output: &mut W) -> anyhow::Result<()> {
-    for block in text.split("\n\n") {
-        answer_row(alloc, block, output).context(format_args!("in {block}"))?;
+/// Answers a row, where a block of lines is one.
+fn answer_row<W: Write>(alloc: Global, block: &str, output: &mut W) -> io::Result<()> {
+    let Some(row) = row_in(block) else {
+        return writeln!(output, "no row: {block}");
+    };
+    match file_of(alloc, row.lines) {
+        Ok(file) => put_answer(alloc, row, &file, output),
+        Err(fault) => writeln!(output, "{}: {fault}", row.name),
     }
-    Ok(())
 }
 
-fn main(rt: HostRuntime) -> anyhow::Result<()> {
+fn main(rt: HostRuntime) -> io::Result<()> {
     let text = io::read_to_string(rt.alloc(), rt.stdin())?;
     let mut output = BufWriter::new(rt.alloc(), io::writer(&rt))?;
-    let answered = answer_rows(rt.alloc(), text.as_str(), &mut output);
-    output.flush()?;
-    answered
+    for block in text.split("\n\n") {
+        answer_row(rt.alloc(), block, &mut output)?;
+    }
+    output.flush()
 }

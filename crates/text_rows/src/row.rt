@@ -1,7 +1,5 @@
 //! Rows: what is asked of a text.
 
-use row_lines::RowFault;
-
 /// What is asked of the tokens of a text.
 #[derive(Clone, Copy)]
 pub enum OfTokens {
@@ -16,7 +14,7 @@ pub enum OfTokens {
 }
 
 /// What is asked of the tree of a text.
-#[derive(Clone, Copy, PartialEq, Eq)]
+#[derive(Clone, Copy)]
 pub enum OfTree {
     /// Whether it has one, or where it stops.
     Outcome,
@@ -82,18 +80,14 @@ fn question_of(word: &str) -> Option<Question> {
     }
 }
 
-/// The row of a block of lines.
-pub fn row_in(block: &str) -> Result<Row<'_>, RowFault> {
+/// The row of a block of lines, if it is one.
+pub fn row_in(block: &str) -> Option<Row<'_>> {
     let (head, lines) = block.split_once('\n').unwrap_or((block, ""));
-    let Some((word, name)) = head.split_once(' ') else {
-        return Err(RowFault::NoRow);
-    };
-    match question_of(word) {
-        Some(question) => Ok(Row {
-            question,
-            name,
-            lines,
-        }),
-        None => Err(RowFault::NoRow),
-    }
+    let (word, name) = head.split_once(' ')?;
+    let question = question_of(word)?;
+    Some(Row {
+        question,
+        name,
+        lines,
+    })
 }

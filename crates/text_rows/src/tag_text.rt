@@ -7,10 +7,10 @@ use row_lines::Writer;
 /// What stands in place of a tag at a byte where no structure begins.
 const NO_TAG: &[u8] = b"@";
 
-/// The last byte up to an end at which a tag is not known.
+/// The last byte before an end at which a tag is not known.
 fn last_unknown(tags: &Tags, name: &[u8], end: u32) -> Option<u32> {
     let mut last = None;
-    for at in 0..=end {
+    for at in 0..end {
         if tags.tag_at(name, at).is_some() {
             break;
         }
@@ -94,7 +94,7 @@ pub fn put_tags(out: &mut Writer, tags: &Tags, text: &[u8], tokens: &[Token]) {
     for token in tokens {
         put_token(out, tags, text, token, end);
     }
-    for at in 0..=end {
+    for at in 0..end {
         put_untagged(out, tags, at, end);
         put_end(out, tags, at);
     }

@@ -23,14 +23,21 @@ fn put_place(out: &mut Writer, place: Place) {
     out.number(u64::from(place.at));
 }
 
-/// Why tokens have no tree. Where they stop is told if it is asked for.
-fn put_fault(out: &mut Writer, asked: OfTree, fault: ParseFault) {
-    match fault {
-        ParseFault::NoParse(place) if asked == OfTree::Outcome => {
+/// That tokens have no tree. Where they stop is told if it is asked for.
+fn put_no_tree(out: &mut Writer, asked: OfTree, place: Place) {
+    match asked {
+        OfTree::Outcome => {
             out.word("NoParse");
             put_place(out, place);
         }
-        ParseFault::NoParse(_) => out.word("no tree"),
+        _ => out.word("no tree"),
+    }
+}
+
+/// Why tokens have no tree.
+fn put_fault(out: &mut Writer, asked: OfTree, fault: ParseFault) {
+    match fault {
+        ParseFault::NoParse(place) => put_no_tree(out, asked, place),
         ParseFault::Unsupported(keyword, place) => {
             out.word("Unsupported");
             out.value(&keyword);
