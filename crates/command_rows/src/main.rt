@@ -14,7 +14,7 @@
 //! For each row the program prints `row NAME`, `status N` for each call, and where there is something of it: `out` and
 //! `err` with what was written, `left` with what is left of the input, and `file NAME` with each file that has changed
 //! or is new. Of a file as long as an ELF file only the headers are printed.
-//! At a block that is no row it stops with status 1; those above have been answered.
+//! A block that is no row is answered with that.
 #![tactic(auto)]
 
 mod answers;
@@ -22,32 +22,33 @@ mod row;
 mod world;
 
 use answers::put_answer;
-use anyhow::Context;
-use row::row_in;
+use row::{Row, row_in};
+use row_lines::put_no_row;
 use std::alloc::Global;
 use std::io::{self, BufWriter, Write};
 use world::World;
 
 /// Runs the calls of a row and writes what they leave.
-fn answer_row<W: Write>(alloc: Global, block: &str, output: &mut W) -> anyhow::Result<()> {
-    let row = row_in(alloc, block)?;
-    let mut world = World::new(alloc, &row, block)?;
-    put_answer(alloc, &row, &mut world, output)?;
-    Ok(())
-}
-
-/// Answers each row of a text.
-fn answer_rows<W: Write>(alloc: Global, text: &str, output: &mut W) -> anyhow::Result<()> {
-    for block in text.split("\n\n") {
-        answer_row(alloc, block, output).context(format_args!("in {block}"))?;
+fn answer_calls<W: Write>(alloc: Global, block: &str, row: &Row, output: &mut W) -> io::Result<()> {
+    match World::new(alloc, row, block) {
+        Ok(mut world) => put_answer(alloc, row, &mut world, output),
+        Err(fault) => put_no_row(output, fault, block),
     }
-    Ok(())
 }
 
-fn main(rt: HostRuntime) -> anyhow::Result<()> {
+/// Answers a row, or says why a block of lines is none.
+fn answer_row<W: Write>(alloc: Global, block: &str, output: &mut W) -> io::Result<()> {
+    match row_in(alloc, block) {
+        Ok(row) => answer_calls(alloc, block, &row, output),
+        Err(fault) => put_no_row(output, fault, block),
+    }
+}
+
+fn main(rt: HostRuntime) -> io::Result<()> {
     let text = io::read_to_string(rt.alloc(), rt.stdin())?;
     let mut output = BufWriter::new(rt.alloc(), io::writer(&rt))?;
-    let answered = answer_rows(rt.alloc(), text.as_str(), &mut output);
-    output.flush()?;
-    answered
+    for block in text.split("\n\n") {
+        answer_row(rt.alloc(), block, &mut output)?;
+    }
+    output.flush()
 }

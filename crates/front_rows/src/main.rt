@@ -4,7 +4,7 @@
 //! A row is a block of lines: `check NAME`, `link NAME` or `show NAME`; `places 5 9` where a fault may stand at either
 //! byte; and its files, as `row_lines` has them. Or it is `profile NAME`, `fronts NAME` or `fits NAME`, with files of
 //! which the last is a profile. For each row the program prints `NAME: ` and what became of its files.
-//! At a block that is no row it stops with status 1; those above have been answered.
+//! A block that is no row is answered with that.
 #![tactic(auto)]
 
 mod allocation_text;
@@ -16,34 +16,42 @@ mod row;
 mod type_text;
 
 use answers::put_answer;
-use anyhow::Context;
+use lay_base::Files;
 use row::row_in;
-use row_lines::files_in;
+use row_lines::{files_in, put_no_row};
 use std::alloc::Global;
 use std::io::{self, BufWriter, Write};
 
-/// Answers a row.
-fn answer_row<W: Write>(alloc: Global, block: &str, output: &mut W) -> anyhow::Result<()> {
-    let files = files_in(alloc, block)?;
+/// Answers a row of C files.
+fn answer_files<W: Write>(
+    alloc: Global,
+    block: &str,
+    files: &Files,
+    output: &mut W,
+) -> io::Result<()> {
+    match row_in(alloc, block) {
+        Ok(row) => put_answer(alloc, &row, files, output),
+        Err(fault) => put_no_row(output, fault, block),
+    }
+}
+
+/// Answers a row, or says why a block of lines is none.
+fn answer_row<W: Write>(alloc: Global, block: &str, output: &mut W) -> io::Result<()> {
+    let files = match files_in(alloc, block) {
+        Ok(files) => files,
+        Err(fault) => return put_no_row(output, fault, block),
+    };
     match profiles::question_in(block) {
-        Some((question, name)) => profiles::put_answer(alloc, question, name, files, output)?,
-        None => put_answer(alloc, &row_in(alloc, block)?, &files, output)?,
+        Some((question, name)) => profiles::put_answer(alloc, question, name, files, output),
+        None => answer_files(alloc, block, &files, output),
     }
-    Ok(())
 }
 
-/// Answers each row of a text.
-fn answer_rows<W: Write>(alloc: Global, text: &str, output: &mut W) -> anyhow::Result<()> {
-    for block in text.split("\n\n") {
-        answer_row(alloc, block, output).context(format_args!("in {block}"))?;
-    }
-    Ok(())
-}
-
-fn main(rt: HostRuntime) -> anyhow::Result<()> {
+fn main(rt: HostRuntime) -> io::Result<()> {
     let text = io::read_to_string(rt.alloc(), rt.stdin())?;
     let mut output = BufWriter::new(rt.alloc(), io::writer(&rt))?;
-    let answered = answer_rows(rt.alloc(), text.as_str(), &mut output);
-    output.flush()?;
-    answered
+    for block in text.split("\n\n") {
+        answer_row(rt.alloc(), block, &mut output)?;
+    }
+    output.flush()
 }

@@ -20,4 +20,4 @@ mod writing;
 pub use fault::RowFault;
 pub use reading::{bytes_in, files_in, head_of, is_comment};
 pub use writer::Writer;
-pub use writing::put_lines;
+pub use writing::{put_lines, put_no_row};

@@ -1,5 +1,6 @@
 //! From bytes to lines.
 
+use crate::fault::RowFault;
 use std::io::{self, Write};
 
 /// How many bytes stand on a line in hexadecimal.
@@ -35,6 +36,11 @@ fn put_hex<W: Write>(output: &mut W, bytes: &[u8]) -> io::Result<()> {
         output.write_all(b"\n")?;
     }
     Ok(())
+}
+
+/// Writes why a block of lines is no row, and the block.
+pub fn put_no_row<W: Write>(output: &mut W, fault: RowFault, block: &str) -> io::Result<()> {
+    writeln!(output, "{fault}: {block}")
 }
 
 /// Writes lines that stand for bytes: of text where each of them is printed, else in hexadecimal.

@@ -2,7 +2,8 @@
 //! down by hand.
 //!
 //! A row is a block of lines: what is asked and a name, as `tree a_sum`, and then the lines that stand for its text, as
-//! `row_lines` has them. For each row the program prints `NAME: ` and what was asked of the text, or why there is none.
+//! `row_lines` has them. For each row the program prints `NAME: ` and what was asked of the text. A block that is no row
+//! is answered with that.
 #![tactic(auto)]
 
 mod answers;
@@ -19,7 +20,7 @@ mod trees;
 use answers::put_answer;
 use lay_base::{File, Name};
 use row::row_in;
-use row_lines::{RowFault, bytes_in};
+use row_lines::{RowFault, bytes_in, put_no_row};
 use std::alloc::Global;
 use std::io::{self, BufWriter, Write};
 
@@ -33,14 +34,15 @@ fn file_of(alloc: Global, lines: &str) -> Result<File, RowFault> {
     Ok(File { name, bytes })
 }
 
-/// Answers a row, where a block of lines is one.
+/// Answers a row, or says why a block of lines is none.
 fn answer_row<W: Write>(alloc: Global, block: &str, output: &mut W) -> io::Result<()> {
-    let Some(row) = row_in(block) else {
-        return writeln!(output, "no row: {block}");
+    let row = match row_in(block) {
+        Ok(row) => row,
+        Err(fault) => return put_no_row(output, fault, block),
     };
     match file_of(alloc, row.lines) {
         Ok(file) => put_answer(alloc, row, &file, output),
-        Err(fault) => writeln!(output, "{}: {fault}", row.name),
+        Err(fault) => put_no_row(output, fault, block),
     }
 }
 

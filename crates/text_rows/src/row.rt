@@ -1,5 +1,7 @@
 //! Rows: what is asked of a text.
 
+use row_lines::RowFault;
+
 /// What is asked of the tokens of a text.
 #[derive(Clone, Copy)]
 pub enum OfTokens {
@@ -80,14 +82,18 @@ fn question_of(word: &str) -> Option<Question> {
     }
 }
 
-/// The row of a block of lines, if it is one.
-pub fn row_in(block: &str) -> Option<Row<'_>> {
+/// The row of a block of lines.
+pub fn row_in(block: &str) -> Result<Row<'_>, RowFault> {
     let (head, lines) = block.split_once('\n').unwrap_or((block, ""));
-    let (word, name) = head.split_once(' ')?;
-    let question = question_of(word)?;
-    Some(Row {
-        question,
-        name,
-        lines,
-    })
+    let Some((word, name)) = head.split_once(' ') else {
+        return Err(RowFault::NoRow);
+    };
+    match question_of(word) {
+        Some(question) => Ok(Row {
+            question,
+            name,
+            lines,
+        }),
+        None => Err(RowFault::NoRow),
+    }
 }
