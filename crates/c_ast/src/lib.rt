@@ -26,4 +26,4 @@ pub use size::Size;
 pub use sizes::{depth, nodes, nodes_of_item};
 pub use statement::{BlockItem, ForStart, Label, Statement, SwitchItem};
 pub use tree::{Function, Item, Tree};
-pub use words::{At, Spelling};
+pub use words::{At, Spelling, Text};

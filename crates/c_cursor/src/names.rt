@@ -6,9 +6,9 @@ ghost use Rattle.c_ast.specs.WellFormed.{is_typename};
 ghost use Rattle.c_grammar.specs.Reading.{spelling_of};
 
 use crate::typenames::Typenames;
-use c_ast::Spelling;
+use c_ast::{Spelling, Text};
 use c_lexer::Token;
-use lay_base::{Name, NoMemory};
+use lay_base::NoMemory;
 use std::alloc::Global;
 
 /// The bytes from one place up to another, as far as there are such.
@@ -39,13 +39,10 @@ pub fn is_type(bytes: &[u8], types: &Typenames, token: Token) -> bool
 pub fn spelling(alloc: Global, bytes: &[u8], token: Token) -> Result<Spelling, NoMemory>
     ensures { IfOk result (λ x. x ≡ spelling_of (lexeme_of bytes.now token)) }
 {
-    let text = text_of(bytes, token);
-    match text.to_vec(alloc) {
-        Ok(bytes) => Ok(Spelling {
-            from: token.from,
-            to: token.to,
-            text: Name::of(bytes),
-        }),
-        Err(_) => Err(NoMemory),
-    }
+    let text = Text::copy_of(alloc, text_of(bytes, token))?;
+    Ok(Spelling {
+        from: token.from,
+        to: token.to,
+        text,
+    })
 }
