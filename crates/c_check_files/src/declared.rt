@@ -50,7 +50,7 @@ fn declare_typedef(
 {
     own_name(x.from, library_named(x.text.as_slice()))?;
     once(alloc, x, place_of(file, x.text.as_slice()))?;
-    let entity = Entity::Typedef(copy(alloc, t)?);
+    let entity = Entity::Typedef(copy(t)?);
     bind(alloc, file, x, from, How::Defines, entity)?;
     Ok(())
 }

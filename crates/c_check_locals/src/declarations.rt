@@ -47,7 +47,7 @@ fn variable_made(
     ensures { Gives type_of result
         (variable_made_in (records_of records.now) (derivations_of steps) (type_of base.now) (option_map value_of d.now.value) count at) }
 {
-    let base = copy(alloc, base)?;
+    let base = copy(base)?;
     let shape = derived(alloc, records, steps, base)?;
     let t = sized(alloc, records, at, shape, &d.value)?;
     variable(records, count, at, t)

@@ -53,10 +53,10 @@ pub fn add_local(
     ensures added { OnOk result ((f : FileScope) → standing f block.new locals.new ≡ with_new_local (standing f block.old locals.old) x.now (type_of t.now)) }
 {
     let n = u32::try_from(locals.len()).map_err(|_| NoMemory)?;
-    let b = bound(alloc, x, Entity::Local(n, copy(alloc, t)?))?;
+    let b = bound(alloc, x, Entity::Local(n, copy(t)?))?;
     let local = Local {
         name: name(alloc, x.text.as_slice())?,
-        ty: copy(alloc, t)?,
+        ty: copy(t)?,
     };
     add(locals, local)?;
     add_name(alloc, block, b)?;
@@ -77,7 +77,7 @@ pub fn static_object(
         name: name(alloc, x.text.as_slice())?,
         place,
         first: place.at,
-        ty: copy(alloc, t)?,
+        ty: copy(t)?,
         is_linked: false,
         literal: None,
         initial,
@@ -109,7 +109,7 @@ pub fn add_object(
         ≡ with_new_object (standing file.old block.old locals) x.now place (type_of t.now)) }
 {
     let n = u32::try_from(file.objects.len()).map_err(|_| NoMemory)?;
-    let b = bound(alloc, x, Entity::Object(n, copy(alloc, t)?))?;
+    let b = bound(alloc, x, Entity::Object(n, copy(t)?))?;
     let object = static_object(alloc, x, place, t, None)?;
     add(&mut file.objects, object)?;
     add_name(alloc, block, b)?;

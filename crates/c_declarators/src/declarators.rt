@@ -15,8 +15,8 @@ use c_annotated::Entity;
 use c_ast::Spelling;
 use c_nodes::{Fault, is_complete, is_small, may_be_pointed_to, name, pointer_to};
 use c_typed::{adjusted, is_function, is_scalar, is_void};
-use c_types::{Records, Ty, copy};
-use lay_base::{List, NoMemory, Rule, boxed};
+use c_types::{Records, Signature, Ty, copy};
+use lay_base::{List, NoMemory, Rule, shared};
 use std::alloc::Global;
 
 /// One step of a declarator from a type to the next, with the byte of its punctuator.
@@ -78,15 +78,15 @@ fn array(alloc: Global, records: &Records, count: u32, at: u32, n: u32, t: Ty) -
     ensures { Gives type_of result (array_in (records_of records.now) count at n (type_of t)) }
 {
     let t = element(records, count, at, t)?;
-    small(records, at, Ty::Array(boxed(alloc, t)?, n))
+    small(records, at, Ty::Array(shared(alloc, t)?, n))
 }
 
 /// A function with parameters of these types, whose result has a type. A pointer to it is within the limits of types too.
 fn function(alloc: Global, at: u32, parameters: List<Ty>, t: Ty) -> Result<Ty, Fault>
     ensures { Gives type_of result (function_in at (types_of parameters) (type_of t)) }
 {
-    let t = result(at, t)?;
-    let t = Ty::Function(boxed(alloc, t)?, parameters);
+    let result = result(at, t)?;
+    let t = Ty::Function(shared(alloc, Signature { result, parameters })?);
     if may_be_pointed_to(&t) {
         Ok(t)
     } else {
@@ -176,7 +176,7 @@ pub fn counted(alloc: Global, records: &Records, at: u32, element: Ty, n: u32) -
     if n == 0 {
         Err(Fault::IllTyped(Rule::Init, at))
     } else {
-        small(records, at, Ty::Array(boxed(alloc, element)?, n))
+        small(records, at, Ty::Array(shared(alloc, element)?, n))
     }
 }
 
@@ -197,7 +197,7 @@ pub fn named(alloc: Global, x: &Spelling, it: Option<&Entity>) -> Result<Ty, Fau
     ensures { Gives type_of result (type_named x.now (option_map entity_of (option_copied it.entry))) }
 {
     match it {
-        Some(Entity::Typedef(t)) => Ok(copy(alloc, t)?),
+        Some(Entity::Typedef(t)) => Ok(copy(t)?),
         _ => Err(Fault::Undeclared(name(alloc, x.text.as_slice())?, x.from)),
     }
 }

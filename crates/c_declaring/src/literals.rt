@@ -22,7 +22,7 @@ use c_lexer::{LexFault, Token, TokenKind, add_text_bytes, lex, tokens_have_texts
 use c_nodes::{Fault, unmade, way};
 use c_scopes::{FileScope, Purpose, Scope};
 use c_types::{IntKind, Ty};
-use lay_base::{Bytes, List, Name, NoMemory, Place, add, boxed};
+use lay_base::{Bytes, List, Name, NoMemory, Place, add, shared};
 use std::alloc::Global;
 
 /// Whether tokens are one string literal, from the first byte up to that one.
@@ -83,7 +83,7 @@ pub fn literal_bytes(alloc: Global, all: &[Spelling]) -> Result<Bytes, NoMemory>
 fn characters(alloc: Global, n: u32) -> Result<Ty, NoMemory>
     ensures { IfOk result (λ t. type_of t ≡ array (integer Char) n) }
 {
-    Ok(Ty::Array(boxed(alloc, Ty::Int(IntKind::Char))?, n))
+    Ok(Ty::Array(shared(alloc, Ty::Int(IntKind::Char))?, n))
 }
 
 /// What an array of characters holds at first.

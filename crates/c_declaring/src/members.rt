@@ -119,7 +119,7 @@ pub fn member(
     ensures { Finds field_of result (field_in (scope_of file.old scope.entry) before count place (declared_name (declarator_of d.now))
         (file_of file.old) (derivations_of steps) (type_of base.now)) file.new }
 {
-    let base = copy(alloc, base)?;
+    let base = copy(base)?;
     match derived_type(alloc, file, place.at, steps, base) {
         Err(fault) => Err(fault),
         Ok(t) => match object(&file.records, count, place.at, t) {

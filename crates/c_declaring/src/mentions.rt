@@ -71,7 +71,7 @@ pub fn mention(
     match scope.purpose {
         Purpose::TypeAlone => Ok(()),
         _ => {
-            let ty = copy(alloc, t)?;
+            let ty = copy(t)?;
             add_mention(alloc, file, before, Mention { kind, ty, at })
         }
     }

@@ -98,7 +98,7 @@ fn add_name(
     let Some(x) = name_if_any(d) else {
         return Ok(());
     };
-    let entity = Entity::Parameter(copy(alloc, t)?);
+    let entity = Entity::Parameter(copy(t)?);
     let bound = Bound {
         name: name(alloc, x.text.as_slice())?,
         place: x.from,

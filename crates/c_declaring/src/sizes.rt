@@ -55,7 +55,7 @@ pub fn size_of_thing(
     ensures { Finds thing_of result (measured_size (scope_of file.old scope.entry) count at place (file_of file.old) (thing_of thing)) file.new }
 {
     let before = mentions_in(file);
-    match measured(alloc, &file.records, count, at, &thing) {
+    match measured(&file.records, count, at, &thing) {
         Err(fault) => Err(fault),
         Ok(it) => constant(alloc, file, scope, before, at, place, it),
     }

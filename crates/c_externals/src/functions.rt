@@ -89,7 +89,7 @@ fn add_function(
             at: place,
         },
         first: place,
-        ty: copy(alloc, t)?,
+        ty: copy(t)?,
         is_linked: links(words),
         parameters: List::new(alloc),
         locals: List::new(alloc),
@@ -190,7 +190,7 @@ fn declare_own(
 {
     main_function(x.text.as_slice(), x.from, t)?;
     let n = function_of(alloc, file, words, x, place, t, nodes)?;
-    let entity = Entity::Function(n, copy(alloc, t)?);
+    let entity = Entity::Function(n, copy(t)?);
     bind(alloc, file, x, from, How::Declares, entity)?;
     Ok(())
 }
@@ -233,7 +233,7 @@ pub fn bind_function(
     let defined = place_of_definition(file, x.text.as_slice());
     let n = function_of(alloc, file, words, x, place, t, nodes)?;
     once(alloc, x, defined)?;
-    let entity = Entity::Function(n, copy(alloc, t)?);
+    let entity = Entity::Function(n, copy(t)?);
     bind(alloc, file, x, left, How::Defines, entity)?;
     Ok(n)
 }

@@ -79,8 +79,10 @@ pub fn is_signature(t: &Ty, returned: Simple, wanted: &[Simple]) -> bool
     ensures { result ≡ same_type (type_of t.now) (function (simple_type returned) (listed (map simple_type wanted.now))) }
 {
     match t {
-        Ty::Function(r, parameters) => {
-            is_simple(r.get(), returned) && are_simple(parameters.as_slice(), wanted)
+        Ty::Function(signature) => {
+            let signature = signature.get();
+            is_simple(&signature.result, returned)
+                && are_simple(signature.parameters.as_slice(), wanted)
         }
         _ => false,
     }

@@ -95,7 +95,7 @@ fn add_object(
             at: place,
         },
         first: place,
-        ty: copy(alloc, t)?,
+        ty: copy(t)?,
         is_linked: links(words),
         literal: None,
         initial: None,
@@ -185,7 +185,7 @@ pub fn bind_object(
     };
     let n = object_of(alloc, file, words, x, place, t)?;
     once(alloc, x, defined)?;
-    let entity = Entity::Object(n, copy(alloc, t)?);
+    let entity = Entity::Object(n, copy(t)?);
     bind(alloc, file, x, from, object_how(words, value), entity)?;
     Ok(n)
 }

@@ -106,7 +106,7 @@ fn add_parameter(
     };
     let local = Local {
         name: name(alloc, x.text.as_slice())?,
-        ty: copy(alloc, t)?,
+        ty: copy(t)?,
     };
     add(&mut received.locals, local)?;
     let b = Bound {
@@ -114,7 +114,7 @@ fn add_parameter(
         place: x.from,
         from: x.to,
         how: How::Defines,
-        entity: Entity::Local(number, copy(alloc, t)?),
+        entity: Entity::Local(number, copy(t)?),
     };
     received.names.add(alloc, b)?;
     Ok(Some(()))

@@ -38,7 +38,6 @@ fn is_null_node(e: &Expression) -> bool
 
 /// Those before and after a conversion of a pointer.
 fn told_by_conversion(
-    alloc: Global,
     found: &mut List<Mention>,
     t: &Ty,
     place: Place,
@@ -47,9 +46,9 @@ fn told_by_conversion(
     ensures { OnOk result (mentions_in found.new ≡ mentions_in found.old ++ of_conversion (type_of t.now) place (typed (expression_of e.now))) }
 {
     if is_pointer(t) && is_pointer(&e.ty) && !same(t, &e.ty) && !is_null_node(e) {
-        let from = copy(alloc, &e.ty)?;
+        let from = copy(&e.ty)?;
         add_mention(found, MentionKind::From, from, place)?;
-        let to = copy(alloc, t)?;
+        let to = copy(t)?;
         add_mention(found, MentionKind::To, to, place)
     } else {
         Ok(())
@@ -66,7 +65,7 @@ fn told_by_expression(
 {
     match &e.node {
         ExpressionNode::FunctionName(_) => {
-            let ty = copy(alloc, &e.ty)?;
+            let ty = copy(&e.ty)?;
             add_mention(found, MentionKind::Used, ty, e.place)
         }
         ExpressionNode::Load(p) | ExpressionNode::AddressOf(p) | ExpressionNode::Decay(p) => {
@@ -74,7 +73,7 @@ fn told_by_expression(
         }
         ExpressionNode::Convert(x, _) => {
             told_by_expression(alloc, found, x.get())?;
-            told_by_conversion(alloc, found, &e.ty, e.place, x.get())
+            told_by_conversion(found, &e.ty, e.place, x.get())
         }
         ExpressionNode::Unary(_, x) | ExpressionNode::Not(x) => {
             told_by_expression(alloc, found, x.get())

@@ -30,7 +30,6 @@ fn add_store(found: &mut List<Store>, offset: u32, ty: Ty, value: Value) -> Resu
 }
 
 fn add_value(
-    alloc: Global,
     found: &mut List<Store>,
     records: &Records,
     objects: &[Object],
@@ -43,7 +42,7 @@ fn add_value(
     match initial_value(records, objects, e)? {
         None | Some(Value::Null) => Ok(()),
         Some(value) => {
-            let ty = copy(alloc, &e.ty)?;
+            let ty = copy(&e.ty)?;
             add_store(found, offset, ty, value)
         }
     }
@@ -62,7 +61,6 @@ fn add_text(found: &mut List<Store>, offset: u32, bytes: &[u8]) -> Result<(), No
 }
 
 fn add_part(
-    alloc: Global,
     found: &mut List<Store>,
     records: &Records,
     objects: &[Object],
@@ -72,14 +70,13 @@ fn add_part(
         ≡ stores_in found.old ++ of_part (scope_with records.now objects.now) (mapped_part (of_types (λ t. t.ty)) (part_of part.now))) }
 {
     match &part.value {
-        PartValue::Value(e) => add_value(alloc, found, records, objects, part.offset, e.get()),
+        PartValue::Value(e) => add_value(found, records, objects, part.offset, e.get()),
         PartValue::Record(_) => Ok(()),
         PartValue::Text(bytes) => add_text(found, part.offset, bytes.as_slice()),
     }
 }
 
 fn add_parts(
-    alloc: Global,
     found: &mut List<Store>,
     records: &Records,
     objects: &[Object],
@@ -89,13 +86,12 @@ fn add_parts(
         ≡ stores_in found.old ++ flat_map (of_part (scope_with records.now objects.now)) (map (mapped_part (of_types (λ t. t.ty))) (map part_of all.now))) }
 {
     for part in all {
-        add_part(alloc, found, records, objects, part)?;
+        add_part(found, records, objects, part)?;
     }
     Ok(())
 }
 
 fn add_initial(
-    alloc: Global,
     found: &mut List<Store>,
     records: &Records,
     objects: &[Object],
@@ -105,9 +101,9 @@ fn add_initial(
         ≡ stores_in found.old ++ of_initializer (scope_with records.now objects.now) (mapped_initializer (of_types (λ t. t.ty)) (initializer_of initial.now))) }
 {
     match initial {
-        Initializer::Value(e) => add_value(alloc, found, records, objects, 0, e.get()),
+        Initializer::Value(e) => add_value(found, records, objects, 0, e.get()),
         Initializer::Record(_) => Ok(()),
-        Initializer::Parts(all) => add_parts(alloc, found, records, objects, all.as_slice()),
+        Initializer::Parts(all) => add_parts(found, records, objects, all.as_slice()),
     }
 }
 
@@ -123,6 +119,6 @@ pub fn stores_of(
         ≡ of_initializer (scope_with records.now objects.now) (mapped_initializer (of_types (λ t. t.ty)) (initializer_of initial.now))) }
 {
     let mut found = List::new(alloc);
-    add_initial(alloc, &mut found, records, objects, initial)?;
+    add_initial(&mut found, records, objects, initial)?;
     Ok(found)
 }

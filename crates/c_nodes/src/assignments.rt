@@ -101,7 +101,7 @@ pub fn assigned(
     ensures { Gives thing_of result (assigned_in op_at at (path_of p) (expression_of x)) }
 {
     if assigns(&x.get().ty, is_null(x.get()), &p.get().ty) {
-        let t = copy(alloc, &p.get().ty)?;
+        let t = copy(&p.get().ty)?;
         let x = convert(alloc, &t, x)?;
         node(alloc, t, at, ExpressionNode::Assign(p, x))
     } else {
@@ -147,7 +147,7 @@ pub fn updated(
 {
     match updating(count, op, &p.get().ty, &x.get().ty) {
         Some(kind) => {
-            let t = copy(alloc, &p.get().ty)?;
+            let t = copy(&p.get().ty)?;
             let x = convert_to_kind(alloc, kind, x)?;
             node(alloc, t, at, ExpressionNode::AssignOp(op, p, x))
         }
@@ -165,6 +165,6 @@ pub fn comma(
 ) -> Result<Thing, Fault>
     ensures { Gives thing_of result (comma_in at (expression_of x) (expression_of y)) }
 {
-    let t = copy(alloc, &y.get().ty)?;
+    let t = copy(&y.get().ty)?;
     node(alloc, t, at, ExpressionNode::Comma(x, y))
 }

@@ -15,16 +15,9 @@ use crate::fault::Fault;
 use crate::making::{convert, node, object_value, pointer_to};
 use c_annotated::{Expression, ExpressionNode, Thing, is_null};
 use c_typed::{LibraryFunction, assigns};
-use c_types::{IntKind, Ty, copy};
+use c_types::{IntKind, Signature, Ty, copy_signature};
 use lay_base::{Boxed, List, NoMemory, Place, Rule, add};
 use std::alloc::Global;
-
-/// The types of the parameters, and of the result, of what is called.
-#[derive(Drop)]
-pub struct Signature {
-    pub parameters: List<Ty>,
-    pub result: Ty,
-}
 
 /// `void *`
 fn bytes(alloc: Global) -> Result<Ty, NoMemory>
@@ -104,11 +97,8 @@ fn of_library(alloc: Global, which: LibraryFunction) -> Result<Signature, NoMemo
 fn of_type(alloc: Global, at: u32, t: &Ty) -> Result<Signature, Fault>
     ensures { Gives signature_view result (signature_of at (Some (type_of t.now))) }
 {
-    match copy(alloc, t)? {
-        Ty::Function(result, parameters) => Ok(Signature {
-            parameters,
-            result: result.into_inner(),
-        }),
+    match t {
+        Ty::Function(signature) => Ok(copy_signature(alloc, signature.get())?),
         _ => Err(Fault::IllTyped(Rule::Callee, at)),
     }
 }

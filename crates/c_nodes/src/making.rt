@@ -13,7 +13,7 @@ ghost use Rattle.c_nodes.specs.Gives.{Gives};
 use crate::fault::Fault;
 use c_annotated::{Expression, ExpressionNode, Path, PathNode, Thing};
 use c_types::{IntKind, Ty, copy, same};
-use lay_base::{Boxed, NoMemory, Place, Rule, boxed};
+use lay_base::{Boxed, NoMemory, Place, Rule, boxed, shared};
 use std::alloc::Global;
 
 /// A value of a type.
@@ -54,7 +54,7 @@ pub fn way(alloc: Global, ty: Ty, place: Place, node: PathNode) -> Result<Thing,
 pub fn pointer_to(alloc: Global, t: Ty) -> Result<Ty, NoMemory>
     ensures { IfOk result (λ it. type_of it ≡ pointer (type_of t)) }
 {
-    Ok(Ty::Pointer(boxed(alloc, t)?))
+    Ok(Ty::Pointer(shared(alloc, t)?))
 }
 
 /// A value as one of a type, converted where it has another.
@@ -64,7 +64,7 @@ pub fn convert(alloc: Global, t: &Ty, x: Boxed<Expression>) -> Result<Boxed<Expr
     if same(&x.get().ty, t) {
         return Ok(x);
     }
-    let ty = copy(alloc, t)?;
+    let ty = copy(t)?;
     let place = x.get().place;
     boxed(
         alloc,
@@ -97,11 +97,8 @@ pub fn object_value(alloc: Global, p: Boxed<Path>) -> Result<Option<Boxed<Expres
     let place = p.get().place;
     let (ty, is_array) = match &p.get().ty {
         Ty::Int(kind) => (Ty::Int(*kind), false),
-        Ty::Pointer(to) => (Ty::Pointer(boxed(alloc, copy(alloc, to.get())?)?), false),
-        Ty::Array(element, _) => (
-            Ty::Pointer(boxed(alloc, copy(alloc, element.get())?)?),
-            true,
-        ),
+        Ty::Pointer(to) => (Ty::Pointer(to.again()?), false),
+        Ty::Array(element, _) => (Ty::Pointer(element.again()?), true),
         _ => return Ok(None),
     };
     let node = if is_array {

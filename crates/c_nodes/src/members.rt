@@ -52,7 +52,7 @@ fn field(
 {
     match field_of_record(records, r, x) {
         Some((number, t)) => match u32::try_from(number) {
-            Ok(number) => way(alloc, copy(alloc, t)?, at, PathNode::Member(p, r, number)),
+            Ok(number) => way(alloc, copy(t)?, at, PathNode::Member(p, r, number)),
             Err(_) => Err(Fault::Memory),
         },
         None => Err(Fault::IllTyped(Rule::Member, named)),
@@ -118,7 +118,7 @@ pub fn arrow(
 {
     match &e.get().ty {
         Ty::Pointer(to) => {
-            let ty = copy(alloc, to.get())?;
+            let ty = copy(to.get())?;
             let node = PathNode::Deref(e);
             let p = boxed(
                 alloc,

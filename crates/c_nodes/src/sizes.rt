@@ -84,28 +84,22 @@ pub fn sized(records: &Records, count: u32, at: u32, t: Ty) -> Result<SizedType,
 
 /// The type of an operand of `sizeof`; a function has none.
 #[tactic(auto, unfolding(c_checking::specs::Nodes::measured_type))]
-fn measured_type(alloc: Global, thing: &Thing) -> Result<Option<Ty>, NoMemory>
+fn measured_type(thing: &Thing) -> Result<Option<Ty>, NoMemory>
     ensures { IfOk result (λ t. option_map type_of t ≡ type_measured (thing_of thing.now)) }
 {
     match thing {
-        Thing::Object(p) => Ok(Some(copy(alloc, &p.get().ty)?)),
-        Thing::Value(e) => Ok(Some(copy(alloc, &e.get().ty)?)),
+        Thing::Object(p) => Ok(Some(copy(&p.get().ty)?)),
+        Thing::Value(e) => Ok(Some(copy(&e.get().ty)?)),
         _ => Ok(None),
     }
 }
 
 /// The type of an operand of `sizeof`, which stands at `at`, with its size.
 #[tactic(auto, unfolding(c_checking::specs::Nodes::measured_in))]
-pub fn measured(
-    alloc: Global,
-    records: &Records,
-    count: u32,
-    at: u32,
-    thing: &Thing,
-) -> Result<SizedType, Fault>
+pub fn measured(records: &Records, count: u32, at: u32, thing: &Thing) -> Result<SizedType, Fault>
     ensures { Gives sized_view result (with_size (records_of records.now) (measured_in (records_of records.now) count at (thing_of thing.now))) }
 {
-    match measured_type(alloc, thing)? {
+    match measured_type(thing)? {
         Some(t) => sized(records, count, at, t),
         None => Err(Fault::IllTyped(Rule::Incomplete, at)),
     }

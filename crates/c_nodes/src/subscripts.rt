@@ -26,13 +26,13 @@ pub enum Subscripted {
 
 /// Whether an array object is subscripted.
 #[tactic(auto, unfolding(c_checking::specs::Nodes::array_of))]
-pub fn array_of(alloc: Global, thing: Thing) -> Result<Subscripted, NoMemory>
+pub fn array_of(thing: Thing) -> Result<Subscripted, NoMemory>
     ensures { ArrayGives (thing_of thing) result }
 {
     match thing {
         Thing::Object(p) => match &p.get().ty {
             Ty::Array(element, _) => {
-                let element = copy(alloc, element.get())?;
+                let element = copy(element.get())?;
                 Ok(Subscripted::Array(p, element))
             }
             _ => Ok(Subscripted::Other(Thing::Object(p))),
@@ -83,7 +83,7 @@ fn pointer_first(
 {
     match &e.get().ty {
         Ty::Pointer(t) => {
-            let t = copy(alloc, t.get())?;
+            let t = copy(t.get())?;
             let i = promote(alloc, i)?;
             way(alloc, t, at, PathNode::Index(e, i))
         }
@@ -102,8 +102,8 @@ fn number_first(
 {
     match &e.get().ty {
         Ty::Pointer(t) => {
-            let t = copy(alloc, t.get())?;
-            let ty = copy(alloc, &e.get().ty)?;
+            let t = copy(t.get())?;
+            let ty = copy(&e.get().ty)?;
             let i = promote(alloc, i)?;
             let node = ExpressionNode::PointerAdd(PointerOp::Add, i, e);
             let sum = boxed(

@@ -9,10 +9,9 @@ ghost use Rattle.c_typed.specs.Mapped.{mapped, mapped_all, mapped_node, mapped_p
 ghost use Rattle.c_typed.specs.Views.{expression_of, expressions_of, path_of};
 
 use crate::numbers::number_of;
-use crate::room::with_room;
 use c_type_table::TypeTable;
 use c_typed::{Expression, ExpressionNode, Path, PathNode};
-use lay_base::{Boxed, List, NoMemory, add, boxed};
+use lay_base::{Boxed, List, NoMemory, add, boxed, with_room};
 use std::alloc::Global;
 
 #[cycle(expression_numbering)]

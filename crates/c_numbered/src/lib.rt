@@ -7,7 +7,6 @@
 mod expressions;
 mod initializers;
 mod numbers;
-mod room;
 mod statements;
 
 pub use numbers::number_of;

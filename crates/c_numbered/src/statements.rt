@@ -12,10 +12,9 @@ ghost use Rattle.c_typed.specs.Views.{arms_of, expression_of, statement_of, stat
 
 use crate::expressions::operand;
 use crate::initializers::{optional_expression, optional_initializer};
-use crate::room::with_room;
 use c_type_table::TypeTable;
 use c_typed::{Arm, Expression, Statement};
-use lay_base::{Boxed, List, NoMemory, add, boxed};
+use lay_base::{Boxed, List, NoMemory, add, boxed, with_room};
 use std::alloc::Global;
 
 type TestAndStep = (Option<Boxed<Expression>>, Option<Boxed<Expression>>);

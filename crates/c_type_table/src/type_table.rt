@@ -110,7 +110,7 @@ impl TypeTable {
         if let Some(_) = self.hinted(t) {
             return Ok(());
         }
-        let t = copy(alloc, t)?;
+        let t = copy(t)?;
         self.add(alloc, t)
     }
 

@@ -6,7 +6,7 @@ ghost use Rattle.c_typed.specs.Conversions.{adjusted, as_kind, common_kind, comm
 ghost use Rattle.c_typed.specs.Conversions.{is_array, is_function, is_integer, is_pointer, is_record, is_scalar};
 
 use c_types::{IntKind, Ty};
-use lay_base::{NoMemory, boxed};
+use lay_base::{NoMemory, shared};
 use std::alloc::Global;
 
 /// Whether a type is an integer type (C99 6.2.5).
@@ -48,7 +48,7 @@ pub fn is_array(t: &Ty) -> bool
 pub fn is_function(t: &Ty) -> bool
     ensures { result ≡ is_function (type_of t.now) }
 {
-    matches!(t, Ty::Function(_, _))
+    matches!(t, Ty::Function(_))
 }
 
 /// The integer promotions (C99 6.3.1.1): every integer type narrower than `int` promotes to it.
@@ -129,9 +129,7 @@ pub fn adjusted(alloc: Global, t: Ty) -> Result<Ty, NoMemory>
 {
     match t {
         Ty::Array(element, _) => Ok(Ty::Pointer(element)),
-        Ty::Function(result, parameters) => {
-            Ok(Ty::Pointer(boxed(alloc, Ty::Function(result, parameters))?))
-        }
+        Ty::Function(signature) => Ok(Ty::Pointer(shared(alloc, Ty::Function(signature))?)),
         other => Ok(other),
     }
 }

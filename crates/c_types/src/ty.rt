@@ -1,6 +1,6 @@
 //! Integer types, and types.
 
-use lay_base::{Boxed, List};
+use lay_base::{List, Shared};
 
 /// An integer type (C99 6.2.5). An enumeration is `int`.
 #[derive(Clone, Copy, Debug, PartialEq, Eq)]
@@ -26,15 +26,23 @@ pub enum IntKind {
 }
 
 /// A type (C99 6.2.5).
+#[cycle(types)]
 #[derive(Debug, Drop)]
 pub enum Ty {
     Void,
     Int(IntKind),
-    Pointer(Boxed<Ty>),
+    Pointer(Shared<Ty>),
     /// The element's type, and how many elements there are.
-    Array(Boxed<Ty>, u32),
-    /// The result's type, and the parameters' types in order.
-    Function(Boxed<Ty>, List<Ty>),
+    Array(Shared<Ty>, u32),
+    Function(Shared<Signature>),
     /// A record's number in the list of records of its program.
     Record(u32),
+}
+
+/// What a function takes and gives (C99 6.2.5): the result's type, and the parameters' types in order.
+#[cycle(types)]
+#[derive(Debug, Drop)]
+pub struct Signature {
+    pub result: Ty,
+    pub parameters: List<Ty>,
 }

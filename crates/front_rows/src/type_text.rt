@@ -37,10 +37,10 @@ pub fn put_type(out: &mut Writer, t: &Ty) {
             out.number(u64::from(*length));
             out.close();
         }
-        Ty::Function(result, parameters) => {
+        Ty::Function(signature) => {
             out.open("function");
-            put_type(out, result.get());
-            for parameter in parameters.as_slice() {
+            put_type(out, &signature.get().result);
+            for parameter in signature.get().parameters.as_slice() {
                 put_type(out, parameter);
             }
             out.close();

@@ -14,9 +14,10 @@ mod no_memory;
 mod operators;
 mod outside;
 mod place;
+mod shared_value;
 mod value_box;
 
-pub use building::{add, boxed};
+pub use building::{add, boxed, shared, with_room};
 pub use bytes::{Bytes, Name};
 pub use faults::{
     ElfField, Keyword, LimitKind, RoomKind, Rule, Stale, StaleKind, TrapKind, UndefinedKind,
@@ -27,4 +28,5 @@ pub use no_memory::NoMemory;
 pub use operators::{divide, remain, shift_left, shift_right};
 pub use outside::{Host, HostRead, HostWrite, Sink, SinkFault, Source, SourceFault};
 pub use place::{File, Files, Place};
+pub use shared_value::Shared;
 pub use value_box::Boxed;

@@ -1,7 +1,7 @@
 //! Types and records that are written in tables.
 
-use c_types::{Field, IntKind, Record, Ty};
-use lay_base::{List, Name, NoMemory, Place, add, boxed};
+use c_types::{Field, IntKind, Record, Signature, Ty};
+use lay_base::{List, Name, NoMemory, Place, add, shared};
 use std::alloc::Global;
 
 /// A type.
@@ -26,18 +26,18 @@ pub fn ty_of(alloc: Global, sketch: &Sketch) -> Result<Ty, NoMemory> {
     match sketch {
         Sketch::Void => Ok(Ty::Void),
         Sketch::Int(kind) => Ok(Ty::Int(*kind)),
-        Sketch::To(to) => Ok(Ty::Pointer(boxed(alloc, ty_of(alloc, to)?)?)),
+        Sketch::To(to) => Ok(Ty::Pointer(shared(alloc, ty_of(alloc, to)?)?)),
         Sketch::Of(element, length) => {
-            let element = boxed(alloc, ty_of(alloc, element)?)?;
+            let element = shared(alloc, ty_of(alloc, element)?)?;
             Ok(Ty::Array(element, *length))
         }
         Sketch::Function(result, all) => {
-            let result = boxed(alloc, ty_of(alloc, result)?)?;
+            let result = ty_of(alloc, result)?;
             let mut parameters = List::new(alloc);
             for parameter in all.iter() {
                 add(&mut parameters, ty_of(alloc, parameter)?)?;
             }
-            Ok(Ty::Function(result, parameters))
+            Ok(Ty::Function(shared(alloc, Signature { result, parameters })?))
         }
         Sketch::Record(number) => Ok(Ty::Record(*number)),
     }

@@ -55,7 +55,7 @@ fn a_type_is_the_same_as_itself_alone(rt: HostRuntime) -> Result<(), Fail> {
 /// Whether a type has so many parts, and a copy is the same.
 fn is_copied(alloc: Global, sketch: &Sketch, count: u32) -> Result<bool, NoMemory> {
     let t = ty_of(alloc, sketch)?;
-    let twin = copy(alloc, &t)?;
+    let twin = copy(&t)?;
     Ok(parts(&t) == count && parts(&twin) == count && same(&t, &twin))
 }
 

@@ -1,0 +1,58 @@
+//! `Shared`: a value with several owners that contracts see as the value.
+
+use crate::no_memory::NoMemory;
+use std::alloc::{AllocFailed, Global};
+use std::marker::Model;
+use std::rc::Rc;
+
+/// A value with several owners, which contracts see as the value. A type may reach itself through it.
+#[derive(Debug, Drop)]
+pub struct Shared<T> {
+    inner: Rc<T>,
+}
+
+impl<T> Model for Shared<T> {
+    ghost Value = { T };
+
+    ghost coded = { T.code };
+
+    ghost view = { λ it. it.inner.value };
+}
+
+impl<T> Shared<T> {
+    ghost use Rattle.std.specs.Prelude.{◌≡◌, IfOk, MatchResult};
+
+    /// The first owner of a value. Its one refusal is want of memory, which gives the value back.
+    pub fn new(alloc: Global, value: T) -> Result<Shared<T>, T>
+        ensures { MatchResult result (λ shared. shared ≡ value) (λ back. back ≡ value) }
+    {
+        match Rc::new(alloc, value) {
+            Ok(inner) => Ok(Shared { inner }),
+            Err(failed) => {
+                let AllocFailed { value } = failed;
+                Err(value)
+            }
+        }
+    }
+
+    /// The value, lent.
+    pub fn get(&self) -> &T
+        ensures { result.now ≡ self.now }
+    {
+        self.inner.as_ref()
+    }
+}
+
+impl<T: Drop> Shared<T> {
+    ghost use Rattle.std.specs.Prelude.{◌≡◌, IfOk};
+
+    /// One more owner of the value, which takes no memory. Its one refusal is that there are too many to count.
+    pub fn again(&self) -> Result<Shared<T>, NoMemory>
+        ensures { IfOk result (λ shared. shared ≡ self.now) }
+    {
+        match self.inner.clone() {
+            Ok(inner) => Ok(Shared { inner }),
+            Err(_) => Err(NoMemory),
+        }
+    }
+}
