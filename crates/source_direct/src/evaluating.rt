@@ -1,7 +1,6 @@
 //! Expressions and paths that change nothing and call nothing.
 
-ghost use Rattle.std.specs.Prelude.{◌≡◌, ◌≤◌};
-ghost use Rattle.c_types.specs.Limits.{greatest_size};
+ghost use Rattle.std.specs.Prelude.{◌≡◌};
 ghost use Rattle.c_typed.specs.Programs.{program_data};
 ghost use Rattle.c_typed.specs.Views.{expression_of, path_of};
 ghost use Rattle.source_core.specs.View.{core_of};
@@ -15,10 +14,13 @@ use crate::operators::{
 use block_memory::Ptr;
 use c_meaning::Spot;
 use c_typed::{Expression, ExpressionNode, Path, PathNode};
+use lay_base::Boxed;
 use runs::Value;
 use source_core::Room;
 use source_types::Types;
 use source_values::{flag, is_true, pointer_of, way_to, word_of};
+
+// `let .. else` stands where `?` could: a `?` adds two calls to the proof of its function, which here are half of its cost.
 
 /// The value of an expression, where it is found in one step and changes nothing.
 #[cycle(direct)]
@@ -30,64 +32,72 @@ pub fn direct(types: &Types<'_>, room: &Room, e: &Expression) -> Option<Value>
         ExpressionNode::Null => Some(Value::Pointer(Ptr::Null)),
         ExpressionNode::FunctionName(f) => Some(Value::Pointer(Ptr::Function(*f))),
         ExpressionNode::Load(q) => {
-            let spot = direct_spot(types, room, false, q);
-            loaded_if(room, spot, types.row(e.ty).access)
+            loaded_if(types, room, direct_spot(types, room, false, q), e.ty)
         }
         ExpressionNode::AddressOf(q) => addressed(direct_spot(types, room, true, q)),
         ExpressionNode::Decay(q) => addressed(direct_spot(types, room, false, q)),
-        ExpressionNode::Convert(x, _) => cast(types, e.ty, direct(types, room, x.get())),
-        ExpressionNode::Unary(op, x) => of_unary(*op, direct(types, room, x.get())),
-        ExpressionNode::Binary(op, x, y) => match direct(types, room, x.get()) {
-            Some(v) => {
-                let right = types.row(y.get().ty).kind;
-                let w = direct(types, room, y.get());
-                of_binary(*op, types.row(e.ty).kind, v, right, w)
-            }
-            None => None,
-        },
-        ExpressionNode::Compare(op, x, y) => match direct(types, room, x.get()) {
-            Some(v) => {
-                let w = direct(types, room, y.get());
-                of_comparison(room, *op, types.row(x.get().ty).kind, v, w)
-            }
-            None => None,
-        },
-        ExpressionNode::PointerAdd(op, x, y) => match direct(types, room, x.get()) {
-            Some(v) => {
-                let left = types.row(x.get().ty).kind;
-                let right = types.row(y.get().ty).kind;
-                let w = direct(types, room, y.get());
-                of_addition(room, *op, types.row(e.ty).element, left, v, right, w)
-            }
-            None => None,
-        },
-        ExpressionNode::PointerDiff(x, y) => match direct(types, room, x.get()) {
-            Some(v) => {
-                let w = direct(types, room, y.get());
-                of_difference(types.row(x.get().ty).element, v, w)
-            }
-            None => None,
-        },
+        ExpressionNode::Convert(x, _) => cast(types, e.ty, direct_in(types, room, x)),
+        ExpressionNode::Unary(op, x) => of_unary(*op, direct_in(types, room, x)),
+        ExpressionNode::Binary(op, x, y) => {
+            let y = y.get();
+            let Some(v) = direct_in(types, room, x) else {
+                return None;
+            };
+            of_binary(types, *op, e.ty, v, y.ty, direct(types, room, y))
+        }
+        ExpressionNode::Compare(op, x, y) => {
+            let x = x.get();
+            let Some(v) = direct(types, room, x) else {
+                return None;
+            };
+            let w = direct_in(types, room, y);
+            of_comparison(types, room, *op, x.ty, v, w)
+        }
+        ExpressionNode::PointerAdd(op, x, y) => {
+            let x = x.get();
+            let y = y.get();
+            let Some(v) = direct(types, room, x) else {
+                return None;
+            };
+            let w = direct(types, room, y);
+            of_addition(types, room, *op, e.ty, x.ty, v, y.ty, w)
+        }
+        ExpressionNode::PointerDiff(x, y) => {
+            let x = x.get();
+            let Some(v) = direct(types, room, x) else {
+                return None;
+            };
+            of_difference(types, x.ty, v, direct_in(types, room, y))
+        }
         ExpressionNode::And(x, y) => {
-            if is_true(direct(types, room, x.get())?) {
-                of_truth(direct(types, room, y.get()))
+            let Some(v) = direct_in(types, room, x) else {
+                return None;
+            };
+            if is_true(v) {
+                of_truth(direct_in(types, room, y))
             } else {
                 Some(flag(false))
             }
         }
         ExpressionNode::Or(x, y) => {
-            if is_true(direct(types, room, x.get())?) {
+            let Some(v) = direct_in(types, room, x) else {
+                return None;
+            };
+            if is_true(v) {
                 Some(flag(true))
             } else {
-                of_truth(direct(types, room, y.get()))
+                of_truth(direct_in(types, room, y))
             }
         }
-        ExpressionNode::Not(x) => of_not(direct(types, room, x.get())),
+        ExpressionNode::Not(x) => of_not(direct_in(types, room, x)),
         ExpressionNode::Cond(x, y, z) => {
-            if is_true(direct(types, room, x.get())?) {
-                direct(types, room, y.get())
+            let Some(v) = direct_in(types, room, x) else {
+                return None;
+            };
+            if is_true(v) {
+                direct_in(types, room, y)
             } else {
-                direct(types, room, z.get())
+                direct_in(types, room, z)
             }
         }
         ExpressionNode::Comma(..)
@@ -102,6 +112,14 @@ pub fn direct(types: &Types<'_>, room: &Room, e: &Expression) -> Option<Value>
     }
 }
 
+/// The value of an expression in a box.
+#[cycle(direct)]
+fn direct_in(types: &Types<'_>, room: &Room, e: &Boxed<Expression>) -> Option<Value>
+    ensures { result ≡ direct (program_data types.now) (core_of room.now) (expression_of e.now) }
+{
+    direct(types, room, e.get())
+}
+
 /// Where a path leads, which may be the operand of `&`.
 #[cycle(direct)]
 pub fn direct_spot(types: &Types<'_>, room: &Room, is_addressed: bool, q: &Path) -> Option<Spot>
@@ -110,24 +128,36 @@ pub fn direct_spot(types: &Types<'_>, room: &Room, is_addressed: bool, q: &Path)
     match &q.node {
         PathNode::Named(local) => of_local(room, *local),
         PathNode::Object(number) => Some(Spot::Placed(Ptr::Block(u64::from(*number), 0))),
-        PathNode::Deref(e) => Some(Spot::Placed(pointer_of(direct(types, room, e.get())?))),
+        PathNode::Deref(e) => {
+            let Some(v) = direct_in(types, room, e) else {
+                return None;
+            };
+            Some(Spot::Placed(pointer_of(v)))
+        }
         PathNode::Index(e, i) => {
-            let v = direct(types, room, e.get())?;
-            let w = direct(types, room, i.get())?;
-            let left = types.row(e.get().ty).kind;
-            let right = types.row(i.get().ty).kind;
-            indexed(room, types.row(q.ty).size, left, v, right, w)
+            let e = e.get();
+            let i = i.get();
+            let Some(v) = direct(types, room, e) else {
+                return None;
+            };
+            let Some(w) = direct(types, room, i) else {
+                return None;
+            };
+            indexed(types, room, q.ty, e.ty, v, i.ty, w)
         }
         PathNode::Member(of, record, field) => {
             direct_member(types, room, of.get(), types.offset(*record, *field))
         }
         PathNode::Element(of, i) => {
-            let spot = direct_spot(types, room, false, of.get())?;
-            let v = direct(types, room, i.get())?;
-            let length = types.row(of.get().ty).length;
-            let size = types.row(q.ty).size;
-            let kind = types.row(i.get().ty).kind;
-            element_of(length, size, is_addressed, spot, kind, word_of(v))
+            let of = of.get();
+            let i = i.get();
+            let Some(spot) = direct_spot(types, room, false, of) else {
+                return None;
+            };
+            let Some(v) = direct(types, room, i) else {
+                return None;
+            };
+            element_of(types, of.ty, q.ty, is_addressed, spot, i.ty, word_of(v))
         }
     }
 }
@@ -139,17 +169,30 @@ fn direct_member(types: &Types<'_>, room: &Room, q: &Path, offset: u32) -> Optio
 {
     match &q.node {
         PathNode::Deref(e) => {
-            field_through(room, direct(types, room, e.get())?, i64::from(offset))
+            let Some(v) = direct_in(types, room, e) else {
+                return None;
+            };
+            field_through(room, v, i64::from(offset))
         }
         PathNode::Index(e, i) => {
-            let v = direct(types, room, e.get())?;
-            let w = direct(types, room, i.get())?;
-            let kind = types.row(i.get().ty).kind;
+            let i = i.get();
+            let Some(v) = direct_in(types, room, e) else {
+                return None;
+            };
+            let Some(w) = direct(types, room, i) else {
+                return None;
+            };
+            let kind = types.row(i.ty).kind;
             field_through(room, v, way_to(kind, w, types.row(q.ty).size, offset))
         }
         PathNode::Named(_)
         | PathNode::Object(_)
         | PathNode::Member(_, _, _)
-        | PathNode::Element(_, _) => field_of(offset, direct_spot(types, room, false, q)?),
+        | PathNode::Element(_, _) => {
+            let Some(spot) = direct_spot(types, room, false, q) else {
+                return None;
+            };
+            field_of(offset, spot)
+        }
     }
 }

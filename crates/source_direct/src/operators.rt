@@ -1,10 +1,10 @@
 //! What operators and paths make of what is at hand; where that is undefined, there is none.
 
 ghost use Rattle.std.specs.Prelude.{◌≡◌, ◌≤◌, ◌^◌, not, Some, unsigned_abs};
-ghost use Rattle.c_types.specs.Limits.{greatest_size};
+ghost use Rattle.c_typed.specs.Constants.{kind_of};
 ghost use Rattle.c_typed.specs.Conversions.{number_of};
 ghost use Rattle.c_typed.specs.Programs.{program_data};
-ghost use Rattle.c_meaning.specs.Program.{type_at};
+ghost use Rattle.c_meaning.specs.Program.{access_at, element_size, length_of, size_at, type_at};
 ghost use Rattle.c_typed.specs.declared.operators.PointerOp.TheVariants.{Add};
 ghost use Rattle.c_meaning.specs.Expressions.{field_in, moved_by, part_of};
 ghost use Rattle.c_meaning.specs.Operators.{binary, compared, distance, flag, is_true, moved, unary};
@@ -19,7 +19,6 @@ ghost use Rattle.source_direct.specs.Sorts.{if_converted_by};
 use block_memory::{Access, Ptr};
 use c_meaning::Spot;
 use c_typed::{BinaryOp, CompareOp, PointerOp, TypeId, UnaryOp};
-use c_types::IntKind;
 use lay_base::UndefinedKind;
 use runs::Value;
 use source_core::Room;
@@ -98,60 +97,78 @@ pub(crate) fn of_not(v: Option<Value>) -> Option<Value>
     }
 }
 
-/// A binary operator on a value and another one, if there is one.
+/// A binary operator whose result, and whose right operand, are of these types, on a value and another one, if there is one.
 pub(crate) fn of_binary(
+    types: &Types<'_>,
     op: BinaryOp,
-    kind: IntKind,
+    t: TypeId,
     v: Value,
-    right: IntKind,
+    right: TypeId,
     w: Option<Value>,
 ) -> Option<Value>
-    ensures { result ≡ and_if w (λ w. if_found (binary op kind v right w)) }
+    ensures { result ≡ and_if w (λ w. if_found (binary op (kind_of (type_at (program_data types.now) t)) v
+        (kind_of (type_at (program_data types.now) right)) w)) }
 {
     match w {
-        Some(w) => found(binary(op, kind, v, right, w)),
+        Some(w) => found(binary(op, types.row(t).kind, v, types.row(right).kind, w)),
         None => None,
     }
 }
 
+/// A comparison of a value of a type with another one, if there is one.
 pub(crate) fn of_comparison(
+    types: &Types<'_>,
     room: &Room,
     op: CompareOp,
-    kind: IntKind,
+    t: TypeId,
     v: Value,
     w: Option<Value>,
 ) -> Option<Value>
-    ensures { result ≡ and_if w (λ w. if_found (compared op (core_of room.now).memory kind v w)) }
+    ensures { result ≡ and_if w (λ w. if_found (compared op (core_of room.now).memory (kind_of (type_at (program_data types.now) t)) v w)) }
 {
     match w {
-        Some(w) => found(compared(&room.store, op, kind, v, w)),
+        Some(w) => found(compared(&room.store, op, types.row(t).kind, v, w)),
         None => None,
     }
 }
 
+/// A pointer of a type moved: a value of one type and another one, if there is one, of another.
 pub(crate) fn of_addition(
+    types: &Types<'_>,
     room: &Room,
     op: PointerOp,
-    size: u32,
-    left: IntKind,
+    t: TypeId,
+    left: TypeId,
     v: Value,
-    right: IntKind,
+    right: TypeId,
     w: Option<Value>,
 ) -> Option<Value>
-    requires { size ≤ greatest_size }
-    ensures { result ≡ and_if w (λ w. if_found (moved (core_of room.now).memory op size left v right w)) }
+    ensures { result ≡ and_if w (λ w. if_found (moved (core_of room.now).memory op
+        (element_size (program_data types.now) (type_at (program_data types.now) t)) (kind_of (type_at (program_data types.now) left)) v
+        (kind_of (type_at (program_data types.now) right)) w)) }
 {
     match w {
-        Some(w) => found(moved(&room.store, op, size, left, v, right, w)),
+        Some(w) => {
+            let size = types.row(t).element;
+            let left = types.row(left).kind;
+            let right = types.row(right).kind;
+            found(moved(&room.store, op, size, left, v, right, w))
+        }
         None => None,
     }
 }
 
-pub(crate) fn of_difference(size: u32, v: Value, w: Option<Value>) -> Option<Value>
-    ensures { result ≡ and_if w (λ w. if_found (distance size v w)) }
+/// How many elements lie between a pointer of a type and another one, if there is one.
+pub(crate) fn of_difference(
+    types: &Types<'_>,
+    t: TypeId,
+    v: Value,
+    w: Option<Value>,
+) -> Option<Value>
+    ensures { result ≡ and_if w (λ w. if_found (distance (element_size (program_data types.now) (type_at (program_data types.now) t)) v w)) }
 {
     match w {
-        Some(w) => found(distance(size, v, w)),
+        Some(w) => found(distance(types.row(t).element, v, w)),
         None => None,
     }
 }
@@ -173,12 +190,17 @@ pub(crate) fn addressed(spot: Option<Spot>) -> Option<Value>
     }
 }
 
-/// What lies at a spot, if there is one.
-pub(crate) fn loaded_if(room: &Room, spot: Option<Spot>, access: Access) -> Option<Value>
-    ensures { result ≡ and_if spot (λ s. if_found (fetch s access (core_of room.now))) }
+/// What of a type lies at a spot, if there is one.
+pub(crate) fn loaded_if(
+    types: &Types<'_>,
+    room: &Room,
+    spot: Option<Spot>,
+    t: TypeId,
+) -> Option<Value>
+    ensures { result ≡ and_if spot (λ s. if_found (fetch s (access_at (program_data types.now) t) (core_of room.now))) }
 {
     match spot {
-        Some(spot) => loaded(room, spot, access),
+        Some(spot) => loaded(room, spot, types.row(t).access),
         None => None,
     }
 }
@@ -226,40 +248,46 @@ pub(crate) fn field_of(offset: u32, spot: Spot) -> Option<Spot>
     }
 }
 
-/// An element of an array itself, by a subscript of a kind.
+/// An element of a type of an array itself, of another, by a subscript of a third.
 #[inline(always)]
 pub(crate) fn element_of(
-    length: u32,
-    size: u32,
+    types: &Types<'_>,
+    of: TypeId,
+    t: TypeId,
     is_addressed: bool,
     spot: Spot,
-    kind: IntKind,
+    subscript: TypeId,
     word: u32,
 ) -> Option<Spot>
-    requires { size ≤ greatest_size }
-    ensures { result ≡ if_element length size is_addressed spot (number_of kind word) }
+    ensures { result ≡ if_element (length_of (type_at (program_data types.now) of)) (size_at (program_data types.now) t) is_addressed spot
+        (number_of (kind_of (type_at (program_data types.now) subscript)) word) }
 {
-    if !is_subscript(length, is_addressed, number_of(kind, word)) {
+    let kind = types.row(subscript).kind;
+    if !is_subscript(types.row(of).length, is_addressed, number_of(kind, word)) {
         return None;
     }
     match spot {
-        Spot::Placed(p) => near(bytes_of(kind, word, size), p),
+        Spot::Placed(p) => near(bytes_of(kind, word, types.row(t).size), p),
         Spot::Kept(_) => Some(spot),
     }
 }
 
-/// What a subscript on a pointer leads to.
+/// What of a type a subscript on a pointer leads to, by the types of both.
 pub(crate) fn indexed(
+    types: &Types<'_>,
     room: &Room,
-    size: u32,
-    left: IntKind,
+    t: TypeId,
+    left: TypeId,
     v: Value,
-    right: IntKind,
+    right: TypeId,
     w: Value,
 ) -> Option<Spot>
-    requires { size ≤ greatest_size }
-    ensures { result ≡ and_if (if_found (moved (core_of room.now).memory Add size left v right w)) (λ q. Some (lies_at q)) }
+    ensures { result ≡ and_if (if_found (moved (core_of room.now).memory Add (size_at (program_data types.now) t)
+        (kind_of (type_at (program_data types.now) left)) v (kind_of (type_at (program_data types.now) right)) w)) (λ q. Some (lies_at q)) }
 {
+    let size = types.row(t).size;
+    let left = types.row(left).kind;
+    let right = types.row(right).kind;
     match moved(&room.store, PointerOp::Add, size, left, v, right, w) {
         Ok(q) => Some(Spot::Placed(pointer_of(q))),
         Err(_) => None,

@@ -68,7 +68,9 @@ fn update(
     ensures { Finds result (core_of room.old) (core_of room.new) (updated_once (program_data types.now) op t right spot w (core_of room.old)) }
 {
     let row = types.row(t);
-    let v = loaded(room, spot, row.access)?;
+    let Some(v) = loaded(room, spot, row.access) else {
+        return None;
+    };
     let kind = types.row(right).kind;
     match updated(&room.store, op, row.element, row.sort, v, kind, w) {
         Ok(new) => store(room, spot, row.access, new, new),
@@ -89,7 +91,9 @@ fn step(
     ensures { Finds result (core_of room.old) (core_of room.new) (stepped_once (program_data types.now) op before t spot (core_of room.old)) }
 {
     let row = types.row(t);
-    let v = loaded(room, spot, row.access)?;
+    let Some(v) = loaded(room, spot, row.access) else {
+        return None;
+    };
     match next(&room.store, op, row.element, row.sort, v) {
         Ok(new) => store(room, spot, row.access, new, if before { new } else { v }),
         Err(_) => None,
@@ -108,8 +112,12 @@ fn step_word(
     ensures { FindsIf result (core_of room.old) (core_of room.new) (and_then (if_found (local_spot local (core_of room.old))) (core_of room.old)
         (λ s. stepped_once (program_data types.now) op before t s (core_of room.old))) }
 {
-    let v = named_word(room, local)?;
-    let new = stepped_word(types, room, op, t, v)?;
+    let Some(v) = named_word(room, local) else {
+        return None;
+    };
+    let Some(new) = stepped_word(types, room, op, t, v) else {
+        return None;
+    };
     room.set_slot(local, Slot::ByName(Some(Value::Word(new))));
     Some(Value::Word(if before { new } else { v }))
 }
@@ -129,7 +137,9 @@ fn step_local(
     match step_word(types, room, op, before, t, local) {
         Some(v) => Some(v),
         None => {
-            let spot = of_local(room, local)?;
+            let Some(spot) = of_local(room, local) else {
+                return None;
+            };
             step(types, room, op, before, t, spot)
         }
     }
@@ -150,7 +160,9 @@ fn step_at(
     match &q.node {
         PathNode::Named(local) => step_local(types, room, op, before, t, *local),
         _ => {
-            let spot = spot(types, room, q)?;
+            let Some(spot) = spot(types, room, q) else {
+                return None;
+            };
             step(types, room, op, before, t, spot)
         }
     }
@@ -169,8 +181,12 @@ fn assign_word(
         (λ v. shown_if (put s (access_at (program_data types.now) t) v (core_of room.old)) v (core_of room.old)))) }
 {
     let _ = t;
-    let local = kept(room, local)?;
-    let w = word(types, room, x)?;
+    let Some(local) = kept(room, local) else {
+        return None;
+    };
+    let Some(w) = word(types, room, x) else {
+        return None;
+    };
     room.set_slot(local, Slot::ByName(Some(Value::Word(w))));
     Some(Value::Word(w))
 }
@@ -190,8 +206,12 @@ fn assign_local(
     match assign_word(types, room, t, local, x) {
         Some(v) => Some(v),
         None => {
-            let spot = of_local(room, local)?;
-            let v = value(types, room, x)?;
+            let Some(spot) = of_local(room, local) else {
+                return None;
+            };
+            let Some(v) = value(types, room, x) else {
+                return None;
+            };
             store(room, spot, types.row(t).access, v, v)
         }
     }
@@ -206,8 +226,12 @@ fn assign(types: &Types<'_>, room: &mut Room, t: TypeId, q: &Path, x: &Expressio
     match &q.node {
         PathNode::Named(local) => assign_local(types, room, t, *local, x),
         _ => {
-            let spot = spot(types, room, q)?;
-            let v = value(types, room, x)?;
+            let Some(spot) = spot(types, room, q) else {
+                return None;
+            };
+            let Some(v) = value(types, room, x) else {
+                return None;
+            };
             store(room, spot, types.row(t).access, v, v)
         }
     }
@@ -226,8 +250,12 @@ fn update_at(
         (core_of room.old) (λ s. and_then (direct (program_data types.now) (core_of room.old) (expression_of x.now)) (core_of room.old)
         (λ w. updated_once (program_data types.now) op t (ty (expression_of x.now)) s w (core_of room.old)))) }
 {
-    let spot = spot(types, room, q)?;
-    let w = value(types, room, x)?;
+    let Some(spot) = spot(types, room, q) else {
+        return None;
+    };
+    let Some(w) = value(types, room, x) else {
+        return None;
+    };
     update(types, room, op, t, x.ty, spot, w)
 }
 

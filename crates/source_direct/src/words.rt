@@ -30,10 +30,11 @@ use c_typed::{
     BinaryOp, CompareOp, Expression, ExpressionNode, Path, PathNode, StepOp, TypeId, as_kind,
     binary_value, holds, promoted_kind, unary_value,
 };
+use lay_base::Boxed;
 use runs::Value;
 use source_core::Room;
 use source_types::{Sort, Types};
-use source_values::{field_in, is_true, way_to};
+use source_values::{field_in, way_to};
 
 /// A byte of a block.
 #[derive(Clone, Copy, Debug, PartialEq, Eq)]
@@ -129,10 +130,11 @@ pub(crate) fn stepped_word(
 
 // ---- memory
 
-fn number_at(room: &Room, block: u64, at: u32, access: Access) -> Option<u32>
-    ensures { IfSome result (λ w. load_in (core_of room.now).memory (P.Block block at) access ≡ Ok (Word w)) }
+/// The number of a type that lies at a byte.
+fn number_at(types: &Types<'_>, room: &Room, block: u64, at: u32, t: TypeId) -> Option<u32>
+    ensures { IfSome result (λ w. load_in (core_of room.now).memory (P.Block block at) (access_at (program_data types.now) t) ≡ Ok (Word w)) }
 {
-    match access {
+    match types.row(t).access {
         Access::Number(kind) => match room.store.load_int(Ptr::Block(block, at), kind) {
             Ok(w) => Some(w),
             Err(_) => None,
@@ -168,7 +170,7 @@ fn local_word(types: &Types<'_>, room: &Room, local: u32, t: TypeId) -> Option<u
 {
     match room.frame.get(local as usize) {
         Some(Slot::ByName(Some(Value::Word(w)))) => Some(*w),
-        Some(Slot::InBlock(Some(block))) => number_at(room, *block, 0, types.row(t).access),
+        Some(Slot::InBlock(Some(block))) => number_at(types, room, *block, 0, t),
         _ => None,
     }
 }
@@ -198,21 +200,19 @@ fn element_at(
     ensures { IfSome result (λ it. if_element (length_of (type_at (program_data types.now) of)) (size_at (program_data types.now) t) false
         (Placed (P.Block from.block from.at)) (number_of (kind_of (type_at (program_data types.now) subscript)) w) ≡ Some (Placed (P.Block it.block it.at))) }
 {
-    let length = types.row(of).length;
-    let size = types.row(t).size;
-    let kind = types.row(subscript).kind;
     let spot = Spot::Placed(Ptr::Block(from.block, from.at));
-    match element_of(length, size, false, spot, kind, w) {
+    match element_of(types, of, t, false, spot, subscript, w) {
         Some(Spot::Placed(Ptr::Block(block, at))) => Some(Location { block, at }),
         _ => None,
     }
 }
 
-/// The pointer to a block that lies at a byte.
-fn pointer_in(room: &Room, block: u64, at: u32, access: Access) -> Option<Location>
-    ensures { IfSome result (λ it. load_in (core_of room.now).memory (P.Block block at) access ≡ Ok (Pointer (P.Block it.block it.at))) }
+/// The pointer of a type, to a block, that lies at a byte.
+fn pointer_in(types: &Types<'_>, room: &Room, block: u64, at: u32, t: TypeId) -> Option<Location>
+    ensures { IfSome result (λ it. load_in (core_of room.now).memory (P.Block block at) (access_at (program_data types.now) t)
+        ≡ Ok (Pointer (P.Block it.block it.at))) }
 {
-    match access {
+    match types.row(t).access {
         Access::Pointer(number) => match room.store.load_pointer(Ptr::Block(block, at), number) {
             Ok(Ptr::Block(block, at)) => Some(Location { block, at }),
             _ => None,
@@ -231,7 +231,7 @@ fn local_pointer(types: &Types<'_>, room: &Room, local: u32, t: TypeId) -> Optio
             block: *block,
             at: *at,
         }),
-        Some(Slot::InBlock(Some(block))) => pointer_in(room, *block, 0, types.row(t).access),
+        Some(Slot::InBlock(Some(block))) => pointer_in(types, room, *block, 0, t),
         _ => None,
     }
 }
@@ -250,11 +250,8 @@ fn indexed_at(
         (kind_of (type_at (program_data types.now) of)) (Pointer (P.Block from.block from.at))
         (kind_of (type_at (program_data types.now) subscript)) (Word w))) (λ q. Some (lies_at q)) ≡ Some (Placed (P.Block it.block it.at))) }
 {
-    let size = types.row(t).size;
-    let left = types.row(of).kind;
-    let right = types.row(subscript).kind;
     let v = Value::Pointer(Ptr::Block(from.block, from.at));
-    match indexed(room, size, left, v, right, Value::Word(w)) {
+    match indexed(types, room, t, of, v, subscript, Value::Word(w)) {
         Some(Spot::Placed(Ptr::Block(block, at))) => Some(Location { block, at }),
         _ => None,
     }
@@ -281,7 +278,7 @@ fn part_at(offset: u32, from: Location) -> Option<Location>
     }
 }
 
-// ---- expressions and paths
+// ---- expressions and paths, with `let .. else` in place of `?`, which costs more to prove
 
 /// The number that is the value of an expression.
 #[cycle(word)]
@@ -291,47 +288,88 @@ pub(crate) fn word(types: &Types<'_>, room: &Room, e: &Expression) -> Option<u32
     match &e.node {
         ExpressionNode::Constant(v) => Some(*v),
         ExpressionNode::Load(q) => word_at(types, room, e.ty, q),
-        ExpressionNode::Convert(x, _) => cast_word(types, e.ty, word(types, room, x.get())?),
-        ExpressionNode::Unary(op, x) => Some(unary_value(*op, word(types, room, x.get())?)),
+        ExpressionNode::Convert(x, _) => {
+            let Some(v) = word_in(types, room, x) else {
+                return None;
+            };
+            cast_word(types, e.ty, v)
+        }
+        ExpressionNode::Unary(op, x) => {
+            let Some(v) = word_in(types, room, x) else {
+                return None;
+            };
+            Some(unary_value(*op, v))
+        }
         ExpressionNode::Binary(op, x, y) => {
-            let v = word(types, room, x.get())?;
-            let w = word(types, room, y.get())?;
-            binary_word(types, *op, e.ty, v, y.get().ty, w)
+            let y = y.get();
+            let Some(v) = word_in(types, room, x) else {
+                return None;
+            };
+            let Some(w) = word(types, room, y) else {
+                return None;
+            };
+            binary_word(types, *op, e.ty, v, y.ty, w)
         }
         ExpressionNode::Compare(op, x, y) => {
-            let v = word(types, room, x.get())?;
-            let w = word(types, room, y.get())?;
-            Some(compared_word(types, room, *op, x.get().ty, v, w))
+            let x = x.get();
+            let Some(v) = word(types, room, x) else {
+                return None;
+            };
+            let Some(w) = word_in(types, room, y) else {
+                return None;
+            };
+            Some(compared_word(types, room, *op, x.ty, v, w))
         }
         ExpressionNode::And(x, y) => {
-            if is_true(Value::Word(word(types, room, x.get())?)) {
-                let w = word(types, room, y.get())?;
-                Some(truth(is_true(Value::Word(w))))
-            } else {
-                Some(0)
+            let Some(v) = word_in(types, room, x) else {
+                return None;
+            };
+            if v == 0 {
+                return Some(0);
             }
+            let Some(w) = word_in(types, room, y) else {
+                return None;
+            };
+            Some(truth(w != 0))
         }
         ExpressionNode::Or(x, y) => {
-            if is_true(Value::Word(word(types, room, x.get())?)) {
-                Some(1)
-            } else {
-                let w = word(types, room, y.get())?;
-                Some(truth(is_true(Value::Word(w))))
+            let Some(v) = word_in(types, room, x) else {
+                return None;
+            };
+            if v != 0 {
+                return Some(1);
             }
+            let Some(w) = word_in(types, room, y) else {
+                return None;
+            };
+            Some(truth(w != 0))
         }
         ExpressionNode::Not(x) => {
-            let v = word(types, room, x.get())?;
-            Some(truth(!is_true(Value::Word(v))))
+            let Some(v) = word_in(types, room, x) else {
+                return None;
+            };
+            Some(truth(v == 0))
         }
         ExpressionNode::Cond(x, y, z) => {
-            if is_true(Value::Word(word(types, room, x.get())?)) {
-                word(types, room, y.get())
+            let Some(v) = word_in(types, room, x) else {
+                return None;
+            };
+            if v != 0 {
+                word_in(types, room, y)
             } else {
-                word(types, room, z.get())
+                word_in(types, room, z)
             }
         }
         _ => None,
     }
+}
+
+/// The number that is the value of an expression in a box.
+#[cycle(word)]
+fn word_in(types: &Types<'_>, room: &Room, e: &Boxed<Expression>) -> Option<u32>
+    ensures { IfSome result (λ w. direct (program_data types.now) (core_of room.now) (expression_of e.now) ≡ Some (Word w)) }
+{
+    word(types, room, e.get())
 }
 
 /// The number of a type that lies where a path leads.
@@ -343,8 +381,10 @@ fn word_at(types: &Types<'_>, room: &Room, t: TypeId, q: &Path) -> Option<u32>
     match &q.node {
         PathNode::Named(local) => local_word(types, room, *local, t),
         _ => {
-            let it = place(types, room, q)?;
-            number_at(room, it.block, it.at, types.row(t).access)
+            let Some(it) = place(types, room, q) else {
+                return None;
+            };
+            number_at(types, room, it.block, it.at, t)
         }
     }
 }
@@ -370,8 +410,10 @@ fn pointer_at(types: &Types<'_>, room: &Room, t: TypeId, q: &Path) -> Option<Loc
     match &q.node {
         PathNode::Named(local) => local_pointer(types, room, *local, t),
         _ => {
-            let it = place(types, room, q)?;
-            pointer_in(room, it.block, it.at, types.row(t).access)
+            let Some(it) = place(types, room, q) else {
+                return None;
+            };
+            pointer_in(types, room, it.block, it.at, t)
         }
     }
 }
@@ -389,17 +431,29 @@ pub(crate) fn place(types: &Types<'_>, room: &Room, q: &Path) -> Option<Location
         }),
         PathNode::Deref(e) => pointer(types, room, e.get()),
         PathNode::Index(e, i) => {
-            let from = pointer(types, room, e.get())?;
-            let w = word(types, room, i.get())?;
-            indexed_at(types, room, e.get().ty, q.ty, i.get().ty, from, w)
+            let e = e.get();
+            let i = i.get();
+            let Some(from) = pointer(types, room, e) else {
+                return None;
+            };
+            let Some(w) = word(types, room, i) else {
+                return None;
+            };
+            indexed_at(types, room, e.ty, q.ty, i.ty, from, w)
         }
         PathNode::Member(of, record, field) => {
             member(types, room, of.get(), types.offset(*record, *field))
         }
         PathNode::Element(of, i) => {
-            let from = place(types, room, of.get())?;
-            let w = word(types, room, i.get())?;
-            element_at(types, of.get().ty, q.ty, i.get().ty, from, w)
+            let of = of.get();
+            let i = i.get();
+            let Some(from) = place(types, room, of) else {
+                return None;
+            };
+            let Some(w) = word(types, room, i) else {
+                return None;
+            };
+            element_at(types, of.ty, q.ty, i.ty, from, w)
         }
     }
 }
@@ -410,11 +464,21 @@ fn member(types: &Types<'_>, room: &Room, q: &Path, offset: u32) -> Option<Locat
     ensures { IfSome result (λ it. member_at (program_data types.now) (core_of room.now) (path_of q.now) offset ≡ Some (Placed (P.Block it.block it.at))) }
 {
     match &q.node {
-        PathNode::Deref(e) => { field_at(room, pointer(types, room, e.get())?, i64::from(offset)) }
+        PathNode::Deref(e) => {
+            let Some(from) = pointer(types, room, e.get()) else {
+                return None;
+            };
+            field_at(room, from, i64::from(offset))
+        }
         PathNode::Index(e, i) => {
-            let from = pointer(types, room, e.get())?;
-            let w = word(types, room, i.get())?;
-            let kind = types.row(i.get().ty).kind;
+            let i = i.get();
+            let Some(from) = pointer(types, room, e.get()) else {
+                return None;
+            };
+            let Some(w) = word(types, room, i) else {
+                return None;
+            };
+            let kind = types.row(i.ty).kind;
             field_at(
                 room,
                 from,
@@ -424,6 +488,11 @@ fn member(types: &Types<'_>, room: &Room, q: &Path, offset: u32) -> Option<Locat
         PathNode::Named(_)
         | PathNode::Object(_)
         | PathNode::Member(_, _, _)
-        | PathNode::Element(_, _) => part_at(offset, place(types, room, q)?),
+        | PathNode::Element(_, _) => {
+            let Some(from) = place(types, room, q) else {
+                return None;
+            };
+            part_at(offset, from)
+        }
     }
 }

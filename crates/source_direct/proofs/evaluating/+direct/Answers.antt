@@ -8,4 +8,4 @@ use Rattle.source_direct.proofs.evaluating.+direct.Goals as goal
 
 pub direct_spot-returns-in-Member : goal.direct_spot-returns-in-Member
 direct_spot-returns-in-Member t c = c.direct_member.ensures
-    ∙ sym (member_is (program_data c.args.types.now) (core_of c.args.room.now) (path_of c.get-in-Member.result.now) c.offset.result) ∙ search (rules, the_lemmas)
+    ∙ sym (member_is (program_data c.args.types.now) (core_of c.args.room.now) (path_of c.get.result.now) c.offset.result) ∙ search (rules, the_lemmas)
