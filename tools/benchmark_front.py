@@ -1,10 +1,12 @@
 #!/usr/bin/env python3
 """Times the front end, from bytes to a typed program, on random C text of 1, 2 and 4 MB beside `gcc -fsyntax-only` and `tcc -c`, in the same run: the
-median of several, in processor seconds, and whether twice the text takes about twice the time.
+median of several, in processor seconds, and whether twice the text takes about twice the time. What a program of one line takes is taken off: it is
+what a command needs to begin, and `./layc` to see that it is built.
 
 The text is that of csmith's programs one after another, with names of their own. Such a text has more nodes than a program may have, so the front end
 refuses it at its very end, when all has been typed and joined. `--stand-in` leaves the front end out."""
 
+import itertools
 import os
 import re
 import resource
@@ -19,6 +21,7 @@ from checking import LAYC
 SIZES = [1_000_000, 2_000_000, 4_000_000]
 GREATEST = 4_194_304
 ROUNDS = 5
+ONE_LINE = "int main(void) { return 0; }\n"
 # Twice the text may take this much more than twice the time.
 SLACK = 1.35
 
@@ -60,7 +63,7 @@ def texts():
         number += 1
         own = renamed(own_text(text), number)
         if size + len(own) > wanted:
-            yield "".join(out) + "int main(void) { return 0; }\n"
+            yield "".join(out) + ONE_LINE
             wanted = next(sizes, None)
             if wanted is None:
                 return
@@ -80,9 +83,8 @@ def timed(words, folder):
 
 
 def front_seconds(path):
-    """What the front end takes for the file, or None where no command has it yet."""
-    done, seconds = timed([LAYC, "compile", "-o", "text.out", path], os.path.dirname(path))
-    return None if b"form not built yet" in done.stderr else seconds
+    """What the front end takes for the file."""
+    return timed([LAYC, "compile", "-o", "text.out", path], os.path.dirname(path))[1]
 
 
 def command_seconds(words):
@@ -101,17 +103,17 @@ def measured(timers, paths):
         for path in paths:
             for name, timer in timers.items():
                 found[name, path].append(timer(path))
-    return {key: None if None in each else statistics.median(each) for key, each in found.items()}
+    return {key: statistics.median(each) for key, each in found.items()}
 
 
-def show(timers, paths, times):
-    print(f"{'':18}" + "".join(f"{os.path.getsize(path) / 1e6:9.2f} MB" for path in paths))
+def show(timers, beginning, paths, times):
+    """Each row has what a command needs to begin, what it needs beyond that for each text, and how much of the longest it reads in a second."""
+    print(f"{'':18}    to begin" + "".join(f"{os.path.getsize(path) / 1e6:9.2f} MB" for path in paths))
     for name in timers:
-        row = [times[name, path] for path in paths]
-        if None in row:
-            print(f"{name:18}  not built yet")
-            continue
-        print(f"{name:18}" + "".join(f"{seconds:10.3f} s" for seconds in row) + "   " + growth(row, paths))
+        start = times[name, beginning]
+        row = [times[name, path] - start for path in paths]
+        speed = os.path.getsize(paths[-1]) / 1e6 / row[-1]
+        print(f"{name:18}" + "".join(f"{seconds:10.3f} s" for seconds in [start, *row]) + f"{speed:7.1f} MB/s   " + growth(row, paths))
 
 
 def growth(row, paths):
@@ -130,12 +132,13 @@ def main():
         timers["tcc -c"] = command_seconds(["tcc", "-c", "-w", "-o", "text.o"])
     with tempfile.TemporaryDirectory() as folder:
         paths = []
-        for size, text in zip(SIZES, texts()):
+        for size, text in zip([0, *SIZES], itertools.chain([ONE_LINE], texts())):
             assert len(text) <= GREATEST
             paths.append(os.path.join(folder, f"text{size // 1_000_000}.c"))
             with open(paths[-1], "w") as f:
                 f.write(text)
-        show(timers, paths, measured(timers, paths))
+        beginning, *texts_of_sizes = paths
+        show(timers, beginning, texts_of_sizes, measured(timers, paths))
     return 0
 
 
