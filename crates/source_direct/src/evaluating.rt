@@ -20,7 +20,7 @@ use source_core::Room;
 use source_types::Types;
 use source_values::{flag, is_true, pointer_of, way_to, word_of};
 
-// `let .. else` stands where `?` could: a `?` adds two calls to the proof of its function, which here are half of its cost.
+// `let .. else` stands where `?` could: each `?` is two calls and a `match` more for the proof of its function.
 
 /// The value of an expression, where it is found in one step and changes nothing.
 #[cycle(direct)]

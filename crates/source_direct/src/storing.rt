@@ -21,6 +21,8 @@ use source_core::Room;
 use source_types::Types;
 use source_values::{next, updated};
 
+// `let .. else` stands where `?` could, as in `evaluating`.
+
 /// The value of an expression that changes nothing.
 fn value(types: &Types<'_>, room: &Room, e: &Expression) -> Option<Value>
     ensures { result ≡ direct (program_data types.now) (core_of room.now) (expression_of e.now) }
