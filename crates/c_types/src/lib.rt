@@ -1,6 +1,6 @@
 //! The types of C programs (C99 6.2.5) as plain data, lists of records, and how both lie in memory.
 //!
-//! It stands on `lay_base`, whose list and box its types are built of. It promises that two types are
+//! It stands on `lay_base`, whose list and shared values its types are built of. It promises that two types are
 //! equal where they are built alike, that sizes and offsets are those of C99 with the widths of the
 //! profile, and that every record of a list is complete.
 #![tactic(auto)]
