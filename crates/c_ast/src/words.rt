@@ -1,6 +1,6 @@
 //! Tokens as trees keep them.
 
-ghost use Rattle.std.specs.Prelude.{◌≡◌, IfOk};
+ghost use Rattle.std.specs.Prelude.{◌≡◌, ◌≤◌, length, IfOk, IsOk};
 
 use lay_base::NoMemory;
 use smallvec::SmallVec;
@@ -28,7 +28,8 @@ impl Model for Text {
 impl Text {
     /// A copy of these bytes.
     pub fn copy_of(alloc: Global, bytes: &[u8]) -> Result<Text, NoMemory>
-        ensures { IfOk result (λ text. text ≡ bytes.now) }
+        ensures ok { IfOk result (λ text. text ≡ bytes.now) }
+        ensures short { length bytes.now ≤ 16 → IsOk result }
     {
         match SmallVec::from_slice(alloc, bytes) {
             Ok(bytes) => Ok(Text { bytes }),

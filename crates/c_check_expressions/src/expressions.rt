@@ -350,7 +350,7 @@ fn call(
             file,
             scope,
             right,
-            signature.parameters.as_slice(),
+            signature.parameters.get().as_slice(),
         ) {
             Err(fault) => Err(fault),
             Ok(list) => called(alloc, begin.place, thing, signature.result, list),

@@ -211,10 +211,9 @@ fn define_typed(
         Files result (define_shape (file_of file.old) (storage_view words) x.now before at place f.now.open nodes (closed (type_of t.now))
         (parameters_in d) (body_in f.now)) file.new }
 {
-    let Ty::Function(signature) = t else {
+    let Ty::Function(result_type, types) = t else {
         return Err(Fault::IllTyped(Rule::Specifiers, first_of_function(f)));
     };
-    let signature = signature.get();
     let place = first_of_declarator(&f.declarator);
     mention(
         alloc,
@@ -232,8 +231,8 @@ fn define_typed(
         x,
         nodes,
         t,
-        &signature.result,
-        signature.parameters.as_slice(),
+        result_type.get(),
+        types.get().as_slice(),
         file,
     )
 }

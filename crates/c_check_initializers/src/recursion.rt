@@ -171,7 +171,7 @@ pub fn initialized(
             Ty::Int(_) | Ty::Pointer(_) => {
                 add_one_value(alloc, *left, all.as_slice(), file, scope, t, at, parts)
             }
-            Ty::Void | Ty::Function(_) => Err(Fault::IllTyped(Rule::Init, *left)),
+            Ty::Void | Ty::Function(_, _) => Err(Fault::IllTyped(Rule::Init, *left)),
         },
         _ => add_plain(alloc, a, file, scope, t, at, parts),
     }

@@ -91,7 +91,9 @@ pub fn without_braces(
             is_character(element.get()),
             texts,
         ),
-        Ty::Void | Ty::Function(_) => { Err(Fault::IllTyped(Rule::Init, first_of_expression(a))) }
+        Ty::Void | Ty::Function(_, _) => {
+            Err(Fault::IllTyped(Rule::Init, first_of_expression(a)))
+        }
     }
 }
 

@@ -15,7 +15,7 @@ use c_annotated::Entity;
 use c_ast::Spelling;
 use c_nodes::{Fault, is_complete, is_small, may_be_pointed_to, name, pointer_to};
 use c_typed::{adjusted, is_function, is_scalar, is_void};
-use c_types::{Records, Signature, Ty, copy};
+use c_types::{Records, Ty, copy};
 use lay_base::{List, NoMemory, Rule, shared};
 use std::alloc::Global;
 
@@ -86,7 +86,7 @@ fn function(alloc: Global, at: u32, parameters: List<Ty>, t: Ty) -> Result<Ty, F
     ensures { Gives type_of result (function_in at (types_of parameters) (type_of t)) }
 {
     let result = result(at, t)?;
-    let t = Ty::Function(shared(alloc, Signature { result, parameters })?);
+    let t = Ty::Function(shared(alloc, result)?, shared(alloc, parameters)?);
     if may_be_pointed_to(&t) {
         Ok(t)
     } else {

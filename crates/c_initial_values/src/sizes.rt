@@ -15,7 +15,7 @@ pub fn size(records: &Records, t: &Ty) -> Option<u32>
     ensures { IfSome result (λ n. n ≡ size_of (records_of records.now) (type_of t.now)) }
 {
     match t {
-        Ty::Void | Ty::Function(_) => Some(0),
+        Ty::Void | Ty::Function(_, _) => Some(0),
         Ty::Array(element, length) => size(records, element.get())?.checked_mul(*length),
         Ty::Record(number) if *number >= records.len() => Some(0),
         Ty::Int(_) | Ty::Pointer(_) | Ty::Record(_) => checked_size_of(records, t),

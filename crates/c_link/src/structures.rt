@@ -37,10 +37,9 @@ fn least_among(count: u32, best: Option<u32>, t: &Ty) -> Option<u32>
         Ty::Void | Ty::Int(_) => best,
         Ty::Pointer(to) => least_among(count, best, to.get()),
         Ty::Array(element, _) => least_among(count, best, element.get()),
-        Ty::Function(signature) => {
-            let signature = signature.get();
-            let mut best = least_among(count, best, &signature.result);
-            for parameter in signature.parameters.as_slice() {
+        Ty::Function(r, all) => {
+            let mut best = least_among(count, best, r.get());
+            for parameter in all.get().as_slice() {
                 best = least_among(count, best, parameter);
             }
             best

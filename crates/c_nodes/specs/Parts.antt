@@ -2,7 +2,6 @@
 use Rattle.std.specs.Prelude.{◌≡◌, Result, Ok, Err, Some, None}
 use Rattle.lay_base.specs.declared.no_memory.NoMemory.{NoMemory}
 use Rattle.c_types.specs.declared.ty.IntKind.{IntKind}
-use Rattle.c_types.specs.declared.ty.Signature.{Signature}
 use Rattle.c_types.specs.Types.{CType, CTypes, void, function, no_types}
 use Rattle.c_types.specs.Views.{type_of, types_of}
 use Rattle.c_erasure.specs.Noted.{Expression, Thing}
@@ -11,6 +10,7 @@ use Rattle.c_checking.specs.Nodes.{array_of}
 use Rattle.c_annotated.specs.Views.{expression_of, path_of, thing_of}
 use Rattle.c_nodes.specs.declared.assignments.Target.{Target}
 use Rattle.c_nodes.specs.declared.assignments.Target.TheVariants.{Scalar, Record}
+use Rattle.c_nodes.specs.declared.calls.Signature.{Signature}
 use Rattle.c_nodes.specs.declared.statement_parts.SwitchValue.{SwitchValue}
 use Rattle.c_nodes.specs.declared.subscripts.Subscripted.{Subscripted}
 use Rattle.c_nodes.specs.declared.subscripts.Subscripted.TheVariants.{Array, Other}

@@ -15,9 +15,16 @@ use crate::fault::Fault;
 use crate::making::{convert, node, object_value, pointer_to};
 use c_annotated::{Expression, ExpressionNode, Thing, is_null};
 use c_typed::{LibraryFunction, assigns};
-use c_types::{IntKind, Signature, Ty, copy_signature};
-use lay_base::{Boxed, List, NoMemory, Place, Rule, add};
+use c_types::{IntKind, Ty, copy};
+use lay_base::{Boxed, List, NoMemory, Place, Rule, Shared, add, shared};
 use std::alloc::Global;
+
+/// The types of the parameters, and of the result, of what is called.
+#[derive(Drop)]
+pub struct Signature {
+    pub parameters: Shared<List<Ty>>,
+    pub result: Ty,
+}
 
 /// `void *`
 fn bytes(alloc: Global) -> Result<Ty, NoMemory>
@@ -88,27 +95,30 @@ fn library_result(alloc: Global, which: LibraryFunction) -> Result<Ty, NoMemory>
 fn of_library(alloc: Global, which: LibraryFunction) -> Result<Signature, NoMemory>
     ensures { IfOk result (λ it. function (type_of it.result) (types_of it.parameters) ≡ library_type which) }
 {
-    let parameters = library_parameters(alloc, which)?;
+    let parameters = shared(alloc, library_parameters(alloc, which)?)?;
     let result = library_result(alloc, which)?;
     Ok(Signature { parameters, result })
 }
 
 /// The signature that a function type is. What is called begins at `at`.
-fn of_type(alloc: Global, at: u32, t: &Ty) -> Result<Signature, Fault>
+fn of_type(at: u32, t: &Ty) -> Result<Signature, Fault>
     ensures { Gives signature_view result (signature_of at (Some (type_of t.now))) }
 {
     match t {
-        Ty::Function(signature) => Ok(copy_signature(alloc, signature.get())?),
+        Ty::Function(result, parameters) => Ok(Signature {
+            parameters: parameters.again()?,
+            result: copy(result.get())?,
+        }),
         _ => Err(Fault::IllTyped(Rule::Callee, at)),
     }
 }
 
 /// The signature of the function to which a value of a type points. What is called begins at `at`.
-fn of_pointed(alloc: Global, at: u32, t: &Ty) -> Result<Signature, Fault>
+fn of_pointed(at: u32, t: &Ty) -> Result<Signature, Fault>
     ensures { Gives signature_view result (signature_of at (pointed_type (type_of t.now))) }
 {
     match t {
-        Ty::Pointer(to) => of_type(alloc, at, to.get()),
+        Ty::Pointer(to) => of_type(at, to.get()),
         _ => Err(Fault::IllTyped(Rule::Callee, at)),
     }
 }
@@ -119,9 +129,9 @@ pub fn signature_of(alloc: Global, at: u32, thing: &Thing) -> Result<Signature, 
     ensures { Gives signature_view result (signature_in at (thing_of thing.now)) }
 {
     match thing {
-        Thing::Object(p) => of_pointed(alloc, at, &p.get().ty),
-        Thing::Value(e) | Thing::FunctionAt(e) => of_pointed(alloc, at, &e.get().ty),
-        Thing::Function(_, _, t) => of_type(alloc, at, t),
+        Thing::Object(p) => of_pointed(at, &p.get().ty),
+        Thing::Value(e) | Thing::FunctionAt(e) => of_pointed(at, &e.get().ty),
+        Thing::Function(_, _, t) => of_type(at, t),
         Thing::LibraryFunction(_, which) => Ok(of_library(alloc, *which)?),
     }
 }

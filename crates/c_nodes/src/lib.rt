@@ -19,7 +19,7 @@ mod unary_operators;
 
 pub use assignments::{Target, assigned, chosen, comma, copied, target_in, tested, updated};
 pub use binary_operators::binary;
-pub use calls::{argument, call, signature_of};
+pub use calls::{Signature, argument, call, signature_of};
 pub use fault::Fault;
 pub use kinds::{BinaryKind, kind_of, step_of, update_of};
 pub use making::{convert, node, object_value, pointer_to, way, worth};

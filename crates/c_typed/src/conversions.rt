@@ -48,7 +48,7 @@ pub fn is_array(t: &Ty) -> bool
 pub fn is_function(t: &Ty) -> bool
     ensures { result ≡ is_function (type_of t.now) }
 {
-    matches!(t, Ty::Function(_))
+    matches!(t, Ty::Function(_, _))
 }
 
 /// The integer promotions (C99 6.3.1.1): every integer type narrower than `int` promotes to it.
@@ -129,7 +129,7 @@ pub fn adjusted(alloc: Global, t: Ty) -> Result<Ty, NoMemory>
 {
     match t {
         Ty::Array(element, _) => Ok(Ty::Pointer(element)),
-        Ty::Function(signature) => Ok(Ty::Pointer(shared(alloc, Ty::Function(signature))?)),
+        Ty::Function(r, all) => Ok(Ty::Pointer(shared(alloc, Ty::Function(r, all))?)),
         other => Ok(other),
     }
 }

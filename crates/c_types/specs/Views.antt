@@ -1,6 +1,5 @@
 -- What a type, a field and a record of the program stand for.
 use Rattle.std.specs.Prelude.{List, [], ◌∷◌, map}
-use Rattle.c_types.specs.declared.ty.Signature.{Signature, fold-Signature}
 use Rattle.c_types.specs.declared.ty.Ty.{Ty, fold-Ty}
 use Rattle.c_types.specs.declared.ty.Ty.TheOpen as T
 use Rattle.c_types.specs.declared.record.Field.{Field}
@@ -12,30 +11,16 @@ abbrev pub listed : List CType → CTypes
 listed [] = no_types
 listed (t ∷ more) = and_type t (listed more)
 
--- the type of the result, and those of the parameters
-abbrev pub ASignature : Type 0
-ASignature = CType × CTypes
-
--- what each sort of node stands for, enums before structs
-abbrev pub OfTypes : (Type 0 → Type 0 → Type 0) → Type 0
-OfTypes Node = Node CType ASignature
-
-abbrev pub type_layer : OfTypes T.Ty-F → CType
+abbrev pub type_layer : T.Ty-F CType → CType
 type_layer T.Void = void
 type_layer (T.Int kind) = integer kind
 type_layer (T.Pointer t) = pointer t
 type_layer (T.Array t n) = array t n
-type_layer (T.Function it) = function it.0 it.1
+type_layer (T.Function t all) = function t (listed all)
 type_layer (T.Record number) = structure number
 
-abbrev pub signature_layer : OfTypes T.Signature-F → ASignature
-signature_layer it = (it.result, listed it.parameters)
-
 abbrev pub type_of : Ty → CType
-type_of = fold-Ty CType ASignature type_layer signature_layer
-
-abbrev pub signature_of : Signature → ASignature
-signature_of = fold-Signature CType ASignature type_layer signature_layer
+type_of = fold-Ty CType type_layer
 
 abbrev pub types_of : List Ty → CTypes
 types_of all = listed (map type_of all)

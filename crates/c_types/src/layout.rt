@@ -36,7 +36,7 @@ pub fn alignment_in(known: &[Layout], t: &Ty) -> u32
     ensures { result ≡ alignment_in known.now (type_of t.now) }
 {
     match t {
-        Ty::Void | Ty::Function(_) => 1,
+        Ty::Void | Ty::Function(_, _) => 1,
         Ty::Int(kind) => width(*kind),
         Ty::Pointer(_) => 4,
         Ty::Array(element, _) => alignment_in(known, element.get()),
@@ -51,7 +51,7 @@ pub fn size_in(known: &[Layout], t: &Ty) -> u32
     ensures { result ≡ size_in known.now (type_of t.now) }
 {
     match t {
-        Ty::Void | Ty::Function(_) => 0,
+        Ty::Void | Ty::Function(_, _) => 0,
         Ty::Int(kind) => width(*kind),
         Ty::Pointer(_) => 4,
         Ty::Array(element, length) => size_in(known, element.get()) * *length,
@@ -88,7 +88,7 @@ pub fn checked_size_in(known: &[Layout], t: &Ty) -> Option<u32>
     ensures { result ≡ size_if_small (size_in known.now (type_of t.now)) }
 {
     match t {
-        Ty::Void | Ty::Function(_) => Some(0),
+        Ty::Void | Ty::Function(_, _) => Some(0),
         Ty::Int(kind) => Some(width(*kind)),
         Ty::Pointer(_) => Some(4),
         Ty::Array(element, length) => array_size(checked_size_in(known, element.get()), *length),

@@ -26,5 +26,5 @@ pub use record::{Field, Record};
 pub use records::{Records, records_are_complete};
 pub use sameness::same;
 pub use sizes::{align_of, checked_size_of, offset_of, size_of};
-pub use ty::{IntKind, Signature, Ty};
-pub use types::{copy, copy_signature, is_object, parts};
+pub use ty::{IntKind, Ty};
+pub use types::{copy, is_object, parts};

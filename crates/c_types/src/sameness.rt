@@ -32,9 +32,9 @@ fn are_alike(a: &Ty, b: &Ty) -> bool
         (Ty::Int(k), Ty::Int(l)) => same_kind(*k, *l),
         (Ty::Pointer(s), Ty::Pointer(t)) => are_alike(s.get(), t.get()),
         (Ty::Array(s, n), Ty::Array(t, m)) => n == m && are_alike(s.get(), t.get()),
-        (Ty::Function(s), Ty::Function(t)) => {
-            are_alike(&s.get().result, &t.get().result)
-                && are_all_alike(s.get().parameters.as_slice(), t.get().parameters.as_slice())
+        (Ty::Function(s, all), Ty::Function(t, others)) => {
+            are_alike(s.get(), t.get())
+                && are_all_alike(all.get().as_slice(), others.get().as_slice())
         }
         (Ty::Record(r), Ty::Record(s)) => r == s,
         _ => false,

@@ -26,7 +26,6 @@ pub enum IntKind {
 }
 
 /// A type (C99 6.2.5).
-#[cycle(types)]
 #[derive(Debug, Drop)]
 pub enum Ty {
     Void,
@@ -34,15 +33,8 @@ pub enum Ty {
     Pointer(Shared<Ty>),
     /// The element's type, and how many elements there are.
     Array(Shared<Ty>, u32),
-    Function(Shared<Signature>),
+    /// The result's type, and the parameters' types in order.
+    Function(Shared<Ty>, Shared<List<Ty>>),
     /// A record's number in the list of records of its program.
     Record(u32),
-}
-
-/// What a function takes and gives (C99 6.2.5): the result's type, and the parameters' types in order.
-#[cycle(types)]
-#[derive(Debug, Drop)]
-pub struct Signature {
-    pub result: Ty,
-    pub parameters: List<Ty>,
 }

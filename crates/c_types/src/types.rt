@@ -4,9 +4,8 @@ ghost use Rattle.std.specs.Prelude.{◌≡◌, ◌-◌, ◌^◌, IfOk, min};
 ghost use Rattle.c_types.specs.Objects.{is_object, parts};
 ghost use Rattle.c_types.specs.Views.{type_of};
 
-use crate::ty::{Signature, Ty};
-use lay_base::{NoMemory, add, with_room};
-use std::alloc::Global;
+use crate::ty::Ty;
+use lay_base::NoMemory;
 
 /// A copy of a type. It shares the types of which the type is built, so it takes no memory; its one refusal is that too many
 /// share them to be counted.
@@ -18,21 +17,9 @@ pub fn copy(t: &Ty) -> Result<Ty, NoMemory>
         Ty::Int(kind) => Ok(Ty::Int(*kind)),
         Ty::Pointer(to) => Ok(Ty::Pointer(to.again()?)),
         Ty::Array(element, length) => Ok(Ty::Array(element.again()?, *length)),
-        Ty::Function(signature) => Ok(Ty::Function(signature.again()?)),
+        Ty::Function(result, parameters) => Ok(Ty::Function(result.again()?, parameters.again()?)),
         Ty::Record(number) => Ok(Ty::Record(*number)),
     }
-}
-
-/// A copy of what a function takes and gives. Its one refusal is want of memory.
-pub fn copy_signature(alloc: Global, it: &Signature) -> Result<Signature, NoMemory>
-    ensures { IfOk result (λ copy. copy ≡ it.now) }
-{
-    let mut parameters = with_room(alloc, it.parameters.len())?;
-    for parameter in it.parameters.as_slice() {
-        add(&mut parameters, copy(parameter)?)?;
-    }
-    let result = copy(&it.result)?;
-    Ok(Signature { result, parameters })
 }
 
 /// How many types a type is built of, itself among them, or `u32::MAX` where they are more. A record
@@ -43,9 +30,9 @@ pub fn parts(t: &Ty) -> u32
     match t {
         Ty::Void | Ty::Int(_) | Ty::Record(_) => 1,
         Ty::Pointer(t) | Ty::Array(t, _) => parts(t.get()).saturating_add(1),
-        Ty::Function(signature) => {
-            let mut count = parts(&signature.get().result);
-            for parameter in signature.get().parameters.as_slice() {
+        Ty::Function(result, parameters) => {
+            let mut count = parts(result.get());
+            for parameter in parameters.get().as_slice() {
                 count = count.saturating_add(parts(parameter));
             }
             count.saturating_add(1)
@@ -58,7 +45,7 @@ pub fn is_object(records: u32, t: &Ty) -> bool
     ensures { result ≡ is_object records (type_of t.now) }
 {
     match t {
-        Ty::Void | Ty::Function(_) => false,
+        Ty::Void | Ty::Function(_, _) => false,
         Ty::Int(_) | Ty::Pointer(_) => true,
         Ty::Array(element, length) => *length > 0 && is_object(records, element.get()),
         Ty::Record(number) => *number < records,

@@ -37,10 +37,10 @@ pub fn put_type(out: &mut Writer, t: &Ty) {
             out.number(u64::from(*length));
             out.close();
         }
-        Ty::Function(signature) => {
+        Ty::Function(r, all) => {
             out.open("function");
-            put_type(out, &signature.get().result);
-            for parameter in signature.get().parameters.as_slice() {
+            put_type(out, r.get());
+            for parameter in all.get().as_slice() {
                 put_type(out, parameter);
             }
             out.close();

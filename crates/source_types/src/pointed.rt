@@ -25,7 +25,7 @@ fn is_void(t: &Ty) -> bool
 {
     match t {
         Ty::Void => true,
-        Ty::Int(_) | Ty::Pointer(_) | Ty::Array(_, _) | Ty::Function(_) | Ty::Record(_) => false,
+        Ty::Int(_) | Ty::Pointer(_) | Ty::Array(_, _) | Ty::Function(_, _) | Ty::Record(_) => false,
     }
 }
 
@@ -45,7 +45,7 @@ fn is_pointer_to(typed: &Typed, t: &Ty, number: u32) -> bool
 {
     match t {
         Ty::Pointer(to) => is_type(typed, to.get(), number),
-        Ty::Void | Ty::Int(_) | Ty::Array(_, _) | Ty::Function(_) | Ty::Record(_) => false,
+        Ty::Void | Ty::Int(_) | Ty::Array(_, _) | Ty::Function(_, _) | Ty::Record(_) => false,
     }
 }
 

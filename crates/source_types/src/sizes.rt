@@ -36,7 +36,7 @@ pub fn size(records: &Records, t: &Ty) -> u64
     ensures { result ≡ min (size_of (records_of records.now) (type_of t.now)) (2 ^ 64 - 1) }
 {
     match t {
-        Ty::Void | Ty::Function(_) => 0,
+        Ty::Void | Ty::Function(_, _) => 0,
         Ty::Int(kind) => u64::from(width(*kind)),
         Ty::Pointer(_) => 4,
         Ty::Array(element, length) => array_size(size(records, element.get()), *length),

@@ -1,6 +1,6 @@
 //! Types and records that are written in tables.
 
-use c_types::{Field, IntKind, Record, Signature, Ty};
+use c_types::{Field, IntKind, Record, Ty};
 use lay_base::{List, Name, NoMemory, Place, add, shared};
 use std::alloc::Global;
 
@@ -37,7 +37,7 @@ pub fn ty_of(alloc: Global, sketch: &Sketch) -> Result<Ty, NoMemory> {
             for parameter in all.iter() {
                 add(&mut parameters, ty_of(alloc, parameter)?)?;
             }
-            Ok(Ty::Function(shared(alloc, Signature { result, parameters })?))
+            Ok(Ty::Function(shared(alloc, result)?, shared(alloc, parameters)?))
         }
         Sketch::Record(number) => Ok(Ty::Record(*number)),
     }

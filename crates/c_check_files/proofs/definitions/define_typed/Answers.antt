@@ -20,11 +20,10 @@ returns c =
     let f = file_of c.args.file.now in
     let d = declarator_of c.args.f.now.declarator in
     let t = type_of c.args.t.now in
-    let result = c.get-signature.result.now.result in
-    let typed : type_of c.args.t.now ≡ function (type_of result) (types_of c.as_slice.result.now) = search (rules, the_lemmas) in
+    let typed : type_of c.args.t.now ≡ function (type_of c.get.result.now) (types_of c.as_slice.result.now) = search (rules, the_lemmas) in
     subst (λ r. Files c.define_function_of.result r c.define_function_of.new.file)
     (sym (typed_shape f (file_of c.mention.new.file) (storage_view c.args.words) c.args.x.now c.args.before (first_specifiers (specifiers_in c.args.f.now))
-    (first_declarator d c.args.x.now.from) c.args.f.now.open c.args.nodes t (type_of result) (types_of c.as_slice.result.now)
+    (first_declarator d c.args.x.now.from) c.args.f.now.open c.args.nodes t (type_of c.get.result.now) (types_of c.as_slice.result.now)
     (parameters_of d) (body_in c.args.f.now) typed
     (c.in_ok-mention.ensures
     ∙ ap (λ s. with_mention s c.args.before Named t c.first_of_declarator-place.result f) (c.at_file_scope.ensures c.args.file.now)
