@@ -10,7 +10,7 @@ pub(crate) const NOBODY: u32 = u32::MAX;
 pub(crate) const CLASSES: usize = 64;
 
 /// The words of a row.
-#[derive(Clone, Copy, Debug, PartialEq, Eq)]
+#[derive(Clone, Copy)]
 pub(crate) struct Extent {
     /// The number of the block, or `NOBODY`.
     pub(crate) owner: u32,

@@ -9,7 +9,7 @@ use crate::slot::Slot;
 use lay_base::UndefinedKind;
 
 /// A live block, its row, and an offset.
-#[derive(Clone, Copy, Debug, PartialEq, Eq)]
+#[derive(Clone, Copy)]
 pub(crate) struct Place {
     pub(crate) block: u64,
     pub(crate) row: u32,

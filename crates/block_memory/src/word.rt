@@ -3,14 +3,14 @@
 use crate::cell::Cell;
 
 /// A cell that holds no part of a pointer.
-#[derive(Clone, Copy, Debug, PartialEq, Eq)]
+#[derive(Clone, Copy)]
 pub(crate) enum Content {
     Empty,
     Byte(u8),
 }
 
 /// Four cells.
-#[derive(Clone, Copy, Debug, PartialEq, Eq)]
+#[derive(Clone, Copy)]
 pub(crate) struct Four {
     pub(crate) a: Cell,
     pub(crate) b: Cell,
@@ -19,7 +19,7 @@ pub(crate) struct Four {
 }
 
 /// Four cells in a row, by what they hold.
-#[derive(Clone, Copy, Debug, PartialEq, Eq)]
+#[derive(Clone, Copy)]
 pub(crate) enum Word {
     Plain(Content, Content, Content, Content),
     /// Four bytes, as the number that they hold, the least first.
@@ -33,7 +33,7 @@ pub(crate) enum Word {
 }
 
 /// A cell in twenty bytes. The number of a pointer's block stands in two halves, the low one first.
-#[derive(Clone, Copy, Debug, PartialEq, Eq)]
+#[derive(Clone, Copy)]
 pub(crate) enum Part {
     Empty,
     Byte(u8),
@@ -44,7 +44,7 @@ pub(crate) enum Part {
 }
 
 /// Four cells in the pool.
-#[derive(Clone, Copy, Debug, PartialEq, Eq)]
+#[derive(Clone, Copy)]
 pub(crate) struct Pooled {
     pub(crate) a: Part,
     pub(crate) b: Part,

@@ -4,7 +4,7 @@ use block_memory::Ptr;
 use runs::Value;
 
 /// A local of a function that runs.
-#[derive(Clone, Copy, Debug, PartialEq, Eq)]
+#[derive(Clone, Copy)]
 pub enum Slot {
     /// A number or a pointer whose address is never taken; none before a value is stored.
     ByName(Option<Value>),
@@ -13,7 +13,7 @@ pub enum Slot {
 }
 
 /// Where a path leads.
-#[derive(Clone, Copy, Debug, PartialEq, Eq)]
+#[derive(Clone, Copy)]
 pub enum Spot {
     /// A local that is kept by its name, by its number.
     Kept(u32),
@@ -22,7 +22,7 @@ pub enum Spot {
 }
 
 /// How a statement is left.
-#[derive(Clone, Copy, Debug, PartialEq, Eq)]
+#[derive(Clone, Copy)]
 pub enum Way {
     Normally,
     ByBreak,

@@ -37,7 +37,7 @@ use source_types::{Sort, Types};
 use source_values::{field_in, way_to};
 
 /// A byte of a block.
-#[derive(Clone, Copy, Debug, PartialEq, Eq)]
+#[derive(Clone, Copy)]
 pub(crate) struct Location {
     pub(crate) block: u64,
     pub(crate) at: u32,

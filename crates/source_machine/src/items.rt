@@ -7,7 +7,7 @@ use lay_base::Place;
 use runs::Value;
 
 /// What lies on the stack.
-#[derive(Clone, Copy, Debug, PartialEq, Eq)]
+#[derive(Clone, Copy)]
 pub enum Operand {
     /// The value of an expression, or none.
     Value(Option<Value>),
@@ -16,7 +16,7 @@ pub enum Operand {
 }
 
 /// What takes operands off the stack and puts its result on it. Sizes and offsets are in bytes.
-#[derive(Clone, Copy, Debug, PartialEq, Eq)]
+#[derive(Clone, Copy)]
 pub enum Action {
     /// A value that is used at a place.
     Needing(Place),
@@ -63,7 +63,7 @@ pub enum Action {
 }
 
 /// What is called with the arguments.
-#[derive(Clone, Copy, Debug, PartialEq, Eq)]
+#[derive(Clone, Copy)]
 pub enum Callee {
     /// The function of that number.
     Function(Place, u32),

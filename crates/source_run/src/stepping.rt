@@ -16,7 +16,7 @@ use source_types::Types;
 use std::alloc::Global;
 
 /// What a step came to, with the byte that it wrote or read.
-#[derive(Clone, Copy, Debug, PartialEq, Eq)]
+#[derive(Clone, Copy)]
 pub(crate) enum Advance {
     Goes,
     /// A byte was written.

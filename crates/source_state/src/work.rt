@@ -33,7 +33,7 @@ pub struct LoopBehind<'a> {
 }
 
 /// What is to be done with an expression.
-#[derive(Clone, Copy, Debug, PartialEq, Eq)]
+#[derive(Clone, Copy)]
 pub enum ForExpression {
     /// Its value or none.
     Evaluating,
@@ -45,7 +45,7 @@ pub enum ForExpression {
 }
 
 /// What is to be done with the arguments of a call.
-#[derive(Clone, Copy, Debug, PartialEq, Eq)]
+#[derive(Clone, Copy)]
 pub enum ForCall {
     Gathering,
     /// The next argument is on top of the stack.
@@ -53,7 +53,7 @@ pub enum ForCall {
 }
 
 /// What is to be done with a statement.
-#[derive(Clone, Copy, Debug, PartialEq, Eq)]
+#[derive(Clone, Copy)]
 pub enum ForStatement {
     Executing,
     /// It stands behind the operand of an `if`.
@@ -61,7 +61,7 @@ pub enum ForStatement {
 }
 
 /// What is to be done with the arms of a `switch`.
-#[derive(Clone, Copy, Debug, PartialEq, Eq)]
+#[derive(Clone, Copy)]
 pub enum ForArms {
     /// All from the one with that number on, or none.
     Entering(Option<u64>),
@@ -70,7 +70,7 @@ pub enum ForArms {
 }
 
 /// Where a loop is: before its test, behind its test, or behind its body.
-#[derive(Clone, Copy, Debug, PartialEq, Eq)]
+#[derive(Clone, Copy)]
 pub enum ForLoop {
     Looping,
     Tested,

@@ -3,7 +3,7 @@
 use lay_base::{Place, RoomKind, UndefinedKind};
 
 /// How a run is over.
-#[derive(Clone, Copy, Debug, PartialEq, Eq)]
+#[derive(Clone, Copy)]
 pub enum Final {
     /// The program ended, with a status.
     Ends(u8),
@@ -16,7 +16,7 @@ pub enum Final {
 }
 
 /// What a step comes to.
-#[derive(Clone, Copy, Debug, PartialEq, Eq)]
+#[derive(Clone, Copy)]
 pub enum Moved {
     Goes,
     /// A byte is to be written.

@@ -4,7 +4,7 @@ use block_memory::Access;
 use c_types::IntKind;
 
 /// What a type is for a conversion (C99 6.3).
-#[derive(Clone, Copy, Debug, PartialEq, Eq)]
+#[derive(Clone, Copy)]
 pub enum Sort {
     Void,
     Number(IntKind),
@@ -14,7 +14,7 @@ pub enum Sort {
 }
 
 /// What is kept of a type, with all sizes in bytes.
-#[derive(Clone, Copy, Debug, PartialEq, Eq)]
+#[derive(Clone, Copy)]
 pub struct TypeRow {
     pub sort: Sort,
     /// What is loaded or stored of that type.
