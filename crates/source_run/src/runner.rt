@@ -54,8 +54,9 @@ impl<'a> Runner<'a> {
     ghost use Rattle.c_typed.specs.Programs.{program_data};
     ghost use Rattle.source_run.specs.Fresh.{IsFresh, no_counts};
     ghost use Rattle.source_run.specs.RunGives.{RunGives};
-    ghost use Rattle.source_run.specs.Starting.{HasFinished};
+    ghost use Rattle.source_run.specs.Starting.{HasFinished, IsAtStart};
     ghost use Rattle.source_run.specs.Streams.{streams};
+    ghost use Rattle.source_state.specs.View.{state_of};
 
     /// A runner of the program, with counts that are all 0.
     pub fn new(alloc: Global, p: &'a Typed) -> Result<Runner<'a>, NoMemory>
@@ -85,6 +86,33 @@ impl<'a> Runner<'a> {
         }
     }
 
+    /// Makes steps until the run is over.
+    fn make_steps<I: Source, O: Sink>(
+        &mut self,
+        alloc: Global,
+        machine: &mut Machine<'a>,
+        input: &mut I,
+        out: &mut O,
+        turns: u64,
+    ) -> RunEnd
+        requires { IsAtStart (program_data self.old.types) turns (state_of machine.old) }
+        ensures { RunGives (program_data self.old.types) turns
+            (streams (I.left input.old) (I.faults input.old) (O.written out.old) (O.faults out.old))
+            (streams (I.left input.new) (I.faults input.new) (O.written out.new) (O.faults out.new)) self.new.counts result }
+    {
+        for _ in 0..u64::MAX {
+            match make_step(alloc, &self.types, machine, input, out) {
+                Advance::Goes | Advance::Wrote(_) | Advance::Read => {}
+                Advance::Over(end) => return self.finish(alloc, machine, end, turns),
+                Advance::ReadFails => return RunEnd::ReadFault,
+                Advance::WriteFails(_) => return RunEnd::WriteFault,
+                Advance::Memory => return RunEnd::Memory,
+            }
+        }
+        // No run makes so many steps in practice.
+        RunEnd::Memory
+    }
+
     /// Runs the program from its start.
     fn go<I: Source, O: Sink>(
         &mut self,
@@ -97,20 +125,10 @@ impl<'a> Runner<'a> {
             (streams (I.left input.old) (I.faults input.old) (O.written out.old) (O.faults out.old))
             (streams (I.left input.new) (I.faults input.new) (O.written out.new) (O.faults out.new)) self.new.counts result }
     {
-        let Ok(mut machine) = machine_at_start(alloc, &self.types, turns) else {
-            return RunEnd::Memory;
-        };
-        for _ in 0..u64::MAX {
-            match make_step(alloc, &self.types, &mut machine, input, out) {
-                Advance::Goes | Advance::Wrote(_) | Advance::Read => {}
-                Advance::Over(end) => return self.finish(alloc, &machine, end, turns),
-                Advance::ReadFails => return RunEnd::ReadFault,
-                Advance::WriteFails(_) => return RunEnd::WriteFault,
-                Advance::Memory => return RunEnd::Memory,
-            }
+        match machine_at_start(alloc, &self.types, turns) {
+            Ok(mut machine) => self.make_steps(alloc, &mut machine, input, out, turns),
+            Err(_) => RunEnd::Memory,
         }
-        // No run makes so many steps in practice.
-        RunEnd::Memory
     }
 
     /// Runs the program until it ends, within the room of the interpreter, where at most so many turns begin; its input comes from

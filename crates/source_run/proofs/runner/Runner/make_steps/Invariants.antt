@@ -3,7 +3,7 @@ use Rattle.c_typed.specs.Programs.{program_data}
 use Rattle.c_typed.specs.declared.program.Typed.{Typed}
 use Rattle.source_run.specs.Streams.{Streams, streams}
 use Rattle.source_run.proofs.Reaching.{Far}
-use Rattle.source_run.proofs.runner.Runner.go.Given as goal
+use Rattle.source_run.proofs.runner.Runner.make_steps.Given as goal
 use Rattle.source_state.specs.View.{state_of}
 use Rattle.source_steps.specs.States.{State}
 
