@@ -1,6 +1,7 @@
 //! What actions do with the operands, the locals and memory.
 
 ghost use Rattle.std.specs.Prelude.{◌≡◌, ◌≤◌, IfOk};
+ghost use Rattle.c_typed.specs.Conversions.{number_of};
 ghost use Rattle.c_typed.specs.Programs.{program_data};
 ghost use Rattle.c_types.specs.Limits.{greatest_size};
 ghost use Rattle.source_machine.specs.declared.items.Action.TheVariants as A;
@@ -530,14 +531,16 @@ fn go_to_element<'a>(
     size: u32,
     addressed: bool,
     spot: Spot,
-    number: i64,
+    kind: IntKind,
+    word: u32,
 ) -> Result<Moved, NoMemory>
-    ensures { IfOk result (λ m. (m, state_of machine.new) ≡ element_of place length size addressed spot number (state_of machine.old)) }
+    requires { size ≤ greatest_size }
+    ensures { IfOk result (λ m. (m, state_of machine.new) ≡ element_of place length size addressed spot (number_of kind word) (state_of machine.old)) }
 {
-    if !is_subscript(length, addressed, number) {
+    if !is_subscript(length, addressed, number_of(kind, word)) {
         return Ok(undefined(UndefinedKind::Subscript, place));
     }
-    match element(size, number, spot) {
+    match element(kind, word, size, spot) {
         Some(part) => machine.lead(part),
         None => Err(NoMemory),
     }
@@ -554,6 +557,9 @@ fn element_at<'a>(
 ) -> Result<Moved, NoMemory>
     ensures { IfOk result (λ m. (m, state_of machine.new) ≡ performed (program_data types.now) (A.ElementAt place length size addressed kind) (state_of machine.old)) }
 {
+    if size > GREATEST_SIZE {
+        return Err(NoMemory);
+    }
     let Some(v) = machine.take() else {
         return Ok(STUCK);
     };
@@ -567,7 +573,8 @@ fn element_at<'a>(
         size,
         addressed,
         spot,
-        number_of(kind, word_of(v)),
+        kind,
+        word_of(v),
     )
 }
 

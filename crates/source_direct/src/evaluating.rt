@@ -8,8 +8,8 @@ ghost use Rattle.source_direct.specs.Members.{member_at};
 ghost use Rattle.source_steps.specs.Direct.{direct, direct_spot};
 
 use crate::operators::{
-    addressed, cast, element_of, field_of, field_through, indexed, loaded_if, of_addition,
-    of_binary, of_comparison, of_difference, of_local, of_not, of_truth, of_unary,
+    addressed, cast, element_of, field_through, indexed, loaded_if, of_addition, of_binary,
+    of_comparison, of_difference, of_local, of_not, of_truth, of_unary,
 };
 use block_memory::Ptr;
 use c_meaning::Spot;
@@ -18,7 +18,7 @@ use lay_base::Boxed;
 use runs::Value;
 use source_core::Room;
 use source_types::Types;
-use source_values::{flag, is_true, pointer_of, way_to, word_of};
+use source_values::{flag, is_true, part_of, pointer_of, way_to, word_of};
 
 // `let .. else` stands where `?` could: each `?` is two calls and a `match` more for the proof of its function.
 
@@ -192,7 +192,7 @@ fn direct_member(types: &Types<'_>, room: &Room, q: &Path, offset: u32) -> Optio
             let Some(spot) = direct_spot(types, room, false, q) else {
                 return None;
             };
-            field_of(offset, spot)
+            part_of(offset, spot)
         }
     }
 }

@@ -1,18 +1,18 @@
 //! What operators and paths make of what is at hand; where that is undefined, there is none.
 
-ghost use Rattle.std.specs.Prelude.{◌≡◌, ◌≤◌, ◌^◌, not, Some, unsigned_abs};
+ghost use Rattle.std.specs.Prelude.{◌≡◌, not, Some};
 ghost use Rattle.c_typed.specs.Constants.{kind_of};
 ghost use Rattle.c_typed.specs.Conversions.{number_of};
 ghost use Rattle.c_typed.specs.Programs.{program_data};
 ghost use Rattle.c_meaning.specs.Program.{access_at, element_size, length_of, size_at, type_at};
 ghost use Rattle.c_typed.specs.declared.operators.PointerOp.TheVariants.{Add};
-ghost use Rattle.c_meaning.specs.Expressions.{field_in, moved_by, part_of};
+ghost use Rattle.c_meaning.specs.Expressions.{field_in};
 ghost use Rattle.c_meaning.specs.Operators.{binary, compared, distance, flag, is_true, moved, unary};
 ghost use Rattle.c_meaning.specs.declared.frame.Spot.TheVariants.{Placed};
 ghost use Rattle.runs.specs.Scalars.{pointer_of, word_of};
 ghost use Rattle.source_core.specs.View.{core_of};
 ghost use Rattle.source_steps.specs.Actions.{address_of, lies_at};
-ghost use Rattle.source_steps.specs.Direct.{and_if, if_converted, if_element, if_found, if_near};
+ghost use Rattle.source_steps.specs.Direct.{and_if, if_converted, if_element, if_found};
 ghost use Rattle.source_steps.specs.Locals.{fetch, local_spot};
 ghost use Rattle.source_direct.specs.Sorts.{if_converted_by};
 
@@ -24,7 +24,7 @@ use runs::Value;
 use source_core::Room;
 use source_types::{Sort, Types, convert};
 use source_values::{
-    address_of, binary, bytes_of, compared, distance, field_in, flag, is_subscript, is_true, moved,
+    address_of, binary, compared, distance, element, field_in, flag, is_subscript, is_true, moved,
     number_of, pointer_of, unary,
 };
 
@@ -217,37 +217,6 @@ pub(crate) fn of_local(room: &Room, local: u32) -> Option<Spot>
     }
 }
 
-/// So many bytes on from where a pointer leads, in the same object.
-#[inline(always)]
-fn near(by: i64, p: Ptr) -> Option<Spot>
-    requires { unsigned_abs by ≤ 2 ^ 56 }
-    ensures { result ≡ if_near (Placed (moved_by by p)) }
-{
-    match p {
-        Ptr::Block(block, at) => {
-            let sum = i64::from(at) + by;
-            if sum < 0 {
-                Some(Spot::Placed(p))
-            } else if sum < 0x1_0000_0000 {
-                Some(Spot::Placed(Ptr::Block(block, sum as u32)))
-            } else {
-                None
-            }
-        }
-        Ptr::Null | Ptr::Function(_) => Some(Spot::Placed(p)),
-    }
-}
-
-/// A field at an offset.
-pub(crate) fn field_of(offset: u32, spot: Spot) -> Option<Spot>
-    ensures { result ≡ if_near (part_of offset spot) }
-{
-    match spot {
-        Spot::Placed(p) => near(i64::from(offset), p),
-        Spot::Kept(_) => Some(spot),
-    }
-}
-
 /// An element of a type of an array itself, of another, by a subscript of a third.
 #[inline(always)]
 pub(crate) fn element_of(
@@ -266,10 +235,7 @@ pub(crate) fn element_of(
     if !is_subscript(types.row(of).length, is_addressed, number_of(kind, word)) {
         return None;
     }
-    match spot {
-        Spot::Placed(p) => near(bytes_of(kind, word, types.row(t).size), p),
-        Spot::Kept(_) => Some(spot),
-    }
+    element(kind, word, types.row(t).size, spot)
 }
 
 /// What of a type a subscript on a pointer leads to, by the types of both.

@@ -23,7 +23,7 @@ ghost use Rattle.source_steps.specs.Actions.{lies_at};
 ghost use Rattle.source_steps.specs.Direct.{and_if, direct, direct_spot, if_converted, if_element, if_found, if_near};
 ghost use Rattle.source_steps.specs.Locals.{fetch, local_spot, slot};
 
-use crate::operators::{element_of, field_of, indexed};
+use crate::operators::{element_of, indexed};
 use block_memory::{Access, Ptr};
 use c_meaning::{Slot, Spot};
 use c_typed::{
@@ -34,7 +34,7 @@ use lay_base::Boxed;
 use runs::Value;
 use source_core::Room;
 use source_types::{Sort, Types};
-use source_values::{field_in, way_to};
+use source_values::{field_in, part_of, way_to};
 
 /// A byte of a block.
 #[derive(Clone, Copy)]
@@ -272,7 +272,7 @@ fn field_at(room: &Room, from: Location, by: i64) -> Option<Location>
 fn part_at(offset: u32, from: Location) -> Option<Location>
     ensures { IfSome result (λ it. if_near (part_of offset (Placed (P.Block from.block from.at))) ≡ Some (Placed (P.Block it.block it.at))) }
 {
-    match field_of(offset, Spot::Placed(Ptr::Block(from.block, from.at))) {
+    match part_of(offset, Spot::Placed(Ptr::Block(from.block, from.at))) {
         Some(Spot::Placed(Ptr::Block(block, at))) => Some(Location { block, at }),
         _ => None,
     }
