@@ -3,7 +3,7 @@
 use crate::pointer::Ptr;
 
 /// What a byte of memory holds (C99 6.2.6.1).
-#[derive(Clone, Copy, Debug, PartialEq, Eq)]
+#[derive(Clone, Copy)]
 pub enum Cell {
     /// Nothing that was stored.
     Empty,

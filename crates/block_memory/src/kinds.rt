@@ -3,7 +3,7 @@
 use c_types::IntKind;
 
 /// What a block is for.
-#[derive(Clone, Copy, Debug, PartialEq, Eq)]
+#[derive(Clone, Copy)]
 pub enum BlockKind {
     /// An object of file scope, or a `static` local.
     Global,
@@ -16,7 +16,7 @@ pub enum BlockKind {
 }
 
 /// What is loaded or stored.
-#[derive(Clone, Copy, Debug, PartialEq, Eq)]
+#[derive(Clone, Copy)]
 pub enum Access {
     Number(IntKind),
     /// A pointer, with the number of its pointer type.

@@ -22,7 +22,7 @@ pub enum Entity {
 }
 
 /// How a declaration declares (C99 6.9.2).
-#[derive(Clone, Copy, Debug, PartialEq, Eq)]
+#[derive(Clone, Copy)]
 pub enum How {
     /// It leaves the definition to others.
     Declares,

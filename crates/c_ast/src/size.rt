@@ -4,7 +4,7 @@ ghost use Rattle.std.specs.Prelude.{◌≡◌};
 ghost use Rattle.c_ast.specs.Sizes.{IsCountable, beside, empty, leaf, over};
 
 /// How many nodes of a tree, at most, stand one below another, and how many there are.
-#[derive(Clone, Copy, Debug, PartialEq, Eq)]
+#[derive(Clone, Copy)]
 pub struct Size {
     pub depth: u32,
     pub nodes: u64,

@@ -9,7 +9,7 @@ use c_scopes::{FileScope, Scope, place_in};
 use lay_base::Place;
 
 /// Where a node begins.
-#[derive(Clone, Copy, Debug, PartialEq, Eq)]
+#[derive(Clone, Copy)]
 pub struct Start {
     pub at: u32,
     pub place: Place,

@@ -8,7 +8,7 @@ use c_typed::Typed;
 use lay_base::Place;
 
 /// A function that a program defines: its number in the program, and the place of its definition.
-#[derive(Clone, Copy, Debug, PartialEq, Eq)]
+#[derive(Clone, Copy)]
 pub struct Defined {
     pub number: u32,
     pub place: Place,

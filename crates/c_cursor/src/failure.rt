@@ -5,7 +5,7 @@ ghost use Rattle.c_cursor.specs.declared.failure.Failure.TheVariants.{Memory};
 
 use lay_base::NoMemory;
 
-#[derive(Clone, Copy, Debug, PartialEq, Eq)]
+#[derive(Clone, Copy)]
 pub enum Failure {
     /// Memory is out.
     Memory,

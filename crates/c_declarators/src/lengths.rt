@@ -14,7 +14,7 @@ use c_types::{IntKind, Ty};
 use lay_base::Rule;
 
 /// The value of an integer constant expression, as the 32 bits that stand for it, with its type.
-#[derive(Clone, Copy, Debug, PartialEq, Eq)]
+#[derive(Clone, Copy)]
 pub struct Integer {
     pub kind: IntKind,
     pub value: u32,

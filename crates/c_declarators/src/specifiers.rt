@@ -8,7 +8,7 @@ ghost use Rattle.c_declarators.specs.SpecifierViews.{storage_view};
 use c_ast::{Specifier, SpecifierKeyword};
 
 /// The storage class that specifiers name (C99 6.7.1).
-#[derive(Clone, Copy, Debug, PartialEq, Eq)]
+#[derive(Clone, Copy)]
 pub enum Storage {
     None,
     Typedef,

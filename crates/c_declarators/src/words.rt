@@ -11,7 +11,7 @@ use c_types::IntKind;
 use lay_base::NoMemory;
 
 /// How specifiers name a type.
-#[derive(Clone, Copy, Debug, PartialEq, Eq)]
+#[derive(Clone, Copy)]
 pub enum Base {
     Void,
     Int(IntKind),
@@ -22,7 +22,7 @@ pub enum Base {
 }
 
 /// How often each keyword that names a type stands among specifiers.
-#[derive(Clone, Copy, Debug, PartialEq, Eq)]
+#[derive(Clone, Copy)]
 struct Words {
     void: u32,
     char: u32,
@@ -34,7 +34,7 @@ struct Words {
 }
 
 /// How many specifiers are no keywords.
-#[derive(Clone, Copy, Debug, PartialEq, Eq)]
+#[derive(Clone, Copy)]
 enum Others {
     None,
     One,

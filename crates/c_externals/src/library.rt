@@ -79,8 +79,8 @@ pub fn is_signature(t: &Ty, returned: Simple, wanted: &[Simple]) -> bool
     ensures { result ≡ same_type (type_of t.now) (function (simple_type returned) (listed (map simple_type wanted.now))) }
 {
     match t {
-        Ty::Function(r, all) => {
-            is_simple(r.get(), returned) && are_simple(all.get().as_slice(), wanted)
+        Ty::Function(result, parameters) => {
+            is_simple(result.get(), returned) && are_simple(parameters.get().as_slice(), wanted)
         }
         _ => false,
     }

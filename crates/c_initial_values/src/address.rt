@@ -17,7 +17,7 @@ use c_types::{Records, Ty};
 use lay_base::NoMemory;
 
 /// A byte of an object, or the end of it.
-#[derive(Clone, Copy, Debug, PartialEq, Eq)]
+#[derive(Clone, Copy)]
 pub struct Address {
     /// The number of the object.
     pub object: u32,

@@ -16,7 +16,7 @@ use c_types::{IntKind, Records, Ty};
 use lay_base::NoMemory;
 
 /// The value of a constant expression in an initializer.
-#[derive(Clone, Copy, Debug, PartialEq, Eq)]
+#[derive(Clone, Copy)]
 pub enum Value {
     Number(IntKind, u32),
     Null,

@@ -5,7 +5,7 @@ use c_types::IntKind;
 use lay_base::{Bytes, Keyword, List};
 
 /// What a token is (C99 6.4).
-#[derive(Clone, Copy, Debug, PartialEq, Eq)]
+#[derive(Clone, Copy, PartialEq, Eq)]
 pub enum TokenKind {
     Keyword(Keyword),
     /// An identifier.
@@ -20,7 +20,7 @@ pub enum TokenKind {
 }
 
 /// A token, and the bytes from `from` up to, but without, `to` that it is.
-#[derive(Clone, Copy, Debug, PartialEq, Eq)]
+#[derive(Clone, Copy)]
 pub struct Token {
     pub kind: TokenKind,
     pub from: u32,
@@ -28,7 +28,7 @@ pub struct Token {
 }
 
 /// The tokens of a file in order, with the file's number and bytes.
-#[derive(Debug, Drop)]
+#[derive(Drop)]
 pub struct Tokens {
     pub file: u16,
     pub bytes: Bytes,

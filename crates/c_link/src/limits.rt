@@ -15,7 +15,7 @@ use c_types::{Record, Records, Ty, size_of};
 use lay_base::{LimitKind, NoMemory};
 
 /// A limit that is passed, and the number that passes it.
-#[derive(Clone, Copy, Debug, PartialEq, Eq)]
+#[derive(Clone, Copy)]
 pub struct Passed {
     pub which: LimitKind,
     pub counted: u64,

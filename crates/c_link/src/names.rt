@@ -21,7 +21,7 @@ use numbering::KeyTable;
 use std::alloc::Global;
 
 /// What is asked of a name that several units declare.
-#[derive(Clone, Copy, Debug, PartialEq, Eq)]
+#[derive(Clone, Copy)]
 enum Asked {
     OneType,
     OneDefinition,

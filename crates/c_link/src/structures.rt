@@ -37,9 +37,9 @@ fn least_among(count: u32, best: Option<u32>, t: &Ty) -> Option<u32>
         Ty::Void | Ty::Int(_) => best,
         Ty::Pointer(to) => least_among(count, best, to.get()),
         Ty::Array(element, _) => least_among(count, best, element.get()),
-        Ty::Function(r, all) => {
-            let mut best = least_among(count, best, r.get());
-            for parameter in all.get().as_slice() {
+        Ty::Function(result, parameters) => {
+            let mut best = least_among(count, best, result.get());
+            for parameter in parameters.get().as_slice() {
                 best = least_among(count, best, parameter);
             }
             best

@@ -7,7 +7,7 @@ ghost use Rattle.c_nodes.specs.Kinds.{kind_view};
 use c_typed::{BinaryOp, CompareOp, StepOp};
 
 /// What a binary operator does.
-#[derive(Clone, Copy, Debug, PartialEq, Eq)]
+#[derive(Clone, Copy)]
 pub enum BinaryKind {
     Computes(BinaryOp),
     Compares(CompareOp),

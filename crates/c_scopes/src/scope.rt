@@ -13,7 +13,7 @@ use c_annotated::{Bound, Entity, Local};
 use lay_base::Place;
 
 /// What an expression is for.
-#[derive(Clone, Copy, Debug, PartialEq, Eq)]
+#[derive(Clone, Copy)]
 pub enum Purpose {
     /// All that it does.
     InFull,

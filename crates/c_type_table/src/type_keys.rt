@@ -55,10 +55,10 @@ fn append_type(key: &mut Vec<u32>, t: &Ty) -> Result<(), NoMemory>
             append_two(key, 3, *length)?;
             append_type(key, element.get())
         }
-        Ty::Function(r, all) => {
+        Ty::Function(result, parameters) => {
             append(key, 4)?;
-            append_type(key, r.get())?;
-            for parameter in all.get().as_slice() {
+            append_type(key, result.get())?;
+            for parameter in parameters.get().as_slice() {
                 append(key, 1)?;
                 append_type(key, parameter)?;
             }
@@ -84,7 +84,7 @@ pub fn hint(t: &Ty) -> u32 {
         Ty::Int(kind) => kind_number(*kind).wrapping_add(1),
         Ty::Pointer(to) => hint(to.get()).wrapping_mul(11).wrapping_add(16),
         Ty::Array(element, length) => hint(element.get()).wrapping_mul(37).wrapping_add(*length),
-        Ty::Function(r, _) => hint(r.get()).wrapping_add(512),
+        Ty::Function(result, _) => hint(result.get()).wrapping_add(512),
         Ty::Record(number) => number.wrapping_add(256),
     }
 }

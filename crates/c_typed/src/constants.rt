@@ -17,7 +17,7 @@ use crate::values::{binary_value, holds, unary_value};
 use c_types::{IntKind, Ty};
 
 /// What an expression is as an integer constant expression (C99 6.6).
-#[derive(Clone, Copy, Debug, PartialEq, Eq)]
+#[derive(Clone, Copy)]
 pub enum Constant {
     /// It is none.
     None,

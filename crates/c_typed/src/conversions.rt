@@ -129,7 +129,10 @@ pub fn adjusted(alloc: Global, t: Ty) -> Result<Ty, NoMemory>
 {
     match t {
         Ty::Array(element, _) => Ok(Ty::Pointer(element)),
-        Ty::Function(r, all) => Ok(Ty::Pointer(shared(alloc, Ty::Function(r, all))?)),
+        Ty::Function(result, parameters) => Ok(Ty::Pointer(shared(
+            alloc,
+            Ty::Function(result, parameters),
+        )?)),
         other => Ok(other),
     }
 }

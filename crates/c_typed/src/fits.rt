@@ -12,7 +12,7 @@ use crate::operators::CompareOp;
 use c_types::{Ty, same};
 
 /// The type to which two operands are converted that are pointers, or a pointer and a null pointer constant (C99 6.5.8, 6.5.9, 6.5.15).
-#[derive(Clone, Copy, Debug, PartialEq, Eq)]
+#[derive(Clone, Copy)]
 pub enum Met {
     /// That of the left operand.
     Left,

@@ -68,7 +68,7 @@ pub struct Mention {
     pub place: Place,
 }
 
-#[derive(Clone, Copy, Debug, PartialEq, Eq)]
+#[derive(Clone, Copy)]
 pub enum MentionKind {
     /// The type of a declared object.
     Object,

@@ -15,14 +15,14 @@ use crate::operators::{BinaryOp, CompareOp};
 use c_types::{IntKind, Ty, is_object, same};
 
 /// The integer types to which the operands of a binary operator are converted. The result has the left one.
-#[derive(Clone, Copy, Debug, PartialEq, Eq)]
+#[derive(Clone, Copy)]
 pub struct OperandKinds {
     pub left: IntKind,
     pub right: IntKind,
 }
 
 /// The type to which two operands are converted.
-#[derive(Clone, Copy, Debug, PartialEq, Eq)]
+#[derive(Clone, Copy)]
 pub enum CommonType {
     /// An integer type.
     Number(IntKind),

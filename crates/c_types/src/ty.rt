@@ -26,7 +26,7 @@ pub enum IntKind {
 }
 
 /// A type (C99 6.2.5).
-#[derive(Debug, Drop)]
+#[derive(Drop)]
 pub enum Ty {
     Void,
     Int(IntKind),

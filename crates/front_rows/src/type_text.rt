@@ -37,10 +37,10 @@ pub fn put_type(out: &mut Writer, t: &Ty) {
             out.number(u64::from(*length));
             out.close();
         }
-        Ty::Function(r, all) => {
+        Ty::Function(result, parameters) => {
             out.open("function");
-            put_type(out, r.get());
-            for parameter in all.get().as_slice() {
+            put_type(out, result.get());
+            for parameter in parameters.get().as_slice() {
                 put_type(out, parameter);
             }
             out.close();

@@ -47,7 +47,7 @@ impl Name {
 }
 
 /// The bytes of a file, of input or of output.
-#[derive(Debug, Drop)]
+#[derive(Drop)]
 pub struct Bytes {
     bytes: Vec<u8>,
 }

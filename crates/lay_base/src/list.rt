@@ -4,7 +4,7 @@ use std::alloc::{AllocFailed, Global};
 use std::marker::Model;
 
 /// A vector that contracts see as the list of its elements. A type may reach itself through it.
-#[derive(Debug, Drop)]
+#[derive(Drop)]
 pub struct List<T> {
     items: Vec<T>,
 }

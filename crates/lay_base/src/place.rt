@@ -11,7 +11,7 @@ pub struct Place {
 }
 
 /// A file under its name.
-#[derive(Debug, Drop)]
+#[derive(Drop)]
 pub struct File {
     pub name: Name,
     pub bytes: Bytes,

@@ -6,7 +6,7 @@ use std::marker::Model;
 use std::rc::Rc;
 
 /// A value with several owners, which contracts see as the value. A type may reach itself through it.
-#[derive(Debug, Drop)]
+#[derive(Drop)]
 pub struct Shared<T> {
     inner: Rc<T>,
 }

@@ -4,7 +4,7 @@ use std::alloc::{AllocFailed, Global};
 use std::marker::Model;
 
 /// A box that contracts see as its value. A type may reach itself through it.
-#[derive(Debug, Drop)]
+#[derive(Drop)]
 pub struct Boxed<T> {
     inner: Box<T>,
 }

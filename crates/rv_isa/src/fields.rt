@@ -4,7 +4,7 @@ ghost use Rattle.std.specs.Prelude.{◌≡◌};
 ghost use Rattle.rv_isa.specs.Fields.{InRange, fields_of, word};
 
 /// The six fields of format R, from bit 31 down. The other formats cut and join them.
-#[derive(Clone, Copy, Debug)]
+#[derive(Clone, Copy)]
 pub struct Fields {
     pub funct7: u32,
     pub rs2: u32,

@@ -7,7 +7,7 @@ use crate::memory::Memory;
 use lay_base::TrapKind;
 
 /// What an instruction did.
-#[derive(Clone, Copy, Debug)]
+#[derive(Clone, Copy)]
 pub enum Moved {
     /// The next instruction follows.
     Goes,

@@ -8,7 +8,7 @@ use rv_isa::Image;
 use std::alloc::Global;
 
 /// How a run ends.
-#[derive(Clone, Copy, Debug)]
+#[derive(Clone, Copy)]
 pub enum MachineEnd {
     /// The program exited with a status.
     Exits(u8),
@@ -25,7 +25,7 @@ pub enum MachineEnd {
 }
 
 /// What the code of one step came to, with that of the call of the environment that it may be.
-#[derive(Clone, Copy, Debug)]
+#[derive(Clone, Copy)]
 pub enum Advance {
     /// The program goes on.
     Goes,

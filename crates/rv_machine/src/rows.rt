@@ -5,7 +5,7 @@ ghost use Rattle.rv_machine.specs.Rows.{Covers, allows, holds, place_in, row_at}
 
 /// The addresses from `at` on, `size` of them, whose bytes stand from `start` on. `flags` has 1 for
 /// execution, 2 for writing and 4 for reading.
-#[derive(Clone, Copy, Debug)]
+#[derive(Clone, Copy)]
 pub struct Row {
     pub at: u32,
     pub size: u32,
@@ -96,7 +96,7 @@ impl Row {
 }
 
 /// Bytes that stand one after the other: the place of the first, and how many they are.
-#[derive(Clone, Copy, Debug)]
+#[derive(Clone, Copy)]
 pub struct Stretch {
     pub place: usize,
     pub count: u64,

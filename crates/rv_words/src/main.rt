@@ -10,6 +10,7 @@
 
 mod answering;
 mod digits;
+mod instruction_text;
 
 use answering::{Stopped, answer_lines};
 use std::io::{self, BufReader, BufWriter, Write};

@@ -4,7 +4,8 @@ ghost use Rattle.std.specs.Prelude.{◌≡◌, ◌∷◌, ◌++◌, [], IfOk, On
 ghost use Rattle.c_meaning.specs.Frames.{empty_slot, frame_of};
 ghost use Rattle.c_typed.specs.Programs.{data_of, program_data};
 ghost use Rattle.c_meaning.specs.Program.{type_at};
-ghost use Rattle.c_typed.specs.Views.{expression_of, expressions_of, statement_of};
+ghost use Rattle.c_typed.specs.Views.{expression_of, expressions_of};
+ghost use Rattle.loop_tallies.specs.Forms.{statement_in};
 ghost use Rattle.source_core.specs.View.{core_of};
 ghost use Rattle.source_state.specs.View.{state_of};
 ghost use Rattle.source_steps.specs.Calls.{receive, receive_one};
@@ -15,8 +16,9 @@ ghost use Rattle.source_steps.specs.Expressions.{called_as, called_through, call
 use crate::expressions::{go_on, use_then};
 use block_memory::Ptr;
 use c_meaning::Slot;
-use c_typed::{Expression, Function, LibraryFunction, Local, Statement, TypeId};
+use c_typed::{Expression, Function, LibraryFunction, Local, TypeId};
 use lay_base::{NoMemory, Place, UndefinedKind};
+use loop_tallies::{TalliedFunction, TalliedStatement};
 use runs::Value;
 use source_actions::found;
 use source_core::Room;
@@ -202,24 +204,23 @@ fn library<'a>(
 fn begin_function<'a>(
     machine: &mut Machine<'a>,
     alloc: Global,
-    types: &Types<'a>,
+    types: &'a Types<'a>,
     place: Place,
     f: u32,
     values: &[Value],
     g: &'a Function,
-    body: &'a Statement,
+    body: TalliedStatement<'a>,
     caller: Vec<Slot>,
 ) -> Result<Moved, NoMemory>
     ensures { IfOk result (λ m. (m, state_of machine.new) ≡ started (program_data types.now) place f values.now (data_of g.now)
-        (Some (statement_of body.now)) caller.items (state_of machine.old)) }
+        (Some (statement_in body.entry)) caller.items (state_of machine.old)) }
 {
     let parameters = g.parameters.as_slice();
     match receive(&mut machine.room, alloc, types, place, parameters, values)? {
         Ok(()) => {
             let scope = Scope {
-                function: f,
-                parameters,
-                locals: g.locals.as_slice(),
+                number: f,
+                function: g,
             };
             machine.todo(Work::Framing(caller))?;
             machine.todo(Work::EndingParameters(parameters.len()))?;
@@ -234,19 +235,23 @@ fn begin_function<'a>(
 fn start<'a>(
     machine: &mut Machine<'a>,
     alloc: Global,
-    types: &Types<'a>,
+    types: &'a Types<'a>,
     place: Place,
     f: u32,
     values: &[Value],
-    g: &'a Function,
+    g: TalliedFunction<'a>,
 ) -> Result<Moved, NoMemory>
-    ensures { IfOk result (λ m. (m, state_of machine.new) ≡ started (program_data types.now) place f values.now (data_of g.now)
-        (data_of g.now).body (state_of machine.old).core.frame (framed (frame_of (program_data types.now) (data_of g.now)) (state_of machine.old))) }
+    ensures { IfOk result (λ m. (m, state_of machine.new) ≡ started (program_data types.now) place f values.now (data_of g.entry.function.now)
+        (data_of g.entry.function.now).body (state_of machine.old).core.frame
+        (framed (frame_of (program_data types.now) (data_of g.entry.function.now)) (state_of machine.old))) }
 {
-    let frame = frame_of(alloc, types, g)?;
+    let frame = frame_of(alloc, types, g.function)?;
     let caller = machine.room.exchange(frame);
-    match &g.body {
-        Some(body) => begin_function(machine, alloc, types, place, f, values, g, body, caller),
+    match g.body() {
+        Some(body) => {
+            let g = g.function;
+            begin_function(machine, alloc, types, place, f, values, g, body, caller)
+        }
         None => Ok(undefined(UndefinedKind::Call, place)),
     }
 }
@@ -255,7 +260,7 @@ fn start<'a>(
 fn call_function<'a>(
     machine: &mut Machine<'a>,
     alloc: Global,
-    types: &Types<'a>,
+    types: &'a Types<'a>,
     place: Place,
     f: u32,
     values: &[Value],
@@ -263,7 +268,7 @@ fn call_function<'a>(
     ensures { IfOk result (λ m. (m, state_of machine.new) ≡ called_as (program_data types.now) place f values.now
         (slice_get (program_data types.now).functions f) (state_of machine.old)) }
 {
-    match types.typed().functions.get(f as usize) {
+    match types.function(f) {
         Some(g) => match machine.room.enter(f)? {
             Ok(()) => start(machine, alloc, types, place, f, values, g),
             Err(end) => Ok(Moved::Over(end)),
@@ -276,7 +281,7 @@ fn call_function<'a>(
 fn call_through<'a>(
     machine: &mut Machine<'a>,
     alloc: Global,
-    types: &Types<'a>,
+    types: &'a Types<'a>,
     place: Place,
     t: TypeId,
     p: Ptr,
@@ -303,7 +308,7 @@ fn call_through<'a>(
 fn call<'a>(
     machine: &mut Machine<'a>,
     alloc: Global,
-    types: &Types<'a>,
+    types: &'a Types<'a>,
     callee: Callee,
     values: &[Value],
 ) -> Result<Moved, NoMemory>
@@ -323,7 +328,7 @@ fn call<'a>(
 pub fn gather<'a>(
     machine: &mut Machine<'a>,
     alloc: Global,
-    types: &Types<'a>,
+    types: &'a Types<'a>,
     callee: Callee,
     done: Vec<Value>,
     more: &'a [Expression],
@@ -347,7 +352,7 @@ pub fn gather<'a>(
 pub fn gather_one<'a>(
     machine: &mut Machine<'a>,
     alloc: Global,
-    types: &Types<'a>,
+    types: &'a Types<'a>,
     callee: Callee,
     mut done: Vec<Value>,
     more: &'a [Expression],

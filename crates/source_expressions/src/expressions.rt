@@ -146,7 +146,7 @@ fn spot_with<'a>(
 /// A field at an offset of what a path leads to.
 fn member<'a>(
     machine: &mut Machine<'a>,
-    types: &Types<'a>,
+    types: &'a Types<'a>,
     place: Place,
     q: &'a Path,
     offset: u32,
@@ -171,7 +171,7 @@ fn member<'a>(
 /// Where a path leads; it may be the operand of `&`.
 pub fn locate<'a>(
     machine: &mut Machine<'a>,
-    types: &Types<'a>,
+    types: &'a Types<'a>,
     addressed: bool,
     q: &'a Path,
 ) -> Result<Moved, NoMemory>
@@ -211,7 +211,7 @@ pub fn locate<'a>(
 /// Where a path leads, which may be the operand of `&`, and then an action on it.
 fn act_at<'a>(
     machine: &mut Machine<'a>,
-    types: &Types<'a>,
+    types: &'a Types<'a>,
     addressed: bool,
     q: &'a Path,
     action: Action,
@@ -225,7 +225,7 @@ fn act_at<'a>(
 /// Where a path leads, the value of an expression, and then an action on both.
 fn act_with<'a>(
     machine: &mut Machine<'a>,
-    types: &Types<'a>,
+    types: &'a Types<'a>,
     q: &'a Path,
     x: &'a Expression,
     action: Action,
@@ -241,7 +241,7 @@ fn act_with<'a>(
 /// Where two paths lead, and then an action on both.
 fn act_on_both<'a>(
     machine: &mut Machine<'a>,
-    types: &Types<'a>,
+    types: &'a Types<'a>,
     to: &'a Path,
     from: &'a Path,
     action: Action,
@@ -260,7 +260,7 @@ fn act_on_both<'a>(
 fn call<'a>(
     machine: &mut Machine<'a>,
     alloc: Global,
-    types: &Types<'a>,
+    types: &'a Types<'a>,
     callee: Callee,
     all: &'a [Expression],
 ) -> Result<Moved, NoMemory>
@@ -290,7 +290,7 @@ fn allocate_all<'a>(
 pub fn evaluate<'a>(
     machine: &mut Machine<'a>,
     alloc: Global,
-    types: &Types<'a>,
+    types: &'a Types<'a>,
     e: &'a Expression,
 ) -> Result<Moved, NoMemory>
     ensures { IfOk result (λ m. (m, state_of machine.new) ≡ valued (program_data types.now) (expression_of e.now) (state_of machine.old)) }
@@ -403,7 +403,7 @@ pub fn evaluate<'a>(
 pub fn evaluate_used<'a>(
     machine: &mut Machine<'a>,
     alloc: Global,
-    types: &Types<'a>,
+    types: &'a Types<'a>,
     e: &'a Expression,
 ) -> Result<Moved, NoMemory>
     ensures { IfOk result (λ m. (m, state_of machine.new) ≡ used (program_data types.now) (expression_of e.now) (state_of machine.old)) }

@@ -28,10 +28,11 @@ fn local_in<'a>(scope: Scope<'a>, number: u32) -> Option<&'a Local>
     ensures { option_copied result ≡ slice_get (context_of scope.entry).locals number }
 {
     let number = number as usize;
-    if number < scope.parameters.len() {
-        scope.parameters.get(number)
+    let parameters = &scope.function.parameters;
+    if number < parameters.len() {
+        parameters.get(number)
     } else {
-        scope.locals.get(number - scope.parameters.len())
+        scope.function.locals.get(number - parameters.len())
     }
 }
 
@@ -88,7 +89,7 @@ pub fn finish_first(room: &mut Room, count: usize) -> Result<(), NoMemory>
 /// A part of a block is stored.
 fn fill<'a>(
     machine: &mut Machine<'a>,
-    types: &Types<'a>,
+    types: &'a Types<'a>,
     block: u64,
     offset: u32,
     value: &'a PartValue,
@@ -114,7 +115,7 @@ fn fill<'a>(
 /// Parts of a block are stored.
 pub fn fill_all<'a>(
     machine: &mut Machine<'a>,
-    types: &Types<'a>,
+    types: &'a Types<'a>,
     block: u64,
     parts: &'a [InitializerPart],
 ) -> Result<Moved, NoMemory>
@@ -131,7 +132,7 @@ pub fn fill_all<'a>(
 
 fn initialize_in<'a>(
     machine: &mut Machine<'a>,
-    types: &Types<'a>,
+    types: &'a Types<'a>,
     block: u64,
     size: u32,
     initializer: &'a Initializer,
@@ -156,7 +157,7 @@ fn initialize_in<'a>(
 
 fn initialize_by_name<'a>(
     machine: &mut Machine<'a>,
-    types: &Types<'a>,
+    types: &'a Types<'a>,
     local: u32,
     initializer: &'a Initializer,
 ) -> Result<Moved, NoMemory>
@@ -171,7 +172,7 @@ fn initialize_by_name<'a>(
 
 fn initialize<'a>(
     machine: &mut Machine<'a>,
-    types: &Types<'a>,
+    types: &'a Types<'a>,
     local: u32,
     size: u32,
     initializer: &'a Initializer,
@@ -191,7 +192,7 @@ fn initialize<'a>(
 
 fn declare_local<'a>(
     machine: &mut Machine<'a>,
-    types: &Types<'a>,
+    types: &'a Types<'a>,
     number: u32,
     l: &'a Local,
     initializer: &'a Option<Initializer>,
@@ -212,7 +213,7 @@ fn declare_local<'a>(
 /// The declaration of a local is reached.
 pub fn declare<'a>(
     machine: &mut Machine<'a>,
-    types: &Types<'a>,
+    types: &'a Types<'a>,
     scope: Scope<'a>,
     number: u32,
     initializer: &'a Option<Initializer>,

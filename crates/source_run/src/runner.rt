@@ -2,7 +2,9 @@
 
 ghost use Rattle.std.specs.Prelude.{◌≡◌, IfOk};
 ghost use Rattle.c_typed.specs.Programs.{program_data};
-ghost use Rattle.source_run.specs.Starting.{IsAtStart, answer_of};
+ghost use Rattle.source_run.specs.RunGives.{RunGives};
+ghost use Rattle.source_run.specs.Starting.{HasFinished, IsAtStart, answer_of};
+ghost use Rattle.source_run.specs.Streams.{streams};
 ghost use Rattle.source_state.specs.View.{state_of};
 
 use crate::end::RunEnd;
@@ -31,13 +33,61 @@ fn answer(end: Final, turns: u64) -> RunEnd
 /// A machine at the start of a run.
 fn machine_at_start<'a>(
     alloc: Global,
-    types: &Types<'a>,
+    types: &Types<'_>,
     turns: u64,
 ) -> Result<Machine<'a>, NoMemory>
     ensures { IfOk result (λ machine. IsAtStart (program_data types.now) turns (state_of machine)) }
 {
     let room = start(alloc, types, turns)?;
     Machine::new(alloc, types.typed().main, room)
+}
+
+/// The answer of a run that is over, with its counts.
+fn finish(
+    alloc: Global,
+    types: &Types<'_>,
+    kept: &mut Counts,
+    machine: &Machine<'_>,
+    end: Final,
+    turns: u64,
+) -> RunEnd
+    ensures { HasFinished (program_data types.now) (state_of machine.now).core.counts kept.new end turns result }
+{
+    match counts(alloc, types.typed(), &machine.room().counts) {
+        Ok(counts) => {
+            *kept = counts;
+            answer(end, turns)
+        }
+        Err(_) => RunEnd::Memory,
+    }
+}
+
+/// Makes steps until the run is over.
+fn make_steps<'a, I: Source, O: Sink>(
+    alloc: Global,
+    types: &'a Types<'a>,
+    kept: &mut Counts,
+    machine: &mut Machine<'a>,
+    input: &mut I,
+    out: &mut O,
+    turns: u64,
+) -> RunEnd
+    requires { IsAtStart (program_data types.now) turns (state_of machine.old) }
+    ensures { RunGives (program_data types.now) turns
+        (streams (I.left input.old) (I.faults input.old) (O.written out.old) (O.faults out.old))
+        (streams (I.left input.new) (I.faults input.new) (O.written out.new) (O.faults out.new)) kept.new result }
+{
+    for _ in 0..u64::MAX {
+        match make_step(alloc, types, machine, input, out) {
+            Advance::Goes | Advance::Wrote(_) | Advance::Read => {}
+            Advance::Over(end) => return finish(alloc, types, kept, machine, end, turns),
+            Advance::ReadFails => return RunEnd::ReadFault,
+            Advance::WriteFails(_) => return RunEnd::WriteFault,
+            Advance::Memory => return RunEnd::Memory,
+        }
+    }
+    // No run makes so many steps in practice.
+    RunEnd::Memory
 }
 
 /// Runs a program once. It is as `new` made it, or it has run and keeps its end and its counts.
@@ -54,9 +104,7 @@ impl<'a> Runner<'a> {
     ghost use Rattle.c_typed.specs.Programs.{program_data};
     ghost use Rattle.source_run.specs.Fresh.{IsFresh, no_counts};
     ghost use Rattle.source_run.specs.RunGives.{RunGives};
-    ghost use Rattle.source_run.specs.Starting.{HasFinished, IsAtStart};
     ghost use Rattle.source_run.specs.Streams.{streams};
-    ghost use Rattle.source_state.specs.View.{state_of};
 
     /// A runner of the program, with counts that are all 0.
     pub fn new(alloc: Global, p: &'a Typed) -> Result<Runner<'a>, NoMemory>
@@ -73,46 +121,6 @@ impl<'a> Runner<'a> {
         })
     }
 
-    /// The answer of a run that is over, with its counts.
-    fn finish(&mut self, alloc: Global, machine: &Machine<'a>, end: Final, turns: u64) -> RunEnd
-        ensures { HasFinished (program_data self.old.types) (state_of machine.now).core.counts self.new.counts end turns result }
-    {
-        match counts(alloc, self.types.typed(), &machine.room().counts) {
-            Ok(counts) => {
-                self.counts = counts;
-                answer(end, turns)
-            }
-            Err(_) => RunEnd::Memory,
-        }
-    }
-
-    /// Makes steps until the run is over.
-    fn make_steps<I: Source, O: Sink>(
-        &mut self,
-        alloc: Global,
-        machine: &mut Machine<'a>,
-        input: &mut I,
-        out: &mut O,
-        turns: u64,
-    ) -> RunEnd
-        requires { IsAtStart (program_data self.old.types) turns (state_of machine.old) }
-        ensures { RunGives (program_data self.old.types) turns
-            (streams (I.left input.old) (I.faults input.old) (O.written out.old) (O.faults out.old))
-            (streams (I.left input.new) (I.faults input.new) (O.written out.new) (O.faults out.new)) self.new.counts result }
-    {
-        for _ in 0..u64::MAX {
-            match make_step(alloc, &self.types, machine, input, out) {
-                Advance::Goes | Advance::Wrote(_) | Advance::Read => {}
-                Advance::Over(end) => return self.finish(alloc, machine, end, turns),
-                Advance::ReadFails => return RunEnd::ReadFault,
-                Advance::WriteFails(_) => return RunEnd::WriteFault,
-                Advance::Memory => return RunEnd::Memory,
-            }
-        }
-        // No run makes so many steps in practice.
-        RunEnd::Memory
-    }
-
     /// Runs the program from its start.
     fn go<I: Source, O: Sink>(
         &mut self,
@@ -126,7 +134,15 @@ impl<'a> Runner<'a> {
             (streams (I.left input.new) (I.faults input.new) (O.written out.new) (O.faults out.new)) self.new.counts result }
     {
         match machine_at_start(alloc, &self.types, turns) {
-            Ok(mut machine) => self.make_steps(alloc, &mut machine, input, out, turns),
+            Ok(mut machine) => make_steps(
+                alloc,
+                &self.types,
+                &mut self.counts,
+                &mut machine,
+                input,
+                out,
+                turns,
+            ),
             Err(_) => RunEnd::Memory,
         }
     }

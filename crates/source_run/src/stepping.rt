@@ -58,7 +58,7 @@ fn put_byte<O: Sink>(byte: u8, out: &mut O) -> Result<(), SinkFault>
 #[inline(always)]
 pub(crate) fn make_step<'a, I: Source, O: Sink>(
     alloc: Global,
-    types: &Types<'a>,
+    types: &'a Types<'a>,
     machine: &mut Machine<'a>,
     input: &mut I,
     out: &mut O,

@@ -1,9 +1,9 @@
 -- Work as the items that it stands for.
 use Rattle.std.specs.Prelude.{ℕ, Bool, true, false, List, ◌++◌, map}
 use Rattle.std.specs.Option.{option_map}
-use Rattle.c_counts.specs.Loops.{arm_of}
 use Rattle.c_typed.specs.Trees as T
-use Rattle.c_typed.specs.Views.{expression_of, expressions_of, path_of, statement_of, statements_of, arms_of, part_of, AnExpression, AStatement}
+use Rattle.c_typed.specs.Views.{expression_of, expressions_of, path_of, part_of, AnExpression, AStatement}
+use Rattle.loop_tallies.specs.Forms.{statement_in, statements_in, arms_in}
 use Rattle.c_meaning.specs.Run.{numbers}
 use Rattle.runs.specs.declared.value.Value.{Value}
 use Rattle.source_machine.specs.declared.items.Callee.{Callee}
@@ -26,7 +26,7 @@ use Rattle.source_state.specs.declared.work.Work.{Work}
 use Rattle.source_state.specs.declared.work.Work.TheVariants as W
 
 abbrev pub context_of : Scope → Context
-context_of c = record { function = c.function; locals = c.parameters.now ++ c.locals.now }
+context_of c = record { function = c.number; locals = c.function.now.parameters ++ c.function.now.locals }
 
 abbrev pub loop_of : Loop → I.Loop
 loop_of l = record {
@@ -34,11 +34,11 @@ loop_of l = record {
   number = l.number;
   test = option_map (λ e. expression_of e.now) l.test;
   step = option_map (λ e. expression_of e.now) l.step;
-  body = statement_of l.body.now;
+  body = statement_in l.body;
 }
 
 abbrev pub loop_behind_of : LoopBehind → I.LoopBehind
-loop_behind_of l = record { context = context_of l.scope; number = l.number; body = statement_of l.body.now; test = expression_of l.test.now }
+loop_behind_of l = record { context = context_of l.scope; number = l.number; body = statement_in l.body; test = expression_of l.test.now }
 
 abbrev pub for_expression : ForExpression → AnExpression → Item
 for_expression E.Evaluating e = I.evaluating e
@@ -74,10 +74,10 @@ item_of (W.Spotting addressed q) = I.spotting addressed (path_of q.now)
 item_of (W.Choosing y z) = I.choosing (expression_of y.now) (expression_of z.now)
 item_of (W.Call what callee done more) = for_call what callee done.items (expressions_of (map expression_of more.now))
 item_of (W.Framing caller) = I.framing caller.items
-item_of (W.Statement what c l one) = for_statement what (context_of c) l (statement_of one.now)
-item_of (W.Statements c l all) = I.executing_all (context_of c) l (statements_of (map statement_of all.now))
-item_of (W.Deciding c l one other) = I.deciding_else (context_of c) l (statement_of one.now) (statement_of other.now)
-item_of (W.Arms what c l own arms) = for_arms what (context_of c) l own.now (arms_of (map arm_of arms.now))
+item_of (W.Statement what c l one) = for_statement what (context_of c) l (statement_in one)
+item_of (W.Statements c l all) = I.executing_all (context_of c) l (statements_in all)
+item_of (W.Deciding c l one other) = I.deciding_else (context_of c) l (statement_in one) (statement_in other)
+item_of (W.Arms what c l own arms) = for_arms what (context_of c) l own.now (arms_in arms)
 item_of W.Switching = I.switching
 item_of (W.Loop what l) = for_loop what (loop_of l)
 item_of (W.LoopBehind tested l) = for_loop_behind tested (loop_behind_of l)

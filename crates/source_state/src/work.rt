@@ -1,16 +1,16 @@
 //! What is left to do in a run.
 
 use c_meaning::{Slot, Way};
-use c_typed::{Arm, Expression, InitializerPart, Local, Path, Statement};
+use c_typed::{Expression, Function, InitializerPart, Path};
+use loop_tallies::{TalliedArms, TalliedStatement, TalliedStatements};
 use runs::Value;
 use source_machine::{Action, Callee};
 
-/// The function that a statement stands in: its number, its parameters, and its other locals.
+/// The function that a statement stands in, with its number.
 #[derive(Clone, Copy)]
 pub struct Scope<'a> {
-    pub function: u32,
-    pub parameters: &'a [Local],
-    pub locals: &'a [Local],
+    pub number: u32,
+    pub function: &'a Function,
 }
 
 /// A loop by its number, whose test stands before its body; where there is none it always goes on.
@@ -20,7 +20,7 @@ pub struct Loop<'a> {
     pub number: u64,
     pub test: Option<&'a Expression>,
     pub step: Option<&'a Expression>,
-    pub body: &'a Statement,
+    pub body: TalliedStatement<'a>,
 }
 
 /// A loop whose test stands behind its body.
@@ -28,7 +28,7 @@ pub struct Loop<'a> {
 pub struct LoopBehind<'a> {
     pub scope: Scope<'a>,
     pub number: u64,
-    pub body: &'a Statement,
+    pub body: TalliedStatement<'a>,
     pub test: &'a Expression,
 }
 
@@ -90,12 +90,12 @@ pub enum Work<'a> {
     Call(ForCall, Callee, Vec<Value>, &'a [Expression]),
     /// Behind the body of a function: it goes on in its caller's frame.
     Framing(Vec<Slot>),
-    Statement(ForStatement, Scope<'a>, u64, &'a Statement),
-    Statements(Scope<'a>, u64, &'a [Statement]),
+    Statement(ForStatement, Scope<'a>, u64, TalliedStatement<'a>),
+    Statements(Scope<'a>, u64, TalliedStatements<'a>),
     /// Both statements of an `if`, behind its operand.
-    Deciding(Scope<'a>, u64, &'a Statement, &'a Statement),
+    Deciding(Scope<'a>, u64, TalliedStatement<'a>, TalliedStatement<'a>),
     /// The arms of a `switch`, with its locals.
-    Arms(ForArms, Scope<'a>, u64, &'a [u32], &'a [Arm]),
+    Arms(ForArms, Scope<'a>, u64, &'a [u32], TalliedArms<'a>),
     /// Behind the body of a `switch`.
     Switching,
     Loop(ForLoop, Loop<'a>),

@@ -2,7 +2,8 @@
 
 ghost use Rattle.std.specs.Prelude.{◌≡◌, IfOk, map};
 ghost use Rattle.c_typed.specs.Programs.{program_data};
-ghost use Rattle.c_typed.specs.Views.{expression_of, statement_of, statements_of};
+ghost use Rattle.c_typed.specs.Views.{expression_of};
+ghost use Rattle.loop_tallies.specs.Forms.{statement_in, statements_in};
 ghost use Rattle.source_machine.specs.Items as I;
 ghost use Rattle.source_steps.specs.Ahead.{ahead, executed_ahead, executed_all_ahead, repeats_ahead, tests_ahead};
 ghost use Rattle.source_stepper.specs.Ahead.{decided, decided_else, tested_by};
@@ -11,10 +12,10 @@ ghost use Rattle.source_state.specs.WorkView.{context_of, loop_of};
 
 use crate::loops::{begin_loop, repeat_loop, test_loop};
 use crate::statements::{behind, execute, leave, select, while_loop};
-use c_counts::loops_in_statement;
 use c_meaning::Way;
-use c_typed::{Expression, Statement};
+use c_typed::Expression;
 use lay_base::NoMemory;
+use loop_tallies::{Form, TalliedStatement, TalliedStatements};
 use runs::Value;
 use source_direct::at_once;
 use source_expressions::{evaluate, evaluate_used, go_on};
@@ -30,7 +31,7 @@ use std::alloc::Global;
 pub(crate) fn evaluate_ahead<'a>(
     machine: &mut Machine<'a>,
     alloc: Global,
-    types: &Types<'a>,
+    types: &'a Types<'a>,
     e: &'a Expression,
 ) -> Result<Moved, NoMemory>
     ensures { IfOk result (λ m. (m, state_of machine.new) ≡ ahead (program_data types.now) (I.evaluating (expression_of e.now)) (state_of machine.old)) }
@@ -45,7 +46,7 @@ pub(crate) fn evaluate_ahead<'a>(
 pub(crate) fn use_ahead<'a>(
     machine: &mut Machine<'a>,
     alloc: Global,
-    types: &Types<'a>,
+    types: &'a Types<'a>,
     e: &'a Expression,
 ) -> Result<Moved, NoMemory>
     ensures { IfOk result (λ m. (m, state_of machine.new) ≡ ahead (program_data types.now) (I.using (expression_of e.now)) (state_of machine.old)) }
@@ -61,7 +62,7 @@ pub(crate) fn use_ahead<'a>(
 /// A loop whose test has that value.
 pub(crate) fn begin_if<'a>(
     machine: &mut Machine<'a>,
-    types: &Types<'a>,
+    types: &'a Types<'a>,
     v: Value,
     l: Loop<'a>,
 ) -> Result<Moved, NoMemory>
@@ -78,7 +79,7 @@ pub(crate) fn begin_if<'a>(
 #[inline(always)]
 pub(crate) fn test_ahead<'a>(
     machine: &mut Machine<'a>,
-    types: &Types<'a>,
+    types: &'a Types<'a>,
     l: Loop<'a>,
 ) -> Result<Moved, NoMemory>
     ensures { IfOk result (λ m. (m, state_of machine.new) ≡ tests_ahead (program_data types.now) (loop_of l.entry).test (loop_of l.entry) (state_of machine.old)) }
@@ -96,7 +97,7 @@ pub(crate) fn test_ahead<'a>(
 #[inline(always)]
 pub(crate) fn repeat_ahead<'a>(
     machine: &mut Machine<'a>,
-    types: &Types<'a>,
+    types: &'a Types<'a>,
     l: Loop<'a>,
 ) -> Result<Moved, NoMemory>
     ensures { IfOk result (λ m. (m, state_of machine.new) ≡ repeats_ahead (program_data types.now) (loop_of l.entry).step (loop_of l.entry) (state_of machine.old)) }
@@ -118,9 +119,9 @@ pub(crate) fn decide_if<'a>(
     v: Value,
     scope: Scope<'a>,
     loops: u64,
-    one: &'a Statement,
+    one: TalliedStatement<'a>,
 ) -> Result<Moved, NoMemory>
-    ensures { IfOk result (λ m. (m, state_of machine.new) ≡ decided v (context_of scope.entry) loops (statement_of one.now) (state_of machine.old)) }
+    ensures { IfOk result (λ m. (m, state_of machine.new) ≡ decided v (context_of scope.entry) loops (statement_in one.entry) (state_of machine.old)) }
 {
     if is_true(v) {
         go_on(
@@ -138,10 +139,10 @@ pub(crate) fn decide_else<'a>(
     v: Value,
     scope: Scope<'a>,
     loops: u64,
-    one: &'a Statement,
-    other: &'a Statement,
+    one: TalliedStatement<'a>,
+    other: TalliedStatement<'a>,
 ) -> Result<Moved, NoMemory>
-    ensures { IfOk result (λ m. (m, state_of machine.new) ≡ decided_else v (context_of scope.entry) loops (statement_of one.now) (statement_of other.now) (state_of machine.old)) }
+    ensures { IfOk result (λ m. (m, state_of machine.new) ≡ decided_else v (context_of scope.entry) loops (statement_in one.entry) (statement_in other.entry) (state_of machine.old)) }
 {
     if is_true(v) {
         go_on(
@@ -149,7 +150,7 @@ pub(crate) fn decide_else<'a>(
             Work::Statement(ForStatement::Executing, scope, loops, one),
         )
     } else {
-        let after = behind(loops, loops_in_statement(one))?;
+        let after = behind(loops, one.loops())?;
         go_on(
             machine,
             Work::Statement(ForStatement::Executing, scope, after, other),
@@ -161,51 +162,51 @@ pub(crate) fn decide_else<'a>(
 pub(crate) fn execute_ahead<'a>(
     machine: &mut Machine<'a>,
     alloc: Global,
-    types: &Types<'a>,
+    types: &'a Types<'a>,
     scope: Scope<'a>,
     loops: u64,
-    s: &'a Statement,
+    s: TalliedStatement<'a>,
 ) -> Result<Moved, NoMemory>
-    ensures { IfOk result (λ m. (m, state_of machine.new) ≡ executed_ahead (program_data types.now) (context_of scope.entry) loops (statement_of s.now) (state_of machine.old)) }
+    ensures { IfOk result (λ m. (m, state_of machine.new) ≡ executed_ahead (program_data types.now) (context_of scope.entry) loops (statement_in s.entry) (state_of machine.old)) }
 {
-    match s {
-        Statement::Do(e) => match at_once(types, &mut machine.room, e.get()) {
+    match s.form() {
+        Form::Do(e) => match at_once(types, &mut machine.room, e) {
             Some(_) => Ok(Moved::Goes),
             None => execute(machine, alloc, types, scope, loops, s),
         },
-        Statement::If(e, one, None) => match at_once(types, &mut machine.room, e.get()) {
-            Some(v) => decide_if(machine, v, scope, loops, one.get()),
+        Form::If(e, one) => match at_once(types, &mut machine.room, e) {
+            Some(v) => decide_if(machine, v, scope, loops, one),
             None => execute(machine, alloc, types, scope, loops, s),
         },
-        Statement::If(e, one, Some(other)) => match at_once(types, &mut machine.room, e.get()) {
-            Some(v) => decide_else(machine, v, scope, loops, one.get(), other.get()),
+        Form::IfElse(e, one, other) => match at_once(types, &mut machine.room, e) {
+            Some(v) => decide_else(machine, v, scope, loops, one, other),
             None => execute(machine, alloc, types, scope, loops, s),
         },
-        Statement::While(e, body) => match at_once(types, &mut machine.room, e.get()) {
+        Form::While(e, body) => match at_once(types, &mut machine.room, e) {
             Some(v) => {
-                let l = while_loop(scope, loops, e.get(), body.get());
+                let l = while_loop(scope, loops, e, body);
                 begin_if(machine, types, v, l)
             }
             None => execute(machine, alloc, types, scope, loops, s),
         },
-        Statement::Switch(e, own, arms) => match at_once(types, &mut machine.room, e.get()) {
+        Form::Switch(e, own, arms) => match at_once(types, &mut machine.room, e) {
             Some(v) => {
-                let (own, arms) = (own.as_slice(), arms.as_slice());
-                select(machine, alloc, types, scope, loops, own, arms, word_of(v))
+                let v = word_of(v);
+                select(machine, alloc, types, scope, loops, own, arms, v)
             }
             None => execute(machine, alloc, types, scope, loops, s),
         },
-        Statement::Return(Some(e)) => match at_once(types, &mut machine.room, e.get()) {
+        Form::Return(Some(e)) => match at_once(types, &mut machine.room, e) {
             Some(v) => leave(machine, Way::ByReturn(Some(v))),
             None => execute(machine, alloc, types, scope, loops, s),
         },
-        Statement::Block(..)
-        | Statement::Declare(..)
-        | Statement::DoWhile(..)
-        | Statement::For(..)
-        | Statement::Break
-        | Statement::Continue
-        | Statement::Return(None) => execute(machine, alloc, types, scope, loops, s),
+        Form::Block(..)
+        | Form::Declare(..)
+        | Form::DoWhile(..)
+        | Form::For(..)
+        | Form::Break
+        | Form::Continue
+        | Form::Return(None) => execute(machine, alloc, types, scope, loops, s),
     }
 }
 
@@ -213,17 +214,17 @@ pub(crate) fn execute_ahead<'a>(
 pub(crate) fn execute_all_ahead<'a>(
     machine: &mut Machine<'a>,
     alloc: Global,
-    types: &Types<'a>,
+    types: &'a Types<'a>,
     scope: Scope<'a>,
     loops: u64,
-    all: &'a [Statement],
+    all: TalliedStatements<'a>,
 ) -> Result<Moved, NoMemory>
     ensures { IfOk result (λ m. (m, state_of machine.new) ≡ executed_all_ahead (program_data types.now) (context_of scope.entry) loops
-        (statements_of (map statement_of all.now)) (state_of machine.old)) }
+        (statements_in all.entry) (state_of machine.old)) }
 {
     match all.split_first() {
         Some((s, rest)) => {
-            let after = behind(loops, loops_in_statement(s))?;
+            let after = behind(loops, s.loops())?;
             machine.todo(Work::Statements(scope, after, rest))?;
             execute_ahead(machine, alloc, types, scope, loops, s)
         }

@@ -23,14 +23,14 @@ fn one_more(number: u64) -> Result<u64, NoMemory>
 /// The body of a loop begins.
 pub(crate) fn begin_loop<'a>(
     machine: &mut Machine<'a>,
-    types: &Types<'a>,
+    types: &'a Types<'a>,
     l: Loop<'a>,
 ) -> Result<Moved, NoMemory>
     ensures { IfOk result (λ m. (m, state_of machine.new) ≡ begun (program_data types.now) (loop_of l.entry) (state_of machine.old)) }
 {
     let _ = types;
     let loops = one_more(l.number)?;
-    match machine.room.begin_body(l.scope.function, l.number) {
+    match machine.room.begin_body(l.scope.number, l.number) {
         Ok(()) => {
             machine.todo(Work::Loop(ForLoop::Repeating, l))?;
             let body = Work::Statement(ForStatement::Executing, l.scope, loops, l.body);
@@ -43,7 +43,7 @@ pub(crate) fn begin_loop<'a>(
 /// A loop before its test.
 pub(crate) fn test_loop<'a>(
     machine: &mut Machine<'a>,
-    types: &Types<'a>,
+    types: &'a Types<'a>,
     l: Loop<'a>,
 ) -> Result<Moved, NoMemory>
     ensures { IfOk result (λ m. (m, state_of machine.new) ≡ tests (program_data types.now) (loop_of l.entry).test (loop_of l.entry) (state_of machine.old)) }
@@ -57,7 +57,7 @@ pub(crate) fn test_loop<'a>(
 /// A loop behind its body.
 pub(crate) fn repeat_loop<'a>(
     machine: &mut Machine<'a>,
-    types: &Types<'a>,
+    types: &'a Types<'a>,
     l: Loop<'a>,
 ) -> Result<Moved, NoMemory>
     ensures { IfOk result (λ m. (m, state_of machine.new) ≡ repeats (program_data types.now) (loop_of l.entry).step (loop_of l.entry) (state_of machine.old)) }
@@ -74,14 +74,14 @@ pub(crate) fn repeat_loop<'a>(
 /// The body of a loop begins whose test stands behind it.
 pub(crate) fn begin_behind<'a>(
     machine: &mut Machine<'a>,
-    types: &Types<'a>,
+    types: &'a Types<'a>,
     l: LoopBehind<'a>,
 ) -> Result<Moved, NoMemory>
     ensures { IfOk result (λ m. (m, state_of machine.new) ≡ begun_behind (program_data types.now) (loop_behind_of l.entry) (state_of machine.old)) }
 {
     let _ = types;
     let loops = one_more(l.number)?;
-    match machine.room.begin_body(l.scope.function, l.number) {
+    match machine.room.begin_body(l.scope.number, l.number) {
         Ok(()) => {
             machine.todo(Work::LoopBehind(false, l))?;
             let body = Work::Statement(ForStatement::Executing, l.scope, loops, l.body);
@@ -94,7 +94,7 @@ pub(crate) fn begin_behind<'a>(
 /// The test of such a loop.
 pub(crate) fn test_behind<'a>(
     machine: &mut Machine<'a>,
-    types: &Types<'a>,
+    types: &'a Types<'a>,
     l: LoopBehind<'a>,
 ) -> Result<Moved, NoMemory>
     ensures { IfOk result (λ m. (m, state_of machine.new) ≡ tests_behind (program_data types.now) (loop_behind_of l.entry) (state_of machine.old)) }

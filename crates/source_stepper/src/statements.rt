@@ -3,11 +3,12 @@
 ghost use Rattle.std.specs.Prelude.{◌≡◌, ◌+◌, ◌-◌, ◌^◌, ◌<◌, ◌==◌, IfOk, None, Some, map};
 ghost use Rattle.std.specs.List.{list_any};
 ghost use Rattle.std.specs.Option.{option_map};
-ghost use Rattle.c_counts.specs.Loops.{arm_of as one_arm, loops_in};
+ghost use Rattle.c_counts.specs.Loops.{arm_of as one_arm};
 ghost use Rattle.c_meaning.specs.Statements.{arm_of, default_arm, or_default};
 ghost use Rattle.c_typed.specs.Programs.{program_data};
 ghost use Rattle.c_typed.specs.Trees as T;
-ghost use Rattle.c_typed.specs.Views.{arms_of, expression_of, statement_of, statements_of};
+ghost use Rattle.c_typed.specs.Views.{arms_of, expression_of};
+ghost use Rattle.loop_tallies.specs.Forms.{arms_in, statement_in, statements_in};
 ghost use Rattle.source_machine.specs.Items.{unwinding};
 ghost use Rattle.source_steps.specs.States.{doing, goes};
 ghost use Rattle.source_steps.specs.Statements.{entered, executed, selected};
@@ -16,10 +17,10 @@ ghost use Rattle.source_state.specs.View.{state_of};
 ghost use Rattle.source_state.specs.WorkView.{context_of, loop_of};
 
 use crate::loops::begin_behind;
-use c_counts::loops_in_statements;
 use c_meaning::Way;
-use c_typed::{Arm, Expression, Statement};
-use lay_base::{Boxed, NoMemory};
+use c_typed::{Arm, Expression};
+use lay_base::NoMemory;
+use loop_tallies::{Form, TalliedArms, TalliedStatement, TalliedStatements};
 use source_expressions::{begin_all, declare, evaluate_one, go_on, use_then};
 use source_machine::Action;
 use source_state::{ForArms, ForLoop, ForStatement, Loop, LoopBehind, Machine, Scope, Work};
@@ -27,24 +28,11 @@ use source_steps::Moved;
 use source_types::Types;
 use std::alloc::Global;
 
-/// The number of loops behind so many and some more; `NoMemory` comes where that is beyond all counts.
+/// The number of loops behind so many and some more; `NoMemory` comes where there are 2^64.
 pub(crate) fn behind(loops: u64, more: u32) -> Result<u64, NoMemory>
-    ensures { IfOk result (λ n. (n ≡ loops + more) × (more < 2 ^ 32 - 1)) }
+    ensures { IfOk result (λ n. n ≡ loops + more) }
 {
-    if more == u32::MAX {
-        return Err(NoMemory);
-    }
     loops.checked_add(u64::from(more)).ok_or(NoMemory)
-}
-
-/// An optional expression, lent.
-fn lent(e: &Option<Boxed<Expression>>) -> Option<&Expression>
-    ensures { option_map (λ it. expression_of it.now) result ≡ option_map expression_of e.now }
-{
-    match e {
-        Some(e) => Some(e.get()),
-        None => None,
-    }
 }
 
 /// Whether a value is among the case values of an arm.
@@ -104,14 +92,14 @@ fn selected_arm(arms: &[Arm], v: u32) -> Option<u64>
 fn execute_block<'a>(
     machine: &mut Machine<'a>,
     alloc: Global,
-    types: &Types<'a>,
+    types: &'a Types<'a>,
     scope: Scope<'a>,
     loops: u64,
     own: &'a [u32],
-    all: &'a [Statement],
+    all: TalliedStatements<'a>,
 ) -> Result<Moved, NoMemory>
     ensures { IfOk result (λ m. (m, state_of machine.new) ≡ executed (program_data types.now) (context_of scope.entry) loops
-        (T.block own.now (statements_of (map statement_of all.now))) (state_of machine.old)) }
+        (T.block own.now (statements_in all.entry)) (state_of machine.old)) }
 {
     match begin_all(&mut machine.room, alloc, types, scope, own)? {
         Ok(()) => {
@@ -126,12 +114,12 @@ fn execute_block<'a>(
 fn execute_for<'a>(
     machine: &mut Machine<'a>,
     alloc: Global,
-    types: &Types<'a>,
+    types: &'a Types<'a>,
     own: &'a [u32],
-    start: &'a [Statement],
+    start: TalliedStatements<'a>,
     l: Loop<'a>,
 ) -> Result<Moved, NoMemory>
-    ensures { IfOk result (λ m. (m, state_of machine.new) ≡ begun_for (program_data types.now) own.now (statements_of (map statement_of start.now))
+    ensures { IfOk result (λ m. (m, state_of machine.new) ≡ begun_for (program_data types.now) own.now (statements_in start.entry)
         (loop_of l.entry) (state_of machine.old)) }
 {
     match begin_all(&mut machine.room, alloc, types, l.scope, own)? {
@@ -150,9 +138,9 @@ pub(crate) fn while_loop<'a>(
     scope: Scope<'a>,
     number: u64,
     test: &'a Expression,
-    body: &'a Statement,
+    body: TalliedStatement<'a>,
 ) -> Loop<'a>
-    ensures { loop_of result ≡ record { context = context_of scope.entry; number = number; test = Some (expression_of test.entry.now); step = None; body = statement_of body.entry.now } }
+    ensures { loop_of result ≡ record { context = context_of scope.entry; number = number; test = Some (expression_of test.entry.now); step = None; body = statement_in body.entry } }
 {
     Loop {
         scope,
@@ -175,100 +163,87 @@ pub(crate) fn leave<'a>(machine: &mut Machine<'a>, way: Way) -> Result<Moved, No
 pub(crate) fn execute<'a>(
     machine: &mut Machine<'a>,
     alloc: Global,
-    types: &Types<'a>,
+    types: &'a Types<'a>,
     scope: Scope<'a>,
     loops: u64,
-    s: &'a Statement,
+    s: TalliedStatement<'a>,
 ) -> Result<Moved, NoMemory>
-    ensures { IfOk result (λ m. (m, state_of machine.new) ≡ executed (program_data types.now) (context_of scope.entry) loops (statement_of s.now) (state_of machine.old)) }
+    ensures { IfOk result (λ m. (m, state_of machine.new) ≡ executed (program_data types.now) (context_of scope.entry) loops (statement_in s.entry) (state_of machine.old)) }
 {
-    match s {
-        Statement::Do(e) => evaluate_one(machine, e.get(), Action::Dropping),
-        Statement::Block(own, all) => {
-            execute_block(
-                machine,
-                alloc,
-                types,
-                scope,
-                loops,
-                own.as_slice(),
-                all.as_slice(),
-            )
+    match s.form() {
+        Form::Do(e) => evaluate_one(machine, e, Action::Dropping),
+        Form::Block(own, all) => execute_block(machine, alloc, types, scope, loops, own, all),
+        Form::Declare(number, initializer) => {
+            declare(machine, types, scope, number, initializer)
         }
-        Statement::Declare(number, initializer) => {
-            declare(machine, types, scope, *number, initializer)
+        Form::If(e, one) => {
+            let work = Work::Statement(ForStatement::Deciding, scope, loops, one);
+            use_then(machine, e, work)
         }
-        Statement::If(e, one, None) => {
-            let work = Work::Statement(ForStatement::Deciding, scope, loops, one.get());
-            use_then(machine, e.get(), work)
+        Form::IfElse(e, one, other) => {
+            use_then(machine, e, Work::Deciding(scope, loops, one, other))
         }
-        Statement::If(e, one, Some(other)) => {
-            let work = Work::Deciding(scope, loops, one.get(), other.get());
-            use_then(machine, e.get(), work)
-        }
-        Statement::While(e, body) => {
-            let e = e.get();
-            let l = while_loop(scope, loops, e, body.get());
+        Form::While(e, body) => {
+            let l = while_loop(scope, loops, e, body);
             use_then(machine, e, Work::Loop(ForLoop::Tested, l))
         }
-        Statement::DoWhile(body, e) => {
+        Form::DoWhile(body, test) => {
             let l = LoopBehind {
                 scope,
                 number: loops,
-                body: body.get(),
-                test: e.get(),
+                body,
+                test,
             };
             begin_behind(machine, types, l)
         }
-        Statement::For(own, start, test, step, body) => {
+        Form::For(own, start, test, step, body) => {
             let l = Loop {
                 scope,
                 number: loops,
-                test: lent(test),
-                step: lent(step),
-                body: body.get(),
+                test,
+                step,
+                body,
             };
-            execute_for(machine, alloc, types, own.as_slice(), start.as_slice(), l)
+            execute_for(machine, alloc, types, own, start, l)
         }
-        Statement::Switch(e, own, arms) => {
-            let (own, arms) = (own.as_slice(), arms.as_slice());
+        Form::Switch(e, own, arms) => {
             let work = Work::Arms(ForArms::Selecting, scope, loops, own, arms);
-            use_then(machine, e.get(), work)
+            use_then(machine, e, work)
         }
-        Statement::Break => leave(machine, Way::ByBreak),
-        Statement::Continue => leave(machine, Way::ByContinue),
-        Statement::Return(None) => leave(machine, Way::ByReturn(None)),
-        Statement::Return(Some(e)) => { use_then(machine, e.get(), Work::Returning) }
+        Form::Break => leave(machine, Way::ByBreak),
+        Form::Continue => leave(machine, Way::ByContinue),
+        Form::Return(None) => leave(machine, Way::ByReturn(None)),
+        Form::Return(Some(e)) => use_then(machine, e, Work::Returning),
     }
 }
 
 /// The arms of a `switch` from the one with that number on, or none.
 pub(crate) fn enter_arms<'a>(
     machine: &mut Machine<'a>,
-    types: &Types<'a>,
+    types: &'a Types<'a>,
     scope: Scope<'a>,
     loops: u64,
     arm: Option<u64>,
     own: &'a [u32],
-    arms: &'a [Arm],
+    arms: TalliedArms<'a>,
 ) -> Result<Moved, NoMemory>
     ensures { IfOk result (λ m. (m, state_of machine.new) ≡ entered (program_data types.now) (context_of scope.entry) loops arm
-        (arms_of (map one_arm arms.now)) (state_of machine.old)) }
+        (arms_in arms.entry) (state_of machine.old)) }
 {
     let _ = types;
     let Some(number) = arm else {
         return Ok(Moved::Goes);
     };
     match arms.split_first() {
-        Some((arm, rest)) => {
-            let all = arm.statements.as_slice();
-            let after = behind(loops, loops_in_statements(all))?;
+        Some(first) => {
+            let after = behind(loops, first.loops)?;
             if number == 0 {
-                machine.todo(Work::Arms(ForArms::Entering(Some(0)), scope, after, own, rest))?;
-                go_on(machine, Work::Statements(scope, loops, all))
+                let next = ForArms::Entering(Some(0));
+                machine.todo(Work::Arms(next, scope, after, own, first.rest))?;
+                go_on(machine, Work::Statements(scope, loops, first.statements))
             } else {
                 let next = ForArms::Entering(Some(number - 1));
-                go_on(machine, Work::Arms(next, scope, after, own, rest))
+                go_on(machine, Work::Arms(next, scope, after, own, first.rest))
             }
         }
         None => Ok(Moved::Goes),
@@ -279,19 +254,19 @@ pub(crate) fn enter_arms<'a>(
 pub(crate) fn select<'a>(
     machine: &mut Machine<'a>,
     alloc: Global,
-    types: &Types<'a>,
+    types: &'a Types<'a>,
     scope: Scope<'a>,
     loops: u64,
     own: &'a [u32],
-    arms: &'a [Arm],
+    arms: TalliedArms<'a>,
     v: u32,
 ) -> Result<Moved, NoMemory>
     ensures { IfOk result (λ m. (m, state_of machine.new) ≡ selected (program_data types.now) (context_of scope.entry) loops own.now
-        (arms_of (map one_arm arms.now)) v (state_of machine.old)) }
+        (arms_in arms.entry) v (state_of machine.old)) }
 {
     match begin_all(&mut machine.room, alloc, types, scope, own)? {
         Ok(()) => {
-            let arm = selected_arm(arms, v);
+            let arm = selected_arm(arms.arms, v);
             machine.todo(Work::Switching)?;
             machine.todo(Work::Ending(own))?;
             let work = Work::Arms(ForArms::Entering(arm), scope, loops, own, arms);

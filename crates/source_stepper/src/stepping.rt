@@ -1,10 +1,10 @@
 //! One step: the first item of the work is done, or makes way for the items that it comes to.
 
 ghost use Rattle.std.specs.Prelude.{◌≡◌, IfOk, map};
-ghost use Rattle.c_counts.specs.Loops.{arm_of as one_arm};
 ghost use Rattle.c_meaning.specs.Run.{numbers, status_of};
 ghost use Rattle.c_typed.specs.Programs.{program_data};
-ghost use Rattle.c_typed.specs.Views.{arms_of, expression_of, expressions_of, statement_of};
+ghost use Rattle.c_typed.specs.Views.{expression_of, expressions_of};
+ghost use Rattle.loop_tallies.specs.Forms.{arms_in, statement_in};
 ghost use Rattle.source_machine.specs.Items as I;
 ghost use Rattle.source_steps.specs.Statements.{closed, passed, unwound};
 ghost use Rattle.source_steps.specs.States.{goes};
@@ -20,8 +20,9 @@ use crate::ahead::{
 use crate::loops::{begin_behind, repeat_loop, test_behind};
 use crate::statements::{enter_arms, leave, select};
 use c_meaning::{Slot, Way};
-use c_typed::{Arm, Expression, Statement};
+use c_typed::Expression;
 use lay_base::NoMemory;
+use loop_tallies::{TalliedArms, TalliedStatement};
 use runs::Value;
 use source_actions::perform;
 use source_expressions::{fill_all, finish_first, gather, gather_one, go_on, locate, use_one};
@@ -64,7 +65,7 @@ fn close<'a>(machine: &mut Machine<'a>, caller: Vec<Slot>, way: Way) -> Result<M
 #[tactic(auto, using(crate::proofs::Passing::by))]
 fn pass_loop<'a>(
     machine: &mut Machine<'a>,
-    types: &Types<'a>,
+    types: &'a Types<'a>,
     way: Way,
     what: ForLoop,
     l: Loop<'a>,
@@ -86,7 +87,7 @@ fn pass_loop<'a>(
 #[tactic(auto, using(crate::proofs::Passing::by))]
 fn pass_behind<'a>(
     machine: &mut Machine<'a>,
-    types: &Types<'a>,
+    types: &'a Types<'a>,
     way: Way,
     is_tested: bool,
     l: LoopBehind<'a>,
@@ -107,7 +108,7 @@ fn pass_behind<'a>(
 /// The body of a `switch`.
 fn pass_switch<'a>(
     machine: &mut Machine<'a>,
-    types: &Types<'a>,
+    types: &'a Types<'a>,
     way: Way,
 ) -> Result<Moved, NoMemory>
     requires { IsAWayOut way }
@@ -123,7 +124,7 @@ fn pass_switch<'a>(
 /// Locals that end.
 fn pass_locals<'a>(
     machine: &mut Machine<'a>,
-    types: &Types<'a>,
+    types: &'a Types<'a>,
     way: Way,
     locals: &'a [u32],
 ) -> Result<Moved, NoMemory>
@@ -138,7 +139,7 @@ fn pass_locals<'a>(
 /// Parameters that end.
 fn pass_parameters<'a>(
     machine: &mut Machine<'a>,
-    types: &Types<'a>,
+    types: &'a Types<'a>,
     way: Way,
     count: usize,
 ) -> Result<Moved, NoMemory>
@@ -153,7 +154,7 @@ fn pass_parameters<'a>(
 /// The body of a function.
 fn pass_function<'a>(
     machine: &mut Machine<'a>,
-    types: &Types<'a>,
+    types: &'a Types<'a>,
     way: Way,
     caller: Vec<Slot>,
 ) -> Result<Moved, NoMemory>
@@ -168,7 +169,7 @@ fn pass_function<'a>(
 #[tactic(auto, using(crate::proofs::Passing::by, crate::proofs::Passing::by_expression, crate::proofs::Passing::by_call, crate::proofs::Passing::by_statement, crate::proofs::Passing::by_arms))]
 fn pass_out<'a>(
     machine: &mut Machine<'a>,
-    types: &Types<'a>,
+    types: &'a Types<'a>,
     way: Way,
     item: Work<'a>,
 ) -> Result<Moved, NoMemory>
@@ -200,7 +201,7 @@ fn pass_out<'a>(
 /// One item below a statement that is left in a way.
 fn pass<'a>(
     machine: &mut Machine<'a>,
-    types: &Types<'a>,
+    types: &'a Types<'a>,
     way: Way,
     item: Work<'a>,
 ) -> Result<Moved, NoMemory>
@@ -212,7 +213,7 @@ fn pass<'a>(
     }
 }
 
-fn unwind<'a>(machine: &mut Machine<'a>, types: &Types<'a>, way: Way) -> Result<Moved, NoMemory>
+fn unwind<'a>(machine: &mut Machine<'a>, types: &'a Types<'a>, way: Way) -> Result<Moved, NoMemory>
     ensures { IfOk result (λ m. (m, state_of machine.new) ≡ unwound (program_data types.now) way (state_of machine.old).work (state_of machine.old)) }
 {
     match machine.work.pop() {
@@ -226,7 +227,7 @@ fn unwind<'a>(machine: &mut Machine<'a>, types: &Types<'a>, way: Way) -> Result<
 fn enact_expression<'a>(
     machine: &mut Machine<'a>,
     alloc: Global,
-    types: &Types<'a>,
+    types: &'a Types<'a>,
     what: ForExpression,
     e: &'a Expression,
 ) -> Result<Moved, NoMemory>
@@ -260,7 +261,7 @@ fn enact_expression<'a>(
 
 fn choose<'a>(
     machine: &mut Machine<'a>,
-    types: &Types<'a>,
+    types: &'a Types<'a>,
     y: &'a Expression,
     z: &'a Expression,
 ) -> Result<Moved, NoMemory>
@@ -280,7 +281,7 @@ fn choose<'a>(
 fn enact_call<'a>(
     machine: &mut Machine<'a>,
     alloc: Global,
-    types: &Types<'a>,
+    types: &'a Types<'a>,
     what: ForCall,
     callee: Callee,
     done: Vec<Value>,
@@ -298,14 +299,14 @@ fn enact_call<'a>(
 fn enact_statement<'a>(
     machine: &mut Machine<'a>,
     alloc: Global,
-    types: &Types<'a>,
+    types: &'a Types<'a>,
     what: ForStatement,
     scope: Scope<'a>,
     loops: u64,
-    s: &'a Statement,
+    s: TalliedStatement<'a>,
 ) -> Result<Moved, NoMemory>
     ensures { IfOk result (λ m. (m, state_of machine.new) ≡ ahead (program_data types.now)
-        (for_statement what (context_of scope.entry) loops (statement_of s.now)) (state_of machine.old)) }
+        (for_statement what (context_of scope.entry) loops (statement_in s.entry)) (state_of machine.old)) }
 {
     match what {
         ForStatement::Executing => execute_ahead(machine, alloc, types, scope, loops, s),
@@ -320,14 +321,14 @@ fn enact_statement<'a>(
 
 fn decide<'a>(
     machine: &mut Machine<'a>,
-    types: &Types<'a>,
+    types: &'a Types<'a>,
     scope: Scope<'a>,
     loops: u64,
-    one: &'a Statement,
-    other: &'a Statement,
+    one: TalliedStatement<'a>,
+    other: TalliedStatement<'a>,
 ) -> Result<Moved, NoMemory>
     ensures { IfOk result (λ m. (m, state_of machine.new) ≡ ahead (program_data types.now)
-        (I.deciding_else (context_of scope.entry) loops (statement_of one.now) (statement_of other.now)) (state_of machine.old)) }
+        (I.deciding_else (context_of scope.entry) loops (statement_in one.entry) (statement_in other.entry)) (state_of machine.old)) }
 {
     let _ = types;
     let Some(v) = machine.take() else {
@@ -339,15 +340,15 @@ fn decide<'a>(
 fn enact_arms<'a>(
     machine: &mut Machine<'a>,
     alloc: Global,
-    types: &Types<'a>,
+    types: &'a Types<'a>,
     what: ForArms,
     scope: Scope<'a>,
     loops: u64,
     own: &'a [u32],
-    arms: &'a [Arm],
+    arms: TalliedArms<'a>,
 ) -> Result<Moved, NoMemory>
     ensures { IfOk result (λ m. (m, state_of machine.new) ≡ ahead (program_data types.now)
-        (for_arms what (context_of scope.entry) loops own.now (arms_of (map one_arm arms.now))) (state_of machine.old)) }
+        (for_arms what (context_of scope.entry) loops own.now (arms_in arms.entry)) (state_of machine.old)) }
 {
     match what {
         ForArms::Entering(arm) => enter_arms(machine, types, scope, loops, arm, own, arms),
@@ -360,7 +361,7 @@ fn enact_arms<'a>(
 
 fn enact_loop<'a>(
     machine: &mut Machine<'a>,
-    types: &Types<'a>,
+    types: &'a Types<'a>,
     what: ForLoop,
     l: Loop<'a>,
 ) -> Result<Moved, NoMemory>
@@ -378,7 +379,7 @@ fn enact_loop<'a>(
 
 fn enact_behind<'a>(
     machine: &mut Machine<'a>,
-    types: &Types<'a>,
+    types: &'a Types<'a>,
     is_tested: bool,
     l: LoopBehind<'a>,
 ) -> Result<Moved, NoMemory>
@@ -399,7 +400,7 @@ fn enact_behind<'a>(
     }
 }
 
-fn return_value<'a>(machine: &mut Machine<'a>, types: &Types<'a>) -> Result<Moved, NoMemory>
+fn return_value<'a>(machine: &mut Machine<'a>, types: &'a Types<'a>) -> Result<Moved, NoMemory>
     ensures { IfOk result (λ m. (m, state_of machine.new) ≡ ahead (program_data types.now) I.returning (state_of machine.old)) }
 {
     let _ = types;
@@ -413,7 +414,7 @@ fn return_value<'a>(machine: &mut Machine<'a>, types: &Types<'a>) -> Result<Move
 fn enact<'a>(
     machine: &mut Machine<'a>,
     alloc: Global,
-    types: &Types<'a>,
+    types: &'a Types<'a>,
     item: Work<'a>,
 ) -> Result<Moved, NoMemory>
     ensures { IfOk result (λ m. (m, state_of machine.new) ≡ ahead (program_data types.now) (item_of item.entry) (state_of machine.old)) }
@@ -462,7 +463,7 @@ fn enact<'a>(
 pub fn step<'a>(
     machine: &mut Machine<'a>,
     alloc: Global,
-    types: &Types<'a>,
+    types: &'a Types<'a>,
 ) -> Result<Moved, NoMemory>
     ensures { IfOk result (λ m. (m, state_of machine.new) ≡ advanced (program_data types.now) (state_of machine.old)) }
 {

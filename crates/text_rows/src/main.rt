@@ -13,6 +13,7 @@ mod literals;
 mod operator_text;
 mod row;
 mod tag_text;
+mod token_text;
 mod tokens;
 mod tree_text;
 mod trees;

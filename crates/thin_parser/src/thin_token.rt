@@ -1,7 +1,7 @@
 //! The tokens of a thin text.
 
 /// A word, a punctuator or a number of a thin text.
-#[derive(Clone, Copy, Debug, PartialEq, Eq)]
+#[derive(Clone, Copy)]
 pub enum ThinToken {
     Int,
     Putchar,

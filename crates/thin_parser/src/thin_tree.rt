@@ -3,7 +3,7 @@
 use lay_base::{Boxed, List};
 
 /// A sum, difference or product of constants (C99 6.5.1, 6.5.5, 6.5.6). Parentheses are kept.
-#[derive(Debug, Drop)]
+#[derive(Drop)]
 pub enum Sum {
     Number(u32),
     Paren(Boxed<Sum>),
@@ -14,7 +14,7 @@ pub enum Sum {
 
 /// A thin program: whether `putchar` is declared, the arguments of its calls in order, and what
 /// `main` returns, where it says so.
-#[derive(Debug, Drop)]
+#[derive(Drop)]
 pub struct Thin {
     pub declared: bool,
     pub puts: List<Sum>,

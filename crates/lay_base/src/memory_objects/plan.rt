@@ -4,7 +4,7 @@ use crate::list::List;
 
 /// The calls of an object that are to fail, and counts of its calls and of those that failed.
 /// A count stops at `u64::MAX`.
-#[derive(Debug, Drop)]
+#[derive(Drop)]
 pub struct Plan {
     /// The numbers of the calls that are to fail. The first call is 1.
     pub fails: List<u64>,

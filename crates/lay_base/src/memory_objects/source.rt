@@ -9,7 +9,7 @@ use crate::outside::{Source, SourceFault};
 use std::marker::Model;
 
 /// A source that gives the bytes it was made of. It takes no memory.
-#[derive(Debug, Drop)]
+#[derive(Drop)]
 pub struct MemSource {
     bytes: Bytes,
     at: usize,
