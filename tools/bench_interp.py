@@ -5,6 +5,7 @@
 - A loop of simple operations on locals and elements of an array: operations in a second.
 - A walk along a ring of records: steps in a second.
 - Small blocks that are allocated and freed, few of them at a time: blocks in a second, and whether time and peak memory grow with their number.
+- A `switch` of many arms with many statements each, of which a turn does three: turns in a second.
 
 Each program is run with four times the count until a run takes long enough, and a run that does nothing is taken off. `--stand-in` leaves the interpreter
 out; a number is the least time of a run in seconds."""
@@ -94,7 +95,29 @@ int main(void)
 }
 """)
 
-CASES = [EMPTY, SIMPLE, CHASE, BLOCKS]
+# An arm of a `switch` whose statements are many, with a loop that does not run; the sum stays below 2^20.
+ARM = """        case NUMBER:
+            sum = sum + NUMBER & 0xFFFFF;
+            if (sum > 0xFFFFF) {
+                for (k = 0; k < 8; k++)
+                    sum ^= k;
+                sum = sum * 3 + NUMBER; sum = sum * 5 + NUMBER; sum = sum * 7 + NUMBER; sum = sum * 9 + NUMBER;
+            }
+            break;
+"""
+
+SWITCH = Case("a switch of 100 long arms", "turns", 1, """int main(void)
+{
+    unsigned sum = 0, i, k;
+    for (i = 0; i < COUNT; i++) {
+        switch (i % 100) {
+ARMS        }
+    }
+    return sum > 0xFFFFF;
+}
+""".replace("ARMS", "".join(ARM.replace("NUMBER", str(number)) for number in range(100))))
+
+CASES = [EMPTY, SIMPLE, CHASE, BLOCKS, SWITCH]
 
 
 # ---- ways to run a program
