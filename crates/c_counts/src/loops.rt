@@ -9,7 +9,7 @@ use c_typed::{Arm, Function, Statement};
 
 /// How many loops a statement has; it stops at the greatest number.
 #[cycle(loop_walk)]
-pub fn loops_in_statement(s: &Statement) -> u32
+fn loops_in_statement(s: &Statement) -> u32
     ensures { result ≡ min (loops_in (statement_of s.now)) (2 ^ 32 - 1) }
 {
     match s {
@@ -31,7 +31,7 @@ pub fn loops_in_statement(s: &Statement) -> u32
 
 /// How many loops statements have; it stops at the greatest number.
 #[cycle(loop_walk)]
-pub fn loops_in_statements(all: &[Statement]) -> u32
+fn loops_in_statements(all: &[Statement]) -> u32
     ensures { result ≡ min (loops_in_all (statements_of (map statement_of all.now))) (2 ^ 32 - 1) }
 {
     let mut count: u32 = 0;

@@ -1,7 +1,7 @@
 //! Punctuators.
 
 /// A punctuator (C99 6.4.6), without the digraphs and those of the preprocessor.
-#[derive(Clone, Copy, PartialEq, Eq)]
+#[derive(Clone, Copy, Debug, PartialEq, Eq)]
 pub enum Punctuator {
     /// `[`
     OpenSquare,

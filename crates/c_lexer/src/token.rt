@@ -5,7 +5,7 @@ use c_types::IntKind;
 use lay_base::{Bytes, Keyword, List};
 
 /// What a token is (C99 6.4).
-#[derive(Clone, Copy, PartialEq, Eq)]
+#[derive(Clone, Copy, Debug, PartialEq, Eq)]
 pub enum TokenKind {
     Keyword(Keyword),
     /// An identifier.

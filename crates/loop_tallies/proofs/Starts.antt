@@ -1,5 +1,5 @@
 -- A list of tallies that begins with others.
-use Rattle.std.proofs.Common.{arith, rules, ◌≡◌, ◌+◌, ◌-◌, ◌∙◌, ap, refl, ℕ, List, [], ◌∷◌, ◌++◌, length, take, drop, slice_set, get_or, ◌≤◌}
+use Rattle.std.proofs.Common.{arith, ◌≡◌, ◌+◌, ◌-◌, ◌∙◌, ap, refl, ℕ, List, [], ◌∷◌, ◌++◌, length, take, drop, slice_set, get_or}
 use Rattle.std.proofs.lemmas.List.{length-append}
 use Rattle.loop_tallies.specs.Tallies.{StartsWith, headed}
 use Rattle.loop_tallies.specs.declared.tally.Tally.{Tally}
@@ -46,13 +46,6 @@ pub behind_starts : (first rest all : List Tally) → StartsWith all (first ++ r
 behind_starts [] rest all starts = starts
 behind_starts (x ∷ first) rest [] starts = none_starts (first ++ rest) x starts
 behind_starts (x ∷ first) rest (y ∷ all) starts = behind_starts first rest all (rest_starts all (first ++ rest) y x starts)
-
-pub first_fits : (first rest all : List Tally) → StartsWith all (first ++ rest) → length first ≤ length all
-first_fits [] rest all starts = search rules
-first_fits (x ∷ first) rest [] starts = none_starts (first ++ rest) x starts
-first_fits (x ∷ first) rest (y ∷ all) starts =
-    let fits = first_fits first rest all (rest_starts all (first ++ rest) y x starts) in
-    omega (arith, fits)
 
 -- behind a tally and those of what is in it
 pub behind_own : (all back : List Tally) (own : Tally) (loops : ℕ) (within rest : List Tally) → StartsWith all (headed loops within ++ rest)

@@ -3,7 +3,7 @@
 /// An instruction of RV32IM. `rd`, `rs1` and `rs2` are register numbers below 32. An immediate is
 /// the signed number that the instruction adds or compares; of a shift it is the amount, and of
 /// `Lui` and `Auipc` the upper 20 bits of the word.
-#[derive(Clone, Copy)]
+#[derive(Clone, Copy, Debug)]
 pub enum Inst {
     Lui { rd: u8, imm: u32 },
     Auipc { rd: u8, imm: u32 },

@@ -5,7 +5,6 @@ ghost use Rattle.rv_isa.specs.Decoding.{decoded};
 ghost use Rattle.rv_words.specs.declared.answering.Stopped.TheVariants.{Io};
 
 use crate::digits::word_in;
-use crate::instruction_text::put_instruction;
 use rv_isa::{Inst, decode, encode};
 use std::alloc::Global;
 use std::io::{self, BufRead, Write};
@@ -37,11 +36,7 @@ fn instruction_at(word: u32) -> Option<(u32, Inst)>
 
 fn answer<W: Write>(word: u32, output: &mut W) -> io::Result<()> {
     match instruction_at(word) {
-        Some((again, instruction)) => {
-            write!(output, "{again:08x} ")?;
-            put_instruction(instruction, output)?;
-            writeln!(output)
-        }
+        Some((again, instruction)) => writeln!(output, "{again:08x} {instruction:?}"),
         None => writeln!(output, "none"),
     }
 }

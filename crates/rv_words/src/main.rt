@@ -10,7 +10,6 @@
 
 mod answering;
 mod digits;
-mod instruction_text;
 
 use answering::{Stopped, answer_lines};
 use std::io::{self, BufReader, BufWriter, Write};

@@ -1,7 +1,7 @@
 //! The interpreter's steps.
 //!
-//! It stands on `source_state` and `source_actions`, on `source_direct`, which evaluates simple expressions at once, and on `source_steps`, whose steps
-//! it makes.
+//! It stands on `source_state` and `source_actions`, on `loop_tallies`, by which a statement is passed in a moment, on `source_direct`, which evaluates
+//! simple expressions at once, and on `source_steps`, whose steps it makes.
 #![tactic(auto)]
 
 mod ahead;

@@ -3,7 +3,6 @@
 ghost use Rattle.std.specs.Prelude.{◌≡◌, ◌≤◌, All, length};
 ghost use Rattle.c_lexer.specs.TokenPlaces.{IsPlaceIn};
 
-use crate::token_text::{are_one_line, put_presumed_line};
 use c_lexer::{PresumedLines, Token, lex, presumed_at};
 use row_lines::Writer;
 use std::alloc::Global;
@@ -20,8 +19,8 @@ fn put_line(out: &mut Writer, lines: &mut PresumedLines, text: &[u8], at: u32)
     let found = lines.presumed_at(at);
     out.number(u64::from(found.line));
     let alone = presumed_at(text, at);
-    if !are_one_line(found, alone) {
-        put_presumed_line(out, alone);
+    if found != alone {
+        out.value(&alone);
     }
 }
 
@@ -58,7 +57,7 @@ pub fn put_presumed(out: &mut Writer, alloc: Global, name: &str, text: &[u8])
         return out.word("no such byte");
     }
     match lex(alloc, &text[..at as usize], 0) {
-        Ok(_) => put_presumed_line(out, presumed_at(text, at)),
+        Ok(_) => out.value(&presumed_at(text, at)),
         Err(fault) => out.value(&fault),
     }
 }

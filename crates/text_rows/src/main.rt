@@ -13,7 +13,6 @@ mod literals;
 mod operator_text;
 mod row;
 mod tag_text;
-mod token_text;
 mod tokens;
 mod tree_text;
 mod trees;

@@ -6,7 +6,6 @@ ghost use Rattle.c_lexer.specs.Lexes.{Lexes};
 use crate::lines::put_lines;
 use crate::literals::put_literals;
 use crate::row::OfTokens;
-use crate::token_text::put_kind;
 use c_lexer::{Token, Tokens, lex, tokens_have_places, tokens_have_texts};
 use row_lines::Writer;
 use std::alloc::Global;
@@ -16,7 +15,7 @@ pub const FILE: u16 = 7;
 
 fn put_kinds(out: &mut Writer, tokens: &[Token]) {
     for token in tokens {
-        put_kind(out, token.kind);
+        out.value(&token.kind);
     }
 }
 
@@ -25,7 +24,7 @@ fn put_ranges(out: &mut Writer, tokens: &Tokens) {
     out.number(u64::from(tokens.file));
     out.value(&tokens.bytes.as_slice());
     for token in tokens.list.as_slice() {
-        put_kind(out, token.kind);
+        out.value(&token.kind);
         out.number(u64::from(token.from));
         out.number(u64::from(token.to));
     }
