@@ -5,6 +5,7 @@
 - A loop of simple operations on locals and elements of an array: operations in a second.
 - A walk along a ring of records: steps in a second.
 - Small blocks that are allocated and freed, few of them at a time: blocks in a second, and whether time and peak memory grow with their number.
+- A block that is made again and again, each time a little greater: blocks in a second, and the peak memory, which is that of few of them.
 - A `switch` of many arms with many statements each, of which a turn does three: turns in a second.
 
 Each program is run with four times the count until a run takes long enough, and a run that does nothing is taken off. `--stand-in` leaves the interpreter
@@ -95,6 +96,24 @@ int main(void)
 }
 """)
 
+GROWING = Case("a block that grows by 16 bytes at a time, up to 32 KiB", "blocks", 1, """void *malloc(unsigned);
+void free(void *);
+int main(void)
+{
+    char *held = malloc(16), *more;
+    int i;
+    held[0] = 1;
+    for (i = 0; i < COUNT; i++) {
+        more = malloc(16 + i % 2048 * 16);
+        more[0] = held[0];
+        free(held);
+        held = more;
+    }
+    free(held);
+    return 0;
+}
+""")
+
 # An arm of a `switch` whose statements are many, with a loop that does not run; the sum stays below 2^20.
 ARM = """        case NUMBER:
             sum = sum + NUMBER & 0xFFFFF;
@@ -117,7 +136,7 @@ ARMS        }
 }
 """.replace("ARMS", "".join(ARM.replace("NUMBER", str(number)) for number in range(100))))
 
-CASES = [EMPTY, SIMPLE, CHASE, BLOCKS, SWITCH]
+CASES = [EMPTY, SIMPLE, CHASE, BLOCKS, GROWING, SWITCH]
 
 
 # ---- ways to run a program

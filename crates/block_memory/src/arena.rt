@@ -12,7 +12,7 @@ ghost use Rattle.block_memory.specs.declared.cell.Cell.TheVariants.{Byte, Empty}
 
 use crate::cell::Cell;
 use crate::comparing::{compared, is_zero};
-use crate::extent::{CLASSES, Extent, NOBODY, class_of, size_of};
+use crate::extent::{CLASSES, Extent, NOBODY, class_of, most_of, size_of};
 use crate::holding::pointer_of;
 use crate::numbers::{in_four, in_one, in_two, valued};
 use crate::pointer::Ptr;
@@ -112,6 +112,18 @@ impl Arena {
         }
     }
 
+    /// How many words a new row has for a block of so many. Where a row of their chain waits, it was too small: then the new row has as many words as one of the
+    /// chain can have, so that a block which is made again and again, a little greater each time, does not leave a row behind each time.
+    fn room_for(&self, count: u32) -> u32
+        ensures { count ≤ result }
+    {
+        if (self.spare[class_of(count)] as usize) < self.rows.len() {
+            most_of(count)
+        } else {
+            count
+        }
+    }
+
     /// A row for a block. Its cells are any.
     fn begin(&mut self, owner: u32, size: u32, count: u32) -> Result<u32, NoMemory>
         requires known { owner < nobody }
@@ -120,7 +132,7 @@ impl Arena {
     {
         match self.begin_again(owner, size, count) {
             Some(place) => Ok(place),
-            None => self.begin_behind(owner, size, count),
+            None => self.begin_behind(owner, size, self.room_for(count)),
         }
     }
 

@@ -1,6 +1,6 @@
 //! Where the words of a row lie.
 
-ghost use Rattle.std.specs.Prelude.{◌≡◌, ◌<◌};
+ghost use Rattle.std.specs.Prelude.{◌≡◌, ◌<◌, ◌≤◌};
 ghost use Rattle.block_memory.specs.Extents.{size_of};
 
 /// The owner of a row that no block has, and the end of a chain of such rows.
@@ -46,4 +46,15 @@ pub(crate) fn class_of(count: u32) -> usize
         class += 1;
     }
     class
+}
+
+/// The greatest number of words of a row in the chain of rows with so many.
+pub(crate) fn most_of(count: u32) -> u32
+    ensures { count ≤ result }
+{
+    if count < 32 {
+        return count;
+    }
+    let most = u32::MAX.checked_shr(count.leading_zeros()).unwrap_or(count);
+    most.max(count)
 }
