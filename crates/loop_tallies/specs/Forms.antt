@@ -1,9 +1,9 @@
 -- The statement that a form stands for.
-use Rattle.std.specs.Prelude.{ℕ, map}
+use Rattle.std.specs.Prelude.{ℕ, List, Option, Some, None, map}
 use Rattle.std.specs.Option.{option_map}
 use Rattle.c_counts.specs.Loops.{arm_of}
 use Rattle.c_typed.specs.Trees as T
-use Rattle.c_typed.specs.Views.{AStatement, arms_of, expression_of, initializer_of, statement_of, statements_of}
+use Rattle.c_typed.specs.Views.{AnExpression, AStatement, arms_of, expression_of, initializer_of, statement_of, statements_of}
 use Rattle.loop_tallies.specs.declared.form.Form.{Form}
 use Rattle.loop_tallies.specs.declared.form.Form.TheVariants as F
 use Rattle.loop_tallies.specs.declared.tallied.TalliedArms.{TalliedArms}
@@ -33,3 +33,12 @@ statement_formed (F.Switch e own arms) = T.switch (expression_of e.now) own.now 
 statement_formed F.Break = T.break
 statement_formed F.Continue = T.continue
 statement_formed (F.Return e) = T.return (option_map (λ e. expression_of e.now) e)
+
+-- the expression of an expression statement, and the locals and the statements of a block
+abbrev pub expression_in : AStatement → Option AnExpression
+expression_in (T.evaluate e) = Some e
+expression_in s = None
+
+abbrev pub block_in : AStatement → Option (List ℕ × T.Statements ℕ)
+block_in (T.block own all) = Some (own, all)
+block_in s = None

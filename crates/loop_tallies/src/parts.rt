@@ -7,6 +7,7 @@ ghost use Rattle.loop_tallies.specs.declared.tally.Tally.{Tally};
 use crate::tally::Tally;
 
 /// The first tally.
+#[inline(always)]
 pub(crate) fn own(tallies: &[Tally]) -> Tally
     ensures { (first : Tally) → (rest : List Tally) → StartsWith tallies.now (first ∷ rest) → result ≡ first }
 {
@@ -17,6 +18,7 @@ pub(crate) fn own(tallies: &[Tally]) -> Tally
 }
 
 /// What begins behind the first tally.
+#[inline(always)]
 pub(crate) fn within(tallies: &[Tally]) -> &[Tally]
     ensures { (first : Tally) → (rest : List Tally) → StartsWith tallies.now (first ∷ rest) → StartsWith result.now rest }
 {
@@ -27,6 +29,7 @@ pub(crate) fn within(tallies: &[Tally]) -> &[Tally]
 }
 
 /// What begins behind the first tally and those of what is in it.
+#[inline(always)]
 pub(crate) fn behind(tallies: &[Tally]) -> &[Tally]
     ensures { (loops : ℕ) → (within rest : List Tally) → StartsWith tallies.now (headed loops within ++ rest) → StartsWith result.now rest }
 {

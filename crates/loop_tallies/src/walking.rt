@@ -4,7 +4,7 @@ ghost use Rattle.std.specs.Prelude.{◌≡◌, [], ◌∷◌, MatchOption};
 ghost use Rattle.std.specs.Option.{option_map};
 ghost use Rattle.c_counts.specs.Loops.{arm_of, loops_in, loops_in_all};
 ghost use Rattle.c_typed.specs.Views.{expression_of};
-ghost use Rattle.loop_tallies.specs.Forms.{statement_formed, statement_in, statements_in};
+ghost use Rattle.loop_tallies.specs.Forms.{block_in, expression_in, statement_formed, statement_in, statements_in};
 
 use crate::first_arm::FirstArm;
 use crate::form::Form;
@@ -31,7 +31,58 @@ impl<'a> TalliedStatement<'a> {
         own(self.tallies).loops
     }
 
+    /// The expression, where the statement is one (C99 6.8.3).
+    #[inline(always)]
+    pub fn expression(self) -> Option<&'a Expression>
+        ensures { option_map (λ e. expression_of e.now) result ≡ expression_in (statement_in self.entry) }
+    {
+        match self.statement {
+            Statement::Do(e) => Some(e.get()),
+            Statement::Block(..)
+            | Statement::Declare(..)
+            | Statement::If(..)
+            | Statement::While(..)
+            | Statement::DoWhile(..)
+            | Statement::For(..) => None,
+            Statement::Switch(..)
+            | Statement::Break
+            | Statement::Continue
+            | Statement::Return(..) => None,
+        }
+    }
+
+    /// The locals and the statements, where the statement is a block (C99 6.8.2).
+    #[inline(always)]
+    pub fn block(self) -> Option<(&'a [u32], TalliedStatements<'a>)>
+        ensures { option_map (λ b. (b.0.now, statements_in b.1)) result ≡ block_in (statement_in self.entry) }
+    {
+        match self.statement {
+            Statement::Block(own, all) => {
+                let statements = all.as_slice();
+                let tallies = within(self.tallies);
+                Some((
+                    own.as_slice(),
+                    TalliedStatements {
+                        tallies,
+                        statements,
+                    },
+                ))
+            }
+            Statement::Do(..)
+            | Statement::Declare(..)
+            | Statement::If(..)
+            | Statement::While(..)
+            | Statement::DoWhile(..)
+            | Statement::For(..) => None,
+            Statement::Switch(..)
+            | Statement::Break
+            | Statement::Continue
+            | Statement::Return(..) => None,
+        }
+    }
+
     /// What the statement is.
+    #[inline(always)]
     pub fn form(self) -> Form<'a>
         ensures { statement_formed result ≡ statement_in self.entry }
     {
@@ -96,6 +147,7 @@ impl<'a> TalliedStatement<'a> {
 
 impl<'a> TalliedStatements<'a> {
     /// The first statement, and those behind it.
+    #[inline(always)]
     pub fn split_first(self) -> Option<(TalliedStatement<'a>, TalliedStatements<'a>)>
         ensures { MatchOption result (self.entry.statements.now ≡ [])
             (λ p. self.entry.statements.now ≡ p.0.statement.now ∷ p.1.statements.now) }

@@ -45,12 +45,14 @@ pub(crate) struct Location {
 
 // ---- operators
 
+#[inline(always)]
 fn truth(test: bool) -> u32
     ensures { result ≡ truth test }
 {
     u32::from(test)
 }
 
+#[inline(always)]
 fn converted_word(sort: Sort, v: u32) -> Option<u32>
     ensures { IfSome result (λ w. if_converted_by sort (Word v) ≡ Some (Word w)) }
 {
@@ -62,6 +64,7 @@ fn converted_word(sort: Sort, v: u32) -> Option<u32>
 
 /// A number converted to a type.
 #[tactic(auto, using(crate::proofs::Converting::converted_is))]
+#[inline(always)]
 fn cast_word(types: &Types<'_>, t: TypeId, v: u32) -> Option<u32>
     ensures { IfSome result (λ w. if_converted (type_at (program_data types.now) t) (Word v) ≡ Some (Word w)) }
 {
@@ -69,6 +72,7 @@ fn cast_word(types: &Types<'_>, t: TypeId, v: u32) -> Option<u32>
 }
 
 /// A binary operator whose result, and whose right operand, are of these types.
+#[inline(always)]
 fn binary_word(
     types: &Types<'_>,
     op: BinaryOp,
@@ -87,6 +91,7 @@ fn binary_word(
 }
 
 /// A comparison of operands of a type.
+#[inline(always)]
 fn compared_word(types: &Types<'_>, room: &Room, op: CompareOp, t: TypeId, v: u32, w: u32) -> u32
     ensures { if_found (compared op (core_of room.now).memory (kind_of (type_at (program_data types.now) t)) (Word v) (Word w)) ≡ Some (Word result) }
 {
@@ -131,6 +136,7 @@ pub(crate) fn stepped_word(
 // ---- memory
 
 /// The number of a type that lies at a byte.
+#[inline(always)]
 fn number_at(types: &Types<'_>, room: &Room, block: u64, at: u32, t: TypeId) -> Option<u32>
     ensures { IfSome result (λ w. load_in (core_of room.now).memory (P.Block block at) (access_at (program_data types.now) t) ≡ Ok (Word w)) }
 {
@@ -164,6 +170,7 @@ pub(crate) fn named_word(room: &Room, local: u32) -> Option<u32>
 }
 
 /// The number that a local holds.
+#[inline(always)]
 fn local_word(types: &Types<'_>, room: &Room, local: u32, t: TypeId) -> Option<u32>
     ensures { IfSome result (λ w. and_if (if_found (local_spot local (core_of room.now)))
         (λ s. if_found (fetch s (access_at (program_data types.now) t) (core_of room.now))) ≡ Some (Word w)) }
@@ -176,6 +183,7 @@ fn local_word(types: &Types<'_>, room: &Room, local: u32, t: TypeId) -> Option<u
 }
 
 /// Where a local lies that has a block.
+#[inline(always)]
 fn local_place(room: &Room, local: u32) -> Option<Location>
     ensures { IfSome result (λ it. if_found (local_spot local (core_of room.now)) ≡ Some (Placed (P.Block it.block it.at))) }
 {
@@ -189,6 +197,7 @@ fn local_place(room: &Room, local: u32) -> Option<Location>
 }
 
 /// An element of an array of one type, of another, by a subscript of a third.
+#[inline(always)]
 fn element_at(
     types: &Types<'_>,
     of: TypeId,
@@ -208,6 +217,7 @@ fn element_at(
 }
 
 /// The pointer of a type, to a block, that lies at a byte.
+#[inline(always)]
 fn pointer_in(types: &Types<'_>, room: &Room, block: u64, at: u32, t: TypeId) -> Option<Location>
     ensures { IfSome result (λ it. load_in (core_of room.now).memory (P.Block block at) (access_at (program_data types.now) t)
         ≡ Ok (Pointer (P.Block it.block it.at))) }
@@ -222,6 +232,7 @@ fn pointer_in(types: &Types<'_>, room: &Room, block: u64, at: u32, t: TypeId) ->
 }
 
 /// The pointer to a block that a local holds.
+#[inline(always)]
 fn local_pointer(types: &Types<'_>, room: &Room, local: u32, t: TypeId) -> Option<Location>
     ensures { IfSome result (λ it. and_if (if_found (local_spot local (core_of room.now)))
         (λ s. if_found (fetch s (access_at (program_data types.now) t) (core_of room.now))) ≡ Some (Pointer (P.Block it.block it.at))) }
@@ -237,6 +248,7 @@ fn local_pointer(types: &Types<'_>, room: &Room, local: u32, t: TypeId) -> Optio
 }
 
 /// An element of a type, by a subscript of another one, behind a byte to which a pointer of a third leads.
+#[inline(always)]
 fn indexed_at(
     types: &Types<'_>,
     room: &Room,

@@ -1,6 +1,7 @@
 -- A fact of the counts that is kept where a function is entered and where the body of a loop begins is kept by each step.
 use Rattle.std.proofs.Common.{sym, subst, ℕ, ℤ, pos, ◌+ℤ◌, ◌*ℤ◌, zero, suc, ◌+◌, ◌*◌, ◌^◌, Bool, true, false, nat_lt, if◌then◌else◌, List, [], ◌∷◌, ◌++◌, Option, Some, None, slice_get, Result, Ok, Err}
 use Rattle.block_memory.specs.Blocks.{Memory}
+use Rattle.c_counts.specs.Loops.{loops_in}
 use Rattle.block_memory.specs.Tested.{Tested, ◌>>=◌}
 use Rattle.block_memory.specs.declared.kinds.Access.{Access}
 use Rattle.block_memory.specs.declared.kinds.BlockKind.{BlockKind}
@@ -49,7 +50,8 @@ use Rattle.source_steps.specs.Locals.{slot, local_spot, begin_as, begin, begin_a
 use Rattle.source_steps.specs.Memories.{make, zeroed, allocate, free, copy, fill, compare, copy_record, changed, with_memory}
 use Rattle.source_steps.specs.States.{State, Step, with_stack, with_core, with_value, with_any, with_spot, finding, in_core, doing_in, changing}
 use Rattle.source_steps.specs.Statements.{fills, fills_all, initial_in, initial_by_name, initial, declared, begun, tests, repeats, begun_behind, executed, executed_all, entered, passed, unwound}
-use Rattle.source_steps.specs.Ahead.{settled, at_hand, tests_ahead, repeats_ahead, executed_ahead, executed_all_ahead, ahead, advanced_at, advanced}
+use Rattle.source_steps.specs.Ahead.{settled, at_hand, executed_ahead, past, past_one, followed, executed_later, executed_first, executed_all_ahead, within}
+use Rattle.source_steps.specs.Ahead.{executed_whole, begun_ahead, tests_ahead, repeats_ahead, arms_behind, entered_first, entered_ahead, ahead, advanced_at, advanced}
 use Rattle.source_steps.specs.Direct.{at_once}
 use Rattle.source_steps.specs.Steps.{enacted}
 use Rattle.source_step_laws.proofs.Ahead.{still_once}
@@ -503,14 +505,6 @@ module _ (Q : Counting → Type 0) (entry : (c : Counting) (f : ℕ) → Q c →
         → ((v : Value) (c : Core) → In c → Behind (next v (with_core c s))) → Behind other → Behind (at_hand p e s next other)
     hand_kept e s next other h k one = settled_kept (at_once p s.core e) s next other (subst Q (sym (still_once p s.core e).counts) h) k one
 
-    tests_ahead_kept : (test : Option (Expression ℕ)) (l : Loop) (s : State) → In s.core → Behind (tests_ahead p test l s)
-    tests_ahead_kept None l s h = begun_kept l s h
-    tests_ahead_kept (Some e) l s h = hand_kept e s _ _ h (λ v c k. either (is_true v) _ _ (begun_kept l (with_core c s) k) (still k)) (tests_kept (Some e) l s h)
-
-    repeats_ahead_kept : (step : Option (Expression ℕ)) (l : Loop) (s : State) → In s.core → Behind (repeats_ahead p step l s)
-    repeats_ahead_kept None l s h = tests_ahead_kept l.test l s h
-    repeats_ahead_kept (Some e) l s h = hand_kept e s _ _ h (λ v c k. tests_ahead_kept l.test l (with_core c s) k) (repeats_kept (Some e) l s h)
-
     executed_ahead_kept : (c : Context) (l : ℕ) (one : Statement ℕ) (s : State) → In s.core → Behind (executed_ahead p c l one s)
     executed_ahead_kept c l (T.evaluate e) s h = hand_kept e s _ _ h (λ v d k. still k) (executed_kept c l (T.evaluate e) s h)
     executed_ahead_kept c l (T.when e one) s h = hand_kept e s _ _ h (λ v d k. either (is_true v) _ _ (still k) (still k)) (executed_kept c l (T.when e one) s h)
@@ -523,15 +517,66 @@ module _ (Q : Counting → Type 0) (entry : (c : Counting) (f : ℕ) → Q c →
     executed_ahead_kept c l (T.return (Some e)) s h = hand_kept e s _ _ h (λ v d k. still k) (executed_kept c l (T.return (Some e)) s h)
     executed_ahead_kept c l one s h = executed_kept c l one s h
 
+    past_one_in : (r : Option Value × Core) (next : Core → Statements ℕ × Core) (other : Statements ℕ × Core) → In r.1 → ((c : Core) → In c → In (next c).1)
+        → In other.1 → In (past_one r next other).1
+    past_one_in (Some v, c) next other h k one = k c h
+    past_one_in (None, c) next other h k one = one
+
+    past_in : (all : Statements ℕ) (c : Core) → In c → In (past p all c).1
+    past_in T.no_statements c h = h
+    past_in (T.and_statement (T.evaluate e) rest) c h = past_one_in (at_once p c e) _ _ (subst Q (sym (still_once p c e).counts) h) (past_in rest) h
+    past_in (T.and_statement one rest) c h = h
+
+    followed_in : (c : Context) (l : ℕ) (all : Statements ℕ) (s : State) → In s.core → In (followed c l all s).core
+    followed_in c l T.no_statements s h = h
+    followed_in c l (T.and_statement one rest) s h = h
+
+    executed_later_kept : (c : Context) (l : ℕ) (one : Statement ℕ) (s : State) → In s.core → Behind (executed_later p c l one s)
+    executed_later_kept c l (T.evaluate e) s h = executed_kept c l (T.evaluate e) s h
+    executed_later_kept c l one s h = executed_ahead_kept c l one s h
+
+    executed_first_kept : (c : Context) (l : ℕ) (all : Statements ℕ) (s : State) → In s.core → Behind (executed_first p c l all s)
+    executed_first_kept c l T.no_statements s h = still h
+    executed_first_kept c l (T.and_statement one rest) s h = executed_later_kept c l one _ (followed_in c (l + loops_in one) rest s h)
+
     executed_all_ahead_kept : (c : Context) (l : ℕ) (all : Statements ℕ) (s : State) → In s.core → Behind (executed_all_ahead p c l all s)
-    executed_all_ahead_kept c l T.no_statements s h = still h
-    executed_all_ahead_kept c l (T.and_statement one rest) s h = executed_ahead_kept c l one _ h
+    executed_all_ahead_kept c l all s h = executed_first_kept c l (past p all s.core).0 _ (past_in all s.core h)
+
+    within_in : (own : List ℕ) (s : State) → In s.core → In (within own s).core
+    within_in [] s h = h
+    within_in (x ∷ own) s h = h
+
+    executed_whole_kept : (c : Context) (l : ℕ) (one : Statement ℕ) (s : State) → In s.core → Behind (executed_whole p c l one s)
+    executed_whole_kept c l (T.block own all) s h =
+        doing_kept _ s _ (begin_all_in c.locals own s.core h) (λ u d k. executed_all_ahead_kept c l all _ (within_in own (with_core d s) k))
+    executed_whole_kept c l one s h = executed_ahead_kept c l one s h
+
+    begun_ahead_kept : (l : Loop) (s : State) → In s.core → Behind (begun_ahead p l s)
+    begun_ahead_kept l s h =
+        doing_kept _ s _ (begun_in s.core.turns l.context.function l.number s.core h) (λ u c k. executed_whole_kept l.context (l.number + 1) l.body _ k)
+
+    tests_ahead_kept : (test : Option (Expression ℕ)) (l : Loop) (s : State) → In s.core → Behind (tests_ahead p test l s)
+    tests_ahead_kept None l s h = begun_ahead_kept l s h
+    tests_ahead_kept (Some e) l s h = hand_kept e s _ _ h (λ v c k. either (is_true v) _ _ (begun_ahead_kept l (with_core c s) k) (still k)) (tests_kept (Some e) l s h)
+
+    repeats_ahead_kept : (step : Option (Expression ℕ)) (l : Loop) (s : State) → In s.core → Behind (repeats_ahead p step l s)
+    repeats_ahead_kept None l s h = tests_ahead_kept l.test l s h
+    repeats_ahead_kept (Some e) l s h = hand_kept e s _ _ h (λ v c k. tests_ahead_kept l.test l (with_core c s) k) (repeats_kept (Some e) l s h)
+
+    entered_first_kept : (c : Context) (left : ℕ × Arms ℕ) (s : State) → In s.core → Behind (entered_first p c left s)
+    entered_first_kept c (l, T.no_arms) s h = still h
+    entered_first_kept c (l, T.and_arm cases is_default all rest) s h = executed_all_ahead_kept c l all _ h
+
+    entered_ahead_kept : (c : Context) (l : ℕ) (arm : Option ℕ) (arms : Arms ℕ) (s : State) → In s.core → Behind (entered_ahead p c l arm arms s)
+    entered_ahead_kept c l None arms s h = still h
+    entered_ahead_kept c l (Some k) arms s h = entered_first_kept c (arms_behind p l k arms) s h
 
     ahead_kept : (item : Item) (s : State) → In s.core → Behind (ahead p item s)
     ahead_kept (I.evaluating e) s h = hand_kept e s _ _ h (λ v c k. still k) (enacted_kept (I.evaluating e) s h)
     ahead_kept (I.using e) s h = hand_kept e s _ _ h (λ v c k. still k) (enacted_kept (I.using e) s h)
-    ahead_kept (I.executing c l one) s h = executed_ahead_kept c l one s h
+    ahead_kept (I.executing c l one) s h = executed_whole_kept c l one s h
     ahead_kept (I.executing_all c l all) s h = executed_all_ahead_kept c l all s h
+    ahead_kept (I.entering c l arm arms) s h = entered_ahead_kept c l arm arms s h
     ahead_kept (I.looping l) s h = tests_ahead_kept l.test l s h
     ahead_kept (I.repeating l) s h = repeats_ahead_kept l.step l s h
     ahead_kept item s h = enacted_kept item s h

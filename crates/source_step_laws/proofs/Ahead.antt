@@ -1,15 +1,15 @@
 -- Steps that go ahead come to what the steps one by one come to.
-use Rattle.std.proofs.Common.{◌≡◌, refl, ℕ, ◌+◌, Bool, true, false, if◌then◌else◌, List, [], ◌∷◌, Option, Some, None, Ok, Err}
+use Rattle.std.proofs.Common.{◌≡◌, refl, subst, ℕ, zero, suc, ◌+◌, Bool, true, false, if◌then◌else◌, List, [], ◌∷◌, Option, Some, None, Result, Ok, Err, arith}
 use Rattle.lay_base.specs.declared.place.Place.{Place}
-use Rattle.c_counts.specs.Loops.{loops_in}
+use Rattle.c_counts.specs.Loops.{loops_in, loops_in_all}
 use Rattle.c_typed.specs.Programs.{ProgramData}
 use Rattle.c_typed.specs.Constants.{ty}
 use Rattle.c_typed.specs.Trees as T
-use Rattle.c_typed.specs.Trees.{Expression, expression, Statement, Statements}
+use Rattle.c_typed.specs.Trees.{Expression, expression, Statement, Statements, Arms}
 use Rattle.block_memory.specs.Blocks.{Memory}
 use Rattle.block_memory.specs.Tested.{Tested, ◌>>=◌}
 use Rattle.block_memory.specs.declared.kinds.Access.{Access}
-use Rattle.runs.specs.Scalars.{word_of, store_in}
+use Rattle.runs.specs.Scalars.{store_in}
 use Rattle.runs.specs.declared.value.Value.{Value}
 use Rattle.c_meaning.specs.Expressions as Meaning
 use Rattle.c_meaning.specs.Operators.{is_true, updated, next}
@@ -17,20 +17,22 @@ use Rattle.c_meaning.specs.Program.{type_at, element_size, access_at}
 use Rattle.c_meaning.specs.Run.{called}
 use Rattle.c_meaning.specs.declared.frame.Spot.{Spot}
 use Rattle.c_meaning.specs.declared.frame.Spot.TheVariants.{Kept, Placed}
-use Rattle.c_meaning.specs.declared.frame.Way.TheVariants.{ByReturn}
 use Rattle.source_machine.specs.Items as I
-use Rattle.source_machine.specs.Items.{Item, Work, Stack, Context, Loop, acting, evaluating, using, executing, executing_all, looping, repeating, tested, unwinding}
+use Rattle.source_machine.specs.Items.{Item, Work, Stack, Context, Loop, acting, evaluating, using, executing, executing_all, entering, looping, repeating, tested, ending, unwinding}
 use Rattle.source_machine.specs.declared.items.Action.TheVariants as A
+use Rattle.source_steps.specs.Calls.{begun as begun_in}
 use Rattle.source_steps.specs.Cores.{Core, done}
-use Rattle.source_steps.specs.Counting.{Counting}
 use Rattle.source_steps.specs.Direct.{direct, direct_spot, if_found, shown_if, and_then, at_once}
-use Rattle.source_steps.specs.Locals.{fetch, put}
+use Rattle.source_steps.specs.Locals.{fetch, put, begin_all}
 use Rattle.source_steps.specs.Memories.{with_memory}
-use Rattle.source_steps.specs.States.{State, Step, goes, doing, given, pushed, with_core}
-use Rattle.source_steps.specs.Statements.{begun, tests, repeats, executed, selected}
-use Rattle.source_steps.specs.Steps.{enacted, stepped}
-use Rattle.source_steps.specs.Ahead.{settled, at_hand, tests_ahead, repeats_ahead, executed_ahead, executed_all_ahead, ahead, advanced_at, advanced}
+use Rattle.source_steps.specs.States.{State, Step, goes, doing, given, with_core, in_core}
+use Rattle.source_steps.specs.Statements.{begun, tests, repeats}
+use Rattle.source_steps.specs.Steps.{stepped}
+use Rattle.source_steps.specs.Ahead.{settled, at_hand, executed_ahead, past, past_one, followed, executed_later, executed_first, executed_all_ahead, within}
+use Rattle.source_steps.specs.Ahead.{executed_whole, begun_ahead, tests_ahead, repeats_ahead, arms_behind, entered_first, entered_ahead, ahead, advanced_at, advanced}
+use Rattle.source_steps.specs.declared.ends.Final.{Final}
 use Rattle.source_step_laws.proofs.Found.{Makes, made}
+use Rattle.source_step_laws.proofs.Idle.{no_more_is_idle, no_locals_are_idle, left_out}
 use Rattle.source_step_laws.proofs.Leading.{Has, Arrives, by_step, behind, evaluated_ahead, used_ahead}
 
 -- ---- what is evaluated in one step neither takes a turn nor counts
@@ -120,21 +122,7 @@ module _ (p : ProgramData) where
     used_next : Arrives p s (goes (doing (using e) t)) → Arrives p s (stepped p (given v (with_core c t)))
     used_next one = behind p one (behind p (used_ahead p e t v c same has) (by_step p (given v (with_core c t))))
 
-  -- ---- loops
-
-  tests_arrives : (test : Option (Expression ℕ)) (l : Loop) (s t : State) → Arrives p s (tests p test l t) → Arrives p s (tests_ahead p test l t)
-  unfolding stepped
-  tests_arrives None l s t one = one
-  tests_arrives (Some e) l s t one = hand e s t _ _ (λ v c same has. used_next e (doing (tested l) t) v c same has one) one
-
-  repeats_arrives : (step : Option (Expression ℕ)) (l : Loop) (s t : State) → Arrives p s (repeats p step l t) → Arrives p s (repeats_ahead p step l t)
-  unfolding stepped
-  repeats_arrives None l s t one = tests_arrives l.test l s t one
-  repeats_arrives (Some e) l s t one = hand e s t _ _ (λ v c same has. behind p
-      (evaluated_next e (doing (acting A.Dropping) (doing (looping l) t)) v c same has one)
-      (tests_arrives l.test l (doing (looping l) (with_core c t)) (with_core c t) (by_step p (doing (looping l) (with_core c t))))) one
-
-  -- ---- statements
+  -- ---- one statement
 
   executed_arrives : (c : Context) (l : ℕ) (one : Statement ℕ) (t : State) → Arrives p (doing (executing c l one) t) (executed_ahead p c l one t)
   unfolding stepped
@@ -158,11 +146,146 @@ module _ (p : ProgramData) where
   executed_arrives c l T.break t = by_step p (doing (executing c l T.break) t)
   executed_arrives c l T.continue t = by_step p (doing (executing c l T.continue) t)
 
-  executed_all_arrives : (c : Context) (l : ℕ) (all : Statements ℕ) (t : State) → Arrives p (doing (executing_all c l all) t) (executed_all_ahead p c l all t)
+  -- ---- statements in a row
+
+  followed_arrives : {s : State} (c : Context) (l : ℕ) (first : Item) (rest : Statements ℕ) (t : State)
+      → Arrives p s (goes (doing first (doing (executing_all c l rest) t))) → Arrives p s (goes (doing first (followed c l rest t)))
+  followed_arrives c l first T.no_statements t one = left_out p first (executing_all c l T.no_statements) t (no_more_is_idle p c l) one
+  followed_arrives c l first (T.and_statement other rest) t one = one
+
+  later_arrives : (c : Context) (l : ℕ) (one : Statement ℕ) (t : State) → Arrives p (doing (executing c l one) t) (executed_later p c l one t)
   unfolding stepped
-  executed_all_arrives c l T.no_statements t = by_step p (doing (executing_all c l T.no_statements) t)
-  executed_all_arrives c l (T.and_statement one rest) t = behind p (by_step p (doing (executing_all c l (T.and_statement one rest)) t))
-      (executed_arrives c l one (doing (executing_all c (l + loops_in one) rest) t))
+  later_arrives c l (T.evaluate e) t = by_step p (doing (executing c l (T.evaluate e)) t)
+  later_arrives c l (T.block own all) t = executed_arrives c l (T.block own all) t
+  later_arrives c l (T.declare x i) t = executed_arrives c l (T.declare x i) t
+  later_arrives c l (T.when e one) t = executed_arrives c l (T.when e one) t
+  later_arrives c l (T.when_else e one other) t = executed_arrives c l (T.when_else e one other) t
+  later_arrives c l (T.while e body) t = executed_arrives c l (T.while e body) t
+  later_arrives c l (T.do_while body e) t = executed_arrives c l (T.do_while body e) t
+  later_arrives c l (T.for own start test step body) t = executed_arrives c l (T.for own start test step body) t
+  later_arrives c l (T.switch e own arms) t = executed_arrives c l (T.switch e own arms) t
+  later_arrives c l T.break t = executed_arrives c l T.break t
+  later_arrives c l T.continue t = executed_arrives c l T.continue t
+  later_arrives c l (T.return e) t = executed_arrives c l (T.return e) t
+
+  first_arrives : (c : Context) (l : ℕ) (all : Statements ℕ) (t : State) → Arrives p (doing (executing_all c l all) t) (executed_first p c l all t)
+  unfolding stepped
+  first_arrives c l T.no_statements t = by_step p (doing (executing_all c l T.no_statements) t)
+  first_arrives c l (T.and_statement one rest) t = behind p
+      (followed_arrives c (l + loops_in one) (executing c l one) rest t (by_step p (doing (executing_all c l (T.and_statement one rest)) t)))
+      (later_arrives c l one (followed c (l + loops_in one) rest t))
+
+  -- behind a statement that is evaluated in one step
+  next_arrives : (c : Context) (l : ℕ) (e : Expression ℕ) (rest : Statements ℕ) (t : State) (v : Value) (d : Core) → d.turns ≡ t.core.turns → Has p e t.core v d
+      → Arrives p (doing (executing_all c l (T.and_statement (T.evaluate e) rest)) t) (goes (doing (executing_all c l rest) (with_core d t)))
+  unfolding stepped
+  next_arrives c l e rest t v d same has =
+      let none : l + 0 ≡ l = omega arith in
+      subst (λ n. Arrives p (doing (executing_all c l (T.and_statement (T.evaluate e) rest)) t) (goes (doing (executing_all c n rest) (with_core d t)))) none
+      (evaluated_next e (doing (acting A.Dropping) (doing (executing_all c (l + 0) rest) t)) v d same has
+      (behind p (by_step p (doing (executing_all c l (T.and_statement (T.evaluate e) rest)) t)) (by_step p _)))
+
+  past_is : (c : Context) (l : ℕ) (all rest : Statements ℕ) (t : State) (r : Option Value × Core)
+      → settled r t (λ v s. executed_all_ahead p c l rest s) (executed_first p c l all t)
+      ≡ executed_first p c l (past_one r (past p rest) (all, t.core)).0 (with_core (past_one r (past p rest) (all, t.core)).1 t)
+  past_is c l all rest t (Some v, d) = refl
+  past_is c l all rest t (None, d) = refl
+
+  all_arrives : (c : Context) (l : ℕ) (all : Statements ℕ) (t : State) → Arrives p (doing (executing_all c l all) t) (executed_all_ahead p c l all t)
+  all_arrives c l T.no_statements t = first_arrives c l T.no_statements t
+  all_arrives c l (T.and_statement (T.evaluate e) rest) t =
+      subst (λ step. Arrives p (doing (executing_all c l (T.and_statement (T.evaluate e) rest)) t) step)
+      (past_is c l (T.and_statement (T.evaluate e) rest) rest t (at_once p t.core e))
+      (hand e _ t _ _ (λ v d same has. behind p (next_arrives c l e rest t v d same has) (all_arrives c l rest (with_core d t)))
+      (first_arrives c l (T.and_statement (T.evaluate e) rest) t))
+  all_arrives c l (T.and_statement (T.block own some) rest) t = first_arrives c l (T.and_statement (T.block own some) rest) t
+  all_arrives c l (T.and_statement (T.declare x i) rest) t = first_arrives c l (T.and_statement (T.declare x i) rest) t
+  all_arrives c l (T.and_statement (T.when e one) rest) t = first_arrives c l (T.and_statement (T.when e one) rest) t
+  all_arrives c l (T.and_statement (T.when_else e one other) rest) t = first_arrives c l (T.and_statement (T.when_else e one other) rest) t
+  all_arrives c l (T.and_statement (T.while e body) rest) t = first_arrives c l (T.and_statement (T.while e body) rest) t
+  all_arrives c l (T.and_statement (T.do_while body e) rest) t = first_arrives c l (T.and_statement (T.do_while body e) rest) t
+  all_arrives c l (T.and_statement (T.for own start test step body) rest) t = first_arrives c l (T.and_statement (T.for own start test step body) rest) t
+  all_arrives c l (T.and_statement (T.switch e own arms) rest) t = first_arrives c l (T.and_statement (T.switch e own arms) rest) t
+  all_arrives c l (T.and_statement T.break rest) t = first_arrives c l (T.and_statement T.break rest) t
+  all_arrives c l (T.and_statement T.continue rest) t = first_arrives c l (T.and_statement T.continue rest) t
+  all_arrives c l (T.and_statement (T.return e) rest) t = first_arrives c l (T.and_statement (T.return e) rest) t
+
+  -- ---- blocks, and the bodies of loops
+
+  -- what is done behind what is done to the core
+  in_core_arrives : {A : Type 0} (s t : State) (first : State → State) (next : State → Step) (r : Result A Final) (d : Core)
+      → ((u : State) → Arrives p s (goes (first u)) → Arrives p s (next u)) → Arrives p s (in_core r d t (λ x u. goes (first u))) → Arrives p s (in_core r d t (λ x u. next u))
+  in_core_arrives s t first next (Ok x) d reach one = reach (with_core d t) one
+  in_core_arrives s t first next (Err end) d reach one = one
+
+  within_arrives : {s : State} (own : List ℕ) (first : Item) (t : State) → Arrives p s (goes (doing first (doing (ending own) t)))
+      → Arrives p s (goes (doing first (within own t)))
+  within_arrives [] first t one = left_out p first (ending []) t (no_locals_are_idle p) one
+  within_arrives (x ∷ own) first t one = one
+
+  whole_arrives : (c : Context) (l : ℕ) (one : Statement ℕ) (t : State) → Arrives p (doing (executing c l one) t) (executed_whole p c l one t)
+  unfolding stepped
+  whole_arrives c l (T.block own all) t =
+      in_core_arrives (doing (executing c l (T.block own all)) t) t (λ u. doing (executing_all c l all) (doing (ending own) u)) _
+      (begin_all p c.locals own t.core).0 (begin_all p c.locals own t.core).1
+      (λ u one. behind p (within_arrives own (executing_all c l all) u one) (all_arrives c l all (within own u)))
+      (by_step p (doing (executing c l (T.block own all)) t))
+  whole_arrives c l (T.evaluate e) t = executed_arrives c l (T.evaluate e) t
+  whole_arrives c l (T.declare x i) t = executed_arrives c l (T.declare x i) t
+  whole_arrives c l (T.when e one) t = executed_arrives c l (T.when e one) t
+  whole_arrives c l (T.when_else e one other) t = executed_arrives c l (T.when_else e one other) t
+  whole_arrives c l (T.while e body) t = executed_arrives c l (T.while e body) t
+  whole_arrives c l (T.do_while body e) t = executed_arrives c l (T.do_while body e) t
+  whole_arrives c l (T.for own start test step body) t = executed_arrives c l (T.for own start test step body) t
+  whole_arrives c l (T.switch e own arms) t = executed_arrives c l (T.switch e own arms) t
+  whole_arrives c l T.break t = executed_arrives c l T.break t
+  whole_arrives c l T.continue t = executed_arrives c l T.continue t
+  whole_arrives c l (T.return e) t = executed_arrives c l (T.return e) t
+
+  begun_arrives : (l : Loop) (s t : State) → Arrives p s (begun p l t) → Arrives p s (begun_ahead p l t)
+  begun_arrives l s t one =
+      in_core_arrives s t (λ u. doing (executing l.context (l.number + 1) l.body) (doing (repeating l) u)) _
+      (begun_in l.context.function l.number t.core).0 (begun_in l.context.function l.number t.core).1
+      (λ u one. behind p one (whole_arrives l.context (l.number + 1) l.body (doing (repeating l) u))) one
+
+  if_begun_arrives : (v : Value) (l : Loop) (s t : State) → Arrives p s (if is_true v then begun p l t else goes t)
+      → Arrives p s (if is_true v then begun_ahead p l t else goes t)
+  if_begun_arrives v l s t one = by_truth (is_true v) one
+    where
+      by_truth : (b : Bool) → Arrives p s (if b then begun p l t else goes t) → Arrives p s (if b then begun_ahead p l t else goes t)
+      by_truth true one = begun_arrives l s t one
+      by_truth false one = one
+
+  -- ---- loops
+
+  tests_arrives : (test : Option (Expression ℕ)) (l : Loop) (s t : State) → Arrives p s (tests p test l t) → Arrives p s (tests_ahead p test l t)
+  unfolding stepped
+  tests_arrives None l s t one = begun_arrives l s t one
+  tests_arrives (Some e) l s t one = hand e s t _ _ (λ v c same has. if_begun_arrives v l s (with_core c t) (used_next e (doing (tested l) t) v c same has one)) one
+
+  repeats_arrives : (step : Option (Expression ℕ)) (l : Loop) (s t : State) → Arrives p s (repeats p step l t) → Arrives p s (repeats_ahead p step l t)
+  unfolding stepped
+  repeats_arrives None l s t one = tests_arrives l.test l s t one
+  repeats_arrives (Some e) l s t one = hand e s t _ _ (λ v c same has. behind p
+      (evaluated_next e (doing (acting A.Dropping) (doing (looping l) t)) v c same has one)
+      (tests_arrives l.test l (doing (looping l) (with_core c t)) (with_core c t) (by_step p (doing (looping l) (with_core c t))))) one
+
+  -- ---- the arms of a `switch`
+
+  arms_arrive : (c : Context) (l k : ℕ) (arms : Arms ℕ) (t : State)
+      → Arrives p (doing (entering c l (Some k) arms) t) (entered_first p c (arms_behind p l k arms) t)
+  unfolding stepped
+  arms_arrive c l zero T.no_arms t = by_step p (doing (entering c l (Some zero) T.no_arms) t)
+  arms_arrive c l (suc k) T.no_arms t = by_step p (doing (entering c l (Some (suc k)) T.no_arms) t)
+  arms_arrive c l zero (T.and_arm cases is_default all rest) t = behind p (by_step p (doing (entering c l (Some zero) (T.and_arm cases is_default all rest)) t))
+      (all_arrives c l all (doing (entering c (l + loops_in_all all) (Some zero) rest) t))
+  arms_arrive c l (suc k) (T.and_arm cases is_default all rest) t =
+      behind p (by_step p (doing (entering c l (Some (suc k)) (T.and_arm cases is_default all rest)) t)) (arms_arrive c (l + loops_in_all all) k rest t)
+
+  entered_arrives : (c : Context) (l : ℕ) (arm : Option ℕ) (arms : Arms ℕ) (t : State) → Arrives p (doing (entering c l arm arms) t) (entered_ahead p c l arm arms t)
+  unfolding stepped
+  entered_arrives c l None arms t = by_step p (doing (entering c l None arms) t)
+  entered_arrives c l (Some k) arms t = arms_arrive c l k arms t
 
   -- ---- items
 
@@ -170,8 +293,8 @@ module _ (p : ProgramData) where
   unfolding stepped
   ahead_arrives (evaluating e) t = hand e _ t _ _ (λ v c same has. evaluated_ahead p e t v c same has) (by_step p (doing (evaluating e) t))
   ahead_arrives (using e) t = hand e _ t _ _ (λ v c same has. used_ahead p e t v c same has) (by_step p (doing (using e) t))
-  ahead_arrives (executing c l one) t = executed_arrives c l one t
-  ahead_arrives (executing_all c l all) t = executed_all_arrives c l all t
+  ahead_arrives (executing c l one) t = whole_arrives c l one t
+  ahead_arrives (executing_all c l all) t = all_arrives c l all t
   ahead_arrives (looping l) t = tests_arrives l.test l (doing (looping l) t) t (by_step p (doing (looping l) t))
   ahead_arrives (repeating l) t = repeats_arrives l.step l (doing (repeating l) t) t (by_step p (doing (repeating l) t))
   ahead_arrives (acting a) t = by_step p (doing (acting a) t)
@@ -182,7 +305,7 @@ module _ (p : ProgramData) where
   ahead_arrives (I.gathering callee done rest) t = by_step p (doing (I.gathering callee done rest) t)
   ahead_arrives (I.gathered callee done rest) t = by_step p (doing (I.gathered callee done rest) t)
   ahead_arrives (I.framing caller) t = by_step p (doing (I.framing caller) t)
-  ahead_arrives (I.entering c l arm arms) t = by_step p (doing (I.entering c l arm arms) t)
+  ahead_arrives (entering c l arm arms) t = entered_arrives c l arm arms t
   ahead_arrives (I.deciding c l one) t = by_step p (doing (I.deciding c l one) t)
   ahead_arrives (I.deciding_else c l one other) t = by_step p (doing (I.deciding_else c l one other) t)
   ahead_arrives (tested l) t = by_step p (doing (tested l) t)

@@ -1,5 +1,5 @@
 -- Step by step a run comes from its start to its end.
-use Rattle.std.proofs.Common.{◌≡◌, refl, sym, ap, ◌∙◌, subst, ℕ, ◌+◌, ◌^◌, ◌<◌, true, List, [], Some, slice_get, arith}
+use Rattle.std.proofs.Common.{◌≡◌, refl, sym, ap, ◌∙◌, subst, ℕ, ◌^◌, ◌<◌, true, List, [], Some, slice_get, arith}
 use Rattle.c_typed.specs.Programs.{ProgramData}
 use Rattle.runs.specs.Events.{Event, Call, output_of, calls_of, entries_of, begins_of}
 use Rattle.runs.specs.Worlds.{World}

@@ -1,11 +1,9 @@
 -- What is evaluated in one step is what the meaning gives.
-use Rattle.std.proofs.Common.{◌≡◌, refl, ◌∙◌, ℕ, ℤ, ◌^◌, nat_lt, Bool, true, false, if◌then◌else◌, List, Option, Some, None, Ok, Err}
-use Rattle.lay_base.specs.declared.faults.UndefinedKind.TheVariants as K
+use Rattle.std.proofs.Common.{◌∙◌, ℕ, ℤ, ◌^◌, nat_lt, Bool, true, false, if◌then◌else◌, List, Option, Some, None, Ok, Err}
 use Rattle.lay_base.specs.declared.place.Place.{Place}
 use Rattle.c_types.specs.Layouts.{offset_of}
 use Rattle.c_types.specs.Types.{CType, void, integer, pointer as pointer_to, array, function, structure}
 use Rattle.c_typed.specs.Constants.{ty, kind_of}
-use Rattle.c_typed.specs.Conversions.{number_of}
 use Rattle.c_typed.specs.Programs.{ProgramData}
 use Rattle.c_typed.specs.Trees as T
 use Rattle.c_typed.specs.Trees.{Expression, expression, Node, Path, path, PathNode}
@@ -15,7 +13,7 @@ use Rattle.block_memory.specs.Blocks.{Memory}
 use Rattle.block_memory.specs.Tested.{Tested}
 use Rattle.block_memory.specs.declared.pointer.Ptr.{Ptr}
 use Rattle.block_memory.specs.declared.pointer.Ptr.TheVariants as P
-use Rattle.runs.specs.Doing.{Rest, Doing, ◌>>=◌, ◌>>◌, pure, is_undefined, tested, memory_now}
+use Rattle.runs.specs.Doing.{Doing, ◌>>=◌, ◌>>◌, pure, tested, memory_now}
 use Rattle.runs.specs.Scalars.{pointer_of}
 use Rattle.runs.specs.declared.value.Value.{Value}
 use Rattle.runs.specs.declared.value.Value.TheVariants.{Pointer as Address}
@@ -30,7 +28,7 @@ use Rattle.c_meaning.specs.declared.frame.Spot.TheVariants.{Kept, Placed}
 use Rattle.source_steps.specs.Actions.{address_of, lies_at}
 use Rattle.source_steps.specs.Cores as Cores
 use Rattle.source_steps.specs.Cores.{Core, Does, done}
-use Rattle.source_steps.specs.Direct.{and_if, if_found, if_near, if_converted, if_element, shown_if, and_then, direct, direct_node, direct_spot, direct_step, at_once}
+use Rattle.source_steps.specs.Direct.{and_if, if_found, if_near, if_converted, if_element, shown_if, and_then, direct, direct_node, direct_spot, at_once}
 use Rattle.source_steps.specs.Locals.{local_spot, fetch, put}
 use Rattle.source_step_laws.proofs.Actions.{reached_part}
 use Rattle.source_step_laws.proofs.Locals.{local_spot_part, fetch_part, put_part}

@@ -1,8 +1,8 @@
 -- Where some steps lead: what is left to do is the same, with fewer turns or less work, and one step after the other leads on.
-use Rattle.std.proofs.Common.{◌≡◌, refl, sym, ap, ◌∙◌, ◌⊎◌, inl, inr, ℕ, ◌+◌, ◌≤◌, ◌<◌, true, false, List, [], ◌∷◌, Option, Some, None, arith}
+use Rattle.std.proofs.Common.{◌≡◌, sym, ap, ◌∙◌, inl, inr, ℕ, ◌+◌, ◌<◌, List, ◌∷◌, Some, arith}
 use Rattle.c_typed.specs.Programs.{ProgramData}
 use Rattle.c_typed.specs.Trees.{Expression, expression}
-use Rattle.runs.specs.Events.{Event, Call, output_of, calls_of}
+use Rattle.runs.specs.Events.{Event, output_of, calls_of}
 use Rattle.runs.specs.Worlds.{World, End}
 use Rattle.runs.specs.declared.value.Value.{Value}
 use Rattle.c_meaning.specs.Expressions as Meaning

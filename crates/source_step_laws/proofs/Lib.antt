@@ -11,6 +11,7 @@ pub mod Steps
 pub mod Lessening
 pub mod Found
 pub mod Leading
+pub mod Idle
 pub mod Ahead
 pub mod Arriving
 pub mod Onwards

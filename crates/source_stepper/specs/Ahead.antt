@@ -6,11 +6,16 @@ use Rattle.c_typed.specs.Trees.{Statement}
 use Rattle.runs.specs.declared.value.Value.{Value}
 use Rattle.c_meaning.specs.Operators.{is_true}
 use Rattle.source_machine.specs.Items.{Context, Loop, executing}
+use Rattle.source_steps.specs.Ahead.{begun_ahead}
 use Rattle.source_steps.specs.States.{State, Step, goes, doing}
 use Rattle.source_steps.specs.Statements.{begun}
 
 abbrev pub tested_by : ProgramData → Value → Loop → State → Step
 tested_by p v l s = if is_true v then begun p l s else goes s
+
+-- and the first statements of its body are done at once
+abbrev pub tested_ahead_by : ProgramData → Value → Loop → State → Step
+tested_ahead_by p v l s = if is_true v then begun_ahead p l s else goes s
 
 abbrev pub decided : Value → Context → (loops : ℕ) → Statement ℕ → State → Step
 decided v c l one s = if is_true v then goes (doing (executing c l one) s) else goes s

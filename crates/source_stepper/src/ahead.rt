@@ -3,19 +3,19 @@
 ghost use Rattle.std.specs.Prelude.{◌≡◌, IfOk, map};
 ghost use Rattle.c_typed.specs.Programs.{program_data};
 ghost use Rattle.c_typed.specs.Views.{expression_of};
-ghost use Rattle.loop_tallies.specs.Forms.{statement_in, statements_in};
+ghost use Rattle.loop_tallies.specs.Forms.{statement_in};
 ghost use Rattle.source_machine.specs.Items as I;
-ghost use Rattle.source_steps.specs.Ahead.{ahead, executed_ahead, executed_all_ahead, repeats_ahead, tests_ahead};
+ghost use Rattle.source_steps.specs.Ahead.{ahead, executed_ahead};
 ghost use Rattle.source_stepper.specs.Ahead.{decided, decided_else, tested_by};
 ghost use Rattle.source_state.specs.View.{state_of};
 ghost use Rattle.source_state.specs.WorkView.{context_of, loop_of};
 
-use crate::loops::{begin_loop, repeat_loop, test_loop};
+use crate::loops::begin_loop;
 use crate::statements::{behind, execute, leave, select, while_loop};
 use c_meaning::Way;
 use c_typed::Expression;
 use lay_base::NoMemory;
-use loop_tallies::{Form, TalliedStatement, TalliedStatements};
+use loop_tallies::{Form, TalliedStatement};
 use runs::Value;
 use source_direct::at_once;
 use source_expressions::{evaluate, evaluate_used, go_on};
@@ -72,42 +72,6 @@ pub(crate) fn begin_if<'a>(
         begin_loop(machine, types, l)
     } else {
         Ok(Moved::Goes)
-    }
-}
-
-/// A loop before its test.
-#[inline(always)]
-pub(crate) fn test_ahead<'a>(
-    machine: &mut Machine<'a>,
-    types: &'a Types<'a>,
-    l: Loop<'a>,
-) -> Result<Moved, NoMemory>
-    ensures { IfOk result (λ m. (m, state_of machine.new) ≡ tests_ahead (program_data types.now) (loop_of l.entry).test (loop_of l.entry) (state_of machine.old)) }
-{
-    match l.test {
-        Some(e) => match at_once(types, &mut machine.room, e) {
-            Some(v) => begin_if(machine, types, v, l),
-            None => test_loop(machine, types, l),
-        },
-        None => begin_loop(machine, types, l),
-    }
-}
-
-/// A loop behind its body.
-#[inline(always)]
-pub(crate) fn repeat_ahead<'a>(
-    machine: &mut Machine<'a>,
-    types: &'a Types<'a>,
-    l: Loop<'a>,
-) -> Result<Moved, NoMemory>
-    ensures { IfOk result (λ m. (m, state_of machine.new) ≡ repeats_ahead (program_data types.now) (loop_of l.entry).step (loop_of l.entry) (state_of machine.old)) }
-{
-    match l.step {
-        Some(e) => match at_once(types, &mut machine.room, e) {
-            Some(_) => test_ahead(machine, types, l),
-            None => repeat_loop(machine, types, l),
-        },
-        None => test_ahead(machine, types, l),
     }
 }
 
@@ -207,27 +171,5 @@ pub(crate) fn execute_ahead<'a>(
         | Form::Break
         | Form::Continue
         | Form::Return(None) => execute(machine, alloc, types, scope, loops, s),
-    }
-}
-
-/// Statements in a row.
-pub(crate) fn execute_all_ahead<'a>(
-    machine: &mut Machine<'a>,
-    alloc: Global,
-    types: &'a Types<'a>,
-    scope: Scope<'a>,
-    loops: u64,
-    all: TalliedStatements<'a>,
-) -> Result<Moved, NoMemory>
-    ensures { IfOk result (λ m. (m, state_of machine.new) ≡ executed_all_ahead (program_data types.now) (context_of scope.entry) loops
-        (statements_in all.entry) (state_of machine.old)) }
-{
-    match all.split_first() {
-        Some((s, rest)) => {
-            let after = behind(loops, s.loops())?;
-            machine.todo(Work::Statements(scope, after, rest))?;
-            execute_ahead(machine, alloc, types, scope, loops, s)
-        }
-        None => Ok(Moved::Goes),
     }
 }

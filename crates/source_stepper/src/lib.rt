@@ -6,6 +6,7 @@
 
 mod ahead;
 mod loops;
+mod rows;
 mod statements;
 mod stepping;
 

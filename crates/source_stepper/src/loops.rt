@@ -14,7 +14,7 @@ use source_steps::Moved;
 use source_types::Types;
 
 /// One more loop stands before the body of a loop; `NoMemory` comes where there are 2^64.
-fn one_more(number: u64) -> Result<u64, NoMemory>
+pub(crate) fn one_more(number: u64) -> Result<u64, NoMemory>
     ensures { IfOk result (λ n. n ≡ number + 1) }
 {
     number.checked_add(1).ok_or(NoMemory)

@@ -11,7 +11,7 @@ ghost use Rattle.c_typed.specs.Views.{arms_of, expression_of};
 ghost use Rattle.loop_tallies.specs.Forms.{arms_in, statement_in, statements_in};
 ghost use Rattle.source_machine.specs.Items.{unwinding};
 ghost use Rattle.source_steps.specs.States.{doing, goes};
-ghost use Rattle.source_steps.specs.Statements.{entered, executed, selected};
+ghost use Rattle.source_steps.specs.Statements.{executed, selected};
 ghost use Rattle.source_stepper.specs.Parts.{begun_for};
 ghost use Rattle.source_state.specs.View.{state_of};
 ghost use Rattle.source_state.specs.WorkView.{context_of, loop_of};
@@ -214,39 +214,6 @@ pub(crate) fn execute<'a>(
         Form::Continue => leave(machine, Way::ByContinue),
         Form::Return(None) => leave(machine, Way::ByReturn(None)),
         Form::Return(Some(e)) => use_then(machine, e, Work::Returning),
-    }
-}
-
-/// The arms of a `switch` from the one with that number on, or none.
-pub(crate) fn enter_arms<'a>(
-    machine: &mut Machine<'a>,
-    types: &'a Types<'a>,
-    scope: Scope<'a>,
-    loops: u64,
-    arm: Option<u64>,
-    own: &'a [u32],
-    arms: TalliedArms<'a>,
-) -> Result<Moved, NoMemory>
-    ensures { IfOk result (λ m. (m, state_of machine.new) ≡ entered (program_data types.now) (context_of scope.entry) loops arm
-        (arms_in arms.entry) (state_of machine.old)) }
-{
-    let _ = types;
-    let Some(number) = arm else {
-        return Ok(Moved::Goes);
-    };
-    match arms.split_first() {
-        Some(first) => {
-            let after = behind(loops, first.loops)?;
-            if number == 0 {
-                let next = ForArms::Entering(Some(0));
-                machine.todo(Work::Arms(next, scope, after, own, first.rest))?;
-                go_on(machine, Work::Statements(scope, loops, first.statements))
-            } else {
-                let next = ForArms::Entering(Some(number - 1));
-                go_on(machine, Work::Arms(next, scope, after, own, first.rest))
-            }
-        }
-        None => Ok(Moved::Goes),
     }
 }
 

@@ -13,12 +13,10 @@ ghost use Rattle.source_stepper.specs.Passing.{IsAWayOut};
 ghost use Rattle.source_state.specs.View.{state_of};
 ghost use Rattle.source_state.specs.WorkView.{context_of, for_arms, for_call, for_expression, for_loop, for_loop_behind, for_statement, item_of, loop_behind_of, loop_of};
 
-use crate::ahead::{
-    begin_if, decide_else, decide_if, evaluate_ahead, execute_ahead, execute_all_ahead,
-    repeat_ahead, test_ahead, use_ahead,
-};
+use crate::ahead::{begin_if, decide_else, decide_if, evaluate_ahead, use_ahead};
 use crate::loops::{begin_behind, repeat_loop, test_behind};
-use crate::statements::{enter_arms, leave, select};
+use crate::rows::{enter_ahead, execute_all_ahead, execute_whole, repeat_ahead, test_ahead};
+use crate::statements::{leave, select};
 use c_meaning::{Slot, Way};
 use c_typed::Expression;
 use lay_base::NoMemory;
@@ -309,7 +307,7 @@ fn enact_statement<'a>(
         (for_statement what (context_of scope.entry) loops (statement_in s.entry)) (state_of machine.old)) }
 {
     match what {
-        ForStatement::Executing => execute_ahead(machine, alloc, types, scope, loops, s),
+        ForStatement::Executing => execute_whole(machine, alloc, types, scope, loops, s),
         ForStatement::Deciding => {
             let Some(v) = machine.take() else {
                 return Ok(STUCK);
@@ -351,7 +349,9 @@ fn enact_arms<'a>(
         (for_arms what (context_of scope.entry) loops own.now (arms_in arms.entry)) (state_of machine.old)) }
 {
     match what {
-        ForArms::Entering(arm) => enter_arms(machine, types, scope, loops, arm, own, arms),
+        ForArms::Entering(arm) => {
+            enter_ahead(machine, alloc, types, scope, loops, arm, own, arms)
+        }
         ForArms::Selecting => match machine.take() {
             Some(v) => select(machine, alloc, types, scope, loops, own, arms, word_of(v)),
             None => Ok(STUCK),
@@ -359,8 +359,10 @@ fn enact_arms<'a>(
     }
 }
 
+#[inline(always)]
 fn enact_loop<'a>(
     machine: &mut Machine<'a>,
+    alloc: Global,
     types: &'a Types<'a>,
     what: ForLoop,
     l: Loop<'a>,
@@ -368,12 +370,12 @@ fn enact_loop<'a>(
     ensures { IfOk result (λ m. (m, state_of machine.new) ≡ ahead (program_data types.now) (for_loop what (loop_of l.entry)) (state_of machine.old)) }
 {
     match what {
-        ForLoop::Looping => test_ahead(machine, types, l),
+        ForLoop::Looping => test_ahead(machine, alloc, types, l),
         ForLoop::Tested => match machine.take() {
             Some(v) => begin_if(machine, types, v, l),
             None => Ok(STUCK),
         },
-        ForLoop::Repeating => repeat_ahead(machine, types, l),
+        ForLoop::Repeating => repeat_ahead(machine, alloc, types, l),
     }
 }
 
@@ -441,7 +443,7 @@ fn enact<'a>(
             enact_arms(machine, alloc, types, what, scope, loops, own, arms)
         }
         Work::Switching => Ok(Moved::Goes),
-        Work::Loop(what, l) => enact_loop(machine, types, what, l),
+        Work::Loop(what, l) => enact_loop(machine, alloc, types, what, l),
         Work::LoopBehind(is_tested, l) => enact_behind(machine, types, is_tested, l),
         Work::Filling(block, parts) => fill_all(machine, types, block, parts),
         Work::Returning => return_value(machine, types),

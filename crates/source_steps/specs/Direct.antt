@@ -1,9 +1,8 @@
 -- Expressions that are evaluated in one step: all that they need is at hand, as it is of numbers, locals, elements and fields, and nothing is called. Where a
 -- part is not at hand, or is undefined, there is no value here, and the expression is evaluated step by step.
-use Rattle.std.specs.Prelude.{ℕ, ℤ, pos, ◌+ℤ◌, ◌*ℤ◌, ◌*◌, ◌^◌, nat_lt, not, Bool, true, false, if◌then◌else◌, Option, Some, None, Ok, Err}
+use Rattle.std.specs.Prelude.{ℕ, ℤ, pos, ◌+ℤ◌, ◌*ℤ◌, ◌^◌, nat_lt, not, Bool, true, false, if◌then◌else◌, Option, Some, None, Ok, Err}
 use Rattle.c_types.specs.Layouts.{offset_of}
 use Rattle.c_types.specs.Types.{CType, void}
-use Rattle.c_types.specs.declared.ty.IntKind.{IntKind}
 use Rattle.c_typed.specs.Constants.{ty, kind_of}
 use Rattle.c_typed.specs.Conversions.{number_of}
 use Rattle.c_typed.specs.Programs.{ProgramData}
@@ -13,7 +12,6 @@ use Rattle.c_typed.specs.Typed.{path_ty}
 use Rattle.c_typed.specs.declared.operators.BinaryOp.{BinaryOp}
 use Rattle.c_typed.specs.declared.operators.PointerOp.TheVariants.{Add}
 use Rattle.c_typed.specs.declared.operators.StepOp.{StepOp}
-use Rattle.block_memory.specs.declared.pointer.Ptr.{Ptr}
 use Rattle.block_memory.specs.declared.pointer.Ptr.TheVariants as P
 use Rattle.block_memory.specs.Tested.{Tested}
 use Rattle.runs.specs.Scalars.{word_of, pointer_of}
@@ -23,7 +21,7 @@ use Rattle.c_meaning.specs.Expressions.{part_of, is_subscript, field_in}
 use Rattle.c_meaning.specs.Operators.{converted, is_true, flag, unary, binary, moved, distance, compared, updated, next}
 use Rattle.c_meaning.specs.Program.{type_at, size_at, element_size, length_of, access_at}
 use Rattle.c_meaning.specs.declared.frame.Spot.{Spot}
-use Rattle.c_meaning.specs.declared.frame.Spot.TheVariants.{Kept, Placed}
+use Rattle.c_meaning.specs.declared.frame.Spot.TheVariants.{Placed}
 use Rattle.source_steps.specs.Actions.{address_of, lies_at, element}
 use Rattle.source_steps.specs.Cores.{Core}
 use Rattle.source_steps.specs.Locals.{local_spot, fetch, put}
