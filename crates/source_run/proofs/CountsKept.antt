@@ -1,12 +1,12 @@
 -- A fact of the counts that is kept where a function is entered and where the body of a loop begins is kept by each step.
 use Rattle.std.proofs.Common.{sym, subst, ℕ, ℤ, pos, ◌+ℤ◌, ◌*ℤ◌, zero, suc, ◌+◌, ◌*◌, ◌^◌, Bool, true, false, nat_lt, if◌then◌else◌, List, [], ◌∷◌, ◌++◌, Option, Some, None, slice_get, Result, Ok, Err}
 use Rattle.block_memory.specs.Blocks.{Memory}
-use Rattle.c_counts.specs.Loops.{loops_in}
 use Rattle.block_memory.specs.Tested.{Tested, ◌>>=◌}
 use Rattle.block_memory.specs.declared.kinds.Access.{Access}
 use Rattle.block_memory.specs.declared.kinds.BlockKind.{BlockKind}
 use Rattle.block_memory.specs.declared.pointer.Ptr.{Ptr}
 use Rattle.block_memory.specs.declared.pointer.Ptr.TheVariants as P
+use Rattle.c_counts.specs.Loops.{loops_in}
 use Rattle.c_meaning.specs.Frames.{Frame}
 use Rattle.c_meaning.specs.Expressions.{is_subscript, field_in}
 use Rattle.c_meaning.specs.Operators.{is_true, binary, moved, distance, compared, updated, next}
@@ -569,7 +569,7 @@ module _ (Q : Counting → Type 0) (entry : (c : Counting) (f : ℕ) → Q c →
 
     entered_ahead_kept : (c : Context) (l : ℕ) (arm : Option ℕ) (arms : Arms ℕ) (s : State) → In s.core → Behind (entered_ahead p c l arm arms s)
     entered_ahead_kept c l None arms s h = still h
-    entered_ahead_kept c l (Some k) arms s h = entered_first_kept c (arms_behind p l k arms) s h
+    entered_ahead_kept c l (Some k) arms s h = entered_first_kept c (arms_behind l k arms) s h
 
     ahead_kept : (item : Item) (s : State) → In s.core → Behind (ahead p item s)
     ahead_kept (I.evaluating e) s h = hand_kept e s _ _ h (λ v c k. still k) (enacted_kept (I.evaluating e) s h)

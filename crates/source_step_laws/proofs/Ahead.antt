@@ -156,17 +156,7 @@ module _ (p : ProgramData) where
   later_arrives : (c : Context) (l : ℕ) (one : Statement ℕ) (t : State) → Arrives p (doing (executing c l one) t) (executed_later p c l one t)
   unfolding stepped
   later_arrives c l (T.evaluate e) t = by_step p (doing (executing c l (T.evaluate e)) t)
-  later_arrives c l (T.block own all) t = executed_arrives c l (T.block own all) t
-  later_arrives c l (T.declare x i) t = executed_arrives c l (T.declare x i) t
-  later_arrives c l (T.when e one) t = executed_arrives c l (T.when e one) t
-  later_arrives c l (T.when_else e one other) t = executed_arrives c l (T.when_else e one other) t
-  later_arrives c l (T.while e body) t = executed_arrives c l (T.while e body) t
-  later_arrives c l (T.do_while body e) t = executed_arrives c l (T.do_while body e) t
-  later_arrives c l (T.for own start test step body) t = executed_arrives c l (T.for own start test step body) t
-  later_arrives c l (T.switch e own arms) t = executed_arrives c l (T.switch e own arms) t
-  later_arrives c l T.break t = executed_arrives c l T.break t
-  later_arrives c l T.continue t = executed_arrives c l T.continue t
-  later_arrives c l (T.return e) t = executed_arrives c l (T.return e) t
+  later_arrives c l one t = executed_arrives c l one t
 
   first_arrives : (c : Context) (l : ℕ) (all : Statements ℕ) (t : State) → Arrives p (doing (executing_all c l all) t) (executed_first p c l all t)
   unfolding stepped
@@ -198,17 +188,7 @@ module _ (p : ProgramData) where
       (past_is c l (T.and_statement (T.evaluate e) rest) rest t (at_once p t.core e))
       (hand e _ t _ _ (λ v d same has. behind p (next_arrives c l e rest t v d same has) (all_arrives c l rest (with_core d t)))
       (first_arrives c l (T.and_statement (T.evaluate e) rest) t))
-  all_arrives c l (T.and_statement (T.block own some) rest) t = first_arrives c l (T.and_statement (T.block own some) rest) t
-  all_arrives c l (T.and_statement (T.declare x i) rest) t = first_arrives c l (T.and_statement (T.declare x i) rest) t
-  all_arrives c l (T.and_statement (T.when e one) rest) t = first_arrives c l (T.and_statement (T.when e one) rest) t
-  all_arrives c l (T.and_statement (T.when_else e one other) rest) t = first_arrives c l (T.and_statement (T.when_else e one other) rest) t
-  all_arrives c l (T.and_statement (T.while e body) rest) t = first_arrives c l (T.and_statement (T.while e body) rest) t
-  all_arrives c l (T.and_statement (T.do_while body e) rest) t = first_arrives c l (T.and_statement (T.do_while body e) rest) t
-  all_arrives c l (T.and_statement (T.for own start test step body) rest) t = first_arrives c l (T.and_statement (T.for own start test step body) rest) t
-  all_arrives c l (T.and_statement (T.switch e own arms) rest) t = first_arrives c l (T.and_statement (T.switch e own arms) rest) t
-  all_arrives c l (T.and_statement T.break rest) t = first_arrives c l (T.and_statement T.break rest) t
-  all_arrives c l (T.and_statement T.continue rest) t = first_arrives c l (T.and_statement T.continue rest) t
-  all_arrives c l (T.and_statement (T.return e) rest) t = first_arrives c l (T.and_statement (T.return e) rest) t
+  all_arrives c l (T.and_statement one rest) t = first_arrives c l (T.and_statement one rest) t
 
   -- ---- blocks, and the bodies of loops
 
@@ -230,17 +210,7 @@ module _ (p : ProgramData) where
       (begin_all p c.locals own t.core).0 (begin_all p c.locals own t.core).1
       (λ u one. behind p (within_arrives own (executing_all c l all) u one) (all_arrives c l all (within own u)))
       (by_step p (doing (executing c l (T.block own all)) t))
-  whole_arrives c l (T.evaluate e) t = executed_arrives c l (T.evaluate e) t
-  whole_arrives c l (T.declare x i) t = executed_arrives c l (T.declare x i) t
-  whole_arrives c l (T.when e one) t = executed_arrives c l (T.when e one) t
-  whole_arrives c l (T.when_else e one other) t = executed_arrives c l (T.when_else e one other) t
-  whole_arrives c l (T.while e body) t = executed_arrives c l (T.while e body) t
-  whole_arrives c l (T.do_while body e) t = executed_arrives c l (T.do_while body e) t
-  whole_arrives c l (T.for own start test step body) t = executed_arrives c l (T.for own start test step body) t
-  whole_arrives c l (T.switch e own arms) t = executed_arrives c l (T.switch e own arms) t
-  whole_arrives c l T.break t = executed_arrives c l T.break t
-  whole_arrives c l T.continue t = executed_arrives c l T.continue t
-  whole_arrives c l (T.return e) t = executed_arrives c l (T.return e) t
+  whole_arrives c l one t = executed_arrives c l one t
 
   begun_arrives : (l : Loop) (s t : State) → Arrives p s (begun p l t) → Arrives p s (begun_ahead p l t)
   begun_arrives l s t one =
@@ -273,7 +243,7 @@ module _ (p : ProgramData) where
   -- ---- the arms of a `switch`
 
   arms_arrive : (c : Context) (l k : ℕ) (arms : Arms ℕ) (t : State)
-      → Arrives p (doing (entering c l (Some k) arms) t) (entered_first p c (arms_behind p l k arms) t)
+      → Arrives p (doing (entering c l (Some k) arms) t) (entered_first p c (arms_behind l k arms) t)
   unfolding stepped
   arms_arrive c l zero T.no_arms t = by_step p (doing (entering c l (Some zero) T.no_arms) t)
   arms_arrive c l (suc k) T.no_arms t = by_step p (doing (entering c l (Some (suc k)) T.no_arms) t)

@@ -119,7 +119,7 @@ pub(crate) fn execute_all_ahead<'a>(
 // ---- blocks
 
 /// A block, with its locals.
-fn execute_block<'a>(
+fn begin_block<'a>(
     machine: &mut Machine<'a>,
     alloc: Global,
     types: &'a Types<'a>,
@@ -156,7 +156,7 @@ pub(crate) fn execute_whole<'a>(
     ensures { IfOk result (λ m. (m, state_of machine.new) ≡ executed_whole (program_data types.now) (context_of scope.entry) loops (statement_in s.entry) (state_of machine.old)) }
 {
     match s.block() {
-        Some((own, all)) => execute_block(machine, alloc, types, scope, loops, own, all),
+        Some((own, all)) => begin_block(machine, alloc, types, scope, loops, own, all),
         None => execute_ahead(machine, alloc, types, scope, loops, s),
     }
 }
@@ -243,14 +243,12 @@ pub(crate) fn repeat_ahead<'a>(
 
 /// What is left of arms behind so many of them, and how many loops stand before it.
 fn arms_behind<'a>(
-    types: &Types<'_>,
     loops: u64,
     count: u64,
     arms: TalliedArms<'a>,
 ) -> Result<(u64, TalliedArms<'a>), NoMemory>
-    ensures { IfOk result (λ r. (r.0, arms_in r.1) ≡ arms_behind (program_data types.now) loops count (arms_in arms.entry)) }
+    ensures { IfOk result (λ r. (r.0, arms_in r.1) ≡ arms_behind loops count (arms_in arms.entry)) }
 {
-    let _ = types;
     let mut passed = loops;
     let mut more = count;
     let mut left = arms;
@@ -305,6 +303,6 @@ pub(crate) fn enter_ahead<'a>(
     let Some(count) = arm else {
         return Ok(Moved::Goes);
     };
-    let (loops, left) = arms_behind(types, loops, count, arms)?;
+    let (loops, left) = arms_behind(loops, count, arms)?;
     enter_first(machine, alloc, types, scope, loops, own, left)
 }

@@ -37,6 +37,11 @@ abbrev pub within : (locals : List ℕ) → State → State
 within [] s = s
 within own s = doing (ending own) s
 
+-- what is left of the arms of a `switch` behind so many of them, and how many loops stand before it
+abbrev pub arms_behind : (loops count : ℕ) → Arms ℕ → ℕ × Arms ℕ
+arms_behind l (suc k) (T.and_arm cases is_default all rest) = arms_behind (l + loops_in_all all) k rest
+arms_behind l k arms = (l, arms)
+
 module _ (p : ProgramData) where
   -- with the value of an expression that is evaluated in one step, or else
   abbrev pub at_hand : Expression ℕ → State → (Value → State → Step) → Step → Step
@@ -94,11 +99,6 @@ module _ (p : ProgramData) where
   repeats_ahead (Some e) l s = at_hand e s (λ v s. tests_ahead l.test l s) (repeats p (Some e) l s)
 
   -- ---- the arms of a `switch`
-
-  -- what is left behind so many of them, and how many loops stand before it
-  abbrev pub arms_behind : (loops count : ℕ) → Arms ℕ → ℕ × Arms ℕ
-  arms_behind l (suc k) (T.and_arm cases is_default all rest) = arms_behind (l + loops_in_all all) k rest
-  arms_behind l k arms = (l, arms)
 
   abbrev pub entered_first : Context → ℕ × Arms ℕ → State → Step
   entered_first c (l, T.no_arms) s = goes s
