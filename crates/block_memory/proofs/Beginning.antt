@@ -1,148 +1,212 @@
 -- How blocks begin and end.
-use Rattle.std.proofs.Common.{◌≡◌, ◌≢◌, ℕ, ◌+◌, ◌<◌, ◌≤◌, List, [], ◌∷◌, ◌++◌, length, replicate, true, false, sym, ap, ◌∙◌, arith, inl, inr, get_or-set_other, get_or-set_same}
-use Rattle.std.specs.Prelude.{◌⊎◌}
+use Rattle.std.proofs.Common.{◌≡◌, ◌≢◌, ℕ, ◌+◌, ◌*◌, ◌<◌, ◌≤◌, ◌^◌, List, [], ◌∷◌, ◌++◌, length, replicate, Bool, true, false, refl, sym, ap, ◌∙◌, arith, inl, inr, ⊎_elim, get_or-set_other, get_or-set_same}
+use Rattle.std.specs.Prelude.{◌⊎◌, ◌&&◌, nat_lt}
 use Rattle.std.proofs.Math.ListN.{set, get_or-map}
-use Rattle.std.proofs.lemmas.Bool.{cases_eq}
-use Rattle.std.proofs.lemmas.List.{ext_get_or, length-map, length-set, length_push, map-append, get_or_append_left, get_or_push, set-get_or}
-use Rattle.block_memory.specs.declared.cell.Cell.{Cell}
-use Rattle.block_memory.specs.declared.cell.Cell.TheVariants.{Empty}
+use Rattle.std.proofs.lemmas.Bool.{cases_eq, cases_lt}
+use Rattle.std.proofs.lemmas.List.{length-append, length-replicate, length-set, length_push, map-append, get_or_append_left, get_or_past, get_or_push, set-get_or}
+use Rattle.memory_cells.specs.declared.cell.Cell.{Cell}
+use Rattle.memory_cells.specs.declared.cell.Cell.TheVariants.{Empty}
 use Rattle.block_memory.specs.declared.kinds.BlockKind.{BlockKind}
 use Rattle.block_memory.specs.declared.slot.Slot.{Slot}
 use Rattle.block_memory.specs.Blocks.{living, ended, block, kind, overwritten, size, size_in, with_cells}
+use Rattle.block_memory.specs.Cells.{cell_at, over, range}
 use Rattle.block_memory.specs.Lifetimes.{with_block, with_end}
-use Rattle.block_memory.specs.Rows.{Row, IsAdded, cells_at, no_row, nobody, row_at, with_range}
-use Rattle.block_memory.specs.Stores.{IsPlace, IsSound, block_in, memory_in, no_slot, slot_at}
-use Rattle.block_memory.proofs.Views.{block_is, block_same, changed_found, ended_block, known_of_live, live_block, others_same, row_within, rows_apart, set_in, size_of_live}
+use Rattle.block_memory.specs.Slots.{IsSound, block_in, end_of, holds, memory_in, no_slot, slot_at, words_for}
+use Rattle.block_memory.proofs.Differences.{length_range}
+use Rattle.block_memory.proofs.RangesHold.{range_apart, range_put, range_same}
+use Rattle.block_memory.proofs.Sound.{holds_of_live, known_of_live, live_of_holds, sound_long}
+use Rattle.block_memory.proofs.Views.{block_is, block_same, changed_in, ended_block, ended_in, live_block, others_same, same_memory, set_in, size_is}
 
 -- ---- a new block
 
--- rows in which all live blocks have theirs still
-abbrev KeepsRows : List Slot → (rows new : List Row) → Type 0
-KeepsRows slots rows new = (k : ℕ) → k < length slots → (slot_at slots k).live ≡ true → row_at new (slot_at slots k).word ≡ row_at rows (slot_at slots k).word
+-- cells that are put behind all live blocks
+kept_behind : (slots : List Slot) (all : List Cell) (free : ℕ) (new : List Cell) → IsSound slots all free → 4 * free + length new ≤ length all
+    → memory_in slots (over all (4 * free) new) ≡ memory_in slots all
+kept_behind slots all free new sound le =
+    same_memory slots slots all (over all (4 * free) new) refl
+    (λ k known. block_same all (over all (4 * free) new) (slot_at slots k)
+    (λ live some. range_apart all new (4 * free) (4 * (slot_at slots k).start) (slot_at slots k).size le (sound.there k live)
+    (inl (let before = sound.ends k (holds_of_live (slot_at slots k) live some) in omega (arith, before)))))
 
-added_keeps : (slots : List Slot) (rows new : List Row) (place : ℕ) (row : Row) → IsSound slots rows → length slots < nobody → IsAdded rows new place row → KeepsRows slots rows new
-added_keeps slots rows new place row sound few (inl behind) k known live =
-    ap (λ rows. row_at rows (slot_at slots k).word) behind.1 ∙ get_or_append_left rows (row ∷ []) no_row (slot_at slots k).word (row_within slots rows k sound known live)
-added_keeps slots rows new place row sound few (inr into) k known live =
-    let apart : (slot_at slots k).word ≢ place =
-    λ e. let owner : k ≡ nobody = sym (sound.owned k known live) ∙ ap (λ w. (row_at rows w).owner) e ∙ into.1 in absurd (omega arith) in
-    ap (λ rows. row_at rows (slot_at slots k).word) into.2 ∙ get_or-set_other rows place (slot_at slots k).word row no_row apart
+-- more cells behind all others
+pub kept_longer : (slots : List Slot) (all new : List Cell) (free : ℕ) (more : List Cell) → IsSound slots all free → new ≡ all ++ more → memory_in slots new ≡ memory_in slots all
+kept_longer slots all new free more sound en =
+    let long : length new ≡ length all + length more = ap length en ∙ length-append all more in
+    same_memory slots slots all new refl
+    (λ k known. block_same all new (slot_at slots k)
+    (λ live some. let o = slot_at slots k in let there = sound.there k live in
+    range_same new all (4 * o.start) (4 * o.start) o.size (omega (arith, there, long)) there
+    (λ n lt. ap (λ c. cell_at c (4 * o.start + n)) en ∙ get_or_append_left all more Empty (4 * o.start + n) (omega (arith, there, lt)))))
 
-pub added_here : (rows new : List Row) (place : ℕ) (row : Row) → IsAdded rows new place row → row_at new place ≡ row
-added_here rows new place row (inl behind) = ap (λ rows. row_at rows place) behind.1 ∙ get_or_push rows row no_row place (sym behind.0)
-added_here rows new place row (inr into) = ap (λ rows. row_at rows place) into.2 ∙ get_or-set_same rows place row no_row into.0
+pub sound_longer : (slots : List Slot) (all new : List Cell) (free : ℕ) (more : List Cell) → IsSound slots all free → new ≡ all ++ more → IsSound slots new free
+sound_longer slots all new free more sound en = sound_long slots all new free sound (omega (arith, ap length en, length-append all more))
 
-memory_kept : (slots : List Slot) (rows new : List Row) → KeepsRows slots rows new → memory_in slots new ≡ memory_in slots rows
-memory_kept slots rows new keeps =
-    ext_get_or (block_in new no_slot) (memory_in slots new) (memory_in slots rows) (length-map slots (block_in new) ∙ sym (length-map slots (block_in rows)))
-    (λ k within. get_or-map (block_in new) slots k no_slot
-    ∙ block_same rows new (slot_at slots k) (keeps k (omega (arith, length-map slots (block_in new))))
-    ∙ sym (get_or-map (block_in rows) slots k no_slot))
+pub begun : (slots all_slots : List Slot) (all new : List Cell) (free size : ℕ) (kind : BlockKind) → IsSound slots all free → 4 * free + size ≤ length all
+    → new ≡ over all (4 * free) (replicate size Empty) → all_slots ≡ slots ++ record { kind = kind; live = true; start = free; size = size } ∷ []
+    → memory_in all_slots new ≡ with_block (memory_in slots all) size kind
+begun slots all_slots all new free size kind sound le en es =
+    let slot : Slot = record { kind = kind; live = true; start = free; size = size } in
+    let empties : List Cell = replicate size Empty in
+    let many : length empties ≡ size = length-replicate size Empty in
+    let fits : 4 * free + length empties ≤ length all = omega (arith, many, le) in
+    let filled : range (over all (4 * free) empties) (4 * free) size ≡ empties =
+    ap (λ n. range (over all (4 * free) empties) (4 * free) n) (sym many) ∙ range_put all empties (4 * free) fits in
+    ap (λ s. memory_in s new) es ∙ ap (λ c. memory_in (slots ++ slot ∷ []) c) en
+    ∙ map-append (block_in (over all (4 * free) empties)) slots (slot ∷ [])
+    ∙ ap (λ m. m ++ block_in (over all (4 * free) empties) slot ∷ []) (kept_behind slots all free empties sound fits)
+    ∙ ap (λ r. memory_in slots all ++ record { kind = kind; contents = living r } ∷ []) filled
 
-pub begun : (slots : List Slot) (rows new : List Row) (place size : ℕ) (kind : BlockKind) → IsSound slots rows → length slots < nobody
-    → IsAdded rows new place (record { owner = length slots; cells = replicate size Empty })
-    → memory_in (slots ++ record { kind = kind; live = true; word = place } ∷ []) new ≡ with_block (memory_in slots rows) size kind
-begun slots rows new place size kind sound few is =
-    let row : Row = record { owner = length slots; cells = replicate size Empty } in
-    let slot : Slot = record { kind = kind; live = true; word = place } in
-    map-append (block_in new) slots (slot ∷ [])
-    ∙ ap (λ m. m ++ block_in new slot ∷ []) (memory_kept slots rows new (added_keeps slots rows new place row sound few is))
-    ∙ ap (λ r. memory_in slots rows ++ record { kind = kind; contents = living r.cells } ∷ []) (added_here rows new place row is)
+-- one more slot
+pub begun_refused : (slots : List Slot) (all new : List Cell) (free size : ℕ) → IsSound slots all free → 4 * free + size ≤ length all
+    → new ≡ over all (4 * free) (replicate size Empty) → memory_in slots new ≡ memory_in slots all
+begun_refused slots all new free size sound le en =
+    ap (λ c. memory_in slots c) en ∙ kept_behind slots all free (replicate size Empty) sound (omega (arith, le, length-replicate size Empty))
 
-pub sound_begun : (slots : List Slot) (rows new : List Row) (place size : ℕ) (kind : BlockKind) → IsSound slots rows → length slots < nobody
-    → IsAdded rows new place (record { owner = length slots; cells = replicate size Empty })
-    → IsSound (slots ++ record { kind = kind; live = true; word = place } ∷ []) new
-sound_begun slots rows new place size kind sound few is =
-    let row : Row = record { owner = length slots; cells = replicate size Empty } in
-    let slot : Slot = record { kind = kind; live = true; word = place } in
-    let all : List Slot = slots ++ slot ∷ [] in
-    record { few = omega (arith, length_push slots slot); owned = λ b known lives. owner_of b known lives (cases_eq b (length slots)) } where
-      owner_of : (b : ℕ) → b < length (slots ++ record { kind = kind; live = true; word = place } ∷ [])
-          → (slot_at (slots ++ record { kind = kind; live = true; word = place } ∷ []) b).live ≡ true → (b ≡ length slots) ⊎ (b ≡ length slots → ⊥)
-          → (row_at new (slot_at (slots ++ record { kind = kind; live = true; word = place } ∷ []) b).word).owner ≡ b
-      owner_of b known lives (inl e) =
-          ap (λ s. (row_at new s.word).owner) (get_or_push slots (record { kind = kind; live = true; word = place }) no_slot b (sym e))
-          ∙ ap (λ r. r.owner) (added_here rows new place (record { owner = length slots; cells = replicate size Empty }) is) ∙ sym e
-      owner_of b known lives (inr ne) =
-          let within : b < length slots = omega (arith, length_push slots (record { kind = kind; live = true; word = place })) in
-          let same : slot_at (slots ++ record { kind = kind; live = true; word = place } ∷ []) b ≡ slot_at slots b =
-          get_or_append_left slots (record { kind = kind; live = true; word = place } ∷ []) no_slot b within in
-          let live : (slot_at slots b).live ≡ true = ap (λ s. s.live) (sym same) ∙ lives in
-          ap (λ s. (row_at new s.word).owner) same
-          ∙ ap (λ r. r.owner) (added_keeps slots rows new place (record { owner = length slots; cells = replicate size Empty }) sound few is b within live)
-          ∙ sound.owned b within live
+at_last : (slots : List Slot) (slot : Slot) (b : ℕ) → (b < length slots × slot_at (slots ++ slot ∷ []) b ≡ slot_at slots b) ⊎ ((b ≡ length slots × slot_at (slots ++ slot ∷ []) b ≡ slot) ⊎ (slot_at (slots ++ slot ∷ []) b ≡ no_slot))
+at_last slots slot b = ⊎_elim (λ lt. inl (lt, get_or_append_left slots (slot ∷ []) no_slot b lt)) (λ le. inr (behind le (cases_eq b (length slots)))) (cases_lt b (length slots)) where
+  behind : length slots ≤ b → (b ≡ length slots) ⊎ (b ≡ length slots → ⊥) → (b ≡ length slots × slot_at (slots ++ slot ∷ []) b ≡ slot) ⊎ (slot_at (slots ++ slot ∷ []) b ≡ no_slot)
+  behind le (inl e) = inl (e, get_or_push slots slot no_slot b (sym e))
+  behind le (inr ne) = inr (get_or_past (slots ++ slot ∷ []) b no_slot (omega (arith, length_push slots slot, le, ne)))
+
+no_slot_dead : {A : Type 0} (s : Slot) → s ≡ no_slot → s.live ≡ true → A
+no_slot_dead s e lives = let wrong : false ≡ true = sym (ap (λ s. s.live) e) ∙ lives in cc
+
+pub sound_begun : (slots all_slots : List Slot) (all new : List Cell) (free count : ℕ) (slot : Slot) → IsSound slots all free → length slots + 1 < 2 ^ 32
+    → slot.start ≡ free → count ≡ words_for slot.size → free + count < 2 ^ 29 → 4 * (free + count) ≤ length new → length all ≤ length new
+    → all_slots ≡ slots ++ slot ∷ [] → IsSound all_slots new (free + count)
+sound_begun slots all_slots all new free count slot sound few at_free ec small room long es = rw es (record {
+  few = omega (arith, few, length_push slots slot);
+  small = small;
+  within = room;
+  there = λ b lives. there_of b lives (at_last slots slot b);
+  ends = λ b held. ends_of b held (at_last slots slot b);
+  apart = λ b c lt held also. apart_of b c lt held also (at_last slots slot b) (at_last slots slot c);
+}) where
+  Found : ℕ → Type 0
+  Found b = (b < length slots × slot_at (slots ++ slot ∷ []) b ≡ slot_at slots b) ⊎ ((b ≡ length slots × slot_at (slots ++ slot ∷ []) b ≡ slot) ⊎ (slot_at (slots ++ slot ∷ []) b ≡ no_slot))
+
+  there_of : (b : ℕ) → (slot_at (slots ++ slot ∷ []) b).live ≡ true → Found b
+      → 4 * (slot_at (slots ++ slot ∷ []) b).start + (slot_at (slots ++ slot ∷ []) b).size ≤ length new
+  there_of b lives (inl (lt, e)) = rw e (let was = sound.there b (ap (λ s. s.live) (sym e) ∙ lives) in omega (arith, was, long))
+  there_of b lives (inr (inl (is, e))) = rw e (omega (arith, at_free, ec, room))
+  there_of b lives (inr (inr e)) = no_slot_dead (slot_at (slots ++ slot ∷ []) b) e lives
+
+  ends_of : (b : ℕ) → holds (slot_at (slots ++ slot ∷ []) b) ≡ true → Found b → end_of (slot_at (slots ++ slot ∷ []) b) ≤ free + count
+  ends_of b held (inl (lt, e)) = rw e (let was = sound.ends b (ap holds (sym e) ∙ held) in omega (arith, was))
+  ends_of b held (inr (inl (is, e))) = rw e (omega (arith, at_free, ec))
+  ends_of b held (inr (inr e)) = no_slot_dead (slot_at (slots ++ slot ∷ []) b) e (live_of_holds (slot_at (slots ++ slot ∷ []) b) held)
+
+  apart_of : (b c : ℕ) → b < c → holds (slot_at (slots ++ slot ∷ []) b) ≡ true → holds (slot_at (slots ++ slot ∷ []) c) ≡ true → Found b → Found c
+      → end_of (slot_at (slots ++ slot ∷ []) b) ≤ (slot_at (slots ++ slot ∷ []) c).start
+  apart_of b c lt held also (inl (known, e)) (inl (other, f)) = rw (e, f) (sound.apart b c lt (ap holds (sym e) ∙ held) (ap holds (sym f) ∙ also))
+  apart_of b c lt held also (inl (known, e)) (inr (inl (is, f))) = rw (e, f) (let was = sound.ends b (ap holds (sym e) ∙ held) in omega (arith, was, at_free))
+  apart_of b c lt held also x (inr (inr f)) = no_slot_dead (slot_at (slots ++ slot ∷ []) c) f (live_of_holds (slot_at (slots ++ slot ∷ []) c) also)
+  apart_of b c lt held also (inr (inl (is, e))) (inl (other, f)) = absurd (omega (arith, lt, is, other))
+  apart_of b c lt held also (inr (inl (is, e))) (inr (inl (also_is, f))) = absurd (omega (arith, lt, is, also_is))
+  apart_of b c lt held also (inr (inr e)) y = no_slot_dead (slot_at (slots ++ slot ∷ []) b) e (live_of_holds (slot_at (slots ++ slot ∷ []) b) held)
 
 -- ---- an end
 
-pub sound_ended : (slots : List Slot) (rows : List Row) (b size : ℕ) → IsSound slots rows → (slot_at slots b).live ≡ true
-    → IsSound (set slots b (record { kind = (slot_at slots b).kind; live = false; word = size })) (set rows (slot_at slots b).word no_row)
-sound_ended slots rows b size sound lives =
-    record {
-      few = omega (arith, sound.few, length-set slots b (record { kind = (slot_at slots b).kind; live = false; word = size }));
-      owned = λ k known live. owner_of k (omega (arith, length-set slots b (record { kind = (slot_at slots b).kind; live = false; word = size }))) live (cases_eq k b);
+-- a block that holds cells after another one's end held them before
+was_other : (slots : List Slot) (b k : ℕ) (s : Slot) → s.live ≡ false → b < length slots → (slot_at (set slots b s) k).live ≡ true
+    → (k ≢ b) × (slot_at (set slots b s) k ≡ slot_at slots k)
+was_other slots b k s dead known lives = ⊎_elim
+    (λ e. let wrong : false ≡ true = sym (ap (λ s. s.live) (ap (λ k. slot_at (set slots b s) k) e ∙ get_or-set_same slots b s no_slot known) ∙ dead) ∙ lives in cc)
+    (λ ne. (ne, get_or-set_other slots b k s no_slot ne)) (cases_eq k b)
+
+pub sound_ended : (slots other : List Slot) (all new : List Cell) (free b : ℕ) (s : Slot) → IsSound slots all free → b < length slots → s.live ≡ false
+    → other ≡ set slots b s → length new ≡ length all → IsSound other new free
+sound_ended slots other all new free b s sound known dead es long = rw es (record {
+  few = let was = sound.few in omega (arith, was, length-set slots b s);
+  small = sound.small;
+  within = let was = sound.within in omega (arith, was, long);
+  there = λ k lives. let o = was_other slots b k s dead known lives in
+      rw o.1 (let was = sound.there k (ap (λ s. s.live) (sym o.1) ∙ lives) in omega (arith, was, long));
+  ends = λ k held. let o = was_other slots b k s dead known (live_of_holds (slot_at (set slots b s) k) held) in
+      rw o.1 (sound.ends k (ap holds (sym o.1) ∙ held));
+  apart = λ k c lt held also. let o = was_other slots b k s dead known (live_of_holds (slot_at (set slots b s) k) held) in
+      let p = was_other slots b c s dead known (live_of_holds (slot_at (set slots b s) c) also) in
+      rw (o.1, p.1) (sound.apart k c lt (ap holds (sym o.1) ∙ held) (ap holds (sym p.1) ∙ also));
+})
+
+-- the words of a block that ends before the first free one are free
+pub sound_given : (slots other : List Slot) (all new : List Cell) (free b : ℕ) (s : Slot) → IsSound slots all free → b < length slots → s.live ≡ false
+    → other ≡ set slots b s → length new ≡ length all → holds (slot_at slots b) ≡ true → end_of (slot_at slots b) ≡ free
+    → IsSound other new (slot_at slots b).start
+sound_given slots other all new free b s sound known dead es long held last =
+    let after : IsSound other new free = sound_ended slots other all new free b s sound known dead es long in record {
+      few = after.few;
+      small = let was = sound.small in omega (arith, was, last);
+      within = let was = after.within in omega (arith, was, last);
+      there = after.there;
+      ends = λ k other_held. ends_of k other_held;
+      apart = after.apart;
     } where
-      owner_of : (k : ℕ) → k < length slots → (slot_at (set slots b (record { kind = (slot_at slots b).kind; live = false; word = size })) k).live ≡ true
-          → (k ≡ b) ⊎ (k ≡ b → ⊥)
-          → (row_at (set rows (slot_at slots b).word no_row) (slot_at (set slots b (record { kind = (slot_at slots b).kind; live = false; word = size })) k).word).owner ≡ k
-      owner_of k known live (inl e) =
-          let s : Slot = record { kind = (slot_at slots b).kind; live = false; word = size } in
-          let here : slot_at (set slots b s) k ≡ s = ap (λ k. slot_at (set slots b s) k) e ∙ get_or-set_same slots b s no_slot (omega arith) in
-          let no_live : false ≡ true = ap (λ s. s.live) (sym here) ∙ live in cc
-      owner_of k known live (inr ne) =
-          let s : Slot = record { kind = (slot_at slots b).kind; live = false; word = size } in
-          let same : slot_at (set slots b s) k ≡ slot_at slots k = get_or-set_other slots b k s no_slot ne in
-          let was : (slot_at slots k).live ≡ true = ap (λ s. s.live) (sym same) ∙ live in
-          let known_b = known_of_live slots b lives in
-          ap (λ s. (row_at (set rows (slot_at slots b).word no_row) s.word).owner) same
-          ∙ ap (λ r. r.owner) (get_or-set_other rows (slot_at slots b).word (slot_at slots k).word no_row no_row (rows_apart slots rows b k sound known_b known ne lives was))
-          ∙ sound.owned k known was
+      some_cells : (s : Slot) → holds s ≡ true → 0 < s.size
+      some_cells s held = ⊎_elim (λ lt. lt) (λ le. let zero_is : s.size ≡ 0 = omega (arith, le) in none zero_is) (cases_lt 0 s.size) where
+        none : s.size ≡ 0 → 0 < s.size
+        none e = let wrong : (s.live && false) ≡ true = ap (λ n. s.live && nat_lt 0 n) (sym e) ∙ held in never s.live wrong where
+          never : (l : Bool) → (l && false) ≡ true → 0 < s.size
+          never true e = cc
+          never false e = cc
 
-pub ended_now : (slots : List Slot) (rows : List Row) (b : ℕ) → IsSound slots rows → (slot_at slots b).live ≡ true
-    → memory_in (set slots b (record { kind = (slot_at slots b).kind; live = false; word = length (cells_at rows (slot_at slots b).word) })) (set rows (slot_at slots b).word no_row)
-    ≡ with_end (memory_in slots rows) b
-ended_now slots rows b sound lives =
-    let s : Slot = record { kind = (slot_at slots b).kind; live = false; word = length (cells_at rows (slot_at slots b).word) } in
+      ends_of : (k : ℕ) → holds (slot_at other k) ≡ true → end_of (slot_at other k) ≤ (slot_at slots b).start
+      ends_of k also =
+          let moved : holds (slot_at (set slots b s) k) ≡ true = ap (λ o. holds (slot_at o k)) (sym es) ∙ also in
+          let o = was_other slots b k s dead known (live_of_holds (slot_at (set slots b s) k) moved) in
+          let was : holds (slot_at slots k) ≡ true = ap holds (sym o.1) ∙ moved in
+          let same : end_of (slot_at other k) ≡ end_of (slot_at slots k) = ap (λ o. end_of (slot_at o k)) es ∙ ap end_of o.1 in
+          let some = some_cells (slot_at slots k) was in
+          ⊎_elim (λ lt. let le = sound.apart k b lt was held in omega (arith, le, same))
+          (λ le. let apart = sound.apart b k (omega (arith, le, o.0)) held was in let ends = sound.ends k was in absurd (omega (arith, apart, ends, last, some)))
+          (cases_lt k b)
+
+pub ended_now : (slots other : List Slot) (all new : List Cell) (free b : ℕ) (s : Slot) (put : List Cell) → IsSound slots all free → (slot_at slots b).live ≡ true
+    → length put ≤ (slot_at slots b).size → new ≡ over all (4 * (slot_at slots b).start) put
+    → s ≡ record { kind = (slot_at slots b).kind; live = false; start = 0; size = (slot_at slots b).size } → other ≡ set slots b s
+    → memory_in other new ≡ with_end (memory_in slots all) b
+ended_now slots other all new free b s put sound lives fits en is es =
     let known = known_of_live slots b lives in
-    let new : List Row = set rows (slot_at slots b).word no_row in
-    let rest : (k : ℕ) → k < length slots → k ≢ b → block_in new (slot_at (set slots b s) k) ≡ block_in rows (slot_at slots k) =
-    λ k also ne. ap (block_in new) (get_or-set_other slots b k s no_slot ne) ∙ others_same slots rows b no_row sound known lives k also ne in
-    set_in slots (set slots b s) rows new b known (length-set slots b s) rest
-    ∙ ap (λ y. set (memory_in slots rows) b y) (ap (block_in new) (get_or-set_same slots b s no_slot known)
-    ∙ ap (λ y. record { kind = y.kind; contents = ended (size_in y.contents) }) (sym (live_block slots rows b lives)))
+    let o = slot_at slots b in
+    let sum : 4 * o.start + 0 ≡ 4 * o.start = omega arith in
+    let dead : s.live ≡ false = ap (λ s. s.live) is in
+    let placed : new ≡ over all (4 * o.start + 0) put = en ∙ ap (λ n. over all n put) (sym sum) in
+    let rest : (k : ℕ) → k < length slots → k ≢ b → block_in new (slot_at other k) ≡ block_in all (slot_at slots k) =
+    λ k also ne. ap (λ o. block_in new (slot_at o k)) es ∙ ap (block_in new) (get_or-set_other slots b k s no_slot ne)
+    ∙ ap (λ c. block_in c (slot_at slots k)) placed ∙ others_same slots all free b 0 put sound lives (omega (arith, fits)) k ne in
+    set_in slots other all new b known (ap length es ∙ length-set slots b s) rest
+    ∙ ap (λ y. set (memory_in slots all) b y) (ap (λ o. block_in new (slot_at o b)) es ∙ ap (block_in new) (get_or-set_same slots b s no_slot known)
+    ∙ ended_in new s dead ∙ ap (λ s. record { kind = s.kind; contents = ended s.size }) is
+    ∙ sym (ap (λ y. record { kind = y.kind; contents = ended (size_in y.contents) }) (live_block slots all b lives)
+    ∙ ap (λ n. record { kind = o.kind; contents = ended n }) (length_of o lives))) where
+      length_of : (o : Slot) → (slot_at slots b).live ≡ true → length (range all (4 * (slot_at slots b).start) (slot_at slots b).size) ≡ (slot_at slots b).size
+      length_of o lives = length_range all (4 * (slot_at slots b).start) (slot_at slots b).size (sound.there b lives)
 
-pub ended_before : (slots : List Slot) (rows : List Row) (b : ℕ) → (slot_at slots b).live ≡ false → memory_in slots rows ≡ with_end (memory_in slots rows) b
-ended_before slots rows b ends =
-    let same : block (memory_in slots rows) b ≡ record { kind = kind (memory_in slots rows) b; contents = ended (size (memory_in slots rows) b) } =
-    ended_block slots rows b ends ∙ ap (λ y. record { kind = y.kind; contents = ended (size_in y.contents) }) (sym (ended_block slots rows b ends)) in
-    sym (ap (λ y. set (memory_in slots rows) b y) (sym same ∙ block_is slots rows b ∙ sym (get_or-map (block_in rows) slots b no_slot))
-    ∙ set-get_or (memory_in slots rows) b (block_in rows no_slot))
-
-pub begun_all : (slots all : List Slot) (rows new : List Row) (n place size : ℕ) (kind : BlockKind) → IsSound slots rows → n ≡ length slots → n < nobody
-    → IsAdded rows new place (record { owner = n; cells = replicate size Empty }) → all ≡ slots ++ record { kind = kind; live = true; word = place } ∷ []
-    → (n ≡ length (memory_in slots rows)) × (memory_in all new ≡ with_block (memory_in slots rows) size kind)
-begun_all slots all rows new n place size kind sound en few is ea =
-    let added : IsAdded rows new place (record { owner = length slots; cells = replicate size Empty }) = rw en at is in
-    (en ∙ sym (length-map slots (block_in rows)), ap (λ all. memory_in all new) ea ∙ begun slots rows new place size kind sound (omega arith) added)
+pub ended_before : (slots : List Slot) (all : List Cell) (b : ℕ) (slot : Slot) → slot ≡ slot_at slots b → slot.live ≡ false
+    → memory_in slots all ≡ with_end (memory_in slots all) b
+ended_before slots all b slot is ends =
+    let over : (slot_at slots b).live ≡ false = ap (λ s. s.live) (sym is) ∙ ends in
+    let same : block (memory_in slots all) b ≡ record { kind = kind (memory_in slots all) b; contents = ended (size (memory_in slots all) b) } =
+    ended_block slots all b over ∙ ap (λ y. record { kind = y.kind; contents = ended (size_in y.contents) }) (sym (ended_block slots all b over)) in
+    sym (ap (λ y. set (memory_in slots all) b y) (sym same ∙ block_is slots all b ∙ sym (get_or-map (block_in all) slots b no_slot))
+    ∙ set-get_or (memory_in slots all) b (block_in all no_slot))
 
 -- ---- cells that are put into a block without a test
 
-pub set_live : (slots : List Slot) (rows new : List Row) (b at : ℕ) (slot : Slot) (all : List Cell) → IsSound slots rows → slot ≡ slot_at slots b → slot.live ≡ true
-    → at + length all ≤ size (memory_in slots rows) b → new ≡ with_range rows slot.word at all
-    → memory_in slots new ≡ with_cells (memory_in slots rows) b at all
-set_live slots rows new b at slot all sound is lives within en =
+pub set_live : (slots : List Slot) (all new : List Cell) (free b at cell : ℕ) (slot : Slot) (put : List Cell) → IsSound slots all free → slot ≡ slot_at slots b → slot.live ≡ true
+    → at + length put ≤ size (memory_in slots all) b → cell ≡ 4 * slot.start + at → new ≡ over all cell put
+    → memory_in slots new ≡ with_cells (memory_in slots all) b at put
+set_live slots all new free b at cell slot put sound is lives within lies en =
     let live : (slot_at slots b).live ≡ true = ap (λ s. s.live) (sym is) ∙ lives in
-    let known = known_of_live slots b live in
-    let held : slot.word < length rows = rw is (row_within slots rows b sound known live) in
-    let enough : length (cells_at rows slot.word) ≡ size (memory_in slots rows) b = ap (λ s. length (cells_at rows s.word)) is ∙ size_of_live slots rows b live in
-    let place : IsPlace slots rows b slot.word at (length all) =
-    record { known = known; lives = live; word = ap (λ s. s.word) (sym is); held = held; fits = omega (arith, enough) } in
-    ap (λ rows. memory_in slots rows) en ∙ changed_found slots rows b slot.word at (length all) all sound place
+    let placed : cell ≡ 4 * (slot_at slots b).start + at = lies ∙ ap (λ s. 4 * s.start + at) is in
+    ap (λ c. memory_in slots c) en ∙ ap (λ n. memory_in slots (over all n put)) placed
+    ∙ changed_in slots all free b at put sound live (omega (arith, within, size_is slots all free b sound))
 
-pub set_ended : (slots : List Slot) (rows : List Row) (b at : ℕ) (slot : Slot) (new : List Cell) → slot ≡ slot_at slots b → slot.live ≡ false
-    → memory_in slots rows ≡ with_cells (memory_in slots rows) b at new
-set_ended slots rows b at slot new is ends =
-    let m = memory_in slots rows in
+pub set_ended : (slots : List Slot) (all : List Cell) (b at : ℕ) (slot : Slot) (new : List Cell) → slot ≡ slot_at slots b → slot.live ≡ false
+    → memory_in slots all ≡ with_cells (memory_in slots all) b at new
+set_ended slots all b at slot new is ends =
+    let m = memory_in slots all in
     let over : (slot_at slots b).live ≡ false = ap (λ s. s.live) (sym is) ∙ ends in
     let same : block m b ≡ record { kind = kind m b; contents = overwritten (block m b).contents at new } =
-    ended_block slots rows b over ∙ ap (λ y. record { kind = y.kind; contents = overwritten y.contents at new }) (sym (ended_block slots rows b over)) in
-    sym (ap (λ y. set m b y) (sym same ∙ block_is slots rows b ∙ sym (get_or-map (block_in rows) slots b no_slot)) ∙ set-get_or m b (block_in rows no_slot))
+    ended_block slots all b over ∙ ap (λ y. record { kind = y.kind; contents = overwritten y.contents at new }) (sym (ended_block slots all b over)) in
+    sym (ap (λ y. set m b y) (sym same ∙ block_is slots all b ∙ sym (get_or-map (block_in all) slots b no_slot)) ∙ set-get_or m b (block_in all no_slot))

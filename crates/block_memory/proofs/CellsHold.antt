@@ -7,11 +7,12 @@ use Rattle.lay_base.specs.declared.faults.UndefinedKind.TheVariants as K
 use Rattle.c_types.specs.declared.ty.IntKind.{IntKind}
 use Rattle.c_types.specs.declared.ty.IntKind.TheVariants as I
 use Rattle.c_types.specs.IntKinds.{width}
-use Rattle.block_memory.specs.declared.cell.Cell.{Cell}
-use Rattle.block_memory.specs.declared.cell.Cell.TheVariants.{Empty, Byte, Fragment}
-use Rattle.block_memory.specs.declared.pointer.Ptr.{Ptr}
+use Rattle.memory_cells.specs.declared.cell.Cell.{Cell}
+use Rattle.memory_cells.specs.declared.cell.Cell.TheVariants.{Empty, Byte, Fragment}
+use Rattle.memory_cells.specs.declared.pointer.Ptr.{Ptr}
 use Rattle.block_memory.specs.Held.{are_fragments, held, is_empty, number_in, null_in, or_pointer, pointer_in, word_of}
-use Rattle.block_memory.specs.Digits.{as_pointer, digit_before, is_fragment, number_at, pointer_at, valued}
+use Rattle.block_memory.specs.Digits.{as_pointer, digit_before, number_at, pointer_at, valued}
+use Rattle.memory_cells.specs.Fragments.{is_fragment}
 use Rattle.block_memory.specs.Tested.{Tested}
 
 -- ---- one cell before others

@@ -1,12 +1,12 @@
 -- Ranges that are compared cell by cell.
-use Rattle.std.proofs.Common.{◌≡◌, ℕ, ◌+◌, ◌<◌, ◌≤◌, List, ◌∷◌, length, drop, get_or, Bool, true, false, Ok, refl, sym, ap, ◌∙◌, arith}
+use Rattle.std.proofs.Common.{◌≡◌, ℕ, ◌+◌, ◌<◌, ◌≤◌, List, ◌∷◌, length, drop, Bool, true, false, Ok, refl, sym, ap, ◌∙◌, arith}
 use Rattle.std.specs.Prelude.{ℤ, pos, negsuc, nat_lt, if◌then◌else◌}
 use Rattle.std.proofs.lemmas.List.{drop_all, drop_more, get_or-take, get_or-drop, length-take-le, length-drop}
-use Rattle.block_memory.specs.declared.cell.Cell.{Cell}
-use Rattle.block_memory.specs.declared.cell.Cell.TheVariants.{Empty, Byte, Fragment}
+use Rattle.memory_cells.specs.declared.cell.Cell.{Cell}
+use Rattle.memory_cells.specs.declared.cell.Cell.TheVariants.{Empty, Byte, Fragment}
 use Rattle.block_memory.specs.Digits.{compared, is_zero}
 use Rattle.block_memory.specs.Ranges.{first_difference}
-use Rattle.block_memory.specs.Rows.{Row, cells_at, range}
+use Rattle.block_memory.specs.Cells.{cell_at, range}
 use Rattle.block_memory.specs.Tested.{Tested}
 
 by_two : (r : Tested ℤ) (less more : Bool) (rest : Tested ℤ) → r ≡ (if less then Ok (negsuc 0) else if more then Ok (pos 1) else Ok (pos 0)) → is_zero r ≡ true
@@ -35,47 +35,44 @@ other_here (Byte x) Empty all others z = refl
 other_here (Byte x) (Fragment t p k) all others z = refl
 other_here (Byte x) (Byte y) all others z = by_one (nat_lt x y) (nat_lt y x) (first_difference all others) z
 
-length_range : (rows : List Row) (place at count : ℕ) → at + count ≤ length (cells_at rows place) → length (range rows place at count) ≡ count
-length_range rows place at count le = length-take-le count (drop at (cells_at rows place)) (omega (arith, length-drop at (cells_at rows place)))
+pub length_range : (all : List Cell) (at count : ℕ) → at + count ≤ length all → length (range all at count) ≡ count
+length_range all at count le = length-take-le count (drop at all) (omega (arith, length-drop at all))
 
-pub range_more : (rows : List Row) (place at count i : ℕ) → at + count ≤ length (cells_at rows place) → i < count
-    → drop i (range rows place at count) ≡ get_or (cells_at rows place) (at + i) Empty ∷ drop (i + 1) (range rows place at count)
-range_more rows place at count i le lt =
-    drop_more (range rows place at count) i Empty (omega (arith, length_range rows place at count le))
-    ∙ ap (λ c. c ∷ drop (i + 1) (range rows place at count)) (get_or-take count (drop at (cells_at rows place)) i Empty lt ∙ get_or-drop at (cells_at rows place) i Empty)
+pub range_more : (all : List Cell) (at count i : ℕ) → at + count ≤ length all → i < count
+    → drop i (range all at count) ≡ cell_at all (at + i) ∷ drop (i + 1) (range all at count)
+range_more all at count i le lt =
+    drop_more (range all at count) i Empty (omega (arith, length_range all at count le))
+    ∙ ap (λ c. c ∷ drop (i + 1) (range all at count)) (get_or-take count (drop at all) i Empty lt ∙ get_or-drop at all i Empty)
 
-abbrev rest_of : List Row → (place at other offset count i : ℕ) → Tested ℤ
-rest_of rows place at other offset count i = first_difference (drop i (range rows place at count)) (drop i (range rows other offset count))
-
-pub compared_more : (rows : List Row) (place at other offset count i : ℕ) (c d : Cell) (r : Tested ℤ) → at + count ≤ length (cells_at rows place)
-    → offset + count ≤ length (cells_at rows other) → i < count
-    → first_difference (drop i (range rows place at count)) (drop i (range rows other offset count)) ≡ first_difference (range rows place at count) (range rows other offset count)
-    → c ≡ get_or (cells_at rows place) (at + i) Empty → d ≡ get_or (cells_at rows other) (offset + i) Empty → r ≡ compared c d → is_zero r ≡ true
-    → first_difference (drop (i + 1) (range rows place at count)) (drop (i + 1) (range rows other offset count)) ≡ first_difference (range rows place at count) (range rows other offset count)
-compared_more rows place at other offset count i c d r le le2 lt before ec ed er z =
+pub compared_more : (all : List Cell) (at other count i : ℕ) (c d : Cell) (r : Tested ℤ) → at + count ≤ length all
+    → other + count ≤ length all → i < count
+    → first_difference (drop i (range all at count)) (drop i (range all other count)) ≡ first_difference (range all at count) (range all other count)
+    → c ≡ cell_at all (at + i) → d ≡ cell_at all (other + i) → r ≡ compared c d → is_zero r ≡ true
+    → first_difference (drop (i + 1) (range all at count)) (drop (i + 1) (range all other count)) ≡ first_difference (range all at count) (range all other count)
+compared_more all at other count i c d r le le2 lt before ec ed er z =
     let zero_is : is_zero (compared c d) ≡ true = ap is_zero (sym er) ∙ z in
-    sym (same_here c d (drop (i + 1) (range rows place at count)) (drop (i + 1) (range rows other offset count)) zero_is)
-    ∙ ap (λ c. first_difference (c ∷ drop (i + 1) (range rows place at count)) (d ∷ drop (i + 1) (range rows other offset count))) ec
-    ∙ ap (λ all. first_difference all (d ∷ drop (i + 1) (range rows other offset count))) (sym (range_more rows place at count i le lt))
-    ∙ ap (λ d. first_difference (drop i (range rows place at count)) (d ∷ drop (i + 1) (range rows other offset count))) ed
-    ∙ ap (λ all. first_difference (drop i (range rows place at count)) all) (sym (range_more rows other offset count i le2 lt)) ∙ before
+    sym (same_here c d (drop (i + 1) (range all at count)) (drop (i + 1) (range all other count)) zero_is)
+    ∙ ap (λ c. first_difference (c ∷ drop (i + 1) (range all at count)) (d ∷ drop (i + 1) (range all other count))) ec
+    ∙ ap (λ r. first_difference r (d ∷ drop (i + 1) (range all other count))) (sym (range_more all at count i le lt))
+    ∙ ap (λ d. first_difference (drop i (range all at count)) (d ∷ drop (i + 1) (range all other count))) ed
+    ∙ ap (λ r. first_difference (drop i (range all at count)) r) (sym (range_more all other count i le2 lt)) ∙ before
 
-pub compared_here : (rows : List Row) (place at other offset count i : ℕ) (c d : Cell) (r : Tested ℤ) → at + count ≤ length (cells_at rows place)
-    → offset + count ≤ length (cells_at rows other) → i < count
-    → first_difference (drop i (range rows place at count)) (drop i (range rows other offset count)) ≡ first_difference (range rows place at count) (range rows other offset count)
-    → c ≡ get_or (cells_at rows place) (at + i) Empty → d ≡ get_or (cells_at rows other) (offset + i) Empty → r ≡ compared c d → is_zero r ≡ false
-    → r ≡ first_difference (range rows place at count) (range rows other offset count)
-compared_here rows place at other offset count i c d r le le2 lt before ec ed er z =
+pub compared_here : (all : List Cell) (at other count i : ℕ) (c d : Cell) (r : Tested ℤ) → at + count ≤ length all
+    → other + count ≤ length all → i < count
+    → first_difference (drop i (range all at count)) (drop i (range all other count)) ≡ first_difference (range all at count) (range all other count)
+    → c ≡ cell_at all (at + i) → d ≡ cell_at all (other + i) → r ≡ compared c d → is_zero r ≡ false
+    → r ≡ first_difference (range all at count) (range all other count)
+compared_here all at other count i c d r le le2 lt before ec ed er z =
     let other_is : is_zero (compared c d) ≡ false = ap is_zero (sym er) ∙ z in
-    er ∙ sym (other_here c d (drop (i + 1) (range rows place at count)) (drop (i + 1) (range rows other offset count)) other_is)
-    ∙ ap (λ c. first_difference (c ∷ drop (i + 1) (range rows place at count)) (d ∷ drop (i + 1) (range rows other offset count))) ec
-    ∙ ap (λ all. first_difference all (d ∷ drop (i + 1) (range rows other offset count))) (sym (range_more rows place at count i le lt))
-    ∙ ap (λ d. first_difference (drop i (range rows place at count)) (d ∷ drop (i + 1) (range rows other offset count))) ed
-    ∙ ap (λ all. first_difference (drop i (range rows place at count)) all) (sym (range_more rows other offset count i le2 lt)) ∙ before
+    er ∙ sym (other_here c d (drop (i + 1) (range all at count)) (drop (i + 1) (range all other count)) other_is)
+    ∙ ap (λ c. first_difference (c ∷ drop (i + 1) (range all at count)) (d ∷ drop (i + 1) (range all other count))) ec
+    ∙ ap (λ r. first_difference r (d ∷ drop (i + 1) (range all other count))) (sym (range_more all at count i le lt))
+    ∙ ap (λ d. first_difference (drop i (range all at count)) (d ∷ drop (i + 1) (range all other count))) ed
+    ∙ ap (λ r. first_difference (drop i (range all at count)) r) (sym (range_more all other count i le2 lt)) ∙ before
 
-pub compared_all : (rows : List Row) (place at other offset count : ℕ) → at + count ≤ length (cells_at rows place)
-    → first_difference (drop count (range rows place at count)) (drop count (range rows other offset count)) ≡ first_difference (range rows place at count) (range rows other offset count)
-    → Ok (pos 0) ≡ first_difference (range rows place at count) (range rows other offset count)
-compared_all rows place at other offset count le before =
-    ap (λ all. first_difference all (drop count (range rows other offset count)))
-    (sym (drop_all count (range rows place at count) (omega (arith, length_range rows place at count le)))) ∙ before
+pub compared_all : (all : List Cell) (at other count : ℕ) → at + count ≤ length all
+    → first_difference (drop count (range all at count)) (drop count (range all other count)) ≡ first_difference (range all at count) (range all other count)
+    → Ok (pos 0) ≡ first_difference (range all at count) (range all other count)
+compared_all all at other count le before =
+    ap (λ r. first_difference r (drop count (range all other count)))
+    (sym (drop_all count (range all at count) (omega (arith, length_range all at count le)))) ∙ before

@@ -1,14 +1,12 @@
--- The cells of words in a row.
-use Rattle.std.proofs.Common.{◌≡◌, ℕ, zero, suc, ◌+◌, ◌*◌, ◌/◌, ◌%◌, ◌<◌, ◌≤◌, List, [], ◌∷◌, length, take, get_or, refl, sym, ap, ◌∙◌, arith}
+-- The cells of words.
+use Rattle.std.proofs.Common.{◌≡◌, ℕ, zero, suc, ◌+◌, ◌*◌, ◌/◌, ◌%◌, ◌<◌, ◌≤◌, List, [], ◌∷◌, ◌++◌, length, get_or, replicate, refl, sym, ap, ◌∙◌, arith}
 use Rattle.std.proofs.Math.ListN.{set}
-use Rattle.std.proofs.Math.Seq.{take-set-lt}
-use Rattle.std.proofs.lemmas.List.{get_or-take, length-take-le}
-use Rattle.block_memory.specs.declared.cell.Cell.{Cell}
-use Rattle.block_memory.specs.declared.cell.Cell.TheVariants.{Empty}
-use Rattle.block_memory.specs.declared.word.Four.{Four}
-use Rattle.block_memory.specs.Rows.{over}
-use Rattle.block_memory.specs.Words.{cell_in, flat, four_at, with_cell_in}
-use Rattle.block_memory.proofs.Overs.{four_over}
+use Rattle.memory_cells.specs.declared.cell.Cell.{Cell}
+use Rattle.memory_cells.specs.declared.cell.Cell.TheVariants.{Empty}
+use Rattle.memory_cells.specs.declared.word.Four.{Four}
+use Rattle.memory_cells.specs.Words.{cell_in, four_at, nothing, with_cell_in}
+use Rattle.block_memory.specs.Cells.{cell_at, flat, over}
+use Rattle.block_memory.proofs.Overs.{four_over, one_over}
 
 four_on : (i k : ℕ) → 4 * suc i + k ≡ suc (suc (suc (suc (4 * i + k))))
 four_on i k = omega arith
@@ -51,22 +49,20 @@ flat_four (f ∷ fours) (suc i) g lt =
 in_four : (at : ℕ) → at ≡ 4 * (at / 4) + at % 4
 in_four at = omega arith
 
--- ---- the cells of a row of so many
+-- ---- one cell
 
-pub row_get : (fours : List Four) (size at : ℕ) → size ≤ 4 * length fours → at < size → cell_in (four_at fours (at / 4)) (at % 4) ≡ get_or (take size (flat fours)) at Empty
-row_get fours size at enough lt =
-    sym (get_or-take size (flat fours) at Empty lt ∙ ap (λ n. get_or (flat fours) n Empty) (in_four at) ∙ flat_get fours (at / 4) (at % 4) (omega arith) (omega arith))
+pub within : (fours : List Four) (at : ℕ) → at < length (flat fours) → at / 4 < length fours
+within fours at lt = omega (arith, lt, length_flat fours)
 
-pub row_set : (fours : List Four) (size at : ℕ) (c : Cell) → size ≤ 4 * length fours → at < size
-    → take size (flat (set fours (at / 4) (with_cell_in (four_at fours (at / 4)) (at % 4) c))) ≡ set (take size (flat fours)) at c
-row_set fours size at c enough lt =
-    ap (take size) (sym (ap (λ n. set (flat fours) n c) (in_four at) ∙ flat_set fours (at / 4) (at % 4) c (omega arith) (omega arith)))
-    ∙ take-set-lt size (flat fours) at c lt
+pub read : (fours : List Four) (at : ℕ) → at < length (flat fours) → cell_in (four_at fours (at / 4)) (at % 4) ≡ cell_at (flat fours) at
+read fours at lt = sym (ap (λ n. get_or (flat fours) n Empty) (in_four at) ∙ flat_get fours (at / 4) (at % 4) (within fours at lt) (omega arith))
 
-pub row_length : (fours : List Four) (size : ℕ) → size ≤ 4 * length fours → size ≡ length (take size (flat fours))
-row_length fours size enough = sym (length-take-le size (flat fours) (omega (arith, length_flat fours)))
+pub put : (fours : List Four) (at : ℕ) (c : Cell) → at < length (flat fours)
+    → flat (set fours (at / 4) (with_cell_in (four_at fours (at / 4)) (at % 4) c)) ≡ over (flat fours) at (c ∷ [])
+put fours at c lt =
+    sym (ap (λ n. set (flat fours) n c) (in_four at) ∙ flat_set fours (at / 4) (at % 4) c (within fours at lt) (omega arith)) ∙ one_over (flat fours) at c (omega (arith, lt))
 
--- ---- a whole pointer in one word
+-- ---- a whole word
 
 flat_four_at : (fours : List Four) (at i : ℕ) (g : Four) → at ≡ 4 * i + 0 → i < length fours
     → set (set (set (set (flat fours) at g.a) (at + 1) g.b) (at + 2) g.c) (at + 3) g.d ≡ flat (set fours i g)
@@ -80,19 +76,23 @@ flat_four_at fours at i g e lt =
     ∙ ap (λ n. set (set (set (set (flat fours) (4 * i + 0) g.a) (4 * i + 1) g.b) (4 * i + 2) g.c) n g.d) three
     ∙ flat_four fours i g lt
 
-take_four_sets : (all : List Cell) (size at : ℕ) (g : Four) → at + 4 ≤ size
-    → take size (set (set (set (set all at g.a) (at + 1) g.b) (at + 2) g.c) (at + 3) g.d) ≡ set (set (set (set (take size all) at g.a) (at + 1) g.b) (at + 2) g.c) (at + 3) g.d
-take_four_sets all size at g le =
-    take-set-lt size (set (set (set all at g.a) (at + 1) g.b) (at + 2) g.c) (at + 3) g.d (omega arith)
-    ∙ ap (λ r. set r (at + 3) g.d) (take-set-lt size (set (set all at g.a) (at + 1) g.b) (at + 2) g.c (omega arith)
-    ∙ ap (λ r. set r (at + 2) g.c) (take-set-lt size (set all at g.a) (at + 1) g.b (omega arith)
-    ∙ ap (λ r. set r (at + 1) g.b) (take-set-lt size all at g.a (omega arith))))
-
-pub row_four_put : (fours : List Four) (size at : ℕ) (g : Four) → size ≤ 4 * length fours → at + 4 ≤ size → at % 4 ≡ 0
-    → take size (flat (set fours (at / 4) g)) ≡ over (take size (flat fours)) at (g.a ∷ g.b ∷ g.c ∷ g.d ∷ [])
-row_four_put fours size at g enough le aligned =
+pub four_put : (fours : List Four) (at : ℕ) (g : Four) → at + 4 ≤ length (flat fours) → at % 4 ≡ 0
+    → flat (set fours (at / 4) g) ≡ over (flat fours) at (g.a ∷ g.b ∷ g.c ∷ g.d ∷ [])
+four_put fours at g le aligned =
     let whole_at : at ≡ 4 * (at / 4) + 0 = omega arith in
-    let long = row_length fours size enough in
-    ap (take size) (sym (flat_four_at fours at (at / 4) g whole_at (omega (arith, le, enough))))
-    ∙ take_four_sets (flat fours) size at g le
-    ∙ four_over (take size (flat fours)) at g.a g.b g.c g.d (omega (arith, long))
+    sym (flat_four_at fours at (at / 4) g whole_at (omega (arith, le, length_flat fours))) ∙ four_over (flat fours) at g.a g.b g.c g.d le
+
+-- ---- more words
+
+flat_append : (fours more : List Four) → flat (fours ++ more) ≡ flat fours ++ flat more
+flat_append [] more = refl
+flat_append (f ∷ fours) more = ap (λ r. f.a ∷ f.b ∷ f.c ∷ f.d ∷ r) (flat_append fours more)
+
+flat_new : (count : ℕ) → flat (replicate count nothing) ≡ replicate (4 * count) Empty
+flat_new zero = refl
+flat_new (suc n) =
+    let four : suc (suc (suc (suc (4 * n)))) ≡ 4 * suc n = omega arith in
+    ap (λ r. Empty ∷ Empty ∷ Empty ∷ Empty ∷ r) (flat_new n) ∙ ap (λ n. replicate n Empty) four
+
+pub grown : (fours other : List Four) (count : ℕ) → other ≡ fours ++ replicate count nothing → flat other ≡ flat fours ++ replicate (4 * count) Empty
+grown fours other count e = ap flat e ∙ flat_append fours (replicate count nothing) ∙ ap (λ r. flat fours ++ r) (flat_new count)

@@ -1,13 +1,13 @@
 -- What cells hold, cell by cell.
-use Rattle.std.specs.Prelude.{ℕ, zero, suc, ◌+◌, ◌*◌, Bool, true, false, ◌==◌, ◌&&◌, Ok, Err, List, take, drop, option_map, nat_lt, if◌then◌else◌, ℤ, pos, negsuc}
+use Rattle.std.specs.Prelude.{ℕ, zero, suc, ◌+◌, ◌*◌, Bool, true, false, Ok, Err, List, take, drop, option_map, nat_lt, if◌then◌else◌, ℤ, pos, negsuc}
 use Rattle.lay_base.specs.declared.faults.UndefinedKind.TheVariants as K
 use Rattle.c_types.specs.declared.ty.IntKind.{IntKind}
 use Rattle.c_types.specs.IntKinds.{width}
-use Rattle.block_memory.specs.declared.cell.Cell.{Cell}
-use Rattle.block_memory.specs.declared.cell.Cell.TheVariants.{Empty, Byte, Fragment}
-use Rattle.block_memory.specs.declared.pointer.Ptr.{Ptr}
-use Rattle.block_memory.specs.declared.pointer.Ptr.TheVariants as P
-use Rattle.block_memory.specs.Held.{is_same, number_in, pointer_in, word_of, held}
+use Rattle.memory_cells.specs.declared.cell.Cell.{Cell}
+use Rattle.memory_cells.specs.declared.cell.Cell.TheVariants.{Empty, Byte, Fragment}
+use Rattle.memory_cells.specs.declared.pointer.Ptr.{Ptr}
+use Rattle.memory_cells.specs.declared.pointer.Ptr.TheVariants as P
+use Rattle.block_memory.specs.Held.{number_in, pointer_in, word_of, held}
 use Rattle.block_memory.specs.Ranges.{byte_in}
 use Rattle.block_memory.specs.Tested.{Tested, ◌>>=◌}
 
@@ -37,11 +37,6 @@ abbrev pub as_pointer : Tested ℕ → Tested Ptr
 as_pointer (Ok zero) = Ok P.Null
 as_pointer (Ok (suc v)) = Err K.Pointer
 as_pointer (Err fault) = Err fault
-
--- a pointer's k-th fragment
-abbrev pub is_fragment : (type : ℕ) → Ptr → (k : ℕ) → Cell → Bool
-is_fragment type p k (Fragment t q j) = t == type && is_same q p && j == k
-is_fragment type p k c = false
 
 -- ---- bytes that are compared
 

@@ -6,10 +6,11 @@ use Rattle.std.specs.Option.{option_map}
 use Rattle.lay_base.specs.declared.faults.UndefinedKind.TheVariants as K
 use Rattle.c_types.specs.declared.ty.IntKind.{IntKind}
 use Rattle.c_types.specs.IntKinds.{greatest, width}
-use Rattle.block_memory.specs.declared.cell.Cell.{Cell}
-use Rattle.block_memory.specs.declared.cell.Cell.TheVariants.{Empty, Byte, Fragment}
-use Rattle.block_memory.specs.declared.pointer.Ptr.{Ptr}
-use Rattle.block_memory.specs.declared.pointer.Ptr.TheVariants as P
+use Rattle.memory_cells.specs.declared.cell.Cell.{Cell}
+use Rattle.memory_cells.specs.declared.cell.Cell.TheVariants.{Empty, Byte, Fragment}
+use Rattle.memory_cells.specs.declared.pointer.Ptr.{Ptr}
+use Rattle.memory_cells.specs.declared.pointer.Ptr.TheVariants as P
+use Rattle.memory_cells.specs.Fragments.{is_same}
 use Rattle.block_memory.specs.Tested.{Tested}
 
 -- ---- numbers
@@ -29,12 +30,6 @@ abbrev pub word_of : IntKind → (v : ℕ) → ℕ
 word_of kind v = if nat_le v (greatest kind) then v else v + (2 ^ 32 - 2 ^ (8 * width kind))
 
 -- ---- pointers
-
-abbrev pub is_same : Ptr → Ptr → Bool
-is_same P.Null P.Null = true
-is_same (P.Block b at) (P.Block c other) = b == c && at == other
-is_same (P.Function f) (P.Function g) = f == g
-is_same p q = false
 
 abbrev pub fragments_of : (type : ℕ) → Ptr → List Cell
 fragments_of type p = map (λ k. Fragment type p k) (0 ∷ 1 ∷ 2 ∷ 3 ∷ [])

@@ -2,14 +2,14 @@ pub mod Accesses
 pub mod Blocks
 pub mod Digits
 pub mod Examples
-pub mod Extents
+pub mod Cells
 pub mod Held
 pub mod Lifetimes
+pub mod Moves
 pub mod Places
 pub mod Pointers
 pub mod Ranges
-pub mod Rows
+pub mod Slots
 pub mod Stores
 pub mod Tested
 pub mod View
-pub mod Words

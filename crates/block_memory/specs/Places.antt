@@ -3,22 +3,23 @@ use Rattle.std.specs.Prelude.{◌≡◌, ℕ, Bool, List, Result, Ok, Err, Match
 use Rattle.lay_base.specs.declared.faults.UndefinedKind.{UndefinedKind}
 use Rattle.lay_base.specs.declared.faults.UndefinedKind.TheVariants as K
 use Rattle.block_memory.specs.declared.place.Place.{Place}
-use Rattle.block_memory.specs.declared.pointer.Ptr.{Ptr}
+use Rattle.memory_cells.specs.declared.pointer.Ptr.{Ptr}
 use Rattle.block_memory.specs.declared.slot.Slot.{Slot}
 use Rattle.block_memory.specs.Accesses.{must, place}
-use Rattle.block_memory.specs.Rows.{Row}
-use Rattle.block_memory.specs.Stores.{Does, IsPlace, memory_in}
+use Rattle.memory_cells.specs.declared.cell.Cell.{Cell}
+use Rattle.block_memory.specs.Slots.{memory_in}
+use Rattle.block_memory.specs.Stores.{Does, IsPlace}
 use Rattle.block_memory.specs.Blocks.{Memory, cells, with_cells}
 use Rattle.block_memory.specs.Ranges.{do_overlap}
 use Rattle.block_memory.specs.Tested.{Tested, ◌>>=◌}
 
-abbrev pub PlaceGives : List Slot → List Row → Ptr → (count width : ℕ) → (stores : Bool) → Result Place UndefinedKind → Type 0
-PlaceGives slots rows p count width stores result = MatchResult result
-    (λ found. (place (memory_in slots rows) p count width stores ≡ Ok (found.block, found.at)) × IsPlace slots rows found.block found.row found.at count)
-    (λ kind. place (memory_in slots rows) p count width stores ≡ Err kind)
+abbrev pub PlaceGives : List Slot → List Cell → Ptr → (count width : ℕ) → (stores : Bool) → Result Place UndefinedKind → Type 0
+PlaceGives slots cells p count width stores result = MatchResult result
+    (λ found. (place (memory_in slots cells) p count width stores ≡ Ok (found.block, found.at)) × IsPlace slots found.block found.cell found.at count)
+    (λ kind. place (memory_in slots cells) p count width stores ≡ Err kind)
 
-abbrev pub IsPlaceOf : List Slot → List Row → Place → (count : ℕ) → Type 0
-IsPlaceOf slots rows found count = IsPlace slots rows found.block found.row found.at count
+abbrev pub IsPlaceOf : List Slot → Place → (count : ℕ) → Type 0
+IsPlaceOf slots found count = IsPlace slots found.block found.cell found.at count
 
 -- a copy between two places
 abbrev pub copied : Memory → (a b : Place) → (count : ℕ) → (overlap : Bool) → Tested Memory
@@ -26,6 +27,6 @@ copied m a b count overlap = do
   c ← must (overlap || not (do_overlap (a.block, a.at) (b.block, b.at) count)) K.Overlap
   Ok (with_cells m a.block a.at (cells m b.block b.at count))
 
-abbrev pub CopyGives : List Slot → List Row → (a b : Place) → (count : ℕ) → (overlap : Bool) → Result (Unit {0}) UndefinedKind → List Slot → List Row → Type 0
-CopyGives slots rows a b count overlap result other new =
-    Does result (memory_in slots rows) (memory_in other new) (copied (memory_in slots rows) a b count overlap)
+abbrev pub CopyGives : List Slot → List Cell → (a b : Place) → (count : ℕ) → (overlap : Bool) → Result (Unit {0}) UndefinedKind → List Slot → List Cell → Type 0
+CopyGives slots cells a b count overlap result other new =
+    Does result (memory_in slots cells) (memory_in other new) (copied (memory_in slots cells) a b count overlap)

@@ -5,10 +5,10 @@ ghost use Rattle.block_memory.specs.Accesses.{load_number, load_pointer, store_n
 ghost use Rattle.block_memory.specs.Stores.{Does};
 ghost use Rattle.block_memory.specs.View.{memory_of};
 
-use crate::pointer::Ptr;
 use crate::store::Store;
 use c_types::{IntKind, width};
 use lay_base::UndefinedKind;
+use memory_cells::Ptr;
 
 impl Store {
     /// Loads a number of a type, as the word that stands for it in two's complement.
@@ -18,7 +18,7 @@ impl Store {
     {
         let width = width(kind);
         match self.place(p, width, width, false) {
-            Ok(place) => self.arena.number(place.row, place.at, kind),
+            Ok(place) => self.arena.number(place.cell, kind),
             Err(fault) => Err(fault),
         }
     }
@@ -29,20 +29,20 @@ impl Store {
         ensures { result ≡ load_pointer (memory_of self.now) p type_number }
     {
         match self.place(p, 4, 4, false) {
-            Ok(place) => self.arena.pointer(place.row, place.at, type_number),
+            Ok(place) => self.arena.pointer(place.cell, type_number),
             Err(fault) => Err(fault),
         }
     }
 
     /// Stores the low bytes of a word as a number of a type.
-    #[tactic(auto, using(crate::proofs::Reached::store_number_ok, crate::proofs::Reached::store_number_err, crate::proofs::Views::sound_changed))]
+    #[tactic(auto, using(crate::proofs::Reached::store_number_ok, crate::proofs::Reached::store_number_err, crate::proofs::Sound::sound_changed))]
     pub fn store_int(&mut self, p: Ptr, kind: IntKind, v: u32) -> Result<(), UndefinedKind>
         ensures { Does result (memory_of self.old) (memory_of self.new) (store_number (memory_of self.old) p kind v) }
     {
         let width = width(kind);
         match self.place(p, width, width, true) {
             Ok(place) => {
-                self.arena.put_number(place.row, place.at, kind, v);
+                self.arena.put_number(place.cell, kind, v);
                 Ok(())
             }
             Err(fault) => Err(fault),
@@ -50,13 +50,13 @@ impl Store {
     }
 
     /// Stores a pointer of a type.
-    #[tactic(auto, using(crate::proofs::Reached::store_pointer_ok, crate::proofs::Reached::store_pointer_err, crate::proofs::Views::sound_changed))]
+    #[tactic(auto, using(crate::proofs::Reached::store_pointer_ok, crate::proofs::Reached::store_pointer_err, crate::proofs::Sound::sound_changed))]
     pub fn store_pointer(&mut self, p: Ptr, type_number: u32, q: Ptr) -> Result<(), UndefinedKind>
         ensures { Does result (memory_of self.old) (memory_of self.new) (store_pointer (memory_of self.old) p type_number q) }
     {
         match self.place(p, 4, 4, true) {
             Ok(place) => {
-                self.arena.put_pointer(place.row, place.at, type_number, q);
+                self.arena.put_pointer(place.cell, type_number, q);
                 Ok(())
             }
             Err(fault) => Err(fault),

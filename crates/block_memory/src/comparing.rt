@@ -4,8 +4,8 @@ ghost use Rattle.std.specs.Prelude.{◌≡◌};
 ghost use Rattle.block_memory.specs.Digits.{compared, is_zero};
 ghost use Rattle.block_memory.specs.Ranges.{byte_in};
 
-use crate::cell::Cell;
 use lay_base::UndefinedKind;
+use memory_cells::Cell;
 
 fn byte_in(cell: Cell) -> Result<u8, UndefinedKind>
     ensures { result ≡ byte_in cell }

@@ -2,13 +2,12 @@
 
 ghost use Rattle.std.specs.Prelude.{◌≡◌, ◌==◌, ◌&&◌, [], ◌∷◌, Bool, false};
 ghost use Rattle.std.specs.List.{list_any};
-ghost use Rattle.block_memory.specs.Digits.{as_pointer, is_fragment};
-ghost use Rattle.block_memory.specs.Held.{held, is_empty, is_same, pointer_in, are_fragments};
+ghost use Rattle.block_memory.specs.Digits.{as_pointer};
+ghost use Rattle.block_memory.specs.Held.{held, is_empty, pointer_in, are_fragments};
 
-use crate::cell::Cell;
 use crate::numbers::in_four;
-use crate::pointer::Ptr;
 use lay_base::UndefinedKind;
+use memory_cells::{Cell, Ptr, is_fragment};
 
 fn is_empty(cell: Cell) -> bool
     ensures { result ≡ is_empty cell }
@@ -17,40 +16,6 @@ fn is_empty(cell: Cell) -> bool
         Cell::Empty => true,
         Cell::Byte(_) => false,
         Cell::Fragment(_, _, _) => false,
-    }
-}
-
-/// Whether two pointers are one.
-pub(crate) fn is_same(p: Ptr, q: Ptr) -> bool
-    ensures { result ≡ is_same p q }
-{
-    match p {
-        Ptr::Null => match q {
-            Ptr::Null => true,
-            Ptr::Block(_, _) => false,
-            Ptr::Function(_) => false,
-        },
-        Ptr::Block(b, at) => match q {
-            Ptr::Null => false,
-            Ptr::Block(c, other) => b == c && at == other,
-            Ptr::Function(_) => false,
-        },
-        Ptr::Function(f) => match q {
-            Ptr::Null => false,
-            Ptr::Block(_, _) => false,
-            Ptr::Function(g) => f == g,
-        },
-    }
-}
-
-/// Whether a cell is a pointer's k-th fragment.
-pub(crate) fn is_fragment(cell: Cell, type_number: u32, p: Ptr, k: u8) -> bool
-    ensures { result ≡ is_fragment type_number p k cell }
-{
-    match cell {
-        Cell::Empty => false,
-        Cell::Byte(_) => false,
-        Cell::Fragment(t, q, j) => t == type_number && is_same(q, p) && j == k,
     }
 }
 

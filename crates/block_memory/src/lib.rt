@@ -5,26 +5,21 @@
 
 mod accesses;
 mod arena;
-mod cell;
 mod comparing;
-mod extent;
 mod holding;
 mod kinds;
 mod lifetimes;
 mod numbers;
 mod place;
-mod pointer;
 mod pointers;
 mod ranges;
+mod room;
 mod slot;
+mod slots;
 mod store;
-mod whole;
-mod word;
-mod words;
 mod writes;
 
-pub use cell::Cell;
 pub use kinds::{Access, BlockKind};
-pub use pointer::Ptr;
+pub use memory_cells::{Cell, Ptr};
 pub use pointers::difference;
 pub use store::Store;

@@ -5,9 +5,9 @@ ghost use Rattle.c_types.specs.IntKinds.{width};
 ghost use Rattle.block_memory.specs.Digits.{digit_before, valued};
 ghost use Rattle.block_memory.specs.Held.{word_of};
 
-use crate::cell::Cell;
 use c_types::IntKind;
 use lay_base::UndefinedKind;
+use memory_cells::Cell;
 
 /// A byte, and the number in the cells behind it.
 #[inline(always)]

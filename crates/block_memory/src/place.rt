@@ -8,28 +8,27 @@ use crate::kinds::BlockKind;
 use crate::slot::Slot;
 use lay_base::UndefinedKind;
 
-/// A live block, its row, and an offset.
+/// An offset in a live block, and where it lies among all cells.
 #[derive(Clone, Copy)]
 pub(crate) struct Place {
     pub(crate) block: u64,
-    pub(crate) row: u32,
+    pub(crate) cell: usize,
     pub(crate) at: u32,
 }
 
 /// The tests of an access to a live block, but that of the block itself.
 pub(crate) fn tested(
     slot: Slot,
-    size: u32,
     at: u32,
     count: u32,
     width: u32,
     stores: bool,
 ) -> Result<(), UndefinedKind>
     requires { 0 < width }
-    ensures is { result ≡ tests slot size at count width stores }
-    ensures within { OnOk result (at + count ≤ size) }
+    ensures is { result ≡ tests slot at count width stores }
+    ensures within { OnOk result (at + count ≤ slot.size) }
 {
-    if u64::from(at) + u64::from(count) > u64::from(size) {
+    if u64::from(at) + u64::from(count) > u64::from(slot.size) {
         Err(UndefinedKind::Outside)
     } else if at % width != 0 {
         Err(UndefinedKind::Align)

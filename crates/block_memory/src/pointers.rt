@@ -4,9 +4,9 @@ ghost use Rattle.std.specs.Prelude.{◌≡◌, ◌<◌, ◌==◌, ◌&&◌, pos,
 ghost use Rattle.block_memory.specs.Pointers.{are_equal, are_equal_in, difference, elements_between, is_inside, is_less, stepped, within};
 ghost use Rattle.block_memory.specs.View.{memory_of};
 
-use crate::pointer::Ptr;
 use crate::store::Store;
 use lay_base::UndefinedKind;
+use memory_cells::Ptr;
 
 /// How many elements of a size lie between two offsets.
 fn elements_between(from: u32, to: u32, size: u32) -> Result<i64, UndefinedKind>

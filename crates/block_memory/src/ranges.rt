@@ -7,10 +7,9 @@ ghost use Rattle.block_memory.specs.Stores.{Does};
 ghost use Rattle.block_memory.specs.View.{memory_of};
 
 use crate::place::Place;
-use crate::pointer::Ptr;
 use crate::store::Store;
-use crate::word::Content;
 use lay_base::UndefinedKind;
+use memory_cells::{Content, Ptr};
 
 /// Whether two ranges of one length have a byte in common.
 fn do_overlap(a: Place, b: Place, count: u32) -> bool
@@ -24,7 +23,7 @@ fn do_overlap(a: Place, b: Place, count: u32) -> bool
 
 impl Store {
     /// Copies between places that are known.
-    #[tactic(auto, using(crate::proofs::Reached::copied_apart, crate::proofs::Reached::copied_over, crate::proofs::Views::sound_changed))]
+    #[tactic(auto, using(crate::proofs::Reached::copied_apart, crate::proofs::Reached::copied_over, crate::proofs::Sound::sound_changed))]
     fn copy_places(
         &mut self,
         a: Place,
@@ -32,14 +31,14 @@ impl Store {
         count: u32,
         overlap: bool,
     ) -> Result<(), UndefinedKind>
-        requires to { IsPlaceOf self.old.slots.items self.old.arena a count }
-        requires from { IsPlaceOf self.old.slots.items self.old.arena b count }
-        ensures { CopyGives self.old.slots.items self.old.arena a b count overlap result self.new.slots.items self.new.arena }
+        requires to { IsPlaceOf self.old.slots a count }
+        requires from { IsPlaceOf self.old.slots b count }
+        ensures { CopyGives self.old.slots self.old.arena a b count overlap result self.new.slots self.new.arena }
     {
         if !overlap && do_overlap(a, b, count) {
             return Err(UndefinedKind::Overlap);
         }
-        self.arena.copy(a.row, a.at, b.row, b.at, count);
+        self.arena.copy(a.cell, b.cell, count);
         Ok(())
     }
 
@@ -67,7 +66,7 @@ impl Store {
     }
 
     /// Puts a byte into so many cells.
-    #[tactic(auto, using(crate::proofs::Reached::fill_ok, crate::proofs::Reached::fill_err, crate::proofs::Views::sound_changed))]
+    #[tactic(auto, using(crate::proofs::Reached::fill_ok, crate::proofs::Reached::fill_err, crate::proofs::Sound::sound_changed))]
     pub fn fill(&mut self, to: Ptr, byte: u8, count: u32) -> Result<(), UndefinedKind>
         ensures { Does result (memory_of self.old) (memory_of self.new) (fill (memory_of self.old) to byte count) }
     {
@@ -76,8 +75,7 @@ impl Store {
         }
         match self.place(to, count, 1, true) {
             Ok(place) => {
-                self.arena
-                    .fill(place.row, place.at, Content::Byte(byte), count);
+                self.arena.fill(place.cell, Content::Byte(byte), count);
                 Ok(())
             }
             Err(fault) => Err(fault),
@@ -94,7 +92,7 @@ impl Store {
         }
         match self.place(p, count, 1, false) {
             Ok(a) => match self.place(q, count, 1, false) {
-                Ok(b) => self.arena.compare(a.row, a.at, b.row, b.at, count),
+                Ok(b) => self.arena.compare(a.cell, b.cell, count),
                 Err(fault) => Err(fault),
             },
             Err(fault) => Err(fault),

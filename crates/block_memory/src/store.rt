@@ -1,52 +1,44 @@
 //! The store: all blocks of a run.
 
-ghost use Rattle.block_memory.specs.Stores.{IsSound};
+ghost use Rattle.block_memory.specs.Slots.{IsSound};
 
 use crate::arena::Arena;
-use crate::kinds::BlockKind;
 use crate::place::{Place, tested};
-use crate::pointer::Ptr;
 use crate::slot::Slot;
+use crate::slots::Slots;
 use lay_base::UndefinedKind;
+use memory_cells::Ptr;
 use std::alloc::Global;
 
 /// Memory as blocks.
 #[derive(Drop)]
 pub struct Store {
-    pub(crate) slots: Vec<Slot>,
+    pub(crate) slots: Slots,
     pub(crate) arena: Arena,
-    ghost sound: { IsSound slots.items arena },
+    // The first word behind those of all live blocks.
+    pub(crate) free: usize,
+    // How many words lie between those of live blocks, or fewer.
+    pub(crate) ended: usize,
+    ghost sound: { IsSound slots arena free },
 }
 
 impl Store {
     ghost use Rattle.std.specs.Prelude.{◌≡◌, ◌<◌, []};
-    ghost use Rattle.block_memory.specs.declared.pointer.Ptr.TheVariants as P;
+    ghost use Rattle.memory_cells.specs.declared.pointer.Ptr.TheVariants as P;
     ghost use Rattle.block_memory.specs.Blocks.{is_live, size};
     ghost use Rattle.block_memory.specs.Places.{PlaceGives};
-    ghost use Rattle.block_memory.specs.Stores.{slot_at};
     ghost use Rattle.block_memory.specs.View.{memory_of};
 
     /// The memory of no block, which takes no memory.
+    #[tactic(auto, using(crate::proofs::Sound::sound_none))]
     pub fn new(alloc: Global) -> Store
         ensures { memory_of result ≡ [] }
     {
         Store {
-            slots: Vec::new(alloc),
+            slots: Slots::new(alloc),
             arena: Arena::new(alloc),
-        }
-    }
-
-    /// What is kept of a block.
-    pub(crate) fn slot(&self, block: u64) -> Slot
-        ensures { result ≡ slot_at self.now.slots.items block }
-    {
-        match self.slots.get(block as usize) {
-            Some(slot) => *slot,
-            None => Slot {
-                kind: BlockKind::Local,
-                live: false,
-                word: 0,
-            },
+            free: 0,
+            ended: 0,
         }
     }
 
@@ -55,24 +47,18 @@ impl Store {
     pub fn live(&self, block: u64) -> bool
         ensures { result ≡ is_live (memory_of self.now) block }
     {
-        self.slot(block).live
+        self.slots.slot(block).live
     }
 
     /// The size of a block in bytes; that of one that has ended is what it was.
-    #[tactic(auto, using(crate::proofs::Views::size_of_live, crate::proofs::Views::size_of_ended, crate::proofs::Views::row_within, crate::proofs::Views::known_of_live))]
+    #[tactic(auto, using(crate::proofs::Views::size_is))]
     pub fn size(&self, block: u64) -> u32
         ensures { result ≡ size (memory_of self.now) block }
     {
-        let slot = self.slot(block);
-        if slot.live {
-            self.arena.size(slot.word)
-        } else {
-            slot.word
-        }
+        self.slots.slot(block).size
     }
 
     /// The place of an access in a block.
-    #[tactic(auto, using(crate::proofs::Views::place_dead, crate::proofs::Views::row_within, crate::proofs::Views::known_of_live))]
     fn place_in(
         &self,
         block: u64,
@@ -82,14 +68,14 @@ impl Store {
         stores: bool,
     ) -> Result<Place, UndefinedKind>
         requires { 0 < width }
-        ensures { PlaceGives self.now.slots.items self.now.arena (P.Block block at) count width stores result }
+        ensures { PlaceGives self.now.slots self.now.arena (P.Block block at) count width stores result }
     {
-        let slot = self.slot(block);
+        let slot = self.slots.slot(block);
         if slot.live {
-            match tested(slot, self.arena.size(slot.word), at, count, width, stores) {
+            match tested(slot, at, count, width, stores) {
                 Ok(()) => Ok(Place {
                     block,
-                    row: slot.word,
+                    cell: 4 * slot.start as usize + at as usize,
                     at,
                 }),
                 Err(kind) => Err(kind),
@@ -108,7 +94,7 @@ impl Store {
         stores: bool,
     ) -> Result<Place, UndefinedKind>
         requires { 0 < width }
-        ensures { PlaceGives self.now.slots.items self.now.arena p count width stores result }
+        ensures { PlaceGives self.now.slots self.now.arena p count width stores result }
     {
         match p {
             Ptr::Null => Err(UndefinedKind::Null),

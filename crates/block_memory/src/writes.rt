@@ -1,47 +1,50 @@
 //! Writes without a test, of what the machine itself puts into blocks. Into a block that has ended nothing is put.
 
 ghost use Rattle.std.specs.Prelude.{◌≡◌, ◌≤◌, ◌+◌, length, map, replicate};
-ghost use Rattle.block_memory.specs.declared.cell.Cell.TheVariants.{Byte, Empty};
+ghost use Rattle.memory_cells.specs.declared.cell.Cell.TheVariants.{Byte, Empty};
 ghost use Rattle.block_memory.specs.Blocks.{size, with_cells};
 ghost use Rattle.block_memory.specs.View.{memory_of};
 
 use crate::store::Store;
-use crate::word::Content;
+use memory_cells::Content;
 
 impl Store {
     /// Puts bytes into the cells of a block from an offset on.
-    #[tactic(auto, using(crate::proofs::Views::row_within, crate::proofs::Views::known_of_live, crate::proofs::Views::sound_changed))]
+    #[tactic(auto, using(crate::proofs::Sound::sound_changed))]
     pub fn set_bytes(&mut self, block: u64, at: u32, bytes: &[u8])
         requires { at + length bytes.now ≤ size (memory_of self.old) block }
         ensures { memory_of self.new ≡ with_cells (memory_of self.old) block at (map Byte bytes.now) }
     {
-        let slot = self.slot(block);
+        let slot = self.slots.slot(block);
         if slot.live {
-            self.arena.put_bytes(slot.word, at, bytes);
+            self.arena
+                .put_bytes(4 * slot.start as usize + at as usize, bytes);
         }
     }
 
     /// Makes so many cells of a block, from its first one on, bytes that are zero.
-    #[tactic(auto, using(crate::proofs::Views::row_within, crate::proofs::Views::known_of_live, crate::proofs::Views::sound_changed))]
+    #[tactic(auto, using(crate::proofs::Sound::sound_changed))]
     pub fn set_zero(&mut self, block: u64, count: u32)
         requires { count ≤ size (memory_of self.old) block }
         ensures { memory_of self.new ≡ with_cells (memory_of self.old) block 0 (replicate count (Byte 0)) }
     {
-        let slot = self.slot(block);
+        let slot = self.slots.slot(block);
         if slot.live {
-            self.arena.fill(slot.word, 0, Content::Byte(0), count);
+            self.arena
+                .fill(4 * slot.start as usize, Content::Byte(0), count);
         }
     }
 
     /// Makes so many cells of a block, from its first one on, hold nothing.
-    #[tactic(auto, using(crate::proofs::Views::row_within, crate::proofs::Views::known_of_live, crate::proofs::Views::sound_changed))]
+    #[tactic(auto, using(crate::proofs::Sound::sound_changed))]
     pub fn set_empty(&mut self, block: u64, count: u32)
         requires { count ≤ size (memory_of self.old) block }
         ensures { memory_of self.new ≡ with_cells (memory_of self.old) block 0 (replicate count Empty) }
     {
-        let slot = self.slot(block);
+        let slot = self.slots.slot(block);
         if slot.live {
-            self.arena.fill(slot.word, 0, Content::Empty, count);
+            self.arena
+                .fill(4 * slot.start as usize, Content::Empty, count);
         }
     }
 }

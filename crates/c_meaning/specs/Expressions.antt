@@ -15,8 +15,8 @@ use Rattle.c_typed.specs.Constants.{ty, kind_of}
 use Rattle.c_typed.specs.Conversions.{number_of}
 use Rattle.c_typed.specs.Programs.{ProgramData, FunctionData}
 use Rattle.c_typed.specs.Typed.{at_of, path_ty, path_at}
-use Rattle.block_memory.specs.declared.pointer.Ptr.{Ptr}
-use Rattle.block_memory.specs.declared.pointer.Ptr.TheVariants as P
+use Rattle.memory_cells.specs.declared.pointer.Ptr.{Ptr}
+use Rattle.memory_cells.specs.declared.pointer.Ptr.TheVariants as P
 use Rattle.block_memory.specs.Blocks.{Memory, is_live, size, kind}
 use Rattle.block_memory.specs.Lifetimes.{is_heap}
 use Rattle.block_memory.specs.Tested.{Tested}

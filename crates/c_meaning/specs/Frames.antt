@@ -4,10 +4,10 @@ use Rattle.lay_base.specs.declared.faults.UndefinedKind.TheVariants as K
 use Rattle.lay_base.specs.declared.place.Place.{Place}
 use Rattle.c_typed.specs.declared.program.Local.{Local}
 use Rattle.c_typed.specs.Programs.{ProgramData, FunctionData}
-use Rattle.block_memory.specs.declared.cell.Cell.TheVariants.{Empty}
+use Rattle.memory_cells.specs.declared.cell.Cell.TheVariants.{Empty}
 use Rattle.block_memory.specs.declared.kinds.BlockKind.TheVariants as Kind
-use Rattle.block_memory.specs.declared.pointer.Ptr.{Ptr}
-use Rattle.block_memory.specs.declared.pointer.Ptr.TheVariants as P
+use Rattle.memory_cells.specs.declared.pointer.Ptr.{Ptr}
+use Rattle.memory_cells.specs.declared.pointer.Ptr.TheVariants as P
 use Rattle.block_memory.specs.Blocks.{with_cells}
 use Rattle.runs.specs.Doing.{Doing, ◌>>=◌, ◌>>◌, pure, is_undefined, memory_now, with_memory, make, end}
 use Rattle.runs.specs.Scalars.{load, store}

@@ -19,8 +19,8 @@ use Rattle.c_typed.specs.Arithmetic.{truth, unary_value, binary_value, holds}
 use Rattle.c_typed.specs.Constants.{kind_of}
 use Rattle.c_typed.specs.Conversions.{promoted_kind, as_kind, number_of}
 use Rattle.c_typed.specs.Rules.{is_shift}
-use Rattle.block_memory.specs.declared.pointer.Ptr.{Ptr}
-use Rattle.block_memory.specs.declared.pointer.Ptr.TheVariants as P
+use Rattle.memory_cells.specs.declared.pointer.Ptr.{Ptr}
+use Rattle.memory_cells.specs.declared.pointer.Ptr.TheVariants as P
 use Rattle.block_memory.specs.Blocks.{Memory}
 use Rattle.block_memory.specs.Pointers.{stepped, difference, is_less, are_equal}
 use Rattle.block_memory.specs.Tested.{Tested, ◌>>=◌}

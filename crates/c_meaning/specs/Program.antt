@@ -10,13 +10,13 @@ use Rattle.c_typed.specs.declared.program.InitialValue.TheVariants as V
 use Rattle.c_typed.specs.declared.program.Local.{Local}
 use Rattle.c_typed.specs.declared.program.Object.{Object}
 use Rattle.c_typed.specs.Programs.{FunctionData, ProgramData}
-use Rattle.block_memory.specs.declared.cell.Cell.{Cell}
-use Rattle.block_memory.specs.declared.cell.Cell.TheVariants.{Byte}
+use Rattle.memory_cells.specs.declared.cell.Cell.{Cell}
+use Rattle.memory_cells.specs.declared.cell.Cell.TheVariants.{Byte}
 use Rattle.block_memory.specs.declared.kinds.Access.{Access}
 use Rattle.block_memory.specs.declared.kinds.Access.TheVariants.{Number, Pointer}
 use Rattle.block_memory.specs.declared.kinds.BlockKind.{BlockKind}
 use Rattle.block_memory.specs.declared.kinds.BlockKind.TheVariants.{Global, Text}
-use Rattle.block_memory.specs.declared.pointer.Ptr.TheVariants as P
+use Rattle.memory_cells.specs.declared.pointer.Ptr.TheVariants as P
 use Rattle.block_memory.specs.Blocks.{Memory, Block, Contents, living, overwritten}
 use Rattle.block_memory.specs.Held.{bytes_of, fragments_of}
 

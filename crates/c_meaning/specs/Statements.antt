@@ -9,8 +9,8 @@ use Rattle.c_typed.specs.Trees.{Expression, Path, PartValue, Part, Initializer, 
 use Rattle.c_typed.specs.Constants.{ty}
 use Rattle.c_typed.specs.Programs.{ProgramData, FunctionData}
 use Rattle.c_typed.specs.Typed.{at_of, path_ty, path_at}
-use Rattle.block_memory.specs.declared.cell.Cell.TheVariants.{Byte}
-use Rattle.block_memory.specs.declared.pointer.Ptr.TheVariants as P
+use Rattle.memory_cells.specs.declared.cell.Cell.TheVariants.{Byte}
+use Rattle.memory_cells.specs.declared.pointer.Ptr.TheVariants as P
 use Rattle.block_memory.specs.Blocks.{with_cells}
 use Rattle.runs.specs.Doing.{Doing, Rest, ◌>>=◌, ◌>>◌, pure, memory_now, with_memory, turn, note}
 use Rattle.runs.specs.Events.{began}

@@ -5,7 +5,7 @@ use Rattle.lay_base.specs.declared.place.Place.{Place}
 use Rattle.c_typed.specs.declared.program.Local.{Local}
 use Rattle.c_typed.specs.Trees.{Statement}
 use Rattle.c_typed.specs.Programs.{ProgramData, FunctionData}
-use Rattle.block_memory.specs.declared.pointer.Ptr.TheVariants as P
+use Rattle.memory_cells.specs.declared.pointer.Ptr.TheVariants as P
 use Rattle.runs.specs.Events.{entered}
 use Rattle.runs.specs.declared.value.Value.{Value}
 use Rattle.c_meaning.specs.Frames.{Frame, frame_of}

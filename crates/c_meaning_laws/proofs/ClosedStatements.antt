@@ -8,7 +8,7 @@ use Rattle.c_typed.specs.Constants.{ty}
 use Rattle.c_typed.specs.Programs.{ProgramData}
 use Rattle.c_typed.specs.Typed.{at_of, path_ty, path_at}
 use Rattle.block_memory.specs.declared.kinds.BlockKind.TheVariants as Kind
-use Rattle.block_memory.specs.declared.pointer.Ptr.TheVariants as P
+use Rattle.memory_cells.specs.declared.pointer.Ptr.TheVariants as P
 use Rattle.runs.specs.Doing.{Doing, ◌>>=◌, ◌>>◌, pure, turn, note}
 use Rattle.runs.specs.Events.{Event, began}
 use Rattle.runs.specs.Scalars.{word_of}

@@ -6,10 +6,10 @@ use Rattle.c_types.specs.declared.ty.IntKind.TheVariants as I
 use Rattle.c_types.specs.Layouts.{offset_of, size_of}
 use Rattle.c_types.specs.Types.{CType, integer, pointer, structure, void}
 use Rattle.c_typed.specs.Typed.{field_type}
-use Rattle.block_memory.specs.declared.cell.Cell.{Cell}
-use Rattle.block_memory.specs.declared.cell.Cell.TheVariants.{Empty, Byte, Fragment}
-use Rattle.block_memory.specs.declared.pointer.Ptr.{Ptr}
-use Rattle.block_memory.specs.declared.pointer.Ptr.TheVariants as P
+use Rattle.memory_cells.specs.declared.cell.Cell.{Cell}
+use Rattle.memory_cells.specs.declared.cell.Cell.TheVariants.{Empty, Byte, Fragment}
+use Rattle.memory_cells.specs.declared.pointer.Ptr.{Ptr}
+use Rattle.memory_cells.specs.declared.pointer.Ptr.TheVariants as P
 use Rattle.block_memory.specs.Blocks.{block, cells_in}
 use Rattle.runs.specs.Events.{allocated}
 use Rattle.c_pointer_types.specs.Allocations.{HasElements, LiesInField, allocated_for, byte_of_record, made_for, record_size}

@@ -16,6 +16,8 @@ fn with_bytes(alloc: Global) -> Result<[Result<u32, UndefinedKind>; 2], NoMemory
     let mut store = start(alloc)?;
     if store.size(0) == 8 {
         store.set_zero(0, 8);
+    }
+    if store.size(0) == 8 {
         store.set_bytes(0, 3, [1, 2, 3].as_slice());
     }
     Ok([

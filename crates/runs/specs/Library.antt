@@ -2,10 +2,10 @@
 use Rattle.std.specs.Prelude.{ℕ, ◌-◌, ◌%◌, ◌^◌, Bool, true, false, List, [], ◌∷◌, Option, Some, None, replicate}
 use Rattle.std.specs.Int.{w32, cast_unsigned}
 use Rattle.lay_base.specs.declared.place.Place.{Place}
-use Rattle.block_memory.specs.declared.cell.Cell.TheVariants.{Byte}
+use Rattle.memory_cells.specs.declared.cell.Cell.TheVariants.{Byte}
 use Rattle.block_memory.specs.declared.kinds.BlockKind.TheVariants.{Heap}
-use Rattle.block_memory.specs.declared.pointer.Ptr.{Ptr}
-use Rattle.block_memory.specs.declared.pointer.Ptr.TheVariants as P
+use Rattle.memory_cells.specs.declared.pointer.Ptr.{Ptr}
+use Rattle.memory_cells.specs.declared.pointer.Ptr.TheVariants as P
 use Rattle.block_memory.specs.Blocks.{with_cells}
 use Rattle.block_memory.specs.Lifetimes as Lifetimes
 use Rattle.block_memory.specs.Ranges as Ranges

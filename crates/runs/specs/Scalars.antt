@@ -5,8 +5,8 @@ use Rattle.lay_base.specs.declared.place.Place.{Place}
 use Rattle.c_types.specs.IntKinds.{width}
 use Rattle.block_memory.specs.declared.kinds.Access.{Access}
 use Rattle.block_memory.specs.declared.kinds.Access.TheVariants.{Number, Pointer}
-use Rattle.block_memory.specs.declared.pointer.Ptr.{Ptr}
-use Rattle.block_memory.specs.declared.pointer.Ptr.TheVariants as P
+use Rattle.memory_cells.specs.declared.pointer.Ptr.{Ptr}
+use Rattle.memory_cells.specs.declared.pointer.Ptr.TheVariants as P
 use Rattle.block_memory.specs.Accesses.{load_number, load_pointer, store_number, store_pointer}
 use Rattle.block_memory.specs.Blocks.{Memory, kind}
 use Rattle.block_memory.specs.Lifetimes.{is_heap}

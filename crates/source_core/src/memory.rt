@@ -1,7 +1,7 @@
 //! What is done to memory.
 
 ghost use Rattle.std.specs.Prelude.{◌≡◌, IfOk, replicate, true};
-ghost use Rattle.block_memory.specs.declared.cell.Cell.TheVariants.{Empty};
+ghost use Rattle.memory_cells.specs.declared.cell.Cell.TheVariants.{Empty};
 ghost use Rattle.c_meaning.specs.Expressions.{is_same_place};
 ghost use Rattle.source_core.specs.View.{core_of};
 ghost use Rattle.source_steps.specs.Cores.{Changes};

@@ -1,7 +1,7 @@
 //! Numbers, and places in blocks, that are found with few tests. Where there is none here, `direct` may still find a value.
 
 ghost use Rattle.std.specs.Prelude.{◌≡◌, false, IfSome, Ok, Some};
-ghost use Rattle.block_memory.specs.declared.pointer.Ptr.TheVariants as P;
+ghost use Rattle.memory_cells.specs.declared.pointer.Ptr.TheVariants as P;
 ghost use Rattle.c_meaning.specs.Expressions.{field_in, part_of};
 ghost use Rattle.c_meaning.specs.Operators.{binary, compared, moved, next};
 ghost use Rattle.c_meaning.specs.Program.{access_at, element_size, length_of, size_at, type_at};

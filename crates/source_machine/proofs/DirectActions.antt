@@ -7,7 +7,7 @@ use Rattle.c_types.specs.Types.{CType, void}
 use Rattle.c_typed.specs.declared.operators.PointerOp.TheVariants.{Add}
 use Rattle.c_typed.specs.Conversions.{number_of}
 use Rattle.c_typed.specs.Programs.{ProgramData}
-use Rattle.block_memory.specs.declared.pointer.Ptr.TheVariants as P
+use Rattle.memory_cells.specs.declared.pointer.Ptr.TheVariants as P
 use Rattle.runs.specs.Doing.{Doing, ◌>>=◌, pure, is_undefined}
 use Rattle.runs.specs.Scalars.{word_of, pointer_of}
 use Rattle.runs.specs.declared.value.Value.{Value}

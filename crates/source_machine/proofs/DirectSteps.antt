@@ -1,6 +1,6 @@
 -- A step comes to one outcome, whatever the rest of the run is, and leaves less work where no turn begins.
 use Rattle.std.proofs.Common.{◌⊎◌, inl, inr, ◌<◌, ◌≤◌, arith, ℕ, zero, suc, ◌+◌, Bool, true, false, if◌then◌else◌, List, [], ◌∷◌, ◌++◌, map, replicate, Option, Some, None, slice_get}
-use Rattle.block_memory.specs.declared.cell.Cell.TheVariants.{Byte}
+use Rattle.memory_cells.specs.declared.cell.Cell.TheVariants.{Byte}
 use Rattle.block_memory.specs.Blocks.{Memory, with_cells}
 use Rattle.lay_base.specs.declared.faults.UndefinedKind.{UndefinedKind}
 use Rattle.lay_base.specs.declared.faults.UndefinedKind.TheVariants as K
@@ -11,8 +11,8 @@ use Rattle.c_typed.specs.declared.program.Local.{Local}
 use Rattle.c_typed.specs.Trees as T
 use Rattle.c_typed.specs.Trees.{Expression, expression, Node, Path, path, Expressions, PartValue, Part, Initializer, Statement, Statements, Arms}
 use Rattle.c_typed.specs.Programs.{ProgramData, FunctionData}
-use Rattle.block_memory.specs.declared.pointer.Ptr.{Ptr}
-use Rattle.block_memory.specs.declared.pointer.Ptr.TheVariants as P
+use Rattle.memory_cells.specs.declared.pointer.Ptr.{Ptr}
+use Rattle.memory_cells.specs.declared.pointer.Ptr.TheVariants as P
 use Rattle.runs.specs.Doing.{Doing, ◌>>=◌, ◌>>◌, is_undefined, memory_now, with_memory, enter}
 use Rattle.runs.specs.Events.{entered as entered_event, began}
 use Rattle.runs.specs.Scalars.{pointer_of}

@@ -8,8 +8,8 @@ use Rattle.c_types.specs.Types.{CType, pointer as pointer_to}
 use Rattle.c_typed.specs.Trees as T
 use Rattle.c_typed.specs.Trees.{Expressions, Statement}
 use Rattle.c_typed.specs.Programs.{ProgramData, FunctionData}
-use Rattle.block_memory.specs.declared.pointer.Ptr.{Ptr}
-use Rattle.block_memory.specs.declared.pointer.Ptr.TheVariants as P
+use Rattle.memory_cells.specs.declared.pointer.Ptr.{Ptr}
+use Rattle.memory_cells.specs.declared.pointer.Ptr.TheVariants as P
 use Rattle.runs.specs.Doing.{Rest, Doing, turn_of, leave}
 use Rattle.runs.specs.Events.{entered}
 use Rattle.runs.specs.Scalars.{pointer_of}

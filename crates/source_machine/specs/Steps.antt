@@ -12,9 +12,9 @@ use Rattle.c_typed.specs.Trees.{Statements, Arms}
 use Rattle.c_typed.specs.Constants.{ty, kind_of}
 use Rattle.c_typed.specs.Programs.{ProgramData, FunctionData}
 use Rattle.c_typed.specs.Typed.{at_of, path_ty, path_at}
-use Rattle.block_memory.specs.declared.cell.Cell.TheVariants.{Byte}
-use Rattle.block_memory.specs.declared.pointer.Ptr.{Ptr}
-use Rattle.block_memory.specs.declared.pointer.Ptr.TheVariants as P
+use Rattle.memory_cells.specs.declared.cell.Cell.TheVariants.{Byte}
+use Rattle.memory_cells.specs.declared.pointer.Ptr.{Ptr}
+use Rattle.memory_cells.specs.declared.pointer.Ptr.TheVariants as P
 use Rattle.block_memory.specs.Blocks.{with_cells}
 use Rattle.runs.specs.Doing.{Doing, ◌>>=◌, ◌>>◌, pure, is_undefined, memory_now, with_memory, turn, note, enter, leave}
 use Rattle.runs.specs.Events.{began}

@@ -4,8 +4,8 @@ use Rattle.block_memory.specs.Blocks.{Memory}
 use Rattle.block_memory.specs.Tested.{Tested, ◌>>=◌}
 use Rattle.block_memory.specs.declared.kinds.Access.{Access}
 use Rattle.block_memory.specs.declared.kinds.BlockKind.{BlockKind}
-use Rattle.block_memory.specs.declared.pointer.Ptr.{Ptr}
-use Rattle.block_memory.specs.declared.pointer.Ptr.TheVariants as P
+use Rattle.memory_cells.specs.declared.pointer.Ptr.{Ptr}
+use Rattle.memory_cells.specs.declared.pointer.Ptr.TheVariants as P
 use Rattle.c_counts.specs.Loops.{loops_in}
 use Rattle.c_meaning.specs.Frames.{Frame}
 use Rattle.c_meaning.specs.Expressions.{is_subscript, field_in}

@@ -1,7 +1,7 @@
 //! The blocks of the objects.
 
 ghost use Rattle.std.specs.Prelude.{◌≡◌, ◌∷◌, [], ◌++◌, IfOk, length, replicate};
-ghost use Rattle.block_memory.specs.declared.cell.Cell.TheVariants.{Byte};
+ghost use Rattle.memory_cells.specs.declared.cell.Cell.TheVariants.{Byte};
 ghost use Rattle.block_memory.specs.Blocks.{block, living};
 ghost use Rattle.block_memory.specs.View.{memory_of};
 ghost use Rattle.c_meaning.specs.Program.{initial_memory, object_block, object_kind};

@@ -4,7 +4,7 @@ use Rattle.lay_base.specs.declared.faults.RoomKind.TheVariants.{Depth}
 use Rattle.lay_base.specs.declared.place.Place.{Place}
 use Rattle.c_typed.specs.declared.program.Local.{Local}
 use Rattle.c_typed.specs.Programs.{ProgramData}
-use Rattle.block_memory.specs.declared.pointer.Ptr.TheVariants as P
+use Rattle.memory_cells.specs.declared.pointer.Ptr.TheVariants as P
 use Rattle.runs.specs.Doing as Doing
 use Rattle.runs.specs.Doing.{Rest, Doing, ◌>>=◌, ◌>>◌, pure, turn_of, note, less_deep}
 use Rattle.runs.specs.Events.{Event, entered, began, left, one_if, entries_of, begins_of}

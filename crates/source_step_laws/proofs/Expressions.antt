@@ -9,8 +9,8 @@ use Rattle.c_typed.specs.Constants.{ty}
 use Rattle.c_typed.specs.Trees as T
 use Rattle.c_typed.specs.Trees.{Expression, expression, Node, Path, path, Expressions, OptionalExpression, Statement}
 use Rattle.c_typed.specs.Typed.{path_ty}
-use Rattle.block_memory.specs.declared.pointer.Ptr.{Ptr}
-use Rattle.block_memory.specs.declared.pointer.Ptr.TheVariants as P
+use Rattle.memory_cells.specs.declared.pointer.Ptr.{Ptr}
+use Rattle.memory_cells.specs.declared.pointer.Ptr.TheVariants as P
 use Rattle.runs.specs.Doing.{Doing, ◌>>=◌}
 use Rattle.runs.specs.Scalars.{pointer_of}
 use Rattle.runs.specs.declared.value.Value.{Value}

@@ -11,8 +11,8 @@ use Rattle.c_typed.specs.Typed.{at_of}
 use Rattle.c_typed.specs.declared.operators.PointerOp.TheVariants.{Add}
 use Rattle.block_memory.specs.Blocks.{Memory}
 use Rattle.block_memory.specs.Tested.{Tested}
-use Rattle.block_memory.specs.declared.pointer.Ptr.{Ptr}
-use Rattle.block_memory.specs.declared.pointer.Ptr.TheVariants as P
+use Rattle.memory_cells.specs.declared.pointer.Ptr.{Ptr}
+use Rattle.memory_cells.specs.declared.pointer.Ptr.TheVariants as P
 use Rattle.runs.specs.Doing.{Doing, ◌>>=◌, ◌>>◌, pure, tested, memory_now}
 use Rattle.runs.specs.Scalars.{pointer_of}
 use Rattle.runs.specs.declared.value.Value.{Value}

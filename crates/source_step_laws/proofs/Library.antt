@@ -5,7 +5,7 @@ use Rattle.lay_base.specs.declared.faults.UndefinedKind.TheVariants as K
 use Rattle.lay_base.specs.declared.place.Place.{Place}
 use Rattle.c_typed.specs.declared.operators.LibraryFunction.{LibraryFunction}
 use Rattle.c_typed.specs.declared.operators.LibraryFunction.TheVariants as L
-use Rattle.block_memory.specs.declared.pointer.Ptr.{Ptr}
+use Rattle.memory_cells.specs.declared.pointer.Ptr.{Ptr}
 use Rattle.block_memory.specs.Ranges as Ranges
 use Rattle.block_memory.specs.Tested as Tests
 use Rattle.block_memory.specs.Tested.{Tested}

@@ -4,9 +4,9 @@ use Rattle.lay_base.specs.declared.faults.UndefinedKind.TheVariants as K
 use Rattle.lay_base.specs.declared.place.Place.{Place}
 use Rattle.c_typed.specs.declared.program.Local.{Local}
 use Rattle.c_typed.specs.Programs.{ProgramData}
-use Rattle.block_memory.specs.declared.cell.Cell.TheVariants.{Empty}
+use Rattle.memory_cells.specs.declared.cell.Cell.TheVariants.{Empty}
 use Rattle.block_memory.specs.declared.kinds.BlockKind.TheVariants as Kind
-use Rattle.block_memory.specs.declared.pointer.Ptr.TheVariants as P
+use Rattle.memory_cells.specs.declared.pointer.Ptr.TheVariants as P
 use Rattle.runs.specs.Events.{Event}
 use Rattle.runs.specs.declared.value.Value.{Value}
 use Rattle.c_meaning.specs.Frames as Frames

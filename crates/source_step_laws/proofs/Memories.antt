@@ -6,14 +6,14 @@ use Rattle.lay_base.specs.declared.faults.RoomKind.TheVariants.{Live}
 use Rattle.lay_base.specs.declared.faults.UndefinedKind.TheVariants as K
 use Rattle.lay_base.specs.declared.place.Place.{Place}
 use Rattle.c_types.specs.IntKinds.{width}
-use Rattle.block_memory.specs.declared.cell.Cell.{Cell}
-use Rattle.block_memory.specs.declared.cell.Cell.TheVariants.{Byte}
+use Rattle.memory_cells.specs.declared.cell.Cell.{Cell}
+use Rattle.memory_cells.specs.declared.cell.Cell.TheVariants.{Byte}
 use Rattle.block_memory.specs.declared.kinds.Access.{Access}
 use Rattle.block_memory.specs.declared.kinds.Access.TheVariants.{Number, Pointer}
 use Rattle.block_memory.specs.declared.kinds.BlockKind.{BlockKind}
 use Rattle.block_memory.specs.declared.kinds.BlockKind.TheVariants.{Heap}
-use Rattle.block_memory.specs.declared.pointer.Ptr.{Ptr}
-use Rattle.block_memory.specs.declared.pointer.Ptr.TheVariants as P
+use Rattle.memory_cells.specs.declared.pointer.Ptr.{Ptr}
+use Rattle.memory_cells.specs.declared.pointer.Ptr.TheVariants as P
 use Rattle.block_memory.specs.Accesses.{must, place}
 use Rattle.block_memory.specs.Blocks.{Memory, kind, is_live, size, block, cells, cells_in, with_cells}
 use Rattle.block_memory.specs.Held.{bytes_of}

@@ -4,7 +4,7 @@ use Rattle.c_typed.specs.declared.program.Local.{Local}
 use Rattle.c_typed.specs.Programs.{ProgramData}
 use Rattle.c_typed.specs.Trees as T
 use Rattle.c_typed.specs.Trees.{Expression, Part as InitialPart, PartValue, Initializer, Statement, Statements, Arms}
-use Rattle.block_memory.specs.declared.cell.Cell.TheVariants.{Byte}
+use Rattle.memory_cells.specs.declared.cell.Cell.TheVariants.{Byte}
 use Rattle.runs.specs.Doing.{◌>>=◌, ◌>>◌}
 use Rattle.c_meaning.specs.Frames as Frames
 use Rattle.c_meaning.specs.Frames.{Frame}

@@ -12,7 +12,7 @@ use Rattle.c_typed.specs.Typed.{path_ty}
 use Rattle.c_typed.specs.declared.operators.BinaryOp.{BinaryOp}
 use Rattle.c_typed.specs.declared.operators.PointerOp.TheVariants.{Add}
 use Rattle.c_typed.specs.declared.operators.StepOp.{StepOp}
-use Rattle.block_memory.specs.declared.pointer.Ptr.TheVariants as P
+use Rattle.memory_cells.specs.declared.pointer.Ptr.TheVariants as P
 use Rattle.block_memory.specs.Tested.{Tested}
 use Rattle.runs.specs.Scalars.{word_of, pointer_of}
 use Rattle.runs.specs.declared.value.Value.{Value}

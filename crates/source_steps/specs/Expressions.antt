@@ -12,8 +12,8 @@ use Rattle.c_typed.specs.Programs.{ProgramData, FunctionData}
 use Rattle.c_typed.specs.Trees as T
 use Rattle.c_typed.specs.Trees.{Expression, expression, Node, Path, path, PathNode, Expressions, OptionalExpression, Statement}
 use Rattle.c_typed.specs.Typed.{at_of, path_ty}
-use Rattle.block_memory.specs.declared.pointer.Ptr.{Ptr}
-use Rattle.block_memory.specs.declared.pointer.Ptr.TheVariants as P
+use Rattle.memory_cells.specs.declared.pointer.Ptr.{Ptr}
+use Rattle.memory_cells.specs.declared.pointer.Ptr.TheVariants as P
 use Rattle.runs.specs.declared.value.Value.{Value}
 use Rattle.runs.specs.declared.value.Value.TheVariants.{Word, Pointer}
 use Rattle.runs.specs.Scalars.{word_of, pointer_of}

@@ -3,10 +3,10 @@ use Rattle.std.specs.Prelude.{ℕ, Bool, true, false, List, [], ◌∷◌, Optio
 use Rattle.lay_base.specs.declared.faults.UndefinedKind.TheVariants as K
 use Rattle.c_typed.specs.declared.program.Local.{Local}
 use Rattle.c_typed.specs.Programs.{ProgramData}
-use Rattle.block_memory.specs.declared.cell.Cell.TheVariants.{Empty}
+use Rattle.memory_cells.specs.declared.cell.Cell.TheVariants.{Empty}
 use Rattle.block_memory.specs.declared.kinds.Access.{Access}
 use Rattle.block_memory.specs.declared.kinds.BlockKind.TheVariants as Kind
-use Rattle.block_memory.specs.declared.pointer.Ptr.TheVariants as P
+use Rattle.memory_cells.specs.declared.pointer.Ptr.TheVariants as P
 use Rattle.block_memory.specs.Tested.{Tested}
 use Rattle.runs.specs.declared.value.Value.{Value}
 use Rattle.runs.specs.Scalars.{load_in, store_in}

@@ -6,7 +6,7 @@ use Rattle.c_types.specs.Types.{CType, void, integer, pointer as pointer_to}
 use Rattle.c_typed.specs.declared.operators.BinaryOp.{BinaryOp}
 use Rattle.c_typed.specs.declared.operators.StepOp.{StepOp}
 use Rattle.c_typed.specs.Conversions.{as_kind, promoted_kind}
-use Rattle.block_memory.specs.declared.pointer.Ptr.TheVariants.{Null}
+use Rattle.memory_cells.specs.declared.pointer.Ptr.TheVariants.{Null}
 use Rattle.block_memory.specs.Blocks.{Memory}
 use Rattle.block_memory.specs.Tested.{Tested, ◌>>=◌}
 use Rattle.runs.specs.declared.value.Value.{Value}

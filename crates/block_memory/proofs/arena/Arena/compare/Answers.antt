@@ -5,7 +5,6 @@ use Rattle.block_memory.proofs.arena.Arena.compare.Goals as goal
 
 pub returns-then-not-is_zero : goal.returns-then-not-is_zero
 returns-then-not-is_zero c =
-    let rows = c.args.self.now in
     let differs : is_zero c.compared-difference.result ≡ false = sym c.is_zero.ensures ∙ c.if-not-is_zero.true in
-    compared_here rows c.args.place c.args.at c.args.other c.args.offset c.args.count c.loop-i.i c.cell-a.result c.cell-b.result c.compared-difference.result
+    compared_here c.args.self.now c.args.at c.args.other c.args.count c.loop-i.i c.cell-a.result c.cell-b.result c.compared-difference.result
     c.requires.within c.requires.other_within (omega arith) c.loop-i.invariant c.cell-a.ensures c.cell-b.ensures c.compared-difference.ensures differs

@@ -1,7 +1,7 @@
 use Rattle.std.proofs.Common.{map, take}
-use Rattle.block_memory.specs.declared.cell.Cell.TheVariants.{Byte}
-use Rattle.block_memory.proofs.Rowing.{Writes}
+use Rattle.memory_cells.specs.declared.cell.Cell.TheVariants.{Byte}
+use Rattle.block_memory.proofs.Writing.{Writes}
 use Rattle.block_memory.proofs.arena.Arena.put_bytes.Given as goal
 
 abbrev pub invariant-loop-i : goal.invariant-loop-i
-invariant-loop-i l = Writes l.initial.self l.self l.place l.at (map Byte (take l.i l.bytes))
+invariant-loop-i l = Writes l.initial.self l.self l.at (map Byte (take l.i l.bytes))

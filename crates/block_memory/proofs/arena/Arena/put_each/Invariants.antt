@@ -1,6 +1,6 @@
 use Rattle.std.proofs.Common.{replicate}
-use Rattle.block_memory.proofs.Rowing.{Writes}
+use Rattle.block_memory.proofs.Writing.{Writes}
 use Rattle.block_memory.proofs.arena.Arena.put_each.Given as goal
 
 abbrev pub invariant-loop-i : goal.invariant-loop-i
-invariant-loop-i l = Writes l.initial.self l.self l.place l.at (replicate l.i l.cell)
+invariant-loop-i l = Writes l.initial.self l.self l.at (replicate l.i l.cell)

@@ -1,7 +1,7 @@
 use Rattle.std.proofs.Common.{◌*◌, replicate}
-use Rattle.block_memory.specs.Words.{cell_of}
-use Rattle.block_memory.proofs.Rowing.{Writes}
+use Rattle.memory_cells.specs.Words.{cell_of}
+use Rattle.block_memory.proofs.Writing.{Writes}
 use Rattle.block_memory.proofs.arena.Arena.put_words.Given as goal
 
 abbrev pub invariant-loop-i : goal.invariant-loop-i
-invariant-loop-i l = Writes l.initial.self l.self l.place l.at (replicate (4 * l.i) (cell_of l.fn.content))
+invariant-loop-i l = Writes l.initial.self l.self l.at (replicate (4 * l.i) (cell_of l.fn.content))

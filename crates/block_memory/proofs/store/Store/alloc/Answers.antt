@@ -1,13 +1,54 @@
-use Rattle.std.proofs.Common.{◌≡◌, ◌<◌, ◌++◌, ◌∷◌, [], length, rules, true, arith, ap, ◌∙◌}
+use Rattle.std.proofs.Common.{◌≡◌, ◌*◌, length, replicate, true, arith, refl, sym, ap, ◌∙◌}
+use Rattle.std.proofs.lemmas.List.{length-map, length-replicate}
+use Rattle.memory_cells.specs.declared.cell.Cell.TheVariants.{Empty}
 use Rattle.block_memory.specs.declared.slot.Slot.{Slot}
-use Rattle.block_memory.proofs.Beginning.{begun_all}
+use Rattle.block_memory.specs.Lifetimes.{with_block}
+use Rattle.block_memory.specs.Slots.{block_in, memory_in}
+use Rattle.block_memory.proofs.Beginning.{begun, begun_refused, sound_begun}
+use Rattle.block_memory.proofs.Overs.{length_over}
+use Rattle.block_memory.proofs.Sound.{sound_changed}
 use Rattle.block_memory.proofs.store.Store.alloc.Goals as goal
 
-pub returns : goal.returns
-returns c =
+pub invariant_of-self : goal.invariant_of-self
+invariant_of-self c =
     let s = c.args.self.now in
-    let n : c.len-number.result ≡ length s.slots.items = search rules in
-    let few : c.len-number.result < 4294967295 = omega arith in
-    let slot : Slot = record { kind = c.args.kind; live = true; word = c.in_ok-word.word } in
-    begun_all s.slots.items c.push.new.self.items s.arena c.add.new.self c.len-number.result c.in_ok-word.word c.args.size c.args.kind
-    s.sound n few c.in_ok-word.ensures (c.in-Ok.ensures.items ∙ ap (λ items. items ++ slot ∷ []) c.reserve.ensures.items)
+    let m = c.make_room.new.self in
+    let room = c.in_ok-make_room.ensures.enough in
+    let size = c.args.size in
+    let n = length-replicate size Empty in
+    let slot : Slot = record { kind = c.args.kind; live = true; start = m.free; size = size } in
+    let number : c.len-number.result ≡ length s.slots = c.len-number.ensures in
+    let long : length c.fill.new.self ≡ length m.arena =
+    ap length c.fill.ensures ∙ length_over m.arena (replicate size Empty) (4 * m.free) (omega (arith, room.0, n, c.words_for-count.ensures.is)) in
+    record {
+      sound = sound_begun m.slots c.push.new.self m.arena c.fill.new.self m.free c.words_for-count.result slot m.sound
+          (omega (arith, number, c.if-number.false, c.make_room.ensures.many)) refl c.words_for-count.ensures.is room.1 (omega (arith, room.0, long)) (omega (arith, long)) c.in-Ok.ensures;
+    }
+
+pub invariant_of-self-in-Err : goal.invariant_of-self-in-Err
+invariant_of-self-in-Err c =
+    let m = c.make_room.new.self in
+    let room = c.in_ok-make_room.ensures.enough in
+    let n = length-replicate c.args.size Empty in
+    record {
+      sound = rw c.in-Err.ensures
+          (sound_changed m.slots m.arena c.fill.new.self m.free (4 * m.free) (replicate c.args.size Empty) m.sound (omega (arith, room.0, n, c.words_for-count.ensures.is)) c.fill.ensures);
+    }
+
+pub returns-in-Ok : goal.returns-in-Ok
+returns-in-Ok c =
+    let s = c.args.self.now in
+    let m = c.make_room.new.self in
+    let room = c.in_ok-make_room.ensures.enough in (
+      c.len-number.ensures ∙ sym (length-map s.slots (block_in s.arena)),
+      begun m.slots c.push.new.self m.arena c.fill.new.self m.free c.args.size c.args.kind m.sound (omega (arith, room.0, c.words_for-count.ensures.is)) c.fill.ensures c.in-Ok.ensures
+          ∙ ap (λ m. with_block m c.args.size c.args.kind) c.make_room.ensures.memory,
+    )
+
+pub returns-in-Err : goal.returns-in-Err
+returns-in-Err c =
+    let m = c.make_room.new.self in
+    let room = c.in_ok-make_room.ensures.enough in
+    ap (λ s. memory_in s c.fill.new.self) c.in-Err.ensures
+    ∙ begun_refused m.slots m.arena c.fill.new.self m.free c.args.size m.sound (omega (arith, room.0, c.words_for-count.ensures.is)) c.fill.ensures
+    ∙ c.make_room.ensures.memory

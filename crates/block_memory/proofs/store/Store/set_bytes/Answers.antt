@@ -1,6 +1,6 @@
-use Rattle.std.proofs.Common.{map, arith}
+use Rattle.std.proofs.Common.{◌+◌, ◌*◌, map, arith, refl}
 use Rattle.std.proofs.lemmas.List.{length-map}
-use Rattle.block_memory.specs.declared.cell.Cell.TheVariants.{Byte}
+use Rattle.memory_cells.specs.declared.cell.Cell.TheVariants.{Byte}
 use Rattle.block_memory.proofs.Beginning.{set_ended, set_live}
 use Rattle.block_memory.proofs.store.Store.set_bytes.Goals as goal
 
@@ -8,10 +8,10 @@ pub returns-then-slot : goal.returns-then-slot
 returns-then-slot c =
     let s = c.args.self.now in
     let many = length-map c.args.bytes.now Byte in
-    set_live s.slots.items s.arena c.put_bytes.new.self c.args.block c.args.at c.slot-slot.result (map Byte c.args.bytes.now)
-    s.sound c.slot-slot.ensures c.if-slot.true (omega (arith, many)) c.put_bytes.ensures
+    set_live s.slots s.arena c.put_bytes.new.self s.free c.args.block c.args.at (4 * c.slot-slot.result.start + c.args.at) c.slot-slot.result (map Byte c.args.bytes.now)
+    s.sound c.slot-slot.ensures.is c.if-slot.true (omega (arith, many)) refl c.put_bytes.ensures
 
 pub returns-else-slot : goal.returns-else-slot
 returns-else-slot c =
     let s = c.args.self.now in
-    set_ended s.slots.items s.arena c.args.block c.args.at c.slot-slot.result (map Byte c.args.bytes.now) c.slot-slot.ensures c.if-slot.false
+    set_ended s.slots s.arena c.args.block c.args.at c.slot-slot.result (map Byte c.args.bytes.now) c.slot-slot.ensures.is c.if-slot.false

@@ -1,15 +1,15 @@
-use Rattle.block_memory.specs.declared.cell.Cell.TheVariants.{Byte}
-use Rattle.std.proofs.Common.{◌∷◌, [], arith}
+use Rattle.std.proofs.Common.{◌+◌, ◌*◌, ◌∷◌, [], arith, refl}
+use Rattle.memory_cells.specs.declared.cell.Cell.TheVariants.{Byte}
 use Rattle.block_memory.proofs.Beginning.{set_ended, set_live}
 use Rattle.block_memory.proofs.store.Store.set_text.Goals as goal
 
 pub returns-then-slot : goal.returns-then-slot
 returns-then-slot c =
     let s = c.args.self.now in
-    set_live s.slots.items s.arena c.put.new.self c.args.block c.args.at c.slot-slot.result (Byte c.args.byte ∷ [])
-    s.sound c.slot-slot.ensures c.if-slot.true (omega arith) c.put.ensures
+    set_live s.slots s.arena c.put.new.self s.free c.args.block c.args.at (4 * c.slot-slot.result.start + c.args.at) c.slot-slot.result (Byte c.args.byte ∷ [])
+    s.sound c.slot-slot.ensures.is c.if-slot.true (omega arith) refl c.put.ensures
 
 pub returns-else-slot : goal.returns-else-slot
 returns-else-slot c =
     let s = c.args.self.now in
-    set_ended s.slots.items s.arena c.args.block c.args.at c.slot-slot.result (Byte c.args.byte ∷ []) c.slot-slot.ensures c.if-slot.false
+    set_ended s.slots s.arena c.args.block c.args.at c.slot-slot.result (Byte c.args.byte ∷ []) c.slot-slot.ensures.is c.if-slot.false

@@ -1,0 +1,7 @@
+use Rattle.block_memory.proofs.Reached.{compare_ok}
+use Rattle.block_memory.proofs.store.Store.compare.Goals as goal
+
+pub returns-in-Ok-place : goal.returns-in-Ok-place
+returns-in-Ok-place c =
+    let s = c.args.self.now in
+    compare_ok s.slots s.arena s.free c.args.p c.args.q c.args.count c.in-Ok.a c.in-Ok-place.b c.compare.result s.sound c.if-count-eq0.false c.in-Ok.ensures c.in-Ok-place.ensures c.compare.ensures

@@ -1,0 +1,39 @@
+use Rattle.std.proofs.Common.{◌≡◌, sym, ap, ◌∙◌}
+use Rattle.block_memory.specs.declared.slot.Slot.{Slot}
+use Rattle.block_memory.specs.Cells.{IsShifted}
+use Rattle.block_memory.specs.Slots.{slot_at, words_for}
+use Rattle.block_memory.proofs.Gathering.{lowered_gathered, lowered_memory, lowered_sound}
+use Rattle.block_memory.proofs.store.Store.lower.Goals as goal
+
+pub invariant_of-self : goal.invariant_of-self
+invariant_of-self c =
+    let s = c.args.self.now in
+    let is = c.slot-slot.ensures.is in
+    let shift : IsShifted s.arena c.shift.new.self (slot_at s.slots c.args.block).start c.args.to (words_for (slot_at s.slots c.args.block).size) =
+    rw (sym is, sym c.words_for-count.ensures.is) c.shift.ensures in
+    let after : Slot = record { kind = c.slot-slot.result.kind; live = c.slot-slot.result.live; start = c.args.to; size = c.slot-slot.result.size } in
+    record {
+      sound = lowered_sound s.slots c.set.new.self s.arena c.shift.new.self s.free c.args.block c.args.to after s.sound c.requires.gathered c.requires.holds c.requires.down shift
+          (ap (λ s. record { kind = s.kind; live = s.live; start = c.args.to; size = s.size }) is) c.set.ensures;
+    }
+
+pub returns-clause-memory : goal.returns-clause-memory
+returns-clause-memory c =
+    let s = c.args.self.now in
+    let is = c.slot-slot.ensures.is in
+    let shift : IsShifted s.arena c.shift.new.self (slot_at s.slots c.args.block).start c.args.to (words_for (slot_at s.slots c.args.block).size) =
+    rw (sym is, sym c.words_for-count.ensures.is) c.shift.ensures in
+    let after : Slot = record { kind = c.slot-slot.result.kind; live = c.slot-slot.result.live; start = c.args.to; size = c.slot-slot.result.size } in
+    lowered_memory s.slots c.set.new.self s.arena c.shift.new.self s.free c.args.block c.args.to after s.sound c.requires.gathered c.requires.holds c.requires.down shift
+    (ap (λ s. record { kind = s.kind; live = s.live; start = c.args.to; size = s.size }) is) c.set.ensures
+
+pub returns-clause-gathered : goal.returns-clause-gathered
+returns-clause-gathered c =
+    let s = c.args.self.now in
+    let is = c.slot-slot.ensures.is in
+    let shift : IsShifted s.arena c.shift.new.self (slot_at s.slots c.args.block).start c.args.to (words_for (slot_at s.slots c.args.block).size) =
+    rw (sym is, sym c.words_for-count.ensures.is) c.shift.ensures in
+    let after : Slot = record { kind = c.slot-slot.result.kind; live = c.slot-slot.result.live; start = c.args.to; size = c.slot-slot.result.size } in
+    let count : c.words_for-count.result ≡ words_for (slot_at s.slots c.args.block).size = c.words_for-count.ensures.is ∙ ap (λ s. words_for s.size) is in
+    rw count (lowered_gathered s.slots c.set.new.self s.arena c.shift.new.self s.free c.args.block c.args.to after s.sound c.requires.gathered c.requires.holds c.requires.down shift
+    (ap (λ s. record { kind = s.kind; live = s.live; start = c.args.to; size = s.size }) is) c.set.ensures)

@@ -1,0 +1,4 @@
+pub mod Contents
+pub mod Steps
+pub mod Tables
+pub mod Views

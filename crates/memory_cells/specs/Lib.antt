@@ -1,0 +1,3 @@
+pub mod Fragments
+pub mod Tables
+pub mod Words

@@ -1,0 +1,41 @@
+-- Words with their tables.
+use Rattle.std.specs.Prelude.{◌≡◌, ℕ, ◌<◌, ◌≤◌, ◌^◌, false, List, length, map, slice_set}
+use Rattle.memory_cells.specs.declared.packed.Packed.{Packed}
+use Rattle.memory_cells.specs.declared.table.Table.{Table}
+use Rattle.memory_cells.specs.declared.word.Four.{Four}
+use Rattle.memory_cells.specs.Words.{IsTable, four_at, four_of, four_of_group, four_of_pointer, is_tabled, mixed_place, nothing, pointer_place, word_at}
+
+-- each place has its value, and there is room for so many
+pub record HasRoom {A : Type 0} (n : ℕ) (table : Table A) : Type 0 where
+  pub even : length table.values.items ≡ length table.owners.items
+  pub values : n ≤ table.values.room
+  pub owners : n ≤ table.owners.room
+
+-- the cells of the words
+abbrev pub fours_in : Packed → List Four
+fours_in p = map (four_of (map four_of_pointer p.pointers.values.items) (map four_of_group p.groups.values.items)) p.words.items
+
+-- what always holds
+pub record IsPacked (p : Packed) : Type 0 where
+  pub few : length p.words.items < 2 ^ 32
+  pub pointers : IsTable pointer_place p.words.items p.pointers.owners.items
+  pub groups : IsTable mixed_place p.words.items p.groups.owners.items
+  pub pointer_room : HasRoom (length p.words.items) p.pointers
+  pub group_room : HasRoom (length p.words.items) p.groups
+
+-- four cells came in place of a word's
+pub record IsPut (i : ℕ) (f : Four) (old new : Packed) : Type 0 where
+  pub packed : IsPacked new
+  pub is : fours_in new ≡ slice_set (fours_in old) i f
+
+-- a word stands in no table any more, and the others are as they were
+pub record IsReleased (i : ℕ) (old new : Packed) : Type 0 where
+  pub packed : IsPacked new
+  pub long : length new.words.items ≡ length old.words.items
+  pub plain : is_tabled (word_at new.words.items i) ≡ false
+  pub same : (f : Four) → slice_set (fours_in new) i f ≡ slice_set (fours_in old) i f
+
+-- a word moved in place of another one, and left nothing
+pub record IsCarried (from to : ℕ) (old new : Packed) : Type 0 where
+  pub packed : IsPacked new
+  pub is : fours_in new ≡ slice_set (slice_set (fours_in old) to (four_at (fours_in old) from)) from nothing
