@@ -9,6 +9,7 @@
 - All these programs are taken by the front end.
 - Random programs of csmith under both, in one file and in several.
 - Streams that fail, input that comes byte by byte, and the limit of turns.
+- Peak memory: of living bytes, of pointers, of blocks that have ended, and of blocks of other sizes in their place.
 
 Words: `--stand-in` asks GCC's optimised code in the place of the interpreter, to try the script itself; `--turns N` is the limit of turns of a run,
 `--time N` the seconds for one, and another number says how many random programs are compared."""
@@ -21,6 +22,7 @@ import subprocess
 import sys
 import tempfile
 
+import benchmark
 import check_front
 import checking
 import csmith_programs
@@ -374,6 +376,115 @@ def check_streams(ask):
         check((got.output, got.status) == (long, 5), f"a copy of 100000 bytes: {got.shown()}")
 
 
+# ---- memory
+
+MEBI = 1 << 20
+# What each living byte, each pointer and each block that was made may take, and what a run may take beside them.
+LIVING_BYTE, POINTER, BLOCK, BESIDE = 4, 40, 8, 8 * MEBI
+
+
+class Load:
+    """A program, with the living bytes, the pointers and the blocks that it has at most."""
+
+    def __init__(self, living, pointers, blocks, body):
+        self.living, self.pointers, self.blocks = living, pointers, blocks
+        self.text = f"void *malloc(unsigned);\nvoid free(void *);\n{body}"
+
+    def most(self):
+        return LIVING_BYTE * self.living + POINTER * self.pointers + BLOCK * self.blocks + BESIDE
+
+
+LOADS = {
+    # Nearly all bytes that may live, and ten million blocks that have ended.
+    "ended.c": Load(33_554_000, 0, 10_000_000, """int main(void)
+{
+    int i;
+    for (i = 0; i < 4; i++)
+        malloc(8388500);
+    for (i = 0; i < 10000000; i++)
+        free(malloc(16));
+    return 0;
+}
+"""),
+    "small.c": Load(4_000_000, 0, 1_000_000, """int main(void)
+{
+    int i;
+    for (i = 0; i < 1000000; i++)
+        *(int *)malloc(4) = i;
+    return 0;
+}
+"""),
+    "list.c": Load(8_000_000, 1_000_000, 1_000_000, """struct Node { int value; struct Node *next; } *first;
+int main(void)
+{
+    int i;
+    for (i = 0; i < 1000000; i++) {
+        struct Node *new = malloc(sizeof(struct Node));
+        new->value = i;
+        new->next = first;
+        first = new;
+    }
+    return 0;
+}
+"""),
+    # The same bytes again and again, in blocks of other sizes.
+    "phases.c": Load(5_000_000, 250_000, 468_750, """char *held[250000];
+int main(void)
+{
+    int size, i;
+    for (size = 16; size <= 128; size *= 2) {
+        for (i = 0; i < 4000000 / size; i++) {
+            held[i] = malloc(size);
+            held[i][0] = i;
+        }
+        for (i = 0; i < 4000000 / size; i++)
+            free(held[i]);
+    }
+    return 0;
+}
+"""),
+    # Two of three blocks end, and those that are left are not moved together before others come.
+    "holes.c": Load(4_000_000, 100_000, 200_000, """char *held[100000];
+int main(void)
+{
+    int i;
+    for (i = 0; i < 100000; i++)
+        held[i] = malloc(36);
+    for (i = 0; i < 100000; i++)
+        if (i % 3 != 0)
+            free(held[i]);
+    for (i = 0; i < 60000; i++)
+        *(int *)malloc(36) = i;
+    return 0;
+}
+"""),
+    "growing.c": Load(65_536, 2, 2049, """int main(void)
+{
+    char *held = malloc(16), *more;
+    int i;
+    held[0] = 1;
+    for (i = 0; i < 2048; i++) {
+        more = malloc(16 + i * 16);
+        more[0] = held[0];
+        free(held);
+        held = more;
+    }
+    return 0;
+}
+"""),
+}
+
+
+def check_memory(ask):
+    if not checking.have(checking.TIME):
+        return
+    with tempfile.TemporaryDirectory() as folder:
+        csmith_programs.write_files(folder, {name: load.text for name, load in LOADS.items()})
+        for name, load in LOADS.items():
+            status, _, peak = benchmark.measured([ask.layc, "interp", os.path.join(folder, name)], folder)
+            check(status == 0 and peak * MEBI <= load.most(), f"{name}: status {status}, {peak:.1f} MiB, at most {load.most() / MEBI:.1f}")
+
+
 # ---- all of it
 
 
@@ -437,6 +548,7 @@ def main():
         check_random(ask, plain, words.count)
     if ask and not words.stand_in:
         check_streams(ask)
+        check_memory(ask)
     print(f"check_interp: {checking.made - checking.failed} comparisons hold, {checking.failed} do not")
     return 1 if checking.failed else 0
 
