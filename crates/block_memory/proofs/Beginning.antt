@@ -108,7 +108,7 @@ sound_begun slots all_slots all new free count slot sound few at_free ec small r
 -- ---- an end
 
 -- a block that holds cells after another one's end held them before
-was_other : (slots : List Slot) (b k : ℕ) (s : Slot) → s.live ≡ false → b < length slots → (slot_at (set slots b s) k).live ≡ true
+pub was_other : (slots : List Slot) (b k : ℕ) (s : Slot) → s.live ≡ false → b < length slots → (slot_at (set slots b s) k).live ≡ true
     → (k ≢ b) × (slot_at (set slots b s) k ≡ slot_at slots k)
 was_other slots b k s dead known lives = ⊎_elim
     (λ e. let wrong : false ≡ true = sym (ap (λ s. s.live) (ap (λ k. slot_at (set slots b s) k) e ∙ get_or-set_same slots b s no_slot known) ∙ dead) ∙ lives in cc)

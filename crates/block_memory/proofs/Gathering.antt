@@ -1,17 +1,18 @@
 -- Live blocks that are moved together.
-use Rattle.std.proofs.Common.{◌≡◌, ◌≢◌, ℕ, ◌+◌, ◌*◌, ◌/◌, ◌%◌, ◌<◌, ◌≤◌, List, length, true, refl, sym, ap, ◌∙◌, arith, inl, inr, ⊎_elim, get_or-set_other, get_or-set_same}
+use Rattle.std.proofs.Common.{◌≡◌, ◌≢◌, ℕ, ◌+◌, ◌*◌, ◌/◌, ◌%◌, ◌<◌, ◌≤◌, List, length, true, refl, sym, ap, ◌∙◌, arith, inl, inr, ⊎_elim, get_or-set_other, get_or-set_same, [], ◌∷◌, ◌++◌, false}
 use Rattle.std.specs.Prelude.{◌⊎◌}
 use Rattle.std.proofs.Math.ListN.{set}
 use Rattle.std.proofs.lemmas.Bool.{cases_eq, cases_lt}
-use Rattle.std.proofs.lemmas.List.{get_or_past, length-set}
+use Rattle.std.proofs.lemmas.List.{get_or_past, length-set, get_or_append_left, get_or_push, length_push}
 use Rattle.memory_cells.specs.declared.cell.Cell.{Cell}
 use Rattle.memory_cells.specs.declared.word.Four.{Four}
 use Rattle.memory_cells.specs.Words.{cell_in, four_at, nothing}
 use Rattle.block_memory.specs.declared.slot.Slot.{Slot}
 use Rattle.block_memory.specs.Blocks.{living}
 use Rattle.block_memory.specs.Cells.{IsShifted, cell_at, flat}
-use Rattle.block_memory.specs.Moves.{IsGathered}
+use Rattle.block_memory.specs.Moves.{IsGathered, IsSettled}
 use Rattle.block_memory.specs.Slots.{IsSound, block_in, end_of, holds, memory_in, no_slot, slot_at, words_for}
+use Rattle.block_memory.proofs.Beginning.{was_other}
 use Rattle.block_memory.proofs.Flat.{length_flat, read}
 use Rattle.block_memory.proofs.RangesHold.{range_same}
 use Rattle.block_memory.proofs.Sound.{holds_of_live, known_of_live, live_of_holds}
@@ -224,3 +225,77 @@ sound_gathered slots all free to sound gathered le = record {
   ends = λ b held. gathered.before b (known_of_live slots b (live_of_holds (slot_at slots b) held)) held;
   apart = sound.apart;
 }
+
+-- ---- blocks that need not be looked at
+
+pub settled_none : (slots : List Slot) (free : ℕ) → slots ≡ [] → IsSettled slots free 0 0
+settled_none slots free e = record { gathered = gathered_none slots; known = omega arith; within = omega arith }
+
+pub settled_more : (slots all : List Slot) (free after block to : ℕ) (slot : Slot) → IsSettled slots free block to → slot.start ≡ free → free ≤ after → all ≡ slots ++ slot ∷ []
+    → IsSettled all after block to
+settled_more slots all free after block to slot settled at_free le ea = rw ea (record {
+  gathered = record {
+    before = λ b lt held. let was : slot_at (slots ++ slot ∷ []) b ≡ slot_at slots b = get_or_append_left slots (slot ∷ []) no_slot b (omega (arith, lt, settled.known)) in
+        let ends = settled.gathered.before b lt (ap holds (sym was) ∙ held) in omega (arith, ends, ap end_of was);
+    behind = λ b more held. behind_of b more held (cases_lt b (length slots)) (cases_eq b (length slots));
+  };
+  known = omega (arith, settled.known, length_push slots slot);
+  within = omega (arith, settled.within, le);
+}) where
+  behind_of : (b : ℕ) → block ≤ b → holds (slot_at (slots ++ slot ∷ []) b) ≡ true → (b < length slots) ⊎ (length slots ≤ b) → (b ≡ length slots) ⊎ (b ≡ length slots → ⊥)
+      → to ≤ (slot_at (slots ++ slot ∷ []) b).start
+  behind_of b more held (inl lt) other =
+      let was : slot_at (slots ++ slot ∷ []) b ≡ slot_at slots b = get_or_append_left slots (slot ∷ []) no_slot b lt in
+      let start = settled.gathered.behind b more (ap holds (sym was) ∙ held) in omega (arith, start, ap (λ s. s.start) was)
+  behind_of b more held (inr le) (inl e) =
+      let is : slot_at (slots ++ slot ∷ []) b ≡ slot = get_or_push slots slot no_slot b (sym e) in omega (arith, settled.within, at_free, ap (λ s. s.start) is)
+  behind_of b more held (inr le) (inr ne) =
+      let past : slot_at (slots ++ slot ∷ []) b ≡ no_slot = get_or_past (slots ++ slot ∷ []) b no_slot (omega (arith, length_push slots slot, le, ne)) in
+      let wrong : false ≡ true = sym (ap holds past) ∙ held in cc
+
+pub settled_ended : (slots other : List Slot) (free after b block to : ℕ) (s : Slot) → IsSettled slots free block to → b < length slots → s.live ≡ false → other ≡ set slots b s → to ≤ after
+    → IsSettled other after block to
+settled_ended slots other free after b block to s settled known dead eo le = rw eo (record {
+  gathered = record {
+    before = λ k lt held. let o = was_other slots b k s dead known (live_of_holds (slot_at (set slots b s) k) held) in
+        let ends = settled.gathered.before k lt (ap holds (sym o.1) ∙ held) in omega (arith, ends, ap end_of o.1);
+    behind = λ k more held. let o = was_other slots b k s dead known (live_of_holds (slot_at (set slots b s) k) held) in
+        let start = settled.gathered.behind k more (ap holds (sym o.1) ∙ held) in omega (arith, start, ap (λ s. s.start) o.1);
+  };
+  known = omega (arith, settled.known, length-set slots b s);
+  within = le;
+})
+
+-- from a block that holds cells on
+pub settled_from : (slots : List Slot) (all : List Cell) (free b start : ℕ) → IsSound slots all free → holds (slot_at slots b) ≡ true → start ≡ (slot_at slots b).start → IsSettled slots free b start
+settled_from slots all free b start sound held es = record {
+  gathered = record {
+    before = λ k lt also. let apart = sound.apart k b lt also held in omega (arith, apart, es);
+    behind = λ k more also. ⊎_elim (λ lt. let apart = sound.apart b k lt held also in omega (arith, apart, es))
+        (λ le. let same : k ≡ b = omega (arith, more, le) in omega (arith, es, ap (λ k. (slot_at slots k).start) same)) (cases_lt b k);
+  };
+  known = let lt = known_of_live slots b (live_of_holds (slot_at slots b) held) in omega (arith, lt);
+  within = let ends = sound.ends b held in omega (arith, ends, es);
+}
+
+-- blocks behind them are moved down
+pub settled_lowered : (slots other : List Slot) (free b block to low : ℕ) (s : Slot) → IsSettled slots free block to → block ≤ b → b < length slots → to ≤ low → s.start ≡ low → other ≡ set slots b s
+    → IsSettled other free block to
+settled_lowered slots other free b block to low s settled le known down es eo = rw eo (record {
+  gathered = record {
+    before = λ k lt held. let was : slot_at (set slots b s) k ≡ slot_at slots k = get_or-set_other slots b k s no_slot (omega (arith, le, lt)) in
+        let ends = settled.gathered.before k lt (ap holds (sym was) ∙ held) in omega (arith, ends, ap end_of was);
+    behind = λ k more held. behind_of k more held (cases_eq k b);
+  };
+  known = omega (arith, settled.known, length-set slots b s);
+  within = settled.within;
+}) where
+  behind_of : (k : ℕ) → block ≤ k → holds (slot_at (set slots b s) k) ≡ true → (k ≡ b) ⊎ (k ≡ b → ⊥) → to ≤ (slot_at (set slots b s) k).start
+  behind_of k more held (inl e) =
+      let is : slot_at (set slots b s) k ≡ s = ap (λ k. slot_at (set slots b s) k) e ∙ get_or-set_same slots b s no_slot known in omega (arith, down, es, ap (λ s. s.start) is)
+  behind_of k more held (inr ne) =
+      let was : slot_at (set slots b s) k ≡ slot_at slots k = get_or-set_other slots b k s no_slot ne in
+      let start = settled.gathered.behind k more (ap holds (sym was) ∙ held) in omega (arith, start, ap (λ s. s.start) was)
+
+pub settled_all : (slots : List Slot) (n to : ℕ) → IsGathered slots n to → n ≡ length slots → IsSettled slots to n to
+settled_all slots n to gathered e = record { gathered = gathered; known = omega (arith, e); within = omega arith }

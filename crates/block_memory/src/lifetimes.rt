@@ -60,6 +60,7 @@ impl Store {
         if slot.live {
             let start = slot.start as usize;
             let count = words_for(slot.size);
+            self.unsettle(block, slot);
             self.arena.fill(4 * start, Content::Empty, slot.size);
             self.slots.set(
                 block,

@@ -15,11 +15,16 @@ impl Store {
         requires holds { holds (slot_at self.old.slots block) ≡ true }
         requires gathered { IsGathered self.old.slots block to }
         requires down { to < (slot_at self.old.slots block).start }
+        requires settled { self.old.settled ≤ block }
+        requires behind { self.old.settled_words ≤ to }
         ensures memory { memory_of self.new ≡ memory_of self.old }
         ensures gathered { IsGathered self.new.slots (block + 1) result }
         ensures many { length self.new.slots ≡ length self.old.slots }
         ensures free { self.new.free ≡ self.old.free }
         ensures within { result ≤ self.new.free }
+        ensures further { to ≤ result }
+        ensures settled { self.new.settled ≡ self.old.settled }
+        ensures words { self.new.settled_words ≡ self.old.settled_words }
     {
         let slot = self.slots.slot(block);
         let count = words_for(slot.size);
@@ -40,11 +45,16 @@ impl Store {
     fn lower_one(&mut self, block: u64, to: usize) -> usize
         requires gathered { IsGathered self.old.slots block to }
         requires within { to ≤ self.old.free }
+        requires settled { self.old.settled ≤ block }
+        requires behind { self.old.settled_words ≤ to }
         ensures memory { memory_of self.new ≡ memory_of self.old }
         ensures gathered { IsGathered self.new.slots (block + 1) result }
         ensures many { length self.new.slots ≡ length self.old.slots }
         ensures free { self.new.free ≡ self.old.free }
         ensures within { result ≤ self.new.free }
+        ensures further { to ≤ result }
+        ensures settled { self.new.settled ≡ self.old.settled }
+        ensures words { self.new.settled_words ≡ self.old.settled_words }
     {
         let slot = self.slots.slot(block);
         if !holds(slot) {
@@ -56,22 +66,39 @@ impl Store {
         }
     }
 
-    /// Moves the cells of all live blocks together.
+    /// Moves the cells of all live blocks together. Those before the first one that has ended since the last time lie so.
     fn gather(&mut self)
         ensures memory { memory_of self.new ≡ memory_of self.old }
         ensures many { length self.new.slots ≡ length self.old.slots }
     {
-        let mut to = 0;
-        for block in 0..self.slots.len() {
-            to = self.lower_one(block as u64, to);
+        let many = self.slots.len() as u64;
+        let mut to = self.settled_words;
+        for block in self.settled..many {
+            to = self.lower_one(block, to);
         }
         self.free = to;
         self.ended = 0;
+        self.settled = many;
+        self.settled_words = to;
     }
 
     /// Whether so much lies unused between live blocks that moving them together takes no more time than was taken to make what has ended.
     fn is_sparse(&self) -> bool {
-        self.ended >= self.free / 2 && self.ended >= self.slots.len() / 16
+        let blocks = self.slots.len() - self.settled as usize;
+        self.ended >= self.free / 2 && self.ended >= blocks / 16
+    }
+
+    /// A block is to end: from it on blocks are looked at when they are moved together.
+    pub(crate) fn unsettle(&mut self, block: u64, slot: Slot)
+        requires { slot ≡ slot_at self.old.slots block }
+        ensures memory { memory_of self.new ≡ memory_of self.old }
+        ensures slot { slot ≡ slot_at self.new.slots block }
+        ensures settled { holds slot ≡ true → self.new.settled ≤ block }
+    {
+        if holds(slot) && block < self.settled {
+            self.settled = block;
+            self.settled_words = slot.start as usize;
+        }
     }
 
     /// So many words behind all live blocks, which stay where they are.

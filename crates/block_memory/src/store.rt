@@ -1,5 +1,6 @@
 //! The store: all blocks of a run.
 
+ghost use Rattle.block_memory.specs.Moves.{IsSettled};
 ghost use Rattle.block_memory.specs.Slots.{IsSound};
 
 use crate::arena::Arena;
@@ -19,7 +20,12 @@ pub struct Store {
     pub(crate) free: usize,
     // How many words lie between those of live blocks, or fewer.
     pub(crate) ended: usize,
+    // No block before this one has ended since blocks were moved together.
+    pub(crate) settled: u64,
+    // The first word behind those of the blocks before it.
+    pub(crate) settled_words: usize,
     ghost sound: { IsSound slots arena free },
+    ghost settles: { IsSettled slots free settled settled_words },
 }
 
 impl Store {
@@ -30,7 +36,7 @@ impl Store {
     ghost use Rattle.block_memory.specs.View.{memory_of};
 
     /// The memory of no block, which takes no memory.
-    #[tactic(auto, using(crate::proofs::Sound::sound_none))]
+    #[tactic(auto, using(crate::proofs::Sound::sound_none, crate::proofs::Gathering::settled_none))]
     pub fn new(alloc: Global) -> Store
         ensures { memory_of result ≡ [] }
     {
@@ -39,6 +45,8 @@ impl Store {
             arena: Arena::new(alloc),
             free: 0,
             ended: 0,
+            settled: 0,
+            settled_words: 0,
         }
     }
 

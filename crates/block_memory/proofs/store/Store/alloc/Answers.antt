@@ -5,6 +5,7 @@ use Rattle.block_memory.specs.declared.slot.Slot.{Slot}
 use Rattle.block_memory.specs.Lifetimes.{with_block}
 use Rattle.block_memory.specs.Slots.{block_in, memory_in}
 use Rattle.block_memory.proofs.Beginning.{begun, begun_refused, sound_begun}
+use Rattle.block_memory.proofs.Gathering.{settled_more}
 use Rattle.block_memory.proofs.Overs.{length_over}
 use Rattle.block_memory.proofs.Sound.{sound_changed}
 use Rattle.block_memory.proofs.store.Store.alloc.Goals as goal
@@ -23,6 +24,7 @@ invariant_of-self c =
     record {
       sound = sound_begun m.slots c.push.new.self m.arena c.fill.new.self m.free c.words_for-count.result slot m.sound
           (omega (arith, number, c.if-number.false, c.make_room.ensures.many)) refl c.words_for-count.ensures.is room.1 (omega (arith, room.0, long)) (omega (arith, long)) c.in-Ok.ensures;
+      settles = settled_more m.slots c.push.new.self m.free (m.free + c.words_for-count.result) m.settled m.settled_words slot m.settles refl (omega arith) c.in-Ok.ensures;
     }
 
 pub invariant_of-self-in-Err : goal.invariant_of-self-in-Err
@@ -33,6 +35,7 @@ invariant_of-self-in-Err c =
     record {
       sound = rw c.in-Err.ensures
           (sound_changed m.slots m.arena c.fill.new.self m.free (4 * m.free) (replicate c.args.size Empty) m.sound (omega (arith, room.0, n, c.words_for-count.ensures.is)) c.fill.ensures);
+      settles = rw c.in-Err.ensures m.settles;
     }
 
 pub returns-in-Ok : goal.returns-in-Ok

@@ -9,4 +9,6 @@ invariant-loop-block l = record {
   gathered : IsGathered l.self.slots l.block l.to;
   many : length l.self.slots ≡ length l.initial.self.slots;
   within : l.to ≤ l.self.free;
+  settled : l.self.settled ≤ l.block;
+  words : l.self.settled_words ≤ l.to;
 }

@@ -1,8 +1,9 @@
-use Rattle.std.proofs.Common.{◌≡◌, sym, ap, ◌∙◌}
+use Rattle.std.proofs.Common.{refl, ◌≡◌, sym, ap, ◌∙◌}
 use Rattle.block_memory.specs.declared.slot.Slot.{Slot}
 use Rattle.block_memory.specs.Cells.{IsShifted}
 use Rattle.block_memory.specs.Slots.{slot_at, words_for}
-use Rattle.block_memory.proofs.Gathering.{lowered_gathered, lowered_memory, lowered_sound}
+use Rattle.block_memory.proofs.Gathering.{lowered_gathered, lowered_memory, lowered_sound, settled_lowered}
+use Rattle.block_memory.proofs.Sound.{known_of_live, live_of_holds}
 use Rattle.block_memory.proofs.store.Store.lower.Goals as goal
 
 pub invariant_of-self : goal.invariant_of-self
@@ -15,6 +16,8 @@ invariant_of-self c =
     record {
       sound = lowered_sound s.slots c.set.new.self s.arena c.shift.new.self s.free c.args.block c.args.to after s.sound c.requires.gathered c.requires.holds c.requires.down shift
           (ap (λ s. record { kind = s.kind; live = s.live; start = c.args.to; size = s.size }) is) c.set.ensures;
+      settles = settled_lowered s.slots c.set.new.self s.free c.args.block s.settled s.settled_words c.args.to after s.settles c.requires.settled
+          (known_of_live s.slots c.args.block (live_of_holds (slot_at s.slots c.args.block) c.requires.holds)) c.requires.behind refl c.set.ensures;
     }
 
 pub returns-clause-memory : goal.returns-clause-memory
