@@ -1,6 +1,7 @@
 pub mod Beginning
 pub mod CellsHold
 pub mod Copying
+pub mod CopyingWords
 pub mod Differences
 pub mod Flat
 pub mod Gathering

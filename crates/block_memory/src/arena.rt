@@ -263,11 +263,11 @@ impl Arena {
         }
     }
 
-    /// Copies cells from the first one on, to before where they are.
-    fn copy_down(&mut self, to: usize, from: usize, count: u32)
+    /// Copies cells one by one, from the first one on, to before where they are.
+    fn copy_cells_down(&mut self, to: usize, from: usize, count: u32)
         requires to { to + count ≤ length self.old }
         requires from { from + count ≤ length self.old }
-        requires small { from < 2 ^ 34 }
+        requires small { from < 2 ^ 35 }
         requires down { to ≤ from }
         ensures { self.new ≡ over self.old to (range self.old from count) }
     {
@@ -277,11 +277,11 @@ impl Arena {
         }
     }
 
-    /// Copies cells from the last one back, to behind where they are.
-    fn copy_up(&mut self, to: usize, from: usize, count: u32)
+    /// Copies cells one by one, from the last one back, to behind where they are.
+    fn copy_cells_up(&mut self, to: usize, from: usize, count: u32)
         requires to { to + count ≤ length self.old }
         requires from { from + count ≤ length self.old }
-        requires small { to < 2 ^ 34 }
+        requires small { to < 2 ^ 35 }
         requires up { from ≤ to }
         ensures { self.new ≡ over self.old to (range self.old from count) }
     {
@@ -290,6 +290,68 @@ impl Arena {
             i -= 1;
             let cell = self.cell(from + i);
             self.put(to + i, cell);
+        }
+    }
+
+    /// Copies so many words, from the first one on, to before where they are.
+    fn copy_words_down(&mut self, to: usize, from: usize, count: u32)
+        requires to { 4 * (to + count) ≤ length self.old }
+        requires from { 4 * (from + count) ≤ length self.old }
+        requires small { from < 2 ^ 33 }
+        requires down { to ≤ from }
+        ensures { self.new ≡ over self.old (4 * to) (range self.old (4 * from) (4 * count)) }
+    {
+        for i in 0..count as usize {
+            self.words.copy(to + i, from + i);
+        }
+    }
+
+    /// Copies so many words, from the last one back, to behind where they are.
+    fn copy_words_up(&mut self, to: usize, from: usize, count: u32)
+        requires to { 4 * (to + count) ≤ length self.old }
+        requires from { 4 * (from + count) ≤ length self.old }
+        requires small { to < 2 ^ 33 }
+        requires up { from ≤ to }
+        ensures { self.new ≡ over self.old (4 * to) (range self.old (4 * from) (4 * count)) }
+    {
+        let mut i = count as usize;
+        while i > 0 {
+            i -= 1;
+            self.words.copy(to + i, from + i);
+        }
+    }
+
+    /// Copies cells to before where they are: word by word, where both are at multiples of four.
+    fn copy_down(&mut self, to: usize, from: usize, count: u32)
+        requires to { to + count ≤ length self.old }
+        requires from { from + count ≤ length self.old }
+        requires small { from < 2 ^ 34 }
+        requires down { to ≤ from }
+        ensures { self.new ≡ over self.old to (range self.old from count) }
+    {
+        if to % 4 == 0 && from % 4 == 0 {
+            let front = count / 4 * 4;
+            self.copy_words_down(to / 4, from / 4, count / 4);
+            self.copy_cells_down(to + front as usize, from + front as usize, count - front);
+        } else {
+            self.copy_cells_down(to, from, count);
+        }
+    }
+
+    /// Copies cells to behind where they are: word by word, where both are at multiples of four.
+    fn copy_up(&mut self, to: usize, from: usize, count: u32)
+        requires to { to + count ≤ length self.old }
+        requires from { from + count ≤ length self.old }
+        requires small { to < 2 ^ 34 }
+        requires up { from ≤ to }
+        ensures { self.new ≡ over self.old to (range self.old from count) }
+    {
+        if to % 4 == 0 && from % 4 == 0 {
+            let front = count / 4 * 4;
+            self.copy_cells_up(to + front as usize, from + front as usize, count - front);
+            self.copy_words_up(to / 4, from / 4, count / 4);
+        } else {
+            self.copy_cells_up(to, from, count);
         }
     }
 

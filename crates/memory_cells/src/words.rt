@@ -162,6 +162,25 @@ impl Words {
         }
     }
 
+    /// Puts the cells of one group in place of those of another.
+    pub fn copy(&mut self, to: usize, from: usize)
+        requires to { to < length self.old }
+        requires from { from < length self.old }
+        ensures { self.new ≡ slice_set self.old to (four_at self.old from) }
+    {
+        match self.packed.words.get(from) {
+            Word::Pointer(e) => {
+                let pointer = self.packed.pointers.values.get(e as usize);
+                self.packed.put_pointer(to, pointer);
+            }
+            Word::Mixed(_) => {
+                let four = self.packed.four(from);
+                self.packed.put_group(to, four);
+            }
+            word => self.put_whole(to, word),
+        }
+    }
+
     /// Moves a group in place of another one before it, and leaves nothing.
     pub fn shift(&mut self, from: usize, to: usize)
         requires known { from < length self.old }

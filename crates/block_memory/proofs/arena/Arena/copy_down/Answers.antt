@@ -1,25 +1,24 @@
-use Rattle.std.proofs.Common.{◌≡◌, ◌+◌, ◌<◌, take, arith, refl, ap, ◌∙◌}
+use Rattle.std.proofs.Common.{◌≡◌, ◌+◌, ◌-◌, ◌*◌, ◌/◌, take, arith, ap, sym, ◌∙◌}
 use Rattle.block_memory.specs.Cells.{over, range}
-use Rattle.block_memory.proofs.Copying.{Copies, down_all, down_long, down_more}
-use Rattle.block_memory.proofs.Overs.{over_none}
+use Rattle.block_memory.proofs.Copying.{Copies, down_all}
+use Rattle.block_memory.proofs.CopyingWords.{down_chunk}
+use Rattle.block_memory.proofs.RangesHold.{range_in}
 use Rattle.block_memory.proofs.arena.Arena.copy_down.Goals as goal
 
-pub loop-i-init : goal.loop-i-init
-loop-i-init c = record { is = over_none c.args.self.now c.args.to; long = refl }
-
-pub loop-i-preserved : goal.loop-i-preserved
-loop-i-preserved c =
+pub returns-then-from-eq0 : goal.returns-then-from-eq0
+returns-then-from-eq0 c =
     let all = c.args.self.now in
+    let mid = c.copy_words_down.new.self in
+    let f = c.args.count / 4 * 4 in
     let known : Copies all c.args.to c.args.from c.args.count = record { to_within = c.requires.to; from_within = c.requires.from } in
-    let less : c.loop-i.i < c.args.count = omega arith in
-    let is = down_more all c.loop-i.self c.put.new.self c.args.to c.args.from c.args.count c.loop-i.i c.cell-cell.result
-    known less c.requires.down c.loop-i.invariant.is c.cell-cell.ensures c.put.ensures in
-    record { is = is; long = down_long all c.put.new.self c.args.to c.args.from c.args.count (c.loop-i.i + 1) known (omega arith) is }
-
-pub returns : goal.returns
-returns c =
-    let all = c.args.self.now in
-    let known : Copies all c.args.to c.args.from c.args.count = record { to_within = c.requires.to; from_within = c.requires.from } in
-    let last : c.loop-i.i ≡ c.args.count = omega arith in
-    down_all all c.loop-i.self c.args.to c.args.from c.args.count known
-    (c.loop-i.invariant.is ∙ ap (λ n. over all c.args.to (take n (range all c.args.from c.args.count))) last)
+    let a : 4 * (c.args.to / 4) ≡ c.args.to = omega (arith, c.if-to-eq0.true) in
+    let b : 4 * (c.args.from / 4) ≡ c.args.from + 0 = omega (arith, c.if-from-eq0.true) in
+    let n : 4 * (c.args.count / 4) ≡ f = omega arith in
+    let front : mid ≡ over all c.args.to (take f (range all c.args.from c.args.count)) =
+    c.copy_words_down.ensures ∙ ap (λ m. over all m (range all (4 * (c.args.from / 4)) (4 * (c.args.count / 4)))) a
+    ∙ ap (λ m. over all c.args.to (range all m (4 * (c.args.count / 4)))) b ∙ ap (λ m. over all c.args.to (range all (c.args.from + 0) m)) n
+    ∙ ap (λ r. over all c.args.to r) (sym (range_in all c.args.from c.args.count 0 f c.requires.from (omega arith))) in
+    let whole_is : f + (c.args.count - f) ≡ c.args.count = omega arith in
+    down_all all c.copy_cells_down.new.self c.args.to c.args.from c.args.count known
+    (down_chunk all mid c.copy_cells_down.new.self c.args.to c.args.from c.args.count f (c.args.count - f) known (omega arith) c.requires.down front c.copy_cells_down.ensures
+    ∙ ap (λ m. over all c.args.to (take m (range all c.args.from c.args.count))) whole_is)

@@ -1,4 +1,4 @@
-use Rattle.std.proofs.Common.{◌≡◌, ◌*◌, length, replicate, true, arith, refl, sym, ap, ◌∙◌}
+use Rattle.std.proofs.Common.{◌+◌, ◌≡◌, ◌*◌, length, replicate, true, arith, refl, sym, ap, ◌∙◌}
 use Rattle.std.proofs.lemmas.List.{length-map, length-replicate}
 use Rattle.memory_cells.specs.declared.cell.Cell.TheVariants.{Empty}
 use Rattle.block_memory.specs.declared.slot.Slot.{Slot}

@@ -25,7 +25,8 @@ invariant_of-self c =
     record {
       sound = rw is (sound_given s.slots c.set.new.self s.arena c.fill.new.self s.free c.args.block after s.sound (known_of_live s.slots c.args.block lives) refl c.set.ensures long held last);
       settles = settled_ended s.slots c.set.new.self s.free c.slot-slot.result.start c.args.block s.settled s.settled_words after s.settles (known_of_live s.slots c.args.block lives) refl c.set.ensures
-          (let behind = s.settles.gathered.behind c.args.block (c.unsettle.ensures.settled (ap holds is ∙ held)) held in omega (arith, behind, ap (λ s. s.start) is)) }
+          (let behind = s.settles.gathered.behind c.args.block (c.unsettle.ensures.settled (ap holds is ∙ held)) held in omega (arith, behind, ap (λ s. s.start) is));
+    }
 
 pub invariant_of-self-else-slot-gt0 : goal.invariant_of-self-else-slot-gt0
 invariant_of-self-else-slot-gt0 c =
@@ -36,8 +37,10 @@ invariant_of-self-else-slot-gt0 c =
     let there = s.sound.there c.args.block lives in
     let long : length c.fill.new.self ≡ length s.arena = ap length c.fill.ensures
     ∙ length_over s.arena (replicate c.slot-slot.result.size Empty) (4 * c.slot-slot.result.start) (omega (arith, there, ap (λ s. s.start) is, ap (λ s. s.size) is, length-replicate c.slot-slot.result.size Empty)) in
-    record { sound = sound_ended s.slots c.set.new.self s.arena c.fill.new.self s.free c.args.block after s.sound (known_of_live s.slots c.args.block lives) refl c.set.ensures long;
-      settles = settled_ended s.slots c.set.new.self s.free s.free c.args.block s.settled s.settled_words after s.settles (known_of_live s.slots c.args.block lives) refl c.set.ensures s.settles.within }
+    record {
+      sound = sound_ended s.slots c.set.new.self s.arena c.fill.new.self s.free c.args.block after s.sound (known_of_live s.slots c.args.block lives) refl c.set.ensures long;
+      settles = settled_ended s.slots c.set.new.self s.free s.free c.args.block s.settled s.settled_words after s.settles (known_of_live s.slots c.args.block lives) refl c.set.ensures s.settles.within;
+    }
 
 pub returns-then-start-count : goal.returns-then-start-count
 returns-then-start-count c =

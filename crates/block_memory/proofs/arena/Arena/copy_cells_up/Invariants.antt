@@ -1,6 +1,6 @@
 use Rattle.std.proofs.Common.{◌≡◌, ◌+◌, ◌≤◌, drop, length}
 use Rattle.block_memory.specs.Cells.{over, range}
-use Rattle.block_memory.proofs.arena.Arena.copy_up.Given as goal
+use Rattle.block_memory.proofs.arena.Arena.copy_cells_up.Given as goal
 
 abbrev pub invariant-loop-i : goal.invariant-loop-i
 invariant-loop-i l = record {

@@ -1,6 +1,6 @@
 use Rattle.std.proofs.Common.{◌≡◌, length, take}
 use Rattle.block_memory.specs.Cells.{over, range}
-use Rattle.block_memory.proofs.arena.Arena.copy_down.Given as goal
+use Rattle.block_memory.proofs.arena.Arena.copy_cells_down.Given as goal
 
 abbrev pub invariant-loop-i : goal.invariant-loop-i
 invariant-loop-i l = record {

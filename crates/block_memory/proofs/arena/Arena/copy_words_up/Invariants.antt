@@ -1,0 +1,13 @@
+use Rattle.std.proofs.Common.{◌≡◌, ◌+◌, ◌*◌, ◌≤◌, drop, length}
+use Rattle.block_memory.specs.Cells.{flat, over, range}
+use Rattle.block_memory.proofs.arena.Arena.copy_words_up.Given as goal
+
+abbrev pub invariant-loop-i : goal.invariant-loop-i
+invariant-loop-i l = record {
+  most : l.i ≤ l.count;
+  is : flat l.self-inside.words ≡ over (flat l.initial.self-inside.words) (4 * l.to + 4 * l.i) (drop (4 * l.i) (range (flat l.initial.self-inside.words) (4 * l.from) (4 * l.count)));
+  long : length l.self-inside.words ≡ length l.initial.self-inside.words;
+}
+
+abbrev pub decreases-loop-i : goal.decreases-loop-i
+decreases-loop-i l = l.i
