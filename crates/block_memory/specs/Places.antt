@@ -14,9 +14,9 @@ use Rattle.block_memory.specs.Ranges.{do_overlap}
 use Rattle.block_memory.specs.Tested.{Tested, ◌>>=◌}
 
 abbrev pub PlaceGives : List Slot → List Cell → Ptr → (count width : ℕ) → (stores : Bool) → Result Place UndefinedKind → Type 0
-PlaceGives slots cells p count width stores result = MatchResult result
-    (λ found. (place (memory_in slots cells) p count width stores ≡ Ok (found.block, found.at)) × IsPlace slots found.block found.cell found.at count)
-    (λ kind. place (memory_in slots cells) p count width stores ≡ Err kind)
+PlaceGives slots all p count width stores result = MatchResult result
+    (λ found. (place (memory_in slots all) p count width stores ≡ Ok (found.block, found.at)) × IsPlace slots found.block found.cell found.at count)
+    (λ kind. place (memory_in slots all) p count width stores ≡ Err kind)
 
 abbrev pub IsPlaceOf : List Slot → Place → (count : ℕ) → Type 0
 IsPlaceOf slots found count = IsPlace slots found.block found.cell found.at count
@@ -28,5 +28,5 @@ copied m a b count overlap = do
   Ok (with_cells m a.block a.at (cells m b.block b.at count))
 
 abbrev pub CopyGives : List Slot → List Cell → (a b : Place) → (count : ℕ) → (overlap : Bool) → Result (Unit {0}) UndefinedKind → List Slot → List Cell → Type 0
-CopyGives slots cells a b count overlap result other new =
-    Does result (memory_in slots cells) (memory_in other new) (copied (memory_in slots cells) a b count overlap)
+CopyGives slots all a b count overlap result other new =
+    Does result (memory_in slots all) (memory_in other new) (copied (memory_in slots all) a b count overlap)

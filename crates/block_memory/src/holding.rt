@@ -1,13 +1,12 @@
 //! Pointers in cells.
 
-ghost use Rattle.std.specs.Prelude.{◌≡◌, ◌==◌, ◌&&◌, [], ◌∷◌, Bool, false};
-ghost use Rattle.std.specs.List.{list_any};
+ghost use Rattle.std.specs.Prelude.{◌≡◌, [], ◌∷◌};
 ghost use Rattle.block_memory.specs.Digits.{as_pointer};
-ghost use Rattle.block_memory.specs.Held.{held, is_empty, pointer_in, are_fragments};
+ghost use Rattle.block_memory.specs.Held.{held, is_empty, pointer_in};
 
 use crate::numbers::in_four;
 use lay_base::UndefinedKind;
-use memory_cells::{Cell, Ptr, is_fragment};
+use memory_cells::{Cell, Four, Ptr, are_fragments};
 
 fn is_empty(cell: Cell) -> bool
     ensures { result ≡ is_empty cell }
@@ -17,18 +16,6 @@ fn is_empty(cell: Cell) -> bool
         Cell::Byte(_) => false,
         Cell::Fragment(_, _, _) => false,
     }
-}
-
-/// Whether four cells are the fragments of a pointer, in their order.
-#[tactic(auto, using(crate::proofs::CellsHold::are_fragments_of))]
-pub(crate) fn are_fragments(a: Cell, b: Cell, c: Cell, d: Cell, type_number: u32, p: Ptr) -> bool
-    ensures { result ≡ are_fragments type_number p 0 (a ∷ b ∷ c ∷ d ∷ []) }
-{
-    let first = is_fragment(a, type_number, p, 0);
-    let second = is_fragment(b, type_number, p, 1);
-    let third = is_fragment(c, type_number, p, 2);
-    let fourth = is_fragment(d, type_number, p, 3);
-    first && (second && (third && fourth))
 }
 
 /// A number as a pointer: only zero is one.
@@ -43,7 +30,7 @@ fn as_pointer(number: Result<u32, UndefinedKind>) -> Result<Ptr, UndefinedKind>
 }
 
 /// The pointer of a type that four cells hold.
-#[tactic(auto, using(crate::proofs::CellsHold::pointer_from_empty, crate::proofs::CellsHold::pointer_from_byte))]
+#[tactic(auto, using(crate::proofs::CellsHold::pointer_from_empty, crate::proofs::CellsHold::pointer_from_byte, crate::proofs::CellsHold::are_fragments_of))]
 pub(crate) fn pointer_of(
     a: Cell,
     b: Cell,
@@ -60,7 +47,7 @@ pub(crate) fn pointer_of(
             if is_empty(b) || is_empty(c) || is_empty(d) {
                 return Err(UndefinedKind::Empty);
             }
-            if are_fragments(a, b, c, d, type_number, p) {
+            if are_fragments(Four { a, b, c, d }, type_number, p) {
                 Ok(p)
             } else {
                 Err(UndefinedKind::Pointer)

@@ -18,9 +18,9 @@ pub struct Store {
     pub(crate) arena: Arena,
     // The first word behind those of all live blocks.
     pub(crate) free: usize,
-    // How many words lie between those of live blocks, or fewer.
+    // How many of the words before it are of blocks that have ended.
     pub(crate) ended: usize,
-    // No block before this one has ended since blocks were moved together.
+    // Of the blocks before this one, none that has cells has ended since blocks were moved together.
     pub(crate) settled: u64,
     // The first word behind those of the blocks before it.
     pub(crate) settled_words: usize,

@@ -102,6 +102,25 @@ fn replaced(alloc: Global) -> Result<(Held, Option<u8>), NoMemory> {
     Ok((held(&words, 3), byte_at(&words, 1, 2)))
 }
 
+/// What groups hold whose cells come one by one, and one with a pointer to a block whose number takes more than 32 bits.
+fn one_by_one(alloc: Global) -> Result<[Held; 3], NoMemory> {
+    let mut words = Words::new(alloc);
+    words.grow(3)?;
+    if words.len() == 3 {
+        words.put_cell(0, 3, Cell::Byte(0));
+        words.put_cell(0, 2, Cell::Byte(1));
+        words.put_cell(0, 0, Cell::Byte(2));
+        words.put_cell(0, 1, Cell::Byte(3));
+        let p = Ptr::Function(5);
+        words.put_cell(1, 0, Cell::Fragment(8, p, 0));
+        words.put_cell(1, 1, Cell::Fragment(8, p, 1));
+        words.put_cell(1, 2, Cell::Fragment(8, p, 2));
+        words.put_cell(1, 3, Cell::Fragment(8, p, 3));
+        words.put_pointer(2, 9, Ptr::Block(4_294_967_301, 4));
+    }
+    Ok([held(&words, 0), held(&words, 1), held(&words, 2)])
+}
+
 #[test]
 fn a_list_goes_over_its_pages(rt: HostRuntime) -> Result<(), Fail> {
     assert!(rt;
@@ -139,5 +158,16 @@ fn groups_are_replaced(rt: HostRuntime) -> Result<(), Fail> {
     let (third, byte) = replaced(rt.alloc())?;
     assert!(rt; third == (Some(5), None, None), "the number");
     assert!(rt; byte == Some(4), "a byte behind a fragment");
+    Ok(())
+}
+
+#[test]
+fn cells_that_come_one_by_one_are_a_whole(rt: HostRuntime) -> Result<(), Fail> {
+    let wanted = [
+        (Some(66_306), None, None),
+        (None, None, Some(Ptr::Function(5))),
+        (None, Some(Ptr::Block(4_294_967_301, 4)), None),
+    ];
+    assert!(rt; one_by_one(rt.alloc())? == wanted, "a number and two pointers");
     Ok(())
 }

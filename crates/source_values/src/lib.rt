@@ -1,6 +1,6 @@
 //! What operators make of values (C99 6.5), with the tests of pointers on a store.
 //!
-//! It stands on `block_memory` and `runs`, on `c_typed` for arithmetic, on `source_types` for what a type is, and on `c_meaning`, whose
+//! It stands on `memory_cells`, `block_memory` and `runs`, on `c_typed` for arithmetic, on `source_types` for what a type is, and on `c_meaning`, whose
 //! definitions each of its calls computes.
 #![tactic(auto)]
 
