@@ -1,6 +1,6 @@
 -- Words with their tables, after each step.
 use Rattle.std.proofs.Common.{◌≡◌, ℕ, ◌+◌, ◌-◌, ◌<◌, ◌≤◌, ◌^◌, List, [], ◌∷◌, ◌++◌, length, map, take, get_or, replicate, true, false, Option, subst, refl, sym, ap, ◌∙◌, arith, ⊎_elim, get_or-set_other}
-use Rattle.std.specs.Prelude.{MatchOption, MatchResult, Result, Ok, Err, Some, None}
+use Rattle.std.specs.Prelude.{MatchResult, Result, Ok, Err, Some, None}
 use Rattle.paged_list.specs.Pages.{Paged}
 use Rattle.std.specs.List.{swap_remove}
 use Rattle.std.proofs.Math.ListN.{set}
@@ -15,7 +15,7 @@ use Rattle.memory_cells.specs.declared.word.Pointer.{Pointer}
 use Rattle.memory_cells.specs.declared.word.Word.{Word}
 use Rattle.memory_cells.specs.declared.word.Word.TheVariants as W
 use Rattle.memory_cells.specs.Tables.{HasRoom, IsCarried, IsPacked, IsPut, IsReleased, fours_in}
-use Rattle.memory_cells.specs.Words.{IsTable, empty_word, four_at, four_of, four_of_group, four_of_pointer, four_pointer, is_tabled, mixed_place, nothing, owner_at, pointer_place, whole, word_at}
+use Rattle.memory_cells.specs.Words.{IsTable, PointerIn, empty_word, four_at, four_of, four_of_group, four_of_pointer, is_tabled, mixed_place, nothing, owner_at, pointer_place, whole, word_at}
 use Rattle.memory_cells.proofs.Tables.{grown, left, moved, off_set, owners_within, pushed, removed, room_for, set_other, set_same}
 use Rattle.memory_cells.proofs.Views.{IsKind, at_map, fours_grown, fours_overwritten, fours_pushed, fours_removed, set_twice}
 
@@ -127,6 +127,10 @@ four_at_word p i = at_map (four_of (map four_of_pointer p.pointers.values.items)
 pub four_at_whole : (p : Packed) (i : ℕ) → is_tabled (word_at p.words.items i) ≡ false → four_at (fours_in p) i ≡ whole (word_at p.words.items i)
 four_at_whole p i plain = four_at_word p i ∙ four_whole (map four_of_pointer p.pointers.values.items) (map four_of_group p.groups.values.items) (word_at p.words.items i) plain
 
+-- the same, by the word and the list of groups
+pub read_whole : (p : Packed) (fours : List Four) (i : ℕ) (w : Word) → fours_in p ≡ fours → word_at p.words.items i ≡ w → is_tabled w ≡ false → four_at fours i ≡ whole w
+read_whole p fours i w view is plain = ap (λ fours. four_at fours i) (sym view) ∙ four_at_whole p i (ap is_tabled is ∙ plain) ∙ ap whole is
+
 pub pointer_within : (p : Packed) (i e : ℕ) → IsPacked p → word_at p.words.items i ≡ W.Pointer e → e < length p.pointers.values.items
 pointer_within p i e packed is = let mine = packed.pointers.owned i e (ap pointer_place is) in omega (arith, mine.0, packed.pointer_room.even)
 
@@ -143,9 +147,8 @@ four_at_group p i e v packed is there =
     four_at_word p i ∙ ap (four_of (map four_of_pointer p.pointers.values.items) (map four_of_group p.groups.values.items)) is
     ∙ get_or-map four_of_group p.groups.values.items e v nothing (group_within p i e packed is) ∙ ap four_of_group (sym there)
 
-pub gives_pointer : (f : Four) (v : Pointer) (type : ℕ) (r : Option Ptr) → f ≡ four_of_pointer v → MatchOption r (Unit {0}) (λ p. four_of_pointer v ≡ four_pointer type p)
-    → MatchOption r (Unit {0}) (λ p. f ≡ four_pointer type p)
-gives_pointer f v type r is gives = subst (λ (f : Four). MatchOption r (Unit {0}) (λ p. f ≡ four_pointer type p)) (sym is) gives
+pub same_pointer_in : (f g : Four) (type : ℕ) (r : Option Ptr) → f ≡ g → PointerIn type g r → PointerIn type f r
+same_pointer_in f g type r is gives = subst (λ (f : Four). PointerIn type f r) (sym is) gives
 
 -- ---- room
 

@@ -1,5 +1,5 @@
 -- Cells in words of four.
-use Rattle.std.specs.Prelude.{◌≡◌, ℕ, zero, suc, ◌+◌, ◌/◌, ◌%◌, ◌<◌, ◌^◌, Bool, true, false, List, [], ◌∷◌, length, slice_index_or, Option, Some, None, MatchOption, ◌*◌}
+use Rattle.std.specs.Prelude.{◌≡◌, ◌≢◌, ℕ, zero, suc, ◌+◌, ◌/◌, ◌%◌, ◌<◌, ◌^◌, Bool, true, false, List, [], ◌∷◌, length, slice_index_or, Option, Some, None, MatchOption, ◌*◌}
 use Rattle.std.specs.List.{sum_by}
 use Rattle.memory_cells.specs.declared.cell.Cell.{Cell}
 use Rattle.memory_cells.specs.declared.cell.Cell.TheVariants.{Empty, Byte, Fragment}
@@ -125,6 +125,14 @@ pub record IsTable (place : Word → Option ℕ) (words : List Word) (owners : L
   pub owned : (i e : ℕ) → place (word_at words i) ≡ Some e → (e < length owners) × (owner_at owners e ≡ i)
 
 -- ---- what the code finds
+
+-- the number that four cells hold as their bytes, if there is one
+abbrev pub NumberIn : Four → Option ℕ → Type 0
+NumberIn four result = MatchOption result ((v : ℕ) → four ≢ four_bytes v) (λ v. four ≡ four_bytes v)
+
+-- the pointer of a type whose fragments they are, if there is one
+abbrev pub PointerIn : (type : ℕ) → Four → Option Ptr → Type 0
+PointerIn type four result = MatchOption result ((p : Ptr) → four ≢ four_pointer type p) (λ p. four ≡ four_pointer type p)
 
 -- 1 where a content is none
 abbrev pub gap_of : Content → ℕ

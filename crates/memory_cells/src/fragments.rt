@@ -2,6 +2,7 @@
 
 ghost use Rattle.std.specs.Prelude.{◌≡◌, ◌==◌, ◌&&◌, Bool, false};
 ghost use Rattle.memory_cells.specs.Fragments.{are_four, is_fragment, is_same};
+ghost use Rattle.memory_cells.specs.Words.{PointerIn};
 
 use crate::cell::Cell;
 use crate::pointer::Ptr;
@@ -50,4 +51,22 @@ pub fn are_fragments(four: Four, type_number: u32, p: Ptr) -> bool
     let third = is_fragment(four.c, type_number, p, 2);
     let fourth = is_fragment(four.d, type_number, p, 3);
     first && (second && (third && fourth))
+}
+
+/// The pointer of a type whose fragments four cells are, if there is one.
+#[tactic(auto, using(crate::proofs::Contents::fragments_are))]
+pub(crate) fn pointer_in_four(four: Four, type_number: u32) -> Option<Ptr>
+    ensures { PointerIn type_number four result }
+{
+    match four.a {
+        Cell::Empty => None,
+        Cell::Byte(_) => None,
+        Cell::Fragment(_, p, _) => {
+            if are_fragments(four, type_number, p) {
+                Some(p)
+            } else {
+                None
+            }
+        }
+    }
 }

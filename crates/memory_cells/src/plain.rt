@@ -1,9 +1,9 @@
 //! Words that stand in no table, for cells, and cells of words.
 
-ghost use Rattle.std.specs.Prelude.{◌≡◌, ◌<◌, ◌≤◌, false, MatchOption};
+ghost use Rattle.std.specs.Prelude.{◌≡◌, ◌≢◌, ◌<◌, ◌≤◌, ℕ, false, MatchOption};
 ghost use Rattle.memory_cells.specs.declared.cell.Cell.TheVariants.{Byte};
 ghost use Rattle.memory_cells.specs.declared.word.Word.TheVariants as W;
-ghost use Rattle.memory_cells.specs.Words.{ContentGives, PutGives, WordGives, byte_of, cell_by, cell_in, cell_of, four_pointer, gap_of, is_tabled, whole, with_cell_in};
+ghost use Rattle.memory_cells.specs.Words.{ContentGives, NumberIn, PutGives, WordGives, byte_of, cell_by, cell_in, cell_of, four_bytes, four_pointer, gap_of, is_tabled, whole, with_cell_in};
 
 use crate::cell::Cell;
 use crate::fragments::are_fragments;
@@ -91,12 +91,41 @@ pub fn whole(word: Word) -> Four
     }
 }
 
+/// The number of four bytes.
+fn number_of(a: u8, b: u8, c: u8, d: u8) -> u32
+    ensures { four_bytes result ≡ record { a = Byte a; b = Byte b; c = Byte c; d = Byte d } }
+{
+    u32::from(a) + 256 * (u32::from(b) + 256 * (u32::from(c) + 256 * u32::from(d)))
+}
+
+/// The byte that a cell holds, if it holds one.
+fn byte_in_cell(cell: Cell) -> Option<u8>
+    ensures { MatchOption result ((x : ℕ) → cell ≢ Byte x) (λ x. cell ≡ Byte x) }
+{
+    match cell {
+        Cell::Empty => None,
+        Cell::Byte(x) => Some(x),
+        Cell::Fragment(_, _, _) => None,
+    }
+}
+
+/// The number that four cells hold as their bytes, if there is one.
+pub(crate) fn number_in(four: Four) -> Option<u32>
+    ensures { NumberIn four result }
+{
+    let a = byte_in_cell(four.a)?;
+    let b = byte_in_cell(four.b)?;
+    let c = byte_in_cell(four.c)?;
+    let d = byte_in_cell(four.d)?;
+    Some(number_of(a, b, c, d))
+}
+
 /// A word of four bytes.
 fn number_word(a: u8, b: u8, c: u8, d: u8) -> Word
     ensures plain { is_tabled result ≡ false }
     ensures is { whole result ≡ record { a = Byte a; b = Byte b; c = Byte c; d = Byte d } }
 {
-    Word::Number(u32::from(a) + 256 * (u32::from(b) + 256 * (u32::from(c) + 256 * u32::from(d))))
+    Word::Number(number_of(a, b, c, d))
 }
 
 fn gap_of(content: Content) -> u8

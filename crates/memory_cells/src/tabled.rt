@@ -1,7 +1,7 @@
 //! What stands in the tables: whole pointers, and any four cells.
 
 ghost use Rattle.std.specs.Prelude.{◌≡◌, MatchOption};
-ghost use Rattle.memory_cells.specs.Words.{cell_of_part, four_of_group, four_of_pointer, four_pointer};
+ghost use Rattle.memory_cells.specs.Words.{PointerIn, cell_of_part, four_of_group, four_of_pointer, four_pointer};
 
 use crate::cell::Cell;
 use crate::plain::four_pointer;
@@ -25,15 +25,26 @@ pub(crate) fn pointer_of(type_number: u32, p: Ptr) -> Option<Pointer>
     }
 }
 
-/// A pointer of a type that stands in the table of pointers.
+/// A pointer that stands in the table of pointers, if it is of a type.
 #[inline(always)]
 pub(crate) fn pointer_in(pointer: Pointer, type_number: u32) -> Option<Ptr>
-    ensures { MatchOption result (Unit {0}) (λ p. four_of_pointer pointer ≡ four_pointer type_number p) }
+    ensures { PointerIn type_number (four_of_pointer pointer) result }
 {
     match pointer {
-        Pointer::Block(t, b, at) if t == type_number => Some(Ptr::Block(u64::from(b), at)),
-        Pointer::Function(t, f) if t == type_number => Some(Ptr::Function(f)),
-        _ => None,
+        Pointer::Block(t, b, at) => {
+            if t == type_number {
+                Some(Ptr::Block(u64::from(b), at))
+            } else {
+                None
+            }
+        }
+        Pointer::Function(t, f) => {
+            if t == type_number {
+                Some(Ptr::Function(f))
+            } else {
+                None
+            }
+        }
     }
 }
 

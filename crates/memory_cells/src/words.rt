@@ -1,12 +1,14 @@
 //! Groups of four cells.
 
-ghost use Rattle.std.specs.Prelude.{◌≡◌, ◌<◌, ◌+◌, ◌++◌, ◌^◌, [], false, length, replicate, slice_set, MatchOption, MatchResult};
-ghost use Rattle.memory_cells.specs.Words.{cell_in, four_at, four_bytes, four_pointer, is_tabled, nothing, whole, with_cell_in};
+ghost use Rattle.std.specs.Prelude.{◌≡◌, ◌<◌, ◌+◌, ◌++◌, ◌^◌, [], false, length, replicate, slice_set, MatchResult};
+ghost use Rattle.memory_cells.specs.Words.{NumberIn, PointerIn, cell_in, four_at, four_pointer, is_tabled, nothing, whole, with_cell_in};
 
 use crate::cell::Cell;
+use crate::fragments::pointer_in_four;
 use crate::packed::{EMPTY, Packed, is_tabled};
 use crate::plain::{
-    cell_in, cell_in_whole, four_pointer, fragments_in, plain_word, with_cell, with_cell_in,
+    cell_in, cell_in_whole, four_pointer, fragments_in, number_in, plain_word, with_cell,
+    with_cell_in,
 };
 use crate::pointer::Ptr;
 use crate::tabled::{pointer_in, pointer_of};
@@ -78,30 +80,31 @@ impl Words {
         }
     }
 
-    /// The number that a group holds as its four bytes.
+    /// The number that a group holds as its four bytes, if it holds one.
     #[inline(always)]
     pub fn number(&self, i: usize) -> Option<u32>
         requires { i < length self.now }
-        ensures { MatchOption result (Unit {0}) (λ v. four_at self.now i ≡ four_bytes v) }
+        ensures { NumberIn (four_at self.now i) result }
     {
         match self.packed.words.get(i) {
             Word::Number(v) => Some(v),
-            _ => None,
+            _ => number_in(self.packed.four(i)),
         }
     }
 
-    /// The whole pointer of a type that a group holds.
+    /// The whole pointer of a type that a group holds, if it holds one.
     #[inline(always)]
     pub fn pointer(&self, i: usize, type_number: u32) -> Option<Ptr>
         requires { i < length self.now }
-        ensures { MatchOption result (Unit {0}) (λ p. four_at self.now i ≡ four_pointer type_number p) }
+        ensures { PointerIn type_number (four_at self.now i) result }
     {
         match self.packed.words.get(i) {
             Word::Null(t) if t == type_number => Some(Ptr::Null),
             Word::Pointer(e) => {
                 pointer_in(self.packed.pointers.values.get(e as usize), type_number)
             }
-            _ => None,
+            Word::Number(_) => None,
+            _ => pointer_in_four(self.packed.four(i), type_number),
         }
     }
 
