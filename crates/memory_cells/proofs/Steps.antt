@@ -15,7 +15,7 @@ use Rattle.memory_cells.specs.declared.word.Pointer.{Pointer}
 use Rattle.memory_cells.specs.declared.word.Word.{Word}
 use Rattle.memory_cells.specs.declared.word.Word.TheVariants as W
 use Rattle.memory_cells.specs.Tables.{HasRoom, IsCarried, IsPacked, IsPut, IsReleased, fours_in}
-use Rattle.memory_cells.specs.Words.{IsTable, PointerIn, empty_word, four_at, four_of, four_of_group, four_of_pointer, is_tabled, mixed_place, nothing, owner_at, pointer_place, whole, word_at}
+use Rattle.memory_cells.specs.Words.{IsTable, PointerIn, empty_word, four_at, four_of, four_of_group, four_of_pointer, is_tabled, group_place, nothing, owner_at, pointer_place, whole, word_at}
 use Rattle.memory_cells.proofs.Tables.{grown, left, moved, off_set, owners_within, pushed, removed, room_for, set_other, set_same}
 use Rattle.memory_cells.proofs.Views.{IsKind, at_map, fours_grown, fours_overwritten, fours_pushed, fours_removed, set_twice}
 
@@ -23,14 +23,14 @@ use Rattle.memory_cells.proofs.Views.{IsKind, at_map, fours_grown, fours_overwri
 
 pointer_hit : (t g : List Four) (w : Word) (e : ℕ) → pointer_place w ≡ Some e → four_of t g w ≡ four_at t e
 pointer_hit t g (W.Pointer d) e is = let same : Some d ≡ Some e = is in ap (four_at t) (cc)
-pointer_hit t g (W.Mixed d) e is = let wrong : None ≡ Some e = is in cc
+pointer_hit t g (W.Group d) e is = let wrong : None ≡ Some e = is in cc
 pointer_hit t g (W.Number v) e is = let wrong : None ≡ Some e = is in cc
 pointer_hit t g (W.Bytes gaps a b c d) e is = let wrong : None ≡ Some e = is in cc
 pointer_hit t g (W.Null type) e is = let wrong : None ≡ Some e = is in cc
 
 pointer_miss : (t u g : List Four) (w : Word) → pointer_place w ≡ None → four_of u g w ≡ four_of t g w
 pointer_miss t u g (W.Pointer d) none = let wrong : Some d ≡ None = none in cc
-pointer_miss t u g (W.Mixed d) none = refl
+pointer_miss t u g (W.Group d) none = refl
 pointer_miss t u g (W.Number v) none = refl
 pointer_miss t u g (W.Bytes gaps a b c d) none = refl
 pointer_miss t u g (W.Null type) none = refl
@@ -44,79 +44,79 @@ pointer_kind g = record {
   empty = λ t. refl;
 }
 
-mixed_hit : (p t : List Four) (w : Word) (e : ℕ) → mixed_place w ≡ Some e → four_of p t w ≡ four_at t e
-mixed_hit p t (W.Mixed d) e is = let same : Some d ≡ Some e = is in ap (four_at t) (cc)
-mixed_hit p t (W.Pointer d) e is = let wrong : None ≡ Some e = is in cc
-mixed_hit p t (W.Number v) e is = let wrong : None ≡ Some e = is in cc
-mixed_hit p t (W.Bytes gaps a b c d) e is = let wrong : None ≡ Some e = is in cc
-mixed_hit p t (W.Null type) e is = let wrong : None ≡ Some e = is in cc
+group_hit : (p t : List Four) (w : Word) (e : ℕ) → group_place w ≡ Some e → four_of p t w ≡ four_at t e
+group_hit p t (W.Group d) e is = let same : Some d ≡ Some e = is in ap (four_at t) (cc)
+group_hit p t (W.Pointer d) e is = let wrong : None ≡ Some e = is in cc
+group_hit p t (W.Number v) e is = let wrong : None ≡ Some e = is in cc
+group_hit p t (W.Bytes gaps a b c d) e is = let wrong : None ≡ Some e = is in cc
+group_hit p t (W.Null type) e is = let wrong : None ≡ Some e = is in cc
 
-mixed_miss : (p t u : List Four) (w : Word) → mixed_place w ≡ None → four_of p u w ≡ four_of p t w
-mixed_miss p t u (W.Mixed d) none = let wrong : Some d ≡ None = none in cc
-mixed_miss p t u (W.Pointer d) none = refl
-mixed_miss p t u (W.Number v) none = refl
-mixed_miss p t u (W.Bytes gaps a b c d) none = refl
-mixed_miss p t u (W.Null type) none = refl
+group_miss : (p t u : List Four) (w : Word) → group_place w ≡ None → four_of p u w ≡ four_of p t w
+group_miss p t u (W.Group d) none = let wrong : Some d ≡ None = none in cc
+group_miss p t u (W.Pointer d) none = refl
+group_miss p t u (W.Number v) none = refl
+group_miss p t u (W.Bytes gaps a b c d) none = refl
+group_miss p t u (W.Null type) none = refl
 
-pub mixed_kind : (p : List Four) → IsKind mixed_place W.Mixed (λ t. four_of p t)
-mixed_kind p = record {
+pub group_kind : (p : List Four) → IsKind group_place W.Group (λ t. four_of p t)
+group_kind p = record {
   made = λ e. refl;
   off = refl;
-  hit = λ t w e is. mixed_hit p t w e is;
-  miss = λ t u w none. mixed_miss p t u w none;
+  hit = λ t w e is. group_hit p t w e is;
+  miss = λ t u w none. group_miss p t u w none;
   empty = λ t. refl;
 }
 
 -- a word stands in one table at most
-pointer_alone : (w : Word) (e : ℕ) → pointer_place w ≡ Some e → mixed_place w ≡ None
+pointer_alone : (w : Word) (e : ℕ) → pointer_place w ≡ Some e → group_place w ≡ None
 pointer_alone (W.Pointer d) e is = refl
-pointer_alone (W.Mixed d) e is = let wrong : None ≡ Some e = is in cc
+pointer_alone (W.Group d) e is = let wrong : None ≡ Some e = is in cc
 pointer_alone (W.Number v) e is = refl
 pointer_alone (W.Bytes gaps a b c d) e is = refl
 pointer_alone (W.Null type) e is = refl
 
-mixed_alone : (w : Word) (e : ℕ) → mixed_place w ≡ Some e → pointer_place w ≡ None
-mixed_alone (W.Mixed d) e is = refl
-mixed_alone (W.Pointer d) e is = let wrong : None ≡ Some e = is in cc
-mixed_alone (W.Number v) e is = refl
-mixed_alone (W.Bytes gaps a b c d) e is = refl
-mixed_alone (W.Null type) e is = refl
+group_alone : (w : Word) (e : ℕ) → group_place w ≡ Some e → pointer_place w ≡ None
+group_alone (W.Group d) e is = refl
+group_alone (W.Pointer d) e is = let wrong : None ≡ Some e = is in cc
+group_alone (W.Number v) e is = refl
+group_alone (W.Bytes gaps a b c d) e is = refl
+group_alone (W.Null type) e is = refl
 
 no_pointer : (w : Word) → is_tabled w ≡ false → pointer_place w ≡ None
 no_pointer (W.Pointer d) plain = let wrong : true ≡ false = plain in cc
-no_pointer (W.Mixed d) plain = refl
+no_pointer (W.Group d) plain = refl
 no_pointer (W.Number v) plain = refl
 no_pointer (W.Bytes gaps a b c d) plain = refl
 no_pointer (W.Null type) plain = refl
 
-no_mixed : (w : Word) → is_tabled w ≡ false → mixed_place w ≡ None
-no_mixed (W.Mixed d) plain = let wrong : true ≡ false = plain in cc
-no_mixed (W.Pointer d) plain = refl
-no_mixed (W.Number v) plain = refl
-no_mixed (W.Bytes gaps a b c d) plain = refl
-no_mixed (W.Null type) plain = refl
+no_group : (w : Word) → is_tabled w ≡ false → group_place w ≡ None
+no_group (W.Group d) plain = let wrong : true ≡ false = plain in cc
+no_group (W.Pointer d) plain = refl
+no_group (W.Number v) plain = refl
+no_group (W.Bytes gaps a b c d) plain = refl
+no_group (W.Null type) plain = refl
 
 pub four_whole : (p g : List Four) (w : Word) → is_tabled w ≡ false → four_of p g w ≡ whole w
 four_whole p g (W.Number v) plain = refl
 four_whole p g (W.Bytes gaps a b c d) plain = refl
 four_whole p g (W.Null type) plain = refl
 four_whole p g (W.Pointer e) plain = let wrong : true ≡ false = plain in cc
-four_whole p g (W.Mixed e) plain = let wrong : true ≡ false = plain in cc
+four_whole p g (W.Group e) plain = let wrong : true ≡ false = plain in cc
 
-pub not_tabled : (w : Word) → ((e : ℕ) → w ≡ W.Pointer e → ⊥) → ((e : ℕ) → w ≡ W.Mixed e → ⊥) → is_tabled w ≡ false
-not_tabled (W.Number v) pointer mixed = refl
-not_tabled (W.Bytes gaps a b c d) pointer mixed = refl
-not_tabled (W.Null type) pointer mixed = refl
-not_tabled (W.Pointer e) pointer mixed = absurd (pointer e refl)
-not_tabled (W.Mixed e) pointer mixed = absurd (mixed e refl)
+pub not_tabled : (w : Word) → ((e : ℕ) → w ≡ W.Pointer e → ⊥) → ((e : ℕ) → w ≡ W.Group e → ⊥) → is_tabled w ≡ false
+not_tabled (W.Number v) pointer group = refl
+not_tabled (W.Bytes gaps a b c d) pointer group = refl
+not_tabled (W.Null type) pointer group = refl
+not_tabled (W.Pointer e) pointer group = absurd (pointer e refl)
+not_tabled (W.Group e) pointer group = absurd (group e refl)
 
 -- ---- words that are read
 
 pub pointer_owned : (p : Packed) (i e : ℕ) → IsPacked p → word_at p.words.items i ≡ W.Pointer e → e < length p.pointers.owners.items
 pointer_owned p i e packed is = (packed.pointers.owned i e (ap pointer_place is)).0
 
-pub group_owned : (p : Packed) (i e : ℕ) → IsPacked p → word_at p.words.items i ≡ W.Mixed e → e < length p.groups.owners.items
-group_owned p i e packed is = (packed.groups.owned i e (ap mixed_place is)).0
+pub group_owned : (p : Packed) (i e : ℕ) → IsPacked p → word_at p.words.items i ≡ W.Group e → e < length p.groups.owners.items
+group_owned p i e packed is = (packed.groups.owned i e (ap group_place is)).0
 
 pub long : (p : Packed) → length (fours_in p) ≡ length p.words.items
 long p = length-map p.words.items (four_of (map four_of_pointer p.pointers.values.items) (map four_of_group p.groups.values.items))
@@ -134,15 +134,15 @@ read_whole p fours i w view is plain = ap (λ fours. four_at fours i) (sym view)
 pub pointer_within : (p : Packed) (i e : ℕ) → IsPacked p → word_at p.words.items i ≡ W.Pointer e → e < length p.pointers.values.items
 pointer_within p i e packed is = let mine = packed.pointers.owned i e (ap pointer_place is) in omega (arith, mine.0, packed.pointer_room.even)
 
-pub group_within : (p : Packed) (i e : ℕ) → IsPacked p → word_at p.words.items i ≡ W.Mixed e → e < length p.groups.values.items
-group_within p i e packed is = let mine = packed.groups.owned i e (ap mixed_place is) in omega (arith, mine.0, packed.group_room.even)
+pub group_within : (p : Packed) (i e : ℕ) → IsPacked p → word_at p.words.items i ≡ W.Group e → e < length p.groups.values.items
+group_within p i e packed is = let mine = packed.groups.owned i e (ap group_place is) in omega (arith, mine.0, packed.group_room.even)
 
 pub four_at_pointer : (p : Packed) (i e : ℕ) (v : Pointer) → IsPacked p → word_at p.words.items i ≡ W.Pointer e → v ≡ get_or p.pointers.values.items e v → four_at (fours_in p) i ≡ four_of_pointer v
 four_at_pointer p i e v packed is there =
     four_at_word p i ∙ ap (four_of (map four_of_pointer p.pointers.values.items) (map four_of_group p.groups.values.items)) is
     ∙ get_or-map four_of_pointer p.pointers.values.items e v nothing (pointer_within p i e packed is) ∙ ap four_of_pointer (sym there)
 
-pub four_at_group : (p : Packed) (i e : ℕ) (v : Group) → IsPacked p → word_at p.words.items i ≡ W.Mixed e → v ≡ get_or p.groups.values.items e v → four_at (fours_in p) i ≡ four_of_group v
+pub four_at_group : (p : Packed) (i e : ℕ) (v : Group) → IsPacked p → word_at p.words.items i ≡ W.Group e → v ≡ get_or p.groups.values.items e v → four_at (fours_in p) i ≡ four_of_group v
 four_at_group p i e v packed is there =
     four_at_word p i ∙ ap (four_of (map four_of_pointer p.pointers.values.items) (map four_of_group p.groups.values.items)) is
     ∙ get_or-map four_of_group p.groups.values.items e v nothing (group_within p i e packed is) ∙ ap four_of_group (sym there)
@@ -172,7 +172,7 @@ pub pointers_within : (p : Packed) (many : ℕ) → IsPacked p → length p.word
 pointers_within p many packed within = let few = owners_within pointer_place p.words.items p.pointers.owners.items packed.pointers in omega (arith, few)
 
 pub groups_within : (p : Packed) (many : ℕ) → IsPacked p → length p.words.items ≤ many → length p.groups.owners.items ≤ many
-groups_within p many packed within = let few = owners_within mixed_place p.words.items p.groups.owners.items packed.groups in omega (arith, few)
+groups_within p many packed within = let few = owners_within group_place p.words.items p.groups.owners.items packed.groups in omega (arith, few)
 
 -- ---- a word that stands in no table in place of another one
 
@@ -186,7 +186,7 @@ put_plain old new i w packed known was plain ew ep eg =
       packed = record {
         few = omega (arith, packed.few, long);
         pointers = rw (ew, ep) (off_set pointer_place words old.pointers.owners.items i w packed.pointers known (no_pointer (word_at words i) was) (no_pointer w plain));
-        groups = rw (ew, eg) (off_set mixed_place words old.groups.owners.items i w packed.groups known (no_mixed (word_at words i) was) (no_mixed w plain));
+        groups = rw (ew, eg) (off_set group_place words old.groups.owners.items i w packed.groups known (no_group (word_at words i) was) (no_group w plain));
         pointer_room = rw (long, ep) packed.pointer_room;
         group_room = rw (long, eg) packed.group_room;
       };
@@ -199,7 +199,7 @@ pub pointer_space : (p : Packed) (i : ℕ) → IsPacked p → i < length p.words
 pointer_space p i packed known plain = room_for pointer_place p.words.items p.pointers.owners.items i packed.pointers known (no_pointer (word_at p.words.items i) plain)
 
 pub group_space : (p : Packed) (i : ℕ) → IsPacked p → i < length p.words.items → is_tabled (word_at p.words.items i) ≡ false → length p.groups.owners.items < length p.words.items
-group_space p i packed known plain = room_for mixed_place p.words.items p.groups.owners.items i packed.groups known (no_mixed (word_at p.words.items i) plain)
+group_space p i packed known plain = room_for group_place p.words.items p.groups.owners.items i packed.groups known (no_group (word_at p.words.items i) plain)
 
 pub put_new_pointer : (old new : Packed) (i e : ℕ) (v : Pointer) → IsPacked old → i < length old.words.items → is_tabled (word_at old.words.items i) ≡ false → e ≡ length old.pointers.owners.items
     → new.words.items ≡ set old.words.items i (W.Pointer e) → new.pointers.values.items ≡ old.pointers.values.items ++ v ∷ []
@@ -217,7 +217,7 @@ put_new_pointer old new i e v packed known was last ew ev eo keeps eg =
       packed = record {
         few = omega (arith, packed.few, long);
         pointers = rw (set_is, eo) (pushed pointer_place words owners i (W.Pointer (length owners)) packed.pointers known (no_pointer (word_at words i) was) refl);
-        groups = rw (set_is, eg) (off_set mixed_place words old.groups.owners.items i (W.Pointer (length owners)) packed.groups known (no_mixed (word_at words i) was) refl);
+        groups = rw (set_is, eg) (off_set group_place words old.groups.owners.items i (W.Pointer (length owners)) packed.groups known (no_group (word_at words i) was) refl);
         pointer_room = rw long (keeps (length words) packed.pointer_room);
         group_room = rw (long, eg) packed.group_room;
       };
@@ -226,26 +226,26 @@ put_new_pointer old new i e v packed known was last ew ev eo keeps eg =
     }
 
 pub put_new_group : (old new : Packed) (i e : ℕ) (v : Group) → IsPacked old → i < length old.words.items → is_tabled (word_at old.words.items i) ≡ false → e ≡ length old.groups.owners.items
-    → new.words.items ≡ set old.words.items i (W.Mixed e) → new.groups.values.items ≡ old.groups.values.items ++ v ∷ []
+    → new.words.items ≡ set old.words.items i (W.Group e) → new.groups.values.items ≡ old.groups.values.items ++ v ∷ []
     → new.groups.owners.items ≡ old.groups.owners.items ++ i ∷ [] → ((n : ℕ) → HasRoom n old.groups → HasRoom n new.groups) → new.pointers ≡ old.pointers
     → IsPut i (four_of_group v) old new
 put_new_group old new i e v packed known was last ew ev eo keeps ep =
     let words = old.words.items in
     let owners = old.groups.owners.items in
     let values = old.groups.values.items in
-    let set_is : new.words.items ≡ set words i (W.Mixed (length owners)) = ew ∙ ap (λ e. set words i (W.Mixed e)) last in
-    let long : length new.words.items ≡ length words = ap length ew ∙ length-set words i (W.Mixed e) in
+    let set_is : new.words.items ≡ set words i (W.Group (length owners)) = ew ∙ ap (λ e. set words i (W.Group e)) last in
+    let long : length new.words.items ≡ length words = ap length ew ∙ length-set words i (W.Group e) in
     let t_is : map four_of_group new.groups.values.items ≡ map four_of_group values ++ four_of_group v ∷ [] = ap (map four_of_group) ev ∙ map_push four_of_group values v in
     let even : length (map four_of_group values) ≡ length owners = length-map values four_of_group ∙ packed.group_room.even in
     record {
       packed = record {
         few = omega (arith, packed.few, long);
-        pointers = rw (set_is, ep) (off_set pointer_place words old.pointers.owners.items i (W.Mixed (length owners)) packed.pointers known (no_pointer (word_at words i) was) refl);
-        groups = rw (set_is, eo) (pushed mixed_place words owners i (W.Mixed (length owners)) packed.groups known (no_mixed (word_at words i) was) refl);
+        pointers = rw (set_is, ep) (off_set pointer_place words old.pointers.owners.items i (W.Group (length owners)) packed.pointers known (no_pointer (word_at words i) was) refl);
+        groups = rw (set_is, eo) (pushed group_place words owners i (W.Group (length owners)) packed.groups known (no_group (word_at words i) was) refl);
         pointer_room = rw (long, ep) packed.pointer_room;
         group_room = rw long (keeps (length words) packed.group_room);
       };
-      is = rw (set_is, t_is, ep) (fours_pushed mixed_place W.Mixed (λ t. four_of (map four_of_pointer old.pointers.values.items) t) (mixed_kind (map four_of_pointer old.pointers.values.items))
+      is = rw (set_is, t_is, ep) (fours_pushed group_place W.Group (λ t. four_of (map four_of_pointer old.pointers.values.items) t) (group_kind (map four_of_pointer old.pointers.values.items))
           words owners (map four_of_group values) i (four_of_group v) packed.groups even known);
     }
 
@@ -272,7 +272,7 @@ put_over_pointer old new i e v packed known is ew ev eo keeps eg =
           words owners (map four_of_pointer values) i e (four_of_pointer v) packed.pointers even known (ap pointer_place is));
     }
 
-pub put_over_group : (old new : Packed) (i e : ℕ) (v : Group) → IsPacked old → i < length old.words.items → word_at old.words.items i ≡ W.Mixed e
+pub put_over_group : (old new : Packed) (i e : ℕ) (v : Group) → IsPacked old → i < length old.words.items → word_at old.words.items i ≡ W.Group e
     → new.words ≡ old.words → new.groups.values.items ≡ set old.groups.values.items e v → new.groups.owners.items ≡ old.groups.owners.items
     → ((n : ℕ) → HasRoom n old.groups → HasRoom n new.groups) → new.pointers ≡ old.pointers → IsPut i (four_of_group v) old new
 put_over_group old new i e v packed known is ew ev eo keeps ep =
@@ -289,8 +289,8 @@ put_over_group old new i e v packed known is ew ev eo keeps ep =
         pointer_room = rw (ew, ep) packed.pointer_room;
         group_room = rw ew (keeps (length words) packed.group_room);
       };
-      is = rw (ew, t_is, ep) (fours_overwritten mixed_place W.Mixed (λ t. four_of (map four_of_pointer old.pointers.values.items) t) (mixed_kind (map four_of_pointer old.pointers.values.items))
-          words owners (map four_of_group values) i e (four_of_group v) packed.groups even known (ap mixed_place is));
+      is = rw (ew, t_is, ep) (fours_overwritten group_place W.Group (λ t. four_of (map four_of_pointer old.pointers.values.items) t) (group_kind (map four_of_pointer old.pointers.values.items))
+          words owners (map four_of_group values) i e (four_of_group v) packed.groups even known (ap group_place is));
     }
 
 -- ---- a place is given up
@@ -340,15 +340,15 @@ release_pointer old new i e o d packed known is owner ew ev eo keeps eg =
     released i old new (record {
       few = omega (arith, packed.few, long);
       pointers = rw (ew, o_is) (removed pointer_place words owners i e o last (W.Pointer e) packed.pointers known was gap refl refl);
-      groups = rw (ew, eg) (off_twice mixed_place words old.groups.owners.items i o (W.Pointer e) packed.groups known gap.word (ap mixed_place is) (pointer_alone (word_at words o) last gap.had) refl refl);
+      groups = rw (ew, eg) (off_twice group_place words old.groups.owners.items i o (W.Pointer e) packed.groups known gap.word (ap group_place is) (pointer_alone (word_at words o) last gap.had) refl refl);
       pointer_room = rw long (keeps (length words) packed.pointer_room);
       group_room = rw (long, eg) packed.group_room;
     }) long (ap (λ words. word_at words i) ew ∙ set_same (set words o (W.Pointer e)) i empty_word within)
     (rw (ew, t_is, eg) (fours_removed pointer_place W.Pointer (λ t. four_of t (map four_of_group old.groups.values.items)) (pointer_kind (map four_of_group old.groups.values.items))
     words owners (map four_of_pointer values) i e o last gap same known))
 
-pub release_group : (old new : Packed) (i e o : ℕ) (d : Group) → IsPacked old → i < length old.words.items → word_at old.words.items i ≡ W.Mixed e
-    → o ≡ owner_at old.groups.owners.items (length old.groups.owners.items - 1) → new.words.items ≡ set (set old.words.items o (W.Mixed e)) i empty_word
+pub release_group : (old new : Packed) (i e o : ℕ) (d : Group) → IsPacked old → i < length old.words.items → word_at old.words.items i ≡ W.Group e
+    → o ≡ owner_at old.groups.owners.items (length old.groups.owners.items - 1) → new.words.items ≡ set (set old.words.items o (W.Group e)) i empty_word
     → new.groups.values.items ≡ swap_remove old.groups.values.items e d → new.groups.owners.items ≡ swap_remove old.groups.owners.items e 0
     → ((n : ℕ) → HasRoom n old.groups → HasRoom n new.groups) → new.pointers ≡ old.pointers → IsReleased i old new
 release_group old new i e o d packed known is owner ew ev eo keeps ep =
@@ -356,10 +356,10 @@ release_group old new i e o d packed known is owner ew ev eo keeps ep =
     let owners = old.groups.owners.items in
     let values = old.groups.values.items in
     let last = length owners - 1 in
-    let was : mixed_place (word_at words i) ≡ Some e = ap mixed_place is in
-    let gap = left mixed_place words owners i e o last packed.groups was refl owner in
-    let within : i < length (set words o (W.Mixed e)) = omega (arith, length-set words o (W.Mixed e)) in
-    let long : length new.words.items ≡ length words = ap length ew ∙ length-set (set words o (W.Mixed e)) i empty_word ∙ length-set words o (W.Mixed e) in
+    let was : group_place (word_at words i) ≡ Some e = ap group_place is in
+    let gap = left group_place words owners i e o last packed.groups was refl owner in
+    let within : i < length (set words o (W.Group e)) = omega (arith, length-set words o (W.Group e)) in
+    let long : length new.words.items ≡ length words = ap length ew ∙ length-set (set words o (W.Group e)) i empty_word ∙ length-set words o (W.Group e) in
     let o_is : new.groups.owners.items ≡ take last (set owners e o) = eo ∙ ap (λ o. take last (set owners e o)) (sym owner) in
     let even = packed.group_room.even in
     let t_is : map four_of_group new.groups.values.items ≡ take last (set (map four_of_group values) e (four_at (map four_of_group values) last)) =
@@ -367,12 +367,12 @@ release_group old new i e o d packed known is owner ew ev eo keeps ep =
     let same : length (map four_of_group values) ≡ length owners = length-map values four_of_group ∙ even in
     released i old new (record {
       few = omega (arith, packed.few, long);
-      pointers = rw (ew, ep) (off_twice pointer_place words old.pointers.owners.items i o (W.Mixed e) packed.pointers known gap.word (ap pointer_place is) (mixed_alone (word_at words o) last gap.had) refl refl);
-      groups = rw (ew, o_is) (removed mixed_place words owners i e o last (W.Mixed e) packed.groups known was gap refl refl);
+      pointers = rw (ew, ep) (off_twice pointer_place words old.pointers.owners.items i o (W.Group e) packed.pointers known gap.word (ap pointer_place is) (group_alone (word_at words o) last gap.had) refl refl);
+      groups = rw (ew, o_is) (removed group_place words owners i e o last (W.Group e) packed.groups known was gap refl refl);
       pointer_room = rw (long, ep) packed.pointer_room;
       group_room = rw long (keeps (length words) packed.group_room);
-    }) long (ap (λ words. word_at words i) ew ∙ set_same (set words o (W.Mixed e)) i empty_word within)
-    (rw (ew, t_is, ep) (fours_removed mixed_place W.Mixed (λ t. four_of (map four_of_pointer old.pointers.values.items) t) (mixed_kind (map four_of_pointer old.pointers.values.items))
+    }) long (ap (λ words. word_at words i) ew ∙ set_same (set words o (W.Group e)) i empty_word within)
+    (rw (ew, t_is, ep) (fours_removed group_place W.Group (λ t. four_of (map four_of_pointer old.pointers.values.items) t) (group_kind (map four_of_pointer old.pointers.values.items))
     words owners (map four_of_group values) i e o last gap same known))
 
 -- ---- a word moves
@@ -399,7 +399,7 @@ carried_pointer old new from to e packed known before plain is set_is ev eo keep
       packed = record {
         few = omega (arith, packed.few, long);
         pointers = rw (set_is, eo) (moved pointer_place words old.pointers.owners.items from to e w packed.pointers known target (sym is) refl (no_pointer (word_at words to) plain) refl);
-        groups = rw (set_is, eg) (off_twice mixed_place words old.groups.owners.items from to w packed.groups known target (ap mixed_place is) (no_mixed (word_at words to) plain) refl refl);
+        groups = rw (set_is, eg) (off_twice group_place words old.groups.owners.items from to w packed.groups known target (ap group_place is) (no_group (word_at words to) plain) refl refl);
         pointer_room = rw long (keeps (length words) packed.pointer_room);
         group_room = rw (long, eg) packed.group_room;
       };
@@ -407,19 +407,19 @@ carried_pointer old new from to e packed known before plain is set_is ev eo keep
     }
 
 pub carried_group : (old new : Packed) (from to e : ℕ) → IsPacked old → from < length old.words.items → to < from → is_tabled (word_at old.words.items to) ≡ false
-    → word_at old.words.items from ≡ W.Mixed e → new.words.items ≡ set (set old.words.items to (W.Mixed e)) from empty_word
+    → word_at old.words.items from ≡ W.Group e → new.words.items ≡ set (set old.words.items to (W.Group e)) from empty_word
     → new.groups.values.items ≡ old.groups.values.items → new.groups.owners.items ≡ set old.groups.owners.items e to
     → ((n : ℕ) → HasRoom n old.groups → HasRoom n new.groups) → new.pointers ≡ old.pointers → IsCarried from to old new
 carried_group old new from to e packed known before plain is set_is ev eo keeps ep =
     let words = old.words.items in
     let target : to < length words = omega arith in
-    let w : Word = W.Mixed e in
+    let w : Word = W.Group e in
     let long : length new.words.items ≡ length words = ap length set_is ∙ length-set (set words to w) from empty_word ∙ length-set words to w in
     record {
       packed = record {
         few = omega (arith, packed.few, long);
         pointers = rw (set_is, ep) (off_twice pointer_place words old.pointers.owners.items from to w packed.pointers known target (ap pointer_place is) (no_pointer (word_at words to) plain) refl refl);
-        groups = rw (set_is, eo) (moved mixed_place words old.groups.owners.items from to e w packed.groups known target (sym is) refl (no_mixed (word_at words to) plain) refl);
+        groups = rw (set_is, eo) (moved group_place words old.groups.owners.items from to e w packed.groups known target (sym is) refl (no_group (word_at words to) plain) refl);
         pointer_room = rw (long, ep) packed.pointer_room;
         group_room = rw long (keeps (length words) packed.group_room);
       };
@@ -438,7 +438,7 @@ carried_plain old new from to w packed known before plain ew is set_is ep eg =
       packed = record {
         few = omega (arith, packed.few, long);
         pointers = rw (set_is, ep) (off_twice pointer_place words old.pointers.owners.items from to w packed.pointers known target (no_pointer (word_at words from) there) (no_pointer (word_at words to) plain) (no_pointer w is) refl);
-        groups = rw (set_is, eg) (off_twice mixed_place words old.groups.owners.items from to w packed.groups known target (no_mixed (word_at words from) there) (no_mixed (word_at words to) plain) (no_mixed w is) refl);
+        groups = rw (set_is, eg) (off_twice group_place words old.groups.owners.items from to w packed.groups known target (no_group (word_at words from) there) (no_group (word_at words to) plain) (no_group w is) refl);
         pointer_room = rw (long, ep) packed.pointer_room;
         group_room = rw (long, eg) packed.group_room;
       };
@@ -472,7 +472,7 @@ packed_more old new n many em packed few ew ep eg pointers groups =
     record {
       few = omega (arith, few, long);
       pointers = rw (ew, ep) (grown pointer_place words old.pointers.owners.items n packed.pointers refl);
-      groups = rw (ew, eg) (grown mixed_place words old.groups.owners.items n packed.groups refl);
+      groups = rw (ew, eg) (grown group_place words old.groups.owners.items n packed.groups refl);
       pointer_room = rw (long, ← em) pointers;
       group_room = rw (long, ← em) groups;
     }

@@ -3,7 +3,7 @@ use Rattle.std.specs.Prelude.{◌≡◌, ℕ, ◌<◌, ◌≤◌, ◌^◌, false
 use Rattle.memory_cells.specs.declared.packed.Packed.{Packed}
 use Rattle.memory_cells.specs.declared.table.Table.{Table}
 use Rattle.memory_cells.specs.declared.word.Four.{Four}
-use Rattle.memory_cells.specs.Words.{IsTable, four_at, four_of, four_of_group, four_of_pointer, is_tabled, mixed_place, nothing, pointer_place, word_at}
+use Rattle.memory_cells.specs.Words.{IsTable, four_at, four_of, four_of_group, four_of_pointer, is_tabled, group_place, nothing, pointer_place, word_at}
 
 -- each place has its value, and there is room for so many
 pub record HasRoom {A : Type 0} (n : ℕ) (table : Table A) : Type 0 where
@@ -19,7 +19,7 @@ fours_in p = map (four_of (map four_of_pointer p.pointers.values.items) (map fou
 pub record IsPacked (p : Packed) : Type 0 where
   pub few : length p.words.items < 2 ^ 32
   pub pointers : IsTable pointer_place p.words.items p.pointers.owners.items
-  pub groups : IsTable mixed_place p.words.items p.groups.owners.items
+  pub groups : IsTable group_place p.words.items p.groups.owners.items
   pub pointer_room : HasRoom (length p.words.items) p.pointers
   pub group_room : HasRoom (length p.words.items) p.groups
 

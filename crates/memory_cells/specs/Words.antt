@@ -65,11 +65,11 @@ whole (W.Number v) = four_bytes v
 whole (W.Bytes gaps a b c d) = record { a = cell_by (gaps % 2) a; b = cell_by (gaps / 2 % 2) b; c = cell_by (gaps / 4 % 2) c; d = cell_by (gaps / 8 % 2) d }
 whole (W.Null type) = four_pointer type P.Null
 whole (W.Pointer e) = nothing
-whole (W.Mixed e) = nothing
+whole (W.Group e) = nothing
 
 abbrev pub is_tabled : Word → Bool
 is_tabled (W.Pointer e) = true
-is_tabled (W.Mixed e) = true
+is_tabled (W.Group e) = true
 is_tabled word = false
 
 -- a word's place in the table of pointers, and in that of groups
@@ -77,9 +77,9 @@ abbrev pub pointer_place : Word → Option ℕ
 pointer_place (W.Pointer e) = Some e
 pointer_place word = None
 
-abbrev pub mixed_place : Word → Option ℕ
-mixed_place (W.Mixed e) = Some e
-mixed_place word = None
+abbrev pub group_place : Word → Option ℕ
+group_place (W.Group e) = Some e
+group_place word = None
 
 -- ---- tables
 
@@ -100,7 +100,7 @@ four_of_group g = record { a = cell_of_part g.a; b = cell_of_part g.b; c = cell_
 -- the cells of any word
 abbrev pub four_of : (pointers groups : List Four) → Word → Four
 four_of pointers groups (W.Pointer e) = four_at pointers e
-four_of pointers groups (W.Mixed e) = four_at groups e
+four_of pointers groups (W.Group e) = four_at groups e
 four_of pointers groups (W.Number v) = whole (W.Number v)
 four_of pointers groups (W.Bytes gaps a b c d) = whole (W.Bytes gaps a b c d)
 four_of pointers groups (W.Null type) = whole (W.Null type)

@@ -34,7 +34,7 @@ pub(crate) fn is_tabled(word: Word) -> bool
         Word::Bytes(_, _, _, _, _) => false,
         Word::Null(_) => false,
         Word::Pointer(_) => true,
-        Word::Mixed(_) => true,
+        Word::Group(_) => true,
     }
 }
 
@@ -73,7 +73,7 @@ impl Packed {
     {
         match self.words.get(i) {
             Word::Pointer(e) => four_of_pointer(self.pointers.values.get(e as usize)),
-            Word::Mixed(e) => four_of_group(self.groups.values.get(e as usize)),
+            Word::Group(e) => four_of_group(self.groups.values.get(e as usize)),
             word => whole(word),
         }
     }
@@ -94,11 +94,11 @@ impl Packed {
     fn give_up_group(&mut self, i: usize, e: u32)
         requires known { i < length self.old.words.items }
         requires packed { IsPacked self.old }
-        requires tabled { word_at self.old.words.items i ≡ W.Mixed e }
+        requires tabled { word_at self.old.words.items i ≡ W.Group e }
         ensures { IsReleased i self.old self.new }
     {
         let owner = self.groups.remove(e as usize);
-        self.words.set(owner as usize, Word::Mixed(e));
+        self.words.set(owner as usize, Word::Group(e));
         self.words.set(i, EMPTY);
     }
 
@@ -110,7 +110,7 @@ impl Packed {
     {
         match self.words.get(i) {
             Word::Pointer(e) => self.give_up_pointer(i, e),
-            Word::Mixed(e) => self.give_up_group(i, e),
+            Word::Group(e) => self.give_up_group(i, e),
             _ => {}
         }
     }
@@ -157,7 +157,7 @@ impl Packed {
     {
         self.release(i);
         let e = self.groups.push(group_of(four), i as u32);
-        self.words.set(i, Word::Mixed(e as u32));
+        self.words.set(i, Word::Group(e as u32));
     }
 
     /// Puts any four cells in place of a word.
@@ -167,7 +167,7 @@ impl Packed {
         ensures { IsPut i four self.old self.new }
     {
         match self.words.get(i) {
-            Word::Mixed(e) => self.groups.values.set(e as usize, group_of(four)),
+            Word::Group(e) => self.groups.values.set(e as usize, group_of(four)),
             _ => self.push_group(i, four),
         }
     }
@@ -183,7 +183,7 @@ impl Packed {
         let word = self.words.get(from);
         match word {
             Word::Pointer(e) => self.pointers.owners.set(e as usize, to as u32),
-            Word::Mixed(e) => self.groups.owners.set(e as usize, to as u32),
+            Word::Group(e) => self.groups.owners.set(e as usize, to as u32),
             _ => {}
         }
         self.words.set(to, word);

@@ -87,7 +87,7 @@ pub fn whole(word: Word) -> Four
         },
         Word::Null(t) => four_pointer(t, Ptr::Null),
         Word::Pointer(_) => unreachable!(),
-        Word::Mixed(_) => unreachable!(),
+        Word::Group(_) => unreachable!(),
     }
 }
 

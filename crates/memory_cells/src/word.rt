@@ -31,7 +31,7 @@ pub enum Word {
     /// Any other whole pointer: its place in the table of pointers.
     Pointer(u32),
     /// Any other four cells: their place in the table of groups.
-    Mixed(u32),
+    Group(u32),
 }
 
 /// A whole pointer in the table of pointers, with the number of its type.

@@ -176,7 +176,7 @@ impl Words {
                 let pointer = self.packed.pointers.values.get(e as usize);
                 self.packed.put_pointer(to, pointer);
             }
-            Word::Mixed(_) => {
+            Word::Group(_) => {
                 let four = self.packed.four(from);
                 self.packed.put_group(to, four);
             }

@@ -17,6 +17,6 @@ returns-in-Pointer c =
 pub returns-in_default : goal.returns-in_default
 returns-in_default c =
     let p = c.self.inside.packed in
-    let plain : is_tabled (word_at p.words.items c.args.from) ≡ false = ap is_tabled (sym (c.get.ensures empty_word)) ∙ not_tabled c.get.result c.in_default.not-Pointer c.in_default.not-Mixed in
+    let plain : is_tabled (word_at p.words.items c.args.from) ≡ false = ap is_tabled (sym (c.get.ensures empty_word)) ∙ not_tabled c.get.result c.in_default.not-Pointer c.in_default.not-Group in
     c.put_whole.ensures ∙ ap (λ four. set c.args.self.now c.args.to four)
     (ap whole (c.get.ensures empty_word) ∙ sym (four_at_whole p c.args.from plain) ∙ ap (λ fours. four_at fours c.args.from) c.self.view_is)
