@@ -1,9 +1,9 @@
 -- Words that stand in no table.
-use Rattle.std.proofs.Common.{◌≡◌, ℕ, ◌+◌, ◌*◌, Bool, true, false, refl, sym, ap, ◌∙◌}
+use Rattle.std.proofs.Common.{◌≡◌, ℕ, ◌+◌, ◌*◌, true, false, refl, ap}
 use Rattle.std.specs.Prelude.{◌&&◌, ◌==◌}
-use Rattle.std.proofs.lemmas.Bool.{eqb-true}
+use Rattle.std.proofs.lemmas.Bool.{and_parts, eqb-true}
 use Rattle.memory_cells.specs.declared.cell.Cell.{Cell}
-use Rattle.memory_cells.specs.declared.cell.Cell.TheVariants.{Empty, Byte, Fragment}
+use Rattle.memory_cells.specs.declared.cell.Cell.TheVariants.{Fragment}
 use Rattle.memory_cells.specs.declared.pointer.Ptr.{Ptr}
 use Rattle.memory_cells.specs.declared.pointer.Ptr.TheVariants as P
 use Rattle.memory_cells.specs.declared.word.Content.{Content}
@@ -35,48 +35,27 @@ whole_gaps C.Empty C.Empty C.Empty C.Empty = refl
 
 -- ---- four fragments
 
-both_left : (a b : Bool) → (a && b) ≡ true → a ≡ true
-both_left true b e = refl
-both_left false b e = let wrong : false ≡ true = e in cc
-
-both_right : (a b : Bool) → (a && b) ≡ true → b ≡ true
-both_right true b e = e
-both_right false b e = let wrong : false ≡ true = e in cc
-
-same_number : (m n : ℕ) → (m == n) ≡ true → m ≡ n
-same_number m n e = eqb-true m n e
-
 same_pointer : (p q : Ptr) → is_same p q ≡ true → p ≡ q
 same_pointer P.Null P.Null e = refl
-same_pointer P.Null (P.Block c other) e = let wrong : false ≡ true = e in cc
-same_pointer P.Null (P.Function g) e = let wrong : false ≡ true = e in cc
-same_pointer (P.Block b at) P.Null e = let wrong : false ≡ true = e in cc
 same_pointer (P.Block b at) (P.Block c other) e =
-    ap (λ b. P.Block b at) (same_number b c (both_left (b == c) (at == other) e)) ∙ ap (λ at. P.Block c at) (same_number at other (both_right (b == c) (at == other) e))
-same_pointer (P.Block b at) (P.Function g) e = let wrong : false ≡ true = e in cc
-same_pointer (P.Function f) P.Null e = let wrong : false ≡ true = e in cc
-same_pointer (P.Function f) (P.Block c other) e = let wrong : false ≡ true = e in cc
-same_pointer (P.Function f) (P.Function g) e = ap P.Function (same_number f g e)
+    let parts = and_parts (b == c) (at == other) e in
+    let block = eqb-true b c parts.0 in let offset = eqb-true at other parts.1 in cc
+same_pointer (P.Function f) (P.Function g) e = ap P.Function (eqb-true f g e)
+same_pointer p q e = let wrong : false ≡ true = e in cc
 
 same_fragment : (type : ℕ) (p : Ptr) (k : ℕ) (c : Cell) → is_fragment type p k c ≡ true → c ≡ Fragment type p k
-same_fragment type p k Empty e = let wrong : false ≡ true = e in cc
-same_fragment type p k (Byte x) e = let wrong : false ≡ true = e in cc
 same_fragment type p k (Fragment t q j) e =
-    ap (λ t. Fragment t q j) (same_number t type (both_left (t == type) (is_same q p) (both_left (t == type && is_same q p) (j == k) e)))
-    ∙ ap (λ q. Fragment type q j) (same_pointer q p (both_right (t == type) (is_same q p) (both_left (t == type && is_same q p) (j == k) e)))
-    ∙ ap (λ j. Fragment type p j) (same_number j k (both_right (t == type && is_same q p) (j == k) e))
+    let parts = and_parts (t == type && is_same q p) (j == k) e in
+    let more = and_parts (t == type) (is_same q p) parts.0 in
+    let one = eqb-true t type more.0 in let pointer = same_pointer q p more.1 in let place = eqb-true j k parts.1 in cc
+same_fragment type p k c e = let wrong : false ≡ true = e in cc
 
 pub fragments_are : (four : Four) (type : ℕ) (p : Ptr) → are_four type p four ≡ true → four_pointer type p ≡ four
 fragments_are four type p e =
-    let all : (is_fragment type p 0 four.a && (is_fragment type p 1 four.b && (is_fragment type p 2 four.c && is_fragment type p 3 four.d))) ≡ true =
-    e in
-    let more = both_right (is_fragment type p 0 four.a) (is_fragment type p 1 four.b && (is_fragment type p 2 four.c && is_fragment type p 3 four.d)) all in
-    let last = both_right (is_fragment type p 1 four.b) (is_fragment type p 2 four.c && is_fragment type p 3 four.d) more in
-    let a : Fragment type p 0 ≡ four.a = sym (same_fragment type p 0 four.a (both_left (is_fragment type p 0 four.a) (is_fragment type p 1 four.b && (is_fragment type p 2 four.c && is_fragment type p 3 four.d)) all)) in
-    let b : Fragment type p 1 ≡ four.b = sym (same_fragment type p 1 four.b (both_left (is_fragment type p 1 four.b) (is_fragment type p 2 four.c && is_fragment type p 3 four.d) more)) in
-    let c : Fragment type p 2 ≡ four.c = sym (same_fragment type p 2 four.c (both_left (is_fragment type p 2 four.c) (is_fragment type p 3 four.d) last)) in
-    let d : Fragment type p 3 ≡ four.d = sym (same_fragment type p 3 four.d (both_right (is_fragment type p 2 four.c) (is_fragment type p 3 four.d) last)) in
-    ap (λ x. record { a = x; b = Fragment type p 1; c = Fragment type p 2; d = Fragment type p 3 }) a
-    ∙ ap (λ x. record { a = four.a; b = x; c = Fragment type p 2; d = Fragment type p 3 }) b
-    ∙ ap (λ x. record { a = four.a; b = four.b; c = x; d = Fragment type p 3 }) c
-    ∙ ap (λ x. record { a = four.a; b = four.b; c = four.c; d = x }) d
+    let first = and_parts (is_fragment type p 0 four.a) (is_fragment type p 1 four.b && (is_fragment type p 2 four.c && is_fragment type p 3 four.d)) e in
+    let second = and_parts (is_fragment type p 1 four.b) (is_fragment type p 2 four.c && is_fragment type p 3 four.d) first.1 in
+    let third = and_parts (is_fragment type p 2 four.c) (is_fragment type p 3 four.d) second.1 in
+    let a = same_fragment type p 0 four.a first.0 in
+    let b = same_fragment type p 1 four.b second.0 in
+    let c = same_fragment type p 2 four.c third.0 in
+    let d = same_fragment type p 3 four.d third.1 in rw (a, b, c, d) refl

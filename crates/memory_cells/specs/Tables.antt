@@ -1,8 +1,9 @@
 -- Words with their tables.
-use Rattle.std.specs.Prelude.{◌≡◌, ℕ, ◌<◌, ◌≤◌, ◌^◌, false, List, length, map, slice_set}
+use Rattle.std.specs.Prelude.{◌≡◌, ℕ, ◌<◌, ◌≤◌, ◌^◌, false, List, Option, length, map, slice_set}
 use Rattle.memory_cells.specs.declared.packed.Packed.{Packed}
 use Rattle.memory_cells.specs.declared.table.Table.{Table}
 use Rattle.memory_cells.specs.declared.word.Four.{Four}
+use Rattle.memory_cells.specs.declared.word.Word.{Word}
 use Rattle.memory_cells.specs.Words.{IsTable, four_at, four_of, four_of_group, four_of_pointer, is_tabled, group_place, nothing, pointer_place, word_at}
 
 -- each place has its value, and there is room for so many
@@ -11,17 +12,23 @@ pub record HasRoom {A : Type 0} (n : ℕ) (table : Table A) : Type 0 where
   pub values : n ≤ table.values.room
   pub owners : n ≤ table.owners.room
 
--- the cells of the words
+-- the cells of a word, and of all of them
+abbrev pub cells_in : Packed → Word → Four
+cells_in p = four_of (map four_of_pointer p.pointers.values.items) (map four_of_group p.groups.values.items)
+
 abbrev pub fours_in : Packed → List Four
-fours_in p = map (four_of (map four_of_pointer p.pointers.values.items) (map four_of_group p.groups.values.items)) p.words.items
+fours_in p = map (cells_in p) p.words.items
+
+-- a table of words, with room for all of them
+pub record IsHalf {A : Type 0} (place : Word → Option ℕ) (words : List Word) (table : Table A) : Type 0 where
+  pub owned : IsTable place words table.owners.items
+  pub room : HasRoom (length words) table
 
 -- what always holds
 pub record IsPacked (p : Packed) : Type 0 where
   pub few : length p.words.items < 2 ^ 32
-  pub pointers : IsTable pointer_place p.words.items p.pointers.owners.items
-  pub groups : IsTable group_place p.words.items p.groups.owners.items
-  pub pointer_room : HasRoom (length p.words.items) p.pointers
-  pub group_room : HasRoom (length p.words.items) p.groups
+  pub pointers : IsHalf pointer_place p.words.items p.pointers
+  pub groups : IsHalf group_place p.words.items p.groups
 
 -- four cells came in place of a word's
 pub record IsPut (i : ℕ) (f : Four) (old new : Packed) : Type 0 where

@@ -4,11 +4,12 @@ use Rattle.memory_cells.specs.declared.pointer.Ptr.TheVariants as P
 use Rattle.memory_cells.specs.declared.word.Four.{Four}
 use Rattle.memory_cells.specs.declared.word.Word.TheVariants as W
 use Rattle.memory_cells.specs.Words.{empty_word, four_at, four_pointer}
-use Rattle.memory_cells.proofs.Steps.{four_at_pointer, pointer_within, read_whole, same_pointer_in}
+use Rattle.memory_cells.proofs.Sides.{pointers}
+use Rattle.memory_cells.proofs.Steps.{four_at_value, read_whole, same_pointer_in, within}
 use Rattle.memory_cells.proofs.words.Words.pointer.Goals as goal
 
 pub get-requires-in-Pointer : goal.get-requires-in-Pointer
-get-requires-in-Pointer c = pointer_within c.self.inside.packed c.args.i c.in-Pointer.e c.self.invariant (sym (c.get.ensures empty_word) ∙ c.in-Pointer.is)
+get-requires-in-Pointer c = within pointers c.self.inside.packed c.args.i c.in-Pointer.e c.self.invariant (sym (c.get.ensures empty_word) ∙ c.in-Pointer.is)
 
 pub returns-in-Null : goal.returns-in-Null
 returns-in-Null c =
@@ -20,7 +21,7 @@ returns-in-Pointer c =
     let p = c.self.inside.packed in
     same_pointer_in (four_at c.args.self.now c.args.i) _ c.args.type_number c.pointer_in.result
     (ap (λ fours. four_at fours c.args.i) (sym c.self.view_is)
-    ∙ four_at_pointer p c.args.i c.in-Pointer.e c.get-in-Pointer.result c.self.invariant (sym (c.get.ensures empty_word) ∙ c.in-Pointer.is) (c.get-in-Pointer.ensures c.get-in-Pointer.result))
+    ∙ four_at_value pointers p c.args.i c.in-Pointer.e c.get-in-Pointer.result c.self.invariant (sym (c.get.ensures empty_word) ∙ c.in-Pointer.is) (c.get-in-Pointer.ensures c.get-in-Pointer.result))
     c.pointer_in.ensures
 
 pub returns-in-Number : goal.returns-in-Number
