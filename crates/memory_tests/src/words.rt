@@ -168,6 +168,9 @@ fn cells_that_come_one_by_one_are_a_whole(rt: HostRuntime) -> Result<(), Fail> {
         (None, None, Some(Ptr::Function(5))),
         (None, Some(Ptr::Block(4_294_967_301, 4)), None),
     ];
-    assert!(rt; one_by_one(rt.alloc())? == wanted, "a number and two pointers");
+    assert!(rt;
+        one_by_one(rt.alloc())? == wanted,
+        "a number and two pointers"
+    );
     Ok(())
 }
