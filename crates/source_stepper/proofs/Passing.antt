@@ -1,7 +1,7 @@
 -- What a statement that is left passes by, nothing being done there.
-use Rattle.std.proofs.Common.{◌≡◌, refl, List, Option, ℕ}
+use Rattle.std.proofs.Common.{◌≡◌, refl, List, ℕ}
 use Rattle.c_meaning.specs.declared.frame.Way.{Way}
-use Rattle.c_meaning.specs.declared.frame.Way.TheVariants.{Normally, ByBreak, ByContinue, ByReturn}
+use Rattle.c_meaning.specs.declared.frame.Way.TheVariants.{Normally}
 use Rattle.c_typed.specs.Programs.{ProgramData}
 use Rattle.c_typed.specs.Trees as T
 use Rattle.c_typed.specs.Views.{AnExpression, AStatement}
@@ -23,95 +23,14 @@ use Rattle.source_state.specs.declared.work.ForArms.{ForArms}
 use Rattle.source_state.specs.declared.work.ForArms.TheVariants as A
 
 module _ (p : ProgramData) where
-  by_break : (item : Item) (s : State) → IsPassedBy item → passed p ByBreak item s ≡ goes (doing (unwinding ByBreak) s)
-  by_break (I.acting a) s h = refl
-  by_break (I.evaluating e) s h = refl
-  by_break (I.using e) s h = refl
-  by_break (I.spotting addressed q) s h = refl
-  by_break (I.both_with y) s h = refl
-  by_break (I.either_with y) s h = refl
-  by_break (I.choosing y z) s h = refl
-  by_break (I.gathering callee done more) s h = refl
-  by_break (I.gathered callee done more) s h = refl
-  by_break (I.framing caller) s h = absurd h
-  by_break (I.executing c l one) s h = refl
-  by_break (I.executing_all c l all) s h = refl
-  by_break (I.entering c l arm arms) s h = refl
-  by_break (I.deciding c l one) s h = refl
-  by_break (I.deciding_else c l one other) s h = refl
-  by_break (I.looping l) s h = refl
-  by_break (I.tested l) s h = refl
-  by_break (I.repeating l) s h = absurd h
-  by_break (I.tested_behind l) s h = refl
-  by_break (I.repeating_behind l) s h = absurd h
-  by_break (I.selecting c l own arms) s h = refl
-  by_break I.switching s h = absurd h
-  by_break (I.filling b parts) s h = refl
-  by_break I.returning s h = refl
-  by_break (I.ending locals) s h = absurd h
-  by_break (I.unwinding other) s h = refl
-
-  by_continue : (item : Item) (s : State) → IsPassedBy item → passed p ByContinue item s ≡ goes (doing (unwinding ByContinue) s)
-  by_continue (I.acting a) s h = refl
-  by_continue (I.evaluating e) s h = refl
-  by_continue (I.using e) s h = refl
-  by_continue (I.spotting addressed q) s h = refl
-  by_continue (I.both_with y) s h = refl
-  by_continue (I.either_with y) s h = refl
-  by_continue (I.choosing y z) s h = refl
-  by_continue (I.gathering callee done more) s h = refl
-  by_continue (I.gathered callee done more) s h = refl
-  by_continue (I.framing caller) s h = absurd h
-  by_continue (I.executing c l one) s h = refl
-  by_continue (I.executing_all c l all) s h = refl
-  by_continue (I.entering c l arm arms) s h = refl
-  by_continue (I.deciding c l one) s h = refl
-  by_continue (I.deciding_else c l one other) s h = refl
-  by_continue (I.looping l) s h = refl
-  by_continue (I.tested l) s h = refl
-  by_continue (I.repeating l) s h = absurd h
-  by_continue (I.tested_behind l) s h = refl
-  by_continue (I.repeating_behind l) s h = absurd h
-  by_continue (I.selecting c l own arms) s h = refl
-  by_continue I.switching s h = absurd h
-  by_continue (I.filling b parts) s h = refl
-  by_continue I.returning s h = refl
-  by_continue (I.ending locals) s h = absurd h
-  by_continue (I.unwinding other) s h = refl
-
-  by_return : (v : Option Value) (item : Item) (s : State) → IsPassedBy item → passed p (ByReturn v) item s ≡ goes (doing (unwinding (ByReturn v)) s)
-  by_return v (I.acting a) s h = refl
-  by_return v (I.evaluating e) s h = refl
-  by_return v (I.using e) s h = refl
-  by_return v (I.spotting addressed q) s h = refl
-  by_return v (I.both_with y) s h = refl
-  by_return v (I.either_with y) s h = refl
-  by_return v (I.choosing y z) s h = refl
-  by_return v (I.gathering callee done more) s h = refl
-  by_return v (I.gathered callee done more) s h = refl
-  by_return v (I.framing caller) s h = absurd h
-  by_return v (I.executing c l one) s h = refl
-  by_return v (I.executing_all c l all) s h = refl
-  by_return v (I.entering c l arm arms) s h = refl
-  by_return v (I.deciding c l one) s h = refl
-  by_return v (I.deciding_else c l one other) s h = refl
-  by_return v (I.looping l) s h = refl
-  by_return v (I.tested l) s h = refl
-  by_return v (I.repeating l) s h = absurd h
-  by_return v (I.tested_behind l) s h = refl
-  by_return v (I.repeating_behind l) s h = absurd h
-  by_return v (I.selecting c l own arms) s h = refl
-  by_return v I.switching s h = absurd h
-  by_return v (I.filling b parts) s h = refl
-  by_return v I.returning s h = refl
-  by_return v (I.ending locals) s h = absurd h
-  by_return v (I.unwinding other) s h = refl
-
   pub by : (way : Way) (item : Item) (s : State) → IsAWayOut way → IsPassedBy item → passed p way item s ≡ goes (doing (unwinding way) s)
   by Normally item s h i = absurd h
-  by ByBreak item s h i = by_break item s i
-  by ByContinue item s h i = by_continue item s i
-  by (ByReturn v) item s h i = by_return v item s i
+  by way (I.framing caller) s h i = absurd i
+  by way (I.repeating l) s h i = absurd i
+  by way (I.repeating_behind l) s h i = absurd i
+  by way I.switching s h i = absurd i
+  by way (I.ending locals) s h i = absurd i
+  by way item s h i = refl
 
   pub by_expression : (way : Way) (what : ForExpression) (e : AnExpression) (s : State) → IsAWayOut way
       → passed p way (for_expression what e) s ≡ goes (doing (unwinding way) s)
