@@ -1,3 +1,1 @@
-pub mod Ahead
-pub mod Parts
 pub mod Passing

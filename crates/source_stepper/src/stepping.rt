@@ -13,10 +13,6 @@ ghost use Rattle.source_stepper.specs.Passing.{IsAWayOut};
 ghost use Rattle.source_state.specs.View.{state_of};
 ghost use Rattle.source_state.specs.WorkView.{context_of, for_arms, for_call, for_expression, for_loop, for_loop_behind, for_statement, item_of, loop_behind_of, loop_of};
 
-use crate::ahead::{begin_if, decide_else, decide_if, evaluate_ahead, use_ahead};
-use crate::loops::{begin_behind, repeat_loop, test_behind};
-use crate::rows::{enter_ahead, execute_all_ahead, execute_whole, repeat_ahead, test_ahead};
-use crate::statements::{leave, select};
 use c_meaning::{Slot, Way};
 use c_typed::Expression;
 use lay_base::NoMemory;
@@ -28,6 +24,10 @@ use source_machine::{Action, Callee};
 use source_state::{
     ForArms, ForCall, ForExpression, ForLoop, ForStatement, Loop, LoopBehind, Machine, STUCK,
     Scope, Work,
+};
+use source_statements::{
+    begin_behind, begin_if, decide_else, decide_if, enter_ahead, evaluate_ahead, execute_all_ahead,
+    execute_whole, leave, repeat_ahead, repeat_loop, select, test_ahead, test_behind, use_ahead,
 };
 use source_steps::{Final, Moved};
 use source_types::Types;

@@ -12,7 +12,7 @@ ghost use Rattle.loop_tallies.specs.Forms.{arms_in, statement_in, statements_in}
 ghost use Rattle.source_machine.specs.Items.{unwinding};
 ghost use Rattle.source_steps.specs.States.{doing, goes};
 ghost use Rattle.source_steps.specs.Statements.{executed, selected};
-ghost use Rattle.source_stepper.specs.Parts.{begun_for};
+ghost use Rattle.source_statements.specs.Parts.{begun_for};
 ghost use Rattle.source_state.specs.View.{state_of};
 ghost use Rattle.source_state.specs.WorkView.{context_of, loop_of};
 
@@ -153,7 +153,7 @@ pub(crate) fn while_loop<'a>(
 
 /// A statement is left in a way.
 #[inline(always)]
-pub(crate) fn leave<'a>(machine: &mut Machine<'a>, way: Way) -> Result<Moved, NoMemory>
+pub fn leave<'a>(machine: &mut Machine<'a>, way: Way) -> Result<Moved, NoMemory>
     ensures { IfOk result (λ m. (m, state_of machine.new) ≡ goes (doing (unwinding way) (state_of machine.old))) }
 {
     go_on(machine, Work::Unwinding(way))
@@ -218,7 +218,7 @@ pub(crate) fn execute<'a>(
 }
 
 /// The arms of a `switch` behind its operand.
-pub(crate) fn select<'a>(
+pub fn select<'a>(
     machine: &mut Machine<'a>,
     alloc: Global,
     types: &'a Types<'a>,

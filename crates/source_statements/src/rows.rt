@@ -6,7 +6,7 @@ ghost use Rattle.c_typed.specs.Trees as T;
 ghost use Rattle.loop_tallies.specs.Forms.{arms_in, statement_in, statements_in};
 ghost use Rattle.source_core.specs.View.{core_of};
 ghost use Rattle.source_steps.specs.Ahead.{arms_behind, begun_ahead, entered_ahead, entered_first, executed_all_ahead, executed_first, executed_later, executed_whole, followed, past, repeats_ahead, tests_ahead};
-ghost use Rattle.source_stepper.specs.Ahead.{tested_ahead_by};
+ghost use Rattle.source_statements.specs.Ahead.{tested_ahead_by};
 ghost use Rattle.source_state.specs.View.{state_of};
 ghost use Rattle.source_state.specs.WorkView.{context_of, loop_of};
 
@@ -101,7 +101,7 @@ fn execute_first<'a>(
 }
 
 /// Statements in a row.
-pub(crate) fn execute_all_ahead<'a>(
+pub fn execute_all_ahead<'a>(
     machine: &mut Machine<'a>,
     alloc: Global,
     types: &'a Types<'a>,
@@ -145,7 +145,7 @@ fn begin_block<'a>(
 
 /// A statement, and of a block the first statements in it.
 #[tactic(auto, using(crate::proofs::Plain::whole_no_block))]
-pub(crate) fn execute_whole<'a>(
+pub fn execute_whole<'a>(
     machine: &mut Machine<'a>,
     alloc: Global,
     types: &'a Types<'a>,
@@ -203,7 +203,7 @@ fn begin_ahead_if<'a>(
 
 /// A loop before its test.
 #[inline(always)]
-pub(crate) fn test_ahead<'a>(
+pub fn test_ahead<'a>(
     machine: &mut Machine<'a>,
     alloc: Global,
     types: &'a Types<'a>,
@@ -222,7 +222,7 @@ pub(crate) fn test_ahead<'a>(
 
 /// A loop behind its body.
 #[inline(always)]
-pub(crate) fn repeat_ahead<'a>(
+pub fn repeat_ahead<'a>(
     machine: &mut Machine<'a>,
     alloc: Global,
     types: &'a Types<'a>,
@@ -287,7 +287,7 @@ fn enter_first<'a>(
 }
 
 /// The arms of a `switch` from the one with that number on, or none.
-pub(crate) fn enter_ahead<'a>(
+pub fn enter_ahead<'a>(
     machine: &mut Machine<'a>,
     alloc: Global,
     types: &'a Types<'a>,

@@ -55,7 +55,7 @@ pub(crate) fn test_loop<'a>(
 }
 
 /// A loop behind its body.
-pub(crate) fn repeat_loop<'a>(
+pub fn repeat_loop<'a>(
     machine: &mut Machine<'a>,
     types: &'a Types<'a>,
     l: Loop<'a>,
@@ -72,7 +72,7 @@ pub(crate) fn repeat_loop<'a>(
 }
 
 /// The body of a loop begins whose test stands behind it.
-pub(crate) fn begin_behind<'a>(
+pub fn begin_behind<'a>(
     machine: &mut Machine<'a>,
     types: &'a Types<'a>,
     l: LoopBehind<'a>,
@@ -92,7 +92,7 @@ pub(crate) fn begin_behind<'a>(
 }
 
 /// The test of such a loop.
-pub(crate) fn test_behind<'a>(
+pub fn test_behind<'a>(
     machine: &mut Machine<'a>,
     types: &'a Types<'a>,
     l: LoopBehind<'a>,

@@ -1,6 +1,6 @@
 use Rattle.std.proofs.Common.{sym, ◌∙◌}
-use Rattle.source_stepper.proofs.Arms.{selected_at, selected_later}
-use Rattle.source_stepper.proofs.statements.arm_with.Goals as goal
+use Rattle.source_statements.proofs.Arms.{selected_at, selected_later}
+use Rattle.source_statements.proofs.statements.arm_with.Goals as goal
 
 pub returns-then-is_selected : goal.returns-then-is_selected
 returns-then-is_selected c = sym (selected_at c.args.arms.now c.loop-number.number c.args.v c.index-arms-number.result

@@ -3,7 +3,7 @@ use Rattle.c_typed.specs.Programs.{program_data}
 use Rattle.loop_tallies.specs.Forms.{statements_in}
 use Rattle.source_core.specs.View.{core_of}
 use Rattle.source_steps.specs.Ahead.{past}
-use Rattle.source_stepper.proofs.rows.past.Given as goal
+use Rattle.source_statements.proofs.rows.past.Given as goal
 
 abbrev pub invariant-loop-s : goal.invariant-loop-s
 invariant-loop-s l = past (program_data l.types) (statements_in l.left) (core_of l.room) ≡ past (program_data l.types) (statements_in l.all) (core_of l.fn.room)

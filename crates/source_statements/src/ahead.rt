@@ -6,7 +6,7 @@ ghost use Rattle.c_typed.specs.Views.{expression_of};
 ghost use Rattle.loop_tallies.specs.Forms.{statement_in};
 ghost use Rattle.source_machine.specs.Items as I;
 ghost use Rattle.source_steps.specs.Ahead.{ahead, executed_ahead};
-ghost use Rattle.source_stepper.specs.Ahead.{decided, decided_else, tested_by};
+ghost use Rattle.source_statements.specs.Ahead.{decided, decided_else, tested_by};
 ghost use Rattle.source_state.specs.View.{state_of};
 ghost use Rattle.source_state.specs.WorkView.{context_of, loop_of};
 
@@ -28,7 +28,7 @@ use std::alloc::Global;
 // ---- expressions
 
 /// An expression, whose value may be none.
-pub(crate) fn evaluate_ahead<'a>(
+pub fn evaluate_ahead<'a>(
     machine: &mut Machine<'a>,
     alloc: Global,
     types: &'a Types<'a>,
@@ -43,7 +43,7 @@ pub(crate) fn evaluate_ahead<'a>(
 }
 
 /// An expression whose value is used.
-pub(crate) fn use_ahead<'a>(
+pub fn use_ahead<'a>(
     machine: &mut Machine<'a>,
     alloc: Global,
     types: &'a Types<'a>,
@@ -60,7 +60,7 @@ pub(crate) fn use_ahead<'a>(
 // ---- loops
 
 /// A loop whose test has that value.
-pub(crate) fn begin_if<'a>(
+pub fn begin_if<'a>(
     machine: &mut Machine<'a>,
     types: &'a Types<'a>,
     v: Value,
@@ -78,7 +78,7 @@ pub(crate) fn begin_if<'a>(
 // ---- statements
 
 /// A statement behind the operand of an `if`.
-pub(crate) fn decide_if<'a>(
+pub fn decide_if<'a>(
     machine: &mut Machine<'a>,
     v: Value,
     scope: Scope<'a>,
@@ -98,7 +98,7 @@ pub(crate) fn decide_if<'a>(
 }
 
 /// Both statements of an `if` behind its operand.
-pub(crate) fn decide_else<'a>(
+pub fn decide_else<'a>(
     machine: &mut Machine<'a>,
     v: Value,
     scope: Scope<'a>,
