@@ -10,9 +10,8 @@ use Rattle.c_types.specs.IntKinds.{width}
 use Rattle.memory_cells.specs.declared.cell.Cell.{Cell}
 use Rattle.memory_cells.specs.declared.cell.Cell.TheVariants.{Empty, Byte, Fragment}
 use Rattle.memory_cells.specs.declared.pointer.Ptr.{Ptr}
-use Rattle.block_memory.specs.Held.{are_fragments, held, is_empty, number_in, null_in, or_pointer, pointer_in, word_of}
+use Rattle.block_memory.specs.Held.{held, is_empty, number_in, null_in, or_pointer, pointer_in, word_of}
 use Rattle.block_memory.specs.Digits.{as_pointer, digit_before, number_at, pointer_at, valued}
-use Rattle.memory_cells.specs.Fragments.{is_fragment}
 use Rattle.block_memory.specs.Tested.{Tested}
 
 -- ---- one cell before others
@@ -146,21 +145,3 @@ pub pointer_of_four : (all : List Cell) (at type : ℕ) (a b c d : Cell) (r : Te
     → a ≡ get_or all at Empty → b ≡ get_or all (at + 1) Empty → c ≡ get_or all (at + 2) Empty → d ≡ get_or all (at + 3) Empty
     → r ≡ held (a ∷ b ∷ c ∷ d ∷ []) (pointer_in type (a ∷ b ∷ c ∷ d ∷ [])) → r ≡ pointer_at all at type
 pointer_of_four all at type a b c d r le ea eb ec ed er = rw (er, ea, eb, ec, ed, take_four all at le) refl
-
--- ---- fragments
-
-one_fragment : (type : ℕ) (p : Ptr) (k : ℕ) (a : Cell) (more : List Cell)
-    → are_fragments type p k (a ∷ more) ≡ (is_fragment type p k a && are_fragments type p (k + 1) more)
-one_fragment type p k Empty more = refl
-one_fragment type p k (Byte x) more = refl
-one_fragment type p k (Fragment t q j) more = refl
-
-and_true : (a : Bool) → (a && true) ≡ a
-and_true true = refl
-and_true false = refl
-
-pub are_fragments_of : (type : ℕ) (p : Ptr) (a b c d : Cell)
-    → (is_fragment type p 0 a && (is_fragment type p 1 b && (is_fragment type p 2 c && is_fragment type p 3 d))) ≡ are_fragments type p 0 (a ∷ b ∷ c ∷ d ∷ [])
-are_fragments_of type p a b c d =
-    sym (one_fragment type p 0 a (b ∷ c ∷ d ∷ []) ∙ ap (λ r. is_fragment type p 0 a && r) (one_fragment type p 1 b (c ∷ d ∷ [])
-    ∙ ap (λ r. is_fragment type p 1 b && r) (one_fragment type p 2 c (d ∷ []) ∙ ap (λ r. is_fragment type p 2 c && r) (one_fragment type p 3 d [] ∙ and_true (is_fragment type p 3 d)))))

@@ -11,8 +11,8 @@ use Rattle.memory_cells.specs.declared.pointer.Ptr.{Ptr}
 use Rattle.memory_cells.specs.declared.pointer.Ptr.TheVariants as P
 use Rattle.memory_cells.specs.declared.word.Four.{Four}
 use Rattle.block_memory.specs.Digits.{digit_before, number_at, pointer_at, valued}
-use Rattle.block_memory.specs.Held.{are_fragments, held, pointer_in, word_of}
-use Rattle.memory_cells.specs.Fragments.{is_same}
+use Rattle.block_memory.specs.Held.{held, pointer_in, word_of}
+use Rattle.memory_cells.specs.Fragments.{are_fragments, is_same}
 use Rattle.memory_cells.specs.Words.{cell_in, four_at, four_bytes, four_pointer}
 use Rattle.block_memory.specs.Cells.{cell_at, flat}
 use Rattle.block_memory.proofs.CellsHold.{four_at as four_at_is, take_four}

@@ -1,5 +1,5 @@
 -- What cells hold (C99 6.2.6.1, 6.3.2.3): a number as its bytes, the least first (own), a pointer as four fragments.
-use Rattle.std.specs.Prelude.{ℕ, zero, suc, ◌+◌, ◌-◌, ◌*◌, ◌/◌, ◌%◌, ◌^◌, ◌==◌, Bool, true, false, ◌&&◌, nat_le, if◌then◌else◌, List, [], ◌∷◌, map}
+use Rattle.std.specs.Prelude.{ℕ, zero, suc, ◌+◌, ◌-◌, ◌*◌, ◌/◌, ◌%◌, ◌^◌, Bool, true, false, nat_le, if◌then◌else◌, List, [], ◌∷◌, map}
 use Rattle.std.specs.Prelude.{Option, Some, None, Ok, Err}
 use Rattle.std.specs.List.{list_any}
 use Rattle.std.specs.Option.{option_map}
@@ -10,7 +10,7 @@ use Rattle.memory_cells.specs.declared.cell.Cell.{Cell}
 use Rattle.memory_cells.specs.declared.cell.Cell.TheVariants.{Empty, Byte, Fragment}
 use Rattle.memory_cells.specs.declared.pointer.Ptr.{Ptr}
 use Rattle.memory_cells.specs.declared.pointer.Ptr.TheVariants as P
-use Rattle.memory_cells.specs.Fragments.{is_same}
+use Rattle.memory_cells.specs.Fragments.{are_fragments}
 use Rattle.block_memory.specs.Tested.{Tested}
 
 -- ---- numbers
@@ -33,12 +33,6 @@ word_of kind v = if nat_le v (greatest kind) then v else v + (2 ^ 32 - 2 ^ (8 * 
 
 abbrev pub fragments_of : (type : ℕ) → Ptr → List Cell
 fragments_of type p = map (λ k. Fragment type p k) (0 ∷ 1 ∷ 2 ∷ 3 ∷ [])
-
--- the k-th fragment of a pointer and those after it, in their order
-abbrev pub are_fragments : (type : ℕ) → Ptr → (k : ℕ) → List Cell → Bool
-are_fragments type p k [] = true
-are_fragments type p k (Fragment t q j ∷ more) = t == type && is_same q p && j == k && are_fragments type p (k + 1) more
-are_fragments type p k (c ∷ more) = false
 
 -- zero bytes are a null pointer (own)
 abbrev pub null_in : Option ℕ → Option Ptr

@@ -1,5 +1,5 @@
 -- Words that stand in no table.
-use Rattle.std.proofs.Common.{◌≡◌, ℕ, ◌+◌, ◌*◌, true, false, refl, ap}
+use Rattle.std.proofs.Common.{◌≡◌, ℕ, ◌+◌, ◌*◌, true, false, [], ◌∷◌, refl, ap}
 use Rattle.std.specs.Prelude.{◌&&◌, ◌==◌}
 use Rattle.std.proofs.lemmas.Bool.{and_parts, eqb-true}
 use Rattle.memory_cells.specs.declared.cell.Cell.{Cell}
@@ -10,8 +10,8 @@ use Rattle.memory_cells.specs.declared.word.Content.{Content}
 use Rattle.memory_cells.specs.declared.word.Content.TheVariants as C
 use Rattle.memory_cells.specs.declared.word.Four.{Four}
 use Rattle.memory_cells.specs.declared.word.Word.TheVariants as W
-use Rattle.memory_cells.specs.Fragments.{are_four, is_fragment, is_same}
-use Rattle.memory_cells.specs.Words.{byte_of, cell_of, four_pointer, gap_of, whole}
+use Rattle.memory_cells.specs.Fragments.{are_fragments, is_fragment, is_same}
+use Rattle.memory_cells.specs.Words.{byte_of, cell_of, cells_of, four_pointer, gap_of, whole}
 
 -- ---- words with gaps
 
@@ -50,12 +50,13 @@ same_fragment type p k (Fragment t q j) e =
     let one = eqb-true t type more.0 in let pointer = same_pointer q p more.1 in let place = eqb-true j k parts.1 in cc
 same_fragment type p k c e = let wrong : false ≡ true = e in cc
 
-pub fragments_are : (four : Four) (type : ℕ) (p : Ptr) → are_four type p four ≡ true → four_pointer type p ≡ four
+pub fragments_are : (four : Four) (type : ℕ) (p : Ptr) → are_fragments type p 0 (cells_of four) ≡ true → four_pointer type p ≡ four
 fragments_are four type p e =
-    let first = and_parts (is_fragment type p 0 four.a) (is_fragment type p 1 four.b && (is_fragment type p 2 four.c && is_fragment type p 3 four.d)) e in
-    let second = and_parts (is_fragment type p 1 four.b) (is_fragment type p 2 four.c && is_fragment type p 3 four.d) first.1 in
-    let third = and_parts (is_fragment type p 2 four.c) (is_fragment type p 3 four.d) second.1 in
+    let first = and_parts (is_fragment type p 0 four.a) (are_fragments type p 1 (four.b ∷ four.c ∷ four.d ∷ [])) e in
+    let second = and_parts (is_fragment type p 1 four.b) (are_fragments type p 2 (four.c ∷ four.d ∷ [])) first.1 in
+    let third = and_parts (is_fragment type p 2 four.c) (are_fragments type p 3 (four.d ∷ [])) second.1 in
+    let fourth = and_parts (is_fragment type p 3 four.d) true third.1 in
     let a = same_fragment type p 0 four.a first.0 in
     let b = same_fragment type p 1 four.b second.0 in
     let c = same_fragment type p 2 four.c third.0 in
-    let d = same_fragment type p 3 four.d third.1 in rw (a, b, c, d) refl
+    let d = same_fragment type p 3 four.d fourth.0 in rw (a, b, c, d) refl

@@ -1,5 +1,5 @@
 pub mod Contents
-pub mod Sides
+pub mod ChosenTables
 pub mod Steps
 pub mod Tables
 pub mod Views

@@ -12,9 +12,9 @@ use Rattle.memory_cells.specs.declared.table.Table.{Table}
 use Rattle.memory_cells.specs.declared.word.Four.{Four}
 use Rattle.memory_cells.specs.declared.word.Word.{Word}
 use Rattle.memory_cells.specs.declared.word.Word.TheVariants as W
-use Rattle.memory_cells.specs.Tables.{HasRoom, IsCarried, IsHalf, IsPacked, IsPut, IsReleased, cells_in, fours_in}
+use Rattle.memory_cells.specs.Tables.{HasRoom, IsCarried, IsRoomyTable, IsPacked, IsPut, IsReleased, cells_in, fours_in}
 use Rattle.memory_cells.specs.Words.{IsTable, PointerIn, empty_word, four_at, four_of, four_of_group, four_of_pointer, group_place, is_tabled, nothing, owner_at, pointer_place, whole, word_at}
-use Rattle.memory_cells.proofs.Sides.{Side, no_group, no_pointer}
+use Rattle.memory_cells.proofs.ChosenTables.{ChosenTable, no_group, no_pointer}
 use Rattle.memory_cells.proofs.Tables.{grown, left, moved, off_set, owners_within, pushed, removed, room_for, set_other, set_same}
 use Rattle.memory_cells.proofs.Views.{at_map, fours_grown, fours_overwritten, fours_pushed, fours_removed, set_twice}
 
@@ -37,13 +37,13 @@ long p = length-map p.words.items (cells_in p)
 pub read_whole : (p : Packed) (fours : List Four) (i : ℕ) (w : Word) → fours_in p ≡ fours → word_at p.words.items i ≡ w → is_tabled w ≡ false → four_at fours i ≡ whole w
 read_whole p fours i w view is plain = ap (λ fours. four_at fours i) (sym view) ∙ at_map (cells_in p) p.words.items i refl ∙ ap (cells_in p) is ∙ four_whole (map four_of_pointer p.pointers.values.items) (map four_of_group p.groups.values.items) w plain
 
-pub owned : {A B : Type 0} (s : Side A B) (p : Packed) (i e : ℕ) → IsPacked p → word_at p.words.items i ≡ s.make e → e < length (s.mine p).owners.items
-owned s p i e packed is = ((s.half p packed).owned.owned i e (ap s.place is ∙ (s.kind []).made e)).0
+pub owned : {A B : Type 0} (s : ChosenTable A B) (p : Packed) (i e : ℕ) → IsPacked p → word_at p.words.items i ≡ s.make e → e < length (s.mine p).owners.items
+owned s p i e packed is = ((s.roomy p packed).owned.owned i e (ap s.place is ∙ (s.kind []).made e)).0
 
-pub within : {A B : Type 0} (s : Side A B) (p : Packed) (i e : ℕ) → IsPacked p → word_at p.words.items i ≡ s.make e → e < length (s.mine p).values.items
-within s p i e packed is = let even = (s.half p packed).room.even in let mine = owned s p i e packed is in omega (arith, mine, even)
+pub within : {A B : Type 0} (s : ChosenTable A B) (p : Packed) (i e : ℕ) → IsPacked p → word_at p.words.items i ≡ s.make e → e < length (s.mine p).values.items
+within s p i e packed is = let even = (s.roomy p packed).room.even in let mine = owned s p i e packed is in omega (arith, mine, even)
 
-pub four_at_value : {A B : Type 0} (s : Side A B) (p : Packed) (i e : ℕ) (v : A) → IsPacked p → word_at p.words.items i ≡ s.make e → v ≡ get_or (s.mine p).values.items e v → four_at (fours_in p) i ≡ s.cells v
+pub four_at_value : {A B : Type 0} (s : ChosenTable A B) (p : Packed) (i e : ℕ) (v : A) → IsPacked p → word_at p.words.items i ≡ s.make e → v ≡ get_or (s.mine p).values.items e v → four_at (fours_in p) i ≡ s.cells v
 four_at_value s p i e v packed is there =
     let values = (s.mine p).values.items in
     let rest = map s.others (s.rest p).values.items in
@@ -73,37 +73,37 @@ room_owners {A} n e o old new is room same has = record {
   owners = omega (arith, room, has.owners);
 }
 
-pub many_within : {A B : Type 0} (s : Side A B) (p : Packed) (many : ℕ) → IsPacked p → length p.words.items ≤ many → length (s.mine p).owners.items ≤ many
-many_within s p many packed within = let few = owners_within s.place p.words.items (s.mine p).owners.items (s.half p packed).owned in omega (arith, few)
+pub many_within : {A B : Type 0} (s : ChosenTable A B) (p : Packed) (many : ℕ) → IsPacked p → length p.words.items ≤ many → length (s.mine p).owners.items ≤ many
+many_within s p many packed within = let few = owners_within s.place p.words.items (s.mine p).owners.items (s.roomy p packed).owned in omega (arith, few)
 
-pub place_fits : {A B : Type 0} (s : Side A B) (p : Packed) → IsPacked p → length (s.mine p).owners.items < 2 ^ 32
+pub place_fits : {A B : Type 0} (s : ChosenTable A B) (p : Packed) → IsPacked p → length (s.mine p).owners.items < 2 ^ 32
 place_fits s p packed = let few = many_within s p (length p.words.items) packed (omega arith) in omega (arith, few, packed.few)
 
 -- ---- a step of one table
 
-packed_after : {A B : Type 0} (s : Side A B) (old new : Packed) → IsPacked old → length new.words.items ≡ length old.words.items → s.rest new ≡ s.rest old
-    → IsTable s.place new.words.items (s.mine new).owners.items → HasRoom (length old.words.items) (s.mine new) → IsHalf s.other new.words.items (s.rest old) → IsPacked new
+packed_after : {A B : Type 0} (s : ChosenTable A B) (old new : Packed) → IsPacked old → length new.words.items ≡ length old.words.items → s.rest new ≡ s.rest old
+    → IsTable s.place new.words.items (s.mine new).owners.items → HasRoom (length old.words.items) (s.mine new) → IsRoomyTable s.other new.words.items (s.rest old) → IsPacked new
 packed_after s old new packed long same mine room rest = s.joined new (omega (arith, packed.few, long)) (record { owned = mine; room = rw long room }) (rw same rest)
 
-fours_after : {A B : Type 0} (s : Side A B) (old new : Packed) (words : List Word) (t fours : List Four) → new.words.items ≡ words → map s.cells (s.mine new).values.items ≡ t → s.rest new ≡ s.rest old
+fours_after : {A B : Type 0} (s : ChosenTable A B) (old new : Packed) (words : List Word) (t fours : List Four) → new.words.items ≡ words → map s.cells (s.mine new).values.items ≡ t → s.rest new ≡ s.rest old
     → map (λ w. s.read t (map s.others (s.rest old).values.items) w) words ≡ fours → fours_in new ≡ fours
 fours_after s old new words t fours ew et same is = s.fours new ∙ rw (et, same, ew) is
 
 -- ---- a word that stands in no table in place of another one
 
-off_half : {A : Type 0} (place : Word → Option ℕ) (words : List Word) (table : Table A) (i : ℕ) (w : Word) → IsHalf place words table → i < length words → place (word_at words i) ≡ None → place w ≡ None
-    → IsHalf place (set words i w) table
-off_half place words table i w half known none off = record { owned = off_set place words table.owners.items i w half.owned known none off; room = rw (length-set words i w) half.room }
+off_roomy : {A : Type 0} (place : Word → Option ℕ) (words : List Word) (table : Table A) (i : ℕ) (w : Word) → IsRoomyTable place words table → i < length words → place (word_at words i) ≡ None → place w ≡ None
+    → IsRoomyTable place (set words i w) table
+off_roomy place words table i w roomy known none off = record { owned = off_set place words table.owners.items i w roomy.owned known none off; room = rw (length-set words i w) roomy.room }
 
 off_after : (place : Word → Option ℕ) (words : List Word) (i o : ℕ) (new : Word) → o < length words → place new ≡ None → place (word_at words i) ≡ None → place (word_at (set words o new) i) ≡ None
 off_after place words i o new known off was = ⊎_elim
     (λ here. ap (λ i. place (word_at (set words o new) i)) here ∙ ap place (set_same words o new known) ∙ off)
     (λ ne. ap place (set_other words o i new ne) ∙ was) (cases_eq i o)
 
-off_twice : {A : Type 0} (place : Word → Option ℕ) (words : List Word) (table : Table A) (i o : ℕ) (w : Word) → IsHalf place words table → i < length words → o < length words
-    → place (word_at words i) ≡ None → place (word_at words o) ≡ None → place w ≡ None → place empty_word ≡ None → IsHalf place (set (set words o w) i empty_word) table
-off_twice place words table i o w half known within first second off empty =
-    off_half place (set words o w) table i empty_word (off_half place words table o w half within second off) (omega (arith, length-set words o w)) (off_after place words i o w within off first) empty
+off_twice : {A : Type 0} (place : Word → Option ℕ) (words : List Word) (table : Table A) (i o : ℕ) (w : Word) → IsRoomyTable place words table → i < length words → o < length words
+    → place (word_at words i) ≡ None → place (word_at words o) ≡ None → place w ≡ None → place empty_word ≡ None → IsRoomyTable place (set (set words o w) i empty_word) table
+off_twice place words table i o w roomy known within first second off empty =
+    off_roomy place (set words o w) table i empty_word (off_roomy place words table o w roomy within second off) (omega (arith, length-set words o w)) (off_after place words i o w within off first) empty
 
 length_twice : (words new : List Word) (i o : ℕ) (w : Word) → new ≡ set (set words o w) i empty_word → length new ≡ length words
 length_twice words new i o w is = ap length is ∙ length-set (set words o w) i empty_word ∙ length-set words o w
@@ -116,21 +116,21 @@ put_plain old new i w packed known was plain ew ep eg =
     record {
       packed = record {
         few = omega (arith, packed.few, long);
-        pointers = rw (ew, ep) (off_half pointer_place words old.pointers i w packed.pointers known (no_pointer (word_at words i) was) (no_pointer w plain));
-        groups = rw (ew, eg) (off_half group_place words old.groups i w packed.groups known (no_group (word_at words i) was) (no_group w plain));
+        pointers = rw (ew, ep) (off_roomy pointer_place words old.pointers i w packed.pointers known (no_pointer (word_at words i) was) (no_pointer w plain));
+        groups = rw (ew, eg) (off_roomy group_place words old.groups i w packed.groups known (no_group (word_at words i) was) (no_group w plain));
       };
       is = rw (ew, ep, eg) (map-set (cells_in old) words i w ∙ ap (set (fours_in old) i) (four_whole (map four_of_pointer old.pointers.values.items) (map four_of_group old.groups.values.items) w plain));
     }
 
 -- ---- a new place
 
-pub space : {A B : Type 0} (s : Side A B) (p : Packed) (i : ℕ) → IsPacked p → i < length p.words.items → is_tabled (word_at p.words.items i) ≡ false → HasRoom (length (s.mine p).owners.items + 1) (s.mine p)
+pub space : {A B : Type 0} (s : ChosenTable A B) (p : Packed) (i : ℕ) → IsPacked p → i < length p.words.items → is_tabled (word_at p.words.items i) ≡ false → HasRoom (length (s.mine p).owners.items + 1) (s.mine p)
 space s p i packed known plain =
-    let half = s.half p packed in
-    let less = room_for s.place p.words.items (s.mine p).owners.items i half.owned known (s.none (word_at p.words.items i) plain) in
-    record { even = half.room.even; values = omega (arith, less, half.room.values); owners = omega (arith, less, half.room.owners) }
+    let roomy = s.roomy p packed in
+    let less = room_for s.place p.words.items (s.mine p).owners.items i roomy.owned known (s.none (word_at p.words.items i) plain) in
+    record { even = roomy.room.even; values = omega (arith, less, roomy.room.values); owners = omega (arith, less, roomy.room.owners) }
 
-pub put_new : {A B : Type 0} (s : Side A B) (old new : Packed) (i e : ℕ) (v : A) → IsPacked old → i < length old.words.items → is_tabled (word_at old.words.items i) ≡ false → e ≡ length (s.mine old).owners.items
+pub put_new : {A B : Type 0} (s : ChosenTable A B) (old new : Packed) (i e : ℕ) (v : A) → IsPacked old → i < length old.words.items → is_tabled (word_at old.words.items i) ≡ false → e ≡ length (s.mine old).owners.items
     → new.words.items ≡ set old.words.items i (s.make e) → (s.mine new).values.items ≡ (s.mine old).values.items ++ v ∷ []
     → (s.mine new).owners.items ≡ (s.mine old).owners.items ++ i ∷ [] → ((n : ℕ) → HasRoom n (s.mine old) → HasRoom n (s.mine new)) → s.rest new ≡ s.rest old
     → IsPut i (s.cells v) old new
@@ -138,37 +138,37 @@ put_new s old new i e v packed known was last ew ev eo keeps same =
     let words = old.words.items in
     let owners = (s.mine old).owners.items in
     let values = (s.mine old).values.items in
-    let half = s.half old packed in
+    let roomy = s.roomy old packed in
     let kind = s.kind (map s.others (s.rest old).values.items) in
     let w : Word = s.make (length owners) in
     let set_is : new.words.items ≡ set words i w = ew ∙ ap (λ e. set words i (s.make e)) last in
     let made = kind.made (length owners) in
     record {
       packed = packed_after s old new packed (ap length set_is ∙ length-set words i w) same
-          (rw (eo, set_is) (pushed s.place words owners i w half.owned known (s.none (word_at words i) was) made)) (keeps (length words) half.room)
-          (rw set_is (off_half s.other words (s.rest old) i w (s.beside old packed) known (s.off (word_at words i) was) (s.alone w (length owners) made)));
+          (rw (eo, set_is) (pushed s.place words owners i w roomy.owned known (s.none (word_at words i) was) made)) (keeps (length words) roomy.room)
+          (rw set_is (off_roomy s.other words (s.rest old) i w (s.beside old packed) known (s.off (word_at words i) was) (s.alone w (length owners) made)));
       is = fours_after s old new (set words i w) (map s.cells values ++ s.cells v ∷ []) (set (fours_in old) i (s.cells v)) set_is (ap (map s.cells) ev ∙ map_push s.cells values v) same
-          (fours_pushed s.place s.make (λ t. s.read t (map s.others (s.rest old).values.items)) kind words owners (map s.cells values) i (s.cells v) half.owned (length-map values s.cells ∙ half.room.even) known
+          (fours_pushed s.place s.make (λ t. s.read t (map s.others (s.rest old).values.items)) kind words owners (map s.cells values) i (s.cells v) roomy.owned (length-map values s.cells ∙ roomy.room.even) known
           ∙ ap (λ fours. set fours i (s.cells v)) (sym (s.fours old)));
     }
 
 -- ---- another value at a place
 
-pub put_over : {A B : Type 0} (s : Side A B) (old new : Packed) (i e : ℕ) (v : A) → IsPacked old → i < length old.words.items → word_at old.words.items i ≡ s.make e
+pub put_over : {A B : Type 0} (s : ChosenTable A B) (old new : Packed) (i e : ℕ) (v : A) → IsPacked old → i < length old.words.items → word_at old.words.items i ≡ s.make e
     → new.words ≡ old.words → (s.mine new).values.items ≡ set (s.mine old).values.items e v → (s.mine new).values.room ≡ (s.mine old).values.room
     → (s.mine new).owners ≡ (s.mine old).owners → s.rest new ≡ s.rest old → IsPut i (s.cells v) old new
 put_over s old new i e v packed known is ew ev er eo same =
     let words = old.words.items in
     let owners = (s.mine old).owners.items in
     let values = (s.mine old).values.items in
-    let half = s.half old packed in
+    let roomy = s.roomy old packed in
     let kind = s.kind (map s.others (s.rest old).values.items) in
     let same_words : new.words.items ≡ words = ap (λ (words : Paged Word). words.items) ew in
     let same_owners : (s.mine new).owners.items ≡ owners = ap (λ (o : Paged ℕ). o.items) eo in
     record {
-      packed = packed_after s old new packed (ap length same_words) same (rw (same_owners, same_words) half.owned) (room_values (length words) e v (s.mine old) (s.mine new) ev er eo half.room) (rw same_words (s.beside old packed));
+      packed = packed_after s old new packed (ap length same_words) same (rw (same_owners, same_words) roomy.owned) (room_values (length words) e v (s.mine old) (s.mine new) ev er eo roomy.room) (rw same_words (s.beside old packed));
       is = fours_after s old new words (set (map s.cells values) e (s.cells v)) (set (fours_in old) i (s.cells v)) same_words (ap (map s.cells) ev ∙ map-set s.cells values e v) same
-          (fours_overwritten s.place s.make (λ t. s.read t (map s.others (s.rest old).values.items)) kind words owners (map s.cells values) i e (s.cells v) half.owned (length-map values s.cells ∙ half.room.even) known
+          (fours_overwritten s.place s.make (λ t. s.read t (map s.others (s.rest old).values.items)) kind words owners (map s.cells values) i e (s.cells v) roomy.owned (length-map values s.cells ∙ roomy.room.even) known
           (ap s.place is ∙ kind.made e) ∙ ap (λ fours. set fours i (s.cells v)) (sym (s.fours old)));
     }
 
@@ -180,7 +180,7 @@ taken_values f values new d e last el lt is =
     ap (map f) (is ∙ ap (λ n. take n (set values e (get_or values n d))) (sym el)) ∙ sym (take-map f last (set values e (get_or values last d)))
     ∙ ap (take last) (map-set f values e (get_or values last d) ∙ ap (set (map f values) e) (sym (get_or-map f values last d nothing lt)))
 
-pub release : {A B : Type 0} (s : Side A B) (old new : Packed) (i e o : ℕ) (d : A) → IsPacked old → i < length old.words.items → word_at old.words.items i ≡ s.make e
+pub release : {A B : Type 0} (s : ChosenTable A B) (old new : Packed) (i e o : ℕ) (d : A) → IsPacked old → i < length old.words.items → word_at old.words.items i ≡ s.make e
     → o ≡ owner_at (s.mine old).owners.items (length (s.mine old).owners.items - 1) → new.words.items ≡ set (set old.words.items o (s.make e)) i empty_word
     → (s.mine new).values.items ≡ swap_remove (s.mine old).values.items e d → (s.mine new).owners.items ≡ swap_remove (s.mine old).owners.items e 0
     → ((n : ℕ) → HasRoom n (s.mine old) → HasRoom n (s.mine new)) → s.rest new ≡ s.rest old → IsReleased i old new
@@ -189,13 +189,13 @@ release s old new i e o d packed known is owner ew ev eo keeps same =
     let owners = (s.mine old).owners.items in
     let values = (s.mine old).values.items in
     let last = length owners - 1 in
-    let half = s.half old packed in
+    let roomy = s.roomy old packed in
     let kind = s.kind (map s.others (s.rest old).values.items) in
     let w : Word = s.make e in
     let was : s.place (word_at words i) ≡ Some e = ap s.place is ∙ kind.made e in
-    let gap = left s.place words owners i e o last half.owned was refl owner in
+    let gap = left s.place words owners i e o last roomy.owned was refl owner in
     let o_is : (s.mine new).owners.items ≡ take last (set owners e o) = eo ∙ ap (λ o. take last (set owners e o)) (sym owner) in
-    let even = half.room.even in
+    let even = roomy.room.even in
     let t_is : map s.cells (s.mine new).values.items ≡ take last (set (map s.cells values) e (four_at (map s.cells values) last)) =
     taken_values s.cells values (s.mine new).values.items d e last (ap (λ n. n - 1) (sym even)) (omega (arith, gap.most, even)) ev in
     let gone : fours_in new ≡ set (fours_in old) i nothing =
@@ -204,7 +204,7 @@ release s old new i e o d packed known is owner ew ev eo keeps same =
     ∙ ap (λ fours. set fours i nothing) (sym (s.fours old))) in
     record {
       packed = packed_after s old new packed (length_twice words new.words.items i o w ew) same
-          (rw (o_is, ew) (removed s.place words owners i e o last w half.owned known was gap (kind.made e) kind.off)) (keeps (length words) half.room)
+          (rw (o_is, ew) (removed s.place words owners i e o last w roomy.owned known was gap (kind.made e) kind.off)) (keeps (length words) roomy.room)
           (rw ew (off_twice s.other words (s.rest old) i o w (s.beside old packed) known gap.word (s.alone (word_at words i) e was) (s.alone (word_at words o) last gap.had) (s.alone w e (kind.made e)) (s.off empty_word refl)));
       long = length_twice words new.words.items i o w ew;
       plain = ap (λ words. is_tabled (word_at words i)) ew ∙ ap is_tabled (set_same (set words o w) i empty_word (omega (arith, length-set words o w)));
@@ -222,7 +222,7 @@ fours_carried r words from to w none is =
     map-set r (set words to w) from empty_word ∙ ap (λ f. set (map r (set words to w)) from f) none
     ∙ ap (λ fours. set fours from nothing) (map-set r words to w ∙ ap (set (map r words) to) (ap r is ∙ sym (at_map r words from none)))
 
-pub carried : {A B : Type 0} (s : Side A B) (old new : Packed) (from to e : ℕ) → IsPacked old → from < length old.words.items → to < from → is_tabled (word_at old.words.items to) ≡ false
+pub carried : {A B : Type 0} (s : ChosenTable A B) (old new : Packed) (from to e : ℕ) → IsPacked old → from < length old.words.items → to < from → is_tabled (word_at old.words.items to) ≡ false
     → word_at old.words.items from ≡ s.make e → new.words.items ≡ set (set old.words.items to (s.make e)) from empty_word
     → (s.mine new).values ≡ (s.mine old).values → (s.mine new).owners.items ≡ set (s.mine old).owners.items e to
     → (s.mine new).owners.room ≡ (s.mine old).owners.room → s.rest new ≡ s.rest old → IsCarried from to old new
@@ -230,14 +230,14 @@ carried {A} s old new from to e packed known before plain is ew ev eo er same =
     let words = old.words.items in
     let t = map s.cells (s.mine old).values.items in
     let rest = map s.others (s.rest old).values.items in
-    let half = s.half old packed in
+    let roomy = s.roomy old packed in
     let kind = s.kind rest in
     let w : Word = s.make e in
     let target : to < length words = omega arith in
     let alone = s.alone w e (kind.made e) in
     record {
       packed = packed_after s old new packed (length_twice words new.words.items from to w ew) same
-          (rw (eo, ew) (moved s.place words (s.mine old).owners.items from to e w half.owned known target (sym is) (kind.made e) (s.none (word_at words to) plain) kind.off)) (room_owners (length words) e to (s.mine old) (s.mine new) eo er ev half.room)
+          (rw (eo, ew) (moved s.place words (s.mine old).owners.items from to e w roomy.owned known target (sym is) (kind.made e) (s.none (word_at words to) plain) kind.off)) (room_owners (length words) e to (s.mine old) (s.mine new) eo er ev roomy.room)
           (rw ew (off_twice s.other words (s.rest old) from to w (s.beside old packed) known target (ap s.other is ∙ alone) (s.off (word_at words to) plain) alone (s.off empty_word refl)));
       is = fours_after s old new (set (set words to w) from empty_word) t (set (set (fours_in old) to (four_at (fours_in old) from)) from nothing) ew (ap (λ (values : Paged A). map s.cells values.items) ev) same
           (fours_carried (λ w. s.read t rest w) words from to w (kind.empty t) (sym is) ∙ ap (λ fours. set (set fours to (four_at fours from)) from nothing) (sym (s.fours old)));

@@ -1,10 +1,9 @@
 -- Fragments of pointers.
-use Rattle.std.specs.Prelude.{ℕ, Bool, true, false, ◌==◌, ◌&&◌}
+use Rattle.std.specs.Prelude.{ℕ, Bool, true, false, ◌+◌, ◌==◌, ◌&&◌, List, [], ◌∷◌}
 use Rattle.memory_cells.specs.declared.cell.Cell.{Cell}
 use Rattle.memory_cells.specs.declared.cell.Cell.TheVariants.{Fragment}
 use Rattle.memory_cells.specs.declared.pointer.Ptr.{Ptr}
 use Rattle.memory_cells.specs.declared.pointer.Ptr.TheVariants as P
-use Rattle.memory_cells.specs.declared.word.Four.{Four}
 
 abbrev pub is_same : Ptr → Ptr → Bool
 is_same P.Null P.Null = true
@@ -17,6 +16,7 @@ abbrev pub is_fragment : (type : ℕ) → Ptr → (k : ℕ) → Cell → Bool
 is_fragment type p k (Fragment t q j) = t == type && is_same q p && j == k
 is_fragment type p k c = false
 
--- all four of them, in their order
-abbrev pub are_four : (type : ℕ) → Ptr → Four → Bool
-are_four type p four = is_fragment type p 0 four.a && (is_fragment type p 1 four.b && (is_fragment type p 2 four.c && is_fragment type p 3 four.d))
+-- its k-th fragment and those after it, in their order
+abbrev pub are_fragments : (type : ℕ) → Ptr → (k : ℕ) → List Cell → Bool
+are_fragments type p k [] = true
+are_fragments type p k (c ∷ more) = is_fragment type p k c && are_fragments type p (k + 1) more

@@ -20,15 +20,15 @@ abbrev pub fours_in : Packed → List Four
 fours_in p = map (cells_in p) p.words.items
 
 -- a table of words, with room for all of them
-pub record IsHalf {A : Type 0} (place : Word → Option ℕ) (words : List Word) (table : Table A) : Type 0 where
+pub record IsRoomyTable {A : Type 0} (place : Word → Option ℕ) (words : List Word) (table : Table A) : Type 0 where
   pub owned : IsTable place words table.owners.items
   pub room : HasRoom (length words) table
 
 -- what always holds
 pub record IsPacked (p : Packed) : Type 0 where
   pub few : length p.words.items < 2 ^ 32
-  pub pointers : IsHalf pointer_place p.words.items p.pointers
-  pub groups : IsHalf group_place p.words.items p.groups
+  pub pointers : IsRoomyTable pointer_place p.words.items p.pointers
+  pub groups : IsRoomyTable group_place p.words.items p.groups
 
 -- four cells came in place of a word's
 pub record IsPut (i : ℕ) (f : Four) (old new : Packed) : Type 0 where

@@ -1,15 +1,15 @@
 //! Fragments of pointers.
 
 ghost use Rattle.std.specs.Prelude.{◌≡◌, ◌==◌, ◌&&◌, Bool, false};
-ghost use Rattle.memory_cells.specs.Fragments.{are_four, is_fragment, is_same};
-ghost use Rattle.memory_cells.specs.Words.{PointerIn};
+ghost use Rattle.memory_cells.specs.Fragments.{are_fragments, is_fragment, is_same};
+ghost use Rattle.memory_cells.specs.Words.{PointerIn, cells_of};
 
 use crate::cell::Cell;
 use crate::pointer::Ptr;
 use crate::word::Four;
 
 /// Whether two pointers are one.
-pub fn is_same(p: Ptr, q: Ptr) -> bool
+fn is_same(p: Ptr, q: Ptr) -> bool
     ensures { result ≡ is_same p q }
 {
     match p {
@@ -32,7 +32,7 @@ pub fn is_same(p: Ptr, q: Ptr) -> bool
 }
 
 /// Whether a cell is a pointer's k-th fragment.
-pub fn is_fragment(cell: Cell, type_number: u32, p: Ptr, k: u8) -> bool
+fn is_fragment(cell: Cell, type_number: u32, p: Ptr, k: u8) -> bool
     ensures { result ≡ is_fragment type_number p k cell }
 {
     match cell {
@@ -44,7 +44,7 @@ pub fn is_fragment(cell: Cell, type_number: u32, p: Ptr, k: u8) -> bool
 
 /// Whether four cells are the fragments of a pointer, in their order.
 pub fn are_fragments(four: Four, type_number: u32, p: Ptr) -> bool
-    ensures { result ≡ are_four type_number p four }
+    ensures { result ≡ are_fragments type_number p 0 (cells_of four) }
 {
     let first = is_fragment(four.a, type_number, p, 0);
     let second = is_fragment(four.b, type_number, p, 1);

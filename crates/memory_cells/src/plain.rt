@@ -68,7 +68,7 @@ fn content_by(gap: u8, x: u8) -> Content
 }
 
 /// The cells of a word that stands in no table.
-pub fn whole(word: Word) -> Four
+pub(crate) fn whole(word: Word) -> Four
     requires { is_tabled word ≡ false }
     ensures { result ≡ whole word }
 {

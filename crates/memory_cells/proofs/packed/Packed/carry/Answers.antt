@@ -1,6 +1,6 @@
 use Rattle.std.proofs.Common.{sym, ap, ◌∙◌}
 use Rattle.memory_cells.specs.Words.{empty_word}
-use Rattle.memory_cells.proofs.Sides.{groups, pointers}
+use Rattle.memory_cells.proofs.ChosenTables.{groups, pointers}
 use Rattle.memory_cells.proofs.Steps.{both_set, carried, carried_plain, not_tabled, owned}
 use Rattle.memory_cells.specs.declared.packed.Packed.{Packed}
 use Rattle.memory_cells.specs.declared.word.Word.TheVariants as W

@@ -1,6 +1,6 @@
 use Rattle.std.proofs.Common.{refl, sym, ◌∙◌}
 use Rattle.memory_cells.specs.Words.{empty_word}
-use Rattle.memory_cells.proofs.Sides.{groups, pointers}
+use Rattle.memory_cells.proofs.ChosenTables.{groups, pointers}
 use Rattle.memory_cells.proofs.Steps.{four_at_value, not_tabled, read_whole, within}
 use Rattle.memory_cells.proofs.packed.Packed.four.Goals as goal
 

@@ -3,7 +3,7 @@ use Rattle.memory_cells.specs.declared.word.Group.{Group}
 use Rattle.memory_cells.specs.declared.word.Part.TheVariants as R
 use Rattle.std.proofs.Math.ListN.{set}
 use Rattle.memory_cells.specs.Words.{empty_word}
-use Rattle.memory_cells.proofs.Sides.{groups}
+use Rattle.memory_cells.proofs.ChosenTables.{groups}
 use Rattle.memory_cells.proofs.Steps.{owned, release}
 use Rattle.memory_cells.proofs.packed.Packed.give_up_group.Goals as goal
 

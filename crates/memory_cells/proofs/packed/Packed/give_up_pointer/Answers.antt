@@ -2,7 +2,7 @@ use Rattle.std.proofs.Common.{refl, ap, ◌∙◌}
 use Rattle.memory_cells.specs.declared.word.Pointer.TheVariants as T
 use Rattle.std.proofs.Math.ListN.{set}
 use Rattle.memory_cells.specs.Words.{empty_word}
-use Rattle.memory_cells.proofs.Sides.{pointers}
+use Rattle.memory_cells.proofs.ChosenTables.{pointers}
 use Rattle.memory_cells.proofs.Steps.{owned, release}
 use Rattle.memory_cells.proofs.packed.Packed.give_up_pointer.Goals as goal
 

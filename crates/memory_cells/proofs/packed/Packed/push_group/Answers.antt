@@ -1,5 +1,5 @@
 use Rattle.std.proofs.Common.{◌<◌, length, refl, arith}
-use Rattle.memory_cells.proofs.Sides.{groups}
+use Rattle.memory_cells.proofs.ChosenTables.{groups}
 use Rattle.memory_cells.proofs.Steps.{place_fits, put_new, put_same, replaced, space}
 use Rattle.memory_cells.proofs.packed.Packed.push_group.Goals as goal
 

@@ -1,6 +1,6 @@
 use Rattle.std.proofs.Common.{◌<◌, length, refl, arith}
 use Rattle.memory_cells.specs.Words.{four_of_pointer}
-use Rattle.memory_cells.proofs.Sides.{pointers}
+use Rattle.memory_cells.proofs.ChosenTables.{pointers}
 use Rattle.memory_cells.proofs.Steps.{place_fits, put_new, replaced, space}
 use Rattle.memory_cells.proofs.packed.Packed.push_pointer.Goals as goal
 

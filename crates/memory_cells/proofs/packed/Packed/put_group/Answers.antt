@@ -1,6 +1,6 @@
 use Rattle.std.proofs.Common.{refl, sym, ◌∙◌}
 use Rattle.memory_cells.specs.Words.{empty_word}
-use Rattle.memory_cells.proofs.Sides.{groups}
+use Rattle.memory_cells.proofs.ChosenTables.{groups}
 use Rattle.memory_cells.proofs.Steps.{put_over, put_same, within}
 use Rattle.memory_cells.proofs.packed.Packed.put_group.Goals as goal
 

@@ -1,6 +1,6 @@
 use Rattle.std.proofs.Common.{refl, sym, ◌∙◌}
 use Rattle.memory_cells.specs.Words.{empty_word}
-use Rattle.memory_cells.proofs.Sides.{pointers}
+use Rattle.memory_cells.proofs.ChosenTables.{pointers}
 use Rattle.memory_cells.proofs.Steps.{put_over, within}
 use Rattle.memory_cells.proofs.packed.Packed.put_pointer.Goals as goal
 

@@ -1,4 +1,4 @@
-use Rattle.memory_cells.proofs.Sides.{groups, pointers}
+use Rattle.memory_cells.proofs.ChosenTables.{groups, pointers}
 use Rattle.memory_cells.proofs.Steps.{many_within}
 use Rattle.memory_cells.proofs.packed.Packed.reserve.Goals as goal
 

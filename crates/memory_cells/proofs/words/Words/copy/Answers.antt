@@ -2,7 +2,7 @@ use Rattle.std.proofs.Common.{sym, ap, ◌∙◌}
 use Rattle.std.proofs.Math.ListN.{set}
 use Rattle.memory_cells.specs.Tables.{fours_in}
 use Rattle.memory_cells.specs.Words.{empty_word, four_at}
-use Rattle.memory_cells.proofs.Sides.{pointers}
+use Rattle.memory_cells.proofs.ChosenTables.{pointers}
 use Rattle.memory_cells.proofs.Steps.{four_at_value, not_tabled, read_whole, within}
 use Rattle.memory_cells.proofs.words.Words.copy.Goals as goal
 

@@ -4,7 +4,7 @@ use Rattle.memory_cells.specs.declared.pointer.Ptr.TheVariants as P
 use Rattle.memory_cells.specs.declared.word.Four.{Four}
 use Rattle.memory_cells.specs.declared.word.Word.TheVariants as W
 use Rattle.memory_cells.specs.Words.{empty_word, four_at, four_pointer}
-use Rattle.memory_cells.proofs.Sides.{pointers}
+use Rattle.memory_cells.proofs.ChosenTables.{pointers}
 use Rattle.memory_cells.proofs.Steps.{four_at_value, read_whole, same_pointer_in, within}
 use Rattle.memory_cells.proofs.words.Words.pointer.Goals as goal
 

@@ -8,12 +8,12 @@ use Rattle.memory_cells.specs.declared.word.Group.{Group}
 use Rattle.memory_cells.specs.declared.word.Pointer.{Pointer}
 use Rattle.memory_cells.specs.declared.word.Word.{Word}
 use Rattle.memory_cells.specs.declared.word.Word.TheVariants as W
-use Rattle.memory_cells.specs.Tables.{IsHalf, IsPacked, fours_in}
+use Rattle.memory_cells.specs.Tables.{IsRoomyTable, IsPacked, fours_in}
 use Rattle.memory_cells.specs.Words.{four_at, four_of, four_of_group, four_of_pointer, group_place, is_tabled, pointer_place}
 use Rattle.memory_cells.proofs.Views.{IsKind}
 
 -- one of the tables with the words that stand in it, and the other table beside it: a step is proved once for either
-pub record Side (A B : Type 0) : Type 0 where
+pub record ChosenTable (A B : Type 0) : Type 0 where
   pub mine : Packed → Table A
   pub rest : Packed → Table B
   pub cells : A → Four
@@ -28,9 +28,9 @@ pub record Side (A B : Type 0) : Type 0 where
   pub none : (w : Word) → is_tabled w ≡ false → place w ≡ None
   pub off : (w : Word) → is_tabled w ≡ false → other w ≡ None
   -- what always holds, by the two tables
-  pub half : (p : Packed) → IsPacked p → IsHalf place p.words.items (mine p)
-  pub beside : (p : Packed) → IsPacked p → IsHalf other p.words.items (rest p)
-  pub joined : (p : Packed) → length p.words.items < 2 ^ 32 → IsHalf place p.words.items (mine p) → IsHalf other p.words.items (rest p) → IsPacked p
+  pub roomy : (p : Packed) → IsPacked p → IsRoomyTable place p.words.items (mine p)
+  pub beside : (p : Packed) → IsPacked p → IsRoomyTable other p.words.items (rest p)
+  pub joined : (p : Packed) → length p.words.items < 2 ^ 32 → IsRoomyTable place p.words.items (mine p) → IsRoomyTable other p.words.items (rest p) → IsPacked p
   pub fours : (p : Packed) → fours_in p ≡ map (read (map cells (mine p).values.items) (map others (rest p).values.items)) p.words.items
 
 -- ---- pointers
@@ -71,7 +71,7 @@ no_group w plain = refl
 
 -- ---- both
 
-abbrev pub pointers : Side Pointer Group
+abbrev pub pointers : ChosenTable Pointer Group
 pointers = record {
   mine = λ p. p.pointers;
   cells = four_of_pointer;
@@ -85,13 +85,13 @@ pointers = record {
   alone = pointer_alone;
   none = no_pointer;
   off = no_group;
-  half = λ p packed. packed.pointers;
+  roomy = λ p packed. packed.pointers;
   beside = λ p packed. packed.groups;
   joined = λ p few mine rest. record { few = few; pointers = mine; groups = rest };
   fours = λ p. refl;
 }
 
-abbrev pub groups : Side Group Pointer
+abbrev pub groups : ChosenTable Group Pointer
 groups = record {
   mine = λ p. p.groups;
   cells = four_of_group;
@@ -105,7 +105,7 @@ groups = record {
   alone = group_alone;
   none = no_group;
   off = no_pointer;
-  half = λ p packed. packed.groups;
+  roomy = λ p packed. packed.groups;
   beside = λ p packed. packed.pointers;
   joined = λ p few mine rest. record { few = few; pointers = rest; groups = mine };
   fours = λ p. refl;
