@@ -2,7 +2,7 @@
 use Rattle.std.proofs.Common.{◌≡◌, ℕ, suc, ◌+◌, ◌-◌, ◌<◌, ◌≤◌, List, [], ◌∷◌, ◌++◌, length, take, drop, get_or, sym, ap, ◌∙◌, arith}
 use Rattle.std.proofs.lemmas.Slice.{drop-append-drop}
 use Rattle.std.proofs.Math.ListN.{set}
-use Rattle.std.proofs.lemmas.List.{append-nil, append_assoc, drop_all, get_or-append_right, get_or_append_left, get_or-drop, get_or-take, length-append, length-drop, length-take-le, take-append-drop, take_at}
+use Rattle.std.proofs.lemmas.List.{append-nil, append_assoc, drop_all, get_or-append_right, get_or_append_left, get_or-drop, get_or-take, length-append, length-drop, length-take, length-take-le, take-append-drop, take_at}
 use Rattle.std.proofs.lemmas.List.Edits.{sets-eq}
 use Rattle.memory_cells.specs.declared.cell.Cell.{Cell}
 use Rattle.memory_cells.specs.declared.cell.Cell.TheVariants.{Empty}
@@ -35,6 +35,9 @@ over_over all x y at le =
 pub length_over : (all new : List Cell) (at : ℕ) → at + length new ≤ length all → length (over all at new) ≡ length all
 length_over all new at le =
     length-append (take at all ++ new) (drop (at + length new) all) ∙ omega (arith, length-append (take at all) new, length-take-le at all, length-drop (at + length new) all)
+
+pub no_shorter : (all new : List Cell) (at : ℕ) → length all ≤ length (over all at new)
+no_shorter all new at = omega (arith, length-append (take at all ++ new) (drop (at + length new) all), length-append (take at all) new, length-take at all, length-drop (at + length new) all)
 
 -- behind them nothing has changed
 pub behind : (all new : List Cell) (at k : ℕ) → at + length new ≤ length all → at + length new ≤ k → get_or (over all at new) k Empty ≡ get_or all k Empty

@@ -1,5 +1,5 @@
 -- What always holds of a store.
-use Rattle.std.proofs.Common.{◌≡◌, ℕ, ◌+◌, ◌<◌, ◌≤◌, List, [], length, Bool, true, false, refl, sym, ap, ◌∙◌, arith, ⊎_elim}
+use Rattle.std.proofs.Common.{◌≡◌, ℕ, ◌<◌, ◌≤◌, List, [], length, Bool, true, false, refl, sym, ap, ◌∙◌, arith, ⊎_elim}
 use Rattle.std.specs.Prelude.{◌&&◌, nat_lt}
 use Rattle.std.proofs.lemmas.Bool.{cases_lt, lt-ltb}
 use Rattle.std.proofs.lemmas.List.{get_or_past}
@@ -7,7 +7,7 @@ use Rattle.memory_cells.specs.declared.cell.Cell.{Cell}
 use Rattle.block_memory.specs.declared.slot.Slot.{Slot}
 use Rattle.block_memory.specs.Cells.{over}
 use Rattle.block_memory.specs.Slots.{IsSound, holds, no_slot, slot_at}
-use Rattle.block_memory.proofs.Overs.{length_over}
+use Rattle.block_memory.proofs.Overs.{no_shorter}
 
 no_live : (b : ℕ) {A : Type 0} → (slot_at [] b).live ≡ true → A
 no_live b lives = let wrong : false ≡ true = ap (λ s. s.live) (sym (get_or_past [] b no_slot (omega arith))) ∙ lives in cc
@@ -35,9 +35,8 @@ sound_long slots cells new free sound le = record {
   apart = sound.apart;
 }
 
-pub sound_changed : (slots : List Slot) (cells new : List Cell) (free at : ℕ) (all : List Cell) → IsSound slots cells free → at + length all ≤ length cells → new ≡ over cells at all
-    → IsSound slots new free
-sound_changed slots cells new free at all sound le en = sound_long slots cells new free sound (omega (arith, ap length en, length_over cells all at le))
+pub sound_changed : (slots : List Slot) (cells new : List Cell) (free at : ℕ) (all : List Cell) → IsSound slots cells free → new ≡ over cells at all → IsSound slots new free
+sound_changed slots cells new free at all sound en = sound_long slots cells new free sound (omega (arith, ap length en, no_shorter cells all at))
 
 -- ---- blocks that hold cells
 

@@ -35,7 +35,6 @@ impl Store {
     }
 
     /// Stores the low bytes of a word as a number of a type.
-    #[tactic(auto, using(crate::proofs::Reached::store_number_ok, crate::proofs::Reached::store_number_err, crate::proofs::Sound::sound_changed))]
     pub fn store_int(&mut self, p: Ptr, kind: IntKind, v: u32) -> Result<(), UndefinedKind>
         ensures { Does result (memory_of self.old) (memory_of self.new) (store_number (memory_of self.old) p kind v) }
     {
@@ -50,7 +49,6 @@ impl Store {
     }
 
     /// Stores a pointer of a type.
-    #[tactic(auto, using(crate::proofs::Reached::store_pointer_ok, crate::proofs::Reached::store_pointer_err, crate::proofs::Sound::sound_changed))]
     pub fn store_pointer(&mut self, p: Ptr, type_number: u32, q: Ptr) -> Result<(), UndefinedKind>
         ensures { Does result (memory_of self.old) (memory_of self.new) (store_pointer (memory_of self.old) p type_number q) }
     {

@@ -99,7 +99,6 @@ impl Store {
     }
 
     /// Makes one cell of a block a byte; of one that has ended there is none.
-    #[tactic(auto, using(crate::proofs::Sound::sound_changed))]
     pub fn set_text(&mut self, block: u64, at: u32, byte: u8)
         requires { at < size (memory_of self.old) block }
         ensures { memory_of self.new ≡ with_cells (memory_of self.old) block at (Byte byte ∷ []) }

@@ -23,7 +23,7 @@ fn do_overlap(a: Place, b: Place, count: u32) -> bool
 
 impl Store {
     /// Copies between places that are known.
-    #[tactic(auto, using(crate::proofs::Reached::copied_apart, crate::proofs::Reached::copied_over, crate::proofs::Sound::sound_changed))]
+    #[tactic(auto, using(crate::proofs::Reached::copied_apart, crate::proofs::Reached::copied_over))]
     fn copy_places(
         &mut self,
         a: Place,
@@ -66,7 +66,6 @@ impl Store {
     }
 
     /// Puts a byte into so many cells.
-    #[tactic(auto, using(crate::proofs::Reached::fill_ok, crate::proofs::Reached::fill_err, crate::proofs::Sound::sound_changed))]
     pub fn fill(&mut self, to: Ptr, byte: u8, count: u32) -> Result<(), UndefinedKind>
         ensures { Does result (memory_of self.old) (memory_of self.new) (fill (memory_of self.old) to byte count) }
     {

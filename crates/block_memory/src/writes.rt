@@ -10,7 +10,6 @@ use memory_cells::Content;
 
 impl Store {
     /// Puts bytes into the cells of a block from an offset on.
-    #[tactic(auto, using(crate::proofs::Sound::sound_changed))]
     pub fn set_bytes(&mut self, block: u64, at: u32, bytes: &[u8])
         requires { at + length bytes.now ≤ size (memory_of self.old) block }
         ensures { memory_of self.new ≡ with_cells (memory_of self.old) block at (map Byte bytes.now) }
@@ -23,7 +22,6 @@ impl Store {
     }
 
     /// Makes so many cells of a block, from its first one on, bytes that are zero.
-    #[tactic(auto, using(crate::proofs::Sound::sound_changed))]
     pub fn set_zero(&mut self, block: u64, count: u32)
         requires { count ≤ size (memory_of self.old) block }
         ensures { memory_of self.new ≡ with_cells (memory_of self.old) block 0 (replicate count (Byte 0)) }
@@ -36,7 +34,6 @@ impl Store {
     }
 
     /// Makes so many cells of a block, from its first one on, hold nothing.
-    #[tactic(auto, using(crate::proofs::Sound::sound_changed))]
     pub fn set_empty(&mut self, block: u64, count: u32)
         requires { count ≤ size (memory_of self.old) block }
         ensures { memory_of self.new ≡ with_cells (memory_of self.old) block 0 (replicate count Empty) }

@@ -30,11 +30,8 @@ invariant_of-self c =
 pub invariant_of-self-in-Err : goal.invariant_of-self-in-Err
 invariant_of-self-in-Err c =
     let m = c.make_room.new.self in
-    let room = c.in_ok-make_room.ensures.enough in
-    let n = length-replicate c.args.size Empty in
     record {
-      sound = rw c.in-Err.ensures
-          (sound_changed m.slots m.arena c.fill.new.self m.free (4 * m.free) (replicate c.args.size Empty) m.sound (omega (arith, room.0, n, c.words_for-count.ensures.is)) c.fill.ensures);
+      sound = rw c.in-Err.ensures (sound_changed m.slots m.arena c.fill.new.self m.free (4 * m.free) (replicate c.args.size Empty) m.sound c.fill.ensures);
       settles = rw c.in-Err.ensures m.settles;
     }
 

@@ -2,6 +2,7 @@ use Rattle.std.proofs.Common.{◌+◌, ◌*◌, map, arith, refl}
 use Rattle.std.proofs.lemmas.List.{length-map}
 use Rattle.memory_cells.specs.declared.cell.Cell.TheVariants.{Byte}
 use Rattle.block_memory.proofs.Beginning.{set_ended, set_live}
+use Rattle.block_memory.proofs.Sound.{sound_changed}
 use Rattle.block_memory.proofs.store.Store.set_bytes.Goals as goal
 
 pub returns-then-slot : goal.returns-then-slot
@@ -15,3 +16,8 @@ pub returns-else-slot : goal.returns-else-slot
 returns-else-slot c =
     let s = c.args.self.now in
     set_ended s.slots s.arena c.args.block c.args.at c.slot-slot.result (map Byte c.args.bytes.now) c.slot-slot.ensures.is c.if-slot.false
+
+pub invariant_of-self : goal.invariant_of-self
+invariant_of-self c =
+    let s = c.args.self.now in
+    record { sound = sound_changed s.slots s.arena c.put_bytes.new.self s.free (4 * c.slot-slot.result.start + c.args.at) (map Byte c.args.bytes.now) s.sound c.put_bytes.ensures; settles = s.settles }

@@ -1,6 +1,7 @@
 use Rattle.std.proofs.Common.{◌+◌, ◌*◌, ◌∷◌, [], arith, refl}
 use Rattle.memory_cells.specs.declared.cell.Cell.TheVariants.{Byte}
 use Rattle.block_memory.proofs.Beginning.{set_ended, set_live}
+use Rattle.block_memory.proofs.Sound.{sound_changed}
 use Rattle.block_memory.proofs.store.Store.set_text.Goals as goal
 
 pub returns-then-slot : goal.returns-then-slot
@@ -13,3 +14,8 @@ pub returns-else-slot : goal.returns-else-slot
 returns-else-slot c =
     let s = c.args.self.now in
     set_ended s.slots s.arena c.args.block c.args.at c.slot-slot.result (Byte c.args.byte ∷ []) c.slot-slot.ensures.is c.if-slot.false
+
+pub invariant_of-self : goal.invariant_of-self
+invariant_of-self c =
+    let s = c.args.self.now in
+    record { sound = sound_changed s.slots s.arena c.put.new.self s.free (4 * c.slot-slot.result.start + c.args.at) (Byte c.args.byte ∷ []) s.sound c.put.ensures; settles = s.settles }
