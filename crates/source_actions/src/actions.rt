@@ -314,7 +314,6 @@ fn assigning<'a>(
     store_anew(machine, types, place, spot, t, v, v)
 }
 
-#[tactic(auto, using(source_types::proofs::BySort::updated_is))]
 fn update<'a>(
     machine: &mut Machine<'a>,
     types: &Types<'a>,
@@ -328,9 +327,7 @@ fn update<'a>(
 ) -> Result<Moved, NoMemory>
     ensures { IfOk result (λ m. (m, state_of machine.new) ≡ updated_at (program_data types.now) place op t right w spot v (state_of machine.old)) }
 {
-    let row = types.row(t);
-    let kind = types.row(right).kind;
-    match updated(&machine.room.store, op, row.element, row.sort, v, kind, w) {
+    match updated(types, &machine.room.store, op, t, v, right, w) {
         Ok(new) => store_anew(machine, types, place, spot, t, new, new),
         Err(kind) => Ok(undefined(kind, place)),
     }
@@ -358,7 +355,6 @@ fn updating<'a>(
     }
 }
 
-#[tactic(auto, using(source_types::proofs::BySort::next_is))]
 fn step_value<'a>(
     machine: &mut Machine<'a>,
     types: &Types<'a>,
@@ -371,8 +367,7 @@ fn step_value<'a>(
 ) -> Result<Moved, NoMemory>
     ensures { IfOk result (λ m. (m, state_of machine.new) ≡ stepped_at (program_data types.now) place t op before spot v (state_of machine.old)) }
 {
-    let row = types.row(t);
-    match next(&machine.room.store, op, row.element, row.sort, v) {
+    match next(types, &machine.room.store, op, t, v) {
         Ok(new) => {
             let shown = if before { new } else { v };
             store_anew(machine, types, place, spot, t, new, shown)

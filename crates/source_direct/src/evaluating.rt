@@ -100,15 +100,7 @@ pub fn direct(types: &Types<'_>, room: &Room, e: &Expression) -> Option<Value>
                 direct_in(types, room, z)
             }
         }
-        ExpressionNode::Comma(..)
-        | ExpressionNode::Assign(..)
-        | ExpressionNode::AssignOp(..)
-        | ExpressionNode::Step(..)
-        | ExpressionNode::CopyRecord(..)
-        | ExpressionNode::Call(..)
-        | ExpressionNode::CallThrough(..)
-        | ExpressionNode::Library(..)
-        | ExpressionNode::Allocate(..) => None,
+        _ => None,
     }
 }
 

@@ -57,7 +57,6 @@ fn store(room: &mut Room, spot: Spot, access: Access, new: Value, shown: Value) 
 }
 
 /// A compound assignment of an operand of a type.
-#[tactic(auto, using(source_types::proofs::BySort::updated_is))]
 fn update(
     types: &Types<'_>,
     room: &mut Room,
@@ -69,19 +68,17 @@ fn update(
 ) -> Option<Value>
     ensures { Finds result (core_of room.old) (core_of room.new) (updated_once (program_data types.now) op t right spot w (core_of room.old)) }
 {
-    let row = types.row(t);
-    let Some(v) = loaded(room, spot, row.access) else {
+    let access = types.row(t).access;
+    let Some(v) = loaded(room, spot, access) else {
         return None;
     };
-    let kind = types.row(right).kind;
-    match updated(&room.store, op, row.element, row.sort, v, kind, w) {
-        Ok(new) => store(room, spot, row.access, new, new),
+    match updated(types, &room.store, op, t, v, right, w) {
+        Ok(new) => store(room, spot, access, new, new),
         Err(_) => None,
     }
 }
 
 /// `++` or `--`, which may stand before its operand.
-#[tactic(auto, using(source_types::proofs::BySort::next_is))]
 fn step(
     types: &Types<'_>,
     room: &mut Room,
@@ -92,12 +89,12 @@ fn step(
 ) -> Option<Value>
     ensures { Finds result (core_of room.old) (core_of room.new) (stepped_once (program_data types.now) op before t spot (core_of room.old)) }
 {
-    let row = types.row(t);
-    let Some(v) = loaded(room, spot, row.access) else {
+    let access = types.row(t).access;
+    let Some(v) = loaded(room, spot, access) else {
         return None;
     };
-    match next(&room.store, op, row.element, row.sort, v) {
-        Ok(new) => store(room, spot, row.access, new, if before { new } else { v }),
+    match next(types, &room.store, op, t, v) {
+        Ok(new) => store(room, spot, access, new, if before { new } else { v }),
         Err(_) => None,
     }
 }
@@ -285,11 +282,6 @@ pub fn at_once(types: &Types<'_>, room: &mut Room, e: &Expression) -> Option<Val
         | ExpressionNode::Or(..)
         | ExpressionNode::Not(..)
         | ExpressionNode::Cond(..) => value(types, room, e),
-        ExpressionNode::Comma(..)
-        | ExpressionNode::CopyRecord(..)
-        | ExpressionNode::Call(..)
-        | ExpressionNode::CallThrough(..)
-        | ExpressionNode::Library(..)
-        | ExpressionNode::Allocate(..) => None,
+        _ => None,
     }
 }

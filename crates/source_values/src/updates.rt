@@ -2,18 +2,20 @@
 
 ghost use Rattle.std.specs.Prelude.{◌≡◌, ◌≤◌};
 ghost use Rattle.block_memory.specs.View.{memory_of};
-ghost use Rattle.c_meaning.specs.Operators.{common_kind, pointer_op, step_op};
+ghost use Rattle.c_meaning.specs.Operators.{common_kind, next, pointer_op, step_op, updated};
+ghost use Rattle.c_meaning.specs.Program.{element_size, type_at};
+ghost use Rattle.c_typed.specs.Programs.{program_data};
 ghost use Rattle.c_types.specs.Limits.{greatest_size};
 ghost use Rattle.source_types.specs.Sorts.{next_by, updated_by};
 
 use crate::numbers::binary;
 use crate::pointers::moved;
 use block_memory::Store;
-use c_typed::{BinaryOp, PointerOp, StepOp, is_shift, promoted_kind};
+use c_typed::{BinaryOp, PointerOp, StepOp, TypeId, is_shift, promoted_kind};
 use c_types::IntKind;
 use lay_base::UndefinedKind;
 use runs::Value;
-use source_types::{Sort, convert};
+use source_types::{Sort, Types, convert};
 
 fn common_kind(op: BinaryOp, left: IntKind, right: IntKind) -> IntKind
     ensures { result ≡ common_kind op left right }
@@ -43,9 +45,9 @@ fn step_op(op: StepOp) -> BinaryOp
     }
 }
 
-/// What a compound assignment stores: the old value is of a type of that sort, with elements of a size where it is a pointer, and the
+/// What a compound assignment stores where the old value is of a type of that sort, with elements of a size where it is a pointer, and the
 /// operand of that kind.
-pub fn updated(
+fn updated_by(
     store: &Store,
     op: BinaryOp,
     size: u32,
@@ -71,8 +73,8 @@ pub fn updated(
     }
 }
 
-/// What `++` and `--` store.
-pub fn next(
+/// What `++` and `--` store where the old value is of a type of that sort.
+fn next_by(
     store: &Store,
     op: StepOp,
     size: u32,
@@ -86,5 +88,48 @@ pub fn next(
         Sort::Number(kind) => promoted_kind(kind),
         Sort::Void | Sort::Pointer | Sort::Other => IntKind::Int,
     };
-    updated(store, step_op(op), size, sort, old, kind, Value::Word(1))
+    updated_by(store, step_op(op), size, sort, old, kind, Value::Word(1))
+}
+
+/// What a compound assignment stores: the types are those of the old value and of the operand (C99 6.5.16.2).
+#[tactic(auto, using(source_types::proofs::BySort::updated_is))]
+#[inline(always)]
+pub fn updated(
+    types: &Types<'_>,
+    store: &Store,
+    op: BinaryOp,
+    t: TypeId,
+    old: Value,
+    right: TypeId,
+    v: Value,
+) -> Result<Value, UndefinedKind>
+    ensures { result ≡ updated (memory_of store.now) op (element_size (program_data types.now) (type_at (program_data types.now) t))
+        (type_at (program_data types.now) t) old (type_at (program_data types.now) right) v }
+{
+    let row = types.row(t);
+    updated_by(
+        store,
+        op,
+        row.element,
+        row.sort,
+        old,
+        types.row(right).kind,
+        v,
+    )
+}
+
+/// What `++` and `--` store where the old value is of a type (C99 6.5.2.4, 6.5.3.1).
+#[tactic(auto, using(source_types::proofs::BySort::next_is))]
+#[inline(always)]
+pub fn next(
+    types: &Types<'_>,
+    store: &Store,
+    op: StepOp,
+    t: TypeId,
+    old: Value,
+) -> Result<Value, UndefinedKind>
+    ensures { result ≡ next (memory_of store.now) op (element_size (program_data types.now) (type_at (program_data types.now) t)) (type_at (program_data types.now) t) old }
+{
+    let row = types.row(t);
+    next_by(store, op, row.element, row.sort, old)
 }
