@@ -76,11 +76,7 @@ fn tally_parts(tallies: &mut Vec<Tally>, s: &Statement) -> Result<u32, NoMemory>
             both(loops, 1)
         }
         Statement::Switch(_, _, arms) => tally_arms(tallies, arms.as_slice()),
-        Statement::Do(_)
-        | Statement::Declare(..)
-        | Statement::Break
-        | Statement::Continue
-        | Statement::Return(_) => Ok(0),
+        _ => Ok(0),
     }
 }
 
