@@ -10,3 +10,7 @@ pub mod Program
 pub mod Run
 pub mod Statements
 pub mod Weights
+pub mod Allocations
+pub mod PointerTypes
+pub mod Longer
+pub mod Outcomes

@@ -7,7 +7,7 @@ use Rattle.runs.specs.declared.value.Value.TheVariants.{Word, Pointer}
 use Rattle.source_actions.specs.Casts.{cast_by}
 use Rattle.source_steps.specs.Actions.{cast_to}
 use Rattle.source_steps.specs.States.{State}
-use Rattle.source_types.specs.Sorts.{sort_of}
+use Rattle.source_values.specs.Sorts.{sort_of}
 
 pub cast_is : (t : CType) (at : Place) (v : Option Value) (s : State) → cast_to t at v s ≡ cast_by (sort_of t) at v s
 cast_is void at v s = refl

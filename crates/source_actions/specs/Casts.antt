@@ -4,9 +4,9 @@ use Rattle.lay_base.specs.declared.place.Place.{Place}
 use Rattle.runs.specs.declared.value.Value.{Value}
 use Rattle.source_steps.specs.Actions.{needed}
 use Rattle.source_steps.specs.States.{State, Step, goes, pushed, given}
-use Rattle.source_types.specs.declared.row.Sort.{Sort}
-use Rattle.source_types.specs.declared.row.Sort.TheVariants.{Void}
-use Rattle.source_types.specs.Sorts.{converted_by}
+use Rattle.source_values.specs.declared.row.Sort.{Sort}
+use Rattle.source_values.specs.declared.row.Sort.TheVariants.{Void}
+use Rattle.source_values.specs.Sorts.{converted_by}
 
 abbrev pub cast_by : Sort → Place → Option Value → State → Step
 cast_by Void at v s = goes (pushed None s)

@@ -5,7 +5,7 @@ use Rattle.runs.specs.declared.value.Value.{Value}
 use Rattle.runs.specs.declared.value.Value.TheVariants.{Word, Pointer}
 use Rattle.source_direct.specs.Sorts.{if_converted_by}
 use Rattle.source_steps.specs.Direct.{if_converted}
-use Rattle.source_types.specs.Sorts.{sort_of}
+use Rattle.source_values.specs.Sorts.{sort_of}
 
 pub converted_is : (t : CType) (v : Value) → if_converted t v ≡ if_converted_by (sort_of t) v
 converted_is void v = refl

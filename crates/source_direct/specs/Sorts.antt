@@ -1,9 +1,9 @@
 -- A conversion by the sort of its type, where the value has one then.
 use Rattle.std.specs.Prelude.{Option, Some, None}
 use Rattle.runs.specs.declared.value.Value.{Value}
-use Rattle.source_types.specs.declared.row.Sort.{Sort}
-use Rattle.source_types.specs.declared.row.Sort.TheVariants.{Void}
-use Rattle.source_types.specs.Sorts.{converted_by}
+use Rattle.source_values.specs.declared.row.Sort.{Sort}
+use Rattle.source_values.specs.declared.row.Sort.TheVariants.{Void}
+use Rattle.source_values.specs.Sorts.{converted_by}
 
 abbrev pub if_converted_by : Sort → Value → Option Value
 if_converted_by Void v = None

@@ -3,7 +3,7 @@
 ghost use Rattle.std.specs.Prelude.{◌≡◌};
 ghost use Rattle.c_typed.specs.Programs.{program_data};
 ghost use Rattle.c_typed.specs.Views.{expression_of, path_of};
-ghost use Rattle.source_core.specs.View.{core_of};
+ghost use Rattle.source_state.specs.RoomView.{core_of};
 ghost use Rattle.source_direct.specs.Members.{member_at};
 ghost use Rattle.source_steps.specs.Direct.{direct, direct_spot};
 
@@ -16,9 +16,8 @@ use c_meaning::Spot;
 use c_typed::{Expression, ExpressionNode, Path, PathNode};
 use lay_base::Boxed;
 use runs::Value;
-use source_core::Room;
-use source_types::Types;
-use source_values::{flag, is_true, part_of, pointer_of, way_to, word_of};
+use source_state::Room;
+use source_values::{Types, flag, is_true, part_of, pointer_of, way_to, word_of};
 
 // `let .. else` stands where `?` could: each `?` is two calls and a `match` more for the proof of its function.
 

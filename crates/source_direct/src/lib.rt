@@ -1,6 +1,6 @@
 //! Expressions that are evaluated in one step of the interpreter.
 //!
-//! It stands on `source_core` and `source_values`, which do what each part asks of memory and values, and on `source_steps`, which says which
+//! It stands on `source_state` and `source_values`, which do what each part asks of memory and values, and on `source_steps`, which says which
 //! expressions these are and what they give.
 #![tactic(auto)]
 

@@ -10,7 +10,7 @@ ghost use Rattle.c_meaning.specs.Expressions.{field_in};
 ghost use Rattle.c_meaning.specs.Operators.{binary, compared, distance, flag, is_true, moved, unary};
 ghost use Rattle.c_meaning.specs.declared.frame.Spot.TheVariants.{Placed};
 ghost use Rattle.runs.specs.Scalars.{pointer_of, word_of};
-ghost use Rattle.source_core.specs.View.{core_of};
+ghost use Rattle.source_state.specs.RoomView.{core_of};
 ghost use Rattle.source_steps.specs.Actions.{address_of, lies_at};
 ghost use Rattle.source_steps.specs.Direct.{and_if, if_converted, if_element, if_found};
 ghost use Rattle.source_steps.specs.Locals.{fetch, local_spot};
@@ -21,12 +21,8 @@ use c_meaning::Spot;
 use c_typed::{BinaryOp, CompareOp, PointerOp, TypeId, UnaryOp};
 use lay_base::UndefinedKind;
 use runs::Value;
-use source_core::Room;
-use source_types::{Sort, Types, convert};
-use source_values::{
-    address_of, binary, compared, distance, element, field_in, flag, is_subscript, is_true, moved,
-    number_of, pointer_of, unary,
-};
+use source_state::Room;
+use source_values::{Sort, Types, address_of, binary, compared, convert, distance, element, field_in, flag, is_subscript, is_true, moved, number_of, pointer_of, unary};
 
 // ---- values
 

@@ -5,7 +5,7 @@ ghost use Rattle.c_meaning.specs.Program.{access_at};
 ghost use Rattle.c_typed.specs.Constants.{ty};
 ghost use Rattle.c_typed.specs.Programs.{program_data};
 ghost use Rattle.c_typed.specs.Views.{expression_of, path_of};
-ghost use Rattle.source_core.specs.View.{core_of};
+ghost use Rattle.source_state.specs.RoomView.{core_of};
 ghost use Rattle.source_direct.specs.Finding.{Finds, FindsIf};
 ghost use Rattle.source_steps.specs.Direct.{and_then, at_once, direct, direct_spot, if_found, shown_if, stepped_once, updated_once};
 ghost use Rattle.source_steps.specs.Locals.{local_spot, put};
@@ -17,9 +17,8 @@ use block_memory::{Access, Ptr};
 use c_meaning::{Slot, Spot};
 use c_typed::{BinaryOp, Expression, ExpressionNode, Path, PathNode, StepOp, TypeId};
 use runs::Value;
-use source_core::Room;
-use source_types::Types;
-use source_values::{next, updated};
+use source_state::Room;
+use source_values::{Types, next, updated};
 
 // `let .. else` stands where `?` could, as in `evaluating`.
 

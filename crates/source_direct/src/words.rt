@@ -15,9 +15,9 @@ ghost use Rattle.c_typed.specs.Programs.{program_data};
 ghost use Rattle.c_typed.specs.Views.{expression_of, path_of};
 ghost use Rattle.runs.specs.Scalars.{load_in};
 ghost use Rattle.runs.specs.declared.value.Value.TheVariants.{Pointer, Word};
-ghost use Rattle.source_core.specs.View.{core_of};
+ghost use Rattle.source_state.specs.RoomView.{core_of};
 ghost use Rattle.source_direct.specs.Sorts.{if_converted_by};
-ghost use Rattle.source_types.specs.Sorts.{next_by};
+ghost use Rattle.source_values.specs.Sorts.{next_by};
 ghost use Rattle.source_direct.specs.Members.{member_at};
 ghost use Rattle.source_steps.specs.Actions.{lies_at};
 ghost use Rattle.source_steps.specs.Direct.{and_if, direct, direct_spot, if_converted, if_element, if_found, if_near};
@@ -32,9 +32,8 @@ use c_typed::{
 };
 use lay_base::Boxed;
 use runs::Value;
-use source_core::Room;
-use source_types::{Sort, Types};
-use source_values::{field_in, part_of, way_to};
+use source_state::Room;
+use source_values::{Sort, Types, field_in, part_of, way_to};
 
 /// A byte of a block.
 #[derive(Clone, Copy)]
@@ -118,7 +117,7 @@ fn next_word(room: &Room, op: StepOp, size: u32, sort: Sort, v: u32) -> Option<u
 }
 
 /// The next number of a type, or the one before.
-#[tactic(auto, using(source_types::proofs::BySort::next_is))]
+#[tactic(auto, using(source_values::proofs::BySort::next_is))]
 pub(crate) fn stepped_word(
     types: &Types<'_>,
     room: &Room,

@@ -6,7 +6,7 @@ ghost use Rattle.c_typed.specs.Programs.{data_of, program_data};
 ghost use Rattle.c_meaning.specs.Program.{type_at};
 ghost use Rattle.c_typed.specs.Views.{expression_of, expressions_of};
 ghost use Rattle.loop_tallies.specs.Forms.{statement_in};
-ghost use Rattle.source_core.specs.View.{core_of};
+ghost use Rattle.source_state.specs.RoomView.{core_of};
 ghost use Rattle.source_state.specs.View.{state_of};
 ghost use Rattle.source_steps.specs.Calls.{receive, receive_one};
 ghost use Rattle.source_steps.specs.Memories.{allocate};
@@ -21,12 +21,10 @@ use lay_base::{NoMemory, Place, UndefinedKind};
 use loop_tallies::{TalliedFunction, TalliedStatement};
 use runs::Value;
 use source_actions::found;
-use source_core::Room;
+use source_state::{ForCall, ForStatement, Machine, Room, STUCK, Scope, Work, undefined};
 use source_machine::Callee;
-use source_state::{ForCall, ForStatement, Machine, STUCK, Scope, Work, undefined};
 use source_steps::{Final, Moved};
-use source_types::Types;
-use source_values::{pointer_of, word_of};
+use source_values::{Types, pointer_of, word_of};
 use std::alloc::Global;
 
 // ---- the frame of a function

@@ -20,7 +20,7 @@ use runs::Value;
 use source_machine::{Action, Callee};
 use source_state::{ForCall, ForExpression, Machine, Work, undefined};
 use source_steps::Moved;
-use source_types::Types;
+use source_values::Types;
 use std::alloc::Global;
 
 /// Whether the value of an expression may be none.

@@ -1,7 +1,7 @@
 //! The first steps of expressions, with calls, and what is done with the locals of functions and blocks.
 //!
-//! It stands on `source_state`, whose machine it moves on, on `loop_tallies`, whose functions are called, and on `source_actions` and `source_core`,
-//! which do what calls and locals come to.
+//! It stands on `source_state`, whose machine it moves on, on `loop_tallies`, whose functions are called, and on `source_actions`, which does what calls
+//! come to.
 #![tactic(auto)]
 
 mod calls;

@@ -5,7 +5,7 @@ ghost use Rattle.std.specs.Option.{option_copied, option_map};
 ghost use Rattle.c_meaning.specs.Run.{numbers};
 ghost use Rattle.c_typed.specs.Programs.{program_data};
 ghost use Rattle.c_typed.specs.Views.{initializer_of, part_of, part_value_of};
-ghost use Rattle.source_core.specs.View.{core_of};
+ghost use Rattle.source_state.specs.RoomView.{core_of};
 ghost use Rattle.source_steps.specs.Locals.{begin, begin_all, finish_all, slot};
 ghost use Rattle.source_steps.specs.Statements.{declared, fills, fills_all, initial, initial_by_name, initial_in};
 ghost use Rattle.source_state.specs.View.{state_of};
@@ -15,11 +15,10 @@ use crate::expressions::{go_on, spot_one, use_one};
 use c_meaning::Slot;
 use c_typed::{Initializer, InitializerPart, Local, PartValue};
 use lay_base::NoMemory;
-use source_core::Room;
+use source_state::{Machine, Room, Scope, Work};
 use source_machine::Action;
-use source_state::{Machine, Scope, Work};
 use source_steps::{Final, Moved};
-use source_types::Types;
+use source_values::Types;
 use std::alloc::Global;
 
 /// The local with that number; parameters come first.

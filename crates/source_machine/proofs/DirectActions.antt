@@ -19,9 +19,9 @@ use Rattle.c_meaning.specs.declared.frame.Spot.TheVariants.{Placed as placed}
 use Rattle.c_meaning.specs.declared.frame.Slot.TheVariants.{ByName as by_name}
 use Rattle.c_meaning.specs.Operators.{converted, is_true, flag, unary, binary, moved, distance, compared, updated, next}
 use Rattle.c_meaning.specs.Program.{type_at, element_size, access_at}
-use Rattle.c_meaning_laws.proofs.ClosedRuns as Runs
-use Rattle.c_meaning_laws.proofs.ClosedExpressions as Expressions
-use Rattle.c_meaning_laws.proofs.Direct.{Direct, pure_direct, bind_direct, undefined_direct, by_outcome}
+use Rattle.c_meaning.proofs.ClosedRuns as Runs
+use Rattle.c_meaning.proofs.ClosedExpressions as Expressions
+use Rattle.c_meaning.proofs.Direct.{Direct, pure_direct, bind_direct, undefined_direct, by_outcome}
 use Rattle.source_machine.specs.Actions.{taking, taking_any, taking_spot, gives, leads, cast_to, performed}
 use Rattle.source_machine.specs.Items as I
 use Rattle.source_machine.specs.Items.{Stack}

@@ -26,12 +26,12 @@ use Rattle.c_meaning.specs.Program.{type_at, size_at}
 use Rattle.c_meaning.specs.Run.{result_of, status_of}
 use Rattle.c_meaning.specs.declared.frame.Way.{Way}
 use Rattle.c_meaning.specs.declared.frame.Way.TheVariants.{Normally as normally, ByBreak as by_break, ByContinue as by_continue, ByReturn as by_return}
-use Rattle.c_meaning_laws.specs.Outcomes.{Outcome, comes, over, and_then, IsWithin}
-use Rattle.c_meaning_laws.proofs.ClosedRuns as Runs
-use Rattle.c_meaning_laws.proofs.ClosedExpressions as Expressions
-use Rattle.c_meaning_laws.proofs.ClosedStatements as Statements
-use Rattle.c_meaning_laws.proofs.ClosedCalls as Calls
-use Rattle.c_meaning_laws.proofs.Direct.{turn_outcome, behind_turn, end_direct, deeper_direct, leave_direct, own_direct, by_outcome}
+use Rattle.c_meaning.specs.Outcomes.{Outcome, comes, over, and_then, IsWithin}
+use Rattle.c_meaning.proofs.ClosedRuns as Runs
+use Rattle.c_meaning.proofs.ClosedExpressions as Expressions
+use Rattle.c_meaning.proofs.ClosedStatements as Statements
+use Rattle.c_meaning.proofs.ClosedCalls as Calls
+use Rattle.c_meaning.proofs.Direct.{turn_outcome, behind_turn, end_direct, deeper_direct, leave_direct, own_direct, by_outcome}
 use Rattle.source_machine.specs.Actions.{taking}
 use Rattle.source_machine.specs.Items as I
 use Rattle.source_machine.specs.Items.{Stack, Context, Loop, LoopBehind, Item, Work, acting, evaluating, using, spotting}

@@ -21,8 +21,8 @@ use Rattle.c_meaning.specs.Program.{type_at, all_locals}
 use Rattle.c_meaning.specs.Run.{called, function_of, body_of, numbers, result_of}
 use Rattle.c_meaning.specs.declared.frame.Way.{Way}
 use Rattle.c_meaning.specs.declared.frame.Way.TheVariants.{Normally as normally, ByBreak as by_break, ByContinue as by_continue, ByReturn as by_return}
-use Rattle.c_meaning_laws.proofs.Fuel.{by_turns, executed_same}
-use Rattle.c_meaning_laws.proofs.ClosedCalls as Calls
+use Rattle.c_meaning.proofs.Fuel.{by_turns, executed_same}
+use Rattle.c_meaning.proofs.ClosedCalls as Calls
 use Rattle.source_machine.specs.Items as I
 use Rattle.source_machine.specs.Items.{Stack, Work, executing, ending, framing}
 use Rattle.source_machine.specs.declared.items.Callee.{Callee}

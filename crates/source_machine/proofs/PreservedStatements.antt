@@ -18,8 +18,8 @@ use Rattle.c_meaning.specs.declared.frame.Way.{Way}
 use Rattle.c_meaning.specs.declared.frame.Way.TheVariants.{Normally as normally, ByBreak as by_break, ByContinue as by_continue, ByReturn as by_return}
 use Rattle.c_counts.specs.Loops.{loops_in, loops_in_all}
 use Rattle.runs.specs.declared.value.Value.{Value}
-use Rattle.c_meaning_laws.proofs.ClosedStatements as Closed
-use Rattle.c_meaning_laws.proofs.Fuel.{Same, by_turns, called_same, executed_same, loop_again, loop_behind_again}
+use Rattle.c_meaning.proofs.ClosedStatements as Closed
+use Rattle.c_meaning.proofs.Fuel.{Same, by_turns, called_same, executed_same, loop_again, loop_behind_again}
 use Rattle.source_machine.specs.Items as I
 use Rattle.source_machine.specs.Items.{Stack, Context, Loop, LoopBehind, Item, Work, acting, using, tested, repeating}
 use Rattle.source_machine.specs.declared.items.Operand.TheVariants.{Value as value, Spot as spot}

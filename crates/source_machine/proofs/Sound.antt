@@ -5,7 +5,7 @@ use Rattle.runs.specs.Doing.{Rest}
 use Rattle.runs.specs.Worlds.{World, End, ends, goes_on, undefined, out_of_room}
 use Rattle.c_meaning.specs.Frames.{Frame}
 use Rattle.c_meaning.specs.Run.{run_of, start}
-use Rattle.c_meaning_laws.specs.Outcomes.{comes, over, with_rest, and_then, IsWithin}
+use Rattle.c_meaning.specs.Outcomes.{comes, over, with_rest, and_then, IsWithin}
 use Rattle.source_machine.specs.Finish.{finish}
 use Rattle.source_machine.specs.Moves.{Moved, Moves}
 use Rattle.source_machine.specs.Steps.{Left, started_with}

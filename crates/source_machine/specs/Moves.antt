@@ -4,7 +4,7 @@ use Rattle.c_typed.specs.Programs.{ProgramData}
 use Rattle.runs.specs.Doing.{Rest}
 use Rattle.runs.specs.Worlds.{World}
 use Rattle.c_meaning.specs.Frames.{Frame}
-use Rattle.c_meaning_laws.specs.Outcomes.{Outcome, with_rest}
+use Rattle.c_meaning.specs.Outcomes.{Outcome, with_rest}
 use Rattle.source_machine.specs.Steps.{Left, stepped}
 
 -- the machine goes on with other work, another frame and another world, or it is over

@@ -1,7 +1,7 @@
 //! A machine that runs a C program step by step, with the work that is left, a stack of operands and the frames of suspended calls, and the proof that it
 //! does what the program does.
 //!
-//! It stands on `c_meaning`, whose run it is proved against, on the laws of `c_meaning_laws`, and on what they stand on.
+//! It stands on `c_meaning`, whose run it is proved against by the laws of runs there, and on what that stands on.
 #![tactic(auto)]
 
 mod items;

@@ -4,7 +4,7 @@ use Rattle.std.proofs.lemmas.List.{append-nil, append_assoc}
 use Rattle.lay_base.specs.Known.{Appends}
 use Rattle.runs.specs.Events.{Call, putting, getting}
 use Rattle.source_run.specs.RunGives.{bytes_put, rest_behind}
-use Rattle.source_step_laws.specs.Agreeing.{behind_next}
+use Rattle.source_steps.specs.Agreeing.{behind_next}
 
 pub appends_none : (old : Option (List ℕ)) → Appends old old []
 appends_none None = refl

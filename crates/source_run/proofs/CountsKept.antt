@@ -54,7 +54,7 @@ use Rattle.source_steps.specs.Ahead.{settled, at_hand, executed_ahead, past, pas
 use Rattle.source_steps.specs.Ahead.{executed_whole, begun_ahead, tests_ahead, repeats_ahead, arms_behind, entered_first, entered_ahead, ahead, advanced_at, advanced}
 use Rattle.source_steps.specs.Direct.{at_once}
 use Rattle.source_steps.specs.Steps.{enacted}
-use Rattle.source_step_laws.proofs.Ahead.{still_once}
+use Rattle.source_steps.proofs.Ahead.{still_once}
 use Rattle.source_steps.specs.declared.ends.Final.{Final}
 
 module _ (Q : Counting → Type 0) (entry : (c : Counting) (f : ℕ) → Q c → Q (with_entry c f)) (begins : (c : Counting) (f l : ℕ) → Q c → Q (with_begin c f l)) where

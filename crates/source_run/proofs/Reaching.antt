@@ -13,9 +13,9 @@ use Rattle.source_run.proofs.Appending.{appends_none, appends_more, put_one, put
 use Rattle.source_run.proofs.CountsKept.{counts_kept}
 use Rattle.source_start.proofs.Shapes.{keeps_entry, keeps_begin, has_all_still}
 use Rattle.source_start.specs.Shape.{HasAll}
-use Rattle.source_step_laws.specs.Agreeing.{next_in}
-use Rattle.source_step_laws.specs.Came.{Came, Comes, Ended}
-use Rattle.source_step_laws.proofs.Arriving.{starts, comes, comes_where}
+use Rattle.source_steps.specs.Agreeing.{next_in}
+use Rattle.source_steps.specs.Came.{Came, Comes, Ended}
+use Rattle.source_steps.proofs.Arriving.{starts, comes, comes_where}
 use Rattle.source_steps.specs.Counting.{with_entry, with_begin}
 use Rattle.source_steps.specs.States.{State, Step, given}
 use Rattle.source_steps.specs.Ahead.{advanced}

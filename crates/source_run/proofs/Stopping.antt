@@ -14,10 +14,10 @@ use Rattle.source_run.specs.declared.end.RunEnd.TheVariants as E
 use Rattle.source_run.proofs.Appending.{appends_none, appends_more, put_got, rest_got}
 use Rattle.source_run.proofs.Reaching.{CameBy, Reached, Far, keeps_all_where, steady_then, by_put, by_get, by_end}
 use Rattle.source_start.proofs.Telling.{counts_are}
-use Rattle.source_step_laws.specs.Agreeing.{behind_next}
-use Rattle.source_step_laws.specs.Came.{trace_of, seen_as}
-use Rattle.source_step_laws.proofs.Arriving.{kept_is, calls_are as calls_told, entries_are, begins_are}
-use Rattle.source_step_laws.proofs.Onwards.{goes_on}
+use Rattle.source_steps.specs.Agreeing.{behind_next}
+use Rattle.source_steps.specs.Came.{trace_of, seen_as}
+use Rattle.source_steps.proofs.Arriving.{kept_is, calls_are as calls_told, entries_are, begins_are}
+use Rattle.source_steps.proofs.Onwards.{goes_on}
 use Rattle.source_steps.specs.States.{State}
 use Rattle.source_steps.specs.Ahead.{advanced}
 use Rattle.source_steps.specs.declared.ends.Final.{Final}

@@ -6,7 +6,7 @@ use Rattle.source_run.specs.Fresh.{no_counts}
 use Rattle.source_start.proofs.Telling.{counts_are}
 use Rattle.source_start.specs.Counted.{entry_in, begin_in}
 use Rattle.source_start.specs.Shape.{HasAll}
-use Rattle.source_step_laws.specs.Came.{AreZero}
+use Rattle.source_steps.specs.Came.{AreZero}
 use Rattle.source_steps.specs.Counting.{Counting}
 
 pub zeros_are : (p : ProgramData) (c : Counting) → HasAll p c → AreZero c → counts_by (entry_in c) (begin_in c) p ≡ no_counts p

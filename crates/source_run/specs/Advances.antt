@@ -6,7 +6,7 @@ use Rattle.runs.specs.declared.value.Value.{Value}
 use Rattle.source_run.specs.Streams.{Streams, AreSteady}
 use Rattle.source_run.specs.declared.stepping.Advance.{Advance}
 use Rattle.source_run.specs.declared.stepping.Advance.TheVariants as A
-use Rattle.source_step_laws.specs.Agreeing.{next_in, behind_next}
+use Rattle.source_steps.specs.Agreeing.{next_in, behind_next}
 use Rattle.source_steps.specs.States.{State, given}
 use Rattle.source_steps.specs.Ahead.{advanced}
 use Rattle.source_steps.specs.declared.ends.Moved.{Moved}

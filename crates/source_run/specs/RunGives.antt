@@ -9,7 +9,7 @@ use Rattle.runs.specs.Events.{Call, putting, getting, calls_of, entries_of, begi
 use Rattle.source_run.specs.Streams.{Streams, AreSteady}
 use Rattle.source_run.specs.declared.end.RunEnd.{RunEnd as Answer}
 use Rattle.source_run.specs.declared.end.RunEnd.TheVariants as E
-use Rattle.source_step_laws.specs.Came.{trace_of}
+use Rattle.source_steps.specs.Came.{trace_of}
 
 -- the counts of the run within the room of the interpreter: of each function its entries, of each loop the begins of its body
 abbrev pub counts_of : ProgramData → (input : List ℕ) → (turns : ℕ) → Counts

@@ -7,7 +7,7 @@ use Rattle.source_run.specs.declared.end.RunEnd.{RunEnd as Answer}
 use Rattle.source_run.specs.declared.end.RunEnd.TheVariants as E
 use Rattle.source_start.specs.Counted.{entry_in, begin_in}
 use Rattle.source_start.specs.Shape.{HasAll}
-use Rattle.source_step_laws.specs.Came.{AreZero, state_at_start}
+use Rattle.source_steps.specs.Came.{AreZero, state_at_start}
 use Rattle.source_steps.specs.Counting.{Counting}
 use Rattle.source_steps.specs.States.{State}
 use Rattle.source_steps.specs.declared.ends.Final.{Final}

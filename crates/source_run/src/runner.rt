@@ -15,7 +15,7 @@ use lay_base::{NoMemory, Sink, Source};
 use source_start::{counts, start};
 use source_state::Machine;
 use source_steps::Final;
-use source_types::Types;
+use source_values::Types;
 use std::alloc::Global;
 
 /// What a run answers that is over so.

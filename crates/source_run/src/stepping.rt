@@ -12,7 +12,7 @@ use runs::Value;
 use source_state::Machine;
 use source_stepper::step;
 use source_steps::{Final, Moved};
-use source_types::Types;
+use source_values::Types;
 use std::alloc::Global;
 
 /// What a step came to, with the byte that it wrote or read.

@@ -10,7 +10,7 @@ use Rattle.c_meaning.specs.Frames.{Frame}
 use Rattle.c_meaning.specs.Program.{initial_memory}
 use Rattle.runs.specs.Worlds.{live_bytes}
 use Rattle.source_steps.specs.Counting.{Counting}
-use Rattle.source_step_laws.specs.Came.{AreZero, core_at_start}
+use Rattle.source_steps.specs.Came.{AreZero, core_at_start}
 
 in_zeros : (count k n : ℕ) → slice_get (replicate count 0) k ≡ Some n → n ≡ zero
 in_zeros zero k n e = cc

@@ -15,7 +15,7 @@ use Rattle.source_start.specs.Counted.{begin_in, entry_in}
 use Rattle.source_start.specs.Shape.{HasAll}
 use Rattle.source_steps.specs.Cores.{Core}
 use Rattle.source_steps.specs.Counting.{Counting}
-use Rattle.source_step_laws.specs.Agreeing.{Agrees}
+use Rattle.source_steps.specs.Agreeing.{Agrees}
 
 -- ---- one count
 

@@ -2,17 +2,17 @@
 
 ghost use Rattle.std.specs.Prelude.{◌≡◌, IfOk};
 ghost use Rattle.c_typed.specs.Programs.{program_data};
-ghost use Rattle.source_core.specs.CountsView.{counting_of};
-ghost use Rattle.source_core.specs.View.{core_of};
+ghost use Rattle.source_state.specs.CountsView.{counting_of};
+ghost use Rattle.source_state.specs.RoomView.{core_of};
 ghost use Rattle.source_start.specs.Shape.{HasAll};
-ghost use Rattle.source_step_laws.specs.Came.{AreZero, core_at_start};
+ghost use Rattle.source_steps.specs.Came.{AreZero, core_at_start};
 
 use crate::counters::no_counts;
 use crate::objects::add_objects;
 use block_memory::Store;
 use lay_base::NoMemory;
-use source_core::Room;
-use source_types::Types;
+use source_state::Room;
+use source_values::Types;
 use std::alloc::Global;
 
 /// What a run of the program starts with, when so many turns may begin. `NoMemory` comes for want of memory, and where a first value does

@@ -13,7 +13,7 @@ use crate::values::write_all;
 use block_memory::{BlockKind, Store};
 use c_typed::Object;
 use lay_base::NoMemory;
-use source_types::Types;
+use source_values::Types;
 use std::alloc::Global;
 
 fn object_kind(text: bool) -> BlockKind

@@ -3,14 +3,14 @@
 ghost use Rattle.std.specs.Prelude.{◌≡◌, ◌<◌, ◌^◌, IfOk, length, map};
 ghost use Rattle.c_counts.specs.Counting.{count_at, counts_by, name_at, numbers_below};
 ghost use Rattle.c_typed.specs.Programs.{program_data};
-ghost use Rattle.source_core.specs.CountsView.{counting_of};
+ghost use Rattle.source_state.specs.CountsView.{counting_of};
 ghost use Rattle.source_start.specs.Counted.{begin_in, entry_in};
 
 use crate::counters::{begin, entry, loops_at};
 use c_counts::{Counts, FunCount, next_defined};
 use c_typed::Typed;
 use lay_base::{List, Name, NoMemory, add};
-use source_core::Counters;
+use source_state::Counters;
 use std::alloc::Global;
 
 /// A copy of the name of the function of that number.

@@ -1,2 +1,4 @@
 pub mod WorkView
 pub mod View
+pub mod RoomView
+pub mod CountsView

@@ -1,6 +1,6 @@
 -- The interpreter's parts as its state.
 use Rattle.std.specs.Prelude.{map}
-use Rattle.source_core.specs.View.{core_of}
+use Rattle.source_state.specs.RoomView.{core_of}
 use Rattle.source_state.specs.WorkView.{item_of}
 use Rattle.source_state.specs.declared.machine.Machine.{Machine}
 use Rattle.source_steps.specs.States.{State}

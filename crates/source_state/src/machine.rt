@@ -2,7 +2,7 @@
 
 ghost use Rattle.std.specs.Prelude.{◌≡◌, ◌∷◌, [], IfOk, MatchOption, OnOk, Option, Some};
 ghost use Rattle.c_typed.specs.Trees.{no_expressions};
-ghost use Rattle.source_core.specs.View.{core_of};
+ghost use Rattle.source_state.specs.RoomView.{core_of};
 ghost use Rattle.source_machine.specs.Items.{gathering};
 ghost use Rattle.source_machine.specs.declared.items.Callee.TheVariants as OfCallee;
 ghost use Rattle.source_state.specs.View.{state_of};
@@ -18,7 +18,7 @@ use crate::work::{ForCall, Work};
 use c_meaning::Spot;
 use lay_base::{NoMemory, Place, UndefinedKind};
 use runs::Value;
-use source_core::Room;
+use crate::room::Room;
 use source_machine::{Callee, Operand};
 use source_steps::{Final, Moved};
 use std::alloc::Global;

@@ -21,8 +21,7 @@ use source_direct::at_once;
 use source_expressions::{evaluate, evaluate_used, go_on};
 use source_state::{ForStatement, Loop, Machine, Scope, Work};
 use source_steps::Moved;
-use source_types::Types;
-use source_values::{is_true, word_of};
+use source_values::{Types, is_true, word_of};
 use std::alloc::Global;
 
 // ---- expressions

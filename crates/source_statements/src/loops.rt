@@ -11,7 +11,7 @@ use source_expressions::{evaluate_one, go_on, use_then};
 use source_machine::Action;
 use source_state::{ForLoop, ForStatement, Loop, LoopBehind, Machine, Work};
 use source_steps::Moved;
-use source_types::Types;
+use source_values::Types;
 
 /// One more loop stands before the body of a loop; `NoMemory` comes where there are 2^64.
 pub(crate) fn one_more(number: u64) -> Result<u64, NoMemory>

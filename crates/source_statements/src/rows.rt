@@ -4,7 +4,7 @@ ghost use Rattle.std.specs.Prelude.{◌≡◌, IfOk, OnOk};
 ghost use Rattle.c_typed.specs.Programs.{program_data};
 ghost use Rattle.c_typed.specs.Trees as T;
 ghost use Rattle.loop_tallies.specs.Forms.{arms_in, statement_in, statements_in};
-ghost use Rattle.source_core.specs.View.{core_of};
+ghost use Rattle.source_state.specs.RoomView.{core_of};
 ghost use Rattle.source_steps.specs.Ahead.{arms_behind, begun_ahead, entered_ahead, entered_first, executed_all_ahead, executed_first, executed_later, executed_whole, followed, past, repeats_ahead, tests_ahead};
 ghost use Rattle.source_statements.specs.Ahead.{tested_ahead_by};
 ghost use Rattle.source_state.specs.View.{state_of};
@@ -16,14 +16,12 @@ use crate::statements::behind;
 use lay_base::NoMemory;
 use loop_tallies::{TalliedArms, TalliedStatement, TalliedStatements};
 use runs::Value;
-use source_core::Room;
+use source_state::{ForArms, ForLoop, Loop, Machine, Room, Scope, Work};
 use source_direct::at_once;
 use source_expressions::{begin_all, evaluate_one};
 use source_machine::Action;
-use source_state::{ForArms, ForLoop, Loop, Machine, Scope, Work};
 use source_steps::Moved;
-use source_types::Types;
-use source_values::is_true;
+use source_values::{Types, is_true};
 use std::alloc::Global;
 
 // ---- statements in a row

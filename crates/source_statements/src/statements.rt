@@ -25,7 +25,7 @@ use source_expressions::{begin_all, declare, evaluate_one, go_on, use_then};
 use source_machine::Action;
 use source_state::{ForArms, ForLoop, ForStatement, Loop, LoopBehind, Machine, Scope, Work};
 use source_steps::Moved;
-use source_types::Types;
+use source_values::Types;
 use std::alloc::Global;
 
 /// The number of loops behind so many and some more; `NoMemory` comes where there are 2^64.

@@ -30,8 +30,7 @@ use source_statements::{
     execute_whole, leave, repeat_ahead, repeat_loop, select, test_ahead, test_behind, use_ahead,
 };
 use source_steps::{Final, Moved};
-use source_types::Types;
-use source_values::{flag, is_true, word_of};
+use source_values::{Types, flag, is_true, word_of};
 use std::alloc::Global;
 
 /// The value of `main` as the status of the program (C99 5.1.2.2.3).

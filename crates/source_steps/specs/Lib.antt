@@ -10,3 +10,5 @@ pub mod Statements
 pub mod Steps
 pub mod Direct
 pub mod Ahead
+pub mod Agreeing
+pub mod Came

@@ -1,1 +1,4 @@
 pub mod Outside
+pub mod ByNumber
+pub mod BySort
+pub mod Past

@@ -1,2 +1,4 @@
 pub mod Elements
 pub mod Ways
+pub mod Rows
+pub mod Sorts

@@ -1,15 +1,26 @@
-//! What operators make of values (C99 6.5), with the tests of pointers on a store.
+//! What operators make of values (C99 6.5), with the tests of pointers on a store, and what they ask of types: a table by their numbers, which is made once
+//! for a program.
 //!
-//! It stands on `memory_cells`, `block_memory` and `runs`, on `c_typed` for arithmetic, on `source_types` for what a type is, and on `c_meaning`, whose
-//! definitions each of its calls computes.
+//! It stands on `c_types` and `c_typed` for sizes and arithmetic, on `memory_cells`, `block_memory` and `runs`, whose values these are, on `c_meaning` and
+//! `source_steps`, whose definitions each of its calls computes, and on `loop_tallies`, whose tallies stand beside the table.
 #![tactic(auto)]
 
+mod converting;
 mod numbers;
+mod offsets;
 mod paths;
+mod pointed;
 mod pointers;
+mod row;
+mod rows;
+mod sizes;
+mod table;
 mod updates;
 
+pub use converting::convert;
 pub use numbers::{binary, bytes_of, flag, is_true, number_of, pointer_of, unary, word_of};
 pub use paths::{address_of, element, field_in, is_subscript, part_of, way_to};
 pub use pointers::{compared, distance, moved};
+pub use row::{Sort, TypeRow};
+pub use table::Types;
 pub use updates::{next, updated};

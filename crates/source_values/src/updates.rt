@@ -6,7 +6,7 @@ ghost use Rattle.c_meaning.specs.Operators.{common_kind, next, pointer_op, step_
 ghost use Rattle.c_meaning.specs.Program.{element_size, type_at};
 ghost use Rattle.c_typed.specs.Programs.{program_data};
 ghost use Rattle.c_types.specs.Limits.{greatest_size};
-ghost use Rattle.source_types.specs.Sorts.{next_by, updated_by};
+ghost use Rattle.source_values.specs.Sorts.{next_by, updated_by};
 
 use crate::numbers::binary;
 use crate::pointers::moved;
@@ -15,7 +15,9 @@ use c_typed::{BinaryOp, PointerOp, StepOp, TypeId, is_shift, promoted_kind};
 use c_types::IntKind;
 use lay_base::UndefinedKind;
 use runs::Value;
-use source_types::{Sort, Types, convert};
+use crate::converting::convert;
+use crate::row::Sort;
+use crate::table::Types;
 
 fn common_kind(op: BinaryOp, left: IntKind, right: IntKind) -> IntKind
     ensures { result ≡ common_kind op left right }
@@ -92,7 +94,7 @@ fn next_by(
 }
 
 /// What a compound assignment stores: the types are those of the old value and of the operand (C99 6.5.16.2).
-#[tactic(auto, using(source_types::proofs::BySort::updated_is))]
+#[tactic(auto, using(crate::proofs::BySort::updated_is))]
 #[inline(always)]
 pub fn updated(
     types: &Types<'_>,
@@ -119,7 +121,7 @@ pub fn updated(
 }
 
 /// What `++` and `--` store where the old value is of a type (C99 6.5.2.4, 6.5.3.1).
-#[tactic(auto, using(source_types::proofs::BySort::next_is))]
+#[tactic(auto, using(crate::proofs::BySort::next_is))]
 #[inline(always)]
 pub fn next(
     types: &Types<'_>,

@@ -2,7 +2,7 @@ use Rattle.std.proofs.Common.{rules, ◌∙◌, sym}
 use Rattle.c_typed.specs.Programs.{program_data}
 use Rattle.c_typed.specs.declared.expression.Path.{the_lemmas}
 use Rattle.c_typed.specs.Views.{path_of}
-use Rattle.source_core.specs.View.{core_of}
+use Rattle.source_state.specs.RoomView.{core_of}
 use Rattle.source_direct.proofs.Members.{member_is}
 use Rattle.source_direct.proofs.evaluating.+direct.Goals as goal
 

@@ -1,6 +1,6 @@
 use Rattle.std.proofs.Common.{◌≡◌, drop}
 use Rattle.c_typed.specs.Programs.{program_data}
-use Rattle.source_core.specs.View.{core_of}
+use Rattle.source_state.specs.RoomView.{core_of}
 use Rattle.source_steps.specs.Locals.{begin_all}
 use Rattle.source_state.specs.WorkView.{context_of}
 use Rattle.source_expressions.proofs.locals.begin_all.Given as goal

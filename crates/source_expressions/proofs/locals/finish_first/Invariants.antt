@@ -1,6 +1,6 @@
 use Rattle.std.proofs.Common.{◌≡◌, ◌-◌}
 use Rattle.c_meaning.specs.Run.{numbers, numbers_from}
-use Rattle.source_core.specs.View.{core_of}
+use Rattle.source_state.specs.RoomView.{core_of}
 use Rattle.source_steps.specs.Locals.{finish_all}
 use Rattle.source_expressions.proofs.locals.finish_first.Given as goal
 

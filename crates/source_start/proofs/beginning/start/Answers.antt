@@ -2,11 +2,11 @@ use Rattle.std.proofs.Common.{rules, ◌≡◌, ◌++◌, ap, sym, subst, ◌∙
 use Rattle.block_memory.specs.View.{memory_of}
 use Rattle.c_meaning.specs.Program.{initial_memory}
 use Rattle.c_typed.specs.Programs.{program_data}
-use Rattle.source_core.specs.CountsView.{counting_of}
+use Rattle.source_state.specs.CountsView.{counting_of}
 use Rattle.source_start.specs.Shape.{HasAll}
 use Rattle.source_start.specs.Zeros.{no_counts}
 use Rattle.source_start.proofs.NoCounts.{are_zero, has_all, same_core}
-use Rattle.source_step_laws.specs.Came.{AreZero}
+use Rattle.source_steps.specs.Came.{AreZero}
 use Rattle.source_start.proofs.beginning.start.Goals as goal
 
 pub returns : goal.returns

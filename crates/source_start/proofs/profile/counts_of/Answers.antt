@@ -4,7 +4,7 @@ use Rattle.c_counts.specs.declared.order.Defined.{Defined}
 use Rattle.c_counts.specs.Counting.{count_at}
 use Rattle.c_counts.specs.Order.{first_of, profile_order, rest_after}
 use Rattle.c_typed.specs.Programs.{program_data}
-use Rattle.source_core.specs.CountsView.{counting_of}
+use Rattle.source_state.specs.CountsView.{counting_of}
 use Rattle.source_start.specs.Counted.{begin_in, entry_in}
 use Rattle.source_start.proofs.Walks.{fewer_left, none_done, one_more_done}
 use Rattle.source_start.proofs.profile.counts_of.Goals as goal

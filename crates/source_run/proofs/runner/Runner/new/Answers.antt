@@ -1,7 +1,7 @@
 use Rattle.std.proofs.Common.{◌∙◌, subst}
 use Rattle.c_typed.specs.Programs.{program_data}
 use Rattle.c_typed.specs.declared.program.Typed.{Typed}
-use Rattle.source_core.specs.CountsView.{counting_of}
+use Rattle.source_state.specs.CountsView.{counting_of}
 use Rattle.source_run.proofs.Zeros.{zeros_are}
 use Rattle.source_run.proofs.runner.Runner.new.Goals as goal
 use Rattle.source_start.specs.Shape.{HasAll}

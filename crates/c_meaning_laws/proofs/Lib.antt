@@ -1,9 +1,0 @@
-pub mod Closed
-pub mod ClosedRuns
-pub mod ClosedExpressions
-pub mod ClosedStatements
-pub mod ClosedCalls
-pub mod Fuel
-pub mod Longer
-pub mod LongerRuns
-pub mod Direct

@@ -1,2 +1,0 @@
-mod ExampleMemory
-mod Examples

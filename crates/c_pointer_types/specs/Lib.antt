@@ -1,2 +1,0 @@
-pub mod Allocations
-pub mod PointerTypes

@@ -1,0 +1,15 @@
+-- What a run keeps beside its work and its operands, as plain data.
+use Rattle.block_memory.specs.View.{memory_of}
+use Rattle.source_state.specs.CountsView.{counting_of}
+use Rattle.source_state.specs.declared.room.Room.{Room}
+use Rattle.source_steps.specs.Cores.{Core}
+
+abbrev pub core_of : Room → Core
+core_of r = record {
+  frame = r.frame.items;
+  memory = memory_of r.store;
+  live = r.live;
+  turns = r.turns;
+  depth = r.depth;
+  counts = counting_of r.counts;
+}

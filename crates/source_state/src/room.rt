@@ -1,0 +1,43 @@
+//! What is kept, and the slots of the locals.
+
+use crate::counting::Counters;
+use block_memory::Store;
+use c_meaning::Slot;
+
+/// What a run keeps beside its work and its operands.
+#[derive(Drop)]
+pub struct Room {
+    /// The locals of the function that runs.
+    pub frame: Vec<Slot>,
+    pub store: Store,
+    /// The bytes of all blocks that live.
+    pub live: u64,
+    /// How many turns may still begin.
+    pub turns: u64,
+    /// How many functions were entered and not left.
+    pub depth: u64,
+    pub counts: Counters,
+}
+
+impl Room {
+    ghost use Rattle.std.specs.Prelude.{◌≡◌};
+    ghost use Rattle.source_state.specs.RoomView.{core_of};
+    ghost use Rattle.source_steps.specs.Locals.{slot, with_slot};
+
+    /// The slot of a local.
+    pub fn slot(&self, local: u32) -> Option<Slot>
+        ensures { result ≡ slot (core_of self.now) local }
+    {
+        self.frame.get(local as usize).copied()
+    }
+
+    /// Another slot of a local.
+    pub fn set_slot(&mut self, local: u32, slot: Slot)
+        ensures { core_of self.new ≡ with_slot local slot (core_of self.old) }
+    {
+        let local = local as usize;
+        if local < self.frame.len() {
+            self.frame[local] = slot;
+        }
+    }
+}

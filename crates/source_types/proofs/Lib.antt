@@ -1,3 +1,0 @@
-pub mod ByNumber
-pub mod BySort
-pub mod Past

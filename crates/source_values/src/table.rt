@@ -1,0 +1,111 @@
+//! `Types`: a program, with all that is asked of its types, and with the loops in its statements.
+
+ghost use Rattle.std.specs.Prelude.{◌≡◌, ◌≤◌, IfOk, slice_get};
+ghost use Rattle.std.specs.Option.{option_map};
+ghost use Rattle.c_types.specs.Layouts.{offset_of};
+ghost use Rattle.c_types.specs.Limits.{greatest_size};
+ghost use Rattle.c_types.specs.Sameness.{same_type};
+ghost use Rattle.c_types.specs.Types.{pointer as pointer_to};
+ghost use Rattle.c_typed.specs.Programs.{program_data};
+ghost use Rattle.c_meaning.specs.Program.{type_at};
+ghost use Rattle.source_values.specs.Rows.{IsSmall, row_of};
+
+use crate::offsets::offset;
+use crate::pointed::points_to;
+use crate::row::TypeRow;
+use crate::rows::{row_at, row_of_void, rows};
+use c_typed::Typed;
+use lay_base::NoMemory;
+use loop_tallies::{TalliedFunction, Tally, function_at, tally_functions};
+use std::alloc::Global;
+use std::marker::Model;
+
+/// A program, with all that is asked of its types, and with the loops in its statements. Contracts see the program alone.
+#[derive(Drop)]
+pub struct Types<'a> {
+    typed: &'a Typed,
+    // One for each type, so that no size is computed again.
+    rows: Vec<TypeRow>,
+    // Those of each function, so that no loops are counted again.
+    tallies: Vec<Vec<Tally>>,
+}
+
+impl<'a> Model for Types<'a> {
+    ghost use Rattle.c_typed.specs.declared.program.Typed.{Typed};
+    ghost use Rattle.c_typed.specs.contracts.program.Typed as program;
+
+    ghost Value = { Typed };
+
+    ghost coded = { program.the_row.coded };
+
+    ghost use Rattle.std.specs.Prelude.{map, vec_items};
+    ghost use Rattle.c_typed.specs.Programs.{data_of, program_data};
+    ghost use Rattle.loop_tallies.specs.Tallies.{AreTallied};
+    ghost use Rattle.source_values.specs.Rows.{AreRows};
+
+    ghost view = { λ it. it.typed.now };
+
+    ghost invariant = { λ it. record {
+      rows : AreRows (program_data it.typed.now) it.rows.items;
+      tallies : AreTallied (map data_of it.typed.now.functions) (map vec_items it.tallies.items);
+    } };
+}
+
+impl<'a> Types<'a> {
+    /// The types of a program. `NoMemory` comes for want of memory; where the size of a type, or of what it points to or its elements
+    /// are, passes 16,777,216 bytes, or a type has no number of 32 bits: the checker accepts no program with such a type; and where a
+    /// function has 2^32 loops or statements.
+    pub fn of(alloc: Global, typed: &'a Typed) -> Result<Types<'a>, NoMemory>
+        ensures { IfOk result (λ types. types ≡ typed.entry.now) }
+    {
+        let rows = rows(alloc, typed)?;
+        let tallies = tally_functions(alloc, typed.functions.as_slice())?;
+        Ok(Types {
+            typed,
+            rows,
+            tallies,
+        })
+    }
+
+    /// The program.
+    pub fn typed(&self) -> &'a Typed
+        ensures { result.now ≡ self.now }
+    {
+        self.typed
+    }
+
+    /// The function of that number, with the loops in its statements.
+    pub fn function(&'a self, number: u32) -> Option<TalliedFunction<'a>>
+        ensures { option_map (λ g. g.function.now) result ≡ slice_get self.entry.now.functions number }
+    {
+        function_at(&self.typed.functions, &self.tallies, number)
+    }
+
+    /// What is kept of the type with that number, which is `void` past the end.
+    #[tactic(auto, using(crate::proofs::ByNumber::found_is, crate::proofs::ByNumber::found_small, crate::proofs::ByNumber::missing_is))]
+    #[inline(always)]
+    pub fn row(&self, number: u32) -> TypeRow
+        ensures row { result ≡ row_of (program_data self.now) number }
+        ensures small { IsSmall result }
+    {
+        match row_at(&self.rows, number) {
+            Some(row) => row,
+            None => row_of_void(number),
+        }
+    }
+
+    /// Where a field of a record begins (C99 6.7.2.1), by their numbers; 0 where there is no such field.
+    pub fn offset(&self, number: u32, field: u32) -> u32
+        ensures value { result ≡ offset_of (program_data self.now).records number field }
+        ensures small { result ≤ greatest_size }
+    {
+        offset(&self.typed.records, number, field)
+    }
+
+    /// Whether a function of one type may be called through a pointer of another (C99 6.5.2.2), by their numbers.
+    pub fn is_called_as(&self, pointer: u32, function: u32) -> bool
+        ensures { result ≡ same_type (type_at (program_data self.now) pointer) (pointer_to (type_at (program_data self.now) function)) }
+    {
+        points_to(self.typed, pointer, function)
+    }
+}
