@@ -1,6 +1,7 @@
 -- How blocks begin and end.
 use Rattle.std.proofs.Common.{◌≡◌, ◌≢◌, ℕ, ◌+◌, ◌*◌, ◌<◌, ◌≤◌, ◌^◌, List, [], ◌∷◌, ◌++◌, length, replicate, Bool, true, false, refl, sym, ap, ◌∙◌, arith, inl, inr, ⊎_elim, get_or-set_other, get_or-set_same}
-use Rattle.std.specs.Prelude.{◌⊎◌, ◌&&◌, nat_lt}
+use Rattle.std.specs.Prelude.{◌⊎◌, ◌&&◌, nat_lt, Result, Ok, Err, MatchResult}
+use Rattle.lay_base.specs.declared.no_memory.NoMemory.{NoMemory}
 use Rattle.std.proofs.Math.ListN.{set, get_or-map}
 use Rattle.std.proofs.lemmas.Bool.{cases_eq, cases_lt}
 use Rattle.std.proofs.lemmas.List.{length-append, length-replicate, length-set, length_push, map-append, get_or_append_left, get_or_past, get_or_push, set-get_or}
@@ -38,8 +39,11 @@ kept_longer slots all new free more sound en =
     range_same new all (4 * o.start) (4 * o.start) o.size (omega (arith, there, long)) there
     (λ n lt. ap (λ c. cell_at c (4 * o.start + n)) en ∙ get_or_append_left all more Empty (4 * o.start + n) (omega (arith, there, lt)))))
 
-pub sound_longer : (slots : List Slot) (all new : List Cell) (free : ℕ) (more : List Cell) → IsSound slots all free → new ≡ all ++ more → IsSound slots new free
-sound_longer slots all new free more sound en = sound_long slots all new free sound (omega (arith, ap length en, length-append all more))
+-- or none, where they were refused
+pub sound_grown : (slots : List Slot) (all new : List Cell) (free : ℕ) (more : List Cell) (r : Result (Unit {0}) NoMemory) → IsSound slots all free
+    → MatchResult r (λ _. new ≡ all ++ more) (λ refused. new ≡ all) → IsSound slots new free
+sound_grown slots all new free more (Ok u) sound en = sound_long slots all new free sound (omega (arith, ap length en, length-append all more))
+sound_grown slots all new free more (Err refused) sound en = rw en sound
 
 pub begun : (slots all_slots : List Slot) (all new : List Cell) (free size : ℕ) (kind : BlockKind) → IsSound slots all free → 4 * free + size ≤ length all
     → new ≡ over all (4 * free) (replicate size Empty) → all_slots ≡ slots ++ record { kind = kind; live = true; start = free; size = size } ∷ []
@@ -192,6 +196,12 @@ ended_before slots all b slot is ends =
     ∙ set-get_or (memory_in slots all) b (block_in all no_slot))
 
 -- ---- cells that are put into a block without a test
+
+pub set_within : (slots : List Slot) (all : List Cell) (free b at count : ℕ) (slot : Slot) → IsSound slots all free → slot ≡ slot_at slots b → slot.live ≡ true
+    → at + count ≤ size (memory_in slots all) b → 4 * slot.start + at + count ≤ length all
+set_within slots all free b at count slot sound is lives fits =
+    let there = sound.there b (ap (λ s. s.live) (sym is) ∙ lives) in
+    rw is (omega (arith, there, fits, size_is slots all free b sound))
 
 pub set_live : (slots : List Slot) (all new : List Cell) (free b at cell : ℕ) (slot : Slot) (put : List Cell) → IsSound slots all free → slot ≡ slot_at slots b → slot.live ≡ true
     → at + length put ≤ size (memory_in slots all) b → cell ≡ 4 * slot.start + at → new ≡ over all cell put

@@ -200,9 +200,10 @@ pub gathered_none : (slots : List Slot) → IsGathered slots 0 0
 gathered_none slots = record { before = λ b lt held. absurd (omega arith); behind = λ b le held. omega arith }
 
 -- a block without cells
-pub gathered_past : (slots : List Slot) (block to : ℕ) → IsGathered slots block to → (holds (slot_at slots block) ≡ true → ⊥) → IsGathered slots (block + 1) to
+pub gathered_past : (slots : List Slot) (block to : ℕ) → IsGathered slots block to → holds (slot_at slots block) ≡ false → IsGathered slots (block + 1) to
 gathered_past slots block to gathered none = record {
-  before = λ k lt held. ⊎_elim (λ e. absurd (none (ap (λ k. holds (slot_at slots k)) (sym e) ∙ held))) (λ ne. gathered.before k (omega (arith, lt, ne)) held) (cases_eq k block);
+  before = λ k lt held. ⊎_elim (λ e. let wrong : false ≡ true = sym none ∙ ap (λ k. holds (slot_at slots k)) (sym e) ∙ held in cc)
+      (λ ne. gathered.before k (omega (arith, lt, ne)) held) (cases_eq k block);
   behind = λ k le held. gathered.behind k (omega (arith, le)) held;
 }
 

@@ -1,12 +1,12 @@
 -- What always holds of a store.
-use Rattle.std.proofs.Common.{◌≡◌, ℕ, ◌<◌, ◌≤◌, List, [], length, Bool, true, false, refl, sym, ap, ◌∙◌, arith, ⊎_elim}
+use Rattle.std.proofs.Common.{◌≡◌, ℕ, ◌+◌, ◌<◌, ◌≤◌, List, [], length, Bool, true, false, refl, sym, ap, ◌∙◌, arith, ⊎_elim}
 use Rattle.std.specs.Prelude.{◌&&◌, nat_lt}
 use Rattle.std.proofs.lemmas.Bool.{cases_lt, lt-ltb}
 use Rattle.std.proofs.lemmas.List.{get_or_past}
 use Rattle.memory_cells.specs.declared.cell.Cell.{Cell}
 use Rattle.block_memory.specs.declared.slot.Slot.{Slot}
 use Rattle.block_memory.specs.Cells.{over}
-use Rattle.block_memory.specs.Slots.{IsSound, holds, no_slot, slot_at}
+use Rattle.block_memory.specs.Slots.{IsSound, holds, no_slot, slot_at, words_for}
 use Rattle.block_memory.proofs.Overs.{no_shorter}
 
 no_live : (b : ℕ) {A : Type 0} → (slot_at [] b).live ≡ true → A
@@ -54,3 +54,7 @@ known_of_live slots b lives =
     ⊎_elim (λ l. l) (λ past. absurd (true_is_false (sym lives ∙ ap (λ s. s.live) (get_or_past slots b no_slot past)))) (cases_lt b (length slots)) where
       true_is_false : true ≡ false → ⊥
       true_is_false e = cc
+
+pub before_free : (slots : List Slot) (cells : List Cell) (free b count : ℕ) (slot : Slot) → IsSound slots cells free → holds (slot_at slots b) ≡ true → slot ≡ slot_at slots b
+    → count ≡ words_for slot.size → slot.start + count ≤ free
+before_free slots cells free b count slot sound held is ec = rw (ec, is) (sound.ends b held)

@@ -30,7 +30,6 @@ fn as_pointer(number: Result<u32, UndefinedKind>) -> Result<Ptr, UndefinedKind>
 }
 
 /// The pointer of a type that four cells hold.
-#[tactic(auto, using(crate::proofs::CellsHold::pointer_from_empty, crate::proofs::CellsHold::pointer_from_byte))]
 pub(crate) fn pointer_of(
     a: Cell,
     b: Cell,

@@ -57,7 +57,6 @@ impl Store {
     }
 
     /// So many bytes further on, or back.
-    #[tactic(auto, using(crate::proofs::Stepping::too_far))]
     pub fn step(&self, p: Ptr, by: i64) -> Result<Ptr, UndefinedKind>
         ensures { result ≡ stepped (memory_of self.now) p by }
     {

@@ -43,7 +43,6 @@ impl Store {
     }
 
     /// Copies cells as they are. That the ranges overlap may be allowed.
-    #[tactic(auto, using(crate::proofs::Reached::copy_ok, crate::proofs::Reached::copy_from_err, crate::proofs::Reached::copy_to_err))]
     pub fn copy(
         &mut self,
         to: Ptr,
@@ -82,7 +81,6 @@ impl Store {
     }
 
     /// Compares so many cells as bytes: minus one, zero or one.
-    #[tactic(auto, using(crate::proofs::Reached::compare_ok, crate::proofs::Reached::compare_second_err, crate::proofs::Reached::compare_first_err))]
     pub fn compare(&self, p: Ptr, q: Ptr, count: u32) -> Result<i32, UndefinedKind>
         ensures { result ≡ compare (memory_of self.now) p q count }
     {

@@ -102,7 +102,6 @@ impl Store {
     }
 
     /// So many words behind all live blocks, which stay where they are.
-    #[tactic(auto, using(crate::proofs::Beginning::kept_longer, crate::proofs::Beginning::sound_longer))]
     fn extend(&mut self, count: usize) -> Result<(), NoMemory>
         requires { count ≤ 2 ^ 30 }
         ensures memory { memory_of self.new ≡ memory_of self.old }

@@ -1,6 +1,7 @@
 //! Writes without a test, of what the machine itself puts into blocks. Into a block that has ended nothing is put.
 
 ghost use Rattle.std.specs.Prelude.{◌≡◌, ◌≤◌, ◌+◌, length, map, replicate};
+ghost use Rattle.memory_cells.specs.Words.{cell_of};
 ghost use Rattle.memory_cells.specs.declared.cell.Cell.TheVariants.{Byte, Empty};
 ghost use Rattle.block_memory.specs.Blocks.{size, with_cells};
 ghost use Rattle.block_memory.specs.View.{memory_of};
@@ -21,16 +22,23 @@ impl Store {
         }
     }
 
+    /// Makes so many cells of a block, from its first one on, hold one content.
+    fn set_content(&mut self, block: u64, content: Content, count: u32)
+        requires { count ≤ size (memory_of self.old) block }
+        ensures { memory_of self.new ≡ with_cells (memory_of self.old) block 0 (replicate count (cell_of content)) }
+    {
+        let slot = self.slots.slot(block);
+        if slot.live {
+            self.arena.fill(4 * slot.start as usize, content, count);
+        }
+    }
+
     /// Makes so many cells of a block, from its first one on, bytes that are zero.
     pub fn set_zero(&mut self, block: u64, count: u32)
         requires { count ≤ size (memory_of self.old) block }
         ensures { memory_of self.new ≡ with_cells (memory_of self.old) block 0 (replicate count (Byte 0)) }
     {
-        let slot = self.slots.slot(block);
-        if slot.live {
-            self.arena
-                .fill(4 * slot.start as usize, Content::Byte(0), count);
-        }
+        self.set_content(block, Content::Byte(0), count);
     }
 
     /// Makes so many cells of a block, from its first one on, hold nothing.
@@ -38,10 +46,6 @@ impl Store {
         requires { count ≤ size (memory_of self.old) block }
         ensures { memory_of self.new ≡ with_cells (memory_of self.old) block 0 (replicate count Empty) }
     {
-        let slot = self.slots.slot(block);
-        if slot.live {
-            self.arena
-                .fill(4 * slot.start as usize, Content::Empty, count);
-        }
+        self.set_content(block, Content::Empty, count);
     }
 }

@@ -71,3 +71,13 @@ returns-else-slot-gt0 c =
 pub returns-else-slot : goal.returns-else-slot
 returns-else-slot c =
     let s = c.args.self.now in ended_before s.slots s.arena c.args.block c.slot-slot.result c.slot-slot.ensures.is c.if-slot.false
+
+pub fill-requires-clause-within : goal.fill-requires-clause-within
+fill-requires-clause-within c =
+    let s = c.unsettle.new.self in
+    let is = c.unsettle.ensures.slot in
+    let there = s.sound.there c.args.block (ap (λ s. s.live) (sym is) ∙ c.if-slot.true) in
+    omega (arith, there, ap (λ s. s.start) is, ap (λ s. s.size) is)
+
+pub set-requires-clause-known : goal.set-requires-clause-known
+set-requires-clause-known c = known_of_live c.unsettle.new.self.slots c.args.block (ap (λ s. s.live) (sym c.unsettle.ensures.slot) ∙ c.if-slot.true)

@@ -1,9 +1,15 @@
 use Rattle.std.proofs.Common.{◌-◌, ◌*◌, ◌+◌, replicate}
 use Rattle.memory_cells.specs.declared.cell.Cell.TheVariants.{Empty}
-use Rattle.block_memory.proofs.Beginning.{kept_longer}
+use Rattle.block_memory.proofs.Beginning.{kept_longer, sound_grown}
 use Rattle.block_memory.proofs.store.Store.extend.Goals as goal
 
 pub returns-in-Ok-clause-memory : goal.returns-in-Ok-clause-memory
 returns-in-Ok-clause-memory c =
     let s = c.args.self.now in
     kept_longer s.slots s.arena c.grow.new.self s.free (replicate (4 * (s.free + c.args.count - c.words-words.result)) Empty) s.sound c.in-Ok.ensures
+
+pub invariant_of-self : goal.invariant_of-self
+invariant_of-self c =
+    let s = c.args.self.now in
+    let more = replicate (4 * (s.free + c.args.count - c.words-words.result)) Empty in
+    record { sound = sound_grown s.slots s.arena c.grow.new.self s.free more c.grow.result s.sound c.grow.ensures; settles = s.settles }

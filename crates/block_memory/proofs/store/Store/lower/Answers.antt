@@ -1,9 +1,9 @@
-use Rattle.std.proofs.Common.{refl, ◌≡◌, sym, ap, ◌∙◌}
+use Rattle.std.proofs.Common.{refl, ◌≡◌, sym, ap, ◌∙◌, arith}
 use Rattle.block_memory.specs.declared.slot.Slot.{Slot}
 use Rattle.block_memory.specs.Cells.{IsShifted}
 use Rattle.block_memory.specs.Slots.{slot_at, words_for}
 use Rattle.block_memory.proofs.Gathering.{lowered_gathered, lowered_memory, lowered_sound, settled_lowered}
-use Rattle.block_memory.proofs.Sound.{known_of_live, live_of_holds}
+use Rattle.block_memory.proofs.Sound.{before_free, known_of_live, live_of_holds}
 use Rattle.block_memory.proofs.store.Store.lower.Goals as goal
 
 pub invariant_of-self : goal.invariant_of-self
@@ -40,3 +40,21 @@ returns-clause-gathered c =
     let count : c.words_for-count.result ≡ words_for (slot_at s.slots c.args.block).size = c.words_for-count.ensures.is ∙ ap (λ s. words_for s.size) is in
     rw count (lowered_gathered s.slots c.set.new.self s.arena c.shift.new.self s.free c.args.block c.args.to after s.sound c.requires.gathered c.requires.holds c.requires.down shift
     (ap (λ s. record { kind = s.kind; live = s.live; start = c.args.to; size = s.size }) is) c.set.ensures)
+
+pub shift-requires-clause-within : goal.shift-requires-clause-within
+shift-requires-clause-within c =
+    let s = c.args.self.now in
+    let ends = before_free s.slots s.arena s.free c.args.block c.words_for-count.result c.slot-slot.result s.sound c.requires.holds c.slot-slot.ensures.is c.words_for-count.ensures.is in
+    omega (arith, ends, s.sound.within)
+
+pub set-requires-clause-known : goal.set-requires-clause-known
+set-requires-clause-known c = let s = c.args.self.now in known_of_live s.slots c.args.block (live_of_holds (slot_at s.slots c.args.block) c.requires.holds)
+
+pub set-requires-clause-small : goal.set-requires-clause-small
+set-requires-clause-small c = omega (arith, ap (λ s. s.start) c.slot-slot.ensures.is)
+
+pub returns-clause-within : goal.returns-clause-within
+returns-clause-within c =
+    let s = c.args.self.now in
+    let ends = before_free s.slots s.arena s.free c.args.block c.words_for-count.result c.slot-slot.result s.sound c.requires.holds c.slot-slot.ensures.is c.words_for-count.ensures.is in
+    omega (arith, ends, ap (λ s. s.start) c.slot-slot.ensures.is)

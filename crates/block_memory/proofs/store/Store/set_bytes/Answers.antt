@@ -1,9 +1,14 @@
-use Rattle.std.proofs.Common.{◌+◌, ◌*◌, map, arith, refl}
+use Rattle.std.proofs.Common.{◌+◌, ◌*◌, length, map, arith, refl}
 use Rattle.std.proofs.lemmas.List.{length-map}
 use Rattle.memory_cells.specs.declared.cell.Cell.TheVariants.{Byte}
-use Rattle.block_memory.proofs.Beginning.{set_ended, set_live}
+use Rattle.block_memory.proofs.Beginning.{set_ended, set_live, set_within}
 use Rattle.block_memory.proofs.Sound.{sound_changed}
 use Rattle.block_memory.proofs.store.Store.set_bytes.Goals as goal
+
+pub put_bytes-requires-clause-within : goal.put_bytes-requires-clause-within
+put_bytes-requires-clause-within c =
+    let s = c.args.self.now in
+    set_within s.slots s.arena s.free c.args.block c.args.at (length c.args.bytes.now) c.slot-slot.result s.sound c.slot-slot.ensures.is c.if-slot.true c.requires
 
 pub returns-then-slot : goal.returns-then-slot
 returns-then-slot c =

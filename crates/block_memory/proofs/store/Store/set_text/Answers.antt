@@ -1,8 +1,14 @@
 use Rattle.std.proofs.Common.{◌+◌, ◌*◌, ◌∷◌, [], arith, refl}
 use Rattle.memory_cells.specs.declared.cell.Cell.TheVariants.{Byte}
-use Rattle.block_memory.proofs.Beginning.{set_ended, set_live}
+use Rattle.block_memory.proofs.Beginning.{set_ended, set_live, set_within}
 use Rattle.block_memory.proofs.Sound.{sound_changed}
 use Rattle.block_memory.proofs.store.Store.set_text.Goals as goal
+
+pub put-requires : goal.put-requires
+put-requires c =
+    let s = c.args.self.now in
+    let within = set_within s.slots s.arena s.free c.args.block c.args.at 1 c.slot-slot.result s.sound c.slot-slot.ensures.is c.if-slot.true (omega arith) in
+    omega (arith, within)
 
 pub returns-then-slot : goal.returns-then-slot
 returns-then-slot c =
