@@ -34,7 +34,8 @@ pub fn pointer_of(v: Value) -> Ptr
 
 /// The number that 32 bits stand for.
 pub fn number_of(kind: IntKind, word: u32) -> i64
-    ensures { result ≡ number_of kind word }
+    ensures value { result ≡ number_of kind word }
+    ensures small { unsigned_abs result ≤ 2 ^ 32 }
 {
     if is_signed(kind) {
         i64::from(word.cast_signed())

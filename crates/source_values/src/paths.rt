@@ -97,7 +97,6 @@ fn inside(store: &Store, block: u64, at: i64) -> Result<Ptr, UndefinedKind>
 }
 
 /// The way to a field through a pointer: its first byte lies in a live block.
-#[tactic(auto, using(crate::proofs::Outside::too_far))]
 pub fn field_in(store: &Store, p: Ptr, by: i64) -> Result<Ptr, UndefinedKind>
     ensures { result ≡ field_in (memory_of store.now) p by }
 {

@@ -8,16 +8,16 @@ ghost use Rattle.c_typed.specs.Programs.{program_data};
 ghost use Rattle.c_types.specs.Limits.{greatest_size};
 ghost use Rattle.source_values.specs.Sorts.{next_by, updated_by};
 
+use crate::converting::convert;
 use crate::numbers::binary;
 use crate::pointers::moved;
+use crate::row::Sort;
+use crate::table::Types;
 use block_memory::Store;
 use c_typed::{BinaryOp, PointerOp, StepOp, TypeId, is_shift, promoted_kind};
 use c_types::IntKind;
 use lay_base::UndefinedKind;
 use runs::Value;
-use crate::converting::convert;
-use crate::row::Sort;
-use crate::table::Types;
 
 fn common_kind(op: BinaryOp, left: IntKind, right: IntKind) -> IntKind
     ensures { result ≡ common_kind op left right }
