@@ -38,16 +38,7 @@ impl<'a> TalliedStatement<'a> {
     {
         match self.statement {
             Statement::Do(e) => Some(e.get()),
-            Statement::Block(..)
-            | Statement::Declare(..)
-            | Statement::If(..)
-            | Statement::While(..)
-            | Statement::DoWhile(..)
-            | Statement::For(..) => None,
-            Statement::Switch(..)
-            | Statement::Break
-            | Statement::Continue
-            | Statement::Return(..) => None,
+            _ => None,
         }
     }
 
@@ -68,16 +59,7 @@ impl<'a> TalliedStatement<'a> {
                     },
                 ))
             }
-            Statement::Do(..)
-            | Statement::Declare(..)
-            | Statement::If(..)
-            | Statement::While(..)
-            | Statement::DoWhile(..)
-            | Statement::For(..) => None,
-            Statement::Switch(..)
-            | Statement::Break
-            | Statement::Continue
-            | Statement::Return(..) => None,
+            _ => None,
         }
     }
 

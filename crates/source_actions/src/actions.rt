@@ -18,7 +18,11 @@ use runs::Value;
 use source_machine::Action;
 use source_state::{Machine, STUCK, undefined};
 use source_steps::Moved;
-use source_values::{Sort, Types, address_of, binary, compared, convert, distance, element, field_in, flag, is_subscript, is_true, moved, next, number_of, part_of, pointer_of, unary, updated, way_to, word_of};
+use source_values::{
+    Sort, Types, address_of, binary, compared, convert, distance, element, field_in, flag,
+    is_subscript, is_true, moved, next, number_of, part_of, pointer_of, unary, updated, way_to,
+    word_of,
+};
 use std::alloc::Global;
 
 /// The greatest size of a type, in bytes.

@@ -176,10 +176,7 @@ fn direct_member(types: &Types<'_>, room: &Room, q: &Path, offset: u32) -> Optio
             let kind = types.row(i.ty).kind;
             field_through(room, v, way_to(kind, w, types.row(q.ty).size, offset))
         }
-        PathNode::Named(_)
-        | PathNode::Object(_)
-        | PathNode::Member(_, _, _)
-        | PathNode::Element(_, _) => {
+        _ => {
             let Some(spot) = direct_spot(types, room, false, q) else {
                 return None;
             };

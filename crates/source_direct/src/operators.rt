@@ -22,7 +22,10 @@ use c_typed::{BinaryOp, CompareOp, PointerOp, TypeId, UnaryOp};
 use lay_base::UndefinedKind;
 use runs::Value;
 use source_state::Room;
-use source_values::{Sort, Types, address_of, binary, compared, convert, distance, element, field_in, flag, is_subscript, is_true, moved, number_of, pointer_of, unary};
+use source_values::{
+    Sort, Types, address_of, binary, compared, convert, distance, element, field_in, flag,
+    is_subscript, is_true, moved, number_of, pointer_of, unary,
+};
 
 // ---- values
 

@@ -161,10 +161,7 @@ fn member<'a>(
             let action = Action::FieldOfElement(place, kind, types.row(q.ty).size, offset);
             use_both(machine, e.get(), i, action)
         }
-        PathNode::Named(_)
-        | PathNode::Object(_)
-        | PathNode::Member(_, _, _)
-        | PathNode::Element(_, _) => spot_one(machine, q, Action::FieldOf(offset)),
+        _ => spot_one(machine, q, Action::FieldOf(offset)),
     }
 }
 
