@@ -1,6 +1,7 @@
 //! The cells of memory, four to a word of eight bytes (C99 6.2.6.1).
 //!
-//! It stands on `lay_base`, which names the want of memory, and on `paged_list`, in whose lists words and tables lie. It promises that `Words` is a list of groups of four cells, whatever they hold.
+//! It stands on `lay_base`, which names the want of memory, and on `paged_list`, in whose lists words and tables lie. It promises that `Words` is a list of
+//! groups of four cells, whatever they hold.
 #![tactic(auto)]
 
 mod cell;
