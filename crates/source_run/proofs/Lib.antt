@@ -3,3 +3,4 @@ pub mod Reaching
 pub mod Stopping
 pub mod CountsKept
 pub mod Zeros
+pub mod Beginning

@@ -7,11 +7,17 @@ use Rattle.source_run.specs.declared.end.RunEnd.{RunEnd as Answer}
 use Rattle.source_run.specs.declared.end.RunEnd.TheVariants as E
 use Rattle.source_start.specs.Counted.{entry_in, begin_in}
 use Rattle.source_start.specs.Shape.{HasAll}
+use Rattle.source_start.specs.Zeros.{no_counts}
+use Rattle.source_state.specs.View.{empty_state}
 use Rattle.source_steps.specs.Came.{AreZero, state_at_start}
 use Rattle.source_steps.specs.Counting.{Counting}
 use Rattle.source_steps.specs.States.{State}
 use Rattle.source_steps.specs.declared.ends.Final.{Final}
 use Rattle.source_steps.specs.declared.ends.Final.TheVariants.{Ends, TurnLimit, Undefined, Room}
+
+-- a machine of which nothing was done: it has nothing to do, an empty room, and counts that are all 0
+abbrev pub IsEmpty : ProgramData → (turns : ℕ) → State → Type 0
+IsEmpty p turns s = s ≡ empty_state turns (no_counts p)
 
 pub record IsAtStart (p : ProgramData) (turns : ℕ) (s : State) : Type 0 where
   pub state : s ≡ state_at_start p turns s.core.counts

@@ -1,9 +1,10 @@
 //! The runner of a program.
 
-ghost use Rattle.std.specs.Prelude.{◌≡◌, IfOk};
+ghost use Rattle.std.specs.Prelude.{◌≡◌, ℕ, IfOk, OnOk};
 ghost use Rattle.c_typed.specs.Programs.{program_data};
 ghost use Rattle.source_run.specs.RunGives.{RunGives};
-ghost use Rattle.source_run.specs.Starting.{HasFinished, IsAtStart, answer_of};
+ghost use Rattle.source_run.specs.Fresh.{no_counts as counts_of_none};
+ghost use Rattle.source_run.specs.Starting.{HasFinished, IsAtStart, IsEmpty, answer_of};
 ghost use Rattle.source_run.specs.Streams.{streams};
 ghost use Rattle.source_state.specs.View.{state_of};
 
@@ -12,7 +13,7 @@ use crate::stepping::{Advance, make_step};
 use c_counts::Counts;
 use c_typed::Typed;
 use lay_base::{NoMemory, Sink, Source};
-use source_start::{counts, start};
+use source_start::{counts, no_counts, start};
 use source_state::Machine;
 use source_steps::Final;
 use source_values::Types;
@@ -30,16 +31,27 @@ fn answer(end: Final, turns: u64) -> RunEnd
     }
 }
 
-/// A machine at the start of a run.
-fn machine_at_start<'a>(
-    alloc: Global,
-    types: &Types<'_>,
-    turns: u64,
-) -> Result<Machine<'a>, NoMemory>
-    ensures { IfOk result (λ machine. IsAtStart (program_data types.now) turns (state_of machine)) }
+/// The counts of a program of which nothing was done.
+fn counts_at_start(alloc: Global, p: &Typed) -> Result<Counts, NoMemory>
+    ensures { IfOk result (λ counts. counts ≡ counts_of_none (program_data p.now)) }
 {
-    let room = start(alloc, types, turns)?;
-    Machine::new(alloc, types.typed().main, room)
+    match no_counts(alloc, p) {
+        Ok(none) => counts(alloc, p, &none),
+        Err(fault) => Err(fault),
+    }
+}
+
+/// An empty machine becomes that at the start of a run.
+fn set_up<'a>(
+    alloc: Global,
+    types: &'a Types<'a>,
+    machine: &mut Machine<'a>,
+) -> Result<(), NoMemory>
+    ensures { (turns : ℕ) → IsEmpty (program_data types.now) turns (state_of machine.old)
+        → OnOk result (IsAtStart (program_data types.now) turns (state_of machine.new)) }
+{
+    start(alloc, types, &mut machine.room)?;
+    machine.call(alloc, types.typed().main)
 }
 
 /// The answer of a run that is over, with its counts.
@@ -90,6 +102,27 @@ fn make_steps<'a, I: Source, O: Sink>(
     RunEnd::Memory
 }
 
+/// Runs a program on an empty machine.
+fn run_on<'a, I: Source, O: Sink>(
+    alloc: Global,
+    types: &'a Types<'a>,
+    kept: &mut Counts,
+    machine: &mut Machine<'a>,
+    input: &mut I,
+    out: &mut O,
+    turns: u64,
+) -> RunEnd
+    requires { IsEmpty (program_data types.now) turns (state_of machine.old) }
+    ensures { RunGives (program_data types.now) turns
+        (streams (I.left input.old) (I.faults input.old) (O.written out.old) (O.faults out.old))
+        (streams (I.left input.new) (I.faults input.new) (O.written out.new) (O.faults out.new)) kept.new result }
+{
+    match set_up(alloc, types, machine) {
+        Ok(()) => make_steps(alloc, types, kept, machine, input, out, turns),
+        Err(_) => RunEnd::Memory,
+    }
+}
+
 /// Runs a program once. It is as `new` made it, or it has run and keeps its end and its counts.
 #[derive(Drop)]
 pub struct Runner<'a> {
@@ -111,14 +144,15 @@ impl<'a> Runner<'a> {
         ensures fresh { IfOk result (λ runner. IsFresh p.entry.now runner) }
         ensures zero { IfOk result (λ runner. runner.counts ≡ no_counts (program_data p.entry.now)) }
     {
-        let types = Types::of(alloc, p)?;
-        let room = start(alloc, &types, 0)?;
-        let counts = counts(alloc, p, &room.counts)?;
-        Ok(Runner {
-            types,
-            counts,
-            ended: None,
-        })
+        let counts = counts_at_start(alloc, p)?;
+        match Types::of(alloc, p) {
+            Ok(types) => Ok(Runner {
+                types,
+                counts,
+                ended: None,
+            }),
+            Err(fault) => Err(fault),
+        }
     }
 
     /// Runs the program from its start.
@@ -133,16 +167,19 @@ impl<'a> Runner<'a> {
             (streams (I.left input.old) (I.faults input.old) (O.written out.old) (O.faults out.old))
             (streams (I.left input.new) (I.faults input.new) (O.written out.new) (O.faults out.new)) self.new.counts result }
     {
-        match machine_at_start(alloc, &self.types, turns) {
-            Ok(mut machine) => make_steps(
-                alloc,
-                &self.types,
-                &mut self.counts,
-                &mut machine,
-                input,
-                out,
-                turns,
-            ),
+        match no_counts(alloc, self.types.typed()) {
+            Ok(counts) => {
+                let mut machine = Machine::new(alloc, turns, counts);
+                run_on(
+                    alloc,
+                    &self.types,
+                    &mut self.counts,
+                    &mut machine,
+                    input,
+                    out,
+                    turns,
+                )
+            }
             Err(_) => RunEnd::Memory,
         }
     }

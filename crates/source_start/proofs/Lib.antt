@@ -1,6 +1,7 @@
 pub mod PointerPut
 pub mod LastBlock
 pub mod NoCounts
+pub mod Filled
 pub mod Walks
 pub mod Shapes
 pub mod Telling

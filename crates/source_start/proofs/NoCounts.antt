@@ -1,16 +1,11 @@
--- What a run starts with.
+-- Counts that are all 0 are zero, and all there.
 use Rattle.std.proofs.Common.{◌≡◌, refl, ap, ◌∙◌, ℕ, zero, suc, List, [], ◌∷◌, length, map, replicate, slice_get, Some}
 use Rattle.std.proofs.lemmas.List.{length-replicate}
 use Rattle.c_counts.specs.Loops.{loops_of}
 use Rattle.c_typed.specs.Programs.{FunctionData, ProgramData}
 use Rattle.source_start.specs.Shape.{HasAll}
 use Rattle.source_start.specs.Zeros.{no_counts}
-use Rattle.block_memory.specs.Blocks.{Memory}
-use Rattle.c_meaning.specs.Frames.{Frame}
-use Rattle.c_meaning.specs.Program.{initial_memory}
-use Rattle.runs.specs.Worlds.{live_bytes}
-use Rattle.source_steps.specs.Counting.{Counting}
-use Rattle.source_steps.specs.Came.{AreZero, core_at_start}
+use Rattle.source_steps.specs.Came.{AreZero}
 
 in_zeros : (count k n : ℕ) → slice_get (replicate count 0) k ≡ Some n → n ≡ zero
 in_zeros zero k n e = cc
@@ -38,10 +33,3 @@ as_many (f ∷ fs) =
 
 pub has_all : (p : ProgramData) → HasAll p (no_counts p)
 has_all p = record { entries = length-replicate (length p.functions) 0; begins = as_many p.functions }
-
--- ---- and what else there is
-
-pub same_core : (p : ProgramData) (turns : ℕ) (counts : Counting) (frame : Frame) (memory : Memory) (live : ℕ)
-    → frame ≡ [] → memory ≡ initial_memory p → live ≡ live_bytes (initial_memory p)
-    → record { frame = frame; memory = memory; live = live; turns = turns; depth = 0; counts = counts } ≡ core_at_start p turns counts
-same_core p turns counts frame memory live e f g = cc

@@ -59,8 +59,9 @@ fn rows(alloc: Global, p: &Typed) -> Result<Vec<Vec<u64>>, NoMemory>
     Ok(rows)
 }
 
-/// The counts of each function, and of each loop of each function.
-pub(crate) fn no_counts(alloc: Global, p: &Typed) -> Result<Counters, NoMemory>
+/// The counts of each function, and of each loop of each function, before a run. `NoMemory` comes for want of memory, and where a function has
+/// 2^32 - 1 loops or more, which is so in no program that was checked.
+pub fn no_counts(alloc: Global, p: &Typed) -> Result<Counters, NoMemory>
     ensures { IfOk result (λ counters. counting_of counters ≡ no_counts (program_data p.now)) }
 {
     let entries = zeros(alloc, p.functions.len())?;

@@ -12,4 +12,5 @@ mod profile;
 mod values;
 
 pub use beginning::start;
+pub use counters::no_counts;
 pub use profile::counts;

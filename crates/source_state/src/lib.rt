@@ -18,4 +18,6 @@ pub use counting::Counters;
 pub use machine::{Machine, STUCK, undefined};
 pub use room::Room;
 pub use stack::Stack;
-pub use work::{ForArms, ForCall, ForExpression, ForLoop, ForStatement, Loop, LoopBehind, Scope, Work};
+pub use work::{
+    ForArms, ForCall, ForExpression, ForLoop, ForStatement, Loop, LoopBehind, Scope, Work,
+};

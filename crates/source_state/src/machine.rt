@@ -2,10 +2,11 @@
 
 ghost use Rattle.std.specs.Prelude.{◌≡◌, ◌∷◌, [], IfOk, MatchOption, OnOk, Option, Some};
 ghost use Rattle.c_typed.specs.Trees.{no_expressions};
+ghost use Rattle.source_state.specs.CountsView.{counting_of};
 ghost use Rattle.source_state.specs.RoomView.{core_of};
 ghost use Rattle.source_machine.specs.Items.{gathering};
 ghost use Rattle.source_machine.specs.declared.items.Callee.TheVariants as OfCallee;
-ghost use Rattle.source_state.specs.View.{state_of};
+ghost use Rattle.source_state.specs.View.{empty_state, state_of};
 ghost use Rattle.source_state.specs.WorkView.{item_of};
 ghost use Rattle.source_steps.specs.States.{State, Step, doing, goes, led, pushed, stuck, taking, taking_any, taking_spot};
 ghost use Rattle.source_steps.specs.declared.ends.Final.TheVariants.{Undefined};
@@ -13,12 +14,13 @@ ghost use Rattle.source_steps.specs.declared.ends.Moved.TheVariants.{Over};
 ghost use Rattle.runs.specs.declared.value.Value.{Value};
 ghost use Rattle.c_meaning.specs.declared.frame.Spot.{Spot};
 
+use crate::counting::Counters;
+use crate::room::Room;
 use crate::stack::Stack;
 use crate::work::{ForCall, Work};
 use c_meaning::Spot;
 use lay_base::{NoMemory, Place, UndefinedKind};
 use runs::Value;
-use crate::room::Room;
 use source_machine::{Callee, Operand};
 use source_steps::{Final, Moved};
 use std::alloc::Global;
@@ -45,22 +47,24 @@ pub fn undefined(kind: UndefinedKind, place: Place) -> Moved
 }
 
 impl<'a> Machine<'a> {
-    /// The machine before a call of the function of that number with no arguments, with nothing else to do.
-    pub fn new(alloc: Global, main: u32, room: Room) -> Result<Machine<'a>, NoMemory>
-        ensures { IfOk result (λ machine. state_of machine ≡ record {
-          work = gathering (OfCallee.Function (record { file = 0; at = 0 }) main) [] no_expressions ∷ [];
-          stack = [];
-          core = core_of room;
-        }) }
+    /// A machine with nothing to do, in an empty room with these counts, where so many turns may begin.
+    pub fn new(alloc: Global, turns: u64, counts: Counters) -> Machine<'a>
+        ensures { state_of result ≡ empty_state turns (counting_of counts) }
     {
-        let mut machine = Machine {
+        Machine {
             work: Stack::new(alloc),
             stack: Stack::new(alloc),
-            room,
-        };
-        let callee = Callee::Function(Place { file: 0, at: 0 }, main);
-        machine.todo(Work::Call(ForCall::Gathering, callee, Vec::new(alloc), &[]))?;
-        Ok(machine)
+            room: Room::new(alloc, turns, counts),
+        }
+    }
+
+    /// A call of the function of that number with no arguments, before all other work.
+    pub fn call(&mut self, alloc: Global, function: u32) -> Result<(), NoMemory>
+        ensures { OnOk result (state_of self.new
+            ≡ doing (gathering (OfCallee.Function (record { file = 0; at = 0 }) function) [] no_expressions) (state_of self.old)) }
+    {
+        let callee = Callee::Function(Place { file: 0, at: 0 }, function);
+        self.todo(Work::Call(ForCall::Gathering, callee, Vec::new(alloc), &[]))
     }
 
     /// What is kept beside the work and the operands.

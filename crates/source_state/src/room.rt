@@ -3,6 +3,7 @@
 use crate::counting::Counters;
 use block_memory::Store;
 use c_meaning::Slot;
+use std::alloc::Global;
 
 /// What a run keeps beside its work and its operands.
 #[derive(Drop)]
@@ -21,8 +22,23 @@ pub struct Room {
 
 impl Room {
     ghost use Rattle.std.specs.Prelude.{◌≡◌};
-    ghost use Rattle.source_state.specs.RoomView.{core_of};
+    ghost use Rattle.source_state.specs.CountsView.{counting_of};
+    ghost use Rattle.source_state.specs.RoomView.{core_of, empty_core};
     ghost use Rattle.source_steps.specs.Locals.{slot, with_slot};
+
+    /// An empty room with these counts, where so many turns may begin.
+    pub fn new(alloc: Global, turns: u64, counts: Counters) -> Room
+        ensures { core_of result ≡ empty_core turns (counting_of counts) }
+    {
+        Room {
+            frame: Vec::new(alloc),
+            store: Store::new(alloc),
+            live: 0,
+            turns,
+            depth: 0,
+            counts,
+        }
+    }
 
     /// The slot of a local.
     pub fn slot(&self, local: u32) -> Option<Slot>
