@@ -1,6 +1,6 @@
 -- What holds of the trees of files: their sizes, where they begin, and where their nodes stand.
 use Rattle.std.specs.Prelude.{◌≡◌, ℕ, ◌≤◌, List, [], ◌∷◌, ◌++◌, All, length}
-use Rattle.c_lexer.specs.TokenPlaces.{IsPlaceIn}
+use Rattle.c_tokens.specs.TokenPlaces.{IsPlaceIn}
 use Rattle.c_ast.specs.Trees
 use Rattle.c_ast.specs.Spelling.{Lexeme, spelled, spelled_specifiers, spelled_declarator, spelled_declaration, spelled_statement, spelled_item, spell}
 use Rattle.c_ast.specs.WellFormed.{IsExpression, IsInitializer, AreSpecifiers, IsDeclaration, IsStatement, IsItem, AreItems}

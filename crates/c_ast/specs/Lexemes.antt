@@ -1,6 +1,6 @@
 -- The tokens of a file with their texts.
 use Rattle.std.specs.Prelude.{ℕ, ◌-◌, List, map, take, drop}
-use Rattle.c_lexer.specs.declared.token.Token.{Token}
+use Rattle.c_tokens.specs.declared.token.Token.{Token}
 use Rattle.c_ast.specs.Spelling.{Lexeme}
 
 abbrev pub lexeme_of : List ℕ → Token → Lexeme

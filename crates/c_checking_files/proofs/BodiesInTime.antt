@@ -1,7 +1,7 @@
 -- The initializers of a function's body ask for records in time: no structure is defined there, and the next ones lie ahead.
 use Rattle.std.proofs.Common.{ℕ, Bool, true, false, List, [], ◌∷◌}
 use Rattle.lay_base.specs.declared.faults.Keyword.TheVariants as W
-use Rattle.c_lexer.specs.declared.punctuator.Punctuator.TheVariants as M
+use Rattle.c_tokens.specs.declared.punctuator.Punctuator.TheVariants as M
 use Rattle.c_ast.specs.Trees
 use Rattle.c_ast.specs.Laws.{TreesBeginFirst}
 use Rattle.c_ast.specs.Spelling.{Lexeme, punctuator, keyword, spelled, spelled_value, spelled_declarator, spelled_init_declarators, spelled_declaration}

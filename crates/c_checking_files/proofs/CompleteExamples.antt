@@ -4,7 +4,7 @@ use Rattle.std.proofs.lemmas.List.Elements.{All-nil, All-cons}
 use Rattle.std.specs.Prelude.{codes, Some, None}
 use Rattle.c_types.specs.declared.ty.IntKind.TheVariants.{Char, Int}
 use Rattle.c_types.specs.Types.{CType, integer, array}
-use Rattle.c_lexer.specs.QuotedScan.{string_bytes}
+use Rattle.c_tokens.specs.QuotedScan.{string_bytes}
 use Rattle.c_ast.specs.declared.words.Spelling.{Spelling}
 use Rattle.c_ast.specs.Trees
 use Rattle.c_typed.specs.Trees as Typed

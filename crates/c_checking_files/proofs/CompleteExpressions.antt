@@ -7,7 +7,7 @@ use Rattle.lay_base.specs.declared.place.Place.{Place}
 use Rattle.c_types.specs.Objects.{is_object}
 use Rattle.c_types.specs.declared.ty.IntKind.TheVariants.{Int, Char}
 use Rattle.c_types.specs.Types.{CType, integer, pointer, array}
-use Rattle.c_lexer.specs.QuotedScan.{string_bytes}
+use Rattle.c_tokens.specs.QuotedScan.{string_bytes}
 use Rattle.c_ast.specs.declared.words.Spelling.{Spelling}
 use Rattle.c_ast.specs.declared.operators.UnaryOp.TheVariants as U
 use Rattle.c_ast.specs.Trees

@@ -2,7 +2,7 @@
 -- next ones lie ahead. That its literals are in range is asked with no ends at all.
 use Rattle.std.proofs.Common.{◌≡◌, ℕ, ◌+◌, Bool, true, false, subst, List, [], ◌∷◌, ◌++◌, length, arith}
 use Rattle.std.specs.Prelude.{Option, Some, None}
-use Rattle.c_lexer.specs.declared.punctuator.Punctuator.TheVariants as M
+use Rattle.c_tokens.specs.declared.punctuator.Punctuator.TheVariants as M
 use Rattle.c_ast.specs.Trees
 use Rattle.c_ast.specs.Laws.{TreesBeginFirst}
 use Rattle.c_ast.specs.Spelling.{Lexeme, punctuator, spelled_value, spelled_declarator, spelled_init_declarators, spelled_declaration}

@@ -1,8 +1,8 @@
 -- In a well formed initializer, whose tokens come one after the other and before the ends of the definitions that are left, the records that it
 -- asks for are known.
 use Rattle.std.proofs.Common.{ℕ, ◌≤◌, Bool, true, false, subst, List, [], ◌∷◌, arith}
-use Rattle.c_lexer.specs.declared.punctuator.Punctuator.TheVariants as M
-use Rattle.c_lexer.specs.declared.token.TokenKind.TheVariants as K
+use Rattle.c_tokens.specs.declared.punctuator.Punctuator.TheVariants as M
+use Rattle.c_tokens.specs.declared.token.TokenKind.TheVariants as K
 use Rattle.c_ast.specs.Trees
 use Rattle.c_ast.specs.Places.{begins_at, first}
 use Rattle.c_ast.specs.Laws.{TreesBeginFirst}

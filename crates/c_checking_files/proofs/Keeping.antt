@@ -13,7 +13,7 @@ use Rattle.c_ast.specs.declared.operators.UnaryOp.TheVariants as U
 use Rattle.c_ast.specs.Trees
 use Rattle.c_ast.specs.WellFormed.{IsExpression, AreArguments, IsTypeName, AreSpecifiers, AreMoreSpecifiers, IsSpecifier}
 use Rattle.c_ast.specs.WellFormed.{AreMemberDeclarations, AreMemberDeclarators, AreEnumerators, IsEnumeratorValue, IsDeclarator}
-use Rattle.c_lexer.specs.QuotedScan.{string_bytes}
+use Rattle.c_tokens.specs.QuotedScan.{string_bytes}
 use Rattle.c_typed.specs.declared.program.MentionKind.{MentionKind}
 use Rattle.c_ast.specs.Places.{first, first_specifiers, first_declarator}
 use Rattle.c_typed.specs.declared.program.MentionKind.TheVariants.{Named, Sizeof}

@@ -9,7 +9,7 @@ use Rattle.c_types.specs.Types.{CType, void, integer, pointer, array, function, 
 use Rattle.c_types.specs.IntKinds.{width}
 use Rattle.c_types.specs.Sameness.{same_type}
 use Rattle.c_types.proofs.SameTypes.{same_is}
-use Rattle.c_lexer.specs.QuotedScan.{string_bytes}
+use Rattle.c_tokens.specs.QuotedScan.{string_bytes}
 use Rattle.c_ast.specs.declared.words.Spelling.{Spelling}
 use Rattle.c_typed.specs.Trees as Typed
 use Rattle.c_typed.specs.Fits.{assigns}

@@ -1,8 +1,8 @@
 -- The literals of a well formed part are in range where those among its tokens are.
 use Rattle.std.proofs.Common.{◌≡◌, ◌≢◌, ℕ, Bool, true, false, refl, List, [], ◌∷◌}
 use Rattle.std.specs.Prelude.{Option, Some, None}
-use Rattle.c_lexer.specs.declared.token.TokenKind.{TokenKind}
-use Rattle.c_lexer.specs.declared.token.TokenKind.TheVariants as K
+use Rattle.c_tokens.specs.declared.token.TokenKind.{TokenKind}
+use Rattle.c_tokens.specs.declared.token.TokenKind.TheVariants as K
 use Rattle.c_types.specs.declared.ty.IntKind.TheVariants.{Int}
 use Rattle.c_typed.specs.Conversions.{as_kind}
 use Rattle.c_ast.specs.declared.words.Spelling.{Spelling}

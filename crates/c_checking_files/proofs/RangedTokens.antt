@@ -2,21 +2,21 @@
 use Rattle.std.proofs.Common.{◌≡◌, ℕ, ◌+◌, ◌≤◌, Bool, true, false, cond, refl, subst, List, [], ◌∷◌, ◌++◌, length, arith}
 use Rattle.std.proofs.lemmas.Bool.{leb-true}
 use Rattle.std.specs.Prelude.{nat_le, Some}
-use Rattle.c_lexer.specs.declared.part.PartKind.{PartKind}
-use Rattle.c_lexer.specs.declared.part.PartKind.TheVariants as Q
-use Rattle.c_lexer.specs.declared.part.Shape.{Shape}
-use Rattle.c_lexer.specs.declared.part.Shape.TheVariants as S
-use Rattle.c_lexer.specs.declared.token.Token.{Token}
-use Rattle.c_lexer.specs.declared.token.TokenKind.{TokenKind}
-use Rattle.c_lexer.specs.declared.token.TokenKind.TheVariants as K
-use Rattle.c_lexer.specs.Lexes.{Lexes, AreTokens, AreTokensFrom}
-use Rattle.c_lexer.specs.declared.radix.Radix.{Radix}
-use Rattle.c_lexer.specs.declared.radix.Radix.TheVariants.{Decimal, Octal, Hexadecimal}
-use Rattle.c_lexer.specs.declared.radix.Suffix.{Suffix}
-use Rattle.c_lexer.specs.declared.radix.Suffix.TheVariants.{Plain, Unsigned, UnsignedLong, LongLong, Long as LongSuffix}
-use Rattle.c_lexer.specs.Numbers.{kinds, first_holding, value}
-use Rattle.c_lexer.specs.Parts.{Part}
-use Rattle.c_lexer.specs.Words.{IsToken, greatest_character}
+use Rattle.c_tokens.specs.declared.part.PartKind.{PartKind}
+use Rattle.c_tokens.specs.declared.part.PartKind.TheVariants as Q
+use Rattle.c_tokens.specs.declared.part.Shape.{Shape}
+use Rattle.c_tokens.specs.declared.part.Shape.TheVariants as S
+use Rattle.c_tokens.specs.declared.token.Token.{Token}
+use Rattle.c_tokens.specs.declared.token.TokenKind.{TokenKind}
+use Rattle.c_tokens.specs.declared.token.TokenKind.TheVariants as K
+use Rattle.c_tokens.specs.Lexes.{Lexes, AreTokens, AreTokensFrom}
+use Rattle.c_tokens.specs.declared.radix.Radix.{Radix}
+use Rattle.c_tokens.specs.declared.radix.Radix.TheVariants.{Decimal, Octal, Hexadecimal}
+use Rattle.c_tokens.specs.declared.radix.Suffix.{Suffix}
+use Rattle.c_tokens.specs.declared.radix.Suffix.TheVariants.{Plain, Unsigned, UnsignedLong, LongLong, Long as LongSuffix}
+use Rattle.c_tokens.specs.Numbers.{kinds, first_holding, value}
+use Rattle.c_tokens.specs.Parts.{Part}
+use Rattle.c_tokens.specs.Words.{IsToken, greatest_character}
 use Rattle.c_types.specs.declared.ty.IntKind.{IntKind}
 use Rattle.c_types.specs.declared.ty.IntKind.TheVariants.{Int, UInt, Long, ULong}
 use Rattle.c_types.specs.IntKinds.{greatest}

@@ -1,6 +1,6 @@
 -- What the theorem on whole files asks of items holds of the tree of a text, where `untagged` gives names that no tag of a text has.
 use Rattle.std.proofs.Common.{◌≡◌, ℕ, true, List, subst, sym}
-use Rattle.c_lexer.specs.TokenPlaces.{TokensHavePlaces}
+use Rattle.c_tokens.specs.TokenPlaces.{TokensHavePlaces}
 use Rattle.c_ast.specs.Trees
 use Rattle.c_ast.specs.Laws.{TreesBeginFirst}
 use Rattle.c_ast.specs.TreesOfFiles.{IsTreeOf}

@@ -10,7 +10,7 @@ use Rattle.c_types.specs.Types.{CType, CTypes, void, integer, pointer, array, fu
 use Rattle.c_types.specs.Layouts.{size_of}
 use Rattle.c_types.specs.Objects.{is_object}
 use Rattle.c_types.proofs.Growing.{layouts_stay}
-use Rattle.c_lexer.specs.QuotedScan.{string_bytes}
+use Rattle.c_tokens.specs.QuotedScan.{string_bytes}
 use Rattle.c_ast.specs.declared.words.Spelling.{Spelling}
 use Rattle.c_ast.specs.Trees
 use Rattle.c_ast.specs.Places.{first}

@@ -1,7 +1,7 @@
 -- Where tokens come one after the other, what stands in a part is in the order of its bytes.
 use Rattle.std.proofs.Common.{◌≡◌, ◌≢◌, ℕ, suc, ◌+◌, ◌≤◌, ◌<◌, Bool, true, false, List, [], ◌∷◌, ◌++◌, Option, Some, None, length, refl, arith}
-use Rattle.c_lexer.specs.declared.punctuator.Punctuator.{Punctuator}
-use Rattle.c_lexer.specs.declared.punctuator.Punctuator.TheVariants as M
+use Rattle.c_tokens.specs.declared.punctuator.Punctuator.{Punctuator}
+use Rattle.c_tokens.specs.declared.punctuator.Punctuator.TheVariants as M
 use Rattle.c_ast.specs.declared.words.Spelling.{Spelling}
 use Rattle.c_ast.specs.Trees
 use Rattle.c_ast.specs.Places.{first, first_text, first_declarator}

@@ -11,7 +11,7 @@ use Rattle.c_types.specs.declared.ty.IntKind.TheVariants.{Char, Int}
 use Rattle.c_types.specs.Types.{CType, void, integer, pointer, array, function, structure, Record}
 use Rattle.c_types.specs.Objects.{is_object}
 use Rattle.c_types.specs.Layouts.{size_of_record}
-use Rattle.c_lexer.specs.QuotedScan.{string_bytes}
+use Rattle.c_tokens.specs.QuotedScan.{string_bytes}
 use Rattle.c_ast.specs.declared.words.Spelling.{Spelling}
 use Rattle.c_typed.specs.declared.program.MentionKind.{MentionKind}
 use Rattle.c_typed.specs.Trees as Typed

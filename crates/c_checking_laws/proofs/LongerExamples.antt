@@ -1,7 +1,7 @@
 -- Whole files: what the functions of the checker find is the annotated file that the definitions give them.
 use Rattle.std.proofs.Common.{refl}
 use Rattle.std.specs.Prelude.{◌≡◌, Ok}
-use Rattle.c_lexer.specs.QuotedScan.{string_bytes}
+use Rattle.c_tokens.specs.QuotedScan.{string_bytes}
 use Rattle.c_erasure.proofs.ExamplesOfRecords as Records
 use Rattle.c_erasure.proofs.ExamplesOfLoops as Loops
 use Rattle.c_erasure.proofs.ManyItems as Many

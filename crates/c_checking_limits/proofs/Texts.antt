@@ -1,9 +1,9 @@
 -- In the tree of a text of at most 4 MiB string literals are short: they stand in the text one after the other (C99 6.4.5).
 use Rattle.std.proofs.Common.{◌≡◌, ℕ, zero, suc, ◌+◌, ◌-◌, ◌≤◌, refl, subst, List, [], ◌∷◌, length, take, drop, arith, length-append}
 use Rattle.std.specs.Prelude.{Option, Some, None, option_map, unwrap_or}
-use Rattle.c_lexer.specs.declared.token.Token.{Token}
-use Rattle.c_lexer.specs.QuotedScan.{item_at, with_item, values_in, body_of, string_bytes}
-use Rattle.c_lexer.specs.TokenPlaces.{AreInOrder, TokensHavePlaces}
+use Rattle.c_tokens.specs.declared.token.Token.{Token}
+use Rattle.c_tokens.specs.QuotedScan.{item_at, with_item, values_in, body_of, string_bytes}
+use Rattle.c_tokens.specs.TokenPlaces.{AreInOrder, TokensHavePlaces}
 use Rattle.c_ast.specs.declared.words.Spelling.{Spelling}
 use Rattle.c_ast.specs.Lexemes.{lexemes_of}
 use Rattle.c_ast.specs.Spelling.{Lexeme, spelled_comma, spelled_texts, spelled_tag, spelled_consts, spelled, spelled_arguments, spelled_optional, spelled_type_name}

@@ -6,7 +6,7 @@ use Rattle.std.specs.Prelude.{◌⊎◌, ◌&&◌, not, All, Option, Some, None,
 use Rattle.std.specs.List.{AllByRecursion, list_any}
 use Rattle.std.specs.Option.{option_map}
 use Rattle.lay_base.specs.declared.place.Place.{Place}
-use Rattle.c_lexer.specs.TokenPlaces.{TokensHavePlaces}
+use Rattle.c_tokens.specs.TokenPlaces.{TokensHavePlaces}
 use Rattle.c_types.proofs.Before.{length-layouts}
 use Rattle.c_types.specs.declared.ty.IntKind.TheVariants.{Char, UInt}
 use Rattle.c_types.specs.declared.layout.Layout.{Layout}

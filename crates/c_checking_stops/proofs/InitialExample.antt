@@ -4,7 +4,7 @@ use Rattle.std.specs.Prelude.{Some, None, Err, codes}
 use Rattle.lay_base.specs.declared.faults.Rule.TheVariants as R
 use Rattle.c_types.specs.declared.ty.IntKind.TheVariants.{Char}
 use Rattle.c_types.specs.Types.{CType, integer, array}
-use Rattle.c_lexer.specs.QuotedScan.{string_bytes}
+use Rattle.c_tokens.specs.QuotedScan.{string_bytes}
 use Rattle.c_ast.specs.Trees
 use Rattle.c_erasure.specs.Broken.{ill_typed}
 use Rattle.c_erasure.specs.BrokenStatements.{IsAmong, IsBrokenInitializer}

@@ -1,5 +1,5 @@
 -- What is asked of the items of a text holds of them: they have the steps of its annotated file.
-use Rattle.c_lexer.specs.TokenPlaces.{TokensHavePlaces}
+use Rattle.c_tokens.specs.TokenPlaces.{TokensHavePlaces}
 use Rattle.c_ast.specs.Laws.{TreesBeginFirst}
 use Rattle.c_erasure.specs.Erasing.{UnitsAreOne}
 use Rattle.c_text_order.specs.TextOrder.{TextsAreInOrder}

@@ -1,7 +1,7 @@
 -- What a tree has stands in its annotated file in the order of the text (C99 6.2.1, 6.7, 6.9).
 use Rattle.std.proofs.Common.{◌≡◌, ℕ, List, [], sym, ap, ◌∙◌, subst, refl, length}
 use Rattle.std.specs.Prelude.{map, Ok, Err}
-use Rattle.c_lexer.specs.TokenPlaces.{TokensHavePlaces}
+use Rattle.c_tokens.specs.TokenPlaces.{TokensHavePlaces}
 use Rattle.c_ast.specs.Trees
 use Rattle.c_ast.specs.Laws.{TreesBeginFirst}
 use Rattle.c_ast.specs.Spelling.{spell}

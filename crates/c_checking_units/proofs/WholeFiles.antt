@@ -4,7 +4,7 @@ use Rattle.std.proofs.lemmas.Bool.{and_parts, leb-true}
 use Rattle.std.proofs.lemmas.List.Elements.{All-cons, All-nil}
 use Rattle.std.specs.Prelude.{All, map, nat_le, ◌&&◌, Some, None, slice_get}
 use Rattle.std.specs.Str.{bytes_eq}
-use Rattle.c_lexer.specs.TokenPlaces.{TokensHavePlaces}
+use Rattle.c_tokens.specs.TokenPlaces.{TokensHavePlaces}
 use Rattle.c_types.specs.Limits.{AreComplete}
 use Rattle.c_types.specs.Objects.{is_object}
 use Rattle.c_types.specs.Types.{CType, Field, Record}

@@ -7,7 +7,7 @@ ghost use Rattle.c_grammar.specs.Reading.{another, begins_enclosed, begins_param
 use crate::names::is_type;
 use crate::operators::keyword_specifier_of;
 use crate::typenames::Typenames;
-use c_lexer::{Punctuator, Token, TokenKind};
+use c_tokens::{Punctuator, Token, TokenKind};
 use lay_base::Keyword;
 
 /// Whether that punctuator stands at the front.

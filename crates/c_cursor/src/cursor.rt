@@ -14,7 +14,7 @@ use crate::names::{is_type, spelling};
 use crate::operators::{assigning_of, binary_of, keyword_specifier_of, step_of, unary_of};
 use crate::typenames::Typenames;
 use c_ast::{AssignOp, At, BinaryOp, SpecifierKeyword, Spelling, StepOp, UnaryOp};
-use c_lexer::{Punctuator, Token, TokenKind};
+use c_tokens::{Punctuator, Token, TokenKind};
 use lay_base::{Keyword, List, NoMemory};
 use std::alloc::Global;
 use std::marker::Model;

@@ -7,7 +7,7 @@ ghost use Rattle.c_grammar.specs.Reading.{spelling_of};
 
 use crate::typenames::Typenames;
 use c_ast::{Spelling, Text};
-use c_lexer::Token;
+use c_tokens::Token;
 use lay_base::NoMemory;
 use std::alloc::Global;
 

@@ -6,7 +6,7 @@ ghost use Rattle.c_ast.specs.Views.{expression_of};
 ghost use Rattle.c_grammar.specs.Reading.{step_op, unary_op, binary_op, assign_op, keyword_specifier};
 
 use c_ast::{AssignOp, BinaryOp, Expression, SpecifierKeyword, StepOp, UnaryOp};
-use c_lexer::{Punctuator, TokenKind};
+use c_tokens::{Punctuator, TokenKind};
 use lay_base::Keyword;
 
 /// The operator `++` or `--` that a token is.

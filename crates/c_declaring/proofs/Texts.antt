@@ -1,11 +1,11 @@
 -- The text of a string literal is read as one.
 use Rattle.std.proofs.Common.{◌≡◌, ℕ, ◌-◌, List, [], ◌∷◌, length, take, drop, subst, arith}
 use Rattle.std.proofs.lemmas.List.{take_all}
-use Rattle.c_lexer.specs.declared.token.Token.{Token}
-use Rattle.c_lexer.specs.declared.token.TokenKind.TheVariants as K
-use Rattle.c_lexer.specs.Lexes.{Lexes}
-use Rattle.c_lexer.specs.Strings.{IsStringLiteral}
-use Rattle.c_lexer.specs.TokenTexts.{TokensHaveTexts, IsTextOf, token_text}
+use Rattle.c_tokens.specs.declared.token.Token.{Token}
+use Rattle.c_tokens.specs.declared.token.TokenKind.TheVariants as K
+use Rattle.c_tokens.specs.Lexes.{Lexes}
+use Rattle.c_tokens.specs.Strings.{IsStringLiteral}
+use Rattle.c_tokens.specs.TokenTexts.{TokensHaveTexts, IsTextOf, token_text}
 use Rattle.c_declaring.specs.Adding.{IsOneText}
 
 whole : (text : List ℕ) (from to : ℕ) → from ≡ 0 → to ≡ length text → take (to - from) (drop from text) ≡ text

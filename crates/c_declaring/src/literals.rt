@@ -4,8 +4,8 @@ ghost use Rattle.std.specs.Prelude.{◌≡◌, ◌++◌, ◌∷◌, [], IfOk, Is
 ghost use Rattle.c_types.specs.declared.ty.IntKind.TheVariants.{Char};
 ghost use Rattle.c_types.specs.Types.{array, integer};
 ghost use Rattle.c_types.specs.Views.{type_of};
-ghost use Rattle.c_lexer.specs.QuotedScan.{string_bytes};
-ghost use Rattle.c_lexer.specs.Strings.{IsStringLiteral};
+ghost use Rattle.c_tokens.specs.QuotedScan.{string_bytes};
+ghost use Rattle.c_tokens.specs.Strings.{IsStringLiteral};
 ghost use Rattle.c_erasure.specs.Erasure.{literal_object, literal_of};
 ghost use Rattle.c_checking.specs.Declaring.{literal_in, literal_for};
 ghost use Rattle.c_annotated.specs.FileViews.{object_of};
@@ -18,9 +18,10 @@ ghost use Rattle.c_declaring.specs.Finds.{Finds};
 
 use c_annotated::{Initializer, InitializerPart, Object, PartValue, PathNode, Thing};
 use c_ast::Spelling;
-use c_lexer::{LexFault, Token, TokenKind, add_text_bytes, lex, tokens_have_texts};
+use c_lexer::{LexFault, add_text_bytes, lex, tokens_have_texts};
 use c_nodes::{Fault, unmade, way};
 use c_scopes::{FileScope, Purpose, Scope};
+use c_tokens::{Token, TokenKind};
 use c_types::{IntKind, Ty};
 use lay_base::{Bytes, List, Name, NoMemory, Place, add, shared};
 use std::alloc::Global;

@@ -7,7 +7,7 @@ use Rattle.c_types.specs.declared.ty.IntKind.TheVariants.{Char, Int, UInt}
 use Rattle.c_types.specs.Types.{CType, void, pointer, array, structure, no_types, and_type}
 use Rattle.c_types.specs.Layouts.{size_of as bytes_of}
 use Rattle.c_types.specs.Limits.{greatest_size}
-use Rattle.c_lexer.specs.QuotedScan.{string_bytes}
+use Rattle.c_tokens.specs.QuotedScan.{string_bytes}
 use Rattle.c_ast.specs.Trees
 use Rattle.c_typed.specs.declared.operators.LibraryFunction.TheVariants as L
 use Rattle.c_typed.specs.Trees as Typed

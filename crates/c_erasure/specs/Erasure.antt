@@ -9,7 +9,7 @@ use Rattle.c_types.specs.declared.ty.IntKind.TheVariants.{Char, Int, UInt}
 use Rattle.c_types.specs.Types.{CType, CTypes, void, integer, pointer, array, function, structure, no_types, and_type, Field, Record}
 use Rattle.c_types.specs.Layouts.{size_of}
 use Rattle.c_types.specs.Objects.{is_object, parts}
-use Rattle.c_lexer.specs.QuotedScan.{string_bytes}
+use Rattle.c_tokens.specs.QuotedScan.{string_bytes}
 use Rattle.c_ast.specs.declared.words.Spelling.{Spelling}
 use Rattle.c_ast.specs.declared.operators.UnaryOp.TheVariants as U
 use Rattle.c_ast.specs.Trees

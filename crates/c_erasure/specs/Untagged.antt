@@ -1,10 +1,10 @@
 -- The tag of a structure that has none: `@FILE:LINE:K`, for the K-th `struct` of its file on that presumed line (own).
 use Rattle.std.specs.Prelude.{◌≡◌, ◌≢◌, ℕ, ◌+◌, if◌then◌else◌, nat_le, List, [], ◌∷◌, ◌++◌, take, drop, ◌-◌, All, filter, flat_map, decimal, ◌⊎◌}
 use Rattle.lay_base.specs.declared.faults.Keyword.TheVariants as W
-use Rattle.c_lexer.specs.declared.presumed.Presumed.{Presumed}
-use Rattle.c_lexer.specs.declared.token.TokenKind.{TokenKind}
-use Rattle.c_lexer.specs.declared.token.TokenKind.TheVariants as K
-use Rattle.c_lexer.specs.Presuming.{IsPresumed}
+use Rattle.c_tokens.specs.declared.presumed.Presumed.{Presumed}
+use Rattle.c_tokens.specs.declared.token.TokenKind.{TokenKind}
+use Rattle.c_tokens.specs.declared.token.TokenKind.TheVariants as K
+use Rattle.c_tokens.specs.Presuming.{IsPresumed}
 use Rattle.c_ast.specs.Spelling.{Lexeme}
 
 -- a presumed file and line

@@ -9,7 +9,7 @@ use crate::level::Level;
 use crate::within::expression_inside;
 use c_ast::{At, Expression};
 use c_cursor::{Cursor, Failure, Typenames, deeper_than, level_of};
-use c_lexer::Punctuator;
+use c_tokens::Punctuator;
 use lay_base::{Boxed, boxed};
 use std::alloc::Global;
 

@@ -11,7 +11,7 @@ use crate::level::Level;
 use crate::within::{declarator_inside, expression_inside, specifiers_inside};
 use c_ast::{At, Declarator, Expression, Parameter, Parameters};
 use c_cursor::{Cursor, Failure, Typenames, deeper_than};
-use c_lexer::Punctuator;
+use c_tokens::Punctuator;
 use lay_base::{Boxed, Keyword, List, add, boxed};
 use std::alloc::Global;
 

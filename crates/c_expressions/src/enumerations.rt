@@ -11,7 +11,7 @@ use crate::level::Level;
 use crate::within::{enumerator_inside, expression_inside};
 use c_ast::{At, Enumerator, EnumeratorValue, Specifier, Spelling};
 use c_cursor::{Cursor, Failure, Typenames, deeper_than};
-use c_lexer::Punctuator;
+use c_tokens::Punctuator;
 use lay_base::{List, add};
 use std::alloc::Global;
 

@@ -10,7 +10,7 @@ use crate::primary::primary;
 use crate::within::expression_inside;
 use c_ast::{Argument, At, Expression, StepOp};
 use c_cursor::{Cursor, Failure, Typenames, deeper_than};
-use c_lexer::{Punctuator, TokenKind};
+use c_tokens::{Punctuator, TokenKind};
 use lay_base::{Boxed, List, add, boxed};
 use std::alloc::Global;
 

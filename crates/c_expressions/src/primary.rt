@@ -9,7 +9,7 @@ use crate::level::Level;
 use crate::within::expression_inside;
 use c_ast::{Expression, Spelling};
 use c_cursor::{Cursor, Failure, Typenames, deeper_than};
-use c_lexer::{Punctuator, TokenKind};
+use c_tokens::{Punctuator, TokenKind};
 use lay_base::{Boxed, List, add, boxed};
 use std::alloc::Global;
 

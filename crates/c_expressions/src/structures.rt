@@ -11,7 +11,7 @@ use crate::declarator_names::has_name;
 use crate::within::{declarator_inside, member_declaration_inside, specifiers_inside};
 use c_ast::{At, MemberDeclaration, MemberDeclarator, Specifier, Spelling};
 use c_cursor::{Cursor, Failure, Typenames, deeper_than};
-use c_lexer::Punctuator;
+use c_tokens::Punctuator;
 use lay_base::{List, add};
 use std::alloc::Global;
 

@@ -8,7 +8,7 @@ use crate::declarator_names::is_named;
 use crate::within::{declarator_inside, specifiers_inside};
 use c_ast::{At, TypeName};
 use c_cursor::{Cursor, Failure, Typenames};
-use c_lexer::Punctuator;
+use c_tokens::Punctuator;
 use std::alloc::Global;
 
 /// Specifiers, and an abstract declarator or none.

@@ -7,7 +7,7 @@ use Rattle.c_types.specs.Types.{CType, CTypes, function, no_types, and_type}
 use Rattle.c_ast.specs.declared.words.Spelling.{Spelling}
 use Rattle.c_ast.specs.Trees
 use Rattle.c_ast.specs.Places.{first_specifiers, first_declarator}
-use Rattle.c_lexer.specs.declared.punctuator.Punctuator.TheVariants as M
+use Rattle.c_tokens.specs.declared.punctuator.Punctuator.TheVariants as M
 use Rattle.c_ast.specs.Spelling.{Lexeme, punctuator, spelled_declarator, spelled_parameter_list, spelled_parameters, spelled_specifiers, spelled_block_items, spelled_item, spelled_items}
 use Rattle.c_typed.specs.declared.program.MentionKind.TheVariants.{Named}
 use Rattle.c_erasure.specs.Declarators.{declared_name, is_name, Shape, closed}

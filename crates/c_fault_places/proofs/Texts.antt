@@ -2,8 +2,8 @@
 use Rattle.std.proofs.Common.{◌≡◌, ℕ, List, [], ◌∷◌, Ok, Err, refl, subst, arith}
 use Rattle.std.specs.List.{AllByRecursion}
 use Rattle.std.proofs.lemmas.List.Elements.{recursion_from_All}
-use Rattle.c_lexer.specs.declared.token.Token.{Token}
-use Rattle.c_lexer.specs.TokenPlaces.{IsPlaceIn, TokensHavePlaces}
+use Rattle.c_tokens.specs.declared.token.Token.{Token}
+use Rattle.c_tokens.specs.TokenPlaces.{IsPlaceIn, TokensHavePlaces}
 use Rattle.c_ast.specs.Lexemes.{lexemes_of}
 use Rattle.c_ast.specs.Spelling.{spell}
 use Rattle.c_ast.specs.Trees

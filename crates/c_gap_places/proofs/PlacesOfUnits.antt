@@ -5,7 +5,7 @@ use Rattle.std.specs.List.{AllByRecursion}
 use Rattle.std.proofs.lemmas.List.Elements.{All-weaker}
 use Rattle.lay_base.specs.declared.place.File.{File}
 use Rattle.lay_base.specs.declared.place.Place.{Place}
-use Rattle.c_lexer.specs.TokenPlaces.{IsPlaceIn, TokensHavePlaces}
+use Rattle.c_tokens.specs.TokenPlaces.{IsPlaceIn, TokensHavePlaces}
 use Rattle.c_types.specs.Types.{Record}
 use Rattle.c_typed.specs.declared.program.Object.{Object}
 use Rattle.c_typed.specs.Programs.{FunctionData, UnitData}

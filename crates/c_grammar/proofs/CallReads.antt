@@ -1,7 +1,7 @@
 -- Reading a call and its arguments from their spelling.
 use Rattle.std.proofs.Common.{◌≡◌, ℕ, zero, suc, ◌≤◌, max, List, [], ◌∷◌, ◌++◌, Option, Some, None, Bool, true, false, length, refl, ◌∙◌, arith}
 use Rattle.std.proofs.Common.{append_assoc, append-nil, add-one}
-use Rattle.c_lexer.specs.declared.punctuator.Punctuator.TheVariants as M
+use Rattle.c_tokens.specs.declared.punctuator.Punctuator.TheVariants as M
 use Rattle.c_ast.specs.Trees
 use Rattle.c_ast.specs.Spelling.{Lexeme, punctuator, spelled_comma, spelled, spelled_arguments}
 use Rattle.c_ast.specs.WellFormed.{level, IsExpression, AreArguments}

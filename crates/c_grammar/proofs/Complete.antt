@@ -1,8 +1,8 @@
 -- What is spelled is read: from the spelling of a well formed tree, before a rest that does not go on, each reader
 -- gives that tree, its depth and the rest.
 use Rattle.std.proofs.Common.{◌≡◌, ◌≢◌, ℕ, ◌+◌, ◌≤◌, max, List, ◌∷◌, [], Some, Bool, true, false, refl, arith}
-use Rattle.c_lexer.specs.declared.punctuator.Punctuator.TheVariants as M
-use Rattle.c_lexer.specs.declared.token.TokenKind.TheVariants as K
+use Rattle.c_tokens.specs.declared.punctuator.Punctuator.TheVariants as M
+use Rattle.c_tokens.specs.declared.token.TokenKind.TheVariants as K
 use Rattle.c_ast.specs.declared.words.Spelling.{Spelling}
 use Rattle.c_ast.specs.Trees
 use Rattle.c_ast.specs.Spelling.{Lexeme, punctuator, word, spelled, spelled_type_name, spelled_specifiers, spelled_member_declarators}

@@ -1,7 +1,7 @@
 -- Declarators: what is read is spelled so.
 use Rattle.std.proofs.Common.{◌≡◌, ◌≢◌, ℕ, suc, ◌+◌, max, List, [], ◌∷◌, length, Option, Some, None, Bool, true, false, refl, ap, sym, ◌∙◌, arith}
 use Rattle.lay_base.specs.declared.faults.Keyword.TheVariants as W
-use Rattle.c_lexer.specs.declared.punctuator.Punctuator.TheVariants as M
+use Rattle.c_tokens.specs.declared.punctuator.Punctuator.TheVariants as M
 use Rattle.c_ast.specs.declared.words.Spelling.{Spelling}
 use Rattle.c_ast.specs.declared.operators.SpecifierKeyword.TheVariants as S
 use Rattle.c_ast.specs.Trees

@@ -1,7 +1,7 @@
 -- Expressions from unary ones on: what is read is spelled so.
 use Rattle.std.proofs.Common.{◌≡◌, ℕ, suc, ◌+◌, ◌≤◌, ◌<◌, max, List, [], ◌∷◌, Option, Some, None, Bool, refl, ap, ◌∙◌, arith, leb}
 use Rattle.lay_base.specs.declared.faults.Keyword.TheVariants as W
-use Rattle.c_lexer.specs.declared.punctuator.Punctuator.TheVariants as M
+use Rattle.c_tokens.specs.declared.punctuator.Punctuator.TheVariants as M
 use Rattle.c_ast.specs.declared.operators.StepOp.{StepOp}
 use Rattle.c_ast.specs.declared.operators.UnaryOp.{UnaryOp}
 use Rattle.c_ast.specs.declared.operators.BinaryOp.{BinaryOp}

@@ -1,6 +1,6 @@
 -- The items of a file: what is spelled is read.
 use Rattle.std.proofs.Common.{◌≡◌, ℕ, zero, suc, ◌+◌, ◌≤◌, ◌<◌, max, List, [], ◌∷◌, Option, Some, None, true, false, length, refl, ◌∙◌, arith}
-use Rattle.c_lexer.specs.declared.punctuator.Punctuator.TheVariants as M
+use Rattle.c_tokens.specs.declared.punctuator.Punctuator.TheVariants as M
 use Rattle.c_ast.specs.Trees
 use Rattle.c_ast.specs.Spelling.{Lexeme, punctuator, spelled_comma, spelled_declarator, spelled_value, spelled_init_declarators, spelled_specifiers}
 use Rattle.c_ast.specs.Spelling.{spelled_block_items, spelled_item, spelled_items}

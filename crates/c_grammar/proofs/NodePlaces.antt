@@ -1,7 +1,7 @@
 -- Each node of a well formed tree stands at one of its tokens: what holds of the places of all tokens holds of those of all nodes.
 use Rattle.std.proofs.Common.{◌≡◌, ℕ, List, [], ◌∷◌, ◌++◌, Option, Some, None, Bool, true, false, refl, subst}
 use Rattle.std.specs.List.{AllByRecursion}
-use Rattle.c_lexer.specs.declared.token.TokenKind.{TokenKind}
+use Rattle.c_tokens.specs.declared.token.TokenKind.{TokenKind}
 use Rattle.c_ast.specs.declared.words.Spelling.{Spelling}
 use Rattle.c_ast.specs.Trees
 use Rattle.c_ast.specs.Spelling.{Lexeme, spelled_comma, spelled_texts, spelled_tag, spelled_consts, spelled, spelled_arguments, spelled_optional}

@@ -1,9 +1,9 @@
 -- What is read inside a statement is spelled so, is well formed, and has that depth: conditions, blocks, bodies of switches.
 use Rattle.std.proofs.Common.{◌≡◌, ℕ, ◌+◌, max, List, [], ◌∷◌, length, Some, Bool, true, false, refl, ap, ◌∙◌, arith}
 use Rattle.lay_base.specs.declared.faults.Keyword.TheVariants as W
-use Rattle.c_lexer.specs.declared.punctuator.Punctuator.TheVariants as M
-use Rattle.c_lexer.specs.declared.token.TokenKind.{TokenKind}
-use Rattle.c_lexer.specs.declared.token.TokenKind.TheVariants as K
+use Rattle.c_tokens.specs.declared.punctuator.Punctuator.TheVariants as M
+use Rattle.c_tokens.specs.declared.token.TokenKind.{TokenKind}
+use Rattle.c_tokens.specs.declared.token.TokenKind.TheVariants as K
 use Rattle.c_ast.specs.Trees
 use Rattle.c_ast.specs.Spelling.{Lexeme, punctuator, keyword, spelled, spelled_declaration, spelled_if_any, spelled_labels, spelled_statement}
 use Rattle.c_ast.specs.Spelling.{spelled_block_item, spelled_block_items, spelled_switch_item, spelled_switch_items}

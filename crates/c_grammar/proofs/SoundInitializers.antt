@@ -1,6 +1,6 @@
 -- What is read as an initializer is spelled so, is well formed, and has that depth.
 use Rattle.std.proofs.Common.{◌≡◌, ◌≢◌, ℕ, zero, suc, ◌+◌, ◌≤◌, max, List, [], ◌∷◌, length, Option, Some, None, Bool, refl, ap, sym, ◌∙◌, subst, arith}
-use Rattle.c_lexer.specs.declared.punctuator.Punctuator.TheVariants as M
+use Rattle.c_tokens.specs.declared.punctuator.Punctuator.TheVariants as M
 use Rattle.c_ast.specs.Trees
 use Rattle.c_ast.specs.Spelling.{Lexeme, punctuator, spelled, spelled_arguments, spelled_comma}
 use Rattle.c_ast.specs.WellFormed.{level, IsComma, IsExpression, IsInitializer, AreInitializers}

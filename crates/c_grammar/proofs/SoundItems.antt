@@ -1,6 +1,6 @@
 -- What is read as the items of a file is spelled so, is well formed, and has that depth.
 use Rattle.std.proofs.Common.{◌≡◌, ℕ, zero, suc, ◌≤◌, max, List, [], ◌∷◌, Option, Some, None, refl, ap, ◌∙◌, arith}
-use Rattle.c_lexer.specs.declared.punctuator.Punctuator.TheVariants as M
+use Rattle.c_tokens.specs.declared.punctuator.Punctuator.TheVariants as M
 use Rattle.c_ast.specs.Trees
 use Rattle.c_ast.specs.Spelling.{Lexeme, punctuator, spelled_specifiers, spelled_declarator, spelled_init_declarators, spelled_item, spelled_items}
 use Rattle.c_ast.specs.WellFormed.{AreSpecifiers, types_after, IsItem, AreItems}

@@ -1,12 +1,12 @@
 -- The tokens of a file have their texts.
 use Rattle.std.proofs.Common.{◌≡◌, ℕ, ◌+◌, List, [], ◌∷◌, length, ap, refl, ◌∙◌}
 use Rattle.std.proofs.lemmas.List.Elements.{All-nil, All-cons}
-use Rattle.c_lexer.specs.declared.token.Token.{Token}
-use Rattle.c_lexer.specs.declared.token.TokenKind.{TokenKind}
-use Rattle.c_lexer.specs.declared.token.TokenKind.TheVariants as K
+use Rattle.c_tokens.specs.declared.token.Token.{Token}
+use Rattle.c_tokens.specs.declared.token.TokenKind.{TokenKind}
+use Rattle.c_tokens.specs.declared.token.TokenKind.TheVariants as K
 use Rattle.lay_base.specs.Keywords.{keyword_text}
-use Rattle.c_lexer.specs.Punctuators.{punctuator_text}
-use Rattle.c_lexer.specs.TokenTexts.{token_text, IsTextOf, HaveTexts}
+use Rattle.c_tokens.specs.Punctuators.{punctuator_text}
+use Rattle.c_tokens.specs.TokenTexts.{token_text, IsTextOf, HaveTexts}
 use Rattle.c_ast.specs.Spelling.{Lexeme}
 use Rattle.c_ast.specs.Lexemes.{lexeme_of, lexemes_of}
 use Rattle.c_grammar.proofs.Wholeness.{IsWhole, AreWhole}

@@ -1,8 +1,8 @@
 -- Tokens as the lexer finds them: the text of a keyword or a punctuator is its own.
 use Rattle.std.proofs.Common.{◌≡◌, List}
 use Rattle.std.specs.Prelude.{All}
-use Rattle.c_lexer.specs.declared.token.TokenKind.{TokenKind}
-use Rattle.c_lexer.specs.declared.token.TokenKind.TheVariants as K
+use Rattle.c_tokens.specs.declared.token.TokenKind.{TokenKind}
+use Rattle.c_tokens.specs.declared.token.TokenKind.TheVariants as K
 use Rattle.c_ast.specs.Spelling.{Lexeme, punctuator, keyword}
 
 abbrev pub IsWhole : Lexeme → Type 0

@@ -4,11 +4,11 @@ use Rattle.std.specs.Prelude.{max, if◌then◌else◌}
 use Rattle.lay_base.specs.declared.faults.Keyword.{Keyword}
 use Rattle.lay_base.specs.declared.faults.Keyword.TheVariants as W
 use Rattle.lay_base.specs.contracts.faults.KeywordPartialEq.TheImpl as keywords
-use Rattle.c_lexer.specs.declared.punctuator.Punctuator.{Punctuator}
-use Rattle.c_lexer.specs.contracts.punctuator.PunctuatorPartialEq.TheImpl as punctuators
-use Rattle.c_lexer.specs.declared.punctuator.Punctuator.TheVariants as M
-use Rattle.c_lexer.specs.declared.token.TokenKind.{TokenKind}
-use Rattle.c_lexer.specs.declared.token.TokenKind.TheVariants as K
+use Rattle.c_tokens.specs.declared.punctuator.Punctuator.{Punctuator}
+use Rattle.c_tokens.specs.contracts.punctuator.PunctuatorPartialEq.TheImpl as punctuators
+use Rattle.c_tokens.specs.declared.punctuator.Punctuator.TheVariants as M
+use Rattle.c_tokens.specs.declared.token.TokenKind.{TokenKind}
+use Rattle.c_tokens.specs.declared.token.TokenKind.TheVariants as K
 use Rattle.c_ast.specs.declared.words.Spelling.{Spelling}
 use Rattle.c_ast.specs.declared.operators.StepOp.{StepOp}
 use Rattle.c_ast.specs.declared.operators.StepOp.TheVariants as P

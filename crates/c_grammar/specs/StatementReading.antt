@@ -1,13 +1,13 @@
 -- Reading declarations, statements and the items of a file from the left of a list of tokens.
 use Rattle.std.specs.Prelude.{ℕ, zero, suc, ◌+◌, ◌&&◌, not, Bool, true, false, List, [], ◌∷◌, ◌++◌, length, Option, Some, None, max, if◌then◌else◌}
 use Rattle.lay_base.specs.declared.faults.Keyword.TheVariants as W
-use Rattle.c_lexer.specs.declared.token.TokenKind.{TokenKind}
-use Rattle.c_lexer.specs.declared.token.TokenKind.TheVariants as K
+use Rattle.c_tokens.specs.declared.token.TokenKind.{TokenKind}
+use Rattle.c_tokens.specs.declared.token.TokenKind.TheVariants as K
 use Rattle.c_ast.specs.Trees
 use Rattle.c_ast.specs.Spelling.{Lexeme}
 use Rattle.c_ast.specs.WellFormed.{has_name, types_after}
 use Rattle.c_ast.specs.Views.{arguments_of, block_items_of, switch_items_of}
-use Rattle.c_lexer.specs.declared.punctuator.Punctuator.TheVariants as M
+use Rattle.c_tokens.specs.declared.punctuator.Punctuator.TheVariants as M
 use Rattle.c_grammar.specs.Reading.{◌>>=◌, advance, after, expect, front, fronted, peek, is_keyword, is_right}
 use Rattle.c_grammar.specs.Reading.{is_semicolon, begins_specifier, Reader, Step, deeper, chain, comma_before, another}
 use Rattle.c_grammar.specs.Reading.{comma_if_any, at}

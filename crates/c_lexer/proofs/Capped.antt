@@ -1,7 +1,7 @@
 -- Values of digits that are kept from growing as they are read.
 use Rattle.std.proofs.Common.{◌≡◌, ℕ, ◌+◌, ◌*◌, ◌≤◌, ◌<◌, ◌^◌, min, List, [], ◌∷◌, fold, refl, ap, ◌∙◌, arith, le-mul_of_pos_right, ⊎_elim}
 use Rattle.std.proofs.lemmas.Bool.{cases_lt}
-use Rattle.c_lexer.specs.Characters.{digit_value, value_of_digits}
+use Rattle.c_tokens.specs.Characters.{digit_value, value_of_digits}
 use Rattle.c_lexer.specs.NumberScan.{capped_value}
 
 -- one digit more, after a number that was kept at `most` where it is greater

@@ -4,8 +4,8 @@ use Rattle.std.proofs.Common.{ap, subst, arith, ⊎_elim}
 use Rattle.std.specs.Prelude.{◌==◌, option_map, not}
 use Rattle.std.proofs.lemmas.Bool.{and_parts, and_right, or_from, or_parts, cond_both, eqb-true, not_from_true, not_from_false, not-true, not-false}
 use Rattle.std.proofs.lemmas.Option.{same_Some}
-use Rattle.c_lexer.specs.Characters.{is_line_feed, begins}
-use Rattle.c_lexer.specs.Parts.{has_end, HasNoLineFeed, IsLineEnd}
+use Rattle.c_tokens.specs.Characters.{is_line_feed, begins}
+use Rattle.c_tokens.specs.Parts.{has_end, HasNoLineFeed, IsLineEnd}
 use Rattle.c_lexer.specs.Scanning.{comment_length, line_length}
 use Rattle.c_lexer.proofs.RunLengths.{run_read, run_taken}
 use Rattle.c_lexer.proofs.Quotes.{counted}

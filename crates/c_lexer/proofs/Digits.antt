@@ -2,7 +2,7 @@
 use Rattle.std.proofs.Common.{◌≡◌, ℕ, Bool, true, false, ◌&&◌, List, [], ◌∷◌, take, min, zero, suc, ◌+◌, ◌≤◌, refl, arith, cond}
 use Rattle.std.proofs.lemmas.Bool.Decides.{nat_tests}
 use Rattle.std.specs.List.{prefix_len, list_all}
-use Rattle.c_lexer.specs.Characters.{is_digit, is_octal, is_hexadecimal}
+use Rattle.c_tokens.specs.Characters.{is_digit, is_octal, is_hexadecimal}
 
 run_passes : (p q : ℕ → Bool) → ((b : ℕ) → p b ≡ true → q b ≡ true) → (text : List ℕ) → list_all q (take (prefix_len p text) text) ≡ true
 run_passes p q h [] = refl

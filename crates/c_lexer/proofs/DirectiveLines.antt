@@ -8,11 +8,11 @@ use Rattle.std.proofs.lemmas.Bool.Decides.{nat_tests}
 use Rattle.std.proofs.lemmas.Option.{same_Some}
 use Rattle.std.proofs.lemmas.Slice.Eq.{bytes_eq-Decides}
 use Rattle.std.proofs.Math.Seq.{drop-append_seam}
-use Rattle.c_lexer.specs.declared.directive.Directive.{Directive}
-use Rattle.c_lexer.specs.declared.directive.Directive.TheVariants.{Silent, Renumbers}
-use Rattle.c_lexer.specs.Characters.{is_blank, is_digit, goes_on_in_name, begins, value_of_digits}
-use Rattle.c_lexer.specs.Directives.{AreBlank, AreDigits, IsWordGap, Marker, IsMarker, word_text, name_text, flags_text, name_range, marker_text}
-use Rattle.c_lexer.specs.Directives.{directive_of, IsDirective, null, pragma, marker}
+use Rattle.c_tokens.specs.declared.directive.Directive.{Directive}
+use Rattle.c_tokens.specs.declared.directive.Directive.TheVariants.{Silent, Renumbers}
+use Rattle.c_tokens.specs.Characters.{is_blank, is_digit, goes_on_in_name, begins, value_of_digits}
+use Rattle.c_tokens.specs.Directives.{AreBlank, AreDigits, IsWordGap, Marker, IsMarker, word_text, name_text, flags_text, name_range, marker_text}
+use Rattle.c_tokens.specs.Directives.{directive_of, IsDirective, null, pragma, marker}
 use Rattle.c_lexer.specs.DirectiveScan.{marker_at, line_at, directive_after, directive_in}
 use Rattle.c_lexer.proofs.RunLengths.{run_read, no_run, run_taken, run_front, run_rest, begins_whole, begins_other}
 use Rattle.c_lexer.proofs.MarkerEnds.{End, digit_no_blank, end_read, end_taken}

@@ -1,13 +1,13 @@
 -- Parts and words are read from the left exactly: what the lemmas on whole texts rest on.
 use Rattle.std.proofs.Common.{◌≡◌, ◌<◌, ℕ, Bool, List, [], ◌++◌, length, Ok, Err, subst}
-use Rattle.c_lexer.specs.declared.fault.FaultKind.{FaultKind}
-use Rattle.c_lexer.specs.declared.fault.FaultKind.TheVariants as F
-use Rattle.c_lexer.specs.declared.part.PartKind.{PartKind}
-use Rattle.c_lexer.specs.declared.part.Shape.{Shape}
-use Rattle.c_lexer.specs.declared.token.TokenKind.{TokenKind}
-use Rattle.c_lexer.specs.Words.{IsWord, IsToken, IsMalformed, IsTooWide}
-use Rattle.c_lexer.specs.Parts.{Stands}
-use Rattle.c_lexer.specs.Lexes.{IsUnclosed, HasFault}
+use Rattle.c_tokens.specs.declared.fault.FaultKind.{FaultKind}
+use Rattle.c_tokens.specs.declared.fault.FaultKind.TheVariants as F
+use Rattle.c_tokens.specs.declared.part.PartKind.{PartKind}
+use Rattle.c_tokens.specs.declared.part.Shape.{Shape}
+use Rattle.c_tokens.specs.declared.token.TokenKind.{TokenKind}
+use Rattle.c_tokens.specs.Words.{IsWord, IsToken, IsMalformed, IsTooWide}
+use Rattle.c_tokens.specs.Parts.{Stands}
+use Rattle.c_tokens.specs.Lexes.{IsUnclosed, HasFault}
 use Rattle.c_lexer.specs.Scanning.{part_at, token_of}
 use Rattle.c_lexer.proofs.FrontParts.{part_read, part_taken, unclosed_read, fault_taken, bad_byte_read}
 use Rattle.c_lexer.proofs.TokenSays.{Says}

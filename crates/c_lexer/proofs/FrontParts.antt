@@ -5,21 +5,21 @@ use Rattle.std.specs.Prelude.{◌==◌, IsTrue, is_some, not}
 use Rattle.std.proofs.lemmas.Bool.{and_parts, and_left, and_from, or_from, or_parts, or_cases, cond_both, cond-true, cond-false, eqb-true}
 use Rattle.std.proofs.lemmas.Bool.Decides.{nat_tests}
 use Rattle.std.proofs.Math.Seq.{take-append_seam}
-use Rattle.c_lexer.specs.declared.directive.Directive.{Directive}
-use Rattle.c_lexer.specs.declared.fault.FaultKind.{FaultKind}
-use Rattle.c_lexer.specs.declared.fault.FaultKind.TheVariants as F
-use Rattle.c_lexer.specs.declared.part.PartKind.{PartKind}
-use Rattle.c_lexer.specs.declared.part.PartKind.TheVariants as P
-use Rattle.c_lexer.specs.declared.part.Shape.{Shape}
-use Rattle.c_lexer.specs.declared.part.Shape.TheVariants as S
-use Rattle.c_lexer.specs.Characters.{is_white, begins}
-use Rattle.c_lexer.specs.Quoted.{IsQuoted, IsInside}
-use Rattle.c_lexer.specs.QuotedScan.{quoted_length}
-use Rattle.c_lexer.specs.Directives.{IsDirective}
+use Rattle.c_tokens.specs.declared.directive.Directive.{Directive}
+use Rattle.c_tokens.specs.declared.fault.FaultKind.{FaultKind}
+use Rattle.c_tokens.specs.declared.fault.FaultKind.TheVariants as F
+use Rattle.c_tokens.specs.declared.part.PartKind.{PartKind}
+use Rattle.c_tokens.specs.declared.part.PartKind.TheVariants as P
+use Rattle.c_tokens.specs.declared.part.Shape.{Shape}
+use Rattle.c_tokens.specs.declared.part.Shape.TheVariants as S
+use Rattle.c_tokens.specs.Characters.{is_white, begins}
+use Rattle.c_tokens.specs.Quoted.{IsQuoted, IsInside}
+use Rattle.c_tokens.specs.QuotedScan.{quoted_length}
+use Rattle.c_tokens.specs.Directives.{IsDirective}
 use Rattle.c_lexer.specs.DirectiveScan.{directive_in}
-use Rattle.c_lexer.specs.Words.{IsWord}
-use Rattle.c_lexer.specs.Parts.{has_end, begins_comment, HasNoLineFeed, IsLineEnd, Stands}
-use Rattle.c_lexer.specs.Lexes.{IsUnclosed, HasFault}
+use Rattle.c_tokens.specs.Words.{IsWord}
+use Rattle.c_tokens.specs.Parts.{has_end, begins_comment, HasNoLineFeed, IsLineEnd, Stands}
+use Rattle.c_tokens.specs.Lexes.{IsUnclosed, HasFault}
 use Rattle.c_lexer.specs.Scanning.{word_at, comment_length, line_length, closed, word_part, directive_part, slash_part, part_from, part_at}
 use Rattle.c_lexer.proofs.RunLengths.{begins_byte}
 use Rattle.c_lexer.proofs.Quotes.{quoted_read, quoted_taken, no_quoted}

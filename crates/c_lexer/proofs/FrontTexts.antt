@@ -1,10 +1,10 @@
 -- Parts of a text are parts of a front of it.
 use Rattle.std.proofs.Common.{◌≡◌, ℕ, Bool, true, false, List, [], ◌∷◌, ◌++◌, refl, ap, sym, subst, ◌∙◌, append_assoc}
 use Rattle.std.specs.Prelude.{◌&&◌, ◌==◌}
-use Rattle.c_lexer.specs.declared.part.PartKind.{PartKind}
-use Rattle.c_lexer.specs.declared.part.PartKind.TheVariants as P
-use Rattle.c_lexer.specs.Words.{IsLongest}
-use Rattle.c_lexer.specs.Parts.{Part, text_of, begins_comment, IsLineEnd, Stands, AreParts, begins_line_after_part}
+use Rattle.c_tokens.specs.declared.part.PartKind.{PartKind}
+use Rattle.c_tokens.specs.declared.part.PartKind.TheVariants as P
+use Rattle.c_tokens.specs.Words.{IsLongest}
+use Rattle.c_tokens.specs.Parts.{Part, text_of, begins_comment, IsLineEnd, Stands, AreParts, begins_line_after_part}
 
 -- before a front of what follows
 end_before : (front rest : List ℕ) → IsLineEnd (front ++ rest) → IsLineEnd front

@@ -8,16 +8,16 @@ use Rattle.std.proofs.lemmas.Bool.{and_parts, and_right, or_from, or_right, cond
 use Rattle.std.proofs.lemmas.Bool.Decides.{nat_tests}
 use Rattle.std.proofs.lemmas.List.Elements.{All-nil, All-cons, All-head, All-tail, All-append}
 use Rattle.std.proofs.lemmas.Option.{same_Some}
-use Rattle.c_lexer.specs.declared.punctuator.Punctuator.{Punctuator}
-use Rattle.c_lexer.specs.declared.part.Shape.{Shape}
-use Rattle.c_lexer.specs.declared.part.Shape.TheVariants as S
-use Rattle.c_lexer.specs.Characters.{is_letter, is_digit, goes_on_in_name, begins}
-use Rattle.c_lexer.specs.Punctuators.{punctuator_text}
-use Rattle.c_lexer.specs.Numbers.{begins_number, goes_on_in_number, GoOnInNumber, IsNumber}
+use Rattle.c_tokens.specs.declared.punctuator.Punctuator.{Punctuator}
+use Rattle.c_tokens.specs.declared.part.Shape.{Shape}
+use Rattle.c_tokens.specs.declared.part.Shape.TheVariants as S
+use Rattle.c_tokens.specs.Characters.{is_letter, is_digit, goes_on_in_name, begins}
+use Rattle.c_tokens.specs.Punctuators.{punctuator_text}
+use Rattle.c_tokens.specs.Numbers.{begins_number, goes_on_in_number, GoOnInNumber, IsNumber}
 use Rattle.c_lexer.specs.NumberScan.{number_length}
-use Rattle.c_lexer.specs.Quoted.{IsQuoted, IsInside}
-use Rattle.c_lexer.specs.QuotedScan.{quoted_length}
-use Rattle.c_lexer.specs.Words.{IsName, IsWord, IsLongest}
+use Rattle.c_tokens.specs.Quoted.{IsQuoted, IsInside}
+use Rattle.c_tokens.specs.QuotedScan.{quoted_length}
+use Rattle.c_tokens.specs.Words.{IsName, IsWord, IsLongest}
 use Rattle.c_lexer.specs.Scanning.{first_punctuator, punctuators, punctuator_word, word_at}
 use Rattle.c_lexer.proofs.RunLengths.{run_read, run_taken}
 use Rattle.c_lexer.proofs.Quotes.{quoted_read}

@@ -8,9 +8,9 @@ use Rattle.std.proofs.lemmas.Bool.Decides.{nat_tests}
 use Rattle.std.proofs.lemmas.List.{take_at, take-append-drop, length-take-le}
 use Rattle.std.proofs.lemmas.List.Sums.{prefix_len-le-length}
 use Rattle.std.proofs.lemmas.Option.{same_Some}
-use Rattle.c_lexer.specs.Characters.{is_octal, is_hexadecimal, begins, value_of_digits}
-use Rattle.c_lexer.specs.Quoted.{Item, plain, simple, octal, hexadecimal, item_text, simple_value, IsItem, item_value}
-use Rattle.c_lexer.specs.QuotedScan.{capped_character, digits_at, escape_at, item_at, is_too_great}
+use Rattle.c_tokens.specs.Characters.{is_octal, is_hexadecimal, begins, value_of_digits}
+use Rattle.c_tokens.specs.Quoted.{Item, plain, simple, octal, hexadecimal, item_text, simple_value, IsItem, item_value}
+use Rattle.c_tokens.specs.QuotedScan.{capped_character, digits_at, escape_at, item_at, is_too_great}
 use Rattle.c_lexer.proofs.Capped.{fold_capped}
 use Rattle.c_lexer.proofs.RunLengths.{run_read, run_reaches, run_each, run_stops, run_begins, run_some}
 

@@ -3,23 +3,23 @@ use Rattle.std.proofs.Common.{◌≡◌, ◌≤◌, ◌<◌, ℕ, zero, suc, ◌
 use Rattle.std.proofs.Common.{Some, None, Ok, Err, refl, ap, sym, subst, ◌∙◌, arith, cond, append-nil, length-append}
 use Rattle.std.proofs.Math.Seq.{take-append_seam, drop-append_seam, take-append-add}
 use Rattle.std.proofs.lemmas.List.{drop-take, take-append-drop}
-use Rattle.c_lexer.specs.declared.directive.Directive.{Directive}
-use Rattle.c_lexer.specs.declared.directive.Directive.TheVariants.{Silent, Renumbers}
-use Rattle.c_lexer.specs.declared.part.PartKind.{PartKind}
-use Rattle.c_lexer.specs.declared.part.PartKind.TheVariants as P
-use Rattle.c_lexer.specs.declared.presuming.Lines.{Lines}
-use Rattle.c_lexer.specs.declared.directive.NameRange.{NameRange}
-use Rattle.c_lexer.specs.declared.fault.FaultKind.{FaultKind}
-use Rattle.c_lexer.specs.declared.token.Token.{Token}
-use Rattle.c_lexer.specs.Characters.{is_line_feed, value_of_digits}
-use Rattle.c_lexer.specs.Directives.{name_text, flags_text, word_text, name_range, IsDirective, null, pragma, marker}
+use Rattle.c_tokens.specs.declared.directive.Directive.{Directive}
+use Rattle.c_tokens.specs.declared.directive.Directive.TheVariants.{Silent, Renumbers}
+use Rattle.c_tokens.specs.declared.part.PartKind.{PartKind}
+use Rattle.c_tokens.specs.declared.part.PartKind.TheVariants as P
+use Rattle.c_tokens.specs.declared.presumed.Lines.{Lines}
+use Rattle.c_tokens.specs.declared.directive.NameRange.{NameRange}
+use Rattle.c_tokens.specs.declared.fault.FaultKind.{FaultKind}
+use Rattle.c_tokens.specs.declared.token.Token.{Token}
+use Rattle.c_tokens.specs.Characters.{is_line_feed, value_of_digits}
+use Rattle.c_tokens.specs.Directives.{name_text, flags_text, word_text, name_range, IsDirective, null, pragma, marker}
 use Rattle.c_lexer.specs.DirectiveScan.{directive_in}
-use Rattle.c_lexer.specs.Parts.{Part, text_of, Stands, AreParts, begins_line_after_part}
-use Rattle.c_lexer.specs.Lexes.{Lexes}
+use Rattle.c_tokens.specs.Parts.{Part, text_of, Stands, AreParts, begins_line_after_part}
+use Rattle.c_tokens.specs.Lexes.{Lexes}
 use Rattle.c_lexer.specs.Scanning.{part_at, begins_line_after_kind}
-use Rattle.c_lexer.specs.Presuming.{first_lines, after_byte, after_directive, Moves, Presumes, IsPresumed}
+use Rattle.c_tokens.specs.Presuming.{first_lines, after_byte, after_directive, Moves, Presumes, IsPresumed}
 use Rattle.c_lexer.specs.PresumingScan.{with_directive, after_part, after_parts, last_line, AreSmall, LeadsOn, IsRead}
-use Rattle.c_lexer.specs.declared.presumed.Presumed.{Presumed}
+use Rattle.c_tokens.specs.declared.presumed.Presumed.{Presumed}
 use Rattle.std.proofs.Props.{props}
 use Rattle.std.proofs.Math.Logic.{∥∥₁_elim, ∥∥₁_map}
 use Rattle.c_lexer.proofs.DirectiveLines.{directive_read, directive_taken}

@@ -7,8 +7,8 @@ use Rattle.std.proofs.lemmas.Bool.{and_parts, cond_both}
 use Rattle.std.proofs.lemmas.Bool.Decides.{nat_tests}
 use Rattle.std.proofs.lemmas.List.Elements.{All-nil, All-cons, All-head, All-tail}
 use Rattle.std.proofs.lemmas.List.Sums.{AllPass-from_list_all, list_all-from_AllPass}
-use Rattle.c_lexer.specs.Characters.{is_blank, is_digit, begins}
-use Rattle.c_lexer.specs.Directives.{AreBlank, AreDigits, IsGap, flags_text}
+use Rattle.c_tokens.specs.Characters.{is_blank, is_digit, begins}
+use Rattle.c_tokens.specs.Directives.{AreBlank, AreDigits, IsGap, flags_text}
 use Rattle.c_lexer.specs.DirectiveScan.{are_flags, is_marker_end}
 
 abbrev pub IsBlank : ℕ → Type 0

@@ -7,14 +7,14 @@ use Rattle.std.proofs.lemmas.Bool.{and_parts, and_from, cond_both, cond-true, lt
 use Rattle.std.proofs.lemmas.List.Elements.{All-head}
 use Rattle.std.proofs.lemmas.Option.{same_Some}
 use Rattle.std.proofs.Math.Seq.{take-append_seam, drop-append_seam}
-use Rattle.c_lexer.specs.declared.directive.Directive.{Directive}
-use Rattle.c_lexer.specs.declared.directive.Directive.TheVariants.{Renumbers}
-use Rattle.c_lexer.specs.declared.directive.NameRange.{NameRange}
-use Rattle.c_lexer.specs.Characters.{is_blank, is_digit, begins, value_of_digits}
+use Rattle.c_tokens.specs.declared.directive.Directive.{Directive}
+use Rattle.c_tokens.specs.declared.directive.Directive.TheVariants.{Renumbers}
+use Rattle.c_tokens.specs.declared.directive.NameRange.{NameRange}
+use Rattle.c_tokens.specs.Characters.{is_blank, is_digit, begins, value_of_digits}
 use Rattle.c_lexer.specs.NumberScan.{capped_value}
-use Rattle.c_lexer.specs.Quoted.{IsInside}
-use Rattle.c_lexer.specs.QuotedScan.{quoted_length}
-use Rattle.c_lexer.specs.Directives.{AreBlank, AreDigits, IsGap, IsMarkerName, name_text, name_range}
+use Rattle.c_tokens.specs.Quoted.{IsInside}
+use Rattle.c_tokens.specs.QuotedScan.{quoted_length}
+use Rattle.c_tokens.specs.Directives.{AreBlank, AreDigits, IsGap, IsMarkerName, name_text, name_range}
 use Rattle.c_lexer.specs.DirectiveScan.{is_marker_end, renumbers_if, named, marker_after, marker_at, line_at}
 use Rattle.c_lexer.proofs.RunLengths.{run_read, run_taken, begins_whole, begins_front, begins_byte, drop_after}
 use Rattle.c_lexer.proofs.Quotes.{quoted_read, quoted_taken, Closed}

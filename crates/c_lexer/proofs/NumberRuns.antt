@@ -2,8 +2,8 @@
 use Rattle.std.proofs.Common.{◌≡◌, ℕ, Bool, true, false, ◌&&◌, ◌||◌, List, [], ◌∷◌, ◌++◌, length, refl, ap, arith}
 use Rattle.std.specs.Prelude.{◌==◌}
 use Rattle.std.proofs.lemmas.Bool.{or_left, or_right, false_from_ne_true}
-use Rattle.c_lexer.specs.Characters.{is_digit}
-use Rattle.c_lexer.specs.Numbers.{begins_number, goes_on_in_number, GoOnInNumber}
+use Rattle.c_tokens.specs.Characters.{is_digit}
+use Rattle.c_tokens.specs.Numbers.{begins_number, goes_on_in_number, GoOnInNumber}
 use Rattle.c_lexer.specs.NumberScan.{number_length}
 
 pub number_read : (before : ℕ) (word rest : List ℕ) → GoOnInNumber before word

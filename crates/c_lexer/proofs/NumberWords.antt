@@ -11,20 +11,20 @@ use Rattle.std.proofs.lemmas.Option.{same_Some}
 use Rattle.c_types.specs.declared.ty.IntKind.{IntKind}
 use Rattle.c_types.specs.declared.ty.IntKind.TheVariants as I
 use Rattle.c_types.specs.IntKinds.{greatest}
-use Rattle.c_lexer.specs.declared.part.Shape.TheVariants as S
-use Rattle.c_lexer.specs.declared.token.TokenKind.{TokenKind}
-use Rattle.c_lexer.specs.declared.token.TokenKind.TheVariants as K
-use Rattle.c_lexer.specs.declared.fault.FaultKind.{FaultKind}
-use Rattle.c_lexer.specs.declared.fault.FaultKind.TheVariants.{BadLiteral, TooWide}
-use Rattle.c_lexer.specs.declared.radix.Radix.{Radix}
-use Rattle.c_lexer.specs.declared.radix.Radix.TheVariants.{Decimal, Octal, Hexadecimal}
-use Rattle.c_lexer.specs.declared.radix.Suffix.{Suffix}
-use Rattle.c_lexer.specs.declared.radix.Suffix.TheVariants.{Plain, Unsigned, UnsignedLong, LongLong, Long}
-use Rattle.c_lexer.specs.Characters.{is_digit, is_octal, is_hexadecimal, begins}
-use Rattle.c_lexer.specs.Numbers.{base, IsConstant, suffix_texts, IsOneOf, IsInteger, kinds, first_holding, value, type_of}
+use Rattle.c_tokens.specs.declared.part.Shape.TheVariants as S
+use Rattle.c_tokens.specs.declared.token.TokenKind.{TokenKind}
+use Rattle.c_tokens.specs.declared.token.TokenKind.TheVariants as K
+use Rattle.c_tokens.specs.declared.fault.FaultKind.{FaultKind}
+use Rattle.c_tokens.specs.declared.fault.FaultKind.TheVariants.{BadLiteral, TooWide}
+use Rattle.c_tokens.specs.declared.radix.Radix.{Radix}
+use Rattle.c_tokens.specs.declared.radix.Radix.TheVariants.{Decimal, Octal, Hexadecimal}
+use Rattle.c_tokens.specs.declared.radix.Suffix.{Suffix}
+use Rattle.c_tokens.specs.declared.radix.Suffix.TheVariants.{Plain, Unsigned, UnsignedLong, LongLong, Long}
+use Rattle.c_tokens.specs.Characters.{is_digit, is_octal, is_hexadecimal, begins}
+use Rattle.c_tokens.specs.Numbers.{base, IsConstant, suffix_texts, IsOneOf, IsInteger, kinds, first_holding, value, type_of}
 use Rattle.c_lexer.specs.NumberScan.{capped_value, is_radix_letter, begins_hexadecimal, radix_at, is_digit_in, is_u, is_l, suffix_of_one}
 use Rattle.c_lexer.specs.NumberScan.{suffix_of_two, suffix_of_three, suffix_at, typed_number, suffixed_number, number_after, number_from, number_of}
-use Rattle.c_lexer.specs.Words.{IsMalformed}
+use Rattle.c_tokens.specs.Words.{IsMalformed}
 use Rattle.c_lexer.proofs.Capped.{capped_value_is}
 use Rattle.c_lexer.proofs.RunLengths.{run_read, run_each, run_begins}
 use Rattle.c_lexer.proofs.TokenSays.{Says}

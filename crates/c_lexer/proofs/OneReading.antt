@@ -1,11 +1,11 @@
 -- A text has one reading: one list of tokens or one first fault.
 use Rattle.std.proofs.Common.{◌≡◌, ℕ, true, List, length, Result, Ok, Err, ap, subst, arith}
-use Rattle.c_lexer.specs.declared.fault.FaultKind.{FaultKind}
+use Rattle.c_tokens.specs.declared.fault.FaultKind.{FaultKind}
 use Rattle.c_lexer.specs.declared.fault.LexFault.{LexFault}
 use Rattle.c_lexer.specs.declared.fault.LexFault.TheVariants as L
-use Rattle.c_lexer.specs.declared.part.PartKind.{PartKind}
-use Rattle.c_lexer.specs.declared.token.Token.{Token}
-use Rattle.c_lexer.specs.Lexes.{Lexes, LexFaultAt}
+use Rattle.c_tokens.specs.declared.part.PartKind.{PartKind}
+use Rattle.c_tokens.specs.declared.token.Token.{Token}
+use Rattle.c_tokens.specs.Lexes.{Lexes, LexFaultAt}
 use Rattle.c_lexer.specs.Scanning.{Scanned, scan}
 use Rattle.c_lexer.specs.Answers.{OnFault}
 use Rattle.c_lexer.specs.Readings.{HaveOneReading}

@@ -4,13 +4,13 @@ use Rattle.std.proofs.Common.{append-nil, length-append}
 use Rattle.std.specs.List.{All}
 use Rattle.std.proofs.Math.Seq.{take-append_seam}
 use Rattle.std.proofs.lemmas.List.Elements.{All-nil, All-cons, All-weaker}
-use Rattle.c_lexer.specs.declared.fault.FaultKind.{FaultKind}
-use Rattle.c_lexer.specs.declared.part.PartKind.{PartKind}
-use Rattle.c_lexer.specs.declared.part.PartKind.TheVariants as P
-use Rattle.c_lexer.specs.declared.token.Token.{Token}
-use Rattle.c_lexer.specs.Parts.{Part, text_of, Stands, AreParts, begins_line_after_part}
-use Rattle.c_lexer.specs.Lexes.{AreTokens, AreTokensFrom, Lexes, LexFaultAt}
-use Rattle.c_lexer.specs.TokenPlaces.{IsPlaceIn, AreInOrder, TokensHavePlaces}
+use Rattle.c_tokens.specs.declared.fault.FaultKind.{FaultKind}
+use Rattle.c_tokens.specs.declared.part.PartKind.{PartKind}
+use Rattle.c_tokens.specs.declared.part.PartKind.TheVariants as P
+use Rattle.c_tokens.specs.declared.token.Token.{Token}
+use Rattle.c_tokens.specs.Parts.{Part, text_of, Stands, AreParts, begins_line_after_part}
+use Rattle.c_tokens.specs.Lexes.{AreTokens, AreTokensFrom, Lexes, LexFaultAt}
+use Rattle.c_tokens.specs.TokenPlaces.{IsPlaceIn, AreInOrder, TokensHavePlaces}
 use Rattle.c_lexer.proofs.Exactness.{PartsAreExact}
 use Rattle.c_lexer.proofs.WholeTexts.{part_long}
 use Rattle.c_lexer.proofs.FrontTexts.{stands_before, parts_before}

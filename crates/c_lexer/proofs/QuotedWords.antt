@@ -8,13 +8,13 @@ use Rattle.std.proofs.lemmas.List.{take_at, drop_at, nil_from_length}
 use Rattle.std.proofs.lemmas.List.Elements.{All-nil, All-cons, All-weaker}
 use Rattle.std.proofs.lemmas.List.Folds.{list_any_none, Any-from_list_any, list_any-from_Any}
 use Rattle.std.proofs.lemmas.Option.{same_Some}
-use Rattle.c_lexer.specs.declared.part.Shape.TheVariants as S
-use Rattle.c_lexer.specs.declared.token.TokenKind.{TokenKind}
-use Rattle.c_lexer.specs.declared.token.TokenKind.TheVariants as K
-use Rattle.c_lexer.specs.declared.fault.FaultKind.TheVariants.{BadLiteral, TooWide}
-use Rattle.c_lexer.specs.Quoted.{IsQuoted, Item, item_text, item_value, AreItems, HasItems}
-use Rattle.c_lexer.specs.QuotedScan.{item_at, with_item, values_in, is_too_great, body_of, character_with, text_with, character_of, string_of}
-use Rattle.c_lexer.specs.Words.{IsToken, IsMalformed, IsTooWide}
+use Rattle.c_tokens.specs.declared.part.Shape.TheVariants as S
+use Rattle.c_tokens.specs.declared.token.TokenKind.{TokenKind}
+use Rattle.c_tokens.specs.declared.token.TokenKind.TheVariants as K
+use Rattle.c_tokens.specs.declared.fault.FaultKind.TheVariants.{BadLiteral, TooWide}
+use Rattle.c_tokens.specs.Quoted.{IsQuoted, Item, item_text, item_value, AreItems, HasItems}
+use Rattle.c_tokens.specs.QuotedScan.{item_at, with_item, values_in, is_too_great, body_of, character_with, text_with, character_of, string_of}
+use Rattle.c_tokens.specs.Words.{IsToken, IsMalformed, IsTooWide}
 use Rattle.c_lexer.proofs.Items.{read_value, read_great, read_small, item_read, IsItemAt, item_taken}
 use Rattle.c_lexer.proofs.TokenSays.{Says}
 

@@ -4,8 +4,8 @@ use Rattle.std.proofs.Common.{◌∙◌, arith, add-one}
 use Rattle.std.specs.Prelude.{option_map, ◌==◌}
 use Rattle.std.proofs.lemmas.Bool.{ne_eqb, eq-eqb, eqb-true, eqb-false}
 use Rattle.std.proofs.lemmas.Option.{same_Some}
-use Rattle.c_lexer.specs.Quoted.{IsInside}
-use Rattle.c_lexer.specs.QuotedScan.{quoted_length}
+use Rattle.c_tokens.specs.Quoted.{IsInside}
+use Rattle.c_tokens.specs.QuotedScan.{quoted_length}
 
 -- one byte more before the quote
 longer : (n k : ℕ) (found : Option ℕ) → found ≡ Some (n + 1) → k ≡ n + 1 → option_map suc found ≡ Some (k + 1)

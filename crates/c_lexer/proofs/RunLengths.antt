@@ -6,7 +6,7 @@ use Rattle.std.specs.List.{All, prefix_len}
 use Rattle.std.proofs.lemmas.Bool.{cond_both, eqb-true}
 use Rattle.std.proofs.lemmas.List.Elements.{All-nil, All-cons, All-head, All-tail}
 use Rattle.std.proofs.Math.Seq.{take-append_seam, drop-append_seam}
-use Rattle.c_lexer.specs.Characters.{begins}
+use Rattle.c_tokens.specs.Characters.{begins}
 
 -- bytes of the class, before what does not begin with one
 pub run_read : (p : ℕ → Bool) (front rest : List ℕ) → All (λ b. IsTrue (p b)) front → begins p rest ≡ false → prefix_len p (front ++ rest) ≡ length front

@@ -2,16 +2,16 @@
 use Rattle.std.proofs.Common.{◌≡◌, ◌≤◌, ◌<◌, ℕ, zero, suc, ◌+◌, Bool, false, List, [], ◌∷◌, ◌++◌, take, drop, length, Option, Some, None, Ok, Err, refl, ap, sym}
 use Rattle.std.proofs.Common.{subst, ◌∙◌, arith, append-nil, append_assoc}
 use Rattle.std.specs.Option.{option_to_list}
-use Rattle.c_lexer.specs.declared.fault.FaultKind.{FaultKind}
-use Rattle.c_lexer.specs.declared.fault.FaultKind.TheVariants as F
+use Rattle.c_tokens.specs.declared.fault.FaultKind.{FaultKind}
+use Rattle.c_tokens.specs.declared.fault.FaultKind.TheVariants as F
 use Rattle.c_lexer.specs.declared.fault.LexFault.{LexFault}
 use Rattle.c_lexer.specs.declared.lexing.Step.{Step}
-use Rattle.c_lexer.specs.declared.token.Token.{Token}
+use Rattle.c_tokens.specs.declared.token.Token.{Token}
 use Rattle.c_lexer.specs.Answers.{OnFault}
-use Rattle.c_lexer.specs.declared.part.PartKind.TheVariants as P
-use Rattle.c_lexer.specs.declared.part.Shape.TheVariants as S
-use Rattle.c_lexer.specs.declared.punctuator.Punctuator.{Punctuator}
-use Rattle.c_lexer.specs.declared.token.TokenKind.TheVariants as K
+use Rattle.c_tokens.specs.declared.part.PartKind.TheVariants as P
+use Rattle.c_tokens.specs.declared.part.Shape.TheVariants as S
+use Rattle.c_tokens.specs.declared.punctuator.Punctuator.{Punctuator}
+use Rattle.c_tokens.specs.declared.token.TokenKind.TheVariants as K
 use Rattle.c_lexer.specs.Scanning.{part_at, step_over, step_at, begins_line_after_kind, Scanned, with_token, with_step, scan, fault_at}
 use Rattle.c_lexer.proofs.Strings.{drop_shorter}
 

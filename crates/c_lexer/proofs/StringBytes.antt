@@ -6,9 +6,9 @@ use Rattle.std.specs.List.{All, list_any}
 use Rattle.std.proofs.lemmas.Bool.{or_parts, leb-false, lt-leb}
 use Rattle.std.proofs.lemmas.List.Elements.{All-head, All-tail}
 use Rattle.std.proofs.lemmas.Option.{same_Some}
-use Rattle.c_lexer.specs.Quoted.{Item, item_value, HasItems}
-use Rattle.c_lexer.specs.QuotedScan.{item_at, values_in, is_too_great, body_of, string_bytes}
-use Rattle.c_lexer.specs.Strings.{IsStringLiteral, AreBytesOf, AreBytesOfAll}
+use Rattle.c_tokens.specs.Quoted.{Item, item_value, HasItems}
+use Rattle.c_tokens.specs.QuotedScan.{item_at, values_in, is_too_great, body_of, string_bytes}
+use Rattle.c_tokens.specs.Strings.{IsStringLiteral, AreBytesOf, AreBytesOfAll}
 use Rattle.c_lexer.specs.StringBytes.{StringsHaveBytes}
 use Rattle.c_lexer.proofs.Items.{read_value, read_small}
 use Rattle.c_lexer.proofs.QuotedWords.{items_read, body_read}

@@ -4,11 +4,11 @@ use Rattle.std.proofs.Common.{Result, Ok, Err, refl, ap, sym, ◌∙◌, arith, 
 use Rattle.std.proofs.lemmas.Option.{same_Some}
 use Rattle.std.specs.List.{list_any}
 use Rattle.std.specs.Option.{option_map}
-use Rattle.c_lexer.specs.declared.fault.FaultKind.{FaultKind}
-use Rattle.c_lexer.specs.declared.fault.FaultKind.TheVariants.{BadLiteral, TooWide}
-use Rattle.c_lexer.specs.declared.token.TokenKind.{TokenKind}
-use Rattle.c_lexer.specs.declared.token.TokenKind.TheVariants.{Text}
-use Rattle.c_lexer.specs.QuotedScan.{item_at, escape_at, with_item, values_in, is_too_great, text_with}
+use Rattle.c_tokens.specs.declared.fault.FaultKind.{FaultKind}
+use Rattle.c_tokens.specs.declared.fault.FaultKind.TheVariants.{BadLiteral, TooWide}
+use Rattle.c_tokens.specs.declared.token.TokenKind.{TokenKind}
+use Rattle.c_tokens.specs.declared.token.TokenKind.TheVariants.{Text}
+use Rattle.c_tokens.specs.QuotedScan.{item_at, escape_at, with_item, values_in, is_too_great, text_with}
 
 -- what the rest of a body gives, where a character before it was too great or none was
 abbrev pub text_after : Bool → Option (List ℕ) → Result TokenKind FaultKind

@@ -6,14 +6,14 @@ use Rattle.std.proofs.lemmas.Option.{same_Some, none-some}
 use Rattle.std.proofs.lemmas.Slice.Eq.{bytes_eq-Decides}
 use Rattle.lay_base.specs.declared.faults.Keyword.{Keyword}
 use Rattle.lay_base.specs.declared.faults.Keyword.TheVariants as W
-use Rattle.c_lexer.specs.declared.part.Shape.{Shape}
-use Rattle.c_lexer.specs.declared.part.Shape.TheVariants as S
-use Rattle.c_lexer.specs.declared.token.TokenKind.{TokenKind}
-use Rattle.c_lexer.specs.declared.token.TokenKind.TheVariants as K
-use Rattle.c_lexer.specs.declared.fault.FaultKind.TheVariants.{BadLiteral, TooWide}
+use Rattle.c_tokens.specs.declared.part.Shape.{Shape}
+use Rattle.c_tokens.specs.declared.part.Shape.TheVariants as S
+use Rattle.c_tokens.specs.declared.token.TokenKind.{TokenKind}
+use Rattle.c_tokens.specs.declared.token.TokenKind.TheVariants as K
+use Rattle.c_tokens.specs.declared.fault.FaultKind.TheVariants.{BadLiteral, TooWide}
 use Rattle.lay_base.specs.Keywords.{keyword_text}
 use Rattle.c_lexer.specs.Scanning.{first_keyword, keywords, name_with, token_of}
-use Rattle.c_lexer.specs.Words.{IsWord, IsToken, IsMalformed, IsTooWide}
+use Rattle.c_tokens.specs.Words.{IsWord, IsToken, IsMalformed, IsTooWide}
 use Rattle.c_lexer.proofs.TokenSays.{Says}
 use Rattle.c_lexer.proofs.NumberWords.{number_read, wide_number_read, malformed_number_read, number_taken}
 use Rattle.c_lexer.proofs.QuotedWords.{character_read, wide_character_read, malformed_character_read, character_taken, text_read, wide_text_read}

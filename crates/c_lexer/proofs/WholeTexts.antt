@@ -3,17 +3,17 @@ use Rattle.std.proofs.Common.{◌≡◌, ◌≤◌, ◌<◌, ℕ, zero, suc, ◌
 use Rattle.std.proofs.Common.{Err, refl, ap, sym, subst, ◌∙◌, arith, append-nil, append_assoc, length-append, add-zero}
 use Rattle.std.proofs.Math.Seq.{take-append_seam, drop-append_seam}
 use Rattle.std.specs.Option.{option_to_list}
-use Rattle.c_lexer.specs.declared.fault.FaultKind.{FaultKind}
-use Rattle.c_lexer.specs.declared.fault.FaultKind.TheVariants as F
+use Rattle.c_tokens.specs.declared.fault.FaultKind.{FaultKind}
+use Rattle.c_tokens.specs.declared.fault.FaultKind.TheVariants as F
 use Rattle.c_lexer.specs.declared.lexing.Step.{Step}
-use Rattle.c_lexer.specs.declared.part.PartKind.{PartKind}
-use Rattle.c_lexer.specs.declared.part.PartKind.TheVariants as P
-use Rattle.c_lexer.specs.declared.part.Shape.{Shape}
-use Rattle.c_lexer.specs.declared.token.Token.{Token}
-use Rattle.c_lexer.specs.declared.token.TokenKind.{TokenKind}
-use Rattle.c_lexer.specs.Words.{IsWord, IsToken}
-use Rattle.c_lexer.specs.Parts.{Part, text_of, Stands, AreParts, begins_line_after_part, begins_line_after_parts}
-use Rattle.c_lexer.specs.Lexes.{AreTokensFrom, AreTokens, Lexes, IsUnclosed, HasFault, LexFaultAt}
+use Rattle.c_tokens.specs.declared.part.PartKind.{PartKind}
+use Rattle.c_tokens.specs.declared.part.PartKind.TheVariants as P
+use Rattle.c_tokens.specs.declared.part.Shape.{Shape}
+use Rattle.c_tokens.specs.declared.token.Token.{Token}
+use Rattle.c_tokens.specs.declared.token.TokenKind.{TokenKind}
+use Rattle.c_tokens.specs.Words.{IsWord, IsToken}
+use Rattle.c_tokens.specs.Parts.{Part, text_of, Stands, AreParts, begins_line_after_part, begins_line_after_parts}
+use Rattle.c_tokens.specs.Lexes.{AreTokensFrom, AreTokens, Lexes, IsUnclosed, HasFault, LexFaultAt}
 use Rattle.c_lexer.specs.Scanning.{part_at, token_of, begins_line_after_kind, token_in, step_with, step_over, step_at, Scanned, with_token, with_step, scan}
 use Rattle.c_lexer.proofs.Exactness.{PartsAreExact, IsFaulty, TokensAreExact}
 use Rattle.c_lexer.proofs.Scans.{with_front, front_nothing}

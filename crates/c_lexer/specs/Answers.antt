@@ -1,11 +1,11 @@
 -- What `lex` answers.
 use Rattle.std.specs.Prelude.{◌≡◌, ℕ, List, Result, Ok, Err}
-use Rattle.c_lexer.specs.declared.token.Tokens.{Tokens}
-use Rattle.c_lexer.specs.declared.fault.FaultKind.{FaultKind}
-use Rattle.c_lexer.specs.declared.fault.FaultKind.TheVariants as F
+use Rattle.c_tokens.specs.declared.token.Tokens.{Tokens}
+use Rattle.c_tokens.specs.declared.fault.FaultKind.{FaultKind}
+use Rattle.c_tokens.specs.declared.fault.FaultKind.TheVariants as F
 use Rattle.c_lexer.specs.declared.fault.LexFault.{LexFault}
 use Rattle.c_lexer.specs.declared.fault.LexFault.TheVariants as L
-use Rattle.c_lexer.specs.Lexes.{Lexes, LexFaultAt}
+use Rattle.c_tokens.specs.Lexes.{Lexes, LexFaultAt}
 
 -- a fault is of a kind, at a place; of want of memory nothing is said
 abbrev pub OnFault : LexFault → (FaultKind → ℕ → Type 0) → Type 0

@@ -2,12 +2,12 @@
 use Rattle.std.specs.Prelude.{ℕ, ◌+◌, ◌^◌, ◌-◌, nat_lt, ◌==◌, ◌&&◌, Bool, true, false, List, [], ◌∷◌, take, drop, codes, Option, Some, None, if◌then◌else◌}
 use Rattle.std.specs.List.{prefix_len, list_all}
 use Rattle.std.specs.Str.{bytes_eq}
-use Rattle.c_lexer.specs.declared.directive.Directive.{Directive}
-use Rattle.c_lexer.specs.declared.directive.Directive.TheVariants.{Silent, Renumbers}
-use Rattle.c_lexer.specs.declared.directive.NameRange.{NameRange}
-use Rattle.c_lexer.specs.Characters.{is_blank, is_digit, goes_on_in_name, begins}
+use Rattle.c_tokens.specs.declared.directive.Directive.{Directive}
+use Rattle.c_tokens.specs.declared.directive.Directive.TheVariants.{Silent, Renumbers}
+use Rattle.c_tokens.specs.declared.directive.NameRange.{NameRange}
+use Rattle.c_tokens.specs.Characters.{is_blank, is_digit, goes_on_in_name, begins}
 use Rattle.c_lexer.specs.NumberScan.{capped_value}
-use Rattle.c_lexer.specs.QuotedScan.{quoted_length}
+use Rattle.c_tokens.specs.QuotedScan.{quoted_length}
 
 -- are there only flags and blanks? May a digit come first?
 abbrev pub are_flags : Bool → List ℕ → Bool

@@ -3,16 +3,16 @@ use Rattle.std.specs.Prelude.{ℕ, ◌+◌, ◌*◌, ◌^◌, min, ◌==◌, ◌
 use Rattle.std.specs.Prelude.{Err, if◌then◌else◌}
 use Rattle.std.specs.List.{prefix_len}
 use Rattle.c_types.specs.declared.ty.IntKind.{IntKind}
-use Rattle.c_lexer.specs.declared.fault.FaultKind.{FaultKind}
-use Rattle.c_lexer.specs.declared.fault.FaultKind.TheVariants.{BadLiteral, TooWide}
-use Rattle.c_lexer.specs.declared.radix.Radix.{Radix}
-use Rattle.c_lexer.specs.declared.radix.Radix.TheVariants.{Decimal, Octal, Hexadecimal}
-use Rattle.c_lexer.specs.declared.radix.Suffix.{Suffix}
-use Rattle.c_lexer.specs.declared.radix.Suffix.TheVariants.{Plain, Unsigned, UnsignedLong, LongLong, Long}
-use Rattle.c_lexer.specs.declared.token.TokenKind.{TokenKind}
-use Rattle.c_lexer.specs.declared.token.TokenKind.TheVariants.{Number}
-use Rattle.c_lexer.specs.Characters.{is_digit, is_octal, is_hexadecimal, begins, digit_value}
-use Rattle.c_lexer.specs.Numbers.{base, goes_on_in_number, kinds, first_holding}
+use Rattle.c_tokens.specs.declared.fault.FaultKind.{FaultKind}
+use Rattle.c_tokens.specs.declared.fault.FaultKind.TheVariants.{BadLiteral, TooWide}
+use Rattle.c_tokens.specs.declared.radix.Radix.{Radix}
+use Rattle.c_tokens.specs.declared.radix.Radix.TheVariants.{Decimal, Octal, Hexadecimal}
+use Rattle.c_tokens.specs.declared.radix.Suffix.{Suffix}
+use Rattle.c_tokens.specs.declared.radix.Suffix.TheVariants.{Plain, Unsigned, UnsignedLong, LongLong, Long}
+use Rattle.c_tokens.specs.declared.token.TokenKind.{TokenKind}
+use Rattle.c_tokens.specs.declared.token.TokenKind.TheVariants.{Number}
+use Rattle.c_tokens.specs.Characters.{is_digit, is_octal, is_hexadecimal, begins, digit_value}
+use Rattle.c_tokens.specs.Numbers.{base, goes_on_in_number, kinds, first_holding}
 
 -- how far a number goes on after a byte of it
 abbrev pub number_length : ℕ → List ℕ → ℕ

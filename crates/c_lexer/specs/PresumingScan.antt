@@ -1,16 +1,16 @@
 -- Lines after one part after the other: what the private functions compute. No public clause cites it.
 use Rattle.std.specs.Prelude.{◌≡◌, ◌≤◌, ℕ, ◌+◌, ◌-◌, Bool, List, [], ◌∷◌, fold, take, drop, length, Option, Some, None}
-use Rattle.c_lexer.specs.declared.part.PartKind.{PartKind}
-use Rattle.c_lexer.specs.declared.part.PartKind.TheVariants as P
-use Rattle.c_lexer.specs.declared.presuming.Lines.{Lines}
+use Rattle.c_tokens.specs.declared.part.PartKind.{PartKind}
+use Rattle.c_tokens.specs.declared.part.PartKind.TheVariants as P
+use Rattle.c_tokens.specs.declared.presumed.Lines.{Lines}
 use Rattle.c_lexer.specs.declared.presuming.Reached.{Reached}
-use Rattle.c_lexer.specs.declared.directive.Directive.{Directive}
+use Rattle.c_tokens.specs.declared.directive.Directive.{Directive}
 use Rattle.c_lexer.specs.DirectiveScan.{directive_in}
-use Rattle.c_lexer.specs.Parts.{Part, text_of, AreParts}
-use Rattle.c_lexer.specs.Presuming.{first_lines, after_byte, after_directive, AreTokensBefore}
-use Rattle.c_lexer.specs.Lexes.{Lexes}
-use Rattle.c_lexer.specs.declared.token.Token.{Token}
-use Rattle.c_lexer.specs.declared.presumed.Presumed.{Presumed}
+use Rattle.c_tokens.specs.Parts.{Part, text_of, AreParts}
+use Rattle.c_tokens.specs.Presuming.{first_lines, after_byte, after_directive, AreTokensBefore}
+use Rattle.c_tokens.specs.Lexes.{Lexes}
+use Rattle.c_tokens.specs.declared.token.Token.{Token}
+use Rattle.c_tokens.specs.declared.presumed.Presumed.{Presumed}
 
 abbrev pub with_directive : ℕ → Option Directive → Lines → Lines
 with_directive at None lines = lines

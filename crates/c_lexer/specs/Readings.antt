@@ -1,8 +1,8 @@
 -- A text has one reading.
 use Rattle.std.specs.Prelude.{◌≡◌, ℕ, List}
-use Rattle.c_lexer.specs.declared.token.Token.{Token}
-use Rattle.c_lexer.specs.declared.fault.FaultKind.{FaultKind}
-use Rattle.c_lexer.specs.Lexes.{Lexes, LexFaultAt}
+use Rattle.c_tokens.specs.declared.token.Token.{Token}
+use Rattle.c_tokens.specs.declared.fault.FaultKind.{FaultKind}
+use Rattle.c_tokens.specs.Lexes.{Lexes, LexFaultAt}
 
 -- one list of tokens, or one first fault, and not both
 pub record HaveOneReading : Type 0 where

@@ -6,28 +6,28 @@ use Rattle.std.specs.List.{prefix_len}
 use Rattle.std.specs.Str.{bytes_eq}
 use Rattle.lay_base.specs.declared.faults.Keyword.{Keyword}
 use Rattle.lay_base.specs.declared.faults.Keyword.TheVariants as W
-use Rattle.c_lexer.specs.declared.punctuator.Punctuator.{Punctuator}
-use Rattle.c_lexer.specs.declared.punctuator.Punctuator.TheVariants as M
-use Rattle.c_lexer.specs.declared.part.Shape.{Shape}
-use Rattle.c_lexer.specs.declared.part.Shape.TheVariants as S
-use Rattle.c_lexer.specs.declared.part.PartKind.{PartKind}
-use Rattle.c_lexer.specs.declared.part.PartKind.TheVariants as P
-use Rattle.c_lexer.specs.declared.token.Token.{Token}
+use Rattle.c_tokens.specs.declared.punctuator.Punctuator.{Punctuator}
+use Rattle.c_tokens.specs.declared.punctuator.Punctuator.TheVariants as M
+use Rattle.c_tokens.specs.declared.part.Shape.{Shape}
+use Rattle.c_tokens.specs.declared.part.Shape.TheVariants as S
+use Rattle.c_tokens.specs.declared.part.PartKind.{PartKind}
+use Rattle.c_tokens.specs.declared.part.PartKind.TheVariants as P
+use Rattle.c_tokens.specs.declared.token.Token.{Token}
 use Rattle.c_lexer.specs.declared.lexing.Step.{Step}
-use Rattle.c_lexer.specs.declared.token.TokenKind.{TokenKind}
-use Rattle.c_lexer.specs.declared.token.TokenKind.TheVariants as K
-use Rattle.c_lexer.specs.declared.fault.FaultKind.{FaultKind}
-use Rattle.c_lexer.specs.declared.fault.FaultKind.TheVariants as F
+use Rattle.c_tokens.specs.declared.token.TokenKind.{TokenKind}
+use Rattle.c_tokens.specs.declared.token.TokenKind.TheVariants as K
+use Rattle.c_tokens.specs.declared.fault.FaultKind.{FaultKind}
+use Rattle.c_tokens.specs.declared.fault.FaultKind.TheVariants as F
 use Rattle.c_lexer.specs.declared.fault.LexFault.{LexFault}
 use Rattle.c_lexer.specs.declared.fault.LexFault.TheVariants as L
-use Rattle.c_lexer.specs.Characters.{is_white, is_line_feed, is_letter, goes_on_in_name, begins}
+use Rattle.c_tokens.specs.Characters.{is_white, is_line_feed, is_letter, goes_on_in_name, begins}
 use Rattle.lay_base.specs.Keywords.{keyword_text}
-use Rattle.c_lexer.specs.Punctuators.{punctuator_text}
-use Rattle.c_lexer.specs.Numbers.{begins_number}
+use Rattle.c_tokens.specs.Punctuators.{punctuator_text}
+use Rattle.c_tokens.specs.Numbers.{begins_number}
 use Rattle.c_lexer.specs.NumberScan.{number_length, number_of}
-use Rattle.c_lexer.specs.QuotedScan.{quoted_length, character_of, string_of}
+use Rattle.c_tokens.specs.QuotedScan.{quoted_length, character_of, string_of}
 use Rattle.c_lexer.specs.DirectiveScan.{directive_in}
-use Rattle.c_lexer.specs.Words.{longest_name}
+use Rattle.c_tokens.specs.Words.{longest_name}
 use Rattle.c_lexer.specs.Answers.{OnFault}
 
 -- ---- the word at the front

@@ -1,7 +1,7 @@
 -- String literals have their bytes, and no others.
 use Rattle.std.specs.Prelude.{◌≡◌, ℕ, List, All, flat_map}
-use Rattle.c_lexer.specs.Strings.{IsStringLiteral, AreBytesOf, AreBytesOfAll}
-use Rattle.c_lexer.specs.QuotedScan.{string_bytes}
+use Rattle.c_tokens.specs.Strings.{IsStringLiteral, AreBytesOf, AreBytesOfAll}
+use Rattle.c_tokens.specs.QuotedScan.{string_bytes}
 
 -- `string_bytes` computes them
 pub record StringsHaveBytes : Type 0 where

@@ -1,7 +1,7 @@
 //! Bytes by their classes.
 
 ghost use Rattle.std.specs.Prelude.{◌≡◌, ◌≤◌, true};
-ghost use Rattle.c_lexer.specs.Characters.{is_white, is_blank, is_digit, is_octal, is_hexadecimal, is_letter, goes_on_in_name, digit_value};
+ghost use Rattle.c_tokens.specs.Characters.{is_white, is_blank, is_digit, is_octal, is_hexadecimal, is_letter, goes_on_in_name, digit_value};
 
 pub fn white(b: u8) -> bool
     ensures { result ≡ is_white b }

@@ -2,15 +2,15 @@
 
 ghost use Rattle.std.specs.Prelude.{◌≡◌, ◌≤◌, ◌+◌, ◌<◌, ◌^◌, length, IfSome, true, false};
 ghost use Rattle.std.specs.List.{list_all};
-ghost use Rattle.c_lexer.specs.Characters.{is_blank};
+ghost use Rattle.c_tokens.specs.Characters.{is_blank};
 ghost use Rattle.c_lexer.specs.DirectiveScan.{are_flags, is_marker_end, named, marker_after, marker_at, line_at, directive_after, directive_in};
-ghost use Rattle.c_lexer.specs.QuotedScan.{quoted_length};
+ghost use Rattle.c_tokens.specs.QuotedScan.{quoted_length};
 
 use crate::characters::{blank, decimal};
-use crate::directive::{Directive, NameRange};
 use crate::numbers::value_of;
 use crate::quoted::quoted_run;
 use crate::runs::{blank_run, decimal_run, name_run};
+use c_tokens::{Directive, NameRange};
 
 /// The first number that no line may have.
 const NUMBER_LIMIT: u64 = 2_147_483_648;

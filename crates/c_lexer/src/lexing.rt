@@ -5,14 +5,13 @@ ghost use Rattle.c_lexer.specs.declared.fault.LexFault.TheVariants as L;
 ghost use Rattle.c_lexer.specs.Scanning.{scan, token_in, step_at, ScanGives, fault_at};
 ghost use Rattle.c_lexer.specs.Answers.{LexGives};
 ghost use Rattle.c_lexer.specs.Readings.{HaveOneReading};
-ghost use Rattle.c_lexer.specs.TokenTexts.{TokensHaveTexts};
-ghost use Rattle.c_lexer.specs.TokenPlaces.{TokensHavePlaces};
+ghost use Rattle.c_tokens.specs.TokenTexts.{TokensHaveTexts};
+ghost use Rattle.c_tokens.specs.TokenPlaces.{TokensHavePlaces};
 
-use crate::fault::{FaultKind, LexFault};
-use crate::part::PartKind;
+use crate::fault::LexFault;
 use crate::parts::{after_white, begins_line_after_part, part_at, punctuator_alone};
-use crate::token::{Token, TokenKind, Tokens};
 use crate::words::token_of;
+use c_tokens::{FaultKind, PartKind, Token, TokenKind, Tokens};
 use lay_base::{Bytes, List};
 use std::alloc::Global;
 

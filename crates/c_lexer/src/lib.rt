@@ -5,28 +5,19 @@
 #![tactic(auto)]
 
 mod characters;
-mod directive;
 mod directives;
 mod fault;
 mod lexing;
 mod numbers;
-mod part;
 mod parts;
-mod presumed;
 mod presumed_lines;
 mod presuming;
-mod punctuator;
 mod quoted;
-mod radix;
 mod runs;
 mod string_bytes;
-mod token;
 mod words;
 
 pub use fault::LexFault;
 pub use lexing::{lex, texts_have_one_reading, tokens_have_places, tokens_have_texts};
-pub use presumed::Presumed;
 pub use presumed_lines::{PresumedLines, presumed_at};
-pub use punctuator::Punctuator;
 pub use string_bytes::{add_text_bytes, strings_have_bytes, text_bytes};
-pub use token::{Token, TokenKind, Tokens};

@@ -2,16 +2,14 @@
 
 ghost use Rattle.std.specs.Prelude.{◌≡◌, ◌≤◌, ◌^◌, length, take, IfSome, true};
 ghost use Rattle.std.specs.List.{list_all, prefix_len};
-ghost use Rattle.c_lexer.specs.Characters.{is_hexadecimal};
-ghost use Rattle.c_lexer.specs.Numbers.{base, begins_number, goes_on_in_number, kinds, first_holding};
+ghost use Rattle.c_tokens.specs.Characters.{is_hexadecimal};
+ghost use Rattle.c_tokens.specs.Numbers.{base, begins_number, goes_on_in_number, kinds, first_holding};
 ghost use Rattle.c_lexer.specs.NumberScan.{number_length, capped_value, radix_at, is_digit_in, is_u, is_l, suffix_of_one, suffix_of_two};
 ghost use Rattle.c_lexer.specs.NumberScan.{suffix_of_three, suffix_at, number_after, number_of};
 
 use crate::characters::{decimal, digit, hexadecimal, name_byte};
-use crate::fault::FaultKind;
-use crate::radix::{Radix, Suffix};
 use crate::runs::{decimal_run, hexadecimal_run, octal_run};
-use crate::token::TokenKind;
+use c_tokens::{FaultKind, Radix, Suffix, TokenKind};
 use c_types::IntKind;
 
 /// What no value of a number passes: the first that no type holds.

@@ -1,21 +1,19 @@
 //! The parts of a text: white space, comments, directives and words.
 
 ghost use Rattle.std.specs.Prelude.{◌≡◌, ◌≤◌, ◌<◌, ◌+◌, Bool, fold, length, take, IfOk, IfSome, Ok, false};
-ghost use Rattle.c_lexer.specs.declared.part.PartKind.TheVariants as P;
-ghost use Rattle.c_lexer.specs.declared.part.Shape.TheVariants as S;
-ghost use Rattle.c_lexer.specs.declared.presuming.Lines.{Lines};
-ghost use Rattle.c_lexer.specs.Presuming.{after_byte};
-ghost use Rattle.c_lexer.specs.QuotedScan.{quoted_length};
+ghost use Rattle.c_tokens.specs.declared.part.PartKind.TheVariants as P;
+ghost use Rattle.c_tokens.specs.declared.part.Shape.TheVariants as S;
+ghost use Rattle.c_tokens.specs.declared.presumed.Lines.{Lines};
+ghost use Rattle.c_tokens.specs.Presuming.{after_byte};
+ghost use Rattle.c_tokens.specs.QuotedScan.{quoted_length};
 ghost use Rattle.c_lexer.specs.Scanning.{closed, comment_length, word_part, directive_part, slash_part, part_at, begins_line_after_kind, word_at};
 
 use crate::characters::white;
 use crate::directives::directive_in;
-use crate::fault::FaultKind;
-use crate::part::{PartKind, Shape};
-use crate::punctuator::Punctuator;
 use crate::quoted::quoted_run;
 use crate::runs::line_run;
 use crate::words::word_at;
+use c_tokens::{FaultKind, PartKind, Punctuator, Shape};
 
 /// How many bytes go up to `*/`, and with it.
 fn comment_run(bytes: &[u8]) -> Option<usize>

@@ -1,11 +1,11 @@
 //! Presumed lines of places that come in order.
 
 ghost use Rattle.std.specs.Prelude.{◌≡◌, ◌≤◌, length, take};
-ghost use Rattle.c_lexer.specs.Presuming.{AreTokensBefore, IsPresumed};
+ghost use Rattle.c_tokens.specs.Presuming.{AreTokensBefore, IsPresumed};
 ghost use Rattle.c_lexer.specs.PresumingScan.{IsRead};
 
-use crate::presumed::Presumed;
 use crate::presuming::{Reached, after_parts, at_start, presumed_after};
+use c_tokens::Presumed;
 use std::marker::Model;
 
 /// What is presumed of places of a text, each at or after the one before it. The text is read once

@@ -2,21 +2,12 @@
 
 ghost use Rattle.std.specs.Prelude.{◌≡◌, ◌≤◌, ◌<◌, ◌+◌, fold, length, take, IfSome};
 ghost use Rattle.c_lexer.specs.DirectiveScan.{directive_in};
-ghost use Rattle.c_lexer.specs.Presuming.{first_lines, after_byte, AreTokensBefore, IsPresumed};
+ghost use Rattle.c_tokens.specs.Presuming.{first_lines, after_byte, AreTokensBefore, IsPresumed};
 ghost use Rattle.c_lexer.specs.PresumingScan.{with_directive, after_part, IsRead};
 
-use crate::directive::Directive;
 use crate::directives::directive_in;
-use crate::part::PartKind;
 use crate::parts::{after_white, begins_line_after_part, part_at, punctuator_alone};
-use crate::presumed::Presumed;
-
-/// What is presumed of the line of a place, and of the next line.
-#[derive(Clone, Copy)]
-pub struct Lines {
-    pub here: Presumed,
-    pub next: Presumed,
-}
+use c_tokens::{Directive, Lines, PartKind, Presumed};
 
 /// The first two lines, under the file's own name.
 fn first_lines() -> Lines

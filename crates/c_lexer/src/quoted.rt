@@ -2,14 +2,13 @@
 
 ghost use Rattle.std.specs.Prelude.{◌≡◌, ◌≤◌, ◌<◌, length, IfSome, true, false, take, ◌||◌};
 ghost use Rattle.std.specs.List.{list_all};
-ghost use Rattle.c_lexer.specs.Characters.{is_octal, is_hexadecimal};
-ghost use Rattle.c_lexer.specs.Quoted.{simple_value};
-ghost use Rattle.c_lexer.specs.QuotedScan.{quoted_length, capped_character, digits_at, escape_at, item_at, is_too_great, body_of, character_of, string_of};
+ghost use Rattle.c_tokens.specs.Characters.{is_octal, is_hexadecimal};
+ghost use Rattle.c_tokens.specs.Quoted.{simple_value};
+ghost use Rattle.c_tokens.specs.QuotedScan.{quoted_length, capped_character, digits_at, escape_at, item_at, is_too_great, body_of, character_of, string_of};
 
 use crate::characters::{digit, octal};
-use crate::fault::FaultKind;
 use crate::runs::{hexadecimal_run, octal_front};
-use crate::token::TokenKind;
+use c_tokens::{FaultKind, TokenKind};
 
 /// What no value of a character passes: the first that is too great.
 const CAP: u64 = 256;
@@ -122,7 +121,7 @@ pub fn body_of(word: &[u8]) -> &[u8]
 }
 
 /// The character constant that a word between single quotes is.
-#[tactic(auto, unfolding(crate::specs::QuotedScan::character_of))]
+#[tactic(auto, unfolding(c_tokens::specs::QuotedScan::character_of))]
 pub fn character_of(word: &[u8]) -> Result<TokenKind, FaultKind>
     ensures { result ≡ character_of word.now }
 {
@@ -147,7 +146,7 @@ fn too_great_yet(before: bool, value: u32) -> bool
 }
 
 /// The string literal that a word between double quotes is.
-#[tactic(auto, using(crate::proofs::Strings::text_stops, crate::proofs::Strings::text_begins), unfolding(crate::specs::QuotedScan::string_of))]
+#[tactic(auto, using(crate::proofs::Strings::text_stops, crate::proofs::Strings::text_begins), unfolding(c_tokens::specs::QuotedScan::string_of))]
 pub fn string_of(word: &[u8]) -> Result<TokenKind, FaultKind>
     ensures { result ≡ string_of word.now }
 {

@@ -2,7 +2,7 @@
 
 ghost use Rattle.std.specs.Prelude.{◌≡◌, ◌≤◌, length, take, true, min};
 ghost use Rattle.std.specs.List.{prefix_len, list_all};
-ghost use Rattle.c_lexer.specs.Characters.{is_blank, is_digit, is_octal, is_hexadecimal, goes_on_in_name};
+ghost use Rattle.c_tokens.specs.Characters.{is_blank, is_digit, is_octal, is_hexadecimal, goes_on_in_name};
 ghost use Rattle.c_lexer.specs.Scanning.{line_length};
 
 use crate::characters::{blank, decimal, hexadecimal, name_byte, octal};

@@ -1,8 +1,8 @@
 //! The bytes of string literals.
 
 ghost use Rattle.std.specs.Prelude.{◌≡◌, ◌++◌, IfOk, OnOk};
-ghost use Rattle.c_lexer.specs.Strings.{IsStringLiteral, AreBytesOf};
-ghost use Rattle.c_lexer.specs.QuotedScan.{string_bytes};
+ghost use Rattle.c_tokens.specs.Strings.{IsStringLiteral, AreBytesOf};
+ghost use Rattle.c_tokens.specs.QuotedScan.{string_bytes};
 ghost use Rattle.c_lexer.specs.StringBytes.{StringsHaveBytes};
 
 use crate::quoted::{body_of, item_at};

@@ -1,20 +1,17 @@
 //! Words: names, keywords, numbers and punctuators.
 
 ghost use Rattle.std.specs.Prelude.{◌≡◌, ◌≤◌, ◌<◌, length, IfSome};
-ghost use Rattle.c_lexer.specs.Punctuators.{punctuator_text};
+ghost use Rattle.c_tokens.specs.Punctuators.{punctuator_text};
 ghost use Rattle.c_lexer.specs.Scanning.{first_punctuator, punctuators, punctuators_after_plus, punctuators_after_percent, word_at, first_keyword};
 ghost use Rattle.c_lexer.specs.Scanning.{keyword_beginning, keyword_if, keyword_in, keywords, name_with};
 ghost use Rattle.c_lexer.specs.Scanning.{keywords_in_c, keywords_in_d, keywords_in_e, keywords_in_f, keywords_in_i, keywords_in_r, keywords_in_s, keywords_in_u, keywords_in_v, keywords_in_underscore};
 ghost use Rattle.c_lexer.specs.Scanning.{token_of};
 
 use crate::characters::letter;
-use crate::fault::FaultKind;
 use crate::numbers::{number_begins, number_of, number_run};
-use crate::part::Shape;
-use crate::punctuator::Punctuator;
 use crate::quoted::{character_of, string_of};
 use crate::runs::name_run;
-use crate::token::TokenKind;
+use c_tokens::{FaultKind, Punctuator, Shape, TokenKind};
 use lay_base::Keyword;
 
 /// The most bytes that a name may have.

@@ -1,7 +1,7 @@
 -- The marks of a file's items stand at its tokens, in their order.
 use Rattle.std.proofs.Common.{ℕ, List, [], ◌∷◌, ◌++◌, Option, Some, None, Bool, true, false, refl, append_assoc}
 use Rattle.std.specs.Prelude.{unwrap_or}
-use Rattle.c_lexer.specs.declared.punctuator.Punctuator.TheVariants as M
+use Rattle.c_tokens.specs.declared.punctuator.Punctuator.TheVariants as M
 use Rattle.c_ast.specs.Trees
 use Rattle.c_ast.specs.Spelling.{Lexeme, punctuator, spelled, spelled_arguments, spelled_comma, spelled_init_declarators, spelled_declaration}
 use Rattle.c_ast.specs.Spelling.{spelled_declarator, spelled_value, spelled_if_any, spelled_labels, spelled_for_start, spelled_statement, spelled_block_item}

@@ -1,8 +1,8 @@
 -- The marks of each part of a well formed tree stand at its tokens, in their order.
 use Rattle.std.proofs.Common.{◌≡◌, ℕ, List, [], ◌∷◌, Option, Some, None, Bool, true, false, length, refl}
-use Rattle.c_lexer.specs.declared.punctuator.Punctuator.{Punctuator}
-use Rattle.c_lexer.specs.declared.punctuator.Punctuator.TheVariants as M
-use Rattle.c_lexer.specs.Punctuators.{punctuator_text}
+use Rattle.c_tokens.specs.declared.punctuator.Punctuator.{Punctuator}
+use Rattle.c_tokens.specs.declared.punctuator.Punctuator.TheVariants as M
+use Rattle.c_tokens.specs.Punctuators.{punctuator_text}
 use Rattle.c_ast.specs.declared.words.Spelling.{Spelling}
 use Rattle.c_ast.specs.Trees
 use Rattle.c_ast.specs.Spelling.{Lexeme, punctuator, spelled, spelled_arguments, spelled_optional, spelled_type_name, spelled_specifiers}

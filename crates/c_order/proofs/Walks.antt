@@ -1,7 +1,7 @@
 -- Marks along the tokens of a part, token by token.
 use Rattle.std.proofs.Common.{◌≡◌, ℕ, List, [], ◌∷◌, ◌++◌, Option, Some, None, length, refl, sym, ap, ◌∙◌, subst, arith, append_assoc, append-nil, inl, inr}
-use Rattle.c_lexer.specs.declared.punctuator.Punctuator.{Punctuator}
-use Rattle.c_lexer.specs.Punctuators.{punctuator_text}
+use Rattle.c_tokens.specs.declared.punctuator.Punctuator.{Punctuator}
+use Rattle.c_tokens.specs.Punctuators.{punctuator_text}
 use Rattle.c_ast.specs.declared.words.Spelling.{Spelling}
 use Rattle.c_ast.specs.Spelling.{Lexeme, punctuator, spelled_comma, spelled_tag, spelled_texts, spelled_consts}
 use Rattle.c_erasure.specs.Scopes.{Tag}

@@ -1,7 +1,7 @@
 -- A file has one tree, since its bytes have one list of tokens.
 use Rattle.std.proofs.Common.{◌≡◌, ℕ, List, subst}
-use Rattle.c_lexer.specs.declared.token.Token.{Token}
-use Rattle.c_lexer.specs.Lexes.{Lexes}
+use Rattle.c_tokens.specs.declared.token.Token.{Token}
+use Rattle.c_tokens.specs.Lexes.{Lexes}
 use Rattle.c_ast.specs.Lexemes.{lexemes_of}
 use Rattle.c_ast.specs.Trees
 use Rattle.c_ast.specs.TreesOfFiles.{FilesHaveOneTree, IsTreeOf, IsTreeOfTokens}

@@ -1,6 +1,6 @@
 -- A step over declarators reads one of them, with its initializer.
 use Rattle.std.proofs.Common.{◌≡◌, ℕ, Bool, List, [], ◌∷◌, ◌++◌, max, Option, Some, refl}
-use Rattle.c_lexer.specs.declared.punctuator.Punctuator.TheVariants as M
+use Rattle.c_tokens.specs.declared.punctuator.Punctuator.TheVariants as M
 use Rattle.c_ast.specs.Trees
 use Rattle.c_ast.specs.Spelling.{Lexeme}
 use Rattle.c_grammar.specs.Reading.{◌>>=◌, Reader, comma_before, peek}

@@ -9,7 +9,7 @@ ghost use Rattle.c_grammar.specs.StatementReading.{condition_in, expression_if_a
 use c_ast::{At, Expression};
 use c_cursor::{Cursor, Failure, Typenames};
 use c_expressions::{Level, expression_inside};
-use c_lexer::Punctuator;
+use c_tokens::Punctuator;
 use lay_base::Boxed;
 use std::alloc::Global;
 

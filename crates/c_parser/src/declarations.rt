@@ -11,7 +11,7 @@ use crate::declarators::{named, valued};
 use c_ast::{At, Declaration, Declarator, InitDeclarator};
 use c_cursor::{Cursor, Failure, Typenames};
 use c_expressions::specifiers_inside;
-use c_lexer::Punctuator;
+use c_tokens::Punctuator;
 use lay_base::{Boxed, List, NoMemory, add};
 use std::alloc::Global;
 

@@ -9,7 +9,7 @@ use crate::initializers::initializer_inside;
 use c_ast::{At, Declarator, InitDeclarator, InitialValue};
 use c_cursor::{Cursor, Failure, Typenames};
 use c_expressions::{declarator_inside, has_name};
-use c_lexer::Punctuator;
+use c_tokens::Punctuator;
 use lay_base::Boxed;
 use std::alloc::Global;
 

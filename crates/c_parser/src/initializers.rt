@@ -9,7 +9,7 @@ ghost use Rattle.c_grammar.specs.StatementReading.{braces_in, initial_at, initia
 use c_ast::{Argument, At, Expression};
 use c_cursor::{Cursor, Failure, Typenames, deeper_than};
 use c_expressions::{Level, expression_inside};
-use c_lexer::Punctuator;
+use c_tokens::Punctuator;
 use lay_base::{Boxed, List, add, boxed};
 use std::alloc::Global;
 

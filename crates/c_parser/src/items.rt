@@ -11,7 +11,7 @@ use crate::statements::block;
 use c_ast::{At, Declaration, Declarator, Function, Item, Specifier};
 use c_cursor::{Cursor, Failure, Typenames, deeper_than};
 use c_expressions::specifiers_inside;
-use c_lexer::Punctuator;
+use c_tokens::Punctuator;
 use lay_base::{Boxed, List};
 use std::alloc::Global;
 

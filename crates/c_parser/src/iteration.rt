@@ -9,7 +9,7 @@ use crate::declarations::declaration;
 use crate::statements::statement_inside;
 use c_ast::{At, ForStart, Statement};
 use c_cursor::{Cursor, Failure, Typenames, deeper_than};
-use c_lexer::Punctuator;
+use c_tokens::Punctuator;
 use lay_base::{Keyword, boxed};
 use std::alloc::Global;
 

@@ -3,7 +3,7 @@
 ghost use Rattle.std.specs.Prelude.{◌≡◌};
 ghost use Rattle.c_parser.specs.Openings.{opening_of};
 
-use c_lexer::{Punctuator, TokenKind};
+use c_tokens::{Punctuator, TokenKind};
 use lay_base::Keyword;
 
 /// What a statement is by its first token.

@@ -7,7 +7,7 @@ ghost use Rattle.c_ast.specs.Views.{item_of};
 ghost use Rattle.c_ast.specs.WellFormed.{types_after};
 ghost use Rattle.c_cursor.specs.Gives.{Gives};
 ghost use Rattle.c_grammar.specs.StatementReading.{items_in};
-ghost use Rattle.c_lexer.specs.Lexes.{Lexes};
+ghost use Rattle.c_tokens.specs.Lexes.{Lexes};
 ghost use Rattle.c_parser.specs.Parsing.{IsPlaceIn, ParseGives};
 
 use crate::faults::ParseFault;
@@ -15,7 +15,8 @@ use crate::items::item;
 use crate::typenames::add_types;
 use c_ast::{Item, Tree};
 use c_cursor::{Cursor, Failure, Typenames};
-use c_lexer::{Token, TokenKind, Tokens, texts_have_one_reading};
+use c_lexer::texts_have_one_reading;
+use c_tokens::{Token, TokenKind, Tokens};
 use lay_base::{Keyword, List, NoMemory, Place, add};
 use std::alloc::Global;
 

@@ -16,7 +16,7 @@ use crate::selection::selection;
 use crate::switches::switch;
 use c_ast::{At, BlockItem, Statement};
 use c_cursor::{Cursor, Failure, Typenames, deeper_than};
-use c_lexer::Punctuator;
+use c_tokens::Punctuator;
 use lay_base::{List, add};
 use std::alloc::Global;
 

@@ -9,7 +9,7 @@ ghost use Rattle.c_grammar.specs.StatementReading.{below_at, label_step, stateme
 use c_ast::Label;
 use c_cursor::{Cursor, Failure, Typenames};
 use c_expressions::{Level, expression_inside};
-use c_lexer::{Punctuator, TokenKind};
+use c_tokens::{Punctuator, TokenKind};
 use lay_base::{Keyword, List, add};
 use std::alloc::Global;
 

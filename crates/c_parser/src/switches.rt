@@ -12,7 +12,7 @@ use crate::statements::statement_inside;
 use crate::switch_labels::labels;
 use c_ast::{At, Statement, SwitchItem};
 use c_cursor::{Cursor, Failure, Typenames, deeper_than};
-use c_lexer::Punctuator;
+use c_tokens::Punctuator;
 use lay_base::{List, add};
 use std::alloc::Global;
 

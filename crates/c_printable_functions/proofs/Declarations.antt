@@ -6,7 +6,7 @@ use Rattle.std.specs.Option.{option_map}
 use Rattle.c_types.specs.Objects.{is_object}
 use Rattle.c_types.specs.Types.{CType, pointer, array, function, Record}
 use Rattle.c_type_table.specs.Renumbered.{renumbered}
-use Rattle.c_lexer.specs.declared.punctuator.Punctuator.TheVariants as M
+use Rattle.c_tokens.specs.declared.punctuator.Punctuator.TheVariants as M
 use Rattle.c_ast.specs.declared.words.Spelling.{Spelling}
 use Rattle.c_ast.specs.Spelling.{Lexeme, punctuator, spelled_value, spelled_init_declarators, spelled_declaration}
 use Rattle.c_ast.specs.Trees

@@ -9,18 +9,18 @@ use Rattle.c_types.specs.IntKinds.{greatest}
 use Rattle.c_types.specs.Types.{integer}
 use Rattle.c_lexer.proofs.StringBytes.{strings_have_bytes}
 use Rattle.c_lexer.proofs.TextsOfTokens.{tokens_have_texts}
-use Rattle.c_lexer.specs.declared.radix.Radix.{Radix}
-use Rattle.c_lexer.specs.declared.radix.Radix.TheVariants.{Decimal, Octal, Hexadecimal}
-use Rattle.c_lexer.specs.declared.radix.Suffix.{Suffix}
-use Rattle.c_lexer.specs.declared.radix.Suffix.TheVariants as S
-use Rattle.c_lexer.specs.declared.token.Token.{Token}
-use Rattle.c_lexer.specs.declared.token.TokenKind.{TokenKind}
-use Rattle.c_lexer.specs.declared.token.TokenKind.TheVariants as K
-use Rattle.c_lexer.specs.Numbers.{kinds, first_holding, value}
-use Rattle.c_lexer.specs.Quoted.{Item, item_value}
-use Rattle.c_lexer.specs.QuotedScan.{string_bytes}
-use Rattle.c_lexer.specs.TokenTexts.{token_text, IsTextOf, HaveTexts}
-use Rattle.c_lexer.specs.Words.{greatest_character}
+use Rattle.c_tokens.specs.declared.radix.Radix.{Radix}
+use Rattle.c_tokens.specs.declared.radix.Radix.TheVariants.{Decimal, Octal, Hexadecimal}
+use Rattle.c_tokens.specs.declared.radix.Suffix.{Suffix}
+use Rattle.c_tokens.specs.declared.radix.Suffix.TheVariants as S
+use Rattle.c_tokens.specs.declared.token.Token.{Token}
+use Rattle.c_tokens.specs.declared.token.TokenKind.{TokenKind}
+use Rattle.c_tokens.specs.declared.token.TokenKind.TheVariants as K
+use Rattle.c_tokens.specs.Numbers.{kinds, first_holding, value}
+use Rattle.c_tokens.specs.Quoted.{Item, item_value}
+use Rattle.c_tokens.specs.QuotedScan.{string_bytes}
+use Rattle.c_tokens.specs.TokenTexts.{token_text, IsTextOf, HaveTexts}
+use Rattle.c_tokens.specs.Words.{greatest_character}
 use Rattle.c_ast.specs.declared.words.Spelling.{Spelling}
 use Rattle.c_ast.specs.Lexemes.{lexemes_of}
 use Rattle.c_ast.specs.Spelling.{Lexeme, spell, spelled_texts}

@@ -5,7 +5,7 @@ use Rattle.std.proofs.lemmas.List.{map-append}
 use Rattle.std.specs.Prelude.{◌⊎◌, ◌||◌, ◌==◌, not, Option, slice_get}
 use Rattle.std.specs.List.{AllByRecursion, list_any}
 use Rattle.std.specs.Option.{option_map}
-use Rattle.c_lexer.specs.TokenPlaces.{TokensHavePlaces}
+use Rattle.c_tokens.specs.TokenPlaces.{TokensHavePlaces}
 use Rattle.c_types.specs.Types.{CType, Record}
 use Rattle.c_type_table.specs.Renumbered.{renumbered}
 use Rattle.c_ast.specs.Spelling.{Lexeme, spelled_items}

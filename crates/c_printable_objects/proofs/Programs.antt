@@ -7,7 +7,7 @@ use Rattle.std.specs.Option.{option_map}
 use Rattle.lay_base.specs.declared.place.File.{File}
 use Rattle.c_types.specs.Limits.{AreComplete}
 use Rattle.c_types.specs.Types.{Field}
-use Rattle.c_lexer.specs.TokenPlaces.{TokensHavePlaces}
+use Rattle.c_tokens.specs.TokenPlaces.{TokensHavePlaces}
 use Rattle.c_ast.specs.Trees
 use Rattle.c_ast.specs.TreesOfFiles.{IsTreeOf}
 use Rattle.c_typed.specs.declared.program.Object.{Object}

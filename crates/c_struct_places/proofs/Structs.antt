@@ -4,12 +4,12 @@ use Rattle.std.specs.Prelude.{All}
 use Rattle.std.specs.List.{AllByRecursion}
 use Rattle.std.proofs.lemmas.List.Elements.{All-from_recursion, recursion_from_All}
 use Rattle.lay_base.specs.declared.faults.Keyword.TheVariants as W
-use Rattle.c_lexer.specs.declared.token.Token.{Token}
-use Rattle.c_lexer.specs.declared.token.TokenKind.{TokenKind}
-use Rattle.c_lexer.specs.declared.token.TokenKind.TheVariants as K
-use Rattle.c_lexer.specs.Lexes.{Lexes}
-use Rattle.c_lexer.specs.TokenTexts.{token_text, IsTextOf, HaveTexts, TokensHaveTexts}
-use Rattle.c_lexer.specs.TokenPlaces.{IsPlaceIn, AreInOrder, TokensHavePlaces}
+use Rattle.c_tokens.specs.declared.token.Token.{Token}
+use Rattle.c_tokens.specs.declared.token.TokenKind.{TokenKind}
+use Rattle.c_tokens.specs.declared.token.TokenKind.TheVariants as K
+use Rattle.c_tokens.specs.Lexes.{Lexes}
+use Rattle.c_tokens.specs.TokenTexts.{token_text, IsTextOf, HaveTexts, TokensHaveTexts}
+use Rattle.c_tokens.specs.TokenPlaces.{IsPlaceIn, AreInOrder, TokensHavePlaces}
 use Rattle.c_ast.specs.Trees
 use Rattle.c_ast.specs.Spelling.{spell}
 use Rattle.c_ast.specs.Lexemes.{lexemes_of}

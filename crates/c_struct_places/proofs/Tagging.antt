@@ -8,8 +8,8 @@ use Rattle.std.proofs.lemmas.Bool.{eq-eqb, ne_eqb, le-leb, lt-leb}
 use Rattle.std.proofs.lemmas.List.Elements.{All-from_recursion, recursion_from_All}
 use Rattle.indexmap.specs.IndexMap.{insert_entry}
 use Rattle.c_erasure.specs.Untagged.{Line, name_in, IsLineOf, AreOnLine, AreTags, tag_text}
-use Rattle.c_lexer.specs.declared.presumed.Presumed.{Presumed}
-use Rattle.c_lexer.specs.Presuming.{IsPresumed}
+use Rattle.c_tokens.specs.declared.presumed.Presumed.{Presumed}
+use Rattle.c_tokens.specs.Presuming.{IsPresumed}
 use Rattle.c_erasure.specs.Files.{AreAscending}
 use Rattle.c_struct_places.specs.Untagged.{is_line, untagged_by}
 use Rattle.c_struct_places.proofs.Inserting.{inserted_last}

@@ -1,7 +1,7 @@
 //! The tags of structures that have none.
 
 ghost use Rattle.std.specs.Prelude.{◌≡◌, ◌≤◌, ◌+◌, ℕ, List, nat_eq, ◌∷◌, All, IfOk, OnOk, length, if◌then◌else◌};
-ghost use Rattle.c_lexer.specs.TokenPlaces.{IsPlaceIn};
+ghost use Rattle.c_tokens.specs.TokenPlaces.{IsPlaceIn};
 ghost use Rattle.c_ast.specs.Spelling.{spell};
 ghost use Rattle.c_ast.specs.TreesOfFiles.{IsTreeOf};
 ghost use Rattle.c_ast.specs.Views.{items_of};
@@ -12,7 +12,8 @@ ghost use Rattle.c_struct_places.specs.Untagged.{counted_at, is_line, untagged_b
 
 use crate::struct_places::places_of_structs;
 use c_ast::Tree;
-use c_lexer::{Presumed, PresumedLines, tokens_have_places, tokens_have_texts};
+use c_lexer::{PresumedLines, tokens_have_places, tokens_have_texts};
+use c_tokens::Presumed;
 use indexmap::IndexMap;
 use itoa::Buffer;
 use lay_base::{File, Name, NoMemory};

@@ -1,6 +1,6 @@
 -- Declarators, literals and `static` locals of a file stand at its tokens, in their order.
 use Rattle.std.proofs.Common.{ℕ, List, [], ◌∷◌, Option, Some, None, Bool, true, false, refl}
-use Rattle.c_lexer.specs.declared.punctuator.Punctuator.TheVariants as M
+use Rattle.c_tokens.specs.declared.punctuator.Punctuator.TheVariants as M
 use Rattle.c_ast.specs.Trees
 use Rattle.c_ast.specs.Places.{first_specifier, first_specifiers, first_item}
 use Rattle.c_ast.specs.Spelling.{Lexeme, punctuator, spelled_value, spelled_init_declarators, spelled_declaration, spelled_if_any, spelled_specifier}

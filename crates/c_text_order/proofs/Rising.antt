@@ -1,7 +1,7 @@
 -- Places that rise along the tokens of a part, token by token.
 use Rattle.std.proofs.Common.{◌≡◌, ℕ, ◌+◌, ◌≤◌, ◌<◌, List, [], ◌∷◌, ◌++◌, inl, inr, refl, sym, subst, arith, append-nil}
-use Rattle.c_lexer.specs.declared.token.TokenKind.{TokenKind}
-use Rattle.c_lexer.specs.declared.token.TokenKind.TheVariants as K
+use Rattle.c_tokens.specs.declared.token.TokenKind.{TokenKind}
+use Rattle.c_tokens.specs.declared.token.TokenKind.TheVariants as K
 use Rattle.c_ast.specs.Spelling.{Lexeme}
 use Rattle.c_erasure.specs.Marks.{Mark, scope_beginnings}
 use Rattle.c_order.specs.Places.{AreAmong, Along}

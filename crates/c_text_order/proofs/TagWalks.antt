@@ -2,7 +2,7 @@
 use Rattle.std.proofs.Common.{◌≡◌, ℕ, ◌≤◌, ◌<◌, true, false, List, [], ◌∷◌, ◌++◌, refl, sym, ap, subst, arith, append-nil}
 use Rattle.std.specs.List.{AllByRecursion}
 use Rattle.std.proofs.lemmas.List.Elements.{All-from_recursion}
-use Rattle.c_lexer.specs.declared.token.TokenKind.TheVariants as K
+use Rattle.c_tokens.specs.declared.token.TokenKind.TheVariants as K
 use Rattle.c_ast.specs.declared.words.Spelling.{Spelling}
 use Rattle.c_ast.specs.Spelling.{Lexeme, word}
 use Rattle.c_erasure.specs.Scopes.{Tag}

@@ -1,6 +1,6 @@
 -- The tags of a file's items come in the order of its tokens.
 use Rattle.std.proofs.Common.{ℕ, List, [], ◌∷◌, Option, Some, None, Bool, true, false}
-use Rattle.c_lexer.specs.declared.punctuator.Punctuator.TheVariants as M
+use Rattle.c_tokens.specs.declared.punctuator.Punctuator.TheVariants as M
 use Rattle.c_ast.specs.Trees
 use Rattle.c_ast.specs.Spelling.{Lexeme, punctuator, spelled, spelled_arguments, spelled_value, spelled_init_declarators, spelled_item, spelled_items}
 use Rattle.c_ast.specs.WellFormed.{IsInitializer, AreInitializers, IsValue, AreInitDeclarators, IsItem, AreItems, types_after}

@@ -3,18 +3,18 @@ use Rattle.std.proofs.Common.{◌≡◌, ℕ, ◌+◌, ◌-◌, ◌≤◌, ◌<�
 use Rattle.std.proofs.Common.{arith, append_assoc, append-nil, length-append}
 use Rattle.std.proofs.Math.Seq.{take-append_seam, drop-append_seam}
 use Rattle.std.specs.Prelude.{IsTrue}
-use Rattle.c_lexer.specs.declared.part.PartKind.{PartKind}
-use Rattle.c_lexer.specs.declared.part.PartKind.TheVariants as P
-use Rattle.c_lexer.specs.declared.part.Shape.{Shape}
-use Rattle.c_lexer.specs.declared.part.Shape.TheVariants as S
-use Rattle.c_lexer.specs.declared.token.Token.{Token}
-use Rattle.c_lexer.specs.declared.token.TokenKind.{TokenKind}
-use Rattle.c_lexer.specs.declared.token.TokenKind.TheVariants as K
-use Rattle.c_lexer.specs.Characters.{is_letter}
-use Rattle.c_lexer.specs.Words.{IsWord, IsName, IsToken}
-use Rattle.c_lexer.specs.Parts.{Part, text_of, Stands, AreParts, begins_line_after_part}
-use Rattle.c_lexer.specs.Lexes.{Lexes, AreTokens, AreTokensFrom}
-use Rattle.c_lexer.specs.TokenTexts.{token_text}
+use Rattle.c_tokens.specs.declared.part.PartKind.{PartKind}
+use Rattle.c_tokens.specs.declared.part.PartKind.TheVariants as P
+use Rattle.c_tokens.specs.declared.part.Shape.{Shape}
+use Rattle.c_tokens.specs.declared.part.Shape.TheVariants as S
+use Rattle.c_tokens.specs.declared.token.Token.{Token}
+use Rattle.c_tokens.specs.declared.token.TokenKind.{TokenKind}
+use Rattle.c_tokens.specs.declared.token.TokenKind.TheVariants as K
+use Rattle.c_tokens.specs.Characters.{is_letter}
+use Rattle.c_tokens.specs.Words.{IsWord, IsName, IsToken}
+use Rattle.c_tokens.specs.Parts.{Part, text_of, Stands, AreParts, begins_line_after_part}
+use Rattle.c_tokens.specs.Lexes.{Lexes, AreTokens, AreTokensFrom}
+use Rattle.c_tokens.specs.TokenTexts.{token_text}
 use Rattle.c_lexer.proofs.Exactness.{parts_are_exact}
 use Rattle.c_lexer.proofs.WholeTexts.{part_long}
 use Rattle.c_ast.specs.Lexemes.{lexemes_of}

@@ -1,8 +1,8 @@
 -- Two functions that give the same names to the structures without a tag in a part, as they do where they agree at each `struct` of its tokens.
 use Rattle.std.proofs.Common.{◌≡◌, ℕ, List, [], ◌∷◌, ◌++◌, Option, Some, None, Bool, true, false, subst}
 use Rattle.lay_base.specs.declared.faults.Keyword.TheVariants as W
-use Rattle.c_lexer.specs.declared.token.TokenKind.{TokenKind}
-use Rattle.c_lexer.specs.declared.token.TokenKind.TheVariants as K
+use Rattle.c_tokens.specs.declared.token.TokenKind.{TokenKind}
+use Rattle.c_tokens.specs.declared.token.TokenKind.TheVariants as K
 use Rattle.c_ast.specs.Spelling.{Lexeme, spelled, spelled_arguments, spelled_optional, spelled_type_name, spelled_specifiers, spelled_specifier}
 use Rattle.c_ast.specs.Spelling.{spelled_member_declarations, spelled_member_declarators, spelled_enumerators, spelled_enumerator_value, spelled_declarator}
 use Rattle.c_ast.specs.Spelling.{spelled_value, spelled_init_declarators, spelled_item, spelled_items}

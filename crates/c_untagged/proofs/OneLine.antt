@@ -6,17 +6,17 @@ use Rattle.std.proofs.lemmas.List.Elements.{recursion_from_All}
 use Rattle.std.specs.List.{AllByRecursion}
 use Rattle.std.specs.Prelude.{◌⊎◌, filter, nat_le}
 use Rattle.lay_base.specs.declared.faults.Keyword.TheVariants as W
-use Rattle.c_lexer.specs.declared.directive.Directive.{Directive}
-use Rattle.c_lexer.specs.declared.part.PartKind.{PartKind}
-use Rattle.c_lexer.specs.declared.part.PartKind.TheVariants as P
-use Rattle.c_lexer.specs.declared.presumed.Presumed.{Presumed}
-use Rattle.c_lexer.specs.declared.presuming.Lines.{Lines}
-use Rattle.c_lexer.specs.declared.token.TokenKind.{TokenKind}
-use Rattle.c_lexer.specs.declared.token.TokenKind.TheVariants as K
-use Rattle.c_lexer.specs.Directives.{IsDirective}
+use Rattle.c_tokens.specs.declared.directive.Directive.{Directive}
+use Rattle.c_tokens.specs.declared.part.PartKind.{PartKind}
+use Rattle.c_tokens.specs.declared.part.PartKind.TheVariants as P
+use Rattle.c_tokens.specs.declared.presumed.Presumed.{Presumed}
+use Rattle.c_tokens.specs.declared.presumed.Lines.{Lines}
+use Rattle.c_tokens.specs.declared.token.TokenKind.{TokenKind}
+use Rattle.c_tokens.specs.declared.token.TokenKind.TheVariants as K
+use Rattle.c_tokens.specs.Directives.{IsDirective}
 use Rattle.c_lexer.specs.DirectiveScan.{directive_in}
-use Rattle.c_lexer.specs.Parts.{Part, text_of, Stands, AreParts, begins_line_after_part}
-use Rattle.c_lexer.specs.Presuming.{first_lines, after_directive, Moves, Presumes, IsPresumed}
+use Rattle.c_tokens.specs.Parts.{Part, text_of, Stands, AreParts, begins_line_after_part}
+use Rattle.c_tokens.specs.Presuming.{first_lines, after_directive, Moves, Presumes, IsPresumed}
 use Rattle.c_lexer.specs.Scanning.{part_at}
 use Rattle.c_lexer.proofs.DirectiveLines.{directive_read}
 use Rattle.c_lexer.proofs.Exactness.{parts_are_exact}

@@ -5,7 +5,7 @@ use Rattle.std.proofs.lemmas.List.Elements.{recursion_from_All, All-from_recursi
 use Rattle.std.specs.Prelude.{◌⊎◌, All, Some, None, slice_get}
 use Rattle.std.specs.List.{AllByRecursion}
 use Rattle.std.specs.Option.{option_map}
-use Rattle.c_lexer.specs.TokenPlaces.{TokensHavePlaces}
+use Rattle.c_tokens.specs.TokenPlaces.{TokensHavePlaces}
 use Rattle.c_types.specs.Types.{Record}
 use Rattle.c_ast.specs.Trees
 use Rattle.c_ast.specs.Sizes.{size_items}

@@ -11,7 +11,7 @@ use Rattle.c_ast.specs.Sizes.{size_item, size_items}
 use Rattle.c_ast.specs.Trees
 use Rattle.c_ast.specs.TreesOfFiles.{IsTreeOf}
 use Rattle.c_counts.specs.Loops.{loops_in, loops_in_body, loops_of}
-use Rattle.c_lexer.specs.TokenPlaces.{TokensHavePlaces}
+use Rattle.c_tokens.specs.TokenPlaces.{TokensHavePlaces}
 use Rattle.c_typed.specs.declared.operators.LibraryFunction.{LibraryFunction}
 use Rattle.c_typed.specs.Mapped.{of_types, mapped_statement}
 use Rattle.c_typed.specs.Programs.{FunctionData, UnitData}

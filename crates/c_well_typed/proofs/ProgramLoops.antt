@@ -8,7 +8,7 @@ use Rattle.c_counts.specs.Loops.{loops_in_body, loops_of}
 use Rattle.c_typed.specs.Mapped.{Renaming, mapped_statement}
 use Rattle.c_typed.specs.Programs.{FunctionData, UnitData, ProgramData}
 use Rattle.c_typed.specs.Trees as Typed
-use Rattle.c_lexer.specs.TokenPlaces.{TokensHavePlaces}
+use Rattle.c_tokens.specs.TokenPlaces.{TokensHavePlaces}
 use Rattle.c_renumbering.specs.Parts.{function_in}
 use Rattle.c_joining.specs.Joining.{joined, tables, renaming, functions, is_function_defined, function_identities}
 use Rattle.c_link.proofs.JoinedRecords.{IsAmong, among_at}

@@ -5,13 +5,13 @@ use Rattle.std.specs.Prelude.{Option, Some, None}
 use Rattle.std.specs.List.{AllByRecursion}
 use Rattle.c_lexer.proofs.StringBytes.{strings_have_bytes}
 use Rattle.c_lexer.proofs.TextsOfTokens.{tokens_have_texts}
-use Rattle.c_lexer.specs.declared.token.Token.{Token}
-use Rattle.c_lexer.specs.declared.token.TokenKind.{TokenKind}
-use Rattle.c_lexer.specs.declared.token.TokenKind.TheVariants as K
-use Rattle.c_lexer.specs.Quoted.{Item, item_value}
-use Rattle.c_lexer.specs.QuotedScan.{string_bytes}
-use Rattle.c_lexer.specs.TokenTexts.{token_text, IsTextOf, HaveTexts}
-use Rattle.c_lexer.specs.Words.{greatest_character}
+use Rattle.c_tokens.specs.declared.token.Token.{Token}
+use Rattle.c_tokens.specs.declared.token.TokenKind.{TokenKind}
+use Rattle.c_tokens.specs.declared.token.TokenKind.TheVariants as K
+use Rattle.c_tokens.specs.Quoted.{Item, item_value}
+use Rattle.c_tokens.specs.QuotedScan.{string_bytes}
+use Rattle.c_tokens.specs.TokenTexts.{token_text, IsTextOf, HaveTexts}
+use Rattle.c_tokens.specs.Words.{greatest_character}
 use Rattle.c_ast.specs.declared.words.Spelling.{Spelling}
 use Rattle.c_ast.specs.Lexemes.{lexemes_of}
 use Rattle.c_ast.specs.Spelling.{Lexeme, spell, spelled, spelled_comma, spelled_texts, spelled_tag, spelled_consts, spelled_arguments, spelled_optional}

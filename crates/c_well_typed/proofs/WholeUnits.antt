@@ -3,7 +3,7 @@ use Rattle.std.proofs.Common.{ℕ, sym, subst, List, [], ◌∷◌, length}
 use Rattle.std.proofs.lemmas.List.Elements.{recursion_from_All, All-from_recursion}
 use Rattle.std.specs.Prelude.{All}
 use Rattle.std.specs.List.{AllByRecursion}
-use Rattle.c_lexer.specs.TokenPlaces.{TokensHavePlaces}
+use Rattle.c_tokens.specs.TokenPlaces.{TokensHavePlaces}
 use Rattle.c_ast.specs.Laws.{TreesBeginFirst}
 use Rattle.c_ast.specs.Trees
 use Rattle.c_ast.specs.TreesOfFiles.{IsTreeOf}

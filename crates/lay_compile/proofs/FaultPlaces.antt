@@ -7,15 +7,15 @@ use Rattle.lay_base.specs.declared.faults.Keyword.{Keyword}
 use Rattle.lay_base.specs.declared.place.File.{File}
 use Rattle.lay_base.specs.declared.place.Place.{Place}
 use Rattle.c_lexer.specs.Answers.{OnFault}
-use Rattle.c_lexer.specs.Lexes.{Lexes, LexFaultAt}
-use Rattle.c_lexer.specs.TokenPlaces.{IsPlaceIn, TokensHavePlaces}
+use Rattle.c_tokens.specs.Lexes.{Lexes, LexFaultAt}
+use Rattle.c_tokens.specs.TokenPlaces.{IsPlaceIn, TokensHavePlaces}
 use Rattle.c_lexer.specs.declared.fault.LexFault.{LexFault}
 use Rattle.c_lexer.specs.declared.fault.LexFault.TheVariants as L
-use Rattle.c_lexer.specs.declared.fault.FaultKind.TheVariants as K
-use Rattle.c_lexer.specs.declared.token.Token.{Token}
-use Rattle.c_lexer.specs.declared.token.TokenKind.{TokenKind}
-use Rattle.c_lexer.specs.declared.token.TokenKind.TheVariants as T
-use Rattle.c_lexer.specs.declared.token.Tokens.{Tokens}
+use Rattle.c_tokens.specs.declared.fault.FaultKind.TheVariants as K
+use Rattle.c_tokens.specs.declared.token.Token.{Token}
+use Rattle.c_tokens.specs.declared.token.TokenKind.{TokenKind}
+use Rattle.c_tokens.specs.declared.token.TokenKind.TheVariants as T
+use Rattle.c_tokens.specs.declared.token.Tokens.{Tokens}
 use Rattle.c_ast.specs.Trees
 use Rattle.c_ast.specs.TreesOfFiles.{IsTreeOf, first_unsupported, unsupported_or, is_unsupported}
 use Rattle.c_erasure.specs.Broken.{Fault}

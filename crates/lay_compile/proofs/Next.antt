@@ -5,9 +5,9 @@ use Rattle.std.proofs.lemmas.List.{map-append}
 use Rattle.std.proofs.lemmas.List.Elements.{All-push}
 use Rattle.lay_base.specs.declared.place.File.{File}
 use Rattle.c_lexer.specs.Answers.{LexGives, OnFault}
-use Rattle.c_lexer.specs.Lexes.{LexFaultAt}
+use Rattle.c_tokens.specs.Lexes.{LexFaultAt}
 use Rattle.c_lexer.specs.declared.fault.LexFault.{LexFault}
-use Rattle.c_lexer.specs.declared.token.Tokens.{Tokens}
+use Rattle.c_tokens.specs.declared.token.Tokens.{Tokens}
 use Rattle.c_ast.specs.Trees
 use Rattle.c_ast.specs.TreesOfFiles.{IsTreeOf}
 use Rattle.c_parser.specs.Parsing.{ParseGives}

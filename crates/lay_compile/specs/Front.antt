@@ -3,11 +3,11 @@
 use Rattle.std.specs.Prelude.{◌≡◌, ℕ, ◌+◌, List, [], ◌∷◌, ◌++◌, length, Result, Ok, Err, ◌⊎◌}
 use Rattle.lay_base.specs.declared.place.File.{File}
 use Rattle.c_lexer.specs.Answers.{LexGives, OnFault}
-use Rattle.c_lexer.specs.Lexes.{Lexes, LexFaultAt}
+use Rattle.c_tokens.specs.Lexes.{Lexes, LexFaultAt}
 use Rattle.c_lexer.specs.declared.fault.LexFault.{LexFault}
 use Rattle.c_lexer.specs.declared.fault.LexFault.TheVariants as L
-use Rattle.c_lexer.specs.declared.token.Token.{Token}
-use Rattle.c_lexer.specs.declared.token.Tokens.{Tokens}
+use Rattle.c_tokens.specs.declared.token.Token.{Token}
+use Rattle.c_tokens.specs.declared.token.Tokens.{Tokens}
 use Rattle.c_ast.specs.Trees
 use Rattle.c_ast.specs.TreesOfFiles.{IsTreeOf}
 use Rattle.c_parser.specs.Parsing.{ParseGives}

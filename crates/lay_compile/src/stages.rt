@@ -2,7 +2,7 @@
 
 ghost use Rattle.std.specs.Prelude.{◌≡◌, ◌≤◌, ℕ, ◌∷◌, ◌++◌, [], All, IfOk, Ok, length, map};
 ghost use Rattle.c_lexer.specs.Answers.{LexGives};
-ghost use Rattle.c_lexer.specs.Lexes.{Lexes};
+ghost use Rattle.c_tokens.specs.Lexes.{Lexes};
 ghost use Rattle.c_link.specs.Counting.{IsCountable};
 ghost use Rattle.c_parser.specs.Parsing.{ParseGives};
 ghost use Rattle.c_typed.specs.Programs.{unit_data};
@@ -15,9 +15,10 @@ use crate::fault::CompileFault;
 use c_ast::Tree;
 use c_check::{CheckFault, check};
 use c_checking_units::units_are_one;
-use c_lexer::{Tokens, lex, texts_have_one_reading};
+use c_lexer::{lex, texts_have_one_reading};
 use c_link::link;
 use c_parser::{ParseFault, files_have_one_tree, parse, trees_are_small};
+use c_tokens::Tokens;
 use c_typed::{Typed, Unit};
 use c_well_typed::units_are_countable;
 use lay_base::{File, Files, List, NoMemory, add};

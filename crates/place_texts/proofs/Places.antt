@@ -3,9 +3,9 @@ use Rattle.std.proofs.Common.{ℕ, List, take, refl}
 use Rattle.std.specs.Prelude.{◌≢◌, None}
 use Rattle.c_lexer.specs.declared.fault.LexFault.{LexFault}
 use Rattle.c_lexer.specs.declared.fault.LexFault.TheVariants as L
-use Rattle.c_lexer.specs.declared.fault.FaultKind.TheVariants as F
+use Rattle.c_tokens.specs.declared.fault.FaultKind.TheVariants as F
 use Rattle.c_lexer.specs.Answers.{OnFault}
-use Rattle.c_lexer.specs.Lexes.{LexFaultAt}
+use Rattle.c_tokens.specs.Lexes.{LexFaultAt}
 use Rattle.c_lexer.specs.Readings.{HaveOneReading}
 use Rattle.place_texts.specs.PlaceTexts.{PresumesIfAny}
 

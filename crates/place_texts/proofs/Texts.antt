@@ -1,8 +1,8 @@
 -- The text of a byte of a file.
 use Rattle.std.proofs.Common.{◌≡◌, ℕ, List, take, refl}
 use Rattle.lay_base.specs.declared.place.File.{File}
-use Rattle.c_lexer.specs.Presuming.{IsPresumed}
-use Rattle.c_lexer.specs.declared.presumed.Presumed.{Presumed}
+use Rattle.c_tokens.specs.Presuming.{IsPresumed}
+use Rattle.c_tokens.specs.declared.presumed.Presumed.{Presumed}
 use Rattle.c_erasure.specs.Untagged.{name_in}
 use Rattle.place_texts.specs.PlaceTexts.{line_text, IsTextAt}
 

@@ -2,9 +2,9 @@
 use Rattle.std.specs.Prelude.{◌≡◌, ℕ, List, ◌∷◌, ◌++◌, take, decimal, slice_get, Option, Some, None}
 use Rattle.lay_base.specs.declared.place.File.{File}
 use Rattle.lay_base.specs.declared.place.Place.{Place}
-use Rattle.c_lexer.specs.TokenPlaces.{IsPlaceIn}
-use Rattle.c_lexer.specs.Presuming.{IsPresumed}
-use Rattle.c_lexer.specs.declared.presumed.Presumed.{Presumed}
+use Rattle.c_tokens.specs.TokenPlaces.{IsPlaceIn}
+use Rattle.c_tokens.specs.Presuming.{IsPresumed}
+use Rattle.c_tokens.specs.declared.presumed.Presumed.{Presumed}
 use Rattle.c_erasure.specs.Untagged.{Line, IsLineOf}
 
 -- a file and a line, with a colon between them

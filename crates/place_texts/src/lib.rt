@@ -9,7 +9,8 @@ ghost use Rattle.c_lexer.specs.declared.fault.LexFault.TheVariants as L;
 ghost use Rattle.c_erasure.specs.Untagged.{name_in};
 ghost use Rattle.place_texts.specs.PlaceTexts.{line_text, IsTextAt, IsPlaceText, PresumesIfAny};
 
-use c_lexer::{LexFault, Presumed, lex, presumed_at, texts_have_one_reading};
+use c_lexer::{LexFault, lex, presumed_at, texts_have_one_reading};
+use c_tokens::Presumed;
 use itoa::Buffer;
 use lay_base::{Bytes, File, NoMemory, Place};
 use std::alloc::{AllocError, Global};

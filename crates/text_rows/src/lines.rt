@@ -1,9 +1,10 @@
 //! Presumed lines as text.
 
 ghost use Rattle.std.specs.Prelude.{◌≡◌, ◌≤◌, All, length};
-ghost use Rattle.c_lexer.specs.TokenPlaces.{IsPlaceIn};
+ghost use Rattle.c_tokens.specs.TokenPlaces.{IsPlaceIn};
 
-use c_lexer::{PresumedLines, Token, lex, presumed_at};
+use c_lexer::{PresumedLines, lex, presumed_at};
+use c_tokens::Token;
 use row_lines::Writer;
 use std::alloc::Global;
 

@@ -1,10 +1,11 @@
 //! The bytes of string literals as text.
 
 ghost use Rattle.std.specs.Prelude.{◌∷◌, [], IfSome};
-ghost use Rattle.c_lexer.specs.Strings.{IsStringLiteral};
-ghost use Rattle.c_lexer.specs.TokenTexts.{HaveTexts};
+ghost use Rattle.c_tokens.specs.Strings.{IsStringLiteral};
+ghost use Rattle.c_tokens.specs.TokenTexts.{HaveTexts};
 
-use c_lexer::{Token, TokenKind, add_text_bytes, text_bytes};
+use c_lexer::{add_text_bytes, text_bytes};
+use c_tokens::{Token, TokenKind};
 use row_lines::Writer;
 use std::alloc::Global;
 

@@ -1,7 +1,7 @@
 //! The tags of a file as text, by each look-up.
 
-use c_lexer::{Token, TokenKind};
 use c_tags::Tags;
+use c_tokens::{Token, TokenKind};
 use row_lines::Writer;
 
 /// What stands in place of a tag at a byte where no structure begins.

@@ -1,12 +1,13 @@
 //! Tokens as text.
 
 ghost use Rattle.std.specs.Prelude.{◌≤◌, length};
-ghost use Rattle.c_lexer.specs.Lexes.{Lexes};
+ghost use Rattle.c_tokens.specs.Lexes.{Lexes};
 
 use crate::lines::put_lines;
 use crate::literals::put_literals;
 use crate::row::OfTokens;
-use c_lexer::{Token, Tokens, lex, tokens_have_places, tokens_have_texts};
+use c_lexer::{lex, tokens_have_places, tokens_have_texts};
+use c_tokens::{Token, Tokens};
 use row_lines::Writer;
 use std::alloc::Global;
 

@@ -1,6 +1,6 @@
 use Rattle.std.proofs.Common.{◌≡◌, ◌+◌, ◌*◌, ◌^◌, ◌≤◌, min, drop, fold, true}
 use Rattle.std.specs.List.{list_all}
-use Rattle.c_lexer.specs.Characters.{is_hexadecimal, digit_value}
+use Rattle.c_tokens.specs.Characters.{is_hexadecimal, digit_value}
 use Rattle.c_lexer.specs.NumberScan.{capped_value}
 use Rattle.c_lexer.proofs.numbers.value_of.Given as goal
 

@@ -1,5 +1,5 @@
 use Rattle.std.proofs.Common.{◌≡◌, ◌≤◌, ◌+◌, fold, drop}
-use Rattle.c_lexer.specs.Presuming.{after_byte}
+use Rattle.c_tokens.specs.Presuming.{after_byte}
 use Rattle.c_lexer.proofs.presuming.after_bytes.Given as goal
 
 abbrev pub invariant-loop-byte : goal.invariant-loop-byte

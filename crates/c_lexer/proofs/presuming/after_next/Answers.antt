@@ -1,6 +1,6 @@
 use Rattle.std.proofs.Common.{arith, ap, length, sym, ◌∙◌}
-use Rattle.c_lexer.specs.declared.part.PartKind.TheVariants as P
-use Rattle.c_lexer.specs.declared.part.Shape.TheVariants as S
+use Rattle.c_tokens.specs.declared.part.PartKind.TheVariants as P
+use Rattle.c_tokens.specs.declared.part.Shape.TheVariants as S
 use Rattle.c_lexer.proofs.Exactness.{parts_are_exact}
 use Rattle.c_lexer.proofs.LinesOfParts.{read_more, cut_small}
 use Rattle.c_lexer.proofs.Scans.{one_byte}

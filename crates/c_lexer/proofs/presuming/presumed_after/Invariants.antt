@@ -1,5 +1,5 @@
 use Rattle.std.proofs.Common.{◌≡◌, ◌+◌, length, take}
-use Rattle.c_lexer.specs.Presuming.{AreTokensBefore}
+use Rattle.c_tokens.specs.Presuming.{AreTokensBefore}
 use Rattle.c_lexer.specs.PresumingScan.{last_line, LeadsOn}
 use Rattle.c_lexer.proofs.presuming.presumed_after.Given as goal
 

@@ -1,7 +1,7 @@
 use Rattle.std.proofs.Common.{◌≡◌, ◌+◌, ◌*◌, ◌≤◌, min, drop, fold, true}
 use Rattle.std.specs.List.{list_all}
-use Rattle.c_lexer.specs.Characters.{is_hexadecimal, digit_value}
-use Rattle.c_lexer.specs.QuotedScan.{capped_character}
+use Rattle.c_tokens.specs.Characters.{is_hexadecimal, digit_value}
+use Rattle.c_tokens.specs.QuotedScan.{capped_character}
 use Rattle.c_lexer.proofs.quoted.character_value.Given as goal
 
 abbrev pub invariant-loop-b : goal.invariant-loop-b

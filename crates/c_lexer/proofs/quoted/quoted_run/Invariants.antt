@@ -1,6 +1,6 @@
 use Rattle.std.proofs.Common.{◌≡◌, ◌+◌, drop, false}
 use Rattle.std.specs.Option.{option_map}
-use Rattle.c_lexer.specs.QuotedScan.{quoted_length}
+use Rattle.c_tokens.specs.QuotedScan.{quoted_length}
 use Rattle.c_lexer.proofs.quoted.quoted_run.Given as goal
 
 abbrev pub invariant-loop-i : goal.invariant-loop-i

@@ -1,5 +1,5 @@
 use Rattle.std.proofs.Common.{◌≡◌, length}
-use Rattle.c_lexer.specs.QuotedScan.{body_of, text_with, values_in}
+use Rattle.c_tokens.specs.QuotedScan.{body_of, text_with, values_in}
 use Rattle.c_lexer.proofs.Strings.{text_after}
 use Rattle.c_lexer.proofs.quoted.string_of.Given as goal
 

@@ -1,5 +1,5 @@
 use Rattle.std.proofs.Common.{◌++◌, length}
-use Rattle.c_lexer.specs.QuotedScan.{string_bytes}
+use Rattle.c_tokens.specs.QuotedScan.{string_bytes}
 use Rattle.c_lexer.proofs.StringBytes.{ReadsOn}
 use Rattle.c_lexer.proofs.string_bytes.add_text_bytes.Given as goal
 

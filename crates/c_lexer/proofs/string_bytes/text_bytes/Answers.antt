@@ -1,5 +1,5 @@
 use Rattle.std.proofs.Common.{◌≡◌, rules}
-use Rattle.c_lexer.specs.QuotedScan.{string_bytes}
+use Rattle.c_tokens.specs.QuotedScan.{string_bytes}
 use Rattle.c_lexer.proofs.StringBytes.{of_one}
 use Rattle.c_lexer.proofs.string_bytes.text_bytes.Goals as goal
 

@@ -1,6 +1,6 @@
 use Rattle.std.proofs.Common.{rules, ◌≡◌, ◌∙◌, sym, subst, IfOk}
 use Rattle.std.specs.Prelude.{All}
-use Rattle.c_lexer.specs.TokenPlaces.{IsPlaceIn}
+use Rattle.c_tokens.specs.TokenPlaces.{IsPlaceIn}
 use Rattle.c_ast.specs.Views.{items_of}
 use Rattle.c_erasure.specs.Files.{AreAscending}
 use Rattle.c_erasure.specs.Untagged.{AreTags}

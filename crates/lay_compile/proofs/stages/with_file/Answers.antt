@@ -1,7 +1,7 @@
 use Rattle.std.proofs.Common.{subst}
 use Rattle.std.specs.Prelude.{Ok}
 use Rattle.c_lexer.specs.Answers.{LexGives, OnFault}
-use Rattle.c_lexer.specs.Lexes.{LexFaultAt}
+use Rattle.c_tokens.specs.Lexes.{LexFaultAt}
 use Rattle.lay_compile.specs.Reaching.{HaveReached}
 use Rattle.lay_compile.proofs.Next.{no_tokens, still_no_tree}
 use Rattle.lay_compile.proofs.stages.with_file.Goals as goal

@@ -1,5 +1,5 @@
 use Rattle.std.proofs.Common.{◌≡◌, length}
-use Rattle.c_lexer.specs.TokenTexts.{HaveTexts}
+use Rattle.c_tokens.specs.TokenTexts.{HaveTexts}
 use Rattle.text_rows.proofs.literals.add_joined.Given as goal
 
 abbrev pub invariant-loop-rest : goal.invariant-loop-rest

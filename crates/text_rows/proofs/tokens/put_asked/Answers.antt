@@ -1,5 +1,5 @@
 use Rattle.std.proofs.Common.{All, subst, sym}
-use Rattle.c_lexer.specs.TokenPlaces.{IsPlaceIn}
+use Rattle.c_tokens.specs.TokenPlaces.{IsPlaceIn}
 use Rattle.text_rows.proofs.tokens.put_asked.Goals as goal
 
 -- src/tokens.rt:43:28

@@ -1,7 +1,7 @@
 -- Character constants and string literals (C99 6.4.4.4, 6.4.5).
 use Rattle.std.specs.Prelude.{◌≡◌, ◌≢◌, ℕ, ◌<◌, ◌≤◌, Bool, true, false, IsTrue, List, [], ◌∷◌, ◌++◌, ◌==◌, All, Option, IsSome, unwrap_or, length}
 use Rattle.std.specs.Map.{lookup}
-use Rattle.c_lexer.specs.Characters.{is_octal, is_hexadecimal, begins, value_of_digits}
+use Rattle.c_tokens.specs.Characters.{is_octal, is_hexadecimal, begins, value_of_digits}
 
 -- ---- what stands between quotes
 

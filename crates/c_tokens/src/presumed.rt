@@ -8,3 +8,10 @@ pub struct Presumed {
     pub to: u32,
     pub line: u32,
 }
+
+/// What is presumed of the line of a place, and of the next line.
+#[derive(Clone, Copy)]
+pub struct Lines {
+    pub here: Presumed,
+    pub next: Presumed,
+}

@@ -1,11 +1,11 @@
 -- Lines that begin with '#' in preprocessed text: line markers and #line (C99 6.10.4), #pragma (6.10.6), and the
 -- null directive (6.10.7).
 use Rattle.std.specs.Prelude.{◌≡◌, ℕ, ◌^◌, ◌<◌, ◌+◌, IsTrue, Bool, true, false, List, [], ◌∷◌, ◌++◌, All, codes, length, Option, Some, None}
-use Rattle.c_lexer.specs.declared.directive.Directive.{Directive}
-use Rattle.c_lexer.specs.declared.directive.Directive.TheVariants.{Silent, Renumbers}
-use Rattle.c_lexer.specs.declared.directive.NameRange.{NameRange}
-use Rattle.c_lexer.specs.Characters.{is_blank, is_digit, goes_on_in_name, begins, value_of_digits}
-use Rattle.c_lexer.specs.Quoted.{IsInside}
+use Rattle.c_tokens.specs.declared.directive.Directive.{Directive}
+use Rattle.c_tokens.specs.declared.directive.Directive.TheVariants.{Silent, Renumbers}
+use Rattle.c_tokens.specs.declared.directive.NameRange.{NameRange}
+use Rattle.c_tokens.specs.Characters.{is_blank, is_digit, goes_on_in_name, begins, value_of_digits}
+use Rattle.c_tokens.specs.Quoted.{IsInside}
 
 abbrev pub AreBlank : List ℕ → Type 0
 AreBlank bytes = All (λ b. IsTrue (is_blank b)) bytes

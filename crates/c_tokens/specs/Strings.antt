@@ -1,9 +1,9 @@
 -- The bytes of string literals, without the zero that ends them (C99 6.4.5).
 use Rattle.std.specs.Prelude.{◌≡◌, ℕ, ◌≤◌, List, [], ◌∷◌, ◌++◌, All, map}
-use Rattle.c_lexer.specs.declared.part.Shape.TheVariants as S
-use Rattle.c_lexer.specs.declared.token.TokenKind.TheVariants as K
-use Rattle.c_lexer.specs.Quoted.{Item, HasItems, item_value}
-use Rattle.c_lexer.specs.Words.{IsToken, greatest_character}
+use Rattle.c_tokens.specs.declared.part.Shape.TheVariants as S
+use Rattle.c_tokens.specs.declared.token.TokenKind.TheVariants as K
+use Rattle.c_tokens.specs.Quoted.{Item, HasItems, item_value}
+use Rattle.c_tokens.specs.Words.{IsToken, greatest_character}
 
 -- the text is that of a string literal
 abbrev pub IsStringLiteral : List ℕ → Type 0

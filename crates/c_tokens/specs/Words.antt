@@ -1,17 +1,17 @@
 -- Words: what can be one token, and which token it is (C99 6.4).
 use Rattle.std.specs.Prelude.{◌≡◌, ℕ, ◌<◌, ◌≤◌, IsTrue, List, [], ◌∷◌, ◌++◌, All, Any, length, Some, None}
 use Rattle.lay_base.specs.declared.faults.Keyword.{Keyword}
-use Rattle.c_lexer.specs.declared.part.Shape.{Shape}
-use Rattle.c_lexer.specs.declared.part.Shape.TheVariants as S
-use Rattle.c_lexer.specs.declared.token.TokenKind.{TokenKind}
-use Rattle.c_lexer.specs.declared.token.TokenKind.TheVariants as K
-use Rattle.c_lexer.specs.Characters.{is_letter, goes_on_in_name}
+use Rattle.c_tokens.specs.declared.part.Shape.{Shape}
+use Rattle.c_tokens.specs.declared.part.Shape.TheVariants as S
+use Rattle.c_tokens.specs.declared.token.TokenKind.{TokenKind}
+use Rattle.c_tokens.specs.declared.token.TokenKind.TheVariants as K
+use Rattle.c_tokens.specs.Characters.{is_letter, goes_on_in_name}
 use Rattle.lay_base.specs.Keywords.{keyword_text}
-use Rattle.c_lexer.specs.Punctuators.{punctuator_text}
-use Rattle.c_lexer.specs.declared.radix.Radix.{Radix}
-use Rattle.c_lexer.specs.declared.radix.Suffix.{Suffix}
-use Rattle.c_lexer.specs.Numbers.{IsNumber, IsInteger, value, type_of}
-use Rattle.c_lexer.specs.Quoted.{IsQuoted, Item, HasItems, item_value}
+use Rattle.c_tokens.specs.Punctuators.{punctuator_text}
+use Rattle.c_tokens.specs.declared.radix.Radix.{Radix}
+use Rattle.c_tokens.specs.declared.radix.Suffix.{Suffix}
+use Rattle.c_tokens.specs.Numbers.{IsNumber, IsInteger, value, type_of}
+use Rattle.c_tokens.specs.Quoted.{IsQuoted, Item, HasItems, item_value}
 
 -- a letter, then letters and digits (6.4.2.1)
 abbrev pub IsName : List ℕ → Type 0

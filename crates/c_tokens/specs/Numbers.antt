@@ -3,11 +3,11 @@ use Rattle.std.specs.Prelude.{◌≡◌, ℕ, nat_le, ◌==◌, ◌&&◌, ◌||�
 use Rattle.c_types.specs.declared.ty.IntKind.{IntKind}
 use Rattle.c_types.specs.declared.ty.IntKind.TheVariants.{Int, UInt, Long, ULong}
 use Rattle.c_types.specs.IntKinds.{greatest}
-use Rattle.c_lexer.specs.declared.radix.Radix.{Radix}
-use Rattle.c_lexer.specs.declared.radix.Radix.TheVariants.{Decimal, Octal, Hexadecimal}
-use Rattle.c_lexer.specs.declared.radix.Suffix.{Suffix}
-use Rattle.c_lexer.specs.declared.radix.Suffix.TheVariants.{Plain, Unsigned, UnsignedLong, LongLong, Long as LongSuffix}
-use Rattle.c_lexer.specs.Characters.{is_digit, is_octal, is_hexadecimal, goes_on_in_name, is_exponent, is_sign, begins, value_of_digits}
+use Rattle.c_tokens.specs.declared.radix.Radix.{Radix}
+use Rattle.c_tokens.specs.declared.radix.Radix.TheVariants.{Decimal, Octal, Hexadecimal}
+use Rattle.c_tokens.specs.declared.radix.Suffix.{Suffix}
+use Rattle.c_tokens.specs.declared.radix.Suffix.TheVariants.{Plain, Unsigned, UnsignedLong, LongLong, Long as LongSuffix}
+use Rattle.c_tokens.specs.Characters.{is_digit, is_octal, is_hexadecimal, goes_on_in_name, is_exponent, is_sign, begins, value_of_digits}
 
 -- ---- preprocessing numbers
 

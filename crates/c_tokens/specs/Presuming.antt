@@ -1,16 +1,16 @@
 -- Presumed lines and file names (C99 6.10.4).
 use Rattle.std.specs.Prelude.{◌≡◌, ℕ, ◌+◌, true, List, [], ◌∷◌, fold, take, length, Some, None, if◌then◌else◌}
-use Rattle.c_lexer.specs.declared.part.PartKind.{PartKind}
-use Rattle.c_lexer.specs.declared.part.PartKind.TheVariants as P
-use Rattle.c_lexer.specs.declared.presumed.Presumed.{Presumed}
-use Rattle.c_lexer.specs.declared.presuming.Lines.{Lines}
-use Rattle.c_lexer.specs.Characters.{is_line_feed}
-use Rattle.c_lexer.specs.declared.directive.Directive.{Directive}
-use Rattle.c_lexer.specs.declared.directive.Directive.TheVariants.{Silent, Renumbers}
-use Rattle.c_lexer.specs.declared.token.Token.{Token}
-use Rattle.c_lexer.specs.Directives.{IsDirective}
-use Rattle.c_lexer.specs.Parts.{Part, text_of, AreParts}
-use Rattle.c_lexer.specs.Lexes.{Lexes}
+use Rattle.c_tokens.specs.declared.part.PartKind.{PartKind}
+use Rattle.c_tokens.specs.declared.part.PartKind.TheVariants as P
+use Rattle.c_tokens.specs.declared.presumed.Presumed.{Presumed}
+use Rattle.c_tokens.specs.declared.presumed.Lines.{Lines}
+use Rattle.c_tokens.specs.Characters.{is_line_feed}
+use Rattle.c_tokens.specs.declared.directive.Directive.{Directive}
+use Rattle.c_tokens.specs.declared.directive.Directive.TheVariants.{Silent, Renumbers}
+use Rattle.c_tokens.specs.declared.token.Token.{Token}
+use Rattle.c_tokens.specs.Directives.{IsDirective}
+use Rattle.c_tokens.specs.Parts.{Part, text_of, AreParts}
+use Rattle.c_tokens.specs.Lexes.{Lexes}
 
 -- lines count from 1, under the file's own name
 abbrev pub first_lines : Lines

@@ -3,12 +3,12 @@
 use Rattle.std.specs.Prelude.{ℕ, zero, suc, ◌+◌, ◌*◌, min, nat_le, ◌==◌, Bool, true, false, List, [], ◌∷◌, take, drop, fold, length, Option, Some}
 use Rattle.std.specs.Prelude.{None, option_map, unwrap_or, ◌-◌, Result, Ok, Err, if◌then◌else◌}
 use Rattle.std.specs.List.{prefix_len, list_any}
-use Rattle.c_lexer.specs.declared.fault.FaultKind.{FaultKind}
-use Rattle.c_lexer.specs.declared.fault.FaultKind.TheVariants.{BadLiteral, TooWide}
-use Rattle.c_lexer.specs.declared.token.TokenKind.{TokenKind}
-use Rattle.c_lexer.specs.declared.token.TokenKind.TheVariants.{Character, Text}
-use Rattle.c_lexer.specs.Characters.{is_octal, is_hexadecimal, digit_value}
-use Rattle.c_lexer.specs.Quoted.{simple_value}
+use Rattle.c_tokens.specs.declared.fault.FaultKind.{FaultKind}
+use Rattle.c_tokens.specs.declared.fault.FaultKind.TheVariants.{BadLiteral, TooWide}
+use Rattle.c_tokens.specs.declared.token.TokenKind.{TokenKind}
+use Rattle.c_tokens.specs.declared.token.TokenKind.TheVariants.{Character, Text}
+use Rattle.c_tokens.specs.Characters.{is_octal, is_hexadecimal, digit_value}
+use Rattle.c_tokens.specs.Quoted.{simple_value}
 
 -- how many bytes go up to the closing quote, and with it, from after the opening one
 abbrev pub quoted_length : ℕ → Bool → List ℕ → Option ℕ

@@ -1,11 +1,11 @@
 -- The parts of a text: white space, comments (C99 6.4.9), directives and words.
 use Rattle.std.specs.Prelude.{◌≡◌, ℕ, ◌==◌, ◌&&◌, ◌||◌, Bool, false, IsTrue, List, [], ◌∷◌, ◌++◌, All}
-use Rattle.c_lexer.specs.declared.part.PartKind.{PartKind}
-use Rattle.c_lexer.specs.declared.part.PartKind.TheVariants as P
-use Rattle.c_lexer.specs.Characters.{is_white, is_line_feed, begins}
-use Rattle.c_lexer.specs.Words.{IsWord, IsLongest}
-use Rattle.c_lexer.specs.declared.directive.Directive.{Directive}
-use Rattle.c_lexer.specs.Directives.{IsDirective}
+use Rattle.c_tokens.specs.declared.part.PartKind.{PartKind}
+use Rattle.c_tokens.specs.declared.part.PartKind.TheVariants as P
+use Rattle.c_tokens.specs.Characters.{is_white, is_line_feed, begins}
+use Rattle.c_tokens.specs.Words.{IsWord, IsLongest}
+use Rattle.c_tokens.specs.declared.directive.Directive.{Directive}
+use Rattle.c_tokens.specs.Directives.{IsDirective}
 
 pub record Part : Type 0 where
   pub kind : PartKind

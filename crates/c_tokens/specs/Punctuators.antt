@@ -1,7 +1,7 @@
 -- Punctuators (C99 6.4.6), without the digraphs and those of the preprocessor.
 use Rattle.std.specs.Prelude.{ℕ, List, codes}
-use Rattle.c_lexer.specs.declared.punctuator.Punctuator.{Punctuator}
-use Rattle.c_lexer.specs.declared.punctuator.Punctuator.TheVariants as M
+use Rattle.c_tokens.specs.declared.punctuator.Punctuator.{Punctuator}
+use Rattle.c_tokens.specs.declared.punctuator.Punctuator.TheVariants as M
 
 abbrev pub punctuator_text : Punctuator → List ℕ
 punctuator_text M.OpenSquare = codes "["

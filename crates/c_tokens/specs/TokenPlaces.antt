@@ -1,9 +1,9 @@
 -- Tokens and faults stand at places of which lines are presumed, and in order.
 use Rattle.std.specs.Prelude.{ℕ, ◌≤◌, List, [], ◌∷◌, All, length}
-use Rattle.c_lexer.specs.declared.token.Token.{Token}
-use Rattle.c_lexer.specs.declared.fault.FaultKind.{FaultKind}
-use Rattle.c_lexer.specs.Lexes.{Lexes, LexFaultAt}
-use Rattle.c_lexer.specs.Presuming.{AreTokensBefore}
+use Rattle.c_tokens.specs.declared.token.Token.{Token}
+use Rattle.c_tokens.specs.declared.fault.FaultKind.{FaultKind}
+use Rattle.c_tokens.specs.Lexes.{Lexes, LexFaultAt}
+use Rattle.c_tokens.specs.Presuming.{AreTokensBefore}
 
 -- a place in the text, before which there are tokens
 abbrev pub IsPlaceIn : List ℕ → ℕ → Type 0

@@ -1,13 +1,13 @@
 -- Each token has its text.
 use Rattle.std.specs.Prelude.{◌≡◌, ℕ, ◌+◌, ◌-◌, List, [], ◌∷◌, take, drop, length}
-use Rattle.c_lexer.specs.declared.token.Token.{Token}
-use Rattle.c_lexer.specs.declared.token.TokenKind.{TokenKind}
-use Rattle.c_lexer.specs.declared.token.TokenKind.TheVariants as K
-use Rattle.c_lexer.specs.declared.part.Shape.TheVariants as S
-use Rattle.c_lexer.specs.Words.{IsToken}
+use Rattle.c_tokens.specs.declared.token.Token.{Token}
+use Rattle.c_tokens.specs.declared.token.TokenKind.{TokenKind}
+use Rattle.c_tokens.specs.declared.token.TokenKind.TheVariants as K
+use Rattle.c_tokens.specs.declared.part.Shape.TheVariants as S
+use Rattle.c_tokens.specs.Words.{IsToken}
 use Rattle.lay_base.specs.Keywords.{keyword_text}
-use Rattle.c_lexer.specs.Punctuators.{punctuator_text}
-use Rattle.c_lexer.specs.Lexes.{Lexes}
+use Rattle.c_tokens.specs.Punctuators.{punctuator_text}
+use Rattle.c_tokens.specs.Lexes.{Lexes}
 
 -- the bytes of a file that a token is
 abbrev pub token_text : List ℕ → Token → List ℕ

@@ -1,14 +1,14 @@
 -- The tokens of a text, and its first lexical fault (C99 6.4).
 use Rattle.std.specs.Prelude.{◌≡◌, ℕ, ◌+◌, ◌==◌, ◌||◌, Bool, true, false, IsTrue, List, [], ◌∷◌, ◌++◌, length, ◌⊎◌}
-use Rattle.c_lexer.specs.declared.part.PartKind.{PartKind}
-use Rattle.c_lexer.specs.declared.part.PartKind.TheVariants as P
-use Rattle.c_lexer.specs.declared.part.Shape.{Shape}
-use Rattle.c_lexer.specs.declared.token.Token.{Token}
-use Rattle.c_lexer.specs.declared.fault.FaultKind.{FaultKind}
-use Rattle.c_lexer.specs.declared.fault.FaultKind.TheVariants as F
-use Rattle.c_lexer.specs.Quoted.{IsInside}
-use Rattle.c_lexer.specs.Words.{IsToken, IsMalformed, IsTooWide}
-use Rattle.c_lexer.specs.Parts.{Part, text_of, has_end, Stands, AreParts, begins_line_after_parts}
+use Rattle.c_tokens.specs.declared.part.PartKind.{PartKind}
+use Rattle.c_tokens.specs.declared.part.PartKind.TheVariants as P
+use Rattle.c_tokens.specs.declared.part.Shape.{Shape}
+use Rattle.c_tokens.specs.declared.token.Token.{Token}
+use Rattle.c_tokens.specs.declared.fault.FaultKind.{FaultKind}
+use Rattle.c_tokens.specs.declared.fault.FaultKind.TheVariants as F
+use Rattle.c_tokens.specs.Quoted.{IsInside}
+use Rattle.c_tokens.specs.Words.{IsToken, IsMalformed, IsTooWide}
+use Rattle.c_tokens.specs.Parts.{Part, text_of, has_end, Stands, AreParts, begins_line_after_parts}
 
 -- the tokens begin with that of the part, where it is a word, and go on so
 abbrev pub AreTokensFrom : ℕ → PartKind → List ℕ → (List Token → Type 0) → List Token → Type 0

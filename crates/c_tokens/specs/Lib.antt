@@ -1,0 +1,13 @@
+pub mod Characters
+pub mod Punctuators
+pub mod Numbers
+pub mod Quoted
+pub mod Words
+pub mod Strings
+pub mod Directives
+pub mod Parts
+pub mod Lexes
+pub mod Presuming
+pub mod QuotedScan
+pub mod TokenTexts
+pub mod TokenPlaces
