@@ -3,11 +3,9 @@
 
 mod declaration;
 mod expression;
-mod measuring;
 mod operators;
 mod places;
 mod size;
-mod sizes;
 mod statement;
 mod tree;
 mod words;
@@ -23,7 +21,6 @@ pub use places::{
     first_of_specifier, first_of_specifiers, first_of_statement,
 };
 pub use size::Size;
-pub use sizes::{depth, nodes, nodes_of_item};
 pub use statement::{BlockItem, ForStart, Label, Statement, SwitchItem};
 pub use tree::{Function, Item, Tree};
 pub use words::{At, Spelling, Text};

@@ -13,11 +13,12 @@ ghost use Rattle.c_check_files.specs.Lists.{AreListsOf};
 
 use crate::declarations::declaration;
 use crate::definitions::definition;
-use c_ast::{Item, Tree, nodes_of_item};
+use c_ast::{Item, Tree};
 use c_externals::closed;
 use c_nodes::Fault;
 use c_scopes::{BoundNames, FileScope};
 use c_tags::Tags;
+use c_tree_sizes::nodes_of_item;
 use c_types::Records;
 use lay_base::List;
 use std::alloc::Global;

@@ -2,8 +2,8 @@ use Rattle.std.proofs.Common.{drop}
 use Rattle.std.specs.Prelude.{map}
 use Rattle.c_ast.specs.Sizes.{size_block_items, size_switch_items}
 use Rattle.c_ast.specs.Views.{block_item_of, block_items_of, switch_item_of, switch_items_of}
-use Rattle.c_ast.proofs.Joining.{Joins}
-use Rattle.c_ast.proofs.measuring.+statement_sizes.Given as goal
+use Rattle.c_tree_sizes.proofs.Joining.{Joins}
+use Rattle.c_tree_sizes.proofs.measuring.+statement_sizes.Given as goal
 
 abbrev pub invariant-block_items_size-loop-block_item : goal.invariant-block_items_size-loop-block_item
 invariant-block_items_size-loop-block_item l =

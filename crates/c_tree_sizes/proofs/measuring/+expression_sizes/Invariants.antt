@@ -4,8 +4,8 @@ use Rattle.c_ast.specs.Sizes.{size_arguments, size_initializers, size_specifiers
 use Rattle.c_ast.specs.Sizes.{size_parameters}
 use Rattle.c_ast.specs.Views.{argument_of, arguments_of, specifier_of, specifiers_of, member_declaration_of, member_declarations_of}
 use Rattle.c_ast.specs.Views.{member_declarator_of, member_declarators_of, enumerator_of, enumerators_of, parameter_of, parameters_of}
-use Rattle.c_ast.proofs.Joining.{Joins}
-use Rattle.c_ast.proofs.measuring.+expression_sizes.Given as goal
+use Rattle.c_tree_sizes.proofs.Joining.{Joins}
+use Rattle.c_tree_sizes.proofs.measuring.+expression_sizes.Given as goal
 
 abbrev pub invariant-arguments_size-loop-item : goal.invariant-arguments_size-loop-item
 invariant-arguments_size-loop-item l =

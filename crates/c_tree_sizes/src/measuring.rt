@@ -12,14 +12,12 @@ ghost use Rattle.c_ast.specs.Views.{member_declarations_of, member_declarators_o
 ghost use Rattle.c_ast.specs.Views.{label_of, for_start_of, block_items_of, switch_items_of, statement_of, block_item_of, switch_item_of};
 ghost use Rattle.c_ast.specs.Views.{function_of, item_of};
 
-use crate::declaration::{Declaration, InitDeclarator};
-use crate::expression::{
-    Argument, Declarator, Enumerator, Expression, MemberDeclaration, MemberDeclarator, Parameter,
-    Parameters, Specifier, TypeName,
+use crate::size::{beside, empty, leaf, over};
+use c_ast::{
+    Argument, BlockItem, Declaration, Declarator, Enumerator, Expression, ForStart, Function,
+    InitDeclarator, Item, Label, MemberDeclaration, MemberDeclarator, Parameter, Parameters, Size,
+    Specifier, Statement, SwitchItem, TypeName,
 };
-use crate::size::{Size, beside, empty, leaf, over};
-use crate::statement::{BlockItem, ForStart, Label, Statement, SwitchItem};
-use crate::tree::{Function, Item};
 use lay_base::Boxed;
 
 /// The size of an initializer, of which that of the expression is known.

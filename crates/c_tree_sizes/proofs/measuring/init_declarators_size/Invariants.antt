@@ -2,8 +2,8 @@ use Rattle.std.proofs.Common.{drop}
 use Rattle.std.specs.Prelude.{map}
 use Rattle.c_ast.specs.Sizes.{size_init_declarators}
 use Rattle.c_ast.specs.Views.{init_declarator_of}
-use Rattle.c_ast.proofs.Joining.{Joins}
-use Rattle.c_ast.proofs.measuring.init_declarators_size.Given as goal
+use Rattle.c_tree_sizes.proofs.Joining.{Joins}
+use Rattle.c_tree_sizes.proofs.measuring.init_declarators_size.Given as goal
 
 abbrev pub invariant-loop-d : goal.invariant-loop-d
 invariant-loop-d l =

@@ -5,7 +5,7 @@ ghost use Rattle.c_ast.specs.Sizes.{IsCountable, size_item, size_items};
 ghost use Rattle.c_ast.specs.Views.{item_of, items_of};
 
 use crate::measuring::{item_size, items_size};
-use crate::tree::{Item, Tree};
+use c_ast::{Item, Tree};
 
 /// How many nodes of a tree, at most, stand one below another.
 pub fn depth(tree: &Tree) -> u32
