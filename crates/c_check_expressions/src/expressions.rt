@@ -11,7 +11,7 @@ ghost use Rattle.c_erasure.specs.Operators.{update_of};
 ghost use Rattle.c_erasure.specs.Scopes.{for_value};
 ghost use Rattle.c_annotated.specs.Views.{expression_of, expressions_of, thing_of};
 ghost use Rattle.c_declarators.specs.DeclaratorViews.{integer_view};
-ghost use Rattle.c_nodes.specs.Parts.{target_view};
+ghost use Rattle.c_operator_nodes.specs.Parts.{target_view};
 ghost use Rattle.c_scopes.specs.Scoping.{file_of, scope_of};
 ghost use Rattle.c_check_expressions.specs.Finds.{Finds};
 ghost use Rattle.c_check_expressions.specs.Parts.{argument_found, call_found};
@@ -24,10 +24,11 @@ use c_annotated::{Expression as Typed, Thing};
 use c_ast::{Argument, AssignOp, Expression, first_of_expression};
 use c_declarators::{Integer, constant as constant_value};
 use c_declaring::{character, literal, mentions_in, name, number, size_of_thing, size_of_type};
-use c_nodes::{
-    Fault, Subscripted, Target, argument as converted_argument, array_of, arrow, assigned, binary,
+use c_nodes::{Fault, worth};
+use c_operator_nodes::{
+    Subscripted, Target, argument as converted_argument, array_of, arrow, assigned, binary,
     call as called, cast, chosen, comma, copied, dot, element, index as indexed, kind_of,
-    signature_of, step, step_of, target_in, tested, update_of, updated, worth,
+    signature_of, step, step_of, target_in, tested, update_of, updated,
 };
 use c_scopes::{FileScope, Scope, for_value, measured, place_in};
 use c_types::Ty;

@@ -11,7 +11,8 @@ ghost use Rattle.c_declaring.specs.Finds.{Finds};
 
 use c_annotated::{Expression, Thing};
 use c_ast::UnaryOp;
-use c_nodes::{Fault, address, deref, not, unary, worth};
+use c_nodes::{Fault, worth};
+use c_operator_nodes::{address, deref, not, unary};
 use c_scopes::FileScope;
 use c_typed::UnaryOp as TypedUnaryOp;
 use lay_base::{Boxed, Place, Rule};

@@ -7,12 +7,13 @@ ghost use Rattle.c_typed.specs.TypedStatements.{declared_by, declared_by_arms};
 ghost use Rattle.c_annotated.specs.Nodes.{arm_of};
 ghost use Rattle.c_annotated.specs.Views.{arms_of, expression_of, statement_of, statements_of};
 ghost use Rattle.c_nodes.specs.Gives.{Gives};
-ghost use Rattle.c_nodes.specs.Parts.{switch_view};
+ghost use Rattle.c_operator_nodes.specs.Parts.{switch_view};
 ghost use Rattle.c_check_locals.specs.Performing.{body_of};
 ghost use Rattle.c_check_statement_parts.specs.Parts.{number_declared};
 
 use c_annotated::{Arm, Expression, Statement};
-use c_nodes::{Fault, SwitchValue};
+use c_nodes::Fault;
+use c_operator_nodes::SwitchValue;
 use lay_base::{Boxed, List, NoMemory, add, boxed};
 use std::alloc::Global;
 

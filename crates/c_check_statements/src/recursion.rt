@@ -20,7 +20,8 @@ use c_check_statement_parts::{
     declare_in_arm, first_arm, for_of, if_else_of, jump, labels_in, no_labels, nothing_returned,
     start_of, statement, switch_of, value_if_any, value_of_expression, value_returned,
 };
-use c_nodes::{Fault, switched};
+use c_nodes::Fault;
+use c_operator_nodes::switched;
 use c_scopes::{Block, FileScope};
 use c_types::{IntKind, Ty};
 use lay_base::{Boxed, List};

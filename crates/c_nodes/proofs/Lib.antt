@@ -1,2 +1,1 @@
-pub mod Promoted
 pub mod Limits

@@ -1,4 +1,2 @@
 pub mod Gives
-pub mod Parts
-pub mod Kinds
 pub mod Sizing

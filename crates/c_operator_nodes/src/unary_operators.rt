@@ -7,11 +7,9 @@ ghost use Rattle.c_checking.specs.Nodes.{address_in, cast_in, deref_in, not_in, 
 ghost use Rattle.c_annotated.specs.Views.{expression_of, thing_of};
 ghost use Rattle.c_nodes.specs.Gives.{Gives};
 
-use crate::fault::Fault;
-use crate::making::{node, pointer_to, way};
-use crate::sizes::may_be_pointed_to;
 use crate::subscripts::promote;
 use c_annotated::{Expression, ExpressionNode, PathNode, Thing, is_null};
+use c_nodes::{Fault, may_be_pointed_to, node, pointer_to, way};
 use c_typed::{StepOp, UnaryOp, casts, is_function, is_scalar, is_stepped, promoted_kind};
 use c_types::{IntKind, Ty, copy, is_object, parts};
 use lay_base::{Boxed, Place, Rule};

@@ -2,7 +2,7 @@
 
 ghost use Rattle.std.specs.Prelude.{◌≡◌};
 ghost use Rattle.c_erasure.specs.Operators.{kind_of, step_of, update_of};
-ghost use Rattle.c_nodes.specs.Kinds.{kind_view};
+ghost use Rattle.c_operator_nodes.specs.Kinds.{kind_view};
 
 use c_typed::{BinaryOp, CompareOp, StepOp};
 

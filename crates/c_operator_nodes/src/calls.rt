@@ -9,11 +9,10 @@ ghost use Rattle.c_erasure.specs.Broken.{pointed_type};
 ghost use Rattle.c_checking.specs.Nodes.{argument_in, call_in, signature_in, signature_of};
 ghost use Rattle.c_annotated.specs.Views.{expression_of, expressions_of, thing_of};
 ghost use Rattle.c_nodes.specs.Gives.{Gives};
-ghost use Rattle.c_nodes.specs.Parts.{parameters_of, result_of, signature_view};
+ghost use Rattle.c_operator_nodes.specs.Parts.{parameters_of, result_of, signature_view};
 
-use crate::fault::Fault;
-use crate::making::{convert, node, object_value, pointer_to};
 use c_annotated::{Expression, ExpressionNode, Thing, is_null};
+use c_nodes::{Fault, convert, node, object_value, pointer_to};
 use c_typed::{LibraryFunction, assigns};
 use c_types::{IntKind, Ty, copy};
 use lay_base::{Boxed, List, NoMemory, Place, Rule, Shared, add, shared};

@@ -2,8 +2,8 @@ use Rattle.std.proofs.Common.{◌∙◌, ap}
 use Rattle.c_typed.specs.Rules.{promoting}
 use Rattle.c_erasure.specs.Noted.{type_of}
 use Rattle.c_annotated.specs.Views.{expression_of}
-use Rattle.c_nodes.proofs.Promoted.{promoted_other, type_seen}
-use Rattle.c_nodes.proofs.subscripts.promote.Goals as goal
+use Rattle.c_operator_nodes.proofs.Promoted.{promoted_other, type_seen}
+use Rattle.c_operator_nodes.proofs.subscripts.promote.Goals as goal
 
 pub returns-in-None : goal.returns-in-None
 returns-in-None c = promoted_other (expression_of c.args.x)

@@ -6,11 +6,10 @@ ghost use Rattle.c_erasure.specs.Noted.{type_of as expression_type};
 ghost use Rattle.c_checking.specs.Nodes.{element_in, index_in, index_to, promoted_value, turned_to};
 ghost use Rattle.c_annotated.specs.Views.{expression_of, path_of, thing_of};
 ghost use Rattle.c_nodes.specs.Gives.{Gives};
-ghost use Rattle.c_nodes.specs.Parts.{ArrayGives};
+ghost use Rattle.c_operator_nodes.specs.Parts.{ArrayGives};
 
-use crate::fault::Fault;
-use crate::making::{convert_to_kind, way};
 use c_annotated::{Expression, ExpressionNode, Path, PathNode, Thing};
+use c_nodes::{Fault, convert_to_kind, way};
 use c_typed::{PointerOp, is_integer, points_to_object, promoting};
 use c_types::{Ty, copy};
 use lay_base::{Boxed, NoMemory, Place, Rule, boxed};

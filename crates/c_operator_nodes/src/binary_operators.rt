@@ -8,12 +8,11 @@ ghost use Rattle.c_typed.specs.Trees.{both, either};
 ghost use Rattle.c_checking.specs.Nodes.{added_in, backward_node, binary_in, compared_in, computed_in, forward_node, subtracted_in, tested_in};
 ghost use Rattle.c_annotated.specs.Views.{expression_of, thing_of};
 ghost use Rattle.c_nodes.specs.Gives.{Gives};
-ghost use Rattle.c_nodes.specs.Kinds.{kind_view};
+ghost use Rattle.c_operator_nodes.specs.Kinds.{kind_view};
 
-use crate::fault::Fault;
 use crate::kinds::BinaryKind;
-use crate::making::{convert, convert_to_kind, node, pointer_to};
 use c_annotated::{Expression, ExpressionNode, Thing, is_null};
+use c_nodes::{Fault, convert, convert_to_kind, node, pointer_to};
 use c_typed::{
     BinaryOp, CommonType, CompareOp, Met, PointerOp, comparing, differing, is_scalar, moving,
     on_numbers,

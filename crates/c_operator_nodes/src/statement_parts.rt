@@ -6,11 +6,10 @@ ghost use Rattle.c_checking.specs.Initializers.{initial_value_in};
 ghost use Rattle.c_checking.specs.Statements.{condition_in, returned_in, switched_in};
 ghost use Rattle.c_annotated.specs.Views.{expression_of};
 ghost use Rattle.c_nodes.specs.Gives.{Gives};
-ghost use Rattle.c_nodes.specs.Parts.{switch_view};
+ghost use Rattle.c_operator_nodes.specs.Parts.{switch_view};
 
-use crate::fault::Fault;
-use crate::making::{convert, convert_to_kind};
 use c_annotated::{Expression, is_null};
+use c_nodes::{Fault, convert, convert_to_kind};
 use c_typed::{assigns, is_scalar, promoted_kind};
 use c_types::{IntKind, Ty};
 use lay_base::{Boxed, Rule};

@@ -5,12 +5,11 @@ ghost use Rattle.c_types.specs.Views.{type_of};
 ghost use Rattle.c_checking.specs.Nodes.{assigned_in, choice_node, chosen_in, comma_in, copied_in, target_in, tested as tested_in, updated_in};
 ghost use Rattle.c_annotated.specs.Views.{expression_of, path_of, thing_of};
 ghost use Rattle.c_nodes.specs.Gives.{Gives};
-ghost use Rattle.c_nodes.specs.Parts.{target_view};
+ghost use Rattle.c_operator_nodes.specs.Parts.{target_view};
 
 use crate::binary_operators::type_in_common;
-use crate::fault::Fault;
-use crate::making::{convert, convert_to_kind, node};
 use c_annotated::{Expression, ExpressionNode, Path, Thing, is_null};
+use c_nodes::{Fault, convert, convert_to_kind, node};
 use c_typed::{BinaryOp, assigns, choosing, is_scalar, updating};
 use c_types::{Ty, copy, same};
 use lay_base::{Boxed, Place, Rule};

@@ -8,12 +8,12 @@ use Rattle.c_erasure.specs.Noted.{Expression, Thing}
 use Rattle.c_checking.specs.Nodes as Nodes
 use Rattle.c_checking.specs.Nodes.{array_of}
 use Rattle.c_annotated.specs.Views.{expression_of, path_of, thing_of}
-use Rattle.c_nodes.specs.declared.assignments.Target.{Target}
-use Rattle.c_nodes.specs.declared.assignments.Target.TheVariants.{Scalar, Record}
-use Rattle.c_nodes.specs.declared.calls.Signature.{Signature}
-use Rattle.c_nodes.specs.declared.statement_parts.SwitchValue.{SwitchValue}
-use Rattle.c_nodes.specs.declared.subscripts.Subscripted.{Subscripted}
-use Rattle.c_nodes.specs.declared.subscripts.Subscripted.TheVariants.{Array, Other}
+use Rattle.c_operator_nodes.specs.declared.assignments.Target.{Target}
+use Rattle.c_operator_nodes.specs.declared.assignments.Target.TheVariants.{Scalar, Record}
+use Rattle.c_operator_nodes.specs.declared.calls.Signature.{Signature}
+use Rattle.c_operator_nodes.specs.declared.statement_parts.SwitchValue.{SwitchValue}
+use Rattle.c_operator_nodes.specs.declared.subscripts.Subscripted.{Subscripted}
+use Rattle.c_operator_nodes.specs.declared.subscripts.Subscripted.TheVariants.{Array, Other}
 
 -- an array object with the type of its elements, or what is none
 abbrev pub ArrayGives : Thing → Result Subscripted NoMemory → Type 0

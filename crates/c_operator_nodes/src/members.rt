@@ -7,9 +7,8 @@ ghost use Rattle.c_checking.specs.Nodes.{arrow_in, dot_in, field_from, field_in,
 ghost use Rattle.c_annotated.specs.Views.{expression_of, path_of, thing_of};
 ghost use Rattle.c_nodes.specs.Gives.{Gives};
 
-use crate::fault::Fault;
-use crate::making::way;
 use c_annotated::{Expression, Path, PathNode, Thing};
+use c_nodes::{Fault, way};
 use c_types::{Field, Records, Ty, copy};
 use lay_base::{Boxed, Place, Rule, boxed};
 use std::alloc::Global;

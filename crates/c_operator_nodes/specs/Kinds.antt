@@ -1,7 +1,7 @@
 -- What a binary operator does, as the program has it.
 use Rattle.c_erasure.specs.Operators.{Kind, computes, compares, all_of, any_of}
-use Rattle.c_nodes.specs.declared.kinds.BinaryKind.{BinaryKind}
-use Rattle.c_nodes.specs.declared.kinds.BinaryKind.TheVariants.{Computes, Compares, AllOf, AnyOf}
+use Rattle.c_operator_nodes.specs.declared.kinds.BinaryKind.{BinaryKind}
+use Rattle.c_operator_nodes.specs.declared.kinds.BinaryKind.TheVariants.{Computes, Compares, AllOf, AnyOf}
 
 abbrev pub kind_view : BinaryKind → Kind
 kind_view (Computes op) = computes op
