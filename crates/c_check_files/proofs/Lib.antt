@@ -1,5 +1,2 @@
-mod Objects
 mod Bodies
 mod InTurn
-mod Tags
-mod NoTypedef

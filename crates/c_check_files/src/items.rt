@@ -11,9 +11,9 @@ ghost use Rattle.c_scopes.specs.Scoping.{file_of};
 ghost use Rattle.c_struct_places.specs.Untagged.{untagged_by};
 ghost use Rattle.c_check_files.specs.Lists.{AreListsOf};
 
-use crate::declarations::declaration;
 use crate::definitions::definition;
 use c_ast::{Item, Tree};
+use c_check_declarations::declaration;
 use c_externals::closed;
 use c_nodes::Fault;
 use c_scopes::{BoundNames, FileScope};

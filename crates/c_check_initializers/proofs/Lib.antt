@@ -1,3 +1,4 @@
 pub mod Alike
 pub mod Turns
 pub mod Braces
+pub mod Lists

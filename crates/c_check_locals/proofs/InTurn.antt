@@ -16,7 +16,7 @@ use Rattle.c_checking.specs.Answers.{◌>>=◌}
 use Rattle.c_checking.specs.Statements.{Performed, declare_all, declare_named}
 use Rattle.c_check_locals.specs.Parts.{alone}
 use Rattle.c_check_locals.specs.Performing.{body_of, statements_after}
-use Rattle.c_check_locals.proofs.Lists.{next_mapped}
+use Rattle.c_check_initializers.proofs.Lists.{next_mapped}
 
 pub nothing_after : (all : Statements) → followed_by all Typed.no_statements ≡ all
 nothing_after Typed.no_statements = refl

@@ -17,7 +17,7 @@ use Rattle.c_checking.specs.Answers.{◌>>=◌}
 use Rattle.c_checking.specs.Statements.{Found, Performed, arranged, local_declaration, switch_item, switch_items}
 use Rattle.c_check_locals.specs.Performing.{body_of, statements_after}
 use Rattle.c_check_locals.proofs.InTurn.{followed_in_turn, nothing_after}
-use Rattle.c_check_locals.proofs.Lists.{next_mapped}
+use Rattle.c_check_initializers.proofs.Lists.{next_mapped}
 use Rattle.c_check_statement_parts.specs.Arms.{arms_after, arms_with, closed_arm, item_added, joined, unless_empty, went_on, with_closed}
 use Rattle.c_check_statement_parts.specs.Parts.{with_first_arm}
 

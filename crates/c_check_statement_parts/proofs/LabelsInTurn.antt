@@ -16,7 +16,7 @@ use Rattle.c_erasure.specs.Scopes.{FileScope, Scope, for_value}
 use Rattle.c_checking.specs.Answers.{Answer, ◌>>=◌, Checked, moved, refused, with_file}
 use Rattle.c_checking.specs.Finding.{constant_at, find, value_at}
 use Rattle.c_checking.specs.Statements.{Found, labels_in, with_case, with_default}
-use Rattle.c_check_locals.proofs.Lists.{next_mapped}
+use Rattle.c_check_initializers.proofs.Lists.{next_mapped}
 use Rattle.c_check_statement_parts.specs.declared.labels.SwitchLabels.{SwitchLabels}
 use Rattle.c_check_statement_parts.specs.Parts.{case_in, default_in, labels_after, switch_labels_of}
 

@@ -12,7 +12,7 @@ use Rattle.c_checking.specs.Answers.{◌>>=◌}
 use Rattle.c_checking.specs.Statements.{item_in, items_in}
 use Rattle.c_check_locals.specs.Performing.{statements_after}
 use Rattle.c_check_locals.proofs.InTurn.{in_turn, nothing_after}
-use Rattle.c_check_locals.proofs.Lists.{next_mapped}
+use Rattle.c_check_initializers.proofs.Lists.{next_mapped}
 
 pub items_turn : (result : CType) (before : Statements) (e : Trees.BlockItem) (more : Trees.BlockItems) (s : Scope) (loop switch : Bool)
     → statements_after before (items_in result (Trees.and_block_item e more) s loop switch)

@@ -10,7 +10,7 @@ ghost use Rattle.c_declarators.specs.SpecifierViews.{storage_view};
 ghost use Rattle.c_externals.specs.Filing.{Files};
 ghost use Rattle.c_nodes.specs.Gives.{Gives};
 ghost use Rattle.c_scopes.specs.Scoping.{file_of};
-ghost use Rattle.c_check_files.specs.Declared.{function_declared, object_declared, type_declared};
+ghost use Rattle.c_check_declarations.specs.Declared.{function_declared, object_declared, type_declared};
 
 use c_annotated::{Entity, How};
 use c_ast::{InitDeclarator, InitialValue, Spelling};

@@ -6,8 +6,8 @@ use Rattle.c_checking.specs.Files.{file_declarators}
 use Rattle.c_declarators.specs.SpecifierViews.{storage_view}
 use Rattle.c_scopes.specs.Scoping.{file_of}
 use Rattle.c_check_initializers.proofs.Turns.{fails_along, fails_on}
-use Rattle.c_check_files.proofs.InTurn.{named_next, no_declarators}
-use Rattle.c_check_files.proofs.declarations.declare_all.Goals as goal
+use Rattle.c_check_declarations.proofs.InTurn.{named_next, no_declarators}
+use Rattle.c_check_declarations.proofs.declarations.declare_all.Goals as goal
 
 pub returns-in-Err : goal.returns-in-Err
 returns-in-Err c =

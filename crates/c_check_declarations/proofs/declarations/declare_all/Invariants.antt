@@ -4,7 +4,7 @@ use Rattle.c_ast.specs.Views.{init_declarator_of}
 use Rattle.c_checking.specs.Files.{file_declarators}
 use Rattle.c_declarators.specs.SpecifierViews.{storage_view}
 use Rattle.c_scopes.specs.Scoping.{file_of}
-use Rattle.c_check_files.proofs.declarations.declare_all.Given as goal
+use Rattle.c_check_declarations.proofs.declarations.declare_all.Given as goal
 
 abbrev pub invariant-loop-number : goal.invariant-loop-number
 invariant-loop-number l =

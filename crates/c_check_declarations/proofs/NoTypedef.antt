@@ -9,7 +9,7 @@ use Rattle.c_checking.specs.Files.{declare_as}
 use Rattle.c_declarators.specs.SpecifierViews.{storage_view}
 use Rattle.c_declarators.specs.declared.specifiers.Storage.{Storage}
 use Rattle.c_declarators.specs.declared.specifiers.Storage.TheVariants as S
-use Rattle.c_check_files.specs.Declared.{object_declared}
+use Rattle.c_check_declarations.specs.Declared.{object_declared}
 
 module _ (before place from : ℕ) (x : Spelling) (t : CType) (d : Trees.InitDeclarator) (nodes : ℕ) (f : FileScope) where
   pub an_object : (words : Storage) → words ≢ S.Typedef → is_function t ≡ false

@@ -14,7 +14,7 @@ ghost use Rattle.c_declarators.specs.SpecifierViews.{storage_view};
 ghost use Rattle.c_externals.specs.Filing.{Files};
 ghost use Rattle.c_nodes.specs.Gives.{Gives};
 ghost use Rattle.c_scopes.specs.Scoping.{file_of};
-ghost use Rattle.c_check_files.specs.Declared.{named_declarator, type_made as type_made_in};
+ghost use Rattle.c_check_declarations.specs.Declared.{named_declarator, type_made as type_made_in};
 
 use crate::declared::declare_as;
 use c_ast::{

@@ -1,0 +1,4 @@
+mod Objects
+mod InTurn
+mod Tags
+mod NoTypedef
