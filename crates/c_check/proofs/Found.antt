@@ -18,7 +18,7 @@ use Rattle.c_checking_stops.specs.Faults.{FaultsBreakRules}
 use Rattle.c_checking_units.specs.Units.{FaultsHaveNoUnit}
 use Rattle.c_erasure.specs.Broken.{Fault as Broken}
 use Rattle.c_erasure.specs.BrokenFiles.{IsFaultOf}
-use Rattle.c_struct_places.specs.Untagged.{untagged_by}
+use Rattle.c_tags.specs.Untagged.{untagged_by}
 use Rattle.c_tags.specs.TagLists.{AreTagsOf, TagLists}
 use Rattle.c_check_files.specs.Lists.{AreListsOf}
 use Rattle.c_nodes.specs.Gives.{Fails}

@@ -13,7 +13,7 @@ use c_checking_files::annotated_files_are_found;
 use c_checking_limits::types_are_small;
 use c_checking_stops::faults_break_rules;
 use c_checking_units::faults_have_no_unit;
-use c_tags::Tags;
+use c_file_tags::tags_of;
 use c_typed::Unit;
 use c_units::unit_of;
 use lay_base::File;
@@ -31,7 +31,7 @@ pub fn check(alloc: Global, number: u16, file: &File, tree: Tree) -> Result<Unit
     faults_have_no_unit();
     faults_break_rules();
     types_are_small();
-    let tags = Tags::of(alloc, &tree, file)?;
+    let tags = tags_of(alloc, &tree, file)?;
     match annotated(alloc, number, tags, tree) {
         Ok((found, nodes)) => Ok(unit_of(alloc, found, nodes)?),
         Err(fault) => Err(fault_in(number, fault)),

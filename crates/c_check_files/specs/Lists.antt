@@ -2,7 +2,7 @@
 use Rattle.std.specs.Prelude.{◌≡◌, ◌++◌, List, []}
 use Rattle.c_ast.specs.Trees
 use Rattle.c_erasure.specs.Marks.{marks_of_file, firsts, tags_in, ends_in, defined_in, undefined_in}
-use Rattle.c_struct_places.specs.Untagged.{untagged_by}
+use Rattle.c_tags.specs.Untagged.{untagged_by}
 use Rattle.c_tags.specs.TagLists.{TagLists}
 
 -- the lists of those items, whose structures without a tag have the tags of the lists

@@ -8,7 +8,7 @@ ghost use Rattle.c_checking.specs.Files.{annotated as annotated_in, filed, filed
 ghost use Rattle.c_externals.specs.Filing.{Files};
 ghost use Rattle.c_nodes.specs.Gives.{Gives};
 ghost use Rattle.c_scopes.specs.Scoping.{file_of};
-ghost use Rattle.c_struct_places.specs.Untagged.{untagged_by};
+ghost use Rattle.c_tags.specs.Untagged.{untagged_by};
 ghost use Rattle.c_check_files.specs.Lists.{AreListsOf};
 
 use crate::definitions::definition;

@@ -1,2 +1,1 @@
-pub mod Untagged
 pub mod StructPlaces

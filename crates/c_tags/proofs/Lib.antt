@@ -1,7 +1,4 @@
-pub mod Pushing
-pub mod NextScopes
+pub mod Inserting
 pub mod Numbers
 pub mod TagTables
 pub mod Searching
-pub mod Folds
-pub mod Different

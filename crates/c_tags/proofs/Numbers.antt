@@ -9,7 +9,7 @@ use Rattle.std.proofs.lemmas.Slice.Eq.{bytes_eq-Decides}
 use Rattle.indexmap.specs.IndexMap.{insert_entry}
 use Rattle.c_erasure.specs.Scopes.{or_else}
 use Rattle.c_erasure.specs.Marks.{is_among}
-use Rattle.c_struct_places.proofs.Inserting.{inserted_last}
+use Rattle.c_tags.proofs.Inserting.{inserted_last}
 use Rattle.c_tags.specs.Keys.{found_at}
 use Rattle.c_tags.specs.Names.{number_in, with_new}
 

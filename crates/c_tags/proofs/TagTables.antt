@@ -10,7 +10,7 @@ use Rattle.std.proofs.lemmas.Slice.Eq.{bytes_eq-Decides}
 use Rattle.indexmap.specs.IndexMap.{insert_entry}
 use Rattle.c_erasure.specs.Scopes.{Tag, or_else, tag_at}
 use Rattle.c_erasure.specs.Marks.{is_among}
-use Rattle.c_struct_places.proofs.Inserting.{inserted_last}
+use Rattle.c_tags.proofs.Inserting.{inserted_last}
 use Rattle.c_tags.specs.declared.table.Known.{Known}
 use Rattle.c_tags.specs.Keys.{found_at}
 use Rattle.c_tags.specs.Tables.{tag_of_entry, tags_of_entries, AreApart, place_of_tag, with_first}

@@ -1,4 +1,4 @@
-pub mod Marks
+pub mod Untagged
 pub mod Keys
 pub mod Names
 pub mod Tables

@@ -5,8 +5,12 @@ use Rattle.std.specs.Str.{bytes_eq}
 use Rattle.c_erasure.specs.Scopes.{Tag}
 use Rattle.c_erasure.specs.Marks.{Mark, a_tag, an_end, a_name, is_among}
 use Rattle.c_tags.specs.declared.table.Known.{Known}
+use Rattle.c_tags.specs.declared.table.TagMark.{TagMark}
 use Rattle.c_tags.specs.Keys.{found_at}
 use Rattle.c_tags.specs.Names.{with_new}
+
+abbrev pub tag_of : TagMark → Tag
+tag_of t = record { name = t.name.now; place = t.place; from = t.from; is_enumeration = t.is_enumeration }
 
 abbrev pub tag_of_entry : Vec ℕ × Known → Tag
 tag_of_entry e = record { name = e.0.items; place = e.1.place; from = e.1.from; is_enumeration = e.1.is_enumeration }

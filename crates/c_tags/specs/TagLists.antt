@@ -5,7 +5,7 @@ use Rattle.c_ast.specs.Spelling.{spell}
 use Rattle.c_erasure.specs.Scopes.{Tag}
 use Rattle.c_erasure.specs.Marks.{marks_of_file, firsts, tags_in, ends_in, defined_in, undefined_in}
 use Rattle.c_erasure.specs.Untagged.{AreTags, structs_in}
-use Rattle.c_struct_places.specs.Untagged.{untagged_by}
+use Rattle.c_tags.specs.Untagged.{untagged_by}
 
 pub record TagLists : Type 0 where
   pub tags : List Tag

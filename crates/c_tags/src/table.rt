@@ -3,14 +3,21 @@
 ghost use Rattle.std.specs.Prelude.{◌≡◌, [], OnErr, OnOk, length};
 ghost use Rattle.c_erasure.specs.Scopes.{tag_at};
 ghost use Rattle.c_tags.specs.Keys.{found_at};
-ghost use Rattle.c_tags.specs.Marks.{tag_of};
-ghost use Rattle.c_tags.specs.Tables.{place_of_tag, with_first};
+ghost use Rattle.c_tags.specs.Tables.{place_of_tag, tag_of, with_first};
 
-use crate::marks::TagMark;
 use indexmap::IndexMap;
 use lay_base::NoMemory;
 use std::alloc::Global;
 use std::marker::Model;
+
+/// A tag, the byte at which it stands, and the one from which on it is known.
+#[derive(Clone, Copy)]
+pub struct TagMark<'a> {
+    pub name: &'a [u8],
+    pub place: u32,
+    pub from: u32,
+    pub is_enumeration: bool,
+}
 
 /// Where a tag stands first, from which byte on it is known, and what it is a tag of.
 #[derive(Clone, Copy)]

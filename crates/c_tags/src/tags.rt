@@ -1,25 +1,17 @@
 //! The tags of a file.
 
-ghost use Rattle.std.specs.Prelude.{◌≡◌, ◌≤◌, IfOk, length};
-ghost use Rattle.c_ast.specs.TreesOfFiles.{IsTreeOf};
-ghost use Rattle.c_ast.specs.Spelling.{spell};
-ghost use Rattle.c_ast.specs.Views.{items_of};
+ghost use Rattle.std.specs.Prelude.{◌≡◌, ◌<◌, ◌^◌, length};
+ghost use Rattle.c_erasure.specs.Files.{AreAscending};
 ghost use Rattle.c_erasure.specs.Scopes.{ended, tag_at};
-ghost use Rattle.c_erasure.specs.Untagged.{AreTags, structs_in};
-ghost use Rattle.c_struct_places.specs.Untagged.{untagged_by};
 ghost use Rattle.c_tags.specs.Names.{number_in};
 ghost use Rattle.c_tags.specs.Tables.{place_of_tag};
-ghost use Rattle.c_tags.specs.TagLists.{AreTagsOf};
+ghost use Rattle.c_tags.specs.Untagged.{untagged_by};
 
 use crate::names::Names;
 use crate::search::ended;
 use crate::table::TagTable;
-use crate::tables::{Tables, tables_of};
-use c_ast::Tree;
-use c_lexer::tokens_have_places;
-use c_struct_places::{Untagged, untagged_of};
-use lay_base::{File, Name, NoMemory};
-use std::alloc::Global;
+use crate::untagged::Untagged;
+use lay_base::Name;
 use std::marker::Model;
 
 /// What the syntax of a file tells of its tags and structures, with look-ups in constant time, and by a binary search of the ends.
@@ -44,26 +36,18 @@ impl Model for Tags {
 }
 
 impl Tags {
-    /// The tags of a tree, which is that of the file's bytes.
-    pub fn of(alloc: Global, tree: &Tree, file: &File) -> Result<Tags, NoMemory>
-        requires short { length file.now.bytes ≤ 4194304 }
-        requires tree { IsTreeOf file.now.bytes (items_of tree.now) }
-        ensures { IfOk result (AreTagsOf file.now.name file.now.bytes (items_of tree.now)) }
+    /// The tags with these parts.
+    pub fn of(untagged: Untagged, tags: TagTable, ends: Vec<u32>, numbered: Names) -> Tags
+        requires few { length ends.items < 2 ^ 32 }
+        requires order { AreAscending ends.items }
+        ensures { result ≡ record { tags = tags; ends = ends.items; numbered = numbered; untagged = untagged } }
     {
-        tokens_have_places();
-        let untagged = untagged_of(alloc, tree, file)?;
-        let tables = tables_of(alloc, &untagged, tree)?;
-        let Tables {
-            tags,
-            ends,
-            numbered,
-        } = tables;
-        Ok(Tags {
+        Tags {
             untagged,
             tags,
             ends,
             numbered,
-        })
+        }
     }
 
     /// Whether a tag that was declared before byte `at` is one of an enumeration; `None` where none was (C99 6.2.1, 6.7.2.3).

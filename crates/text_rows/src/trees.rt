@@ -11,9 +11,9 @@ use crate::tag_text::put_tags;
 use crate::tokens::FILE;
 use crate::tree_text::put_tree;
 use c_ast::{Item, Tree};
+use c_file_tags::tags_of;
 use c_lexer::lex;
 use c_parser::{ParseFault, parse, trees_are_small};
-use c_tags::Tags;
 use c_tokens::Tokens;
 use c_tree_sizes::{depth, nodes, nodes_of_item};
 use lay_base::{File, Place};
@@ -81,7 +81,7 @@ fn put_tags_of(out: &mut Writer, alloc: Global, file: &File, tokens: &Tokens, tr
     requires short { length file.now.bytes ≤ 4194304 }
     requires tree { IsTreeOf file.now.bytes (items_of tree.now) }
 {
-    match Tags::of(alloc, tree, file) {
+    match tags_of(alloc, tree, file) {
         Ok(tags) => put_tags(out, &tags, file.bytes.as_slice(), tokens.list.as_slice()),
         Err(_) => out.word("out of memory"),
     }

@@ -1,6 +1,5 @@
 use Rattle.std.proofs.Common.{rules, ◌≡◌, sym, refl, subst}
-use Rattle.c_tags.specs.Marks.{tag_of}
-use Rattle.c_tags.specs.Tables.{AreApart}
+use Rattle.c_tags.specs.Tables.{AreApart, tag_of}
 use Rattle.c_tags.proofs.TagTables.{already, newly, apart_after}
 use Rattle.c_tags.proofs.table.TagTable.add.Goals as goal
 use Rattle.c_tags.proofs.table.TagTable.add.Goals.{in-Ok, in-Err}

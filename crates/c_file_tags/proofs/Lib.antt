@@ -1,0 +1,4 @@
+mod Pushing
+mod NextScopes
+mod Folds
+mod Different

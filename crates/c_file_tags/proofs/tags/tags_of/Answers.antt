@@ -1,0 +1,22 @@
+use Rattle.std.proofs.Common.{sym, subst}
+use Rattle.c_ast.specs.Views.{items_of}
+use Rattle.c_erasure.specs.Files.{AreAscending}
+use Rattle.c_order.proofs.Ordered.{marks_are_in_order}
+use Rattle.c_tags.specs.TagLists.{AreTagsOf}
+use Rattle.c_tags.specs.Untagged.{untagged_by}
+use Rattle.c_file_tags.proofs.tags.tags_of.Goals as goal
+
+pub of-requires-clause-order : goal.of-requires-clause-order
+of-requires-clause-order c =
+    subst AreAscending (sym c.in_ok-tables.ensures.ends)
+    ((marks_are_in_order c.tokens_have_places.ensures).ends c.args.file.now.bytes (items_of c.args.tree.now)
+    (untagged_by c.in_ok-untagged.untagged) c.requires.tree)
+
+pub returns : goal.returns
+returns c = subst (AreTagsOf c.args.file.now.name c.args.file.now.bytes (items_of c.args.tree.now)) (sym c.of.ensures) (record {
+  untagged = c.in_ok-untagged.ensures.are;
+  begin = c.in_ok-untagged.ensures.begin;
+  tags = c.in_ok-tables.ensures.tags;
+  ends = c.in_ok-tables.ensures.ends;
+  numbered = c.in_ok-tables.ensures.numbered;
+})

@@ -1,0 +1,31 @@
+//! The tags of a file, found in its tree.
+
+ghost use Rattle.std.specs.Prelude.{◌≤◌, IfOk, length};
+ghost use Rattle.c_ast.specs.TreesOfFiles.{IsTreeOf};
+ghost use Rattle.c_ast.specs.Views.{items_of};
+ghost use Rattle.c_tags.specs.TagLists.{AreTagsOf};
+
+use crate::tables::{Tables, tables_of};
+use c_ast::Tree;
+use c_lexer::tokens_have_places;
+use c_tags::Tags;
+use c_untagged_structs::untagged_of;
+use lay_base::{File, NoMemory};
+use std::alloc::Global;
+
+/// The tags of a tree, which is that of the file's bytes.
+pub fn tags_of(alloc: Global, tree: &Tree, file: &File) -> Result<Tags, NoMemory>
+    requires short { length file.now.bytes ≤ 4194304 }
+    requires tree { IsTreeOf file.now.bytes (items_of tree.now) }
+    ensures { IfOk result (AreTagsOf file.now.name file.now.bytes (items_of tree.now)) }
+{
+    tokens_have_places();
+    let untagged = untagged_of(alloc, tree, file)?;
+    let tables = tables_of(alloc, &untagged, tree)?;
+    let Tables {
+        tags,
+        ends,
+        numbered,
+    } = tables;
+    Ok(Tags::of(untagged, tags, ends, numbered))
+}

@@ -1,5 +1,0 @@
-pub mod Inserting
-pub mod Counting
-pub mod Tagging
-pub mod Structs
-pub mod StructTokens

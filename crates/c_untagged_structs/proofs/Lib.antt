@@ -1,0 +1,4 @@
+pub mod Counting
+pub mod Tagging
+pub mod Structs
+pub mod StructTokens
