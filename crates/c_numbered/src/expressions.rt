@@ -8,7 +8,6 @@ ghost use Rattle.c_renumbering.specs.Nodes.{node_of, path_node_of};
 ghost use Rattle.c_typed.specs.Mapped.{mapped, mapped_all, mapped_node, mapped_path, mapped_step};
 ghost use Rattle.c_typed.specs.Views.{expression_of, expressions_of, path_of};
 
-use crate::numbers::number_of;
 use c_type_table::TypeTable;
 use c_typed::{Expression, ExpressionNode, Path, PathNode};
 use lay_base::{Boxed, List, NoMemory, add, boxed, with_room};
@@ -18,60 +17,65 @@ use std::alloc::Global;
 pub fn expression(
     alloc: Global,
     types: &TypeTable,
-    e: c_annotated::Expression,
+    e: &c_annotated::Expression,
 ) -> Result<Expression, NoMemory>
-    ensures { IfOk result (λ r. expression_of r ≡ mapped (numbered types.now) (noted_expression e)) }
+    ensures { IfOk result (λ r. expression_of r ≡ mapped (numbered types.now) (noted_expression e.now)) }
 {
-    let c_annotated::Expression {
+    let ty = types.number(alloc, &e.ty)?;
+    let node = node_in(alloc, types, &e.node)?;
+    Ok(Expression {
         ty,
-        place,
+        place: e.place,
         node,
-        ..
-    } = e;
-    let ty = number_of(alloc, types, ty)?;
-    let node = node_in(alloc, types, node)?;
-    Ok(Expression { ty, place, node })
+    })
 }
 
 #[cycle(expression_numbering)]
 fn node_in(
     alloc: Global,
     types: &TypeTable,
-    node: c_annotated::ExpressionNode,
+    node: &c_annotated::ExpressionNode,
 ) -> Result<ExpressionNode, NoMemory>
-    ensures { IfOk result (λ r. node_of r ≡ mapped_node (numbered types.now) (noted_node node)) }
+    ensures { IfOk result (λ r. node_of r ≡ mapped_node (numbered types.now) (noted_node node.now)) }
 {
     match node {
-        c_annotated::ExpressionNode::Constant(v) => Ok(ExpressionNode::Constant(v)),
+        c_annotated::ExpressionNode::Constant(v) => Ok(ExpressionNode::Constant(*v)),
         c_annotated::ExpressionNode::Null => Ok(ExpressionNode::Null),
-        c_annotated::ExpressionNode::FunctionName(f) => Ok(ExpressionNode::FunctionName(f)),
-        c_annotated::ExpressionNode::Load(p) => Ok(ExpressionNode::Load(path(alloc, types, p)?)),
-        c_annotated::ExpressionNode::AddressOf(p) => Ok(ExpressionNode::AddressOf(path(
-            alloc, types, p,
-        )?)),
-        c_annotated::ExpressionNode::Decay(p) => Ok(ExpressionNode::Decay(path(alloc, types, p)?)),
+        c_annotated::ExpressionNode::FunctionName(f) => Ok(ExpressionNode::FunctionName(*f)),
+        c_annotated::ExpressionNode::Load(p) => {
+            let p = path(alloc, types, p)?;
+            Ok(ExpressionNode::Load(p))
+        }
+        c_annotated::ExpressionNode::AddressOf(p) => {
+            let p = path(alloc, types, p)?;
+            Ok(ExpressionNode::AddressOf(p))
+        }
+        c_annotated::ExpressionNode::Decay(p) => {
+            let p = path(alloc, types, p)?;
+            Ok(ExpressionNode::Decay(p))
+        }
         c_annotated::ExpressionNode::Convert(x, written) => {
             let x = operand(alloc, types, x)?;
-            Ok(ExpressionNode::Convert(x, written))
+            Ok(ExpressionNode::Convert(x, *written))
         }
         c_annotated::ExpressionNode::Unary(op, x) => {
             let x = operand(alloc, types, x)?;
-            Ok(ExpressionNode::Unary(op, x))
+            Ok(ExpressionNode::Unary(*op, x))
         }
         c_annotated::ExpressionNode::Binary(op, x, y) => {
             let x = operand(alloc, types, x)?;
             let y = operand(alloc, types, y)?;
-            Ok(ExpressionNode::Binary(op, x, y))
+            Ok(ExpressionNode::Binary(*op, x, y))
         }
         c_annotated::ExpressionNode::Compare(op, x, y) => {
             let x = operand(alloc, types, x)?;
             let y = operand(alloc, types, y)?;
-            Ok(ExpressionNode::Compare(op, x, y))
+            Ok(ExpressionNode::Compare(*op, x, y))
         }
         c_annotated::ExpressionNode::PointerAdd(op, x, y) => {
             let x = operand(alloc, types, x)?;
             let y = operand(alloc, types, y)?;
-            Ok(ExpressionNode::PointerAdd(op, x, y))
+            Ok(ExpressionNode::PointerAdd(*op, x, y))
         }
         c_annotated::ExpressionNode::PointerDiff(x, y) => {
             let x = operand(alloc, types, x)?;
@@ -88,7 +92,10 @@ fn node_in(
             let y = operand(alloc, types, y)?;
             Ok(ExpressionNode::Or(x, y))
         }
-        c_annotated::ExpressionNode::Not(x) => Ok(ExpressionNode::Not(operand(alloc, types, x)?)),
+        c_annotated::ExpressionNode::Not(x) => {
+            let x = operand(alloc, types, x)?;
+            Ok(ExpressionNode::Not(x))
+        }
         c_annotated::ExpressionNode::Cond(x, y, z) => {
             let x = operand(alloc, types, x)?;
             let y = operand(alloc, types, y)?;
@@ -108,11 +115,11 @@ fn node_in(
         c_annotated::ExpressionNode::AssignOp(op, p, x) => {
             let p = path(alloc, types, p)?;
             let x = operand(alloc, types, x)?;
-            Ok(ExpressionNode::AssignOp(op, p, x))
+            Ok(ExpressionNode::AssignOp(*op, p, x))
         }
         c_annotated::ExpressionNode::Step(op, before, p) => {
             let p = path(alloc, types, p)?;
-            Ok(ExpressionNode::Step(op, before, p))
+            Ok(ExpressionNode::Step(*op, *before, p))
         }
         c_annotated::ExpressionNode::CopyRecord(p, from) => {
             let p = path(alloc, types, p)?;
@@ -120,27 +127,25 @@ fn node_in(
             Ok(ExpressionNode::CopyRecord(p, from))
         }
         c_annotated::ExpressionNode::Call(f, all) => {
-            let all = expressions(alloc, types, all)?;
-            Ok(ExpressionNode::Call(f, all))
+            let all = expressions(alloc, types, all.as_slice())?;
+            Ok(ExpressionNode::Call(*f, all))
         }
         c_annotated::ExpressionNode::CallThrough(e, all) => {
             let e = operand(alloc, types, e)?;
-            let all = expressions(alloc, types, all)?;
+            let all = expressions(alloc, types, all.as_slice())?;
             Ok(ExpressionNode::CallThrough(e, all))
         }
         c_annotated::ExpressionNode::Library(which, all) => {
-            let all = expressions(alloc, types, all)?;
-            Ok(ExpressionNode::Library(which, all))
+            let all = expressions(alloc, types, all.as_slice())?;
+            Ok(ExpressionNode::Library(*which, all))
         }
-        c_annotated::ExpressionNode::Allocate(r, count, zeroed) => {
-            match count {
-                None => Ok(ExpressionNode::Allocate(r, None, zeroed)),
-                Some(count) => {
-                    let count = operand(alloc, types, count)?;
-                    Ok(ExpressionNode::Allocate(r, Some(count), zeroed))
-                }
+        c_annotated::ExpressionNode::Allocate(r, count, zeroed) => match count {
+            None => Ok(ExpressionNode::Allocate(*r, None, *zeroed)),
+            Some(count) => {
+                let count = operand(alloc, types, count)?;
+                Ok(ExpressionNode::Allocate(*r, Some(count), *zeroed))
             }
-        }
+        },
     }
 }
 
@@ -148,36 +153,63 @@ fn node_in(
 pub fn operand(
     alloc: Global,
     types: &TypeTable,
-    e: Boxed<c_annotated::Expression>,
+    e: &Boxed<c_annotated::Expression>,
 ) -> Result<Boxed<Expression>, NoMemory>
-    ensures { IfOk result (λ r. expression_of r ≡ mapped (numbered types.now) (noted_expression e)) }
+    ensures { IfOk result (λ r. expression_of r ≡ mapped (numbered types.now) (noted_expression e.now)) }
 {
-    let e = expression(alloc, types, e.into_inner())?;
+    let e = expression(alloc, types, e.get())?;
     boxed(alloc, e)
 }
 
 #[cycle(expression_numbering)]
-pub fn path(alloc: Global, types: &TypeTable, p: Boxed<c_annotated::Path>) -> Result<Path, NoMemory>
-    ensures { IfOk result (λ r. path_of r ≡ mapped_path (numbered types.now) (noted_path p)) }
+fn expressions(
+    alloc: Global,
+    types: &TypeTable,
+    all: &[c_annotated::Expression],
+) -> Result<List<Expression>, NoMemory>
+    ensures { IfOk result (λ r. expressions_of (map expression_of r) ≡ mapped_all (numbered types.now) (noted_expressions (map noted_expression all.now))) }
 {
-    let c_annotated::Path { ty, place, node } = p.into_inner();
-    let ty = number_of(alloc, types, ty)?;
-    let node = path_node(alloc, types, node)?;
-    Ok(Path { ty, place, node })
+    let mut done = with_room(alloc, all.len())?;
+    for e in all {
+        let e = expression(alloc, types, e)?;
+        add(&mut done, e)?;
+    }
+    Ok(done)
+}
+
+#[cycle(expression_numbering)]
+pub fn path(
+    alloc: Global,
+    types: &TypeTable,
+    p: &Boxed<c_annotated::Path>,
+) -> Result<Path, NoMemory>
+    ensures { IfOk result (λ r. path_of r ≡ mapped_path (numbered types.now) (noted_path p.now)) }
+{
+    let p = p.get();
+    let ty = types.number(alloc, &p.ty)?;
+    let node = path_node(alloc, types, &p.node)?;
+    Ok(Path {
+        ty,
+        place: p.place,
+        node,
+    })
 }
 
 #[cycle(expression_numbering)]
 fn path_node(
     alloc: Global,
     types: &TypeTable,
-    node: c_annotated::PathNode,
+    node: &c_annotated::PathNode,
 ) -> Result<PathNode, NoMemory>
-    ensures { IfOk result (λ r. path_node_of r ≡ mapped_step (numbered types.now) (noted_path_node node)) }
+    ensures { IfOk result (λ r. path_node_of r ≡ mapped_step (numbered types.now) (noted_path_node node.now)) }
 {
     match node {
-        c_annotated::PathNode::Named(n) => Ok(PathNode::Named(n)),
-        c_annotated::PathNode::Object(n) => Ok(PathNode::Object(n)),
-        c_annotated::PathNode::Deref(e) => Ok(PathNode::Deref(operand(alloc, types, e)?)),
+        c_annotated::PathNode::Named(n) => Ok(PathNode::Named(*n)),
+        c_annotated::PathNode::Object(n) => Ok(PathNode::Object(*n)),
+        c_annotated::PathNode::Deref(e) => {
+            let e = operand(alloc, types, e)?;
+            Ok(PathNode::Deref(e))
+        }
         c_annotated::PathNode::Index(e, i) => {
             let e = operand(alloc, types, e)?;
             let i = operand(alloc, types, i)?;
@@ -185,11 +217,11 @@ fn path_node(
         }
         c_annotated::PathNode::Member(p, r, field) => {
             let p = inner_path(alloc, types, p)?;
-            Ok(PathNode::Member(p, r, field))
+            Ok(PathNode::Member(p, *r, *field))
         }
         c_annotated::PathNode::Element(p, i) => {
-            let p = inner_path(alloc, types, p)?;
             let i = operand(alloc, types, i)?;
+            let p = inner_path(alloc, types, p)?;
             Ok(PathNode::Element(p, i))
         }
     }
@@ -199,26 +231,10 @@ fn path_node(
 fn inner_path(
     alloc: Global,
     types: &TypeTable,
-    p: Boxed<c_annotated::Path>,
+    p: &Boxed<c_annotated::Path>,
 ) -> Result<Boxed<Path>, NoMemory>
-    ensures { IfOk result (λ r. path_of r ≡ mapped_path (numbered types.now) (noted_path p)) }
+    ensures { IfOk result (λ r. path_of r ≡ mapped_path (numbered types.now) (noted_path p.now)) }
 {
     let p = path(alloc, types, p)?;
     boxed(alloc, p)
-}
-
-#[cycle(expression_numbering)]
-fn expressions(
-    alloc: Global,
-    types: &TypeTable,
-    all: List<c_annotated::Expression>,
-) -> Result<List<Expression>, NoMemory>
-    ensures { IfOk result (λ r. expressions_of (map expression_of r) ≡ mapped_all (numbered types.now) (noted_expressions (map noted_expression all))) }
-{
-    let mut done = with_room(alloc, all.len())?;
-    for e in all.into_vec() {
-        let e = expression(alloc, types, e)?;
-        add(&mut done, e)?;
-    }
-    Ok(done)
 }

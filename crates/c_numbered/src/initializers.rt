@@ -11,16 +11,16 @@ ghost use Rattle.c_typed.specs.Views.{expression_of, initializer_of, part_of, pa
 use crate::expressions::{operand, path};
 use c_type_table::TypeTable;
 use c_typed::{Expression, Initializer, InitializerPart, PartValue};
-use lay_base::{Boxed, List, NoMemory, add, with_room};
+use lay_base::{Boxed, Bytes, List, NoMemory, add, with_room};
 use std::alloc::Global;
 
 /// An expression, where there is one.
 pub fn optional_expression(
     alloc: Global,
     types: &TypeTable,
-    e: Option<Boxed<c_annotated::Expression>>,
+    e: &Option<Boxed<c_annotated::Expression>>,
 ) -> Result<Option<Boxed<Expression>>, NoMemory>
-    ensures { IfOk result (λ r. option_map expression_of r ≡ option_map (mapped (numbered types.now)) (option_map noted_expression e)) }
+    ensures { IfOk result (λ r. option_map expression_of r ≡ option_map (mapped (numbered types.now)) (option_map noted_expression e.now)) }
 {
     match e {
         None => Ok(None),
@@ -31,12 +31,21 @@ pub fn optional_expression(
     }
 }
 
+fn copied(alloc: Global, bytes: &Bytes) -> Result<Bytes, NoMemory>
+    ensures { IfOk result (λ r. r ≡ bytes.now) }
+{
+    match Vec::from_slice(alloc, bytes.as_slice()) {
+        Ok(bytes) => Ok(Bytes::of(bytes)),
+        Err(_) => Err(NoMemory),
+    }
+}
+
 fn part_value(
     alloc: Global,
     types: &TypeTable,
-    value: c_annotated::PartValue,
+    value: &c_annotated::PartValue,
 ) -> Result<PartValue, NoMemory>
-    ensures { IfOk result (λ r. part_value_of r ≡ mapped_value (numbered types.now) (noted_value value)) }
+    ensures { IfOk result (λ r. part_value_of r ≡ mapped_value (numbered types.now) (noted_value value.now)) }
 {
     match value {
         c_annotated::PartValue::Value(e) => {
@@ -47,31 +56,36 @@ fn part_value(
             let p = path(alloc, types, p)?;
             Ok(PartValue::Record(p))
         }
-        c_annotated::PartValue::Text(bytes) => Ok(PartValue::Text(bytes)),
+        c_annotated::PartValue::Text(bytes) => {
+            let bytes = copied(alloc, bytes)?;
+            Ok(PartValue::Text(bytes))
+        }
     }
 }
 
 fn part(
     alloc: Global,
     types: &TypeTable,
-    it: c_annotated::InitializerPart,
+    it: &c_annotated::InitializerPart,
 ) -> Result<InitializerPart, NoMemory>
-    ensures { IfOk result (λ r. part_of r ≡ mapped_part (numbered types.now) (noted_part it)) }
+    ensures { IfOk result (λ r. part_of r ≡ mapped_part (numbered types.now) (noted_part it.now)) }
 {
-    let c_annotated::InitializerPart { offset, value } = it;
-    let value = part_value(alloc, types, value)?;
-    Ok(InitializerPart { offset, value })
+    let value = part_value(alloc, types, &it.value)?;
+    Ok(InitializerPart {
+        offset: it.offset,
+        value,
+    })
 }
 
 fn parts(
     alloc: Global,
     types: &TypeTable,
-    all: List<c_annotated::InitializerPart>,
+    all: &[c_annotated::InitializerPart],
 ) -> Result<List<InitializerPart>, NoMemory>
-    ensures { IfOk result (λ r. map part_of r ≡ map (mapped_part (numbered types.now)) (map noted_part all)) }
+    ensures { IfOk result (λ r. map part_of r ≡ map (mapped_part (numbered types.now)) (map noted_part all.now)) }
 {
     let mut done = with_room(alloc, all.len())?;
-    for it in all.into_vec() {
+    for it in all {
         let it = part(alloc, types, it)?;
         add(&mut done, it)?;
     }
@@ -81,9 +95,9 @@ fn parts(
 fn initializer(
     alloc: Global,
     types: &TypeTable,
-    initial: c_annotated::Initializer,
+    initial: &c_annotated::Initializer,
 ) -> Result<Initializer, NoMemory>
-    ensures { IfOk result (λ r. initializer_of r ≡ mapped_initializer (numbered types.now) (noted_initializer initial)) }
+    ensures { IfOk result (λ r. initializer_of r ≡ mapped_initializer (numbered types.now) (noted_initializer initial.now)) }
 {
     match initial {
         c_annotated::Initializer::Value(e) => {
@@ -95,7 +109,7 @@ fn initializer(
             Ok(Initializer::Record(p))
         }
         c_annotated::Initializer::Parts(all) => {
-            let all = parts(alloc, types, all)?;
+            let all = parts(alloc, types, all.as_slice())?;
             Ok(Initializer::Parts(all))
         }
     }
@@ -105,9 +119,9 @@ fn initializer(
 pub fn optional_initializer(
     alloc: Global,
     types: &TypeTable,
-    initial: Option<c_annotated::Initializer>,
+    initial: &Option<c_annotated::Initializer>,
 ) -> Result<Option<Initializer>, NoMemory>
-    ensures { IfOk result (λ r. option_map initializer_of r ≡ option_map (mapped_initializer (numbered types.now)) (option_map noted_initializer initial)) }
+    ensures { IfOk result (λ r. option_map initializer_of r ≡ option_map (mapped_initializer (numbered types.now)) (option_map noted_initializer initial.now)) }
 {
     match initial {
         None => Ok(None),

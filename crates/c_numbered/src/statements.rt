@@ -23,15 +23,25 @@ type TestAndStep = (Option<Boxed<Expression>>, Option<Boxed<Expression>>);
 fn test_and_step(
     alloc: Global,
     types: &TypeTable,
-    test: Option<Boxed<c_annotated::Expression>>,
-    step: Option<Boxed<c_annotated::Expression>>,
+    test: &Option<Boxed<c_annotated::Expression>>,
+    step: &Option<Boxed<c_annotated::Expression>>,
 ) -> Result<TestAndStep, NoMemory>
-    ensures test { IfOk result (λ r. option_map expression_of r.0 ≡ option_map (mapped (numbered types.now)) (option_map noted_expression test)) }
-    ensures step { IfOk result (λ r. option_map expression_of r.1 ≡ option_map (mapped (numbered types.now)) (option_map noted_expression step)) }
+    ensures test { IfOk result (λ r. option_map expression_of r.0 ≡ option_map (mapped (numbered types.now)) (option_map noted_expression test.now)) }
+    ensures step { IfOk result (λ r. option_map expression_of r.1 ≡ option_map (mapped (numbered types.now)) (option_map noted_expression step.now)) }
 {
     let test = optional_expression(alloc, types, test)?;
     let step = optional_expression(alloc, types, step)?;
     Ok((test, step))
+}
+
+/// The numbers of locals, or the values of `case` labels.
+fn copied(alloc: Global, numbers: &List<u32>) -> Result<List<u32>, NoMemory>
+    ensures { IfOk result (λ r. r ≡ numbers.now) }
+{
+    match Vec::from_slice(alloc, numbers.as_slice()) {
+        Ok(numbers) => Ok(List::of(numbers)),
+        Err(_) => Err(NoMemory),
+    }
 }
 
 /// A statement with numbers of types.
@@ -39,9 +49,9 @@ fn test_and_step(
 pub fn numbered_statement(
     alloc: Global,
     types: &TypeTable,
-    s: c_annotated::Statement,
+    s: &c_annotated::Statement,
 ) -> Result<Statement, NoMemory>
-    ensures { IfOk result (λ r. statement_of r ≡ mapped_statement (numbered types.now) (noted_statement s)) }
+    ensures { IfOk result (λ r. statement_of r ≡ mapped_statement (numbered types.now) (noted_statement s.now)) }
 {
     match s {
         c_annotated::Statement::Do(e) => {
@@ -49,12 +59,13 @@ pub fn numbered_statement(
             Ok(Statement::Do(e))
         }
         c_annotated::Statement::Block(locals, all) => {
-            let all = statements(alloc, types, all)?;
+            let locals = copied(alloc, locals)?;
+            let all = statements(alloc, types, all.as_slice())?;
             Ok(Statement::Block(locals, all))
         }
         c_annotated::Statement::Declare(n, initial) => {
             let initial = optional_initializer(alloc, types, initial)?;
-            Ok(Statement::Declare(n, initial))
+            Ok(Statement::Declare(*n, initial))
         }
         c_annotated::Statement::If(e, one, other) => {
             let e = operand(alloc, types, e)?;
@@ -78,14 +89,16 @@ pub fn numbered_statement(
             Ok(Statement::DoWhile(body, e))
         }
         c_annotated::Statement::For(locals, start, test, step, body) => {
+            let locals = copied(alloc, locals)?;
             let (test, step) = test_and_step(alloc, types, test, step)?;
-            let start = statements(alloc, types, start)?;
+            let start = statements(alloc, types, start.as_slice())?;
             let body = inner(alloc, types, body)?;
             Ok(Statement::For(locals, start, test, step, body))
         }
         c_annotated::Statement::Switch(e, locals, all) => {
+            let locals = copied(alloc, locals)?;
             let e = operand(alloc, types, e)?;
-            let all = arms(alloc, types, all)?;
+            let all = arms(alloc, types, all.as_slice())?;
             Ok(Statement::Switch(e, locals, all))
         }
         c_annotated::Statement::Break => Ok(Statement::Break),
@@ -101,11 +114,11 @@ pub fn numbered_statement(
 fn inner(
     alloc: Global,
     types: &TypeTable,
-    s: Boxed<c_annotated::Statement>,
+    s: &Boxed<c_annotated::Statement>,
 ) -> Result<Boxed<Statement>, NoMemory>
-    ensures { IfOk result (λ r. statement_of r ≡ mapped_statement (numbered types.now) (noted_statement s)) }
+    ensures { IfOk result (λ r. statement_of r ≡ mapped_statement (numbered types.now) (noted_statement s.now)) }
 {
-    let s = numbered_statement(alloc, types, s.into_inner())?;
+    let s = numbered_statement(alloc, types, s.get())?;
     boxed(alloc, s)
 }
 
@@ -113,12 +126,12 @@ fn inner(
 fn statements(
     alloc: Global,
     types: &TypeTable,
-    all: List<c_annotated::Statement>,
+    all: &[c_annotated::Statement],
 ) -> Result<List<Statement>, NoMemory>
-    ensures { IfOk result (λ r. statements_of (map statement_of r) ≡ mapped_statements (numbered types.now) (noted_statements (map noted_statement all))) }
+    ensures { IfOk result (λ r. statements_of (map statement_of r) ≡ mapped_statements (numbered types.now) (noted_statements (map noted_statement all.now))) }
 {
     let mut done = with_room(alloc, all.len())?;
-    for s in all.into_vec() {
+    for s in all {
         let s = numbered_statement(alloc, types, s)?;
         add(&mut done, s)?;
     }
@@ -126,32 +139,24 @@ fn statements(
 }
 
 #[cycle(statement_numbering)]
-fn arm(alloc: Global, types: &TypeTable, it: c_annotated::Arm) -> Result<Arm, NoMemory>
-    ensures { IfOk result (λ r. arm_of r ≡ numbered_arm types.now (noted_arm it)) }
+fn arm(alloc: Global, types: &TypeTable, it: &c_annotated::Arm) -> Result<Arm, NoMemory>
+    ensures { IfOk result (λ r. arm_of r ≡ numbered_arm types.now (noted_arm it.now)) }
 {
-    let c_annotated::Arm {
-        cases,
-        is_default,
-        statements: all,
-    } = it;
-    let all = statements(alloc, types, all)?;
+    let cases = copied(alloc, &it.cases)?;
+    let statements = statements(alloc, types, it.statements.as_slice())?;
     Ok(Arm {
         cases,
-        is_default,
-        statements: all,
+        is_default: it.is_default,
+        statements,
     })
 }
 
 #[cycle(statement_numbering)]
-fn arms(
-    alloc: Global,
-    types: &TypeTable,
-    all: List<c_annotated::Arm>,
-) -> Result<List<Arm>, NoMemory>
-    ensures { IfOk result (λ r. arms_of (map arm_of r) ≡ mapped_arms (numbered types.now) (noted_arms (map noted_arm all))) }
+fn arms(alloc: Global, types: &TypeTable, all: &[c_annotated::Arm]) -> Result<List<Arm>, NoMemory>
+    ensures { IfOk result (λ r. arms_of (map arm_of r) ≡ mapped_arms (numbered types.now) (noted_arms (map noted_arm all.now))) }
 {
     let mut done = with_room(alloc, all.len())?;
-    for it in all.into_vec() {
+    for it in all {
         let it = arm(alloc, types, it)?;
         add(&mut done, it)?;
     }
@@ -162,9 +167,9 @@ fn arms(
 pub fn optional_statement(
     alloc: Global,
     types: &TypeTable,
-    s: Option<c_annotated::Statement>,
+    s: &Option<c_annotated::Statement>,
 ) -> Result<Option<Statement>, NoMemory>
-    ensures { IfOk result (λ r. option_map statement_of r ≡ option_map (mapped_statement (numbered types.now)) (option_map noted_statement s)) }
+    ensures { IfOk result (λ r. option_map statement_of r ≡ option_map (mapped_statement (numbered types.now)) (option_map noted_statement s.now)) }
 {
     match s {
         None => Ok(None),

@@ -203,14 +203,14 @@ fn parameters_and_locals(
 fn type_and_body(
     alloc: Global,
     types: &TypeTable,
-    ty: Ty,
-    body: Option<c_annotated::Statement>,
+    ty: &Ty,
+    body: &Option<c_annotated::Statement>,
 ) -> Result<(u32, Option<Statement>), NoMemory>
-    ensures ty { IfOk result (λ r. r.0 ≡ number_in (map type_of types.now) (type_of ty)) }
+    ensures ty { IfOk result (λ r. r.0 ≡ number_in (map type_of types.now) (type_of ty.now)) }
     ensures body { IfOk result (λ r. option_map statement_of r.1
-        ≡ option_map (mapped_statement (numbered types.now)) (option_map noted_statement body)) }
+        ≡ option_map (mapped_statement (numbered types.now)) (option_map noted_statement body.now)) }
 {
-    let ty = number_of(alloc, types, ty)?;
+    let ty = types.number(alloc, ty)?;
     let body = optional_statement(alloc, types, body)?;
     Ok((ty, body))
 }
@@ -236,7 +236,7 @@ fn function(
         ..
     } = f;
     let (parameters, locals) = parameters_and_locals(alloc, types, taken, parameters, locals)?;
-    let (ty, body) = type_and_body(alloc, types, ty, body)?;
+    let (ty, body) = type_and_body(alloc, types, &ty, &body)?;
     Ok(Function {
         name,
         place,

@@ -1,4 +1,4 @@
-use Rattle.std.proofs.Common.{◌≡◌, map}
+use Rattle.std.proofs.Common.{◌≡◌, ◌++◌, drop, map}
 use Rattle.c_annotated.specs.Nodes.{arm_of as noted_arm}
 use Rattle.c_annotated.specs.Views.{statement_of as noted_statement}
 use Rattle.c_renumbering.specs.Nodes.{arm_of}
@@ -8,7 +8,9 @@ use Rattle.c_numbered.specs.Numbered.{numbered, numbered_arm}
 use Rattle.c_numbered.proofs.statements.+statement_numbering.Given as goal
 
 abbrev pub invariant-statements-loop-s : goal.invariant-statements-loop-s
-invariant-statements-loop-s l = map statement_of l.done ≡ map (λ s. mapped_statement (numbered l.types) (noted_statement s)) l.yielded
+invariant-statements-loop-s l = map statement_of l.done ++ map (mapped_statement (numbered l.types)) (map noted_statement (drop l.s-index l.all))
+    ≡ map (mapped_statement (numbered l.types)) (map noted_statement l.all)
 
 abbrev pub invariant-arms-loop-it : goal.invariant-arms-loop-it
-invariant-arms-loop-it l = map arm_of l.done ≡ map (λ a. numbered_arm l.types (noted_arm a)) l.yielded
+invariant-arms-loop-it l = map arm_of l.done ++ map (numbered_arm l.types) (map noted_arm (drop l.it-index l.all))
+    ≡ map (numbered_arm l.types) (map noted_arm l.all)
