@@ -1,6 +1,6 @@
 //! The checker of declarations at file scope (C99 6.7, 6.9.2).
 //!
-//! It stands on `c_externals` and `c_check_initializers`. It promises that `declaration` answers what the definition of its name in `c_checking`
+//! It stands on `c_externals` and `c_check_initializers`. It promises that `declaration` answers what `file_declaration` of `c_checking`
 //! says, or that no memory was left.
 #![tactic(auto)]
 

@@ -1,6 +1,6 @@
 //! The lexer: the tokens of a preprocessed source file, and what its line markers make of a place.
 //!
-//! It stands on `lay_base` and `c_types`. It promises that the tokens are those of the text as C99
+//! It stands on `c_tokens`, which says what a token is, on `c_types` and on `lay_base`. It promises that the tokens are those of the text as C99
 //! has it, or that a fault is the first one and stands where it says; a text has no second reading.
 #![tactic(auto)]
 
