@@ -1,3 +1,1 @@
 pub mod Slots
-pub mod Both
-pub mod Numbers

@@ -49,7 +49,7 @@ pub fn go_on<'a>(machine: &mut Machine<'a>, work: Work<'a>) -> Result<Moved, NoM
 }
 
 /// An action.
-pub(crate) fn act<'a>(machine: &mut Machine<'a>, action: Action) -> Result<(), NoMemory>
+fn act<'a>(machine: &mut Machine<'a>, action: Action) -> Result<(), NoMemory>
     ensures { OnOk result (state_of machine.new ≡ doing (acting action) (state_of machine.old)) }
 {
     machine.todo(Work::Acting(action))
@@ -117,7 +117,7 @@ pub fn evaluate_one<'a>(
 // ---- paths
 
 /// Where a path leads, and then an action on it.
-pub(crate) fn spot_one<'a>(
+pub fn spot_one<'a>(
     machine: &mut Machine<'a>,
     q: &'a Path,
     action: Action,

@@ -1,4 +1,4 @@
-//! The first steps of expressions, with calls, and what is done with the locals of functions and blocks.
+//! The first steps of expressions, with calls.
 //!
 //! It stands on `source_state`, whose machine it moves on, on `loop_tallies`, whose functions are called, and on `source_actions`, which does what calls
 //! come to.
@@ -6,10 +6,8 @@
 
 mod calls;
 mod expressions;
-mod locals;
 
 pub use calls::{gather, gather_one};
 pub use expressions::{
-    evaluate, evaluate_one, evaluate_used, go_on, locate, use_one, use_then, use_value,
+    evaluate, evaluate_one, evaluate_used, go_on, locate, spot_one, use_one, use_then, use_value,
 };
-pub use locals::{begin_all, declare, fill_all, finish_first};

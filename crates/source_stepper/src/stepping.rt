@@ -19,7 +19,8 @@ use lay_base::NoMemory;
 use loop_tallies::{TalliedArms, TalliedStatement};
 use runs::Value;
 use source_actions::perform;
-use source_expressions::{fill_all, finish_first, gather, gather_one, go_on, locate, use_one};
+use source_expressions::{gather, gather_one, go_on, locate, use_one};
+use source_locals::{fill_all, finish_first};
 use source_machine::{Action, Callee};
 use source_state::{
     ForArms, ForCall, ForExpression, ForLoop, ForStatement, Loop, LoopBehind, Machine, STUCK,

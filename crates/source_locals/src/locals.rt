@@ -1,4 +1,4 @@
-//! The locals of blocks of statements, and what they hold at first (C99 6.2.4, 6.7.8).
+//! Locals begin and end, and their declarations are reached (C99 6.2.4, 6.7.8).
 
 ghost use Rattle.std.specs.Prelude.{◌≡◌, IfOk, Some, map, slice_get};
 ghost use Rattle.std.specs.Option.{option_copied, option_map};
@@ -11,10 +11,10 @@ ghost use Rattle.source_steps.specs.Statements.{declared, fills, fills_all, init
 ghost use Rattle.source_state.specs.View.{state_of};
 ghost use Rattle.source_state.specs.WorkView.{context_of};
 
-use crate::expressions::{go_on, spot_one, use_one};
 use c_meaning::Slot;
 use c_typed::{Initializer, InitializerPart, Local, PartValue};
 use lay_base::NoMemory;
+use source_expressions::{go_on, spot_one, use_one};
 use source_machine::Action;
 use source_state::{Machine, Room, Scope, Work};
 use source_steps::{Final, Moved};
