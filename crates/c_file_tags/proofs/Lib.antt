@@ -1,4 +1,3 @@
 mod Pushing
 mod NextScopes
 mod Folds
-mod Different

@@ -1,5 +1,5 @@
 -- What a request leaves is what its command leaves. Each law goes from the one to the other by an equation alone, so that no clause is opened.
-use Rattle.std.proofs.Common.{◌≡◌, ℕ, List, Option, Some, sym, subst, inl, inr}
+use Rattle.std.proofs.Common.{◌≡◌, ℕ, List, Option, Some, sym, subst}
 use Rattle.std.specs.Prelude.{◌⊎◌, Result, Ok, Err, IfErr}
 use Rattle.lay_base.specs.Known.{Contents}
 use Rattle.refusals.specs.declared.refusal.Refusal.{Refusal}
@@ -9,7 +9,7 @@ use Rattle.command_words.specs.declared.words.ProfileRequest.{ProfileRequest}
 use Rattle.command_words.specs.declared.words.RunRequest.{RunRequest}
 use Rattle.command_words.specs.declared.words.Request.{Request}
 use Rattle.command_words.specs.declared.words.Request.TheVariants as Q
-use Rattle.command_words.specs.Words.{Command, requested, compilation_of, interpretation_of, profiling_of}
+use Rattle.command_words.specs.Words.{requested, compilation_of, interpretation_of, profiling_of}
 use Rattle.program_files.specs.declared.front_end.PlaceTexts.{PlaceTexts}
 use Rattle.program_files.specs.FrontEnd.{HasTexts, or_empty}
 use Rattle.program_files.specs.Outside.{Outside}
@@ -19,20 +19,6 @@ use Rattle.lay_commands.specs.Answers.{IsOfMachine, IsOfSource, MayRead, Outcome
 use Rattle.lay_commands.specs.Interpreting.{InterpGives, ProfileGives}
 use Rattle.lay_commands.specs.Stages.{CompileGives, RunGives}
 use Rattle.lay_commands.proofs.Refused.{by_command, by_status_gives, run_texts}
-
--- ---- of any request
-
-module _ (command : Option Command) (request : Request) (found : Some (requested request) ≡ command) where
-  pub found_gives : (before now : Outside) (outcome : Outcome) → OutcomeGives (Some (requested request)) before now outcome
-      → OutcomeGives command before now outcome
-  found_gives before now outcome gives = subst (λ (c : Option Command). OutcomeGives c before now outcome) found gives
-
-  pub found_has : (files : Option Contents) (outcome : Outcome) (at first : List ℕ) → OutcomeHas (Some (requested request)) files outcome at first
-      → OutcomeHas command files outcome at first
-  found_has files outcome at first has = subst (λ (c : Option Command). OutcomeHas c files outcome at first) found has
-
-  pub found_reads : {Kept : Type 0} (outcome : Outcome) → Kept ⊎ MayRead (Some (requested request)) outcome → Kept ⊎ MayRead command outcome
-  found_reads {Kept} outcome reads = subst (λ (c : Option Command). Kept ⊎ MayRead c outcome) found reads
 
 -- ---- of one to compile
 

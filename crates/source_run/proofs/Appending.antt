@@ -15,9 +15,6 @@ pub appends_more : (old middle new : Option (List ℕ)) (x y : List ℕ) → App
 appends_more None middle new x y d e = rw d at e
 appends_more (Some bytes) middle new x y d e = (rw d at e) ∙ ap Some (append_assoc bytes x y)
 
-pub appends_that : (old middle new : Option (List ℕ)) (x : List ℕ) → Appends old middle x → new ≡ middle → Appends old new x
-appends_that old middle new x d e = e ∙ d
-
 -- ---- of one more call
 
 pub put_one : (calls : List Call) (byte : ℕ) → bytes_put (calls ++ putting byte ∷ []) ≡ bytes_put calls ++ byte ∷ []

@@ -30,11 +30,5 @@ keeps_entry c f = record { entries = length_raised c.entries f; begins = refl }
 pub keeps_begin : (c : Counting) (f l : ℕ) → KeepsShape c (with_begin c f l)
 keeps_begin c f l = record { entries = refl; begins = lengths_raised c.begins f l }
 
-pub keeps_same : (c : Counting) → KeepsShape c c
-keeps_same c = record { entries = refl; begins = refl }
-
-pub keeps_both : (a b c : Counting) → KeepsShape a b → KeepsShape b c → KeepsShape a c
-keeps_both a b c h i = record { entries = i.entries ∙ h.entries; begins = i.begins ∙ h.begins }
-
 pub has_all_still : (p : ProgramData) (old new : Counting) → HasAll p old → KeepsShape old new → HasAll p new
 has_all_still p old new h i = record { entries = i.entries ∙ h.entries; begins = i.begins ∙ h.begins }
