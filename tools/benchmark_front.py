@@ -126,7 +126,10 @@ def growth(row, paths):
 def main():
     if not programs.have_csmith():
         return 0
-    timers = {} if "--stand-in" in sys.argv else {"layc": front_seconds}
+    timers = {}
+    if "--stand-in" not in sys.argv:
+        checking.built("layc")
+        timers["layc"] = front_seconds
     timers["gcc -fsyntax-only"] = command_seconds(["gcc", "-std=c99", "-m32", "-funsigned-char", "-w", "-fsyntax-only", "-x", "cpp-output"])
     if checking.have("tcc"):
         timers["tcc -c"] = command_seconds(["tcc", "-c", "-w", "-o", "text.o"])

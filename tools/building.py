@@ -13,11 +13,15 @@ import sys
 import tempfile
 import time
 
+import proof_seconds
+
 HERE = os.path.dirname(os.path.dirname(os.path.abspath(__file__)))
 PARTS = ["src", "specs", "proofs"]
 SECONDS_BETWEEN_LINES = 20
 SHOWN_LINES = 40
 AT_ONCE = max(1, len(os.sched_getaffinity(0)) // 2)
+# A proof that took less than this part of its seconds was kept from before, and tells nothing of how fast the others are.
+KEPT_PART = 0.2
 
 
 def folder_of(crate):
@@ -126,6 +130,9 @@ class Proof:
         lines = [line for line in self.text().splitlines() if not re.search(r": proved$|^checked |^so far: |: modules loaded=", line)]
         return "\n".join(lines[-SHOWN_LINES:])
 
+    def seconds(self):
+        return time.monotonic() - self.began
+
     def progress(self):
         return f"{self.crate} (for {minutes(self.began)})"
 
@@ -142,7 +149,10 @@ class Build:
         self.crate, self.say = crate, say
         self.uses = crates()
         self.order = crates_for(crate, self.uses)
+        self.seconds = proof_seconds.seconds_of(self.order)
         self.proved, self.running = [], []
+        # How long the proofs took that were made, and how long they were to take.
+        self.took, self.expected = 0.0, 0.0
         self.began = time.monotonic()
 
     def begin_more(self):
@@ -161,12 +171,23 @@ class Build:
             if proof.process.returncode != 0:
                 return proof
             self.proved.append(proof.crate)
+            if proof.seconds() >= KEPT_PART * self.seconds[proof.crate]:
+                self.took += proof.seconds()
+                self.expected += self.seconds[proof.crate]
             self.say(f"{minutes(self.began)}  proved {proof.crate}, {len(self.proved)} of {len(self.order)} crates")
         return None
 
+    def left(self):
+        """About how long the rest takes, in words: by the seconds of each crate, at the pace of those that were proved so far."""
+        pace = self.took / self.expected if self.expected else 1.0
+        rest = {crate: self.seconds[crate] for crate in self.order if crate not in self.proved}
+        for proof in self.running:
+            rest[proof.crate] = max(0.0, rest[proof.crate] - proof.seconds() / pace)
+        return proof_seconds.in_words(pace * proof_seconds.seconds_together(list(rest), self.uses, rest, AT_ONCE))
+
     def say_progress(self):
         now = ", ".join(proof.progress() for proof in self.running)
-        self.say(f"{minutes(self.began)}  {len(self.proved)} of {len(self.order)} crates are proved; now {now}")
+        self.say(f"{minutes(self.began)}  {len(self.proved)} of {len(self.order)} crates are proved, about {self.left()} are left; now {now}")
 
     def prove(self):
         """Proves all crates, or gives the proof that failed."""
@@ -211,7 +232,7 @@ def build(crate, say):
     if is_left_by_the_gate(crate, work.order):
         write_stamp(crate, work.order, os.path.getmtime(program_of(crate)))
         return True
-    say(f"proving and building {len(work.order)} crates, {AT_ONCE} at a time; the first time takes several minutes")
+    say(f"proving and building {len(work.order)} crates, {AT_ONCE} at a time; from nothing that takes about {work.left()}")
     try:
         failed = work.prove()
     finally:

@@ -211,6 +211,17 @@ def check_own_code(runs):
     runs.check("code that is written over", elf_file([segment]), exits(33))
 
 
+def check_own_code_twice(runs):
+    """A loop stores an addition of 1 and then one of 16 in the place of a break, and runs each."""
+    head = [word("lui", rd=10, imm=bits(TEXT, 31, 12)), word("addi", rd=15, rs1=10, imm=44), word("addi", rd=14, rs1=10, imm=52)]
+    loop = [word("lw", rd=11, rs1=15), word("sw", rs1=10, rs2=11, imm=20), word("ebreak")]
+    loop += [word("addi", rd=15, rs1=15, imm=4), word("bne", rs1=15, rs2=14, imm=-16)]
+    words = head + loop + [word("addi", rd=10, rs1=12), word("addi", rd=17, imm=93), word("ecall")]
+    words += [word("addi", rd=12, rs1=12, imm=1), word("addi", rd=12, rs1=12, imm=16)]
+    segment = Segment(TEXT, words_of(words), 4 * len(words), READ | WRITE | EXECUTE)
+    runs.check("code that is written over twice", elf_file([segment]), exits(17))
+
+
 def check_first_registers(runs):
     """Every register is 0 at the entry."""
     words = [word("sw", rs2=r, imm=0x400 + 4 * r) for r in range(32)] + write(0x400, 128) + leave(0)
@@ -255,6 +266,33 @@ def check_two_segments(runs):
     runs.check("a store to two segments", code_file(words, *parts), exits(0), b"bcdeef")
     parts[1] = parts[1]._replace(flags=READ)
     runs.check("a store to a segment and one that may only be read", code_file(words, *parts), trap("Unmapped", after(load(5, 0) * 2)))
+
+
+def check_parts_of_words(runs):
+    """Loads and stores of bytes, halves and words where a word of memory lies in two segments, of which the first has five bytes."""
+    parts = [data_segment(bytes(range(1, 6)), 5, 0x08000000), data_segment(bytes(range(6, 12)), 6, 0x08000005), data_segment(size=32)]
+    words = load(10, 0x08000000) + [word("lw", rd=11, rs1=10, imm=4), word("lhu", rd=12, rs1=10, imm=4)] + load(13, 0x89ABCDEF)
+    words += [word("sw", rs1=10, rs2=13, imm=4), word("lb", rd=14, rs1=10, imm=4), word("lh", rd=15, rs1=10, imm=4), word("sh", rs1=10, rs2=11, imm=4)]
+    words += [word("lw", rd=16, rs1=10, imm=4), word("lbu", rd=5, rs1=10, imm=10)]
+    words += load(6, DATA) + [word("sw", rs1=6, rs2=r, imm=4 * i) for i, r in enumerate([11, 12, 14, 15, 16, 5])]
+    seen = [0x08070605, 0x0605, 0xFFFFFFEF, 0xFFFFCDEF, 0x89AB0605, 11]
+    code = words + write(DATA, 24)
+    runs.check("parts of words in two segments", code_file(code + leave(0), *parts), exits(0), b"".join(n.to_bytes(4, "little") for n in seen))
+    behind = load(10, 0x08000000) + [word("lbu", rd=6, rs1=10, imm=11)]
+    runs.check("the byte after two segments", code_file(behind, *parts), trap("Unmapped", after(behind) - 4))
+
+
+def check_zeros(runs):
+    """Data of four bytes, of which the file has three, stand before the code in the file."""
+    for at, byte in [(0, 7), (2, 9), (3, 0), (-1, None), (4, None)]:
+        words = load(11, 0x08000000) + [word("lbu", rd=10, rs1=11, imm=at)]
+        end = trap("Unmapped", after(words) - 4) if byte is None else exits(byte)
+        code = words + load(17, 93) + [word("ecall")]
+        segments = [data_segment(b"\7\10\11", 4, 0x08000000), Segment(TEXT, words_of(code), 4 * len(code), READ | EXECUTE)]
+        runs.check(f"the byte at {at} of four", elf_file(segments), end)
+    words = load(11, TEXT) + [word("lbu", rd=10, rs1=11)]
+    segment = Segment(TEXT, words_of(words), 4 * len(words), EXECUTE)
+    runs.check("a load from code that may only be executed", elf_file([segment]), trap("Unmapped", after(words) - 4))
 
 
 # ---- the three calls
@@ -465,9 +503,12 @@ def check_ends(layc, folder):
         check_jumps,
         check_fetches,
         check_own_code,
+        check_own_code_twice,
         check_first_registers,
         check_accesses,
         check_flags,
+        check_zeros,
+        check_parts_of_words,
         check_two_segments,
         check_other_calls,
         check_ranges,

@@ -177,6 +177,8 @@ def main():
         print("skipped: no command checks the types of C programs yet; `--stand-in` tries the script with GCC")
         return 0
     ask = front_answer if exact else answer_of_gcc
+    if exact:
+        checking.built("layc")
     if not exact and not checking.have("gcc"):
         return 0
     check_rows(ask, exact)

@@ -4,14 +4,15 @@
 A row is a line `[NAME] ANSWER | CLAUSE`, maybe with ` | own: REASON` after it, then the file's text up to an empty
 line. ANSWER is `accepted`, the name of a type rule, `Undeclared NAME`, `Redeclared NAME` or `TooBig`. In the text `@`
 stands before the token at which the refusal is, and `$` before the first declaration of what is declared again; both are
-no part of the file. Where several `@` stand, one of them is named. A line `# ..` is a comment, so a line marker in a text is a `#line`. `own:` says why a compiler for
-C99 answers otherwise; `warns:` says why it only warns. In `open.txt` stand texts whose answer is not settled.
+no part of the file. Where several `@` stand, one of them is named. A line `# ..` is a comment, so a line marker in a text
+is a `#line`. `own:` says why a compiler for C99 answers otherwise; `warns:` says why it only warns. In `open.txt` stand texts whose answer is not settled.
 
 As a command it shows the numbers.
 
 What is refused before types are looked at stands in `before_types.txt` (BadByte, BadLiteral, Unclosed, TooWide, NoParse, Unsupported KEYWORD), and what is
 refused when files are joined in `after_types.txt` (Missing NAME, Twice NAME, TagClash TAG, NameClash NAME, NoMain, Limit WHICH COUNTED). There a line `== NAME`
-begins a file of that name, and a line `== program` the text of the program that the files are, as `crates/front_rows/README.md` says; a line of it that begins with
+begins a file of that name, and a line `== program` the text of the program that the files are, as `crates/front_rows/README.md` says;
+a line of it that begins with
 a space goes on the one before. `{;}*9` stands for nine semicolons."""
 
 import os
@@ -32,7 +33,8 @@ PROGRAM = "program"
 
 
 class Row:
-    """`files` are the names and texts; `text` is that of the first. `program` is the text of their program, where the row has it. `places` and `first` are byte offsets in `place_file` and `first_file`.
+    """`files` are the names and texts; `text` is that of the first. `program` is the text of their program, where the row has it. `places`
+    and `first` are byte offsets in `place_file` and `first_file`.
     `subject` is what an answer names, and `counted` the number that passes a limit. `kind` is `own`, `warns`, `asks` or empty, and `reason` why."""
 
     def __init__(self, file, name, answer, clause, kind, reason, marked):

@@ -9,7 +9,15 @@ import sys
 import building
 
 HERE = os.path.dirname(os.path.dirname(os.path.abspath(__file__)))
-LAYC = os.path.join(HERE, "layc")
+
+
+def named_by_environment(crate):
+    """The program that the environment has under the crate's name in capitals, as `LAYC=unproved/layc`; or None."""
+    path = os.environ.get(crate.upper())
+    return os.path.abspath(path) if path else None
+
+
+LAYC = named_by_environment("layc") or os.path.join(HERE, "layc")
 
 EMULATOR = "qemu-riscv32"
 OBJDUMP = "riscv64-linux-gnu-objdump"
@@ -24,6 +32,7 @@ PACKAGES = {
     "csmith": "csmith",
     "gcc": "gcc",
     "ld.lld": "lld",
+    "make": "make",
     "tcc": "tcc",
     EMULATOR: "qemu-user",
     OBJDUMP: "binutils-riscv64-linux-gnu",
@@ -34,11 +43,10 @@ PACKAGES = {
     TIME: "time",
 }
 
-USAGE = b"""usage: layc compile -o OUT [--profile P] [--plain] [--heap MIB] [--stack MIB] FILE...
+USAGE = b"""usage: layc compile -o OUT [--plain] [--heap MIB] [--stack MIB] FILE...
        layc profile -o P [--turns N] FILE...
        layc interp [--turns N] FILE...
        layc run [--steps N] ELF
-       layc bench N
 """
 USAGE_STATUS, OUTSIDE_STATUS, PROGRAM_STATUS = 120, 121, 122
 ELF_STATUS, TRAP_STATUS, LIMIT_STATUS, MEMORY_STATUS = 124, 125, 126, 127
@@ -110,8 +118,16 @@ def run(words, seconds=600, **more):
 
 
 def built(crate):
-    """The program of a crate, built where it is missing or older than its sources; None where it cannot be."""
+    """The program of a crate: the one that the environment names, or else the proved one, built where it is missing or older than its sources; None where
+    it cannot be. Which of them it is, is printed."""
+    named = named_by_environment(crate)
+    if named:
+        print(f"{crate}: {os.environ[crate.upper()]}, by the environment: nothing says that it is proved", flush=True)
+        return named if os.path.exists(named) else None
     if not building.is_built(crate):
         building.build(crate, lambda text: print(f"{crate}: {text}", file=sys.stderr, flush=True))
     program = building.program_of(crate)
-    return program if os.path.exists(program) else None
+    if not os.path.exists(program):
+        return None
+    print(f"{crate}: the proved build" + ("" if building.is_built(crate) else " of older sources"), flush=True)
+    return program

@@ -43,11 +43,6 @@ def asked(row):
         yield from lines_of(text)
 
 
-def variant(keyword):
-    """A keyword as the name of its variant."""
-    return "".join("Underscore" if part == "" else part.capitalize() for part in re.split("_", keyword))
-
-
 def answer_of(row):
     """What has to become of a row's files."""
     if row.program is not None:
@@ -56,8 +51,7 @@ def answer_of(row):
         return " program" if question(row) == "link" else " accepted"
     if row.answer == "NoParse":
         return " NoParse"
-    subject = variant(row.subject) if row.answer == "Unsupported" else row.subject
-    words = [row.answer, *filter(None, [subject, row.counted])]
+    words = [row.answer, *filter(None, [row.subject, row.counted])]
     if row.places:
         words += ["at", row.place_file, " or ".join(map(str, row.places))]
     if row.first is not None:

@@ -50,7 +50,7 @@ def asked(words):
 def put_copy(folder, crate):
     """A copy of the repository, with the libraries below that crate that were built, and with the work that was kept of the crate."""
     here, there = os.path.join(HERE, "crates"), os.path.join(folder, "crates")
-    shutil.copytree(here, there, ignore=shutil.ignore_patterns("out", "must-fail"))
+    shutil.copytree(here, there, ignore=shutil.ignore_patterns("out"))
     below = [name for name in crates_for(crate, crates()) if name != crate]
     for part in [os.path.join(name, "out", "rlib") for name in below] + [os.path.join(crate, "out", "incremental")]:
         if os.path.isdir(os.path.join(here, part)):

@@ -1,7 +1,7 @@
 -- When an ELF file does what a source program does. The source is given by its runs (for an input
 -- and a number of turns) and by which of them are light, that is, fit in the file's room.
 use Rattle.std.specs.Prelude.{◌≡◌, ℕ, ◌*◌, ◌^◌, ◌<◌, ◌≤◌, List, All, Contains, Ok}
-use Rattle.source_end.specs.SourceEnd.{SourceEnd, Ends, GoesOn, IsDefined}
+use Rattle.block_memory.specs.SourceEnd.{SourceEnd, Ends, GoesOn, IsDefined}
 use Rattle.rv_isa.specs.declared.image.Image.{Image}
 use Rattle.rv_isa.specs.declared.image.Segment.{Segment}
 use Rattle.rv_isa.specs.Step.{Standing, Running, Exits, Trap, Break}

@@ -1,14 +1,15 @@
 -- What cells hold, by the cells one by one.
-use Rattle.std.proofs.Common.{◌≡◌, ℕ, zero, suc, ◌+◌, ◌≤◌, List, [], ◌∷◌, length, take, drop, get_or, Bool, true, false, Option, Some, None, Ok, Err, refl, sym, ap, ◌∙◌, arith, option_map}
+use Rattle.std.proofs.Common.{◌≡◌, ℕ, zero, suc, ◌+◌, ◌≤◌, List, [], ◌∷◌, length, take, drop, get_or, Bool, true, false, Option, Some, None, Ok, Err, refl, sym}
+use Rattle.std.proofs.Common.{ap, ◌∙◌, arith, option_map}
 use Rattle.std.specs.List.{list_any}
 use Rattle.std.proofs.lemmas.List.{drop_more}
 use Rattle.lay_base.specs.declared.faults.UndefinedKind.TheVariants as K
 use Rattle.c_types.specs.declared.ty.IntKind.{IntKind}
 use Rattle.c_types.specs.declared.ty.IntKind.TheVariants as I
 use Rattle.c_types.specs.IntKinds.{width}
-use Rattle.memory_cells.specs.declared.cell.Cell.{Cell}
-use Rattle.memory_cells.specs.declared.cell.Cell.TheVariants.{Empty, Byte, Fragment}
-use Rattle.memory_cells.specs.declared.pointer.Ptr.{Ptr}
+use Rattle.memory_words.specs.declared.cell_words.cell.Cell.{Cell}
+use Rattle.memory_words.specs.declared.cell_words.cell.Cell.TheVariants.{Empty, Byte, Fragment}
+use Rattle.memory_words.specs.declared.cell_words.pointer.Ptr.{Ptr}
 use Rattle.block_memory.specs.Held.{held, is_empty, number_in, null_in, or_pointer, pointer_in, word_of}
 use Rattle.block_memory.specs.Digits.{as_pointer, digit_before, number_at, pointer_at, valued}
 use Rattle.block_memory.specs.Tested.{Tested}

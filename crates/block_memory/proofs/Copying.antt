@@ -1,9 +1,10 @@
 -- Cells that are copied one by one.
 use Rattle.std.proofs.Common.{◌≡◌, ℕ, ◌+◌, ◌-◌, ◌<◌, ◌≤◌, List, [], ◌∷◌, ◌++◌, length, take, drop, get_or, sym, ap, ◌∙◌, arith}
 use Rattle.std.proofs.Math.ListN.{set}
-use Rattle.std.proofs.lemmas.List.{append_assoc, drop_all, drop_more, get_or-drop, get_or-take, length-append, length-drop, length-take-le, set_at, take_all, take_more}
-use Rattle.memory_cells.specs.declared.cell.Cell.{Cell}
-use Rattle.memory_cells.specs.declared.cell.Cell.TheVariants.{Empty}
+use Rattle.std.proofs.lemmas.List.{append_assoc, drop_all, drop_more, get_or-drop, get_or-take, length-append, length-drop, length-take-le, set_at, take_all}
+use Rattle.std.proofs.lemmas.List.{take_more}
+use Rattle.memory_words.specs.declared.cell_words.cell.Cell.{Cell}
+use Rattle.memory_words.specs.declared.cell_words.cell.Cell.TheVariants.{Empty}
 use Rattle.block_memory.specs.Cells.{cell_at, over, range}
 use Rattle.block_memory.proofs.Differences.{length_range, range_more}
 use Rattle.block_memory.proofs.Overs.{before, behind, length_over, one_over, over_none}

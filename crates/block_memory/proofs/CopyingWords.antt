@@ -3,11 +3,12 @@ use Rattle.std.proofs.Common.{◌≡◌, ℕ, ◌+◌, ◌-◌, ◌*◌, ◌/◌
 use Rattle.std.specs.Prelude.{◌⊎◌}
 use Rattle.std.proofs.Math.ListN.{set}
 use Rattle.std.proofs.lemmas.Bool.{cases_lt}
-use Rattle.std.proofs.lemmas.List.{drop-drop, ext_get_or, get_or-append_right, get_or_append_left, length-append, length-drop, length-take-le, take_all, take-append-drop}
-use Rattle.memory_cells.specs.declared.cell.Cell.{Cell}
-use Rattle.memory_cells.specs.declared.cell.Cell.TheVariants.{Empty}
-use Rattle.memory_cells.specs.declared.word.Four.{Four}
-use Rattle.memory_cells.specs.Words.{cells_of, four_at}
+use Rattle.std.proofs.lemmas.List.{drop-drop, ext_get_or, get_or-append_right, get_or_append_left, length-append, length-drop, length-take-le, take_all}
+use Rattle.std.proofs.lemmas.List.{take-append-drop}
+use Rattle.memory_words.specs.declared.cell_words.cell.Cell.{Cell}
+use Rattle.memory_words.specs.declared.cell_words.cell.Cell.TheVariants.{Empty}
+use Rattle.memory_words.specs.declared.cell_words.word.Four.{Four}
+use Rattle.memory_words.specs.CellWords.Words.{cells_of, four_at}
 use Rattle.block_memory.specs.Cells.{cell_at, flat, over, range}
 use Rattle.block_memory.proofs.CellsHold.{take_four}
 use Rattle.block_memory.proofs.Copying.{Copies}

@@ -2,8 +2,8 @@
 use Rattle.std.proofs.Common.{◌≡◌, ℕ, ◌+◌, ◌<◌, ◌≤◌, List, ◌∷◌, length, drop, Bool, true, false, Ok, refl, sym, ap, ◌∙◌, arith}
 use Rattle.std.specs.Prelude.{ℤ, pos, negsuc, nat_lt, if◌then◌else◌}
 use Rattle.std.proofs.lemmas.List.{drop_all, drop_more, get_or-take, get_or-drop, length-take-le, length-drop}
-use Rattle.memory_cells.specs.declared.cell.Cell.{Cell}
-use Rattle.memory_cells.specs.declared.cell.Cell.TheVariants.{Empty, Byte, Fragment}
+use Rattle.memory_words.specs.declared.cell_words.cell.Cell.{Cell}
+use Rattle.memory_words.specs.declared.cell_words.cell.Cell.TheVariants.{Empty, Byte, Fragment}
 use Rattle.block_memory.specs.Digits.{compared, is_zero}
 use Rattle.block_memory.specs.Ranges.{first_difference}
 use Rattle.block_memory.specs.Cells.{cell_at, range}

@@ -1,10 +1,10 @@
 -- The cells of words.
 use Rattle.std.proofs.Common.{◌≡◌, ℕ, zero, suc, ◌+◌, ◌*◌, ◌/◌, ◌%◌, ◌<◌, ◌≤◌, List, [], ◌∷◌, ◌++◌, length, get_or, replicate, refl, sym, ap, ◌∙◌, arith}
 use Rattle.std.proofs.Math.ListN.{set}
-use Rattle.memory_cells.specs.declared.cell.Cell.{Cell}
-use Rattle.memory_cells.specs.declared.cell.Cell.TheVariants.{Empty}
-use Rattle.memory_cells.specs.declared.word.Four.{Four}
-use Rattle.memory_cells.specs.Words.{cell_in, four_at, nothing, with_cell_in}
+use Rattle.memory_words.specs.declared.cell_words.cell.Cell.{Cell}
+use Rattle.memory_words.specs.declared.cell_words.cell.Cell.TheVariants.{Empty}
+use Rattle.memory_words.specs.declared.cell_words.word.Four.{Four}
+use Rattle.memory_words.specs.CellWords.Words.{cell_in, four_at, nothing, with_cell_in}
 use Rattle.block_memory.specs.Cells.{cell_at, flat, over}
 use Rattle.block_memory.proofs.Overs.{four_over, one_over}
 

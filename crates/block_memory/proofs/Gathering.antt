@@ -1,12 +1,13 @@
 -- Live blocks that are moved together.
-use Rattle.std.proofs.Common.{◌≡◌, ◌≢◌, ℕ, ◌+◌, ◌*◌, ◌/◌, ◌%◌, ◌<◌, ◌≤◌, List, length, true, refl, sym, ap, ◌∙◌, arith, inl, inr, ⊎_elim, get_or-set_other, get_or-set_same, [], ◌∷◌, ◌++◌, false}
+use Rattle.std.proofs.Common.{◌≡◌, ◌≢◌, ℕ, ◌+◌, ◌*◌, ◌/◌, ◌%◌, ◌<◌, ◌≤◌, List, length, true, refl, sym, ap, ◌∙◌, arith, inl, inr, ⊎_elim, get_or-set_other}
+use Rattle.std.proofs.Common.{get_or-set_same, [], ◌∷◌, ◌++◌, false}
 use Rattle.std.specs.Prelude.{◌⊎◌}
 use Rattle.std.proofs.Math.ListN.{set}
 use Rattle.std.proofs.lemmas.Bool.{cases_eq, cases_lt}
 use Rattle.std.proofs.lemmas.List.{get_or_past, length-set, get_or_append_left, get_or_push, length_push}
-use Rattle.memory_cells.specs.declared.cell.Cell.{Cell}
-use Rattle.memory_cells.specs.declared.word.Four.{Four}
-use Rattle.memory_cells.specs.Words.{cell_in, four_at, nothing}
+use Rattle.memory_words.specs.declared.cell_words.cell.Cell.{Cell}
+use Rattle.memory_words.specs.declared.cell_words.word.Four.{Four}
+use Rattle.memory_words.specs.CellWords.Words.{cell_in, four_at, nothing}
 use Rattle.block_memory.specs.declared.slot.Slot.{Slot}
 use Rattle.block_memory.specs.Blocks.{living}
 use Rattle.block_memory.specs.Cells.{IsShifted, cell_at, flat}

@@ -5,15 +5,15 @@ use Rattle.std.proofs.lemmas.Bool.{eq-eqb}
 use Rattle.c_types.specs.declared.ty.IntKind.{IntKind}
 use Rattle.c_types.specs.declared.ty.IntKind.TheVariants as I
 use Rattle.c_types.specs.IntKinds.{greatest, width}
-use Rattle.memory_cells.specs.declared.cell.Cell.{Cell}
-use Rattle.memory_cells.specs.declared.cell.Cell.TheVariants.{Byte, Fragment}
-use Rattle.memory_cells.specs.declared.pointer.Ptr.{Ptr}
-use Rattle.memory_cells.specs.declared.pointer.Ptr.TheVariants as P
-use Rattle.memory_cells.specs.declared.word.Four.{Four}
+use Rattle.memory_words.specs.declared.cell_words.cell.Cell.{Cell}
+use Rattle.memory_words.specs.declared.cell_words.cell.Cell.TheVariants.{Byte, Fragment}
+use Rattle.memory_words.specs.declared.cell_words.pointer.Ptr.{Ptr}
+use Rattle.memory_words.specs.declared.cell_words.pointer.Ptr.TheVariants as P
+use Rattle.memory_words.specs.declared.cell_words.word.Four.{Four}
 use Rattle.block_memory.specs.Digits.{digit_before, number_at, pointer_at, valued}
 use Rattle.block_memory.specs.Held.{held, pointer_in, word_of}
-use Rattle.memory_cells.specs.Fragments.{are_fragments, is_same}
-use Rattle.memory_cells.specs.Words.{cell_in, four_at, four_bytes, four_pointer}
+use Rattle.memory_words.specs.CellWords.Fragments.{are_fragments, is_same}
+use Rattle.memory_words.specs.CellWords.Words.{cell_in, four_at, four_bytes, four_pointer}
 use Rattle.block_memory.specs.Cells.{cell_at, flat}
 use Rattle.block_memory.proofs.CellsHold.{four_at as four_at_is, take_four}
 use Rattle.block_memory.proofs.Flat.{flat_get, length_flat}

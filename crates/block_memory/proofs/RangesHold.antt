@@ -3,8 +3,8 @@ use Rattle.std.proofs.Common.{◌≡◌, ℕ, ◌+◌, ◌-◌, ◌<◌, ◌≤�
 use Rattle.std.specs.Prelude.{◌⊎◌}
 use Rattle.std.proofs.lemmas.Bool.{cases_lt}
 use Rattle.std.proofs.lemmas.List.{ext_get_or, get_or-append_right, get_or_append_left, get_or-drop, get_or-take, length-append, length-take-le}
-use Rattle.memory_cells.specs.declared.cell.Cell.{Cell}
-use Rattle.memory_cells.specs.declared.cell.Cell.TheVariants.{Empty}
+use Rattle.memory_words.specs.declared.cell_words.cell.Cell.{Cell}
+use Rattle.memory_words.specs.declared.cell_words.cell.Cell.TheVariants.{Empty}
 use Rattle.block_memory.specs.Cells.{cell_at, over, range}
 use Rattle.block_memory.proofs.Differences.{length_range}
 use Rattle.block_memory.proofs.Overs.{before, behind, length_over}

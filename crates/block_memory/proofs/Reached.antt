@@ -1,15 +1,16 @@
 -- Accesses, by what is known of their place.
-use Rattle.std.proofs.Common.{◌≡◌, ℕ, ◌+◌, ◌/◌, ◌≤◌, arith, length, List, Bool, true, false, Ok, Err, refl, sym, ap, ◌∙◌, option_map, replicate, zero, suc, subst, Result}
+use Rattle.std.proofs.Common.{◌≡◌, ℕ, ◌+◌, ◌/◌, ◌≤◌, arith, length, List, Bool, true, false, Ok, Err, refl, sym, ap, ◌∙◌, option_map, replicate, zero, suc}
+use Rattle.std.proofs.Common.{subst, Result}
 use Rattle.std.specs.Prelude.{◌&&◌, ◌||◌, not, ℤ}
 use Rattle.std.proofs.lemmas.List.{length-replicate}
 use Rattle.lay_base.specs.declared.faults.UndefinedKind.TheVariants as K
-use Rattle.memory_cells.specs.declared.cell.Cell.TheVariants.{Byte}
+use Rattle.memory_words.specs.declared.cell_words.cell.Cell.TheVariants.{Byte}
 use Rattle.lay_base.specs.declared.faults.UndefinedKind.{UndefinedKind}
 use Rattle.c_types.specs.declared.ty.IntKind.{IntKind}
 use Rattle.c_types.specs.IntKinds.{width}
-use Rattle.memory_cells.specs.declared.cell.Cell.{Cell}
+use Rattle.memory_words.specs.declared.cell_words.cell.Cell.{Cell}
 use Rattle.block_memory.specs.declared.place.Place.{Place}
-use Rattle.memory_cells.specs.declared.pointer.Ptr.{Ptr}
+use Rattle.memory_words.specs.declared.cell_words.pointer.Ptr.{Ptr}
 use Rattle.block_memory.specs.declared.slot.Slot.{Slot}
 use Rattle.block_memory.specs.Accesses.{load_number, load_pointer, must, place, store_number, store_pointer}
 use Rattle.block_memory.specs.Blocks.{Memory, cells, with_cells}

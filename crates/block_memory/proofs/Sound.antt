@@ -3,7 +3,7 @@ use Rattle.std.proofs.Common.{◌≡◌, ℕ, ◌+◌, ◌<◌, ◌≤◌, List,
 use Rattle.std.specs.Prelude.{◌&&◌, nat_lt}
 use Rattle.std.proofs.lemmas.Bool.{cases_lt, lt-ltb}
 use Rattle.std.proofs.lemmas.List.{get_or_past}
-use Rattle.memory_cells.specs.declared.cell.Cell.{Cell}
+use Rattle.memory_words.specs.declared.cell_words.cell.Cell.{Cell}
 use Rattle.block_memory.specs.declared.slot.Slot.{Slot}
 use Rattle.block_memory.specs.Cells.{over}
 use Rattle.block_memory.specs.Slots.{IsSound, holds, no_slot, slot_at, words_for}

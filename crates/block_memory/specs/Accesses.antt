@@ -7,8 +7,8 @@ use Rattle.c_types.specs.declared.ty.IntKind.{IntKind}
 use Rattle.c_types.specs.IntKinds.{width}
 use Rattle.block_memory.specs.declared.kinds.BlockKind.{BlockKind}
 use Rattle.block_memory.specs.declared.kinds.BlockKind.TheVariants.{Text}
-use Rattle.memory_cells.specs.declared.pointer.Ptr.{Ptr}
-use Rattle.memory_cells.specs.declared.pointer.Ptr.TheVariants as P
+use Rattle.memory_words.specs.declared.cell_words.pointer.Ptr.{Ptr}
+use Rattle.memory_words.specs.declared.cell_words.pointer.Ptr.TheVariants as P
 use Rattle.block_memory.specs.Blocks.{Memory, kind, is_live, size, cells, with_cells}
 use Rattle.block_memory.specs.Held.{bytes_of, number_in, word_of, fragments_of, pointer_in, held}
 use Rattle.block_memory.specs.Tested.{Tested, ◌>>=◌}

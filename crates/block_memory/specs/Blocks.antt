@@ -1,6 +1,6 @@
 -- Memory as blocks of cells (C99 6.2.4, 6.2.6.1).
 use Rattle.std.specs.Prelude.{ℕ, ◌+◌, Bool, true, false, List, [], ◌++◌, length, take, drop, slice_get, slice_set, unwrap_or}
-use Rattle.memory_cells.specs.declared.cell.Cell.{Cell}
+use Rattle.memory_words.specs.declared.cell_words.cell.Cell.{Cell}
 use Rattle.block_memory.specs.declared.kinds.BlockKind.{BlockKind}
 use Rattle.block_memory.specs.declared.kinds.BlockKind.TheVariants.{Local}
 

@@ -1,8 +1,8 @@
 -- Cells behind one another.
 use Rattle.std.specs.Prelude.{◌≡◌, ℕ, ◌+◌, ◌*◌, ◌<◌, ◌≤◌, List, [], ◌∷◌, ◌++◌, length, take, drop, slice_index_or}
-use Rattle.memory_cells.specs.declared.cell.Cell.{Cell}
-use Rattle.memory_cells.specs.declared.cell.Cell.TheVariants.{Empty}
-use Rattle.memory_cells.specs.declared.word.Four.{Four}
+use Rattle.memory_words.specs.declared.cell_words.cell.Cell.{Cell}
+use Rattle.memory_words.specs.declared.cell_words.cell.Cell.TheVariants.{Empty}
+use Rattle.memory_words.specs.declared.cell_words.word.Four.{Four}
 
 -- all cells of groups of four
 abbrev pub flat : List Four → List Cell

@@ -3,10 +3,10 @@ use Rattle.std.specs.Prelude.{ℕ, zero, suc, ◌+◌, ◌*◌, Bool, true, fals
 use Rattle.lay_base.specs.declared.faults.UndefinedKind.TheVariants as K
 use Rattle.c_types.specs.declared.ty.IntKind.{IntKind}
 use Rattle.c_types.specs.IntKinds.{width}
-use Rattle.memory_cells.specs.declared.cell.Cell.{Cell}
-use Rattle.memory_cells.specs.declared.cell.Cell.TheVariants.{Empty, Byte, Fragment}
-use Rattle.memory_cells.specs.declared.pointer.Ptr.{Ptr}
-use Rattle.memory_cells.specs.declared.pointer.Ptr.TheVariants as P
+use Rattle.memory_words.specs.declared.cell_words.cell.Cell.{Cell}
+use Rattle.memory_words.specs.declared.cell_words.cell.Cell.TheVariants.{Empty, Byte, Fragment}
+use Rattle.memory_words.specs.declared.cell_words.pointer.Ptr.{Ptr}
+use Rattle.memory_words.specs.declared.cell_words.pointer.Ptr.TheVariants as P
 use Rattle.block_memory.specs.Held.{number_in, pointer_in, word_of, held}
 use Rattle.block_memory.specs.Ranges.{byte_in}
 use Rattle.block_memory.specs.Tested.{Tested, ◌>>=◌}

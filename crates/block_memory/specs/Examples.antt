@@ -2,10 +2,10 @@
 use Rattle.std.specs.Prelude.{◌≡◌, ℕ, true, false, [], ◌∷◌, replicate, pos, negsuc, refl, Ok, Err}
 use Rattle.lay_base.specs.declared.faults.UndefinedKind.TheVariants as K
 use Rattle.c_types.specs.declared.ty.IntKind.TheVariants as I
-use Rattle.memory_cells.specs.declared.cell.Cell.TheVariants.{Empty, Byte}
+use Rattle.memory_words.specs.declared.cell_words.cell.Cell.TheVariants.{Empty, Byte}
 use Rattle.block_memory.specs.declared.kinds.BlockKind.TheVariants.{Global, Text, Local, Heap}
-use Rattle.memory_cells.specs.declared.pointer.Ptr.{Ptr}
-use Rattle.memory_cells.specs.declared.pointer.Ptr.TheVariants as P
+use Rattle.memory_words.specs.declared.cell_words.pointer.Ptr.{Ptr}
+use Rattle.memory_words.specs.declared.cell_words.pointer.Ptr.TheVariants as P
 use Rattle.block_memory.specs.Accesses.{load_number, load_pointer, store_number, store_pointer}
 use Rattle.block_memory.specs.Blocks.{Memory, living, ended, cells}
 use Rattle.block_memory.specs.Lifetimes.{with_block, with_end, free}

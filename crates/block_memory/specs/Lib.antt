@@ -13,3 +13,5 @@ pub mod Slots
 pub mod Stores
 pub mod Tested
 pub mod View
+pub mod RunWorlds
+pub mod SourceEnd

@@ -3,10 +3,10 @@ use Rattle.std.specs.Prelude.{◌≡◌, ℕ, Bool, List, Result, Ok, Err, Match
 use Rattle.lay_base.specs.declared.faults.UndefinedKind.{UndefinedKind}
 use Rattle.lay_base.specs.declared.faults.UndefinedKind.TheVariants as K
 use Rattle.block_memory.specs.declared.place.Place.{Place}
-use Rattle.memory_cells.specs.declared.pointer.Ptr.{Ptr}
+use Rattle.memory_words.specs.declared.cell_words.pointer.Ptr.{Ptr}
 use Rattle.block_memory.specs.declared.slot.Slot.{Slot}
 use Rattle.block_memory.specs.Accesses.{must, place}
-use Rattle.memory_cells.specs.declared.cell.Cell.{Cell}
+use Rattle.memory_words.specs.declared.cell_words.cell.Cell.{Cell}
 use Rattle.block_memory.specs.Slots.{memory_in}
 use Rattle.block_memory.specs.Stores.{Does, IsPlace}
 use Rattle.block_memory.specs.Blocks.{Memory, cells, with_cells}

@@ -2,8 +2,8 @@
 use Rattle.std.specs.Prelude.{ℕ, ◌==◌, Bool, true, false, ◌&&◌, nat_le, nat_lt, if◌then◌else◌, ℤ, pos, negsuc, ◌+ℤ◌, ◌-ℤ◌, int_div, int_rem, Ok, Err}
 use Rattle.std.specs.Ordering.{int_eq}
 use Rattle.lay_base.specs.declared.faults.UndefinedKind.TheVariants.{Dead, Range, TwoBlocks, Edge}
-use Rattle.memory_cells.specs.declared.pointer.Ptr.{Ptr}
-use Rattle.memory_cells.specs.declared.pointer.Ptr.TheVariants.{Null, Block, Function}
+use Rattle.memory_words.specs.declared.cell_words.pointer.Ptr.{Ptr}
+use Rattle.memory_words.specs.declared.cell_words.pointer.Ptr.TheVariants.{Null, Block, Function}
 use Rattle.block_memory.specs.Blocks.{Memory, is_live, size}
 use Rattle.block_memory.specs.Tested.{Tested}
 

@@ -2,9 +2,9 @@
 use Rattle.std.specs.Prelude.{ℕ, zero, suc, ◌+◌, ◌==◌, Bool, true, false, ◌&&◌, ◌||◌, not, nat_lt, if◌then◌else◌, List, ◌∷◌, replicate, ℤ, pos, negsuc}
 use Rattle.std.specs.Prelude.{Ok, Err}
 use Rattle.lay_base.specs.declared.faults.UndefinedKind.TheVariants as K
-use Rattle.memory_cells.specs.declared.cell.Cell.{Cell}
-use Rattle.memory_cells.specs.declared.cell.Cell.TheVariants.{Empty, Byte, Fragment}
-use Rattle.memory_cells.specs.declared.pointer.Ptr.{Ptr}
+use Rattle.memory_words.specs.declared.cell_words.cell.Cell.{Cell}
+use Rattle.memory_words.specs.declared.cell_words.cell.Cell.TheVariants.{Empty, Byte, Fragment}
+use Rattle.memory_words.specs.declared.cell_words.pointer.Ptr.{Ptr}
 use Rattle.block_memory.specs.Accesses.{must, place}
 use Rattle.block_memory.specs.Blocks.{Memory, cells, with_cells}
 use Rattle.block_memory.specs.Tested.{Tested, ◌>>=◌}

@@ -1,6 +1,6 @@
 -- What is kept of each block: whether it lives, and where its cells lie.
 use Rattle.std.specs.Prelude.{◌≡◌, ℕ, zero, suc, ◌+◌, ◌*◌, ◌/◌, ◌%◌, ◌==◌, ◌<◌, ◌≤◌, ◌^◌, Bool, true, false, ◌&&◌, nat_lt, List, length, map, slice_index_or}
-use Rattle.memory_cells.specs.declared.cell.Cell.{Cell}
+use Rattle.memory_words.specs.declared.cell_words.cell.Cell.{Cell}
 use Rattle.block_memory.specs.declared.kinds.BlockKind.{BlockKind}
 use Rattle.block_memory.specs.declared.kinds.BlockKind.TheVariants.{Global, Text, Local, Heap}
 use Rattle.block_memory.specs.declared.slot.CompactSlot.{CompactSlot}

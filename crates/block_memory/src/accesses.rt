@@ -8,7 +8,7 @@ ghost use Rattle.block_memory.specs.View.{memory_of};
 use crate::store::Store;
 use c_types::{IntKind, width};
 use lay_base::UndefinedKind;
-use memory_cells::Ptr;
+use memory_words::Ptr;
 
 impl Store {
     /// Loads a number of a type, as the word that stands for it in two's complement.

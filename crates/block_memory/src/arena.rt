@@ -6,15 +6,15 @@ ghost use Rattle.block_memory.specs.Cells.{IsShifted, cell_at, over, range};
 ghost use Rattle.block_memory.specs.Digits.{number_at, pointer_at};
 ghost use Rattle.block_memory.specs.Held.{bytes_of, fragments_of};
 ghost use Rattle.block_memory.specs.Ranges.{first_difference};
-ghost use Rattle.memory_cells.specs.Words.{cell_of, cells_of, is_tabled, whole};
-ghost use Rattle.memory_cells.specs.declared.cell.Cell.TheVariants.{Byte, Empty};
+ghost use Rattle.memory_words.specs.CellWords.Words.{cell_of, cells_of, is_tabled, whole};
+ghost use Rattle.memory_words.specs.declared.cell_words.cell.Cell.TheVariants.{Byte, Empty};
 
 use crate::comparing::{compared, is_zero};
 use crate::holding::pointer_of;
 use crate::numbers::{in_four, in_one, in_two, valued};
 use c_types::{IntKind, width};
 use lay_base::{NoMemory, UndefinedKind};
-use memory_cells::{Cell, Content, Four, Ptr, Word, Words, cell_of, content_word, four_pointer};
+use memory_words::{Cell, Content, Four, Ptr, Word, Words, cell_of, content_word, four_pointer};
 use std::alloc::Global;
 use std::marker::Model;
 
@@ -26,7 +26,7 @@ pub(crate) struct Arena {
 
 impl Model for Arena {
     ghost use Rattle.std.specs.Prelude.{List};
-    ghost use Rattle.memory_cells.specs.declared.cell.Cell.{Cell};
+    ghost use Rattle.memory_words.specs.declared.cell_words.cell.Cell.{Cell};
     ghost use Rattle.block_memory.specs.Cells.{flat};
 
     ghost Value = { List Cell };

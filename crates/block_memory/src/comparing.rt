@@ -5,7 +5,7 @@ ghost use Rattle.block_memory.specs.Digits.{compared, is_zero};
 ghost use Rattle.block_memory.specs.Ranges.{byte_in};
 
 use lay_base::UndefinedKind;
-use memory_cells::Cell;
+use memory_words::Cell;
 
 fn byte_in(cell: Cell) -> Result<u8, UndefinedKind>
     ensures { result ≡ byte_in cell }

@@ -6,7 +6,7 @@ ghost use Rattle.block_memory.specs.Held.{held, is_empty, pointer_in};
 
 use crate::numbers::in_four;
 use lay_base::UndefinedKind;
-use memory_cells::{Cell, Four, Ptr, are_fragments};
+use memory_words::{Cell, Four, Ptr, are_fragments};
 
 fn is_empty(cell: Cell) -> bool
     ensures { result ≡ is_empty cell }

@@ -1,7 +1,7 @@
 //! When blocks begin and end.
 
 ghost use Rattle.std.specs.Prelude.{◌≡◌, ◌∷◌, [], ◌<◌};
-ghost use Rattle.memory_cells.specs.declared.cell.Cell.TheVariants.{Byte};
+ghost use Rattle.memory_words.specs.declared.cell_words.cell.Cell.TheVariants.{Byte};
 ghost use Rattle.block_memory.specs.Blocks.{size, with_cells};
 ghost use Rattle.block_memory.specs.Lifetimes.{free, is_heap, with_end};
 ghost use Rattle.block_memory.specs.Stores.{AllocGives, Does};
@@ -11,7 +11,7 @@ use crate::kinds::BlockKind;
 use crate::slot::{Slot, words_for};
 use crate::store::Store;
 use lay_base::{NoMemory, UndefinedKind};
-use memory_cells::{Cell, Content, Ptr};
+use memory_words::{Cell, Content, Ptr};
 use std::alloc::Global;
 
 fn is_heap(kind: BlockKind) -> bool

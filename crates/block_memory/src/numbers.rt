@@ -7,7 +7,7 @@ ghost use Rattle.block_memory.specs.Held.{word_of};
 
 use c_types::IntKind;
 use lay_base::UndefinedKind;
-use memory_cells::Cell;
+use memory_words::Cell;
 
 /// A byte, and the number in the cells behind it.
 #[inline(always)]

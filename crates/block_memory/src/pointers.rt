@@ -6,7 +6,7 @@ ghost use Rattle.block_memory.specs.View.{memory_of};
 
 use crate::store::Store;
 use lay_base::UndefinedKind;
-use memory_cells::Ptr;
+use memory_words::Ptr;
 
 /// How many elements of a size lie between two offsets.
 fn elements_between(from: u32, to: u32, size: u32) -> Result<i64, UndefinedKind>

@@ -9,7 +9,7 @@ ghost use Rattle.block_memory.specs.View.{memory_of};
 use crate::place::Place;
 use crate::store::Store;
 use lay_base::UndefinedKind;
-use memory_cells::{Content, Ptr};
+use memory_words::{Content, Ptr};
 
 /// Whether two ranges of one length have a byte in common.
 fn do_overlap(a: Place, b: Place, count: u32) -> bool

@@ -6,7 +6,7 @@ ghost use Rattle.block_memory.specs.Slots.{slot_at};
 use crate::kinds::BlockKind;
 use crate::slot::{CompactSlot, Slot, compact, expanded};
 use lay_base::NoMemory;
-use paged_list::PagedList;
+use memory_words::PagedList;
 use std::alloc::Global;
 use std::marker::Model;
 

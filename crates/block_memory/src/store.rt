@@ -8,7 +8,7 @@ use crate::place::{Place, tested};
 use crate::slot::Slot;
 use crate::slots::Slots;
 use lay_base::UndefinedKind;
-use memory_cells::Ptr;
+use memory_words::Ptr;
 use std::alloc::Global;
 
 /// Memory as blocks.
@@ -30,7 +30,7 @@ pub struct Store {
 
 impl Store {
     ghost use Rattle.std.specs.Prelude.{◌≡◌, ◌<◌, []};
-    ghost use Rattle.memory_cells.specs.declared.pointer.Ptr.TheVariants as P;
+    ghost use Rattle.memory_words.specs.declared.cell_words.pointer.Ptr.TheVariants as P;
     ghost use Rattle.block_memory.specs.Blocks.{is_live, size};
     ghost use Rattle.block_memory.specs.Places.{PlaceGives};
     ghost use Rattle.block_memory.specs.View.{memory_of};

@@ -1,13 +1,13 @@
 //! Writes without a test, of what the machine itself puts into blocks. Into a block that has ended nothing is put.
 
 ghost use Rattle.std.specs.Prelude.{◌≡◌, ◌≤◌, ◌+◌, length, map, replicate};
-ghost use Rattle.memory_cells.specs.Words.{cell_of};
-ghost use Rattle.memory_cells.specs.declared.cell.Cell.TheVariants.{Byte, Empty};
+ghost use Rattle.memory_words.specs.CellWords.Words.{cell_of};
+ghost use Rattle.memory_words.specs.declared.cell_words.cell.Cell.TheVariants.{Byte, Empty};
 ghost use Rattle.block_memory.specs.Blocks.{size, with_cells};
 ghost use Rattle.block_memory.specs.View.{memory_of};
 
 use crate::store::Store;
-use memory_cells::Content;
+use memory_words::Content;
 
 impl Store {
     /// Puts bytes into the cells of a block from an offset on.

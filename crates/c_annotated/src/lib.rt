@@ -2,6 +2,8 @@
 //!
 //! It stands on `c_typed`, whose operators and values it uses, and on `c_erasure`, whose plain trees and records its types stand for. It
 //! promises that the functions on annotated trees answer what the definitions say of these.
+//!
+//! That a tree is well typed, and that it is that of a syntax tree, is said by `c_erasure` and proved by the crates of the checker.
 #![tactic(auto)]
 
 mod constants;

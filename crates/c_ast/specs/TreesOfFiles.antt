@@ -22,19 +22,10 @@ pub record IsTreeOfTokens (tokens : List Lexeme) (items : List Trees.Item) : Typ
   pub well_formed : AreItems [] items
   pub shallow : depth_items items ≤ greatest_depth
 
--- ---- keywords of C99 that are left out
+-- ---- keywords that are left out
 
 abbrev pub is_unsupported : Keyword → Bool
-is_unsupported W.Double = true
-is_unsupported W.Float = true
-is_unsupported W.Goto = true
-is_unsupported W.Inline = true
-is_unsupported W.Restrict = true
-is_unsupported W.Union = true
-is_unsupported W.Volatile = true
-is_unsupported W.UnderscoreBool = true
-is_unsupported W.UnderscoreComplex = true
-is_unsupported W.UnderscoreImaginary = true
+is_unsupported (W.LeftOut number) = true
 is_unsupported _ = false
 
 -- a keyword that is left out, with its byte, or what is found after it

@@ -1,4 +1,6 @@
 //! The tree of a source file, as the grammar of C has it (C99 6.5 to 6.9), with every token kept.
+//!
+//! Not proved: that the stack has room for the `drop` of a tree, which calls itself as deep as the tree is.
 #![tactic(auto)]
 
 mod declaration;

@@ -10,17 +10,17 @@ use Rattle.c_erasure.specs.Erasing.{ErasesTo}
 use Rattle.c_erasure.specs.Untagged.{AreTags, structs_in}
 use Rattle.c_ast.specs.Spelling.{spell}
 use Rattle.c_erasure.specs.Scopes.{FileScope}
-use Rattle.c_checking.specs.Answers.{Answer}
-use Rattle.c_checking.specs.Files.{annotated}
-use Rattle.c_checking_limits.specs.Limits.{TypesAreSmall}
-use Rattle.c_checking_files.specs.Found.{AnnotatedFilesAreFound, IsFound}
-use Rattle.c_checking_stops.specs.Faults.{FaultsBreakRules}
+use Rattle.c_erasure.specs.Checking.Answers.{Answer}
+use Rattle.c_erasure.specs.Checking.Files.{annotated}
+use Rattle.c_checking_units.specs.TypeLimits.Limits.{TypesAreSmall}
+use Rattle.c_checking_laws.specs.WholeFiles.Found.{AnnotatedFilesAreFound, IsFound}
+use Rattle.c_checking_units.specs.FirstStops.Faults.{FaultsBreakRules}
 use Rattle.c_checking_units.specs.Units.{FaultsHaveNoUnit}
 use Rattle.c_erasure.specs.Broken.{Fault as Broken}
 use Rattle.c_erasure.specs.BrokenFiles.{IsFaultOf}
-use Rattle.c_tags.specs.Untagged.{untagged_by}
-use Rattle.c_tags.specs.TagLists.{AreTagsOf, TagLists}
-use Rattle.c_check_files.specs.Lists.{AreListsOf}
+use Rattle.c_scopes.specs.SyntaxTags.Untagged.{untagged_by}
+use Rattle.c_scopes.specs.SyntaxTags.TagLists.{AreTagsOf, TagLists}
+use Rattle.c_check.specs.FileItems.Lists.{AreListsOf}
 use Rattle.c_nodes.specs.Gives.{Fails}
 use Rattle.c_nodes.specs.declared.fault.Fault.{Fault}
 use Rattle.c_nodes.specs.declared.fault.Fault.TheVariants as F

@@ -1,1 +1,3 @@
 mod Found
+pub mod FileDeclarations
+pub mod FileItems

@@ -11,8 +11,8 @@ use Rattle.c_erasure.specs.BrokenFiles.{IsFaultOf}
 use Rattle.c_erasure.specs.Erasing.{ErasesTo}
 use Rattle.c_erasure.specs.Scopes.{FileScope}
 use Rattle.c_erasure.specs.Untagged.{AreTags, structs_in}
-use Rattle.c_checking.specs.Answers.{Answer}
-use Rattle.c_checking.specs.Files.{annotated}
+use Rattle.c_erasure.specs.Checking.Answers.{Answer}
+use Rattle.c_erasure.specs.Checking.Files.{annotated}
 use Rattle.c_nodes.specs.declared.fault.Fault as Found
 use Rattle.c_nodes.specs.declared.fault.Fault.TheVariants as F
 use Rattle.c_check.specs.declared.fault.CheckFault.{CheckFault}

@@ -7,12 +7,10 @@ ghost use Rattle.c_ast.specs.Views.{items_of};
 ghost use Rattle.c_check.specs.Checking.{CheckGives};
 
 use crate::fault::{CheckFault, fault_in};
+use crate::file_items::annotated;
 use c_ast::Tree;
-use c_check_files::annotated;
-use c_checking_files::annotated_files_are_found;
-use c_checking_limits::types_are_small;
-use c_checking_stops::faults_break_rules;
-use c_checking_units::faults_have_no_unit;
+use c_checking_laws::annotated_files_are_found;
+use c_checking_units::{faults_break_rules, faults_have_no_unit, types_are_small};
 use c_file_tags::tags_of;
 use c_typed::Unit;
 use c_units::unit_of;

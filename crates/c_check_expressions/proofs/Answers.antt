@@ -2,7 +2,7 @@
 use Rattle.std.proofs.Common.{◌≡◌, ℕ, zero, suc, ◌+◌, ◌<◌, ◌≤◌, List, [], ◌∷◌, arith, length, get_or, drop, refl, ap, sym, add-one, drop-cons}
 use Rattle.std.specs.Prelude.{Ok, Err}
 use Rattle.c_erasure.specs.Broken as Broken
-use Rattle.c_checking.specs.Answers.{Answer, ◌>>=◌, Checked}
+use Rattle.c_erasure.specs.Checking.Answers.{Answer, ◌>>=◌, Checked}
 use Rattle.c_nodes.specs.declared.fault.Fault.{Fault}
 use Rattle.c_nodes.specs.declared.fault.Fault.TheVariants.{TooBig, IllTyped, Undeclared, Redeclared, Memory}
 use Rattle.c_nodes.specs.Gives.{Fails}

@@ -21,9 +21,9 @@ use Rattle.c_erasure.specs.Noted.{Noted, Expression}
 use Rattle.c_erasure.specs.Scopes.{FileScope, Scope}
 use Rattle.c_annotated.specs.declared.expression.Expression as Program
 use Rattle.c_annotated.specs.Views.{expression_of, expressions_of}
-use Rattle.c_checking.specs.Answers.{◌>>=◌, refused, Checked, moved, with_file}
-use Rattle.c_checking.specs.Finding.{arguments, find, value_at}
-use Rattle.c_checking.specs.Nodes.{argument_in}
+use Rattle.c_erasure.specs.Checking.Answers.{◌>>=◌, refused, Checked, moved, with_file}
+use Rattle.c_erasure.specs.Checking.Finding.{arguments, find, value_at}
+use Rattle.c_erasure.specs.Checking.Nodes.{argument_in}
 use Rattle.c_ast.specs.Places.{first}
 use Rattle.c_nodes.specs.declared.fault.Fault.{Fault}
 use Rattle.c_nodes.specs.Gives.{Fails}

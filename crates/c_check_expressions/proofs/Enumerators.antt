@@ -14,9 +14,9 @@ use Rattle.c_ast.specs.declared.words.Spelling.{Spelling}
 use Rattle.c_ast.specs.Trees
 use Rattle.c_erasure.specs.Erasure.{comma_or}
 use Rattle.c_erasure.specs.Scopes.{Bound, FileScope, Scope, defines, enumerator}
-use Rattle.c_checking.specs.Answers.{Answer, ◌>>=◌, Checked, moved}
-use Rattle.c_checking.specs.Declaring.{enumerator_in}
-use Rattle.c_checking.specs.Finding.{enumerator_value, enumerators}
+use Rattle.c_erasure.specs.Checking.Answers.{Answer, ◌>>=◌, Checked, moved}
+use Rattle.c_erasure.specs.Checking.Declaring.{enumerator_in}
+use Rattle.c_erasure.specs.Checking.Finding.{enumerator_value, enumerators}
 use Rattle.c_nodes.specs.declared.fault.Fault.{Fault}
 use Rattle.c_nodes.specs.Gives.{Fails}
 use Rattle.c_declaring.specs.Adding.{with_enumerator}

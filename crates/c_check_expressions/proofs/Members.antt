@@ -23,9 +23,9 @@ use Rattle.c_typed.specs.declared.program.MentionKind.TheVariants.{Named}
 use Rattle.c_erasure.specs.Declarators.{declared_name}
 use Rattle.c_erasure.specs.Erasure.{place_in}
 use Rattle.c_erasure.specs.Scopes.{FileScope, Scope}
-use Rattle.c_checking.specs.Answers.{◌>>=◌, Checked, moved, with_file}
-use Rattle.c_checking.specs.Declaring.{mentions_in, object_at, with_mention}
-use Rattle.c_checking.specs.Finding.{complete, derivations, member_declarators, members, type_of_derived, with_member}
+use Rattle.c_erasure.specs.Checking.Answers.{◌>>=◌, Checked, moved, with_file}
+use Rattle.c_erasure.specs.Checking.Declaring.{mentions_in, object_at, with_mention}
+use Rattle.c_erasure.specs.Checking.Finding.{complete, derivations, member_declarators, members, type_of_derived, with_member}
 use Rattle.c_nodes.specs.declared.fault.Fault.{Fault}
 use Rattle.c_nodes.specs.Gives.{Fails}
 use Rattle.c_declaring.specs.Adding.{field_in, field_with}

@@ -5,9 +5,9 @@ use Rattle.c_ast.specs.declared.operators.UnaryOp.{UnaryOp}
 use Rattle.c_ast.specs.declared.operators.UnaryOp.TheVariants as U
 use Rattle.c_erasure.specs.Noted.{Expression, Thing}
 use Rattle.c_erasure.specs.Scopes.{FileScope, Scope}
-use Rattle.c_checking.specs.Answers.{Answer, ◌>>=◌, with_file}
-use Rattle.c_checking.specs.Finding.{on_value, unary_on}
-use Rattle.c_checking.specs.Nodes.{worth}
+use Rattle.c_erasure.specs.Checking.Answers.{Answer, ◌>>=◌, with_file}
+use Rattle.c_erasure.specs.Checking.Finding.{on_value, unary_on}
+use Rattle.c_erasure.specs.Checking.Nodes.{worth}
 
 abbrev applied : UnaryOp → (count at : ℕ) → Scope → FileScope → Answer Expression → Answer (Thing × FileScope)
 applied op count at s f r = with_file f r >>= λ x. with_file x.1 (on_value op count at s x.0)

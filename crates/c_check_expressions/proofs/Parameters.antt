@@ -19,9 +19,9 @@ use Rattle.c_typed.specs.declared.program.MentionKind.TheVariants.{Named}
 use Rattle.c_erasure.specs.Declarators.{declared_name, parameter_type}
 use Rattle.c_erasure.specs.Erasure.{with_parameter_if_named}
 use Rattle.c_erasure.specs.Scopes.{Bound, FileScope, Scope}
-use Rattle.c_checking.specs.Answers.{◌>>=◌, Checked, moved, with_file}
-use Rattle.c_checking.specs.Declaring.{derived, mentions_in, new_if_named, scalar_parameter, with_mention}
-use Rattle.c_checking.specs.Finding.{derivations, parameters}
+use Rattle.c_erasure.specs.Checking.Answers.{◌>>=◌, Checked, moved, with_file}
+use Rattle.c_erasure.specs.Checking.Declaring.{derived, mentions_in, new_if_named, scalar_parameter, with_mention}
+use Rattle.c_erasure.specs.Checking.Finding.{derivations, parameters}
 use Rattle.c_nodes.specs.declared.fault.Fault.{Fault}
 use Rattle.c_nodes.specs.Gives.{Fails}
 use Rattle.c_declaring.specs.Adding.{blocks_with, parameter_in, parameter_made, scope_within}

@@ -1,20 +1,20 @@
 -- The first specifier that is no keyword.
 use Rattle.std.proofs.Common.{◌≤◌, [], subst, sym, ap, ◌∙◌}
 use Rattle.c_types.specs.Types.{CType}
-use Rattle.c_checking.specs.Answers.{Checked}
+use Rattle.c_erasure.specs.Checking.Answers.{Checked}
 use Rattle.c_check_expressions.proofs.Answers.{all_passed}
 use Rattle.std.proofs.Common.{ℕ, List, ◌<◌, ◌+◌, length, drop, get_or, map}
 use Rattle.lay_base.specs.declared.faults.Rule.TheVariants as R
 use Rattle.c_ast.specs.declared.operators.SpecifierKeyword.{SpecifierKeyword}
 use Rattle.c_ast.specs.declared.expression.Specifier.{Specifier}
 use Rattle.c_ast.specs.Views.{specifier_of, specifiers_of}
-use Rattle.c_checking.specs.Answers.{refused}
+use Rattle.c_erasure.specs.Checking.Answers.{refused}
 use Rattle.c_check_expressions.proofs.Answers.{drop_item}
 use Rattle.std.proofs.Common.{◌≡◌, refl}
 use Rattle.c_ast.specs.Trees
 use Rattle.c_erasure.specs.Scopes.{Scope}
 use Rattle.c_erasure.specs.Specifiers.{is_word}
-use Rattle.c_checking.specs.Finding.{one_of, specified}
+use Rattle.c_erasure.specs.Checking.Finding.{one_of, specified}
 use Rattle.std.specs.Prelude.{true, false}
 
 pub one_found : (specifier : Trees.Specifier) (more : Trees.Specifiers) (s : Scope) → is_word specifier ≡ false

@@ -6,8 +6,8 @@ use Rattle.c_types.specs.Types.{CType}
 use Rattle.c_ast.specs.declared.words.Spelling.{Spelling}
 use Rattle.c_erasure.specs.Broken as Broken
 use Rattle.c_erasure.specs.Scopes.{Scope}
-use Rattle.c_checking.specs.Answers.{Answer, Checked, refused}
-use Rattle.c_checking.specs.Declaring.{definable, known_tag, unless}
+use Rattle.c_erasure.specs.Checking.Answers.{Answer, Checked, refused}
+use Rattle.c_erasure.specs.Checking.Declaring.{definable, known_tag, unless}
 use Rattle.c_nodes.specs.declared.fault.Fault.{Fault}
 use Rattle.c_nodes.specs.Gives.{Fails}
 use Rattle.c_declaring.specs.Adding.{Begins, defining}

@@ -12,10 +12,11 @@ use Rattle.c_erasure.specs.Erasure.{place_in, tag_text}
 use Rattle.c_erasure.specs.Noted.{Expression, Thing}
 use Rattle.c_erasure.specs.Scopes.{Scope, defines, enumerator}
 use Rattle.c_erasure.specs.Specifiers.{storage_of}
-use Rattle.c_checking.specs.Answers.{◌>>=◌, refused, Checked, with_file, moved}
-use Rattle.c_checking.specs.Declaring.{base_kind, completed_in, enumeration_of, mentions_in, parameter_storage, without_storage}
-use Rattle.c_checking.specs.Finding.{arguments, base_type, complete, derivations, enumerator_value, enumerators, find, member_declarators, members, one_of, value_at}
-use Rattle.c_checking.specs.Nodes.{argument_in, call_in, signature_in}
+use Rattle.c_erasure.specs.Checking.Answers.{◌>>=◌, refused, Checked, with_file, moved}
+use Rattle.c_erasure.specs.Checking.Declaring.{base_kind, completed_in, enumeration_of, mentions_in, parameter_storage, without_storage}
+use Rattle.c_erasure.specs.Checking.Finding.{arguments, base_type, complete, derivations, enumerator_value, enumerators, find, member_declarators, members}
+use Rattle.c_erasure.specs.Checking.Finding.{one_of, value_at}
+use Rattle.c_erasure.specs.Checking.Nodes.{argument_in, call_in, signature_in}
 use Rattle.c_declaring.specs.Adding.{defining, field_in, parameter_in, with_enumerator}
 
 -- an argument of a parameter's type

@@ -5,9 +5,9 @@ ghost use Rattle.std.specs.Option.{option_map};
 ghost use Rattle.c_types.specs.Views.{type_of, types_of};
 ghost use Rattle.c_ast.specs.Views.{declarator_if_any, declarator_of, expression_of as tree_of, optional_of, parameter_list_of, parameter_of};
 ghost use Rattle.c_ast.specs.Views.{parameters_of, specifier_of, specifiers_of};
-ghost use Rattle.c_checking.specs.Finding.{array_step as array_step_of, derivations, parameter_list, parameters};
+ghost use Rattle.c_erasure.specs.Checking.Finding.{array_step as array_step_of, derivations, parameter_list, parameters};
 ghost use Rattle.c_erasure.specs.Scopes.{inside};
-ghost use Rattle.c_declarators.specs.DeclaratorViews.{derivations_of};
+ghost use Rattle.c_nodes.specs.DeclaratorTypes.DeclaratorViews.{derivations_of};
 ghost use Rattle.c_scopes.specs.Scoping.{scope_of};
 ghost use Rattle.c_check_expressions.specs.Finds.{Finds};
 ghost use Rattle.c_check_expressions.specs.Parts.{base_of_parameter, parameter_found};
@@ -19,12 +19,11 @@ use c_ast::{
     Declarator, Expression, Parameter, Parameters, Specifier, first_of_expression,
     first_of_specifiers,
 };
-use c_declarators::{Derivation, Storage, storage_of};
 use c_declaring::{
     add_parameter, array_step, mentions_in, new_block, parameter as parameter_type, with_step,
     within,
 };
-use c_nodes::Fault;
+use c_nodes::{Derivation, Fault, Storage, storage_of};
 use c_scopes::{FileScope, Scope};
 use c_types::Ty;
 use lay_base::{Boxed, List, Rule};
@@ -32,7 +31,7 @@ use std::alloc::Global;
 
 /// The steps of a declarator (C99 6.7.5), read from left to right. The one that is taken first stands last.
 #[cycle(finding)]
-#[tactic(auto, unfolding(c_checking::specs::Finding::derivations))]
+#[tactic(auto, unfolding(c_erasure::specs::Checking::Finding::derivations))]
 pub fn derivations(
     alloc: Global,
     d: &Declarator,
@@ -67,7 +66,7 @@ pub fn derivations(
 
 /// The steps of a declarator, or none where there is none.
 #[cycle(finding)]
-#[tactic(auto, unfolding(c_checking::specs::Finding::derivations))]
+#[tactic(auto, unfolding(c_erasure::specs::Checking::Finding::derivations))]
 pub fn derivations_if_any(
     alloc: Global,
     d: &Option<Boxed<Declarator>>,
@@ -85,7 +84,7 @@ pub fn derivations_if_any(
 
 /// The step to an array, before others. Its bracket stands at `left`, where `count` records are complete.
 #[cycle(finding)]
-#[tactic(auto, unfolding(c_checking::specs::Finding::array_step))]
+#[tactic(auto, unfolding(c_erasure::specs::Checking::Finding::array_step))]
 fn length_step(
     alloc: Global,
     number: &Option<Boxed<Expression>>,
@@ -109,7 +108,7 @@ fn length_step(
 
 /// The types of the parameters of a declarator, in a scope of their own (C99 6.2.1, 6.7.5.3).
 #[cycle(finding)]
-#[tactic(auto, unfolding(c_checking::specs::Finding::parameter_list))]
+#[tactic(auto, unfolding(c_erasure::specs::Checking::Finding::parameter_list))]
 fn parameter_list(
     alloc: Global,
     all: &Parameters,

@@ -4,14 +4,14 @@ ghost use Rattle.std.specs.Prelude.{map};
 ghost use Rattle.c_types.specs.Views.{type_of, types_of};
 ghost use Rattle.c_ast.specs.Places.{first};
 ghost use Rattle.c_ast.specs.Views.{argument_of, arguments_of, expression_of as tree_of};
-ghost use Rattle.c_checking.specs.Answers.{moved};
-ghost use Rattle.c_checking.specs.Finding.{arguments, assigned as assigned_to, constant_at, find, subscripted, tested_at, value_at};
-ghost use Rattle.c_checking.specs.Nodes.{array_of as array_in};
+ghost use Rattle.c_erasure.specs.Checking.Answers.{moved};
+ghost use Rattle.c_erasure.specs.Checking.Finding.{arguments, assigned as assigned_to, constant_at, find, subscripted, tested_at, value_at};
+ghost use Rattle.c_erasure.specs.Checking.Nodes.{array_of as array_in};
 ghost use Rattle.c_erasure.specs.Operators.{update_of};
 ghost use Rattle.c_erasure.specs.Scopes.{for_value};
 ghost use Rattle.c_annotated.specs.Views.{expression_of, expressions_of, thing_of};
-ghost use Rattle.c_declarators.specs.DeclaratorViews.{integer_view};
-ghost use Rattle.c_operator_nodes.specs.Parts.{target_view};
+ghost use Rattle.c_nodes.specs.DeclaratorTypes.DeclaratorViews.{integer_view};
+ghost use Rattle.c_nodes.specs.OperatorNodes.Parts.{target_view};
 ghost use Rattle.c_scopes.specs.Scoping.{file_of, scope_of};
 ghost use Rattle.c_check_expressions.specs.Finds.{Finds};
 ghost use Rattle.c_check_expressions.specs.Parts.{argument_found, call_found};
@@ -22,13 +22,12 @@ use crate::start::{Start, begins_at};
 use crate::types::type_name;
 use c_annotated::{Expression as Typed, Thing};
 use c_ast::{Argument, AssignOp, Expression, first_of_expression};
-use c_declarators::{Integer, constant as constant_value};
 use c_declaring::{character, literal, mentions_in, name, number, size_of_thing, size_of_type};
-use c_nodes::{Fault, worth};
-use c_operator_nodes::{
-    Subscripted, Target, argument as converted_argument, array_of, arrow, assigned, binary,
-    call as called, cast, chosen, comma, copied, dot, element, index as indexed, kind_of,
-    signature_of, step, step_of, target_in, tested, update_of, updated,
+use c_nodes::{
+    Fault, Integer, Subscripted, Target, argument as converted_argument, array_of, arrow, assigned,
+    binary, call as called, cast, chosen, comma, constant as constant_value, copied, dot, element,
+    index as indexed, kind_of, signature_of, step, step_of, target_in, tested, update_of, updated,
+    worth,
 };
 use c_scopes::{FileScope, Scope, for_value, measured, place_in};
 use c_types::Ty;
@@ -37,7 +36,7 @@ use std::alloc::Global;
 
 /// What an expression designates (C99 6.5), in the file up to there, which gets what it declares.
 #[cycle(finding)]
-#[tactic(auto, unfolding(c_checking::specs::Finding::find))]
+#[tactic(auto, unfolding(c_erasure::specs::Checking::Finding::find))]
 pub fn find(
     alloc: Global,
     e: &Expression,
@@ -57,7 +56,7 @@ pub fn find(
 
 /// What an expression of any kind designates.
 #[cycle(finding)]
-#[tactic(auto, unfolding(c_checking::specs::Finding::find))]
+#[tactic(auto, unfolding(c_erasure::specs::Checking::Finding::find))]
 fn find_any(
     alloc: Global,
     e: &Expression,
@@ -173,11 +172,21 @@ fn find_any(
         }
         Expression::SizeofExpression(at, a) => {
             let begin = begins_at(file, scope, *at);
+            let from = first_of_expression(a.get());
             let inner = measured(file, scope);
             match find(alloc, a.get(), file, inner) {
                 Err(fault) => Err(fault),
                 Ok(thing) => {
-                    size_of_thing(alloc, file, scope, begin.count, *at, begin.place, thing)
+                    size_of_thing(
+                        alloc,
+                        file,
+                        scope,
+                        begin.count,
+                        *at,
+                        from,
+                        begin.place,
+                        thing,
+                    )
                 }
             }
         }
@@ -437,7 +446,7 @@ fn assign(
         },
         (None, Target::Record(p)) => match find(alloc, b, file, scope) {
             Err(fault) => Err(fault),
-            Ok(thing) => copied(alloc, at, begin.place, p, thing),
+            Ok(thing) => copied(alloc, at, first_of_expression(b), begin.place, p, thing),
         },
     }
 }

@@ -3,16 +3,15 @@
 ghost use Rattle.std.specs.Prelude.{◌≡◌, Ok};
 ghost use Rattle.c_erasure.specs.Erasure.{place_in};
 ghost use Rattle.c_erasure.specs.Scopes as Scopes;
-ghost use Rattle.c_checking.specs.Answers.{with_file};
-ghost use Rattle.c_checking.specs.Finding.{on_value as on_value_of, unary_on};
+ghost use Rattle.c_erasure.specs.Checking.Answers.{with_file};
+ghost use Rattle.c_erasure.specs.Checking.Finding.{on_value as on_value_of, unary_on};
 ghost use Rattle.c_annotated.specs.Views.{expression_of, thing_of};
 ghost use Rattle.c_scopes.specs.Scoping.{file_of};
 ghost use Rattle.c_declaring.specs.Finds.{Finds};
 
 use c_annotated::{Expression, Thing};
 use c_ast::UnaryOp;
-use c_nodes::{Fault, worth};
-use c_operator_nodes::{address, deref, not, unary};
+use c_nodes::{Fault, address, deref, not, unary, worth};
 use c_scopes::FileScope;
 use c_typed::UnaryOp as TypedUnaryOp;
 use lay_base::{Boxed, Place, Rule};

@@ -2,7 +2,7 @@
 
 ghost use Rattle.std.specs.Prelude.{◌≡◌};
 ghost use Rattle.c_erasure.specs.Erasure.{place_in};
-ghost use Rattle.c_checking.specs.Finding.{complete};
+ghost use Rattle.c_erasure.specs.Checking.Finding.{complete};
 ghost use Rattle.c_scopes.specs.Scoping.{scope_of};
 
 use c_scopes::{FileScope, Scope, place_in};

@@ -6,8 +6,8 @@ ghost use Rattle.c_types.specs.Views.{field_of, type_of};
 ghost use Rattle.c_ast.specs.Places.{first_specifiers};
 ghost use Rattle.c_ast.specs.Views.{enumerator_of, enumerator_value_of, enumerators_of, member_declaration_of, member_declarations_of, member_declarator_of};
 ghost use Rattle.c_ast.specs.Views.{member_declarators_of, one_value_of, specifier_of, specifiers_of, type_name_of};
-ghost use Rattle.c_checking.specs.Declaring.{base_kind as base_kind_of};
-ghost use Rattle.c_checking.specs.Finding.{base_type, enumerator_value, enumerators, member_declarators, members, one_of, specified, type_name};
+ghost use Rattle.c_erasure.specs.Checking.Declaring.{base_kind as base_kind_of};
+ghost use Rattle.c_erasure.specs.Checking.Finding.{base_type, enumerator_value, enumerators, member_declarators, members, one_of, specified, type_name};
 ghost use Rattle.c_scopes.specs.Scoping.{file_of, scope_of};
 ghost use Rattle.c_check_expressions.specs.Finds.{Finds};
 ghost use Rattle.c_check_expressions.specs.Parts.{base_alone, enumeration_found, enumerator_found, line_found, member_found, structure_found};
@@ -20,12 +20,11 @@ use c_ast::{
     Enumerator, EnumeratorValue, MemberDeclaration, MemberDeclarator, Specifier, Spelling,
     TypeName, first_of_declarator, first_of_expression, first_of_specifiers,
 };
-use c_declarators::{Base, Storage, base_kind, int_value, next_value, storage_of};
 use c_declaring::{
     add_members, begin, completed, declare_enumerator, enumerated, enumeration, member,
     mentions_in, named_type, tagged, typename,
 };
-use c_nodes::Fault;
+use c_nodes::{Base, Fault, Storage, base_kind, int_value, next_value, storage_of};
 use c_scopes::{FileScope, Scope};
 use c_types::{Field, Ty};
 use lay_base::{Boxed, List, Rule, add, boxed};
@@ -33,7 +32,7 @@ use std::alloc::Global;
 
 /// The type that a type name names (C99 6.7.6).
 #[cycle(finding)]
-#[tactic(auto, unfolding(c_checking::specs::Finding::type_name))]
+#[tactic(auto, unfolding(c_erasure::specs::Checking::Finding::type_name))]
 pub fn type_name(
     alloc: Global,
     n: &TypeName,
@@ -136,7 +135,7 @@ fn one_of(
 
 /// The type that one specifier names.
 #[cycle(finding)]
-#[tactic(auto, unfolding(c_checking::specs::Finding::specified))]
+#[tactic(auto, unfolding(c_erasure::specs::Checking::Finding::specified))]
 fn specified(
     alloc: Global,
     specifier: &Specifier,
@@ -354,7 +353,7 @@ fn enumerator(
 
 /// The value of an enumerator, whose name stands at `at`.
 #[cycle(finding)]
-#[tactic(auto, unfolding(c_checking::specs::Finding::enumerator_value))]
+#[tactic(auto, unfolding(c_erasure::specs::Checking::Finding::enumerator_value))]
 fn enumerator_value(
     alloc: Global,
     written: &Option<EnumeratorValue>,

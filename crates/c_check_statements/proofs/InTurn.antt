@@ -8,11 +8,11 @@ use Rattle.c_ast.specs.Trees
 use Rattle.c_ast.specs.Views.{block_item_of, block_items_of}
 use Rattle.c_erasure.specs.Scopes.{Scope}
 use Rattle.c_erasure.specs.Statements.{Statements}
-use Rattle.c_checking.specs.Answers.{◌>>=◌}
-use Rattle.c_checking.specs.Statements.{item_in, items_in}
-use Rattle.c_check_locals.specs.Performing.{statements_after}
-use Rattle.c_check_locals.proofs.InTurn.{in_turn, nothing_after}
-use Rattle.c_check_initializers.proofs.Lists.{next_mapped}
+use Rattle.c_erasure.specs.Checking.Answers.{◌>>=◌}
+use Rattle.c_erasure.specs.Checking.Statements.{item_in, items_in}
+use Rattle.c_check_parts.specs.BlockLocals.Performing.{statements_after}
+use Rattle.c_check_parts.proofs.BlockLocals.InTurn.{in_turn, nothing_after}
+use Rattle.c_check_parts.proofs.InitializerParts.Lists.{next_mapped}
 
 pub items_turn : (result : CType) (before : Statements) (e : Trees.BlockItem) (more : Trees.BlockItems) (s : Scope) (loop switch : Bool)
     → statements_after before (items_in result (Trees.and_block_item e more) s loop switch)

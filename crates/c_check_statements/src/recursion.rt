@@ -6,22 +6,21 @@ ghost use Rattle.c_ast.specs.Views.{block_item_of, block_items_of, statement_of 
 ghost use Rattle.c_erasure.specs.BrokenStatements.{no_labels};
 ghost use Rattle.c_annotated.specs.Nodes.{arm_of};
 ghost use Rattle.c_annotated.specs.Views.{arms_of, statement_of};
-ghost use Rattle.c_checking.specs.Statements.{item_in as item_in_block, items_in as items_in_block, performed as performed_in};
-ghost use Rattle.c_checking.specs.Statements.{switch_item as item_of_switch, switch_items as items_of_switch};
-ghost use Rattle.c_check_locals.specs.Performing.{Performs, body_of, standing, statements_after};
-ghost use Rattle.c_check_statement_parts.specs.Arms.{item_added, last_arm_of};
-ghost use Rattle.c_check_statement_parts.specs.Parts.{switch_labels_of, with_first_arm};
+ghost use Rattle.c_erasure.specs.Checking.Statements.{item_in as item_in_block, items_in as items_in_block, performed as performed_in};
+ghost use Rattle.c_erasure.specs.Checking.Statements.{switch_item as item_of_switch, switch_items as items_of_switch};
+ghost use Rattle.c_check_parts.specs.BlockLocals.Performing.{Performs, body_of, standing, statements_after};
+ghost use Rattle.c_check_statements.specs.StatementParts.Arms.{item_added, last_arm_of};
+ghost use Rattle.c_check_statements.specs.StatementParts.Parts.{switch_labels_of, with_first_arm};
 
-use c_annotated::{Arm, Local, Statement};
-use c_ast::{BlockItem, SwitchItem, first_of_expression};
-use c_check_locals::{add_statement, inside, local_declaration, scope_in};
-use c_check_statement_parts::{
+use crate::statement_parts::{
     LastArm, SwitchLabels, add_labelled, block_of, close, condition, condition_if_any,
     declare_in_arm, first_arm, for_of, if_else_of, jump, labels_in, no_labels, nothing_returned,
     start_of, statement, switch_of, value_if_any, value_of_expression, value_returned,
 };
-use c_nodes::Fault;
-use c_operator_nodes::switched;
+use c_annotated::{Arm, Local, Statement};
+use c_ast::{BlockItem, SwitchItem, first_of_expression};
+use c_check_parts::{add_statement, inside, local_declaration, scope_in};
+use c_nodes::{Fault, switched};
 use c_scopes::{Block, FileScope};
 use c_types::{IntKind, Ty};
 use lay_base::{Boxed, List};
@@ -63,7 +62,7 @@ fn in_switch<'a>(around: Around<'a>) -> Around<'a>
 
 /// A statement.
 #[cycle(performed)]
-#[tactic(auto, unfolding(c_checking::specs::Statements::performed))]
+#[tactic(auto, unfolding(c_erasure::specs::Checking::Statements::performed))]
 fn performed(
     alloc: Global,
     a: &c_ast::Statement,
@@ -156,7 +155,7 @@ fn performed(
 
 /// An item of a block, after others.
 #[cycle(performed)]
-#[tactic(auto, unfolding(c_checking::specs::Statements::item_in))]
+#[tactic(auto, unfolding(c_erasure::specs::Checking::Statements::item_in))]
 fn item_in(
     alloc: Global,
     item: &BlockItem,
@@ -210,7 +209,7 @@ fn items_in(
 
 /// The items of a block.
 #[cycle(performed)]
-#[tactic(auto, using(c_check_locals::proofs::InTurn::after_nothing))]
+#[tactic(auto, using(c_check_parts::proofs::BlockLocals::InTurn::after_nothing))]
 pub fn block_items(
     alloc: Global,
     items: &[BlockItem],
@@ -275,7 +274,7 @@ fn switch_items(
 
 /// An item of a `switch`: its labels, and what stands in its arms up to there.
 #[cycle(performed)]
-#[tactic(auto, unfolding(c_checking::specs::Statements::switch_item), using(c_check_statement_parts::proofs::ArmsInTurn::local_item))]
+#[tactic(auto, unfolding(c_erasure::specs::Checking::Statements::switch_item), using(crate::proofs::StatementParts::ArmsInTurn::local_item))]
 fn switch_item(
     alloc: Global,
     item: &SwitchItem,

@@ -10,10 +10,10 @@ use Rattle.c_erasure.specs.Files.{AreConsistent}
 use Rattle.c_erasure.specs.Marks.{Mark, a_tag, an_end, a_name, scope_beginnings, defined_in}
 use Rattle.c_erasure.specs.Noted.{Expression, Thing}
 use Rattle.c_erasure.specs.Scopes.{Bound, Tag, AnObject, AMention, FileScope, Scope, Purpose, in_full, value_alone, type_alone, is_measured, purpose_of_value}
-use Rattle.c_checking.specs.Answers.{Answer, Checked, with_file}
-use Rattle.c_checking.specs.Nodes.{worth, tested}
-use Rattle.c_checking.specs.Declaring.{with_mention, mentions_in, with_object, with_record, with_bound, constant_in}
-use Rattle.c_checking.specs.Finding.{value_at, tested_at, constant_at}
+use Rattle.c_erasure.specs.Checking.Answers.{Answer, Checked, with_file}
+use Rattle.c_erasure.specs.Checking.Nodes.{worth, tested}
+use Rattle.c_erasure.specs.Checking.Declaring.{with_mention, mentions_in, with_object, with_record, with_bound, constant_in}
+use Rattle.c_erasure.specs.Checking.Finding.{value_at, tested_at, constant_at}
 use Rattle.c_checking_laws.proofs.Consistent.{IsAnEnumerator}
 use Rattle.c_checking_laws.proofs.Extends.{last_or}
 use Rattle.c_checking_laws.proofs.Results.{bound_ok, ok, given, with_file_ok}

@@ -8,8 +8,8 @@ use Rattle.std.specs.Prelude.{Some, slice_get, nat_lt}
 use Rattle.c_ast.specs.Spelling.{Lexeme}
 use Rattle.c_erasure.specs.Marks.{Mark, a_tag, an_end, a_name, ends_in}
 use Rattle.c_erasure.specs.Scopes.{ended}
-use Rattle.c_order.specs.Places.{AreOrdered, Along}
-use Rattle.c_order.proofs.Ordered.{ends_between}
+use Rattle.c_erasure.specs.MarkPlaces.Places.{AreOrdered, Along}
+use Rattle.c_erasure.proofs.MarkPlaces.Ordered.{ends_between}
 use Rattle.c_checking_laws.proofs.Extends.{kept, behind}
 use Rattle.c_checking_laws.proofs.Agreement.{added}
 

@@ -8,8 +8,8 @@ use Rattle.c_erasure.specs.Broken.{Fault}
 use Rattle.c_erasure.specs.Erasure.{IsTypedThing, Erases, IsTypeName, place_of_name}
 use Rattle.c_erasure.specs.Noted.{Thing}
 use Rattle.c_erasure.specs.Scopes.{ALocal, FileScope, Scope, IsMentioned}
-use Rattle.c_checking.specs.Answers.{Checked, moved}
-use Rattle.c_checking.specs.Finding.{find}
+use Rattle.c_erasure.specs.Checking.Answers.{Checked, moved}
+use Rattle.c_erasure.specs.Checking.Finding.{find}
 use Rattle.c_checking_laws.proofs.Results.{ok}
 use Rattle.c_checking_laws.proofs.CompleteWalk.{Event}
 use Rattle.c_checking_laws.proofs.CompletePart.{whole, Lists, part, IsWhole, IsBefore, Done, BlocksFit}

@@ -18,9 +18,9 @@ use Rattle.c_erasure.specs.Erasure.{typed, place_in}
 use Rattle.c_erasure.specs.Noted.{Expression, type_of, unconverted}
 use Rattle.c_erasure.specs.Scopes.{ALocal, Bound, FileScope, Scope, in_full, declared, inside}
 use Rattle.c_erasure.specs.Statements.{Statement, Statements, Arms, with_first, followed_by, IsArranged, ErasesSwitchItem, EraseSwitchItems}
-use Rattle.c_checking.specs.Answers.{◌>>=◌}
-use Rattle.c_checking.specs.Statements.{Performed, Found, in_scope, labels_in, arranged, performed, switch_item, switch_items, value_of_expression}
-use Rattle.c_checking.specs.Statements.{switch_value, switched_in, leaving}
+use Rattle.c_erasure.specs.Checking.Answers.{◌>>=◌}
+use Rattle.c_erasure.specs.Checking.Statements.{Performed, Found, in_scope, labels_in, arranged, performed, switch_item, switch_items, value_of_expression}
+use Rattle.c_erasure.specs.Checking.Statements.{switch_value, switched_in, leaving}
 use Rattle.c_checking_laws.proofs.Results.{ok}
 use Rattle.c_checking_laws.proofs.CompleteNodes
 use Rattle.c_checking_laws.proofs.CompleteWalk.{Event, walk}

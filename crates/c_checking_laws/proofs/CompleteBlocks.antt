@@ -15,10 +15,10 @@ use Rattle.c_erasure.specs.Erasure.{typed, place_in}
 use Rattle.c_erasure.specs.Noted.{Expression, type_of, unconverted}
 use Rattle.c_erasure.specs.Scopes.{ALocal, Bound, FileScope, Scope, in_full, declared}
 use Rattle.c_erasure.specs.Statements.{Statements, followed_by, ErasesItem, EraseItems, IsLocalDeclaration}
-use Rattle.c_checking.specs.Answers.{◌>>=◌}
-use Rattle.c_checking.specs.Nodes.{null}
-use Rattle.c_checking.specs.Statements.{Performed, value_of_expression, returned_in}
-use Rattle.c_checking.specs.Statements.{local_declaration, leaving, performed, item_in, items_in}
+use Rattle.c_erasure.specs.Checking.Answers.{◌>>=◌}
+use Rattle.c_erasure.specs.Checking.Nodes.{null}
+use Rattle.c_erasure.specs.Checking.Statements.{Performed, value_of_expression, returned_in}
+use Rattle.c_erasure.specs.Checking.Statements.{local_declaration, leaving, performed, item_in, items_in}
 use Rattle.c_checking_laws.proofs.Results.{ok}
 use Rattle.c_checking_laws.proofs.CompleteNodes
 use Rattle.c_checking_laws.proofs.CompleteWalk.{Event}

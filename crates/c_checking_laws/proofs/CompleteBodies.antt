@@ -9,10 +9,10 @@ use Rattle.c_erasure.specs.Erasure.{IsBase, IsOne}
 use Rattle.c_erasure.specs.Scopes.{ALocal, Bound, FileScope, Scope, in_full}
 use Rattle.c_erasure.specs.Specifiers.{Storage, no_storage, is_static, is_auto, is_register, storage_of}
 use Rattle.c_erasure.specs.Statements.{Statements, DeclareAll}
-use Rattle.c_checking.specs.Answers.{Answer, ◌>>=◌}
-use Rattle.c_checking.specs.Declaring.{base_kind}
-use Rattle.c_checking.specs.Finding.{base_type, one_of}
-use Rattle.c_checking.specs.Statements.{in_scope, declare_all, local_storage, some_declared, local_declaration}
+use Rattle.c_erasure.specs.Checking.Answers.{Answer, ◌>>=◌}
+use Rattle.c_erasure.specs.Checking.Declaring.{base_kind}
+use Rattle.c_erasure.specs.Checking.Finding.{base_type, one_of}
+use Rattle.c_erasure.specs.Checking.Statements.{in_scope, declare_all, local_storage, some_declared, local_declaration}
 use Rattle.c_checking_laws.proofs.CompleteWalk.{Event, walk_of_specifiers}
 use Rattle.c_checking_laws.proofs.CompletePart.{Lists, part, IsWhole, IsBefore, IsAfter, left_seen, right_seen, then_seen}
 use Rattle.c_checking_laws.proofs.CompleteFit.{IsFit, fit_after}

@@ -24,9 +24,9 @@ use Rattle.c_erasure.specs.Erasure.{typed, IsTypedThing, Erases, AreValues, IsCa
 use Rattle.c_erasure.specs.Noted.{Noted, Node, value, way, Expression, Path, Thing, an_object, a_value, a_function, a_function_at, a_library_function}
 use Rattle.c_erasure.specs.Noted.{type_of, type_of_path, object_value}
 use Rattle.c_erasure.specs.Scopes.{ALocal, FileScope, Scope, AnObject, Purpose, in_full, value_alone, type_alone, measured, for_value, ended, declared}
-use Rattle.c_checking.specs.Answers.{moved}
-use Rattle.c_checking.specs.Declaring.{mentions_in, literal_for, literal_in, constant_in}
-use Rattle.c_checking.specs.Finding.{value_at, constant_at, find, arguments}
+use Rattle.c_erasure.specs.Checking.Answers.{moved}
+use Rattle.c_erasure.specs.Checking.Declaring.{mentions_in, literal_for, literal_in, constant_in}
+use Rattle.c_erasure.specs.Checking.Finding.{value_at, constant_at, find, arguments}
 use Rattle.c_checking_laws.proofs.Results.{ok}
 use Rattle.c_checking_laws.proofs.Extends.{Extends}
 use Rattle.c_checking_laws.proofs.Values.{type_same}
@@ -195,7 +195,7 @@ module _ (g : FileScope) (w : IsWhole g) (ls : List ALocal) where
       let o = complete_stays (ended g.ends at) (length d.records) h.0 k h.2.0 in
       let same = size_same d h.0 z.done.after.extends o in
       let l : size_of d.records h.0 ≤ 16777216 = omega (arith, same, h.2.3) in
-      let n = CompleteParts.measured_back d.records (ended g.ends at) at h.1.0 h.0 h.1.3 h.2.0 o l in
+      let n = CompleteParts.measured_back d.records (ended g.ends at) at (first a) h.1.0 h.0 h.1.3 h.2.0 o l in
       let m = mentioned g ls s c d (Seen g w ls s (Trees.sizeof_expression at a)) (mentions_in (part g d)) Sizeof h.0 at h.2.1
       (after_look g w ls c d at (seen s.is_inside s.purpose (seen false value_alone (walk g.untagged a)))
       (subst (λ w. IsAfter g c w d) (sym e) z.done.after)) in

@@ -17,12 +17,12 @@ use Rattle.c_erasure.specs.Scopes.{declared_in, with_name, with_parameter, a_par
 use Rattle.std.specs.Option.{option_map}
 use Rattle.std.specs.Str.{bytes_eq}
 use Rattle.c_erasure.specs.Specifiers.{Storage, same_words, no_storage, is_register, storage_of, types_among, no_words}
-use Rattle.c_checking.specs.Answers.{Answer, ◌>>=◌, with_file, moved}
-use Rattle.c_checking.specs.Declaring.{with_mention, mentions_in, Derivation, to_pointer, to_array, to_open_array, to_function, small, element}
-use Rattle.c_checking.specs.Declaring.{result_type, derived}
-use Rattle.c_checking.specs.Declaring.{length_of_number, length_value, closed_at, by_words, by_one, no_type, base_of_words, base_among, base_kind}
-use Rattle.c_checking.specs.Declaring.{parameter_storage, new_here, new_if_named, scalar_parameter}
-use Rattle.c_checking.specs.Finding.{type_of_derived, base_type, find, type_name, one_of, derivations, array_step, parameter_list, parameters}
+use Rattle.c_erasure.specs.Checking.Answers.{Answer, ◌>>=◌, with_file, moved}
+use Rattle.c_erasure.specs.Checking.Declaring.{with_mention, mentions_in, Derivation, to_pointer, to_array, to_open_array, to_function, small, element}
+use Rattle.c_erasure.specs.Checking.Declaring.{result_type, derived}
+use Rattle.c_erasure.specs.Checking.Declaring.{length_of_number, length_value, closed_at, by_words, by_one, no_type, base_of_words, base_among, base_kind}
+use Rattle.c_erasure.specs.Checking.Declaring.{parameter_storage, new_here, new_if_named, scalar_parameter}
+use Rattle.c_erasure.specs.Checking.Finding.{type_of_derived, base_type, find, type_name, one_of, derivations, array_step, parameter_list, parameters}
 use Rattle.c_checking_laws.proofs.Results.{ok}
 use Rattle.c_checking_laws.proofs.Extends.{Extends}
 use Rattle.c_checking_laws.proofs.CompleteNodes

@@ -26,10 +26,10 @@ use Rattle.c_erasure.specs.Noted.{Node, value, Expression, Path, Thing, an_objec
 use Rattle.c_erasure.specs.Noted.{type_of_path, unconverted}
 use Rattle.c_erasure.specs.Operators.{Kind, computes, compares, all_of, any_of, kind_of, step_of}
 use Rattle.c_erasure.specs.Scopes.{ALocal, FileScope, Scope, ended, declared}
-use Rattle.c_checking.specs.Answers.{with_file}
-use Rattle.c_checking.specs.Nodes.{named_in}
-use Rattle.c_checking.specs.Nodes.{address_in}
-use Rattle.c_checking.specs.Finding.{find}
+use Rattle.c_erasure.specs.Checking.Answers.{with_file}
+use Rattle.c_erasure.specs.Checking.Nodes.{named_in}
+use Rattle.c_erasure.specs.Checking.Nodes.{address_in}
+use Rattle.c_erasure.specs.Checking.Finding.{find}
 use Rattle.c_checking_laws.proofs.Values.{typed_path, path_type_same, unconverted_same}
 use Rattle.c_checking_laws.proofs.CompleteNodes
 use Rattle.c_checking_laws.proofs.CompleteParts
@@ -493,7 +493,7 @@ module _ (g : FileScope) (w : IsWhole g) (ls : List ALocal) where
       (right_seen g s.is_inside s.purpose c m.done.lists (walk g.untagged a) (walk g.untagged b) e m.done.after) h.6 t.1 in
       let v = CompleteNodes.record_target_back (declared (whole g ls s)) (place_in (whole g ls s) (first a)) (first a) h.1 t.4.0 (sym (path_type_same h.1)
       ∙ t.4.1) in
-      let o = CompleteNodes.copy_back (declared (whole g ls s)) (place_in (whole g ls s) (first a)) at h.0 h.1 h.2 t in
+      let o = CompleteNodes.copy_back (declared (whole g ls s)) (place_in (whole g ls s) (first a)) at (first b) h.0 h.1 h.2 t in
       record {
         done = record {
           lists = n.done.lists;

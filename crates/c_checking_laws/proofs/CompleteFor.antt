@@ -13,9 +13,9 @@ use Rattle.c_erasure.specs.Noted.{Expression}
 use Rattle.c_erasure.specs.Scopes.{ALocal, Bound, FileScope, Scope, in_full, declared, inside}
 use Rattle.c_erasure.specs.Specifiers.{Storage, no_storage, a_typedef, is_extern, is_static, is_auto, is_register, several, storage_of}
 use Rattle.c_erasure.specs.Statements.{Statement, Statements, ErasesStatement, IsPlainIfAny, IsStart}
-use Rattle.c_checking.specs.Answers.{Answer, ◌>>=◌}
-use Rattle.c_checking.specs.Statements.{Performed, value_if_any, condition_if_any, unless_static, start_of}
-use Rattle.c_checking.specs.Statements.{local_declaration, leaving, performed}
+use Rattle.c_erasure.specs.Checking.Answers.{Answer, ◌>>=◌}
+use Rattle.c_erasure.specs.Checking.Statements.{Performed, value_if_any, condition_if_any, unless_static, start_of}
+use Rattle.c_erasure.specs.Checking.Statements.{local_declaration, leaving, performed}
 use Rattle.c_checking_laws.proofs.Results.{ok}
 use Rattle.c_checking_laws.proofs.CompleteNodes.{some}
 use Rattle.c_checking_laws.proofs.CompleteWalk.{Event, walk}

@@ -20,12 +20,12 @@ use Rattle.c_erasure.specs.Initializers.{IsInitializer, texts_of, length_of}
 use Rattle.c_erasure.specs.Noted.{Noted}
 use Rattle.c_erasure.specs.Scopes.{ALocal, AnObject, Bound, FileScope, Scope, a_local, defines, in_full, declared, ended, here, with_name}
 use Rattle.c_erasure.specs.Statements.{Statements, IsSized, HasInitializer, IsVariable, DeclareAll, with_variable}
-use Rattle.c_checking.specs.Answers.{◌>>=◌}
-use Rattle.c_checking.specs.Declaring.{Derivation, with_mention, mentions_in, small, object_at, derived}
-use Rattle.c_checking.specs.Finding.{derivations}
-use Rattle.c_checking.specs.Initializers.{initializer}
-use Rattle.c_checking.specs.Statements.{counted_array, sized_in, variable_type, variable_of, initial_if_any}
-use Rattle.c_checking.specs.Statements.{declare_all}
+use Rattle.c_erasure.specs.Checking.Answers.{◌>>=◌}
+use Rattle.c_erasure.specs.Checking.Declaring.{Derivation, with_mention, mentions_in, small, object_at, derived}
+use Rattle.c_erasure.specs.Checking.Finding.{derivations}
+use Rattle.c_erasure.specs.Checking.Initializers.{initializer}
+use Rattle.c_erasure.specs.Checking.Statements.{counted_array, sized_in, variable_type, variable_of, initial_if_any}
+use Rattle.c_erasure.specs.Checking.Statements.{declare_all}
 use Rattle.c_checking_laws.proofs.Results.{ok}
 use Rattle.c_checking_laws.proofs.Extends.{Extends}
 use Rattle.c_checking_laws.proofs.CompleteNodes.{some, some_is}

@@ -29,11 +29,12 @@ use Rattle.c_erasure.specs.Noted.{value, way, type_of, type_of_path, value_of, u
 use Rattle.c_erasure.specs.Operators.{Kind, computes, compares, all_of, any_of}
 use Rattle.c_erasure.specs.Scopes.{Entity, typedef, enumerator, a_local, a_parameter}
 use Rattle.c_erasure.specs.Scopes as Scopes
-use Rattle.c_checking.specs.Answers.{Answer, refused}
-use Rattle.c_checking.specs.Nodes.{null, converted, valued, worth, a_node, named_in, step_in, address_in, deref_in}
-use Rattle.c_checking.specs.Nodes.{unary_in, not_in, cast_in, number_node, forward_node, backward_node, or_else, on_pointers, computed_in}
-use Rattle.c_checking.specs.Nodes.{compare_node, compared_in, tested_in, binary_in, tested, choice_node, chosen_in, scalar_at, record_at, target_of_type}
-use Rattle.c_checking.specs.Nodes.{target_in, assigned_in, copied_in, update_node, updated_in, comma_in}
+use Rattle.c_erasure.specs.Checking.Answers.{Answer, refused}
+use Rattle.c_erasure.specs.Checking.Nodes.{null, converted, valued, worth, a_node, named_in, step_in, address_in, deref_in}
+use Rattle.c_erasure.specs.Checking.Nodes.{unary_in, not_in, cast_in, number_node, forward_node, backward_node, or_else, on_pointers, computed_in}
+use Rattle.c_erasure.specs.Checking.Nodes.{compare_node, compared_in, tested_in, binary_in, tested, choice_node, chosen_in, scalar_at, record_at}
+use Rattle.c_erasure.specs.Checking.Nodes.{target_of_type}
+use Rattle.c_erasure.specs.Checking.Nodes.{target_in, assigned_in, copied_in, update_node, updated_in, comma_in}
 use Rattle.c_checking_laws.proofs.Results.{ok}
 use Rattle.c_checking_laws.proofs.Values.{typed_path, type_same, path_type_same, unconverted_same}
 use Rattle.c_checking_laws.proofs.CompleteValues.{IsLeftOf}
@@ -414,10 +415,10 @@ module _ (d : Declared) (at : Place) where
       (refused R.Assign op_at)
       ≡ Ok (a_value (value t at (Typed.assign p x)))) e (rw (a, back_to x o t h.4.1) refl)
 
-  pub copy_back : (op_at : ℕ) (t : CType) (p q : Path) → IsTypedNode d t at (Typed.copy_record (typed_path p) (typed_path q))
-      → copied_in op_at at p (an_object q) ≡ Ok (a_value (value t at (Typed.copy_record p q)))
+  pub copy_back : (op_at from : ℕ) (t : CType) (p q : Path) → IsTypedNode d t at (Typed.copy_record (typed_path p) (typed_path q))
+      → copied_in op_at from at p (an_object q) ≡ Ok (a_value (value t at (Typed.copy_record p q)))
   unfolding copied_in
-  copy_back op_at t p q h =
+  copy_back op_at from t p q h =
       let e : type_of_path q ≡ type_of_path p = sym (path_type_same q) ∙ h.3 ∙ path_type_same p in
       rw (same_self (type_of_path q) (type_of_path p) e, h.2) refl
 

@@ -19,9 +19,9 @@ use Rattle.c_erasure.specs.Noted.{type_of, type_of_path, object_value, value_of,
 use Rattle.c_erasure.specs.Scopes.{ALocal, FileScope, Scope, Entity, typedef, enumerator, a_local, a_parameter, Purpose, in_full, value_alone, type_alone}
 use Rattle.c_erasure.specs.Scopes.{innermost, visible, named, or_else, ended, declared}
 use Rattle.c_erasure.specs.Scopes as Scopes
-use Rattle.c_checking.specs.Answers.{with_file, moved}
-use Rattle.c_checking.specs.Nodes.{array_of_type, array_of}
-use Rattle.c_checking.specs.Finding.{value_at, find}
+use Rattle.c_erasure.specs.Checking.Answers.{with_file, moved}
+use Rattle.c_erasure.specs.Checking.Nodes.{array_of_type, array_of}
+use Rattle.c_erasure.specs.Checking.Finding.{value_at, find}
 use Rattle.c_checking_laws.proofs.CompleteNodes.{some_is, worth_back}
 use Rattle.c_checking_laws.proofs.CompleteValues.{IsBare, IsLeftOf, left_of}
 use Rattle.c_checking_laws.proofs.CompleteWalk.{Event, seen, walk}

@@ -20,8 +20,8 @@ use Rattle.c_erasure.specs.Scopes.{Purpose}
 use Rattle.c_erasure.specs.Scopes.{IsListedAt, IsMentioned, is_measured}
 use Rattle.c_erasure.specs.Scopes.{or_else, visible, innermost, named, ended, declared}
 use Rattle.c_erasure.specs.Scopes as Scopes
-use Rattle.c_checking.specs.Answers.{Checked, moved}
-use Rattle.c_checking.specs.Declaring.{with_mention}
+use Rattle.c_erasure.specs.Checking.Answers.{Checked, moved}
+use Rattle.c_erasure.specs.Checking.Declaring.{with_mention}
 use Rattle.c_checking_laws.proofs.Extends.{Extends, behind}
 use Rattle.c_checking_laws.proofs.CompleteNodes.{some_is}
 use Rattle.c_checking_laws.proofs.CompleteValues.{IsBare}

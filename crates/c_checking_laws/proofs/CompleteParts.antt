@@ -19,15 +19,16 @@ use Rattle.c_typed.specs.Conversions.{is_integer, pointed, element_of}
 use Rattle.c_typed.specs.Fits.{assigns}
 use Rattle.c_typed.specs.Rules.{promoting, points_to_object}
 use Rattle.c_typed.specs.Typed.{Declared, bare_ty, IsTypedPath, IsMoved, IsConverted}
-use Rattle.c_erasure.specs.Broken.{called_type}
+use Rattle.c_erasure.specs.Broken.{Fault, ill_typed, called_type, misplaced}
 use Rattle.c_erasure.specs.Declarators.{AreDifferent}
 use Rattle.c_erasure.specs.Erasure.{typed, IsCall, IsOfType}
 use Rattle.c_erasure.specs.Noted.{Noted, Expression, Path, Node, Thing, an_object, a_value, a_function, a_function_at, a_library_function}
 use Rattle.c_erasure.specs.Noted.{value, way, type_of, type_of_path, unconverted}
-use Rattle.c_checking.specs.Answers.{refused}
-use Rattle.c_checking.specs.Nodes.{null, index_in, array_of_type, array_of, element_in}
-use Rattle.c_checking.specs.Nodes.{signature_of, signature_in, argument_in, call_through, call_in, field_from, field_in, member_to, member_of_type, dot_in}
-use Rattle.c_checking.specs.Nodes.{arrow_to, arrow_in, measured_type, sized_type, measured_in}
+use Rattle.c_erasure.specs.Checking.Answers.{refused}
+use Rattle.c_erasure.specs.Checking.Nodes.{null, index_in, array_of_type, array_of, element_in}
+use Rattle.c_erasure.specs.Checking.Nodes.{signature_of, signature_in, argument_in, call_through, call_in, field_from, field_in, member_to, member_of_type}
+use Rattle.c_erasure.specs.Checking.Nodes.{dot_in}
+use Rattle.c_erasure.specs.Checking.Nodes.{arrow_to, arrow_in, measured_type, sized_or, sized_type, measured_in}
 use Rattle.c_checking_laws.proofs.Results.{ok}
 use Rattle.c_checking_laws.proofs.Values.{typed_path, unconverted_same}
 use Rattle.c_checking_laws.proofs.CompleteNodes
@@ -212,18 +213,24 @@ module _ (d : Declared) (at : Place) where
 
 -- ---- sizes
 
-pub size_back : (records : List Record) (n at : ℕ) (t : CType) → is_object n t ≡ true → is_object (length records) t ≡ true
-    → size_of records t ≤ 16777216 → sized_type records n at t ≡ Ok t
-unfolding sized_type
-size_back records n at t c l s =
+size_or_back : (records : List Record) (n at : ℕ) (sizeless : Fault) (t : CType) → is_object n t ≡ true → is_object (length records) t ≡ true
+    → size_of records t ≤ 16777216 → sized_or records n at sizeless t ≡ Ok t
+size_or_back records n at sizeless t c l s =
     let b : nat_le (size_of records t) 16777216 ≡ true = le-leb (size_of records t) 16777216 s in
     rw (c, l, b) refl
 
-pub measured_back : (records : List Record) (n at : ℕ) (th : Thing) (t : CType) → IsOfType th t → is_object n t ≡ true
-    → is_object (length records) t ≡ true → size_of records t ≤ 16777216 → measured_in records n at th ≡ Ok t
+pub size_back : (records : List Record) (n at : ℕ) (t : CType) → is_object n t ≡ true → is_object (length records) t ≡ true
+    → size_of records t ≤ 16777216 → sized_type records n at t ≡ Ok t
+unfolding sized_type
+size_back records n at t c l s = size_or_back records n at (ill_typed R.Incomplete at) t c l s
+
+pub measured_back : (records : List Record) (n at from : ℕ) (th : Thing) (t : CType) → IsOfType th t → is_object n t ≡ true
+    → is_object (length records) t ≡ true → size_of records t ≤ 16777216 → measured_in records n at from th ≡ Ok t
 unfolding measured_in measured_type
-measured_back records n at (an_object p) t h c l s = ap (sized_type records n at) h ∙ size_back records n at t c l s
-measured_back records n at (a_value e) t h c l s = ap (sized_type records n at) h ∙ size_back records n at t c l s
-measured_back records n at (a_function from f u) t h c l s = absurd h
-measured_back records n at (a_function_at e) t h c l s = absurd h
-measured_back records n at (a_library_function from which) t h c l s = absurd h
+measured_back records n at from (an_object p) t h c l s =
+    let f = misplaced (an_object p) R.Incomplete at from in ap (sized_or records n at f) h ∙ size_or_back records n at f t c l s
+measured_back records n at from (a_value e) t h c l s =
+    let f = misplaced (a_value e) R.Incomplete at from in ap (sized_or records n at f) h ∙ size_or_back records n at f t c l s
+measured_back records n at from (a_function f_at f u) t h c l s = absurd h
+measured_back records n at from (a_function_at e) t h c l s = absurd h
+measured_back records n at from (a_library_function f_at which) t h c l s = absurd h

@@ -14,9 +14,9 @@ use Rattle.c_typed.specs.Conversions.{number_of}
 use Rattle.c_erasure.specs.Erasure.{Specifies, AreEnumerators, IsEnumeratorValue, IsInt, IsStructTag}
 use Rattle.c_erasure.specs.Scopes.{ALocal, FileScope, Scope, Tag, Purpose, IsNumbered, tag_at}
 use Rattle.c_erasure.specs.Specifiers.{types_among}
-use Rattle.c_checking.specs.Answers.{refused, with_file, moved}
-use Rattle.c_checking.specs.Declaring
-use Rattle.c_checking.specs.Finding.{one_of, specified, enumerators, enumerator_value}
+use Rattle.c_erasure.specs.Checking.Answers.{refused, with_file, moved}
+use Rattle.c_erasure.specs.Checking.Declaring
+use Rattle.c_erasure.specs.Checking.Finding.{one_of, specified, enumerators, enumerator_value}
 use Rattle.c_checking_laws.proofs.Results.{ok}
 use Rattle.c_checking_laws.proofs.CompleteNodes.{some, some_is}
 use Rattle.c_checking_laws.proofs.CompleteWalk.{seen, walk_of_specifiers, walk_of_specifier, walk_of_enumerators, walk_of_value, a_use, a_tag}

@@ -15,10 +15,10 @@ use Rattle.c_erasure.specs.Erasure.{typed, Values, Erases}
 use Rattle.c_erasure.specs.Noted.{Expression, type_of, unconverted}
 use Rattle.c_erasure.specs.Scopes.{ALocal, Bound, FileScope, Scope, in_full, value_alone, declared}
 use Rattle.c_erasure.specs.Statements.{Statement, IsPlain, ErasesStatement}
-use Rattle.c_checking.specs.Answers.{◌>>=◌, refused}
-use Rattle.c_checking.specs.Statements.{Performed, in_scope, value_of_expression, condition_in, in_same_scope, condition, jump}
-use Rattle.c_checking.specs.Statements.{returned_nothing}
-use Rattle.c_checking.specs.Statements.{performed}
+use Rattle.c_erasure.specs.Checking.Answers.{◌>>=◌, refused}
+use Rattle.c_erasure.specs.Checking.Statements.{Performed, in_scope, value_of_expression, condition_in, in_same_scope, condition, jump}
+use Rattle.c_erasure.specs.Checking.Statements.{returned_nothing}
+use Rattle.c_erasure.specs.Checking.Statements.{performed}
 use Rattle.c_checking_laws.proofs.Results.{ok}
 use Rattle.c_checking_laws.proofs.Values.{type_same}
 use Rattle.c_checking_laws.proofs.CompleteValues.{IsLeftOf}

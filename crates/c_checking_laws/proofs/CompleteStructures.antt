@@ -20,10 +20,11 @@ use Rattle.c_erasure.specs.Scopes.{ALocal, FileScope, Scope, Bound, Tag, enumera
 use Rattle.c_erasure.specs.Marks
 use Rattle.c_erasure.specs.Marks.{tag_name}
 use Rattle.c_erasure.specs.Specifiers.{no_storage, storage_of}
-use Rattle.c_checking.specs.Answers.{◌>>=◌, refused, with_file, moved}
-use Rattle.c_checking.specs.Declaring
-use Rattle.c_checking.specs.Declaring.{base_kind, Derivation, with_mention, mentions_in, object_at, derived}
-use Rattle.c_checking.specs.Finding.{type_of_derived, base_type, one_of, specified, members, member_declarators, enumerators, enumerator_value, derivations}
+use Rattle.c_erasure.specs.Checking.Answers.{◌>>=◌, refused, with_file, moved}
+use Rattle.c_erasure.specs.Checking.Declaring
+use Rattle.c_erasure.specs.Checking.Declaring.{base_kind, Derivation, with_mention, mentions_in, object_at, derived}
+use Rattle.c_erasure.specs.Checking.Finding.{type_of_derived, base_type, one_of, specified, members, member_declarators, enumerators, enumerator_value}
+use Rattle.c_erasure.specs.Checking.Finding.{derivations}
 use Rattle.c_checking_laws.proofs.Results.{ok}
 use Rattle.c_checking_laws.proofs.Extends.{Extends, kept}
 use Rattle.c_checking_laws.proofs.CompleteNodes.{some, some_is}

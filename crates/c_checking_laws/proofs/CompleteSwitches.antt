@@ -12,9 +12,9 @@ use Rattle.c_typed.specs.TypedStatements.{IsAbsent, AreDifferent}
 use Rattle.c_erasure.specs.BrokenStatements.{Labels}
 use Rattle.c_erasure.specs.Scopes.{ALocal, Bound, FileScope, Scope, in_full, value_alone, for_value}
 use Rattle.c_erasure.specs.Statements.{AreLabels}
-use Rattle.c_checking.specs.Answers.{moved}
-use Rattle.c_checking.specs.Finding.{constant_at, value_at, find}
-use Rattle.c_checking.specs.Statements.{Found, labels_in}
+use Rattle.c_erasure.specs.Checking.Answers.{moved}
+use Rattle.c_erasure.specs.Checking.Finding.{constant_at, value_at, find}
+use Rattle.c_erasure.specs.Checking.Statements.{Found, labels_in}
 use Rattle.c_checking_laws.proofs.Results.{ok}
 use Rattle.c_checking_laws.proofs.CompleteWalk.{Event, seen, walk}
 use Rattle.c_checking_laws.proofs.CompletePart.{Lists, part, IsWhole, IsBefore, Done, BlocksFit, blocks_stay, none_after, grown, left_seen, right_seen}

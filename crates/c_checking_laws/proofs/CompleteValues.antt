@@ -10,7 +10,7 @@ use Rattle.c_typed.specs.Typed.{Declared, bare, is_bare, bare_ty, IsTyped}
 use Rattle.c_erasure.specs.Erasure.{typed}
 use Rattle.c_erasure.specs.Noted.{Noted, Note, nothing, size_of, Expression}
 use Rattle.c_erasure.specs.Noted.{value, type_of, unconverted, unless_noted}
-use Rattle.c_checking.specs.Nodes.{null, converted}
+use Rattle.c_erasure.specs.Checking.Nodes.{null, converted}
 use Rattle.c_checking_laws.proofs.Values.{type_same, place_same}
 
 -- ---- no note stands beside a conversion

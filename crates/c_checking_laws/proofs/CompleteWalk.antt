@@ -8,7 +8,7 @@ use Rattle.c_ast.specs.Places.{first, first_text, first_declarator}
 use Rattle.c_erasure.specs.Erasure.{after_all, comma_or}
 use Rattle.c_erasure.specs.Marks.{tag_name, tag_place}
 use Rattle.c_erasure.specs.Scopes.{Bound, Tag, AnObject, FileScope, Purpose, in_full, value_alone, type_alone, purpose_of_value, ended, tag_at}
-use Rattle.c_checking.specs.Declaring.{tag_named}
+use Rattle.c_erasure.specs.Checking.Declaring.{tag_named}
 
 pub data Event : Type 0 where
   -- a name is asked for there

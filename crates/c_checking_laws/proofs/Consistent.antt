@@ -6,7 +6,7 @@ use Rattle.std.specs.Prelude.{All, Option, Some, None, Ok, slice_get}
 use Rattle.std.specs.Str.{bytes_eq}
 use Rattle.c_erasure.specs.Files.{MayStandTogether, AreConsistent}
 use Rattle.c_erasure.specs.Scopes.{Bound, FileScope, enumerator}
-use Rattle.c_checking.specs.Declaring.{with_bound, declared_among, new_name, enumerator_in}
+use Rattle.c_erasure.specs.Checking.Declaring.{with_bound, declared_among, new_name, enumerator_in}
 use Rattle.c_checking_laws.proofs.Results.{given}
 
 abbrev pub IsAnEnumerator : Bound → Type 0

@@ -27,13 +27,14 @@ use Rattle.c_erasure.specs.Scopes.{Bound, AnObject, AMention, ALocal, FileScope,
 use Rattle.c_erasure.specs.Scopes.{tag_at, here, ended}
 use Rattle.c_erasure.specs.Scopes.{Purpose, in_full, value_alone, type_alone, for_value}
 use Rattle.c_erasure.specs.Specifiers.{Storage, no_storage, is_register, a_typedef, is_extern, is_static, is_auto, several}
-use Rattle.c_checking.specs.Answers.{Answer, moved}
-use Rattle.c_checking.specs.Declaring.{with_mention, with_object, literal_for, literal_in, constant_of_type, constant_in, number_among, next}
-use Rattle.c_checking.specs.Declaring.{structure_of, tagged, tagged_in}
-use Rattle.c_checking.specs.Declaring.{enumerated, enumerated_in, type_named, standing, repeated_or, repeated, unless, is_next, with_record, completed_in}
-use Rattle.c_checking.specs.Declaring.{with_bound, new_name, enumerator_in, declared_among, is_int, int_value, next_value, only_tag, enumeration_of}
-use Rattle.c_checking.specs.Declaring.{tag_named, length_of_number, length_value}
-use Rattle.c_checking.specs.Declaring.{without_storage, parameter_storage, new_here, new_if_named, scalar_parameter}
+use Rattle.c_erasure.specs.Checking.Answers.{Answer, moved}
+use Rattle.c_erasure.specs.Checking.Declaring.{with_mention, with_object, literal_for, literal_in, constant_of_type, constant_in, number_among, next}
+use Rattle.c_erasure.specs.Checking.Declaring.{structure_of, tagged, tagged_in}
+use Rattle.c_erasure.specs.Checking.Declaring.{enumerated, enumerated_in, type_named, standing, repeated_or, repeated, unless, is_next, with_record}
+use Rattle.c_erasure.specs.Checking.Declaring.{completed_in}
+use Rattle.c_erasure.specs.Checking.Declaring.{with_bound, new_name, enumerator_in, declared_among, is_int, int_value, next_value, only_tag, enumeration_of}
+use Rattle.c_erasure.specs.Checking.Declaring.{tag_named, length_of_number, length_value}
+use Rattle.c_erasure.specs.Checking.Declaring.{without_storage, parameter_storage, new_here, new_if_named, scalar_parameter}
 use Rattle.c_checking_laws.proofs.Results.{given, only_if, chosen}
 use Rattle.c_checking_laws.proofs.Extends.{Extends, itself, further, kept, at_end, around, among, last_or}
 use Rattle.c_checking_laws.proofs.Agreement.{IsFit, fits_stay, IsObjectType, IsSteady, AreBegun, AreBefore, added, IsGrown, one_more_fits}

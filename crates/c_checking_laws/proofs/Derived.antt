@@ -13,12 +13,12 @@ use Rattle.c_erasure.specs.Declarators.{Shape, closed, open_array, IsSmall}
 use Rattle.c_erasure.specs.Marks.{marks_of_specifiers}
 use Rattle.c_erasure.specs.Scopes.{FileScope}
 use Rattle.c_erasure.specs.Specifiers.{Words, types_among, words_of, no_words, same_words, named_by}
-use Rattle.c_checking.specs.Answers.{◌>>=◌, Checked}
-use Rattle.c_checking.specs.Declaring.{Derivation, to_pointer, to_array, to_open_array, to_function, is_small, small, element, is_result, result_type}
-use Rattle.c_checking.specs.Declaring.{derived, closed_at, object_at}
-use Rattle.c_checking.specs.Declaring.{by_one, no_type, base_of_words, base_among, base_kind}
-use Rattle.c_checking.specs.Finding.{base_type, type_of_derived}
-use Rattle.c_checking.specs.Nodes.{is_complete}
+use Rattle.c_erasure.specs.Checking.Answers.{◌>>=◌, Checked}
+use Rattle.c_erasure.specs.Checking.Declaring.{Derivation, to_pointer, to_array, to_open_array, to_function, is_small, small, element, is_result, result_type}
+use Rattle.c_erasure.specs.Checking.Declaring.{derived, closed_at, object_at}
+use Rattle.c_erasure.specs.Checking.Declaring.{by_one, no_type, base_of_words, base_among, base_kind}
+use Rattle.c_erasure.specs.Checking.Finding.{base_type, type_of_derived}
+use Rattle.c_erasure.specs.Checking.Nodes.{is_complete}
 use Rattle.c_checking_laws.proofs.Results.{bound_ok, ok, given, only_if, chosen}
 use Rattle.c_checking_laws.proofs.NodesOfParts.{complete_is}
 

@@ -16,11 +16,11 @@ use Rattle.c_erasure.specs.Broken.{ill_typed, redeclared}
 use Rattle.c_erasure.specs.Noted.{value, Expression}
 use Rattle.c_erasure.specs.Scopes as Scopes
 use Rattle.c_erasure.specs.Scopes.{Bound, defines, FileScope, AFunction}
-use Rattle.c_checking.specs.Nodes.{worth, computed_in}
-use Rattle.c_checking.specs.Declaring.{derived, object_at}
-use Rattle.c_checking.specs.Finding.{find, type_name, one_of, derivations, parameter_list}
-use Rattle.c_checking.specs.Statements.{performed, items_in, returned_in, sized_in}
-use Rattle.c_checking.specs.Files.{annotated, filed, filed_item, file_declarators, library_named, is_main, object_of, function_of, received_by}
+use Rattle.c_erasure.specs.Checking.Nodes.{worth, computed_in}
+use Rattle.c_erasure.specs.Checking.Declaring.{derived, object_at}
+use Rattle.c_erasure.specs.Checking.Finding.{find, type_name, one_of, derivations, parameter_list}
+use Rattle.c_erasure.specs.Checking.Statements.{performed, items_in, returned_in, sized_in}
+use Rattle.c_erasure.specs.Checking.Files.{annotated, filed, filed_item, file_declarators, library_named, is_main, object_of, function_of, received_by}
 
 abbrev place : ℕ → Place
 place n = record { file = 0; at = n }

@@ -5,7 +5,7 @@ use Rattle.std.specs.Prelude.{map, Option, Some, None, IsSome, slice_get, ◌⊎
 use Rattle.c_types.specs.Types.{CType, Record}
 use Rattle.c_typed.specs.declared.program.MentionKind.{MentionKind}
 use Rattle.c_erasure.specs.Scopes.{Bound, AnObject, FileScope, Scope, IsListedAt, or_else, visible, innermost, named, Entity}
-use Rattle.c_checking.specs.Answers.{moved}
+use Rattle.c_erasure.specs.Checking.Answers.{moved}
 
 -- ---- lists
 

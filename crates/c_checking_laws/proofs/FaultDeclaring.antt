@@ -26,15 +26,19 @@ use Rattle.c_erasure.specs.Scopes.{Bound, FileScope, Scope, Tag, Entity, typedef
 use Rattle.c_erasure.specs.Scopes as Scopes
 use Rattle.c_erasure.specs.Specifiers.{Words, Storage, no_storage, is_register, a_typedef, is_extern, is_static, is_auto, several, types_among, words_of}
 use Rattle.c_erasure.specs.Specifiers.{no_words, same_words, named_by}
-use Rattle.c_checking.specs.Answers.{Answer, Checked}
-use Rattle.c_checking.specs.Declaring.{constant_of_type, constant_in, tag_named, place_of_tag, next, number_among, structure_of, other_tag, tagged, tagged_in}
-use Rattle.c_checking.specs.Declaring.{enumerated}
-use Rattle.c_checking.specs.Declaring.{enumerated_in, type_named, standing, repeated_or, repeated, unless, definable, known_tag, place_of_record}
-use Rattle.c_checking.specs.Declaring.{record_if_any, completed_before}
-use Rattle.c_checking.specs.Declaring.{is_next, completed_in, declared_among, new_name, enumerator_in, is_int, int_value, next_value, only_tag, enumeration_of}
-use Rattle.c_checking.specs.Declaring.{is_small, small, element, is_result, result_type, length_of_number, length_value, closed_at, object_at, by_one, no_type}
-use Rattle.c_checking.specs.Declaring.{base_of_words, base_among, base_kind, without_storage, parameter_storage, new_here, new_if_named, scalar_parameter}
-use Rattle.c_checking.specs.Finding.{base_type}
+use Rattle.c_erasure.specs.Checking.Answers.{Answer, Checked}
+use Rattle.c_erasure.specs.Checking.Declaring.{constant_of_type, constant_in, tag_named, place_of_tag, next, number_among, structure_of, other_tag, tagged}
+use Rattle.c_erasure.specs.Checking.Declaring.{tagged_in}
+use Rattle.c_erasure.specs.Checking.Declaring.{enumerated}
+use Rattle.c_erasure.specs.Checking.Declaring.{enumerated_in, type_named, standing, repeated_or, repeated, unless, definable, known_tag, place_of_record}
+use Rattle.c_erasure.specs.Checking.Declaring.{record_if_any, completed_before}
+use Rattle.c_erasure.specs.Checking.Declaring.{is_next, completed_in, declared_among, new_name, enumerator_in, is_int, int_value, next_value, only_tag}
+use Rattle.c_erasure.specs.Checking.Declaring.{enumeration_of}
+use Rattle.c_erasure.specs.Checking.Declaring.{is_small, small, element, is_result, result_type, length_of_number, length_value, closed_at, object_at, by_one}
+use Rattle.c_erasure.specs.Checking.Declaring.{no_type}
+use Rattle.c_erasure.specs.Checking.Declaring.{base_of_words, base_among, base_kind, without_storage, parameter_storage, new_here, new_if_named}
+use Rattle.c_erasure.specs.Checking.Declaring.{scalar_parameter}
+use Rattle.c_erasure.specs.Checking.Finding.{base_type}
 use Rattle.c_checking_laws.proofs.Extends.{Extends, kept, behind}
 use Rattle.c_checking_laws.proofs.Agreement.{IsSteady}
 use Rattle.c_checking_laws.proofs.Declared.{number_is}

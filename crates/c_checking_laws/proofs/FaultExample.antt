@@ -8,8 +8,8 @@ use Rattle.c_ast.specs.Trees
 use Rattle.c_erasure.specs.Broken.{ill_typed, IsBrokenSpecifier}
 use Rattle.c_erasure.specs.Marks.{marks_of_specifier}
 use Rattle.c_erasure.specs.Scopes.{FileScope, Scope, Tag, at_file_scope}
-use Rattle.c_checking.specs.Declaring.{number_among, derived, object_at}
-use Rattle.c_checking.specs.Finding.{one_of, specified, members, member_declarators, derivations}
+use Rattle.c_erasure.specs.Checking.Declaring.{number_among, derived, object_at}
+use Rattle.c_erasure.specs.Checking.Finding.{one_of, specified, members, member_declarators, derivations}
 use Rattle.c_checking_laws.proofs.FaultAdditions.{of_specifier}
 use Rattle.c_checking_laws.proofs.FaultResults.{Up, Broken}
 use Rattle.c_checking_laws.proofs.FaultPremises.{Prepared}

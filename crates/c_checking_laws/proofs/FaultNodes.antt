@@ -22,20 +22,21 @@ use Rattle.c_typed.specs.Fits.{assigns, casts}
 use Rattle.c_typed.specs.Rules.{on_numbers, comparing, choosing, moving, differing, updating, is_stepped, points_to_object}
 use Rattle.c_erasure.specs.Broken.{Fault, ill_typed, undeclared, too_big, called_type, pointed_type, IsNoFunction, AreUnfit, is_subscript}
 use Rattle.c_erasure.specs.Broken.{IsNoObject, IsArrayObject, IsNotAssigned, IsObjectOf, has_field, IsMemberless, NoMemberOf, NoMemberAt, IsLibrary}
-use Rattle.c_erasure.specs.Broken.{IsOnlyValue, IsOfGreatestType, IsPointless, IsSizeless, IsNoRecord, IsValueless}
+use Rattle.c_erasure.specs.Broken.{misplaced, IsOnlyValue, IsOfGreatestType, IsPointless, IsSizeless, IsNoRecord, IsValueless}
 use Rattle.c_erasure.specs.Erasure.{IsOfType}
 use Rattle.c_erasure.specs.Noted.{Noted, Expression, Path, Thing, an_object, a_value, a_function, a_function_at, a_library_function, type_of, type_of_path}
 use Rattle.c_erasure.specs.Noted.{object_value}
 use Rattle.c_erasure.specs.Operators.{Kind, computes, compares, all_of, any_of}
 use Rattle.c_erasure.specs.Scopes.{Scope, Entity, typedef, enumerator, a_local, a_parameter, ended}
 use Rattle.c_erasure.specs.Scopes as Scopes
-use Rattle.c_checking.specs.Nodes.{null, valued, worth, named_in, array_of, array_of_type, element_in, index_to, turned_to, index_in, signature_of}
-use Rattle.c_checking.specs.Nodes.{signature_in, argument_in}
-use Rattle.c_checking.specs.Nodes.{call_through, call_in, field_from, field_in, member_to, member_of_type, dot_in, arrow_to, arrow_in, step_in, address_in}
-use Rattle.c_checking.specs.Nodes.{pointed_to}
-use Rattle.c_checking.specs.Nodes.{deref_in, unary_in, not_in, measured_type, is_complete, sized_type, measured_in, cast_in}
-use Rattle.c_checking.specs.Nodes.{on_pointers, computed_in, compared_in, tested_in, binary_in, tested, chosen_in}
-use Rattle.c_checking.specs.Nodes.{Target, target_of_type, target_in, assigned_in, copied_in, updated_in, comma_in}
+use Rattle.c_erasure.specs.Checking.Nodes.{null, valued, worth, named_in, array_of, array_of_type, element_in, index_to, turned_to, index_in, signature_of}
+use Rattle.c_erasure.specs.Checking.Nodes.{signature_in, argument_in}
+use Rattle.c_erasure.specs.Checking.Nodes.{call_through, call_in, field_from, field_in, member_to, member_of_type, dot_in, arrow_to, arrow_in, step_in}
+use Rattle.c_erasure.specs.Checking.Nodes.{address_in}
+use Rattle.c_erasure.specs.Checking.Nodes.{pointed_to}
+use Rattle.c_erasure.specs.Checking.Nodes.{deref_in, unary_in, not_in, measured_type, is_complete, sized_or, sized_type, measured_in, cast_in}
+use Rattle.c_erasure.specs.Checking.Nodes.{on_pointers, computed_in, compared_in, tested_in, binary_in, tested, chosen_in}
+use Rattle.c_erasure.specs.Checking.Nodes.{Target, target_of_type, target_in, assigned_in, copied_in, updated_in, comma_in}
 use Rattle.c_checking_laws.proofs.Agreement.{IsObjectType}
 use Rattle.c_checking_laws.proofs.FaultResults.{bad, same_fault, chosen_err, unless_err, option_err}
 
@@ -246,10 +247,10 @@ member_fault s at named place p (structure r) x l f h =
     by_record b None e h = absurd (there_is s.file.records r (omega (arith, l, ltb-true r (ended s.file.ends at) b)) e)
 
 pub dot_fault : (s : Scope) (at named : ℕ) (place : Place) (th : Thing) (x : List ℕ) → ended s.file.ends at ≤ length s.file.records → (f : Fault)
-    → dot_in s.file.records (ended s.file.ends at) named place th x ≡ Err f → (rule : Rule) × NoMemberOf s at th x rule × (f ≡ ill_typed rule named)
+    → dot_in s.file.records (ended s.file.ends at) named place th x ≡ Err f → (rule : Rule) × NoMemberOf s at th x rule × (f ≡ misplaced th rule named place.at)
 unfolding dot_in
 dot_fault s at named place (an_object p) x l f h = member_fault s at named place p (type_of_path p) x l f h
-dot_fault s at named place (a_value e) x l f h = (R.Member, refl, same_fault Thing (ill_typed R.Member named) f h)
+dot_fault s at named place (a_value e) x l f h = (R.Member, refl, same_fault Thing (misplaced (a_value e) R.Member named place.at) f h)
 dot_fault s at named place (a_function from n t) x l f h = (R.Member, refl, same_fault Thing (ill_typed R.Member named) f h)
 dot_fault s at named place (a_function_at e) x l f h = (R.Member, refl, same_fault Thing (ill_typed R.Member named) f h)
 dot_fault s at named place (a_library_function from which) x l f h = (R.Member, refl, same_fault Thing (ill_typed R.Member named) f h)
@@ -283,14 +284,14 @@ step_fault count from op_at at op before (a_function_at e) f h = inl (same_fault
 step_fault count from op_at at op before (a_library_function f_at which) f h = inl (same_fault Thing (ill_typed R.Lvalue from) f h, tt)
 
 pub address_fault : (from : ℕ) (at : Place) (th : Thing) (f : Fault) → address_in from at th ≡ Err f
-    → ((f ≡ too_big at.at) × IsOfGreatestType th) ⊎ ((f ≡ ill_typed R.Lvalue at.at) × IsOnlyValue th) ⊎ ((f ≡ ill_typed R.Library from) × IsLibrary th)
+    → ((f ≡ too_big at.at) × IsOfGreatestType th) ⊎ (IsOnlyValue th × (f ≡ misplaced th R.Lvalue at.at from)) ⊎ ((f ≡ ill_typed R.Library from) × IsLibrary th)
 unfolding address_in
 address_fault from at (an_object p) f h =
     chosen_err (nat_lt (parts (type_of_path p)) 1024) _ _ f _ h (λ b h. cc)
     (λ b h. inl (same_fault Thing (too_big at.at) f h, no_less (parts (type_of_path p)) 1024 b))
 address_fault from at (a_function f_at n t) f h = cc
 address_fault from at (a_function_at e) f h = cc
-address_fault from at (a_value e) f h = inr (inl (same_fault Thing (ill_typed R.Lvalue at.at) f h, tt))
+address_fault from at (a_value e) f h = inr (inl (tt, same_fault Thing (misplaced (a_value e) R.Lvalue at.at from) f h))
 address_fault from at (a_library_function f_at which) f h = inr (inr (same_fault Thing (ill_typed R.Library from) f h, tt))
 
 pub deref_fault : (count : ℕ) (at : Place) (x : Expression) (f : Fault) → deref_in count at x ≡ Err f
@@ -319,34 +320,41 @@ not_fault at x f h = let b = unless_err (is_scalar (type_of x)) _ _ _ f h in (b.
 
 -- ---- `sizeof` and casts (6.5.3.4, 6.5.4)
 
-pub sized_fault : (records : List Record) (count at : ℕ) (t : CType) → count ≤ length records → (f : Fault) → sized_type records count at t ≡ Err f
-    → ((f ≡ ill_typed R.Incomplete at) × (is_object count t ≡ false)) ⊎ ((f ≡ too_big at) × (16777216 < size_of records t))
-unfolding sized_type
-sized_fault records count at t l f h =
+sized_or_fault : (records : List Record) (count at : ℕ) (sizeless : Fault) (t : CType) → count ≤ length records → (f : Fault)
+    → sized_or records count at sizeless t ≡ Err f
+    → ((f ≡ sizeless) × (is_object count t ≡ false)) ⊎ ((f ≡ too_big at) × (16777216 < size_of records t))
+sized_or_fault records count at sizeless t l f h =
     chosen_err (is_complete records count t) _ _ f _ h
     (λ b h. chosen_err (nat_le (size_of records t) 16777216) _ _ f _ h (λ c h. cc)
     (λ c h. inr (same_fault CType (too_big at) f h, over (size_of records t) 16777216 c)))
-    (λ b h. inl (same_fault CType (ill_typed R.Incomplete at) f h, incomplete records count t l b))
+    (λ b h. inl (same_fault CType sizeless f h, incomplete records count t l b))
 
-abbrev Unmeasured : List Record → (count at : ℕ) → Thing → Fault → Type 0
-Unmeasured records count at th f = ((f ≡ ill_typed R.Incomplete at) × IsSizeless count th)
+pub sized_fault : (records : List Record) (count at : ℕ) (t : CType) → count ≤ length records → (f : Fault) → sized_type records count at t ≡ Err f
+    → ((f ≡ ill_typed R.Incomplete at) × (is_object count t ≡ false)) ⊎ ((f ≡ too_big at) × (16777216 < size_of records t))
+unfolding sized_type
+sized_fault records count at t l f h = sized_or_fault records count at (ill_typed R.Incomplete at) t l f h
+
+abbrev Unmeasured : List Record → (count at from : ℕ) → Thing → Fault → Type 0
+Unmeasured records count at from th f = (IsSizeless count th × (f ≡ misplaced th R.Incomplete at from))
     ⊎ ((f ≡ too_big at) × ((t : CType) × IsOfType th t × (16777216 < size_of records t)))
 
-unmeasured : (records : List Record) (count at : ℕ) (th : Thing) (t : CType) → (is_object count t ≡ false → IsSizeless count th) → IsOfType th t → (f : Fault)
-    → ((f ≡ ill_typed R.Incomplete at) × (is_object count t ≡ false)) ⊎ ((f ≡ too_big at) × (16777216 < size_of records t)) → Unmeasured records count at th f
-unmeasured records count at th t sizeless is f (inl b) = inl (b.0, sizeless b.1)
-unmeasured records count at th t sizeless is f (inr b) = inr (b.0, (t, is, b.1))
+unmeasured : (records : List Record) (count at from : ℕ) (th : Thing) (t : CType) → (is_object count t ≡ false → IsSizeless count th) → IsOfType th t
+    → count ≤ length records → (f : Fault) → sized_or records count at (misplaced th R.Incomplete at from) t ≡ Err f → Unmeasured records count at from th f
+unmeasured records count at from th t sizeless is l f h = by_rule (sized_or_fault records count at (misplaced th R.Incomplete at from) t l f h)
+  where
+    by_rule : ((f ≡ misplaced th R.Incomplete at from) × (is_object count t ≡ false)) ⊎ ((f ≡ too_big at) × (16777216 < size_of records t))
+        → Unmeasured records count at from th f
+    by_rule (inl b) = inl (sizeless b.1, b.0)
+    by_rule (inr b) = inr (b.0, (t, is, b.1))
 
-pub measured_fault : (records : List Record) (count at : ℕ) (th : Thing) → count ≤ length records → (f : Fault) → measured_in records count at th ≡ Err f
-    → Unmeasured records count at th f
+pub measured_fault : (records : List Record) (count at from : ℕ) (th : Thing) → count ≤ length records → (f : Fault)
+    → measured_in records count at from th ≡ Err f → Unmeasured records count at from th f
 unfolding measured_in measured_type
-measured_fault records count at (an_object p) l f h =
-    unmeasured records count at (an_object p) (type_of_path p) (λ e. e) refl f (sized_fault records count at (type_of_path p) l f h)
-measured_fault records count at (a_value e) l f h =
-    unmeasured records count at (a_value e) (type_of e) (λ e. e) refl f (sized_fault records count at (type_of e) l f h)
-measured_fault records count at (a_function from n t) l f h = inl (same_fault CType (ill_typed R.Incomplete at) f h, tt)
-measured_fault records count at (a_function_at e) l f h = inl (same_fault CType (ill_typed R.Incomplete at) f h, tt)
-measured_fault records count at (a_library_function from which) l f h = inl (same_fault CType (ill_typed R.Incomplete at) f h, tt)
+measured_fault records count at from (an_object p) l f h = unmeasured records count at from (an_object p) (type_of_path p) (λ e. e) refl l f h
+measured_fault records count at from (a_value e) l f h = unmeasured records count at from (a_value e) (type_of e) (λ e. e) refl l f h
+measured_fault records count at from (a_function f_at n t) l f h = inl (tt, same_fault CType (ill_typed R.Incomplete at) f h)
+measured_fault records count at from (a_function_at e) l f h = inl (tt, same_fault CType (ill_typed R.Incomplete at) f h)
+measured_fault records count at from (a_library_function f_at which) l f h = inl (tt, same_fault CType (ill_typed R.Incomplete at) f h)
 
 pub cast_fault : (at : Place) (t : CType) (x : Expression) (f : Fault) → cast_in at t x ≡ Err f
     → (f ≡ ill_typed R.Cast at.at) × (casts (type_of x) (null x) t ≡ false)
@@ -421,16 +429,16 @@ pub assigned_fault : (op_at : ℕ) (at : Place) (p : Path) (x : Expression) (f :
 unfolding assigned_in
 assigned_fault op_at at p x f h = let b = unless_err (assigns (type_of x) (null x) (type_of_path p)) _ _ _ f h in (b.1, b.0)
 
-pub copied_fault : (op_at : ℕ) (at : Place) (p : Path) (th : Thing) (f : Fault) → copied_in op_at at p th ≡ Err f
-    → (f ≡ ill_typed R.Assign op_at) × IsNoRecord th (type_of_path p)
+pub copied_fault : (op_at from : ℕ) (at : Place) (p : Path) (th : Thing) (f : Fault) → copied_in op_at from at p th ≡ Err f
+    → IsNoRecord th (type_of_path p) × (f ≡ misplaced th R.Assign op_at from)
 unfolding copied_in
-copied_fault op_at at p (an_object q) f h =
+copied_fault op_at from at p (an_object q) f h =
     let b = unless_err (same_type (type_of_path q) (type_of_path p)) _ _ _ f h in
-    (b.1, λ e. let g = same_self (type_of_path q) (type_of_path p) e in let c = b.0 in cc)
-copied_fault op_at at p (a_value e) f h = (same_fault Thing (ill_typed R.Assign op_at) f h, tt)
-copied_fault op_at at p (a_function f_at n t) f h = (same_fault Thing (ill_typed R.Assign op_at) f h, tt)
-copied_fault op_at at p (a_function_at e) f h = (same_fault Thing (ill_typed R.Assign op_at) f h, tt)
-copied_fault op_at at p (a_library_function f_at which) f h = (same_fault Thing (ill_typed R.Assign op_at) f h, tt)
+    (λ e. let g = same_self (type_of_path q) (type_of_path p) e in let c = b.0 in cc, b.1)
+copied_fault op_at from at p (a_value e) f h = (tt, same_fault Thing (misplaced (a_value e) R.Assign op_at from) f h)
+copied_fault op_at from at p (a_function f_at n t) f h = (tt, same_fault Thing (ill_typed R.Assign op_at) f h)
+copied_fault op_at from at p (a_function_at e) f h = (tt, same_fault Thing (ill_typed R.Assign op_at) f h)
+copied_fault op_at from at p (a_library_function f_at which) f h = (tt, same_fault Thing (ill_typed R.Assign op_at) f h)
 
 pub updated_fault : (count op_at : ℕ) (at : Place) (op : BinaryOp) (p : Path) (x : Expression) (f : Fault) → updated_in count op_at at op p x ≡ Err f
     → (f ≡ ill_typed R.Operands op_at) × (updating count op (type_of_path p) (type_of x) ≡ None)

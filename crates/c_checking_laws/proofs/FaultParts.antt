@@ -22,12 +22,13 @@ use Rattle.c_erasure.specs.Erasure.{place_in, Erases}
 use Rattle.c_erasure.specs.Noted.{Expression, Path, Thing, an_object, type_of_path}
 use Rattle.c_erasure.specs.Operators.{kind_of, update_of, step_of}
 use Rattle.c_erasure.specs.Scopes.{FileScope, Scope, ended, measured, for_value, Purpose, in_full, value_alone, type_alone}
-use Rattle.c_checking.specs.Answers.{Answer, ◌>>=◌, Checked, with_file, moved}
-use Rattle.c_checking.specs.Nodes.{worth, array_of, element_in, index_in, dot_in, arrow_in, step_in, address_in, deref_in, unary_in, not_in, measured_in}
-use Rattle.c_checking.specs.Nodes.{binary_in, tested}
-use Rattle.c_checking.specs.Nodes.{chosen_in, Target, scalar_at, record_at, path_of, target_in, assigned_in, copied_in, updated_in, comma_in}
-use Rattle.c_checking.specs.Declaring.{constant_in, literal_in, literal_for}
-use Rattle.c_checking.specs.Finding.{complete, value_at, tested_at, on_value, unary_on, constant_at, subscripted, assigned}
+use Rattle.c_erasure.specs.Checking.Answers.{Answer, ◌>>=◌, Checked, with_file, moved}
+use Rattle.c_erasure.specs.Checking.Nodes.{worth, array_of, element_in, index_in, dot_in, arrow_in, step_in, address_in, deref_in, unary_in, not_in}
+use Rattle.c_erasure.specs.Checking.Nodes.{measured_in}
+use Rattle.c_erasure.specs.Checking.Nodes.{binary_in, tested}
+use Rattle.c_erasure.specs.Checking.Nodes.{chosen_in, Target, scalar_at, record_at, path_of, target_in, assigned_in, copied_in, updated_in, comma_in}
+use Rattle.c_erasure.specs.Checking.Declaring.{constant_in, literal_in, literal_for}
+use Rattle.c_erasure.specs.Checking.Finding.{complete, value_at, tested_at, on_value, unary_on, constant_at, subscripted, assigned}
 use Rattle.c_checking_laws.proofs.Results.{bound_ok, with_file_ok}
 use Rattle.c_checking_laws.proofs.Extends.{Extends, itself, further, constants_stay}
 use Rattle.c_checking_laws.proofs.Agreement.{IsObjectType, IsSteady}
@@ -180,7 +181,7 @@ module _ (untagged : ℕ → List ℕ) (May : FileScope → Type 0) where
       let g = constants_stay v.grew.extends (λ ends file. dot_in y.1.records (ended ends at) x.from (place_in s (first a)) y.0 x.text ≡ Err f) h in
       let l = constants_stay v.grew.extends (λ ends file. ended ends at ≤ length y.1.records) (known y e) in
       let n = dot_fault (moved s y.1) at x.from (place_in s (first a)) y.0 x.text l f g in
-      there May s (λ s. IsBroken (Trees.dot a at x) s f) y.1 (part.reaches y e) (inr (n.0, (y.0, thing_stands v y.1 (itself y.1), n.1), n.2)))
+      there May s (λ s. IsBroken (Trees.dot a at x) s f) y.1 (part.reaches y e) (inr (n.0, (y.0, thing_stands v y.1 (itself y.1), (n.1, n.2)))))
 
   pub arrow_stops : (s : Scope) (a : Trees.Expression) (at : ℕ) (x : Spelling) (r : Checked Thing) → Read s a r
       → ((y : Expression × FileScope) → value_at (first a) r ≡ Ok y → ended s.file.ends (first a) ≤ length y.1.records) → (f : Fault)
@@ -286,11 +287,11 @@ module _ (untagged : ℕ → List ℕ) (May : FileScope → Type 0) where
       (address_fault (first a) (place_in s at) y.0 f (with_file_err y.1 (address_in (first a) (place_in s at) y.0) f h)))))
     where
       by_rule : (y : Thing × FileScope) → IsThing a (moved s y.1) y.0
-          → ((f ≡ Broken.too_big at) × Broken.IsOfGreatestType y.0) ⊎ ((f ≡ ill_typed R.Lvalue at) × Broken.IsOnlyValue y.0)
+          → ((f ≡ Broken.too_big at) × Broken.IsOfGreatestType y.0) ⊎ (Broken.IsOnlyValue y.0 × (f ≡ Broken.misplaced y.0 R.Lvalue at (first a)))
           ⊎ ((f ≡ ill_typed R.Library (first a)) × Broken.IsLibrary y.0)
           → IsBrokenUnary U.Address at a (moved s y.1) f
       by_rule y t (inl n) = inl (n.0, (y.0, t, n.1))
-      by_rule y t (inr (inl n)) = inr (inl (n.0, (y.0, t, n.1)))
+      by_rule y t (inr (inl n)) = inr (inl (y.0, t, n))
       by_rule y t (inr (inr n)) = inr (inr (n.0, (y.0, t, n.1)))
   unary_stops s U.Deref at a r part f h = value_stops s U.Deref at a r part f (λ s n. inl n) (λ x v h. on_value_stops s U.Deref (λ e. cc) at a x v f h) h
   unary_stops s U.Plus at a r part f h = value_stops s U.Plus at a r part f (λ s n. inl n) (λ x v h. on_value_stops s U.Plus (λ e. cc) at a x v f h) h
@@ -303,19 +304,20 @@ module _ (untagged : ℕ → List ℕ) (May : FileScope → Type 0) where
 
   pub sizeof_stops : (s : Scope) (at : ℕ) (a : Trees.Expression) (r : Checked Thing) → Read (measured s) a r
       → ((y : Thing × FileScope) → r ≡ Ok y → ended s.file.ends at ≤ length y.1.records) → (f : Fault) → (y : Thing × FileScope) → r ≡ Ok y
-      → measured_in y.1.records (complete s at) at y.0 ≡ Err f → Results.Broken May s (λ s. IsBroken (Trees.sizeof_expression at a) s f)
+      → measured_in y.1.records (complete s at) at (first a) y.0 ≡ Err f → Results.Broken May s (λ s. IsBroken (Trees.sizeof_expression at a) s f)
   sizeof_stops s at a r part known f y e h =
       let v = part.sound y e in
       let q : Extends s.file y.1 = v.grew.extends in
-      let g = constants_stay q (λ ends file. measured_in y.1.records (ended ends at) at y.0 ≡ Err f) h in
+      let g = constants_stay q (λ ends file. measured_in y.1.records (ended ends at) at (first a) y.0 ≡ Err f) h in
       let l = constants_stay q (λ ends file. ended ends at ≤ length y.1.records) (known y e) in
       there May s (λ s. IsBroken (Trees.sizeof_expression at a) s f) y.1 (part.reaches y e)
-      (by_rule (thing_stands v y.1 (itself y.1)) (measured_fault y.1.records (ended y.1.ends at) at y.0 l f g))
+      (by_rule (thing_stands v y.1 (itself y.1)) (measured_fault y.1.records (ended y.1.ends at) at (first a) y.0 l f g))
     where
       by_rule : IsThing a (measured (moved s y.1)) y.0
-          → ((f ≡ ill_typed R.Incomplete at) × Broken.IsSizeless (ended y.1.ends at) y.0) ⊎ ((f ≡ Broken.too_big at) × Broken.IsOfGreatSize (moved s y.1) y.0)
+          → (Broken.IsSizeless (ended y.1.ends at) y.0 × (f ≡ Broken.misplaced y.0 R.Incomplete at (first a)))
+          ⊎ ((f ≡ Broken.too_big at) × Broken.IsOfGreatSize (moved s y.1) y.0)
           → IsBroken (Trees.sizeof_expression at a) (moved s y.1) f
-      by_rule t (inl n) = inr (inl (n.0, (y.0, t, n.1)))
+      by_rule t (inl n) = inr (inl (y.0, t, n))
       by_rule t (inr n) = inr (inr (n.0, (y.0, t, n.1)))
 
   -- ---- binary operators, `?:`, assignments and the comma (6.5.5 to 6.5.17)
@@ -443,7 +445,7 @@ module _ (untagged : ℕ → List ℕ) (May : FileScope → Type 0) where
           bound_err (right y.1) _ f (Results.Broken May s (λ s. IsBroken (Trees.assign a op at b) s f)) h (λ k. broken (part.names f k))
           (λ x k h.
           let u = part.sound x k in
-          let n = copied_fault at (place_in s (first a)) to x.0 f (with_file_err x.1 (copied_in at (place_in s (first a)) to x.0) f h) in
+          let n = copied_fault at (first b) (place_in s (first a)) to x.0 f (with_file_err x.1 (copied_in at (first b) (place_in s (first a)) to x.0) f h) in
           let z : IsThing a (moved s x.1) (an_object to) = subst (IsThing a (moved s x.1)) w (thing_stands v x.1 u.grew.extends) in
           ruled x.1 (reaches_then r (part.reaches x k)) None e
-          (inr (type_of_path to, n.0, (an_object to, z, (refl, ap is_record i.1)), (x.0, thing_stands u x.1 (itself x.1), n.1))))
+          (inr (type_of_path to, (an_object to, z, (refl, ap is_record i.1)), (x.0, thing_stands u x.1 (itself x.1), n))))

@@ -18,7 +18,7 @@ use Rattle.c_erasure.specs.Marks.{Mark, a_tag, an_end, a_name, marks, marks_of_t
 use Rattle.c_erasure.specs.Marks.{marks_of_member_declarators, marks_of_value, marks_of_declarator, tags_in, defined_in, scope_beginnings}
 use Rattle.c_erasure.specs.Noted.{Thing, an_object, a_value, a_function, a_function_at, a_library_function}
 use Rattle.c_erasure.specs.Scopes.{Bound, ALocal, Tag, FileScope, Scope, ended, declared}
-use Rattle.c_checking.specs.Declaring.{number_among}
+use Rattle.c_erasure.specs.Checking.Declaring.{number_among}
 use Rattle.c_checking_laws.proofs.Extends.{kept, behind}
 use Rattle.c_checking_laws.proofs.Agreement as Agreement
 use Rattle.c_checking_laws.proofs.Agreement.{IsObjectType, IsSteady, AreBegun, IsReady, IsGrown, added, beginnings_append}

@@ -5,8 +5,8 @@ use Rattle.lay_base.specs.declared.faults.Rule.{Rule}
 use Rattle.c_erasure.specs.Broken.{Fault, ill_typed}
 use Rattle.c_erasure.specs.Marks.{Mark, a_tag}
 use Rattle.c_erasure.specs.Scopes.{Tag, FileScope, Scope, inside, measured, for_value, is_measured}
-use Rattle.c_checking.specs.Answers.{Answer, ◌>>=◌, refused, with_file, moved}
-use Rattle.c_checking.specs.Nodes.{or_else}
+use Rattle.c_erasure.specs.Checking.Answers.{Answer, ◌>>=◌, refused, with_file, moved}
+use Rattle.c_erasure.specs.Checking.Nodes.{or_else}
 use Rattle.c_checking_laws.proofs.Extends.{Extends, itself, further}
 use Rattle.c_checking_laws.proofs.Settled.{Settles}
 use Rattle.c_checking_laws.proofs.Agreement.{added, Grew}

@@ -15,8 +15,8 @@ use Rattle.c_erasure.specs.Erasure.{IsBase, IsOne, Declares, IsTypeName, IsNew}
 use Rattle.c_erasure.specs.Marks.{a_tag}
 use Rattle.c_erasure.specs.Noted.{Thing}
 use Rattle.c_erasure.specs.Scopes.{FileScope, Scope, Tag, ended}
-use Rattle.c_checking.specs.Answers.{Answer, ◌>>=◌, with_file}
-use Rattle.c_checking.specs.Declaring.{new_if_named}
+use Rattle.c_erasure.specs.Checking.Answers.{Answer, ◌>>=◌, with_file}
+use Rattle.c_erasure.specs.Checking.Declaring.{new_if_named}
 use Rattle.c_checking_laws.proofs.Agreement.{added}
 use Rattle.c_checking_laws.proofs.Declared.{new_is}
 use Rattle.c_checking_laws.proofs.Results.{with_file_ok}

@@ -10,9 +10,9 @@ use Rattle.c_erasure.specs.Broken.{Fault, ill_typed, HasLengths, IsBrokenDeclara
 use Rattle.c_erasure.specs.Declarators.{Shape, is_name}
 use Rattle.c_erasure.specs.Marks.{marks, marks_of_declarator}
 use Rattle.c_erasure.specs.Scopes.{FileScope, Scope, inside, ended, for_value}
-use Rattle.c_checking.specs.Answers.{◌>>=◌, moved}
-use Rattle.c_checking.specs.Declaring.{Derivation, to_pointer, to_array, to_open_array, to_function, small, element, result_type, derived, length_value}
-use Rattle.c_checking.specs.Finding.{complete, value_at, constant_at, find, derivations, array_step, parameter_list}
+use Rattle.c_erasure.specs.Checking.Answers.{◌>>=◌, moved}
+use Rattle.c_erasure.specs.Checking.Declaring.{Derivation, to_pointer, to_array, to_open_array, to_function, small, element, result_type, derived, length_value}
+use Rattle.c_erasure.specs.Checking.Finding.{complete, value_at, constant_at, find, derivations, array_step, parameter_list}
 use Rattle.c_checking_laws.proofs.InRange.{IsDeclaratorInRange}
 use Rattle.c_checking_laws.proofs.Results.{bound_ok, bound_with, given}
 use Rattle.c_checking_laws.proofs.Extends.{Extends, further, records_grow, constants_stay}

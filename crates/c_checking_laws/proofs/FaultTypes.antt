@@ -15,9 +15,9 @@ use Rattle.c_erasure.specs.Marks as Marks
 use Rattle.c_erasure.specs.Marks.{Mark, a_tag, an_end, a_name, marks_of_specifier}
 use Rattle.c_erasure.specs.Scopes.{Bound, FileScope, Scope}
 use Rattle.c_erasure.specs.Specifiers.{types_among}
-use Rattle.c_checking.specs.Answers.{Checked, with_file, moved}
-use Rattle.c_checking.specs.Declaring.{Derivation, derived, base_kind, tagged_in, enumerated_in, completed_in, enumerator_in}
-use Rattle.c_checking.specs.Finding.{base_type, type_of_derived}
+use Rattle.c_erasure.specs.Checking.Answers.{Checked, with_file, moved}
+use Rattle.c_erasure.specs.Checking.Declaring.{Derivation, derived, base_kind, tagged_in, enumerated_in, completed_in, enumerator_in}
+use Rattle.c_erasure.specs.Checking.Finding.{base_type, type_of_derived}
 use Rattle.c_typed.specs.Conversions.{is_scalar}
 use Rattle.c_checking_laws.proofs.Results.{ok}
 use Rattle.c_checking_laws.proofs.Extends.{itself}

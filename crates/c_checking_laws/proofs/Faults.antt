@@ -23,14 +23,17 @@ use Rattle.c_erasure.specs.MentionPlaces.{spoken_of_parameters}
 use Rattle.c_erasure.specs.Noted.{Noted, Thing}
 use Rattle.c_erasure.specs.Scopes.{FileScope, Scope, inside, measured, for_value, is_measured, named, ended}
 use Rattle.c_erasure.specs.Specifiers.{types_among, storage_of, is_word}
-use Rattle.c_checking.specs.Answers.{moved}
-use Rattle.c_checking.specs.Nodes.{worth, named_in, signature_in, argument_in, call_in, target_in, measured_in, sized_type, cast_in}
-use Rattle.c_checking.specs.Declaring.{with_mention, mentions_in, derived, length_value, object_at, base_kind, without_storage, parameter_storage}
-use Rattle.c_checking.specs.Declaring.{scalar_parameter}
-use Rattle.c_checking.specs.Declaring.{enumerator_in, type_named, definable, known_tag, int_value, next_value, enumeration_of}
-use Rattle.c_checking.specs.Finding.{complete, value_at, constant_at, base_type, type_of_derived, find, arguments, type_name, one_of, specified, members}
-use Rattle.c_checking.specs.Finding.{with_member, member_declarators, enumerators, enumerator_value, derivations, array_step, parameter_list, parameters}
-use Rattle.c_checking_laws.proofs.InRange.{IsInRange, AreInRange, IsTypeInRange, AreSpecifiersInRange, IsSpecifierInRange, AreMembersInRange, AreDeclaratorsInRange}
+use Rattle.c_erasure.specs.Checking.Answers.{moved}
+use Rattle.c_erasure.specs.Checking.Nodes.{worth, named_in, signature_in, argument_in, call_in, target_in, measured_in, sized_type, cast_in}
+use Rattle.c_erasure.specs.Checking.Declaring.{with_mention, mentions_in, derived, length_value, object_at, base_kind, without_storage, parameter_storage}
+use Rattle.c_erasure.specs.Checking.Declaring.{scalar_parameter}
+use Rattle.c_erasure.specs.Checking.Declaring.{enumerator_in, type_named, definable, known_tag, int_value, next_value, enumeration_of}
+use Rattle.c_erasure.specs.Checking.Finding.{complete, value_at, constant_at, base_type, type_of_derived, find, arguments, type_name, one_of, specified}
+use Rattle.c_erasure.specs.Checking.Finding.{members}
+use Rattle.c_erasure.specs.Checking.Finding.{with_member, member_declarators, enumerators, enumerator_value, derivations, array_step, parameter_list}
+use Rattle.c_erasure.specs.Checking.Finding.{parameters}
+use Rattle.c_checking_laws.proofs.InRange.{IsInRange, AreInRange, IsTypeInRange, AreSpecifiersInRange, IsSpecifierInRange, AreMembersInRange}
+use Rattle.c_checking_laws.proofs.InRange.{AreDeclaratorsInRange}
 use Rattle.c_checking_laws.proofs.InRange.{AreEnumeratorsInRange, IsValueInRange, IsDeclaratorInRange, IsListInRange, AreParametersInRange}
 use Rattle.c_checking_laws.proofs.Extends.{Extends, itself, further, records_grow, at_end, bound_stays, constants_stay}
 use Rattle.c_checking_laws.proofs.Agreement.{added, none_grown, then}
@@ -40,7 +43,8 @@ use Rattle.c_checking_laws.proofs.Derived.{type_derived, object_is}
 use Rattle.c_checking_laws.proofs.Found.{valued}
 use Rattle.c_checking_laws.proofs.FoundTypes.{base_found, bound_of, enumerator_grown}
 use Rattle.c_checking_laws.proofs.FoundDeclarators.{ready_in, parameter_inside, behind_parameter, parameter_made}
-use Rattle.c_checking_laws.proofs.Sound.{sound, sound_type, sound_one, sound_members, sound_declarators, sound_value, sound_steps, sound_enumerators, constant_part}
+use Rattle.c_checking_laws.proofs.Sound.{sound, sound_type, sound_one, sound_members, sound_declarators, sound_value, sound_steps, sound_enumerators}
+use Rattle.c_checking_laws.proofs.Sound.{constant_part}
 use Rattle.c_checking_laws.proofs.FaultResults.{Allows, allows_left, allows_right, allows_tag, allows_said, allows_marks, allows_measured, allows_value}
 use Rattle.c_checking_laws.proofs.FaultResults.{allows_inside, allows_there, reaches_then, reaches_outside, reached}
 use Rattle.c_checking_laws.proofs.FaultAdditions.{of, of_all, of_type, of_specifiers, of_specifier, of_members, of_fields, of_enumerators, of_value}
@@ -58,13 +62,16 @@ use Rattle.c_checking_laws.proofs.FaultDeclaring.{object_fault}
 use Rattle.c_checking_laws.proofs.FaultDeclaring.{orderly_stays, storage_fault, parameter_storage_fault, scalar_fault}
 use Rattle.c_checking_laws.proofs.FaultPremises.{Prepared, inside_prepared, left, right, known_after, IsTimely, AreTimely, IsTypeTimely}
 use Rattle.c_checking_laws.proofs.FaultPremises.{AreSpecifiersTimely, IsSpecifierTimely, AreMembersTimely}
-use Rattle.c_checking_laws.proofs.FaultPremises.{AreDeclaratorsTimely, AreEnumeratorsTimely, IsValueTimely, IsDeclaratorTimely, IsListTimely, AreParametersTimely}
+use Rattle.c_checking_laws.proofs.FaultPremises.{AreDeclaratorsTimely, AreEnumeratorsTimely, IsValueTimely, IsDeclaratorTimely, IsListTimely}
+use Rattle.c_checking_laws.proofs.FaultPremises.{AreParametersTimely}
 use Rattle.c_checking_laws.proofs.FaultRules.{tag_ends_nothing, new_stops, Stop, arguments_broken, argument_behind, size_broken, shape_broken, field_broken}
 use Rattle.c_checking_laws.proofs.FaultRules.{StopsAtValue, enumerator_broken}
 use Rattle.c_checking_laws.proofs.FaultSteps.{read_steps, asked}
-use Rattle.c_checking_laws.proofs.FaultParts.{literal_stops, Read, thing_stands, value_stands, worthless, value_part, constant_stops, StopsAtConstant, index_stops}
+use Rattle.c_checking_laws.proofs.FaultParts.{literal_stops, Read, thing_stands, value_stands, worthless, value_part, constant_stops, StopsAtConstant}
+use Rattle.c_checking_laws.proofs.FaultParts.{index_stops}
 use Rattle.c_checking_laws.proofs.FaultParts.{dot_stops}
-use Rattle.c_checking_laws.proofs.FaultParts.{arrow_stops, post_stops, pre_stops, unary_stops, sizeof_stops, binary_stops, comma_stops, tested_part, choice_stops}
+use Rattle.c_checking_laws.proofs.FaultParts.{arrow_stops, post_stops, pre_stops, unary_stops, sizeof_stops, binary_stops, comma_stops, tested_part}
+use Rattle.c_checking_laws.proofs.FaultParts.{choice_stops}
 use Rattle.c_checking_laws.proofs.FaultParts.{assign_stops}
 use Rattle.c_checking_laws.proofs.FaultTypes.{within_broken, base_stops, shape_stops, struct_named_stops, enum_named_stops, struct_body_stops, enumerator_stops}
 use Rattle.c_checking_laws.proofs.FaultTypes.{prepared_inside}
@@ -165,7 +172,7 @@ module _ (untagged : ℕ → List ℕ) (ends : List ℕ) (May : FileScope → Ty
         let part = reading a (measured s) i p in_a (λ f k. faults a (measured s) n i p l t.0 in_a f k) in
         bound_err (find a (measured s)) _ f (Broken May s (λ s. IsBroken (Trees.sizeof_expression at a) s f)) h
         (λ e. let b = part.names f e in record { file = b.file; reaches = b.reaches; is = inl b.is })
-        (λ y e h. beside_err y.1 (measured_in y.1.records (complete s at) at y.0) _ f (Broken May s (λ s. IsBroken (Trees.sizeof_expression at a) s f)) h
+        (λ y e h. beside_err y.1 (measured_in y.1.records (complete s at) at (first a) y.0) _ f (Broken May s (λ s. IsBroken (Trees.sizeof_expression at a) s f)) h
         (λ k. sizeof_stops untagged May s at a (find a (measured s)) part
         (λ y e. asked untagged ends s (n + added s.is_inside (marks untagged a)) at y.1 p.ends_are t.1 (known_after n l (part.sound y e).grew)) f y e k)
         (λ u k h. cc))
@@ -658,13 +665,14 @@ module _ (untagged : ℕ → List ℕ) (ends : List ℕ) (May : FileScope → Ty
         let r = reached May s v.grew (grow_steps untagged d s p.untagged_are steps e) in_d in
         let in_list = allows_inside May (moved s steps.1) [] [] (spoken_of_list all) []
         (allows_right May s (of_list all) (grow_steps untagged d s p.untagged_are steps e) list) in
+        let y = read_steps untagged ends d s n i.0 p.ready p.ends_are l t.0 steps e in
         let own = inside (moved s steps.1) in
         let q = inside_prepared untagged ends {i = true} refl [] (ready_in s u steps.1 p.ready v.grew) (v.grew.extends.ends ∙ p.ends_are)
         (v.grew.extends.untagged ∙ p.untagged_are) (v.grew.steady p.steady) (orderly_stays v.grew.extends p.orderly) p.locals_are in
         bound_err (parameter_list all own) _ f (Broken May s (λ s. IsBrokenWithin (Trees.function d from all to) s f)) h
         (λ k.
         let b = faults_list all own (n + added s.is_inside u) refl i.1 q (known_after n l v.grew) t.1 in_list f k in
-        record { file = b.file; reaches = reaches_then r (reaches_outside s.is_inside b.reaches); is = inr b.is })
+        record { file = b.file; reaches = reaches_then r (reaches_outside s.is_inside b.reaches); is = inr (y.lengths b.file b.reaches.extends, b.is) })
         (λ types k h. cc))
 
     pub faults_list : (all : Trees.ParameterList) (s : Scope) (n : ℕ) → s.is_inside ≡ true → IsListInRange all → Prepared untagged ends s []

@@ -1,4 +1,4 @@
--- Each fault at which finding stops in a well formed part of a text is one: the theorem of `c_checking`, with what it asks of the tree shown.
+-- Each fault at which finding stops in a well formed part of a text is one: the theorem of `c_erasure`, with what it asks of the tree shown.
 use Rattle.std.proofs.Common.{◌≡◌, ℕ, ◌+◌, List, arith, length}
 use Rattle.std.specs.Prelude.{Err, false}
 use Rattle.c_ast.specs.Trees
@@ -9,8 +9,8 @@ use Rattle.c_erasure.specs.Broken.{Fault, IsBroken, IsBrokenTypeName, IsBrokenSp
 use Rattle.c_erasure.specs.Marks.{Mark, marks, marks_of_type, marks_of_specifier, marks_of_declarator}
 use Rattle.c_erasure.specs.Scopes.{FileScope, Scope}
 use Rattle.c_erasure.specs.Specifiers.{is_word}
-use Rattle.c_order.specs.Places.{AreOrdered}
-use Rattle.c_checking.specs.Finding.{find, type_name, specified, derivations}
+use Rattle.c_erasure.specs.MarkPlaces.Places.{AreOrdered}
+use Rattle.c_erasure.specs.Checking.Finding.{find, type_name, specified, derivations}
 use Rattle.c_checking_laws.proofs.Agreement.{added}
 use Rattle.c_checking_laws.proofs.InRange.{IsInRange, IsTypeInRange, IsSpecifierInRange, IsDeclaratorInRange}
 use Rattle.c_checking_laws.proofs.FaultAdditions.{of, of_type, of_specifier, of_declarator}

@@ -7,9 +7,9 @@ use Rattle.c_ast.specs.declared.operators.UnaryOp.TheVariants as U
 use Rattle.c_typed.specs.declared.operators.BinaryOp.{BinaryOp}
 use Rattle.c_erasure.specs.Noted.{Thing}
 use Rattle.c_erasure.specs.Scopes.{FileScope, Scope}
-use Rattle.c_checking.specs.Answers.{◌>>=◌, Checked, with_file}
-use Rattle.c_checking.specs.Nodes.{Target, scalar_at, record_at}
-use Rattle.c_checking.specs.Finding.{value_at, on_value, unary_on, assigned}
+use Rattle.c_erasure.specs.Checking.Answers.{◌>>=◌, Checked, with_file}
+use Rattle.c_erasure.specs.Checking.Nodes.{Target, scalar_at, record_at}
+use Rattle.c_erasure.specs.Checking.Finding.{value_at, on_value, unary_on, assigned}
 use Rattle.c_checking_laws.proofs.Results.{bound_ok}
 use Rattle.c_checking_laws.proofs.Adding.{file_beside, file_of_value}
 

@@ -23,12 +23,12 @@ use Rattle.c_erasure.specs.Marks.{marks, marks_of_all, marks_of_type}
 use Rattle.c_erasure.specs.Noted.{Noted, Expression, Path, Thing, an_object, a_value, nothing, type_of}
 use Rattle.c_erasure.specs.Operators.{kind_of, update_of, step_of}
 use Rattle.c_erasure.specs.Scopes.{FileScope, Scope, Entity, named, ended, declared, measured, for_value, IsMentioned}
-use Rattle.c_checking.specs.Answers.{Answer, ◌>>=◌, Checked, with_file, moved}
-use Rattle.c_checking.specs.Nodes.{worth, named_in, array_of, element_in, index_in, signature_in, argument_in, call_in, dot_in, arrow_in, step_in}
-use Rattle.c_checking.specs.Nodes.{address_in, deref_in, unary_in, not_in, size_node, sized_type, measured_in, cast_in, binary_in, tested, chosen_in}
-use Rattle.c_checking.specs.Nodes.{Target, scalar_at, record_at, path_of, target_in, assigned_in, copied_in, updated_in, comma_in}
-use Rattle.c_checking.specs.Declaring.{with_mention, mentions_in, literal_in, constant_in}
-use Rattle.c_checking.specs.Finding.{complete, value_at, tested_at, on_value, unary_on, constant_at, subscripted, assigned}
+use Rattle.c_erasure.specs.Checking.Answers.{Answer, ◌>>=◌, Checked, with_file, moved}
+use Rattle.c_erasure.specs.Checking.Nodes.{worth, named_in, array_of, element_in, index_in, signature_in, argument_in, call_in, dot_in, arrow_in, step_in}
+use Rattle.c_erasure.specs.Checking.Nodes.{address_in, deref_in, unary_in, not_in, size_node, sized_type, measured_in, cast_in, binary_in, tested, chosen_in}
+use Rattle.c_erasure.specs.Checking.Nodes.{Target, scalar_at, record_at, path_of, target_in, assigned_in, copied_in, updated_in, comma_in}
+use Rattle.c_erasure.specs.Checking.Declaring.{with_mention, mentions_in, literal_in, constant_in}
+use Rattle.c_erasure.specs.Checking.Finding.{complete, value_at, tested_at, on_value, unary_on, constant_at, subscripted, assigned}
 use Rattle.c_checking_laws.proofs.Results.{bound_ok, bound_with, ok, given, with_file_ok}
 use Rattle.c_checking_laws.proofs.Extends.{Extends, itself, further, record_stays, named_stays, constants_stay}
 use Rattle.c_checking_laws.proofs.Agreement.{fit_stay, named_fits, Ready, Grew, then}
@@ -37,7 +37,8 @@ use Rattle.c_checking_laws.proofs.NodesOfOne.{named_made, constant_made, unary_m
 use Rattle.c_checking_laws.proofs.NodesOfTwo.{element_made, index_made, binary_made, comma_made, target_made, IsTarget, target_type, assigned_made}
 use Rattle.c_checking_laws.proofs.NodesOfTwo.{copied_made, updated_made}
 use Rattle.c_checking_laws.proofs.NodesOfTwo.{tested_is, chosen_made}
-use Rattle.c_checking_laws.proofs.NodesOfParts.{dot_made, arrow_made, typed_all, signature_is, argument_made, call_made, IsSized, sized_is, measured_is, size_made}
+use Rattle.c_checking_laws.proofs.NodesOfParts.{dot_made, arrow_made, typed_all, signature_is, argument_made, call_made, IsSized, sized_is, measured_is}
+use Rattle.c_checking_laws.proofs.NodesOfParts.{size_made}
 use Rattle.c_checking_laws.proofs.Declared.{mentioned, is_mentioned, before_mention, nothing_grown, literal_made, constant_is}
 use Rattle.c_checking_laws.proofs.Declared as Parts
 use Rattle.c_checking_laws.proofs.Ranges.{constant_below}
@@ -288,10 +289,10 @@ module _ (untagged : ℕ → List ℕ) where
       subst (λ file. Stands (IsSize (moved s g) at by t) (moved s g) (size_node f.records (record { file = file; at = at }) t)) (further p e).file m
 
   pub sizeof_expression_found : (s : Scope) (at : ℕ) (a : Trees.Expression) (x : Thing × FileScope) → Found (measured s) a x → (t : CType)
-      → measured_in x.1.records (complete s at) at x.0 ≡ Ok t → (z : Thing × FileScope)
+      → measured_in x.1.records (complete s at) at (first a) x.0 ≡ Ok t → (z : Thing × FileScope)
       → ok (size_node x.1.records (place_in s at) t, with_mention s (mentions_in x.1) Sizeof t at x.1) ≡ Ok z → Found s (Trees.sizeof_expression at a) z
   sizeof_expression_found s at a x v t k z h =
-      let m = measured_is x.1.records (complete s at) at x.0 t k in
+      let m = measured_is x.1.records (complete s at) at (first a) x.0 t k in
       given (Found s (Trees.sizeof_expression at a)) _ z h (record {
         grew = mentioned s (mentions_in x.1) Sizeof t at v.grew;
         holds = λ g e.
@@ -404,8 +405,8 @@ module _ (untagged : ℕ → List ℕ) where
           let x = bound_ok (right p.1) _ z h in
           let w = later x.0 x.1 in
           concluded s (Trees.assign a op at b) x.0.1 (then v.grew w.grew)
-          (λ ends file. copied_in at (record { file = file; at = first a }) to x.0.0) z x.2
+          (λ ends file. copied_in at (first b) (record { file = file; at = first a }) to x.0.0) z x.2
           (λ g q h.
-          let m = copied_made (Erases a (moved s g)) (Erases b (moved s g)) (moved s g) (first a) at to
+          let m = copied_made (Erases a (moved s g)) (Erases b (moved s g)) (moved s g) (first a) at (first b) to
           (object g (further w.grew.extends q)) i.0 i.1 x.0.0 (w.holds g q) z.0 h in
           (inr (inl (m.0.0, m.0.1, m.0.2, e, m.0.3, m.0.4, m.0.5)), m.1, m.2))

@@ -14,10 +14,10 @@ use Rattle.c_erasure.specs.Erasure.{IsBase, IsOne, with_parameter_if_named, AreL
 use Rattle.c_erasure.specs.Marks.{Mark, marks_of_declarator, marks_of_specifiers}
 use Rattle.c_erasure.specs.Scopes.{FileScope, Scope, Bound, ALocal, inside, with_name, ended, IsMentioned}
 use Rattle.c_erasure.specs.Specifiers.{storage_of, no_storage, is_register}
-use Rattle.c_checking.specs.Answers.{Answer, ◌>>=◌, with_file, moved}
-use Rattle.c_checking.specs.Declaring.{with_mention, mentions_in, Derivation, to_pointer, to_array, to_open_array, to_function, derived, length_value}
-use Rattle.c_checking.specs.Declaring.{new_if_named, scalar_parameter}
-use Rattle.c_checking.specs.Finding.{complete}
+use Rattle.c_erasure.specs.Checking.Answers.{Answer, ◌>>=◌, with_file, moved}
+use Rattle.c_erasure.specs.Checking.Declaring.{with_mention, mentions_in, Derivation, to_pointer, to_array, to_open_array, to_function, derived, length_value}
+use Rattle.c_erasure.specs.Checking.Declaring.{new_if_named, scalar_parameter}
+use Rattle.c_erasure.specs.Checking.Finding.{complete}
 use Rattle.c_checking_laws.proofs.Results.{bound_ok, bound_with, ok, given}
 use Rattle.c_checking_laws.proofs.Extends.{Extends, further, constants_stay}
 use Rattle.c_checking_laws.proofs.Agreement.{IsFit, BlocksAreFit, one_more_fits, blocks_stay, Ready, Grew, then}

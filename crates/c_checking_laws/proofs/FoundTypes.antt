@@ -19,15 +19,16 @@ use Rattle.c_erasure.specs.Marks.{Mark, a_tag, an_end, a_name, marks, marks_of_s
 use Rattle.c_erasure.specs.Marks.{marks_of_member_declarators, marks_of_enumerators, marks_of_value, marks_of_declarator}
 use Rattle.c_erasure.specs.Scopes.{FileScope, Scope, Tag, typedef, enumerator, Bound, ALocal, defines, named, ended, tag_at}
 use Rattle.c_erasure.specs.Specifiers.{no_storage, types_among, storage_of}
-use Rattle.c_checking.specs.Answers.{Checked, with_file, moved}
-use Rattle.c_checking.specs.Declaring.{with_mention, mentions_in, tagged_in, enumerated_in, type_named, completed_in, enumerator_in}
-use Rattle.c_checking.specs.Declaring.{int_value, next_value, enumeration_of, Derivation, derived}
-use Rattle.c_checking.specs.Declaring.{object_at, base_kind, with_record, with_bound}
-use Rattle.c_checking.specs.Finding.{complete, base_type, type_of_derived, with_member}
+use Rattle.c_erasure.specs.Checking.Answers.{Checked, with_file, moved}
+use Rattle.c_erasure.specs.Checking.Declaring.{with_mention, mentions_in, tagged_in, enumerated_in, type_named, completed_in, enumerator_in}
+use Rattle.c_erasure.specs.Checking.Declaring.{int_value, next_value, enumeration_of, Derivation, derived}
+use Rattle.c_erasure.specs.Checking.Declaring.{object_at, base_kind, with_record, with_bound}
+use Rattle.c_erasure.specs.Checking.Finding.{complete, base_type, type_of_derived, with_member}
 use Rattle.c_checking_laws.proofs.Results.{bound_ok, ok, given, with_file_ok}
 use Rattle.c_checking_laws.proofs.Extends.{Extends, itself, further, records_grow, at_end, last_or, bound_stays, record_stays, named_stays, constants_stay}
 use Rattle.c_checking_laws.proofs.Agreement.{IsObjectType, IsSteady, AreBefore, fits_stay, added, IsReady, Ready, IsGrown, Grew, none_grown, then, left, right}
-use Rattle.c_checking_laws.proofs.Declared.{added_nothing, mentioned, is_mentioned, before_mention, nothing_grown, int_is, next_is, tagged_is, enumerated_is, type_named_is}
+use Rattle.c_checking_laws.proofs.Declared.{added_nothing, mentioned, is_mentioned, before_mention, nothing_grown, int_is, next_is, tagged_is, enumerated_is}
+use Rattle.c_checking_laws.proofs.Declared.{type_named_is}
 use Rattle.c_checking_laws.proofs.InRange.{HasMember}
 use Rattle.c_checking_laws.proofs.Settled.{object_more, object_whole, AreWhole, more_whole, first_whole, both_whole, one_more_settled}
 use Rattle.c_checking_laws.proofs.Declared.{record_grown, IsCompleted, completed_is, enumerator_is, bound_grown, enumeration_is}

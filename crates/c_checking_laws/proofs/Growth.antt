@@ -24,16 +24,16 @@ use Rattle.c_erasure.specs.Noted.{Noted, Expression, Path, Thing}
 use Rattle.c_erasure.specs.Operators.{update_of}
 use Rattle.c_erasure.specs.Scopes.{FileScope, Scope, Purpose, in_full, value_alone, type_alone, inside, measured, for_value, is_measured}
 use Rattle.c_erasure.specs.Specifiers.{types_among, storage_of}
-use Rattle.c_checking.specs.Answers.{Checked, moved}
-use Rattle.c_checking.specs.Nodes.{worth, array_of, signature_in, argument_in}
-use Rattle.c_checking.specs.Nodes.{measured_in, sized_type, target_in}
-use Rattle.c_checking.specs.Declaring.{with_record, with_mention, mentions_in, literal_for, literal_in, completed_in, enumerator_in}
-use Rattle.c_checking.specs.Declaring.{Derivation, derived, length_value, object_at, base_kind, without_storage, parameter_storage, scalar_parameter}
-use Rattle.c_checking.specs.Finding.{complete, value_at, tested_at, constant_at, subscripted, base_type}
-use Rattle.c_checking.specs.Finding.{type_of_derived, with_member}
-use Rattle.c_checking.specs.Finding.{find, arguments, type_name, one_of, specified, members, member_declarators, enumerators, enumerator_value}
-use Rattle.c_checking.specs.Finding.{derivations, array_step}
-use Rattle.c_checking.specs.Finding.{parameter_list, parameters}
+use Rattle.c_erasure.specs.Checking.Answers.{Checked, moved}
+use Rattle.c_erasure.specs.Checking.Nodes.{worth, array_of, signature_in, argument_in}
+use Rattle.c_erasure.specs.Checking.Nodes.{measured_in, sized_type, target_in}
+use Rattle.c_erasure.specs.Checking.Declaring.{with_record, with_mention, mentions_in, literal_for, literal_in, completed_in, enumerator_in}
+use Rattle.c_erasure.specs.Checking.Declaring.{Derivation, derived, length_value, object_at, base_kind, without_storage, parameter_storage, scalar_parameter}
+use Rattle.c_erasure.specs.Checking.Finding.{complete, value_at, tested_at, constant_at, subscripted, base_type}
+use Rattle.c_erasure.specs.Checking.Finding.{type_of_derived, with_member}
+use Rattle.c_erasure.specs.Checking.Finding.{find, arguments, type_name, one_of, specified, members, member_declarators, enumerators, enumerator_value}
+use Rattle.c_erasure.specs.Checking.Finding.{derivations, array_step}
+use Rattle.c_erasure.specs.Checking.Finding.{parameter_list, parameters}
 use Rattle.c_checking_laws.proofs.Results.{bound_ok, bound_with, chosen}
 use Rattle.c_checking_laws.proofs.Consistent.{enumerator_consistent}
 use Rattle.c_checking_laws.proofs.Declared.{no_storage_is, parameter_storage_is, unless_ok, completed_is, enumerator_is}
@@ -230,7 +230,7 @@ module _ (untagged : ℕ → List ℕ) where
     grow (Trees.sizeof_expression at a) s e z h =
         let x = bound_ok (find a (measured s)) _ z h in
         let v = measured_grows s (marks untagged a) (spoken a) (literals a) x.0.1 (grow a (measured s) e x.0 x.1) in
-        let t = bound_with x.0.1 (measured_in x.0.1.records (complete s at) at x.0.0) _ z x.2 in
+        let t = bound_with x.0.1 (measured_in x.0.1.records (complete s at) at (first a) x.0.0) _ z x.2 in
         file_of (Grows s (marks untagged a) (at ∷ []) []) _ z t.2 (mention_behind s Sizeof t.0 at v)
     grow (Trees.sizeof_type at from m to) s e z h =
         let x = bound_ok (type_name m s) _ z h in

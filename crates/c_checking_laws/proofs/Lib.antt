@@ -56,9 +56,12 @@ pub mod CompleteFor
 pub mod CompleteLocals
 pub mod CompleteBodies
 mod FaultExample
+mod ExamplesOfCopies
 pub mod CompleteSwitches
 pub mod CompleteArms
 mod CompleteExamples
 pub mod Ahead
 pub mod Timely
 pub mod FaultsInText
+pub mod WholeFiles
+pub mod TextOrder

@@ -5,13 +5,13 @@ use Rattle.c_tokens.specs.QuotedScan.{string_bytes}
 use Rattle.c_erasure.proofs.ExamplesOfRecords as Records
 use Rattle.c_erasure.proofs.ExamplesOfLoops as Loops
 use Rattle.c_erasure.proofs.ManyItems as Many
-use Rattle.c_checking.specs.Nodes
-use Rattle.c_checking.specs.Declaring
-use Rattle.c_checking.specs.Finding
-use Rattle.c_checking.specs.Initializers
-use Rattle.c_checking.specs.Statements
-use Rattle.c_checking.specs.Files
-use Rattle.c_checking.specs.Files.{annotated}
+use Rattle.c_erasure.specs.Checking.Nodes
+use Rattle.c_erasure.specs.Checking.Declaring
+use Rattle.c_erasure.specs.Checking.Finding
+use Rattle.c_erasure.specs.Checking.Initializers
+use Rattle.c_erasure.specs.Checking.Statements
+use Rattle.c_erasure.specs.Checking.Files
+use Rattle.c_erasure.specs.Checking.Files.{annotated}
 
 records : annotated 0 Records.file.untagged Records.items ≡ Ok Records.file
 unfolding string_bytes Nodes.worth Nodes.named_in Nodes.index_in Nodes.array_of Nodes.element_in Nodes.signature_in Nodes.argument_in Nodes.call_in

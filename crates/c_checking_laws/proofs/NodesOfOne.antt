@@ -19,8 +19,8 @@ use Rattle.c_erasure.specs.Erasure.{typed, IsTypedThing, Values, place_in, unmad
 use Rattle.c_erasure.specs.Noted.{Expression, Path, Thing, an_object, a_value, a_function, a_function_at, a_library_function, value, type_of, type_of_path}
 use Rattle.c_erasure.specs.Scopes.{Entity, typedef, enumerator, a_local, a_parameter, Scope, declared, ended}
 use Rattle.c_erasure.specs.Scopes as Scopes
-use Rattle.c_checking.specs.Nodes.{null, promoted_value, named_in, step_in, address_in, pointed_to, deref_in, unary_in, not_in, cast_in}
-use Rattle.c_checking.specs.Finding.{complete}
+use Rattle.c_erasure.specs.Checking.Nodes.{null, promoted_value, named_in, step_in, address_in, pointed_to, deref_in, unary_in, not_in, cast_in}
+use Rattle.c_erasure.specs.Checking.Finding.{complete}
 use Rattle.c_checking_laws.proofs.Results.{given, only_if, chosen}
 use Rattle.c_checking_laws.proofs.Agreement.{IsFit}
 use Rattle.c_checking_laws.proofs.Values.{type_same, path_type_same, unconverted_same, IsValue, Stands, IsOperand, operand}

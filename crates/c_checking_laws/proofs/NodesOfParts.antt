@@ -7,6 +7,7 @@ use Rattle.std.specs.Prelude.{Option, Some, None, Ok, slice_get, nat_le, ◌%◌
 use Rattle.std.specs.Option.{option_map}
 use Rattle.std.specs.Str.{bytes_eq}
 use Rattle.lay_base.specs.declared.place.Place.{Place}
+use Rattle.lay_base.specs.declared.faults.Rule.TheVariants as R
 use Rattle.c_types.specs.declared.ty.IntKind.TheVariants.{UInt}
 use Rattle.c_types.specs.Types.{CType, CTypes, void, integer, pointer, array, function, structure, Field, Record}
 use Rattle.c_types.specs.Layouts.{size_of}
@@ -18,16 +19,17 @@ use Rattle.c_typed.specs.Conversions.{pointed}
 use Rattle.c_typed.specs.Fits.{assigns, library_type}
 use Rattle.c_typed.specs.Typed.{field_type, type_in, IsTyped, IsTypedPath, IsConverted, AreArguments}
 use Rattle.c_typed.specs.declared.program.MentionKind.TheVariants.{Sizeof}
-use Rattle.c_erasure.specs.Broken.{called_type, pointed_type}
+use Rattle.c_erasure.specs.Broken.{Fault, ill_typed, called_type, pointed_type, misplaced}
 use Rattle.c_erasure.specs.Erasure.{typed, Values, place_in, IsField, IsCall, IsSize, IsOfType}
 use Rattle.c_erasure.specs.Noted.{Noted, Expression, Path, Node, Thing, an_object, a_value, a_function, a_function_at, a_library_function, value, way}
 use Rattle.c_erasure.specs.Noted.{type_of, type_of_path, value_of}
 use Rattle.c_erasure.specs.Noted.{object_value, size_of as sized}
 use Rattle.c_erasure.specs.Scopes.{Scope, declared, IsMentioned}
-use Rattle.c_checking.specs.Nodes.{null, field_from, field_in, member_to, member_of_type, dot_in, arrow_to, arrow_in}
-use Rattle.c_checking.specs.Nodes.{signature_of, signature_in, argument_in, call_through, call_in, size_node, is_complete, sized_type, measured_type}
-use Rattle.c_checking.specs.Nodes.{measured_in}
-use Rattle.c_checking.specs.Finding.{complete}
+use Rattle.c_erasure.specs.Checking.Nodes.{null, field_from, field_in, member_to, member_of_type, dot_in, arrow_to, arrow_in}
+use Rattle.c_erasure.specs.Checking.Nodes.{signature_of, signature_in, argument_in, call_through, call_in, size_node, is_complete, sized_or, sized_type}
+use Rattle.c_erasure.specs.Checking.Nodes.{measured_type}
+use Rattle.c_erasure.specs.Checking.Nodes.{measured_in}
+use Rattle.c_erasure.specs.Checking.Finding.{complete}
 use Rattle.c_checking_laws.proofs.Results.{given, only_if, chosen}
 use Rattle.c_checking_laws.proofs.Values.{typed_path, type_same, path_type_same, IsValue, Stands, operand, found_worth}
 
@@ -232,27 +234,32 @@ pub record IsSized (records : List Record) (count : ℕ) (t : CType) : Type 0 wh
   pub is_known : is_object (length records) t ≡ true
   pub is_limited : size_of records t ≤ 16777216
 
-pub sized_is : (records : List Record) (count at : ℕ) (t u : CType) → sized_type records count at t ≡ Ok u → IsSized records count u × (t ≡ u)
-unfolding sized_type
-sized_is records count at t u h =
-    let b = only_if (is_complete records count t) _ _ _ u h in
-    let c = complete_is records count t b.0 in
-    chosen (nat_le (size_of records t) 16777216) _ _ u (IsSized records count u × (t ≡ u)) b.1
+sized_or_is : (records : List Record) (count at : ℕ) (sizeless : Fault) (t u : CType) → sized_or records count at sizeless t ≡ Ok u
+    → IsSized records count u × (t ≡ u)
+sized_or_is records count at sizeless t u h =
+    chosen (is_complete records count t) _ _ u (IsSized records count u × (t ≡ u)) h
+    (λ b h. let c = complete_is records count t b in
+    chosen (nat_le (size_of records t) 16777216) _ _ u (IsSized records count u × (t ≡ u)) h
     (λ l h. given (λ u. IsSized records count u × (t ≡ u)) t u h
     (record { is_complete = c.0; is_known = c.1; is_limited = limited (size_of records t) l }, refl))
-    (λ l h. cc)
+    (λ l h. cc))
+    (λ b h. cc)
   where
     limited : (n : ℕ) → nat_le n 16777216 ≡ true → n ≤ 16777216
     limited n h = grind (arith, nat_tests)
 
-pub measured_is : (records : List Record) (count at : ℕ) (th : Thing) (u : CType) → measured_in records count at th ≡ Ok u
+pub sized_is : (records : List Record) (count at : ℕ) (t u : CType) → sized_type records count at t ≡ Ok u → IsSized records count u × (t ≡ u)
+unfolding sized_type
+sized_is records count at t u h = sized_or_is records count at (ill_typed R.Incomplete at) t u h
+
+pub measured_is : (records : List Record) (count at from : ℕ) (th : Thing) (u : CType) → measured_in records count at from th ≡ Ok u
     → IsSized records count u × IsOfType th u
 unfolding measured_in measured_type
-measured_is records count at (an_object p) u h = sized_is records count at (type_of_path p) u h
-measured_is records count at (a_value e) u h = sized_is records count at (type_of e) u h
-measured_is records count at (a_function f_at f t) u h = cc
-measured_is records count at (a_function_at e) u h = cc
-measured_is records count at (a_library_function f_at which) u h = cc
+measured_is records count at from (an_object p) u h = sized_or_is records count at (misplaced (an_object p) R.Incomplete at from) (type_of_path p) u h
+measured_is records count at from (a_value e) u h = sized_or_is records count at (misplaced (a_value e) R.Incomplete at from) (type_of e) u h
+measured_is records count at from (a_function f_at f t) u h = cc
+measured_is records count at from (a_function_at e) u h = cc
+measured_is records count at from (a_library_function f_at which) u h = cc
 
 pub size_made : (s : Scope) (records more : List Record) → s.file.records ≡ records ++ more → (at by : ℕ) (t : CType) → IsSized records (complete s by) t
     → IsMentioned s Sizeof t at → Stands (IsSize s at by t) s (size_node records (place_in s at) t)

@@ -22,11 +22,11 @@ use Rattle.c_erasure.specs.Noted.{Expression, Path, Node, Thing, an_object, a_va
 use Rattle.c_erasure.specs.Noted.{type_of, type_of_path}
 use Rattle.c_erasure.specs.Operators.{Kind, computes, compares, all_of, any_of}
 use Rattle.c_erasure.specs.Scopes.{Scope}
-use Rattle.c_checking.specs.Nodes.{null, converted, promoted_value, array_of, array_of_type, element_in, index_in, index_to, turned_to}
-use Rattle.c_checking.specs.Nodes.{number_node, forward_node, backward_node, on_pointers, computed_in, compared_in, tested_in, binary_in}
-use Rattle.c_checking.specs.Nodes.{tested, chosen_in, Target, scalar_at, record_at, path_of, target_of_type, target_in, assigned_in, copied_in}
-use Rattle.c_checking.specs.Nodes.{updated_in, comma_in}
-use Rattle.c_checking.specs.Finding.{complete}
+use Rattle.c_erasure.specs.Checking.Nodes.{null, converted, promoted_value, array_of, array_of_type, element_in, index_in, index_to, turned_to}
+use Rattle.c_erasure.specs.Checking.Nodes.{number_node, forward_node, backward_node, on_pointers, computed_in, compared_in, tested_in, binary_in}
+use Rattle.c_erasure.specs.Checking.Nodes.{tested, chosen_in, Target, scalar_at, record_at, path_of, target_of_type, target_in, assigned_in, copied_in}
+use Rattle.c_erasure.specs.Checking.Nodes.{updated_in, comma_in}
+use Rattle.c_erasure.specs.Checking.Finding.{complete}
 use Rattle.c_checking_laws.proofs.Results.{ok, given, only_if, chosen, by_option}
 use Rattle.c_checking_laws.proofs.Values.{type_same, path_type_same, IsValue, IsNoArray, Stands, operand}
 use Rattle.c_checking_laws.proofs.NodesOfOne.{promoted_bare, promoted_is_integer}
@@ -317,20 +317,20 @@ module _ (Is Js : Thing → Type 0) (s : Scope) (at : ℕ) where
   abbrev pub IsCopied : Thing → Type 0
   IsCopied th = (t : CType) × (p q : Path) × (th ≡ a_value (value t there (Typed.copy_record p q))) × Is (an_object p) × Js (an_object q)
 
-  pub copied_made : (op_at : ℕ) (p : Path) → Stands Is s (an_object p) → (r : ℕ) → type_of_path p ≡ structure r → (right : Thing) → Stands Js s right
-      → (th : Thing) → copied_in op_at there p right ≡ Ok th → Stands IsCopied s th
+  pub copied_made : (op_at from : ℕ) (p : Path) → Stands Is s (an_object p) → (r : ℕ) → type_of_path p ≡ structure r → (right : Thing) → Stands Js s right
+      → (th : Thing) → copied_in op_at from there p right ≡ Ok th → Stands IsCopied s th
   unfolding copied_in
-  copied_made op_at p v r e (an_object q) w th h =
+  copied_made op_at from p v r e (an_object q) w th h =
       let b = only_if (same_type (type_of_path q) (type_of_path p)) _ _ _ th h in
       given (Stands IsCopied s) _ th b.1 (
         (void, p, q, refl, v.0, w.0),
         (v.1, w.1, refl, path_type_same q ∙ same_is (type_of_path q) (type_of_path p) b.0 ∙ sym (path_type_same p), (r, path_type_same p ∙ e)),
         (refl, λ count p. refl),
       )
-  copied_made op_at p v r e (a_value x) w th h = cc
-  copied_made op_at p v r e (a_function f_at f t) w th h = cc
-  copied_made op_at p v r e (a_function_at x) w th h = cc
-  copied_made op_at p v r e (a_library_function f_at which) w th h = cc
+  copied_made op_at from p v r e (a_value x) w th h = cc
+  copied_made op_at from p v r e (a_function f_at f t) w th h = cc
+  copied_made op_at from p v r e (a_function_at x) w th h = cc
+  copied_made op_at from p v r e (a_library_function f_at which) w th h = cc
 
   abbrev pub IsUpdated : BinaryOp → Thing → Type 0
   IsUpdated op th = (t : CType) × (p : Path) × (x : Expression) × (th ≡ a_value (value t there (Typed.assign_op op p x))) × Is (an_object p) × Values Js x

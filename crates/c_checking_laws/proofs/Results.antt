@@ -3,8 +3,8 @@ use Rattle.std.proofs.Common.{◌≡◌, Bool, true, false, refl, subst, cond}
 use Rattle.std.specs.Prelude.{ℕ, Option, Some, None, Ok, Err}
 use Rattle.lay_base.specs.declared.faults.Rule.{Rule}
 use Rattle.c_erasure.specs.Scopes.{FileScope}
-use Rattle.c_checking.specs.Answers.{Answer, ◌>>=◌, refused, with_file}
-use Rattle.c_checking.specs.Nodes.{or_else}
+use Rattle.c_erasure.specs.Checking.Answers.{Answer, ◌>>=◌, refused, with_file}
+use Rattle.c_erasure.specs.Checking.Nodes.{or_else}
 
 pub bound_ok : {A B : Type 0} (r : Answer A) (f : A → Answer B) (y : B) → (r >>= f) ≡ Ok y → (x : A) × (r ≡ Ok x) × (f x ≡ Ok y)
 bound_ok (Ok x) f y h = (x, refl, h)

@@ -10,8 +10,8 @@ use Rattle.c_types.specs.Objects.{is_object}
 use Rattle.c_types.specs.Types.{CType, void, integer, pointer, array, function, structure, Field, Record}
 use Rattle.c_types.proofs.Growing.{layouts_stay, has_its_size}
 use Rattle.c_erasure.specs.Scopes.{FileScope}
-use Rattle.c_checking.specs.Declaring.{number_among, object_at}
-use Rattle.c_checking.specs.Nodes.{is_complete}
+use Rattle.c_erasure.specs.Checking.Declaring.{number_among, object_at}
+use Rattle.c_erasure.specs.Checking.Nodes.{is_complete}
 use Rattle.c_checking_laws.proofs.Results.{given, only_if}
 use Rattle.c_checking_laws.proofs.Extends.{one_of_both, last_or}
 

@@ -14,26 +14,30 @@ use Rattle.c_erasure.specs.Marks.{marks_of_member_declarators, marks_of_enumerat
 use Rattle.c_erasure.specs.Noted.{Noted, Expression, Thing}
 use Rattle.c_erasure.specs.Scopes.{FileScope, Scope, inside, measured, for_value}
 use Rattle.c_erasure.specs.Specifiers.{types_among, storage_of}
-use Rattle.c_checking.specs.Answers.{moved}
-use Rattle.c_checking.specs.Nodes.{signature_in, argument_in, target_in, measured_in, sized_type}
-use Rattle.c_checking.specs.Declaring.{with_mention, mentions_in, Derivation, derived, length_value, object_at, base_kind, without_storage}
-use Rattle.c_checking.specs.Declaring.{parameter_storage, scalar_parameter}
-use Rattle.c_checking.specs.Declaring.{enumerator_in}
-use Rattle.c_checking.specs.Finding.{complete, value_at, tested_at, constant_at, base_type, type_of_derived, find, arguments, type_name, one_of}
-use Rattle.c_checking.specs.Finding.{specified, members}
-use Rattle.c_checking.specs.Finding.{member_declarators, enumerators, enumerator_value, derivations, array_step, parameter_list, parameters}
-use Rattle.c_checking_laws.proofs.InRange.{IsInRange, AreInRange, IsTypeInRange, AreSpecifiersInRange, IsSpecifierInRange, AreMembersInRange, AreDeclaratorsInRange}
+use Rattle.c_erasure.specs.Checking.Answers.{moved}
+use Rattle.c_erasure.specs.Checking.Nodes.{signature_in, argument_in, target_in, measured_in, sized_type}
+use Rattle.c_erasure.specs.Checking.Declaring.{with_mention, mentions_in, Derivation, derived, length_value, object_at, base_kind, without_storage}
+use Rattle.c_erasure.specs.Checking.Declaring.{parameter_storage, scalar_parameter}
+use Rattle.c_erasure.specs.Checking.Declaring.{enumerator_in}
+use Rattle.c_erasure.specs.Checking.Finding.{complete, value_at, tested_at, constant_at, base_type, type_of_derived, find, arguments, type_name, one_of}
+use Rattle.c_erasure.specs.Checking.Finding.{specified, members}
+use Rattle.c_erasure.specs.Checking.Finding.{member_declarators, enumerators, enumerator_value, derivations, array_step, parameter_list, parameters}
+use Rattle.c_checking_laws.proofs.InRange.{IsInRange, AreInRange, IsTypeInRange, AreSpecifiersInRange, IsSpecifierInRange, AreMembersInRange}
+use Rattle.c_checking_laws.proofs.InRange.{AreDeclaratorsInRange}
 use Rattle.c_checking_laws.proofs.InRange.{AreEnumeratorsInRange, IsValueInRange, IsDeclaratorInRange, IsListInRange, AreParametersInRange}
 use Rattle.c_checking_laws.proofs.Results.{bound_ok, bound_with, chosen}
 use Rattle.c_checking_laws.proofs.Agreement.{Ready, then, left, right}
 use Rattle.c_checking_laws.proofs.Declared.{mentioned, no_storage_is, parameter_storage_is, unless_ok}
-use Rattle.c_checking_laws.proofs.Found.{Found, FoundValue, FoundAll, FoundType, FoundConstant, valued, constant_found, name_found, number_found, character_found}
+use Rattle.c_checking_laws.proofs.Found.{Found, FoundValue, FoundAll, FoundType, FoundConstant, valued, constant_found, name_found, number_found}
+use Rattle.c_checking_laws.proofs.Found.{character_found}
 use Rattle.c_checking_laws.proofs.Found.{texts_found, index_found, dot_found, arrow_found, call_found, no_arguments_found, argument_found, post_found}
 use Rattle.c_checking_laws.proofs.Found.{pre_found, unary_found}
-use Rattle.c_checking_laws.proofs.Found.{sizeof_expression_found, sizeof_type_found, cast_found, binary_found, comma_found, tested_found, choice_found, assign_found}
+use Rattle.c_checking_laws.proofs.Found.{sizeof_expression_found, sizeof_type_found, cast_found, binary_found, comma_found, tested_found, choice_found}
+use Rattle.c_checking_laws.proofs.Found.{assign_found}
 use Rattle.c_checking_laws.proofs.FoundTypes.{FoundBase, ready_inside, FoundOne, FoundSpecifier}
 use Rattle.c_checking_laws.proofs.FoundTypes.{FoundFields, FoundMembers, FoundEnumerators, FoundNumber, FoundSteps}
-use Rattle.c_checking_laws.proofs.FoundTypes.{FoundParameters, FoundList, base_found, one_found, typename_found, struct_named_found, enum_named_found, struct_ready}
+use Rattle.c_checking_laws.proofs.FoundTypes.{FoundParameters, FoundList, base_found, one_found, typename_found, struct_named_found, enum_named_found}
+use Rattle.c_checking_laws.proofs.FoundTypes.{struct_ready}
 use Rattle.c_checking_laws.proofs.FoundTypes.{struct_body_found, enum_body_found, no_value_found, value_found, no_enumerators_found, bound_of}
 use Rattle.c_checking_laws.proofs.FoundTypes.{enumerator_grown, enumerator_found}
 use Rattle.c_checking_laws.proofs.FoundTypes.{no_members_found, members_found, no_declarators_found, member_found, type_found}
@@ -86,7 +90,7 @@ module _ (untagged : ℕ → List ℕ) where
     sound (Trees.unary op at a) s n r z h = unary_found untagged s op at a (find a s) (λ x k. sound a s n r x k) z h
     sound (Trees.sizeof_expression at a) s n r z h =
         let x = bound_ok (find a (measured s)) _ z h in
-        let t = bound_with x.0.1 (measured_in x.0.1.records (complete s at) at x.0.0) _ z x.2 in
+        let t = bound_with x.0.1 (measured_in x.0.1.records (complete s at) at (first a) x.0.0) _ z x.2 in
         sizeof_expression_found untagged s at a x.0 (sound a (measured s) n r x.0 x.1) t.0 t.1 z t.2
     sound (Trees.sizeof_type at from m to) s n r z h =
         let x = bound_ok (type_name m s) _ z h in

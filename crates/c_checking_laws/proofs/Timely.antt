@@ -22,15 +22,16 @@ use Rattle.c_erasure.specs.Scopes.{Tag}
 use Rattle.c_erasure.specs.Marks as Marks
 use Rattle.c_erasure.specs.Marks.{Mark, a_tag, a_name, an_end, marks, marks_of_all, marks_if_any, marks_of_type, marks_of_specifiers, marks_of_specifier}
 use Rattle.c_erasure.specs.Marks.{marks_of_members, marks_of_member_declarators, marks_of_enumerators, marks_of_value, marks_of_declarator, an_enumeration}
-use Rattle.c_order.specs.Places.{AreOrdered, Along}
-use Rattle.c_order.proofs.Walks as Walks
-use Rattle.c_order.proofs.Walks.{none, skip, both, before, after, bare, comma_along, tag_along, consts_along}
-use Rattle.c_order.proofs.Ordered.{ends_between}
-use Rattle.c_order.proofs.MarksOfParts.{along, arguments_along, optional_along, type_name_along, specifiers_along, more_specifiers_along}
-use Rattle.c_order.proofs.MarksOfParts.{members_along, member_declarators_along, after_enumerator, value_along, declarator_along}
-use Rattle.c_order.proofs.MarksOfParts.{parameter_list_along, parameters_along}
+use Rattle.c_erasure.specs.MarkPlaces.Places.{AreOrdered, Along}
+use Rattle.c_erasure.proofs.MarkPlaces.Walks as Walks
+use Rattle.c_erasure.proofs.MarkPlaces.Walks.{none, skip, both, before, after, bare, comma_along, tag_along, consts_along}
+use Rattle.c_erasure.proofs.MarkPlaces.Ordered.{ends_between}
+use Rattle.c_erasure.proofs.MarkPlaces.MarksOfParts.{along, arguments_along, optional_along, type_name_along, specifiers_along, more_specifiers_along}
+use Rattle.c_erasure.proofs.MarkPlaces.MarksOfParts.{members_along, member_declarators_along, after_enumerator, value_along, declarator_along}
+use Rattle.c_erasure.proofs.MarkPlaces.MarksOfParts.{parameter_list_along, parameters_along}
 use Rattle.c_checking_laws.proofs.Agreement.{added}
-use Rattle.c_checking_laws.proofs.FaultPremises.{IsTimely, AreTimely, IsTypeTimely, AreSpecifiersTimely, IsSpecifierTimely, AreMembersTimely, AreDeclaratorsTimely}
+use Rattle.c_checking_laws.proofs.FaultPremises.{IsTimely, AreTimely, IsTypeTimely, AreSpecifiersTimely, IsSpecifierTimely, AreMembersTimely}
+use Rattle.c_checking_laws.proofs.FaultPremises.{AreDeclaratorsTimely}
 use Rattle.c_checking_laws.proofs.FaultPremises.{AreEnumeratorsTimely, IsValueTimely, IsDeclaratorTimely, IsLengthTimely, IsListTimely, AreParametersTimely}
 use Rattle.c_checking_laws.proofs.FaultPremises.{AreKnown}
 use Rattle.c_checking_laws.proofs.Ahead.{Ahead, Standing, standing_left, standing_right, known, earlier, back, ahead_same, added_both}

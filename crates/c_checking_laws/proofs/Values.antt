@@ -13,7 +13,7 @@ use Rattle.c_erasure.specs.Erasure.{typed, IsTypedThing, Values}
 use Rattle.c_erasure.specs.Noted.{Expression, Path, Thing, an_object, a_value, a_function, a_function_at, a_library_function, value, type_of, type_of_path}
 use Rattle.c_erasure.specs.Noted.{place_of_path, object_value, value_of, unconverted}
 use Rattle.c_erasure.specs.Scopes.{Scope, declared}
-use Rattle.c_checking.specs.Nodes.{place_of, null, converted, valued, worth, array_of, array_of_type}
+use Rattle.c_erasure.specs.Checking.Nodes.{place_of, null, converted, valued, worth, array_of, array_of_type}
 use Rattle.c_checking_laws.proofs.Results.{given}
 
 abbrev pub typed_path : Path → Typed.Path CType

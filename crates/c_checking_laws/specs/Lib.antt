@@ -1,0 +1,2 @@
+pub mod WholeFiles
+pub mod TextOrder

@@ -5,10 +5,10 @@ use Rattle.c_types.specs.Types.{Record}
 use Rattle.c_ast.specs.Trees
 use Rattle.c_erasure.specs.Files.{IsFileOf}
 use Rattle.c_erasure.specs.Scopes.{Bound, AMention, FileScope}
-use Rattle.c_checking.specs.Files.{closed_file}
+use Rattle.c_erasure.specs.Checking.Files.{closed_file}
 use Rattle.c_checking_laws.proofs.CompleteNodes.{some_is}
 use Rattle.c_checking_laws.proofs.CompletePart.{Lists, part}
-use Rattle.c_checking_files.proofs.CompleteObjects.{mapped_at}
+use Rattle.c_checking_laws.proofs.WholeFiles.CompleteObjects.{mapped_at}
 use Rattle.c_checking_units.proofs.Filed.{IsFiled}
 
 mapped_length : {X Y : Type 0} (v : X → Y) (xs : List X) → length (map v xs) ≡ length xs

@@ -13,12 +13,12 @@ use Rattle.c_erasure.specs.Marks.{scope_beginnings, marks_of_file}
 use Rattle.c_erasure.specs.Scopes.{Bound, AnObject, AFunction, FileScope, Entity, How, an_object, a_function, enumerator, visible, or_else}
 use Rattle.c_checking_laws.proofs.CompleteNodes.{some_is}
 use Rattle.c_checking_laws.proofs.NodesOfParts.{same_bytes}
-use Rattle.c_checking_files.proofs.CompletePlain.{one_begins}
-use Rattle.c_checking_files.proofs.Names.{all_at}
-use Rattle.c_checking_files.proofs.Rises.{rising_later}
+use Rattle.c_checking_laws.proofs.WholeFiles.CompletePlain.{one_begins}
+use Rattle.c_checking_laws.proofs.WholeFiles.Names.{all_at}
+use Rattle.c_checking_laws.proofs.WholeFiles.Rises.{rising_later}
 use Rattle.c_checking_units.proofs.Filed.{IsWholeFile, consistent_at}
 use Rattle.c_checking_units.proofs.Items.{steps_of_items}
-use Rattle.c_text_order.specs.TextOrder.{Rising, places_of_file}
+use Rattle.c_checking_laws.specs.TextOrder.TextOrder.{Rising, places_of_file}
 use Rattle.c_checking_units.proofs.Made.{Kept}
 use Rattle.c_checking_units.proofs.NamedSteps.{HasFunction, IsNamedBy, IsNamed, AreNamed}
 use Rattle.c_checking_units.proofs.Placed.{Any, objects_placed, all_functions_placed, all_begun}

@@ -16,19 +16,19 @@ use Rattle.c_erasure.specs.Literals.{made_by_file}
 use Rattle.c_erasure.specs.Noted.{Noted}
 use Rattle.lay_base.specs.declared.place.Place.{Place}
 use Rattle.c_erasure.specs.Scopes.{ALocal, Bound, How, declares, tentative, defines, Entity, an_object, a_function, AnObject, AFunction, AMention, FileScope}
-use Rattle.c_order.proofs.Ordered.{marks_are_in_order}
-use Rattle.c_text_order.specs.TextOrder.{IsUnwritten, TextsAreInOrder}
-use Rattle.c_checking.specs.Answers.{◌>>=◌}
-use Rattle.c_checking.specs.Files.{is_tentative, settled, settled_from, closed_file, annotated}
+use Rattle.c_erasure.proofs.MarkPlaces.Ordered.{marks_are_in_order}
+use Rattle.c_checking_laws.specs.TextOrder.TextOrder.{IsUnwritten, TextsAreInOrder}
+use Rattle.c_erasure.specs.Checking.Answers.{◌>>=◌}
+use Rattle.c_erasure.specs.Checking.Files.{is_tentative, settled, settled_from, closed_file, annotated}
 use Rattle.c_checking_laws.proofs.CompleteNodes.{some_is}
 use Rattle.c_checking_laws.proofs.CompletePart.{Lists, part}
 use Rattle.c_checking_laws.proofs.Results.{ok}
-use Rattle.c_checking_files.proofs.CompleteObjects.{mapped_at}
-use Rattle.c_checking_files.proofs.FileScopes.{IsSameObject, IsSameFunction}
-use Rattle.c_checking_files.proofs.Closing.{settled_is, object_closed, tentative_same}
-use Rattle.c_checking_files.proofs.Known.{IsKnown, IsADeclaredObject, IsObjectKnown, IsFunctionKnown, HasNoDefinition, none_new}
-use Rattle.c_checking_files.proofs.SoundFiles.{filed_known}
-use Rattle.c_checking_files.proofs.TextFits.{text_is_fit, sound_text}
+use Rattle.c_checking_laws.proofs.WholeFiles.CompleteObjects.{mapped_at}
+use Rattle.c_checking_laws.proofs.WholeFiles.FileScopes.{IsSameObject, IsSameFunction}
+use Rattle.c_checking_laws.proofs.WholeFiles.Closing.{settled_is, object_closed, tentative_same}
+use Rattle.c_checking_laws.proofs.WholeFiles.Known.{IsKnown, IsADeclaredObject, IsObjectKnown, IsFunctionKnown, HasNoDefinition, none_new}
+use Rattle.c_checking_laws.proofs.WholeFiles.SoundFiles.{filed_known}
+use Rattle.c_checking_laws.proofs.WholeFiles.TextFits.{text_is_fit, sound_text}
 use Rattle.c_checking_units.proofs.AllFound.{names_all, records_all, mentions_all}
 use Rattle.c_checking_units.proofs.Filed.{IsWholeFile, IsFiled}
 use Rattle.c_checking_units.proofs.Items.{steps_of_items, file_found}
@@ -171,7 +171,7 @@ module _ (places : TokensHavePlaces) (first : TreesBeginFirst) (texts : TextsAre
         let size = settled_length c.names 0 c.objects in
         same_elements (settled_from c.names 0 c.objects) g.objects (omega (arith, l, size))
         (λ k a b e there.
-        let z = Rattle.c_checking_files.proofs.Closing.closed_object (part g c) k a e in
+        let z = Rattle.c_checking_laws.proofs.WholeFiles.Closing.closed_object (part g c) k a e in
         let q = f.objects k z.0 z.1 in
         z.2 ∙ object_same k z.0 b z.1 there (subst (IsSameObject z.0) (some_is q.0 b (sym q.1 ∙ there)) q.2))
 

@@ -2,7 +2,7 @@
 use Rattle.c_tokens.specs.TokenPlaces.{TokensHavePlaces}
 use Rattle.c_ast.specs.Laws.{TreesBeginFirst}
 use Rattle.c_erasure.specs.Erasing.{UnitsAreOne}
-use Rattle.c_text_order.specs.TextOrder.{TextsAreInOrder}
+use Rattle.c_checking_laws.specs.TextOrder.TextOrder.{TextsAreInOrder}
 use Rattle.c_checking_units.proofs.StepsOfFiles.{text_steps}
 use Rattle.c_checking_units.proofs.OneUnit.{HaveSteps, none_refused, units_are_one}
 use Rattle.c_checking_units.specs.Units.{FaultsHaveNoUnit}

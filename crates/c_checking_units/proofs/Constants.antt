@@ -18,18 +18,18 @@ use Rattle.c_erasure.specs.Noted.{Noted}
 use Rattle.c_erasure.specs.Scopes.{Bound, FileScope, Scope, Entity, typedef, enumerator, a_local, a_parameter, in_full, at_file_scope, declared}
 use Rattle.c_erasure.specs.Scopes as Scopes
 use Rattle.c_erasure.specs.Statements.{HasConstants}
-use Rattle.c_checking.specs.Answers.{◌>>=◌, with_file, moved}
-use Rattle.c_checking.specs.Initializers.{are_constants, constants_in}
-use Rattle.c_checking.specs.Statements.{constants_if_any}
+use Rattle.c_erasure.specs.Checking.Answers.{◌>>=◌, with_file, moved}
+use Rattle.c_erasure.specs.Checking.Initializers.{are_constants, constants_in}
+use Rattle.c_erasure.specs.Checking.Statements.{constants_if_any}
 use Rattle.c_checking_laws.proofs.CompleteFit.{IsAmong}
 use Rattle.c_checking_laws.proofs.CompleteLocals.{walk_of_initial}
 use Rattle.c_checking_laws.proofs.CompletePart.{Lists, part, IsBefore, IsAfter}
 use Rattle.c_checking_laws.proofs.CompleteWalk.{Event}
 use Rattle.c_checking_laws.proofs.Extends.{one_of_both}
-use Rattle.c_checking_files.proofs.CompleteConstants.{constants_back}
-use Rattle.c_checking_files.proofs.CompleteReached.{reaches}
-use Rattle.c_checking_files.proofs.CompleteWholes.{AsTyped, initializer_complete}
-use Rattle.c_checking_files.proofs.KeepingInitials.{keep_initializer}
+use Rattle.c_checking_laws.proofs.WholeFiles.CompleteConstants.{constants_back}
+use Rattle.c_checking_laws.proofs.WholeFiles.CompleteReached.{reaches}
+use Rattle.c_checking_laws.proofs.WholeFiles.CompleteWholes.{AsTyped, initializer_complete}
+use Rattle.c_checking_laws.proofs.WholeFiles.KeepingInitials.{keep_initializer}
 use Rattle.c_checking_units.proofs.Filed.{IsWholeFile, IsFiled}
 use Rattle.c_checking_units.proofs.Names.{keeps_filed}
 use Rattle.c_checking_units.proofs.Steps.{At}

@@ -10,15 +10,15 @@ use Rattle.c_erasure.specs.Erasure.{IsBase, IsOne}
 use Rattle.c_erasure.specs.Files.{declares_tag, DeclaresSomething, ErasesItem}
 use Rattle.c_erasure.specs.Scopes.{FileScope, at_file_scope}
 use Rattle.c_erasure.specs.Specifiers.{storage_of}
-use Rattle.c_checking.specs.Answers.{◌>>=◌, refused}
-use Rattle.c_checking.specs.Declaring.{base_kind}
-use Rattle.c_checking.specs.Files.{is_empty, file_declarators, file_declaration}
-use Rattle.c_checking.specs.Finding.{base_type, one_of}
+use Rattle.c_erasure.specs.Checking.Answers.{◌>>=◌, refused}
+use Rattle.c_erasure.specs.Checking.Declaring.{base_kind}
+use Rattle.c_erasure.specs.Checking.Files.{is_empty, file_declarators, file_declaration}
+use Rattle.c_erasure.specs.Checking.Finding.{base_type, one_of}
 use Rattle.c_checking_laws.proofs.CompleteDeclarators.{base_complete}
 use Rattle.c_checking_laws.proofs.CompletePart.{Lists, part}
 use Rattle.c_checking_laws.proofs.CompleteTrees.{complete_one}
 use Rattle.c_checking_laws.proofs.CompleteWalk.{walk_of_specifiers}
-use Rattle.c_checking_files.proofs.Keeping.{keep_base}
+use Rattle.c_checking_laws.proofs.WholeFiles.Keeping.{keep_base}
 use Rattle.c_checking_units.proofs.Declarators.{steps_of_declarators, declarators_found}
 use Rattle.c_checking_units.proofs.Filed.{IsWholeFile}
 use Rattle.c_checking_units.proofs.Names.{keeps_filed}

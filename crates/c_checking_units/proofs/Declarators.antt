@@ -20,15 +20,15 @@ use Rattle.c_erasure.specs.Files.{bound, is_first, object_how, IsTypedef, IsObje
 use Rattle.c_erasure.specs.Marks.{name_from, after_declarator}
 use Rattle.c_erasure.specs.Scopes.{FileScope, declares, defines, Entity, typedef, an_object, a_function, a_library_function, at_file_scope, ended}
 use Rattle.c_erasure.specs.Specifiers.{Storage, no_storage, a_typedef, is_extern, is_static, is_auto, is_register, several}
-use Rattle.c_checking.specs.Answers.{Answer, ◌>>=◌}
-use Rattle.c_checking.specs.Declaring.{with_mention, mentions_in, object_at}
-use Rattle.c_checking.specs.Files.{library_named, declare_typedef, declare_function, declare_object, without_value, declare_as, declarator_named}
-use Rattle.c_checking.specs.Files.{file_declarators}
-use Rattle.c_checking.specs.Finding.{complete}
+use Rattle.c_erasure.specs.Checking.Answers.{Answer, ◌>>=◌}
+use Rattle.c_erasure.specs.Checking.Declaring.{with_mention, mentions_in, object_at}
+use Rattle.c_erasure.specs.Checking.Files.{library_named, declare_typedef, declare_function, declare_object, without_value, declare_as, declarator_named}
+use Rattle.c_erasure.specs.Checking.Files.{file_declarators}
+use Rattle.c_erasure.specs.Checking.Finding.{complete}
 use Rattle.c_checking_laws.proofs.CompleteLocals.{walk_of_initial}
 use Rattle.c_checking_laws.proofs.CompletePart.{Lists, part, complete_stays}
 use Rattle.c_checking_laws.proofs.CompleteWalk.{a_name}
-use Rattle.c_checking_files.proofs.FileScopes.{MayDeclare}
+use Rattle.c_checking_laws.proofs.WholeFiles.FileScopes.{MayDeclare}
 use Rattle.c_checking_units.proofs.Filed.{IsWholeFile, naming}
 use Rattle.c_checking_units.proofs.Functions.{IsOwnFunction, function_found, library_function_found, named_ready}
 use Rattle.c_checking_units.proofs.Names.{typedef_complete}

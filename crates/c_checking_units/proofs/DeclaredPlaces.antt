@@ -5,9 +5,9 @@ use Rattle.c_ast.specs.Places.{first_declarator, first_item}
 use Rattle.c_ast.specs.Trees
 use Rattle.c_erasure.specs.Files.{IsMade}
 use Rattle.c_erasure.specs.Literals.{literals_of_value, initial_literals, made_by_file_item, made_by_file}
-use Rattle.c_text_order.specs.TextOrder.{Rising, places_of_declarators, places_of_item, places_of_file}
-use Rattle.c_checking_files.proofs.Known.{made_left, made_right}
-use Rattle.c_checking_files.proofs.Rises.{passed, rising_front}
+use Rattle.c_checking_laws.specs.TextOrder.TextOrder.{Rising, places_of_declarators, places_of_item, places_of_file}
+use Rattle.c_checking_laws.proofs.WholeFiles.Known.{made_left, made_right}
+use Rattle.c_checking_laws.proofs.WholeFiles.Rises.{passed, rising_front}
 use Rattle.c_checking_units.proofs.TracedItems.{declared_by, declared_by_item, declared_by_file}
 
 made_in_both : (u v : List ℕ) (p : ℕ) → IsMade (u ++ v) p → IsMade u p ⊎ IsMade v p

@@ -14,18 +14,18 @@ use Rattle.c_erasure.specs.Erasure.{IsBound, AreListed, AreParameters, Declares}
 use Rattle.c_erasure.specs.Files.{is_first, bound, parameters_of, HasParameters, IsMainType, IsDefined}
 use Rattle.c_erasure.specs.Scopes.{ALocal, Bound, FileScope, Scope, a_function, defines, inside, in_full, at_file_scope}
 use Rattle.c_erasure.specs.Specifiers.{Storage, no_storage, is_extern, is_static, storage_of}
-use Rattle.c_checking.specs.Answers.{Answer, ◌>>=◌}
-use Rattle.c_checking.specs.Declaring.{Derivation, declared_among, with_bound, with_mention, mentions_in, base_kind, derived}
-use Rattle.c_checking.specs.Files.{library_named, own_name, main_function, defined_among, once, function_of, function_storage, Received, received_by}
-use Rattle.c_checking.specs.Files.{function_body, define_function, define_shape, definition_named, function_definition}
-use Rattle.c_checking.specs.Finding.{base_type, one_of, derivations}
+use Rattle.c_erasure.specs.Checking.Answers.{Answer, ◌>>=◌}
+use Rattle.c_erasure.specs.Checking.Declaring.{Derivation, declared_among, with_bound, with_mention, mentions_in, base_kind, derived}
+use Rattle.c_erasure.specs.Checking.Files.{library_named, own_name, main_function, defined_among, once, function_of, function_storage, Received, received_by}
+use Rattle.c_erasure.specs.Checking.Files.{function_body, define_function, define_shape, definition_named, function_definition}
+use Rattle.c_erasure.specs.Checking.Finding.{base_type, one_of, derivations}
 use Rattle.c_checking_laws.proofs.CompleteBodies.{walk_of_declaration}
 use Rattle.c_checking_laws.proofs.CompletePart.{Lists, part}
 use Rattle.c_checking_laws.proofs.CompleteStatements.{walk_of_items}
 use Rattle.c_checking_laws.proofs.CompleteWalk.{Event, seen, a_name, walk_of_specifiers}
-use Rattle.c_checking_files.proofs.CompleteBodies.{AreScalar, parameters_complete}
-use Rattle.c_checking_files.proofs.CompleteStaticLists.{walk_of_statics}
-use Rattle.c_checking_files.proofs.FileScopes.{MayDeclare}
+use Rattle.c_checking_laws.proofs.WholeFiles.CompleteBodies.{AreScalar, parameters_complete}
+use Rattle.c_checking_laws.proofs.WholeFiles.CompleteStaticLists.{walk_of_statics}
+use Rattle.c_checking_laws.proofs.WholeFiles.FileScopes.{MayDeclare}
 use Rattle.c_checking_units.proofs.Declarations.{base_found}
 use Rattle.c_checking_units.proofs.Filed.{IsWholeFile, naming, next_bound, naming_filed}
 use Rattle.c_checking_units.proofs.FunctionBodies.{function_body_found}

@@ -8,8 +8,8 @@ use Rattle.c_erasure.specs.Scopes.{Bound, FileScope, enumerator, AnObject, AFunc
 use Rattle.c_checking_laws.proofs.Agreement as Agreement
 use Rattle.c_checking_laws.proofs.CompleteNodes.{some_is}
 use Rattle.c_checking_laws.proofs.CompletePart.{IsWhole}
-use Rattle.c_checking_files.proofs.CompleteObjects.{mapped_at}
-use Rattle.c_checking_files.proofs.Names.{all_at}
+use Rattle.c_checking_laws.proofs.WholeFiles.CompleteObjects.{mapped_at}
+use Rattle.c_checking_laws.proofs.WholeFiles.Names.{all_at}
 use Rattle.c_checking_units.proofs.Filed.{IsWholeFile, consistent_at}
 
 -- those that stand one after the other are different

@@ -7,17 +7,17 @@ use Rattle.c_types.specs.Types.{CType}
 use Rattle.c_erasure.specs.Erasure.{IsBound}
 use Rattle.c_erasure.specs.Files.{AreConsistent, MayStandTogether, IsMainType}
 use Rattle.c_erasure.specs.Scopes.{FileScope, Bound, an_object, a_function, AnObject, AFunction, at_file_scope}
-use Rattle.c_checking.specs.Declaring.{declared_among}
+use Rattle.c_erasure.specs.Checking.Declaring.{declared_among}
 use Rattle.c_checking_laws.proofs.Agreement as Agreement
-use Rattle.c_checking_files.proofs.Kept.{AreObjectsWhole}
+use Rattle.c_checking_laws.proofs.WholeFiles.Kept.{AreObjectsWhole}
 use Rattle.c_checking_laws.proofs.CompleteNodes.{some_is}
 use Rattle.c_checking_laws.proofs.CompleteStructures.{split_at, below_length}
 use Rattle.c_checking_laws.proofs.CompleteWalk.{IsNamedFrom}
 use Rattle.c_checking_laws.proofs.CompletePart.{Lists, part, IsWhole}
 use Rattle.c_checking_laws.proofs.Extends.{Extends, bound_stays, last_or}
-use Rattle.c_checking_files.proofs.CompleteStaticLists.{AreTypedObjects}
-use Rattle.c_checking_files.proofs.FileScopes.{IsSameObject, IsSameFunction}
-use Rattle.c_checking_files.proofs.Names.{all_at, declared_is}
+use Rattle.c_checking_laws.proofs.WholeFiles.CompleteStaticLists.{AreTypedObjects}
+use Rattle.c_checking_laws.proofs.WholeFiles.FileScopes.{IsSameObject, IsSameFunction}
+use Rattle.c_checking_laws.proofs.WholeFiles.Names.{all_at, declared_is}
 
 -- what is asked of the whole file
 pub record IsWholeFile (g : FileScope) : Type 0 where

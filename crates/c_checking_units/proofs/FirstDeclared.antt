@@ -7,7 +7,7 @@ use Rattle.c_erasure.specs.Files.{AreAscending, IsFirst, is_first, IsFileOf}
 use Rattle.c_erasure.specs.Marks.{marks_of_file, scope_beginnings}
 use Rattle.c_erasure.specs.Scopes.{Bound, FileScope, Entity, an_object, AnObject, visible}
 use Rattle.c_checking_laws.proofs.CompleteNodes.{some_is}
-use Rattle.c_checking_files.proofs.CompleteObjects.{mapped_at}
+use Rattle.c_checking_laws.proofs.WholeFiles.CompleteObjects.{mapped_at}
 use Rattle.c_checking_units.proofs.Filed.{consistent_at}
 use Rattle.c_checking_units.proofs.Lists.{lesser_first}
 use Rattle.c_checking_units.proofs.TracedItems.{AreFiled, IsObjectName}

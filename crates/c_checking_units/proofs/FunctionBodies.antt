@@ -8,8 +8,8 @@ use Rattle.c_ast.specs.Trees
 use Rattle.c_erasure.specs.Files.{HasParameters, IsBody}
 use Rattle.c_erasure.specs.Scopes.{FileScope, Bound, Entity, typedef, enumerator, an_object, a_function, a_library_function, a_local, a_parameter}
 use Rattle.c_erasure.specs.Scopes.{AnObject, AFunction, ALocal}
-use Rattle.c_checking.specs.Answers.{◌>>=◌}
-use Rattle.c_checking.specs.Files.{with_body, function_body}
+use Rattle.c_erasure.specs.Checking.Answers.{◌>>=◌}
+use Rattle.c_erasure.specs.Checking.Files.{with_body, function_body}
 use Rattle.c_checking_laws.proofs.Agreement.{IsFit, AreFit}
 use Rattle.c_checking_laws.proofs.CompleteNodes.{some, some_is}
 use Rattle.c_checking_laws.proofs.CompletePart.{Lists, part, IsAfter}
@@ -17,12 +17,12 @@ use Rattle.c_checking_laws.proofs.CompleteStatements.{inner, Seen}
 use Rattle.c_checking_laws.proofs.CompleteWalk.{Event}
 use Rattle.c_checking_laws.proofs.Extends.{Extends, bound_stays, record_stays}
 use Rattle.c_checking_laws.proofs.Results.{ok}
-use Rattle.c_checking_files.proofs.CompleteBodies.{AreScalar, parameters_complete, parameters_fit, all_locals, walk_of_body, body_complete, IsBegun}
-use Rattle.c_checking_files.proofs.CompleteBodies.{function_complete}
-use Rattle.c_checking_files.proofs.CompleteObjects.{mapped_at, set_of, set_length}
-use Rattle.c_checking_files.proofs.Bodies.{IsReadyFile, body_found}
-use Rattle.c_checking_files.proofs.FileScopes.{IsSameObject, IsSameFunction}
-use Rattle.c_checking_files.proofs.Scoped.{IsInner}
+use Rattle.c_checking_laws.proofs.WholeFiles.CompleteBodies.{AreScalar, parameters_complete, parameters_fit, all_locals, walk_of_body, body_complete, IsBegun}
+use Rattle.c_checking_laws.proofs.WholeFiles.CompleteBodies.{function_complete}
+use Rattle.c_checking_laws.proofs.WholeFiles.CompleteObjects.{mapped_at, set_of, set_length}
+use Rattle.c_checking_laws.proofs.WholeFiles.Bodies.{IsReadyFile, body_found}
+use Rattle.c_checking_laws.proofs.WholeFiles.FileScopes.{IsSameObject, IsSameFunction}
+use Rattle.c_checking_laws.proofs.WholeFiles.Scoped.{IsInner}
 use Rattle.c_checking_units.proofs.Constants.{names_among}
 use Rattle.c_checking_units.proofs.Filed.{IsWholeFile, IsFiled}
 use Rattle.c_checking_units.proofs.Functions.{with_functions, functions_filed}
@@ -90,7 +90,7 @@ module _ (g : FileScope) (w : IsWholeFile g) where
 
   body_filed : (s m : Lists) (u : List Event) → IsFiled g s → IsAfter g s u m → Rattle.c_checking_laws.proofs.CompleteWalk.names_in u ≡ 0
       → ((n : ℕ) (o : AnObject) → slice_get m.objects n ≡ Some o → (slice_get s.objects n ≡ Some o) ⊎ IsSome o.initial)
-      → Rattle.c_checking_files.proofs.Kept.AreObjectsWhole m.records m.objects → IsFiled g m
+      → Rattle.c_checking_laws.proofs.WholeFiles.Kept.AreObjectsWhole m.records m.objects → IsFiled g m
   body_filed s m u f a none inside whole = record {
     extends = a.extends;
     objects = λ n o e. by_kind n o e (inside n o e);

@@ -12,19 +12,20 @@ use Rattle.c_erasure.specs.Erasure.{IsBound}
 use Rattle.c_erasure.specs.Files.{library_name, IsMainType, IsOwnName, IsLinkage, function_storage, IsFirst, is_first, bound}
 use Rattle.c_erasure.specs.Scopes.{FileScope, Bound, a_function, a_library_function, AFunction, at_file_scope, declares}
 use Rattle.c_erasure.specs.Specifiers.{Storage, no_storage, a_typedef, is_extern, is_static, is_auto, is_register, several}
-use Rattle.c_checking.specs.Answers.{Answer, ◌>>=◌, refused}
-use Rattle.c_checking.specs.Declaring.{declared_among, with_bound}
-use Rattle.c_checking.specs.Files.{library_named, is_main, main_type, main_function, links, function_linkage_agrees, function_linked_before, new_function}
-use Rattle.c_checking.specs.Files.{known_function, function_of, library_again, declare_library, declare_own, declare_function}
+use Rattle.c_erasure.specs.Checking.Answers.{Answer, ◌>>=◌, refused}
+use Rattle.c_erasure.specs.Checking.Declaring.{declared_among, with_bound}
+use Rattle.c_erasure.specs.Checking.Files.{library_named, is_main, main_type, main_function, links, function_linkage_agrees, function_linked_before}
+use Rattle.c_erasure.specs.Checking.Files.{new_function}
+use Rattle.c_erasure.specs.Checking.Files.{known_function, function_of, library_again, declare_library, declare_own, declare_function}
 use Rattle.c_checking_laws.proofs.CompleteNodes.{some, some_is}
 use Rattle.c_checking_laws.proofs.CompletePart.{Lists, part}
 use Rattle.c_checking_laws.proofs.CompleteWalk.{a_name}
 use Rattle.c_checking_laws.proofs.Extends.{last_or}
 use Rattle.c_checking_laws.proofs.NodesOfParts.{same_bytes}
 use Rattle.c_checking_laws.proofs.Results.{ok}
-use Rattle.c_checking_files.proofs.CompleteObjects.{mapped_at}
-use Rattle.c_checking_files.proofs.FileScopes.{IsSameFunction, MayDeclare}
-use Rattle.c_checking_files.proofs.Names.{declared_is}
+use Rattle.c_checking_laws.proofs.WholeFiles.CompleteObjects.{mapped_at}
+use Rattle.c_checking_laws.proofs.WholeFiles.FileScopes.{IsSameFunction, MayDeclare}
+use Rattle.c_checking_laws.proofs.WholeFiles.Names.{declared_is}
 use Rattle.c_checking_units.proofs.Filed.{IsWholeFile, IsFiled, declared_earlier, naming, next_bound, naming_filed}
 use Rattle.c_checking_units.proofs.Names.{own_back, library_back}
 use Rattle.c_checking_units.proofs.ObjectDeclarators.{FoundFile}

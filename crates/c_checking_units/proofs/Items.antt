@@ -7,8 +7,8 @@ use Rattle.c_ast.specs.WellFormed.{IsItem, AreItems, types_after}
 use Rattle.c_erasure.specs.Broken.{Fault}
 use Rattle.c_erasure.specs.Files.{ErasesItem, IsFileOf}
 use Rattle.c_erasure.specs.Scopes.{FileScope}
-use Rattle.c_checking.specs.Answers.{◌>>=◌}
-use Rattle.c_checking.specs.Files.{item_nodes, filed_item, filed, unread, closed_file, annotated}
+use Rattle.c_erasure.specs.Checking.Answers.{◌>>=◌}
+use Rattle.c_erasure.specs.Checking.Files.{item_nodes, filed_item, filed, unread, closed_file, annotated}
 use Rattle.c_checking_laws.proofs.CompletePart.{Lists, part}
 use Rattle.c_checking_laws.proofs.Results.{ok}
 use Rattle.c_checking_units.proofs.Declarations.{steps_of_declaration, declaration_found}

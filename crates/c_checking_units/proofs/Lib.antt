@@ -45,3 +45,6 @@ pub mod FirstDeclared
 pub mod Answer
 pub mod OneUnit
 pub mod Closed
+pub mod TypeLimits
+pub mod FirstStops
+pub mod FaultPlaces

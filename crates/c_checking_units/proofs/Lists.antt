@@ -4,7 +4,7 @@ use Rattle.std.specs.Prelude.{Some, slice_get}
 use Rattle.c_erasure.specs.Declarators.{AreDifferent}
 use Rattle.c_erasure.specs.Files.{AreAscending}
 use Rattle.c_checking_laws.proofs.CompleteNodes.{some_is}
-use Rattle.c_checking_files.proofs.Names.{all_at}
+use Rattle.c_checking_laws.proofs.WholeFiles.Names.{all_at}
 
 pub lesser_first : (all : List ℕ) → AreAscending all → (j k p q : ℕ) → slice_get all j ≡ Some p → slice_get all k ≡ Some q → p < q → j < k
 lesser_first [] h j k p q e f l = cc

@@ -13,13 +13,14 @@ use Rattle.c_erasure.specs.Scopes.{FileScope, in_full, value_alone}
 use Rattle.c_erasure.specs.Specifiers.{Storage, no_storage, a_typedef, is_extern, is_static, is_auto, is_register, several, storage_of}
 use Rattle.c_checking_laws.proofs.CompleteBodies.{walk_by_storage}
 use Rattle.c_checking_laws.proofs.CompleteLists.{made_at}
-use Rattle.c_checking_laws.proofs.CompleteLocals.{begins, literal_if, walk_of_initializer, walk_of_initializers, walk_of_initial, look_at, walk_of_declared, walk_of_locals}
+use Rattle.c_checking_laws.proofs.CompleteLocals.{begins, literal_if, walk_of_initializer, walk_of_initializers, walk_of_initial, look_at, walk_of_declared}
+use Rattle.c_checking_laws.proofs.CompleteLocals.{walk_of_locals}
 use Rattle.c_checking_laws.proofs.CompleteStatements.{walk_of_option, walk_of_start, walk_of_labels, walk_of_statement, walk_of_item, walk_of_items}
 use Rattle.c_checking_laws.proofs.CompleteStatements.{walk_of_switch_item, walk_of_switch_items}
 use Rattle.c_checking_laws.proofs.CompleteWalk.{Event, a_use, a_look, a_tag, an_end, a_name, a_literal, seen, walk, walk_of_all, walk_if_any, walk_of_type}
 use Rattle.c_checking_laws.proofs.CompleteWalk.{walk_of_specifiers, walk_of_specifier, walk_of_members, walk_of_member_declarators, walk_of_enumerators}
 use Rattle.c_checking_laws.proofs.CompleteWalk.{walk_of_value, walk_of_declarator, walk_of_parameter_list, walk_of_parameters, an_enumeration}
-use Rattle.c_checking_files.proofs.CompleteStaticLists.{object_at, walk_of_statics}
+use Rattle.c_checking_laws.proofs.WholeFiles.CompleteStaticLists.{object_at, walk_of_statics}
 use Rattle.c_checking_units.proofs.StepLists.{two}
 use Rattle.c_checking_units.proofs.Walking.{own, name_there}
 

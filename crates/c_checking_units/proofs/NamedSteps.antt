@@ -1,5 +1,6 @@
 -- Each name of the steps is an enumerator's or a declarator's, and each object and function of the steps is one of the file (C99 6.7, 6.9).
-use Rattle.std.proofs.Common.{◌≡◌, ◌≢◌, ℕ, suc, ◌≤◌, ◌<◌, Bool, true, false, List, [], ◌∷◌, ◌++◌, Option, Some, None, refl, sym, ap, ◌∙◌, subst, inl, inr, arith}
+use Rattle.std.proofs.Common.{◌≡◌, ◌≢◌, ℕ, suc, ◌≤◌, ◌<◌, Bool, true, false, List, [], ◌∷◌, ◌++◌, Option, Some, None, refl, sym, ap, ◌∙◌, subst, inl, inr}
+use Rattle.std.proofs.Common.{arith}
 use Rattle.std.proofs.lemmas.List.Elements.{All-head, All-tail}
 use Rattle.std.specs.List.{AllByRecursion}
 use Rattle.std.specs.Prelude.{◌⊎◌, All, slice_get}
@@ -22,7 +23,7 @@ use Rattle.c_checking_laws.proofs.CompleteLists.{froms_of, made_at}
 use Rattle.c_checking_laws.proofs.CompleteLocals.{walk_of_initial}
 use Rattle.c_checking_laws.proofs.CompleteStatements.{walk_of_items}
 use Rattle.c_checking_laws.proofs.CompleteWalk.{Event, a_use, a_look, a_tag, an_end, a_name, a_literal, seen, walk_of_declarator, walk_of_specifiers}
-use Rattle.c_checking_files.proofs.CompleteStaticLists.{walk_of_statics}
+use Rattle.c_checking_laws.proofs.WholeFiles.CompleteStaticLists.{walk_of_statics}
 use Rattle.c_checking_units.proofs.Declarators.{steps_if_named, steps_of_declarators}
 use Rattle.c_checking_units.proofs.Definitions.{alone, body_events, steps_of_body, steps_if_defined, steps_of_definition}
 use Rattle.c_checking_units.proofs.Filed.{IsWholeFile}

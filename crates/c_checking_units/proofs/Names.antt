@@ -11,18 +11,18 @@ use Rattle.c_erasure.specs.Erasure.{IsBound}
 use Rattle.c_erasure.specs.Files.{library_name, IsOwnName, bound, is_first, MayStandTogether}
 use Rattle.c_erasure.specs.Marks.{Mark}
 use Rattle.c_erasure.specs.Scopes.{FileScope, Bound, Entity, typedef, enumerator, an_object, a_function, AnObject, at_file_scope, visible, defines}
-use Rattle.c_checking.specs.Declaring.{declared_among}
-use Rattle.c_checking.specs.Files.{first_named, is_library_name, library, library_named, declare_typedef}
+use Rattle.c_erasure.specs.Checking.Declaring.{declared_among}
+use Rattle.c_erasure.specs.Checking.Files.{first_named, is_library_name, library, library_named, declare_typedef}
 use Rattle.c_checking_laws.proofs.CompleteNodes.{some}
 use Rattle.c_checking_laws.proofs.CompletePart.{Lists, part}
 use Rattle.c_checking_laws.proofs.CompleteStructures.{below_length}
 use Rattle.c_checking_laws.proofs.CompleteWalk.{IsAsked, IsNamedFrom}
 use Rattle.c_checking_laws.proofs.Extends.{Extends, kept, bound_stays, one_of_both}
 use Rattle.c_checking_laws.proofs.NodesOfParts.{same_bytes}
-use Rattle.c_checking_files.proofs.FileScopes.{IsSameObject}
-use Rattle.c_checking_files.proofs.Kept.{Keeps, IsAnEnumerator, undeclared}
-use Rattle.c_checking_files.proofs.FirstNames.{none_visible, one_visible}
-use Rattle.c_checking_files.proofs.Names.{declared_is}
+use Rattle.c_checking_laws.proofs.WholeFiles.FileScopes.{IsSameObject}
+use Rattle.c_checking_laws.proofs.WholeFiles.Kept.{Keeps, IsAnEnumerator, undeclared}
+use Rattle.c_checking_laws.proofs.WholeFiles.FirstNames.{none_visible, one_visible}
+use Rattle.c_checking_laws.proofs.WholeFiles.Names.{declared_is}
 use Rattle.c_checking_units.proofs.Filed.{IsWholeFile, IsFiled, earlier, declared_earlier, naming, next_bound, naming_filed}
 use Rattle.c_checking_units.proofs.Steps.{AreBegun}
 

@@ -6,8 +6,8 @@ use Rattle.c_erasure.specs.Declarators.{AreDifferent}
 use Rattle.c_erasure.specs.Marks.{Mark, is_among, firsts, defined_in, undefined_in, tags_in}
 use Rattle.c_erasure.specs.Scopes.{Tag}
 use Rattle.c_checking_laws.proofs.Extends.{one_of_both}
-use Rattle.c_checking_files.proofs.Names.{all_at, names_equal}
-use Rattle.c_checking_files.proofs.Orders.{all_from_slices}
+use Rattle.c_checking_laws.proofs.WholeFiles.Names.{all_at, names_equal}
+use Rattle.c_checking_laws.proofs.WholeFiles.Orders.{all_from_slices}
 
 -- none of the names is among those
 abbrev AreFresh : List (List ℕ) → List (List ℕ) → Type 0

@@ -13,15 +13,15 @@ use Rattle.c_erasure.specs.Files.{IsOwnName, is_first, object_how, bound, IsDefi
 use Rattle.c_erasure.specs.Noted.{Noted}
 use Rattle.c_erasure.specs.Scopes.{FileScope, an_object, AnObject, at_file_scope, defines}
 use Rattle.c_erasure.specs.Specifiers.{Storage}
-use Rattle.c_checking.specs.Answers.{Answer, ◌>>=◌}
-use Rattle.c_checking.specs.Declaring.{declared_among, with_bound}
-use Rattle.c_checking.specs.Files.{own_name, object_of, defined_object, with_definition, define_object, defined_once, once, declare_object}
+use Rattle.c_erasure.specs.Checking.Answers.{Answer, ◌>>=◌}
+use Rattle.c_erasure.specs.Checking.Declaring.{declared_among, with_bound}
+use Rattle.c_erasure.specs.Checking.Files.{own_name, object_of, defined_object, with_definition, define_object, defined_once, once, declare_object}
 use Rattle.c_checking_laws.proofs.CompleteNodes.{some_is}
 use Rattle.c_checking_laws.proofs.CompletePart.{Lists, part, complete_stays}
 use Rattle.c_checking_laws.proofs.CompleteWalk.{a_name}
 use Rattle.c_checking_laws.proofs.Results.{ok}
-use Rattle.c_checking_files.proofs.CompleteObjects.{with_objects, one_put, set_of, set_length}
-use Rattle.c_checking_files.proofs.FileScopes.{IsSameObject, MayDeclare}
+use Rattle.c_checking_laws.proofs.WholeFiles.CompleteObjects.{with_objects, one_put, set_of, set_length}
+use Rattle.c_checking_laws.proofs.WholeFiles.FileScopes.{IsSameObject, MayDeclare}
 use Rattle.c_checking_units.proofs.Constants.{Initial, constants_found}
 use Rattle.c_checking_units.proofs.Filed.{IsWholeFile, IsFiled, naming, next_bound, naming_filed}
 use Rattle.c_checking_units.proofs.Names.{own_back}

@@ -11,17 +11,17 @@ use Rattle.c_ast.specs.declared.words.Spelling.{Spelling}
 use Rattle.c_erasure.specs.Files.{IsLinkage, IsFirst}
 use Rattle.c_erasure.specs.Scopes.{FileScope, Bound, Entity, an_object, a_function, AnObject, at_file_scope, defines}
 use Rattle.c_erasure.specs.Specifiers.{Storage, no_storage, a_typedef, is_extern, is_static, is_auto, is_register, several}
-use Rattle.c_checking.specs.Answers.{refused}
-use Rattle.c_checking.specs.Declaring.{declared_among}
-use Rattle.c_checking.specs.Files.{is_main, links, linkage_agrees, linked_before, new_object}
-use Rattle.c_checking.specs.Files.{known_object, object_of, defined_among}
+use Rattle.c_erasure.specs.Checking.Answers.{refused}
+use Rattle.c_erasure.specs.Checking.Declaring.{declared_among}
+use Rattle.c_erasure.specs.Checking.Files.{is_main, links, linkage_agrees, linked_before, new_object}
+use Rattle.c_erasure.specs.Checking.Files.{known_object, object_of, defined_among}
 use Rattle.c_checking_laws.proofs.CompleteNodes.{some, some_is}
 use Rattle.c_checking_laws.proofs.CompletePart.{Lists, part}
 use Rattle.c_checking_laws.proofs.Extends.{Extends, last_or}
 use Rattle.c_checking_laws.proofs.NodesOfParts.{same_bytes}
 use Rattle.c_checking_laws.proofs.Results.{ok}
-use Rattle.c_checking_files.proofs.CompleteObjects.{with_objects, one_more}
-use Rattle.c_checking_files.proofs.FileScopes.{IsSameObject, MayDeclare}
+use Rattle.c_checking_laws.proofs.WholeFiles.CompleteObjects.{with_objects, one_more}
+use Rattle.c_checking_laws.proofs.WholeFiles.FileScopes.{IsSameObject, MayDeclare}
 use Rattle.c_checking_units.proofs.Filed.{IsWholeFile, IsFiled, earlier, declared_earlier}
 use Rattle.c_checking_units.proofs.Steps.{IsNextOwn, own_objects}
 
@@ -163,7 +163,7 @@ module _ (g : FileScope) (w : IsWholeFile g) where
   own_found c words x place t n o true (Some old) b may f e i next own is there known = cc
   own_found c words x place t n o false (Some old) b may f e i next own is there known =
       let both = declared_earlier g w c f.extends b there old e in
-      let d = Rattle.c_checking_files.proofs.Names.declared_is c.names b.name old e in
+      let d = Rattle.c_checking_laws.proofs.WholeFiles.Names.declared_is c.names b.name old e in
       one_known c words x place t n o old may f (f.objects_there d.0 old d.1 n t (both.same ∙ is)) (both.same ∙ is) own
 
   -- ---- definitions

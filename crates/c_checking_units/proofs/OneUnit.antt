@@ -14,12 +14,12 @@ use Rattle.c_erasure.specs.Files.{IsFileOf}
 use Rattle.c_erasure.specs.Scopes.{FileScope}
 use Rattle.c_erasure.specs.Units.{unit_of}
 use Rattle.c_erasure.specs.Untagged.{AreTags, structs_in}
-use Rattle.c_text_order.specs.TextOrder.{IsUnwritten, TextsAreInOrder}
-use Rattle.c_checking.specs.Answers.{Answer}
-use Rattle.c_checking.specs.Files.{annotated}
-use Rattle.c_untagged.proofs.OneLine.{IsTagAt, tags_agree}
-use Rattle.c_untagged.proofs.OtherFiles.{file_other}
-use Rattle.c_untagged.proofs.OtherParts.{with_tags}
+use Rattle.c_checking_laws.specs.TextOrder.TextOrder.{IsUnwritten, TextsAreInOrder}
+use Rattle.c_erasure.specs.Checking.Answers.{Answer}
+use Rattle.c_erasure.specs.Checking.Files.{annotated}
+use Rattle.c_checking_laws.proofs.TextOrder.UntaggedNames.OneLine.{IsTagAt, tags_agree}
+use Rattle.c_checking_laws.proofs.TextOrder.UntaggedNames.OtherFiles.{file_other}
+use Rattle.c_checking_laws.proofs.TextOrder.UntaggedNames.OtherParts.{with_tags}
 use Rattle.c_checking_units.proofs.Filed.{IsWholeFile}
 use Rattle.c_checking_units.proofs.Items.{steps_of_items}
 use Rattle.c_checking_units.proofs.Steps.{AreSteps}

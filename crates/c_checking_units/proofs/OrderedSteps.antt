@@ -6,7 +6,8 @@ use Rattle.c_checking_laws.proofs.CompleteLists.{froms_of}
 use Rattle.c_tokens.specs.declared.punctuator.Punctuator.TheVariants as M
 use Rattle.c_ast.specs.declared.words.Spelling.{Spelling}
 use Rattle.c_ast.specs.Trees
-use Rattle.c_ast.specs.Spelling.{Lexeme, punctuator, spelled_declarator, spelled_value, spelled_init_declarators, spelled_item, spelled_items, spelled_declaration}
+use Rattle.c_ast.specs.Spelling.{Lexeme, punctuator, spelled_declarator, spelled_value, spelled_init_declarators, spelled_item, spelled_items}
+use Rattle.c_ast.specs.Spelling.{spelled_declaration}
 use Rattle.c_ast.specs.Spelling.{spelled_comma, spelled_block_items}
 use Rattle.c_ast.specs.WellFormed.{IsComma, IsValue, AreInitDeclarators, IsDeclaration, IsItem, AreItems, types_after}
 use Rattle.c_erasure.specs.Marks.{name_from, after_declarator}

@@ -19,7 +19,7 @@ use Rattle.c_checking_units.proofs.Filed.{IsWholeFile}
 use Rattle.c_checking_units.proofs.Items.{steps_of_item, steps_of_items}
 use Rattle.c_checking_units.proofs.Prepared.{steps_of_declarator}
 use Rattle.c_checking_units.proofs.Steps.{Step, At, entity_at}
-use Rattle.c_text_order.specs.TextOrder.{places_of_declarators, places_of_item, places_of_file}
+use Rattle.c_checking_laws.specs.TextOrder.TextOrder.{places_of_declarators, places_of_item, places_of_file}
 use Rattle.c_checking_units.proofs.Made.{Kept, kept_both, kept_for, kept_made, made_left, made_right, made_either, specifiers_made, declarator_made}
 use Rattle.c_checking_units.proofs.Made.{BeginsNone, initial_makes, begins_same, body_makes}
 use Rattle.c_checking_units.proofs.MarksOfSteps.{all_seen}

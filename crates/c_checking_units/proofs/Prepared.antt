@@ -16,10 +16,10 @@ use Rattle.c_erasure.specs.Initializers.{texts_of, length_of}
 use Rattle.c_erasure.specs.Scopes.{FileScope, Bound, enumerator, at_file_scope, ended, IsMentioned}
 use Rattle.c_erasure.specs.Specifiers.{Storage}
 use Rattle.c_erasure.specs.Statements.{IsSized}
-use Rattle.c_checking.specs.Declaring.{Derivation, declared_among, with_mention, mentions_in, derived, small, object_at}
-use Rattle.c_checking.specs.Files.{declare_as, declarator_named}
-use Rattle.c_checking.specs.Finding.{derivations}
-use Rattle.c_checking.specs.Statements.{counted_array, sized_in}
+use Rattle.c_erasure.specs.Checking.Declaring.{Derivation, declared_among, with_mention, mentions_in, derived, small, object_at}
+use Rattle.c_erasure.specs.Checking.Files.{declare_as, declarator_named}
+use Rattle.c_erasure.specs.Checking.Finding.{derivations}
+use Rattle.c_erasure.specs.Checking.Statements.{counted_array, sized_in}
 use Rattle.c_checking_laws.proofs.CompleteCalls.{size_same}
 use Rattle.c_checking_laws.proofs.CompleteDeclarators.{small_back}
 use Rattle.c_checking_laws.proofs.CompleteLocals.{walk_of_initial}
@@ -28,7 +28,7 @@ use Rattle.c_checking_laws.proofs.CompleteTrees.{complete_declarator}
 use Rattle.c_checking_laws.proofs.CompleteWalk.{a_look, a_name, walk_of_declarator}
 use Rattle.c_checking_laws.proofs.Extends.{Extends}
 use Rattle.c_checking_laws.proofs.Results.{ok}
-use Rattle.c_checking_files.proofs.Keeping.{keep_steps}
+use Rattle.c_checking_laws.proofs.WholeFiles.Keeping.{keep_steps}
 use Rattle.c_checking_units.proofs.Filed.{IsWholeFile, IsFiled, next_bound}
 use Rattle.c_checking_units.proofs.Names.{keeps_filed, first_same}
 use Rattle.c_checking_units.proofs.Steps.{Step, events, a_declarator, an_own, entity_at, AreSteps, steps_at, At, IsReady}
@@ -59,16 +59,16 @@ module _ (g : FileScope) where
     extends = p;
     objects = subst (λ all. (n : ℕ) (o : Rattle.c_erasure.specs.Scopes.AnObject) → slice_get all n ≡ Some o
         → (p : Rattle.c_erasure.specs.Scopes.AnObject) × (slice_get g.objects n ≡ Some p)
-        × Rattle.c_checking_files.proofs.FileScopes.IsSameObject o p) objects f.objects;
+        × Rattle.c_checking_laws.proofs.WholeFiles.FileScopes.IsSameObject o p) objects f.objects;
     functions = subst (λ all. (n : ℕ) (o : Rattle.c_erasure.specs.Scopes.AFunction) → slice_get all n ≡ Some o
         → (p : Rattle.c_erasure.specs.Scopes.AFunction) × (slice_get g.functions n ≡ Some p)
-        × Rattle.c_checking_files.proofs.FileScopes.IsSameFunction o p) functions f.functions;
+        × Rattle.c_checking_laws.proofs.WholeFiles.FileScopes.IsSameFunction o p) functions f.functions;
     objects_there = λ k b i n t is. subst (λ all. n < length all) objects
         (f.objects_there k b (subst (λ all. slice_get all k ≡ Some b) (sym names) i) n t is);
     functions_there = λ k b i n t is. subst (λ all. n < length all) functions
         (f.functions_there k b (subst (λ all. slice_get all k ≡ Some b) (sym names) i) n t is);
-    whole = subst (λ records. Rattle.c_checking_files.proofs.Kept.AreObjectsWhole records e.objects) records
-        (subst (Rattle.c_checking_files.proofs.Kept.AreObjectsWhole d.records) objects f.whole);
+    whole = subst (λ records. Rattle.c_checking_laws.proofs.WholeFiles.Kept.AreObjectsWhole records e.objects) records
+        (subst (Rattle.c_checking_laws.proofs.WholeFiles.Kept.AreObjectsWhole d.records) objects f.whole);
   }
 
 -- ---- types of objects

@@ -11,9 +11,9 @@ use Rattle.c_ast.specs.WellFormed.{IsStatement, IsBlockItem, AreBlockItems, IsSw
 use Rattle.c_erasure.specs.MentionPlaces.{spoken, spoken_of_all, spoken_by_value, spoken_of_declarators, spoken_of_declaration, spoken_if_some, spoken_of_start}
 use Rattle.c_erasure.specs.MentionPlaces.{spoken_of_labels, spoken_by, spoken_by_item, spoken_by_items, spoken_by_switch_item, spoken_by_switch_items}
 use Rattle.c_erasure.specs.MentionPlaces.{mentions_of_item, mentions_of_file}
-use Rattle.c_order.proofs.Walks.{comma_along}
-use Rattle.c_text_order.proofs.Rising.{AreRising, unmarked}
-use Rattle.c_text_order.proofs.Tokens.{tokens_rise}
+use Rattle.c_erasure.proofs.MarkPlaces.Walks.{comma_along}
+use Rattle.c_checking_laws.proofs.TextOrder.Rising.{AreRising, unmarked}
+use Rattle.c_checking_laws.proofs.TextOrder.Tokens.{tokens_rise}
 use Rattle.c_checking_units.proofs.Spread.{Spread, none, skip, both, before, after, quiet}
 use Rattle.c_checking_units.proofs.SpokenParts.{named_is, speaks, specifiers_speak, declared_speaks}
 

@@ -12,9 +12,9 @@ use Rattle.c_ast.specs.WellFormed.{IsSpecifier, AreMemberDeclarations, AreMember
 use Rattle.c_ast.specs.WellFormed.{AreParameters, has_name}
 use Rattle.c_erasure.specs.MentionPlaces.{spoken, spoken_of_all, spoken_if_any, spoken_of_type, spoken_of_specifiers, spoken_of_specifier, spoken_of_members}
 use Rattle.c_erasure.specs.MentionPlaces.{spoken_of_fields, spoken_of_enumerators, spoken_of_value, spoken_of_declarator, spoken_of_list, spoken_of_parameters}
-use Rattle.c_order.proofs.Walks.{comma_along, texts_along, consts_along, tag_along}
-use Rattle.c_order.proofs.MarksOfParts.{along}
-use Rattle.c_text_order.proofs.Rising.{unmarked}
+use Rattle.c_erasure.proofs.MarkPlaces.Walks.{comma_along, texts_along, consts_along, tag_along}
+use Rattle.c_erasure.proofs.MarkPlaces.MarksOfParts.{along}
+use Rattle.c_checking_laws.proofs.TextOrder.Rising.{unmarked}
 use Rattle.c_checking_units.proofs.Spread.{Spread, none, skip, here, both, swap, before, after, quiet}
 
 -- what has a name is not nothing

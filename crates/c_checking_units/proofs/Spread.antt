@@ -2,7 +2,7 @@
 use Rattle.std.proofs.Common.{◌≡◌, ℕ, zero, suc, ◌+◌, ◌≤◌, ◌<◌, List, [], ◌∷◌, ◌++◌, length, refl, subst, arith, append-nil, inl, inr}
 use Rattle.std.specs.Prelude.{◌⊎◌, Some, slice_get}
 use Rattle.c_ast.specs.Spelling.{Lexeme}
-use Rattle.c_text_order.proofs.Rising.{AreRising, Rise}
+use Rattle.c_checking_laws.proofs.TextOrder.Rising.{AreRising, Rise}
 use Rattle.c_checking_laws.proofs.Extends.{kept, behind, one_of_both}
 
 -- different places from a byte on, and before another

@@ -6,7 +6,7 @@ use Rattle.std.specs.List.{AllByRecursion}
 use Rattle.c_erasure.specs.Marks
 use Rattle.c_erasure.specs.Marks.{Mark}
 use Rattle.c_erasure.specs.Scopes.{Tag, FileScope, Entity, an_object, a_function}
-use Rattle.c_checking_files.proofs.StatementLaws.{AreItemsInRange}
+use Rattle.c_checking_laws.proofs.WholeFiles.StatementLaws.{AreItemsInRange}
 use Rattle.c_checking_laws.proofs.CompleteLists.{froms_of, rights_of, defined_by, tags_of, made_at}
 use Rattle.c_checking_laws.proofs.CompleteMarks.{marks_in, froms_same, rights_same, defined_same, tags_same}
 use Rattle.c_checking_laws.proofs.CompleteOrder.{AreInOrder}

@@ -8,10 +8,10 @@ use Rattle.c_ast.specs.Trees
 use Rattle.c_erasure.specs.Files.{AreConsistentTags, IsFileOf}
 use Rattle.c_erasure.specs.Marks.{firsts, is_among, tags_in, marks_of_file}
 use Rattle.c_erasure.specs.Scopes.{Tag, tag_at, or_else, FileScope}
-use Rattle.c_checking.specs.Declaring.{tag_named}
+use Rattle.c_erasure.specs.Checking.Declaring.{tag_named}
 use Rattle.c_checking_laws.proofs.CompleteWalk.{IsTagOf}
 use Rattle.c_checking_laws.proofs.NodesOfParts.{same_bytes}
-use Rattle.c_checking_files.proofs.Names.{names_equal, all_at}
+use Rattle.c_checking_laws.proofs.WholeFiles.Names.{names_equal, all_at}
 use Rattle.c_checking_units.proofs.StepLists.{AreTagged}
 
 -- ---- the first tag of a name

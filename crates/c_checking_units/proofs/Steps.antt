@@ -3,7 +3,7 @@ use Rattle.std.proofs.Common.{◌≡◌, ℕ, zero, suc, ◌+◌, ◌≤◌, ◌
 use Rattle.std.proofs.lemmas.Bool.{eq-eqb, eqb-true}
 use Rattle.std.specs.Prelude.{◌==◌, Option, Some, None, slice_get}
 use Rattle.c_ast.specs.Trees
-use Rattle.c_checking_files.proofs.StatementLaws.{AreItemsInRange}
+use Rattle.c_checking_laws.proofs.WholeFiles.StatementLaws.{AreItemsInRange}
 use Rattle.c_erasure.specs.Erasure.{IsBound}
 use Rattle.c_erasure.specs.Scopes.{FileScope, Bound, Entity, an_object, a_function, AFunction, at_file_scope}
 use Rattle.c_checking_laws.proofs.CompleteNodes.{some, some_is}

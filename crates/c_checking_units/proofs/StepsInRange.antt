@@ -13,15 +13,15 @@ use Rattle.c_checking_laws.proofs.CompleteMarks.{marks_in, rights_same}
 use Rattle.c_checking_laws.proofs.CompleteStatements.{walk_of_items}
 use Rattle.c_checking_laws.proofs.CompleteWalk as Walk
 use Rattle.c_checking_laws.proofs.CompleteWalk.{Event, seen, a_use, a_look, a_tag, an_end, a_name, a_literal, walk_of_declarator, walk_of_specifiers}
-use Rattle.c_checking_files.proofs.CompleteStaticLists.{walk_of_statics}
-use Rattle.c_checking_files.proofs.Items.{IsItemFit, AreItemsFit}
+use Rattle.c_checking_laws.proofs.WholeFiles.CompleteStaticLists.{walk_of_statics}
+use Rattle.c_checking_laws.proofs.WholeFiles.Items.{IsItemFit, AreItemsFit}
 use Rattle.c_checking_units.proofs.Declarators.{steps_if_named, steps_of_declarators}
 use Rattle.c_checking_units.proofs.Definitions.{alone, body_events, steps_of_body, steps_if_defined}
 use Rattle.c_checking_units.proofs.Filed.{IsWholeFile}
 use Rattle.c_checking_units.proofs.Items.{steps_of_item, steps_of_items}
 use Rattle.c_checking_units.proofs.Prepared.{steps_of_declarator}
 use Rattle.c_checking_units.proofs.Steps.{Step, At}
-use Rattle.c_checking_files.proofs.StatementLaws.{AreItemsInRange}
+use Rattle.c_checking_laws.proofs.WholeFiles.StatementLaws.{AreItemsInRange}
 use Rattle.c_checking_units.proofs.Following.{ends_counted}
 use Rattle.c_checking_units.proofs.MarksOfSteps.{marks_at, marks_specifiers, marks_declarator}
 use Rattle.c_checking_units.proofs.StepLists.{AreStepsInRange, ends_both}

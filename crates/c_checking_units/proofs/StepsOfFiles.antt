@@ -10,15 +10,15 @@ use Rattle.c_erasure.specs.Broken.{Fault}
 use Rattle.c_erasure.specs.Files.{IsFileOf}
 use Rattle.c_erasure.specs.Marks.{scope_beginnings, ends_in, defined_in, tags_in, marks_of_file}
 use Rattle.c_erasure.specs.Scopes.{Bound, FileScope}
-use Rattle.c_text_order.specs.TextOrder.{IsUnwritten, TextsAreInOrder}
-use Rattle.c_text_order.proofs.Rising.{AreRising}
-use Rattle.c_text_order.proofs.Tokens.{tokens_rise}
-use Rattle.c_checking.specs.Files.{closed_file, annotated}
+use Rattle.c_checking_laws.specs.TextOrder.TextOrder.{IsUnwritten, TextsAreInOrder}
+use Rattle.c_checking_laws.proofs.TextOrder.Rising.{AreRising}
+use Rattle.c_checking_laws.proofs.TextOrder.Tokens.{tokens_rise}
+use Rattle.c_erasure.specs.Checking.Files.{closed_file, annotated}
 use Rattle.c_checking_laws.proofs.CompleteOrder.{AreApart}
 use Rattle.c_checking_laws.proofs.CompletePart.{Lists, part}
-use Rattle.c_checking_files.proofs.Items.{AreItemsFit}
-use Rattle.c_checking_files.proofs.SoundFiles.{AreFitItems}
-use Rattle.c_checking_files.proofs.TextFits.{text_is_fit}
+use Rattle.c_checking_laws.proofs.WholeFiles.Items.{AreItemsFit}
+use Rattle.c_checking_laws.proofs.WholeFiles.SoundFiles.{AreFitItems}
+use Rattle.c_checking_laws.proofs.WholeFiles.TextFits.{text_is_fit}
 use Rattle.c_checking_units.proofs.Filed.{IsWholeFile, IsFiled}
 use Rattle.c_checking_units.proofs.Items.{steps_of_items, annotated_found, never_refused}
 use Rattle.c_checking_units.proofs.Steps.{Step, AreSteps}

@@ -12,11 +12,13 @@ use Rattle.c_ast.specs.Trees
 use Rattle.c_ast.specs.Places.{first_text}
 use Rattle.c_erasure.specs.Declarators.{Shape, is_name, declared_name, parameter_type}
 use Rattle.c_erasure.specs.Erasure.{IsBound, IsBase, Erases, AreValues, IsTypeName, IsOne, Declares, AreParameters}
-use Rattle.c_erasure.specs.Erasure.{AreListed, AreFields, AreMembers, AreEnumerators, IsEnumeratorValue, IsLiteralFor, place_in, literal_of, with_parameter_if_named}
+use Rattle.c_erasure.specs.Erasure.{AreListed, AreFields, AreMembers, AreEnumerators, IsEnumeratorValue, IsLiteralFor, place_in, literal_of}
+use Rattle.c_erasure.specs.Erasure.{with_parameter_if_named}
 use Rattle.c_erasure.specs.Erasure.{after_all, comma_or}
 use Rattle.c_erasure.specs.Marks.{tag_name}
 use Rattle.c_erasure.specs.Noted.{Thing}
-use Rattle.c_erasure.specs.Scopes.{Bound, AnObject, FileScope, Scope, Purpose, in_full, value_alone, type_alone, purpose_of_value, enumerator, at_file_scope, inside}
+use Rattle.c_erasure.specs.Scopes.{Bound, AnObject, FileScope, Scope, Purpose, in_full, value_alone, type_alone, purpose_of_value, enumerator, at_file_scope}
+use Rattle.c_erasure.specs.Scopes.{inside}
 use Rattle.c_erasure.specs.Scopes.{for_value, measured}
 use Rattle.c_erasure.specs.Specifiers.{types_among}
 use Rattle.c_typed.specs.Trees as Typed

@@ -17,7 +17,7 @@ use Rattle.c_checking_laws.proofs.CompleteLocals.{look_at, walk_of_locals}
 use Rattle.c_checking_laws.proofs.CompleteStatements.{walk_of_option, walk_of_start, walk_of_labels, walk_of_statement, walk_of_item, walk_of_items}
 use Rattle.c_checking_laws.proofs.CompleteStatements.{walk_of_switch_item, walk_of_switch_items}
 use Rattle.c_checking_laws.proofs.CompleteWalk.{Event, walk}
-use Rattle.c_checking_files.proofs.CompleteStaticLists.{object_at, walk_of_statics}
+use Rattle.c_checking_laws.proofs.WholeFiles.CompleteStaticLists.{object_at, walk_of_statics}
 use Rattle.c_checking_units.proofs.There.{HasObject, AreThere, there_both, for_value_there, there, there_declarator, there_specifiers}
 use Rattle.c_checking_units.proofs.ThereInitially.{constants_there, initializer_there}
 use Rattle.c_checking_units.proofs.Walking.{own}

@@ -14,7 +14,7 @@ use Rattle.c_erasure.specs.Scopes.{AnObject, Scope}
 use Rattle.c_erasure.specs.Statements.{HasInitializer, HasConstants}
 use Rattle.c_checking_laws.proofs.CompleteLocals.{begins, walk_of_initializer, walk_of_initializers, walk_of_initial}
 use Rattle.c_checking_laws.proofs.CompleteWalk.{Event, a_literal, walk}
-use Rattle.c_checking_files.proofs.CompletePlain.{none_begins, Plainly, IsPlain, plain, no_braces, texts_in_braces}
+use Rattle.c_checking_laws.proofs.WholeFiles.CompletePlain.{none_begins, Plainly, IsPlain, plain, no_braces, texts_in_braces}
 use Rattle.c_checking_units.proofs.There.{HasObject, There, both, there}
 
 abbrev IsAmong : List AnObject → ℕ → Type 0

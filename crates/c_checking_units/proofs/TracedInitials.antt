@@ -17,14 +17,14 @@ use Rattle.c_erasure.specs.Initializers.{part_at, texts_of, IsText, Initializes,
 use Rattle.c_erasure.specs.Marks.{marks, marks_of_all}
 use Rattle.c_erasure.specs.Noted.{Noted, Expression, an_object, type_of, type_of_path}
 use Rattle.c_erasure.specs.Scopes.{Scope}
-use Rattle.c_order.specs.Places.{AreOrdered}
-use Rattle.c_order.proofs.Walks.{comma_along}
-use Rattle.c_order.proofs.MarksOfFiles.{initializer_along}
+use Rattle.c_erasure.specs.MarkPlaces.Places.{AreOrdered}
+use Rattle.c_erasure.proofs.MarkPlaces.Walks.{comma_along}
+use Rattle.c_erasure.proofs.MarkPlaces.MarksOfFiles.{initializer_along}
 use Rattle.c_checking_laws.proofs.Agreement.{added}
 use Rattle.c_checking_laws.proofs.FaultPremises.{IsTimely}
 use Rattle.c_checking_laws.proofs.Ahead.{Ahead, Standing, standing_left, standing_right, back, earlier, ahead_same, added_both}
 use Rattle.c_checking_laws.proofs.Timely.{timely}
-use Rattle.c_checking_files.proofs.InTextTime.{behind_part, ahead_of, list_along}
+use Rattle.c_checking_laws.proofs.WholeFiles.InTextTime.{behind_part, ahead_of, list_along}
 use Rattle.c_checking_units.proofs.Tracing.{AreTraced, two}
 use Rattle.c_checking_units.proofs.TracedParts.{traced}
 

@@ -21,23 +21,24 @@ use Rattle.c_erasure.specs.Files.{ErasesItem, library_name, IsOwnName, IsLinkage
 use Rattle.c_erasure.specs.Initializers.{IsInitializer, part_at}
 use Rattle.c_erasure.specs.Marks.{Mark, a_name, marks, marks_of_specifiers, marks_of_declarator, marks_of_initial, marks_of_declarators, marks_of_item}
 use Rattle.c_erasure.specs.Marks.{marks_of_file, name_from, after_declarator, scope_beginnings, ends_in}
-use Rattle.c_erasure.specs.Scopes.{Bound, FileScope, enumerator, AnObject, AFunction, at_file_scope, ended, defines, declares, typedef, an_object, a_function, a_library_function}
+use Rattle.c_erasure.specs.Scopes.{Bound, FileScope, enumerator, AnObject, AFunction, at_file_scope, ended, defines, declares, typedef, an_object, a_function}
+use Rattle.c_erasure.specs.Scopes.{a_library_function}
 use Rattle.c_erasure.specs.Specifiers.{Storage, no_storage, a_typedef, is_extern, is_static, is_auto, is_register, several, storage_of}
-use Rattle.c_order.specs.Places.{AreOrdered, Along}
-use Rattle.c_order.proofs.Walks.{none, skip, after, comma_along}
-use Rattle.c_order.proofs.MarksOfParts.{declarator_along, specifiers_along}
-use Rattle.c_order.proofs.MarksOfFiles.{initializer_along, declarators_along, block_items_along, item_along, items_along}
+use Rattle.c_erasure.specs.MarkPlaces.Places.{AreOrdered, Along}
+use Rattle.c_erasure.proofs.MarkPlaces.Walks.{none, skip, after, comma_along}
+use Rattle.c_erasure.proofs.MarkPlaces.MarksOfParts.{declarator_along, specifiers_along}
+use Rattle.c_erasure.proofs.MarkPlaces.MarksOfFiles.{initializer_along, declarators_along, block_items_along, item_along, items_along}
 use Rattle.c_checking_laws.proofs.Agreement as Agreement
 use Rattle.c_checking_laws.proofs.Agreement.{added, beginnings_append}
 use Rattle.c_checking_laws.proofs.CompletePart.{IsFitFor, complete_stays}
 use Rattle.c_checking_laws.proofs.Extends.{behind}
-use Rattle.c_checking_files.proofs.CompleteObjects.{mapped_at}
+use Rattle.c_checking_laws.proofs.WholeFiles.CompleteObjects.{mapped_at}
 use Rattle.c_checking_laws.proofs.Ahead.{Ahead, Standing, standing_left, standing_right, back, earlier, ahead_same, added_both, none_left}
 use Rattle.c_checking_laws.proofs.Timely.{timely_specifiers, timely_declarator}
-use Rattle.c_checking_files.proofs.InTextTime.{behind_part}
-use Rattle.c_checking_files.proofs.Known.{made_left, made_right}
-use Rattle.c_checking_files.proofs.Rises.{passed, rising_front}
-use Rattle.c_text_order.specs.TextOrder.{Rising, place_of_name, names_of_declarators, names_of_item, names_of_file}
+use Rattle.c_checking_laws.proofs.WholeFiles.InTextTime.{behind_part}
+use Rattle.c_checking_laws.proofs.WholeFiles.Known.{made_left, made_right}
+use Rattle.c_checking_laws.proofs.WholeFiles.Rises.{passed, rising_front}
+use Rattle.c_checking_laws.specs.TextOrder.TextOrder.{Rising, place_of_name, names_of_declarators, names_of_item, names_of_file}
 use Rattle.c_checking_units.proofs.Ended.{ended_grows}
 use Rattle.c_checking_units.proofs.Tracing.{IsTracedEnumerator, IsTracedRecord, AreTraced, AreAll, both, with_names}
 use Rattle.c_checking_units.proofs.TracedParts.{one_traced, base_traced, declarator_traced}

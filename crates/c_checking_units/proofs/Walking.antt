@@ -12,16 +12,17 @@ use Rattle.c_ast.specs.WellFormed.{IsExpressionIfAny, AreLabels, IsForStart, IsS
 use Rattle.c_erasure.specs.Declarators.{declared_name}
 use Rattle.c_erasure.specs.Scopes.{AnObject, FileScope, Purpose, value_alone}
 use Rattle.c_erasure.specs.Specifiers.{Storage, no_storage, a_typedef, is_extern, is_static, is_auto, is_register, several, storage_of}
-use Rattle.c_text_order.proofs.Rising.{AreRising}
+use Rattle.c_checking_laws.proofs.TextOrder.Rising.{AreRising}
 use Rattle.c_checking_laws.proofs.CompleteBodies.{walk_by_storage, walk_of_declaration}
-use Rattle.c_checking_laws.proofs.CompleteLocals.{begins, literal_if, walk_of_initializer, walk_of_initializers, walk_of_initial, walk_of_declared, walk_of_locals}
+use Rattle.c_checking_laws.proofs.CompleteLocals.{begins, literal_if, walk_of_initializer, walk_of_initializers, walk_of_initial, walk_of_declared}
+use Rattle.c_checking_laws.proofs.CompleteLocals.{walk_of_locals}
 use Rattle.c_checking_laws.proofs.CompleteLocals.{look_at}
 use Rattle.c_checking_laws.proofs.CompleteOrder.{AreApart, order_earlier, order_later, order_both, order_seen, Walked, walked, walked_if_any}
 use Rattle.c_checking_laws.proofs.CompleteOrder.{walked_specifiers, walked_declarator}
 use Rattle.c_checking_laws.proofs.CompleteStatements.{walk_of_option, walk_of_start, walk_of_labels, walk_of_statement, walk_of_item, walk_of_items}
 use Rattle.c_checking_laws.proofs.CompleteStatements.{walk_of_switch_item, walk_of_switch_items}
 use Rattle.c_checking_laws.proofs.CompleteWalk.{Event, a_look, a_literal, seen, walk_of_declarator}
-use Rattle.c_checking_files.proofs.CompleteStaticLists.{object_at, walk_of_statics}
+use Rattle.c_checking_laws.proofs.WholeFiles.CompleteStaticLists.{object_at, walk_of_statics}
 
 pub apart_of : (low : ℕ) (tokens : List Lexeme) → AreRising low tokens → AreApart low tokens
 apart_of low [] h = tt

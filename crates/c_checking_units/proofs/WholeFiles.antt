@@ -15,14 +15,14 @@ use Rattle.c_erasure.specs.Declarators.{AreDifferent}
 use Rattle.c_erasure.specs.Files.{AreAscending, IsFileOf, IsMade}
 use Rattle.c_erasure.specs.Marks.{marks_of_file, scope_beginnings}
 use Rattle.c_erasure.specs.Scopes.{Bound, FileScope, Entity, an_object, visible, or_else, ended}
-use Rattle.c_order.proofs.Ordered.{tree_ordered, marks_are_in_order}
-use Rattle.c_text_order.specs.TextOrder.{TextsAreInOrder}
+use Rattle.c_erasure.proofs.MarkPlaces.Ordered.{tree_ordered, marks_are_in_order}
+use Rattle.c_checking_laws.specs.TextOrder.TextOrder.{TextsAreInOrder}
 use Rattle.c_checking_laws.proofs.Agreement as Agreement
 use Rattle.c_checking_laws.proofs.CompleteNodes.{some_is}
 use Rattle.c_checking_laws.proofs.CompletePart.{IsFitFor, fit_stays}
 use Rattle.c_checking_laws.proofs.NodesOfParts.{same_bytes}
 use Rattle.c_checking_laws.proofs.CompleteWhole as Complete
-use Rattle.c_checking_files.proofs.CompleteObjects.{mapped_at}
+use Rattle.c_checking_laws.proofs.WholeFiles.CompleteObjects.{mapped_at}
 use Rattle.c_checking_laws.proofs.Settled.{AreWhole}
 use Rattle.c_checking_units.proofs.Filed.{IsWholeFile}
 use Rattle.c_checking_units.proofs.FileFacts.{whole_file}

@@ -1,1 +1,4 @@
 pub mod Units
+pub mod TypeLimits
+pub mod FirstStops
+pub mod FaultPlaces

@@ -7,8 +7,8 @@ use Rattle.c_typed.specs.Programs.{UnitData}
 use Rattle.c_erasure.specs.Broken.{Fault}
 use Rattle.c_erasure.specs.Erasing.{ErasesTo}
 use Rattle.c_erasure.specs.Untagged.{AreTags, structs_in}
-use Rattle.c_checking.specs.Files.{annotated}
-use Rattle.c_text_order.specs.TextOrder.{IsUnwritten}
+use Rattle.c_erasure.specs.Checking.Files.{annotated}
+use Rattle.c_checking_laws.specs.TextOrder.TextOrder.{IsUnwritten}
 
 -- `untagged` gives the names of the structures of the text that have no tag, and names that no tag of the text has
 abbrev pub FaultsHaveNoUnit : Type 0

@@ -3,8 +3,8 @@
 ghost use Rattle.c_checking_units.specs.Units.{FaultsHaveNoUnit};
 ghost use Rattle.c_erasure.specs.Erasing.{UnitsAreOne};
 
+use c_checking_laws::texts_are_in_order;
 use c_lexer::tokens_have_places;
-use c_text_order::texts_are_in_order;
 
 /// The tree of a text has at most one unit.
 pub fn units_are_one()

@@ -4,7 +4,7 @@ use Rattle.std.specs.Prelude.{Result, Ok, Err}
 use Rattle.c_nodes.specs.declared.fault.Fault.{Fault}
 use Rattle.c_nodes.specs.declared.fault.Fault.TheVariants.{TooBig, IllTyped, Undeclared, Redeclared, Memory}
 use Rattle.c_nodes.specs.Gives.{Gives}
-use Rattle.c_checking.specs.Answers.{Answer, with_file}
+use Rattle.c_erasure.specs.Checking.Answers.{Answer, with_file}
 use Rattle.c_scopes.specs.declared.file_scope.FileScope.{FileScope}
 use Rattle.c_scopes.specs.Scoping.{file_of}
 use Rattle.c_declaring.specs.Finds.{Finds}

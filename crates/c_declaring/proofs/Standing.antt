@@ -5,8 +5,8 @@ use Rattle.std.specs.Borrow.{Bor}
 use Rattle.std.specs.Option.{option_map, option_copied}
 use Rattle.std.specs.Str.{bytes_eq}
 use Rattle.c_ast.specs.declared.words.Spelling.{Spelling}
-use Rattle.c_tags.specs.Names.{number_in}
-use Rattle.c_checking.specs.Declaring.{standing}
+use Rattle.c_scopes.specs.SyntaxTags.Names.{number_in}
+use Rattle.c_erasure.specs.Checking.Declaring.{standing}
 use Rattle.c_declaring.specs.Adding.{lent}
 use Rattle.c_declaring.proofs.Tables.{turned}
 

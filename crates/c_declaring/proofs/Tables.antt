@@ -4,10 +4,10 @@ use Rattle.std.proofs.lemmas.Slice.Eq.{bytes_eq-Decides}
 use Rattle.std.specs.Prelude.{unwrap_or}
 use Rattle.std.specs.Option.{option_map}
 use Rattle.std.specs.Str.{bytes_eq}
-use Rattle.c_tags.specs.Names.{number_in}
-use Rattle.c_tags.specs.Tables as Tables
+use Rattle.c_scopes.specs.SyntaxTags.Names.{number_in}
+use Rattle.c_scopes.specs.SyntaxTags.Tables as Tables
 use Rattle.c_erasure.specs.Scopes.{Tag}
-use Rattle.c_checking.specs.Declaring.{next, number_among, place_of_tag, tag_named}
+use Rattle.c_erasure.specs.Checking.Declaring.{next, number_among, place_of_tag, tag_named}
 
 pub turned : (x y : List ℕ) → bytes_eq x y ≡ bytes_eq y x
 turned x y = grind (arith, bytes_eq-Decides x y, bytes_eq-Decides y x)

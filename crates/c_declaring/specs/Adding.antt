@@ -13,11 +13,12 @@ use Rattle.c_erasure.specs.Declarators.{Shape, parameter_type}
 use Rattle.c_erasure.specs.Erasure.{place_in, tag_text}
 use Rattle.c_erasure.specs.Noted.{Thing}
 use Rattle.c_erasure.specs.Scopes.{AMention, Bound, FileScope, Scope, defines, a_parameter, with_name}
-use Rattle.c_checking.specs.Answers.{Answer, ◌>>=◌, refused, Checked, with_file}
-use Rattle.c_checking.specs.Declaring.{Derivation, to_array, complete_with, completed_before, definable, derived, enumerator_in, is_next, number_among, known_tag, length_value, mentions_in, new_if_named, object_at}
-use Rattle.c_checking.specs.Declaring.{scalar_parameter, unless, with_mention}
-use Rattle.c_checking.specs.Finding.{type_of_derived}
-use Rattle.c_checking.specs.Nodes.{measured_in, size_node, sized_type}
+use Rattle.c_erasure.specs.Checking.Answers.{Answer, ◌>>=◌, refused, Checked, with_file}
+use Rattle.c_erasure.specs.Checking.Declaring.{Derivation, to_array, complete_with, completed_before, definable, derived, enumerator_in, is_next, number_among}
+use Rattle.c_erasure.specs.Checking.Declaring.{known_tag, length_value, mentions_in, new_if_named, object_at}
+use Rattle.c_erasure.specs.Checking.Declaring.{scalar_parameter, unless, with_mention}
+use Rattle.c_erasure.specs.Checking.Finding.{type_of_derived}
+use Rattle.c_erasure.specs.Checking.Nodes.{measured_in, size_node, sized_type}
 use Rattle.c_nodes.specs.declared.fault.Fault.{Fault}
 use Rattle.c_nodes.specs.Gives.{Fails}
 use Rattle.c_annotated.specs.FileViews.{local_of}
@@ -96,9 +97,9 @@ scope_within f blocks s = record { file = file_of f; blocks = blocks; is_inside 
 
 -- ---- `sizeof`
 
--- the size of an operand, and that of a type, which the file lists before those from that place of its list on
-abbrev pub measured_size : Scope → (count at : ℕ) → Place → FileScope → Thing → Checked Thing
-measured_size s count at place f th = with_file f (measured_in f.records count at th)
+-- the size of an operand, which begins at `from`, and that of a type, which the file lists before those from that place of its list on
+abbrev pub measured_size : Scope → (count at from : ℕ) → Place → FileScope → Thing → Checked Thing
+measured_size s count at from place f th = with_file f (measured_in f.records count at from th)
     >>= λ t. Ok (size_node t.1.records place t.0, with_mention s (mentions_in t.1) Sizeof t.0 at t.1)
 
 abbrev pub sized_size : Scope → (before count at : ℕ) → Place → FileScope → CType → Checked Thing

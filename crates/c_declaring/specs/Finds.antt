@@ -1,7 +1,7 @@
 -- What a call answers, and the file after it, against what the checker's definition gives. Want of memory is a free answer.
 use Rattle.std.specs.Prelude.{◌≡◌, Result, Ok, Err, Option, Some, None}
 use Rattle.c_erasure.specs.Broken as Broken
-use Rattle.c_checking.specs.Answers.{Checked}
+use Rattle.c_erasure.specs.Checking.Answers.{Checked}
 use Rattle.c_nodes.specs.declared.fault.Fault.{Fault}
 use Rattle.c_nodes.specs.declared.fault.Fault.TheVariants.{TooBig, IllTyped, Undeclared, Redeclared, Memory}
 use Rattle.c_nodes.specs.Gives.{Fails}

@@ -4,8 +4,8 @@ ghost use Rattle.std.specs.Prelude.{◌≡◌};
 ghost use Rattle.std.specs.Option.{option_map};
 ghost use Rattle.c_types.specs.Views.{type_of};
 ghost use Rattle.c_erasure.specs.Scopes.{defines, enumerator};
-ghost use Rattle.c_checking.specs.Answers.{with_file};
-ghost use Rattle.c_checking.specs.Declaring.{enumerated_in, enumeration_of, tag_named};
+ghost use Rattle.c_erasure.specs.Checking.Answers.{with_file};
+ghost use Rattle.c_erasure.specs.Checking.Declaring.{enumerated_in, enumeration_of, tag_named};
 ghost use Rattle.c_nodes.specs.Gives.{Gives};
 ghost use Rattle.c_scopes.specs.Scoping.{file_of};
 ghost use Rattle.c_declaring.specs.Adding.{with_enumerator};
@@ -19,7 +19,7 @@ use c_scopes::FileScope;
 use c_types::{IntKind, Ty};
 use std::alloc::Global;
 
-#[tactic(auto, unfolding(c_checking::specs::Declaring::enumerated_in))]
+#[tactic(auto, unfolding(c_erasure::specs::Checking::Declaring::enumerated_in))]
 fn enumerated_type(alloc: Global, file: &FileScope, x: &Spelling) -> Result<Ty, Fault>
     ensures { Gives type_of result (enumerated_in (file_of file.now) x.now) }
 {
@@ -70,7 +70,7 @@ pub fn enumeration(alloc: Global, file: &FileScope, x: &Option<Spelling>) -> Res
 }
 
 /// Adds an enumerator with its value, which is known from a byte on, to the names of the file. Its name is new.
-#[tactic(auto, unfolding(c_checking::specs::Declaring::enumerator_in))]
+#[tactic(auto, unfolding(c_erasure::specs::Checking::Declaring::enumerator_in))]
 pub fn declare_enumerator(
     alloc: Global,
     file: &mut FileScope,

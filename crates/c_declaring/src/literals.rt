@@ -7,7 +7,7 @@ ghost use Rattle.c_types.specs.Views.{type_of};
 ghost use Rattle.c_tokens.specs.QuotedScan.{string_bytes};
 ghost use Rattle.c_tokens.specs.Strings.{IsStringLiteral};
 ghost use Rattle.c_erasure.specs.Erasure.{literal_object, literal_of};
-ghost use Rattle.c_checking.specs.Declaring.{literal_in, literal_for};
+ghost use Rattle.c_erasure.specs.Checking.Declaring.{literal_in, literal_for};
 ghost use Rattle.c_annotated.specs.FileViews.{object_of};
 ghost use Rattle.c_annotated.specs.Views.{initializer_of, thing_of};
 ghost use Rattle.c_typed.specs.Trees.{parts, text};
@@ -141,7 +141,7 @@ fn add_object(
 }
 
 /// What adjacent string literals designate, which stand at a place: an object of the file, where they are evaluated.
-#[tactic(auto, unfolding(c_checking::specs::Declaring::literal_in))]
+#[tactic(auto, unfolding(c_erasure::specs::Checking::Declaring::literal_in))]
 pub fn literal(
     alloc: Global,
     file: &mut FileScope,

@@ -2,7 +2,7 @@
 
 ghost use Rattle.std.specs.Prelude.{◌≡◌, ◌++◌, ◌∷◌, OnOk, drop, take};
 ghost use Rattle.c_types.specs.Views.{type_of};
-ghost use Rattle.c_checking.specs.Declaring.{mentions_in, with_mention};
+ghost use Rattle.c_erasure.specs.Checking.Declaring.{mentions_in, with_mention};
 ghost use Rattle.c_annotated.specs.FileViews.{mention_of};
 ghost use Rattle.c_scopes.specs.Scoping.{file_of, scope_of};
 ghost use Rattle.c_declaring.specs.Adding.{mentioned};

@@ -6,13 +6,13 @@ ghost use Rattle.c_ast.specs.Views.{declarator_if_any, declarator_of, member_dec
 ghost use Rattle.c_ast.specs.Views.{member_declarators_of};
 ghost use Rattle.c_erasure.specs.Broken.{member_names, names_of_members};
 ghost use Rattle.c_erasure.specs.Declarators.{declared_name};
-ghost use Rattle.c_checking.specs.Declaring.{repeated, standing};
+ghost use Rattle.c_erasure.specs.Checking.Declaring.{repeated, standing};
 ghost use Rattle.c_declaring.specs.Adding.{lent};
 ghost use Rattle.c_declaring.specs.Finds.{Refuses};
 
 use c_ast::{Declarator, MemberDeclaration, MemberDeclarator, Spelling};
 use c_nodes::{Fault, name};
-use c_tags::Names;
+use c_scopes::Names;
 use lay_base::{Boxed, List, NoMemory};
 use std::alloc::Global;
 

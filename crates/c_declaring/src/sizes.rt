@@ -4,8 +4,8 @@ ghost use Rattle.std.specs.Prelude.{◌≡◌, Ok};
 ghost use Rattle.c_types.specs.Layouts.{size_of};
 ghost use Rattle.c_types.specs.Views.{type_of};
 ghost use Rattle.c_typed.specs.declared.program.MentionKind.TheVariants.{Sizeof};
-ghost use Rattle.c_checking.specs.Declaring.{with_mention};
-ghost use Rattle.c_checking.specs.Nodes.{size_node};
+ghost use Rattle.c_erasure.specs.Checking.Declaring.{with_mention};
+ghost use Rattle.c_erasure.specs.Checking.Nodes.{size_node};
 ghost use Rattle.c_annotated.specs.Views.{thing_of};
 ghost use Rattle.c_scopes.specs.Scoping.{file_of, scope_of};
 ghost use Rattle.c_declaring.specs.Adding.{measured_size, sized_size};
@@ -42,20 +42,21 @@ fn constant(
     }
 }
 
-/// The size of an operand. `sizeof` stands at `at`, where `count` records are complete.
+/// The size of an operand, which begins at `from`. `sizeof` stands at `at`, where `count` records are complete.
 pub fn size_of_thing(
     alloc: Global,
     file: &mut FileScope,
     scope: Scope,
     count: u32,
     at: u32,
+    from: u32,
     place: Place,
     thing: Thing,
 ) -> Result<Thing, Fault>
-    ensures { Finds thing_of result (measured_size (scope_of file.old scope.entry) count at place (file_of file.old) (thing_of thing)) file.new }
+    ensures { Finds thing_of result (measured_size (scope_of file.old scope.entry) count at from place (file_of file.old) (thing_of thing)) file.new }
 {
     let before = mentions_in(file);
-    match measured(&file.records, count, at, &thing) {
+    match measured(&file.records, count, at, from, &thing) {
         Err(fault) => Err(fault),
         Ok(it) => constant(alloc, file, scope, before, at, place, it),
     }

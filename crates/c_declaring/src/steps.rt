@@ -1,14 +1,13 @@
 //! Steps of declarators (C99 6.7.5), one after the other.
 
 ghost use Rattle.std.specs.Prelude.{◌∷◌, Ok};
-ghost use Rattle.c_declarators.specs.DeclaratorViews.{derivation_of, derivations_of, integer_view};
+ghost use Rattle.c_nodes.specs.DeclaratorTypes.DeclaratorViews.{derivation_of, derivations_of, integer_view};
 ghost use Rattle.c_nodes.specs.Gives.{Gives};
 ghost use Rattle.c_scopes.specs.Scoping.{file_of};
 ghost use Rattle.c_declaring.specs.Adding.{array_step_in};
 ghost use Rattle.c_declaring.specs.Finds.{Finds};
 
-use c_declarators::{Derivation, Integer, length};
-use c_nodes::Fault;
+use c_nodes::{Derivation, Fault, Integer, length};
 use c_scopes::FileScope;
 use lay_base::{List, add};
 

@@ -7,7 +7,7 @@ ghost use Rattle.c_types.specs.Objects.{is_object as object_type};
 ghost use Rattle.c_types.specs.Views.{field_of, record_of, records_of, type_of};
 ghost use Rattle.c_ast.specs.Views.{member_declaration_of, member_declarations_of};
 ghost use Rattle.c_erasure.specs.Broken.{member_names, tag_place as place_of_tag};
-ghost use Rattle.c_checking.specs.Declaring.{complete_with, completed_in, place_of_record as record_place, record_if_any};
+ghost use Rattle.c_erasure.specs.Checking.Declaring.{complete_with, completed_in, place_of_record as record_place, record_if_any};
 ghost use Rattle.c_scopes.specs.Scoping.{file_of, scope_of};
 ghost use Rattle.c_declaring.specs.Adding.{Begins, next_or_before};
 ghost use Rattle.c_declaring.specs.Finds.{Finds};
@@ -123,7 +123,7 @@ fn complete(file: &mut FileScope, named: u32, it: Record) -> Result<Ty, Fault>
 }
 
 /// Adds the record of a structure whose definition ends. Its members' names differ.
-#[tactic(auto, unfolding(c_checking::specs::Declaring::completed_in))]
+#[tactic(auto, unfolding(c_erasure::specs::Checking::Declaring::completed_in))]
 pub fn completed(
     alloc: Global,
     file: &mut FileScope,

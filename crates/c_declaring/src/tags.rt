@@ -2,8 +2,8 @@
 
 ghost use Rattle.std.specs.Prelude.{◌≡◌};
 ghost use Rattle.c_types.specs.Views.{type_of};
-ghost use Rattle.c_checking.specs.Answers.{with_file};
-ghost use Rattle.c_checking.specs.Declaring.{number_among, place_of_tag, structure_of, tag_named, tagged_in};
+ghost use Rattle.c_erasure.specs.Checking.Answers.{with_file};
+ghost use Rattle.c_erasure.specs.Checking.Declaring.{number_among, place_of_tag, structure_of, tag_named, tagged_in};
 ghost use Rattle.c_nodes.specs.Gives.{Gives};
 ghost use Rattle.c_scopes.specs.Scoping.{file_of, scope_of};
 ghost use Rattle.c_declaring.specs.Finds.{Finds};
@@ -42,7 +42,7 @@ fn structure(file: &FileScope, at: u32, tag: &[u8]) -> Result<Ty, Fault>
 }
 
 /// `struct`, which stands at `at`, and a tag.
-#[tactic(auto, unfolding(c_checking::specs::Declaring::tagged_in))]
+#[tactic(auto, unfolding(c_erasure::specs::Checking::Declaring::tagged_in))]
 fn tagged_type(
     alloc: Global,
     file: &FileScope,

@@ -192,7 +192,7 @@ main_is_small : (f : FileScope) → IsSmall f.records (pointer (function int no_
 main_is_small f = record { bytes = omega arith; parts = omega arith }
 
 no_broken_declarator : (f : FileScope) (base : CType) (fault : Fault) → base ≡ int → IsBrokenDeclarator main_declarator (at_file_scope f) base fault → ⊥
-no_broken_declarator f base fault is (inl b) = b
+no_broken_declarator f base fault is (inl (lengths, b)) = b
 no_broken_declarator f base fault is (inr (inl (e, (n, v)))) = let z : true ≡ false = subst (λ t. is_scalar t ≡ false) is n in cc
 no_broken_declarator f base fault is (inr (inr (inl (types, listed, inl (e, big))))) =
     let z = subst (λ t. IsSmall f.records (pointer (function t types)) → ⊥) is big in

@@ -13,7 +13,8 @@ use Rattle.c_typed.specs.declared.program.MentionKind.TheVariants.{Object, Named
 use Rattle.c_typed.specs.Trees as Typed
 use Rattle.c_erasure.specs.Noted.{value, way, an_object, a_value, Expression, size_of}
 use Rattle.c_erasure.specs.Scopes as Scopes
-use Rattle.c_erasure.specs.Scopes.{Bound, enumerator, Scope, at_file_scope, for_value, defines, tentative, declares, FileScope, AnObject, AFunction, AMention, Tag}
+use Rattle.c_erasure.specs.Scopes.{Bound, enumerator, Scope, at_file_scope, for_value, defines, tentative, declares, FileScope, AnObject, AFunction, AMention}
+use Rattle.c_erasure.specs.Scopes.{Tag}
 use Rattle.c_erasure.specs.Declarators.{closed, open_array}
 use Rattle.c_erasure.specs.Erasure.{Erases, IsConstant, IsTypeName}
 use Rattle.c_erasure.specs.Files.{IsMade}

@@ -112,7 +112,7 @@ not_in_second : (f : FileScope) (at : ℕ) → ErasesItem f x_item → IsBrokenI
 not_in_second f at first (inl (e, w)) = cc
 not_in_second f at first (inr (inl (inl b))) = b
 not_in_second f at first (inr (inl (inr b))) = b
-not_in_second f at first (inr (inr (base, is, inl (inl b)))) = b
+not_in_second f at first (inr (inr (base, is, inl (inl (lengths, b))))) = b
 not_in_second f at first (inr (inr (base, is, inl (inr (inl (e, w)))))) = cc
 not_in_second f at first (inr (inr (base, is, inl (inr (inr (inl (types, listed, inl (e, w)))))))) = cc
 not_in_second f at first (inr (inr (base, is, inl (inr (inr (inl (types, listed, inr b))))))) = b

@@ -5,6 +5,7 @@ pub mod ExamplesOfRecords
 pub mod ExamplesOfLoops
 mod ExamplesOfRefusals
 mod ExamplesOfSizes
+mod ExamplesOfSizeOperands
 pub mod ManyItems
 pub mod ExamplesOfManyItems
 mod ExamplesOfFaultsInBodies
@@ -12,3 +13,4 @@ mod ExamplesOfFaults
 mod ExamplesOfFaultsInFiles
 mod ExamplesOfFaultsAfterItems
 mod ExamplesOfFaultsInScope
+pub mod MarkPlaces

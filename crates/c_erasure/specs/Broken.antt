@@ -1,6 +1,7 @@
 -- Which rule is broken where, in an expression, a type name, specifiers or a declarator: the parts of some node are well typed in the scope that
 -- the tree gives it, and the rule of the node is false of them (C99 6.5, 6.7). Several rules may be broken in one tree.
-use Rattle.std.specs.Prelude.{◌≡◌, ◌≢◌, ℕ, ◌+◌, ◌≤◌, ◌<◌, ◌%◌, ◌^◌, Bool, true, false, ◌&&◌, ◌||◌, List, [], ◌∷◌, ◌++◌, ℤ, pos, Option, Some, None}
+use Rattle.std.specs.Prelude.{◌≡◌, ◌≢◌, ℕ, ◌+◌, ◌≤◌, ◌<◌, ◌%◌, ◌^◌, Bool, true, false, ◌&&◌, ◌||◌, if◌then◌else◌, List, [], ◌∷◌, ◌++◌, ℤ, pos, Option, Some}
+use Rattle.std.specs.Prelude.{None}
 use Rattle.std.specs.Prelude.{slice_get, ◌⊎◌}
 use Rattle.std.specs.Str.{bytes_eq}
 use Rattle.lay_base.specs.declared.faults.Rule.{Rule}
@@ -22,7 +23,7 @@ use Rattle.c_typed.specs.Fits.{assigns, casts, library_type}
 use Rattle.c_typed.specs.Rules.{on_numbers, comparing, choosing, moving, differing, updating, is_stepped, points_to_object}
 use Rattle.c_typed.specs.Typed.{IsTyped}
 use Rattle.c_erasure.specs.Noted.{Expression, Thing, an_object, a_value, a_function, a_function_at, a_library_function, type_of, type_of_path}
-use Rattle.c_erasure.specs.Noted.{unconverted}
+use Rattle.c_erasure.specs.Noted.{unconverted, is_copy}
 use Rattle.c_erasure.specs.Scopes.{typedef, Bound, defines, enumerator, Tag, Scope, inside, for_value, measured, named, tag_at, ended, declared, here}
 use Rattle.c_erasure.specs.Operators.{Kind, computes, compares, all_of, any_of, kind_of, update_of}
 use Rattle.c_erasure.specs.Specifiers.{named_by, words_of, no_words, types_among, storage_of, no_storage, is_register}
@@ -49,6 +50,10 @@ abbrev pub IsValueless : Thing → Rule → Type 0
 IsValueless (an_object p) rule = (rule ≡ R.ByValue) × (is_record (type_of_path p) ≡ true)
 IsValueless (a_library_function at which) rule = rule ≡ R.Library
 IsValueless th rule = ⊥
+
+-- what breaks a rule at a place, as it is no object there; the value of an assignment of a record, which begins at `from`, stands nowhere (own)
+abbrev pub misplaced : Thing → Rule → (at from : ℕ) → Fault
+misplaced th rule at from = if is_copy th then ill_typed R.ByValue from else ill_typed rule at
 
 abbrev pub HasNoValue : Trees.Expression → Scope → Fault → Type 0
 HasNoValue a s f = (th : Thing) × (rule : Rule) × IsThing a s th × IsValueless th rule × (f ≡ ill_typed rule (first a))
@@ -196,7 +201,7 @@ IsPointless count (pointer t) rule = (rule ≡ R.Incomplete) × ((is_object coun
 IsPointless count t rule = rule ≡ R.Operands
 
 abbrev pub IsBrokenUnary : UnaryOp → ℕ → Trees.Expression → Scope → Fault → Type 0
-IsBrokenUnary U.Address at a s f = ((f ≡ too_big at) × AThing a s IsOfGreatestType) ⊎ ((f ≡ ill_typed R.Lvalue at) × AThing a s IsOnlyValue)
+IsBrokenUnary U.Address at a s f = ((f ≡ too_big at) × AThing a s IsOfGreatestType) ⊎ AThing a s (λ th. IsOnlyValue th × (f ≡ misplaced th R.Lvalue at (first a)))
     ⊎ ((f ≡ ill_typed R.Library (first a)) × AThing a s IsLibrary)
 IsBrokenUnary U.Deref at a s f = HasNoValue a s f
     ⊎ ((rule : Rule) × (f ≡ ill_typed rule at) × One a s (λ x. IsPointless (ended s.file.ends at) (type_of x) rule))
@@ -209,8 +214,8 @@ IsSizeless count (an_object p) = is_object count (type_of_path p) ≡ false
 IsSizeless count (a_value e) = is_object count (type_of e) ≡ false
 IsSizeless count th = Unit {0}
 
-abbrev pub IsUnmeasured : Trees.Expression → Scope → ℕ → Type 0
-IsUnmeasured a s at = AThing a (measured s) (IsSizeless (ended s.file.ends at))
+abbrev pub IsUnmeasured : Trees.Expression → Scope → ℕ → Fault → Type 0
+IsUnmeasured a s at f = AThing a (measured s) (λ th. IsSizeless (ended s.file.ends at) th × (f ≡ misplaced th R.Incomplete at (first a)))
 
 -- a size over the limit of types
 abbrev pub IsGreat : Scope → CType → Type 0
@@ -228,7 +233,7 @@ IsNoRecord th t = Unit {0}
 abbrev pub IsBrokenAssignment : Option BinaryOp → Trees.Expression → ℕ → Trees.Expression → Scope → Fault → Type 0
 IsBrokenAssignment None a at b s f = ((t : CType) × AThing a s (λ th. IsOfScalar th t)
     × (HasNoValue b s f ⊎ ((f ≡ ill_typed R.Assign at) × One b s (λ x. assigns (type_of x) (null x) t ≡ false))))
-    ⊎ ((t : CType) × (f ≡ ill_typed R.Assign at) × AThing a s (λ th. IsOfRecord th t) × AThing b s (λ th. IsNoRecord th t))
+    ⊎ ((t : CType) × AThing a s (λ th. IsOfRecord th t) × AThing b s (λ th. IsNoRecord th t × (f ≡ misplaced th R.Assign at (first b))))
 IsBrokenAssignment (Some op) a at b s f = (IsSound a s × HasNoValue b s f) ⊎ ((t : CType) × (f ≡ ill_typed R.Operands at) × AThing a s (λ th. IsObjectOf th t)
     × One b s (λ x. updating (ended s.file.ends (first a)) op t (type_of x) ≡ None))
 
@@ -335,7 +340,7 @@ abbrev mutual
       ⊎ ((f ≡ ill_typed R.Callee (first g)) × AThing g s (λ th. IsNoFunction (called_type th)))
       ⊎ ((parameters : CTypes) × AThing g s (λ th. IsFunctionType (called_type th) parameters) × AreUnfitArguments all s right parameters f)
   IsBroken (Trees.dot a at x) s f = IsBroken a s f
-      ⊎ ((rule : Rule) × AThing a s (λ th. NoMemberOf s at th x.text rule) × (f ≡ ill_typed rule x.from))
+      ⊎ ((rule : Rule) × AThing a s (λ th. NoMemberOf s at th x.text rule × (f ≡ misplaced th rule x.from (first a))))
   IsBroken (Trees.arrow a at x) s f = IsBroken a s f ⊎ HasNoValue a s f
       ⊎ ((rule : Rule) × One a s (λ e. NoMemberAt s (first a) (type_of e) x.text rule) × (f ≡ ill_typed rule x.from))
   IsBroken (Trees.post a op at) s f = IsBroken a s f ⊎ ((f ≡ ill_typed R.Lvalue (first a)) × AThing a s IsNoObject)
@@ -344,7 +349,7 @@ abbrev mutual
       ⊎ ((t : CType) × (f ≡ ill_typed R.Operands at) × AThing a s (λ th. IsObjectOf th t) × (is_stepped (ended s.file.ends at) t ≡ false))
   IsBroken (Trees.unary op at a) s f = IsBroken a s f ⊎ IsBrokenUnary op at a s f
   IsBroken (Trees.sizeof_expression at a) s f = IsBroken a (measured s) f
-      ⊎ ((f ≡ ill_typed R.Incomplete at) × IsUnmeasured a s at) ⊎ ((f ≡ too_big at) × AThing a (measured s) (IsOfGreatSize s))
+      ⊎ IsUnmeasured a s at f ⊎ ((f ≡ too_big at) × AThing a (measured s) (IsOfGreatSize s))
   IsBroken (Trees.sizeof_type at left n right) s f = IsBrokenTypeName n s f
       ⊎ ((t : CType) × (f ≡ ill_typed R.Incomplete at) × IsTypeName s n t × (is_object (ended s.file.ends right) t ≡ false))
       ⊎ ((t : CType) × (f ≡ too_big at) × IsTypeName s n t × IsGreat s t)
@@ -440,7 +445,7 @@ abbrev mutual
       ⊎ ((f ≡ ill_typed R.Incomplete left) × (is_object (ended s.file.ends left) t ≡ false))
       ⊎ ((f ≡ ill_typed R.Length left) × (length ≡ Trees.no_expression) × (is_name d ≡ false))
       ⊎ ((n : ℕ) × IsOfLength length s n × (IsTooBig s (array t n) left f ⊎ IsBrokenDeclarator d s (array t n) f)) ⊎ IsBrokenWithin d s f
-  IsBrokenDeclarator (Trees.function d left all right) s t f = AreBrokenParameters all (inside s) f
+  IsBrokenDeclarator (Trees.function d left all right) s t f = (HasLengths d s × AreBrokenParameters all (inside s) f)
       ⊎ ((f ≡ ill_typed R.ByValue left) × IsNoResult t)
       ⊎ ((parameters : CTypes) × AreParameters (inside s) all parameters
       × (IsTooBig s (pointer (function t parameters)) left f ⊎ IsBrokenDeclarator d s (function t parameters) f)) ⊎ IsBrokenWithin d s f
@@ -452,7 +457,7 @@ abbrev mutual
   IsBrokenWithin (Trees.pointer at consts d) s f = IsBrokenWithin d s f
   IsBrokenWithin (Trees.enclosed left d right) s f = IsBrokenWithin d s f
   IsBrokenWithin (Trees.array d left length right) s f = IsBrokenWithin d s f ⊎ (HasLengths d s × IsBrokenLength length s f)
-  IsBrokenWithin (Trees.function d left all right) s f = IsBrokenWithin d s f ⊎ AreBrokenParameters all (inside s) f
+  IsBrokenWithin (Trees.function d left all right) s f = IsBrokenWithin d s f ⊎ (HasLengths d s × AreBrokenParameters all (inside s) f)
 
   pub IsBrokenLength : Trees.OptionalExpression → Scope → Fault → Type 0
   IsBrokenLength Trees.no_expression s f = ⊥

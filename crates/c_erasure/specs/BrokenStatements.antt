@@ -21,7 +21,8 @@ use Rattle.c_erasure.specs.Declarators.{declared_name, Shape, closed, open_array
 use Rattle.c_erasure.specs.Erasure.{IsBase, IsConstant, Erases, IsOne, Declares}
 use Rattle.c_erasure.specs.Initializers.{texts_of, is_character, IsTextOf, length_of, count_of, Part, Initializes, IsInitializer, AreConstants}
 use Rattle.c_erasure.specs.Statements.{Statements, IsSized, with_variable, with_object, DeclareAll, IsStart, ErasesItem, ErasesSwitchItem}
-use Rattle.c_erasure.specs.Broken.{Fault, ill_typed, One, AThing, IsNoRecord, null, HasNoValue, IsNoConstant, IsOldName, AreNoType, IsBroken, AreBroken}
+use Rattle.c_erasure.specs.Broken.{Fault, ill_typed, misplaced, One, AThing, IsNoRecord, null, HasNoValue, IsNoConstant, IsOldName, AreNoType, IsBroken}
+use Rattle.c_erasure.specs.Broken.{AreBroken}
 use Rattle.c_erasure.specs.Broken.{IsTooBig, IsBrokenDeclarator}
 
 -- ---- initializers
@@ -38,7 +39,7 @@ is_text t o = false
 -- a value that cannot be assigned to the type, or no record of the type
 abbrev pub IsUnfit : Trees.Expression → Scope → CType → Fault → Type 0
 IsUnfit a s t f = ((is_scalar t ≡ true) × (HasNoValue a s f ⊎ ((f ≡ ill_typed R.Assign (first a)) × One a s (λ x. assigns (type_of x) (null x) t ≡ false))))
-    ⊎ ((is_record t ≡ true) × (f ≡ ill_typed R.Assign (first a)) × AThing a s (λ th. IsNoRecord th t))
+    ⊎ ((is_record t ≡ true) × AThing a s (λ th. IsNoRecord th t × (f ≡ misplaced th R.Assign (first a) (first a))))
 
 abbrev mutual
   pub IsBrokenInitializer : Trees.Expression → Scope → CType → Fault → Type 0

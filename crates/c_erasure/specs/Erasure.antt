@@ -24,7 +24,8 @@ use Rattle.c_typed.specs.Mapped.{of_types, mapped, mapped_path}
 use Rattle.c_typed.specs.Conversions.{is_integer, is_array, is_function, is_scalar, number_of}
 use Rattle.c_typed.specs.Constants.{valued, constant_of}
 use Rattle.c_typed.specs.Typed.{IsTyped, IsTypedPath}
-use Rattle.c_erasure.specs.Scopes.{Entity, typedef, enumerator, a_local, a_parameter, Bound, FileScope, AnObject, Scope, inside, with_parameter, here, named, tag_at}
+use Rattle.c_erasure.specs.Scopes.{Entity, typedef, enumerator, a_local, a_parameter, Bound, FileScope, AnObject, Scope, inside, with_parameter, here, named}
+use Rattle.c_erasure.specs.Scopes.{tag_at}
 use Rattle.c_erasure.specs.Scopes.{IsNumbered, ended, declared, Purpose, in_full, for_value, measured, IsMentioned}
 use Rattle.c_erasure.specs.Scopes as Scopes
 use Rattle.c_erasure.specs.Scopes.{defines}

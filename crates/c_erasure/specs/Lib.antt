@@ -11,6 +11,7 @@ pub mod Literals
 pub mod MentionPlaces
 pub mod Files
 pub mod Recognised
+pub mod SizeOperands
 pub mod InitialMentions
 pub mod Units
 pub mod Untagged
@@ -18,3 +19,5 @@ pub mod Erasing
 pub mod Broken
 pub mod BrokenStatements
 pub mod BrokenFiles
+pub mod MarkPlaces
+pub mod Checking

@@ -1,5 +1,5 @@
 -- The typed tree of an expression as the checker keeps it: types stand at its nodes, and beside them what later decisions ask of the text.
-use Rattle.std.specs.Prelude.{ℕ, false, Option, Some, None}
+use Rattle.std.specs.Prelude.{ℕ, Bool, true, false, Option, Some, None}
 use Rattle.lay_base.specs.declared.place.Place.{Place}
 use Rattle.c_types.specs.Types.{CType, integer, pointer, array}
 use Rattle.c_typed.specs.declared.operators.LibraryFunction.{LibraryFunction}
@@ -55,6 +55,15 @@ pub data Thing : Type 0 where
   -- the function to which a pointer points
   a_function_at : (e : Expression) → Thing
   a_library_function : (at : Place) → (which : LibraryFunction) → Thing
+
+-- the value of an assignment of a record (6.5.16)
+abbrev pub copies_record : Node → Bool
+copies_record (Trees.copy_record p q) = true
+copies_record node = false
+
+abbrev pub is_copy : Thing → Bool
+is_copy (a_value (Trees.expression t at node)) = copies_record node
+is_copy th = false
 
 -- the value of an object: a number or a pointer is loaded, an array becomes a pointer to its first element
 abbrev pub object_value : Path → CType → Option Expression

@@ -19,14 +19,15 @@ use Rattle.c_typed.specs.declared.program.MentionKind.TheVariants.{Sizeof}
 use Rattle.c_typed.specs.Trees as Trees
 use Rattle.c_typed.specs.Programs.{FunctionData, UnitData}
 use Rattle.c_typed.specs.Mapped.{of_types, mapped_statement, mapped_initializer}
-use Rattle.c_typed.specs.Walk.{types_in_statement, types_in_initializer}
+use Rattle.c_typed.specs.Walk.{types_in_statement}
 use Rattle.c_typed.specs.Addressed.{addressed_by_statement}
 use Rattle.c_typed.specs.Constants.{ty}
 use Rattle.c_typed.specs.Conversions.{is_scalar, is_pointer}
 use Rattle.c_typed.specs.InitialValues.{InitialValue, a_number, a_null, an_address, a_function, initial_value}
-use Rattle.c_erasure.specs.Noted.{Noted, Note, nothing, size_of}
+use Rattle.c_erasure.specs.Noted.{Noted}
 use Rattle.c_erasure.specs.Scopes.{AnObject, ALocal, AFunction, AMention, FileScope, at_file_scope, declared}
 use Rattle.c_erasure.specs.Recognised.{recognised, recognised_path}
+use Rattle.c_erasure.specs.SizeOperands.{operands_in_statement}
 use Rattle.c_erasure.specs.InitialMentions.{told_by_initial}
 
 -- ---- trees with allocations recognised
@@ -68,33 +69,17 @@ abbrev mutual
   recognised_arms Trees.no_arms = Trees.no_arms
   recognised_arms (Trees.and_arm cases is_default all more) = Trees.and_arm cases is_default (recognised_statements all) (recognised_arms more)
 
--- ---- mentions: a `sizeof` that is the size operand of an allocation is none
-
-abbrev pub place_of_size : Note → List ℕ
-place_of_size nothing = []
-place_of_size (size_of t at) = at ∷ []
+-- ---- mentions: a `sizeof` that is the size operand of an allocation is none. First values of objects allocate nothing
 
 abbrev pub if_any : {A : Type 0} → Option A → List A
 if_any None = []
 if_any (Some x) = x ∷ []
 
-abbrev pub size_places : List Noted → List ℕ
-size_places [] = []
-size_places (t ∷ more) = place_of_size t.note ++ size_places more
-
 abbrev pub bodies : FileScope → List (Trees.Statement Noted)
 bodies f = flat_map (λ g. if_any g.body) f.functions
 
-abbrev pub initials : FileScope → List (Trees.Initializer Noted)
-initials f = flat_map (λ o. if_any o.initial) f.objects
-
--- the types at the nodes of all bodies and initializers, before allocations are recognised and after
-abbrev pub noted_in : FileScope → List Noted
-noted_in f = flat_map types_in_statement (bodies f) ++ flat_map types_in_initializer (initials f)
-
-abbrev pub left_in : FileScope → List Noted
-left_in f = flat_map (λ s. types_in_statement (recognised_statement s)) (bodies f)
-    ++ flat_map (λ i. types_in_initializer (recognised_initializer i)) (initials f)
+abbrev pub size_operands : FileScope → List ℕ
+size_operands f = flat_map operands_in_statement (bodies f)
 
 abbrev pub is_among : List ℕ → ℕ → Bool
 is_among places at = list_any (λ place. place == at) places
@@ -104,7 +89,7 @@ is_sizeof Sizeof = true
 is_sizeof kind = false
 
 abbrev pub is_size_operand : FileScope → AMention → Bool
-is_size_operand f m = is_sizeof m.kind && is_among (size_places (noted_in f)) m.at && not (is_among (size_places (left_in f)) m.at)
+is_size_operand f m = is_sizeof m.kind && is_among (size_operands f) m.at
 
 abbrev pub typed_initializer : Trees.Initializer Noted → Trees.Initializer CType
 typed_initializer i = mapped_initializer (of_types (λ t. t.ty)) (recognised_initializer i)

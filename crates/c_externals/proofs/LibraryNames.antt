@@ -9,8 +9,8 @@ use Rattle.c_erasure.specs.Files.{library_name}
 use Rattle.c_ast.specs.declared.words.Spelling.{Spelling}
 use Rattle.c_erasure.specs.Broken.{redeclared}
 use Rattle.c_erasure.specs.Scopes.{Bound, Entity, FileScope, typedef, enumerator, an_object, a_function, a_library_function, a_local, a_parameter}
-use Rattle.c_checking.specs.Answers.{◌>>=◌}
-use Rattle.c_checking.specs.Files.{first_named, is_library_name, library, library_again, library_named, place_of_bound}
+use Rattle.c_erasure.specs.Checking.Answers.{◌>>=◌}
+use Rattle.c_erasure.specs.Checking.Files.{first_named, is_library_name, library, library_again, library_named, place_of_bound}
 use Rattle.c_externals.specs.Filing.{either_named, once_after, other_place}
 
 in_parts : (some more : List LibraryFunction) (x : List ℕ) → first_named (some ++ more) x ≡ either_named (first_named some x) (first_named more x)

@@ -1,5 +1,6 @@
 -- The marks of the objects that are declared tentatively.
-use Rattle.std.proofs.Common.{◌≡◌, ℕ, zero, suc, ◌+◌, ◌<◌, ◌≤◌, ◌==◌, Bool, true, false, ◌||◌, ◌&&◌, List, [], ◌∷◌, ◌++◌, map, length, refl, sym, ap, ◌∙◌, arith, slice_set}
+use Rattle.std.proofs.Common.{◌≡◌, ℕ, zero, suc, ◌+◌, ◌<◌, ◌≤◌, ◌==◌, Bool, true, false, ◌||◌, ◌&&◌, List, [], ◌∷◌, ◌++◌, map, length, refl, sym, ap, ◌∙◌}
+use Rattle.std.proofs.Common.{arith, slice_set}
 use Rattle.std.proofs.lemmas.Bool.{eq-eqb, ne_eqb, ltb-true, ltb-false}
 use Rattle.std.specs.Prelude.{if◌then◌else◌, nat_lt, slice_get}
 use Rattle.std.specs.List.{list_any}
@@ -7,7 +8,7 @@ use Rattle.std.proofs.lemmas.List.{length-map}
 use Rattle.c_annotated.specs.declared.file.Object.{Object}
 use Rattle.c_annotated.specs.FileViews.{object_of}
 use Rattle.c_erasure.specs.Scopes.{AnObject, Bound, How, Entity, declares, tentative, defines, an_object}
-use Rattle.c_checking.specs.Files.{is_tentative, settled, settled_from}
+use Rattle.c_erasure.specs.Checking.Files.{is_tentative, settled, settled_from}
 use Rattle.c_externals.specs.Settling.{is_marked, marked, marked_by, marks_from, settled_by, settled_each}
 
 -- objects settled by their marks are settled by the names

@@ -7,7 +7,7 @@ use Rattle.c_ast.specs.Trees
 use Rattle.c_ast.specs.declared.words.Spelling.{Spelling}
 use Rattle.c_ast.specs.Views.{OneParameter, parameters_of}
 use Rattle.c_erasure.specs.Declarators.{declared_name}
-use Rattle.c_checking.specs.Files.{received_by, named_parameters, received_if_named}
+use Rattle.c_erasure.specs.Checking.Files.{received_by, named_parameters, received_if_named}
 
 -- as many parameters as types
 pub unlike : (all : List OneParameter) (types : List CType) (k : ℕ) → length all ≢ length types → named_parameters (parameters_of all) (listed types) k ≡ None

@@ -10,9 +10,10 @@ use Rattle.c_erasure.specs.Broken.{redeclared}
 use Rattle.c_erasure.specs.Noted.{Noted}
 use Rattle.c_erasure.specs.Files.{bound, object_how}
 use Rattle.c_erasure.specs.Specifiers.{Storage}
-use Rattle.c_checking.specs.Answers.{Answer, ◌>>=◌, Checked}
-use Rattle.c_checking.specs.Declaring.{declared_among, with_bound}
-use Rattle.c_checking.specs.Files.{defined_among, defined_once, function_of, library_again, library_named, main_function, object_of, once, own_name, place_of_bound}
+use Rattle.c_erasure.specs.Checking.Answers.{Answer, ◌>>=◌, Checked}
+use Rattle.c_erasure.specs.Checking.Declaring.{declared_among, with_bound}
+use Rattle.c_erasure.specs.Checking.Files.{defined_among, defined_once, function_of, library_again, library_named, main_function, object_of, once, own_name}
+use Rattle.c_erasure.specs.Checking.Files.{place_of_bound}
 use Rattle.c_erasure.specs.Scopes as Scopes
 use Rattle.c_nodes.specs.declared.fault.Fault.{Fault}
 use Rattle.c_nodes.specs.Gives.{Fails}

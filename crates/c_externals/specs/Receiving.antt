@@ -6,7 +6,7 @@ use Rattle.c_ast.specs.Views.{OneParameter}
 use Rattle.c_erasure.specs.Declarators.{declared_name}
 use Rattle.c_erasure.specs.Scopes.{defines, a_local}
 use Rattle.c_annotated.specs.FileViews.{bound_of, local_of}
-use Rattle.c_checking.specs.Files.{Received}
+use Rattle.c_erasure.specs.Checking.Files.{Received}
 use Rattle.c_externals.specs.declared.parameters.Received as declared
 
 abbrev pub received_of : declared.Received → Received

@@ -3,7 +3,7 @@ use Rattle.std.specs.Prelude.{ℕ, zero, suc, Bool, true, false, List, length, n
 use Rattle.std.specs.List.{list_any}
 use Rattle.c_typed.specs.Trees.{parts}
 use Rattle.c_erasure.specs.Scopes.{AnObject, Bound, How, tentative, Entity, an_object}
-use Rattle.c_checking.specs.Files.{is_tentative}
+use Rattle.c_erasure.specs.Checking.Files.{is_tentative}
 
 -- of so many objects from a number on, whether a definition is tentative
 abbrev pub marks_from : List Bound → ℕ → ℕ → List Bool

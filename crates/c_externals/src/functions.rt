@@ -6,13 +6,14 @@ ghost use Rattle.c_types.specs.Views.{type_of};
 ghost use Rattle.c_typed.specs.declared.operators.LibraryFunction.{LibraryFunction};
 ghost use Rattle.c_annotated.specs.FileViews.{bound_of, entity_of, function_of as function_view, local_of};
 ghost use Rattle.c_annotated.specs.Views.{statement_of};
-ghost use Rattle.c_checking.specs.Declaring.{declared_among};
-ghost use Rattle.c_checking.specs.Files.{declare_function as declare_function_in, declare_library as declare_library_in, declare_own as declare_own_in};
-ghost use Rattle.c_checking.specs.Files.{function_linkage_agrees, function_linked_before, function_of as function_of_in, known_function as known_function_in};
-ghost use Rattle.c_checking.specs.Files.{library_named as library_named_in, new_function, with_new_function};
+ghost use Rattle.c_erasure.specs.Checking.Declaring.{declared_among};
+ghost use Rattle.c_erasure.specs.Checking.Files.{declare_function as declare_function_in, declare_library as declare_library_in, declare_own as declare_own_in};
+ghost use Rattle.c_erasure.specs.Checking.Files.{function_linkage_agrees, function_linked_before, function_of as function_of_in};
+ghost use Rattle.c_erasure.specs.Checking.Files.{known_function as known_function_in};
+ghost use Rattle.c_erasure.specs.Checking.Files.{library_named as library_named_in, new_function, with_new_function};
 ghost use Rattle.c_externals.specs.Filing.{Files, function_bound, functions_with, library_bound, other_place, with_body};
 ghost use Rattle.c_declaring.specs.Finds.{Finds};
-ghost use Rattle.c_declarators.specs.SpecifierViews.{storage_view};
+ghost use Rattle.c_nodes.specs.DeclaratorTypes.SpecifierViews.{storage_view};
 ghost use Rattle.c_nodes.specs.Gives.{Gives};
 ghost use Rattle.c_scopes.specs.Scoping.{file_of};
 
@@ -21,8 +22,7 @@ use crate::names::{bind, library_named, main_function, once, own_name, place_of_
 use crate::objects::links;
 use c_annotated::{Bound, Entity, Function, How, Local, Statement};
 use c_ast::Spelling;
-use c_declarators::Storage;
-use c_nodes::{Fault, name};
+use c_nodes::{Fault, Storage, name};
 use c_scopes::FileScope;
 use c_typed::LibraryFunction;
 use c_types::{Ty, copy, same};
@@ -101,7 +101,7 @@ fn add_function(
 }
 
 /// The number of the function that a declaration declares, which stands at `place`.
-#[tactic(auto, unfolding(c_checking::specs::Files::function_of))]
+#[tactic(auto, unfolding(c_erasure::specs::Checking::Files::function_of))]
 fn function_of(
     alloc: Global,
     file: &mut FileScope,

@@ -6,9 +6,10 @@ ghost use Rattle.c_types.specs.Views.{type_of};
 ghost use Rattle.c_annotated.specs.FileViews.{bound_of, entity_of, how_of};
 ghost use Rattle.c_erasure.specs.Files.{bound as bound_in, library_name};
 ghost use Rattle.c_types.specs.Sameness.{same_type};
-ghost use Rattle.c_checking.specs.Declaring.{declared_among, with_bound};
-ghost use Rattle.c_checking.specs.Files.{defined_among, first_named, is_main as is_main_in, library, main_type, library_named as library_named_in, main_function as main_function_in};
-ghost use Rattle.c_checking.specs.Files.{main_object as main_object_in, own_name as own_name_in};
+ghost use Rattle.c_erasure.specs.Checking.Declaring.{declared_among, with_bound};
+ghost use Rattle.c_erasure.specs.Checking.Files.{defined_among, first_named, is_main as is_main_in, library, main_type, library_named as library_named_in};
+ghost use Rattle.c_erasure.specs.Checking.Files.{main_function as main_function_in};
+ghost use Rattle.c_erasure.specs.Checking.Files.{main_object as main_object_in, own_name as own_name_in};
 ghost use Rattle.c_externals.specs.Filing.{file_scope, once_after, place_if_any};
 ghost use Rattle.c_nodes.specs.Gives.{Gives};
 ghost use Rattle.c_scopes.specs.Scoping.{file_of, scope_of};
@@ -94,7 +95,7 @@ pub fn own_name(at: u32, which: Option<LibraryFunction>) -> Result<(), Fault>
     }
 }
 
-#[tactic(auto, unfolding(c_checking::specs::Files::is_main))]
+#[tactic(auto, unfolding(c_erasure::specs::Checking::Files::is_main))]
 fn is_main(x: &[u8]) -> bool
     ensures { result ≡ is_main_in x.now }
 {

@@ -7,20 +7,20 @@ ghost use Rattle.c_ast.specs.Views.{value_of};
 ghost use Rattle.c_annotated.specs.FileViews.{bound_of, entity_of, how_of, object_of};
 ghost use Rattle.c_annotated.specs.Views.{initializer_of};
 ghost use Rattle.c_erasure.specs.Files.{object_how as object_how_in};
-ghost use Rattle.c_checking.specs.Declaring.{declared_among};
-ghost use Rattle.c_checking.specs.Files.{known_object as known_object_in};
-ghost use Rattle.c_checking.specs.Files.{linkage_agrees as linkage_agrees_in, linked_before as linked_before_in, links as links_in, new_object, object_of as object_of_in, with_new_object};
+ghost use Rattle.c_erasure.specs.Checking.Declaring.{declared_among};
+ghost use Rattle.c_erasure.specs.Checking.Files.{known_object as known_object_in};
+ghost use Rattle.c_erasure.specs.Checking.Files.{linkage_agrees as linkage_agrees_in, linked_before as linked_before_in, links as links_in, new_object};
+ghost use Rattle.c_erasure.specs.Checking.Files.{object_of as object_of_in, with_new_object};
 ghost use Rattle.c_externals.specs.Filing.{object_bound, objects_with, with_initial};
 ghost use Rattle.c_declaring.specs.Finds.{Finds};
-ghost use Rattle.c_declarators.specs.SpecifierViews.{storage_view};
+ghost use Rattle.c_nodes.specs.DeclaratorTypes.SpecifierViews.{storage_view};
 ghost use Rattle.c_nodes.specs.Gives.{Gives};
 ghost use Rattle.c_scopes.specs.Scoping.{file_of};
 
 use crate::names::{bind, library_named, main_object, once, own_name, place_of_definition};
 use c_annotated::{Bound, Entity, How, Initializer, Object};
 use c_ast::{InitialValue, Spelling};
-use c_declarators::Storage;
-use c_nodes::{Fault, name};
+use c_nodes::{Fault, Storage, name};
 use c_scopes::FileScope;
 use c_types::{Ty, copy, same};
 use lay_base::{List, NoMemory, Place, add};
@@ -105,7 +105,7 @@ fn add_object(
 }
 
 /// The number of the object that a declaration declares, which stands at `place`.
-#[tactic(auto, unfolding(c_checking::specs::Files::object_of))]
+#[tactic(auto, unfolding(c_erasure::specs::Checking::Files::object_of))]
 fn object_of(
     alloc: Global,
     file: &mut FileScope,

@@ -7,7 +7,7 @@ ghost use Rattle.c_ast.specs.Trees.{void_alone};
 ghost use Rattle.c_ast.specs.Views.{declarator_if_any, declarator_of, parameter_list_of, parameter_of, parameters_of as parameters_in_list};
 ghost use Rattle.c_erasure.specs.Declarators.{is_name};
 ghost use Rattle.c_erasure.specs.Files.{parameters_of as parameters_in};
-ghost use Rattle.c_checking.specs.Files.{named_parameters, received_by};
+ghost use Rattle.c_erasure.specs.Checking.Files.{named_parameters, received_by};
 ghost use Rattle.c_externals.specs.Receiving.{received_of, with_received};
 
 use c_annotated::{Bound, Entity, How, Local};
@@ -139,7 +139,7 @@ fn named(alloc: Global, all: &[Parameter], types: &[Ty]) -> Result<Option<Receiv
 }
 
 /// No parameters, of a function that takes nothing.
-#[tactic(auto, unfolding(c_checking::specs::Files::received_by))]
+#[tactic(auto, unfolding(c_erasure::specs::Checking::Files::received_by))]
 fn without_parameters(alloc: Global, types: &[Ty]) -> Option<Received>
     ensures { (at : ℕ) → option_map received_of result ≡ received_by (Some (void_alone at)) (types_of_list types.now) }
 {
@@ -151,7 +151,7 @@ fn without_parameters(alloc: Global, types: &[Ty]) -> Option<Received>
 }
 
 /// The parameters of a function of these types; `None` where they are not all named.
-#[tactic(auto, unfolding(c_checking::specs::Files::received_by))]
+#[tactic(auto, unfolding(c_erasure::specs::Checking::Files::received_by))]
 pub fn receive(
     alloc: Global,
     all: Option<&Parameters>,

@@ -2,7 +2,7 @@
 
 ghost use Rattle.std.specs.Prelude.{◌≡◌, [], IfOk, map, slice_get};
 ghost use Rattle.c_annotated.specs.FileViews.{bound_of, object_of};
-ghost use Rattle.c_checking.specs.Files.{closed_file};
+ghost use Rattle.c_erasure.specs.Checking.Files.{closed_file};
 ghost use Rattle.c_externals.specs.Settling.{is_marked as is_marked_in, marked, marks_from, settled_by, settled_each};
 ghost use Rattle.c_scopes.specs.Scoping.{file_of};
 

@@ -5,8 +5,8 @@ use Rattle.std.specs.Prelude.{fold}
 use Rattle.std.specs.Str.{bytes_eq}
 use Rattle.c_erasure.specs.Scopes.{Tag}
 use Rattle.c_erasure.specs.Marks.{Mark, a_tag, an_end, a_name, tags_in, is_among, firsts, defined_in, undefined_in}
-use Rattle.c_tags.specs.Names.{with_new}
-use Rattle.c_tags.specs.Tables.{after_tag, after_structure}
+use Rattle.c_scopes.specs.SyntaxTags.Names.{with_new}
+use Rattle.c_scopes.specs.SyntaxTags.Tables.{after_tag, after_structure}
 
 abbrev names_of : List Tag → List (List ℕ)
 names_of tags = map (λ t. t.name) tags

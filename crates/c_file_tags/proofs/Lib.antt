@@ -1,3 +1,4 @@
 mod Pushing
 mod NextScopes
 mod Folds
+pub mod UntaggedStructs

@@ -1,7 +1,7 @@
 -- What collected marks stand for.
 use Rattle.std.specs.Prelude.{List, map}
 use Rattle.c_erasure.specs.Marks as M
-use Rattle.c_tags.specs.Tables.{tag_of}
+use Rattle.c_scopes.specs.SyntaxTags.Tables.{tag_of}
 use Rattle.c_file_tags.specs.declared.marks.Mark.{Mark}
 use Rattle.c_file_tags.specs.declared.marks.Mark.TheVariants as V
 use Rattle.c_file_tags.specs.declared.marks.Marks.{Marks}

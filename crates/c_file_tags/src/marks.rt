@@ -3,9 +3,9 @@
 ghost use Rattle.std.specs.Prelude.{◌≡◌, [], ◌∷◌, ◌++◌, OnOk};
 ghost use Rattle.c_erasure.specs.Marks.{a_tag, an_end, a_name};
 ghost use Rattle.c_file_tags.specs.Marks.{marks_in};
-ghost use Rattle.c_tags.specs.Tables.{tag_of};
+ghost use Rattle.c_scopes.specs.SyntaxTags.Tables.{tag_of};
 
-use c_tags::TagMark;
+use c_scopes::TagMark;
 use lay_base::NoMemory;
 use std::alloc::Global;
 

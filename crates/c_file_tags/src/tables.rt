@@ -3,14 +3,14 @@
 ghost use Rattle.std.specs.Prelude.{◌≡◌, ◌<◌, ◌^◌, ◌++◌, [], ◌∷◌, IfOk, OnOk, length};
 ghost use Rattle.c_ast.specs.Views.{items_of};
 ghost use Rattle.c_erasure.specs.Marks.{defined_in, ends_in, firsts, marks_of_file, tags_in, undefined_in};
-ghost use Rattle.c_tags.specs.Untagged.{untagged_by};
+ghost use Rattle.c_scopes.specs.SyntaxTags.Untagged.{untagged_by};
 ghost use Rattle.c_file_tags.specs.Marks.{mark_of, marks_in};
-ghost use Rattle.c_tags.specs.Tables.{after_structure, after_tag};
+ghost use Rattle.c_scopes.specs.SyntaxTags.Tables.{after_structure, after_tag};
 
 use crate::marks::{Mark, Marks};
 use crate::walk::file_marks;
 use c_ast::Tree;
-use c_tags::{Names, TagTable, Untagged};
+use c_scopes::{Names, TagTable, Untagged};
 use lay_base::NoMemory;
 use std::alloc::Global;
 

@@ -3,13 +3,13 @@
 ghost use Rattle.std.specs.Prelude.{◌≤◌, IfOk, length};
 ghost use Rattle.c_ast.specs.TreesOfFiles.{IsTreeOf};
 ghost use Rattle.c_ast.specs.Views.{items_of};
-ghost use Rattle.c_tags.specs.TagLists.{AreTagsOf};
+ghost use Rattle.c_scopes.specs.SyntaxTags.TagLists.{AreTagsOf};
 
 use crate::tables::{Tables, tables_of};
+use crate::untagged_structs::untagged_of;
 use c_ast::Tree;
 use c_lexer::tokens_have_places;
-use c_tags::Tags;
-use c_untagged_structs::untagged_of;
+use c_scopes::Tags;
 use lay_base::{File, NoMemory};
 use std::alloc::Global;
 

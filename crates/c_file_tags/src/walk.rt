@@ -8,16 +8,16 @@ ghost use Rattle.c_erasure.specs.Marks.{a_structure, a_tag, after_declarator, an
 ghost use Rattle.c_erasure.specs.Marks.{marks_of_declarators, marks_of_enumerators, marks_of_file, marks_of_item, marks_of_member_declarators};
 ghost use Rattle.c_erasure.specs.Marks.{marks_of_members, marks_of_specifier, marks_of_specifiers, marks_of_type, tag_name};
 ghost use Rattle.c_erasure.specs.Erasure.{after_all as token_after};
-ghost use Rattle.c_tags.specs.Untagged.{untagged_by};
+ghost use Rattle.c_scopes.specs.SyntaxTags.Untagged.{untagged_by};
 ghost use Rattle.c_file_tags.specs.Marks.{marks_in};
-ghost use Rattle.c_tags.specs.Tables.{tag_of};
+ghost use Rattle.c_scopes.specs.SyntaxTags.Tables.{tag_of};
 
 use crate::marks::Marks;
 use c_ast::{
     Argument, At, Declarator, Enumerator, Expression, InitDeclarator, Item, MemberDeclaration,
     MemberDeclarator, Specifier, Spelling, TypeName,
 };
-use c_tags::{TagMark, Untagged};
+use c_scopes::{TagMark, Untagged};
 use lay_base::NoMemory;
 use std::alloc::Global;
 

@@ -57,6 +57,9 @@ below n m h = grind (arith, nat_tests)
 pub deeper_taken : (k d n : ℕ) → deeper k d ≡ Some n → (d ≤ k) × (n ≡ d + 1)
 deeper_taken k d n h = chosen (leb d k) (Some (d + 1)) None n ((d ≤ k) × (n ≡ d + 1)) h (λ t h. (from_leb d k t, cc)) (λ t h. cc)
 
+pub never : {A : Type 0} → false ≡ true → A
+never h = cc
+
 -- ---- kinds of tokens
 
 abbrev pub lexeme : TokenKind → ℕ → ℕ → List ℕ → Lexeme
@@ -112,23 +115,23 @@ star_kind kind h = cc
 
 pub const_kind : (kind : TokenKind) → is_const kind ≡ true → kind ≡ K.Keyword W.Const
 const_kind (K.Keyword W.Const) h = refl
-const_kind kind h = cc
+const_kind kind h = never h
 
 void_kind : (kind : TokenKind) → is_void kind ≡ true → kind ≡ K.Keyword W.Void
 void_kind (K.Keyword W.Void) h = refl
-void_kind kind h = cc
+void_kind kind h = never h
 
 pub sizeof_kind : (kind : TokenKind) → is_sizeof kind ≡ true → kind ≡ K.Keyword W.Sizeof
 sizeof_kind (K.Keyword W.Sizeof) h = refl
-sizeof_kind kind h = cc
+sizeof_kind kind h = never h
 
 pub struct_kind : (kind : TokenKind) → is_struct kind ≡ true → kind ≡ K.Keyword W.Struct
 struct_kind (K.Keyword W.Struct) h = refl
-struct_kind kind h = cc
+struct_kind kind h = never h
 
 pub enum_kind : (kind : TokenKind) → is_enum kind ≡ true → kind ≡ K.Keyword W.Enum
 enum_kind (K.Keyword W.Enum) h = refl
-enum_kind kind h = cc
+enum_kind kind h = never h
 
 name_kind : (kind : TokenKind) → is_name kind ≡ true → kind ≡ K.Name
 name_kind K.Name h = refl

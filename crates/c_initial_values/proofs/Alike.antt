@@ -1,6 +1,6 @@
 -- Values are the same wherever records and the types of objects are.
 use Rattle.std.proofs.Common.{◌≡◌, ℕ, Bool, true, false, ◌&&◌, List, [], refl, ap, ◌∙◌}
-use Rattle.std.specs.Prelude.{if◌then◌else◌, nat_le, ℤ, pos, negsuc, Option, Some, None}
+use Rattle.std.specs.Prelude.{if◌then◌else◌, ℤ, pos, negsuc, Option, Some, None}
 use Rattle.c_types.specs.declared.ty.IntKind.{IntKind}
 use Rattle.c_types.specs.Types.{CType, void, integer, pointer, array, function, structure, Record}
 use Rattle.c_types.specs.Layouts.{offset_of, size_of}
@@ -10,7 +10,8 @@ use Rattle.c_typed.specs.Constants.{Constant, none, undefined, valued, constant_
 use Rattle.c_typed.specs.Conversions.{is_pointer}
 use Rattle.c_typed.specs.InitialValues.{Address, InitialValue, a_null, address_in, address_in_node, address_of_path, address_of_step, as_address, as_function}
 use Rattle.c_typed.specs.InitialValues.{as_number, element_size, function_in, function_in_node, initial_in, initial_value, is_null_in, is_null_in_node}
-use Rattle.c_typed.specs.InitialValues.{moved, number_in, or_negated, path_type, subscripted, within}
+use Rattle.c_typed.specs.InitialValues.{inside, moved, number_in, or_negated, path_type, subscripted, within}
+use Rattle.c_typed.specs.Subscripts.{is_subscript}
 use Rattle.c_typed.specs.Trees as Trees
 use Rattle.c_typed.specs.Typed.{Declared}
 use Rattle.c_initial_values.specs.Values.{declared_by}
@@ -58,10 +59,14 @@ module _ (records : List Record) (objects : List CType) (complete before : ℕ �
   moved_alike (Some a) None size = refl
   moved_alike (Some a) (Some k) size = within_alike a.object _
 
-  subscripted_alike : (t : CType) (a : Option Address) (k : Option ℤ) → subscripted one t a k ≡ subscripted two t a k
-  subscripted_alike (array t n) (Some a) (Some (pos k)) =
-      ap (λ b. if nat_le k n then b else None) (moved_alike (Some a) (Some (pos k)) (size_of records t))
-  subscripted_alike t a k = refl
+  subscripted_alike : (b : Bool) (t : CType) (a : Option Address) (k : Option ℤ) → subscripted one b t a k ≡ subscripted two b t a k
+  subscripted_alike b (array t n) (Some a) (Some k) =
+      ap (λ o. if is_subscript n b k then o else None) (moved_alike (Some a) (Some k) (size_of records t))
+  subscripted_alike b t a k = refl
+
+  inside_alike : (a : Option Address) → inside one a ≡ inside two a
+  inside_alike None = refl
+  inside_alike (Some a) = refl
 
   negated_alike : (op : PointerOp) (k : Option ℤ) → or_negated one op k ≡ or_negated two op k
   negated_alike P.Add k = refl
@@ -72,29 +77,30 @@ module _ (records : List Record) (objects : List CType) (complete before : ℕ �
   type_alike (Trees.path t at step) = refl
 
   mutual
-    path_alike : (p : Trees.Path CType) → address_of_path one p ≡ address_of_path two p
-    path_alike (Trees.path t at step) = step_alike step
+    path_alike : (b : Bool) (p : Trees.Path CType) → address_of_path one b p ≡ address_of_path two b p
+    path_alike b (Trees.path t at step) = step_alike b step
 
-    step_alike : (step : Trees.PathNode CType) → address_of_step one step ≡ address_of_step two step
-    step_alike (Trees.local n) = refl
-    step_alike (Trees.object n) = refl
-    step_alike (Trees.deref e) = address_alike e
-    step_alike (Trees.index e i) =
+    step_alike : (b : Bool) (step : Trees.PathNode CType) → address_of_step one b step ≡ address_of_step two b step
+    step_alike b (Trees.local n) = refl
+    step_alike b (Trees.object n) = refl
+    step_alike b (Trees.deref e) = address_alike e
+    step_alike b (Trees.index e i) =
         ap (λ a. moved one a (number_in (ty i) (constant_of i)) (element_size records (ty e))) (address_alike e)
         ∙ moved_alike (address_in two e) _ _
-    step_alike (Trees.member p r field) =
-        ap (λ a. moved one a (Some (pos (offset_of records r field))) 1) (path_alike p) ∙ moved_alike (address_of_path two p) _ _
-    step_alike (Trees.element p i) =
-        ap (λ t. subscripted one t (address_of_path one p) (number_in (ty i) (constant_of i))) (type_alike p)
-        ∙ ap (λ a. subscripted one (path_type two p) a (number_in (ty i) (constant_of i))) (path_alike p)
-        ∙ subscripted_alike (path_type two p) (address_of_path two p) _
+    step_alike b (Trees.member p r field) =
+        ap (λ a. inside one (moved one a (Some (pos (offset_of records r field))) 1)) (path_alike false p)
+        ∙ ap (inside one) (moved_alike (address_of_path two false p) _ _) ∙ inside_alike _
+    step_alike b (Trees.element p i) =
+        ap (λ t. subscripted one b t (address_of_path one false p) (number_in (ty i) (constant_of i))) (type_alike p)
+        ∙ ap (λ a. subscripted one b (path_type two p) a (number_in (ty i) (constant_of i))) (path_alike false p)
+        ∙ subscripted_alike b (path_type two p) (address_of_path two false p) _
 
     address_alike : (e : Trees.Expression CType) → address_in one e ≡ address_in two e
     address_alike (Trees.expression t at node) = node_alike t node
 
     node_alike : (t : CType) (node : Trees.Node CType) → address_in_node one t node ≡ address_in_node two t node
-    node_alike t (Trees.address_of p) = path_alike p
-    node_alike t (Trees.decay p) = path_alike p
+    node_alike t (Trees.address_of p) = path_alike true p
+    node_alike t (Trees.decay p) = path_alike false p
     node_alike t (Trees.convert e written) = ap (λ a. if is_pointer t then a else None) (address_alike e)
     node_alike t (Trees.pointer_add op x y) = chosen (is_pointer (ty x))
         (ap (λ a. moved one a (or_negated one op (number_in (ty y) (constant_of y))) (element_size records t)) (address_alike x)

@@ -3,7 +3,8 @@
 ghost use Rattle.std.specs.Prelude.{◌≡◌, IfOk, IfSome};
 ghost use Rattle.std.specs.Option.{option_map};
 ghost use Rattle.c_typed.specs.AnswerViews.{constant_view};
-ghost use Rattle.c_typed.specs.InitialValues.{moved, number_in, or_negated, subscripted, within};
+ghost use Rattle.c_typed.specs.InitialValues.{inside, moved, number_in, or_negated, subscripted, within};
+ghost use Rattle.c_typed.specs.Subscripts.{is_subscript};
 ghost use Rattle.c_initial_values.specs.Values.{address_of, declared_by};
 ghost use Rattle.c_typed.specs.Constants.{kind_of};
 ghost use Rattle.c_typed.specs.Conversions.{number_of};
@@ -110,41 +111,76 @@ pub fn moved_by(
     }
 }
 
-/// An element of an array, or its end.
+/// Whether a number may be a subscript of an array of that length; under `&` it may be the length.
+fn is_subscript(length: u32, addressed: bool, number: i64) -> bool
+    ensures { result ≡ is_subscript length addressed number }
+{
+    let length = i64::from(length);
+    0 <= number && (number < length || addressed && number == length)
+}
+
+/// An element of an array; under `&` its end too.
 pub fn subscripted(
     records: &Records,
     objects: &[Object],
+    addressed: bool,
     t: &Ty,
     a: Option<Address>,
     k: Option<i64>,
 ) -> Result<Option<Address>, NoMemory>
-    ensures { IfOk result (λ r. option_map address_of r ≡ subscripted (declared_by records.now objects.now) (type_of t.now) (option_map address_of a) k) }
+    ensures { IfOk result (λ r. option_map address_of r
+        ≡ subscripted (declared_by records.now objects.now) addressed (type_of t.now) (option_map address_of a) k) }
 {
     match t {
-        Ty::Array(element, length) => element_at(records, objects, element.get(), *length, a, k),
+        Ty::Array(element, length) => {
+            element_at(records, objects, addressed, element.get(), *length, a, k)
+        }
         _ => Ok(None),
     }
 }
 
-/// An element of an array of that length, or its end.
+/// An element of an array of that length; under `&` its end too.
 fn element_at(
     records: &Records,
     objects: &[Object],
+    addressed: bool,
     element: &Ty,
     length: u32,
     a: Option<Address>,
     k: Option<i64>,
 ) -> Result<Option<Address>, NoMemory>
-    ensures { IfOk result (λ r. option_map address_of r ≡ subscripted (declared_by records.now objects.now) (array (type_of element.now) length) (option_map address_of a) k) }
+    ensures { IfOk result (λ r. option_map address_of r
+        ≡ subscripted (declared_by records.now objects.now) addressed (array (type_of element.now) length) (option_map address_of a) k) }
 {
     match (a, k) {
         (Some(a), Some(k)) => {
-            if k < 0 || k > i64::from(length) {
+            if !is_subscript(length, addressed, k) {
                 return Ok(None);
             }
             let size = size(records, element).ok_or(NoMemory)?;
             moved(records, objects, Some(a), Some(k), size)
         }
         _ => Ok(None),
+    }
+}
+
+/// A field's address, where its first byte lies in the object.
+pub fn inside(
+    records: &Records,
+    objects: &[Object],
+    a: Option<Address>,
+) -> Result<Option<Address>, NoMemory>
+    ensures { IfOk result (λ r. option_map address_of r ≡ inside (declared_by records.now objects.now) (option_map address_of a)) }
+{
+    match a {
+        None => Ok(None),
+        Some(a) => {
+            let size = object_size(records, objects, a.object).ok_or(NoMemory)?;
+            if a.offset < size {
+                Ok(Some(a))
+            } else {
+                Ok(None)
+            }
+        }
     }
 }

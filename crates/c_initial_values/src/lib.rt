@@ -2,6 +2,9 @@
 //!
 //! It stands on `c_annotated`, whose trees it reads, and on `c_types` for sizes. It promises the values of `initial_value` and the mentions of
 //! `told_by_initial`.
+//!
+//! Not said: that `NoMemory` comes for want of memory alone. It is answered too where a size passes 32 bits or a field is not there, which a checked file
+//! rules out.
 #![tactic(auto)]
 
 mod address;

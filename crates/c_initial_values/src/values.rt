@@ -8,7 +8,7 @@ ghost use Rattle.c_annotated.specs.Views.{expression_of, path_of};
 ghost use Rattle.c_erasure.specs.Erasure.{typed};
 ghost use Rattle.c_initial_values.specs.Values.{address_of, declared_by, pointer_value, value_of};
 
-use crate::address::{Address, moved, moved_by, number_in, subscripted};
+use crate::address::{Address, inside, moved, moved_by, number_in, subscripted};
 use crate::sizes::{element_size, field_offset};
 use c_annotated::{Expression, ExpressionNode, Object, Path, PathNode, constant_of, is_null};
 use c_typed::{Constant, is_pointer};
@@ -35,9 +35,8 @@ fn address_in(
     ensures { IfOk result (λ a. option_map address_of a ≡ address_in (declared_by records.now objects.now) (typed (expression_of e.now))) }
 {
     match &e.node {
-        ExpressionNode::AddressOf(p) | ExpressionNode::Decay(p) => {
-            address_of_path(p.get(), records, objects)
-        }
+        ExpressionNode::AddressOf(p) => address_of_path(true, p.get(), records, objects),
+        ExpressionNode::Decay(p) => address_of_path(false, p.get(), records, objects),
         ExpressionNode::Convert(x, _) => {
             if is_pointer(&e.ty) {
                 address_in(x.get(), records, objects)
@@ -61,15 +60,16 @@ fn address_in(
     }
 }
 
-/// The address of what a path leads to.
+/// The address of what a path leads to, which may be the operand of `&`.
 #[cycle(addresses)]
 fn address_of_path(
+    addressed: bool,
     p: &Path,
     records: &Records,
     objects: &[Object],
 ) -> Result<Option<Address>, NoMemory>
     ensures { IfOk result (λ a. option_map address_of a
-        ≡ address_of_path (declared_by records.now objects.now) (mapped_path (of_types (λ t. t.ty)) (path_of p.now))) }
+        ≡ address_of_path (declared_by records.now objects.now) addressed (mapped_path (of_types (λ t. t.ty)) (path_of p.now))) }
 {
     match &p.node {
         PathNode::Named(_) => Ok(None),
@@ -86,13 +86,14 @@ fn address_of_path(
         }
         PathNode::Member(p, r, field) => {
             let offset = field_offset(records, *r, *field).ok_or(NoMemory)?;
-            let a = address_of_path(p.get(), records, objects)?;
-            moved(records, objects, a, Some(i64::from(offset)), 1)
+            let a = address_of_path(false, p.get(), records, objects)?;
+            let a = moved(records, objects, a, Some(i64::from(offset)), 1)?;
+            inside(records, objects, a)
         }
         PathNode::Element(p, i) => {
             let k = number_in(&i.get().ty, constant_of(i.get()));
-            let a = address_of_path(p.get(), records, objects)?;
-            subscripted(records, objects, &p.get().ty, a, k)
+            let a = address_of_path(false, p.get(), records, objects)?;
+            subscripted(records, objects, addressed, &p.get().ty, a, k)
         }
     }
 }

@@ -6,8 +6,8 @@ use Rattle.c_types.specs.declared.ty.Ty.{the_lemmas}
 use Rattle.c_types.specs.declared.ty.Ty.TheVariants as T
 use Rattle.c_types.specs.Types.{void}
 use Rattle.c_types.specs.Views.{type_of}
-use Rattle.c_renumbering.specs.declared.numbers.Numbers.{Numbers}
-use Rattle.c_renumbering.specs.Numbers.{number_at}
+use Rattle.c_numbers.specs.declared.new_numbers.numbers.Numbers.{Numbers}
+use Rattle.c_numbers.specs.NewNumbers.Numbers.{number_at}
 
 pub numbers_are : {A : Type 0} (number : A → ℕ) (none : A) (all : List A) (numbers : Numbers) → numbers.entries ≡ map number all → numbers.otherwise ≡ number none
     → number_at numbers ≡ (λ n. number (get_or all n none))

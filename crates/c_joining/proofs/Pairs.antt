@@ -3,7 +3,7 @@ use Rattle.std.proofs.Common.{◌≡◌, ℕ, suc, ◌+◌, Bool, List, [], ◌�
 use Rattle.std.proofs.lemmas.List.{append-nil}
 use Rattle.c_typed.specs.declared.program.Object.{Object}
 use Rattle.c_typed.specs.Programs.{FunctionData, UnitData}
-use Rattle.numbering.specs.Keys.{position}
+use Rattle.c_numbers.specs.KeyNumbers.Keys.{position}
 use Rattle.c_joining.specs.Joining.{Tables, function_identities, functions_of, identity, is_function_defined, is_object_defined, mentions_of, numbered_from}
 use Rattle.c_joining.specs.Joining.{object_identities, objects_of, paired}
 use Rattle.c_joining.specs.Placing.{place, placed}

@@ -5,7 +5,7 @@ use Rattle.std.proofs.lemmas.List.{map-append}
 use Rattle.c_types.specs.declared.record.Record as declared
 use Rattle.c_types.specs.Types.{Record}
 use Rattle.c_types.specs.Views.{record_of, records_of}
-use Rattle.numbering.specs.Keys.{position}
+use Rattle.c_numbers.specs.KeyNumbers.Keys.{position}
 use Rattle.c_joining.specs.Placing.{place, placed, put, replaces_one}
 use Rattle.c_joining.specs.Views.{tagged}
 use Rattle.c_joining.proofs.Pairs.{placed_append}

@@ -1,10 +1,11 @@
 -- Things that come one after another, each to its key: under each key stands what the definition chooses.
-use Rattle.std.proofs.Common.{◌≡◌, ℕ, ◌+◌, Bool, true, false, not, ◌&&◌, ◌||◌, List, [], ◌∷◌, ◌++◌, Option, Some, None, fold, map, flat_map, refl, sym, ap, ◌∙◌, subst, add-one, append_assoc}
+use Rattle.std.proofs.Common.{◌≡◌, ℕ, ◌+◌, Bool, true, false, not, ◌&&◌, ◌||◌, List, [], ◌∷◌, ◌++◌, Option, Some, None, fold, map, flat_map, refl, sym, ap, ◌∙◌}
+use Rattle.std.proofs.Common.{subst, add-one, append_assoc}
 use Rattle.std.specs.Prelude.{if◌then◌else◌, slice_get}
 use Rattle.std.specs.Str.{bytes_eq}
 use Rattle.std.proofs.lemmas.Slice.Eq.{bytes_eq-Decides}
-use Rattle.numbering.specs.Keys.{is_among, new_keys, position, with_key}
-use Rattle.numbering.proofs.Laws.{all_after, all_new}
+use Rattle.c_numbers.specs.KeyNumbers.Keys.{is_among, new_keys, position, with_key}
+use Rattle.c_numbers.proofs.KeyNumbers.Laws.{all_after, all_new}
 use Rattle.c_joining.specs.Joining.{under, chosen_among, or_first, chosen, if_any}
 use Rattle.c_joining.specs.Placing.{place, placed}
 

@@ -6,10 +6,11 @@ use Rattle.std.proofs.lemmas.List.{append-nil, map-append}
 use Rattle.c_types.specs.Types.{Record}
 use Rattle.c_typed.specs.declared.program.Object.{Object}
 use Rattle.c_typed.specs.Programs.{FunctionData, UnitData}
-use Rattle.c_type_table.specs.Renumbered.{record_in}
-use Rattle.numbering.specs.Keys.{new_keys, position}
+use Rattle.c_numbers.specs.TypeNumbers.Renumbered.{record_in}
+use Rattle.c_numbers.specs.KeyNumbers.Keys.{new_keys, position}
 use Rattle.c_joining.specs.Joining.{all_functions, all_functions_in, all_objects, all_objects_in, all_records_in, all_tags, chosen, complete_in, complete_tags}
-use Rattle.c_joining.specs.Joining.{function_identities, functions, functions_of, identity, if_any, is_function_defined, is_object_defined, joined, named, numbered_from}
+use Rattle.c_joining.specs.Joining.{function_identities, functions, functions_of, identity, if_any, is_function_defined, is_object_defined, joined, named}
+use Rattle.c_joining.specs.Joining.{numbered_from}
 use Rattle.c_joining.specs.Joining.{object_identities, objects, objects_of, paired, records, records_in, structure_in, tables, under, with_tag}
 use Rattle.c_joining.specs.Placing.{placed}
 use Rattle.c_joining.specs.Views.{assembled, nothing, tagged, with_unit}

@@ -8,9 +8,9 @@ use Rattle.c_typed.specs.declared.program.Object.{Object}
 use Rattle.c_typed.specs.Mapped.{Renaming}
 use Rattle.c_typed.specs.Programs.{FunctionData, UnitData, ProgramData}
 use Rattle.c_erasure.specs.Units.{new_among, number_in}
-use Rattle.numbering.specs.Keys.{new_keys, position}
-use Rattle.c_renumbering.specs.Parts.{function_in, mention_in, object_in}
-use Rattle.c_type_table.specs.Renumbered.{record_in, renumbered}
+use Rattle.c_numbers.specs.KeyNumbers.Keys.{new_keys, position}
+use Rattle.c_numbers.specs.NewNumbers.Parts.{function_in, mention_in, object_in}
+use Rattle.c_numbers.specs.TypeNumbers.Renumbered.{record_in, renumbered}
 
 -- ---- the units with their numbers, from 0
 

@@ -1,6 +1,6 @@
 -- Things that come one after another, each to the number of its key.
 use Rattle.std.specs.Prelude.{ℕ, zero, suc, Bool, false, not, ◌&&◌, if◌then◌else◌, List, [], ◌∷◌, Option, Some, None, slice_get}
-use Rattle.numbering.specs.Keys.{position}
+use Rattle.c_numbers.specs.KeyNumbers.Keys.{position}
 
 -- the number is that of one that is there, or of the next
 abbrev pub put : {A : Type 0} → (replaces : Bool) → List A → ℕ → A → List A

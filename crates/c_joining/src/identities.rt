@@ -2,15 +2,14 @@
 
 ghost use Rattle.std.specs.Prelude.{◌≡◌, ◌+◌, [], IfOk, OnOk, fold, get_or, map};
 ghost use Rattle.c_joining.specs.Joining.{all_functions, all_objects, function_identities, identity, object_identities};
-ghost use Rattle.c_renumbering.specs.Numbers.{number_at};
+ghost use Rattle.c_numbers.specs.NewNumbers.Numbers.{number_at};
 ghost use Rattle.c_typed.specs.Programs.{data_of, unit_data};
-ghost use Rattle.numbering.specs.Keys.{position, with_key};
+ghost use Rattle.c_numbers.specs.KeyNumbers.Keys.{position, with_key};
 
 use crate::keys::identity_key;
-use c_renumbering::Numbers;
+use c_numbers::{KeyTable, Numbers};
 use c_typed::{Function, Object, Unit};
 use lay_base::{List, Name, NoMemory, add};
-use numbering::KeyTable;
 use std::alloc::Global;
 
 /// The number after one.

@@ -4,18 +4,17 @@ ghost use Rattle.std.specs.Prelude.{◌≡◌, ◌+◌, ◌++◌, [], IfOk, OnOk
 ghost use Rattle.c_joining.specs.Joining.{function_identities, identity, is_function_defined, is_object_defined, numbered_from, object_identities, paired};
 ghost use Rattle.c_joining.specs.Placing.{place, placed};
 ghost use Rattle.c_joining.specs.Views.{joined_of, nothing, tables_of, with_unit};
-ghost use Rattle.c_renumbering.specs.Numbers.{renaming_of};
-ghost use Rattle.c_renumbering.specs.Parts.{function_in, mention_in, object_in};
+ghost use Rattle.c_numbers.specs.NewNumbers.Numbers.{renaming_of};
+ghost use Rattle.c_numbers.specs.NewNumbers.Parts.{function_in, mention_in, object_in};
 ghost use Rattle.c_typed.specs.Programs.{data_of, unit_data};
-ghost use Rattle.numbering.specs.Keys.{position};
+ghost use Rattle.c_numbers.specs.KeyNumbers.Keys.{position};
 
 use crate::identities::{next, number_of};
 use crate::placing::{place_function, place_object};
 use crate::tables::{Tables, renumbering};
-use c_renumbering::{Renumbering, renumber_function, renumber_mention, renumber_object};
+use c_numbers::{KeyTable, Renumbering, renumber_function, renumber_mention, renumber_object};
 use c_typed::{Function, Mention, Object, Unit};
 use lay_base::{List, NoMemory, add};
-use numbering::KeyTable;
 use std::alloc::Global;
 
 /// What the units before gave to the program.

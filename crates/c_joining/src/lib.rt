@@ -1,6 +1,6 @@
 //! Joining the files of a program by the names of what they declare (C99 6.2.2, 6.9).
 //!
-//! It stands on `c_typed` and `c_erasure`, on `numbering` for the tables of names, and on `c_renumbering` and `c_type_table` for
+//! It stands on `c_typed` and `c_erasure`, on `c_numbers` for the tables of names, and on `c_numbers` for
 //! the numbers that a unit's parts get in the program. It promises that what it joins is the program that `joined` defines.
 #![tactic(auto)]
 

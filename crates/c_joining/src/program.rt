@@ -9,16 +9,16 @@ ghost use Rattle.c_types.specs.Layouts.{size_of};
 ghost use Rattle.c_types.specs.Limits.{greatest_size};
 ghost use Rattle.c_types.specs.Objects.{is_object};
 ghost use Rattle.c_types.specs.Views.{records_of, type_of};
-ghost use Rattle.numbering.specs.Keys.{position};
+ghost use Rattle.c_numbers.specs.KeyNumbers.Keys.{position};
 
 use crate::joining::{Joined, joined_units};
 use crate::records::all_records;
 use crate::tables::{Tables, program_tables};
 use crate::tags::number_of;
+use c_numbers::KeyTable;
 use c_typed::{Typed, Unit};
 use c_types::{Field, Record, Records, checked_size_of, is_object};
 use lay_base::{List, NoMemory};
-use numbering::KeyTable;
 use std::alloc::Global;
 
 /// Whether each field is an object type that is not too big, over the records that are there.

@@ -2,18 +2,16 @@
 
 ghost use Rattle.std.specs.Prelude.{◌≡◌, ◌++◌, IfOk, OnOk, flat_map, map};
 ghost use Rattle.c_joining.specs.Joining.{records_in};
-ghost use Rattle.c_renumbering.specs.Numbers.{number_at};
-ghost use Rattle.c_type_table.specs.Renumbered.{field_in, record_in};
+ghost use Rattle.c_numbers.specs.NewNumbers.Numbers.{number_at};
+ghost use Rattle.c_numbers.specs.TypeNumbers.Renumbered.{field_in, record_in};
 ghost use Rattle.c_typed.specs.Programs.{unit_data};
 ghost use Rattle.c_types.specs.Views.{field_of, record_of, records_of};
 
 use crate::tags::numbers_of_structures;
-use c_renumbering::Numbers;
-use c_type_table::renumbered_type;
+use c_numbers::{KeyTable, Numbers, renumbered_type};
 use c_typed::Unit;
 use c_types::{Field, Record};
 use lay_base::{List, Name, NoMemory, add};
-use numbering::KeyTable;
 use std::alloc::Global;
 
 /// A copy of a name.

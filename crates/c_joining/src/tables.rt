@@ -3,17 +3,15 @@
 ghost use Rattle.std.specs.Prelude.{◌≡◌, IfOk, map};
 ghost use Rattle.c_joining.specs.Joining.{renaming, tables};
 ghost use Rattle.c_joining.specs.Views.{tables_of};
-ghost use Rattle.c_renumbering.specs.Numbers.{renaming_of};
+ghost use Rattle.c_numbers.specs.NewNumbers.Numbers.{renaming_of};
 ghost use Rattle.c_typed.specs.Programs.{unit_data};
 
 use crate::identities::{all_functions, all_objects, numbers_of_functions, numbers_of_objects};
 use crate::tags::{all_tags, numbers_of_structures};
 use crate::types::{all_types, numbers_of_types};
-use c_renumbering::Renumbering;
-use c_type_table::TypeTable;
+use c_numbers::{KeyTable, Renumbering, TypeTable};
 use c_typed::Unit;
 use lay_base::NoMemory;
-use numbering::KeyTable;
 use std::alloc::Global;
 
 /// The tags, types, objects and functions of a program, each by its number.

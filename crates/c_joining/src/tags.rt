@@ -2,17 +2,16 @@
 
 ghost use Rattle.std.specs.Prelude.{◌≡◌, ◌++◌, IfOk, OnOk, fold, map};
 ghost use Rattle.c_joining.specs.Joining.{all_tags, complete_tags, structure_in};
-ghost use Rattle.c_renumbering.specs.Numbers.{number_at};
+ghost use Rattle.c_numbers.specs.NewNumbers.Numbers.{number_at};
 ghost use Rattle.c_typed.specs.Programs.{unit_data};
 ghost use Rattle.c_types.specs.Views.{records_of};
-ghost use Rattle.numbering.specs.Keys.{position, with_key};
+ghost use Rattle.c_numbers.specs.KeyNumbers.Keys.{position, with_key};
 
 use crate::keys::name_key;
-use c_renumbering::Numbers;
+use c_numbers::{KeyTable, Numbers};
 use c_typed::Unit;
 use c_types::Record;
 use lay_base::{List, Name, NoMemory, add};
-use numbering::KeyTable;
 use std::alloc::Global;
 
 /// The number of a name.

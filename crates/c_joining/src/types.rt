@@ -3,20 +3,18 @@
 ghost use Rattle.std.specs.Prelude.{◌≡◌, ◌++◌, [], IfOk, OnOk, flat_map, fold, get_or, map};
 ghost use Rattle.c_erasure.specs.Units.{new_among, number_in};
 ghost use Rattle.c_joining.specs.Joining.{types_in};
-ghost use Rattle.c_renumbering.specs.Numbers.{number_at};
-ghost use Rattle.c_type_table.specs.Adding.{with_type};
-ghost use Rattle.c_type_table.specs.Renumbered.{renumbered};
+ghost use Rattle.c_numbers.specs.NewNumbers.Numbers.{number_at};
+ghost use Rattle.c_numbers.specs.TypeNumbers.Adding.{with_type};
+ghost use Rattle.c_numbers.specs.TypeNumbers.Renumbered.{renumbered};
 ghost use Rattle.c_typed.specs.Programs.{unit_data};
 ghost use Rattle.c_types.specs.Types.{void};
 ghost use Rattle.c_types.specs.Views.{type_of};
 
 use crate::tags::numbers_of_structures;
-use c_renumbering::Numbers;
-use c_type_table::{TypeTable, renumbered_type};
+use c_numbers::{KeyTable, Numbers, TypeTable, renumbered_type};
 use c_typed::Unit;
 use c_types::Ty;
 use lay_base::{List, NoMemory, add};
-use numbering::KeyTable;
 use std::alloc::Global;
 
 fn add_types(

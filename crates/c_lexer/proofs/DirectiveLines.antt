@@ -12,8 +12,8 @@ use Rattle.c_tokens.specs.declared.directive.Directive.{Directive}
 use Rattle.c_tokens.specs.declared.directive.Directive.TheVariants.{Silent, Renumbers}
 use Rattle.c_tokens.specs.Characters.{is_blank, is_digit, goes_on_in_name, begins, value_of_digits}
 use Rattle.c_tokens.specs.Directives.{AreBlank, AreDigits, IsWordGap, Marker, IsMarker, word_text, name_text, flags_text, name_range, marker_text}
-use Rattle.c_tokens.specs.Directives.{directive_of, IsDirective, null, pragma, marker}
-use Rattle.c_lexer.specs.DirectiveScan.{marker_at, line_at, directive_after, directive_in}
+use Rattle.c_tokens.specs.Directives.{directive_of, may_change_layout, IsDirective, null, pragma, marker}
+use Rattle.c_lexer.specs.DirectiveScan.{marker_at, line_at, silent_unless, directive_after, directive_in}
 use Rattle.c_lexer.proofs.RunLengths.{run_read, no_run, run_taken, run_front, run_rest, begins_whole, begins_other}
 use Rattle.c_lexer.proofs.MarkerEnds.{End, digit_no_blank, end_read, end_taken}
 use Rattle.c_lexer.proofs.Markers.{After, Numbered, after_read, after_taken, after_no_digit, at_read, at_taken, line_read, line_taken}
@@ -26,8 +26,11 @@ front_read front text blank stops =
     rw (run_read is_blank front text blank stops, drop-append_seam front text) refl
 
 -- a word is read whole, where no byte of a name stands after it
-pragma_read : (at : ℕ) (anything : List ℕ) → begins goes_on_in_name anything ≡ false → directive_after at (codes "pragma" ++ anything) ≡ Some Silent
-pragma_read at anything stops = rw (no_run goes_on_in_name anything stops) refl
+pragma_read : (at : ℕ) (anything : List ℕ) → begins goes_on_in_name anything ≡ false → may_change_layout anything ≡ false
+    → directive_after at (codes "pragma" ++ anything) ≡ Some Silent
+pragma_read at anything stops plain =
+    let word : directive_after at (codes "pragma" ++ anything) ≡ silent_unless (may_change_layout anything) = rw (no_run goes_on_in_name anything stops) refl in
+    word ∙ ap silent_unless plain
 
 line_word_read : (at : ℕ) (rest : List ℕ) → begins goes_on_in_name rest ≡ false → directive_after at (codes "line" ++ rest) ≡ line_at (at + 4) rest
 line_word_read at rest stops = rw (no_run goes_on_in_name rest stops) refl
@@ -83,10 +86,10 @@ marker_read m is =
 
 pub directive_read : (content : List ℕ) (directive : Directive) → IsDirective content directive → directive_in content ≡ Some directive
 directive_read content directive (null blank) = ap directive_in (sym (append-nil content)) ∙ front_read content [] blank refl
-directive_read content directive (pragma front anything blank stops) =
+directive_read content directive (pragma front anything blank stops plain) =
     ap directive_in (append_assoc front (codes "pragma") anything)
     ∙ front_read front (codes "pragma" ++ anything) blank refl
-    ∙ pragma_read (length front) anything stops
+    ∙ pragma_read (length front) anything stops plain
 directive_read content directive (marker m is) = marker_read m is
 
 -- ---- what is read is a directive
@@ -154,10 +157,16 @@ null_taken front text d blank e h =
     same_line front (front ++ text) Silent d (sym (append-nil front) ∙ ap (λ l. front ++ l) (sym ((bytes_eq-Decides text []).0 e)))
     (sym (same_Some Silent d h)) (null blank)
 
-pragma_taken : (front text : List ℕ) (d : Directive) → AreBlank front → Word (codes "pragma") text → Some Silent ≡ Some d → IsDirective (front ++ text) d
+silent_taken : (changes : Bool) (d : Directive) → silent_unless changes ≡ Some d → (changes ≡ false) × (Silent ≡ d)
+silent_taken false d h = (refl, same_Some Silent d h)
+silent_taken true d h = cc
+
+pragma_taken : (front text : List ℕ) (d : Directive) → AreBlank front → (w : Word (codes "pragma") text) → silent_unless (may_change_layout w.rest) ≡ Some d
+    → IsDirective (front ++ text) d
 pragma_taken front text d blank w h =
+    let s = silent_taken (may_change_layout w.rest) d h in
     same_line (front ++ codes "pragma" ++ w.rest) (front ++ text) Silent d (append_assoc front (codes "pragma") w.rest
-    ∙ ap (λ l. front ++ l) (sym w.is)) (sym (same_Some Silent d h)) (pragma front w.rest blank w.stops)
+    ∙ ap (λ l. front ++ l) (sym w.is)) (sym s.1) (pragma front w.rest blank w.stops s.0)
 
 line_word_taken : (front text : List ℕ) (d : Directive) → AreBlank front → (w : Word (codes "line") text) → line_at (length front + 4) w.rest ≡ Some d
     → IsDirective (front ++ text) d
@@ -175,7 +184,8 @@ after_front_taken front text d blank h =
     cond_both (begins is_digit text) (marker_at false at text) _ P
     (λ _ h. marker_taken front false [] text at d blank (λ flags bare. refl) (sym (add-zero at)) h)
     (λ _. cond_both (bytes_eq text []) (Some Silent) _ P (null_taken front text d blank)
-    (λ _. cond_both (bytes_eq (take n text) (codes "pragma")) (Some Silent) _ P (λ e. pragma_taken front text d blank (word_taken (codes "pragma") text e))
+    (λ _. cond_both (bytes_eq (take n text) (codes "pragma")) (silent_unless (may_change_layout (drop n text))) _ P
+    (λ e h. let w = word_taken (codes "pragma") text e in pragma_taken front text d blank w (subst (λ l. silent_unless (may_change_layout l) ≡ Some d) w.after h))
     (λ _. cond_both (bytes_eq (take n text) (codes "line")) (line_at (at + n) (drop n text)) None P
     (λ e h. let w = word_taken (codes "line") text e in line_word_taken front text d blank w (rw (w.after, w.size) at h))
     (λ _ h. cc))))

@@ -15,7 +15,7 @@ use Rattle.c_lexer.specs.Scanning.{is_front, first_punctuator, punctuators}
 cons_same : (a b : ℕ) (xs ys : List ℕ) → a ≡ b → xs ≡ ys → a ∷ xs ≡ b ∷ ys
 cons_same a b xs ys p q = cc
 
-front_taken : (word bytes : List ℕ) → is_front word bytes ≡ true → (after : List ℕ) × (bytes ≡ word ++ after)
+pub front_taken : (word bytes : List ℕ) → is_front word bytes ≡ true → (after : List ℕ) × (bytes ≡ word ++ after)
 front_taken [] bytes h = (bytes, refl)
 front_taken (w ∷ word) [] h = cc
 front_taken (w ∷ word) (b ∷ bytes) h =

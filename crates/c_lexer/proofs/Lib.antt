@@ -3,7 +3,6 @@ pub mod Comments
 pub mod Digits
 pub mod DirectiveLines
 pub mod Exactness
-pub mod FirstLetters
 pub mod FirstPunctuators
 pub mod FrontParts
 pub mod FrontTexts
@@ -16,6 +15,7 @@ pub mod NumberRuns
 pub mod NumberWords
 pub mod OneReading
 pub mod PlacesOfTokens
+pub mod PunctuatorRows
 pub mod QuotedWords
 pub mod Quotes
 pub mod RunLengths

@@ -66,7 +66,7 @@ name_fits number place total (Some name) small h =
 
 directive_is_small : (content : List ℕ) (directive : Directive) → IsDirective content directive → FitsIn (length content) directive
 directive_is_small content directive (null blank) = tt
-directive_is_small content directive (pragma front anything blank stops) = tt
+directive_is_small content directive (pragma front anything blank stops plain) = tt
 directive_is_small content directive (marker m is) =
     let front = m.front ++ word_text m.worded m.middle ++ m.digits in
     name_fits (value_of_digits 10 m.digits) (length front) _ m.name is.small

@@ -6,6 +6,7 @@ use Rattle.c_tokens.specs.declared.directive.Directive.{Directive}
 use Rattle.c_tokens.specs.declared.directive.Directive.TheVariants.{Silent, Renumbers}
 use Rattle.c_tokens.specs.declared.directive.NameRange.{NameRange}
 use Rattle.c_tokens.specs.Characters.{is_blank, is_digit, goes_on_in_name, begins}
+use Rattle.c_tokens.specs.Directives.{may_change_layout}
 use Rattle.c_lexer.specs.NumberScan.{capped_value}
 use Rattle.c_tokens.specs.QuotedScan.{quoted_length}
 
@@ -48,13 +49,17 @@ line_at at text =
     let n = prefix_len is_blank text in
     if begins is_blank text then marker_at true (at + n) (drop n text) else None
 
+abbrev pub silent_unless : Bool → Option Directive
+silent_unless false = Some Silent
+silent_unless true = None
+
 -- after the blanks that follow the '#'
 abbrev pub directive_after : ℕ → List ℕ → Option Directive
 directive_after at text =
     let n = prefix_len goes_on_in_name text in
     if begins is_digit text then marker_at false at text
     else if bytes_eq text [] then Some Silent
-    else if bytes_eq (take n text) (codes "pragma") then Some Silent
+    else if bytes_eq (take n text) (codes "pragma") then silent_unless (may_change_layout (drop n text))
     else if bytes_eq (take n text) (codes "line") then line_at (at + n) (drop n text)
     else None
 

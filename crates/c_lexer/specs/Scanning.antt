@@ -3,9 +3,7 @@
 use Rattle.std.specs.Prelude.{◌≡◌, ℕ, zero, suc, ◌+◌, nat_le, ◌==◌, ◌&&◌, ◌||◌, not, Bool, true, false, List, [], ◌∷◌, take, drop, length, Option}
 use Rattle.std.specs.Prelude.{Some, None, is_some, option_map, Result, Ok, Err, if◌then◌else◌}
 use Rattle.std.specs.List.{prefix_len}
-use Rattle.std.specs.Str.{bytes_eq}
 use Rattle.lay_base.specs.declared.faults.Keyword.{Keyword}
-use Rattle.lay_base.specs.declared.faults.Keyword.TheVariants as W
 use Rattle.c_tokens.specs.declared.punctuator.Punctuator.{Punctuator}
 use Rattle.c_tokens.specs.declared.punctuator.Punctuator.TheVariants as M
 use Rattle.c_tokens.specs.declared.part.Shape.{Shape}
@@ -21,7 +19,7 @@ use Rattle.c_tokens.specs.declared.fault.FaultKind.TheVariants as F
 use Rattle.c_lexer.specs.declared.fault.LexFault.{LexFault}
 use Rattle.c_lexer.specs.declared.fault.LexFault.TheVariants as L
 use Rattle.c_tokens.specs.Characters.{is_white, is_line_feed, is_letter, goes_on_in_name, begins}
-use Rattle.lay_base.specs.Keywords.{keyword_text}
+use Rattle.lay_base.specs.KeywordScan.{keyword_of}
 use Rattle.c_tokens.specs.Punctuators.{punctuator_text}
 use Rattle.c_tokens.specs.Numbers.{begins_number}
 use Rattle.c_lexer.specs.NumberScan.{number_length, number_of}
@@ -43,26 +41,27 @@ abbrev pub first_punctuator : List Punctuator → List ℕ → Option Punctuator
 first_punctuator [] bytes = None
 first_punctuator (punctuator ∷ punctuators) bytes = if is_front (punctuator_text punctuator) bytes then Some punctuator else first_punctuator punctuators bytes
 
-abbrev pub punctuators_after_percent : List Punctuator
-punctuators_after_percent =
-    M.ShiftLeftEqual ∷ M.ShiftLeft ∷ M.LessEqual ∷ M.Less ∷ M.ShiftRightEqual ∷ M.ShiftRight ∷ M.GreaterEqual ∷
-    M.Greater ∷ M.EqualEqual ∷ M.Equal ∷ M.CaretEqual ∷ M.Caret ∷ M.BarBar ∷ M.BarEqual ∷ M.Bar ∷ M.Question ∷
-    M.Colon ∷ M.Semicolon ∷ M.Comma ∷ []
-
-abbrev pub punctuators_after_plus : List Punctuator
-punctuators_after_plus =
-    M.AndAnd ∷ M.AndEqual ∷ M.And ∷ M.StarEqual ∷ M.Star ∷ M.Tilde ∷ M.NotEqual ∷ M.Not ∷ M.SlashEqual ∷ M.Slash ∷
-    M.PercentEqual ∷ M.Percent ∷ punctuators_after_percent
-
 -- all punctuators, none after one that it begins with
 abbrev pub punctuators : List Punctuator
 punctuators =
     M.OpenSquare ∷ M.CloseSquare ∷ M.Open ∷ M.Close ∷ M.OpenBrace ∷ M.CloseBrace ∷ M.Dots ∷ M.Dot ∷ M.Arrow ∷
-    M.MinusMinus ∷ M.MinusEqual ∷ M.Minus ∷ M.PlusPlus ∷ M.PlusEqual ∷ M.Plus ∷ punctuators_after_plus
+    M.MinusMinus ∷ M.MinusEqual ∷ M.Minus ∷ M.PlusPlus ∷ M.PlusEqual ∷ M.Plus ∷ M.AndAnd ∷ M.AndEqual ∷ M.And ∷
+    M.StarEqual ∷ M.Star ∷ M.Tilde ∷ M.NotEqual ∷ M.Not ∷ M.SlashEqual ∷ M.Slash ∷ M.PercentEqual ∷ M.Percent ∷
+    M.ShiftLeftEqual ∷ M.ShiftLeft ∷ M.LessEqual ∷ M.Less ∷ M.ShiftRightEqual ∷ M.ShiftRight ∷ M.GreaterEqual ∷
+    M.Greater ∷ M.EqualEqual ∷ M.Equal ∷ M.CaretEqual ∷ M.Caret ∷ M.BarBar ∷ M.BarEqual ∷ M.Bar ∷ M.Question ∷
+    M.Colon ∷ M.Semicolon ∷ M.Comma ∷ []
 
 abbrev pub punctuator_word : Option Punctuator → Option (Shape × ℕ)
 punctuator_word None = None
 punctuator_word (Some punctuator) = Some (S.Punctuator punctuator, length (punctuator_text punctuator))
+
+-- the same, by a table of texts
+abbrev pub row_of : Punctuator → List ℕ × Punctuator
+row_of punctuator = (punctuator_text punctuator, punctuator)
+
+unfoldable pub word_by : List (List ℕ × Punctuator) → List ℕ → Option (Shape × ℕ)
+word_by [] bytes = None
+word_by (row ∷ rows) bytes = if is_front row.0 bytes then Some (S.Punctuator row.1, length row.0) else word_by rows bytes
 
 -- the shape and the length of the word at the front, which is neither a character nor a string
 abbrev pub word_at : List ℕ → Option (Shape × ℕ)
@@ -119,83 +118,12 @@ part_at begins_line (b ∷ bytes) = part_from begins_line b bytes
 
 -- ---- the token that a word is
 
-abbrev pub first_keyword : List Keyword → List ℕ → Option Keyword
-first_keyword [] word = None
-first_keyword (keyword ∷ keywords) word = if bytes_eq word (keyword_text keyword) then Some keyword else first_keyword keywords word
-
-abbrev pub keywords_in_c : List Keyword
-keywords_in_c = W.Case ∷ W.Char ∷ W.Const ∷ W.Continue ∷ []
-
-abbrev pub keywords_in_d : List Keyword
-keywords_in_d = W.Default ∷ W.Do ∷ W.Double ∷ []
-
-abbrev pub keywords_in_e : List Keyword
-keywords_in_e = W.Else ∷ W.Enum ∷ W.Extern ∷ []
-
-abbrev pub keywords_in_f : List Keyword
-keywords_in_f = W.Float ∷ W.For ∷ []
-
-abbrev pub keywords_in_i : List Keyword
-keywords_in_i = W.If ∷ W.Inline ∷ W.Int ∷ []
-
-abbrev pub keywords_in_r : List Keyword
-keywords_in_r = W.Register ∷ W.Restrict ∷ W.Return ∷ []
-
-abbrev pub keywords_in_s : List Keyword
-keywords_in_s = W.Short ∷ W.Signed ∷ W.Sizeof ∷ W.Static ∷ W.Struct ∷ W.Switch ∷ []
-
-abbrev pub keywords_in_u : List Keyword
-keywords_in_u = W.Union ∷ W.Unsigned ∷ []
-
-abbrev pub keywords_in_v : List Keyword
-keywords_in_v = W.Void ∷ W.Volatile ∷ []
-
-abbrev pub keywords_in_underscore : List Keyword
-keywords_in_underscore = W.UnderscoreBool ∷ W.UnderscoreComplex ∷ W.UnderscoreImaginary ∷ []
-
-abbrev pub keywords : List Keyword
-keywords =
-    W.Auto ∷ W.Break ∷ W.Case ∷ W.Char ∷ W.Const ∷ W.Continue ∷ W.Default ∷ W.Do ∷ W.Double ∷
-    W.Else ∷ W.Enum ∷ W.Extern ∷ W.Float ∷ W.For ∷ W.Goto ∷ W.If ∷ W.Inline ∷ W.Int ∷
-    W.Long ∷ W.Register ∷ W.Restrict ∷ W.Return ∷ W.Short ∷ W.Signed ∷ W.Sizeof ∷ W.Static ∷ W.Struct ∷
-    W.Switch ∷ W.Typedef ∷ W.Union ∷ W.Unsigned ∷ W.Void ∷ W.Volatile ∷ W.While ∷ W.UnderscoreBool ∷ W.UnderscoreComplex ∷
-    W.UnderscoreImaginary ∷ []
-
--- the keyword, where the word is that text
-abbrev pub keyword_if : List ℕ → List ℕ → Keyword → Option Keyword
-keyword_if word text keyword = if bytes_eq word text then Some keyword else None
-
--- the keyword that a word is, by its first byte
-abbrev pub keyword_beginning : ℕ → List ℕ → Option Keyword
-keyword_beginning first word =
-    if first == 97 then keyword_if word (keyword_text W.Auto) W.Auto else
-    if first == 98 then keyword_if word (keyword_text W.Break) W.Break else
-    if first == 99 then first_keyword keywords_in_c word else
-    if first == 100 then first_keyword keywords_in_d word else
-    if first == 101 then first_keyword keywords_in_e word else
-    if first == 102 then first_keyword keywords_in_f word else
-    if first == 103 then keyword_if word (keyword_text W.Goto) W.Goto else
-    if first == 105 then first_keyword keywords_in_i word else
-    if first == 108 then keyword_if word (keyword_text W.Long) W.Long else
-    if first == 114 then first_keyword keywords_in_r word else
-    if first == 115 then first_keyword keywords_in_s word else
-    if first == 116 then keyword_if word (keyword_text W.Typedef) W.Typedef else
-    if first == 117 then first_keyword keywords_in_u word else
-    if first == 118 then first_keyword keywords_in_v word else
-    if first == 119 then keyword_if word (keyword_text W.While) W.While else
-    if first == 95 then first_keyword keywords_in_underscore word else
-    None
-
-unfoldable pub keyword_in : List ℕ → Option Keyword
-keyword_in [] = None
-keyword_in (first ∷ rest) = keyword_beginning first (first ∷ rest)
-
 abbrev pub name_with : ℕ → Option Keyword → Result TokenKind FaultKind
 name_with size (Some keyword) = Ok (K.Keyword keyword)
 name_with size None = if nat_le size longest_name then Ok K.Name else Err F.TooWide
 
 abbrev pub token_of : Shape → List ℕ → Result TokenKind FaultKind
-token_of S.Name word = name_with (length word) (first_keyword keywords word)
+token_of S.Name word = name_with (length word) (keyword_of word)
 token_of S.Number word = number_of word
 token_of S.Character word = character_of word
 token_of S.Text word = string_of word

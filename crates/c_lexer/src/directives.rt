@@ -3,7 +3,8 @@
 ghost use Rattle.std.specs.Prelude.{◌≡◌, ◌≤◌, ◌+◌, ◌<◌, ◌^◌, length, IfSome, true, false};
 ghost use Rattle.std.specs.List.{list_all};
 ghost use Rattle.c_tokens.specs.Characters.{is_blank};
-ghost use Rattle.c_lexer.specs.DirectiveScan.{are_flags, is_marker_end, named, marker_after, marker_at, line_at, directive_after, directive_in};
+ghost use Rattle.c_tokens.specs.Directives.{is_layout_word, may_change_layout};
+ghost use Rattle.c_lexer.specs.DirectiveScan.{are_flags, is_marker_end, named, marker_after, marker_at, line_at, silent_unless, directive_after, directive_in};
 ghost use Rattle.c_tokens.specs.QuotedScan.{quoted_length};
 
 use crate::characters::{blank, decimal};
@@ -105,6 +106,39 @@ fn line_at(at: u32, text: &[u8]) -> Option<Directive>
     marker_at(true, at + blanks as u32, &text[blanks..])
 }
 
+/// Whether it is a first word of pragmas by which GCC lays structures out in another way.
+fn is_layout_word(word: &[u8]) -> bool
+    ensures { result ≡ is_layout_word word.now }
+{
+    word == b"pack".as_slice()
+        || word == b"ms_struct".as_slice()
+        || word == b"scalar_storage_order".as_slice()
+}
+
+/// Whether what stands after `#pragma` may change the layout of structures.
+fn may_change_layout(text: &[u8]) -> bool
+    ensures { result ≡ may_change_layout text.now }
+{
+    let blanks = blank_run(text);
+    let rest = &text[blanks..];
+    if let [b'/', ..] = rest {
+        return true;
+    }
+    let count = name_run(rest);
+    is_layout_word(&rest[..count])
+}
+
+/// A pragma from after the word `pragma` on.
+fn pragma_at(text: &[u8]) -> Option<Directive>
+    ensures { result ≡ silent_unless (may_change_layout text.now) }
+{
+    if may_change_layout(text) {
+        None
+    } else {
+        Some(Directive::Silent)
+    }
+}
+
 /// From after the blanks that follow the `#`.
 fn directive_after(at: u32, text: &[u8]) -> Option<Directive>
     requires { at + length text.now ≤ 4194304 }
@@ -119,7 +153,7 @@ fn directive_after(at: u32, text: &[u8]) -> Option<Directive>
     let count = name_run(text);
     let (word, rest) = text.split_at(count);
     if word == b"pragma".as_slice() {
-        Some(Directive::Silent)
+        pragma_at(rest)
     } else if word == b"line".as_slice() {
         line_at(at + count as u32, rest)
     } else {

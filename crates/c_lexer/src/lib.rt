@@ -2,6 +2,9 @@
 //!
 //! It stands on `c_tokens`, which says what a token is, on `c_types` and on `lay_base`. It promises that the tokens are those of the text as C99
 //! has it, or that a fault is the first one and stands where it says; a text has no second reading.
+//!
+//! Not proved: how much time and memory a text takes. `presumed_at` reads it from its start at each call; `PresumedLines` reads on from the last place, once
+//! over a text for all places of its tokens.
 #![tactic(auto)]
 
 mod characters;

@@ -1,13 +1,14 @@
 -- Of units without a clash of tags, the structures of each stand among the program's with the same members.
-use Rattle.std.proofs.Common.{◌≡◌, ℕ, zero, suc, ◌⊎◌, inl, inr, Bool, true, false, List, [], ◌∷◌, ◌++◌, Option, Some, None, fold, map, flat_map, get_or, refl, sym, ap, ◌∙◌, subst}
+use Rattle.std.proofs.Common.{◌≡◌, ℕ, zero, suc, ◌⊎◌, inl, inr, Bool, true, false, List, [], ◌∷◌, ◌++◌, Option, Some, None, fold, map, flat_map, get_or, refl}
+use Rattle.std.proofs.Common.{sym, ap, ◌∙◌, subst}
 use Rattle.std.specs.Prelude.{if◌then◌else◌, slice_get}
 use Rattle.std.specs.Str.{bytes_eq}
 use Rattle.std.proofs.lemmas.Slice.Eq.{bytes_eq-Decides}
-use Rattle.c_type_table.specs.Renumbered.{field_in, record_in, renumbered}
+use Rattle.c_numbers.specs.TypeNumbers.Renumbered.{field_in, record_in, renumbered}
 use Rattle.c_types.specs.Types.{CType, Field, Record, field_types}
 use Rattle.c_typed.specs.Programs.{UnitData}
-use Rattle.numbering.proofs.Laws.{all_new}
-use Rattle.numbering.specs.Keys.{new_keys, position, with_key}
+use Rattle.c_numbers.proofs.KeyNumbers.Laws.{all_new}
+use Rattle.c_numbers.specs.KeyNumbers.Keys.{new_keys, position, with_key}
 use Rattle.c_joining.specs.Joining.{all_records_in, all_tags, chosen, complete_in, complete_tags, if_any, records, records_in, structure_in, under, with_tag}
 use Rattle.c_joining.specs.Placing.{placed}
 use Rattle.c_joining.specs.Views.{tagged}

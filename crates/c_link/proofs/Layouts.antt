@@ -1,10 +1,11 @@
 -- Types lie alike over two lists of records, where the records of one are among those of the other under other numbers.
-use Rattle.std.proofs.Common.{◌≡◌, ◌*◌, true, false, ℕ, zero, suc, ◌+◌, ◌<◌, ◌≤◌, List, [], ◌∷◌, ◌++◌, drop, length, take, map, fold, IsTrue, refl, sym, ap, ◌∙◌, subst, arith}
+use Rattle.std.proofs.Common.{◌≡◌, ◌*◌, true, false, ℕ, zero, suc, ◌+◌, ◌<◌, ◌≤◌, List, [], ◌∷◌, ◌++◌, drop, length, take, map, fold, IsTrue, refl, sym, ap}
+use Rattle.std.proofs.Common.{◌∙◌, subst, arith}
 use Rattle.std.specs.Prelude.{All, Option, Some, max, nat_lt, slice_get, unwrap_or}
 use Rattle.std.specs.Int.{next_multiple_of}
 use Rattle.std.proofs.lemmas.Bool.{and_from, and_parts, lt-ltb, ltb-true}
 use Rattle.std.proofs.lemmas.List.Elements.{All-head, All-tail}
-use Rattle.c_type_table.specs.Renumbered.{renumbered}
+use Rattle.c_numbers.specs.TypeNumbers.Renumbered.{renumbered}
 use Rattle.c_types.specs.declared.layout.Layout.{Layout}
 use Rattle.c_types.specs.Layouts.{alignment_in, begin_after, end_after, greatest_alignment, layout, layout_at, layouts, size_in}
 use Rattle.c_types.specs.Limits.{AreComplete}

@@ -13,3 +13,4 @@ pub mod OpenStructures
 pub mod Repeats
 pub mod TagClashes
 pub mod Unlike
+pub mod TreeUses

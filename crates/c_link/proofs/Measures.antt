@@ -1,13 +1,14 @@
 -- Where the objects of units can be counted, so can those of their program.
-use Rattle.std.proofs.Common.{◌≡◌, ℕ, zero, suc, ◌+◌, ◌⊎◌, inl, inr, Bool, true, false, ◌||◌, IsTrue, List, [], ◌∷◌, ◌++◌, Option, Some, None, map, flat_map, get_or, length, refl, sym, ap, ◌∙◌, subst, add-one, arith}
+use Rattle.std.proofs.Common.{◌≡◌, ℕ, zero, suc, ◌+◌, ◌⊎◌, inl, inr, Bool, true, false, ◌||◌, IsTrue, List, [], ◌∷◌, ◌++◌, Option, Some, None, map, flat_map}
+use Rattle.std.proofs.Common.{get_or, length, refl, sym, ap, ◌∙◌, subst, add-one, arith}
 use Rattle.std.specs.Prelude.{All, if◌then◌else◌}
 use Rattle.std.specs.List.{list_any}
 use Rattle.std.specs.Str.{bytes_eq}
 use Rattle.std.proofs.lemmas.List.{map-append}
 use Rattle.std.proofs.lemmas.List.Elements.{All-cons, All-head, All-nil, All-tail}
 use Rattle.c_erasure.specs.Units.{new_among, number_in}
-use Rattle.c_renumbering.specs.Parts.{function_in, local_in, object_in}
-use Rattle.c_type_table.specs.Renumbered.{renumbered}
+use Rattle.c_numbers.specs.NewNumbers.Parts.{function_in, local_in, object_in}
+use Rattle.c_numbers.specs.TypeNumbers.Renumbered.{renumbered}
 use Rattle.c_types.proofs.SameTypes.{same_is, same_self}
 use Rattle.c_types.specs.Layouts.{size_of}
 use Rattle.c_types.specs.Limits.{AreComplete}
@@ -17,8 +18,10 @@ use Rattle.c_types.specs.Types.{CType, void}
 use Rattle.c_typed.specs.declared.program.Local.{Local}
 use Rattle.c_typed.specs.declared.program.Object.{Object}
 use Rattle.c_typed.specs.Programs.{FunctionData, UnitData}
-use Rattle.c_joining.specs.Joining.{all_functions, all_functions_in, all_objects, all_objects_in, all_tags, chosen, chosen_among, function_identities, functions}
-use Rattle.c_joining.specs.Joining.{functions_of, if_any, is_function_defined, is_object_defined, joined, numbered_from, object_identities, objects, objects_of, or_first, paired}
+use Rattle.c_joining.specs.Joining.{all_functions, all_functions_in, all_objects, all_objects_in, all_tags, chosen, chosen_among, function_identities}
+use Rattle.c_joining.specs.Joining.{functions}
+use Rattle.c_joining.specs.Joining.{functions_of, if_any, is_function_defined, is_object_defined, joined, numbered_from, object_identities, objects, objects_of}
+use Rattle.c_joining.specs.Joining.{or_first, paired}
 use Rattle.c_joining.specs.Joining.{records, renaming, structure_in, tables, type_in, types, types_in, under}
 use Rattle.c_link.specs.Counting.{AreLocalsMeasured, AreMeasured, IsCountable, IsMeasured, type_of_unit}
 use Rattle.c_link.specs.Gaps.{Agree, type_at}

@@ -1,5 +1,6 @@
 -- What is looked for among the keys of all references is what is used and not defined.
-use Rattle.std.proofs.Common.{◌≡◌, ℕ, ◌+◌, ◌<◌, ◌≤◌, ◌==◌, length, Bool, true, false, ◌&&◌, ◌||◌, List, [], ◌∷◌, ◌++◌, Option, All, fold, map, refl, sym, ap, ◌∙◌}
+use Rattle.std.proofs.Common.{◌≡◌, ℕ, ◌+◌, ◌<◌, ◌≤◌, ◌==◌, length, Bool, true, false, ◌&&◌, ◌||◌, List, [], ◌∷◌, ◌++◌, Option, All, fold, map, refl, sym, ap}
+use Rattle.std.proofs.Common.{◌∙◌}
 use Rattle.std.specs.Prelude.{if◌then◌else◌, None, Some, is_some, nat_lt, MatchOption}
 use Rattle.std.specs.List.{list_any}
 use Rattle.std.specs.Option.{option_map}
@@ -14,8 +15,8 @@ use Rattle.c_typed.specs.Programs.{FunctionData, ProgramData, data_of}
 use Rattle.c_typed.specs.Views.{statement_of}
 use Rattle.c_typed.specs.References.{Reference, an_object, a_function}
 use Rattle.std.proofs.lemmas.Bool.{ltb-false, ltb-true}
-use Rattle.numbering.proofs.Laws.{absent, found}
-use Rattle.numbering.specs.Keys.{is_among, position, with_key}
+use Rattle.c_numbers.proofs.KeyNumbers.Laws.{absent, found}
+use Rattle.c_numbers.specs.KeyNumbers.Keys.{is_among, position, with_key}
 use Rattle.c_link.specs.Clashes.{trouble_of}
 use Rattle.c_link.specs.declared.troubles.Trouble as troubles
 use Rattle.c_link.specs.Earliest.{earliest_of}

@@ -3,8 +3,8 @@ use Rattle.std.proofs.Common.{◌≡◌, ℕ, ◌⊎◌, inl, inr, Bool, List, [
 use Rattle.std.specs.Prelude.{slice_get}
 use Rattle.std.proofs.lemmas.List.{map-append}
 use Rattle.std.proofs.lemmas.List.Sums.{fold-append}
-use Rattle.numbering.proofs.Laws.{all_after}
-use Rattle.numbering.specs.Keys.{new_keys, position, with_key}
+use Rattle.c_numbers.proofs.KeyNumbers.Laws.{all_after}
+use Rattle.c_numbers.specs.KeyNumbers.Keys.{new_keys, position, with_key}
 use Rattle.c_joining.specs.Placing.{place, placed, put, replaces_one}
 use Rattle.c_joining.proofs.Placed.{put_mapped}
 use Rattle.c_joining.proofs.Pairs.{placed_append}

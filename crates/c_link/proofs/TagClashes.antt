@@ -9,8 +9,8 @@ use Rattle.c_types.proofs.SameTypes.{same_is, same_self}
 use Rattle.c_types.specs.Sameness.{same_type}
 use Rattle.c_types.specs.Types.{CType, Field, Record}
 use Rattle.c_typed.specs.Programs.{UnitData}
-use Rattle.numbering.proofs.Laws.{all_new}
-use Rattle.numbering.specs.Keys.{new_keys, with_key}
+use Rattle.c_numbers.proofs.KeyNumbers.Laws.{all_new}
+use Rattle.c_numbers.specs.KeyNumbers.Keys.{new_keys, with_key}
 use Rattle.c_joining.specs.Joining.{all_records_in, all_tags, complete_in, complete_tags, if_any, with_tag}
 use Rattle.c_joining.specs.Views.{tagged}
 use Rattle.c_joining.proofs.Whole.{tags_of_all, with_tag_is}

@@ -17,7 +17,7 @@ use Rattle.c_typed.specs.declared.program.InitialValue.TheVariants as V
 use Rattle.c_typed.specs.References.{Reference, an_object, a_function, references_by_statement}
 use Rattle.c_typed.specs.Walk.{types_in_statement}
 use Rattle.c_typed.specs.Programs.{FunctionData, UnitData, ProgramData}
-use Rattle.c_type_table.specs.Renumbered.{renumbered}
+use Rattle.c_numbers.specs.TypeNumbers.Renumbered.{renumbered}
 use Rattle.c_joining.specs.Joining.{joined, structure_in, all_records_in, all_tags, with_tag, if_any}
 
 -- ---- places, in the order of the files and then of their bytes
@@ -190,8 +190,12 @@ first_past most (n ∷ more) = if nat_lt most n then Some n else first_past most
 abbrev pub local_bytes : ProgramData → FunctionData → ℕ
 local_bytes p f = fold (λ n l. n + size_of p.records (type_at p l.ty)) 0 (f.parameters ++ f.locals)
 
+-- an object that is only declared has none
+abbrev pub object_bytes : ProgramData → Object → ℕ
+object_bytes p o = if is_some o.initial then next_multiple_of (size_of p.records (type_at p o.ty)) 4 else 0
+
 abbrev pub global_bytes : ProgramData → ℕ
-global_bytes p = fold (λ n o. n + next_multiple_of (size_of p.records (type_at p o.ty)) 4) 0 p.objects
+global_bytes p = fold (λ n o. n + object_bytes p o) 0 p.objects
 
 abbrev pub past_alone : ℕ → ℕ → Option ℕ
 past_alone most n = if nat_lt most n then Some n else None

@@ -7,3 +7,4 @@ pub mod Missing
 pub mod Names
 pub mod Programs
 pub mod Repeats
+pub mod TreeUses

@@ -1,6 +1,7 @@
 -- What is missing, as it is looked for: references by keys, and the least number of a structure that no file completes.
-use Rattle.std.specs.Prelude.{ℕ, Bool, false, true, not, ◌&&◌, if◌then◌else◌, nat_le, nat_lt, List, [], ◌∷◌, ◌++◌, ◌+◌, map, fold, get_or, Option, Some, None, is_some}
-use Rattle.numbering.specs.Keys.{is_among, with_key}
+use Rattle.std.specs.Prelude.{ℕ, Bool, false, true, not, ◌&&◌, if◌then◌else◌, nat_le, nat_lt, List, [], ◌∷◌, ◌++◌, ◌+◌, map, fold, get_or, Option, Some, None}
+use Rattle.std.specs.Prelude.{is_some}
+use Rattle.c_numbers.specs.KeyNumbers.Keys.{is_among, with_key}
 use Rattle.c_types.specs.Types.{CType}
 use Rattle.c_typed.specs.declared.program.Object.{Object}
 use Rattle.c_typed.specs.Programs.{FunctionData}

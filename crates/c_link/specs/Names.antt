@@ -2,7 +2,7 @@
 use Rattle.std.specs.Prelude.{Bool, true, ◌&&◌, if◌then◌else◌, List, [], ◌∷◌, map, fold}
 use Rattle.c_types.specs.Sameness.{same_type}
 use Rattle.c_types.specs.Views.{type_of}
-use Rattle.numbering.specs.Keys.{with_key}
+use Rattle.c_numbers.specs.KeyNumbers.Keys.{with_key}
 use Rattle.c_link.specs.Gaps.{Linked, Trouble, trouble}
 use Rattle.c_link.specs.Repeats.{repeats}
 use Rattle.c_link.specs.declared.linked.Linked as declared

@@ -10,10 +10,10 @@ ghost use Rattle.std.specs.Option.{option_copied, option_map};
 
 use crate::troubles::{Trouble, earliest};
 use c_joining::{all_records, all_tags, copy_of_name, number_of, put};
+use c_numbers::KeyTable;
 use c_typed::Unit;
 use c_types::{Field, Record, same};
 use lay_base::{List, NoMemory, add};
-use numbering::KeyTable;
 use std::alloc::Global;
 
 fn same_field(f: &Field, g: &Field) -> bool

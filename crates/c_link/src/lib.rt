@@ -1,7 +1,10 @@
-//! The program of several files, or why they are none (C99 6.2.7, 6.9).
+//! The program of several files, or why they are none (C99 6.2.7, 6.9); and what stands at the nodes of typed trees, in the order of the text: the numbers
+//! of their types, and the objects and functions to which they refer (`tree_uses`).
 //!
 //! It stands on `c_joining`, which joins units, and on `c_typed` and `c_erasure`. It promises that what it answers is the program of the units, or
-//! the first gap in the order in which gaps are looked for.
+//! the first gap in the order in which gaps are looked for; and that each walk collects the list of its definition.
+//!
+//! A sum of bytes that passes 64 bits is answered with want of memory; no memory holds as many objects. What a walk found before `NoMemory` is not said.
 #![tactic(auto)]
 
 mod clashes;
@@ -15,9 +18,11 @@ mod names;
 mod references;
 mod structures;
 mod tag_names;
+mod tree_uses;
 mod troubles;
 
 pub use gap::Gap;
 pub use limits::Passed;
 pub use linking::link;
+pub use tree_uses::{Reference, references_by_statement, statement_types};
 pub use troubles::Trouble;

@@ -4,7 +4,7 @@ ghost use Rattle.std.specs.Prelude.{◌≡◌, ◌+◌, ◌++◌, All, IfOk, fol
 ghost use Rattle.std.specs.Int.{next_multiple_of};
 ghost use Rattle.std.specs.Option.{option_map};
 ghost use Rattle.c_link.specs.Counting.{AreLocalsMeasured, AreMeasured, IsMeasured, passed_of};
-ghost use Rattle.c_link.specs.Gaps.{first_limit, first_past, global_bytes, limits, local_bytes, past_alone};
+ghost use Rattle.c_link.specs.Gaps.{first_limit, first_past, global_bytes, limits, local_bytes, object_bytes, past_alone};
 ghost use Rattle.c_typed.specs.Programs.{data_of, program_data};
 ghost use Rattle.c_types.specs.Layouts.{size_of};
 ghost use Rattle.c_types.specs.Types.{void};
@@ -96,15 +96,19 @@ fn frame_past(p: &Typed, functions: &[Function]) -> Result<Option<u64>, NoMemory
 /// The bytes of an object, rounded up to a multiple of 4.
 fn object_bytes(p: &Typed, o: &Object) -> u32
     requires { IsMeasured (records_of p.now.records) (get_or (map type_of p.now.types) o.now.ty void) }
-    ensures { result ≡ next_multiple_of (size_of (records_of p.now.records) (get_or (map type_of p.now.types) o.now.ty void)) 4 }
+    ensures { result ≡ object_bytes (program_data p.now) o.now }
 {
-    size_of_number(&p.records, p.types.as_slice(), o.ty).next_multiple_of(4)
+    if o.initial.is_some() {
+        size_of_number(&p.records, p.types.as_slice(), o.ty).next_multiple_of(4)
+    } else {
+        0
+    }
 }
 
 /// The bytes of all objects.
 fn global_bytes(p: &Typed, objects: &[Object]) -> Result<u64, NoMemory>
     requires { All (λ o. IsMeasured (records_of p.now.records) (get_or (map type_of p.now.types) o.ty void)) objects.now }
-    ensures { IfOk result (λ n. n ≡ fold (λ n o. n + next_multiple_of (size_of (records_of p.now.records) (get_or (map type_of p.now.types) o.ty void)) 4) 0 objects.now) }
+    ensures { IfOk result (λ n. n ≡ fold (λ n o. n + object_bytes (program_data p.now) o) 0 objects.now) }
 {
     let mut bytes: u64 = 0;
     for o in objects {

@@ -3,19 +3,17 @@
 ghost use Rattle.std.specs.Prelude.{◌≡◌, ◌++◌, ◌∷◌, [], IfOk, OnOk, flat_map, get_or, map};
 ghost use Rattle.c_link.specs.Gaps.{linked_by, linked_function_in, linked_in as names_in, linked_object_in};
 ghost use Rattle.c_link.specs.Names.{linked_of};
-ghost use Rattle.c_renumbering.specs.Numbers.{number_at};
-ghost use Rattle.c_type_table.specs.Renumbered.{renumbered};
+ghost use Rattle.c_numbers.specs.NewNumbers.Numbers.{number_at};
+ghost use Rattle.c_numbers.specs.TypeNumbers.Renumbered.{renumbered};
 ghost use Rattle.c_typed.specs.Programs.{data_of, unit_data};
 ghost use Rattle.c_types.specs.Types.{void};
 ghost use Rattle.c_types.specs.Views.{type_of};
 
 use c_joining::{all_tags, copy_of_name, numbers_of_structures};
-use c_renumbering::Numbers;
-use c_type_table::renumbered_type;
+use c_numbers::{KeyTable, Numbers, renumbered_type};
 use c_typed::{Function, Object, Unit};
 use c_types::Ty;
 use lay_base::{List, Name, NoMemory, Place, add};
-use numbering::KeyTable;
 use std::alloc::Global;
 
 /// A name with linkage where a unit declares it, with its type in the program.

@@ -5,16 +5,16 @@ ghost use Rattle.c_link.specs.Clashes.{trouble_of};
 ghost use Rattle.c_link.specs.Gaps.{HasNone, IsEarliest, IsMissing, all_missing};
 ghost use Rattle.c_link.specs.Missing.{function_nowhere, functions_nowhere, key_of, keys_of, nowhere, object_nowhere, objects_nowhere};
 ghost use Rattle.c_typed.specs.Programs.{data_of, program_data};
-ghost use Rattle.c_uses.specs.Uses.{reference_of};
-ghost use Rattle.numbering.specs.Keys.{is_among};
+ghost use Rattle.c_link.specs.TreeUses.Uses.{reference_of};
+ghost use Rattle.c_numbers.specs.KeyNumbers.Keys.{is_among};
 
 use crate::references::all_references;
+use crate::tree_uses::Reference;
 use crate::troubles::{Trouble, earliest};
 use c_joining::{copy_of_name, next};
+use c_numbers::KeyTable;
 use c_typed::{Function, Object, Typed};
-use c_uses::Reference;
 use lay_base::{List, Name, NoMemory, Place, add};
-use numbering::KeyTable;
 use std::alloc::Global;
 
 /// The key of a reference.

@@ -9,15 +9,15 @@ ghost use Rattle.c_link.specs.Names.{counts, linked_of, told_by, troubles_with_n
 ghost use Rattle.c_link.specs.Earliest.{earliest_of};
 ghost use Rattle.c_link.specs.Repeats.{repeats, told_if_any};
 ghost use Rattle.c_joining.specs.Placing.{replaces_one};
-ghost use Rattle.numbering.specs.Keys.{with_key};
+ghost use Rattle.c_numbers.specs.KeyNumbers.Keys.{with_key};
 
 use crate::linked::Linked;
 use crate::troubles::{Trouble, earliest};
 use c_joining::{copy_of_name, name_key, number_of, put};
+use c_numbers::KeyTable;
 use c_typed::Unit;
 use c_types::same;
 use lay_base::{List, NoMemory, add};
-use numbering::KeyTable;
 use std::alloc::Global;
 
 /// What is asked of a name that several units declare.

@@ -7,10 +7,10 @@ ghost use Rattle.c_link.specs.Gaps.{all_references, referred_by_value};
 ghost use Rattle.c_typed.specs.Programs.{data_of, program_data};
 ghost use Rattle.c_typed.specs.References.{references_by_statement};
 ghost use Rattle.c_typed.specs.Views.{statement_of};
-ghost use Rattle.c_uses.specs.Uses.{reference_of};
+ghost use Rattle.c_link.specs.TreeUses.Uses.{reference_of};
 
+use crate::tree_uses::{Reference, references_by_statement};
 use c_typed::{Function, Initial, InitialValue, Object, Statement, Typed};
-use c_uses::{Reference, references_by_statement};
 use lay_base::{List, NoMemory, add};
 use std::alloc::Global;
 

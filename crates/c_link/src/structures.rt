@@ -7,9 +7,9 @@ ghost use Rattle.c_typed.specs.Programs.{data_of, program_data};
 ghost use Rattle.c_types.specs.Types.{field_types};
 ghost use Rattle.c_types.specs.Views.{field_of, records_of, type_of};
 
+use crate::tree_uses::statement_types;
 use c_typed::{Function, Local, Object, Statement, Typed};
 use c_types::{Field, Record, Ty};
-use c_uses::statement_types;
 use lay_base::{List, NoMemory, add};
 use std::alloc::Global;
 

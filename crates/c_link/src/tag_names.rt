@@ -3,13 +3,13 @@
 ghost use Rattle.std.specs.Prelude.{◌≡◌, IfOk, OnOk, flat_map, fold, map};
 ghost use Rattle.c_joining.specs.Joining.{all_tags, complete_in};
 ghost use Rattle.c_typed.specs.Programs.{unit_data};
-ghost use Rattle.numbering.specs.Keys.{with_key};
+ghost use Rattle.c_numbers.specs.KeyNumbers.Keys.{with_key};
 
 use c_joining::{copy_of_name, name_key};
+use c_numbers::KeyTable;
 use c_typed::Unit;
 use c_types::Record;
 use lay_base::{List, Name, NoMemory, add};
-use numbering::KeyTable;
 use std::alloc::Global;
 
 /// Adds a name that is not among those before. The keys are those of the names.

@@ -4,11 +4,11 @@ use Rattle.lay_base.specs.declared.faults.UndefinedKind.{UndefinedKind}
 use Rattle.lay_base.specs.declared.place.Place.{Place}
 use Rattle.block_memory.specs.declared.kinds.BlockKind.{BlockKind}
 use Rattle.block_memory.specs.Blocks.{Memory}
-use Rattle.runs.specs.Doing.{Doing, ◌>>=◌, ◌>>◌, pure, is_undefined, memory_now, with_memory, note, turn, make, deeper, leave, apart}
-use Rattle.runs.specs.Events.{Event}
-use Rattle.runs.specs.Library.{getchar}
-use Rattle.runs.specs.declared.value.Value.{Value}
-use Rattle.runs.specs.Worlds.{goes_on, ends}
+use Rattle.block_memory.specs.RunWorlds.Doing.{Doing, ◌>>=◌, ◌>>◌, pure, is_undefined, memory_now, with_memory, note, turn, make, deeper, leave, apart}
+use Rattle.block_memory.specs.RunWorlds.Events.{Event}
+use Rattle.block_memory.specs.RunWorlds.Library.{getchar}
+use Rattle.block_memory.specs.declared.run_worlds.value.Value.{Value}
+use Rattle.block_memory.specs.RunWorlds.Worlds.{goes_on, ends}
 
 -- the turns are used up
 abbrev pub stops : {F A : Type 0} → Doing F A

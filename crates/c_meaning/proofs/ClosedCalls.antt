@@ -5,9 +5,9 @@ use Rattle.lay_base.specs.declared.place.Place.{Place}
 use Rattle.c_typed.specs.declared.program.Local.{Local}
 use Rattle.c_typed.specs.Trees.{Statement}
 use Rattle.c_typed.specs.Programs.{ProgramData, FunctionData}
-use Rattle.memory_cells.specs.declared.pointer.Ptr.TheVariants as P
-use Rattle.runs.specs.Events.{entered}
-use Rattle.runs.specs.declared.value.Value.{Value}
+use Rattle.memory_words.specs.declared.cell_words.pointer.Ptr.TheVariants as P
+use Rattle.block_memory.specs.RunWorlds.Events.{entered}
+use Rattle.block_memory.specs.declared.run_worlds.value.Value.{Value}
 use Rattle.c_meaning.specs.Frames.{Frame, frame_of}
 use Rattle.c_meaning.specs.declared.frame.Slot.{Slot}
 use Rattle.c_meaning.specs.declared.frame.Slot.TheVariants.{ByName as by_name, InBlock as in_block}
@@ -45,7 +45,7 @@ module _ (r : Relation) (p : ProgramData) where
   body_alike call call' n m calls place f values g None b h = Runs.by_undefined r K.Call place b
   body_alike call call' n m calls place f values g (Some body) b h =
       Runs.bind r (by_receive place 0 g.parameters values b) (λ a. Runs.bind r (Statements.execute_alike r p call call' n m calls f (all_locals g) 0 body b h) (λ way.
-      Runs.bind r (Statements.by_finish_all r p (numbers (length g.parameters)) b) (λ c. r.on_pure b _ _ (result_of way))))
+      Runs.bind r (Statements.by_finish_all r p (numbers (length g.parameters)) b) (λ c. r.on_pure b _ _ (result_of p f way))))
 
   function_alike : (call call' : Calls) (n m : ℕ) → Calling n m call call' → (place : Place) (f : ℕ) (values : List Value) (g : Option FunctionData)
       (b : ℕ) → r.Fuels b (suc n) (suc m) → r.Related b Frame (Option Value) (function_of p call n place f values g) (function_of p call' m place f values g)

@@ -1,5 +1,6 @@
 -- What two evaluations do is related where what their calls do is.
-use Rattle.std.proofs.Common.{◌≡◌, refl, ℕ, ◌*◌, ◌^◌, Bool, true, false, not, List, [], ◌∷◌, Option, Some, None, ℤ, pos, nat_lt, slice_get, slice_set, if◌then◌else◌}
+use Rattle.std.proofs.Common.{◌≡◌, refl, ℕ, ◌*◌, ◌^◌, Bool, true, false, not, List, [], ◌∷◌, Option, Some, None, ℤ, pos, nat_lt, slice_get, slice_set}
+use Rattle.std.proofs.Common.{if◌then◌else◌}
 use Rattle.std.specs.Prelude.{◌+ℤ◌, ◌*ℤ◌}
 use Rattle.lay_base.specs.declared.faults.UndefinedKind.TheVariants as K
 use Rattle.lay_base.specs.declared.place.Place.{Place}
@@ -15,21 +16,22 @@ use Rattle.c_typed.specs.Constants.{ty, kind_of}
 use Rattle.c_typed.specs.Conversions.{number_of}
 use Rattle.c_typed.specs.Programs.{ProgramData, FunctionData}
 use Rattle.c_typed.specs.Typed.{at_of, path_ty}
-use Rattle.memory_cells.specs.declared.pointer.Ptr.{Ptr}
-use Rattle.memory_cells.specs.declared.pointer.Ptr.TheVariants as P
-use Rattle.runs.specs.Doing.{Doing, ◌>>=◌, pure}
-use Rattle.runs.specs.Events.{reached}
-use Rattle.runs.specs.Scalars.{word_of, pointer_of}
-use Rattle.runs.specs.declared.value.Value.{Value}
-use Rattle.runs.specs.declared.value.Value.TheVariants.{Word as word, Pointer as pointer}
-use Rattle.c_meaning.specs.Expressions.{or_no_value, part_of, is_subscript, element_of, field_in, field_through, address_of, allocated, the, given, library, copy_record, is_same_place}
+use Rattle.memory_words.specs.declared.cell_words.pointer.Ptr.{Ptr}
+use Rattle.memory_words.specs.declared.cell_words.pointer.Ptr.TheVariants as P
+use Rattle.block_memory.specs.RunWorlds.Doing.{Doing, ◌>>=◌, pure}
+use Rattle.block_memory.specs.RunWorlds.Events.{reached}
+use Rattle.block_memory.specs.RunWorlds.Scalars.{word_of, pointer_of}
+use Rattle.block_memory.specs.declared.run_worlds.value.Value.{Value}
+use Rattle.block_memory.specs.declared.run_worlds.value.Value.TheVariants.{Word as word, Pointer as pointer}
+use Rattle.block_memory.specs.RunWorlds.LibraryCalls.{allocated, the, given, library, is_same_place}
+use Rattle.block_memory.specs.RunWorlds.Operators.{converted, is_true, flag, unary, moved, updated, next}
+use Rattle.c_meaning.specs.Expressions.{or_no_value, part_in, part_of, is_subscript, element_of, field_in, field_through, address_of, copy_record}
 use Rattle.c_meaning.specs.Expressions.{through, as_type, value, used, value_of, how_many, arguments, spot, spot_of}
 use Rattle.c_meaning.specs.Frames.{Frame, with_slot, slot_now, spot_of as slot_spot, local_spot, known, fetch, put}
 use Rattle.c_meaning.specs.declared.frame.Spot.{Spot}
 use Rattle.c_meaning.specs.declared.frame.Spot.TheVariants.{Kept as kept, Placed as placed}
 use Rattle.c_meaning.specs.declared.frame.Slot.{Slot}
 use Rattle.c_meaning.specs.declared.frame.Slot.TheVariants.{ByName as by_name, InBlock as in_block}
-use Rattle.c_meaning.specs.Operators.{converted, is_true, flag, unary, moved, updated, next}
 use Rattle.c_meaning.specs.Program.{type_at, size_at, element_size, length_of, access_at}
 use Rattle.c_meaning.proofs.Closed.{Relation}
 use Rattle.c_meaning.proofs.ClosedRuns as Runs
@@ -70,8 +72,12 @@ module _ (r : Relation) where
   by_choice true one other = one
   by_choice false one other = other
 
+  pub by_part_of : (place : Place) (by : ℤ) (s : Spot) → Itself Spot (part_of place by s)
+  by_part_of place by (placed q) = by_bind (Runs.by_memory r) (λ m. by_bind (Runs.by_tested r place (part_in m q by)) (λ p. Runs.by_pure r (placed p)))
+  by_part_of place by (kept x) = Runs.by_undefined r K.Dead place
+
   pub by_element_of : (place : Place) (n size : ℕ) (addressed : Bool) (s : Spot) (i : ℤ) → Itself Spot (element_of place n size addressed s i)
-  by_element_of place n size addressed s i = by_choice (is_subscript n addressed i) (Runs.by_pure r _) (Runs.by_undefined r K.Subscript place)
+  by_element_of place n size addressed s i = by_choice (is_subscript n addressed i) (by_part_of place (i *ℤ pos size) s) (Runs.by_undefined r K.Subscript place)
 
   pub by_field_through : (place : Place) (q : Ptr) (by : ℤ) → Itself Spot (field_through place q by)
   by_field_through place q by =
@@ -229,6 +235,6 @@ module _ (r : Relation) where
         step_alike t addressed at (T.member (path u c (T.index e i)) n field) =
             bind (used_alike e) (λ v. bind (used_alike i) (λ w. by_field_through at (pointer_of v)
             (number_of (kind_of (type_at p (ty i))) (word_of w) *ℤ pos (size_at p u) +ℤ pos (offset_of p.records n field)) b))
-        step_alike t addressed at (T.member q n field) = bind (spot_alike false q) (λ s. pure_alike (part_of (offset_of p.records n field) s))
+        step_alike t addressed at (T.member q n field) = bind (spot_alike false q) (λ s. by_part_of at (pos (offset_of p.records n field)) s b)
         step_alike t addressed at (T.element q i) =
             bind (spot_alike false q) (λ s. bind (used_alike i) (λ v. by_element_of at (length_of (type_at p (path_ty q))) (size_at p t) addressed s (number_of (kind_of (type_at p (ty i))) (word_of v)) b))

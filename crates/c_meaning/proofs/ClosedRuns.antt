@@ -5,19 +5,19 @@ use Rattle.lay_base.specs.declared.place.Place.{Place}
 use Rattle.block_memory.specs.declared.kinds.Access.{Access}
 use Rattle.block_memory.specs.declared.kinds.BlockKind.{BlockKind}
 use Rattle.block_memory.specs.declared.kinds.BlockKind.TheVariants.{Heap}
-use Rattle.memory_cells.specs.declared.pointer.Ptr.{Ptr}
-use Rattle.memory_cells.specs.declared.pointer.Ptr.TheVariants as P
+use Rattle.memory_words.specs.declared.cell_words.pointer.Ptr.{Ptr}
+use Rattle.memory_words.specs.declared.cell_words.pointer.Ptr.TheVariants as P
 use Rattle.block_memory.specs.Blocks.{Memory, kind}
 use Rattle.block_memory.specs.Lifetimes.{is_heap, with_end}
 use Rattle.block_memory.specs.Lifetimes as Lifetimes
 use Rattle.block_memory.specs.Ranges as Ranges
 use Rattle.block_memory.specs.Tested.{Tested}
-use Rattle.runs.specs.Doing.{Doing, ◌>>=◌, pure, is_undefined, tested, memory_now, with_memory, note, make, end}
-use Rattle.runs.specs.Events.{Event, put, allocated, freed, loaded, stored}
-use Rattle.runs.specs.Library.{zeroed, allocate, note_freed, free, copy, fill, compare, putchar, getchar, exit}
-use Rattle.runs.specs.Scalars.{width_of, load_in, store_in, note_if, note_in, load, store}
-use Rattle.runs.specs.declared.value.Value.{Value}
-use Rattle.runs.specs.declared.value.Value.TheVariants.{Word as word, Pointer as pointer}
+use Rattle.block_memory.specs.RunWorlds.Doing.{Doing, ◌>>=◌, pure, is_undefined, tested, memory_now, with_memory, note, make, end}
+use Rattle.block_memory.specs.RunWorlds.Events.{Event, put, allocated, freed, loaded, stored}
+use Rattle.block_memory.specs.RunWorlds.Library.{zeroed, allocate, note_freed, free, copy, fill, compare, putchar, getchar, exit}
+use Rattle.block_memory.specs.RunWorlds.Scalars.{width_of, load_in, store_in, note_if, note_in, load, store}
+use Rattle.block_memory.specs.declared.run_worlds.value.Value.{Value}
+use Rattle.block_memory.specs.declared.run_worlds.value.Value.TheVariants.{Word as word, Pointer as pointer}
 use Rattle.c_meaning.proofs.Closed.{Relation}
 
 module _ (r : Relation) where

@@ -1,5 +1,6 @@
 -- What two executions do is related where what their calls do is.
 use Rattle.std.proofs.Common.{◌≡◌, refl, ℕ, zero, suc, ◌+◌, Bool, true, false, List, [], ◌∷◌, Option, Some, None, slice_get, if◌then◌else◌}
+use Rattle.lay_base.specs.declared.faults.UndefinedKind.TheVariants as K
 use Rattle.lay_base.specs.declared.place.Place.{Place}
 use Rattle.c_typed.specs.declared.program.Local.{Local}
 use Rattle.c_typed.specs.Trees as T
@@ -8,23 +9,26 @@ use Rattle.c_typed.specs.Constants.{ty}
 use Rattle.c_typed.specs.Programs.{ProgramData}
 use Rattle.c_typed.specs.Typed.{at_of, path_ty, path_at}
 use Rattle.block_memory.specs.declared.kinds.BlockKind.TheVariants as Kind
-use Rattle.memory_cells.specs.declared.pointer.Ptr.TheVariants as P
-use Rattle.runs.specs.Doing.{Doing, ◌>>=◌, ◌>>◌, pure, turn, note}
-use Rattle.runs.specs.Events.{Event, began}
-use Rattle.runs.specs.Scalars.{word_of}
-use Rattle.runs.specs.declared.value.Value.{Value}
+use Rattle.memory_words.specs.declared.cell_words.pointer.Ptr.TheVariants as P
+use Rattle.block_memory.specs.RunWorlds.Doing.{Doing, ◌>>=◌, ◌>>◌, pure, turn, note}
+use Rattle.block_memory.specs.RunWorlds.Events.{Event, began}
+use Rattle.block_memory.specs.RunWorlds.Scalars.{word_of}
+use Rattle.block_memory.specs.declared.run_worlds.value.Value.{Value}
+use Rattle.block_memory.specs.RunWorlds.Operators.{is_true}
+use Rattle.block_memory.specs.RunWorlds.Ways.{and_then, and_again, loop, loop_behind}
+use Rattle.block_memory.specs.declared.run_worlds.way.Way.{Way}
+use Rattle.block_memory.specs.declared.run_worlds.way.Way.TheVariants.{Normally as normally, ByBreak as by_break, ByContinue as by_continue}
+use Rattle.block_memory.specs.declared.run_worlds.way.Way.TheVariants.{ByReturn as by_return}
 use Rattle.c_meaning.specs.Expressions.{used}
 use Rattle.c_meaning.specs.Frames.{Frame, begin, end_slot, begin_all, finish_all, scoped, emptied}
 use Rattle.c_meaning.specs.declared.frame.Spot.TheVariants.{Placed as placed}
 use Rattle.c_meaning.specs.declared.frame.Slot.{Slot}
 use Rattle.c_meaning.specs.declared.frame.Slot.TheVariants.{ByName as by_name, InBlock as in_block}
-use Rattle.c_counts.specs.Loops.{loops_in, loops_in_all}
-use Rattle.c_meaning.specs.Operators.{is_true}
+use Rattle.c_typed.specs.RunCounts.Loops.{loops_in, loops_in_all}
 use Rattle.c_meaning.specs.Program.{access_at, size_at}
-use Rattle.c_meaning.specs.Statements.{and_then, and_again, behind_switch, loop, loop_behind, arm_of, default_arm, or_default}
-use Rattle.c_meaning.specs.declared.frame.Way.{Way}
-use Rattle.c_meaning.specs.declared.frame.Way.TheVariants.{Normally as normally, ByBreak as by_break, ByContinue as by_continue, ByReturn as by_return}
-use Rattle.c_meaning.specs.Statements.{put_part, put_parts, initial_in, initial_by_name, initial, declared, tests, tests_if_any, done, done_if_any, returned}
+use Rattle.c_meaning.specs.Statements.{behind_switch, arm_of, default_arm, or_default}
+use Rattle.c_meaning.specs.Statements.{initial_place, dead_at, put_part, put_parts, initial_in, initial_by_name, initial, declared, tests, tests_if_any, done}
+use Rattle.c_meaning.specs.Statements.{done_if_any, returned}
 use Rattle.c_meaning.specs.Statements.{execute, execute_all, enter}
 use Rattle.c_meaning.proofs.Closed.{Relation}
 use Rattle.c_meaning.proofs.ClosedRuns as Runs
@@ -164,11 +168,15 @@ module _ (r : Relation) where
       by_name_alike x (T.whole_record q) = r.on_pure b _ _ tt
       by_name_alike x (T.parts all) = r.on_pure b _ _ tt
 
+      dead_at_alike : (place : Option Place) → Alike (Unit {0}) (dead_at place) (dead_at place)
+      dead_at_alike None = r.on_pure b _ _ tt
+      dead_at_alike (Some place) = Runs.by_undefined r K.Dead place b
+
       initial_alike : (x size : ℕ) (i : Initializer ℕ) (s : Option Slot) → Alike (Unit {0}) (initial p call x size i s) (initial p call' x size i s)
       initial_alike x size i (Some (in_block (Some block))) = initial_in_alike block size i
-      initial_alike x size i (Some (in_block None)) = by_name_alike x i
+      initial_alike x size i (Some (in_block None)) = dead_at_alike (initial_place i)
       initial_alike x size i (Some (by_name v)) = by_name_alike x i
-      initial_alike x size i None = by_name_alike x i
+      initial_alike x size i None = dead_at_alike (initial_place i)
 
       declared_alike : (x : ℕ) (l : Option Local) (i : Option (Initializer ℕ)) → Alike (Unit {0}) (declared p call x l i) (declared p call' x l i)
       declared_alike x None i = r.on_pure b _ _ tt

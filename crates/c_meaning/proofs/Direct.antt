@@ -1,5 +1,6 @@
 -- A part of a run comes to one result, or ends the run, whatever the rest of the run is: so it can be read as a function from worlds to outcomes.
-use Rattle.std.proofs.Common.{◌≡◌, refl, ◌∙◌, ℕ, zero, suc, ◌+◌, Bool, true, false, ◌&&◌, nat_lt, if◌then◌else◌, List, [], ◌∷◌, length, Option, Some, None, arith}
+use Rattle.std.proofs.Common.{◌≡◌, refl, ◌∙◌, ℕ, zero, suc, ◌+◌, Bool, true, false, ◌&&◌, nat_lt, if◌then◌else◌, List, [], ◌∷◌, length, Option, Some, None}
+use Rattle.std.proofs.Common.{arith}
 use Rattle.lay_base.specs.declared.faults.RoomKind.TheVariants.{Live, Depth}
 use Rattle.lay_base.specs.declared.faults.UndefinedKind.{UndefinedKind}
 use Rattle.lay_base.specs.declared.place.Place.{Place}
@@ -9,17 +10,18 @@ use Rattle.c_typed.specs.Programs.{ProgramData}
 use Rattle.block_memory.specs.declared.kinds.BlockKind.{BlockKind}
 use Rattle.block_memory.specs.Blocks.{Memory}
 use Rattle.block_memory.specs.Lifetimes.{with_block}
-use Rattle.runs.specs.Doing.{Rest, Doing, ◌>>=◌, ◌>>◌, pure, is_undefined, memory_now, with_memory, note, turn_of, turn, make, deeper, less_deep, leave, apart}
-use Rattle.runs.specs.Events.{Event, got, left}
-use Rattle.runs.specs.Library.{next_of, getchar}
-use Rattle.runs.specs.declared.value.Value.{Value}
-use Rattle.runs.specs.Worlds.{World, End, ends, goes_on, undefined, out_of_room, greatest_live, greatest_depth, live_bytes}
+use Rattle.block_memory.specs.RunWorlds.Doing.{Rest, Doing, ◌>>=◌, ◌>>◌, pure, is_undefined, memory_now, with_memory, note, turn_of, turn, make, deeper}
+use Rattle.block_memory.specs.RunWorlds.Doing.{less_deep, leave, apart}
+use Rattle.block_memory.specs.RunWorlds.Events.{Event, got, left}
+use Rattle.block_memory.specs.RunWorlds.Library.{next_of, getchar}
+use Rattle.block_memory.specs.declared.run_worlds.value.Value.{Value}
+use Rattle.block_memory.specs.RunWorlds.Worlds.{World, End, ends, goes_on, undefined, out_of_room, greatest_live, greatest_depth, live_bytes}
+use Rattle.block_memory.specs.declared.run_worlds.way.Way.{Way}
 use Rattle.c_meaning.specs.Expressions.{value, used, spot}
 use Rattle.c_meaning.specs.Frames.{Frame}
 use Rattle.c_meaning.specs.declared.frame.Spot.{Spot}
 use Rattle.c_meaning.specs.Run.{called}
 use Rattle.c_meaning.specs.Statements.{execute, execute_all}
-use Rattle.c_meaning.specs.declared.frame.Way.{Way}
 use Rattle.c_meaning.specs.Outcomes.{Outcome, comes, over, with_rest, and_then, IsWithin}
 use Rattle.c_meaning.proofs.Closed.{Relation, stops}
 use Rattle.c_meaning.proofs.ClosedCalls as Calls

@@ -4,10 +4,10 @@ use Rattle.lay_base.specs.declared.place.Place.{Place}
 use Rattle.c_types.specs.declared.ty.IntKind.TheVariants as I
 use Rattle.c_types.specs.Types.{CType, void, integer, pointer, structure, Field, Record}
 use Rattle.c_typed.specs.Programs.{ProgramData}
-use Rattle.memory_cells.specs.declared.cell.Cell.{Cell}
-use Rattle.memory_cells.specs.declared.cell.Cell.TheVariants.{Empty, Byte}
+use Rattle.memory_words.specs.declared.cell_words.cell.Cell.{Cell}
+use Rattle.memory_words.specs.declared.cell_words.cell.Cell.TheVariants.{Empty, Byte}
 use Rattle.block_memory.specs.declared.kinds.BlockKind.TheVariants.{Heap, Local}
-use Rattle.memory_cells.specs.declared.pointer.Ptr.TheVariants as P
+use Rattle.memory_words.specs.declared.cell_words.pointer.Ptr.TheVariants as P
 use Rattle.block_memory.specs.Blocks.{Memory, living}
 use Rattle.block_memory.specs.Held.{fragments_of}
 use Rattle.c_meaning.specs.Allocations.{Made}

@@ -6,14 +6,14 @@ use Rattle.c_types.specs.declared.ty.IntKind.TheVariants as I
 use Rattle.c_types.specs.Layouts.{offset_of, size_of}
 use Rattle.c_types.specs.Types.{CType, integer, pointer, structure, void}
 use Rattle.c_typed.specs.Typed.{field_type}
-use Rattle.memory_cells.specs.declared.cell.Cell.{Cell}
-use Rattle.memory_cells.specs.declared.cell.Cell.TheVariants.{Empty, Byte, Fragment}
-use Rattle.memory_cells.specs.declared.pointer.Ptr.{Ptr}
-use Rattle.memory_cells.specs.declared.pointer.Ptr.TheVariants as P
+use Rattle.memory_words.specs.declared.cell_words.cell.Cell.{Cell}
+use Rattle.memory_words.specs.declared.cell_words.cell.Cell.TheVariants.{Empty, Byte, Fragment}
+use Rattle.memory_words.specs.declared.cell_words.pointer.Ptr.{Ptr}
+use Rattle.memory_words.specs.declared.cell_words.pointer.Ptr.TheVariants as P
 use Rattle.block_memory.specs.Blocks.{block, cells_in}
-use Rattle.runs.specs.Events.{allocated}
+use Rattle.block_memory.specs.RunWorlds.Events.{allocated}
 use Rattle.c_meaning.specs.Allocations.{HasElements, LiesInField, allocated_for, byte_of_record, made_for, record_size}
-use Rattle.c_meaning.specs.PointerTypes.{IsClear, IsPointerTo, IsTypedCell, MayPoint, PointersAreTyped, PointsToElement, ReadsFields}
+use Rattle.c_meaning.specs.PointerTypes.{IsClear, IsPointerTo, IsTypedCell, MayPoint, PointersAreTyped, PointsToElement, LiesInFields}
 use Rattle.c_meaning.proofs.ExampleMemory.{OnlyT, made, p, to_int, to_t, to_u, to_void, with_padding}
 
 -- ---- which block was allocated for elements
@@ -112,20 +112,27 @@ u_is_no_t : IsPointerTo p to_u 0 → ⊥
 u_is_no_t e = let is : pointer (structure 1) ≡ pointer (structure 0) = e in cc
 
 to_a_field : May Empty to_int (P.Block 1 4) → ⊥
-to_a_field h = h.to_other (not_t to_int int_is_no_t) 0 refl refl
+to_a_field h = (h.to_other (not_t to_int int_is_no_t)).for_none 0 refl refl
 
 as_void : May Empty to_void (P.Block 1 0) → ⊥
-as_void h = h.to_other (not_t to_void void_is_no_t) 0 refl refl
+as_void h = (h.to_other (not_t to_void void_is_no_t)).for_none 0 refl refl
 
 of_another_record : May Empty to_u (P.Block 1 0) → ⊥
-of_another_record h = h.to_other (not_t to_u u_is_no_t) 0 refl refl
+of_another_record h = (h.to_other (not_t to_u u_is_no_t)).for_none 0 refl refl
+
+-- a block that is not there yet
+to_the_next_block : May Empty to_int (P.Block 3 0) → ⊥
+to_the_next_block h = let there : 3 < 3 = (h.to_other (not_t to_int int_is_no_t)).is_there in omega (arith, there)
 
 elsewhere : May Empty to_int (P.Block 2 0)
-elsewhere = record { to_record = λ r a e. absurd (not_t to_int int_is_no_t r a e); to_other = λ never r a e. none_some r e }
+elsewhere = record {
+  to_record = λ r a e. absurd (not_t to_int int_is_no_t r a e);
+  to_other = λ never. record { is_there = omega arith; for_none = λ r a e. none_some r e };
+}
 
 -- where the record is not among those that are spoken of, its blocks may be pointed to in any way
 of_no_concern : MayPoint p (λ r. ⊥) made (with_padding Empty) to_int (P.Block 1 4)
-of_no_concern = record { to_record = λ r a e. absurd a; to_other = λ never r a e. a }
+of_no_concern = record { to_record = λ r a e. absurd a; to_other = λ never. record { is_there = omega arith; for_none = λ r a e. a } }
 
 -- ---- memory
 
@@ -229,7 +236,7 @@ byte_in_padding h =
 
 -- ---- loads
 
-reads_v : ReadsFields p OnlyT made 1 4 4
+reads_v : LiesInFields p OnlyT made 1 4 4
 reads_v r k a e small = go k small
   where
     read : (k : ℕ) → k < 4 → LiesInField p 0 (byte_of_record p 0 (4 + k)) → LiesInField p r (byte_of_record p r (4 + k))
@@ -243,9 +250,9 @@ reads_v r k a e small = go k small
     go (suc (suc (suc (suc n)))) h = absurd (omega (arith, h))
 
 -- the first field and the byte behind it
-reads_padding : ReadsFields p OnlyT made 1 0 2 → ⊥
+reads_padding : LiesInFields p OnlyT made 1 0 2 → ⊥
 reads_padding h = is_padding 1 (omega arith) (omega arith) (h 0 1 refl refl (omega arith))
 
 -- a block that was not allocated for one of the records
-reads_a_local : ReadsFields p OnlyT made 2 1 2
+reads_a_local : LiesInFields p OnlyT made 2 1 2
 reads_a_local r k a e small = absurd (none_some r e)

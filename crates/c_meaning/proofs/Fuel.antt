@@ -9,18 +9,20 @@ use Rattle.c_typed.specs.Programs.{ProgramData}
 use Rattle.block_memory.specs.declared.kinds.BlockKind.{BlockKind}
 use Rattle.block_memory.specs.Blocks.{Memory}
 use Rattle.block_memory.specs.Lifetimes.{with_block}
-use Rattle.runs.specs.Doing.{Rest, Doing, ◌>>=◌, ◌>>◌, pure, is_undefined, memory_now, with_memory, note, turn_of, turn, make, deeper, leave, apart}
-use Rattle.runs.specs.Events.{Event}
-use Rattle.runs.specs.Library.{next_of, getchar}
-use Rattle.runs.specs.declared.value.Value.{Value}
-use Rattle.runs.specs.Worlds.{World, End, ends, out_of_room, greatest_live, greatest_depth, live_bytes}
+use Rattle.block_memory.specs.RunWorlds.Doing.{Rest, Doing, ◌>>=◌, ◌>>◌, pure, is_undefined, memory_now, with_memory, note, turn_of, turn, make, deeper, leave}
+use Rattle.block_memory.specs.RunWorlds.Doing.{apart}
+use Rattle.block_memory.specs.RunWorlds.Events.{Event}
+use Rattle.block_memory.specs.RunWorlds.Library.{next_of, getchar}
+use Rattle.block_memory.specs.declared.run_worlds.value.Value.{Value}
+use Rattle.block_memory.specs.RunWorlds.Worlds.{World, End, ends, out_of_room, greatest_live, greatest_depth, live_bytes}
+use Rattle.block_memory.specs.RunWorlds.Ways.{and_again, loop, loop_behind}
+use Rattle.block_memory.specs.declared.run_worlds.way.Way.{Way}
+use Rattle.block_memory.specs.declared.run_worlds.way.Way.TheVariants.{Normally as normally}
 use Rattle.c_meaning.specs.Expressions.{value, used, spot}
 use Rattle.c_meaning.specs.Frames.{Frame}
 use Rattle.c_meaning.specs.declared.frame.Spot.{Spot}
 use Rattle.c_meaning.specs.Run.{called}
-use Rattle.c_meaning.specs.Statements.{and_again, loop, loop_behind, execute, execute_all, enter}
-use Rattle.c_meaning.specs.declared.frame.Way.{Way}
-use Rattle.c_meaning.specs.declared.frame.Way.TheVariants.{Normally as normally}
+use Rattle.c_meaning.specs.Statements.{execute, execute_all, enter}
 use Rattle.c_meaning.proofs.Closed.{Relation, stops}
 use Rattle.c_meaning.proofs.ClosedCalls as Calls
 use Rattle.c_meaning.proofs.ClosedExpressions as Expressions

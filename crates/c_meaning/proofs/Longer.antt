@@ -1,5 +1,6 @@
 -- With more turns, or with its limit lifted, a part of a run does what it does without them, or goes on.
-use Rattle.std.proofs.Common.{◌≡◌, refl, sym, ap, ◌∙◌, ℕ, zero, suc, ◌+◌, Bool, true, false, ◌&&◌, nat_lt, if◌then◌else◌, List, [], ◌∷◌, ◌++◌, length, Some, None}
+use Rattle.std.proofs.Common.{◌≡◌, refl, sym, ap, ◌∙◌, ℕ, zero, suc, ◌+◌, Bool, true, false, ◌&&◌, nat_lt, if◌then◌else◌, List, [], ◌∷◌, ◌++◌, length, Some}
+use Rattle.std.proofs.Common.{None}
 use Rattle.std.proofs.Common.{append_assoc, arith}
 use Rattle.lay_base.specs.declared.faults.RoomKind.{RoomKind}
 use Rattle.lay_base.specs.declared.faults.RoomKind.TheVariants.{Live, Depth}
@@ -8,11 +9,12 @@ use Rattle.lay_base.specs.declared.place.Place.{Place}
 use Rattle.block_memory.specs.declared.kinds.BlockKind.{BlockKind}
 use Rattle.block_memory.specs.Blocks.{Memory}
 use Rattle.block_memory.specs.Lifetimes.{with_block}
-use Rattle.runs.specs.Doing.{Rest, Doing, ◌>>=◌, ◌>>◌, pure, is_undefined, memory_now, with_memory, note, turn_of, turn, make, deeper, less_deep, leave, apart}
-use Rattle.runs.specs.Events.{Event, got, left}
-use Rattle.runs.specs.Library.{next_of, getchar}
-use Rattle.runs.specs.declared.value.Value.{Value}
-use Rattle.runs.specs.Worlds.{World, End, ends, goes_on, undefined, out_of_room, greatest_live, greatest_depth, live_bytes}
+use Rattle.block_memory.specs.RunWorlds.Doing.{Rest, Doing, ◌>>=◌, ◌>>◌, pure, is_undefined, memory_now, with_memory, note, turn_of, turn, make, deeper}
+use Rattle.block_memory.specs.RunWorlds.Doing.{less_deep, leave, apart}
+use Rattle.block_memory.specs.RunWorlds.Events.{Event, got, left}
+use Rattle.block_memory.specs.RunWorlds.Library.{next_of, getchar}
+use Rattle.block_memory.specs.declared.run_worlds.value.Value.{Value}
+use Rattle.block_memory.specs.RunWorlds.Worlds.{World, End, ends, goes_on, undefined, out_of_room, greatest_live, greatest_depth, live_bytes}
 use Rattle.c_meaning.specs.Longer.{Onward, Continues, still, later, Follows}
 use Rattle.c_meaning.proofs.Closed.{Relation, stops}
 

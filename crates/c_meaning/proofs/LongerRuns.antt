@@ -3,10 +3,10 @@ use Rattle.std.proofs.Common.{◌≡◌, refl, sym, ap, ◌∙◌, subst, ℕ, �
 use Rattle.std.proofs.Common.{append_assoc, append-nil, arith}
 use native.Mathlib.Decide.{dec_le}
 use Rattle.c_typed.specs.Programs.{ProgramData}
-use Rattle.runs.specs.Events.{Event, put, output_of}
-use Rattle.runs.specs.Worlds.{World, End, ends, goes_on, undefined, out_of_room}
+use Rattle.block_memory.specs.RunWorlds.Events.{Event, put, output_of}
+use Rattle.block_memory.specs.RunWorlds.Worlds.{World, End, ends, goes_on, undefined, out_of_room, world_of}
 use Rattle.c_meaning.specs.Run.{status_of, start, no_place, run_of, RunEnd, ended, went_on, was_undefined, no_room, seen, run, kept}
-use Rattle.c_meaning.specs.Longer.{world_of, Continues, still, later, Follows, output_in, rest_in, GoesOnFrom, Extends, Frees, IsOver, HadRoom}
+use Rattle.c_meaning.specs.Longer.{Continues, still, later, Follows, output_in, rest_in, GoesOnFrom, Extends, Frees, IsOver, HadRoom}
 use Rattle.c_meaning.proofs.ClosedCalls as Calls
 use Rattle.c_meaning.proofs.Fuel.{fuel}
 use Rattle.c_meaning.proofs.Longer.{by_more}

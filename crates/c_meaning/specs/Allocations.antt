@@ -6,7 +6,7 @@ use Rattle.c_typed.specs.Programs.{ProgramData}
 use Rattle.c_typed.specs.Typed.{field_type}
 use Rattle.block_memory.specs.declared.kinds.BlockKind.TheVariants.{Heap}
 use Rattle.block_memory.specs.Blocks.{Block, size_in}
-use Rattle.runs.specs.Events.{Event, allocated}
+use Rattle.block_memory.specs.RunWorlds.Events.{Event, allocated}
 
 -- for each block, in the order of their making, the record that a recognised allocation made it for, by its number; none for any other block
 abbrev pub Made : Type 0

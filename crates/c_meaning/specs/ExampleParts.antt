@@ -60,13 +60,23 @@ of_int = 13
 abbrev pub to_char_pointer : ℕ
 to_char_pointer = 14
 
+abbrev pub to_two_ints : ℕ
+to_two_ints = 15
+
+abbrev pub two_records : ℕ
+two_records = 16
+
+abbrev pub to_two_records : ℕ
+to_two_records = 17
+
 abbrev pub int_type : CType
 int_type = integer I.Int
 
 abbrev pub types : List CType
 types = int_type ∷ integer I.UInt ∷ integer I.Char ∷ pointer int_type ∷ pointer (integer I.Char) ∷ pointer void ∷ void ∷ function int_type no_types ∷
     pointer (function int_type no_types) ∷ array int_type 2 ∷ structure 0 ∷ pointer (structure 0) ∷ pointer (pointer int_type) ∷
-    function int_type (and_type int_type no_types) ∷ pointer (pointer (integer I.Char)) ∷ []
+    function int_type (and_type int_type no_types) ∷ pointer (pointer (integer I.Char)) ∷
+    pointer (array int_type 2) ∷ array (structure 0) 2 ∷ pointer (array (structure 0) 2) ∷ []
 
 -- struct S { int x; int y; };
 abbrev pub records : List Record

@@ -8,7 +8,8 @@ use Rattle.c_typed.specs.declared.operators.LibraryFunction.TheVariants as L
 use Rattle.c_typed.specs.declared.operators.PointerOp.TheVariants as O
 use Rattle.c_typed.specs.Trees as T
 use Rattle.c_meaning.specs.ExampleParts.{int, unsigned, char, to_int, to_char, to_void, nothing, of_nothing, to_function, two_ints, a_record, to_record}
-use Rattle.c_meaning.specs.ExampleParts.{to_pointer, to_char_pointer, here, there, of, of_at, number, local, get, load, deref, element, set, binary, compare, cast}
+use Rattle.c_meaning.specs.ExampleParts.{to_pointer, to_char_pointer, here, there, of, of_at, number, local, get, load, deref, element, set, binary, compare}
+use Rattle.c_meaning.specs.ExampleParts.{cast}
 use Rattle.c_meaning.specs.ExampleParts.{library, call, malloc, putchar, does, gives, declares, declares_as, named, in_memory, a_function, program, main, all}
 use Rattle.c_meaning.specs.Run.{ended, went_on, was_undefined, no_room, run, kept}
 

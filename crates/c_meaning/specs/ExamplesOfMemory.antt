@@ -12,7 +12,8 @@ use Rattle.c_typed.specs.declared.program.Initial.{Initial}
 use Rattle.c_typed.specs.declared.program.Object.{Object}
 use Rattle.c_typed.specs.Trees as T
 use Rattle.c_meaning.specs.ExampleParts.{int, unsigned, char, to_int, to_char, to_void, nothing, of_nothing, to_function, two_ints, a_record, to_record}
-use Rattle.c_meaning.specs.ExampleParts.{to_pointer, of_int, here, there, of, of_at, number, local, get, load, deref, element, set, binary, compare, cast}
+use Rattle.c_meaning.specs.ExampleParts.{to_two_ints, two_records, to_two_records, to_pointer, of_int, here, there, of, of_at, number, local, get, load, deref}
+use Rattle.c_meaning.specs.ExampleParts.{element, set, binary, compare, cast}
 use Rattle.c_meaning.specs.ExampleParts.{library, call, malloc, putchar, does, gives, declares, declares_as, named, in_memory, a_function, program, main, all}
 use Rattle.c_meaning.specs.Run.{RunEnd, ended, went_on, was_undefined, no_room, run, kept}
 
@@ -121,6 +122,37 @@ two_past = refl
 negative : run (main (in_memory two_ints ∷ []) (0 ∷ []) (declares 0 ∷
     does (load int (element (local two_ints 0) (number 4294967295))) ∷ [])) [] 1 ≡ was_undefined K.Subscript here [] []
 negative = refl
+
+-- int (*p)[2] = 0; &(*p)[0]; an array to which null points has no elements
+of_null_array : run (main (named to_two_ints ∷ []) (0 ∷ []) (declares_as 0 (of to_two_ints T.null) ∷
+    does (of to_int (T.address_of (element (deref two_ints (get to_two_ints 0)) (number 0)))) ∷ [])) [] 1 ≡ was_undefined K.Null here [] []
+of_null_array = refl
+
+-- with int (*p)[2] = malloc(4), a block of one int
+abbrev with_short_array : T.Expression ℕ → RunEnd
+with_short_array e = run (main (named to_two_ints ∷ []) (0 ∷ []) (declares_as 0 (malloc to_two_ints 4) ∷ gives e ∷ [])) [] 1
+
+abbrev short_element : ℕ → T.Expression ℕ
+short_element i = of to_int (T.address_of (element (deref two_ints (get to_two_ints 0)) (number i)))
+
+-- &(*p)[1] - *p; one past the block
+at_short_end : with_short_array (of int (T.pointer_difference (short_element 1) (of to_int (T.decay (deref two_ints (get to_two_ints 0)))))) ≡ ended [] 1 []
+at_short_end = refl
+
+-- &(*p)[2] == 0
+past_short_end : with_short_array (compare C.Equal (short_element 2) (of to_int T.null)) ≡ was_undefined K.Range here [] []
+past_short_end = refl
+
+-- struct S (*p)[2] = malloc(8); &(*p)[1].x, one past the block, and &(*p)[1].y
+abbrev short_field : ℕ → RunEnd
+short_field k = run (main (named to_two_records ∷ []) (0 ∷ []) (declares_as 0 (malloc to_two_records 8) ∷ gives (compare C.Equal
+    (of to_int (T.address_of (field (T.path a_record here (T.element (deref two_records (get to_two_records 0)) (number 1))) k))) (of to_int T.null)) ∷ [])) [] 1
+
+field_at_short_end : short_field 0 ≡ ended [] 0 []
+field_at_short_end = refl
+
+field_past_short_end : short_field 1 ≡ was_undefined K.Range here [] []
+field_past_short_end = refl
 
 -- ---- pointers
 

@@ -7,12 +7,12 @@ use Rattle.c_typed.specs.declared.operators.LibraryFunction.TheVariants as L
 use Rattle.c_typed.specs.declared.operators.StepOp.TheVariants as S
 use Rattle.c_typed.specs.Programs.{ProgramData}
 use Rattle.c_typed.specs.Trees as T
-use Rattle.runs.specs.Events.{Event, put, allocated, freed, loaded, stored, reached, entered, left, began, entries_of, begins_of, heap_weight}
+use Rattle.block_memory.specs.RunWorlds.Events.{Event, put, allocated, freed, loaded, stored, reached, entered, left, began, entries_of, begins_of, heap_weight}
+use Rattle.block_memory.specs.RunWorlds.Events.{shown}
 use Rattle.c_meaning.specs.ExampleParts.{int, unsigned, char, to_int, to_char, to_void, nothing, of_nothing, to_function, two_ints, a_record, to_record}
 use Rattle.c_meaning.specs.ExampleParts.{to_pointer, of_int, here, there, of, of_at, number, local, get, load, deref, element, set, binary, compare, cast}
 use Rattle.c_meaning.specs.ExampleParts.{library, call, malloc, putchar, does, gives, declares, declares_as, named, in_memory, a_function, program, main, all}
-use Rattle.c_meaning.specs.Run.{RunEnd, ended, went_on, was_undefined, no_room, run, kept, run_of}
-use Rattle.c_meaning.specs.Weights.{trace_of}
+use Rattle.c_meaning.specs.Run.{RunEnd, ended, went_on, was_undefined, no_room, run, kept, trace_of}
 
 abbrev says : T.Expression ℕ → T.Statement ℕ
 says e = does (putchar e)
@@ -45,7 +45,7 @@ no_turn = refl
 end_of_input : run counting [] 4 ≡ ended (48 ∷ 50 ∷ []) 255 []
 end_of_input = refl
 
-loop_counts : begins_of 0 0 (trace_of (run_of counting [] 9 false)) ≡ 3
+loop_counts : begins_of 0 0 (trace_of counting [] 9) ≡ 3
 loop_counts = refl
 
 -- int i = 0; do { putchar(i); if (i == 1) break; i++; } while (1);
@@ -59,9 +59,9 @@ for_ever : run (main [] [] (T.while (number 1) (block []) ∷ [])) [] 5 ≡ went
 for_ever = refl
 
 -- loops are numbered in the order of the text: while (0) ; for (int i = 0; i < 2; i++) while (0) ;
-second_loop : begins_of 0 1 (trace_of (run_of (main (named int ∷ []) [] (T.while (number 0) (block []) ∷
+second_loop : begins_of 0 1 (trace_of (main (named int ∷ []) [] (T.while (number 0) (block []) ∷
     T.for (0 ∷ []) (all (declares_as 0 (number 0) ∷ [])) (Some (compare C.Less (get int 0) (number 2))) (Some (increments 0))
-    (T.while (number 0) (block [])) ∷ [])) [] 9 false)) ≡ 2
+    (T.while (number 0) (block [])) ∷ [])) [] 9) ≡ 2
 second_loop = refl
 
 -- ---- switch
@@ -136,7 +136,7 @@ recursion = refl
 recursion_short : run sums [] 6 ≡ went_on [] []
 recursion_short = refl
 
-entries : entries_of 1 (trace_of (run_of sums [] 7 false)) ≡ 6
+entries : entries_of 1 (trace_of sums [] 7) ≡ 6
 entries = refl
 
 -- int f(int n) { int *p = &n; if (n) { f(n - 1); } return *p; } each call has a parameter of its own
@@ -174,6 +174,11 @@ through_a_pointer = refl
 falls_off : run (main [] [] []) [] 1 ≡ ended [] 0 []
 falls_off = refl
 
+-- int main(void) { if (getchar() == 1) return main() + 4; } the inner call falls off
+falls_off_within : run (main [] [] (T.when (compare C.Equal (library int L.Getchar []) (number 1)) (gives (binary B.Add (call 0 []) (number 4))) ∷ []))
+    (1 ∷ 2 ∷ []) 2 ≡ ended [] 4 []
+falls_off_within = refl
+
 -- the low 8 bits are the status
 low_bits : run (main [] [] (gives (number 511) ∷ [])) [] 1 ≡ ended [] 255 []
 low_bits = refl
@@ -181,11 +186,19 @@ low_bits = refl
 -- ---- what is told of allocations
 
 -- struct S *p = malloc(2 * sizeof(struct S)); p->y = 3; p[1].x = p->y; free(p); return 0;
-told : trace_of (run_of (main (named to_record ∷ []) (0 ∷ []) (
+abbrev telling : ProgramData
+telling = main (named to_record ∷ []) (0 ∷ []) (
     declares_as 0 (of to_record (T.allocate 0 (T.some_expression (of unsigned (T.constant 2))) false)) ∷
     does (set (T.path int here (T.member (T.path a_record here (T.deref (get to_record 0))) 0 1)) int (number 3)) ∷
     does (set (T.path int here (T.member (T.path a_record here (T.index (get to_record 0) (number 1))) 0 0)) int
     (load int (T.path int here (T.member (T.path a_record here (T.deref (get to_record 0))) 0 1)))) ∷
-    does (library nothing L.Free (cast to_void (get to_record 0) ∷ [])) ∷ gives (number 0) ∷ [])) [] 1 false)
+    does (library nothing L.Free (cast to_void (get to_record 0) ∷ [])) ∷ gives (number 0) ∷ [])
+
+told : trace_of telling [] 1
     ≡ left ∷ freed 0 ∷ stored 0 8 4 ∷ loaded 0 4 4 ∷ reached 0 4 ∷ reached 0 8 ∷ stored 0 4 4 ∷ reached 0 4 ∷ allocated 0 (Some (0, 2)) 16 ∷ entered 0 ∷ []
 told = refl
+
+-- what of it all languages have
+told_to_all : shown (trace_of telling [] 1)
+    ≡ left ∷ freed 0 ∷ stored 0 8 4 ∷ loaded 0 4 4 ∷ stored 0 4 4 ∷ allocated 0 None 16 ∷ entered 0 ∷ []
+told_to_all = refl

@@ -1,35 +1,35 @@
 -- What an expression does, and its value (C99 6.5). Evaluation goes from left to right (own).
-use Rattle.std.specs.Prelude.{ℕ, ◌*◌, ◌^◌, ◌==◌, not, Bool, true, false, ◌&&◌, nat_lt, nat_le, if◌then◌else◌, ℤ, pos, negsuc, ◌+ℤ◌, ◌*ℤ◌, List, [], ◌∷◌, Option}
+use Rattle.std.specs.Prelude.{ℕ, ◌*◌, ◌^◌, ◌==◌, not, Bool, true, false, ◌&&◌, nat_lt, if◌then◌else◌, ℤ, pos, negsuc, ◌+ℤ◌, ◌*ℤ◌, List, [], ◌∷◌, Option}
 use Rattle.std.specs.Prelude.{Some, None, Ok, Err, slice_get}
 use Rattle.lay_base.specs.declared.faults.UndefinedKind.TheVariants as K
 use Rattle.lay_base.specs.declared.place.Place.{Place}
 use Rattle.c_types.specs.Layouts.{offset_of}
 use Rattle.c_types.specs.Sameness.{same_type}
 use Rattle.c_types.specs.Types.{CType, void, pointer as pointer_to}
-use Rattle.c_typed.specs.declared.operators.LibraryFunction.{LibraryFunction}
-use Rattle.c_typed.specs.declared.operators.LibraryFunction.TheVariants as L
 use Rattle.c_typed.specs.declared.operators.PointerOp.TheVariants.{Add}
 use Rattle.c_typed.specs.Trees as T
 use Rattle.c_typed.specs.Trees.{Expression, expression, Node, Path, path, PathNode, Expressions, OptionalExpression}
 use Rattle.c_typed.specs.Constants.{ty, kind_of}
 use Rattle.c_typed.specs.Conversions.{number_of}
 use Rattle.c_typed.specs.Programs.{ProgramData, FunctionData}
+pub use Rattle.c_typed.specs.Subscripts.{is_subscript}
 use Rattle.c_typed.specs.Typed.{at_of, path_ty, path_at}
-use Rattle.memory_cells.specs.declared.pointer.Ptr.{Ptr}
-use Rattle.memory_cells.specs.declared.pointer.Ptr.TheVariants as P
+use Rattle.memory_words.specs.declared.cell_words.pointer.Ptr.{Ptr}
+use Rattle.memory_words.specs.declared.cell_words.pointer.Ptr.TheVariants as P
 use Rattle.block_memory.specs.Blocks.{Memory, is_live, size, kind}
 use Rattle.block_memory.specs.Lifetimes.{is_heap}
+use Rattle.block_memory.specs.Pointers.{stepped}
 use Rattle.block_memory.specs.Tested.{Tested}
-use Rattle.runs.specs.Doing.{Doing, ◌>>=◌, ◌>>◌, pure, is_undefined, tested, memory_now, note}
-use Rattle.runs.specs.Events.{reached}
-use Rattle.runs.specs.Library as Library
-use Rattle.runs.specs.Scalars.{word_of, pointer_of, note_in}
-use Rattle.runs.specs.declared.value.Value.{Value}
-use Rattle.runs.specs.declared.value.Value.TheVariants.{Word as word, Pointer as pointer}
+use Rattle.block_memory.specs.RunWorlds.Doing.{Doing, ◌>>=◌, ◌>>◌, pure, is_undefined, tested, memory_now, note}
+use Rattle.block_memory.specs.RunWorlds.Events.{reached}
+use Rattle.block_memory.specs.RunWorlds.Scalars.{word_of, pointer_of, note_in}
+use Rattle.block_memory.specs.declared.run_worlds.value.Value.{Value}
+use Rattle.block_memory.specs.declared.run_worlds.value.Value.TheVariants.{Word as word, Pointer as pointer}
+use Rattle.block_memory.specs.RunWorlds.LibraryCalls.{the, given, library, allocated, assign_record}
+use Rattle.block_memory.specs.RunWorlds.Operators.{converted, is_true, flag, unary, binary, moved, distance, compared, updated, next}
 use Rattle.c_meaning.specs.Frames.{Frame, local_spot, fetch, put}
 use Rattle.c_meaning.specs.declared.frame.Spot.{Spot}
 use Rattle.c_meaning.specs.declared.frame.Spot.TheVariants.{Kept as kept, Placed as placed}
-use Rattle.c_meaning.specs.Operators.{converted, is_true, flag, unary, binary, moved, distance, compared, updated, next}
 use Rattle.c_meaning.specs.Program.{type_at, size_at, element_size, length_of}
 
 -- ---- parts
@@ -39,32 +39,21 @@ abbrev pub or_no_value : Place → Option Value → Doing Frame Value
 or_no_value place None = is_undefined K.NoValue place
 or_no_value place (Some v) = pure v
 
--- the address of a part of what lies there
-abbrev pub moved_by : ℤ → Ptr → Ptr
-moved_by by (P.Block b at) = at_offset (pos at +ℤ by)
-  where
-    at_offset : ℤ → Ptr
-    at_offset (pos at) = P.Block b at
-    at_offset (negsuc n) = P.Block b at
-moved_by by q = q
+-- a field or an element so many bytes on: where a sum would point (6.5.6), but that null has none (own)
+abbrev pub part_in : Memory → Ptr → (by : ℤ) → Tested Ptr
+part_in m P.Null by = Err K.Null
+part_in m q by = stepped m q by
 
-abbrev pub part_of : (offset : ℕ) → Spot → Spot
-part_of offset (placed q) = placed (moved_by (pos offset) q)
-part_of offset (kept x) = kept x
-
--- a subscript on an array itself is at least 0 and below its length; as the operand of `&` it may be its length (own)
-abbrev pub is_subscript : (length : ℕ) → (addressed : Bool) → ℤ → Bool
-is_subscript n addressed (negsuc i) = false
-is_subscript n true (pos i) = nat_le i n
-is_subscript n false (pos i) = nat_lt i n
+-- of what a path leads to; a local that is kept by its name has none
+abbrev pub part_of : Place → (by : ℤ) → Spot → Doing Frame Spot
+part_of place by (placed q) = do
+  m ← memory_now
+  r ← tested place (part_in m q by)
+  pure (placed r)
+part_of place by (kept x) = is_undefined K.Dead place
 
 abbrev pub element_of : Place → (length size : ℕ) → (addressed : Bool) → Spot → ℤ → Doing Frame Spot
-element_of place n size addressed s i =
-    if is_subscript n addressed i then pure (at_element i s) else is_undefined K.Subscript place
-  where
-    at_element : ℤ → Spot → Spot
-    at_element i (placed q) = placed (moved_by (i *ℤ pos size) q)
-    at_element i (kept x) = kept x
+element_of place n size addressed s i = if is_subscript n addressed i then part_of place (i *ℤ pos size) s else is_undefined K.Subscript place
 
 -- the way to a field through a pointer is an access: its first byte lies in a live block (own)
 abbrev pub inside : Memory → (b : ℕ) → ℤ → Tested Ptr
@@ -88,50 +77,21 @@ abbrev pub address_of : Place → Spot → Doing Frame Ptr
 address_of place (placed q) = pure q
 address_of place (kept x) = is_undefined K.Dead place
 
--- a recognised allocation of so many records (own)
-abbrev pub allocated : Place → (r size count : ℕ) → (zeroed : Bool) → Doing Frame Value
-allocated place r size count zeroed =
-    if nat_lt (count * size) (2 ^ 28) then Library.allocate (Some (r, count)) (count * size) zeroed else is_undefined K.Huge place
-
-abbrev pub the : {A : Type 0} → Doing Frame A → (A → Value) → Doing Frame (Option Value)
-the m f = m >>= λ x. pure (Some (f x))
-
-abbrev pub given : Doing Frame Value → Doing Frame (Option Value)
-given m = m >>= λ v. pure (Some v)
-
--- what the library does with its arguments; `free` has no value
-abbrev pub library : Place → LibraryFunction → List Value → Doing Frame (Option Value)
-library place L.Malloc (v ∷ []) = given (Library.allocate None (word_of v) false)
-library place L.Calloc (v ∷ w ∷ []) = given (Library.allocate None (word_of v * word_of w) true)
-library place L.Free (v ∷ []) = Library.free place (pointer_of v) >> pure None
-library place L.Memcpy (v ∷ w ∷ n ∷ []) = given (Library.copy place (pointer_of v) (pointer_of w) (word_of n) false)
-library place L.Memmove (v ∷ w ∷ n ∷ []) = given (Library.copy place (pointer_of v) (pointer_of w) (word_of n) true)
-library place L.Memset (v ∷ c ∷ n ∷ []) = given (Library.fill place (pointer_of v) (word_of c) (word_of n))
-library place L.Memcmp (v ∷ w ∷ n ∷ []) = given (Library.compare place (pointer_of v) (pointer_of w) (word_of n))
-library place L.Putchar (v ∷ []) = given (Library.putchar (word_of v))
-library place L.Getchar [] = given Library.getchar
-library place L.Exit (v ∷ []) = Library.exit (word_of v)
-library place which all = is_undefined K.Call place
-
--- a whole record is assigned; to itself it may be (6.5.16.1)
-abbrev pub is_same_place : Ptr → Ptr → Bool
-is_same_place (P.Block b at) (P.Block c other) = b == c && at == other
-is_same_place q r = false
-
+-- a whole record is assigned
 abbrev pub copy_record : Place → (size : ℕ) → (to from : Spot) → Doing Frame (Unit {0})
-copy_record place size (placed q) (placed r) = Library.copy place q r size (is_same_place q r) >> pure tt
+copy_record place size (placed q) (placed r) = assign_record place size q r
 copy_record place size to from = is_undefined K.Dead place
 
 -- ---- with the program, and what a call of a function does
 
 module _ (p : ProgramData) (call : Place → (f : ℕ) → List Value → Doing Frame (Option Value)) where
   -- a call through a pointer to a function of that type (6.5.2.2)
+  abbrev pub by_type : Place → CType → (f : ℕ) → List Value → Option FunctionData → Doing Frame (Option Value)
+  by_type place t f all None = is_undefined K.Call place
+  by_type place t f all (Some g) = if same_type t (pointer_to (type_at p g.ty)) then call place f all else is_undefined K.Call place
+
   abbrev pub through : Place → CType → Ptr → List Value → Doing Frame (Option Value)
-  through place t (P.Function f) all = by_type (slice_get p.functions f)
-    where
-      by_type : Option FunctionData → Doing Frame (Option Value)
-      by_type None = is_undefined K.Call place
-      by_type (Some g) = if same_type t (pointer_to (type_at p g.ty)) then call place f all else is_undefined K.Call place
+  through place t (P.Function f) all = by_type place t f all (slice_get p.functions f)
   through place t q all = is_undefined K.Call place
 
   -- converted to a type; to `void` it has no value
@@ -251,7 +211,7 @@ module _ (p : ProgramData) (call : Place → (f : ℕ) → List Value → Doing 
       w ← used i
       field_through at (pointer_of v)
           (number_of (kind_of (type_at p (ty i))) (word_of w) *ℤ pos (size_at p u) +ℤ pos (offset_of p.records r field))
-    spot_of t addressed at (T.member q r field) = spot false q >>= λ s. pure (part_of (offset_of p.records r field) s)
+    spot_of t addressed at (T.member q r field) = spot false q >>= part_of at (pos (offset_of p.records r field))
     spot_of t addressed at (T.element q i) = do
       s ← spot false q
       v ← used i

@@ -4,14 +4,14 @@ use Rattle.lay_base.specs.declared.faults.UndefinedKind.TheVariants as K
 use Rattle.lay_base.specs.declared.place.Place.{Place}
 use Rattle.c_typed.specs.declared.program.Local.{Local}
 use Rattle.c_typed.specs.Programs.{ProgramData, FunctionData}
-use Rattle.memory_cells.specs.declared.cell.Cell.TheVariants.{Empty}
+use Rattle.memory_words.specs.declared.cell_words.cell.Cell.TheVariants.{Empty}
 use Rattle.block_memory.specs.declared.kinds.BlockKind.TheVariants as Kind
-use Rattle.memory_cells.specs.declared.pointer.Ptr.{Ptr}
-use Rattle.memory_cells.specs.declared.pointer.Ptr.TheVariants as P
+use Rattle.memory_words.specs.declared.cell_words.pointer.Ptr.{Ptr}
+use Rattle.memory_words.specs.declared.cell_words.pointer.Ptr.TheVariants as P
 use Rattle.block_memory.specs.Blocks.{with_cells}
-use Rattle.runs.specs.Doing.{Doing, ◌>>=◌, ◌>>◌, pure, is_undefined, memory_now, with_memory, make, end}
-use Rattle.runs.specs.Scalars.{load, store}
-use Rattle.runs.specs.declared.value.Value.{Value}
+use Rattle.block_memory.specs.RunWorlds.Doing.{Doing, ◌>>=◌, ◌>>◌, pure, is_undefined, memory_now, with_memory, make, end}
+use Rattle.block_memory.specs.RunWorlds.Scalars.{load, store}
+use Rattle.block_memory.specs.declared.run_worlds.value.Value.{Value}
 use Rattle.c_meaning.specs.declared.frame.Slot.{Slot}
 use Rattle.c_meaning.specs.declared.frame.Slot.TheVariants.{ByName as by_name, InBlock as in_block}
 use Rattle.c_meaning.specs.declared.frame.Spot.{Spot}
@@ -56,20 +56,20 @@ module _ (p : ProgramData) where
 
   -- ---- scopes: a compound statement's locals are made, with nothing stored, when it is entered, and end when it is left
 
+  abbrev pub empty_by : (block : Bool) → Slot
+  empty_by true = in_block None
+  empty_by false = by_name None
+
   abbrev pub empty_slot : Local → Slot
-  empty_slot x = by_kind x.block
-    where
-      by_kind : Bool → Slot
-      by_kind true = in_block None
-      by_kind false = by_name None
+  empty_slot x = empty_by x.block
+
+  abbrev pub begin_by : (local size : ℕ) → (block : Bool) → Doing Frame (Unit {0})
+  begin_by x size true = make size Kind.Local >>= λ b. with_slot x (in_block (Some b))
+  begin_by x size false = with_slot x (by_name None)
 
   abbrev pub begin : (local : ℕ) → Option Local → Doing Frame (Unit {0})
   begin x None = pure tt
-  begin x (Some l) = by_kind l.block
-    where
-      by_kind : Bool → Doing Frame (Unit {0})
-      by_kind true = make (size_at p l.ty) Kind.Local >>= λ b. with_slot x (in_block (Some b))
-      by_kind false = with_slot x (by_name None)
+  begin x (Some l) = begin_by x (size_at p l.ty) l.block
 
   abbrev pub end_slot : (local : ℕ) → Option Slot → Doing Frame (Unit {0})
   end_slot x (Some (in_block (Some b))) = end b >> with_slot x (in_block None)

@@ -5,12 +5,14 @@ pub mod ExamplesOfOperators
 pub mod ExamplesOfStatements
 pub mod Expressions
 pub mod Frames
-pub mod Operators
 pub mod Program
 pub mod Run
+pub mod Shown
+pub mod SourceRun
 pub mod Statements
 pub mod Weights
 pub mod Allocations
 pub mod PointerTypes
+pub mod PointerLaws
 pub mod Longer
 pub mod Outcomes

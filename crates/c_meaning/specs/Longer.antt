@@ -1,7 +1,7 @@
 -- What a longer run, and one that is not kept within the room of the interpreter, have in common with another.
 use Rattle.std.specs.Prelude.{◌≡◌, ℕ, ◌+◌, Bool, true, false, List, ◌++◌}
-use Rattle.runs.specs.Events.{Event}
-use Rattle.runs.specs.Worlds.{World, End, ends, goes_on, undefined, out_of_room}
+use Rattle.block_memory.specs.RunWorlds.Events.{Event}
+use Rattle.block_memory.specs.RunWorlds.Worlds.{World, End, ends, goes_on, undefined, out_of_room, world_of}
 use Rattle.c_meaning.specs.Run.{RunEnd, ended, went_on, was_undefined, no_room}
 
 -- ---- worlds and ends
@@ -12,12 +12,6 @@ pub record Onward (w u : World) : Type 0 where
   pub trace : u.trace ≡ new ++ w.trace
   pub taken : List ℕ
   pub input : w.input ≡ taken ++ u.input
-
-abbrev pub world_of : End → World
-world_of (ends status w) = w
-world_of (goes_on w) = w
-world_of (undefined kind place w) = w
-world_of (out_of_room kind counted w) = w
 
 -- whatever comes, comes behind that world
 abbrev pub Continues : World → End → Type 0

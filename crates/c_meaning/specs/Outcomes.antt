@@ -1,7 +1,7 @@
 -- What a part of a run comes to, whatever the rest of the run does with it.
 use Rattle.std.specs.Prelude.{ℕ, ◌≤◌}
-use Rattle.runs.specs.Doing.{Rest}
-use Rattle.runs.specs.Worlds.{World, End}
+use Rattle.block_memory.specs.RunWorlds.Doing.{Rest}
+use Rattle.block_memory.specs.RunWorlds.Worlds.{World, End}
 
 pub data Outcome (F A : Type 0) : Type 0 where
   -- a result, with the frame and the world behind it

@@ -5,14 +5,14 @@ use Rattle.std.specs.List.{All}
 use Rattle.c_types.specs.Types.{pointer, structure}
 use Rattle.c_typed.specs.declared.program.Local.{Local}
 use Rattle.c_typed.specs.Programs.{ProgramData}
-use Rattle.memory_cells.specs.declared.cell.Cell.{Cell}
-use Rattle.memory_cells.specs.declared.cell.Cell.TheVariants.{Empty, Byte, Fragment}
-use Rattle.memory_cells.specs.declared.pointer.Ptr.{Ptr}
-use Rattle.memory_cells.specs.declared.pointer.Ptr.TheVariants as P
+use Rattle.memory_words.specs.declared.cell_words.cell.Cell.{Cell}
+use Rattle.memory_words.specs.declared.cell_words.cell.Cell.TheVariants.{Empty, Byte, Fragment}
+use Rattle.memory_words.specs.declared.cell_words.pointer.Ptr.{Ptr}
+use Rattle.memory_words.specs.declared.cell_words.pointer.Ptr.TheVariants as P
 use Rattle.block_memory.specs.Blocks.{Memory, block, cells_in, size}
-use Rattle.runs.specs.Events.{Event, loaded}
-use Rattle.runs.specs.Worlds.{World}
-use Rattle.runs.specs.declared.value.Value.TheVariants.{Pointer as pointer_value}
+use Rattle.block_memory.specs.RunWorlds.Events.{Event, loaded}
+use Rattle.block_memory.specs.RunWorlds.Worlds.{World}
+use Rattle.block_memory.specs.declared.run_worlds.value.Value.TheVariants.{Pointer as pointer_value}
 use Rattle.c_meaning.specs.Frames.{Frame}
 use Rattle.c_meaning.specs.declared.frame.Slot.TheVariants.{ByName as by_name}
 use Rattle.c_meaning.specs.Program.{type_at}
@@ -40,15 +40,19 @@ PointsToElement p made m r P.Null = Unit {0}
 PointsToElement p made m r (P.Block b at) = IsElement p made m r b at
 PointsToElement p made m r (P.Function f) = ⊥
 
--- to no block that was allocated for one of the records
-abbrev pub PointsElsewhere : Records → Made → Ptr → Type 0
-PointsElsewhere among made (P.Block b at) = (r : ℕ) → among r → made_for made b ≡ Some r → ⊥
-PointsElsewhere among made q = Unit {0}
+-- a block that is there and was allocated for none of the records. One that is not there yet might still be allocated for one of them
+pub record IsElsewhere (among : Records) (made : Made) (m : Memory) (b : ℕ) : Type 0 where
+  pub is_there : b < length m
+  pub for_none : (r : ℕ) → among r → made_for made b ≡ Some r → ⊥
+
+abbrev pub PointsElsewhere : Records → Made → Memory → Ptr → Type 0
+PointsElsewhere among made m (P.Block b at) = IsElsewhere among made m b
+PointsElsewhere among made m q = Unit {0}
 
 -- what a pointer of the type with that number may point to. The argument of `free` is a `void *` and, during that call, excepted.
 pub record MayPoint (p : ProgramData) (among : Records) (made : Made) (m : Memory) (type : ℕ) (q : Ptr) : Type 0 where
   pub to_record : (r : ℕ) → among r → IsPointerTo p type r → PointsToElement p made m r q
-  pub to_other : ((r : ℕ) → among r → IsPointerTo p type r → ⊥) → PointsElsewhere among made q
+  pub to_other : ((r : ℕ) → among r → IsPointerTo p type r → ⊥) → PointsElsewhere among made m q
 
 -- ---- memory
 
@@ -69,14 +73,14 @@ pub record PointersAreTyped (p : ProgramData) (among : Records) (made : Made) (m
   pub padding : (b r at : ℕ) (c : Cell) → among r → made_for made b ≡ Some r → slice_get (cells_in (block m b).contents) at ≡ Some c
       → (LiesInField p r (byte_of_record p r at) → ⊥) → IsClear c
 
--- ---- loads: each byte of a load from such a block lies in a field
+-- ---- accesses: each byte of a load from such a block lies in a field
 
-abbrev pub ReadsFields : ProgramData → Records → Made → (b at width : ℕ) → Type 0
-ReadsFields p among made b at width = (r k : ℕ) → among r → made_for made b ≡ Some r → k < width → LiesInField p r (byte_of_record p r (at + k))
+abbrev pub LiesInFields : ProgramData → Records → Made → (b at width : ℕ) → Type 0
+LiesInFields p among made b at width = (r k : ℕ) → among r → made_for made b ≡ Some r → k < width → LiesInField p r (byte_of_record p r (at + k))
 
 abbrev pub LoadsReadFields : ProgramData → Records → Made → List Event → Type 0
 LoadsReadFields p among made [] = Unit {0}
-LoadsReadFields p among made (loaded b at width ∷ before) = ReadsFields p among made b at width × LoadsReadFields p among made before
+LoadsReadFields p among made (loaded b at width ∷ before) = LiesInFields p among made b at width × LoadsReadFields p among made before
 LoadsReadFields p among made (event ∷ before) = LoadsReadFields p among made before
 
 -- ---- a state between two steps

@@ -10,13 +10,13 @@ use Rattle.c_typed.specs.declared.program.InitialValue.TheVariants as V
 use Rattle.c_typed.specs.declared.program.Local.{Local}
 use Rattle.c_typed.specs.declared.program.Object.{Object}
 use Rattle.c_typed.specs.Programs.{FunctionData, ProgramData}
-use Rattle.memory_cells.specs.declared.cell.Cell.{Cell}
-use Rattle.memory_cells.specs.declared.cell.Cell.TheVariants.{Byte}
+use Rattle.memory_words.specs.declared.cell_words.cell.Cell.{Cell}
+use Rattle.memory_words.specs.declared.cell_words.cell.Cell.TheVariants.{Byte}
 use Rattle.block_memory.specs.declared.kinds.Access.{Access}
 use Rattle.block_memory.specs.declared.kinds.Access.TheVariants.{Number, Pointer}
 use Rattle.block_memory.specs.declared.kinds.BlockKind.{BlockKind}
 use Rattle.block_memory.specs.declared.kinds.BlockKind.TheVariants.{Global, Text}
-use Rattle.memory_cells.specs.declared.pointer.Ptr.TheVariants as P
+use Rattle.memory_words.specs.declared.cell_words.pointer.Ptr.TheVariants as P
 use Rattle.block_memory.specs.Blocks.{Memory, Block, Contents, living, overwritten}
 use Rattle.block_memory.specs.Held.{bytes_of, fragments_of}
 
@@ -71,8 +71,16 @@ abbrev pub object_kind : (text : Bool) → BlockKind
 object_kind true = Text
 object_kind false = Global
 
+-- an object that is only declared has no bytes: nothing uses it
+abbrev pub size_if_defined : Option (List Initial) → (size : ℕ) → ℕ
+size_if_defined None size = 0
+size_if_defined (Some all) size = size
+
+abbrev pub object_size : ProgramData → Object → ℕ
+object_size p o = size_if_defined o.initial (size_at p o.ty)
+
 abbrev pub object_block : ProgramData → Object → Block
-object_block p o = record { kind = object_kind o.text; contents = initially (none_or o.initial) (size_at p o.ty) }
+object_block p o = record { kind = object_kind o.text; contents = initially (none_or o.initial) (object_size p o) }
 
 abbrev pub initial_memory : ProgramData → Memory
 initial_memory p = map (object_block p) p.objects

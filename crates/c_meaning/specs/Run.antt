@@ -1,5 +1,5 @@
 -- What a program does (C99 5.1.2.2, 6.9.1): its calls, its run for an input and a number of turns, and what is read off it.
-use Rattle.std.specs.Prelude.{ℕ, zero, suc, ◌+◌, ◌%◌, ◌^◌, Bool, true, false, List, [], ◌∷◌, length, Option, Some, None, slice_get}
+use Rattle.std.specs.Prelude.{ℕ, zero, suc, ◌+◌, ◌%◌, ◌^◌, ◌==◌, Bool, true, false, if◌then◌else◌, List, [], ◌∷◌, length, Option, Some, None, slice_get}
 use Rattle.lay_base.specs.declared.faults.RoomKind.{RoomKind}
 use Rattle.lay_base.specs.declared.faults.UndefinedKind.{UndefinedKind}
 use Rattle.lay_base.specs.declared.faults.UndefinedKind.TheVariants as K
@@ -7,25 +7,23 @@ use Rattle.lay_base.specs.declared.place.Place.{Place}
 use Rattle.c_typed.specs.declared.program.Local.{Local}
 use Rattle.c_typed.specs.Trees.{Statement}
 use Rattle.c_typed.specs.Programs.{ProgramData, FunctionData}
-use Rattle.memory_cells.specs.declared.pointer.Ptr.TheVariants as P
-use Rattle.runs.specs.Doing.{Doing, ◌>>=◌, ◌>>◌, pure, is_undefined, enter, leave, apart}
-use Rattle.runs.specs.Events.{output_of}
-use Rattle.runs.specs.Scalars.{word_of, store}
-use Rattle.runs.specs.declared.value.Value.{Value}
-use Rattle.runs.specs.Worlds.{World, End, ends, goes_on, undefined, out_of_room}
+use Rattle.memory_words.specs.declared.cell_words.pointer.Ptr.TheVariants as P
+use Rattle.block_memory.specs.RunWorlds.Doing.{Doing, ◌>>=◌, ◌>>◌, pure, is_undefined, enter, leave, apart}
+use Rattle.block_memory.specs.RunWorlds.Events.{Event, output_of}
+use Rattle.block_memory.specs.RunWorlds.Scalars.{word_of, store}
+use Rattle.block_memory.specs.declared.run_worlds.value.Value.{Value}
+use Rattle.block_memory.specs.declared.run_worlds.value.Value.TheVariants.{Word as word}
+use Rattle.block_memory.specs.RunWorlds.Worlds.{World, End, ends, goes_on, undefined, out_of_room, world_of}
+use Rattle.block_memory.specs.RunWorlds.Ways.{no_more}
+use Rattle.block_memory.specs.declared.run_worlds.way.Way.{Way}
+use Rattle.block_memory.specs.declared.run_worlds.way.Way.TheVariants.{ByReturn as by_return}
 use Rattle.c_meaning.specs.Frames.{Frame, frame_of, begin, finish_all, with_slot, slot_now}
 use Rattle.c_meaning.specs.declared.frame.Slot.{Slot}
 use Rattle.c_meaning.specs.declared.frame.Slot.TheVariants.{ByName as by_name, InBlock as in_block}
 use Rattle.c_meaning.specs.Program.{access_at, all_locals, initial_memory}
-use Rattle.c_meaning.specs.Statements.{no_more, execute}
-use Rattle.c_meaning.specs.declared.frame.Way.{Way}
-use Rattle.c_meaning.specs.declared.frame.Way.TheVariants.{ByReturn as by_return}
+use Rattle.c_meaning.specs.Statements.{execute}
 
 -- ---- calls
-
-abbrev pub result_of : Way → Option Value
-result_of (by_return v) = v
-result_of way = None
 
 -- the numbers of the parameters, which come first among the locals
 abbrev pub numbers_from : (k count : ℕ) → List ℕ
@@ -46,6 +44,11 @@ module _ (p : ProgramData) where
       begin p x (Some l) >> (slot_now x >>= received place x l.ty v) >> receive place (x + 1) more rest
   receive place x locals values = pure tt
 
+  -- what a call of that function gives; reaching the end of `main` returns 0 (5.1.2.2.3)
+  abbrev pub result_of : (f : ℕ) → Way → Option Value
+  result_of f (by_return v) = v
+  result_of f way = if f == p.main then Some (word 0) else None
+
   -- what a function does that has its arguments, where calls do so
   abbrev pub body_of : (call : Place → (f : ℕ) → List Value → Doing Frame (Option Value)) → (n : ℕ) → Place → (f : ℕ) → List Value → FunctionData
       → Option (Statement ℕ) → Doing Frame (Option Value)
@@ -54,7 +57,7 @@ module _ (p : ProgramData) where
     a ← receive place 0 g.parameters values
     way ← execute p call f (all_locals g) n 0 body
     b ← finish_all p (numbers (length g.parameters))
-    pure (result_of way)
+    pure (result_of f way)
 
   abbrev pub function_of : (call : Place → (f : ℕ) → List Value → Doing Frame (Option Value)) → (n : ℕ) → Place → (f : ℕ) → List Value
       → Option FunctionData → Doing Frame (Option Value)
@@ -72,7 +75,7 @@ module _ (p : ProgramData) where
 
   -- ---- the run
 
-  -- falling off the end of `main` returns 0 (5.1.2.2.3)
+  -- of what `main` gives, the low byte (own); no `main` that is well typed gives no value
   abbrev pub status_of : Option Value → ℕ
   status_of None = 0
   status_of (Some v) = word_of v % 2 ^ 8
@@ -107,3 +110,7 @@ run p input n = seen (run_of p input n false)
 -- within the room of the interpreter
 abbrev pub kept : ProgramData → (input : List ℕ) → (turns : ℕ) → RunEnd
 kept p input n = seen (run_of p input n true)
+
+-- what is told of that run
+abbrev pub trace_of : ProgramData → (input : List ℕ) → (turns : ℕ) → List Event
+trace_of p input turns = (world_of (run_of p input turns true)).trace

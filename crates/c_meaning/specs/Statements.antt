@@ -9,62 +9,33 @@ use Rattle.c_typed.specs.Trees.{Expression, Path, PartValue, Part, Initializer, 
 use Rattle.c_typed.specs.Constants.{ty}
 use Rattle.c_typed.specs.Programs.{ProgramData, FunctionData}
 use Rattle.c_typed.specs.Typed.{at_of, path_ty, path_at}
-use Rattle.memory_cells.specs.declared.cell.Cell.TheVariants.{Byte}
-use Rattle.memory_cells.specs.declared.pointer.Ptr.TheVariants as P
+use Rattle.memory_words.specs.declared.cell_words.cell.Cell.TheVariants.{Byte}
+use Rattle.memory_words.specs.declared.cell_words.pointer.Ptr.TheVariants as P
 use Rattle.block_memory.specs.Blocks.{with_cells}
-use Rattle.runs.specs.Doing.{Doing, Rest, ◌>>=◌, ◌>>◌, pure, memory_now, with_memory, turn, note}
-use Rattle.runs.specs.Events.{began}
-use Rattle.runs.specs.Scalars.{word_of, store}
-use Rattle.runs.specs.declared.value.Value.{Value}
-use Rattle.runs.specs.declared.value.Value.TheVariants.{Word as word}
-use Rattle.runs.specs.Worlds.{World, End, goes_on}
+use Rattle.block_memory.specs.RunWorlds.Doing.{Doing, Rest, ◌>>=◌, ◌>>◌, pure, is_undefined, memory_now, with_memory, turn, note}
+use Rattle.block_memory.specs.RunWorlds.Events.{began}
+use Rattle.block_memory.specs.RunWorlds.Scalars.{word_of, store}
+use Rattle.block_memory.specs.declared.run_worlds.value.Value.{Value}
+use Rattle.block_memory.specs.declared.run_worlds.value.Value.TheVariants.{Word as word}
+use Rattle.block_memory.specs.RunWorlds.Ways.{and_then, loop, loop_behind}
+use Rattle.block_memory.specs.declared.run_worlds.way.Way.{Way}
+use Rattle.block_memory.specs.declared.run_worlds.way.Way.TheVariants.{Normally as normally, ByBreak as by_break, ByContinue as by_continue}
+use Rattle.block_memory.specs.declared.run_worlds.way.Way.TheVariants.{ByReturn as by_return}
+use Rattle.block_memory.specs.RunWorlds.Operators.{is_true}
 use Rattle.c_meaning.specs.Expressions.{value, used, spot, copy_record}
 use Rattle.c_meaning.specs.Frames.{Frame, with_slot, slot_now, scoped, emptied}
 use Rattle.c_meaning.specs.declared.frame.Spot.TheVariants.{Placed as placed}
 use Rattle.c_meaning.specs.declared.frame.Slot.{Slot}
 use Rattle.c_meaning.specs.declared.frame.Slot.TheVariants.{ByName as by_name, InBlock as in_block}
-use Rattle.c_meaning.specs.declared.frame.Way.{Way}
-use Rattle.c_meaning.specs.declared.frame.Way.TheVariants.{Normally as normally, ByBreak as by_break, ByContinue as by_continue, ByReturn as by_return}
-use Rattle.c_counts.specs.Loops.{loops_in, loops_in_all}
-use Rattle.c_meaning.specs.Operators.{is_true}
+use Rattle.c_typed.specs.RunCounts.Loops.{loops_in, loops_in_all}
 use Rattle.c_meaning.specs.Program.{access_at, size_at, all_locals}
 
--- ---- how a statement is left (6.8.6)
-
--- the statements behind it come only where it is left normally
-abbrev pub and_then : Doing Frame Way → Way → Doing Frame Way
-and_then next normally = next
-and_then next way = pure way
-
--- behind the body of a loop
-abbrev pub and_again : Doing Frame Way → Way → Doing Frame Way
-and_again next normally = next
-and_again next by_continue = next
-and_again next by_break = pure normally
-and_again next (by_return v) = pure (by_return v)
+-- ---- `switch` (6.8.4.2)
 
 -- behind the body of a `switch`
 abbrev pub behind_switch : Way → Way
 behind_switch by_break = normally
 behind_switch way = way
-
--- ---- loops (6.8.5): each begin of the body is a turn. The first number is no less than the turns that are left
-
-abbrev pub no_more : {A : Type 0} → Doing Frame A
-no_more = λ rest f w. goes_on w
-
-module _ (begins : Doing Frame (Unit {0})) where
-  -- what is done behind each body is the third expression of a `for`
-  abbrev pub loop : ℕ → Doing Frame Bool → Doing Frame (Unit {0}) → Doing Frame Way → Doing Frame Way
-  loop zero test step body = test >>= λ goes. if goes then no_more else pure normally
-  loop (suc n) test step body = test >>= λ goes. if goes then (begins >> body >>= and_again (step >> loop n test step body)) else pure normally
-
-  -- a loop whose test stands behind its body
-  abbrev pub loop_behind : ℕ → Doing Frame Way → Doing Frame Bool → Doing Frame Way
-  loop_behind zero body test = no_more
-  loop_behind (suc n) body test = begins >> body >>= and_again (test >>= λ goes. if goes then loop_behind n body test else pure normally)
-
--- ---- `switch` (6.8.4.2)
 
 -- the number of the arm with that case value, counted from k on; no two have the same
 abbrev pub arm_of : (v k : ℕ) → Arms ℕ → Option ℕ
@@ -80,6 +51,30 @@ or_default None d = d
 or_default (Some k) d = Some k
 
 -- ---- initializers of locals (6.7.8)
+
+-- the first expression of an initializer stands there
+abbrev pub part_place : PartValue ℕ → Option Place
+part_place (T.value e) = Some (at_of e)
+part_place (T.record_of q) = Some (path_at q)
+part_place (T.text bytes) = None
+
+abbrev pub or_later : Option Place → Option Place → Option Place
+or_later None later = later
+or_later (Some place) later = Some place
+
+abbrev pub parts_place : List (Part ℕ) → Option Place
+parts_place [] = None
+parts_place (part ∷ more) = or_later (part_place part.value) (parts_place more)
+
+abbrev pub initial_place : Initializer ℕ → Option Place
+initial_place (T.whole e) = Some (at_of e)
+initial_place (T.whole_record q) = Some (path_at q)
+initial_place (T.parts all) = parts_place all
+
+-- outside of its scope a local is no place (own); no program of files comes there
+abbrev pub dead_at : Option Place → Doing Frame (Unit {0})
+dead_at None = pure tt
+dead_at (Some place) = is_undefined K.Dead place
 
 module _ (p : ProgramData) (call : Place → (f : ℕ) → List Value → Doing Frame (Option Value)) where
   -- a part at an offset of a block
@@ -107,7 +102,8 @@ module _ (p : ProgramData) (call : Place → (f : ℕ) → List Value → Doing 
 
   abbrev pub initial : (local size : ℕ) → Initializer ℕ → Option Slot → Doing Frame (Unit {0})
   initial x size i (Some (in_block (Some b))) = initial_in b size i
-  initial x size i s = initial_by_name x i
+  initial x size i (Some (by_name v)) = initial_by_name x i
+  initial x size i s = dead_at (initial_place i)
 
   abbrev pub declared : (local : ℕ) → Option Local → Option (Initializer ℕ) → Doing Frame (Unit {0})
   declared x None i = pure tt

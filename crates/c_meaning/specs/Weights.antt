@@ -2,16 +2,10 @@
 use Rattle.std.specs.Prelude.{ℕ, ◌+◌, ◌*◌, ◌^◌, ◌≤◌, max, Bool, true, false, List, [], ◌∷◌, ◌++◌, Option, Some, None, slice_get, drop}
 use Rattle.c_typed.specs.declared.program.Local.{Local}
 use Rattle.c_typed.specs.Programs.{ProgramData, FunctionData}
-use Rattle.runs.specs.Events.{Event, entered, left, heap_weight}
-use Rattle.runs.specs.Worlds.{World, End, ends, goes_on, undefined, out_of_room}
+use Rattle.block_memory.specs.RunWorlds.Events.{Event, entered, left, heap_weight}
+use Rattle.block_memory.specs.RunWorlds.Worlds.{world_of}
 use Rattle.c_meaning.specs.Program.{size_at, all_locals}
 use Rattle.c_meaning.specs.Run.{run_of}
-
-abbrev pub trace_of : End → List Event
-trace_of (ends status w) = w.trace
-trace_of (goes_on w) = w.trace
-trace_of (undefined kind place w) = w.trace
-trace_of (out_of_room kind counted w) = w.trace
 
 module _ (p : ProgramData) where
   -- in bytes
@@ -46,5 +40,5 @@ module _ (p : ProgramData) where
 
   -- a run fits in so many MiB of heap and of stack
   pub record IsLight (heap stack : ℕ) (input : List ℕ) (turns : ℕ) : Type 0 where
-    pub heap_fits : heap_weight (trace_of (run_of p input turns false)) ≤ heap * 2 ^ 20
-    pub stack_fits : stack_weight (trace_of (run_of p input turns false)) ≤ stack * 2 ^ 20
+    pub heap_fits : heap_weight ((world_of (run_of p input turns false)).trace) ≤ heap * 2 ^ 20
+    pub stack_fits : stack_weight ((world_of (run_of p input turns false)).trace) ≤ stack * 2 ^ 20

@@ -1,7 +1,6 @@
-//! What a function that runs has of its own (C99 6.2.4), and how its statements are left (6.8.6).
+//! What a function that runs has of its own (C99 6.2.4).
 
-use block_memory::Ptr;
-use runs::Value;
+use block_memory::{Ptr, Value};
 
 /// A local of a function that runs.
 #[derive(Clone, Copy)]
@@ -19,14 +18,4 @@ pub enum Spot {
     Kept(u32),
     /// A place in memory.
     Placed(Ptr),
-}
-
-/// How a statement is left.
-#[derive(Clone, Copy)]
-pub enum Way {
-    Normally,
-    ByBreak,
-    ByContinue,
-    /// With the value that is returned, where there is one.
-    ByReturn(Option<Value>),
 }

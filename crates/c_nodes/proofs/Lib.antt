@@ -1,1 +1,3 @@
 pub mod Limits
+pub mod DeclaratorTypes
+pub mod OperatorNodes

@@ -12,7 +12,7 @@ use Rattle.c_types.specs.Layouts.{layouts, size_of}
 use Rattle.c_types.specs.Limits.{size_if_small}
 use Rattle.c_types.specs.Objects.{is_object, parts}
 use Rattle.c_types.specs.Views.{record_of, records_of}
-use Rattle.c_checking.specs.Declaring.{is_small}
+use Rattle.c_erasure.specs.Checking.Declaring.{is_small}
 use Rattle.c_types.proofs.Before.{length-layouts}
 
 -- what is no object has no bytes

@@ -1,7 +1,7 @@
 -- What a call answers, against what the checker's definition gives. Want of memory is a free answer.
 use Rattle.std.specs.Prelude.{◌≡◌, Result, Ok, Err}
 use Rattle.c_erasure.specs.Broken as Broken
-use Rattle.c_checking.specs.Answers.{Answer}
+use Rattle.c_erasure.specs.Checking.Answers.{Answer}
 use Rattle.c_nodes.specs.declared.fault.Fault.{Fault}
 use Rattle.c_nodes.specs.declared.fault.Fault.TheVariants.{TooBig, IllTyped, Undeclared, Redeclared, Memory}
 

@@ -1,2 +1,4 @@
 pub mod Gives
 pub mod Sizing
+pub mod DeclaratorTypes
+pub mod OperatorNodes

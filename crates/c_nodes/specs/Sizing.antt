@@ -3,8 +3,8 @@ use Rattle.std.specs.Prelude.{ℕ, List, Ok}
 use Rattle.c_types.specs.Types.{CType, Record}
 use Rattle.c_types.specs.Layouts.{size_of}
 use Rattle.c_types.specs.Views.{type_of}
-use Rattle.c_checking.specs.Answers.{Answer, ◌>>=◌}
-use Rattle.c_checking.specs.Nodes.{sized_type}
+use Rattle.c_erasure.specs.Checking.Answers.{Answer, ◌>>=◌}
+use Rattle.c_erasure.specs.Checking.Nodes.{sized_type}
 use Rattle.c_nodes.specs.declared.sizes.SizedType.{SizedType}
 
 abbrev pub sized_view : SizedType → CType × ℕ

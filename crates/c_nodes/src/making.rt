@@ -4,8 +4,9 @@ ghost use Rattle.std.specs.Prelude.{◌≡◌, IfOk};
 ghost use Rattle.std.specs.Option.{option_map};
 ghost use Rattle.c_types.specs.Types.{integer, pointer};
 ghost use Rattle.c_types.specs.Views.{type_of};
-ghost use Rattle.c_erasure.specs.Noted.{a_value, an_object, value_of};
-ghost use Rattle.c_checking.specs.Nodes.{a_node, a_way, converted, worth as worth_of};
+ghost use Rattle.c_erasure.specs.Broken.{ill_typed, misplaced as misplaced_in};
+ghost use Rattle.c_erasure.specs.Noted.{a_value, an_object, is_copy, value_of};
+ghost use Rattle.c_erasure.specs.Checking.Nodes.{a_node, a_way, converted, worth as worth_of};
 ghost use Rattle.c_annotated.specs.Nodes.{node_of, path_node_of};
 ghost use Rattle.c_annotated.specs.Views.{expression_of, path_of, thing_of};
 ghost use Rattle.c_nodes.specs.Gives.{Gives};
@@ -118,7 +119,7 @@ pub fn object_value(alloc: Global, p: Boxed<Path>) -> Result<Option<Boxed<Expres
 }
 
 /// The value of what stands there, which begins at `at` (C99 6.3.2.1).
-#[tactic(auto, unfolding(c_checking::specs::Nodes::worth))]
+#[tactic(auto, unfolding(c_erasure::specs::Checking::Nodes::worth))]
 pub fn worth(alloc: Global, at: u32, thing: Thing) -> Result<Boxed<Expression>, Fault>
     ensures { Gives expression_of result (worth_of at (thing_of thing)) }
 {
@@ -142,5 +143,29 @@ pub fn worth(alloc: Global, at: u32, thing: Thing) -> Result<Boxed<Expression>, 
             )?)
         }
         Thing::LibraryFunction(_, _) => Err(Fault::IllTyped(Rule::Library, at)),
+    }
+}
+
+/// Whether it is the assignment of a record.
+fn is_assignment_of_record(e: &Expression) -> bool
+    ensures { result ≡ is_copy (a_value (expression_of e.now)) }
+{
+    matches!(&e.node, ExpressionNode::CopyRecord(_, _))
+}
+
+/// The rule that is broken where an object has to stand and something else does, and the place: that rule at `at`; or `ByValue` at `from`, where
+/// it begins, for the value of an assignment of a record (own).
+pub fn misplaced(thing: &Thing, rule: Rule, at: u32, from: u32) -> (Rule, u32)
+    ensures { ill_typed result.0 result.1 ≡ misplaced_in (thing_of thing.now) rule at from }
+{
+    match thing {
+        Thing::Value(e) => {
+            if is_assignment_of_record(e.get()) {
+                (Rule::ByValue, from)
+            } else {
+                (rule, at)
+            }
+        }
+        _ => (rule, at),
     }
 }

@@ -4,7 +4,7 @@ ghost use Rattle.std.specs.Prelude.{◌≡◌, IfOk, Ok, Some};
 ghost use Rattle.std.specs.Option.{option_copied, option_map};
 ghost use Rattle.c_types.specs.Views.{type_of};
 ghost use Rattle.c_erasure.specs.Erasure.{unmade as unmade_of};
-ghost use Rattle.c_checking.specs.Nodes.{named_in};
+ghost use Rattle.c_erasure.specs.Checking.Nodes.{named_in};
 ghost use Rattle.c_annotated.specs.FileViews.{entity_of};
 ghost use Rattle.c_annotated.specs.Views.{thing_of};
 ghost use Rattle.c_nodes.specs.Gives.{Gives};
@@ -32,7 +32,7 @@ pub fn unmade(alloc: Global, at: Place, t: &Ty) -> Result<Thing, Fault>
 }
 
 /// What a name designates that stands for this.
-#[tactic(auto, unfolding(c_checking::specs::Nodes::named_in))]
+#[tactic(auto, unfolding(c_erasure::specs::Checking::Nodes::named_in))]
 fn entity(alloc: Global, at: Place, x: &[u8], it: &Entity) -> Result<Thing, Fault>
     ensures { Gives thing_of result (named_in at x.now (Some (entity_of it.now))) }
 {
@@ -65,7 +65,7 @@ pub fn name(alloc: Global, x: &[u8]) -> Result<Name, NoMemory>
 }
 
 /// What a name designates, which stands at a place (C99 6.5.1).
-#[tactic(auto, unfolding(c_checking::specs::Nodes::named_in))]
+#[tactic(auto, unfolding(c_erasure::specs::Checking::Nodes::named_in))]
 pub fn named(alloc: Global, at: Place, x: &[u8], it: Option<&Entity>) -> Result<Thing, Fault>
     ensures { Gives thing_of result (named_in at x.now (option_map entity_of (option_copied it.entry))) }
 {

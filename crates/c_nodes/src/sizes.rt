@@ -6,13 +6,15 @@ ghost use Rattle.c_types.specs.Layouts.{size_of as size_of_type};
 ghost use Rattle.c_types.specs.Objects.{parts as parts_of};
 ghost use Rattle.c_types.specs.Types.{Record};
 ghost use Rattle.c_types.specs.Views.{records_of, type_of};
-ghost use Rattle.c_checking.specs.Declaring.{is_small as small_in};
-ghost use Rattle.c_checking.specs.Nodes.{is_complete as complete_in, measured_in, measured_type as type_measured, size_node};
+ghost use Rattle.c_erasure.specs.Broken.{ill_typed};
+ghost use Rattle.c_erasure.specs.Checking.Declaring.{is_small as small_in};
+ghost use Rattle.c_erasure.specs.Checking.Nodes.{is_complete as complete_in, measured_in, measured_type as type_measured, size_node, sized_or as sized_or_in};
 ghost use Rattle.c_annotated.specs.Views.{thing_of};
 ghost use Rattle.c_nodes.specs.Gives.{Gives};
 ghost use Rattle.c_nodes.specs.Sizing.{sized_in, sized_view, with_size};
 
 use crate::fault::Fault;
+use crate::making::misplaced;
 use c_annotated::{Expression, ExpressionNode, SizeOf, Thing};
 use c_types::{IntKind, Records, Ty, checked_size_of, copy, is_object, parts};
 use lay_base::{NoMemory, Place, Rule, boxed};
@@ -67,10 +69,17 @@ pub fn may_be_pointed_to(t: &Ty) -> bool
     parts(t) < 1024
 }
 
-/// A type whose size is asked, with its size. A fault is named at `at`.
-#[tactic(auto, unfolding(c_checking::specs::Nodes::sized_type), using(crate::proofs::Limits::of_small_size))]
-pub fn sized(records: &Records, count: u32, at: u32, t: Ty) -> Result<SizedType, Fault>
-    ensures { Gives sized_view result (sized_in (records_of records.now) count at (type_of t)) }
+/// A type whose size is asked at `at`, with its size; where it is not complete, it breaks that rule there.
+#[tactic(auto, using(crate::proofs::Limits::of_small_size))]
+fn sized_or(
+    records: &Records,
+    count: u32,
+    at: u32,
+    rule: Rule,
+    there: u32,
+    t: Ty,
+) -> Result<SizedType, Fault>
+    ensures { Gives sized_view result (with_size (records_of records.now) (sized_or_in (records_of records.now) count at (ill_typed rule there) (type_of t))) }
 {
     if is_object(count, &t) && is_object(records.len(), &t) {
         match checked_size_of(records, &t) {
@@ -78,12 +87,20 @@ pub fn sized(records: &Records, count: u32, at: u32, t: Ty) -> Result<SizedType,
             None => Err(Fault::TooBig(at)),
         }
     } else {
-        Err(Fault::IllTyped(Rule::Incomplete, at))
+        Err(Fault::IllTyped(rule, there))
     }
 }
 
+/// A type whose size is asked, with its size. A fault is named at `at`.
+#[tactic(auto, unfolding(c_erasure::specs::Checking::Nodes::sized_type))]
+pub fn sized(records: &Records, count: u32, at: u32, t: Ty) -> Result<SizedType, Fault>
+    ensures { Gives sized_view result (sized_in (records_of records.now) count at (type_of t)) }
+{
+    sized_or(records, count, at, Rule::Incomplete, at, t)
+}
+
 /// The type of an operand of `sizeof`; a function has none.
-#[tactic(auto, unfolding(c_checking::specs::Nodes::measured_type))]
+#[tactic(auto, unfolding(c_erasure::specs::Checking::Nodes::measured_type))]
 fn measured_type(thing: &Thing) -> Result<Option<Ty>, NoMemory>
     ensures { IfOk result (λ t. option_map type_of t ≡ type_measured (thing_of thing.now)) }
 {
@@ -94,14 +111,21 @@ fn measured_type(thing: &Thing) -> Result<Option<Ty>, NoMemory>
     }
 }
 
-/// The type of an operand of `sizeof`, which stands at `at`, with its size.
-#[tactic(auto, unfolding(c_checking::specs::Nodes::measured_in))]
-pub fn measured(records: &Records, count: u32, at: u32, thing: &Thing) -> Result<SizedType, Fault>
-    ensures { Gives sized_view result (with_size (records_of records.now) (measured_in (records_of records.now) count at (thing_of thing.now))) }
+/// The type of an operand of `sizeof`, which begins at `from`, with its size. `sizeof` stands at `at`.
+#[tactic(auto, unfolding(c_erasure::specs::Checking::Nodes::measured_in))]
+pub fn measured(
+    records: &Records,
+    count: u32,
+    at: u32,
+    from: u32,
+    thing: &Thing,
+) -> Result<SizedType, Fault>
+    ensures { Gives sized_view result (with_size (records_of records.now) (measured_in (records_of records.now) count at from (thing_of thing.now))) }
 {
+    let (rule, there) = misplaced(thing, Rule::Incomplete, at, from);
     match measured_type(thing)? {
-        Some(t) => sized(records, count, at, t),
-        None => Err(Fault::IllTyped(Rule::Incomplete, at)),
+        Some(t) => sized_or(records, count, at, rule, there, t),
+        None => Err(Fault::IllTyped(rule, there)),
     }
 }
 

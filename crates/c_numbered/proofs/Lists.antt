@@ -15,7 +15,7 @@ use Rattle.c_annotated.specs.Views.{OneArm as NotedArm, statement_of as noted_st
 use Rattle.c_annotated.specs.declared.expression.Expression.{Expression}
 use Rattle.c_annotated.specs.declared.statement.Arm.{Arm}
 use Rattle.c_annotated.specs.declared.statement.Statement.{Statement}
-use Rattle.c_renumbering.specs.Nodes.{arm_of}
+use Rattle.c_numbers.specs.NewNumbers.Nodes.{arm_of}
 use Rattle.c_numbered.specs.Numbered.{numbered, numbered_arm}
 
 -- all items are made where nothing is left of them

@@ -15,7 +15,7 @@ use Rattle.c_annotated.specs.declared.expression.Expression.{Expression, the_lem
 use Rattle.c_annotated.specs.declared.expression.ExpressionNode.TheVariants as E
 use Rattle.c_annotated.specs.declared.statement.Statement.{Statement, the_lemmas as statement_lemmas}
 use Rattle.c_annotated.specs.declared.statement.Statement.TheVariants as S
-use Rattle.c_renumbering.specs.Nodes.{node_of}
+use Rattle.c_numbers.specs.NewNumbers.Nodes.{node_of}
 
 node_is : (r : ℕ) (count : Expression) (zeroed : Bool) → noted_node (E.Allocate r (Some count) zeroed)
     ≡ Trees.allocate r (Trees.some_expression (noted_expression count)) zeroed

@@ -4,11 +4,11 @@ ghost use Rattle.std.specs.Prelude.{◌≡◌, IfOk, map};
 ghost use Rattle.c_annotated.specs.Nodes.{node_of as noted_node, path_node_of as noted_path_node};
 ghost use Rattle.c_annotated.specs.Views.{expression_of as noted_expression, expressions_of as noted_expressions, path_of as noted_path};
 ghost use Rattle.c_numbered.specs.Numbered.{numbered};
-ghost use Rattle.c_renumbering.specs.Nodes.{node_of, path_node_of};
+ghost use Rattle.c_numbers.specs.NewNumbers.Nodes.{node_of, path_node_of};
 ghost use Rattle.c_typed.specs.Mapped.{mapped, mapped_all, mapped_node, mapped_path, mapped_step};
 ghost use Rattle.c_typed.specs.Views.{expression_of, expressions_of, path_of};
 
-use c_type_table::TypeTable;
+use c_numbers::TypeTable;
 use c_typed::{Expression, ExpressionNode, Path, PathNode};
 use lay_base::{Boxed, List, NoMemory, add, boxed, with_room};
 use std::alloc::Global;

@@ -9,7 +9,7 @@ ghost use Rattle.c_typed.specs.Mapped.{mapped, mapped_initializer, mapped_part, 
 ghost use Rattle.c_typed.specs.Views.{expression_of, initializer_of, part_of, part_value_of};
 
 use crate::expressions::{operand, path};
-use c_type_table::TypeTable;
+use c_numbers::TypeTable;
 use c_typed::{Expression, Initializer, InitializerPart, PartValue};
 use lay_base::{Boxed, Bytes, List, NoMemory, add, with_room};
 use std::alloc::Global;

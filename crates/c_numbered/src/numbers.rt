@@ -4,7 +4,7 @@ ghost use Rattle.std.specs.Prelude.{◌≡◌, IfOk, map};
 ghost use Rattle.c_erasure.specs.Units.{number_in};
 ghost use Rattle.c_types.specs.Views.{type_of};
 
-use c_type_table::TypeTable;
+use c_numbers::TypeTable;
 use c_types::Ty;
 use lay_base::NoMemory;
 use std::alloc::Global;

@@ -3,6 +3,9 @@
 //!
 //! It stands on `c_expressions`, `c_cursor` and `c_grammar`. It promises that the tree of a file's bytes is found exactly
 //! where there is one, and that there is at most one. Each reader answers what the reader on lists of its name gives.
+//!
+//! Not proved: how much memory a tree takes, and that the stack has room. The place of `NoParse` is that of the token at which reading stopped; the contract
+//! says only that it is the place of a token or of the end.
 #![tactic(auto)]
 
 mod conditions;

@@ -27,19 +27,7 @@ const DEPTH: u16 = 400;
 fn is_unsupported(keyword: Keyword) -> bool
     ensures { result ≡ is_unsupported keyword }
 {
-    matches!(
-        keyword,
-        Keyword::Double
-            | Keyword::Float
-            | Keyword::Goto
-            | Keyword::Inline
-            | Keyword::Restrict
-            | Keyword::Union
-            | Keyword::Volatile
-            | Keyword::UnderscoreBool
-            | Keyword::UnderscoreComplex
-            | Keyword::UnderscoreImaginary
-    )
+    matches!(keyword, Keyword::LeftOut(_))
 }
 
 /// The first keyword that is not supported, with its place.

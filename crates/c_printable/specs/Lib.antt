@@ -3,3 +3,6 @@ pub mod Expressions
 pub mod Initializers
 pub mod Statements
 pub mod Programs
+pub mod PrintableFunctions
+pub mod PrintableObjects
+pub mod PrintablePrograms

@@ -1,4 +1,5 @@
 pub mod Calls
 pub mod Lists
 pub mod Notes
+pub mod SizeCalls
 pub mod Optional

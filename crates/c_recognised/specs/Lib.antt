@@ -1,3 +1,4 @@
 pub mod Arms
 pub mod Calls
 pub mod Conversions
+pub mod Operands

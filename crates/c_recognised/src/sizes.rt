@@ -39,7 +39,7 @@ fn is_note_of(r: u32, note: &Option<Boxed<SizeOf>>) -> bool
 }
 
 /// An expression without the implicit conversion at its top, where no note stands beside that.
-fn lent_unconverted(e: &Expression) -> &Expression
+pub fn lent_unconverted(e: &Expression) -> &Expression
     ensures { expression_of result.now ≡ unconverted (expression_of e.now) }
 {
     match &e.node {
@@ -65,7 +65,7 @@ fn take(e: &mut Expression) -> Expression
 }
 
 /// Whether an expression is a constant that is the size of the record with a number.
-fn is_constant_of(r: u32, e: &Expression) -> bool
+pub fn is_constant_of(r: u32, e: &Expression) -> bool
     ensures { result ≡ is_constant_of r (expression_of e.now) }
 {
     match &e.node {

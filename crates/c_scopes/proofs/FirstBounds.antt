@@ -5,8 +5,8 @@ use Rattle.std.specs.Prelude.{◌&&◌, if◌then◌else◌, nat_le, slice_get}
 use Rattle.std.specs.Option.{option_map}
 use Rattle.std.specs.Str.{bytes_eq}
 use Rattle.c_erasure.specs.Scopes as Scopes
-use Rattle.c_checking.specs.Declaring.{declared_among}
-use Rattle.c_checking.specs.Files.{defined_among}
+use Rattle.c_erasure.specs.Checking.Declaring.{declared_among}
+use Rattle.c_erasure.specs.Checking.Files.{defined_among}
 use Rattle.c_annotated.specs.declared.names.Bound.{Bound}
 use Rattle.c_annotated.specs.declared.names.How.{How}
 use Rattle.c_annotated.specs.declared.names.How.TheVariants as H

@@ -7,7 +7,7 @@ use Rattle.std.specs.Str.{bytes_eq}
 use Rattle.std.proofs.lemmas.Slice.Eq.{bytes_eq-Decides}
 use Rattle.indexmap.specs.IndexMap.{insert_entry}
 use Rattle.c_erasure.specs.Scopes.{or_else}
-use Rattle.c_tags.specs.Keys.{found_at}
+use Rattle.c_scopes.specs.SyntaxTags.Keys.{found_at}
 use Rattle.c_annotated.specs.declared.names.Bound.{Bound}
 use Rattle.c_scopes.specs.declared.places.Places.{Places}
 use Rattle.c_scopes.specs.Places.{declared_at, declares, defined_at, defines, first_place, is_defining, HasPlaces}

@@ -1,2 +1,3 @@
 mod FirstBounds
 mod FirstPlaces
+pub mod SyntaxTags

@@ -1,3 +1,4 @@
 pub mod Views
 pub mod Scoping
 pub mod Places
+pub mod SyntaxTags

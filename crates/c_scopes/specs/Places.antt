@@ -7,7 +7,7 @@ use Rattle.c_annotated.specs.declared.names.Bound.{Bound}
 use Rattle.c_annotated.specs.declared.names.How.{How}
 use Rattle.c_annotated.specs.declared.names.How.TheVariants as H
 use Rattle.c_scopes.specs.declared.places.Places.{Places}
-use Rattle.c_tags.specs.Keys.{found_at}
+use Rattle.c_scopes.specs.SyntaxTags.Keys.{found_at}
 
 abbrev pub is_defining : How → Bool
 is_defining H.Defines = true

@@ -4,7 +4,7 @@ use Rattle.std.specs.Borrow.{Bor}
 use Rattle.c_types.specs.Views.{records_of}
 use Rattle.c_erasure.specs.Scopes as Scopes
 use Rattle.c_annotated.specs.FileViews.{bound_of, object_of, function_of, mention_of, local_of}
-use Rattle.c_tags.specs.Untagged.{untagged_by}
+use Rattle.c_scopes.specs.SyntaxTags.Untagged.{untagged_by}
 use Rattle.c_scopes.specs.declared.block.Block.{Block}
 use Rattle.c_scopes.specs.declared.file_scope.FileScope.{FileScope}
 use Rattle.c_scopes.specs.declared.scope.Purpose.{Purpose}

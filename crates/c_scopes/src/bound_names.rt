@@ -1,12 +1,12 @@
 //! `BoundNames`: what names stand for, in the order of their declarations.
 
-ghost use Rattle.std.specs.Prelude.{◌≡◌, ◌++◌, ◌∷◌, [], Some, None, if◌then◌else◌, OnErr, OnOk, length, map, slice_get};
+ghost use Rattle.std.specs.Prelude.{◌≡◌, ◌<◌, ◌++◌, ◌∷◌, [], Some, None, if◌then◌else◌, OnErr, OnOk, length, map, slice_get, vec_capacity, vec_len};
 ghost use Rattle.std.specs.Option.{option_copied, option_map};
 ghost use Rattle.c_erasure.specs.Scopes.{visible};
-ghost use Rattle.c_checking.specs.Declaring.{declared_among};
-ghost use Rattle.c_checking.specs.Files.{defined_among};
+ghost use Rattle.c_erasure.specs.Checking.Declaring.{declared_among};
+ghost use Rattle.c_erasure.specs.Checking.Files.{defined_among};
 ghost use Rattle.c_annotated.specs.FileViews.{bound_of, entity_of};
-ghost use Rattle.c_scopes.specs.Places.{is_defining};
+ghost use Rattle.c_scopes.specs.Places.{HasPlaces, is_defining};
 
 use crate::places::{Places, declared_at, defined_at, note};
 use c_annotated::{Bound, Entity, How};
@@ -84,6 +84,26 @@ fn definition_at(how: How, place: u32) -> Option<u32>
     }
 }
 
+/// Makes room for a declaration after the others, and notes its place in the table. The declaration is lent, so that its owner makes
+/// one call that may fail.
+fn make_room(
+    bounds: &mut Vec<Bound>,
+    places: &mut IndexMap<Vec<u8>, Places>,
+    alloc: Global,
+    b: &Bound,
+) -> Result<(), NoMemory>
+    ensures noted { OnOk result (HasPlaces places.old.entries bounds.old.items → HasPlaces places.new.entries (bounds.old.items ++ b.now ∷ [])) }
+    ensures same { bounds.new.items ≡ bounds.old.items }
+    ensures room { OnOk result (vec_len bounds.new < vec_capacity bounds.new) }
+    ensures unchanged { OnErr result (places.new.entries ≡ places.old.entries) }
+{
+    let place = u32::try_from(bounds.len()).map_err(|_| NoMemory)?;
+    bounds.reserve(1).map_err(|_| NoMemory)?;
+    let definition = definition_at(b.how, place);
+    note(places, alloc, b.name.as_slice(), place, definition)?;
+    Ok(())
+}
+
 impl BoundNames {
     /// No names yet.
     pub fn new(alloc: Global) -> BoundNames
@@ -157,16 +177,7 @@ impl BoundNames {
         ensures added { OnOk result (self.new ≡ self.old ++ b ∷ []) }
         ensures unchanged { OnErr result (self.new ≡ self.old) }
     {
-        let place = u32::try_from(self.bounds.len()).map_err(|_| NoMemory)?;
-        self.bounds.reserve(1).map_err(|_| NoMemory)?;
-        let definition = definition_at(b.how, place);
-        note(
-            &mut self.places,
-            alloc,
-            b.name.as_slice(),
-            place,
-            definition,
-        )?;
+        make_room(&mut self.bounds, &mut self.places, alloc, &b)?;
         self.bounds.push_reserved(b);
         Ok(())
     }

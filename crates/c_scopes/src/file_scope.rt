@@ -1,8 +1,8 @@
 //! `FileScope`: a file with all that it declares up to some byte.
 
 use crate::bound_names::BoundNames;
+use crate::syntax_tags::Tags;
 use c_annotated::{Function, Mention, Object};
-use c_tags::Tags;
 use c_types::Records;
 use lay_base::List;
 

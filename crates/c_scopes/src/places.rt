@@ -3,7 +3,7 @@
 ghost use Rattle.std.specs.Prelude.{◌≡◌, ℕ, List, Some, None, if◌then◌else◌, OnErr, OnOk};
 ghost use Rattle.std.specs.Str.{bytes_eq};
 ghost use Rattle.c_erasure.specs.Scopes.{or_else};
-ghost use Rattle.c_tags.specs.Keys.{found_at};
+ghost use Rattle.c_scopes.specs.SyntaxTags.Keys.{found_at};
 ghost use Rattle.c_scopes.specs.Places.{declared_at, defined_at};
 
 use indexmap::IndexMap;

@@ -1,6 +1,9 @@
 -- Lines that begin with '#' in preprocessed text: line markers and #line (C99 6.10.4), #pragma (6.10.6), and the
 -- null directive (6.10.7).
-use Rattle.std.specs.Prelude.{◌≡◌, ℕ, ◌^◌, ◌<◌, ◌+◌, IsTrue, Bool, true, false, List, [], ◌∷◌, ◌++◌, All, codes, length, Option, Some, None}
+use Rattle.std.specs.Prelude.{◌≡◌, ℕ, ◌^◌, ◌<◌, ◌+◌, ◌==◌, ◌||◌, IsTrue, Bool, true, false, List, [], ◌∷◌, ◌++◌, All, codes, length, take, drop, bytes_eq}
+use Rattle.std.specs.Prelude.{Option}
+use Rattle.std.specs.Prelude.{Some, None}
+use Rattle.std.specs.List.{prefix_len}
 use Rattle.c_tokens.specs.declared.directive.Directive.{Directive}
 use Rattle.c_tokens.specs.declared.directive.Directive.TheVariants.{Silent, Renumbers}
 use Rattle.c_tokens.specs.declared.directive.NameRange.{NameRange}
@@ -64,6 +67,22 @@ pub record IsMarker (m : Marker) : Type 0 where
   pub flags : All (λ flag. IsGap flag.0 × AreDigits flag.1) m.flags
   pub back : AreBlank m.back
 
+-- ---- pragmas by which GCC lays structures out in another way, which are refused
+
+-- is it the first word of such a pragma?
+abbrev pub is_layout_word : List ℕ → Bool
+is_layout_word word = bytes_eq word (codes "pack") || (bytes_eq word (codes "ms_struct") || bytes_eq word (codes "scalar_storage_order"))
+
+abbrev pub after_blanks : List ℕ → List ℕ
+after_blanks text = drop (prefix_len is_blank text) text
+
+abbrev pub first_word : List ℕ → List ℕ
+first_word text = take (prefix_len goes_on_in_name text) text
+
+-- does such a word stand first after "pragma", or a "/", which may begin a comment before it?
+abbrev pub may_change_layout : List ℕ → Bool
+may_change_layout text = begins (λ b. b == 47) (after_blanks text) || is_layout_word (first_word (after_blanks text))
+
 -- ---- a line
 
 -- where the name stands after the '#'
@@ -78,7 +97,8 @@ directive_of m = Renumbers (value_of_digits 10 m.digits) (name_range (length (m.
 pub data IsDirective : List ℕ → Directive → Type 0 where
   -- `#` alone
   null : {content : List ℕ} → AreBlank content → IsDirective content Silent
-  -- `#pragma` with anything
-  pragma : (front anything : List ℕ) → AreBlank front → begins goes_on_in_name anything ≡ false → IsDirective (front ++ codes "pragma" ++ anything) Silent
+  -- `#pragma` with anything that changes no layout
+  pragma : (front anything : List ℕ) → AreBlank front → begins goes_on_in_name anything ≡ false → may_change_layout anything ≡ false
+      → IsDirective (front ++ codes "pragma" ++ anything) Silent
   -- `# NUMBER ["NAME"] {FLAG}`, `#line NUMBER ["NAME"]`
   marker : (m : Marker) → IsMarker m → IsDirective (marker_text m) (directive_of m)

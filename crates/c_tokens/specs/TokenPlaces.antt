@@ -1,5 +1,7 @@
 -- Tokens and faults stand at places of which lines are presumed, and in order.
-use Rattle.std.specs.Prelude.{ℕ, ◌≤◌, List, [], ◌∷◌, All, length}
+use Rattle.std.specs.Prelude.{◌≡◌, ℕ, ◌≤◌, List, [], ◌∷◌, All, length, Some, slice_get}
+use Rattle.lay_base.specs.declared.place.File.{File}
+use Rattle.lay_base.specs.declared.place.Place.{Place}
 use Rattle.c_tokens.specs.declared.token.Token.{Token}
 use Rattle.c_tokens.specs.declared.fault.FaultKind.{FaultKind}
 use Rattle.c_tokens.specs.Lexes.{Lexes, LexFaultAt}
@@ -8,6 +10,10 @@ use Rattle.c_tokens.specs.Presuming.{AreTokensBefore}
 -- a place in the text, before which there are tokens
 abbrev pub IsPlaceIn : List ℕ → ℕ → Type 0
 IsPlaceIn bytes at = (at ≤ length bytes) × AreTokensBefore at bytes
+
+-- such a place of one of some files
+abbrev pub IsPlaceOf : List File → Place → Type 0
+IsPlaceOf files place = (file : File) × (slice_get files place.file ≡ Some file) × IsPlaceIn file.bytes place.at
 
 -- the tokens come one after the other, from a byte on
 abbrev pub AreInOrder : ℕ → List Token → Type 0

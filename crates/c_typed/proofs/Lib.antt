@@ -3,3 +3,5 @@ mod ExamplesOfFits
 mod ExamplesOfTyped
 pub mod TypeLists
 pub mod Nulls
+pub mod RunCounts
+pub mod LoopTallies

@@ -1,6 +1,6 @@
 -- The values that an object may hold before the program starts (C99 6.6, 6.7.8): numbers, null pointers, and addresses of functions and of
 -- objects that live as long as the program, with a number of bytes.
-use Rattle.std.specs.Prelude.{ℕ, Bool, true, false, ◌&&◌, if◌then◌else◌, nat_le, ℤ, pos, negsuc, ◌+ℤ◌, ◌*ℤ◌, List, Option, Some, None}
+use Rattle.std.specs.Prelude.{ℕ, Bool, true, false, ◌&&◌, if◌then◌else◌, nat_le, nat_lt, ℤ, pos, negsuc, ◌+ℤ◌, ◌*ℤ◌, List, Option, Some, None}
 use Rattle.std.specs.Prelude.{get_or}
 use Rattle.c_types.specs.declared.ty.IntKind.{IntKind}
 use Rattle.c_types.specs.Types.{CType, void, integer, pointer, array, Record}
@@ -11,6 +11,7 @@ use Rattle.c_typed.specs.Trees as Trees
 use Rattle.c_typed.specs.Trees.{Expression, expression, Node, Path, path, PathNode}
 use Rattle.c_typed.specs.Conversions.{is_pointer, number_of}
 use Rattle.c_typed.specs.Constants.{Constant, valued, kind_of, ty, constant_of, is_null}
+use Rattle.c_typed.specs.Subscripts.{is_subscript}
 use Rattle.c_typed.specs.Typed.{Declared}
 
 -- a byte of an object, or the end of it
@@ -47,10 +48,15 @@ module _ (d : Declared) where
   moved (Some a) None size = None
   moved (Some a) (Some k) size = within a.object (pos a.offset +ℤ k *ℤ pos size)
 
-  -- an element of an array, or its end
-  abbrev pub subscripted : CType → Option Address → Option ℤ → Option Address
-  subscripted (array t n) (Some a) (Some (pos k)) = if nat_le k n then moved (Some a) (Some (pos k)) (size_of d.records t) else None
-  subscripted t a k = None
+  -- an element of an array; as the operand of `&` its end too
+  abbrev pub subscripted : (addressed : Bool) → CType → Option Address → Option ℤ → Option Address
+  subscripted addressed (array t n) (Some a) (Some k) = if is_subscript n addressed k then moved (Some a) (Some k) (size_of d.records t) else None
+  subscripted addressed t a k = None
+
+  -- a field, whose first byte lies in the object
+  abbrev pub inside : Option Address → Option Address
+  inside None = None
+  inside (Some a) = if nat_lt a.offset (size_of d.records (get_or d.objects a.object void)) then Some a else None
 
   abbrev pub or_negated : PointerOp → Option ℤ → Option ℤ
   or_negated P.Add k = k
@@ -60,24 +66,25 @@ module _ (d : Declared) where
   abbrev pub path_type : Path CType → CType
   path_type (path t at step) = t
 
+  -- where a path leads, which may be the operand of `&`; what is undefined in a function has no address here
   abbrev mutual
-    pub address_of_path : Path CType → Option Address
-    address_of_path (path t at step) = address_of_step step
+    pub address_of_path : (addressed : Bool) → Path CType → Option Address
+    address_of_path addressed (path t at step) = address_of_step addressed step
 
-    pub address_of_step : PathNode CType → Option Address
-    address_of_step (Trees.local n) = None
-    address_of_step (Trees.object n) = Some (record { object = n; offset = 0 })
-    address_of_step (Trees.deref e) = address_in e
-    address_of_step (Trees.index e i) = moved (address_in e) (number_in (ty i) (constant_of i)) (element_size d.records (ty e))
-    address_of_step (Trees.member p r field) = moved (address_of_path p) (Some (pos (offset_of d.records r field))) 1
-    address_of_step (Trees.element p i) = subscripted (path_type p) (address_of_path p) (number_in (ty i) (constant_of i))
+    pub address_of_step : (addressed : Bool) → PathNode CType → Option Address
+    address_of_step addressed (Trees.local n) = None
+    address_of_step addressed (Trees.object n) = Some (record { object = n; offset = 0 })
+    address_of_step addressed (Trees.deref e) = address_in e
+    address_of_step addressed (Trees.index e i) = moved (address_in e) (number_in (ty i) (constant_of i)) (element_size d.records (ty e))
+    address_of_step addressed (Trees.member p r field) = inside (moved (address_of_path false p) (Some (pos (offset_of d.records r field))) 1)
+    address_of_step addressed (Trees.element p i) = subscripted addressed (path_type p) (address_of_path false p) (number_in (ty i) (constant_of i))
 
     pub address_in : Expression CType → Option Address
     address_in (expression t at node) = address_in_node t node
 
     pub address_in_node : CType → Node CType → Option Address
-    address_in_node t (Trees.address_of p) = address_of_path p
-    address_in_node t (Trees.decay p) = address_of_path p
+    address_in_node t (Trees.address_of p) = address_of_path true p
+    address_in_node t (Trees.decay p) = address_of_path false p
     address_in_node t (Trees.convert e written) = if is_pointer t then address_in e else None
     address_in_node t (Trees.pointer_add op x y) = if is_pointer (ty x)
         then moved (address_in x) (or_negated op (number_in (ty y) (constant_of y))) (element_size d.records t)

@@ -11,8 +11,11 @@ pub mod Fits
 pub mod Rules
 pub mod Typed
 pub mod Parts
+pub mod Subscripts
 pub mod InitialValues
 pub mod TypedStatements
 pub mod TypeNumbers
 pub mod Programs
 pub mod AnswerViews
+pub mod RunCounts
+pub mod LoopTallies

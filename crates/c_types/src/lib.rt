@@ -3,6 +3,9 @@
 //! It stands on `lay_base`, whose list and shared values its types are built of. It promises that two types are
 //! equal where they are built alike, that sizes and offsets are those of C99 with the widths of the
 //! profile, and that every record of a list is complete.
+//!
+//! Not proved: how long anything takes. A size is found in as many steps as a type has dimensions, a record is added in as many as its fields have. Which
+//! types are compatible, and which conversions there are, the layers above say.
 #![tactic(auto)]
 
 mod fault;

@@ -3,6 +3,5 @@ pub mod Alike
 pub mod Locals
 pub mod Whole
 pub mod Nodes
-pub mod Sizeofs
 pub mod Agreeing
 pub mod Stable

@@ -1,5 +1,6 @@
 -- Functions are numbered one after the other, since types that are added later change no number of those that are there.
-use Rattle.std.proofs.Common.{◌≡◌, Vec, ℕ, ◌+◌, ◌<◌, Bool, true, false, ◌||◌, List, [], ◌∷◌, ◌++◌, length, map, flat_map, fold, refl, sym, ap, ◌∙◌, arith, rules}
+use Rattle.std.proofs.Common.{◌≡◌, Vec, ℕ, ◌+◌, ◌<◌, Bool, true, false, ◌||◌, List, [], ◌∷◌, ◌++◌, length, map, flat_map, fold, refl, sym, ap, ◌∙◌, arith}
+use Rattle.std.proofs.Common.{rules}
 use Rattle.std.specs.Prelude.{Option, Some, None, if◌then◌else◌}
 use Rattle.std.specs.List.{list_any, AllByRecursion}
 use Rattle.std.specs.Option.{option_map}
@@ -9,14 +10,14 @@ use Rattle.std.proofs.lemmas.List.Sums.{fold-append}
 use Rattle.c_types.proofs.SameTypes.{same_is, same_self}
 use Rattle.c_types.specs.Sameness.{same_type}
 use Rattle.c_types.specs.Types.{CType}
-use Rattle.c_type_table.specs.Adding.{with_type}
+use Rattle.c_numbers.specs.TypeNumbers.Adding.{with_type}
 use Rattle.c_typed.specs.Mapped.{mapped_statement, of_types}
 use Rattle.c_typed.specs.Trees as Trees
 use Rattle.c_typed.specs.Walk.{types_in_statement}
 use Rattle.c_erasure.specs.Noted.{Noted}
 use Rattle.c_erasure.specs.Scopes.{AFunction, ALocal, AMention}
 use Rattle.c_erasure.specs.Units.{if_any, is_among, new_among, number_in}
-use Rattle.c_type_table.proofs.Laws.{all_new}
+use Rattle.c_numbers.proofs.TypeNumbers.Laws.{all_new}
 use Rattle.c_typed.specs.Programs.{FunctionData}
 use Rattle.c_units.specs.CollectedTypes.{all_types, function_types, object_types}
 use Rattle.c_units.specs.NumberedParts.{function_in, locals_in, taken_in}

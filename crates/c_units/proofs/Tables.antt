@@ -5,8 +5,8 @@ use Rattle.std.specs.Str.{bytes_eq}
 use Rattle.std.proofs.lemmas.Bool.{ltb-false, ltb-true}
 use Rattle.std.proofs.lemmas.Bool.Decides.{Decides-eqb}
 use Rattle.std.proofs.lemmas.List.Folds.{list_any-append}
-use Rattle.numbering.specs.Keys.{is_among as is_key, position, with_key}
-use Rattle.numbering.proofs.Laws.{absent, found}
+use Rattle.c_numbers.specs.KeyNumbers.Keys.{is_among as is_key, position, with_key}
+use Rattle.c_numbers.proofs.KeyNumbers.Laws.{absent, found}
 use Rattle.c_erasure.specs.Units.{is_among}
 use Rattle.c_units.specs.SizeOperands.{holds}
 

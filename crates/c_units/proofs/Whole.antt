@@ -16,14 +16,14 @@ use Rattle.c_typed.specs.Walk.{types_in_initializer, types_in_statement}
 use Rattle.c_erasure.specs.InitialMentions.{told_by_initial}
 use Rattle.c_erasure.specs.Noted.{Noted}
 use Rattle.c_erasure.specs.Scopes.{AFunction, ALocal, AMention, AnObject, FileScope}
+use Rattle.c_erasure.specs.SizeOperands.{operands_in_statement}
 use Rattle.c_erasure.specs.Units as U
 use Rattle.c_units.specs.CollectedTypes.{all_types, function_types, object_types}
 use Rattle.c_units.specs.NumberedParts.{function_in, initial_in, locals_in, mention_in, object_in, taken_in}
 use Rattle.c_units.specs.RecognisedParts.{recognised_function, recognised_object}
-use Rattle.c_units.specs.SizeOperands.{has_sizeof, kept, mentions_of, nodes_of, told}
+use Rattle.c_units.specs.SizeOperands.{kept, mentions_of, operands_of, told}
 use Rattle.c_units.specs.UnitWith.{GivenParts, given, given_by, numbered, unit_with}
 use Rattle.c_units.specs.ValuedObjects.{ValuedObject, valued}
-use Rattle.c_units.proofs.Sizeofs.{kept_before}
 
 -- ---- lists
 
@@ -48,28 +48,6 @@ any_alike g r (Some x) = refl
 
 -- ---- mentions
 
-bodies_recognised : (all : List AFunction) → flat_map (λ g. flat_map types_in_statement (U.if_any g.body)) (map recognised_function all)
-    ≡ flat_map (λ g. flat_map (λ s. types_in_statement (U.recognised_statement s)) (U.if_any g.body)) all
-bodies_recognised all = flat_alike (λ g. flat_map types_in_statement (U.if_any g.body)) recognised_function _
-    (λ g. any_alike types_in_statement U.recognised_statement g.body) all
-
-initials_recognised : (all : List AnObject) → flat_map (λ o. flat_map types_in_initializer (U.if_any o.initial)) (map recognised_object all)
-    ≡ flat_map (λ o. flat_map (λ i. types_in_initializer (U.recognised_initializer i)) (U.if_any o.initial)) all
-initials_recognised all = flat_alike (λ o. flat_map types_in_initializer (U.if_any o.initial)) recognised_object _
-    (λ o. any_alike types_in_initializer U.recognised_initializer o.initial) all
-
-noted_is : (f : FileScope) → nodes_of f.objects f.functions ≡ U.noted_in f
-noted_is f =
-    ap (λ them. them ++ flat_map (λ o. flat_map types_in_initializer (U.if_any o.initial)) f.objects) (flat_flat types_in_statement (λ g. U.if_any g.body) f.functions)
-    ∙ ap (λ them. flat_map types_in_statement (U.bodies f) ++ them) (flat_flat types_in_initializer (λ o. U.if_any o.initial) f.objects)
-
-left_is : (f : FileScope) → nodes_of (map recognised_object f.objects) (map recognised_function f.functions) ≡ U.left_in f
-left_is f =
-    ap (λ them. them ++ flat_map (λ o. flat_map types_in_initializer (U.if_any o.initial)) (map recognised_object f.objects))
-    (bodies_recognised f.functions ∙ flat_flat (λ s. types_in_statement (U.recognised_statement s)) (λ g. U.if_any g.body) f.functions)
-    ∙ ap (λ them. flat_map (λ s. types_in_statement (U.recognised_statement s)) (U.bodies f) ++ them)
-    (initials_recognised f.objects ∙ flat_flat (λ i. types_in_initializer (U.recognised_initializer i)) (λ o. U.if_any o.initial) f.objects)
-
 told_recognised : (initial : Option (Trees.Initializer Noted))
     → told_by_initial (option_map (mapped_initializer (of_types (λ t. t.ty))) (option_map U.recognised_initializer initial))
     ≡ told_by_initial (option_map U.typed_initializer initial)
@@ -80,24 +58,19 @@ told_is : (all : List AnObject) → told (map recognised_object all) ≡ flat_ma
 told_is all = flat_alike (λ o. told_by_initial (option_map (mapped_initializer (of_types (λ t. t.ty))) o.initial)) recognised_object _
     (λ o. told_recognised o.initial) all
 
+operands_are : (f : FileScope) → operands_of f.functions ≡ U.size_operands f
+operands_are f = flat_flat operands_in_statement (λ g. U.if_any g.body) f.functions
+
 pub mentions_are : (f : FileScope) → mentions_of f.objects f.functions f.mentions ≡ U.mentions f
 mentions_are f =
-    let objects = map recognised_object f.objects in
-    let after = nodes_of objects (map recognised_function f.functions) in
-    ap (λ them. kept (U.is_among (U.size_places them)) (U.is_among (U.size_places after)) f.mentions ++ told objects) (noted_is f)
-    ∙ ap (λ them. kept (U.is_among (U.size_places (U.noted_in f))) (U.is_among (U.size_places them)) f.mentions ++ told objects) (left_is f)
-    ∙ ap (λ them. kept (U.is_among (U.size_places (U.noted_in f))) (U.is_among (U.size_places (U.left_in f))) f.mentions ++ them) (told_is f.objects)
+    ap (λ them. kept (U.is_among them) f.mentions ++ told (map recognised_object f.objects)) (operands_are f)
+    ∙ ap (λ them. kept (U.is_among (U.size_operands f)) f.mentions ++ them) (told_is f.objects)
 
-pub mentions_left : (before : ℕ → Bool) (objects left : List AnObject) (functions done : List AFunction) (all : List AMention)
-    → (has_sizeof all ≡ true → before ≡ U.is_among (U.size_places (nodes_of objects functions))) → left ≡ map recognised_object objects
-    → done ≡ map recognised_function functions
-    → kept before (U.is_among (U.size_places (nodes_of left done))) all ++ told left ≡ mentions_of objects functions all
-mentions_left before objects left functions done all b l d =
-    ap (λ them. them ++ told left) (kept_before all before (U.is_among (U.size_places (nodes_of objects functions)))
-    (U.is_among (U.size_places (nodes_of left done))) b)
-    ∙ ap (λ them. kept (U.is_among (U.size_places (nodes_of objects functions))) (U.is_among (U.size_places (nodes_of left them))) all ++ told left) d
-    ∙ ap (λ them. kept (U.is_among (U.size_places (nodes_of objects functions)))
-    (U.is_among (U.size_places (nodes_of them (map recognised_function functions)))) all ++ told them) l
+pub mentions_left : (is_size : ℕ → Bool) (objects left : List AnObject) (functions : List AFunction) (all : List AMention)
+    → is_size ≡ U.is_among (operands_of functions) → left ≡ map recognised_object objects
+    → kept is_size all ++ told left ≡ mentions_of objects functions all
+mentions_left is_size objects left functions all s l =
+    ap (λ them. kept them all ++ told left) s ∙ ap (λ them. kept (U.is_among (operands_of functions)) all ++ told them) l
 
 -- ---- types
 

@@ -4,12 +4,7 @@ use Rattle.c_types.specs.Types.{CType}
 use Rattle.c_typed.specs.Walk.{types_in_statement}
 use Rattle.c_erasure.specs.Scopes.{AFunction, AMention}
 use Rattle.c_erasure.specs.Units.{if_any, type_if_pointer}
-use Rattle.c_walks.specs.NodeTypes.{nodes_in}
-use Rattle.c_walks.specs.declared.nodes.Nodes.{Nodes}
 use Rattle.c_units.specs.ValuedObjects.{ValuedObject}
-
-unfoldable pub types_in : Nodes → List CType
-types_in found = map (λ t. t.ty) (nodes_in found)
 
 abbrev pub object_types : ValuedObject → List CType
 object_types o = o.ty ∷ flat_map (flat_map type_if_pointer) (if_any o.initial)

@@ -10,7 +10,7 @@ ghost use Rattle.c_typed.specs.Views.{statement_of};
 ghost use Rattle.c_erasure.specs.Units.{is_among, number_in};
 ghost use Rattle.c_initial_values.specs.Values.{store_of, stores_in};
 ghost use Rattle.c_typed.specs.Programs.{data_of};
-ghost use Rattle.c_type_table.specs.Adding.{with_type};
+ghost use Rattle.c_numbers.specs.TypeNumbers.Adding.{with_type};
 ghost use Rattle.c_types.specs.Types.{CType};
 ghost use Rattle.c_types.specs.Views.{type_of};
 ghost use Rattle.c_units.specs.CollectedTypes.{function_types};
@@ -23,11 +23,10 @@ use crate::types::add_function;
 use crate::values::Valued;
 use c_initial_values::{Store, Value};
 use c_numbered::{number_of, optional_statement};
-use c_type_table::TypeTable;
+use c_numbers::{KeyTable, TypeTable};
 use c_typed::{Function, Initial, InitialValue, Local, Mention, Object, Statement, is_scalar};
 use c_types::{IntKind, Ty};
 use lay_base::{List, NoMemory, Place, add};
-use numbering::KeyTable;
 use std::alloc::Global;
 
 fn initial(alloc: Global, types: &TypeTable, s: Store) -> Result<Initial, NoMemory>

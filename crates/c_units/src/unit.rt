@@ -11,16 +11,15 @@ ghost use Rattle.c_units.specs.UnitWith.{given, given_by, given_with, parts_of, 
 ghost use Rattle.c_units.specs.ValuedObjects.{valued_of};
 ghost use Rattle.c_types.specs.Views.{records_of, type_of};
 
-use crate::mentions::{has_sizeof, mentions_of};
+use crate::mentions::mentions_of;
 use crate::numbers::{numbered_functions, numbered_mentions, numbered_objects};
-use crate::places::places_if;
+use crate::places::size_operands;
 use crate::recognition::{recognise_functions, recognise_objects};
 use crate::types::{add_mentions, add_objects};
 use crate::values::{Valued, valued_objects};
 use c_annotated::{Function, Mention, Object};
-use c_scopes::FileScope;
-use c_tags::Tags;
-use c_type_table::TypeTable;
+use c_numbers::TypeTable;
+use c_scopes::{FileScope, Tags};
 use c_typed::Unit;
 use c_types::{Records, Ty};
 use lay_base::{List, Name, NoMemory};
@@ -34,7 +33,7 @@ struct Recognised {
     mentions: List<Mention>,
 }
 
-/// Recognises allocations and null pointers, and with them which `sizeof` is a size operand.
+/// Recognises allocations and null pointers, and which `sizeof`s are size operands.
 fn recognise(
     alloc: Global,
     objects: List<Object>,
@@ -45,23 +44,12 @@ fn recognise(
     ensures functions { IfOk result (λ r. map function_of r.functions ≡ map recognised_function (map function_of functions)) }
     ensures mentions { IfOk result (λ r. map mention_of r.mentions ≡ mentions_of (map object_of objects) (map function_of functions) (map mention_of mentions)) }
 {
-    let before = places_if(
-        alloc,
-        has_sizeof(mentions.as_slice()),
-        objects.as_slice(),
-        functions.as_slice(),
-    )?;
+    let sizes = size_operands(alloc, functions.as_slice())?;
     let mut objects = objects;
     let mut functions = functions;
     recognise_objects(alloc, &mut objects)?;
     recognise_functions(alloc, &mut functions)?;
-    let mentions = mentions_of(
-        alloc,
-        &before,
-        mentions,
-        objects.as_slice(),
-        functions.as_slice(),
-    )?;
+    let mentions = mentions_of(alloc, &sizes, mentions, objects.as_slice())?;
     Ok(Recognised {
         objects,
         functions,

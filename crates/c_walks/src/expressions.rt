@@ -5,15 +5,15 @@ ghost use Rattle.c_annotated.specs.Nodes.{node_of, path_node_of};
 ghost use Rattle.c_annotated.specs.Views.{expression_of, expressions_of, path_of};
 ghost use Rattle.c_typed.specs.Addressed.{addressed, addressed_by_all, addressed_by_node, addressed_by_path, addressed_by_step, itself};
 ghost use Rattle.c_typed.specs.Walk.{types_in, types_in_all, types_in_node, types_in_path, types_in_step};
-ghost use Rattle.c_walks.specs.NodeTypes.{nodes_in, taken_in};
+ghost use Rattle.c_walks.specs.NodeTypes.{taken_in, types_found};
 
-use crate::nodes::{Nodes, note_in};
+use crate::nodes::Nodes;
 use c_annotated::{Expression, ExpressionNode, Path, PathNode};
 use lay_base::NoMemory;
 
 /// A local whose address is taken.
 fn add_itself<'a>(found: &mut Nodes<'a>, p: &'a Path) -> Result<(), NoMemory>
-    ensures types { OnOk result (nodes_in found.new ≡ nodes_in found.old) }
+    ensures types { OnOk result (types_found found.new ≡ types_found found.old) }
     ensures taken { OnOk result (taken_in found.new ≡ taken_in found.old ++ itself (path_of p.now)) }
 {
     match &p.node {
@@ -24,16 +24,16 @@ fn add_itself<'a>(found: &mut Nodes<'a>, p: &'a Path) -> Result<(), NoMemory>
 
 #[cycle(walk)]
 pub fn walk_expression<'a>(found: &mut Nodes<'a>, e: &'a Expression) -> Result<(), NoMemory>
-    ensures types { OnOk result (nodes_in found.new ≡ nodes_in found.old ++ types_in (expression_of e.now)) }
+    ensures types { OnOk result (types_found found.new ≡ types_found found.old ++ map (λ t. t.ty) (types_in (expression_of e.now))) }
     ensures taken { OnOk result (taken_in found.new ≡ taken_in found.old ++ addressed (expression_of e.now)) }
 {
     walk_node(found, &e.node)?;
-    found.add(&e.ty, note_in(&e.note))
+    found.add(&e.ty)
 }
 
 #[cycle(walk)]
 fn walk_node<'a>(found: &mut Nodes<'a>, node: &'a ExpressionNode) -> Result<(), NoMemory>
-    ensures types { OnOk result (nodes_in found.new ≡ nodes_in found.old ++ types_in_node (node_of node.now)) }
+    ensures types { OnOk result (types_found found.new ≡ types_found found.old ++ map (λ t. t.ty) (types_in_node (node_of node.now))) }
     ensures taken { OnOk result (taken_in found.new ≡ taken_in found.old ++ addressed_by_node (node_of node.now)) }
 {
     match node {
@@ -90,16 +90,16 @@ fn walk_node<'a>(found: &mut Nodes<'a>, node: &'a ExpressionNode) -> Result<(), 
 
 #[cycle(walk)]
 pub fn walk_path<'a>(found: &mut Nodes<'a>, p: &'a Path) -> Result<(), NoMemory>
-    ensures types { OnOk result (nodes_in found.new ≡ nodes_in found.old ++ types_in_path (path_of p.now)) }
+    ensures types { OnOk result (types_found found.new ≡ types_found found.old ++ map (λ t. t.ty) (types_in_path (path_of p.now))) }
     ensures taken { OnOk result (taken_in found.new ≡ taken_in found.old ++ addressed_by_path (path_of p.now)) }
 {
     walk_step(found, &p.node)?;
-    found.add(&p.ty, None)
+    found.add(&p.ty)
 }
 
 #[cycle(walk)]
 fn walk_step<'a>(found: &mut Nodes<'a>, step: &'a PathNode) -> Result<(), NoMemory>
-    ensures types { OnOk result (nodes_in found.new ≡ nodes_in found.old ++ types_in_step (path_node_of step.now)) }
+    ensures types { OnOk result (types_found found.new ≡ types_found found.old ++ map (λ t. t.ty) (types_in_step (path_node_of step.now))) }
     ensures taken { OnOk result (taken_in found.new ≡ taken_in found.old ++ addressed_by_step (path_node_of step.now)) }
 {
     match step {
@@ -119,7 +119,7 @@ fn walk_step<'a>(found: &mut Nodes<'a>, step: &'a PathNode) -> Result<(), NoMemo
 
 #[cycle(walk)]
 fn walk_all<'a>(found: &mut Nodes<'a>, all: &'a [Expression]) -> Result<(), NoMemory>
-    ensures types { OnOk result (nodes_in found.new ≡ nodes_in found.old ++ types_in_all (expressions_of (map expression_of all.now))) }
+    ensures types { OnOk result (types_found found.new ≡ types_found found.old ++ map (λ t. t.ty) (types_in_all (expressions_of (map expression_of all.now)))) }
     ensures taken { OnOk result (taken_in found.new ≡ taken_in found.old ++ addressed_by_all (expressions_of (map expression_of all.now))) }
 {
     for e in all {

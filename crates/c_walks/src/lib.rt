@@ -1,4 +1,4 @@
-//! What stands at the nodes of annotated trees, in the order of the text: types with their notes, and locals whose address is taken.
+//! What stands at the nodes of annotated trees, in the order of the text: types, and locals whose address is taken.
 //!
 //! It stands on `c_annotated`. It promises that a walk collects the lists of the definitions, `types_in` and `addressed`.
 #![tactic(auto)]
@@ -7,5 +7,5 @@ mod expressions;
 mod nodes;
 mod statements;
 
-pub use nodes::{NodeType, Nodes};
-pub use statements::{walk_initializer, walk_statement};
+pub use nodes::Nodes;
+pub use statements::walk_statement;

@@ -1,14 +1,14 @@
-//! What stands at the nodes of statements and initializers.
+//! What stands at the nodes of statements and of the initializers in them.
 
 ghost use Rattle.std.specs.Prelude.{◌≡◌, ◌++◌, OnOk, flat_map, map};
 ghost use Rattle.std.specs.Option.{option_map};
 ghost use Rattle.c_annotated.specs.Nodes.{arm_of};
 ghost use Rattle.c_annotated.specs.Views.{arms_of, expression_of, initializer_of, part_of, part_value_of, statement_of, statements_of};
-ghost use Rattle.c_typed.specs.Addressed.{addressed_by_arms, addressed_by_initial, addressed_by_initializer, addressed_by_statement};
+ghost use Rattle.c_typed.specs.Addressed.{addressed_by_arms, addressed_by_initial, addressed_by_statement};
 ghost use Rattle.c_typed.specs.Addressed.{addressed_by_statements, addressed_by_value, addressed_if_any};
-ghost use Rattle.c_typed.specs.Walk.{types_if_any, types_in_arms, types_in_initial, types_in_initializer, types_in_statement};
+ghost use Rattle.c_typed.specs.Walk.{types_if_any, types_in_arms, types_in_initial, types_in_statement};
 ghost use Rattle.c_typed.specs.Walk.{types_in_statements, types_in_value};
-ghost use Rattle.c_walks.specs.NodeTypes.{nodes_in, taken_in};
+ghost use Rattle.c_walks.specs.NodeTypes.{taken_in, types_found};
 
 use crate::expressions::{walk_expression, walk_path};
 use crate::nodes::Nodes;
@@ -16,7 +16,7 @@ use c_annotated::{Arm, Expression, Initializer, InitializerPart, PartValue, Stat
 use lay_base::{Boxed, NoMemory};
 
 fn walk_value<'a>(found: &mut Nodes<'a>, value: &'a PartValue) -> Result<(), NoMemory>
-    ensures types { OnOk result (nodes_in found.new ≡ nodes_in found.old ++ types_in_value (part_value_of value.now)) }
+    ensures types { OnOk result (types_found found.new ≡ types_found found.old ++ map (λ t. t.ty) (types_in_value (part_value_of value.now))) }
     ensures taken { OnOk result (taken_in found.new ≡ taken_in found.old ++ addressed_by_value (part_value_of value.now)) }
 {
     match value {
@@ -27,7 +27,7 @@ fn walk_value<'a>(found: &mut Nodes<'a>, value: &'a PartValue) -> Result<(), NoM
 }
 
 fn walk_parts<'a>(found: &mut Nodes<'a>, all: &'a [InitializerPart]) -> Result<(), NoMemory>
-    ensures types { OnOk result (nodes_in found.new ≡ nodes_in found.old ++ flat_map (λ part. types_in_value part.value) (map part_of all.now)) }
+    ensures types { OnOk result (types_found found.new ≡ types_found found.old ++ map (λ t. t.ty) (flat_map (λ part. types_in_value part.value) (map part_of all.now))) }
     ensures taken { OnOk result (taken_in found.new ≡ taken_in found.old ++ flat_map (λ part. addressed_by_value part.value) (map part_of all.now)) }
 {
     for part in all {
@@ -36,30 +36,20 @@ fn walk_parts<'a>(found: &mut Nodes<'a>, all: &'a [InitializerPart]) -> Result<(
     Ok(())
 }
 
-/// Those of an initializer.
-pub fn walk_initializer<'a>(found: &mut Nodes<'a>, initial: &'a Initializer) -> Result<(), NoMemory>
-    ensures types { OnOk result (nodes_in found.new ≡ nodes_in found.old ++ types_in_initializer (initializer_of initial.now)) }
-    ensures taken { OnOk result (taken_in found.new ≡ taken_in found.old ++ addressed_by_initializer (initializer_of initial.now)) }
-{
-    match initial {
-        Initializer::Value(e) => walk_expression(found, e.get()),
-        Initializer::Record(p) => walk_path(found, p.get()),
-        Initializer::Parts(all) => walk_parts(found, all.as_slice()),
-    }
-}
-
 fn walk_initial<'a>(found: &mut Nodes<'a>, initial: &'a Option<Initializer>) -> Result<(), NoMemory>
-    ensures types { OnOk result (nodes_in found.new ≡ nodes_in found.old ++ types_in_initial (option_map initializer_of initial.now)) }
+    ensures types { OnOk result (types_found found.new ≡ types_found found.old ++ map (λ t. t.ty) (types_in_initial (option_map initializer_of initial.now))) }
     ensures taken { OnOk result (taken_in found.new ≡ taken_in found.old ++ addressed_by_initial (option_map initializer_of initial.now)) }
 {
     match initial {
         None => Ok(()),
-        Some(initial) => walk_initializer(found, initial),
+        Some(Initializer::Value(e)) => walk_expression(found, e.get()),
+        Some(Initializer::Record(p)) => walk_path(found, p.get()),
+        Some(Initializer::Parts(all)) => walk_parts(found, all.as_slice()),
     }
 }
 
 fn walk_if_any<'a>(found: &mut Nodes<'a>, e: &'a Option<Boxed<Expression>>) -> Result<(), NoMemory>
-    ensures types { OnOk result (nodes_in found.new ≡ nodes_in found.old ++ types_if_any (option_map expression_of e.now)) }
+    ensures types { OnOk result (types_found found.new ≡ types_found found.old ++ map (λ t. t.ty) (types_if_any (option_map expression_of e.now))) }
     ensures taken { OnOk result (taken_in found.new ≡ taken_in found.old ++ addressed_if_any (option_map expression_of e.now)) }
 {
     match e {
@@ -71,7 +61,7 @@ fn walk_if_any<'a>(found: &mut Nodes<'a>, e: &'a Option<Boxed<Expression>>) -> R
 /// Those of a statement.
 #[cycle(statement_walk)]
 pub fn walk_statement<'a>(found: &mut Nodes<'a>, s: &'a Statement) -> Result<(), NoMemory>
-    ensures types { OnOk result (nodes_in found.new ≡ nodes_in found.old ++ types_in_statement (statement_of s.now)) }
+    ensures types { OnOk result (types_found found.new ≡ types_found found.old ++ map (λ t. t.ty) (types_in_statement (statement_of s.now))) }
     ensures taken { OnOk result (taken_in found.new ≡ taken_in found.old ++ addressed_by_statement (statement_of s.now)) }
 {
     match s {
@@ -111,7 +101,7 @@ pub fn walk_statement<'a>(found: &mut Nodes<'a>, s: &'a Statement) -> Result<(),
 
 #[cycle(statement_walk)]
 fn walk_statements<'a>(found: &mut Nodes<'a>, all: &'a [Statement]) -> Result<(), NoMemory>
-    ensures types { OnOk result (nodes_in found.new ≡ nodes_in found.old ++ types_in_statements (statements_of (map statement_of all.now))) }
+    ensures types { OnOk result (types_found found.new ≡ types_found found.old ++ map (λ t. t.ty) (types_in_statements (statements_of (map statement_of all.now)))) }
     ensures taken { OnOk result (taken_in found.new ≡ taken_in found.old ++ addressed_by_statements (statements_of (map statement_of all.now))) }
 {
     for s in all {
@@ -122,7 +112,7 @@ fn walk_statements<'a>(found: &mut Nodes<'a>, all: &'a [Statement]) -> Result<()
 
 #[cycle(statement_walk)]
 fn walk_arms<'a>(found: &mut Nodes<'a>, all: &'a [Arm]) -> Result<(), NoMemory>
-    ensures types { OnOk result (nodes_in found.new ≡ nodes_in found.old ++ types_in_arms (arms_of (map arm_of all.now))) }
+    ensures types { OnOk result (types_found found.new ≡ types_found found.old ++ map (λ t. t.ty) (types_in_arms (arms_of (map arm_of all.now)))) }
     ensures taken { OnOk result (taken_in found.new ≡ taken_in found.old ++ addressed_by_arms (arms_of (map arm_of all.now))) }
 {
     for arm in all {

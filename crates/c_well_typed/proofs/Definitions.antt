@@ -26,7 +26,7 @@ use Rattle.c_erasure.specs.Scopes.{FileScope, Scope, at_file_scope, declared, en
 use Rattle.c_erasure.specs.Scopes as Scopes
 use Rattle.c_erasure.specs.Statements.{EraseItems}
 use Rattle.c_erasure.specs.Specifiers.{Storage, storage_of, no_storage, a_typedef, is_extern, is_static, is_auto, is_register, several}
-use Rattle.c_checking_files.proofs.CompleteObjects.{mapped_at}
+use Rattle.c_checking_laws.proofs.WholeFiles.CompleteObjects.{mapped_at}
 use Rattle.c_checking_units.proofs.Lists.{ascending_apart}
 use Rattle.c_checking_units.proofs.Tracing as Tracing
 use Rattle.c_checking_units.proofs.Tracing.{AreAll, with_names, name_at}

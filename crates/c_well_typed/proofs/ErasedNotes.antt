@@ -18,10 +18,12 @@ use Rattle.c_erasure.specs.Initializers.{part_at, texts_of, IsText, Initializes,
 use Rattle.c_erasure.specs.Noted.{Noted, nothing, Expression, Path, Node, Thing, an_object, a_value, a_function, a_function_at, a_library_function}
 use Rattle.c_erasure.specs.Noted.{type_of, type_of_path, object_value, value_of, unconverted}
 use Rattle.c_erasure.specs.Operators.{Kind, computes, compares, all_of, any_of, kind_of}
-use Rattle.c_erasure.specs.Scopes.{FileScope, Scope, Entity, typedef, enumerator, a_local, a_parameter, Purpose, in_full, value_alone, type_alone, ended, with_local}
+use Rattle.c_erasure.specs.Scopes.{FileScope, Scope, Entity, typedef, enumerator, a_local, a_parameter, Purpose, in_full, value_alone, type_alone, ended}
+use Rattle.c_erasure.specs.Scopes.{with_local}
 use Rattle.c_erasure.specs.Scopes as Scopes
 use Rattle.c_erasure.specs.Statements.{Statement, Statements, Arms, followed_by, HasInitializer, with_object, with_variable, DeclareAll, IsLocalDeclaration}
-use Rattle.c_erasure.specs.Statements.{IsPlainIfAny, IsStart, with_first, IsArranged, ErasesStatement, ErasesItem, EraseItems, ErasesSwitchItem, EraseSwitchItems}
+use Rattle.c_erasure.specs.Statements.{IsPlainIfAny, IsStart, with_first, IsArranged, ErasesStatement, ErasesItem, EraseItems, ErasesSwitchItem}
+use Rattle.c_erasure.specs.Statements.{EraseSwitchItems}
 use Rattle.c_checking_laws.proofs.CompletePart.{complete_stays}
 use Rattle.c_well_typed.proofs.Notes.{IsNote, IsNoted, IsNotedNode, IsNotedPath, AreNoted, whole_noted}
 use Rattle.c_well_typed.proofs.StatementNotes.{IsNotedValue, ArePartsNoted, IsNotedInitializer, IsNotedInitial, IsNotedIfAny, IsNotedStatement}

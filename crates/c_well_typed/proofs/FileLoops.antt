@@ -10,7 +10,7 @@ use Rattle.c_ast.specs.Places.{first_declarator}
 use Rattle.c_ast.specs.Sizes.{size_item, size_items}
 use Rattle.c_ast.specs.Trees
 use Rattle.c_ast.specs.TreesOfFiles.{IsTreeOf}
-use Rattle.c_counts.specs.Loops.{loops_in, loops_in_body, loops_of}
+use Rattle.c_typed.specs.RunCounts.Loops.{loops_in, loops_in_body, loops_of}
 use Rattle.c_tokens.specs.TokenPlaces.{TokensHavePlaces}
 use Rattle.c_typed.specs.declared.operators.LibraryFunction.{LibraryFunction}
 use Rattle.c_typed.specs.Mapped.{of_types, mapped_statement}
@@ -29,8 +29,8 @@ use Rattle.c_erasure.specs.Scopes.{FileScope, at_file_scope, ended}
 use Rattle.c_erasure.specs.Specifiers.{Storage, storage_of, no_storage, a_typedef, is_extern, is_static, is_auto, is_register, several}
 use Rattle.c_erasure.specs.Units as Units
 use Rattle.c_erasure.specs.Units.{recognised_statement, number_in, types, unit_of}
-use Rattle.c_order.proofs.Ordered.{marks_are_in_order}
-use Rattle.c_checking_files.proofs.CompleteObjects.{mapped_at}
+use Rattle.c_erasure.proofs.MarkPlaces.Ordered.{marks_are_in_order}
+use Rattle.c_checking_laws.proofs.WholeFiles.CompleteObjects.{mapped_at}
 use Rattle.c_checking_units.proofs.Lists.{ascending_apart}
 use Rattle.c_checking_units.proofs.Tracing as Tracing
 use Rattle.c_checking_units.proofs.Tracing.{AreAll, with_names, name_at}

@@ -20,7 +20,7 @@ use Rattle.c_erasure.specs.Marks.{after_declarator, scope_beginnings}
 use Rattle.c_erasure.specs.Scopes.{How, declares, defines, Entity, typedef, an_object, a_function, a_library_function, enumerator, Bound, AnObject}
 use Rattle.c_erasure.specs.Scopes.{FileScope, at_file_scope, ended}
 use Rattle.c_erasure.specs.Specifiers.{Storage, storage_of, no_storage, a_typedef, is_extern, is_static, is_auto, is_register, several}
-use Rattle.c_checking_files.proofs.CompleteObjects.{mapped_at}
+use Rattle.c_checking_laws.proofs.WholeFiles.CompleteObjects.{mapped_at}
 use Rattle.c_checking_units.proofs.Lists.{ascending_apart}
 use Rattle.c_checking_units.proofs.Tracing as Tracing
 use Rattle.c_checking_units.proofs.Tracing.{AreAll, with_names, name_at}

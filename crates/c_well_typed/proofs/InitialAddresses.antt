@@ -3,15 +3,17 @@
 use Rattle.std.proofs.Common.{◌≡◌, ℕ, ◌≤◌, Bool, true, false, refl, subst, cond, arith}
 use Rattle.std.proofs.lemmas.Bool.{leb-true}
 use Rattle.std.proofs.lemmas.Option.{get_or_from_slice_get}
-use Rattle.std.specs.Prelude.{get_or, nat_le, Option, Some, None, slice_get, ℤ, pos, negsuc}
+use Rattle.std.specs.Prelude.{get_or, nat_le, nat_lt, Option, Some, None, slice_get, ℤ, pos, negsuc}
 use Rattle.c_types.specs.Layouts.{size_of, offset_of}
 use Rattle.c_types.specs.Types.{CType, void, pointer, array, structure}
 use Rattle.c_typed.specs.declared.operators.PointerOp.{PointerOp}
 use Rattle.c_typed.specs.Trees as Trees
 use Rattle.c_typed.specs.Conversions.{is_pointer}
 use Rattle.c_typed.specs.Constants.{ty, constant_of}
-use Rattle.c_typed.specs.InitialValues.{Address, element_size, number_in, within, moved, subscripted, or_negated, path_type, address_of_path, address_of_step}
+use Rattle.c_typed.specs.InitialValues.{Address, element_size, number_in, within, moved, subscripted, inside, or_negated, path_type, address_of_path}
+use Rattle.c_typed.specs.InitialValues.{address_of_step}
 use Rattle.c_typed.specs.InitialValues.{address_in, address_in_node}
+use Rattle.c_typed.specs.Subscripts.{is_subscript}
 use Rattle.c_typed.specs.Mapped.{of_types, mapped_path, mapped_step}
 use Rattle.c_typed.specs.Typed.{Declared, IsTyped, IsTypedNode, IsTypedPath, IsTypedStep}
 use Rattle.lay_base.specs.declared.place.Place.{Place}
@@ -58,11 +60,15 @@ module _ (d : Declared) where
   moved_is (Some b) None size into a h = cc
   moved_is (Some b) (Some k) size into a h = let i = into b refl in within_is b.object _ (i.0, i.1) a h
 
-  subscripted_is : (t : CType) (o : Option Address) (k : Option ℤ) → AreWithin o → AreWithin (subscripted d t o k)
-  subscripted_is (array t n) (Some b) (Some (pos k)) into a h =
-      let c = if_some (nat_le k n) (moved d (Some b) (Some (pos k)) (size_of d.records t)) a h in
-      moved_is (Some b) (Some (pos k)) (size_of d.records t) into a c.1
-  subscripted_is t o k into a h = cc
+  subscripted_is : (s : Bool) (t : CType) (o : Option Address) (k : Option ℤ) → AreWithin o → AreWithin (subscripted d s t o k)
+  subscripted_is s (array t n) (Some b) (Some k) into a h =
+      let c = if_some (is_subscript n s k) (moved d (Some b) (Some k) (size_of d.records t)) a h in
+      moved_is (Some b) (Some k) (size_of d.records t) into a c.1
+  subscripted_is s t o k into a h = cc
+
+  inside_is : (o : Option Address) → AreWithin o → AreWithin (inside d o)
+  inside_is None into a h = cc
+  inside_is (Some b) into a h = into a (if_some (nat_lt b.offset (size_of d.records (get_or d.objects b.object void))) (Some b) a h).1
 
   -- a conversion that is left is one of the same operand
   converted_address : (t : CType) (e : Expression) (written : Bool) (a : Address) → address_in_node d t (bare_node (converted t e written)) ≡ Some a
@@ -100,28 +106,29 @@ module _ (d : Declared) where
 
     node_within : (t : Noted) (at : Place) (node : Node) → IsTypedNode d t.ty at (bare_node node)
         → AreWithin (address_in_node d t.ty (bare_node (recognised_node t node)))
-    node_within t at (Trees.address_of p) h a e = path_within p h.0 a e
-    node_within t at (Trees.decay p) h a e = path_within p h.0 a e
+    node_within t at (Trees.address_of p) h a e = path_within true p h.0 a e
+    node_within t at (Trees.decay p) h a e = path_within false p h.0 a e
     node_within t at (Trees.convert x true) h a e = address_within x h.0 a (converted_address t.ty (recognised x) true a e)
     node_within t at (Trees.convert x false) h a e = address_within x h.0 a (converted_address t.ty (recognised x) false a e)
     node_within t at (Trees.pointer_add op x y) h a e =
         added_is op t.ty (typed (recognised x)) (typed (recognised y)) (address_within x h.0) (address_within y h.1) a e
     node_within t at node h a e = cc
 
-    path_within : (p : Path) → IsTypedPath d (bare_path p) → AreWithin (address_of_path d (bare_path (recognised_path p)))
-    path_within (Trees.path t at step) h = step_within t at step h
+    path_within : (s : Bool) (p : Path) → IsTypedPath d (bare_path p) → AreWithin (address_of_path d s (bare_path (recognised_path p)))
+    path_within s (Trees.path t at step) h = step_within s t at step h
 
-    step_within : (t : Noted) (at : Place) (step : PathNode) → IsTypedStep d t.ty at (bare_step step)
-        → AreWithin (address_of_step d (bare_step (recognised_step step)))
-    step_within t at (Trees.local n) h a e = cc
-    step_within t at (Trees.object n) h a e =
+    step_within : (s : Bool) (t : Noted) (at : Place) (step : PathNode) → IsTypedStep d t.ty at (bare_step step)
+        → AreWithin (address_of_step d s (bare_step (recognised_step step)))
+    step_within s t at (Trees.local n) h a e = cc
+    step_within s t at (Trees.object n) h a e =
         subst IsWithin (some_is (record { object = n; offset = 0 }) a e) (t.ty, h, omega arith)
-    step_within t at (Trees.deref x) h a e = address_within x h.0 a e
-    step_within t at (Trees.index x i) h a e =
+    step_within s t at (Trees.deref x) h a e = address_within x h.0 a e
+    step_within s t at (Trees.index x i) h a e =
         moved_is (address_in d (typed (recognised x))) (number_in (ty (typed (recognised i))) (constant_of (typed (recognised i))))
         (element_size d.records (ty (typed (recognised x)))) (address_within x h.0) a e
-    step_within t at (Trees.member p r field) h a e =
-        moved_is (address_of_path d (bare_path (recognised_path p))) (Some (pos (offset_of d.records r field))) 1 (path_within p h.0) a e
-    step_within t at (Trees.element p i) h a e =
-        subscripted_is (path_type d (bare_path (recognised_path p))) (address_of_path d (bare_path (recognised_path p)))
-        (number_in (ty (typed (recognised i))) (constant_of (typed (recognised i)))) (path_within p h.0) a e
+    step_within s t at (Trees.member p r field) h a e =
+        inside_is (moved d (address_of_path d false (bare_path (recognised_path p))) (Some (pos (offset_of d.records r field))) 1)
+        (moved_is (address_of_path d false (bare_path (recognised_path p))) (Some (pos (offset_of d.records r field))) 1 (path_within false p h.0)) a e
+    step_within s t at (Trees.element p i) h a e =
+        subscripted_is s (path_type d (bare_path (recognised_path p))) (address_of_path d false (bare_path (recognised_path p)))
+        (number_in (ty (typed (recognised i))) (constant_of (typed (recognised i)))) (path_within false p h.0) a e

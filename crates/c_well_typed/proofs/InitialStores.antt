@@ -11,7 +11,8 @@ use Rattle.c_types.specs.Types.{CType, integer, pointer, array, structure, Recor
 use Rattle.c_typed.specs.Trees as Trees
 use Rattle.c_typed.specs.Conversions.{as_kind, is_function, is_scalar}
 use Rattle.c_typed.specs.Constants.{Constant, none, undefined, valued, ty, constant_of}
-use Rattle.c_typed.specs.InitialValues.{Address, InitialValue, a_number, a_null, an_address, a_function, as_number, as_address, as_function, initial_in, initial_value}
+use Rattle.c_typed.specs.InitialValues.{Address, InitialValue, a_number, a_null, an_address, a_function, as_number, as_address, as_function, initial_in}
+use Rattle.c_typed.specs.InitialValues.{initial_value}
 use Rattle.c_typed.specs.InitialValues.{is_null_in, address_in, function_in}
 use Rattle.c_typed.specs.Mapped.{of_types, mapped_value, mapped_part, mapped_initializer}
 use Rattle.c_typed.specs.Parts.{IsPart, itself, of_element, of_field}

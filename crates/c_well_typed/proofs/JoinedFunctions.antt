@@ -7,13 +7,13 @@ use Rattle.std.proofs.lemmas.Option.{unwrap_or-slice_get}
 use Rattle.std.specs.Prelude.{◌⊎◌, All, Option, Some, None, slice_get, get_or, is_some, codes}
 use Rattle.std.specs.List.{AllByRecursion}
 use Rattle.std.specs.Option.{option_map}
-use Rattle.numbering.specs.Keys.{position}
+use Rattle.c_numbers.specs.KeyNumbers.Keys.{position}
 use Rattle.c_types.specs.Limits.{AreComplete, AreSmall}
 use Rattle.c_types.specs.Objects.{is_object}
 use Rattle.c_types.specs.declared.ty.IntKind.TheVariants.{Int}
 use Rattle.c_types.specs.Types.{CType, CTypes, void, integer, function, no_types, and_type}
 use Rattle.c_types.specs.Views.{listed}
-use Rattle.c_type_table.specs.Renumbered.{renumbered, all_renumbered}
+use Rattle.c_numbers.specs.TypeNumbers.Renumbered.{renumbered, all_renumbered}
 use Rattle.c_typed.specs.declared.program.Local.{Local}
 use Rattle.c_typed.specs.declared.program.Object.{Object}
 use Rattle.c_typed.specs.Mapped.{Renaming, of_types, mapped_statement}
@@ -23,15 +23,17 @@ use Rattle.c_typed.specs.TypedStatements.{IsTypedStatement}
 use Rattle.c_typed.specs.TypeNumbers.{type_at}
 use Rattle.c_typed.specs.Walk.{types_in_statement}
 use Rattle.c_erasure.specs.Units.{number_in}
-use Rattle.c_renumbering.specs.Parts.{function_in, local_in, object_in}
-use Rattle.c_joining.specs.Joining.{joined, tables, all_tags, structure_in, type_in, types_in, types, renaming, numbered_from, object_identities, function_identities, identity}
+use Rattle.c_numbers.specs.NewNumbers.Parts.{function_in, local_in, object_in}
+use Rattle.c_joining.specs.Joining.{joined, tables, all_tags, structure_in, type_in, types_in, types, renaming, numbered_from, object_identities}
+use Rattle.c_joining.specs.Joining.{function_identities, identity}
 use Rattle.c_joining.specs.Joining.{objects, functions, records, all_objects, all_functions, is_object_defined, is_function_defined}
 use Rattle.c_link.specs.Gaps.{Agree}
 use Rattle.c_link.proofs.JoinedRecords as Joined
 use Rattle.c_link.proofs.JoinedRecords.{among_at, among_flat, among_map, stand_among}
 use Rattle.c_link.proofs.Layouts.{lies_alike}
-use Rattle.c_checking_files.proofs.CompleteObjects.{mapped_at}
-use Rattle.c_well_typed.specs.WellTyped.{Lists, of_unit, of_program, count_up, declared_in, AreDifferent, HasFewParts, IsResult, AreScalars, HasBody, IsTypedFunction, HasObjectType, HaveTypedFunctions, HasMain}
+use Rattle.c_checking_laws.proofs.WholeFiles.CompleteObjects.{mapped_at}
+use Rattle.c_well_typed.specs.WellTyped.{Lists, of_unit, of_program, count_up, declared_in, AreDifferent, HasFewParts, IsResult, AreScalars, HasBody}
+use Rattle.c_well_typed.specs.WellTyped.{IsTypedFunction, HasObjectType, HaveTypedFunctions, HasMain}
 use Rattle.c_well_typed.proofs.Composed as Composed
 use Rattle.c_well_typed.proofs.Labels.{all_declared_mapped}
 use Rattle.c_well_typed.proofs.LookedUp.{from_zero, flat_among, IsFound, looked_up, of_name, of_unit as found_unit, one_unit, unit_among}

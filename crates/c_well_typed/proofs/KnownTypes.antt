@@ -11,7 +11,8 @@ use Rattle.c_erasure.specs.Files.{AreNamed, HasParameters, in_body}
 use Rattle.c_erasure.specs.Scopes.{Entity, typedef, ALocal, Bound, FileScope, Scope, visible, named, ended}
 use Rattle.c_erasure.specs.Statements.{IsVariable}
 use Rattle.c_well_typed.proofs.WellMade.{IsWellMade, AreWellMade}
-use Rattle.c_well_typed.proofs.NamedTypes.{IsMadeEntity, AreMadeNames, IsMadeScope, IsMadeShape, named_made, base_made, declarator_made, listed_made, sized_made}
+use Rattle.c_well_typed.proofs.NamedTypes.{IsMadeEntity, AreMadeNames, IsMadeScope, IsMadeShape, named_made, base_made, declarator_made, listed_made}
+use Rattle.c_well_typed.proofs.NamedTypes.{sized_made}
 
 module _ (f : FileScope) (count : ℕ) (less : (at : ℕ) → ended f.ends at ≤ count)
     (visible_made : (x : List ℕ) (at : ℕ) (e : Entity) → visible f.names x at ≡ Some e → IsMadeEntity f count less e) where

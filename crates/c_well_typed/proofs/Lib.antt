@@ -58,3 +58,6 @@ pub mod SpokenStatements
 pub mod SpokenFiles
 pub mod ToldTypes
 pub mod WholeElements
+pub mod ItemFunctions
+pub mod ProgramWeights
+pub mod GapPlaces

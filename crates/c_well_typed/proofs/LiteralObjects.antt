@@ -12,7 +12,8 @@ use Rattle.c_ast.specs.Trees
 use Rattle.c_typed.specs.Conversions.{is_scalar}
 use Rattle.c_typed.specs.Trees as Typed
 use Rattle.c_erasure.specs.Erasure.{literal_of, literal_object, place_in, IsLiteralFor, Values, Erases, AreValues}
-use Rattle.c_erasure.specs.Initializers.{Part, part_at, texts_of, IsTextOf, IsText, Initializes, IsOneValue, InitializeElements, InitializeFields, IsInitializer}
+use Rattle.c_erasure.specs.Initializers.{Part, part_at, texts_of, IsTextOf, IsText, Initializes, IsOneValue, InitializeElements, InitializeFields}
+use Rattle.c_erasure.specs.Initializers.{IsInitializer}
 use Rattle.c_erasure.specs.Literals.{literals, literals_of_all, literals_of_value}
 use Rattle.c_erasure.specs.Noted.{Noted, Expression, Path, Thing, an_object, type_of, type_of_path}
 use Rattle.c_erasure.specs.Scopes.{AnObject, FileScope, Scope, in_full}

@@ -1,12 +1,13 @@
 -- What stands in a program under the number of an object or a function of a unit: one that has the same identity there.
-use Rattle.std.proofs.Common.{◌≡◌, ◌∙◌, ℕ, zero, suc, ◌+◌, ◌≤◌, Bool, true, false, ◌||◌, refl, sym, ap, subst, cond, List, [], ◌∷◌, ◌++◌, map, flat_map, inl, inr}
+use Rattle.std.proofs.Common.{◌≡◌, ◌∙◌, ℕ, zero, suc, ◌+◌, ◌≤◌, Bool, true, false, ◌||◌, refl, sym, ap, subst, cond, List, [], ◌∷◌, ◌++◌, map, flat_map, inl}
+use Rattle.std.proofs.Common.{inr}
 use Rattle.std.proofs.Common.{arith}
 use Rattle.std.proofs.lemmas.List.{append-nil, map-append}
 use Rattle.std.proofs.lemmas.Slice.Eq.{bytes_eq-Decides}
 use Rattle.std.specs.Prelude.{◌⊎◌, Option, Some, None, slice_get}
 use Rattle.std.specs.Str.{bytes_eq}
-use Rattle.numbering.proofs.Laws.{all_new}
-use Rattle.numbering.specs.Keys.{is_among, new_keys, position}
+use Rattle.c_numbers.proofs.KeyNumbers.Laws.{all_new}
+use Rattle.c_numbers.specs.KeyNumbers.Keys.{is_among, new_keys, position}
 use Rattle.c_typed.specs.Programs.{UnitData}
 use Rattle.c_joining.specs.Joining.{numbered_from, named, identity, paired, under, chosen, chosen_among, or_first, if_any}
 use Rattle.c_joining.specs.Placing.{placed}

@@ -18,10 +18,12 @@ use Rattle.c_erasure.specs.Initializers.{part_at, texts_of, IsText, Initializes,
 use Rattle.c_erasure.specs.Noted.{Noted, Expression, Path, Node, Thing, an_object, a_value, a_function, a_function_at, a_library_function}
 use Rattle.c_erasure.specs.Noted.{type_of, type_of_path, object_value, value_of, unconverted}
 use Rattle.c_erasure.specs.Operators.{Kind, computes, compares, all_of, any_of, kind_of}
-use Rattle.c_erasure.specs.Scopes.{FileScope, Scope, Entity, typedef, enumerator, a_local, a_parameter, Purpose, in_full, value_alone, type_alone, ended, visible}
+use Rattle.c_erasure.specs.Scopes.{FileScope, Scope, Entity, typedef, enumerator, a_local, a_parameter, Purpose, in_full, value_alone, type_alone, ended}
+use Rattle.c_erasure.specs.Scopes.{visible}
 use Rattle.c_erasure.specs.Scopes as Scopes
 use Rattle.c_erasure.specs.Statements.{Statement, Statements, Arms, followed_by, HasInitializer, with_object, with_variable, DeclareAll, IsLocalDeclaration}
-use Rattle.c_erasure.specs.Statements.{IsPlainIfAny, IsStart, with_first, IsArranged, ErasesStatement, ErasesItem, EraseItems, ErasesSwitchItem, EraseSwitchItems}
+use Rattle.c_erasure.specs.Statements.{IsPlainIfAny, IsStart, with_first, IsArranged, ErasesStatement, ErasesItem, EraseItems, ErasesSwitchItem}
+use Rattle.c_erasure.specs.Statements.{EraseSwitchItems}
 use Rattle.c_well_typed.proofs.WellMade.{IsWellMade}
 use Rattle.c_well_typed.proofs.NamedTypes.{IsMadeEntity, IsMadeScope, inside_made, with_local_made}
 use Rattle.c_well_typed.proofs.KnownTypes.{entity_known, base_known, type_known, variable_known}

@@ -22,8 +22,8 @@ use Rattle.c_erasure.specs.Scopes.{How, declares, defines, Entity, typedef, a_fu
 use Rattle.c_erasure.specs.Scopes.{at_file_scope, visible, named, ended}
 use Rattle.c_erasure.specs.Scopes as Scopes
 use Rattle.c_erasure.specs.Specifiers.{Storage, storage_of, storage_word, together, no_storage, a_typedef, is_extern, is_static, is_auto, is_register, several}
-use Rattle.c_checking_files.proofs.CompleteObjects.{mapped_at}
-use Rattle.c_checking_files.proofs.Names.{all_at}
+use Rattle.c_checking_laws.proofs.WholeFiles.CompleteObjects.{mapped_at}
+use Rattle.c_checking_laws.proofs.WholeFiles.Names.{all_at}
 use Rattle.c_checking_laws.proofs.NodesOfParts.{same_bytes}
 use Rattle.c_checking_units.proofs.Lists.{ascending_apart}
 use Rattle.c_checking_units.proofs.Tracing as Tracing

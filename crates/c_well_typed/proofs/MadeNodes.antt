@@ -26,7 +26,8 @@ use Rattle.c_well_typed.proofs.Allocations.{bare_itself}
 use Rattle.c_well_typed.proofs.Fitting.{promoting_is, on_numbers_is}
 use Rattle.c_well_typed.proofs.Monotone.{moved_number, updated_number}
 use Rattle.c_well_typed.proofs.Recognised.{typed_path, typed_step, typed_all}
-use Rattle.c_well_typed.proofs.WellMade.{IsWellMade, AreWellMade, integer_made, pointed_made, decayed_made, element_made, comparing_made, choosing_made, library_made}
+use Rattle.c_well_typed.proofs.WellMade.{IsWellMade, AreWellMade, integer_made, pointed_made, decayed_made, element_made, comparing_made, choosing_made}
+use Rattle.c_well_typed.proofs.WellMade.{library_made}
 use Rattle.c_well_typed.proofs.Leaves.{HasMadeLeaves, InNode, InPath, InStep, InAll, InCount}
 
 -- the elements of an array are complete

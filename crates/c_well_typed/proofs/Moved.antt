@@ -9,7 +9,7 @@ use Rattle.c_types.specs.Limits.{AreComplete}
 use Rattle.c_types.specs.Objects.{is_object}
 use Rattle.c_types.specs.Types.{CType, CTypes, no_types, and_type}
 use Rattle.c_types.specs.Views.{listed}
-use Rattle.c_type_table.specs.Renumbered.{renumbered, all_renumbered}
+use Rattle.c_numbers.specs.TypeNumbers.Renumbered.{renumbered, all_renumbered}
 use Rattle.c_typed.specs.declared.program.Local.{Local}
 use Rattle.c_typed.specs.declared.program.Object.{Object}
 use Rattle.c_typed.specs.Mapped.{Renaming, of_types, mapped_statement}
@@ -18,9 +18,9 @@ use Rattle.c_typed.specs.Trees as Trees
 use Rattle.c_typed.specs.TypedStatements.{IsTypedStatement}
 use Rattle.c_typed.specs.TypeNumbers.{type_at}
 use Rattle.c_typed.specs.Walk.{types_in_statement}
-use Rattle.c_renumbering.specs.Parts.{function_in, local_in, object_in}
+use Rattle.c_numbers.specs.NewNumbers.Parts.{function_in, local_in, object_in}
 use Rattle.c_link.proofs.Layouts.{lies_alike}
-use Rattle.c_checking_files.proofs.CompleteObjects.{mapped_at}
+use Rattle.c_checking_laws.proofs.WholeFiles.CompleteObjects.{mapped_at}
 use Rattle.c_well_typed.specs.Moves.{IsMove, KeepsTyping, MovesKeepTyping, over}
 use Rattle.c_well_typed.specs.WellTyped.{Lists, count_up, declared_in, IsResult, AreScalars, HasBody, IsTypedFunction, HasObjectType}
 use Rattle.c_well_typed.proofs.Composed as Composed

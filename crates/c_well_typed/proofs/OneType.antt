@@ -6,7 +6,7 @@ use Rattle.std.specs.Str.{bytes_eq}
 use Rattle.c_types.specs.Sameness.{same_type}
 use Rattle.c_types.specs.Types.{CType, void}
 use Rattle.c_types.proofs.SameTypes.{same_is, same_self}
-use Rattle.c_type_table.specs.Renumbered.{renumbered}
+use Rattle.c_numbers.specs.TypeNumbers.Renumbered.{renumbered}
 use Rattle.c_typed.specs.declared.program.Object.{Object}
 use Rattle.c_typed.specs.Programs.{FunctionData, UnitData}
 use Rattle.c_joining.specs.Joining.{all_tags, structure_in}

@@ -4,12 +4,12 @@ use Rattle.std.proofs.lemmas.List.Elements.{recursion_from_All, All-from_recursi
 use Rattle.std.specs.Prelude.{Option, Some, None, All}
 use Rattle.std.specs.List.{AllByRecursion}
 use Rattle.std.specs.Option.{option_map}
-use Rattle.c_counts.specs.Loops.{loops_in_body, loops_of}
+use Rattle.c_typed.specs.RunCounts.Loops.{loops_in_body, loops_of}
 use Rattle.c_typed.specs.Mapped.{Renaming, mapped_statement}
 use Rattle.c_typed.specs.Programs.{FunctionData, UnitData, ProgramData}
 use Rattle.c_typed.specs.Trees as Typed
 use Rattle.c_tokens.specs.TokenPlaces.{TokensHavePlaces}
-use Rattle.c_renumbering.specs.Parts.{function_in}
+use Rattle.c_numbers.specs.NewNumbers.Parts.{function_in}
 use Rattle.c_joining.specs.Joining.{joined, tables, renaming, functions, is_function_defined, function_identities}
 use Rattle.c_link.proofs.JoinedRecords.{IsAmong, among_at}
 use Rattle.c_well_typed.specs.Within.{ProgramsHaveFewLoops}

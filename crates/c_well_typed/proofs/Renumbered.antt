@@ -8,7 +8,7 @@ use Rattle.c_types.specs.declared.ty.IntKind.TheVariants.{UInt}
 use Rattle.c_types.specs.Types.{CType, CTypes, void, integer, pointer, array, function, structure, no_types, and_type}
 use Rattle.c_types.specs.Objects.{is_object}
 use Rattle.c_types.specs.Sameness.{same_type}
-use Rattle.c_type_table.specs.Renumbered.{renumbered, all_renumbered}
+use Rattle.c_numbers.specs.TypeNumbers.Renumbered.{renumbered, all_renumbered}
 use Rattle.c_typed.specs.declared.operators.BinaryOp.{BinaryOp}
 use Rattle.c_typed.specs.declared.operators.CompareOp.{CompareOp}
 use Rattle.c_typed.specs.declared.operators.PointerOp.{PointerOp}
@@ -29,7 +29,8 @@ use Rattle.c_well_typed.proofs.Nulls.{is_zero_is, valued_is_integer, null_or_cas
 use Rattle.c_well_typed.proofs.RenumberedConversions.{IsVoidNull, integer_differs, assigned_differ, comparing_left_differ, comparing_right_differ}
 use Rattle.c_well_typed.proofs.RenumberedConversions.{choosing_left_differ, choosing_right_differ}
 use Rattle.c_well_typed.proofs.RenumberedTypes.{scalar_same, pointer_same, integer_same, pointed_same, element_same, kind_same, conversion_same, integer_stays}
-use Rattle.c_well_typed.proofs.RenumberedTypes.{same_again, promoting_same, on_numbers_same, assigns_again, casts_same, comparing_again, choosing_again, library_same}
+use Rattle.c_well_typed.proofs.RenumberedTypes.{same_again, promoting_same, on_numbers_same, assigns_again, casts_same, comparing_again, choosing_again}
+use Rattle.c_well_typed.proofs.RenumberedTypes.{library_same}
 use Rattle.c_well_typed.proofs.RenumberedTypes.{arithmetic_same}
 
 some_is : {A : Type 0} (x y : A) → Some x ≡ Some y → x ≡ y

@@ -6,7 +6,7 @@ use Rattle.c_types.specs.declared.ty.IntKind.{IntKind}
 use Rattle.c_types.specs.Types.{CType, void, integer, pointer, array, function, structure}
 use Rattle.c_types.specs.Sameness.{same_type}
 use Rattle.c_types.proofs.SameTypes.{same_is}
-use Rattle.c_type_table.specs.Renumbered.{renumbered}
+use Rattle.c_numbers.specs.TypeNumbers.Renumbered.{renumbered}
 use Rattle.c_typed.specs.declared.operators.CompareOp.{CompareOp}
 use Rattle.c_typed.specs.declared.operators.CompareOp.TheVariants.{Equal, NotEqual}
 use Rattle.c_typed.specs.Conversions.{is_integer, is_pointer}

@@ -13,11 +13,11 @@ use Rattle.c_types.specs.Layouts.{layout_at, alignment_in, size_in, begin_after,
 use Rattle.c_types.specs.Limits.{AreComplete}
 use Rattle.c_types.specs.Objects.{is_object}
 use Rattle.c_types.specs.Types.{CType, Field, Record, field_types, array, structure}
-use Rattle.c_type_table.specs.Renumbered.{renumbered}
+use Rattle.c_numbers.specs.TypeNumbers.Renumbered.{renumbered}
 use Rattle.c_typed.specs.Parts.{IsPart, itself, of_element, of_field}
 use Rattle.c_typed.specs.Typed.{type_in, field_type}
 use Rattle.c_checking_laws.proofs.CompletePart.{complete_stays}
-use Rattle.c_checking_files.proofs.Layouts.{field_object}
+use Rattle.c_checking_laws.proofs.WholeFiles.Layouts.{field_object}
 use Rattle.c_link.proofs.Layouts.{StandAmong, lies_alike}
 
 -- ---- fields of types that lie alike begin at the same bytes

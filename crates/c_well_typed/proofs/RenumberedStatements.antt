@@ -6,7 +6,7 @@ use Rattle.std.specs.List.{AllByRecursion}
 use Rattle.std.specs.Option.{option_map}
 use Rattle.c_types.specs.Types.{CType}
 use Rattle.c_types.specs.Objects.{is_object}
-use Rattle.c_type_table.specs.Renumbered.{renumbered}
+use Rattle.c_numbers.specs.TypeNumbers.Renumbered.{renumbered}
 use Rattle.c_typed.specs.Constants.{ty}
 use Rattle.c_typed.specs.Mapped.{Renaming, mapped, mapped_value, mapped_part, mapped_initializer, mapped_statement, mapped_statements, mapped_arms}
 use Rattle.c_typed.specs.Trees as Trees
@@ -16,7 +16,8 @@ use Rattle.c_typed.specs.TypedStatements as Typed
 use Rattle.c_typed.specs.TypedStatements.{IsInitialized, IsCondition, IsEffect, AreCases, IsReturned, IsTypedStatement, AreTyped, AreTypedArms}
 use Rattle.c_well_typed.proofs.Labels.{declared_mapped, declared_arms_mapped, cases_mapped, defaults_mapped}
 use Rattle.c_well_typed.proofs.RenumberedTypes.{scalar_same}
-use Rattle.c_well_typed.proofs.Renumbered.{m, AreRenumbered, again, path_again, path_type_is, bare_fits, bare_same, tested_again, converted_again, converted_fits}
+use Rattle.c_well_typed.proofs.Renumbered.{m, AreRenumbered, again, path_again, path_type_is, bare_fits, bare_same, tested_again, converted_again}
+use Rattle.c_well_typed.proofs.Renumbered.{converted_fits}
 use Rattle.c_well_typed.proofs.Renumbered.{promoted_fits, promoted_again, type_is}
 
 module _ (f object callee : ℕ → ℕ) (d e : Declared) (a : AreRenumbered f object callee d e) where

@@ -7,7 +7,7 @@ use Rattle.c_types.specs.Objects.{parts, parts_of_all}
 use Rattle.c_types.specs.Sameness.{same_type}
 use Rattle.c_types.specs.Views.{listed}
 use Rattle.c_types.proofs.SameTypes.{same_is, same_self}
-use Rattle.c_type_table.specs.Renumbered.{renumbered, all_renumbered}
+use Rattle.c_numbers.specs.TypeNumbers.Renumbered.{renumbered, all_renumbered}
 use Rattle.c_typed.specs.declared.operators.BinaryOp.{BinaryOp}
 use Rattle.c_typed.specs.declared.operators.CompareOp.{CompareOp}
 use Rattle.c_typed.specs.declared.operators.CompareOp.TheVariants.{Equal, NotEqual}

@@ -16,15 +16,16 @@ use Rattle.c_typed.specs.declared.program.MentionKind.TheVariants.{Object, Named
 use Rattle.c_typed.specs.Typed.{type_in, field_type}
 use Rattle.c_erasure.specs.Declarators.{AreDifferent, Shape, closed, declared_name}
 use Rattle.c_erasure.specs.Erasure.{IsMeasured, Erases, Declares}
-use Rattle.c_erasure.specs.Files.{IsTypedef, IsObject, IsFunction, IsFileDeclarator, AreFileDeclarators, IsDefinition, ErasesItem, parameters_of, in_body, IsFileOf}
+use Rattle.c_erasure.specs.Files.{IsTypedef, IsObject, IsFunction, IsFileDeclarator, AreFileDeclarators, IsDefinition, ErasesItem, parameters_of, in_body}
+use Rattle.c_erasure.specs.Files.{IsFileOf}
 use Rattle.c_erasure.specs.Marks.{Mark, a_name, marks_of_specifiers, marks_of_declarator, marks_of_initial, marks_of_declarators, marks_of_item, marks_of_file}
 use Rattle.c_erasure.specs.Marks.{name_from, after_declarator}
 use Rattle.c_erasure.specs.MentionPlaces.{spoken_of_specifiers, spoken_of_declarator, spoken_by_value, spoken_of_declarators, spoken_by_items}
 use Rattle.c_erasure.specs.MentionPlaces.{mentions_of_item, mentions_of_file}
 use Rattle.c_erasure.specs.Scopes.{Entity, Scope, FileScope, AnObject, AMention, in_full, at_file_scope, IsMentioned, visible, ended}
 use Rattle.c_erasure.specs.Specifiers.{Storage, storage_of, no_storage, a_typedef, is_extern, is_static, is_auto, is_register, several}
-use Rattle.c_checking_files.proofs.CompleteObjects.{mapped_at}
-use Rattle.c_checking_files.proofs.Declarations.{first_named}
+use Rattle.c_checking_laws.proofs.WholeFiles.CompleteObjects.{mapped_at}
+use Rattle.c_checking_laws.proofs.WholeFiles.Declarations.{first_named}
 use Rattle.c_checking_units.proofs.Lists.{different_apart}
 use Rattle.c_checking_units.proofs.SpokenItems.{mentions_apart}
 use Rattle.c_checking_units.proofs.Tracing.{record_at}

@@ -20,8 +20,9 @@ use Rattle.c_erasure.specs.MentionPlaces.{spoken_by_switch_item, spoken_by_switc
 use Rattle.c_erasure.specs.Noted.{Noted, Expression, Path, an_object, type_of, type_of_path}
 use Rattle.c_erasure.specs.Scopes.{Entity, Scope, FileScope, Purpose, is_measured, inside, visible, ended}
 use Rattle.c_erasure.specs.Statements.{Statement, Statements, Arms, HasInitializer, HasConstants, with_object, with_variable, IsVariable, DeclareAll}
-use Rattle.c_erasure.specs.Statements.{IsLocalDeclaration, IsPlainIfAny, IsStart, AreLabels, ErasesStatement, ErasesItem, EraseItems, ErasesSwitchItem, EraseSwitchItems}
-use Rattle.c_checking_files.proofs.Declarations.{first_named}
+use Rattle.c_erasure.specs.Statements.{IsLocalDeclaration, IsPlainIfAny, IsStart, AreLabels, ErasesStatement, ErasesItem, EraseItems, ErasesSwitchItem}
+use Rattle.c_erasure.specs.Statements.{EraseSwitchItems}
+use Rattle.c_checking_laws.proofs.WholeFiles.Declarations.{first_named}
 use Rattle.c_well_typed.proofs.KnownTypes.{base_known, variable_known}
 use Rattle.c_well_typed.proofs.NamedTypes.{IsMadeEntity, IsMadeScope, inside_made, with_local_made}
 use Rattle.c_well_typed.proofs.SpokenTypes as Spoken

@@ -5,12 +5,13 @@ use Rattle.c_types.specs.declared.ty.IntKind.{IntKind}
 use Rattle.c_types.specs.Types.{CType}
 use Rattle.c_ast.specs.Sizes.{size_statement, size_block_item, size_block_items, size_switch_item, size_switch_items}
 use Rattle.c_ast.specs.Trees
-use Rattle.c_counts.specs.Loops.{loops_in, loops_in_all, loops_in_arms}
+use Rattle.c_typed.specs.RunCounts.Loops.{loops_in, loops_in_all, loops_in_arms}
 use Rattle.c_typed.specs.Mapped.{Renaming, mapped_statement, mapped_statements, mapped_arms}
 use Rattle.c_typed.specs.Trees as Typed
 use Rattle.c_erasure.specs.Noted.{Noted}
 use Rattle.c_erasure.specs.Scopes.{Scope, inside}
-use Rattle.c_erasure.specs.Statements.{Statement, Statements, Arms, followed_by, with_object, with_variable, DeclareAll, IsLocalDeclaration, with_first, IsArranged}
+use Rattle.c_erasure.specs.Statements.{Statement, Statements, Arms, followed_by, with_object, with_variable, DeclareAll, IsLocalDeclaration, with_first}
+use Rattle.c_erasure.specs.Statements.{IsArranged}
 use Rattle.c_erasure.specs.Statements.{ErasesStatement, ErasesItem, EraseItems, ErasesSwitchItem, EraseSwitchItems}
 use Rattle.c_erasure.specs.Units.{recognised_statement, recognised_statements, recognised_arms}
 

@@ -5,17 +5,20 @@ use Rattle.c_types.specs.declared.ty.IntKind.{IntKind}
 use Rattle.c_types.specs.Types.{CType}
 use Rattle.c_ast.specs.declared.words.Spelling.{Spelling}
 use Rattle.c_ast.specs.Places.{first_declarator}
-use Rattle.c_ast.specs.Spelling.{Lexeme, spelled_value, spelled_init_declarators, spelled_declaration, spelled_if_any, spelled_for_start, spelled_statement, spelled_block_item}
+use Rattle.c_ast.specs.Spelling.{Lexeme, spelled_value, spelled_init_declarators, spelled_declaration, spelled_if_any, spelled_for_start, spelled_statement}
+use Rattle.c_ast.specs.Spelling.{spelled_block_item}
 use Rattle.c_ast.specs.Spelling.{spelled_block_items, spelled_switch_item, spelled_switch_items}
 use Rattle.c_ast.specs.Trees
 use Rattle.c_erasure.specs.Declarators.{declared_name}
 use Rattle.c_erasure.specs.Erasure.{place_in}
-use Rattle.c_erasure.specs.Literals.{literals, literals_if_any, literals_of_value, place_if_static, made_by_declarators, made_by_declaration, made_by_start, made_by}
+use Rattle.c_erasure.specs.Literals.{literals, literals_if_any, literals_of_value, place_if_static, made_by_declarators, made_by_declaration, made_by_start}
+use Rattle.c_erasure.specs.Literals.{made_by}
 use Rattle.c_erasure.specs.Literals.{made_by_item, made_by_items, made_by_switch_item, made_by_switch_items}
 use Rattle.c_erasure.specs.Noted.{Expression}
 use Rattle.c_erasure.specs.Scopes.{AnObject, FileScope, Scope, inside}
 use Rattle.c_erasure.specs.Specifiers.{Storage, is_static, is_auto, is_register, no_storage, storage_of}
-use Rattle.c_erasure.specs.Statements.{Statements, Statement, Arms, with_object, with_variable, IsStaticLocal, DeclareAll, IsLocalDeclaration, IsPlainIfAny, IsStart}
+use Rattle.c_erasure.specs.Statements.{Statements, Statement, Arms, with_object, with_variable, IsStaticLocal, DeclareAll, IsLocalDeclaration, IsPlainIfAny}
+use Rattle.c_erasure.specs.Statements.{IsStart}
 use Rattle.c_erasure.specs.Statements.{ErasesStatement, ErasesItem, EraseItems, ErasesSwitchItem, EraseSwitchItems}
 use Rattle.c_well_typed.proofs.LiteralObjects.{AreAccounted, join, holds, IsFull, value_accounted, constants_held, initial_accounted}
 use Rattle.c_well_typed.proofs.TokenBytes.{AreOfBytes, behind_comma, behind, behind_specifiers, behind_declarator, behind_value, behind_if_any}

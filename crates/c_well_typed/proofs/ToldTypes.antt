@@ -16,7 +16,8 @@ use Rattle.c_typed.specs.Typed.{Declared, IsTyped, IsTypedNode, IsTypedPath, IsT
 use Rattle.c_typed.specs.TypedStatements.{IsTypedValue, IsTypedPart}
 use Rattle.c_erasure.specs.Erasure.{typed}
 use Rattle.c_erasure.specs.Files.{IsTypedObject}
-use Rattle.c_erasure.specs.InitialMentions.{mention, is_null_node, ty, of_conversion, told, told_by_node, told_by_path, told_by_step, told_by_value, told_by_initial}
+use Rattle.c_erasure.specs.InitialMentions.{mention, is_null_node, ty, of_conversion, told, told_by_node, told_by_path, told_by_step, told_by_value}
+use Rattle.c_erasure.specs.InitialMentions.{told_by_initial}
 use Rattle.c_erasure.specs.Noted.{Noted, Expression, Path, Node, PathNode}
 use Rattle.c_erasure.specs.Recognised.{allocation, or_converted, is_null_constant, converted, recognised, recognised_node, recognised_path, recognised_step}
 use Rattle.c_erasure.specs.Scopes.{AMention, FileScope, at_file_scope, declared}

@@ -30,11 +30,12 @@ use Rattle.c_erasure.specs.Noted.{Noted}
 use Rattle.c_erasure.specs.Scopes.{ALocal, AFunction, AnObject, FileScope, ended}
 use Rattle.c_erasure.specs.Units as Units
 use Rattle.c_erasure.specs.Units.{recognised_statement, if_any, all_types, types, object_types, function_types, number_in, locals, taken_in, unit_of}
-use Rattle.c_order.proofs.Ordered.{marks_are_in_order}
-use Rattle.c_text_order.specs.TextOrder.{TextsAreInOrder}
+use Rattle.c_erasure.proofs.MarkPlaces.Ordered.{marks_are_in_order}
+use Rattle.c_checking_laws.specs.TextOrder.TextOrder.{TextsAreInOrder}
 use Rattle.c_checking_units.proofs.WholeFiles.{text_whole}
 use Rattle.c_well_typed.specs.Laws.{UnitsHaveTypedFunctions}
-use Rattle.c_well_typed.specs.WellTyped.{Lists, of_unit, count_up, declared_in, AreDifferent, IsSmallType, HasFewParts, HasBody, IsTypedFunction, HasObjectType, HaveTypedFunctions}
+use Rattle.c_well_typed.specs.WellTyped.{Lists, of_unit, count_up, declared_in, AreDifferent, IsSmallType, HasFewParts, HasBody, IsTypedFunction, HasObjectType}
+use Rattle.c_well_typed.specs.WellTyped.{HaveTypedFunctions}
 use Rattle.c_well_typed.proofs.Composed as Composed
 use Rattle.c_well_typed.proofs.Definitions.{in_function, IsDefinedFunction, is_function_type, function_known}
 use Rattle.c_well_typed.proofs.Labels.{all_declared_mapped, all_declared_recognised, declared_mapped}

@@ -28,8 +28,8 @@ use Rattle.c_erasure.specs.Scopes.{Entity, ALocal, AFunction, AnObject, AMention
 use Rattle.c_erasure.specs.Units as Units
 use Rattle.c_erasure.specs.Units.{Stores, recognised_statement, typed_initializer, if_any, is_size_operand, all_types, types, object_types, function_types}
 use Rattle.c_erasure.specs.Units.{type_if_pointer, stored_in, number_in, unit_of}
-use Rattle.c_order.proofs.Ordered.{marks_are_in_order}
-use Rattle.c_text_order.specs.TextOrder.{TextsAreInOrder}
+use Rattle.c_erasure.proofs.MarkPlaces.Ordered.{marks_are_in_order}
+use Rattle.c_checking_laws.specs.TextOrder.TextOrder.{TextsAreInOrder}
 use Rattle.c_well_typed.specs.Laws.{UnitsHaveWholeElements}
 use Rattle.c_well_typed.specs.WellTyped.{of_unit, IsResult, HasWholeElements, HaveWholeElements}
 use Rattle.c_well_typed.proofs.CompleteLocals.{locals_complete}

@@ -11,14 +11,14 @@ use Rattle.c_ast.specs.TreesOfFiles.{IsTreeOf}
 use Rattle.c_erasure.specs.Files.{IsFileOf}
 use Rattle.c_erasure.specs.Scopes.{AnObject, FileScope}
 use Rattle.c_erasure.specs.Untagged.{AreTags, structs_in}
-use Rattle.c_untagged.proofs.OneLine.{IsTagAt}
-use Rattle.c_untagged.proofs.OtherParts.{with_tags}
-use Rattle.c_text_order.specs.TextOrder.{IsUnwritten, TextsAreInOrder}
-use Rattle.c_checking.specs.Files.{unread, closed_file, filed, annotated}
-use Rattle.c_checking_files.proofs.Kept.{AreObjectsWhole}
-use Rattle.c_checking_files.proofs.Closing.{settled_same, closed_object}
-use Rattle.c_checking_files.proofs.SoundFiles.{AreFitItems, filed_known}
-use Rattle.c_checking_files.proofs.TextFits.{text_is_fit}
+use Rattle.c_checking_laws.proofs.TextOrder.UntaggedNames.OneLine.{IsTagAt}
+use Rattle.c_checking_laws.proofs.TextOrder.UntaggedNames.OtherParts.{with_tags}
+use Rattle.c_checking_laws.specs.TextOrder.TextOrder.{IsUnwritten, TextsAreInOrder}
+use Rattle.c_erasure.specs.Checking.Files.{unread, closed_file, filed, annotated}
+use Rattle.c_checking_laws.proofs.WholeFiles.Kept.{AreObjectsWhole}
+use Rattle.c_checking_laws.proofs.WholeFiles.Closing.{settled_same, closed_object}
+use Rattle.c_checking_laws.proofs.WholeFiles.SoundFiles.{AreFitItems, filed_known}
+use Rattle.c_checking_laws.proofs.WholeFiles.TextFits.{text_is_fit}
 use Rattle.c_checking_laws.proofs.Results.{bound_ok, given}
 use Rattle.c_checking_units.proofs.StepsOfFiles.{text_steps}
 use Rattle.c_checking_units.proofs.OneUnit.{HaveSteps, found_by}

@@ -11,8 +11,8 @@ use Rattle.c_typed.specs.declared.program.Object.{Object}
 use Rattle.c_typed.specs.Programs.{UnitData}
 use Rattle.c_typed.specs.TypeNumbers.{type_at}
 use Rattle.c_erasure.specs.Erasing.{ErasesTo}
-use Rattle.c_order.proofs.Ordered.{marks_are_in_order}
-use Rattle.c_text_order.specs.TextOrder.{TextsAreInOrder}
+use Rattle.c_erasure.proofs.MarkPlaces.Ordered.{marks_are_in_order}
+use Rattle.c_checking_laws.specs.TextOrder.TextOrder.{TextsAreInOrder}
 use Rattle.c_well_typed.specs.Laws.{UnitsAreWellTyped}
 use Rattle.c_well_typed.specs.WellTyped.{of_unit, AreInitials, HasObjectType}
 use Rattle.c_well_typed.specs.Within.{IsTextObject}

@@ -3,3 +3,5 @@ pub mod Laws
 pub mod Within
 pub mod CountableUnits
 pub mod Moves
+pub mod ProgramWeights
+pub mod GapPlaces

@@ -8,8 +8,8 @@ use Rattle.c_typed.specs.Programs.{FunctionData}
 use Rattle.c_typed.specs.Trees as Trees
 use Rattle.c_typed.specs.TypedStatements.{IsTypedStatement}
 use Rattle.c_typed.specs.Walk.{types_in_statement}
-use Rattle.c_type_table.specs.Renumbered.{renumbered}
-use Rattle.c_renumbering.specs.Parts.{function_in, object_in}
+use Rattle.c_numbers.specs.TypeNumbers.Renumbered.{renumbered}
+use Rattle.c_numbers.specs.NewNumbers.Parts.{function_in, object_in}
 use Rattle.c_well_typed.specs.WellTyped.{Lists, ty, declared_in, HasObjectType, IsTypedFunction}
 
 -- a type, with the numbers that its records have afterwards

@@ -6,7 +6,7 @@ use Rattle.c_types.specs.IntKinds.{width}
 use Rattle.c_types.specs.Layouts.{size_of}
 use Rattle.c_types.specs.Limits.{AreComplete}
 use Rattle.c_types.specs.Types.{CType, integer, array}
-use Rattle.c_counts.specs.Loops.{loops_of}
+use Rattle.c_typed.specs.RunCounts.Loops.{loops_of}
 use Rattle.c_typed.specs.declared.program.Initial.{Initial}
 use Rattle.c_typed.specs.declared.program.InitialValue.{InitialValue}
 use Rattle.c_typed.specs.declared.program.InitialValue.TheVariants as V

@@ -2,12 +2,13 @@
 
 ghost use Rattle.c_typed.specs.Programs.{program_data};
 ghost use Rattle.c_well_typed.specs.Within.{InitialsLieWithin, ProgramHasTexts, ProgramsAreWithinLimits, ProgramsHaveFewLoops, TextsHoldNumbers};
-ghost use Rattle.c_well_typed.specs.Laws.{LocalsAreComplete, ProgramHasTypedFunctions, ProgramHasTypedObjects, ProgramIsWellTyped, UnitsAreWellTyped, UnitsHaveTypedFunctions, UnitsHaveWholeElements};
+ghost use Rattle.c_well_typed.specs.Laws.{LocalsAreComplete, ProgramHasTypedFunctions, ProgramHasTypedObjects, ProgramIsWellTyped, UnitsAreWellTyped};
+ghost use Rattle.c_well_typed.specs.Laws.{UnitsHaveTypedFunctions, UnitsHaveWholeElements};
 ghost use Rattle.c_well_typed.specs.CountableUnits.{UnitsAreCountable};
 ghost use Rattle.c_well_typed.specs.Moves.{MovesKeepTyping};
 
+use c_checking_laws::texts_are_in_order;
 use c_lexer::tokens_have_places;
-use c_text_order::texts_are_in_order;
 use c_typed::Typed;
 use c_types::records_are_complete;
 

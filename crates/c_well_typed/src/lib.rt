@@ -1,10 +1,17 @@
-//! What the front end accepts is well typed: every node keeps its rule.
+//! What the front end accepts is well typed: every node keeps its rule. How much room a program is given by its size (`ProgramWeights`): the code bytes
+//! and frame bytes that typed functions and records weigh. There are tokens before each place that a gap of the units of files names (`GapPlaces`).
 //!
-//! It stands on `c_typed`, which has the rules, on `c_erasure`, and on the laws of the checker. It has laws alone.
+//! It stands on `c_typed`, which has the rules, on `c_erasure`, on `c_link`, which says what gaps are, and on the laws of the checker. It has laws alone.
+//!
+//! Not said: that what a pointer of the program points to is small, which the interpreter tests. It is so only where no string literal is longer than the
+//! greatest type, which `IsProgramOf` does not ask of a file: `sizeof &"..."` speaks of a pointer to an array of the literal's length.
 #![tactic(auto)]
 
+mod gap_places;
 mod laws;
+mod program_weights;
 
+pub use gap_places::gaps_have_places;
 pub use laws::{
     initials_lie_within, locals_are_complete, moves_keep_typing, programs_are_well_typed,
     programs_are_within_limits, programs_have_few_loops, programs_have_texts,
@@ -12,3 +19,4 @@ pub use laws::{
     units_are_countable, units_are_well_typed, units_have_typed_functions,
     units_have_whole_elements,
 };
+pub use program_weights::{joined_are_bounded, programs_are_bounded, units_are_bounded};

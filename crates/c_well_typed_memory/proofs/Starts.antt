@@ -1,20 +1,20 @@
 -- What a typed program gives is what the start of its run asks.
-use Rattle.std.proofs.Common.{◌≡◌, ℕ, ◌+◌, ◌-◌, ◌%◌, ◌^◌, ◌≤◌, ◌<◌, Bool, true, false, refl, ap, List, [], ◌∷◌, fold, arith}
+use Rattle.std.proofs.Common.{◌≡◌, ℕ, ◌+◌, ◌-◌, ◌%◌, ◌^◌, ◌≤◌, ◌<◌, Bool, true, false, if◌then◌else◌, refl, ap, List, [], ◌∷◌, fold, arith}
 use Rattle.std.proofs.lemmas.List.Elements.{recursion_from_All, All-from_recursion}
 use Rattle.std.proofs.lemmas.Option.{unwrap_or-slice_get}
-use Rattle.std.specs.Prelude.{All, Option, Some, None}
+use Rattle.std.specs.Prelude.{All, Option, Some, None, is_some}
 use Rattle.std.specs.Int.{next_multiple_of}
 use Rattle.std.specs.List.{AllByRecursion}
 use Rattle.c_types.specs.Layouts.{size_of}
 use Rattle.c_types.specs.Limits.{AreComplete}
 use Rattle.c_types.specs.Types.{void}
-use Rattle.c_counts.specs.Loops.{loops_of}
+use Rattle.c_typed.specs.RunCounts.Loops.{loops_of}
 use Rattle.c_typed.specs.declared.program.Initial.{Initial}
 use Rattle.c_typed.specs.declared.program.InitialValue.{InitialValue}
 use Rattle.c_typed.specs.declared.program.InitialValue.TheVariants as V
 use Rattle.c_typed.specs.declared.program.Object.{Object}
 use Rattle.c_typed.specs.Programs.{FunctionData, ProgramData}
-use Rattle.c_meaning.specs.Program.{none_or, size_at}
+use Rattle.c_meaning.specs.Program.{none_or, object_size, size_at, size_if_defined}
 use Rattle.c_link.specs.Gaps as Gaps
 use Rattle.c_well_typed.specs.Laws.{ProgramHasTypedObjects}
 use Rattle.c_well_typed.specs.WellTyped.{of_program, ty, IsTypedObject}
@@ -72,14 +72,20 @@ module _ (p : ProgramData) where
   -- ---- bytes
 
   -- no more than where each object begins at a multiple of four
-  fewer : (all : List Object) (k l : ℕ) → k ≤ l
-      → fold (λ n o. n + size_at p o.ty) k all ≤ fold (λ n o. n + next_multiple_of (size_of p.records (Gaps.type_at p o.ty)) 4) l all
-  fewer [] k l h = h
-  fewer (o ∷ all) k l h =
+  less_of : (o : Object) → object_size p o ≤ Gaps.object_bytes p o
+  less_of o =
       let m = size_of p.records (Gaps.type_at p o.ty) in
       let e : size_at p o.ty ≡ m = ap (size_of p.records) (unwrap_or-slice_get p.types o.ty void) in
       let r : m ≤ next_multiple_of m 4 = omega arith in
-      fewer all (k + size_at p o.ty) (l + next_multiple_of m 4) (omega (arith, h, e, r))
+      by_initial o.initial (size_at p o.ty) (next_multiple_of m 4) (omega (arith, e, r))
+    where
+      by_initial : (all : Option (List Initial)) (m n : ℕ) → m ≤ n → size_if_defined all m ≤ (if is_some all then n else 0)
+      by_initial None m n h = omega arith
+      by_initial (Some all) m n h = h
+
+  fewer : (all : List Object) (k l : ℕ) → k ≤ l → fold (λ n o. n + object_size p o) k all ≤ fold (λ n o. n + Gaps.object_bytes p o) l all
+  fewer [] k l h = h
+  fewer (o ∷ all) k l h = let r = less_of o in fewer all (k + object_size p o) (l + Gaps.object_bytes p o) (omega (arith, h, r))
 
   loops_fit : (all : List FunctionData) → AllByRecursion (λ (f : FunctionData). loops_of f ≤ 131072) all
       → AllByRecursion (λ (f : FunctionData). loops_of f < 2 ^ 32 - 1) all

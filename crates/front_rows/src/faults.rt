@@ -4,7 +4,7 @@ use c_check::CheckFault;
 use c_lexer::LexFault;
 use c_link::{Gap, Trouble};
 use c_parser::ParseFault;
-use lay_base::{File, Name, Place};
+use lay_base::{File, Name, Place, keyword_text};
 use lay_compile::CompileFault;
 use row_lines::Writer;
 
@@ -68,7 +68,7 @@ fn put_syntactic(out: &mut Writer, spots: Spots<'_>, fault: ParseFault) {
         ParseFault::NoParse(_) => out.word("NoParse"),
         ParseFault::Unsupported(keyword, place) => {
             out.word("Unsupported");
-            out.value(&keyword);
+            out.bytes(keyword_text(keyword));
             put_place(out, spots, place);
         }
         ParseFault::Memory => out.word("out of memory"),

@@ -1,13 +1,12 @@
 //! Rows about profiles: texts that are read, and written again; texts that are cut off; and whether a profile fits a program.
 
 ghost use Rattle.std.specs.Prelude.{◌≤◌, ◌<◌, ◌^◌, All, IsTrue, length};
-ghost use Rattle.c_counts.specs.Loops.{loops_of};
+ghost use Rattle.c_typed.specs.RunCounts.Loops.{loops_of};
 ghost use Rattle.c_typed.specs.Programs.{data_of};
 
 use crate::answers::are_within_bounds;
 use crate::faults::{Spots, put_fault};
-use c_counts::{Counts, loops_within};
-use c_typed::{Function, Typed};
+use c_typed::{Counts, Function, Typed, loops_within};
 use lay_base::{Files, Stale};
 use lay_compile::front;
 use profile_file::{ProfileFault, fits, read, write};

@@ -2,11 +2,11 @@
 
 use crate::allocation_text::put_allocations;
 use crate::type_text::{put_kind, put_type, put_type_at};
+use c_link::{Reference, references_by_statement};
 use c_typed::{
     Function, Initial, InitialValue, Local, Mention, MentionKind, Object, Statement, Typed,
 };
 use c_types::{Field, Record, Ty};
-use c_uses::{Reference, references_by_statement};
 use lay_base::{List, Place};
 use row_lines::Writer;
 use std::alloc::{AllocError, Global};

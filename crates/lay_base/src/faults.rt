@@ -1,6 +1,6 @@
 //! The names that stand in refusals, as plain lists.
 
-/// The keywords of C99 (6.4.1).
+/// The keywords (C99 6.4.1).
 #[derive(Clone, Copy, Debug, PartialEq, Eq)]
 pub enum Keyword {
     Auto,
@@ -11,19 +11,14 @@ pub enum Keyword {
     Continue,
     Default,
     Do,
-    Double,
     Else,
     Enum,
     Extern,
-    Float,
     For,
-    Goto,
     If,
-    Inline,
     Int,
     Long,
     Register,
-    Restrict,
     Return,
     Short,
     Signed,
@@ -32,14 +27,12 @@ pub enum Keyword {
     Struct,
     Switch,
     Typedef,
-    Union,
     Unsigned,
     Void,
-    Volatile,
     While,
-    UnderscoreBool,
-    UnderscoreComplex,
-    UnderscoreImaginary,
+    /// A keyword that the language leaves out, by its number in the table of these: of C99, of C11 or
+    /// of GCC.
+    LeftOut(u8),
 }
 
 /// Why a step of a source run is undefined.

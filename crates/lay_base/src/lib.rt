@@ -3,11 +3,14 @@
 //!
 //! It stands on std alone. It promises that no address and no capacity is part of a value,
 //! and that an object of the outside fails only where its count of faults says so.
+//!
+//! Neither proved nor tested: the text of `Debug`, and that memory is ever left. Trusted: the toolchain, and std's statements on vectors and boxes.
 #![tactic(auto)]
 
 mod building;
 mod bytes;
 mod faults;
+mod keywords;
 mod list;
 mod memory_objects;
 mod no_memory;
@@ -22,6 +25,7 @@ pub use bytes::{Bytes, Name};
 pub use faults::{
     ElfField, Keyword, LimitKind, RoomKind, Rule, Stale, StaleKind, TrapKind, UndefinedKind,
 };
+pub use keywords::{keyword_of, keyword_text};
 pub use list::List;
 pub use memory_objects::{MemHost, MemSink, MemSource};
 pub use no_memory::NoMemory;

@@ -9,13 +9,13 @@ use Rattle.lay_base.specs.Known.{Contents, IfKnown, FilesKeep, FilesKeepBut}
 use Rattle.lay_base.specs.declared.place.File.{File}
 use Rattle.refusals.specs.declared.refusal.Refusal.{Refusal}
 use Rattle.refusals.specs.declared.refusal.Refusal.TheVariants as R
-use Rattle.thin_parser.specs.ThinTree.{Program}
-use Rattle.thin_parser.specs.ThinText.{IsThinText}
+use Rattle.thin_code.specs.ThinParser.ThinTree.{Program}
+use Rattle.thin_code.specs.ThinParser.ThinText.{IsThinText}
 use Rattle.command_words.specs.Words.{Compilation}
-use Rattle.program_files.specs.Outside.{Stream, outside}
-use Rattle.program_files.specs.Reading.{AreFilesOf, IsRead}
-use Rattle.program_files.proofs.FilesRead.{no_name}
-use Rattle.program_files.proofs.Sources.{files_refused}
+use Rattle.lay_compile.specs.ProgramFiles.Outside.{Stream, outside}
+use Rattle.lay_compile.specs.ProgramFiles.Reading.{AreFilesOf, IsRead}
+use Rattle.lay_compile.proofs.ProgramFiles.FilesRead.{no_name}
+use Rattle.lay_compile.proofs.ProgramFiles.Sources.{files_refused}
 use Rattle.lay_commands.specs.Compiling.{AgreesWith, SpellThin, WasTextOf, IsCompiled, IsPartlyCompiled}
 use Rattle.lay_commands.specs.Compiling.{IsCompiledTo}
 use Rattle.lay_commands.specs.Stages.{ThinProgramGives, WriteGives, ReportGives, CompileGives}

@@ -1,7 +1,7 @@
 -- What `interp` and `profile` leave, by what a run of the program gives.
 use Rattle.std.proofs.Common.{◌≡◌, ℕ, List, take, Option, Some, None, refl, sym, ap, ◌∙◌, inl, inr, subst}
 use Rattle.std.specs.Prelude.{◌⊎◌, Result, Ok, Err}
-use Rattle.c_counts.specs.declared.counts.Counts.{Counts}
+use Rattle.c_typed.specs.declared.run_counts.counts.Counts.{Counts}
 use Rattle.c_link.specs.Programs.{IsProgramOf}
 use Rattle.c_typed.specs.Programs.{ProgramData}
 use Rattle.lay_base.specs.Known.{Contents, IfKnown, FilesKeep, FilesKeepBut}
@@ -14,9 +14,9 @@ use Rattle.source_run.specs.Streams.{Streams}
 use Rattle.source_run.specs.declared.end.RunEnd.{RunEnd}
 use Rattle.source_run.specs.declared.end.RunEnd.TheVariants as E
 use Rattle.command_words.specs.Words.{Profiling}
-use Rattle.program_files.specs.FrontEnd.{FilesAreRefused}
-use Rattle.program_files.specs.Outside.{Outside, Stream, outside, stream, IsUntouched}
-use Rattle.program_files.specs.Reading.{AreFilesOf}
+use Rattle.lay_compile.specs.ProgramFiles.FrontEnd.{FilesAreRefused}
+use Rattle.lay_compile.specs.ProgramFiles.Outside.{Outside, Stream, outside, stream, IsUntouched}
+use Rattle.lay_compile.specs.ProgramFiles.Reading.{AreFilesOf}
 use Rattle.lay_commands.specs.Answers.{IsOfSource, run_outcome}
 use Rattle.lay_commands.specs.Interpreting.{Ran, RanSo, Tells, IsStatus, TellsNoProfile, InterpretGives, InterpGives, streams_of}
 use Rattle.lay_commands.specs.Interpreting.{IsPartly, HasNoProfile, ProfileGives}

@@ -3,5 +3,6 @@ pub mod ThinPrograms
 pub mod Compiled
 pub mod Interpreted
 pub mod Refused
+pub mod Placed
 pub mod Requested
 pub mod Ran

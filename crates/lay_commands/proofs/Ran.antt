@@ -12,7 +12,7 @@ use Rattle.rv_machine.specs.declared.machine.MachineEnd.{MachineEnd}
 use Rattle.rv_machine.specs.declared.machine.MachineEnd.TheVariants as E
 use Rattle.rv_machine.specs.Advances.{Streams, streams, ReadsPart, WritesPart}
 use Rattle.rv_machine.specs.Runs.{Observation, Left, Stopped as MachineStopped, RunGives as MachineGives, run_of}
-use Rattle.program_files.specs.Outside.{Stream, Outside, outside}
+use Rattle.lay_compile.specs.ProgramFiles.Outside.{Stream, Outside, outside}
 use Rattle.lay_commands.specs.Running.{elf_limit, HoldsElf, Ran, CameTo, StoppedInRead, StoppedInWrite, asked_bytes, state_at}
 use Rattle.lay_commands.specs.Stages.{RunGives, answer_for}
 

@@ -8,13 +8,13 @@ use Rattle.refusals.specs.Table.{refusal_text}
 use Rattle.refusals.specs.declared.refusal.Refusal.{Refusal}
 use Rattle.refusals.specs.declared.refusal.Refusal.TheVariants as R
 use Rattle.command_words.specs.Words.{Command}
-use Rattle.program_files.specs.declared.front_end.PlaceTexts.{PlaceTexts}
-use Rattle.program_files.specs.FrontEnd.{HasTexts, or_empty}
-use Rattle.program_files.specs.Outside.{Outside, Stream, stream}
+use Rattle.lay_compile.specs.declared.program_files.front_end.PlaceTexts.{PlaceTexts}
+use Rattle.lay_compile.specs.ProgramFiles.FrontEnd.{HasTexts, or_empty}
+use Rattle.lay_compile.specs.ProgramFiles.Outside.{Outside, Stream, stream}
 use Rattle.lay_commands.specs.declared.outcome.Outcome.{Outcome}
 use Rattle.lay_commands.specs.declared.outcome.Outcome.TheVariants.{Refused}
 use Rattle.lay_commands.specs.Stages.{RunGives}
-use Rattle.lay_commands.specs.Answers.{ByStatus, OutcomeHas, PlacesHave, ErrGives, run_outcome, source_files}
+use Rattle.lay_commands.specs.Answers.{ByStatus, OutcomeHas, PlacesHave, PlacesStand, ErrGives, run_outcome, source_files}
 
 -- ---- texts
 
@@ -25,7 +25,7 @@ by_command command files texts (Ok status) has = tt
 by_command command files texts (Err refusal) has = λ place. (command, refl, has place)
 
 -- a refusal of a run has no place
-no_places : (command : Option Command) (files : Option Contents) (at first : List ℕ) (limit : ℕ) (elf : List ℕ) (before now : Outside)
+pub no_places : (command : Option Command) (files : Option Contents) (at first : List ℕ) (limit : ℕ) (elf : List ℕ) (before now : Outside)
     (refusal : Refusal) → RunGives limit elf before now (Err refusal) → PlacesHave command files refusal at first
 no_places command files at first limit elf before now (R.Trap kind pc) gives = λ place. cc
 no_places command files at first limit elf before now (R.Break pc) gives = λ place. cc
@@ -44,20 +44,20 @@ run_texts command files at first limit elf before now (Ok status) gives = tt
 run_texts command files at first limit elf before now (Err refusal) gives = no_places command files at first limit elf before now refusal gives
 
 -- what is left of err, by what putting the text gives
-pub reported : (command : Option Command) (files : Option Contents) (at first : List ℕ) (refusal : Refusal) (faults_before faults_now : ℕ)
-    (before now : Option (List ℕ)) (r : Result (Unit {0}) SinkFault) → PlacesHave command files refusal at first
-    → PutGives faults_before faults_now before now (refusal_text at first refusal) r
-    → ErrGives command files (stream before faults_before) (stream now faults_now) (Refused refusal)
-reported command files at first refusal faults_before faults_now before now (Ok done) has puts =
-    (refusal_text at first refusal, (at, first, refl, has), inl puts)
-reported command files at first refusal faults_before faults_now before now (Err fault) has puts =
-    (refusal_text at first refusal, (at, first, refl, has), inr puts)
+pub reported : (command : Option Command) (files : Option Contents) (input : Option (List ℕ)) (at first : List ℕ) (refusal : Refusal)
+    (faults_before faults_now : ℕ) (before now : Option (List ℕ)) (r : Result (Unit {0}) SinkFault) → PlacesHave command files refusal at first
+    → PlacesStand command files input refusal at first → PutGives faults_before faults_now before now (refusal_text at first refusal) r
+    → ErrGives command files input (stream before faults_before) (stream now faults_now) (Refused refusal)
+reported command files input at first refusal faults_before faults_now before now (Ok done) has stand puts =
+    (refusal_text at first refusal, (at, first, refl, has, stand), inl puts)
+reported command files input at first refusal faults_before faults_now before now (Err fault) has stand puts =
+    (refusal_text at first refusal, (at, first, refl, has, stand), inr puts)
 
 -- every other outcome leaves it
-pub unreported : (command : Option Command) (files : Option Contents) (before now : Stream) (outcome : Outcome)
-    → ((refusal : Refusal) → outcome ≡ Refused refusal → ⊥) → now ≡ before → ErrGives command files before now outcome
-unreported command files before now (Refused refusal) other same = absurd (other refusal refl)
-unreported command files before now _ other same = same
+pub unreported : (command : Option Command) (files : Option Contents) (input : Option (List ℕ)) (before now : Stream) (outcome : Outcome)
+    → ((refusal : Refusal) → outcome ≡ Refused refusal → ⊥) → now ≡ before → ErrGives command files input before now outcome
+unreported command files input before now (Refused refusal) other same = absurd (other refusal refl)
+unreported command files input before now _ other same = same
 
 -- ---- outcomes
 

@@ -10,9 +10,9 @@ use Rattle.command_words.specs.declared.words.RunRequest.{RunRequest}
 use Rattle.command_words.specs.declared.words.Request.{Request}
 use Rattle.command_words.specs.declared.words.Request.TheVariants as Q
 use Rattle.command_words.specs.Words.{requested, compilation_of, interpretation_of, profiling_of}
-use Rattle.program_files.specs.declared.front_end.PlaceTexts.{PlaceTexts}
-use Rattle.program_files.specs.FrontEnd.{HasTexts, or_empty}
-use Rattle.program_files.specs.Outside.{Outside}
+use Rattle.lay_compile.specs.declared.program_files.front_end.PlaceTexts.{PlaceTexts}
+use Rattle.lay_compile.specs.ProgramFiles.FrontEnd.{HasTexts, or_empty}
+use Rattle.lay_compile.specs.ProgramFiles.Outside.{Outside}
 use Rattle.lay_commands.specs.declared.outcome.Outcome.{Outcome}
 use Rattle.lay_commands.specs.declared.outcome.Outcome.TheVariants.{Done, Refused}
 use Rattle.lay_commands.specs.Answers.{IsOfMachine, IsOfSource, MayRead, OutcomeGives, OutcomeHas, run_outcome}

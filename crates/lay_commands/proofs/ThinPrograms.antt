@@ -5,9 +5,9 @@ use Rattle.lay_base.specs.Known.{Contents}
 use Rattle.lay_base.specs.declared.place.File.{File}
 use Rattle.refusals.specs.declared.refusal.Refusal.{Refusal}
 use Rattle.refusals.specs.declared.refusal.Refusal.TheVariants as R
-use Rattle.thin_parser.specs.declared.thin_tree.Thin.{Thin}
-use Rattle.program_files.specs.declared.front_end.PlaceTexts.{PlaceTexts}
-use Rattle.program_files.specs.FrontEnd.{AreTexts, HasTexts, IsRefused}
+use Rattle.thin_code.specs.declared.thin_parser.thin_tree.Thin.{Thin}
+use Rattle.lay_compile.specs.declared.program_files.front_end.PlaceTexts.{PlaceTexts}
+use Rattle.lay_compile.specs.ProgramFiles.FrontEnd.{AreTexts, HasTexts, IsRefused}
 use Rattle.lay_commands.specs.Stages.{ThinGives, ThinProgramGives, WriteGives, ReportGives}
 
 -- ---- the program of files

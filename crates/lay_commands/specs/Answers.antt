@@ -5,9 +5,10 @@ use Rattle.refusals.specs.Table.{refusal_text, HasPlace}
 use Rattle.refusals.specs.declared.refusal.Refusal.{Refusal}
 use Rattle.refusals.specs.declared.refusal.Refusal.TheVariants as R
 use Rattle.command_words.specs.Words.{Command, Compile, Profile, Interp, Run}
-use Rattle.program_files.specs.FrontEnd.{HaveTexts}
-use Rattle.program_files.specs.Outside.{Stream, Outside, IsUntouched}
-use Rattle.program_files.specs.Reading.{WereSo}
+use Rattle.lay_compile.specs.ProgramFiles.FrontEnd.{HaveTexts}
+use Rattle.lay_compile.specs.ProgramFiles.Outside.{Stream, Outside, IsUntouched}
+use Rattle.lay_compile.specs.ProgramFiles.Reading.{WereSo}
+use Rattle.lay_compile.specs.RefusalPlaces.Texts.{AreOfPlaces}
 use Rattle.lay_commands.specs.declared.outcome.Outcome.{Outcome}
 use Rattle.lay_commands.specs.declared.outcome.Outcome.TheVariants.{Program, Done, Refused}
 use Rattle.lay_commands.specs.Interpreting.{InterpGives, ProfileGives}
@@ -61,18 +62,29 @@ abbrev pub OutcomeHas : Option Command → Option Contents → Outcome → (at f
 OutcomeHas command files (Refused refusal) at first = PlacesHave command files refusal at first
 OutcomeHas command files _ at first = ⊤
 
-abbrev pub IsText : Option Command → Option Contents → Refusal → List ℕ → Type 0
-IsText command files refusal text = (at first : List ℕ) × (text ≡ refusal_text at first refusal) × PlacesHave command files refusal at first
+-- the place of an undefined step comes from the input too, and every other from the files alone
+abbrev pub IsTold : Refusal → (input : Option (List ℕ)) → Type 0
+IsTold (R.Undefined kind place) input = (bytes : List ℕ) × (input ≡ Some bytes)
+IsTold refusal input = ⊤
+
+-- where these are known, each place of a refusal is one of the file of its number, with tokens before it, and its text is that of the place
+abbrev pub PlacesStand : Option Command → Option Contents → (input : Option (List ℕ)) → Refusal → (at first : List ℕ) → Type 0
+PlacesStand command files input refusal at first = HasPlace refusal → (c : Command) × (command ≡ Some c)
+    × ((contents : Contents) → files ≡ Some contents → IsTold refusal input → WereSo files (source_files c) (λ read. AreOfPlaces read refusal at first))
+
+abbrev pub IsText : Option Command → Option Contents → (input : Option (List ℕ)) → Refusal → List ℕ → Type 0
+IsText command files input refusal text = (at first : List ℕ) × (text ≡ refusal_text at first refusal) × PlacesHave command files refusal at first
+    × PlacesStand command files input refusal at first
 
 -- a text went to err: all of it, or a first part where err failed
 abbrev pub IsReported : (before now : Stream) → (text : List ℕ) → Type 0
 IsReported before now text =
     Appends before.bytes now.bytes text ⊎ (Rose before.faults now.faults × ((k : ℕ) × Appends before.bytes now.bytes (take k text)))
 
--- what a command leaves of err, by its outcome and the files at entry
-abbrev pub ErrGives : Option Command → Option Contents → (before now : Stream) → Outcome → Type 0
-ErrGives command files before now (Refused refusal) = (text : List ℕ) × IsText command files refusal text × IsReported before now text
-ErrGives command files before now _ = now ≡ before
+-- what a command leaves of err, by its outcome, and by the files and the input at entry
+abbrev pub ErrGives : Option Command → Option Contents → (input : Option (List ℕ)) → (before now : Stream) → Outcome → Type 0
+ErrGives command files input before now (Refused refusal) = (text : List ℕ) × IsText command files input refusal text × IsReported before now text
+ErrGives command files input before now _ = now ≡ before
 
 -- ---- who reads the input
 

@@ -2,13 +2,13 @@
 use Rattle.std.specs.Prelude.{◌≡◌, ℕ, List, [], ◌∷◌, ◌++◌, take, codes, Option, Some, ◌⊎◌}
 use Rattle.lay_base.specs.Known.{Contents, Rose, IfKnown, Appends, FilesKeepBut}
 use Rattle.lay_base.specs.declared.place.File.{File}
-use Rattle.thin_parser.specs.ThinTree.{Program}
-use Rattle.thin_parser.specs.ThinText.{IsThinText}
+use Rattle.thin_code.specs.ThinParser.ThinTree.{Program}
+use Rattle.thin_code.specs.ThinParser.ThinText.{IsThinText}
 use Rattle.thin_code.specs.Meaning.{thin_run, IsLight}
 use Rattle.agreement.specs.Agreement.{Agrees}
 use Rattle.command_words.specs.Words.{Compilation}
-use Rattle.program_files.specs.FrontEnd.{AreProgram}
-use Rattle.program_files.specs.Outside.{Outside}
+use Rattle.lay_compile.specs.ProgramFiles.FrontEnd.{AreProgram}
+use Rattle.lay_compile.specs.ProgramFiles.Outside.{Outside}
 
 -- the report's first line
 abbrev pub report : List ℕ

@@ -1,7 +1,7 @@
 -- The outside after `interp` and `profile`.
 use Rattle.std.specs.Prelude.{◌≡◌, ℕ, List, take, Option, Some, Result, Ok, Err, ◌⊎◌}
 use Rattle.lay_base.specs.Known.{Rose, IfKnown, FilesKeep, FilesKeepBut}
-use Rattle.c_counts.specs.declared.counts.Counts.{Counts}
+use Rattle.c_typed.specs.declared.run_counts.counts.Counts.{Counts}
 use Rattle.c_link.specs.Programs.{IsProgramOf}
 use Rattle.c_typed.specs.Programs.{ProgramData}
 use Rattle.profile_file.specs.Text.{profile_text}
@@ -13,9 +13,9 @@ use Rattle.source_run.specs.declared.end.RunEnd.{RunEnd}
 use Rattle.source_run.specs.declared.end.RunEnd.TheVariants as E
 use Rattle.command_words.specs.Words.{Interpretation, Profiling}
 use Rattle.lay_commands.specs.declared.profiling.Profiled.{Profiled}
-use Rattle.program_files.specs.FrontEnd.{FilesAreRefused}
-use Rattle.program_files.specs.Outside.{Outside}
-use Rattle.program_files.specs.Reading.{WereSo}
+use Rattle.lay_compile.specs.ProgramFiles.FrontEnd.{FilesAreRefused}
+use Rattle.lay_compile.specs.ProgramFiles.Outside.{Outside}
+use Rattle.lay_compile.specs.ProgramFiles.Reading.{WereSo}
 
 -- ---- a run of the program that the files are
 

@@ -6,7 +6,7 @@ use Rattle.rv_isa.specs.Memory.{bytes_at}
 use Rattle.rv_isa.specs.Step.{State, Standing, Running, register, IsAtCall}
 use Rattle.rv_isa.specs.Run.{start, state_after, machine_run}
 use Rattle.elf32.specs.Loaded.{loaded}
-use Rattle.program_files.specs.Outside.{Outside, HoldsWithin}
+use Rattle.lay_compile.specs.ProgramFiles.Outside.{Outside, HoldsWithin}
 
 -- the greatest number of bytes of an ELF file
 abbrev pub elf_limit : ℕ

@@ -4,17 +4,17 @@ use Rattle.lay_base.specs.Known.{Contents, Rose, IfKnown, Appends}
 use Rattle.lay_base.specs.declared.place.File.{File}
 use Rattle.refusals.specs.declared.refusal.Refusal.{Refusal}
 use Rattle.refusals.specs.declared.refusal.Refusal.TheVariants as R
-use Rattle.thin_parser.specs.declared.thin_tree.Thin.{Thin}
-use Rattle.thin_parser.specs.ThinTree.{program_of}
+use Rattle.thin_code.specs.declared.thin_parser.thin_tree.Thin.{Thin}
+use Rattle.thin_code.specs.ThinParser.ThinTree.{program_of}
 use Rattle.rv_isa.specs.declared.image.Image.{Image}
 use Rattle.rv_isa.specs.Step.{Exits, Trap, Break}
 use Rattle.elf32.specs.Loaded.{loaded}
 use Rattle.rv_machine.specs.declared.machine.MachineEnd.{MachineEnd}
 use Rattle.rv_machine.specs.declared.machine.MachineEnd.TheVariants as E
 use Rattle.command_words.specs.Words.{Compilation}
-use Rattle.program_files.specs.FrontEnd.{FilesAreRefused, IsRefused}
-use Rattle.program_files.specs.Outside.{Outside, IsUntouched, HoldsLonger}
-use Rattle.program_files.specs.Reading.{WereSo}
+use Rattle.lay_compile.specs.ProgramFiles.FrontEnd.{FilesAreRefused, IsRefused}
+use Rattle.lay_compile.specs.ProgramFiles.Outside.{Outside, IsUntouched, HoldsLonger}
+use Rattle.lay_compile.specs.ProgramFiles.Reading.{WereSo}
 use Rattle.lay_commands.specs.Compiling.{SpellThin, AreNotBuilt, IsDone, HostFailed, OutFailed, report}
 use Rattle.lay_commands.specs.Running.{elf_limit, HoldsElf, Ended, WouldGoOn, Stopped, StoppedInRead, StoppedInWrite}
 

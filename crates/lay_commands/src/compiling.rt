@@ -1,22 +1,21 @@
 //! `compile`: from the texts of a program's files to an ELF file and a report.
 
 ghost use Rattle.std.specs.Prelude.{◌≡◌, ◌<◌, ◌≤◌, ℕ, List, IfOk, IfErr, OnOk, All, length, slice_get, Some};
-ghost use Rattle.thin_parser.specs.ThinTree.{program_of};
-ghost use Rattle.thin_parser.specs.ThinText.{punctuators, whole_sums, spelled_program};
+ghost use Rattle.thin_code.specs.ThinParser.ThinTree.{program_of};
+ghost use Rattle.thin_code.specs.ThinParser.ThinText.{punctuators, whole_sums, spelled_program};
 ghost use Rattle.command_words.specs.Words.{IsInRange, compilation_of};
-ghost use Rattle.program_files.specs.FrontEnd.{AreProgram, AreTexts, HasTexts};
-ghost use Rattle.program_files.specs.Outside.{Stream, outside, stream};
+ghost use Rattle.lay_compile.specs.ProgramFiles.FrontEnd.{AreProgram, AreTexts, HasTexts};
+ghost use Rattle.lay_compile.specs.ProgramFiles.Outside.{Stream, outside, stream};
 ghost use Rattle.lay_commands.specs.Compiling.{AgreesWith};
 ghost use Rattle.lay_commands.specs.Stages.{ThinGives, ThinProgramGives, ReportGives, CompileGives};
 
 use crate::writing::write_bytes;
 use command_words::CompileRequest;
 use lay_base::{Files, Host, Name, NoMemory, Sink};
-use program_files::{PlaceTexts, check_files, check_number, read_files};
+use lay_compile::{PlaceTexts, check_files, check_number, read_files};
 use refusals::Refusal;
 use std::alloc::Global;
-use thin_code::image_of_thin;
-use thin_parser::{Thin, thin};
+use thin_code::{Thin, image_of_thin, thin};
 
 /// The thin program that the files spell, which are a program. A refusal has the name that is given.
 fn thin_in(alloc: Global, name: &str, files: &Files) -> Result<Thin, Refusal>
@@ -71,7 +70,7 @@ fn write_report<O: Sink>(out: &mut O) -> Result<(), Refusal>
 }
 
 /// Compiles a program: each stage refuses what it cannot take, and only the last two write. A refusal leaves the texts of its places.
-#[tactic(auto, using(program_files::proofs::FrontFaults::number_texts, program_files::proofs::FrontFaults::files_texts, program_files::proofs::FrontFaults::memory_texts, crate::proofs::ThinPrograms::write_texts, crate::proofs::ThinPrograms::report_texts))]
+#[tactic(auto, using(lay_compile::proofs::ProgramFiles::FrontFaults::number_texts, lay_compile::proofs::ProgramFiles::FrontFaults::files_texts, lay_compile::proofs::ProgramFiles::FrontFaults::memory_texts, crate::proofs::ThinPrograms::write_texts, crate::proofs::ThinPrograms::report_texts))]
 pub fn compile<H: Host, O: Sink>(
     alloc: Global,
     request: CompileRequest<'_, '_>,

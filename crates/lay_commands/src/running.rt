@@ -3,14 +3,14 @@
 ghost use Rattle.std.specs.Prelude.{◌≡◌, ◌⊎◌, IfOk};
 ghost use Rattle.rv_isa.specs.Placed.{IsPlaced};
 ghost use Rattle.rv_machine.specs.Runs.{IsFresh};
-ghost use Rattle.program_files.specs.Outside.{outside, stream};
+ghost use Rattle.lay_compile.specs.ProgramFiles.Outside.{outside, stream};
 ghost use Rattle.lay_commands.specs.Stages.{ImageGives, RunGives, answer_for};
 ghost use Rattle.lay_commands.specs.Answers.{IsOfMachine, run_outcome};
 
 use command_words::RunRequest;
 use elf32::ElfFault;
 use lay_base::{Host, NoMemory, Sink, Source};
-use program_files::bytes_of;
+use lay_compile::bytes_of;
 use refusals::Refusal;
 use rv_isa::Image;
 use rv_machine::{Machine, MachineEnd};

@@ -2,10 +2,11 @@
 
 ghost use Rattle.std.specs.Prelude.{◌≡◌, ◌⊎◌, map, option_and_then, option_map, Some};
 ghost use Rattle.std.specs.String.{string_bytes};
+ghost use Rattle.c_link.specs.Programs.{ProgramsAreOne};
 ghost use Rattle.clap.specs.Simple.{subcommand_rows_of};
 ghost use Rattle.command_words.specs.Words.{command_found, command_of, requested, IsPossible};
-ghost use Rattle.program_files.specs.FrontEnd.{or_empty};
-ghost use Rattle.program_files.specs.Outside.{outside, stream};
+ghost use Rattle.lay_compile.specs.ProgramFiles.FrontEnd.{or_empty};
+ghost use Rattle.lay_compile.specs.ProgramFiles.Outside.{outside, stream};
 ghost use Rattle.lay_commands.specs.Answers.{ErrGives, MayRead, OutcomeGives, OutcomeHas, run_outcome};
 
 use crate::compiling::compile;
@@ -13,10 +14,11 @@ use crate::interpreting::interp;
 use crate::outcome::Outcome;
 use crate::profiling::profile;
 use crate::running::run;
+use c_undefined_places::undefined_steps_stand_in_files;
 use clap::ArgMatches;
 use command_words::{Request, matches_in, request_in};
 use lay_base::{Bytes, Host, NoMemory, Sink, Source};
-use program_files::PlaceTexts;
+use lay_compile::{PlaceTexts, named_texts_are_of_places, programs_are_one};
 use refusals::{Refusal, put_refusal};
 use std::alloc::Global;
 
@@ -134,9 +136,14 @@ pub fn layc<H: Host, I: Source, O: Sink, E: Sink>(
         let now = outside (H.files host.new) (H.failed_reads host.new) (H.failed_writes host.new)
         (stream (I.left input.new) (I.faults input.new)) (stream (O.written out.new) (O.faults out.new)) in
         OutcomeGives (command_of (map string_bytes words.now)) before now result }
-    ensures err { ErrGives (command_of (map string_bytes words.now)) (H.files host.old) (stream (E.written err.old) (E.faults err.old))
+    ensures err { ErrGives (command_of (map string_bytes words.now)) (H.files host.old) (I.left input.old) (stream (E.written err.old) (E.faults err.old))
         (stream (E.written err.new) (E.faults err.new)) result }
+    // The program of some files, of which these clauses speak, is the only one.
+    ensures one { ProgramsAreOne }
 {
+    named_texts_are_of_places();
+    undefined_steps_stand_in_files();
+    programs_are_one();
     let mut texts = PlaceTexts::none();
     let outcome = outcome_of(alloc, words, host, input, out, &mut texts);
     if let Outcome::Refused(refusal) = &outcome {

@@ -8,7 +8,7 @@ use Rattle.lay_base.specs.declared.place.File.{File}
 use Rattle.lay_base.specs.declared.place.Place.{Place}
 use Rattle.c_lexer.specs.Answers.{OnFault}
 use Rattle.c_tokens.specs.Lexes.{Lexes, LexFaultAt}
-use Rattle.c_tokens.specs.TokenPlaces.{IsPlaceIn, TokensHavePlaces}
+use Rattle.c_tokens.specs.TokenPlaces.{IsPlaceIn, TokensHavePlaces, IsPlaceOf}
 use Rattle.c_lexer.specs.declared.fault.LexFault.{LexFault}
 use Rattle.c_lexer.specs.declared.fault.LexFault.TheVariants as L
 use Rattle.c_tokens.specs.declared.fault.FaultKind.TheVariants as K
@@ -33,9 +33,9 @@ use Rattle.c_link.specs.Programs.{AreUnitsOf}
 use Rattle.c_link.specs.declared.gap.Gap.{Gap}
 use Rattle.c_link.specs.declared.gap.Gap.TheVariants as G
 use Rattle.c_typed.specs.Programs.{UnitData}
-use Rattle.c_fault_places.specs.Places.{IsPlaceOf, FaultsHavePlaces}
-use Rattle.c_fault_places.specs.Places as Types
-use Rattle.c_gap_places.specs.Places.{GapsHavePlaces}
+use Rattle.c_checking_units.specs.FaultPlaces.Places.{FaultsHavePlaces}
+use Rattle.c_checking_units.specs.FaultPlaces.Places as Types
+use Rattle.c_well_typed.specs.GapPlaces.Places.{GapsHavePlaces}
 use Rattle.lay_compile.specs.declared.fault.CompileFault.TheVariants.{Lexical, Syntax, Types, Joining, Memory}
 use Rattle.lay_compile.specs.Front.{Stage, FirstFails, HasSyntaxFault, HasTypeFault}
 use Rattle.lay_compile.specs.Places.{LexicalStands, SyntaxStands, TypesStand, GapStands, FaultsStandInFiles}

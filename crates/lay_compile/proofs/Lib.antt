@@ -3,3 +3,6 @@ mod Next
 mod Rounds
 mod NoProgram
 mod FaultPlaces
+pub mod LineTexts
+pub mod ProgramFiles
+pub mod RefusalPlaces

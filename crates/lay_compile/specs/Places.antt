@@ -10,7 +10,7 @@ use Rattle.c_check.specs.declared.fault.CheckFault.{CheckFault}
 use Rattle.c_check.specs.declared.fault.CheckFault.TheVariants as T
 use Rattle.c_link.specs.declared.gap.Gap.{Gap}
 use Rattle.c_link.specs.declared.gap.Gap.TheVariants as G
-use Rattle.c_fault_places.specs.Places.{IsPlaceOf}
+use Rattle.c_tokens.specs.TokenPlaces.{IsPlaceOf}
 use Rattle.lay_compile.specs.declared.fault.CompileFault.{CompileFault}
 use Rattle.lay_compile.specs.declared.fault.CompileFault.TheVariants.{Lexical, Syntax, Types, Joining, Memory}
 use Rattle.lay_compile.specs.Front.{IsFaultOf}

@@ -3,11 +3,10 @@
 ghost use Rattle.c_link.specs.Programs.{ProgramsAreOne};
 ghost use Rattle.lay_compile.specs.Places.{FaultsStandInFiles};
 
-use c_checking_units::units_are_one;
-use c_fault_places::faults_have_places;
-use c_gap_places::gaps_have_places;
+use c_checking_units::{faults_have_places, units_are_one};
 use c_lexer::{texts_have_one_reading, tokens_have_places};
 use c_parser::files_have_one_tree;
+use c_well_typed::gaps_have_places;
 
 /// Files have at most one program.
 pub fn programs_are_one()

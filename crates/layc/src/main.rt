@@ -1,6 +1,13 @@
 //! `layc`, a whole-program C compiler for RV32IM, and a machine for what it compiles: the commands of
 //! `lay_commands` on the real files and streams. The program that `run` runs reads standard input and
 //! writes to standard output.
+//!
+//! Standard input is read ahead, in pieces of up to 8,192 bytes. A piece is used as soon as it is there, however short it is. What a program leaves unread
+//! of a piece is lost to whoever reads the same stream after it.
+//!
+//! The adapters meet the traits `Host`, `Source` and `Sink` with unknown contents: a call that fails raises the count, and no other call does. That they give
+//! and take what is there, and fail only where the system does, is only tested, on real files. Where the words or the buffer of standard input find no memory,
+//! `main` answers the refusal for want of memory. Text that is not UTF-8 on the command line is answered with the usage text.
 #![tactic(auto)]
 
 mod adapters;

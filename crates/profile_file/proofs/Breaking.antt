@@ -1,13 +1,15 @@
 -- At which line bytes break off.
-use Rattle.std.proofs.Common.{◌≡◌, ℕ, ◌+◌, ◌≤◌, ◌⊎◌, inl, inr, List, [], ◌∷◌, ◌++◌, length, take, drop, Option, Some, None, refl, sym, ap, ◌∙◌, subst, arith, append_assoc, append-nil}
+use Rattle.std.proofs.Common.{◌≡◌, ℕ, ◌+◌, ◌≤◌, ◌⊎◌, inl, inr, List, [], ◌∷◌, ◌++◌, length, take, drop, Option, Some, None, refl, sym, ap, ◌∙◌, subst, arith}
+use Rattle.std.proofs.Common.{append_assoc, append-nil}
 use Rattle.std.specs.Prelude.{codes, flat_map, map, Result, Ok, Err}
 use Rattle.std.specs.List.{All, AllByRecursion}
 use Rattle.std.proofs.lemmas.List.{append_cancel_right, length-append, length-map, take-append-drop}
 use Rattle.std.proofs.lemmas.List.Elements.{All-nil}
 use Rattle.std.proofs.Math.Seq.{take-append_seam}
-use Rattle.c_counts.specs.declared.counts.Counts.{Counts}
-use Rattle.c_counts.specs.declared.counts.FunCount.{FunCount}
-use Rattle.profile_file.specs.Text.{HasLines, IsName, IsProfile, ended, first_line, function_line, function_lines, greatest_count, last_line, loop_line, profile_lines, profile_text, text_of}
+use Rattle.c_typed.specs.declared.run_counts.counts.Counts.{Counts}
+use Rattle.c_typed.specs.declared.run_counts.counts.FunCount.{FunCount}
+use Rattle.profile_file.specs.Text.{HasLines, IsName, IsProfile, ended, first_line, function_line, function_lines, greatest_count, last_line, loop_line}
+use Rattle.profile_file.specs.Text.{profile_lines, profile_text, text_of}
 use Rattle.profile_file.specs.declared.fault.ProfileFault.{ProfileFault}
 use Rattle.profile_file.specs.declared.fault.ProfileFault.TheVariants.{BadProfile, Memory}
 use Rattle.profile_file.specs.Lines.{Begins, BreaksAt, ReadGives, lines_of}

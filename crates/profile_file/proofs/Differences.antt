@@ -1,5 +1,6 @@
 -- How a walk in the order of the functions compares what is left.
-use Rattle.std.proofs.Common.{◌≡◌, ℕ, zero, suc, ◌+◌, ◌<◌, ◌^◌, Bool, true, false, List, [], ◌∷◌, Option, Some, None, length, drop, get_or, ◌≤◌, Ok, refl, sym, ap, ◌∙◌, add-one, arith}
+use Rattle.std.proofs.Common.{◌≡◌, ℕ, zero, suc, ◌+◌, ◌<◌, ◌^◌, Bool, true, false, List, [], ◌∷◌, Option, Some, None, length, drop, get_or, ◌≤◌, Ok, refl, sym}
+use Rattle.std.proofs.Common.{ap, ◌∙◌, add-one, arith}
 use Rattle.std.specs.Prelude.{◌==◌, if◌then◌else◌, is_some, map, slice_get}
 use Rattle.std.specs.List.{All}
 use Rattle.std.specs.Str.{bytes_eq}
@@ -8,13 +9,13 @@ use Rattle.std.proofs.lemmas.List.Elements.{All-head, All-tail}
 use Rattle.std.proofs.Math.Seq.{drop-cons}
 use Rattle.lay_base.specs.declared.faults.Stale.{Stale}
 use Rattle.lay_base.specs.declared.faults.StaleKind.TheVariants.{Order, Loops}
-use Rattle.c_counts.specs.declared.counts.FunCount.{FunCount}
-use Rattle.c_counts.specs.declared.order.Defined.{Defined}
-use Rattle.c_counts.specs.Counting.{name_at}
-use Rattle.c_counts.specs.Loops.{loops_at, loops_of, loops_of_any}
-use Rattle.c_counts.specs.Order.{defined_from, first_of, profile_order, rest_after}
-use Rattle.c_counts.specs.Stale.{loops_among, loops_differ, names_among, order_differs, place_of, unless_stale}
-use Rattle.c_counts.proofs.Orders.{order_ascends, rest_behind}
+use Rattle.c_typed.specs.declared.run_counts.counts.FunCount.{FunCount}
+use Rattle.c_typed.specs.declared.run_counts.order.Defined.{Defined}
+use Rattle.c_typed.specs.RunCounts.Counting.{name_at}
+use Rattle.c_typed.specs.RunCounts.Loops.{loops_at, loops_of, loops_of_any}
+use Rattle.c_typed.specs.RunCounts.Order.{defined_from, first_of, profile_order, rest_after}
+use Rattle.c_typed.specs.RunCounts.Stale.{loops_among, loops_differ, names_among, order_differs, place_of, unless_stale}
+use Rattle.c_typed.proofs.RunCounts.Orders.{order_ascends, rest_behind}
 use Rattle.c_typed.specs.Programs.{FunctionData, ProgramData, data_of}
 use Rattle.c_typed.specs.declared.program.Function.{Function}
 

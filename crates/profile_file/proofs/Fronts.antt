@@ -15,7 +15,8 @@ use Rattle.std.proofs.lemmas.Str.Parse.{IsDigitsTest, IsNumeralModel, numerals_b
 use Rattle.std.proofs.Math.Seq.{take-append_seam, drop-append_seam}
 use Rattle.profile_file.specs.Text.{IsName, goes_on_in_name, greatest_count}
 use Rattle.profile_file.proofs.Names.{is_a_name, name_passes}
-use Rattle.profile_file.specs.Reading.{after, count_at, count_before, has_no_leading_zero, is_digit, is_name, is_numeral, name_at, name_before, number_of, value_of_digits}
+use Rattle.profile_file.specs.Reading.{after, count_at, count_before, has_no_leading_zero, is_digit, is_name, is_numeral, name_at, name_before, number_of}
+use Rattle.profile_file.specs.Reading.{value_of_digits}
 
 pub none_some : {A : Type 0} (x : A) → None ≡ Some x → ⊥
 none_some x e = cc

@@ -4,7 +4,7 @@ use Rattle.std.specs.Prelude.{flat_map}
 use Rattle.std.proofs.lemmas.Grind.{flat_map-append}
 use Rattle.std.proofs.lemmas.List.{length-append, length-map}
 use Rattle.std.proofs.lemmas.List.Elements.{All-push}
-use Rattle.c_counts.specs.declared.counts.FunCount.{FunCount}
+use Rattle.c_typed.specs.declared.run_counts.counts.FunCount.{FunCount}
 use Rattle.profile_file.specs.Text.{HasLines, function_lines, loop_line, text_of}
 use Rattle.profile_file.specs.Reading.{AreFunctions, IsFunction}
 use Rattle.profile_file.proofs.Texts.{text_of-append}

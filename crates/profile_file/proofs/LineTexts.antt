@@ -1,9 +1,10 @@
 -- Lines of functions and loops, as the reader finds them and as the text has them.
-use Rattle.std.proofs.Common.{◌≡◌, ℕ, ◌+◌, ◌≤◌, ◌<◌, List, [], ◌∷◌, ◌++◌, length, Option, Some, None, refl, sym, ap, ◌∙◌, subst, arith, append_assoc, append-nil}
+use Rattle.std.proofs.Common.{◌≡◌, ℕ, ◌+◌, ◌≤◌, ◌<◌, List, [], ◌∷◌, ◌++◌, length, Option, Some, None, refl, sym, ap, ◌∙◌, subst, arith, append_assoc}
+use Rattle.std.proofs.Common.{append-nil}
 use Rattle.std.specs.Prelude.{codes, decimal, map, option_map}
 use Rattle.std.specs.Option.{option_and_then}
 use Rattle.std.proofs.lemmas.List.{length-append, length-map}
-use Rattle.c_counts.specs.declared.counts.FunCount.{FunCount}
+use Rattle.c_typed.specs.declared.run_counts.counts.FunCount.{FunCount}
 use Rattle.profile_file.specs.Text.{IsName, ended, function_line, greatest_count, loop_line, text_of}
 use Rattle.profile_file.specs.Reading.{after, AreLoops, count_at, entries_at, function_at, IsFunction, loop_at, name_at}
 use Rattle.profile_file.proofs.Fronts.{after_front, after_taken, count_read, count_taken, name_read, name_taken, none_some, some_same}

@@ -5,9 +5,10 @@ use Rattle.std.specs.List.{All, AllByRecursion, list_all}
 use Rattle.std.proofs.lemmas.Bool.{and_parts}
 use Rattle.std.proofs.lemmas.Bool.Decides.{nat_tests}
 use Rattle.std.proofs.lemmas.List.Elements.{All-head, All-tail}
-use Rattle.c_counts.specs.declared.counts.Counts.{Counts}
-use Rattle.c_counts.specs.declared.counts.FunCount.{FunCount}
-use Rattle.profile_file.specs.Text.{HasLines, IsName, IsProfile, ended, first_line, function_line, function_lines, goes_on_in_name, greatest_count, last_line, loop_line, profile_lines, profile_text, text_of}
+use Rattle.c_typed.specs.declared.run_counts.counts.Counts.{Counts}
+use Rattle.c_typed.specs.declared.run_counts.counts.FunCount.{FunCount}
+use Rattle.profile_file.specs.Text.{HasLines, IsName, IsProfile, ended, first_line, function_line, function_lines, goes_on_in_name, greatest_count, last_line}
+use Rattle.profile_file.specs.Text.{loop_line, profile_lines, profile_text, text_of}
 use Rattle.profile_file.specs.Lines.{lines_of, with_byte}
 use Rattle.profile_file.specs.Reading.{is_digit}
 use Rattle.profile_file.proofs.Fronts.{decimal_digits}

@@ -2,8 +2,8 @@
 use Rattle.std.proofs.Common.{◌≡◌, List, [], ◌∷◌, ◌++◌, ℕ, ◌+◌, ◌≤◌, length, refl, sym, ap, ◌∙◌, arith, append_assoc}
 use Rattle.std.specs.Prelude.{flat_map}
 use Rattle.std.proofs.lemmas.List.{length-append}
-use Rattle.c_counts.specs.declared.counts.Counts.{Counts}
-use Rattle.c_counts.specs.declared.counts.FunCount.{FunCount}
+use Rattle.c_typed.specs.declared.run_counts.counts.Counts.{Counts}
+use Rattle.c_typed.specs.declared.run_counts.counts.FunCount.{FunCount}
 use Rattle.profile_file.specs.Text.{ended, first_line, function_lines, last_line, profile_text, text_of}
 
 pub text_of-append : (xs ys : List (List ℕ)) → text_of (xs ++ ys) ≡ text_of xs ++ text_of ys

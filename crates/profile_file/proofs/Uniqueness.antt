@@ -4,9 +4,10 @@ use Rattle.std.specs.Prelude.{map}
 use Rattle.std.specs.List.{All}
 use Rattle.std.proofs.lemmas.List.{append_cancel_right}
 use Rattle.std.proofs.lemmas.List.Elements.{All-head, All-tail}
-use Rattle.c_counts.specs.declared.counts.Counts.{Counts}
-use Rattle.c_counts.specs.declared.counts.FunCount.{FunCount}
-use Rattle.profile_file.specs.Text.{CountsAreOne, HasLines, IsProfile, ended, first_line, function_line, greatest_count, last_line, loop_line, profile_lines, profile_text}
+use Rattle.c_typed.specs.declared.run_counts.counts.Counts.{Counts}
+use Rattle.c_typed.specs.declared.run_counts.counts.FunCount.{FunCount}
+use Rattle.profile_file.specs.Text.{CountsAreOne, HasLines, IsProfile, ended, first_line, function_line, greatest_count, last_line, loop_line, profile_lines}
+use Rattle.profile_file.specs.Text.{profile_text}
 use Rattle.profile_file.specs.Lines.{lines_of}
 use Rattle.profile_file.specs.Reading.{function_at, loop_at}
 use Rattle.profile_file.proofs.Breaking.{counts, function_no_loop, function_part, no_lines, same_head, same_tail}

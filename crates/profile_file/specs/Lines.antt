@@ -1,6 +1,6 @@
 -- Which bytes are the text of a profile, and at which line other bytes break off.
 use Rattle.std.specs.Prelude.{◌≡◌, ℕ, ◌+◌, ◌==◌, if◌then◌else◌, List, [], ◌∷◌, take, Result, Ok, Err}
-use Rattle.c_counts.specs.declared.counts.Counts.{Counts}
+use Rattle.c_typed.specs.declared.run_counts.counts.Counts.{Counts}
 use Rattle.profile_file.specs.declared.fault.ProfileFault.{ProfileFault}
 use Rattle.profile_file.specs.declared.fault.ProfileFault.TheVariants.{BadProfile, Memory}
 use Rattle.profile_file.specs.Text.{IsProfile, profile_text}

@@ -1,13 +1,12 @@
 -- What the parts of the reader answer.
-use Rattle.std.specs.Prelude.{◌≡◌, ℕ, ◌+◌, ◌*◌, ◌-◌, ◌<◌, ◌≤◌, ◌==◌, nat_le, ◌⊎◌, Bool, true, false, not, ◌&&◌, if◌then◌else◌, List, [], ◌∷◌, ◌++◌, length, map, flat_map, take, drop, fold, codes, Option, Some, None, option_map, Result, Ok, Err}
-use Rattle.std.specs.List.{All, prefix_len, list_all, list_any}
-use Rattle.std.specs.Option.{option_and_then}
+use Rattle.std.specs.Prelude.{◌≡◌, ℕ, ◌+◌, ◌*◌, ◌-◌, ◌<◌, ◌≤◌, ◌==◌, nat_le, ◌⊎◌, Bool, true, false, not, ◌&&◌, if◌then◌else◌, List, [], ◌∷◌, ◌++◌, length, map}
+use Rattle.std.specs.Prelude.{flat_map, take, drop, fold, codes, Option, Some, None, option_map, Result, Ok, Err}
+use Rattle.std.specs.List.{All, prefix_len, list_all}
+use Rattle.std.specs.Option.{is_some, option_and_then}
 use Rattle.std.specs.Str.{bytes_eq}
-use Rattle.lay_base.specs.Keywords.{keyword_text}
-use Rattle.lay_base.specs.declared.faults.Keyword.{Keyword}
-use Rattle.lay_base.specs.declared.faults.Keyword.TheVariants as K
-use Rattle.c_counts.specs.declared.counts.Counts.{Counts}
-use Rattle.c_counts.specs.declared.counts.FunCount.{FunCount}
+use Rattle.lay_base.specs.KeywordScan.{keyword_of}
+use Rattle.c_typed.specs.declared.run_counts.counts.Counts.{Counts}
+use Rattle.c_typed.specs.declared.run_counts.counts.FunCount.{FunCount}
 use Rattle.profile_file.specs.declared.fault.ProfileFault.{ProfileFault}
 use Rattle.profile_file.specs.declared.fault.ProfileFault.TheVariants.{BadProfile, Memory}
 use Rattle.profile_file.specs.Text.{HasLines, begins_name, function_lines, goes_on_in_name, greatest_count, loop_line, text_of}
@@ -46,19 +45,8 @@ count_at text = count_before (take (prefix_len is_digit text) text) (drop (prefi
 
 -- ---- names
 
-abbrev pub all_keywords : List Keyword
-all_keywords =
-    K.Auto ∷ K.Break ∷ K.Case ∷ K.Char ∷ K.Const ∷ K.Continue ∷ K.Default ∷ K.Do ∷
-    K.Double ∷ K.Else ∷ K.Enum ∷ K.Extern ∷ K.Float ∷ K.For ∷ K.Goto ∷ K.If ∷
-    K.Inline ∷ K.Int ∷ K.Long ∷ K.Register ∷ K.Restrict ∷ K.Return ∷ K.Short ∷ K.Signed ∷
-    K.Sizeof ∷ K.Static ∷ K.Struct ∷ K.Switch ∷ K.Typedef ∷ K.Union ∷ K.Unsigned ∷ K.Void ∷
-    K.Volatile ∷ K.While ∷ K.UnderscoreBool ∷ K.UnderscoreComplex ∷ K.UnderscoreImaginary ∷ []
-
-unfoldable pub is_keyword : List ℕ → Bool
-is_keyword name = list_any (λ keyword. bytes_eq (keyword_text keyword) name) all_keywords
-
 abbrev pub is_name : List ℕ → Bool
-is_name name = begins_name name && (list_all goes_on_in_name name && (nat_le (length name) 255 && not (is_keyword name)))
+is_name name = begins_name name && (list_all goes_on_in_name name && (nat_le (length name) 255 && not (is_some (keyword_of name))))
 
 abbrev pub name_before : (name rest : List ℕ) → Option (List ℕ × List ℕ)
 name_before name [] = None

@@ -3,8 +3,8 @@ use Rattle.std.specs.Prelude.{◌≡◌, ℕ, ◌≤◌, nat_le, ◌==◌, Bool,
 use Rattle.std.specs.List.{All, list_all}
 use Rattle.lay_base.specs.Keywords.{keyword_text}
 use Rattle.lay_base.specs.declared.faults.Keyword.{Keyword}
-use Rattle.c_counts.specs.declared.counts.Counts.{Counts}
-use Rattle.c_counts.specs.declared.counts.FunCount.{FunCount}
+use Rattle.c_typed.specs.declared.run_counts.counts.Counts.{Counts}
+use Rattle.c_typed.specs.declared.run_counts.counts.FunCount.{FunCount}
 
 -- ---- names (C99 6.4.2.1)
 

@@ -2,14 +2,13 @@
 
 ghost use Rattle.std.specs.Prelude.{◌≡◌, ◌<◌, ◌^◌, ◌≤◌, OnOk, ℕ, length, map};
 ghost use Rattle.std.specs.List.{All};
-ghost use Rattle.c_counts.specs.Counting.{name_at};
-ghost use Rattle.c_counts.specs.Loops.{loops_at, loops_of as loops_in_function};
-ghost use Rattle.c_counts.specs.Order.{defined_in};
-ghost use Rattle.c_counts.specs.Stale.{functions_differ, loops_stale, names_in, order_stale, place_of, stale, unless_stale};
+ghost use Rattle.c_typed.specs.RunCounts.Counting.{name_at};
+ghost use Rattle.c_typed.specs.RunCounts.Loops.{loops_at, loops_of as loops_in_function};
+ghost use Rattle.c_typed.specs.RunCounts.Order.{defined_in};
+ghost use Rattle.c_typed.specs.RunCounts.Stale.{functions_differ, loops_stale, names_in, order_stale, place_of, stale, unless_stale};
 ghost use Rattle.c_typed.specs.Programs.{data_of, program_data};
 
-use c_counts::{Counts, FunCount, function_count, loops_of, next_defined};
-use c_typed::Typed;
+use c_typed::{Counts, FunCount, Typed, function_count, loops_of, next_defined};
 use lay_base::{Stale, StaleKind};
 
 /// The name of the function of that number.

@@ -4,7 +4,7 @@ ghost use Rattle.std.specs.Prelude.{◌≡◌, IfOk, MatchOption, None, option_m
 ghost use Rattle.profile_file.specs.Reading.{AreLoops, IsFunction, function_at, loop_at};
 
 use crate::numbers::{after, count_at, name_at};
-use c_counts::FunCount;
+use c_typed::FunCount;
 use lay_base::{List, Name, NoMemory, add};
 use std::alloc::Global;
 

@@ -5,7 +5,7 @@ ghost use Rattle.std.specs.List.{list_all, prefix_len};
 ghost use Rattle.profile_file.specs.Reading.{after, count_at, is_digit, is_name, name_at, number_of};
 ghost use Rattle.profile_file.specs.Text.{begins_name, goes_on_in_name, is_letter};
 
-use crate::keywords::is_keyword;
+use lay_base::keyword_of;
 
 /// The greatest count.
 const GREATEST_COUNT: u64 = 1_000_000_000_000_000_000;
@@ -102,7 +102,7 @@ fn all_go_on(name: &[u8]) -> bool
 fn is_name(name: &[u8]) -> bool
     ensures { result ≡ is_name name.now }
 {
-    begins_name(name) && all_go_on(name) && name.len() <= LONGEST_NAME && !is_keyword(name)
+    begins_name(name) && all_go_on(name) && name.len() <= LONGEST_NAME && keyword_of(name).is_none()
 }
 
 /// The name in front of a text, where a space stands behind it, and what stands behind the space.

@@ -7,7 +7,7 @@ ghost use Rattle.profile_file.specs.Reading.{AreAllFunctions, EndGives};
 use crate::fault::ProfileFault;
 use crate::lines::read_function;
 use crate::numbers::after;
-use c_counts::{Counts, FunCount};
+use c_typed::{Counts, FunCount};
 use lay_base::{List, NoMemory, add};
 use std::alloc::Global;
 

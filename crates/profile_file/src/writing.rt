@@ -3,7 +3,7 @@
 ghost use Rattle.std.specs.Prelude.{◌≡◌, ◌++◌, ◌∷◌, [], IfOk, OnOk, decimal, flat_map, map};
 ghost use Rattle.profile_file.specs.Text.{ended, first_line, function_lines, last_line, loop_line, profile_text, text_of};
 
-use c_counts::{Counts, FunCount};
+use c_typed::{Counts, FunCount};
 use itoa::Buffer;
 use lay_base::NoMemory;
 use std::alloc::Global;

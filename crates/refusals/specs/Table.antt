@@ -96,11 +96,10 @@ stale_line name stale = line
 -- how the program is called
 unfoldable pub usage : List ℕ
 usage = concat
-    (codes "usage: layc compile -o OUT [--profile P] [--plain] [--heap MIB] [--stack MIB] FILE...\n"
+    (codes "usage: layc compile -o OUT [--plain] [--heap MIB] [--stack MIB] FILE...\n"
     ∷ codes "       layc profile -o P [--turns N] FILE...\n"
     ∷ codes "       layc interp [--turns N] FILE...\n"
-    ∷ codes "       layc run [--steps N] ELF\n"
-    ∷ codes "       layc bench N\n" ∷ [])
+    ∷ codes "       layc run [--steps N] ELF\n" ∷ [])
 
 -- the text of a refusal, `at` and `first` being the texts FILE:LINE of its first place and its second
 unfoldable pub refusal_text : (at first : List ℕ) → Refusal → List ℕ

@@ -3,6 +3,8 @@
 //!
 //! It stands on `lay_base`. It promises that what is written for a refusal is the text of the table, or
 //! a first part of it where the sink failed.
+//!
+//! That codes differ from one another is seen in the table, and no clause says it. Not proved: the text of `Debug`.
 #![tactic(auto)]
 
 mod lines;

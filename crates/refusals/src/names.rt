@@ -1,55 +1,9 @@
 //! The names that stand in the texts of refusals.
 
 ghost use Rattle.std.specs.Prelude.{◌≡◌};
-ghost use Rattle.lay_base.specs.Keywords.{keyword_text};
 ghost use Rattle.refusals.specs.Names.{rule_name, limit_name, room_name, undefined_name, trap_name, field_name};
 
-use lay_base::{ElfField, Keyword, LimitKind, RoomKind, Rule, TrapKind, UndefinedKind};
-
-/// The spelling of a keyword (C99 6.4.1).
-pub fn keyword_text(keyword: Keyword) -> &'static [u8]
-    ensures { result.now ≡ keyword_text keyword }
-{
-    match keyword {
-        Keyword::Auto => b"auto",
-        Keyword::Break => b"break",
-        Keyword::Case => b"case",
-        Keyword::Char => b"char",
-        Keyword::Const => b"const",
-        Keyword::Continue => b"continue",
-        Keyword::Default => b"default",
-        Keyword::Do => b"do",
-        Keyword::Double => b"double",
-        Keyword::Else => b"else",
-        Keyword::Enum => b"enum",
-        Keyword::Extern => b"extern",
-        Keyword::Float => b"float",
-        Keyword::For => b"for",
-        Keyword::Goto => b"goto",
-        Keyword::If => b"if",
-        Keyword::Inline => b"inline",
-        Keyword::Int => b"int",
-        Keyword::Long => b"long",
-        Keyword::Register => b"register",
-        Keyword::Restrict => b"restrict",
-        Keyword::Return => b"return",
-        Keyword::Short => b"short",
-        Keyword::Signed => b"signed",
-        Keyword::Sizeof => b"sizeof",
-        Keyword::Static => b"static",
-        Keyword::Struct => b"struct",
-        Keyword::Switch => b"switch",
-        Keyword::Typedef => b"typedef",
-        Keyword::Union => b"union",
-        Keyword::Unsigned => b"unsigned",
-        Keyword::Void => b"void",
-        Keyword::Volatile => b"volatile",
-        Keyword::While => b"while",
-        Keyword::UnderscoreBool => b"_Bool",
-        Keyword::UnderscoreComplex => b"_Complex",
-        Keyword::UnderscoreImaginary => b"_Imaginary",
-    }
-}
+use lay_base::{ElfField, LimitKind, RoomKind, Rule, TrapKind, UndefinedKind};
 
 /// The name of a typing rule.
 pub fn rule_name(rule: Rule) -> &'static [u8]

@@ -7,13 +7,11 @@ ghost use Rattle.refusals.specs.Puts.{Puts};
 ghost use Rattle.refusals.specs.Table.{HasPlace, difference, hexadecimal, hexadecimal_digit, line, refusal_text, stale_line, usage};
 
 use crate::lines::{put_all, put_line, put_line_at};
-use crate::names::{
-    field_name, keyword_text, limit_name, room_name, rule_name, trap_name, undefined_name,
-};
+use crate::names::{field_name, limit_name, room_name, rule_name, trap_name, undefined_name};
 use crate::refusal::Refusal;
 use crate::table::places_of;
 use itoa::Buffer;
-use lay_base::{ElfField, Sink, SinkFault, Stale, StaleKind};
+use lay_base::{ElfField, Sink, SinkFault, Stale, StaleKind, keyword_text};
 
 /// Writes the text of a refusal, `at` and `first` being the texts FILE:LINE of its first place and
 /// its second, or empty where it has none. It takes no memory, so that it can be written when
@@ -207,11 +205,10 @@ fn put_usage<E: Sink>(err: &mut E) -> Result<(), SinkFault>
     put_all(
         err,
         &[
-            b"usage: layc compile -o OUT [--profile P] [--plain] [--heap MIB] [--stack MIB] FILE...\n",
+            b"usage: layc compile -o OUT [--plain] [--heap MIB] [--stack MIB] FILE...\n",
             b"       layc profile -o P [--turns N] FILE...\n",
             b"       layc interp [--turns N] FILE...\n",
             b"       layc run [--steps N] ELF\n",
-            b"       layc bench N\n",
         ],
     )
 }

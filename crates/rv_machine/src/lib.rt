@@ -4,6 +4,9 @@
 //! step, for known input: it ends at the least number of steps at which that run ends, and has then
 //! read and written what that run has. A run takes no memory, and comes to a fault only where its
 //! input or its output failed.
+//!
+//! Not proved: how fast a step is, how much memory `new` takes (that of all segments, and 65,536 decoded words), what memory holds after a fault, and the texts
+//! of `Debug`.
 #![tactic(auto)]
 
 mod arithmetic;

@@ -2,8 +2,8 @@
 use Rattle.std.proofs.Common.{◌≡◌, refl, Option, Some, None}
 use Rattle.lay_base.specs.declared.place.Place.{Place}
 use Rattle.c_types.specs.Types.{CType, void, integer, pointer as pointer_to, array, function, structure}
-use Rattle.runs.specs.declared.value.Value.{Value}
-use Rattle.runs.specs.declared.value.Value.TheVariants.{Word, Pointer}
+use Rattle.block_memory.specs.declared.run_worlds.value.Value.{Value}
+use Rattle.block_memory.specs.declared.run_worlds.value.Value.TheVariants.{Word, Pointer}
 use Rattle.source_actions.specs.Casts.{cast_by}
 use Rattle.source_steps.specs.Actions.{cast_to}
 use Rattle.source_steps.specs.States.{State}

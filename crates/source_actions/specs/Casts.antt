@@ -1,7 +1,7 @@
 -- A conversion by the sort of its type.
 use Rattle.std.specs.Prelude.{Option, None}
 use Rattle.lay_base.specs.declared.place.Place.{Place}
-use Rattle.runs.specs.declared.value.Value.{Value}
+use Rattle.block_memory.specs.declared.run_worlds.value.Value.{Value}
 use Rattle.source_steps.specs.Actions.{needed}
 use Rattle.source_steps.specs.States.{State, Step, goes, pushed, given}
 use Rattle.source_values.specs.declared.row.Sort.{Sort}

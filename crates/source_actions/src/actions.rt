@@ -4,23 +4,21 @@ ghost use Rattle.std.specs.Prelude.{◌≡◌, ◌≤◌, IfOk};
 ghost use Rattle.c_typed.specs.Conversions.{number_of};
 ghost use Rattle.c_typed.specs.Programs.{program_data};
 ghost use Rattle.c_types.specs.Limits.{greatest_size};
-ghost use Rattle.source_machine.specs.declared.items.Action.TheVariants as A;
+ghost use Rattle.source_steps.specs.declared.machine_moves.Action.TheVariants as A;
 ghost use Rattle.source_actions.specs.Casts.{cast_by};
 ghost use Rattle.source_state.specs.View.{state_of};
-ghost use Rattle.source_steps.specs.Actions.{allocated, cast_to, element_of, found, performed, stepped_at, stored_anew, through, updated_at};
+ghost use Rattle.source_steps.specs.Actions.{allocated, cast_to, element_of, found, part_of, performed, stepped_at, stored_anew, through, updated_at};
 
-use block_memory::Ptr;
+use block_memory::{Ptr, Value};
 use c_meaning::{Slot, Spot};
 use c_typed::{BinaryOp, CompareOp, PointerOp, StepOp, TypeId, UnaryOp};
 use c_types::IntKind;
 use lay_base::{NoMemory, Place, UndefinedKind};
-use runs::Value;
-use source_machine::Action;
 use source_state::{Machine, STUCK, undefined};
-use source_steps::Moved;
+use source_steps::{Action, Moved};
 use source_values::{
-    Sort, Types, address_of, binary, compared, convert, distance, element, field_in, flag,
-    is_subscript, is_true, moved, next, number_of, part_of, pointer_of, unary, updated, way_to,
+    Sort, Types, address_of, binary, bytes_of, compared, convert, distance, field_in, flag,
+    is_subscript, is_true, moved, next, number_of, part_in, pointer_of, unary, updated, way_to,
     word_of,
 };
 use std::alloc::Global;
@@ -451,20 +449,36 @@ fn indexing<'a>(
     }
 }
 
+/// A field or an element so many bytes on in what lies there.
+fn go_to_part<'a>(
+    machine: &mut Machine<'a>,
+    place: Place,
+    by: i64,
+    spot: Spot,
+) -> Result<Moved, NoMemory>
+    ensures { IfOk result (λ m. (m, state_of machine.new) ≡ part_of place by spot (state_of machine.old)) }
+{
+    let Spot::Placed(p) = spot else {
+        return Ok(undefined(UndefinedKind::Dead, place));
+    };
+    match part_in(&machine.room.store, p, by) {
+        Ok(q) => machine.lead(Spot::Placed(q)),
+        Err(kind) => Ok(undefined(kind, place)),
+    }
+}
+
 fn field_of<'a>(
     machine: &mut Machine<'a>,
     types: &Types<'a>,
+    place: Place,
     offset: u32,
 ) -> Result<Moved, NoMemory>
-    ensures { IfOk result (λ m. (m, state_of machine.new) ≡ performed (program_data types.now) (A.FieldOf offset) (state_of machine.old)) }
+    ensures { IfOk result (λ m. (m, state_of machine.new) ≡ performed (program_data types.now) (A.FieldOf place offset) (state_of machine.old)) }
 {
     let Some(spot) = machine.take_spot() else {
         return Ok(STUCK);
     };
-    match part_of(offset, spot) {
-        Some(part) => machine.lead(part),
-        None => Err(NoMemory),
-    }
+    go_to_part(machine, place, i64::from(offset), spot)
 }
 
 /// The way to a field through a pointer.
@@ -535,10 +549,7 @@ fn go_to_element<'a>(
     if !is_subscript(length, addressed, number_of(kind, word)) {
         return Ok(undefined(UndefinedKind::Subscript, place));
     }
-    match element(kind, word, size, spot) {
-        Some(part) => machine.lead(part),
-        None => Err(NoMemory),
-    }
+    go_to_part(machine, place, bytes_of(kind, word, size), spot)
 }
 
 fn element_at<'a>(
@@ -665,7 +676,7 @@ pub fn perform<'a>(
         Action::Copying(at, size) => copying(machine, types, at, size),
         Action::Dereferencing => dereferencing(machine, types),
         Action::Indexing(at, size, left, right) => indexing(machine, types, at, size, left, right),
-        Action::FieldOf(offset) => field_of(machine, types, offset),
+        Action::FieldOf(at, offset) => field_of(machine, types, at, offset),
         Action::FieldAt(at, offset) => field_at(machine, types, at, offset),
         Action::FieldOfElement(at, right, size, offset) => {
             field_of_element(machine, types, at, right, size, offset)

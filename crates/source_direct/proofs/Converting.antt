@@ -1,8 +1,8 @@
 -- A conversion looks at no more of a type than its sort.
 use Rattle.std.proofs.Common.{◌≡◌, refl}
 use Rattle.c_types.specs.Types.{CType, void, integer, pointer as pointer_to, array, function, structure}
-use Rattle.runs.specs.declared.value.Value.{Value}
-use Rattle.runs.specs.declared.value.Value.TheVariants.{Word, Pointer}
+use Rattle.block_memory.specs.declared.run_worlds.value.Value.{Value}
+use Rattle.block_memory.specs.declared.run_worlds.value.Value.TheVariants.{Word, Pointer}
 use Rattle.source_direct.specs.Sorts.{if_converted_by}
 use Rattle.source_steps.specs.Direct.{if_converted}
 use Rattle.source_values.specs.Sorts.{sort_of}

@@ -1,6 +1,6 @@
 -- What a call gives that finds a value, or finds none and changes nothing.
 use Rattle.std.specs.Prelude.{◌≡◌, Option, Some, None}
-use Rattle.runs.specs.declared.value.Value.{Value}
+use Rattle.block_memory.specs.declared.run_worlds.value.Value.{Value}
 use Rattle.source_steps.specs.Cores.{Core}
 
 abbrev pub Finds : Option Value → (old new : Core) → (defined : Option Value × Core) → Type 0

@@ -1,6 +1,6 @@
 -- A conversion by the sort of its type, where the value has one then.
 use Rattle.std.specs.Prelude.{Option, Some, None}
-use Rattle.runs.specs.declared.value.Value.{Value}
+use Rattle.block_memory.specs.declared.run_worlds.value.Value.{Value}
 use Rattle.source_values.specs.declared.row.Sort.{Sort}
 use Rattle.source_values.specs.declared.row.Sort.TheVariants.{Void}
 use Rattle.source_values.specs.Sorts.{converted_by}

@@ -9,15 +9,14 @@ ghost use Rattle.source_steps.specs.Direct.{direct, direct_spot};
 
 use crate::operators::{
     addressed, cast, element_of, field_through, indexed, loaded_if, of_addition, of_binary,
-    of_comparison, of_difference, of_local, of_not, of_truth, of_unary,
+    of_comparison, of_difference, of_local, of_not, of_truth, of_unary, part_of,
 };
-use block_memory::Ptr;
+use block_memory::{Ptr, Value};
 use c_meaning::Spot;
 use c_typed::{Expression, ExpressionNode, Path, PathNode};
 use lay_base::Boxed;
-use runs::Value;
 use source_state::Room;
-use source_values::{Types, flag, is_true, part_of, pointer_of, way_to, word_of};
+use source_values::{Types, flag, is_true, pointer_of, way_to, word_of};
 
 // `let .. else` stands where `?` could: each `?` is two calls and a `match` more for the proof of its function.
 
@@ -148,7 +147,16 @@ pub fn direct_spot(types: &Types<'_>, room: &Room, is_addressed: bool, q: &Path)
             let Some(v) = direct(types, room, i) else {
                 return None;
             };
-            element_of(types, of.ty, q.ty, is_addressed, spot, i.ty, word_of(v))
+            element_of(
+                types,
+                room,
+                of.ty,
+                q.ty,
+                is_addressed,
+                spot,
+                i.ty,
+                word_of(v),
+            )
         }
     }
 }
@@ -180,7 +188,7 @@ fn direct_member(types: &Types<'_>, room: &Room, q: &Path, offset: u32) -> Optio
             let Some(spot) = direct_spot(types, room, false, q) else {
                 return None;
             };
-            part_of(offset, spot)
+            part_of(room, i64::from(offset), spot)
         }
     }
 }

@@ -7,24 +7,23 @@ ghost use Rattle.c_typed.specs.Programs.{program_data};
 ghost use Rattle.c_meaning.specs.Program.{access_at, element_size, length_of, size_at, type_at};
 ghost use Rattle.c_typed.specs.declared.operators.PointerOp.TheVariants.{Add};
 ghost use Rattle.c_meaning.specs.Expressions.{field_in};
-ghost use Rattle.c_meaning.specs.Operators.{binary, compared, distance, flag, is_true, moved, unary};
 ghost use Rattle.c_meaning.specs.declared.frame.Spot.TheVariants.{Placed};
-ghost use Rattle.runs.specs.Scalars.{pointer_of, word_of};
+ghost use Rattle.block_memory.specs.RunWorlds.Operators.{binary, compared, distance, flag, is_true, moved, unary};
+ghost use Rattle.block_memory.specs.RunWorlds.Scalars.{pointer_of, word_of};
 ghost use Rattle.source_state.specs.RoomView.{core_of};
 ghost use Rattle.source_steps.specs.Actions.{address_of, lies_at};
-ghost use Rattle.source_steps.specs.Direct.{and_if, if_converted, if_element, if_found};
+ghost use Rattle.source_steps.specs.Direct.{and_if, if_converted, if_element, if_found, if_part};
 ghost use Rattle.source_steps.specs.Locals.{fetch, local_spot};
 ghost use Rattle.source_direct.specs.Sorts.{if_converted_by};
 
-use block_memory::{Access, Ptr};
+use block_memory::{Access, Ptr, Value};
 use c_meaning::Spot;
 use c_typed::{BinaryOp, CompareOp, PointerOp, TypeId, UnaryOp};
 use lay_base::UndefinedKind;
-use runs::Value;
 use source_state::Room;
 use source_values::{
-    Sort, Types, address_of, binary, compared, convert, distance, element, field_in, flag,
-    is_subscript, is_true, moved, number_of, pointer_of, unary,
+    Sort, Types, address_of, binary, bytes_of, compared, convert, distance, field_in, flag,
+    is_subscript, is_true, moved, number_of, part_in, pointer_of, unary,
 };
 
 // ---- values
@@ -216,10 +215,24 @@ pub(crate) fn of_local(room: &Room, local: u32) -> Option<Spot>
     }
 }
 
+/// A field or an element so many bytes on in what lies there.
+pub(crate) fn part_of(room: &Room, by: i64, spot: Spot) -> Option<Spot>
+    ensures { result ≡ if_part (core_of room.now).memory by spot }
+{
+    match spot {
+        Spot::Placed(p) => match part_in(&room.store, p, by) {
+            Ok(q) => Some(Spot::Placed(q)),
+            Err(_) => None,
+        },
+        Spot::Kept(_) => None,
+    }
+}
+
 /// An element of a type of an array itself, of another, by a subscript of a third.
 #[inline(always)]
 pub(crate) fn element_of(
     types: &Types<'_>,
+    room: &Room,
     of: TypeId,
     t: TypeId,
     is_addressed: bool,
@@ -227,14 +240,14 @@ pub(crate) fn element_of(
     subscript: TypeId,
     word: u32,
 ) -> Option<Spot>
-    ensures { result ≡ if_element (length_of (type_at (program_data types.now) of)) (size_at (program_data types.now) t) is_addressed spot
+    ensures { result ≡ if_element (core_of room.now).memory (length_of (type_at (program_data types.now) of)) (size_at (program_data types.now) t) is_addressed spot
         (number_of (kind_of (type_at (program_data types.now) subscript)) word) }
 {
     let kind = types.row(subscript).kind;
     if !is_subscript(types.row(of).length, is_addressed, number_of(kind, word)) {
         return None;
     }
-    element(kind, word, types.row(t).size, spot)
+    part_of(room, bytes_of(kind, word, types.row(t).size), spot)
 }
 
 /// What of a type a subscript on a pointer leads to, by the types of both.

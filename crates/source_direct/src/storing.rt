@@ -13,10 +13,9 @@ ghost use Rattle.source_steps.specs.Locals.{local_spot, put};
 use crate::evaluating::{direct, direct_spot};
 use crate::operators::{loaded, of_local};
 use crate::words::{kept, named_word, place, stepped_word, word};
-use block_memory::{Access, Ptr};
+use block_memory::{Access, Ptr, Value};
 use c_meaning::{Slot, Spot};
 use c_typed::{BinaryOp, Expression, ExpressionNode, Path, PathNode, StepOp, TypeId};
-use runs::Value;
 use source_state::Room;
 use source_values::{Types, next, updated};
 

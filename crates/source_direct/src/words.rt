@@ -1,9 +1,8 @@
 //! Numbers, and places in blocks, that are found with few tests. Where there is none here, `direct` may still find a value.
 
-ghost use Rattle.std.specs.Prelude.{◌≡◌, false, IfSome, Ok, Some};
-ghost use Rattle.memory_cells.specs.declared.pointer.Ptr.TheVariants as P;
-ghost use Rattle.c_meaning.specs.Expressions.{field_in, part_of};
-ghost use Rattle.c_meaning.specs.Operators.{binary, compared, moved, next};
+ghost use Rattle.std.specs.Prelude.{◌≡◌, false, pos, IfSome, Ok, Some};
+ghost use Rattle.memory_words.specs.declared.cell_words.pointer.Ptr.TheVariants as P;
+ghost use Rattle.c_meaning.specs.Expressions.{field_in};
 ghost use Rattle.c_meaning.specs.Program.{access_at, element_size, length_of, size_at, type_at};
 ghost use Rattle.c_meaning.specs.declared.frame.Slot.TheVariants.{ByName};
 ghost use Rattle.c_meaning.specs.declared.frame.Spot.TheVariants.{Kept, Placed};
@@ -13,27 +12,27 @@ ghost use Rattle.c_typed.specs.Constants.{kind_of};
 ghost use Rattle.c_typed.specs.Conversions.{number_of};
 ghost use Rattle.c_typed.specs.Programs.{program_data};
 ghost use Rattle.c_typed.specs.Views.{expression_of, path_of};
-ghost use Rattle.runs.specs.Scalars.{load_in};
-ghost use Rattle.runs.specs.declared.value.Value.TheVariants.{Pointer, Word};
+ghost use Rattle.block_memory.specs.RunWorlds.Operators.{binary, compared, moved, next};
+ghost use Rattle.block_memory.specs.RunWorlds.Scalars.{load_in};
+ghost use Rattle.block_memory.specs.declared.run_worlds.value.Value.TheVariants.{Pointer, Word};
 ghost use Rattle.source_state.specs.RoomView.{core_of};
 ghost use Rattle.source_direct.specs.Sorts.{if_converted_by};
 ghost use Rattle.source_values.specs.Sorts.{next_by};
 ghost use Rattle.source_direct.specs.Members.{member_at};
 ghost use Rattle.source_steps.specs.Actions.{lies_at};
-ghost use Rattle.source_steps.specs.Direct.{and_if, direct, direct_spot, if_converted, if_element, if_found, if_near};
+ghost use Rattle.source_steps.specs.Direct.{and_if, direct, direct_spot, if_converted, if_element, if_found, if_part};
 ghost use Rattle.source_steps.specs.Locals.{fetch, local_spot, slot};
 
 use crate::operators::{element_of, indexed};
-use block_memory::{Access, Ptr};
+use block_memory::{Access, Ptr, Value};
 use c_meaning::{Slot, Spot};
 use c_typed::{
     BinaryOp, CompareOp, Expression, ExpressionNode, Path, PathNode, StepOp, TypeId, as_kind,
     binary_value, holds, promoted_kind, unary_value,
 };
 use lay_base::Boxed;
-use runs::Value;
 use source_state::Room;
-use source_values::{Sort, Types, field_in, part_of, way_to};
+use source_values::{Sort, Types, field_in, part_in, way_to};
 
 /// A byte of a block.
 #[derive(Clone, Copy)]
@@ -199,17 +198,18 @@ fn local_place(room: &Room, local: u32) -> Option<Location>
 #[inline(always)]
 fn element_at(
     types: &Types<'_>,
+    room: &Room,
     of: TypeId,
     t: TypeId,
     subscript: TypeId,
     from: Location,
     w: u32,
 ) -> Option<Location>
-    ensures { IfSome result (λ it. if_element (length_of (type_at (program_data types.now) of)) (size_at (program_data types.now) t) false
+    ensures { IfSome result (λ it. if_element (core_of room.now).memory (length_of (type_at (program_data types.now) of)) (size_at (program_data types.now) t) false
         (Placed (P.Block from.block from.at)) (number_of (kind_of (type_at (program_data types.now) subscript)) w) ≡ Some (Placed (P.Block it.block it.at))) }
 {
     let spot = Spot::Placed(Ptr::Block(from.block, from.at));
-    match element_of(types, of, t, false, spot, subscript, w) {
+    match element_of(types, room, of, t, false, spot, subscript, w) {
         Some(Spot::Placed(Ptr::Block(block, at))) => Some(Location { block, at }),
         _ => None,
     }
@@ -280,11 +280,15 @@ fn field_at(room: &Room, from: Location, by: i64) -> Option<Location>
 }
 
 /// A part at an offset.
-fn part_at(offset: u32, from: Location) -> Option<Location>
-    ensures { IfSome result (λ it. if_near (part_of offset (Placed (P.Block from.block from.at))) ≡ Some (Placed (P.Block it.block it.at))) }
+fn part_at(room: &Room, offset: u32, from: Location) -> Option<Location>
+    ensures { IfSome result (λ it. if_part (core_of room.now).memory (pos offset) (Placed (P.Block from.block from.at)) ≡ Some (Placed (P.Block it.block it.at))) }
 {
-    match part_of(offset, Spot::Placed(Ptr::Block(from.block, from.at))) {
-        Some(Spot::Placed(Ptr::Block(block, at))) => Some(Location { block, at }),
+    match part_in(
+        &room.store,
+        Ptr::Block(from.block, from.at),
+        i64::from(offset),
+    ) {
+        Ok(Ptr::Block(block, at)) => Some(Location { block, at }),
         _ => None,
     }
 }
@@ -464,7 +468,7 @@ pub(crate) fn place(types: &Types<'_>, room: &Room, q: &Path) -> Option<Location
             let Some(w) = word(types, room, i) else {
                 return None;
             };
-            element_at(types, of.ty, q.ty, i.ty, from, w)
+            element_at(types, room, of.ty, q.ty, i.ty, from, w)
         }
     }
 }
@@ -503,7 +507,7 @@ fn member(types: &Types<'_>, room: &Room, q: &Path, offset: u32) -> Option<Locat
             let Some(from) = place(types, room, q) else {
                 return None;
             };
-            part_at(offset, from)
+            part_at(room, offset, from)
         }
     }
 }

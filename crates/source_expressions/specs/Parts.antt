@@ -2,10 +2,10 @@
 use Rattle.std.specs.Prelude.{Bool, Option, Some, None}
 use Rattle.c_typed.specs.Trees.{expression}
 use Rattle.c_typed.specs.Views.{AnExpression}
-use Rattle.runs.specs.declared.value.Value.TheVariants.{Word}
-use Rattle.source_machine.specs.Items.{acting, using}
-use Rattle.source_machine.specs.Steps.{may_lack}
-use Rattle.source_machine.specs.declared.items.Action.{Action}
+use Rattle.block_memory.specs.declared.run_worlds.value.Value.TheVariants.{Word}
+use Rattle.source_steps.specs.MachineMoves.Items.{acting, using}
+use Rattle.source_steps.specs.MachineMoves.Steps.{may_lack}
+use Rattle.source_steps.specs.declared.machine_moves.Action.{Action}
 use Rattle.source_steps.specs.States.{State, Step, goes, doing, given}
 
 -- whether the value of an expression may be none

@@ -5,7 +5,7 @@ ghost use Rattle.c_meaning.specs.Frames.{empty_slot, frame_of};
 ghost use Rattle.c_typed.specs.Programs.{data_of, program_data};
 ghost use Rattle.c_meaning.specs.Program.{type_at};
 ghost use Rattle.c_typed.specs.Views.{expression_of, expressions_of};
-ghost use Rattle.loop_tallies.specs.Forms.{statement_in};
+ghost use Rattle.c_typed.specs.LoopTallies.Forms.{statement_in};
 ghost use Rattle.source_state.specs.RoomView.{core_of};
 ghost use Rattle.source_state.specs.View.{state_of};
 ghost use Rattle.source_steps.specs.Calls.{receive, receive_one};
@@ -14,16 +14,15 @@ ghost use Rattle.source_steps.specs.States.{doing_in, given, goes, taking};
 ghost use Rattle.source_steps.specs.Expressions.{called_as, called_through, calls, copied, framed, gathers, library, started};
 
 use crate::expressions::{go_on, use_then};
-use block_memory::Ptr;
+use block_memory::{Ptr, Value};
 use c_meaning::Slot;
-use c_typed::{Expression, Function, LibraryFunction, Local, TypeId};
+use c_typed::{
+    Expression, Function, LibraryFunction, Local, TalliedFunction, TalliedStatement, TypeId,
+};
 use lay_base::{NoMemory, Place, UndefinedKind};
-use loop_tallies::{TalliedFunction, TalliedStatement};
-use runs::Value;
 use source_actions::found;
-use source_machine::Callee;
 use source_state::{ForCall, ForStatement, Machine, Room, STUCK, Scope, Work, undefined};
-use source_steps::{Final, Moved};
+use source_steps::{Callee, Final, Moved};
 use source_values::{Types, pointer_of, word_of};
 use std::alloc::Global;
 
@@ -220,7 +219,7 @@ fn begin_function<'a>(
                 number: f,
                 function: g,
             };
-            machine.todo(Work::Framing(caller))?;
+            machine.todo(Work::Framing(f, caller))?;
             machine.todo(Work::EndingParameters(parameters.len()))?;
             let work = Work::Statement(ForStatement::Executing, scope, 0, body);
             go_on(machine, work)

@@ -4,7 +4,7 @@ ghost use Rattle.std.specs.Prelude.{◌≡◌, [], false, IfOk, OnOk, map};
 ghost use Rattle.std.specs.Option.{option_copied, option_map};
 ghost use Rattle.c_typed.specs.Programs.{program_data};
 ghost use Rattle.c_typed.specs.Views.{expression_of, expressions_of, path_of};
-ghost use Rattle.source_machine.specs.Items.{acting, evaluating, spotting, using};
+ghost use Rattle.source_steps.specs.MachineMoves.Items.{acting, evaluating, spotting, using};
 ghost use Rattle.source_expressions.specs.Parts.{allocating_by, lacks};
 ghost use Rattle.source_state.specs.View.{state_of};
 ghost use Rattle.source_state.specs.WorkView.{item_of};
@@ -12,14 +12,12 @@ ghost use Rattle.source_steps.specs.Expressions.{gathers, located, member_of, us
 ghost use Rattle.source_steps.specs.States.{doing, goes};
 
 use crate::calls::gather;
-use block_memory::Ptr;
+use block_memory::{Ptr, Value};
 use c_meaning::Spot;
 use c_typed::{Expression, ExpressionNode, Path, PathNode};
 use lay_base::{Boxed, NoMemory, Place};
-use runs::Value;
-use source_machine::{Action, Callee};
 use source_state::{ForCall, ForExpression, Machine, Work, undefined};
-use source_steps::Moved;
+use source_steps::{Action, Callee, Moved};
 use source_values::Types;
 use std::alloc::Global;
 
@@ -161,7 +159,7 @@ fn member<'a>(
             let action = Action::FieldOfElement(place, kind, types.row(q.ty).size, offset);
             use_both(machine, e.get(), i, action)
         }
-        _ => spot_one(machine, q, Action::FieldOf(offset)),
+        _ => spot_one(machine, q, Action::FieldOf(place, offset)),
     }
 }
 

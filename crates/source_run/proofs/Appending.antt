@@ -2,7 +2,7 @@
 use Rattle.std.proofs.Common.{◌≡◌, refl, sym, ap, ◌∙◌, ℕ, List, [], ◌∷◌, ◌++◌, Option, Some, None}
 use Rattle.std.proofs.lemmas.List.{append-nil, append_assoc}
 use Rattle.lay_base.specs.Known.{Appends}
-use Rattle.runs.specs.Events.{Call, putting, getting}
+use Rattle.block_memory.specs.RunWorlds.Events.{Call, putting, getting}
 use Rattle.source_run.specs.RunGives.{bytes_put, rest_behind}
 use Rattle.source_steps.specs.Agreeing.{behind_next}
 

@@ -5,8 +5,8 @@ use Rattle.c_typed.specs.Programs.{ProgramData, program_data}
 use Rattle.c_typed.specs.declared.program.Typed.{Typed}
 use Rattle.lay_base.specs.declared.no_memory.NoMemory.{NoMemory}
 use Rattle.c_typed.specs.Trees.{no_expressions}
-use Rattle.source_machine.specs.Items.{gathering}
-use Rattle.source_machine.specs.declared.items.Callee.TheVariants as OfCallee
+use Rattle.source_steps.specs.MachineMoves.Items.{gathering}
+use Rattle.source_steps.specs.declared.machine_moves.Callee.TheVariants as OfCallee
 use Rattle.source_run.specs.Starting.{IsAtStart, IsEmpty}
 use Rattle.source_start.proofs.NoCounts.{are_zero, has_all}
 use Rattle.source_start.specs.Zeros.{no_counts}

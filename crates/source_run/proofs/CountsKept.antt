@@ -1,26 +1,26 @@
 -- A fact of the counts that is kept where a function is entered and where the body of a loop begins is kept by each step.
-use Rattle.std.proofs.Common.{sym, subst, ℕ, ℤ, pos, ◌+ℤ◌, ◌*ℤ◌, zero, suc, ◌+◌, ◌*◌, ◌^◌, Bool, true, false, nat_lt, if◌then◌else◌, List, [], ◌∷◌, ◌++◌, Option, Some, None, slice_get, Result, Ok, Err}
+use Rattle.std.proofs.Common.{sym, subst, ℕ, ℤ, pos, ◌+ℤ◌, ◌*ℤ◌, zero, suc, ◌+◌, ◌*◌, ◌^◌, Bool, true, false, nat_lt, if◌then◌else◌, List, [], ◌∷◌, ◌++◌}
+use Rattle.std.proofs.Common.{Option, Some, None, slice_get, Result, Ok, Err}
 use Rattle.block_memory.specs.Blocks.{Memory}
 use Rattle.block_memory.specs.Tested.{Tested, ◌>>=◌}
 use Rattle.block_memory.specs.declared.kinds.Access.{Access}
 use Rattle.block_memory.specs.declared.kinds.BlockKind.{BlockKind}
-use Rattle.memory_cells.specs.declared.pointer.Ptr.{Ptr}
-use Rattle.memory_cells.specs.declared.pointer.Ptr.TheVariants as P
-use Rattle.c_counts.specs.Loops.{loops_in}
+use Rattle.memory_words.specs.declared.cell_words.pointer.Ptr.{Ptr}
+use Rattle.memory_words.specs.declared.cell_words.pointer.Ptr.TheVariants as P
+use Rattle.c_typed.specs.RunCounts.Loops.{loops_in}
 use Rattle.c_meaning.specs.Frames.{Frame}
-use Rattle.c_meaning.specs.Expressions.{is_subscript, field_in}
-use Rattle.c_meaning.specs.Operators.{is_true, binary, moved, distance, compared, updated, next}
+use Rattle.c_meaning.specs.Expressions.{part_in, is_subscript, field_in}
 use Rattle.c_meaning.specs.Program.{access_at, size_at, type_at, element_size}
+use Rattle.c_meaning.specs.Statements.{initial_place}
 use Rattle.c_meaning.specs.declared.frame.Slot.{Slot}
 use Rattle.c_meaning.specs.declared.frame.Slot.TheVariants.{ByName, InBlock}
 use Rattle.c_meaning.specs.declared.frame.Spot.{Spot}
 use Rattle.c_meaning.specs.declared.frame.Spot.TheVariants.{Kept, Placed}
-use Rattle.c_meaning.specs.declared.frame.Way.{Way}
-use Rattle.c_meaning.specs.declared.frame.Way.TheVariants.{Normally, ByBreak, ByContinue, ByReturn}
 use Rattle.c_typed.specs.Conversions.{number_of}
 use Rattle.c_typed.specs.Programs.{ProgramData, FunctionData}
 use Rattle.c_typed.specs.Trees as T
-use Rattle.c_typed.specs.Trees.{Expression, expression, Node, Path, path, PathNode, Expressions, OptionalExpression, Part, PartValue, Initializer, Statement, Statements, Arms}
+use Rattle.c_typed.specs.Trees.{Expression, expression, Node, Path, path, PathNode, Expressions, OptionalExpression, Part, PartValue, Initializer, Statement}
+use Rattle.c_typed.specs.Trees.{Statements, Arms}
 use Rattle.c_typed.specs.declared.operators.BinaryOp.{BinaryOp}
 use Rattle.c_typed.specs.declared.operators.LibraryFunction.{LibraryFunction}
 use Rattle.c_typed.specs.declared.operators.LibraryFunction.TheVariants as L
@@ -30,28 +30,34 @@ use Rattle.c_typed.specs.declared.program.Local.{Local}
 use Rattle.c_types.specs.Sameness.{same_type}
 use Rattle.c_types.specs.Types.{CType, void, pointer as pointer_to}
 use Rattle.lay_base.specs.declared.place.Place.{Place}
-use Rattle.runs.specs.Scalars.{store_in, word_of, pointer_of}
-use Rattle.runs.specs.Worlds.{greatest_live, greatest_depth}
-use Rattle.runs.specs.declared.value.Value.{Value}
-use Rattle.source_machine.specs.Items as I
-use Rattle.source_machine.specs.Items.{Item, Context, Loop, LoopBehind, Stack, Work}
-use Rattle.source_machine.specs.Steps.{may_lack}
-use Rattle.source_machine.specs.declared.items.Action.{Action}
-use Rattle.source_machine.specs.declared.items.Action.TheVariants as A
-use Rattle.source_machine.specs.declared.items.Callee.{Callee}
-use Rattle.source_machine.specs.declared.items.Callee.TheVariants as C
-use Rattle.source_machine.specs.declared.items.Operand.TheVariants as O
-use Rattle.source_steps.specs.Actions.{needed, cast_to, found, allocated, address_of, through, stored_anew, updated_at, stepped_at, performed}
+use Rattle.block_memory.specs.RunWorlds.Scalars.{store_in, word_of, pointer_of}
+use Rattle.block_memory.specs.RunWorlds.Worlds.{greatest_live, greatest_depth}
+use Rattle.block_memory.specs.declared.run_worlds.value.Value.{Value}
+use Rattle.block_memory.specs.RunWorlds.Operators.{is_true, binary, moved, distance, compared, updated, next}
+use Rattle.block_memory.specs.declared.run_worlds.way.Way.{Way}
+use Rattle.block_memory.specs.declared.run_worlds.way.Way.TheVariants.{Normally, ByBreak, ByContinue, ByReturn}
+use Rattle.source_steps.specs.MachineMoves.Items as I
+use Rattle.source_steps.specs.MachineMoves.Items.{Item, Context, Loop, LoopBehind, Stack, Work}
+use Rattle.source_steps.specs.MachineMoves.Steps.{may_lack}
+use Rattle.source_steps.specs.declared.machine_moves.Action.{Action}
+use Rattle.source_steps.specs.declared.machine_moves.Action.TheVariants as A
+use Rattle.source_steps.specs.declared.machine_moves.Callee.{Callee}
+use Rattle.source_steps.specs.declared.machine_moves.Callee.TheVariants as C
+use Rattle.source_steps.specs.declared.machine_moves.Operand.TheVariants as O
+use Rattle.source_steps.specs.Actions.{needed, cast_to, found, allocated, address_of, through, part_of, stored_anew, updated_at, stepped_at, performed}
 use Rattle.source_steps.specs.Calls.{begun_by, enter_by, received, receive}
 use Rattle.source_steps.specs.Cores.{Core, Does, behind, and_then, tested}
 use Rattle.source_steps.specs.Counting.{Counting, with_entry, with_begin}
-use Rattle.source_steps.specs.Expressions.{library, started, called_as, called_typed, called_through, calls, gathers, located, allocating, evaluated, needing_if, valued, used}
+use Rattle.source_steps.specs.Expressions.{library, started, called_as, called_typed, called_through, calls, gathers, located, allocating, evaluated}
+use Rattle.source_steps.specs.Expressions.{needing_if, valued, used}
 use Rattle.source_steps.specs.Locals.{slot, local_spot, begin_as, begin, begin_all, end_slot, finish_all, emptied, fetch, put}
 use Rattle.source_steps.specs.Memories.{make, zeroed, allocate, free, copy, fill, compare, copy_record, changed, with_memory}
 use Rattle.source_steps.specs.States.{State, Step, with_stack, with_core, with_value, with_any, with_spot, finding, in_core, doing_in, changing}
-use Rattle.source_steps.specs.Statements.{fills, fills_all, initial_in, initial_by_name, initial, declared, begun, tests, repeats, begun_behind, executed, executed_all, entered, passed, unwound}
+use Rattle.source_steps.specs.Statements.{dead_at, fills, fills_all, initial_in, initial_by_name, initial, declared, begun, tests, repeats, begun_behind}
+use Rattle.source_steps.specs.Statements.{executed, executed_all, entered, passed, unwound}
 use Rattle.source_steps.specs.Ahead.{settled, at_hand, executed_ahead, past, past_one, followed, executed_later, executed_first, executed_all_ahead, within}
-use Rattle.source_steps.specs.Ahead.{executed_whole, begun_ahead, tests_ahead, repeats_ahead, arms_behind, entered_first, entered_ahead, ahead, advanced_at, advanced}
+use Rattle.source_steps.specs.Ahead.{executed_whole, begun_ahead, tests_ahead, repeats_ahead, arms_behind, entered_first, entered_ahead, ahead, advanced_at}
+use Rattle.source_steps.specs.Ahead.{advanced}
 use Rattle.source_steps.specs.Direct.{at_once}
 use Rattle.source_steps.specs.Steps.{enacted}
 use Rattle.source_steps.proofs.Ahead.{still_once}
@@ -206,6 +212,10 @@ module _ (Q : Counting → Type 0) (entry : (c : Counting) (f : ℕ) → Q c →
   found_kept : (at : Place) (r : Tested Value) (s : State) → In s.core → Behind (found at r s)
   found_kept at r s h = finding_kept at r s _ h (λ v. still h)
 
+  part_kept : (at : Place) (by : ℤ) (q : Spot) (s : State) → In s.core → Behind (part_of at by q s)
+  part_kept at by (Placed q) s h = finding_kept at (part_in s.core.memory q by) s _ h (λ q. still h)
+  part_kept at by (Kept x) s h = still h
+
   through_field : (at : Place) (v : Value) (by : ℤ) (s : State) → In s.core → Behind (through at v by s)
   through_field at v by s h = finding_kept at (field_in s.core.memory (pointer_of v) by) s _ h (λ q. still h)
 
@@ -270,11 +280,11 @@ module _ (Q : Counting → Type 0) (entry : (c : Counting) (f : ℕ) → Q c →
     performed_kept A.Dereferencing s h = taking_kept s.stack s _ h (λ v st. still h)
     performed_kept (A.Indexing at size left right) s h = taking_kept s.stack s _ h (λ w st. taking_kept st (with_stack st s) _ h (λ v st.
         finding_kept at (moved s.core.memory Add size left v right w) (with_stack st s) _ h (λ q. still h)))
-    performed_kept (A.FieldOf offset) s h = taking_spot_kept s.stack s _ h (λ q st. still h)
+    performed_kept (A.FieldOf at offset) s h = taking_spot_kept s.stack s _ h (λ q st. part_kept at (pos offset) q (with_stack st s) h)
     performed_kept (A.FieldAt at offset) s h = taking_kept s.stack s _ h (λ v st. through_field at v (pos offset) (with_stack st s) h)
     performed_kept (A.FieldOfElement at right size offset) s h = taking_kept s.stack s _ h (λ w st. taking_kept st (with_stack st s) _ h (λ v st.
         through_field at v (number_of right (word_of w) *ℤ pos size +ℤ pos offset) (with_stack st s) h))
-    performed_kept (A.ElementAt at n size addressed kind) s h = taking_kept s.stack s _ h (λ v st. taking_spot_kept st (with_stack st s) _ h (λ q st. either (is_subscript n addressed (number_of kind (word_of v))) _ _ (still h) (still h)))
+    performed_kept (A.ElementAt at n size addressed kind) s h = taking_kept s.stack s _ h (λ v st. taking_spot_kept st (with_stack st s) _ h (λ q st. either (is_subscript n addressed (number_of kind (word_of v))) _ _ (part_kept at (number_of kind (word_of v) *ℤ pos size) q (with_stack st s) h) (still h)))
     performed_kept (A.Naming x) s h = taking_kept s.stack s _ h (λ v st. still h)
     performed_kept (A.Storing b offset at t) s h = taking_kept s.stack s _ h (λ v st.
         changing_kept at (put (Placed (P.Block b offset)) (access_at p t) v s.core) (with_stack st s) _ h (put_in (Placed (P.Block b offset)) (access_at p t) v s.core h) (λ c h. still h))
@@ -405,10 +415,14 @@ module _ (Q : Counting → Type 0) (entry : (c : Counting) (f : ℕ) → Q c →
     by_name_kept x (T.whole e) s h = still h
     by_name_kept x i s h = still h
 
+    dead_at_kept : (place : Option Place) (s : State) → In s.core → Behind (dead_at place s)
+    dead_at_kept None s h = still h
+    dead_at_kept (Some place) s h = still h
+
     initial_kept : (x size : ℕ) (i : Initializer ℕ) (own : Option Slot) (s : State) → In s.core → Behind (initial p x size i own s)
-    initial_kept x size i None s h = by_name_kept x i s h
+    initial_kept x size i None s h = dead_at_kept (initial_place i) s h
     initial_kept x size i (Some (ByName v)) s h = by_name_kept x i s h
-    initial_kept x size i (Some (InBlock None)) s h = by_name_kept x i s h
+    initial_kept x size i (Some (InBlock None)) s h = dead_at_kept (initial_place i) s h
     initial_kept x size i (Some (InBlock (Some b))) s h = initial_in_kept b size i s h
 
     declared_kept : (x : ℕ) (l : Option Local) (i : Option (Initializer ℕ)) (s : State) → In s.core → Behind (declared p x l i s)
@@ -475,7 +489,7 @@ module _ (Q : Counting → Type 0) (entry : (c : Counting) (f : ℕ) → Q c →
     enacted_kept (I.choosing y z) s h = taking_kept s.stack s _ h (λ v st. either (is_true v) _ _ (still h) (still h))
     enacted_kept (I.gathering callee done rest) s h = gathers_kept callee done rest s h
     enacted_kept (I.gathered callee done rest) s h = taking_kept s.stack s _ h (λ v st. gathers_kept callee (done ++ v ∷ []) rest (with_stack st s) h)
-    enacted_kept (I.framing caller) s h = still h
+    enacted_kept (I.framing f caller) s h = still h
     enacted_kept (I.executing c l one) s h = executed_kept c l one s h
     enacted_kept (I.executing_all c l all) s h = executed_all_kept c l all s h
     enacted_kept (I.entering c l arm arms) s h = entered_kept c l arm arms s h

@@ -4,3 +4,4 @@ pub mod Stopping
 pub mod CountsKept
 pub mod Zeros
 pub mod Beginning
+pub mod EachStep

@@ -2,7 +2,7 @@
 use Rattle.std.proofs.Common.{◌≡◌, refl, sym, ap, ◌∙◌, subst, ◌⊎◌, inl, inr, ℕ, ◌^◌, ◌<◌, List, [], ◌∷◌, ◌++◌, Some}
 use Rattle.c_typed.specs.Programs.{ProgramData}
 use Rattle.lay_base.specs.Known.{Appends}
-use Rattle.runs.specs.Events.{Call, putting, getting}
+use Rattle.block_memory.specs.RunWorlds.Events.{Call, putting, getting}
 use Rattle.source_run.specs.Advances.{AdvanceGives, Wrote, Read}
 use Rattle.source_run.specs.RunGives.{bytes_put, rest_behind}
 use Rattle.source_run.specs.Starting.{IsAtStart}

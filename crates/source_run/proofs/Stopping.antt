@@ -1,10 +1,10 @@
 -- What a run gives where it stops.
 use Rattle.std.proofs.Common.{◌≡◌, refl, sym, ap, ◌∙◌, subst, ◌⊎◌, inl, inr, ℕ, List, [], ◌∷◌, ◌++◌, Some}
 use Rattle.std.proofs.lemmas.List.{append-nil, append_assoc}
-use Rattle.c_counts.specs.declared.counts.Counts.{Counts}
+use Rattle.c_typed.specs.declared.run_counts.counts.Counts.{Counts}
 use Rattle.c_typed.specs.Programs.{ProgramData}
 use Rattle.lay_base.specs.Known.{Appends, Rose}
-use Rattle.runs.specs.Events.{Call, putting, getting, calls_of}
+use Rattle.block_memory.specs.RunWorlds.Events.{Call, putting, getting, calls_of}
 use Rattle.source_run.specs.Advances.{ReadFails, WriteFails, Lacks, WritesNone}
 use Rattle.source_run.specs.RunGives.{RunGives, Comes, Stopped, bytes_put, rest_behind, any_calls, nothing, is_put, maybe_that}
 use Rattle.source_run.specs.Starting.{AreCounts, HasFinished, answer_of}
@@ -15,7 +15,8 @@ use Rattle.source_run.proofs.Appending.{appends_none, appends_more, put_got, res
 use Rattle.source_run.proofs.Reaching.{CameBy, Reached, Far, keeps_all_where, steady_then, by_put, by_get, by_end}
 use Rattle.source_start.proofs.Telling.{counts_are}
 use Rattle.source_steps.specs.Agreeing.{behind_next}
-use Rattle.source_steps.specs.Came.{trace_of, seen_as}
+use Rattle.c_meaning.specs.Run.{trace_of}
+use Rattle.source_steps.specs.Came.{seen_as}
 use Rattle.source_steps.proofs.Arriving.{kept_is, calls_are as calls_told, entries_are, begins_are}
 use Rattle.source_steps.proofs.Onwards.{goes_on}
 use Rattle.source_steps.specs.States.{State}

@@ -1,6 +1,6 @@
 -- Counts that are all 0.
 use Rattle.std.proofs.Common.{◌≡◌, ap, ◌∙◌}
-use Rattle.c_counts.specs.Counting.{counts_by}
+use Rattle.c_typed.specs.RunCounts.Counting.{counts_by}
 use Rattle.c_typed.specs.Programs.{ProgramData}
 use Rattle.source_run.specs.Fresh.{no_counts as counts_of_none}
 use Rattle.source_start.proofs.NoCounts.{are_zero, has_all}

@@ -2,7 +2,7 @@
 use Rattle.std.specs.Prelude.{◌≡◌, ◌⊎◌, ℕ, List, [], ◌∷◌, Option, Some}
 use Rattle.c_typed.specs.Programs.{ProgramData}
 use Rattle.lay_base.specs.Known.{Rose, Appends}
-use Rattle.runs.specs.declared.value.Value.{Value}
+use Rattle.block_memory.specs.declared.run_worlds.value.Value.{Value}
 use Rattle.source_run.specs.Streams.{Streams, AreSteady}
 use Rattle.source_run.specs.declared.stepping.Advance.{Advance}
 use Rattle.source_run.specs.declared.stepping.Advance.TheVariants as A

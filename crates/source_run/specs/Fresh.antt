@@ -1,7 +1,7 @@
 -- A runner that has not run.
 use Rattle.std.specs.Prelude.{◌≡◌, None}
-use Rattle.c_counts.specs.Counting.{counts_by}
-use Rattle.c_counts.specs.declared.counts.Counts.{Counts}
+use Rattle.c_typed.specs.RunCounts.Counting.{counts_by}
+use Rattle.c_typed.specs.declared.run_counts.counts.Counts.{Counts}
 use Rattle.c_typed.specs.Programs.{ProgramData}
 use Rattle.c_typed.specs.declared.program.Typed.{Typed}
 use Rattle.source_run.specs.declared.runner.Runner.{Runner}

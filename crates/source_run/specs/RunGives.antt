@@ -1,15 +1,14 @@
 -- What a run of the interpreter gives, by its answer.
 use Rattle.std.specs.Prelude.{◌≡◌, ◌⊎◌, ℕ, List, [], ◌∷◌, ◌++◌, Some}
 use Rattle.lay_base.specs.Known.{Rose, Appends}
-use Rattle.c_counts.specs.Counting.{counts_by}
-use Rattle.c_counts.specs.declared.counts.Counts.{Counts}
-use Rattle.c_meaning.specs.Run.{RunEnd, ended, went_on, was_undefined, no_room, kept}
+use Rattle.c_typed.specs.RunCounts.Counting.{counts_by}
+use Rattle.c_typed.specs.declared.run_counts.counts.Counts.{Counts}
+use Rattle.c_meaning.specs.Run.{RunEnd, ended, went_on, was_undefined, no_room, kept, trace_of}
 use Rattle.c_typed.specs.Programs.{ProgramData}
-use Rattle.runs.specs.Events.{Call, putting, getting, calls_of, entries_of, begins_of}
+use Rattle.block_memory.specs.RunWorlds.Events.{Call, putting, getting, calls_of, entries_of, begins_of}
 use Rattle.source_run.specs.Streams.{Streams, AreSteady}
 use Rattle.source_run.specs.declared.end.RunEnd.{RunEnd as Answer}
 use Rattle.source_run.specs.declared.end.RunEnd.TheVariants as E
-use Rattle.source_steps.specs.Came.{trace_of}
 
 -- the counts of the run within the room of the interpreter: of each function its entries, of each loop the begins of its body
 abbrev pub counts_of : ProgramData → (input : List ℕ) → (turns : ℕ) → Counts

@@ -1,7 +1,7 @@
 -- Where a run starts, and what is answered where it is over.
 use Rattle.std.specs.Prelude.{◌≡◌, ◌⊎◌, ℕ}
-use Rattle.c_counts.specs.Counting.{counts_by}
-use Rattle.c_counts.specs.declared.counts.Counts.{Counts}
+use Rattle.c_typed.specs.RunCounts.Counting.{counts_by}
+use Rattle.c_typed.specs.declared.run_counts.counts.Counts.{Counts}
 use Rattle.c_typed.specs.Programs.{ProgramData}
 use Rattle.source_run.specs.declared.end.RunEnd.{RunEnd as Answer}
 use Rattle.source_run.specs.declared.end.RunEnd.TheVariants as E

@@ -10,8 +10,7 @@ ghost use Rattle.source_state.specs.View.{state_of};
 
 use crate::end::RunEnd;
 use crate::stepping::{Advance, make_step};
-use c_counts::Counts;
-use c_typed::Typed;
+use c_typed::{Counts, Typed};
 use lay_base::{NoMemory, Sink, Source};
 use source_start::{counts, no_counts, start};
 use source_state::Machine;

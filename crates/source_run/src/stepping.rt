@@ -7,10 +7,10 @@ ghost use Rattle.source_run.specs.Advances.{AdvanceGives, Reads, WritesNone};
 ghost use Rattle.source_run.specs.Streams.{streams};
 ghost use Rattle.source_state.specs.View.{state_of};
 
+use crate::each_step::step;
+use block_memory::Value;
 use lay_base::{NoMemory, Sink, SinkFault, Source, SourceFault};
-use runs::Value;
 use source_state::Machine;
-use source_stepper::step;
 use source_steps::{Final, Moved};
 use source_values::Types;
 use std::alloc::Global;

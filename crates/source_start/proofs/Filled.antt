@@ -3,7 +3,7 @@ use Rattle.std.proofs.Common.{◌≡◌, ap, ◌∙◌, ℕ, ◌++◌}
 use Rattle.block_memory.specs.Blocks.{Memory}
 use Rattle.c_meaning.specs.Program.{initial_memory}
 use Rattle.c_typed.specs.Programs.{ProgramData}
-use Rattle.runs.specs.Worlds.{live_bytes}
+use Rattle.block_memory.specs.RunWorlds.Worlds.{live_bytes}
 use Rattle.source_state.specs.RoomView.{empty_core}
 use Rattle.source_steps.specs.Came.{core_at_start}
 use Rattle.source_steps.specs.Cores.{Core}

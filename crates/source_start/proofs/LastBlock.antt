@@ -1,14 +1,14 @@
 -- The last block of memory is that of an object.
 use Rattle.std.proofs.Common.{◌≡◌, refl, ap, ◌∙◌, ℕ, ◌+◌, true, false, List, [], ◌∷◌, ◌++◌, length, drop, fold, replicate, arith, append-nil}
 use Rattle.std.proofs.lemmas.List.{length-replicate, drop_all}
-use Rattle.memory_cells.specs.declared.cell.Cell.{Cell}
-use Rattle.memory_cells.specs.declared.cell.Cell.TheVariants.{Byte, Empty}
+use Rattle.memory_words.specs.declared.cell_words.cell.Cell.{Cell}
+use Rattle.memory_words.specs.declared.cell_words.cell.Cell.TheVariants.{Byte, Empty}
 use Rattle.block_memory.specs.declared.kinds.BlockKind.{BlockKind}
 use Rattle.block_memory.specs.Blocks.{Memory, Block, Contents, living, ended, block, is_live, lives_in, size, size_in, overwritten, with_cells}
 use Rattle.block_memory.specs.Lifetimes.{with_block}
 use Rattle.c_meaning.specs.Program.{cells_of}
 use Rattle.c_typed.specs.declared.program.Initial.{Initial}
-use Rattle.runs.specs.Worlds.{live_in}
+use Rattle.block_memory.specs.RunWorlds.Worlds.{live_in}
 use Rattle.source_start.specs.Writing.{with_all}
 
 -- ---- the bytes that live in a block

@@ -1,7 +1,7 @@
 -- Counts that are all 0 are zero, and all there.
 use Rattle.std.proofs.Common.{◌≡◌, refl, ap, ◌∙◌, ℕ, zero, suc, List, [], ◌∷◌, length, map, replicate, slice_get, Some}
 use Rattle.std.proofs.lemmas.List.{length-replicate}
-use Rattle.c_counts.specs.Loops.{loops_of}
+use Rattle.c_typed.specs.RunCounts.Loops.{loops_of}
 use Rattle.c_typed.specs.Programs.{FunctionData, ProgramData}
 use Rattle.source_start.specs.Shape.{HasAll}
 use Rattle.source_start.specs.Zeros.{no_counts}

@@ -1,7 +1,7 @@
 -- A pointer that is stored stands in its block.
 use Rattle.std.proofs.Common.{◌≡◌, ℕ, ◌+◌, Bool, true, false, Ok}
-use Rattle.memory_cells.specs.declared.pointer.Ptr.{Ptr}
-use Rattle.memory_cells.specs.declared.pointer.Ptr.TheVariants as P
+use Rattle.memory_words.specs.declared.cell_words.pointer.Ptr.{Ptr}
+use Rattle.memory_words.specs.declared.cell_words.pointer.Ptr.TheVariants as P
 use Rattle.block_memory.specs.Accesses.{store_pointer, must, is_text}
 use Rattle.block_memory.specs.Blocks.{Memory, is_live, kind, size, with_cells}
 use Rattle.block_memory.specs.Held.{fragments_of}

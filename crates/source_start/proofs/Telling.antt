@@ -1,16 +1,17 @@
 -- Counts that tell of a run are the counts of that run.
-use Rattle.std.proofs.Common.{◌≡◌, refl, ap, sym, ◌∙◌, ℕ, zero, suc, ◌+◌, ◌<◌, Bool, true, false, List, [], ◌∷◌, ◌++◌, length, map, slice_get, unwrap_or, Some, arith}
+use Rattle.std.proofs.Common.{◌≡◌, refl, ap, sym, ◌∙◌, ℕ, zero, suc, ◌+◌, ◌<◌, Bool, true, false, List, [], ◌∷◌, ◌++◌, length, map, slice_get, unwrap_or, Some}
+use Rattle.std.proofs.Common.{arith}
 use Rattle.std.specs.Prelude.{is_some, if◌then◌else◌}
 use Rattle.std.specs.List.{AllByRecursion}
 use Rattle.std.proofs.lemmas.List.{map-append}
-use Rattle.c_counts.specs.declared.counts.FunCount.{FunCount}
-use Rattle.c_counts.specs.declared.order.Defined.{Defined}
-use Rattle.c_counts.specs.Counting.{count_at, counts_by, numbers_below}
-use Rattle.c_counts.specs.Loops.{loops_at, loops_of, loops_of_any}
-use Rattle.c_counts.specs.Order.{defined_from, defined_in, profile_order}
-use Rattle.c_counts.proofs.Orders.{all_in_order, all_mapped}
+use Rattle.c_typed.specs.declared.run_counts.counts.FunCount.{FunCount}
+use Rattle.c_typed.specs.declared.run_counts.order.Defined.{Defined}
+use Rattle.c_typed.specs.RunCounts.Counting.{count_at, counts_by, numbers_below}
+use Rattle.c_typed.specs.RunCounts.Loops.{loops_at, loops_of, loops_of_any}
+use Rattle.c_typed.specs.RunCounts.Order.{defined_from, defined_in, profile_order}
+use Rattle.c_typed.proofs.RunCounts.Orders.{all_in_order, all_mapped}
 use Rattle.c_typed.specs.Programs.{FunctionData, ProgramData}
-use Rattle.runs.specs.Events.{Event, entries_of, begins_of}
+use Rattle.block_memory.specs.RunWorlds.Events.{Event, entries_of, begins_of}
 use Rattle.source_start.specs.Counted.{begin_in, entry_in}
 use Rattle.source_start.specs.Shape.{HasAll}
 use Rattle.source_steps.specs.Cores.{Core}

@@ -1,10 +1,11 @@
 -- How a walk over the loops of a function, and one over the functions in their order, goes on.
-use Rattle.std.proofs.Common.{◌≡◌, refl, sym, ap, ◌∙◌, ℕ, suc, ◌+◌, ◌<◌, List, [], ◌∷◌, ◌++◌, length, map, Option, Some, None, append_assoc, append-nil, add-one, arith}
+use Rattle.std.proofs.Common.{◌≡◌, refl, sym, ap, ◌∙◌, ℕ, suc, ◌+◌, ◌<◌, List, [], ◌∷◌, ◌++◌, length, map, Option, Some, None, append_assoc, append-nil}
+use Rattle.std.proofs.Common.{add-one, arith}
 use Rattle.std.proofs.lemmas.List.{map-append}
-use Rattle.c_counts.specs.declared.order.Defined.{Defined}
-use Rattle.c_counts.specs.Counting.{numbers_below}
-use Rattle.c_counts.specs.Order.{first_of, profile_order, rest_after}
-use Rattle.c_counts.proofs.Orders.{order_ascends, rest_at_first, rest_behind}
+use Rattle.c_typed.specs.declared.run_counts.order.Defined.{Defined}
+use Rattle.c_typed.specs.RunCounts.Counting.{numbers_below}
+use Rattle.c_typed.specs.RunCounts.Order.{first_of, profile_order, rest_after}
+use Rattle.c_typed.proofs.RunCounts.Orders.{order_ascends, rest_at_first, rest_behind}
 use Rattle.c_typed.specs.Programs.{ProgramData}
 
 -- ---- loops

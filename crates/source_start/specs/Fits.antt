@@ -1,7 +1,7 @@
 -- What a program gives so that its start wants nothing but memory.
 use Rattle.std.specs.Prelude.{◌≡◌, ℕ, ◌+◌, ◌-◌, ◌%◌, ◌^◌, ◌≤◌, ◌<◌, false, All, fold}
-use Rattle.c_counts.specs.Loops.{loops_of}
-use Rattle.c_meaning.specs.Program.{none_or, size_at}
+use Rattle.c_typed.specs.RunCounts.Loops.{loops_of}
+use Rattle.c_meaning.specs.Program.{none_or, object_size, size_at}
 use Rattle.c_types.specs.IntKinds.{width}
 use Rattle.c_typed.specs.declared.program.Initial.{Initial}
 use Rattle.c_typed.specs.declared.program.InitialValue.{InitialValue}
@@ -23,7 +23,7 @@ pub record IsFitValue (p : ProgramData) (o : Object) (i : Initial) : Type 0 wher
   pub free : StandsFree o i.offset i.value
 
 abbrev pub object_bytes : ProgramData → ℕ
-object_bytes p = fold (λ n o. n + size_at p o.ty) 0 p.objects
+object_bytes p = fold (λ n o. n + object_size p o) 0 p.objects
 
 -- each first value fits into its object, the loops of a function can be counted in 32 bits, and the bytes of all objects in 64
 pub record StartsFit (p : ProgramData) : Type 0 where

@@ -1,6 +1,6 @@
 -- Which counts there are.
 use Rattle.std.specs.Prelude.{◌≡◌, length, map}
-use Rattle.c_counts.specs.Loops.{loops_of}
+use Rattle.c_typed.specs.RunCounts.Loops.{loops_of}
 use Rattle.c_typed.specs.Programs.{ProgramData}
 use Rattle.source_steps.specs.Counting.{Counting}
 

@@ -1,7 +1,7 @@
 -- Counts that are all 0.
 use Rattle.std.specs.Prelude.{ℕ, List, map, replicate, length, Vec}
 use Rattle.std.specs.Global.{Global}
-use Rattle.c_counts.specs.Loops.{loops_of}
+use Rattle.c_typed.specs.RunCounts.Loops.{loops_of}
 use Rattle.c_typed.specs.Programs.{ProgramData}
 use Rattle.source_steps.specs.Counting.{Counting}
 

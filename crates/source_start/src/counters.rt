@@ -1,14 +1,13 @@
 //! Counts that are all 0, and what is read of counts.
 
 ghost use Rattle.std.specs.Prelude.{◌≡◌, IfOk, replicate};
-ghost use Rattle.c_counts.specs.Loops.{loops_at, loops_of};
+ghost use Rattle.c_typed.specs.RunCounts.Loops.{loops_at, loops_of};
 ghost use Rattle.c_typed.specs.Programs.{data_of, program_data};
 ghost use Rattle.source_state.specs.CountsView.{counting_of};
 ghost use Rattle.source_start.specs.Counted.{begin_in, entry_in};
 ghost use Rattle.source_start.specs.Zeros.{no_counts, rows_of};
 
-use c_counts::loops_within;
-use c_typed::{Function, Typed};
+use c_typed::{Function, Typed, loops_within};
 use lay_base::NoMemory;
 use source_state::Counters;
 use std::alloc::Global;

@@ -1,8 +1,10 @@
 //! What a run of the interpreter starts with: the memory in which a program's objects hold what they are initialized with, and counts that
 //! are all 0; and its counts in the order of a profile.
 //!
-//! It stands on `source_values`, which has the sizes of objects, on `source_state`, whose `Room` it makes, and on `c_counts`, whose counts it
+//! It stands on `source_values`, which has the sizes of objects, on `source_state`, whose `Room` it makes, and on `c_typed`, whose counts it
 //! gives.
+//!
+//! Not said: that a program that was checked is never answered with `NoMemory` while there is memory, though `StartsFit` is proved of it.
 #![tactic(auto)]
 
 mod beginning;

@@ -1,12 +1,12 @@
 //! The blocks of the objects.
 
 ghost use Rattle.std.specs.Prelude.{◌≡◌, ◌∷◌, [], ◌++◌, IfOk, length, replicate};
-ghost use Rattle.memory_cells.specs.declared.cell.Cell.TheVariants.{Byte};
+ghost use Rattle.memory_words.specs.declared.cell_words.cell.Cell.TheVariants.{Byte};
 ghost use Rattle.block_memory.specs.Blocks.{block, living};
 ghost use Rattle.block_memory.specs.View.{memory_of};
 ghost use Rattle.c_meaning.specs.Program.{initial_memory, object_block, object_kind};
 ghost use Rattle.c_typed.specs.Programs.{program_data};
-ghost use Rattle.runs.specs.Worlds.{live_bytes, live_in};
+ghost use Rattle.block_memory.specs.RunWorlds.Worlds.{live_bytes, live_in};
 ghost use Rattle.source_start.specs.Writing.{AddGives};
 
 use crate::values::write_all;
@@ -59,11 +59,13 @@ fn add_object(
     ensures memory { IfOk result (λ n. memory_of store.new ≡ memory_of store.old ++ object_block (program_data types.now) o.now ∷ []) }
     ensures live { IfOk result (λ n. n ≡ live_in (object_block (program_data types.now) o.now).contents) }
 {
+    let Some(all) = &o.initial else {
+        add_zeros(alloc, store, 0, object_kind(o.text))?;
+        return Ok(0);
+    };
     let size = types.row(o.ty).size;
     let block = add_zeros(alloc, store, size, object_kind(o.text))?;
-    if let Some(all) = &o.initial {
-        write_all(store, block, all.as_slice())?;
-    }
+    write_all(store, block, all.as_slice())?;
     Ok(live_in(store, block))
 }
 

@@ -1,14 +1,13 @@
 //! The counts of a run in the order of a profile.
 
 ghost use Rattle.std.specs.Prelude.{◌≡◌, ◌<◌, ◌^◌, IfOk, length, map};
-ghost use Rattle.c_counts.specs.Counting.{count_at, counts_by, name_at, numbers_below};
+ghost use Rattle.c_typed.specs.RunCounts.Counting.{count_at, counts_by, name_at, numbers_below};
 ghost use Rattle.c_typed.specs.Programs.{program_data};
 ghost use Rattle.source_state.specs.CountsView.{counting_of};
 ghost use Rattle.source_start.specs.Counted.{begin_in, entry_in};
 
 use crate::counters::{begin, entry, loops_at};
-use c_counts::{Counts, FunCount, next_defined};
-use c_typed::Typed;
+use c_typed::{Counts, FunCount, Typed, next_defined};
 use lay_base::{List, Name, NoMemory, add};
 use source_state::Counters;
 use std::alloc::Global;

@@ -1,7 +1,7 @@
 //! The values that objects hold at first.
 
 ghost use Rattle.std.specs.Prelude.{◌≡◌, IfOk, map};
-ghost use Rattle.memory_cells.specs.declared.cell.Cell.TheVariants.{Byte};
+ghost use Rattle.memory_words.specs.declared.cell_words.cell.Cell.TheVariants.{Byte};
 ghost use Rattle.block_memory.specs.Blocks.{with_cells};
 ghost use Rattle.block_memory.specs.Held.{bytes_of, fragments_of};
 ghost use Rattle.block_memory.specs.View.{memory_of};

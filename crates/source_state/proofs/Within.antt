@@ -1,7 +1,7 @@
 -- Cells that fit into their block are put into it.
 use Rattle.std.proofs.Common.{◌≡◌, ℕ, ◌+◌, ◌≤◌, true, List, length, map, replicate, arith}
 use Rattle.std.proofs.lemmas.List.{length-replicate, length-map}
-use Rattle.memory_cells.specs.declared.cell.Cell.TheVariants.{Byte, Empty}
+use Rattle.memory_words.specs.declared.cell_words.cell.Cell.TheVariants.{Byte, Empty}
 use Rattle.block_memory.specs.Blocks.{size, with_cells}
 use Rattle.source_steps.proofs.Living.{put_within}
 use Rattle.source_steps.specs.Cores.{Core}

@@ -3,12 +3,12 @@ use Rattle.std.specs.Prelude.{ℕ, Bool, true, false, List, ◌++◌, map}
 use Rattle.std.specs.Option.{option_map}
 use Rattle.c_typed.specs.Trees as T
 use Rattle.c_typed.specs.Views.{expression_of, expressions_of, path_of, part_of, AnExpression, AStatement}
-use Rattle.loop_tallies.specs.Forms.{statement_in, statements_in, arms_in}
+use Rattle.c_typed.specs.LoopTallies.Forms.{statement_in, statements_in, arms_in}
 use Rattle.c_meaning.specs.Run.{numbers}
-use Rattle.runs.specs.declared.value.Value.{Value}
-use Rattle.source_machine.specs.declared.items.Callee.{Callee}
-use Rattle.source_machine.specs.Items as I
-use Rattle.source_machine.specs.Items.{Item, Context}
+use Rattle.block_memory.specs.declared.run_worlds.value.Value.{Value}
+use Rattle.source_steps.specs.declared.machine_moves.Callee.{Callee}
+use Rattle.source_steps.specs.MachineMoves.Items as I
+use Rattle.source_steps.specs.MachineMoves.Items.{Item, Context}
 use Rattle.source_state.specs.declared.work.ForExpression.{ForExpression}
 use Rattle.source_state.specs.declared.work.ForExpression.TheVariants as E
 use Rattle.source_state.specs.declared.work.ForCall.{ForCall}
@@ -73,7 +73,7 @@ item_of (W.Expression what e) = for_expression what (expression_of e.now)
 item_of (W.Spotting addressed q) = I.spotting addressed (path_of q.now)
 item_of (W.Choosing y z) = I.choosing (expression_of y.now) (expression_of z.now)
 item_of (W.Call what callee done more) = for_call what callee done.items (expressions_of (map expression_of more.now))
-item_of (W.Framing caller) = I.framing caller.items
+item_of (W.Framing f caller) = I.framing f caller.items
 item_of (W.Statement what c l one) = for_statement what (context_of c) l (statement_in one)
 item_of (W.Statements c l all) = I.executing_all (context_of c) l (statements_in all)
 item_of (W.Deciding c l one other) = I.deciding_else (context_of c) l (statement_in one) (statement_in other)

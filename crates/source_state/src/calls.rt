@@ -6,10 +6,9 @@ ghost use Rattle.source_steps.specs.Calls.{begun, enter, leave, received};
 ghost use Rattle.source_steps.specs.Locals.{slot};
 
 use crate::room::Room;
-use block_memory::{Access, Ptr};
+use block_memory::{Access, Ptr, Value};
 use c_meaning::Slot;
 use lay_base::{NoMemory, Place, RoomKind};
-use runs::Value;
 use source_steps::Final;
 use std::mem;
 

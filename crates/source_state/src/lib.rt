@@ -1,8 +1,10 @@
 //! The interpreter between two steps: the work that is left, the operands, and what is kept beside them, namely the locals of the function that runs,
 //! memory, and what is counted.
 //!
-//! It stands on `block_memory`, whose store it has, on `loop_tallies`, whose statements with tallies its work holds, and on `source_steps`, whose states it
+//! It stands on `block_memory`, whose store it has, on `c_typed`, whose statements with tallies its work holds, and on `source_steps`, whose states it
 //! is and which says what each of its calls does.
+//!
+//! Not said: that `NoMemory` comes only for want of memory.
 #![tactic(auto)]
 
 mod calls;

@@ -1,17 +1,16 @@
 //! The locals of the function that runs.
 
 ghost use Rattle.std.specs.Prelude.{◌≡◌, IfOk};
-ghost use Rattle.runs.specs.Scalars.{load_in, store_in};
+ghost use Rattle.block_memory.specs.RunWorlds.Scalars.{load_in, store_in};
 ghost use Rattle.source_state.specs.RoomView.{core_of};
 ghost use Rattle.source_steps.specs.Cores.{Changes};
 ghost use Rattle.source_steps.specs.Locals.{begin_as, end_slot, fetch, finish, finish_all, known, local_spot, put, spot_of};
 ghost use Rattle.source_steps.specs.Memories.{changed};
 
 use crate::room::Room;
-use block_memory::{Access, BlockKind, Ptr};
+use block_memory::{Access, BlockKind, Ptr, Value};
 use c_meaning::{Slot, Spot};
 use lay_base::{NoMemory, UndefinedKind};
-use runs::Value;
 use source_steps::Final;
 use std::alloc::Global;
 

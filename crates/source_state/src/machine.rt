@@ -4,25 +4,24 @@ ghost use Rattle.std.specs.Prelude.{◌≡◌, ◌∷◌, [], IfOk, MatchOption,
 ghost use Rattle.c_typed.specs.Trees.{no_expressions};
 ghost use Rattle.source_state.specs.CountsView.{counting_of};
 ghost use Rattle.source_state.specs.RoomView.{core_of};
-ghost use Rattle.source_machine.specs.Items.{gathering};
-ghost use Rattle.source_machine.specs.declared.items.Callee.TheVariants as OfCallee;
+ghost use Rattle.source_steps.specs.MachineMoves.Items.{gathering};
+ghost use Rattle.source_steps.specs.declared.machine_moves.Callee.TheVariants as OfCallee;
 ghost use Rattle.source_state.specs.View.{empty_state, state_of};
 ghost use Rattle.source_state.specs.WorkView.{item_of};
 ghost use Rattle.source_steps.specs.States.{State, Step, doing, goes, led, pushed, stuck, taking, taking_any, taking_spot};
 ghost use Rattle.source_steps.specs.declared.ends.Final.TheVariants.{Undefined};
 ghost use Rattle.source_steps.specs.declared.ends.Moved.TheVariants.{Over};
-ghost use Rattle.runs.specs.declared.value.Value.{Value};
+ghost use Rattle.block_memory.specs.declared.run_worlds.value.Value.{Value};
 ghost use Rattle.c_meaning.specs.declared.frame.Spot.{Spot};
 
 use crate::counting::Counters;
 use crate::room::Room;
 use crate::stack::Stack;
 use crate::work::{ForCall, Work};
+use block_memory::Value;
 use c_meaning::Spot;
 use lay_base::{NoMemory, Place, UndefinedKind};
-use runs::Value;
-use source_machine::{Callee, Operand};
-use source_steps::{Final, Moved};
+use source_steps::{Callee, Final, Moved, Operand};
 use std::alloc::Global;
 
 /// The work that is left, the last first, the operands, and what is kept beside them.

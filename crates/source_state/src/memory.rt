@@ -1,18 +1,18 @@
 //! What is done to memory.
 
 ghost use Rattle.std.specs.Prelude.{◌≡◌, IfOk, replicate, true};
-ghost use Rattle.memory_cells.specs.declared.cell.Cell.TheVariants.{Empty};
-ghost use Rattle.c_meaning.specs.Expressions.{is_same_place};
+ghost use Rattle.memory_words.specs.declared.cell_words.cell.Cell.TheVariants.{Empty};
+ghost use Rattle.block_memory.specs.RunWorlds.LibraryCalls.{is_same_place};
 ghost use Rattle.source_state.specs.RoomView.{core_of};
 ghost use Rattle.source_steps.specs.Cores.{Changes};
 ghost use Rattle.source_steps.specs.Locals.{emptied, slot};
-ghost use Rattle.source_steps.specs.Memories.{allocate, compare, copy, copy_record, end, fill, free, freed_size, living_size, make, put_cells, with_text, zeroed};
+ghost use Rattle.source_steps.specs.Memories.{allocate, compare, copy, copy_record, end, fill, free, freed_size, living_size, make, put_cells, with_text};
+ghost use Rattle.source_steps.specs.Memories.{zeroed};
 
 use crate::room::Room;
-use block_memory::{BlockKind, Ptr};
+use block_memory::{BlockKind, Ptr, Value};
 use c_meaning::{Slot, Spot};
 use lay_base::{NoMemory, RoomKind, UndefinedKind};
-use runs::Value;
 use source_steps::Final;
 use std::alloc::Global;
 

@@ -1,10 +1,11 @@
 //! What is left to do in a run.
 
-use c_meaning::{Slot, Way};
-use c_typed::{Expression, Function, InitializerPart, Path};
-use loop_tallies::{TalliedArms, TalliedStatement, TalliedStatements};
-use runs::Value;
-use source_machine::{Action, Callee};
+use block_memory::{Value, Way};
+use c_meaning::Slot;
+use c_typed::{
+    Expression, Function, InitializerPart, Path, TalliedArms, TalliedStatement, TalliedStatements,
+};
+use source_steps::{Action, Callee};
 
 /// The function that a statement stands in, with its number.
 #[derive(Clone, Copy)]
@@ -88,8 +89,8 @@ pub enum Work<'a> {
     Choosing(&'a Expression, &'a Expression),
     /// A call with the arguments so far.
     Call(ForCall, Callee, Vec<Value>, &'a [Expression]),
-    /// Behind the body of a function: it goes on in its caller's frame.
-    Framing(Vec<Slot>),
+    /// Behind the body of a function of that number: it goes on in its caller's frame.
+    Framing(u32, Vec<Slot>),
     Statement(ForStatement, Scope<'a>, u64, TalliedStatement<'a>),
     Statements(Scope<'a>, u64, TalliedStatements<'a>),
     /// Both statements of an `if`, behind its operand.

@@ -2,7 +2,7 @@
 use Rattle.std.proofs.Common.{◌≡◌, ap, sym, ◌∙◌, ℕ, ◌+◌, ◌<◌, ◌==◌, true, false, if◌then◌else◌, List, ◌∷◌, length, drop, map, Some, get_or}
 use Rattle.std.proofs.lemmas.List.{drop_more}
 use Rattle.std.specs.List.{list_any}
-use Rattle.c_counts.specs.Loops.{arm_of as one_arm}
+use Rattle.c_typed.specs.RunCounts.Loops.{arm_of as one_arm}
 use Rattle.c_meaning.specs.Statements.{arm_of}
 use Rattle.c_typed.specs.Views.{arms_of}
 use Rattle.c_typed.specs.declared.statement.Arm.{Arm}

@@ -3,8 +3,8 @@ use Rattle.std.proofs.Common.{◌≡◌, refl, ℕ, None}
 use Rattle.c_typed.specs.Programs.{ProgramData}
 use Rattle.c_typed.specs.Trees as T
 use Rattle.c_typed.specs.Trees.{Statement, Statements}
-use Rattle.loop_tallies.specs.Forms.{expression_in, block_in}
-use Rattle.source_machine.specs.Items.{Context}
+use Rattle.c_typed.specs.LoopTallies.Forms.{expression_in, block_in}
+use Rattle.source_steps.specs.MachineMoves.Items.{Context}
 use Rattle.source_steps.specs.Ahead.{past, executed_ahead, executed_later, executed_whole}
 use Rattle.source_steps.specs.Cores.{Core}
 use Rattle.source_steps.specs.States.{State}

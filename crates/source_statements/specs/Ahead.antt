@@ -1,11 +1,11 @@
 -- What comes behind the test of a loop, and behind the operand of an `if`, with their values.
 use Rattle.std.specs.Prelude.{ℕ, ◌+◌, if◌then◌else◌}
-use Rattle.c_counts.specs.Loops.{loops_in}
+use Rattle.c_typed.specs.RunCounts.Loops.{loops_in}
 use Rattle.c_typed.specs.Programs.{ProgramData}
 use Rattle.c_typed.specs.Trees.{Statement}
-use Rattle.runs.specs.declared.value.Value.{Value}
-use Rattle.c_meaning.specs.Operators.{is_true}
-use Rattle.source_machine.specs.Items.{Context, Loop, executing}
+use Rattle.block_memory.specs.declared.run_worlds.value.Value.{Value}
+use Rattle.block_memory.specs.RunWorlds.Operators.{is_true}
+use Rattle.source_steps.specs.MachineMoves.Items.{Context, Loop, executing}
 use Rattle.source_steps.specs.Ahead.{begun_ahead}
 use Rattle.source_steps.specs.States.{State, Step, goes, doing}
 use Rattle.source_steps.specs.Statements.{begun}

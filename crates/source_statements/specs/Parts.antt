@@ -2,7 +2,7 @@
 use Rattle.std.specs.Prelude.{ℕ, List}
 use Rattle.c_typed.specs.Programs.{ProgramData}
 use Rattle.c_typed.specs.Trees.{Statements}
-use Rattle.source_machine.specs.Items.{Loop, executing_all, looping, ending}
+use Rattle.source_steps.specs.MachineMoves.Items.{Loop, executing_all, looping, ending}
 use Rattle.source_steps.specs.Locals.{begin_all}
 use Rattle.source_steps.specs.States.{State, Step, goes, doing, doing_in}
 

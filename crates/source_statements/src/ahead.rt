@@ -3,8 +3,8 @@
 ghost use Rattle.std.specs.Prelude.{◌≡◌, IfOk, map};
 ghost use Rattle.c_typed.specs.Programs.{program_data};
 ghost use Rattle.c_typed.specs.Views.{expression_of};
-ghost use Rattle.loop_tallies.specs.Forms.{statement_in};
-ghost use Rattle.source_machine.specs.Items as I;
+ghost use Rattle.c_typed.specs.LoopTallies.Forms.{statement_in};
+ghost use Rattle.source_steps.specs.MachineMoves.Items as I;
 ghost use Rattle.source_steps.specs.Ahead.{ahead, executed_ahead};
 ghost use Rattle.source_statements.specs.Ahead.{decided, decided_else, tested_by};
 ghost use Rattle.source_state.specs.View.{state_of};
@@ -12,11 +12,9 @@ ghost use Rattle.source_state.specs.WorkView.{context_of, loop_of};
 
 use crate::loops::begin_loop;
 use crate::statements::{behind, execute, leave, select, while_loop};
-use c_meaning::Way;
-use c_typed::Expression;
+use block_memory::{Value, Way};
+use c_typed::{Expression, Form, TalliedStatement};
 use lay_base::NoMemory;
-use loop_tallies::{Form, TalliedStatement};
-use runs::Value;
 use source_direct::at_once;
 use source_expressions::{evaluate, evaluate_used, go_on};
 use source_state::{ForStatement, Loop, Machine, Scope, Work};

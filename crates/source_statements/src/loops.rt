@@ -8,9 +8,8 @@ ghost use Rattle.source_state.specs.WorkView.{loop_behind_of, loop_of};
 
 use lay_base::NoMemory;
 use source_expressions::{evaluate_one, go_on, use_then};
-use source_machine::Action;
 use source_state::{ForLoop, ForStatement, Loop, LoopBehind, Machine, Work};
-use source_steps::Moved;
+use source_steps::{Action, Moved};
 use source_values::Types;
 
 /// One more loop stands before the body of a loop; `NoMemory` comes where there are 2^64.

@@ -1,27 +1,28 @@
-//! Statements in a row, and what has statements in a row: blocks, the bodies of loops, and the arms of a `switch`. What is evaluated in one step is done at once.
+//! Statements in a row, and what has statements in a row: blocks, the bodies of loops, and the arms of a `switch`. What is evaluated in one step is done at
+//! once.
 
 ghost use Rattle.std.specs.Prelude.{◌≡◌, IfOk, OnOk};
 ghost use Rattle.c_typed.specs.Programs.{program_data};
 ghost use Rattle.c_typed.specs.Trees as T;
-ghost use Rattle.loop_tallies.specs.Forms.{arms_in, statement_in, statements_in};
+ghost use Rattle.c_typed.specs.LoopTallies.Forms.{arms_in, statement_in, statements_in};
 ghost use Rattle.source_state.specs.RoomView.{core_of};
-ghost use Rattle.source_steps.specs.Ahead.{arms_behind, begun_ahead, entered_ahead, entered_first, executed_all_ahead, executed_first, executed_later, executed_whole, followed, past, repeats_ahead, tests_ahead};
+ghost use Rattle.source_steps.specs.Ahead.{arms_behind, begun_ahead, entered_ahead, entered_first, executed_all_ahead, executed_first, executed_later};
+ghost use Rattle.source_steps.specs.Ahead.{executed_whole, followed, past, repeats_ahead, tests_ahead};
 ghost use Rattle.source_statements.specs.Ahead.{tested_ahead_by};
 ghost use Rattle.source_state.specs.View.{state_of};
 ghost use Rattle.source_state.specs.WorkView.{context_of, loop_of};
 
 use crate::ahead::execute_ahead;
+use crate::local_steps::begin_all;
 use crate::loops::{one_more, repeat_loop, test_loop};
 use crate::statements::behind;
+use block_memory::Value;
+use c_typed::{TalliedArms, TalliedStatement, TalliedStatements};
 use lay_base::NoMemory;
-use loop_tallies::{TalliedArms, TalliedStatement, TalliedStatements};
-use runs::Value;
 use source_direct::at_once;
 use source_expressions::evaluate_one;
-use source_locals::begin_all;
-use source_machine::Action;
 use source_state::{ForArms, ForLoop, Loop, Machine, Room, Scope, Work};
-use source_steps::Moved;
+use source_steps::{Action, Moved};
 use source_values::{Types, is_true};
 use std::alloc::Global;
 

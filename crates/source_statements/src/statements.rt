@@ -3,29 +3,27 @@
 ghost use Rattle.std.specs.Prelude.{◌≡◌, ◌+◌, ◌-◌, ◌^◌, ◌<◌, ◌==◌, IfOk, None, Some, map};
 ghost use Rattle.std.specs.List.{list_any};
 ghost use Rattle.std.specs.Option.{option_map};
-ghost use Rattle.c_counts.specs.Loops.{arm_of as one_arm};
+ghost use Rattle.c_typed.specs.RunCounts.Loops.{arm_of as one_arm};
 ghost use Rattle.c_meaning.specs.Statements.{arm_of, default_arm, or_default};
 ghost use Rattle.c_typed.specs.Programs.{program_data};
 ghost use Rattle.c_typed.specs.Trees as T;
 ghost use Rattle.c_typed.specs.Views.{arms_of, expression_of};
-ghost use Rattle.loop_tallies.specs.Forms.{arms_in, statement_in, statements_in};
-ghost use Rattle.source_machine.specs.Items.{unwinding};
+ghost use Rattle.c_typed.specs.LoopTallies.Forms.{arms_in, statement_in, statements_in};
+ghost use Rattle.source_steps.specs.MachineMoves.Items.{unwinding};
 ghost use Rattle.source_steps.specs.States.{doing, goes};
 ghost use Rattle.source_steps.specs.Statements.{executed, selected};
 ghost use Rattle.source_statements.specs.Parts.{begun_for};
 ghost use Rattle.source_state.specs.View.{state_of};
 ghost use Rattle.source_state.specs.WorkView.{context_of, loop_of};
 
+use crate::local_steps::{begin_all, declare};
 use crate::loops::begin_behind;
-use c_meaning::Way;
-use c_typed::{Arm, Expression};
+use block_memory::Way;
+use c_typed::{Arm, Expression, Form, TalliedArms, TalliedStatement, TalliedStatements};
 use lay_base::NoMemory;
-use loop_tallies::{Form, TalliedArms, TalliedStatement, TalliedStatements};
 use source_expressions::{evaluate_one, go_on, use_then};
-use source_locals::{begin_all, declare};
-use source_machine::Action;
 use source_state::{ForArms, ForLoop, ForStatement, Loop, LoopBehind, Machine, Scope, Work};
-use source_steps::Moved;
+use source_steps::{Action, Moved};
 use source_values::Types;
 use std::alloc::Global;
 

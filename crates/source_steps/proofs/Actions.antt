@@ -10,42 +10,47 @@ use Rattle.c_typed.specs.declared.operators.PointerOp.TheVariants.{Add}
 use Rattle.c_typed.specs.declared.operators.StepOp.{StepOp}
 use Rattle.c_typed.specs.Conversions.{number_of}
 use Rattle.c_typed.specs.Programs.{ProgramData}
-use Rattle.memory_cells.specs.declared.pointer.Ptr.{Ptr}
-use Rattle.memory_cells.specs.declared.pointer.Ptr.TheVariants as P
+use Rattle.memory_words.specs.declared.cell_words.pointer.Ptr.{Ptr}
+use Rattle.memory_words.specs.declared.cell_words.pointer.Ptr.TheVariants as P
 use Rattle.block_memory.specs.Blocks.{Memory}
 use Rattle.block_memory.specs.Tested.{Tested}
-use Rattle.runs.specs.Doing.{Doing, ◌>>=◌, ◌>>◌, pure, is_undefined, tested, memory_now}
-use Rattle.runs.specs.Events.{reached}
-use Rattle.runs.specs.Library as Library
-use Rattle.runs.specs.Scalars.{word_of, pointer_of, note_in}
-use Rattle.runs.specs.declared.value.Value.{Value}
-use Rattle.runs.specs.declared.value.Value.TheVariants.{Pointer as Address}
+use Rattle.block_memory.specs.RunWorlds.Doing.{Doing, ◌>>=◌, ◌>>◌, pure, is_undefined, tested, memory_now}
+use Rattle.block_memory.specs.RunWorlds.Events.{reached}
+use Rattle.block_memory.specs.RunWorlds.Library as Library
+use Rattle.block_memory.specs.RunWorlds.Scalars.{word_of, pointer_of, note_in}
+use Rattle.block_memory.specs.declared.run_worlds.value.Value.{Value}
+use Rattle.block_memory.specs.declared.run_worlds.value.Value.TheVariants.{Pointer as Address}
+use Rattle.block_memory.specs.RunWorlds.LibraryCalls.{is_same_place}
+use Rattle.block_memory.specs.RunWorlds.Operators.{moved, compared, updated, next}
+use Rattle.block_memory.specs.RunWorlds.LibraryCalls as LibraryCalls
 use Rattle.c_meaning.specs.Expressions as Meaning
-use Rattle.c_meaning.specs.Expressions.{is_subscript, is_same_place, field_in}
+use Rattle.c_meaning.specs.Expressions.{part_in, is_subscript, field_in}
 use Rattle.c_meaning.specs.Frames as Frames
 use Rattle.c_meaning.specs.Frames.{Frame}
-use Rattle.c_meaning.specs.Operators.{moved, compared, updated, next}
 use Rattle.c_meaning.specs.Program.{type_at, element_size}
 use Rattle.c_meaning.specs.declared.frame.Slot.TheVariants.{ByName}
 use Rattle.c_meaning.specs.declared.frame.Spot.{Spot}
 use Rattle.c_meaning.specs.declared.frame.Spot.TheVariants.{Kept, Placed}
-use Rattle.source_machine.specs.Actions as Machine
-use Rattle.source_machine.specs.Actions.{taking, taking_any, taking_spot, gives, leads}
-use Rattle.source_machine.specs.Items.{Stack}
-use Rattle.source_machine.specs.Steps.{Left}
-use Rattle.source_machine.specs.Steps as Steps
-use Rattle.source_machine.specs.declared.items.Action.{Action}
-use Rattle.source_machine.specs.declared.items.Action.TheVariants as A
-use Rattle.source_machine.specs.declared.items.Operand.TheVariants as O
-use Rattle.source_steps.specs.Actions.{needed, cast_to, found, allocated, address_of, through, element_of, lies_at, stored_anew, updated_at, stepped_at, performed}
+use Rattle.source_steps.specs.MachineMoves.Actions as Machine
+use Rattle.source_steps.specs.MachineMoves.Actions.{taking, taking_any, taking_spot, gives, leads}
+use Rattle.source_steps.specs.MachineMoves.Items.{Stack}
+use Rattle.source_steps.specs.MachineMoves.Steps.{Left}
+use Rattle.source_steps.specs.MachineMoves.Steps as Steps
+use Rattle.source_steps.specs.declared.machine_moves.Action.{Action}
+use Rattle.source_steps.specs.declared.machine_moves.Action.TheVariants as A
+use Rattle.source_steps.specs.declared.machine_moves.Operand.TheVariants as O
+use Rattle.source_steps.specs.Actions.{needed, cast_to, found, allocated, address_of, through, part_of, element_of, lies_at, stored_anew, updated_at}
+use Rattle.source_steps.specs.Actions.{stepped_at, performed}
 use Rattle.source_steps.specs.Cores as Cores
 use Rattle.source_steps.specs.Cores.{Core, Does, done}
 use Rattle.source_steps.specs.Locals.{with_slot}
 use Rattle.source_steps.specs.Memories.{copy_record}
-use Rattle.source_steps.specs.States.{State, Step, goes, undefined, given, led, with_core, with_stack, with_value, with_any, with_spot, finding, doing_in, changing}
+use Rattle.source_steps.specs.States.{State, Step, goes, undefined, given, led, with_core, with_stack, with_value, with_any, with_spot, finding, doing_in}
+use Rattle.source_steps.specs.States.{changing}
 use Rattle.source_steps.proofs.Locals.{with_slot_part, fetch_part, put_part}
 use Rattle.source_steps.proofs.Memories.{IsQuiet, note_in_part, quiet_part, copy_part, allocate_part}
-use Rattle.source_steps.proofs.Parts.{Part, Same, pure_part, undefined_part, reading, tested_part, bind_part, same_goes, same_undefined, same_doing, same_behind, same_reading, same_changing, same_taking, same_taking_any, same_taking_spot}
+use Rattle.source_steps.proofs.Parts.{Part, Same, pure_part, undefined_part, reading, tested_part, bind_part, same_goes, same_undefined, same_doing}
+use Rattle.source_steps.proofs.Parts.{same_behind, same_reading, same_changing, same_taking, same_taking_any, same_taking_spot}
 
 -- an action, and then the work behind it
 pub record Acts (s : State) (m : Doing Frame Stack) (step : Step) : Type 0 where
@@ -114,7 +119,7 @@ acts_found at r s = acts_finding at r _ (λ v. acts_pure s _)
 acts_found_now : (at : Place) (f : Memory → Tested Value) (s : State) → Acts s (memory_now >>= λ m. tested at (f m) >>= gives s.stack) (found at (f s.core.memory) s)
 acts_found_now at f s = acts_now (λ m. tested at (f m) >>= gives s.stack) (acts_found at (f s.core.memory) s)
 
-acts_allocated : (at : Place) (r n count : ℕ) (zeroed : Bool) (s : State) → Acts s (Meaning.allocated at r n count zeroed >>= gives s.stack) (allocated at n count zeroed s)
+acts_allocated : (at : Place) (r n count : ℕ) (zeroed : Bool) (s : State) → Acts s (LibraryCalls.allocated at r n count zeroed >>= gives s.stack) (allocated at n count zeroed s)
 acts_allocated at r n count zeroed s = acts_either (nat_lt (count * n) (2 ^ 28)) (Library.allocate (Some (r, count)) (count * n) zeroed) (is_undefined K.Huge at)
     (acts_doing _ (allocate_part (Some (r, count)) (count * n) zeroed s.core) (λ v c. acts_pure _ _))
     (record { same = (acts_undefined K.Huge at s).same })
@@ -142,12 +147,18 @@ acts_through at v by s =
     = acts_reading at (field_in s.core.memory (pointer_of v) by) _ (reached_part at (pointer_of v) by s.core) (λ r. acts_pure s _) in
     record { same = record { shows = one.same.shows } }
 
+acts_part : (at : Place) (by : ℤ) (q : Spot) (s : State) → Acts s (Meaning.part_of at by q >>= leads s.stack) (part_of at by q s)
+acts_part at by (Placed q) s =
+    let one : Acts s (memory_now >>= λ m. tested at (part_in m q by) >>= λ r. leads s.stack (Placed r)) (part_of at by (Placed q) s)
+    = acts_now (λ m. tested at (part_in m q by) >>= λ r. leads s.stack (Placed r)) (acts_finding at (part_in s.core.memory q by) _ (λ r. acts_pure s _)) in
+    record { same = record { shows = one.same.shows } }
+acts_part at by (Kept x) s = record { same = (acts_undefined K.Dead at s).same }
+
 acts_element : (at : Place) (n k : ℕ) (addressed : Bool) (q : Spot) (i : ℤ) (s : State)
     → Acts s (Meaning.element_of at n k addressed q i >>= leads s.stack) (element_of at n k addressed q i s)
-acts_element at n k addressed (Placed q) i s =
-    acts_either (is_subscript n addressed i) (pure _) (is_undefined K.Subscript at) (record { same = (acts_pure s _).same }) (record { same = (acts_undefined K.Subscript at s).same })
-acts_element at n k addressed (Kept x) i s =
-    acts_either (is_subscript n addressed i) (pure _) (is_undefined K.Subscript at) (record { same = (acts_pure s _).same }) (record { same = (acts_undefined K.Subscript at s).same })
+acts_element at n k addressed q i s =
+    acts_either (is_subscript n addressed i) (Meaning.part_of at (i *ℤ pos k) q) (is_undefined K.Subscript at)
+    (record { same = (acts_part at (i *ℤ pos k) q s).same }) (record { same = (acts_undefined K.Subscript at s).same })
 
 -- ---- records
 
@@ -211,7 +222,7 @@ module _ (p : ProgramData) where
   acts_performed A.Dereferencing s = acts_taking s.stack s _ (λ v st. acts_pure _ _)
   acts_performed (A.Indexing at size left right) s = acts_taking s.stack s _ (λ w st. acts_taking st _ _ (λ v st2.
       acts_indexed at size left right v w (with_stack st2 s)))
-  acts_performed (A.FieldOf offset) s = acts_taking_spot s.stack s _ (λ q st. acts_pure _ _)
+  acts_performed (A.FieldOf at offset) s = acts_taking_spot s.stack s _ (λ q st. acts_part at (pos offset) q (with_stack st s))
   acts_performed (A.FieldAt at offset) s = acts_taking s.stack s _ (λ v st. acts_through at v (pos offset) (with_stack st s))
   acts_performed (A.FieldOfElement at right size offset) s = acts_taking s.stack s _ (λ w st. acts_taking st _ _ (λ v st2.
       acts_through at v (number_of right (word_of w) *ℤ pos size +ℤ pos offset) (with_stack st2 s)))

@@ -1,7 +1,7 @@
 -- Steps that go ahead come to what the steps one by one come to.
 use Rattle.std.proofs.Common.{◌≡◌, refl, subst, ℕ, zero, suc, ◌+◌, Bool, true, false, if◌then◌else◌, List, [], ◌∷◌, Option, Some, None, Result, Ok, Err, arith}
 use Rattle.lay_base.specs.declared.place.Place.{Place}
-use Rattle.c_counts.specs.Loops.{loops_in, loops_in_all}
+use Rattle.c_typed.specs.RunCounts.Loops.{loops_in, loops_in_all}
 use Rattle.c_typed.specs.Programs.{ProgramData}
 use Rattle.c_typed.specs.Constants.{ty}
 use Rattle.c_typed.specs.Trees as T
@@ -9,17 +9,19 @@ use Rattle.c_typed.specs.Trees.{Expression, expression, Statement, Statements, A
 use Rattle.block_memory.specs.Blocks.{Memory}
 use Rattle.block_memory.specs.Tested.{Tested, ◌>>=◌}
 use Rattle.block_memory.specs.declared.kinds.Access.{Access}
-use Rattle.runs.specs.Scalars.{store_in}
-use Rattle.runs.specs.declared.value.Value.{Value}
+use Rattle.block_memory.specs.RunWorlds.Scalars.{store_in}
+use Rattle.block_memory.specs.declared.run_worlds.value.Value.{Value}
+use Rattle.block_memory.specs.RunWorlds.Operators.{is_true, updated, next}
 use Rattle.c_meaning.specs.Expressions as Meaning
-use Rattle.c_meaning.specs.Operators.{is_true, updated, next}
 use Rattle.c_meaning.specs.Program.{type_at, element_size, access_at}
 use Rattle.c_meaning.specs.Run.{called}
 use Rattle.c_meaning.specs.declared.frame.Spot.{Spot}
 use Rattle.c_meaning.specs.declared.frame.Spot.TheVariants.{Kept, Placed}
-use Rattle.source_machine.specs.Items as I
-use Rattle.source_machine.specs.Items.{Item, Work, Stack, Context, Loop, acting, evaluating, using, executing, executing_all, entering, looping, repeating, tested, ending, unwinding}
-use Rattle.source_machine.specs.declared.items.Action.TheVariants as A
+use Rattle.source_steps.specs.MachineMoves.Items as I
+use Rattle.source_steps.specs.MachineMoves.Items.{Item, Work, Stack, Context, Loop, acting, evaluating, using, executing, executing_all, entering, looping}
+use Rattle.source_steps.specs.MachineMoves.Items.{repeating}
+use Rattle.source_steps.specs.MachineMoves.Items.{tested, ending, unwinding}
+use Rattle.source_steps.specs.declared.machine_moves.Action.TheVariants as A
 use Rattle.source_steps.specs.Calls.{begun as begun_in}
 use Rattle.source_steps.specs.Cores.{Core, done}
 use Rattle.source_steps.specs.Direct.{direct, direct_spot, if_found, shown_if, and_then, at_once}
@@ -29,7 +31,8 @@ use Rattle.source_steps.specs.States.{State, Step, goes, doing, given, with_core
 use Rattle.source_steps.specs.Statements.{begun, tests, repeats}
 use Rattle.source_steps.specs.Steps.{stepped}
 use Rattle.source_steps.specs.Ahead.{settled, at_hand, executed_ahead, past, past_one, followed, executed_later, executed_first, executed_all_ahead, within}
-use Rattle.source_steps.specs.Ahead.{executed_whole, begun_ahead, tests_ahead, repeats_ahead, arms_behind, entered_first, entered_ahead, ahead, advanced_at, advanced}
+use Rattle.source_steps.specs.Ahead.{executed_whole, begun_ahead, tests_ahead, repeats_ahead, arms_behind, entered_first, entered_ahead, ahead, advanced_at}
+use Rattle.source_steps.specs.Ahead.{advanced}
 use Rattle.source_steps.specs.declared.ends.Final.{Final}
 use Rattle.source_steps.proofs.Found.{Makes, made}
 use Rattle.source_steps.proofs.Idle.{no_more_is_idle, no_locals_are_idle, left_out}
@@ -274,7 +277,7 @@ module _ (p : ProgramData) where
   ahead_arrives (I.choosing y z) t = by_step p (doing (I.choosing y z) t)
   ahead_arrives (I.gathering callee done rest) t = by_step p (doing (I.gathering callee done rest) t)
   ahead_arrives (I.gathered callee done rest) t = by_step p (doing (I.gathered callee done rest) t)
-  ahead_arrives (I.framing caller) t = by_step p (doing (I.framing caller) t)
+  ahead_arrives (I.framing f caller) t = by_step p (doing (I.framing f caller) t)
   ahead_arrives (entering c l arm arms) t = entered_arrives c l arm arms t
   ahead_arrives (I.deciding c l one) t = by_step p (doing (I.deciding c l one) t)
   ahead_arrives (I.deciding_else c l one other) t = by_step p (doing (I.deciding_else c l one other) t)

@@ -1,11 +1,10 @@
 -- Step by step a run comes from its start to its end.
 use Rattle.std.proofs.Common.{◌≡◌, refl, sym, ap, ◌∙◌, subst, ℕ, ◌^◌, ◌<◌, true, List, [], Some, slice_get, arith}
 use Rattle.c_typed.specs.Programs.{ProgramData}
-use Rattle.runs.specs.Events.{Event, Call, output_of, calls_of, entries_of, begins_of}
-use Rattle.runs.specs.Worlds.{World}
-use Rattle.c_meaning.specs.Run.{kept, seen, ended, went_on, was_undefined, no_room}
-use Rattle.c_meaning.specs.Longer.{world_of}
-use Rattle.source_machine.proofs.Preserved.{begins}
+use Rattle.block_memory.specs.RunWorlds.Events.{Event, Call, output_of, calls_of, entries_of, begins_of}
+use Rattle.block_memory.specs.RunWorlds.Worlds.{World, world_of}
+use Rattle.c_meaning.specs.Run.{kept, seen, ended, went_on, was_undefined, no_room, trace_of}
+use Rattle.source_steps.proofs.MachineMoves.Preserved.{begins}
 use Rattle.source_steps.specs.Cores.{Core}
 use Rattle.source_steps.specs.Counting.{Counting}
 use Rattle.source_steps.specs.States.{State, Step}
@@ -15,7 +14,7 @@ use Rattle.source_steps.specs.declared.ends.Final.TheVariants.{Ends, TurnLimit, 
 use Rattle.source_steps.specs.declared.ends.Moved.{Moved}
 use Rattle.source_steps.specs.declared.ends.Moved.TheVariants.{Goes, Puts, Gets, Over}
 use Rattle.source_steps.specs.Agreeing.{world, end_of, Agrees, output_with, calls_with}
-use Rattle.source_steps.specs.Came.{AreZero, state_at_start, Came, Ended, Comes, seen_as, trace_of}
+use Rattle.source_steps.specs.Came.{AreZero, state_at_start, Came, Ended, Comes, seen_as}
 use Rattle.source_steps.proofs.Ahead.{advances}
 use Rattle.source_steps.proofs.Leading.{Leads}
 use Rattle.source_steps.proofs.Lessening.{Lessens}

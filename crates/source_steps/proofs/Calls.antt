@@ -4,12 +4,12 @@ use Rattle.lay_base.specs.declared.faults.RoomKind.TheVariants.{Depth}
 use Rattle.lay_base.specs.declared.place.Place.{Place}
 use Rattle.c_typed.specs.declared.program.Local.{Local}
 use Rattle.c_typed.specs.Programs.{ProgramData}
-use Rattle.memory_cells.specs.declared.pointer.Ptr.TheVariants as P
-use Rattle.runs.specs.Doing as Doing
-use Rattle.runs.specs.Doing.{Rest, Doing, ◌>>=◌, ◌>>◌, pure, turn_of, note, less_deep}
-use Rattle.runs.specs.Events.{Event, entered, began, left, one_if, entries_of, begins_of}
-use Rattle.runs.specs.declared.value.Value.{Value}
-use Rattle.runs.specs.Worlds.{greatest_depth}
+use Rattle.memory_words.specs.declared.cell_words.pointer.Ptr.TheVariants as P
+use Rattle.block_memory.specs.RunWorlds.Doing as Doing
+use Rattle.block_memory.specs.RunWorlds.Doing.{Rest, Doing, ◌>>=◌, ◌>>◌, pure, turn_of, note, less_deep}
+use Rattle.block_memory.specs.RunWorlds.Events.{Event, entered, began, left, one_if, entries_of, begins_of}
+use Rattle.block_memory.specs.declared.run_worlds.value.Value.{Value}
+use Rattle.block_memory.specs.RunWorlds.Worlds.{greatest_depth}
 use Rattle.c_meaning.specs.Frames as Frames
 use Rattle.c_meaning.specs.Frames.{Frame, frame_of}
 use Rattle.c_meaning.specs.Program.{access_at}
@@ -17,8 +17,8 @@ use Rattle.c_meaning.specs.Run as Run
 use Rattle.c_meaning.specs.Run.{numbers, result_of}
 use Rattle.c_meaning.specs.declared.frame.Slot.{Slot}
 use Rattle.c_meaning.specs.declared.frame.Slot.TheVariants.{ByName, InBlock}
-use Rattle.source_machine.specs.Steps as Machine
-use Rattle.source_machine.specs.Steps.{Left}
+use Rattle.source_steps.specs.MachineMoves.Steps as Machine
+use Rattle.source_steps.specs.MachineMoves.Steps.{Left}
 use Rattle.source_steps.specs.Calls.{begun_by, begun, enter_by, enter, leave, received, receive_one, receive}
 use Rattle.source_steps.specs.Cores.{Core, done}
 use Rattle.source_steps.specs.Counting.{with_entry, with_begin}

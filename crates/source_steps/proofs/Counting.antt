@@ -1,7 +1,8 @@
 -- Counts are those of the trace.
-use Rattle.std.proofs.Common.{◌≡◌, ◌≢◌, refl, sym, ap, ◌∙◌, ◌⊎◌, inl, inr, ℕ, zero, suc, ◌+◌, ◌^◌, ◌<◌, ◌==◌, true, false, ◌&&◌, List, [], ◌∷◌, slice_get, slice_set, Option, Some, None, arith}
+use Rattle.std.proofs.Common.{◌≡◌, ◌≢◌, refl, sym, ap, ◌∙◌, ◌⊎◌, inl, inr, ℕ, zero, suc, ◌+◌, ◌^◌, ◌<◌, ◌==◌, true, false, ◌&&◌, List, [], ◌∷◌, slice_get}
+use Rattle.std.proofs.Common.{slice_set, Option, Some, None, arith}
 use Rattle.std.proofs.lemmas.Bool.Decides.{eqb_tells}
-use Rattle.runs.specs.Events.{one_if}
+use Rattle.block_memory.specs.RunWorlds.Events.{one_if}
 use Rattle.source_steps.specs.Counting.{one_more, risen, raised, raised_in}
 
 -- ---- one element of a list becomes another

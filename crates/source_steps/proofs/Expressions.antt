@@ -9,20 +9,21 @@ use Rattle.c_typed.specs.Constants.{ty}
 use Rattle.c_typed.specs.Trees as T
 use Rattle.c_typed.specs.Trees.{Expression, expression, Node, Path, path, Expressions, OptionalExpression, Statement}
 use Rattle.c_typed.specs.Typed.{path_ty}
-use Rattle.memory_cells.specs.declared.pointer.Ptr.{Ptr}
-use Rattle.memory_cells.specs.declared.pointer.Ptr.TheVariants as P
-use Rattle.runs.specs.Doing.{Doing, ◌>>=◌}
-use Rattle.runs.specs.Scalars.{pointer_of}
-use Rattle.runs.specs.declared.value.Value.{Value}
+use Rattle.memory_words.specs.declared.cell_words.pointer.Ptr.{Ptr}
+use Rattle.memory_words.specs.declared.cell_words.pointer.Ptr.TheVariants as P
+use Rattle.block_memory.specs.RunWorlds.Doing.{Doing, ◌>>=◌}
+use Rattle.block_memory.specs.RunWorlds.Scalars.{pointer_of}
+use Rattle.block_memory.specs.declared.run_worlds.value.Value.{Value}
 use Rattle.c_meaning.specs.Frames.{Frame, frame_of}
 use Rattle.c_meaning.specs.Program.{type_at, size_at}
-use Rattle.source_machine.specs.Items.{acting, evaluating, using, spotting}
-use Rattle.source_machine.specs.Steps as Steps
-use Rattle.source_machine.specs.Steps.{Left, may_lack}
-use Rattle.source_machine.specs.declared.items.Action.TheVariants as A
-use Rattle.source_machine.specs.declared.items.Callee.{Callee}
-use Rattle.source_machine.specs.declared.items.Callee.TheVariants as C
-use Rattle.source_steps.specs.Expressions.{framed, started, called_as, called_typed, called_through, calls, gathers, located, evaluated, needing_if, valued, used}
+use Rattle.source_steps.specs.MachineMoves.Items.{acting, evaluating, using, spotting}
+use Rattle.source_steps.specs.MachineMoves.Steps as Steps
+use Rattle.source_steps.specs.MachineMoves.Steps.{Left, may_lack}
+use Rattle.source_steps.specs.declared.machine_moves.Action.TheVariants as A
+use Rattle.source_steps.specs.declared.machine_moves.Callee.{Callee}
+use Rattle.source_steps.specs.declared.machine_moves.Callee.TheVariants as C
+use Rattle.source_steps.specs.Expressions.{framed, started, called_as, called_typed, called_through, calls, gathers, located, evaluated, needing_if, valued}
+use Rattle.source_steps.specs.Expressions.{used}
 use Rattle.source_steps.specs.Locals.{local_spot}
 use Rattle.source_steps.specs.States.{State, Step, doing, with_core, with_stack}
 use Rattle.source_steps.proofs.Calls.{enter_part, receive_part}

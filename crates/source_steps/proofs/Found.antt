@@ -1,5 +1,5 @@
 -- What is evaluated in one step is what the meaning gives.
-use Rattle.std.proofs.Common.{◌∙◌, ℕ, ℤ, ◌^◌, nat_lt, Bool, true, false, if◌then◌else◌, List, Option, Some, None, Ok, Err}
+use Rattle.std.proofs.Common.{◌∙◌, ℕ, ℤ, pos, ◌*ℤ◌, Bool, true, false, if◌then◌else◌, List, Option, Some, None, Ok, Err}
 use Rattle.lay_base.specs.declared.place.Place.{Place}
 use Rattle.c_types.specs.Layouts.{offset_of}
 use Rattle.c_types.specs.Types.{CType, void, integer, pointer as pointer_to, array, function, structure}
@@ -11,24 +11,24 @@ use Rattle.c_typed.specs.Typed.{at_of}
 use Rattle.c_typed.specs.declared.operators.PointerOp.TheVariants.{Add}
 use Rattle.block_memory.specs.Blocks.{Memory}
 use Rattle.block_memory.specs.Tested.{Tested}
-use Rattle.memory_cells.specs.declared.pointer.Ptr.{Ptr}
-use Rattle.memory_cells.specs.declared.pointer.Ptr.TheVariants as P
-use Rattle.runs.specs.Doing.{Doing, ◌>>=◌, ◌>>◌, pure, tested, memory_now}
-use Rattle.runs.specs.Scalars.{pointer_of}
-use Rattle.runs.specs.declared.value.Value.{Value}
-use Rattle.runs.specs.declared.value.Value.TheVariants.{Pointer as Address}
+use Rattle.memory_words.specs.declared.cell_words.pointer.Ptr.{Ptr}
+use Rattle.block_memory.specs.RunWorlds.Doing.{Doing, ◌>>=◌, ◌>>◌, pure, tested, memory_now}
+use Rattle.block_memory.specs.RunWorlds.Scalars.{pointer_of}
+use Rattle.block_memory.specs.declared.run_worlds.value.Value.{Value}
+use Rattle.block_memory.specs.declared.run_worlds.value.Value.TheVariants.{Pointer as Address}
+use Rattle.block_memory.specs.RunWorlds.Operators.{is_true, moved, compared, updated, next}
+use Rattle.block_memory.specs.RunWorlds.LibraryCalls as LibraryCalls
 use Rattle.c_meaning.specs.Expressions as Meaning
-use Rattle.c_meaning.specs.Expressions.{part_of, is_subscript, field_in}
+use Rattle.c_meaning.specs.Expressions.{part_in, is_subscript, field_in}
 use Rattle.c_meaning.specs.Frames as Frames
 use Rattle.c_meaning.specs.Frames.{Frame}
-use Rattle.c_meaning.specs.Operators.{is_true, moved, compared, updated, next}
 use Rattle.c_meaning.specs.Program.{type_at, size_at, element_size, access_at}
 use Rattle.c_meaning.specs.declared.frame.Spot.{Spot}
 use Rattle.c_meaning.specs.declared.frame.Spot.TheVariants.{Kept, Placed}
 use Rattle.source_steps.specs.Actions.{address_of, lies_at}
 use Rattle.source_steps.specs.Cores as Cores
 use Rattle.source_steps.specs.Cores.{Core, Does, done}
-use Rattle.source_steps.specs.Direct.{and_if, if_found, if_near, if_converted, if_element, shown_if, and_then, direct, direct_node, direct_spot, at_once}
+use Rattle.source_steps.specs.Direct.{and_if, if_found, if_converted, if_part, if_element, shown_if, and_then, direct, direct_node, direct_spot, at_once}
 use Rattle.source_steps.specs.Locals.{local_spot, fetch, put}
 use Rattle.source_steps.proofs.Actions.{reached_part}
 use Rattle.source_steps.proofs.Locals.{local_spot_part, fetch_part, put_part}
@@ -87,7 +87,7 @@ finds_reading at (Err kind) one = record { part = tt }
 finds_tested : {A : Type 0} (at : Place) (r : Tested A) (c : Core) → Finds itself c (tested at r) (if_found r)
 finds_tested at r c = finds_reading at r (tested_part at r c)
 
-finds_given : (at : Place) (r : Tested Value) (c : Core) → Finds Some c (Meaning.given (tested at r)) (if_found r)
+finds_given : (at : Place) (r : Tested Value) (c : Core) → Finds Some c (LibraryCalls.given (tested at r)) (if_found r)
 finds_given at r c = finds_map Some (if_found r) (finds_tested at r c)
 
 -- what memory is at hand for
@@ -107,26 +107,21 @@ finds_used {c = c} at (Some v) one = record { part = then_part one.part (pure_pa
 
 -- ---- spots
 
-finds_address : (at : Place) (s : Spot) (c : Core) → Finds Some c (Meaning.the (Meaning.address_of at s) Address) (if_found (address_of s))
+finds_address : (at : Place) (s : Spot) (c : Core) → Finds Some c (LibraryCalls.the (Meaning.address_of at s) Address) (if_found (address_of s))
 finds_address at (Placed q) c = record { part = pure_part _ c }
 finds_address at (Kept x) c = record { part = tt }
-
-near_block : (near : Bool) (q : Spot) (c : Core) → Finds itself c (pure q) (if near then Some q else None)
-near_block true q c = finds_pure itself q c
-near_block false q c = record { part = tt }
-
-finds_near : (q : Spot) (c : Core) → Finds itself c (pure q) (if_near q)
-finds_near (Placed (P.Block b at)) c = near_block (nat_lt at (2 ^ 32)) (Placed (P.Block b at)) c
-finds_near (Placed P.Null) c = finds_pure itself _ c
-finds_near (Placed (P.Function f)) c = finds_pure itself _ c
-finds_near (Kept x) c = finds_pure itself _ c
 
 finds_through : (at : Place) (q : Ptr) (by : ℤ) (c : Core) → Finds itself c (Meaning.field_through at q by) (and_if (if_found (field_in c.memory q by)) (λ r. Some (Placed r)))
 finds_through at q by c = finds_bind (if_found (field_in c.memory q by)) (λ r. Some (Placed r)) (finds_reading at (field_in c.memory q by) (reached_part at q by c)) (λ r. finds_pure itself (Placed r) c)
 
-finds_element : (at : Place) (n size : ℕ) (addressed : Bool) (s : Spot) (i : ℤ) (c : Core) → Finds itself c (Meaning.element_of at n size addressed s i) (if_element n size addressed s i)
-finds_element at n size addressed (Placed q) i c = finds_either (is_subscript n addressed i) (finds_near _ c) (record { part = tt })
-finds_element at n size addressed (Kept x) i c = finds_either (is_subscript n addressed i) (finds_near _ c) (record { part = tt })
+finds_part : (at : Place) (by : ℤ) (s : Spot) (c : Core) → Finds itself c (Meaning.part_of at by s) (if_part c.memory by s)
+finds_part at by (Placed q) c = finds_now (λ m. tested at (part_in m q by) >>= λ r. pure (Placed r)) _
+    (finds_bind (if_found (part_in c.memory q by)) _ (finds_tested at (part_in c.memory q by) c) (λ r. finds_pure itself (Placed r) c))
+finds_part at by (Kept x) c = record { part = tt }
+
+finds_element : (at : Place) (n size : ℕ) (addressed : Bool) (s : Spot) (i : ℤ) (c : Core)
+    → Finds itself c (Meaning.element_of at n size addressed s i) (if_element c.memory n size addressed s i)
+finds_element at n size addressed s i c = finds_either (is_subscript n addressed i) (finds_part at (i *ℤ pos size) s c) (record { part = tt })
 
 -- ---- conversions
 
@@ -167,9 +162,9 @@ module _ (p : ProgramData) (call : Place → (f : ℕ) → List Value → Doing 
     node_found t at (T.unary op x) = finds_bind (direct p c x) _ (used_found x) (λ v. finds_pure Some _ c)
     node_found t at (T.binary op x y) = both_used x y _ (used_found x) (used_found y) (λ v w. finds_given at _ c)
     node_found t at (T.compare op x y) = both_used x y _ (used_found x) (used_found y) (λ v w.
-        finds_now (λ m. Meaning.given (tested at (compared op m (kind_of (type_at p (ty x))) v w))) _ (finds_given at (compared op c.memory (kind_of (type_at p (ty x))) v w) c))
+        finds_now (λ m. LibraryCalls.given (tested at (compared op m (kind_of (type_at p (ty x))) v w))) _ (finds_given at (compared op c.memory (kind_of (type_at p (ty x))) v w) c))
     node_found t at (T.pointer_add op x y) = both_used x y _ (used_found x) (used_found y) (λ v w. finds_now
-        (λ m. Meaning.given (tested at (moved m op (element_size p (type_at p t)) (kind_of (type_at p (ty x))) v (kind_of (type_at p (ty y))) w))) _
+        (λ m. LibraryCalls.given (tested at (moved m op (element_size p (type_at p t)) (kind_of (type_at p (ty x))) v (kind_of (type_at p (ty y))) w))) _
         (finds_given at (moved c.memory op (element_size p (type_at p t)) (kind_of (type_at p (ty x))) v (kind_of (type_at p (ty y))) w) c))
     node_found t at (T.pointer_difference x y) = both_used x y _ (used_found x) (used_found y) (λ v w. finds_given at _ c)
     node_found t at (T.both x y) = finds_bind (direct p c x) _ (used_found x) (λ v. finds_either (is_true v)
@@ -207,13 +202,13 @@ module _ (p : ProgramData) (call : Place → (f : ℕ) → List Value → Doing 
     spot_found addressed (path t at (T.member (path u b (T.index e i)) r field)) =
         finds_bind (direct p c e) _ (used_found e) (λ v. finds_bind (direct p c i) _ (used_found i) (λ w. finds_through at (pointer_of v) _ c))
     spot_found addressed (path t at (T.member (path u b (T.local x)) r field)) =
-        finds_bind (direct_spot p c false (path u b (T.local x))) _ (spot_found false (path u b (T.local x))) (λ s. finds_near (part_of (offset_of p.records r field) s) c)
+        finds_bind (direct_spot p c false (path u b (T.local x))) _ (spot_found false (path u b (T.local x))) (λ s. finds_part at (pos (offset_of p.records r field)) s c)
     spot_found addressed (path t at (T.member (path u b (T.object n)) r field)) =
-        finds_bind (direct_spot p c false (path u b (T.object n))) _ (spot_found false (path u b (T.object n))) (λ s. finds_near (part_of (offset_of p.records r field) s) c)
+        finds_bind (direct_spot p c false (path u b (T.object n))) _ (spot_found false (path u b (T.object n))) (λ s. finds_part at (pos (offset_of p.records r field)) s c)
     spot_found addressed (path t at (T.member (path u b (T.member q r' field')) r field)) =
-        finds_bind (direct_spot p c false (path u b (T.member q r' field'))) _ (spot_found false (path u b (T.member q r' field'))) (λ s. finds_near (part_of (offset_of p.records r field) s) c)
+        finds_bind (direct_spot p c false (path u b (T.member q r' field'))) _ (spot_found false (path u b (T.member q r' field'))) (λ s. finds_part at (pos (offset_of p.records r field)) s c)
     spot_found addressed (path t at (T.member (path u b (T.element q i)) r field)) =
-        finds_bind (direct_spot p c false (path u b (T.element q i))) _ (spot_found false (path u b (T.element q i))) (λ s. finds_near (part_of (offset_of p.records r field) s) c)
+        finds_bind (direct_spot p c false (path u b (T.element q i))) _ (spot_found false (path u b (T.element q i))) (λ s. finds_part at (pos (offset_of p.records r field)) s c)
     spot_found addressed (path t at (T.element q i)) = finds_bind (direct_spot p c false q) _ (spot_found false q) (λ s.
         finds_bind (direct p c i) _ (used_found i) (λ v. finds_element at _ _ addressed s _ c))
 

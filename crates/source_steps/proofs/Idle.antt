@@ -2,13 +2,13 @@
 use Rattle.std.proofs.Common.{◌≡◌, refl, sym, ◌∙◌, inl, inr, ℕ, ◌+◌, [], ◌∷◌, arith}
 use Rattle.c_typed.specs.Programs.{ProgramData}
 use Rattle.c_typed.specs.Trees as T
-use Rattle.runs.specs.Worlds.{World}
+use Rattle.block_memory.specs.RunWorlds.Worlds.{World}
+use Rattle.block_memory.specs.declared.run_worlds.way.Way.{Way}
+use Rattle.block_memory.specs.declared.run_worlds.way.Way.TheVariants.{Normally, ByBreak, ByContinue, ByReturn}
 use Rattle.c_meaning.specs.Frames.{Frame}
-use Rattle.c_meaning.specs.declared.frame.Way.{Way}
-use Rattle.c_meaning.specs.declared.frame.Way.TheVariants.{Normally, ByBreak, ByContinue, ByReturn}
-use Rattle.source_machine.specs.Finish.{Exit, exits, leaves, after, finish}
-use Rattle.source_machine.specs.Items.{Item, Work, Stack, Context, executing_all, ending}
-use Rattle.source_machine.proofs.Sizes.{some_item}
+use Rattle.source_steps.specs.MachineMoves.Finish.{Exit, exits, leaves, after, finish}
+use Rattle.source_steps.specs.MachineMoves.Items.{Item, Work, Stack, Context, executing_all, ending}
+use Rattle.source_steps.proofs.MachineMoves.Sizes.{some_item}
 use Rattle.source_steps.specs.States.{State, goes, doing}
 use Rattle.source_steps.specs.declared.ends.Moved.TheVariants.{Goes}
 use Rattle.source_steps.proofs.Leading.{Arrives}

@@ -2,15 +2,15 @@
 use Rattle.std.proofs.Common.{◌≡◌, sym, ap, ◌∙◌, inl, inr, ℕ, ◌+◌, ◌<◌, List, ◌∷◌, Some, arith}
 use Rattle.c_typed.specs.Programs.{ProgramData}
 use Rattle.c_typed.specs.Trees.{Expression, expression}
-use Rattle.runs.specs.Events.{Event, output_of, calls_of}
-use Rattle.runs.specs.Worlds.{World, End}
-use Rattle.runs.specs.declared.value.Value.{Value}
+use Rattle.block_memory.specs.RunWorlds.Events.{Event, output_of, calls_of}
+use Rattle.block_memory.specs.RunWorlds.Worlds.{World, End}
+use Rattle.block_memory.specs.declared.run_worlds.value.Value.{Value}
 use Rattle.c_meaning.specs.Expressions as Meaning
 use Rattle.c_meaning.specs.Run.{called}
-use Rattle.source_machine.specs.Finish.{finish, after, gives}
-use Rattle.source_machine.specs.Items.{evaluating, using}
-use Rattle.source_machine.proofs.Sizes.{of_work, some_item}
-use Rattle.source_machine.proofs.Sound.{goes_alike, over_alike}
+use Rattle.source_steps.specs.MachineMoves.Finish.{finish, after, gives}
+use Rattle.source_steps.specs.MachineMoves.Items.{evaluating, using}
+use Rattle.source_steps.proofs.MachineMoves.Sizes.{of_work, some_item}
+use Rattle.source_steps.proofs.MachineMoves.Sound.{goes_alike, over_alike}
 use Rattle.source_steps.specs.Cores.{Core, done}
 use Rattle.source_steps.specs.States.{State, Step, goes, doing, given, with_core}
 use Rattle.source_steps.specs.Steps.{stepped}

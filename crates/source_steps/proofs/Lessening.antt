@@ -1,16 +1,16 @@
 -- Behind each step fewer turns are left, or as many and less work.
 use Rattle.std.proofs.Common.{◌≡◌, sym, ap, ◌∙◌, ◌⊎◌, inl, inr, ℕ, ◌≤◌, ◌<◌, List, arith}
 use Rattle.c_typed.specs.Programs.{ProgramData}
-use Rattle.runs.specs.Doing.{Rest}
-use Rattle.runs.specs.Events.{Event}
-use Rattle.runs.specs.Worlds.{World, End, ends, goes_on, undefined, out_of_room}
+use Rattle.block_memory.specs.RunWorlds.Doing.{Rest}
+use Rattle.block_memory.specs.RunWorlds.Events.{Event}
+use Rattle.block_memory.specs.RunWorlds.Worlds.{World, End, ends, goes_on, undefined, out_of_room}
 use Rattle.c_meaning.specs.Frames.{Frame}
 use Rattle.c_meaning.specs.Outcomes.{Outcome, comes, over, with_rest}
-use Rattle.source_machine.specs.Moves.{Moves}
-use Rattle.source_machine.specs.Steps.{Left}
-use Rattle.source_machine.proofs.DirectSteps.{IsLess}
-use Rattle.source_machine.proofs.Sizes.{of_work}
-use Rattle.source_machine.proofs.Sound.{moved, moves, moved_less, turns_fall}
+use Rattle.source_steps.specs.MachineMoves.Moves.{Moves}
+use Rattle.source_steps.specs.MachineMoves.Steps.{Left}
+use Rattle.source_steps.proofs.MachineMoves.DirectSteps.{IsLess}
+use Rattle.source_steps.proofs.MachineMoves.Sizes.{of_work}
+use Rattle.source_steps.proofs.MachineMoves.Sound.{moved, moves, moved_less, turns_fall}
 use Rattle.source_steps.specs.States.{State}
 use Rattle.source_steps.specs.declared.ends.Moved.{Moved}
 use Rattle.source_steps.specs.declared.ends.Moved.TheVariants.{Goes, Puts, Gets, Over}

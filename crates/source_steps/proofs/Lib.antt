@@ -16,3 +16,4 @@ pub mod Idle
 pub mod Ahead
 pub mod Arriving
 pub mod Onwards
+pub mod MachineMoves

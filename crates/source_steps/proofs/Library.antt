@@ -5,21 +5,21 @@ use Rattle.lay_base.specs.declared.faults.UndefinedKind.TheVariants as K
 use Rattle.lay_base.specs.declared.place.Place.{Place}
 use Rattle.c_typed.specs.declared.operators.LibraryFunction.{LibraryFunction}
 use Rattle.c_typed.specs.declared.operators.LibraryFunction.TheVariants as L
-use Rattle.memory_cells.specs.declared.pointer.Ptr.{Ptr}
+use Rattle.memory_words.specs.declared.cell_words.pointer.Ptr.{Ptr}
 use Rattle.block_memory.specs.Ranges as Ranges
 use Rattle.block_memory.specs.Tested as Tests
 use Rattle.block_memory.specs.Tested.{Tested}
-use Rattle.runs.specs.Doing.{Doing, ◌>>=◌, ◌>>◌, pure, is_undefined, tested, memory_now, with_memory}
-use Rattle.runs.specs.Events.{Event, put, got}
-use Rattle.runs.specs.Library as Library
-use Rattle.runs.specs.Scalars.{word_of, pointer_of}
-use Rattle.runs.specs.declared.value.Value.{Value}
-use Rattle.runs.specs.declared.value.Value.TheVariants.{Word, Pointer}
-use Rattle.c_meaning.specs.Expressions as Meaning
+use Rattle.block_memory.specs.RunWorlds.Doing.{Doing, ◌>>=◌, ◌>>◌, pure, is_undefined, tested, memory_now, with_memory}
+use Rattle.block_memory.specs.RunWorlds.Events.{Event, put, got}
+use Rattle.block_memory.specs.RunWorlds.Library as Library
+use Rattle.block_memory.specs.RunWorlds.Scalars.{word_of, pointer_of}
+use Rattle.block_memory.specs.declared.run_worlds.value.Value.{Value}
+use Rattle.block_memory.specs.declared.run_worlds.value.Value.TheVariants.{Word, Pointer}
+use Rattle.block_memory.specs.RunWorlds.LibraryCalls as LibraryCalls
 use Rattle.c_meaning.specs.Frames.{Frame}
-use Rattle.source_machine.specs.Steps as Steps
-use Rattle.source_machine.specs.Steps.{Left}
-use Rattle.source_machine.specs.declared.items.Operand.TheVariants as O
+use Rattle.source_steps.specs.MachineMoves.Steps as Steps
+use Rattle.source_steps.specs.MachineMoves.Steps.{Left}
+use Rattle.source_steps.specs.declared.machine_moves.Operand.TheVariants as O
 use Rattle.source_steps.specs.Cores.{Core}
 use Rattle.source_steps.specs.Expressions.{copied, library}
 use Rattle.source_steps.specs.Memories as Memories
@@ -37,7 +37,7 @@ gave s v = Steps.goes s.work (O.Value v ∷ s.stack)
 -- ---- ranges
 
 copied_same : (at : Place) (to from : Value) (n : ℕ) (overlap : Bool) (s : State)
-    → Same s (Meaning.given (Library.copy at (pointer_of to) (pointer_of from) n overlap) >>= gave s) (copied at to from n overlap s)
+    → Same s (LibraryCalls.given (Library.copy at (pointer_of to) (pointer_of from) n overlap) >>= gave s) (copied at to from n overlap s)
 copied_same at to from n overlap s =
     let one : Same s ((memory_now >>= λ m. tested at (Ranges.copy m (pointer_of to) (pointer_of from) n overlap) >>= with_memory) >> gave s (Some (Pointer (pointer_of to))))
     (copied at to from n overlap s)
@@ -45,7 +45,7 @@ copied_same at to from n overlap s =
     record { shows = one.shows }
 
 filled_same : (at : Place) (v c n : Value) (s : State)
-    → Same s (Meaning.given (Library.fill at (pointer_of v) (word_of c) (word_of n)) >>= gave s) (library at L.Memset (v ∷ c ∷ n ∷ []) s)
+    → Same s (LibraryCalls.given (Library.fill at (pointer_of v) (word_of c) (word_of n)) >>= gave s) (library at L.Memset (v ∷ c ∷ n ∷ []) s)
 filled_same at v c n s =
     let one : Same s ((memory_now >>= λ m. tested at (Ranges.fill m (pointer_of v) (word_of c % 2 ^ 8) (word_of n)) >>= with_memory) >> gave s (Some (Pointer (pointer_of v))))
     (library at L.Memset (v ∷ c ∷ n ∷ []) s)
@@ -70,7 +70,7 @@ agrees_got : (turns : ℕ) (byte : Option ℕ) (c : Core) (trace : List Event) �
 agrees_got turns byte c trace h =
     record { few = h.few; live = h.live; entries = h.entries; begins = h.begins; all_entries = h.all_entries; all_begins = h.all_begins }
 
-put_same : (at : Place) (v : Value) (s : State) → Same s (Meaning.given (Library.putchar (word_of v)) >>= gave s) (library at L.Putchar (v ∷ []) s)
+put_same : (at : Place) (v : Value) (s : State) → Same s (LibraryCalls.given (Library.putchar (word_of v)) >>= gave s) (library at L.Putchar (v ∷ []) s)
 put_same at v s = record {
   shows = λ turns input trace h. record {
     later = put (word_of v % 2 ^ 8) ∷ trace;
@@ -82,13 +82,13 @@ put_same at v s = record {
 }
 
 got_shows : (turns : ℕ) (input : List ℕ) (trace : List Event) (s : State) → Agrees turns s.core trace
-    → Shows turns (λ rest. (Meaning.given (Library.next_of input) >>= gave s) rest s.core.frame (world s.core input trace)) input trace Gets s
+    → Shows turns (λ rest. (LibraryCalls.given (Library.next_of input) >>= gave s) rest s.core.frame (world s.core input trace)) input trace Gets s
 got_shows turns [] trace s h =
     record { later = got None ∷ trace; does = λ rest. refl; agrees = agrees_got turns None s.core trace h; writes = refl; calls = refl }
 got_shows turns (byte ∷ more) trace s h =
     record { later = got (Some byte) ∷ trace; does = λ rest. refl; agrees = agrees_got turns (Some byte) s.core trace h; writes = refl; calls = refl }
 
-got_same : (s : State) → Same s (Meaning.given Library.getchar >>= gave s) (Gets, s)
+got_same : (s : State) → Same s (LibraryCalls.given Library.getchar >>= gave s) (Gets, s)
 got_same s = record { shows = λ turns input trace h. got_shows turns input trace s h }
 
 exit_same : (v : ℕ) (s : State) → Same s (Library.exit v >>= gave s) (Over (Ends (v % 2 ^ 8)), s)
@@ -97,7 +97,7 @@ exit_same v s = record { shows = λ turns input trace h. record { later = trace;
 -- ---- all of it
 
 allocated_same : (n : ℕ) (all : Bool) (s : State)
-    → Same s (Meaning.given (Library.allocate None n all) >>= gave s) (doing_in (Memories.allocate n all s.core) s (λ v s. goes (given v s)))
+    → Same s (LibraryCalls.given (Library.allocate None n all) >>= gave s) (doing_in (Memories.allocate n all s.core) s (λ v s. goes (given v s)))
 allocated_same n all s =
     let one : Same s (Library.allocate None n all >>= λ v. gave s (Some v)) (doing_in (Memories.allocate n all s.core) s (λ v s. goes (given v s)))
     = same_doing _ (allocate_part None n all s.core) (λ v c. same_goes (with_core c s) _ _) in
@@ -110,7 +110,7 @@ freed_same at v s =
     record { shows = one.shows }
 
 difference_same : (at : Place) (v w n : Value) (s : State)
-    → Same s (Meaning.given (Library.compare at (pointer_of v) (pointer_of w) (word_of n)) >>= gave s) (library at L.Memcmp (v ∷ w ∷ n ∷ []) s)
+    → Same s (LibraryCalls.given (Library.compare at (pointer_of v) (pointer_of w) (word_of n)) >>= gave s) (library at L.Memcmp (v ∷ w ∷ n ∷ []) s)
 difference_same at v w n s =
     let one : Same s (Library.compare at (pointer_of v) (pointer_of w) (word_of n) >>= λ v. gave s (Some v)) (library at L.Memcmp (v ∷ w ∷ n ∷ []) s)
     = same_reading at (Memories.compare (pointer_of v) (pointer_of w) (word_of n) s.core) _ (compare_part at (pointer_of v) (pointer_of w) (word_of n) s.core)
@@ -120,7 +120,7 @@ difference_same at v w n s =
 no_such : (at : Place) (s : State) → Same s (is_undefined K.Call at >>= gave s) (undefined K.Call at s)
 no_such at s = record { shows = (same_undefined K.Call at s).shows }
 
-pub library_same : (at : Place) (which : LibraryFunction) (values : List Value) (s : State) → Same s (Meaning.library at which values >>= gave s) (library at which values s)
+pub library_same : (at : Place) (which : LibraryFunction) (values : List Value) (s : State) → Same s (LibraryCalls.library at which values >>= gave s) (library at which values s)
 library_same at L.Malloc (v ∷ []) s = allocated_same (word_of v) false s
 library_same at L.Calloc (v ∷ w ∷ []) s = allocated_same (word_of v * word_of w) true s
 library_same at L.Free (v ∷ []) s = freed_same at v s

@@ -1,12 +1,12 @@
 -- How many bytes live behind what is done to memory.
 use Rattle.std.proofs.Common.{◌≡◌, refl, ℕ, zero, suc, ◌+◌, ◌-◌, ◌≤◌, if◌then◌else◌, List, [], ◌∷◌, ◌++◌, length, replicate, slice_set, arith}
 use Rattle.std.proofs.lemmas.List.{length-append, length-take, length-drop, length-replicate}
-use Rattle.memory_cells.specs.declared.cell.Cell.{Cell}
-use Rattle.memory_cells.specs.declared.cell.Cell.TheVariants.{Empty}
+use Rattle.memory_words.specs.declared.cell_words.cell.Cell.{Cell}
+use Rattle.memory_words.specs.declared.cell_words.cell.Cell.TheVariants.{Empty}
 use Rattle.block_memory.specs.declared.kinds.BlockKind.{BlockKind}
 use Rattle.block_memory.specs.Blocks.{Memory, Block, Contents, living, ended, lives_in, size_in, block, kind, size, overwritten, with_cells}
 use Rattle.block_memory.specs.Lifetimes.{with_block, with_end}
-use Rattle.runs.specs.Worlds.{live_in, live_bytes}
+use Rattle.block_memory.specs.RunWorlds.Worlds.{live_in, live_bytes}
 use Rattle.source_steps.specs.Cores.{Core}
 use Rattle.source_steps.specs.Memories.{living_size, put_cells, with_memory}
 

@@ -1,19 +1,20 @@
 -- What is done to the world.
-use Rattle.std.proofs.Common.{◌≡◌, refl, sym, ◌∙◌, subst, ℕ, zero, suc, ◌+◌, ◌-◌, ◌/◌, ◌%◌, ◌^◌, ◌≤◌, Bool, true, false, ◌&&◌, ◌||◌, not, nat_lt, nat_le, if◌then◌else◌, List, ◌∷◌, length, replicate, drop, Option, Result, Ok, Err, arith}
+use Rattle.std.proofs.Common.{◌≡◌, refl, sym, ◌∙◌, subst, ℕ, zero, suc, ◌+◌, ◌-◌, ◌/◌, ◌%◌, ◌^◌, ◌≤◌, Bool, true, false, ◌&&◌, ◌||◌, not, nat_lt, nat_le}
+use Rattle.std.proofs.Common.{if◌then◌else◌, List, ◌∷◌, length, replicate, drop, Option, Result, Ok, Err, arith}
 use Rattle.std.proofs.lemmas.List.{length-take, length-replicate}
 use Rattle.std.proofs.lemmas.Bool.Decides.{leb_tells}
 use Rattle.lay_base.specs.declared.faults.RoomKind.TheVariants.{Live}
 use Rattle.lay_base.specs.declared.faults.UndefinedKind.TheVariants as K
 use Rattle.lay_base.specs.declared.place.Place.{Place}
 use Rattle.c_types.specs.IntKinds.{width}
-use Rattle.memory_cells.specs.declared.cell.Cell.{Cell}
-use Rattle.memory_cells.specs.declared.cell.Cell.TheVariants.{Byte}
+use Rattle.memory_words.specs.declared.cell_words.cell.Cell.{Cell}
+use Rattle.memory_words.specs.declared.cell_words.cell.Cell.TheVariants.{Byte}
 use Rattle.block_memory.specs.declared.kinds.Access.{Access}
 use Rattle.block_memory.specs.declared.kinds.Access.TheVariants.{Number, Pointer}
 use Rattle.block_memory.specs.declared.kinds.BlockKind.{BlockKind}
 use Rattle.block_memory.specs.declared.kinds.BlockKind.TheVariants.{Heap}
-use Rattle.memory_cells.specs.declared.pointer.Ptr.{Ptr}
-use Rattle.memory_cells.specs.declared.pointer.Ptr.TheVariants as P
+use Rattle.memory_words.specs.declared.cell_words.pointer.Ptr.{Ptr}
+use Rattle.memory_words.specs.declared.cell_words.pointer.Ptr.TheVariants as P
 use Rattle.block_memory.specs.Accesses.{must, place}
 use Rattle.block_memory.specs.Blocks.{Memory, kind, is_live, size, block, cells, cells_in, with_cells}
 use Rattle.block_memory.specs.Held.{bytes_of}
@@ -23,14 +24,14 @@ use Rattle.block_memory.specs.Ranges as Ranges
 use Rattle.block_memory.specs.Ranges.{do_overlap}
 use Rattle.block_memory.specs.Tested as Tests
 use Rattle.block_memory.specs.Tested.{Tested}
-use Rattle.runs.specs.Doing as Doing
-use Rattle.runs.specs.Doing.{Rest, Doing, ◌>>=◌, ◌>>◌, pure, is_undefined, tested, memory_now, with_memory, note}
-use Rattle.runs.specs.Events.{Event, output_of, calls_of, entries_of, begins_of, loaded, stored, allocated, freed}
-use Rattle.runs.specs.Library as Library
-use Rattle.runs.specs.Scalars.{width_of, load_in, store_in, note_if, note_in, load, store}
-use Rattle.runs.specs.declared.value.Value.{Value}
-use Rattle.runs.specs.declared.value.Value.TheVariants.{Pointer as Address}
-use Rattle.runs.specs.Worlds.{World, End, out_of_room, greatest_live, live_bytes}
+use Rattle.block_memory.specs.RunWorlds.Doing as Doing
+use Rattle.block_memory.specs.RunWorlds.Doing.{Rest, Doing, ◌>>=◌, ◌>>◌, pure, is_undefined, tested, memory_now, with_memory, note}
+use Rattle.block_memory.specs.RunWorlds.Events.{Event, output_of, calls_of, entries_of, begins_of, loaded, stored, allocated, freed}
+use Rattle.block_memory.specs.RunWorlds.Library as Library
+use Rattle.block_memory.specs.RunWorlds.Scalars.{width_of, load_in, store_in, note_if, note_in, load, store}
+use Rattle.block_memory.specs.declared.run_worlds.value.Value.{Value}
+use Rattle.block_memory.specs.declared.run_worlds.value.Value.TheVariants.{Pointer as Address}
+use Rattle.block_memory.specs.RunWorlds.Worlds.{World, End, out_of_room, greatest_live, live_bytes}
 use Rattle.c_meaning.specs.Frames.{Frame}
 use Rattle.source_steps.specs.Cores as Cores
 use Rattle.source_steps.specs.Cores.{Core, Does, done, and_then}

@@ -2,9 +2,9 @@
 use Rattle.std.proofs.Common.{◌≡◌, refl, sym, ap, ◌∙◌, inl, inr, ℕ, zero, suc, ◌≤◌, ◌<◌, List, [], ◌∷◌, ◌++◌, arith}
 use Rattle.std.proofs.lemmas.List.{append-nil, append_assoc}
 use Rattle.c_typed.specs.Programs.{ProgramData}
-use Rattle.runs.specs.Events.{Call, putting, getting}
+use Rattle.block_memory.specs.RunWorlds.Events.{Call, putting, getting}
 use Rattle.c_meaning.specs.Longer.{output_in, rest_in}
-use Rattle.source_machine.proofs.Sizes.{of_work}
+use Rattle.source_steps.proofs.MachineMoves.Sizes.{of_work}
 use Rattle.source_steps.specs.States.{State}
 use Rattle.source_steps.specs.Ahead.{advanced}
 use Rattle.source_steps.specs.declared.ends.Final.{Final}

@@ -3,21 +3,22 @@ use Rattle.std.proofs.Common.{◌≡◌, refl, ap, ◌∙◌, ℕ, Bool, true, f
 use Rattle.lay_base.specs.declared.faults.UndefinedKind.{UndefinedKind}
 use Rattle.lay_base.specs.declared.place.Place.{Place}
 use Rattle.block_memory.specs.Tested.{Tested}
-use Rattle.runs.specs.Doing.{Rest, Doing, ◌>>=◌, pure, is_undefined, tested}
-use Rattle.runs.specs.Events.{Event, output_of, calls_of}
-use Rattle.runs.specs.Worlds.{End}
-use Rattle.runs.specs.declared.value.Value.{Value}
+use Rattle.block_memory.specs.RunWorlds.Doing.{Rest, Doing, ◌>>=◌, pure, is_undefined, tested}
+use Rattle.block_memory.specs.RunWorlds.Events.{Event, output_of, calls_of}
+use Rattle.block_memory.specs.RunWorlds.Worlds.{End}
+use Rattle.block_memory.specs.declared.run_worlds.value.Value.{Value}
 use Rattle.c_meaning.specs.Frames.{Frame}
 use Rattle.c_meaning.specs.declared.frame.Spot.{Spot}
 use Rattle.c_meaning.specs.Outcomes.{Outcome, comes, over, with_rest}
-use Rattle.source_machine.specs.Actions as Machine_actions
-use Rattle.source_machine.specs.Items.{Stack, Work}
-use Rattle.source_machine.specs.declared.items.Operand.TheVariants as O
-use Rattle.source_machine.specs.Steps as Machine
-use Rattle.source_machine.specs.Steps.{Left}
+use Rattle.source_steps.specs.MachineMoves.Actions as Machine_actions
+use Rattle.source_steps.specs.MachineMoves.Items.{Stack, Work}
+use Rattle.source_steps.specs.declared.machine_moves.Operand.TheVariants as O
+use Rattle.source_steps.specs.MachineMoves.Steps as Machine
+use Rattle.source_steps.specs.MachineMoves.Steps.{Left}
 use Rattle.source_steps.specs.Cores as Cores
 use Rattle.source_steps.specs.Cores.{Core, Does, done, behind, and_then}
-use Rattle.source_steps.specs.States.{State, Step, goes, undefined, stuck, with_stack, with_core, with_value, with_any, with_spot, finding, in_core, doing_in, changing}
+use Rattle.source_steps.specs.States.{State, Step, goes, undefined, stuck, with_stack, with_core, with_value, with_any, with_spot, finding, in_core, doing_in}
+use Rattle.source_steps.specs.States.{changing}
 use Rattle.source_steps.specs.declared.ends.Final.{Final}
 use Rattle.source_steps.specs.declared.ends.Final.TheVariants.{Undefined}
 use Rattle.source_steps.specs.declared.ends.Moved.{Moved}

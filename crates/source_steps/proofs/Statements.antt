@@ -1,32 +1,38 @@
 -- Statements and the way out of them do the same.
 use Rattle.std.proofs.Common.{ℕ, zero, suc, List, [], ◌∷◌, map, replicate, slice_get, Option, Some, None}
+use Rattle.lay_base.specs.declared.faults.UndefinedKind.TheVariants as K
+use Rattle.lay_base.specs.declared.place.Place.{Place}
 use Rattle.c_typed.specs.declared.program.Local.{Local}
 use Rattle.c_typed.specs.Programs.{ProgramData}
 use Rattle.c_typed.specs.Trees as T
 use Rattle.c_typed.specs.Trees.{Expression, Part as InitialPart, PartValue, Initializer, Statement, Statements, Arms}
-use Rattle.memory_cells.specs.declared.cell.Cell.TheVariants.{Byte}
-use Rattle.runs.specs.Doing.{◌>>=◌, ◌>>◌}
+use Rattle.memory_words.specs.declared.cell_words.cell.Cell.TheVariants.{Byte}
+use Rattle.block_memory.specs.RunWorlds.Doing.{◌>>=◌, ◌>>◌}
+use Rattle.block_memory.specs.declared.run_worlds.way.Way.{Way}
+use Rattle.block_memory.specs.declared.run_worlds.way.Way.TheVariants.{Normally, ByBreak, ByContinue, ByReturn}
 use Rattle.c_meaning.specs.Frames as Frames
 use Rattle.c_meaning.specs.Frames.{Frame}
 use Rattle.c_meaning.specs.Program.{size_at}
 use Rattle.c_meaning.specs.declared.frame.Slot.{Slot}
 use Rattle.c_meaning.specs.declared.frame.Slot.TheVariants.{ByName, InBlock}
-use Rattle.c_meaning.specs.declared.frame.Way.{Way}
-use Rattle.c_meaning.specs.declared.frame.Way.TheVariants.{Normally, ByBreak, ByContinue, ByReturn}
 use Rattle.c_meaning.specs.Run.{result_of}
-use Rattle.source_machine.specs.Items as I
-use Rattle.source_machine.specs.Items.{Context, Loop, LoopBehind, Item, Work, executing, executing_all, entering, repeating, repeating_behind, ending, framing, unwinding}
-use Rattle.source_machine.specs.Steps as Steps
-use Rattle.source_machine.specs.Steps.{Left}
-use Rattle.source_machine.specs.declared.items.Operand.TheVariants as O
+use Rattle.c_meaning.specs.Statements.{initial_place}
+use Rattle.source_steps.specs.MachineMoves.Items as I
+use Rattle.source_steps.specs.MachineMoves.Items.{Context, Loop, LoopBehind, Item, Work, executing, executing_all, entering, repeating, repeating_behind}
+use Rattle.source_steps.specs.MachineMoves.Items.{ending, framing}
+use Rattle.source_steps.specs.MachineMoves.Items.{unwinding}
+use Rattle.source_steps.specs.MachineMoves.Steps as Steps
+use Rattle.source_steps.specs.MachineMoves.Steps.{Left}
+use Rattle.source_steps.specs.declared.machine_moves.Operand.TheVariants as O
 use Rattle.source_steps.specs.Cores.{Core, done}
 use Rattle.source_steps.specs.Locals.{slot, finish_all, emptied}
 use Rattle.source_steps.specs.States.{State, goes, doing, with_core}
-use Rattle.source_steps.specs.Statements.{closed, fills, fills_all, initial_in, initial_by_name, initial, declared, begun, tests, repeats, begun_behind, executed, executed_all, entered, passed, unwound}
+use Rattle.source_steps.specs.Statements.{dead_at, closed, fills, fills_all, initial_in, initial_by_name, initial, declared, begun, tests, repeats}
+use Rattle.source_steps.specs.Statements.{begun_behind, executed, executed_all, entered, passed, unwound}
 use Rattle.source_steps.proofs.Calls.{begun_part, leave_part}
 use Rattle.source_steps.proofs.Locals.{begin_all_part, finish_all_part, emptied_part}
 use Rattle.source_steps.proofs.Memories.{now_put_part}
-use Rattle.source_steps.proofs.Parts.{Part, Same, same_goes, same_doing, same_behind}
+use Rattle.source_steps.proofs.Parts.{Part, Same, same_goes, same_undefined, same_doing, same_behind}
 
 module _ (p : ProgramData) where
   -- ---- initializers
@@ -52,11 +58,15 @@ module _ (p : ProgramData) where
   by_name_same x (T.whole_record q) s = same_goes s _ _
   by_name_same x (T.parts all) s = same_goes s _ _
 
+  dead_at_same : (place : Option Place) (s : State) → Same s (Steps.dead_at place s.work s.stack) (dead_at place s)
+  dead_at_same None s = same_goes s _ _
+  dead_at_same (Some place) s = same_undefined K.Dead place s
+
   initial_same : (x size : ℕ) (i : Initializer ℕ) (own : Option Slot) (s : State) → Same s (Steps.initial p x size i own s.work s.stack) (initial p x size i own s)
   initial_same x size i (Some (InBlock (Some b))) s = initial_in_same b size i s
-  initial_same x size i (Some (InBlock None)) s = by_name_same x i s
+  initial_same x size i (Some (InBlock None)) s = dead_at_same (initial_place i) s
   initial_same x size i (Some (ByName v)) s = by_name_same x i s
-  initial_same x size i None s = by_name_same x i s
+  initial_same x size i None s = dead_at_same (initial_place i) s
 
   emptied_now_part : (x t : ℕ) (c : Core) → Part c (Frames.slot_now x >>= Frames.emptied p x t) (done tt (emptied x (size_at p t) (slot c x) c))
   emptied_now_part x t c = record { gives = (emptied_part p x t (slot c x) c).gives }
@@ -112,8 +122,8 @@ module _ (p : ProgramData) where
 
   -- ---- the way out
 
-  pub closed_same : (caller : Frame) (way : Way) (s : State) → Same s (Steps.closed p caller way s.work s.stack) (goes (closed caller way s))
-  closed_same caller way s = same_behind {next = λ a. Steps.goes s.work (O.Value (result_of way) ∷ s.stack)} _ (leave_part caller s.core) (same_goes _ _ _)
+  pub closed_same : (f : ℕ) (caller : Frame) (way : Way) (s : State) → Same s (Steps.closed p f caller way s.work s.stack) (goes (closed p f caller way s))
+  closed_same f caller way s = same_behind {next = λ a. Steps.goes s.work (O.Value (result_of p f way) ∷ s.stack)} _ (leave_part caller s.core) (same_goes _ _ _)
 
   pub ended_same : (locals : List ℕ) (work : Work) (s : State)
       → Same s (Frames.finish_all p locals >> Steps.goes work s.stack) (goes (record { work = work; stack = s.stack; core = finish_all locals s.core }))
@@ -121,14 +131,14 @@ module _ (p : ProgramData) where
 
   passed_same : (way : Way) (item : Item) (s : State) → Same s (Steps.passed p way item s.work s.stack) (passed p way item s)
   passed_same Normally item s = same_goes s _ _
-  passed_same ByBreak (framing caller) s = closed_same caller ByBreak s
+  passed_same ByBreak (framing f caller) s = closed_same f caller ByBreak s
   passed_same ByBreak (ending locals) s = ended_same locals _ s
   passed_same ByBreak item s = same_goes s _ _
-  passed_same ByContinue (framing caller) s = closed_same caller ByContinue s
+  passed_same ByContinue (framing f caller) s = closed_same f caller ByContinue s
   passed_same ByContinue (ending locals) s = ended_same locals _ s
   passed_same ByContinue (repeating l) s = repeats_same l.step l s
   passed_same ByContinue item s = same_goes s _ _
-  passed_same (ByReturn v) (framing caller) s = closed_same caller (ByReturn v) s
+  passed_same (ByReturn v) (framing f caller) s = closed_same f caller (ByReturn v) s
   passed_same (ByReturn v) (ending locals) s = ended_same locals _ s
   passed_same (ByReturn v) item s = same_goes s _ _
 

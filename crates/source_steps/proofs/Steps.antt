@@ -1,14 +1,14 @@
 -- Each step without the trace is a step of the machine.
 use Rattle.std.proofs.Common.{refl, [], ◌∷◌, ◌++◌}
 use Rattle.c_typed.specs.Programs.{ProgramData}
-use Rattle.c_meaning.specs.Operators.{is_true}
-use Rattle.c_meaning.specs.declared.frame.Way.TheVariants.{Normally}
-use Rattle.source_machine.specs.Items as I
-use Rattle.source_machine.specs.Items.{Item, Stack, Work, acting, evaluating, using, spotting, gathering, gathered, framing, executing, executing_all, entering, tested, repeating}
-use Rattle.source_machine.specs.Items.{repeating_behind, ending, unwinding}
-use Rattle.source_machine.specs.Steps as Machine
-use Rattle.source_machine.specs.Steps.{Left}
-use Rattle.source_machine.specs.declared.items.Operand.TheVariants as O
+use Rattle.source_steps.specs.MachineMoves.Items as I
+use Rattle.source_steps.specs.MachineMoves.Items.{Item, Stack, Work, acting, evaluating, using, spotting, gathering, gathered, framing, executing}
+use Rattle.source_steps.specs.MachineMoves.Items.{executing_all, entering}
+use Rattle.source_steps.specs.MachineMoves.Items.{tested, repeating}
+use Rattle.source_steps.specs.MachineMoves.Items.{repeating_behind, ending, unwinding}
+use Rattle.source_steps.specs.MachineMoves.Steps as Machine
+use Rattle.source_steps.specs.MachineMoves.Steps.{Left}
+use Rattle.source_steps.specs.declared.machine_moves.Operand.TheVariants as O
 use Rattle.source_steps.specs.States.{State, with_stack}
 use Rattle.source_steps.specs.Steps as Steps
 use Rattle.source_steps.specs.Agreeing.{StepAgrees}
@@ -16,7 +16,10 @@ use Rattle.source_steps.proofs.Actions.{acts_performed}
 use Rattle.source_steps.proofs.Expressions.{located_same, gathers_same, valued_same, used_same}
 use Rattle.source_steps.proofs.Locals.{begin_all_part}
 use Rattle.source_steps.proofs.Parts.{Same, same_goes, same_stuck, same_doing, same_taking, same_either}
-use Rattle.source_steps.proofs.Statements.{fills_all_same, begun_same, tests_same, repeats_same, begun_behind_same, executed_same, executed_all_same, entered_same, closed_same, ended_same, unwound_same}
+use Rattle.source_steps.proofs.Statements.{fills_all_same, begun_same, tests_same, repeats_same, begun_behind_same, executed_same, executed_all_same}
+use Rattle.source_steps.proofs.Statements.{entered_same, closed_same, ended_same, unwound_same}
+use Rattle.block_memory.specs.RunWorlds.Operators.{is_true}
+use Rattle.block_memory.specs.declared.run_worlds.way.Way.TheVariants.{Normally}
 
 module _ (p : ProgramData) where
   enacted_same : (item : Item) (s : State) → Same s (Machine.enacted p item s.work s.stack) (Steps.enacted p item s)
@@ -29,7 +32,7 @@ module _ (p : ProgramData) where
   enacted_same (I.choosing y z) s = same_taking s.stack s _ (λ v st. same_either (is_true v) (same_goes _ _ _) (same_goes _ _ _))
   enacted_same (gathering callee done rest) s = gathers_same p callee done rest s
   enacted_same (gathered callee done rest) s = same_taking s.stack s _ (λ v st. gathers_same p callee (done ++ v ∷ []) rest (with_stack st s))
-  enacted_same (framing caller) s = closed_same p caller Normally s
+  enacted_same (framing f caller) s = closed_same p f caller Normally s
   enacted_same (executing c l one) s = executed_same p c l one s
   enacted_same (executing_all c l all) s = executed_all_same p c l all s
   enacted_same (entering c l arm arms) s = entered_same p c l arm arms s

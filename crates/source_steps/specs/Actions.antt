@@ -8,19 +8,19 @@ use Rattle.c_typed.specs.declared.operators.BinaryOp.{BinaryOp}
 use Rattle.c_typed.specs.declared.operators.StepOp.{StepOp}
 use Rattle.c_typed.specs.Conversions.{number_of}
 use Rattle.c_typed.specs.Programs.{ProgramData}
-use Rattle.memory_cells.specs.declared.pointer.Ptr.TheVariants as P
+use Rattle.memory_words.specs.declared.cell_words.pointer.Ptr.TheVariants as P
 use Rattle.block_memory.specs.Tested.{Tested}
-use Rattle.runs.specs.declared.value.Value.{Value}
-use Rattle.runs.specs.declared.value.Value.TheVariants.{Pointer}
-use Rattle.runs.specs.Scalars.{word_of, pointer_of}
-use Rattle.c_meaning.specs.Expressions.{part_of, is_subscript, moved_by, field_in}
+use Rattle.block_memory.specs.declared.run_worlds.value.Value.{Value}
+use Rattle.block_memory.specs.declared.run_worlds.value.Value.TheVariants.{Pointer}
+use Rattle.block_memory.specs.RunWorlds.Scalars.{word_of, pointer_of}
+use Rattle.block_memory.specs.RunWorlds.Operators.{converted, is_true, flag, unary, binary, moved, distance, compared, updated, next}
+use Rattle.c_meaning.specs.Expressions.{part_in, is_subscript, field_in}
 use Rattle.c_meaning.specs.declared.frame.Slot.TheVariants.{ByName}
 use Rattle.c_meaning.specs.declared.frame.Spot.{Spot}
 use Rattle.c_meaning.specs.declared.frame.Spot.TheVariants.{Kept, Placed}
-use Rattle.c_meaning.specs.Operators.{converted, is_true, flag, unary, binary, moved, distance, compared, updated, next}
 use Rattle.c_meaning.specs.Program.{type_at, element_size, access_at}
-use Rattle.source_machine.specs.declared.items.Action.{Action}
-use Rattle.source_machine.specs.declared.items.Action.TheVariants as A
+use Rattle.source_steps.specs.declared.machine_moves.Action.{Action}
+use Rattle.source_steps.specs.declared.machine_moves.Action.TheVariants as A
 use Rattle.source_steps.specs.Locals.{with_slot, fetch, put}
 use Rattle.source_steps.specs.Memories.{allocate, copy_record}
 use Rattle.source_steps.specs.States.{State, Step, goes, undefined, pushed, given, led, with_core, taking, taking_any, taking_spot, finding, doing_in, changing}
@@ -58,13 +58,14 @@ lies_at v = Placed (pointer_of v)
 abbrev pub through : Place → Value → (by : ℤ) → State → Step
 through at v by s = finding at (field_in s.core.memory (pointer_of v) by) s (λ q s. goes (led (Placed q) s))
 
--- an element of an array itself
-abbrev pub element : (size : ℕ) → ℤ → Spot → Spot
-element size i (Placed q) = Placed (moved_by (i *ℤ pos size) q)
-element size i (Kept x) = Kept x
+-- a field or an element so many bytes on in what lies there
+abbrev pub part_of : Place → (by : ℤ) → Spot → State → Step
+part_of at by (Placed q) s = finding at (part_in s.core.memory q by) s (λ q s. goes (led (Placed q) s))
+part_of at by (Kept x) s = undefined K.Dead at s
 
+-- an element of an array itself
 abbrev pub element_of : Place → (length size : ℕ) → (addressed : Bool) → Spot → ℤ → State → Step
-element_of at n size addressed q i s = if is_subscript n addressed i then goes (led (element size i q) s) else undefined K.Subscript at s
+element_of at n size addressed q i s = if is_subscript n addressed i then part_of at (i *ℤ pos size) q s else undefined K.Subscript at s
 
 -- ---- assignments
 
@@ -107,7 +108,7 @@ module _ (p : ProgramData) where
   performed A.Dereferencing s = taking s (λ v s. goes (led (lies_at v) s))
   performed (A.Indexing at size left right) s = taking s (λ w s. taking s (λ v s.
       finding at (moved s.core.memory Add size left v right w) s (λ q s. goes (led (lies_at q) s))))
-  performed (A.FieldOf offset) s = taking_spot s (λ q s. goes (led (part_of offset q) s))
+  performed (A.FieldOf at offset) s = taking_spot s (λ q s. part_of at (pos offset) q s)
   performed (A.FieldAt at offset) s = taking s (λ v s. through at v (pos offset) s)
   performed (A.FieldOfElement at right size offset) s = taking s (λ w s. taking s (λ v s.
       through at v (number_of right (word_of w) *ℤ pos size +ℤ pos offset) s))

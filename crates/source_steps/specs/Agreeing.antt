@@ -1,14 +1,14 @@
 -- When a step without the trace is a step of the machine.
 use Rattle.std.specs.Prelude.{◌≡◌, ℕ, ◌+◌, ◌-◌, ◌^◌, ◌≤◌, ◌<◌, true, List, [], ◌∷◌, ◌++◌, Some, slice_get}
 use Rattle.c_typed.specs.Programs.{ProgramData}
-use Rattle.runs.specs.Events.{Event, Call, putting, getting, output_of, calls_of, entries_of, begins_of}
-use Rattle.runs.specs.declared.value.Value.{Value}
-use Rattle.runs.specs.declared.value.Value.TheVariants.{Word}
-use Rattle.runs.specs.Worlds.{World, End, ends, goes_on, undefined, out_of_room, live_bytes}
+use Rattle.block_memory.specs.RunWorlds.Events.{Event, Call, putting, getting, output_of, calls_of, entries_of, begins_of}
+use Rattle.block_memory.specs.declared.run_worlds.value.Value.{Value}
+use Rattle.block_memory.specs.declared.run_worlds.value.Value.TheVariants.{Word}
+use Rattle.block_memory.specs.RunWorlds.Worlds.{World, End, ends, goes_on, undefined, out_of_room, live_bytes}
 use Rattle.c_meaning.specs.Frames.{Frame}
 use Rattle.c_meaning.specs.Outcomes.{Outcome, comes, over}
-use Rattle.source_machine.specs.Moves.{Moves}
-use Rattle.source_machine.specs.Steps.{Left}
+use Rattle.source_steps.specs.MachineMoves.Moves.{Moves}
+use Rattle.source_steps.specs.MachineMoves.Steps.{Left}
 use Rattle.source_steps.specs.Cores.{Core}
 use Rattle.source_steps.specs.States.{State, given}
 use Rattle.source_steps.specs.declared.ends.Final.{Final}

@@ -1,15 +1,16 @@
 -- Steps that go ahead: where an expression is evaluated in one step, what comes behind it is done at once, as are the first statements of a block, and
 -- the way to an arm. They come to what the steps one by one come to.
 use Rattle.std.specs.Prelude.{ℕ, zero, suc, ◌+◌, List, [], ◌∷◌, Option, Some, None, if◌then◌else◌}
-use Rattle.c_counts.specs.Loops.{loops_in, loops_in_all}
+use Rattle.c_typed.specs.RunCounts.Loops.{loops_in, loops_in_all}
 use Rattle.c_typed.specs.Programs.{ProgramData}
 use Rattle.c_typed.specs.Trees as T
 use Rattle.c_typed.specs.Trees.{Expression, Statement, Statements, Arms}
-use Rattle.runs.specs.Scalars.{word_of}
-use Rattle.runs.specs.declared.value.Value.{Value}
-use Rattle.c_meaning.specs.Operators.{is_true}
-use Rattle.c_meaning.specs.declared.frame.Way.TheVariants.{ByReturn}
-use Rattle.source_machine.specs.Items.{Context, Loop, Item, Work, evaluating, using, executing, executing_all, entering, looping, repeating, ending, unwinding}
+use Rattle.block_memory.specs.RunWorlds.Scalars.{word_of}
+use Rattle.block_memory.specs.declared.run_worlds.value.Value.{Value}
+use Rattle.block_memory.specs.RunWorlds.Operators.{is_true}
+use Rattle.block_memory.specs.declared.run_worlds.way.Way.TheVariants.{ByReturn}
+use Rattle.source_steps.specs.MachineMoves.Items.{Context, Loop, Item, Work, evaluating, using, executing, executing_all, entering, looping, repeating, ending}
+use Rattle.source_steps.specs.MachineMoves.Items.{unwinding}
 use Rattle.source_steps.specs.Calls.{begun as begun_in}
 use Rattle.source_steps.specs.Cores.{Core}
 use Rattle.source_steps.specs.Direct.{at_once}

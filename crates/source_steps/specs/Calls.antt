@@ -5,11 +5,11 @@ use Rattle.lay_base.specs.declared.place.Place.{Place}
 use Rattle.c_typed.specs.declared.program.Local.{Local}
 use Rattle.c_typed.specs.Programs.{ProgramData}
 use Rattle.block_memory.specs.declared.kinds.Access.{Access}
-use Rattle.memory_cells.specs.declared.pointer.Ptr.TheVariants as P
-use Rattle.runs.specs.declared.value.Value.{Value}
-use Rattle.runs.specs.Doing.{less_deep}
-use Rattle.runs.specs.Scalars.{store_in}
-use Rattle.runs.specs.Worlds.{greatest_depth}
+use Rattle.memory_words.specs.declared.cell_words.pointer.Ptr.TheVariants as P
+use Rattle.block_memory.specs.declared.run_worlds.value.Value.{Value}
+use Rattle.block_memory.specs.RunWorlds.Doing.{less_deep}
+use Rattle.block_memory.specs.RunWorlds.Scalars.{store_in}
+use Rattle.block_memory.specs.RunWorlds.Worlds.{greatest_depth}
 use Rattle.c_meaning.specs.declared.frame.Slot.{Slot}
 use Rattle.c_meaning.specs.declared.frame.Slot.TheVariants.{ByName, InBlock}
 use Rattle.c_meaning.specs.Frames.{Frame}

@@ -1,13 +1,13 @@
 -- Where a run has come, step by step.
 use Rattle.std.specs.Prelude.{◌≡◌, ℕ, zero, ◌+◌, true, List, [], ◌++◌, Some, slice_get}
 use Rattle.c_typed.specs.Programs.{ProgramData}
-use Rattle.runs.specs.Events.{Event, Call, output_of, calls_of}
-use Rattle.runs.specs.Worlds.{live_bytes}
+use Rattle.block_memory.specs.RunWorlds.Events.{Event, Call, output_of, calls_of}
+use Rattle.block_memory.specs.RunWorlds.Worlds.{live_bytes}
 use Rattle.c_meaning.specs.Program.{initial_memory}
-use Rattle.c_meaning.specs.Run.{RunEnd, ended, went_on, was_undefined, no_room, run_of, kept}
-use Rattle.c_meaning.specs.Longer.{world_of, GoesOnFrom}
-use Rattle.source_machine.specs.Finish.{finish}
-use Rattle.source_machine.specs.Steps.{started_with}
+use Rattle.c_meaning.specs.Run.{RunEnd, ended, went_on, was_undefined, no_room, run_of, kept, trace_of}
+use Rattle.c_meaning.specs.Longer.{GoesOnFrom}
+use Rattle.source_steps.specs.MachineMoves.Finish.{finish}
+use Rattle.source_steps.specs.MachineMoves.Steps.{started_with}
 use Rattle.source_steps.specs.Cores.{Core}
 use Rattle.source_steps.specs.Counting.{Counting}
 use Rattle.source_steps.specs.States.{State}
@@ -63,10 +63,6 @@ Comes p input turns moved s output rest calls =
     Came p input turns (state_behind moved rest s) (output_with moved output) (input_behind moved rest) (calls_with moved calls)
 
 -- ---- what is told of the end
-
--- of the run within the room of the interpreter
-abbrev pub trace_of : ProgramData → (input : List ℕ) → (turns : ℕ) → List Event
-trace_of p input turns = (world_of (run_of p input turns true)).trace
 
 abbrev pub seen_as : Final → (output rest : List ℕ) → RunEnd
 seen_as (Ends status) output rest = ended output status rest

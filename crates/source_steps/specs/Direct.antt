@@ -1,6 +1,6 @@
 -- Expressions that are evaluated in one step: all that they need is at hand, as it is of numbers, locals, elements and fields, and nothing is called. Where a
 -- part is not at hand, or is undefined, there is no value here, and the expression is evaluated step by step.
-use Rattle.std.specs.Prelude.{ℕ, ℤ, pos, ◌+ℤ◌, ◌*ℤ◌, ◌^◌, nat_lt, not, Bool, true, false, if◌then◌else◌, Option, Some, None, Ok, Err}
+use Rattle.std.specs.Prelude.{ℕ, ℤ, pos, ◌+ℤ◌, ◌*ℤ◌, not, Bool, true, false, if◌then◌else◌, Option, Some, None, Ok, Err}
 use Rattle.c_types.specs.Layouts.{offset_of}
 use Rattle.c_types.specs.Types.{CType, void}
 use Rattle.c_typed.specs.Constants.{ty, kind_of}
@@ -12,17 +12,18 @@ use Rattle.c_typed.specs.Typed.{path_ty}
 use Rattle.c_typed.specs.declared.operators.BinaryOp.{BinaryOp}
 use Rattle.c_typed.specs.declared.operators.PointerOp.TheVariants.{Add}
 use Rattle.c_typed.specs.declared.operators.StepOp.{StepOp}
-use Rattle.memory_cells.specs.declared.pointer.Ptr.TheVariants as P
+use Rattle.memory_words.specs.declared.cell_words.pointer.Ptr.TheVariants as P
+use Rattle.block_memory.specs.Blocks.{Memory}
 use Rattle.block_memory.specs.Tested.{Tested}
-use Rattle.runs.specs.Scalars.{word_of, pointer_of}
-use Rattle.runs.specs.declared.value.Value.{Value}
-use Rattle.runs.specs.declared.value.Value.TheVariants.{Word, Pointer}
-use Rattle.c_meaning.specs.Expressions.{part_of, is_subscript, field_in}
-use Rattle.c_meaning.specs.Operators.{converted, is_true, flag, unary, binary, moved, distance, compared, updated, next}
+use Rattle.block_memory.specs.RunWorlds.Scalars.{word_of, pointer_of}
+use Rattle.block_memory.specs.declared.run_worlds.value.Value.{Value}
+use Rattle.block_memory.specs.declared.run_worlds.value.Value.TheVariants.{Word, Pointer}
+use Rattle.block_memory.specs.RunWorlds.Operators.{converted, is_true, flag, unary, binary, moved, distance, compared, updated, next}
+use Rattle.c_meaning.specs.Expressions.{part_in, is_subscript, field_in}
 use Rattle.c_meaning.specs.Program.{type_at, size_at, element_size, length_of, access_at}
 use Rattle.c_meaning.specs.declared.frame.Spot.{Spot}
-use Rattle.c_meaning.specs.declared.frame.Spot.TheVariants.{Placed}
-use Rattle.source_steps.specs.Actions.{address_of, lies_at, element}
+use Rattle.c_meaning.specs.declared.frame.Spot.TheVariants.{Kept, Placed}
+use Rattle.source_steps.specs.Actions.{address_of, lies_at}
 use Rattle.source_steps.specs.Cores.{Core}
 use Rattle.source_steps.specs.Locals.{local_spot, fetch, put}
 
@@ -37,19 +38,19 @@ abbrev pub if_found : {A : Type 0} → Tested A → Option A
 if_found (Ok x) = Some x
 if_found (Err kind) = None
 
--- where its offset is a number of 32 bits
-abbrev pub if_near : Spot → Option Spot
-if_near (Placed (P.Block b at)) = if nat_lt at (2 ^ 32) then Some (Placed (P.Block b at)) else None
-if_near q = Some q
-
 -- converted to a type, where it has a value then
 abbrev pub if_converted : CType → Value → Option Value
 if_converted void v = None
 if_converted t v = Some (converted t v)
 
+-- a field or an element so many bytes on in what lies there
+abbrev pub if_part : Memory → (by : ℤ) → Spot → Option Spot
+if_part m by (Placed q) = and_if (if_found (part_in m q by)) (λ r. Some (Placed r))
+if_part m by (Kept x) = None
+
 -- an element of an array itself
-abbrev pub if_element : (length size : ℕ) → (addressed : Bool) → Spot → ℤ → Option Spot
-if_element n size addressed q i = if is_subscript n addressed i then if_near (element size i q) else None
+abbrev pub if_element : Memory → (length size : ℕ) → (addressed : Bool) → Spot → ℤ → Option Spot
+if_element m n size addressed q i = if is_subscript n addressed i then if_part m (i *ℤ pos size) q else None
 
 -- ---- a value, and what there is then
 
@@ -105,14 +106,14 @@ module _ (p : ProgramData) where
         (if_found (moved c.memory Add (size_at p t) (kind_of (type_at p (ty e))) v (kind_of (type_at p (ty i))) w)) (λ q. Some (lies_at q))))
     direct_step c t addressed (T.member q r field) = direct_member c q (offset_of p.records r field)
     direct_step c t addressed (T.element q i) = and_if (direct_spot c false q) (λ s. and_if (direct c i) (λ v.
-        if_element (length_of (type_at p (path_ty q))) (size_at p t) addressed s (number_of (kind_of (type_at p (ty i))) (word_of v))))
+        if_element c.memory (length_of (type_at p (path_ty q))) (size_at p t) addressed s (number_of (kind_of (type_at p (ty i))) (word_of v))))
 
     -- a field at an offset of what a path leads to
     pub direct_member : Core → Path ℕ → (offset : ℕ) → Option Spot
     direct_member c (path u b (T.deref e)) offset = and_if (direct c e) (λ v. and_if (if_found (field_in c.memory (pointer_of v) (pos offset))) (λ q. Some (Placed q)))
     direct_member c (path u b (T.index e i)) offset = and_if (direct c e) (λ v. and_if (direct c i) (λ w. and_if
         (if_found (field_in c.memory (pointer_of v) (number_of (kind_of (type_at p (ty i))) (word_of w) *ℤ pos (size_at p u) +ℤ pos offset))) (λ q. Some (Placed q))))
-    direct_member c (path u b step) offset = and_if (direct_step c u false step) (λ s. if_near (part_of offset s))
+    direct_member c (path u b step) offset = and_if (direct_step c u false step) (λ s. if_part c.memory (pos offset) s)
 
   -- ---- with an assignment at the top
 

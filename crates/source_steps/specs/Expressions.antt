@@ -12,20 +12,21 @@ use Rattle.c_typed.specs.Programs.{ProgramData, FunctionData}
 use Rattle.c_typed.specs.Trees as T
 use Rattle.c_typed.specs.Trees.{Expression, expression, Node, Path, path, PathNode, Expressions, OptionalExpression, Statement}
 use Rattle.c_typed.specs.Typed.{at_of, path_ty}
-use Rattle.memory_cells.specs.declared.pointer.Ptr.{Ptr}
-use Rattle.memory_cells.specs.declared.pointer.Ptr.TheVariants as P
-use Rattle.runs.specs.declared.value.Value.{Value}
-use Rattle.runs.specs.declared.value.Value.TheVariants.{Word, Pointer}
-use Rattle.runs.specs.Scalars.{word_of, pointer_of}
+use Rattle.memory_words.specs.declared.cell_words.pointer.Ptr.{Ptr}
+use Rattle.memory_words.specs.declared.cell_words.pointer.Ptr.TheVariants as P
+use Rattle.block_memory.specs.declared.run_worlds.value.Value.{Value}
+use Rattle.block_memory.specs.declared.run_worlds.value.Value.TheVariants.{Word, Pointer}
+use Rattle.block_memory.specs.RunWorlds.Scalars.{word_of, pointer_of}
 use Rattle.c_meaning.specs.declared.frame.Spot.TheVariants.{Placed}
 use Rattle.c_meaning.specs.Frames.{Frame, frame_of}
 use Rattle.c_meaning.specs.Program.{type_at, size_at, element_size, length_of, all_locals}
 use Rattle.c_meaning.specs.Run.{numbers}
-use Rattle.source_machine.specs.Items.{acting, using, evaluating, spotting, both_with, either_with, choosing, gathering, gathered, executing, ending, framing}
-use Rattle.source_machine.specs.Steps.{may_lack}
-use Rattle.source_machine.specs.declared.items.Action.TheVariants as A
-use Rattle.source_machine.specs.declared.items.Callee.{Callee}
-use Rattle.source_machine.specs.declared.items.Callee.TheVariants as C
+use Rattle.source_steps.specs.MachineMoves.Items.{acting, using, evaluating, spotting, both_with, either_with, choosing, gathering, gathered, executing, ending}
+use Rattle.source_steps.specs.MachineMoves.Items.{framing}
+use Rattle.source_steps.specs.MachineMoves.Steps.{may_lack}
+use Rattle.source_steps.specs.declared.machine_moves.Action.TheVariants as A
+use Rattle.source_steps.specs.declared.machine_moves.Callee.{Callee}
+use Rattle.source_steps.specs.declared.machine_moves.Callee.TheVariants as C
 use Rattle.source_steps.specs.Actions.{found}
 use Rattle.source_steps.specs.Calls.{enter, receive}
 use Rattle.source_steps.specs.Locals.{local_spot}
@@ -65,7 +66,7 @@ module _ (p : ProgramData) where
   started at f values g None caller s = undefined K.Call at s
   started at f values g (Some body) caller s = doing_in (receive p at 0 g.parameters values s.core) s (λ u s.
       goes (doing (executing (record { function = f; locals = all_locals g }) 0 body)
-      (doing (ending (numbers (length g.parameters))) (doing (framing caller) s))))
+      (doing (ending (numbers (length g.parameters))) (doing (framing f caller) s))))
 
   abbrev pub called_as : Place → (f : ℕ) → List Value → Option FunctionData → State → Step
   called_as at f values None s = undefined K.Call at s
@@ -96,7 +97,7 @@ module _ (p : ProgramData) where
   member_of at (path u b (T.deref e)) offset s = goes (doing (using e) (doing (acting (A.FieldAt at offset)) s))
   member_of at (path u b (T.index e i)) offset s =
       goes (doing (using e) (doing (using i) (doing (acting (A.FieldOfElement at (kind_of (type_at p (ty i))) (size_at p u) offset)) s)))
-  member_of at q offset s = goes (doing (spotting false q) (doing (acting (A.FieldOf offset)) s))
+  member_of at q offset s = goes (doing (spotting false q) (doing (acting (A.FieldOf at offset)) s))
 
   abbrev pub located_at : (t : ℕ) → (addressed : Bool) → Place → PathNode ℕ → State → Step
   located_at t addressed at (T.local x) s = finding at (local_spot x s.core) s (λ q s. goes (led q s))

@@ -12,3 +12,4 @@ pub mod Direct
 pub mod Ahead
 pub mod Agreeing
 pub mod Came
+pub mod MachineMoves

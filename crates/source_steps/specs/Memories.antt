@@ -3,23 +3,23 @@ use Rattle.std.specs.Prelude.{ℕ, ◌+◌, ◌-◌, ◌%◌, ◌^◌, Bool, tru
 use Rattle.std.specs.Int.{w32, cast_unsigned}
 use Rattle.lay_base.specs.declared.faults.RoomKind.TheVariants.{Live}
 use Rattle.lay_base.specs.declared.faults.UndefinedKind.TheVariants.{Dead}
-use Rattle.memory_cells.specs.declared.cell.Cell.{Cell}
-use Rattle.memory_cells.specs.declared.cell.Cell.TheVariants.{Byte}
+use Rattle.memory_words.specs.declared.cell_words.cell.Cell.{Cell}
+use Rattle.memory_words.specs.declared.cell_words.cell.Cell.TheVariants.{Byte}
 use Rattle.block_memory.specs.declared.kinds.BlockKind.{BlockKind}
 use Rattle.block_memory.specs.declared.kinds.BlockKind.TheVariants.{Heap}
-use Rattle.memory_cells.specs.declared.pointer.Ptr.{Ptr}
-use Rattle.memory_cells.specs.declared.pointer.Ptr.TheVariants as P
+use Rattle.memory_words.specs.declared.cell_words.pointer.Ptr.{Ptr}
+use Rattle.memory_words.specs.declared.cell_words.pointer.Ptr.TheVariants as P
 use Rattle.block_memory.specs.Blocks.{Memory, is_live, size, with_cells}
 use Rattle.block_memory.specs.Lifetimes as Lifetimes
 use Rattle.block_memory.specs.Lifetimes.{with_block, with_end}
 use Rattle.block_memory.specs.Ranges as Ranges
 use Rattle.block_memory.specs.Tested.{Tested, ◌>>=◌}
-use Rattle.runs.specs.declared.value.Value.{Value}
-use Rattle.runs.specs.declared.value.Value.TheVariants.{Word, Pointer}
-use Rattle.runs.specs.Worlds.{greatest_live}
+use Rattle.block_memory.specs.declared.run_worlds.value.Value.{Value}
+use Rattle.block_memory.specs.declared.run_worlds.value.Value.TheVariants.{Word, Pointer}
+use Rattle.block_memory.specs.RunWorlds.Worlds.{greatest_live}
+use Rattle.block_memory.specs.RunWorlds.LibraryCalls.{is_same_place}
 use Rattle.c_meaning.specs.declared.frame.Spot.{Spot}
 use Rattle.c_meaning.specs.declared.frame.Spot.TheVariants.{Placed}
-use Rattle.c_meaning.specs.Expressions.{is_same_place}
 use Rattle.source_steps.specs.Cores.{Core, Does, and_then, done}
 use Rattle.source_steps.specs.declared.ends.Final.TheVariants.{Room}
 

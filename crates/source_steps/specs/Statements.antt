@@ -1,39 +1,48 @@
 -- The first step of a statement, and the way out of one.
 use Rattle.std.specs.Prelude.{ℕ, zero, suc, ◌+◌, true, false, List, [], ◌∷◌, Option, Some, None, slice_get}
+use Rattle.lay_base.specs.declared.faults.UndefinedKind.TheVariants as K
+use Rattle.lay_base.specs.declared.place.Place.{Place}
 use Rattle.c_typed.specs.declared.program.Local.{Local}
 use Rattle.c_typed.specs.Constants.{ty}
 use Rattle.c_typed.specs.Programs.{ProgramData}
 use Rattle.c_typed.specs.Trees as T
 use Rattle.c_typed.specs.Trees.{Expression, Part, PartValue, Initializer, Statement, Statements, Arms}
 use Rattle.c_typed.specs.Typed.{at_of, path_ty, path_at}
+use Rattle.block_memory.specs.declared.run_worlds.way.Way.{Way}
+use Rattle.block_memory.specs.declared.run_worlds.way.Way.TheVariants.{Normally, ByBreak, ByContinue, ByReturn}
 use Rattle.c_meaning.specs.declared.frame.Slot.{Slot}
-use Rattle.c_meaning.specs.declared.frame.Slot.TheVariants.{InBlock}
-use Rattle.c_meaning.specs.declared.frame.Way.{Way}
-use Rattle.c_meaning.specs.declared.frame.Way.TheVariants.{Normally, ByBreak, ByContinue, ByReturn}
+use Rattle.c_meaning.specs.declared.frame.Slot.TheVariants.{ByName, InBlock}
 use Rattle.c_meaning.specs.Frames.{Frame}
-use Rattle.c_counts.specs.Loops.{loops_in, loops_in_all}
+use Rattle.c_typed.specs.RunCounts.Loops.{loops_in, loops_in_all}
 use Rattle.c_meaning.specs.Program.{size_at}
 use Rattle.c_meaning.specs.Run.{result_of}
-use Rattle.c_meaning.specs.Statements.{arm_of, default_arm, or_default}
-use Rattle.source_machine.specs.Items as I
-use Rattle.source_machine.specs.Items.{Context, Loop, LoopBehind, Item, Work, acting, evaluating, using, spotting, executing, executing_all, entering, repeating}
-use Rattle.source_machine.specs.Items.{repeating_behind, ending, framing, unwinding}
-use Rattle.source_machine.specs.declared.items.Action.TheVariants as A
+use Rattle.c_meaning.specs.Statements.{arm_of, default_arm, or_default, initial_place}
+use Rattle.source_steps.specs.MachineMoves.Items as I
+use Rattle.source_steps.specs.MachineMoves.Items.{Context, Loop, LoopBehind, Item, Work, acting, evaluating, using, spotting, executing, executing_all}
+use Rattle.source_steps.specs.MachineMoves.Items.{entering}
+use Rattle.source_steps.specs.MachineMoves.Items.{repeating}
+use Rattle.source_steps.specs.MachineMoves.Items.{repeating_behind, ending, framing, unwinding}
+use Rattle.source_steps.specs.declared.machine_moves.Action.TheVariants as A
 use Rattle.source_steps.specs.Calls.{begun as begun_in, leave}
 use Rattle.source_steps.specs.Locals.{slot, begin_all, finish_all, emptied}
 use Rattle.source_steps.specs.Memories.{zeroed, with_text}
-use Rattle.source_steps.specs.States.{State, Step, goes, doing, pushed, with_core, doing_in}
+use Rattle.source_steps.specs.States.{State, Step, goes, undefined, doing, pushed, with_core, doing_in}
 
 -- ---- the way out
-
--- the body of a function is left
-abbrev pub closed : (caller : Frame) → Way → State → State
-closed caller way s = pushed (result_of way) (with_core (leave caller s.core) s)
 
 abbrev pub ended : (locals : List ℕ) → State → State
 ended locals s = with_core (finish_all locals s.core) s
 
+-- the declaration of a local that is no place, with an initializer
+abbrev pub dead_at : Option Place → State → Step
+dead_at None s = goes s
+dead_at (Some place) s = undefined K.Dead place s
+
 module _ (p : ProgramData) where
+  -- the body of a function is left
+  abbrev pub closed : (f : ℕ) → (caller : Frame) → Way → State → State
+  closed f caller way s = pushed (result_of p f way) (with_core (leave caller s.core) s)
+
   -- ---- initializers
 
   abbrev pub fills : (b offset : ℕ) → PartValue ℕ → State → Step
@@ -58,7 +67,8 @@ module _ (p : ProgramData) where
 
   abbrev pub initial : (local size : ℕ) → Initializer ℕ → Option Slot → State → Step
   initial x size i (Some (InBlock (Some b))) s = initial_in b size i s
-  initial x size i own s = initial_by_name x i s
+  initial x size i (Some (ByName v)) s = initial_by_name x i s
+  initial x size i own s = dead_at (initial_place i) s
 
   abbrev pub declared : (local : ℕ) → Option Local → Option (Initializer ℕ) → State → Step
   declared x None i s = goes s
@@ -123,7 +133,7 @@ module _ (p : ProgramData) where
   -- one item below a statement that is left in a way
   abbrev pub passed : Way → Item → State → Step
   passed Normally item s = goes (doing item s)
-  passed way (framing caller) s = goes (closed caller way s)
+  passed way (framing f caller) s = goes (closed f caller way s)
   passed way (ending locals) s = goes (doing (unwinding way) (ended locals s))
   passed ByBreak (repeating l) s = goes s
   passed ByContinue (repeating l) s = repeats l.step l s

@@ -4,10 +4,10 @@ use Rattle.lay_base.specs.declared.faults.UndefinedKind.{UndefinedKind}
 use Rattle.lay_base.specs.declared.faults.UndefinedKind.TheVariants as K
 use Rattle.lay_base.specs.declared.place.Place.{Place}
 use Rattle.block_memory.specs.Tested.{Tested}
-use Rattle.runs.specs.declared.value.Value.{Value}
+use Rattle.block_memory.specs.declared.run_worlds.value.Value.{Value}
 use Rattle.c_meaning.specs.declared.frame.Spot.{Spot}
-use Rattle.source_machine.specs.Items.{Item, Stack, Work}
-use Rattle.source_machine.specs.declared.items.Operand.TheVariants as O
+use Rattle.source_steps.specs.MachineMoves.Items.{Item, Stack, Work}
+use Rattle.source_steps.specs.declared.machine_moves.Operand.TheVariants as O
 use Rattle.source_steps.specs.Cores.{Core, Does}
 use Rattle.source_steps.specs.declared.ends.Final.{Final}
 use Rattle.source_steps.specs.declared.ends.Final.TheVariants.{Undefined}

@@ -1,19 +1,22 @@
 -- One step of the interpreter: the first item of the work is done, or makes way for the items that it comes to.
 use Rattle.std.specs.Prelude.{◌+◌, true, false, [], ◌∷◌, ◌++◌, Some, if◌then◌else◌}
 use Rattle.c_typed.specs.Programs.{ProgramData}
-use Rattle.runs.specs.Scalars.{word_of}
-use Rattle.c_meaning.specs.declared.frame.Way.TheVariants.{Normally, ByReturn}
-use Rattle.c_counts.specs.Loops.{loops_in}
-use Rattle.c_meaning.specs.Operators.{is_true, flag}
+use Rattle.block_memory.specs.RunWorlds.Scalars.{word_of}
+use Rattle.block_memory.specs.declared.run_worlds.way.Way.TheVariants.{Normally, ByReturn}
+use Rattle.block_memory.specs.RunWorlds.Operators.{is_true, flag}
+use Rattle.c_typed.specs.RunCounts.Loops.{loops_in}
 use Rattle.c_meaning.specs.Run.{status_of}
-use Rattle.source_machine.specs.Items as I
-use Rattle.source_machine.specs.Items.{Item, Work, acting, evaluating, using, spotting, gathering, gathered, framing, executing, executing_all, entering, tested, repeating}
-use Rattle.source_machine.specs.Items.{repeating_behind, ending, unwinding}
-use Rattle.source_machine.specs.declared.items.Action.TheVariants as A
+use Rattle.source_steps.specs.MachineMoves.Items as I
+use Rattle.source_steps.specs.MachineMoves.Items.{Item, Work, acting, evaluating, using, spotting, gathering, gathered, framing, executing, executing_all}
+use Rattle.source_steps.specs.MachineMoves.Items.{entering}
+use Rattle.source_steps.specs.MachineMoves.Items.{tested, repeating}
+use Rattle.source_steps.specs.MachineMoves.Items.{repeating_behind, ending, unwinding}
+use Rattle.source_steps.specs.declared.machine_moves.Action.TheVariants as A
 use Rattle.source_steps.specs.Actions.{performed}
 use Rattle.source_steps.specs.Expressions.{gathers, located, valued, used}
 use Rattle.source_steps.specs.States.{State, Step, goes, doing, given, taking, taking_any}
-use Rattle.source_steps.specs.Statements.{closed, ended, fills_all, begun, tests, repeats, begun_behind, tests_behind, executed, executed_all, entered, selected, unwound}
+use Rattle.source_steps.specs.Statements.{closed, ended, fills_all, begun, tests, repeats, begun_behind, tests_behind, executed, executed_all, entered}
+use Rattle.source_steps.specs.Statements.{selected, unwound}
 use Rattle.source_steps.specs.declared.ends.Final.TheVariants.{Ends}
 use Rattle.source_steps.specs.declared.ends.Moved.TheVariants.{Over}
 
@@ -30,7 +33,7 @@ module _ (p : ProgramData) where
   enacted (I.choosing y z) s = taking s (λ v s. if is_true v then goes (doing (evaluating y) s) else goes (doing (evaluating z) s))
   enacted (gathering callee done rest) s = gathers p callee done rest s
   enacted (gathered callee done rest) s = taking s (λ v s. gathers p callee (done ++ v ∷ []) rest s)
-  enacted (framing caller) s = goes (closed caller Normally s)
+  enacted (framing f caller) s = goes (closed p f caller Normally s)
   enacted (executing c l one) s = executed p c l one s
   enacted (executing_all c l all) s = executed_all p c l all s
   enacted (entering c l arm arms) s = entered p c l arm arms s

@@ -6,9 +6,9 @@ use Rattle.c_typed.specs.declared.operators.BinaryOp.{BinaryOp}
 use Rattle.c_typed.specs.declared.operators.StepOp.{StepOp}
 use Rattle.c_typed.specs.Constants.{kind_of}
 use Rattle.block_memory.specs.Blocks.{Memory}
-use Rattle.runs.specs.declared.value.Value.{Value}
-use Rattle.runs.specs.declared.value.Value.TheVariants.{Word as word, Pointer as pointer}
-use Rattle.c_meaning.specs.Operators.{converted, updated, next}
+use Rattle.block_memory.specs.declared.run_worlds.value.Value.{Value}
+use Rattle.block_memory.specs.declared.run_worlds.value.Value.TheVariants.{Word as word, Pointer as pointer}
+use Rattle.block_memory.specs.RunWorlds.Operators.{converted, updated, next}
 use Rattle.source_values.specs.declared.row.Sort.TheVariants.{Void, Number}
 use Rattle.source_values.specs.Sorts.{sort_of, converted_by, updated_by, next_by}
 

@@ -4,9 +4,9 @@ use Rattle.std.specs.Int.{w32, cast_unsigned}
 use Rattle.lay_base.specs.declared.faults.UndefinedKind.TheVariants.{Range}
 use Rattle.block_memory.specs.Pointers.{elements_between}
 use Rattle.block_memory.specs.Tested.{Tested}
-use Rattle.runs.specs.Scalars.{as_value}
-use Rattle.runs.specs.declared.value.Value.{Value}
-use Rattle.runs.specs.declared.value.Value.TheVariants.{Word as word}
+use Rattle.block_memory.specs.RunWorlds.Scalars.{as_value}
+use Rattle.block_memory.specs.declared.run_worlds.value.Value.{Value}
+use Rattle.block_memory.specs.declared.run_worlds.value.Value.TheVariants.{Word as word}
 
 -- so many bytes, where they are a whole number of elements; of size 0 that is none, where there is no byte
 abbrev pub whole : (bytes size : ℕ) → Option ℕ

@@ -6,12 +6,12 @@ use Rattle.c_types.specs.Types.{CType, void, integer, pointer as pointer_to}
 use Rattle.c_typed.specs.declared.operators.BinaryOp.{BinaryOp}
 use Rattle.c_typed.specs.declared.operators.StepOp.{StepOp}
 use Rattle.c_typed.specs.Conversions.{as_kind, promoted_kind}
-use Rattle.memory_cells.specs.declared.pointer.Ptr.TheVariants.{Null}
+use Rattle.memory_words.specs.declared.cell_words.pointer.Ptr.TheVariants.{Null}
 use Rattle.block_memory.specs.Blocks.{Memory}
 use Rattle.block_memory.specs.Tested.{Tested, ◌>>=◌}
-use Rattle.runs.specs.declared.value.Value.{Value}
-use Rattle.runs.specs.declared.value.Value.TheVariants.{Word as word, Pointer as pointer}
-use Rattle.c_meaning.specs.Operators.{binary, common_kind, moved, pointer_op, step_op}
+use Rattle.block_memory.specs.declared.run_worlds.value.Value.{Value}
+use Rattle.block_memory.specs.declared.run_worlds.value.Value.TheVariants.{Word as word, Pointer as pointer}
+use Rattle.block_memory.specs.RunWorlds.Operators.{binary, common_kind, moved, pointer_op, step_op}
 use Rattle.source_values.specs.declared.row.Sort.{Sort}
 use Rattle.source_values.specs.declared.row.Sort.TheVariants.{Void, Number, Pointer, Other}
 

@@ -2,13 +2,12 @@
 
 ghost use Rattle.std.specs.Prelude.{◌≡◌};
 ghost use Rattle.c_types.specs.Types.{CType};
-ghost use Rattle.c_meaning.specs.Operators.{converted};
+ghost use Rattle.block_memory.specs.RunWorlds.Operators.{converted};
 ghost use Rattle.source_values.specs.Sorts.{converted_by, sort_of};
 
 use crate::row::Sort;
-use block_memory::Ptr;
+use block_memory::{Ptr, Value};
 use c_typed::as_kind;
-use runs::Value;
 
 /// A value converted to a type of that sort (C99 6.3).
 pub fn convert(sort: Sort, v: Value) -> Value

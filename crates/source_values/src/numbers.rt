@@ -1,16 +1,15 @@
 //! Numbers, and truth.
 
 ghost use Rattle.std.specs.Prelude.{◌≡◌, ◌≤◌, ◌^◌, ◌*ℤ◌, pos, unsigned_abs};
-ghost use Rattle.c_meaning.specs.Operators.{binary, flag, is_true, unary, undefined_by};
 ghost use Rattle.c_typed.specs.Conversions.{number_of};
 ghost use Rattle.c_types.specs.Limits.{greatest_size};
-ghost use Rattle.runs.specs.Scalars.{pointer_of, word_of};
+ghost use Rattle.block_memory.specs.RunWorlds.Operators.{binary, flag, is_true, unary, undefined_by};
+ghost use Rattle.block_memory.specs.RunWorlds.Scalars.{pointer_of, word_of};
 
-use block_memory::Ptr;
+use block_memory::{Ptr, Value};
 use c_typed::{BinaryOp, UnaryOp, binary_value, is_signed, unary_value};
 use c_types::IntKind;
 use lay_base::UndefinedKind;
-use runs::Value;
 
 /// The bits of a number, and 0 of a pointer.
 pub fn word_of(v: Value) -> u32

@@ -1,62 +1,26 @@
 //! The ways to fields and elements (C99 6.5.2.1, 6.5.2.3).
 
-ghost use Rattle.std.specs.Prelude.{◌≡◌, ◌≤◌, ◌^◌, unsigned_abs};
+ghost use Rattle.std.specs.Prelude.{◌≡◌, ◌≤◌};
 ghost use Rattle.block_memory.specs.View.{memory_of};
-ghost use Rattle.c_meaning.specs.Expressions.{field_in, inside, is_subscript, moved_by, part_of};
-ghost use Rattle.c_meaning.specs.declared.frame.Spot.TheVariants.{Placed};
-ghost use Rattle.c_typed.specs.Conversions.{number_of};
+ghost use Rattle.c_meaning.specs.Expressions.{field_in, inside, is_subscript, part_in};
 ghost use Rattle.c_types.specs.Limits.{greatest_size};
-ghost use Rattle.source_steps.specs.Actions.{address_of, element};
-ghost use Rattle.source_steps.specs.Direct.{if_near};
+ghost use Rattle.source_steps.specs.Actions.{address_of};
 ghost use Rattle.source_values.specs.Ways.{way_to};
 
 use crate::numbers::{bytes_of, word_of};
-use block_memory::{Ptr, Store};
+use block_memory::{Ptr, Store, Value};
 use c_meaning::Spot;
 use c_types::IntKind;
 use lay_base::UndefinedKind;
-use runs::Value;
 
-/// So many bytes on from where a pointer leads, in the same object; none where that lies beyond all offsets.
+/// A field or an element so many bytes on from where a pointer leads: it lies in the block, or one past its end.
 #[inline(always)]
-fn near(by: i64, p: Ptr) -> Option<Spot>
-    requires { unsigned_abs by ≤ 2 ^ 56 }
-    ensures { result ≡ if_near (Placed (moved_by by p)) }
+pub fn part_in(store: &Store, p: Ptr, by: i64) -> Result<Ptr, UndefinedKind>
+    ensures { result ≡ part_in (memory_of store.now) p by }
 {
     match p {
-        Ptr::Block(block, at) => {
-            let sum = i64::from(at) + by;
-            if sum < 0 {
-                Some(Spot::Placed(p))
-            } else if sum < 0x1_0000_0000 {
-                Some(Spot::Placed(Ptr::Block(block, sum as u32)))
-            } else {
-                None
-            }
-        }
-        Ptr::Null | Ptr::Function(_) => Some(Spot::Placed(p)),
-    }
-}
-
-/// A field at an offset; none where it would lie beyond all offsets.
-pub fn part_of(offset: u32, spot: Spot) -> Option<Spot>
-    ensures { result ≡ if_near (part_of offset spot) }
-{
-    match spot {
-        Spot::Placed(p) => near(i64::from(offset), p),
-        Spot::Kept(_) => Some(spot),
-    }
-}
-
-/// An element of an array itself, by a subscript of a kind; none where it would lie beyond all offsets.
-#[inline(always)]
-pub fn element(kind: IntKind, word: u32, size: u32, spot: Spot) -> Option<Spot>
-    requires { size ≤ greatest_size }
-    ensures { result ≡ if_near (element size (number_of kind word) spot) }
-{
-    match spot {
-        Spot::Placed(p) => near(bytes_of(kind, word, size), p),
-        Spot::Kept(_) => Some(spot),
+        Ptr::Null => Err(UndefinedKind::Null),
+        Ptr::Block(_, _) | Ptr::Function(_) => store.step(p, by),
     }
 }
 

@@ -3,19 +3,18 @@
 ghost use Rattle.std.specs.Prelude.{◌≡◌, ◌≤◌};
 ghost use Rattle.block_memory.specs.Pointers.{stepped};
 ghost use Rattle.block_memory.specs.View.{memory_of};
-ghost use Rattle.c_meaning.specs.Operators.{bytes_by, compared, distance, moved, opposite, pointers_compare};
-ghost use Rattle.runs.specs.Scalars.{as_value};
-ghost use Rattle.runs.specs.declared.value.Value.TheVariants.{Pointer};
+ghost use Rattle.block_memory.specs.RunWorlds.Operators.{bytes_by, compared, distance, moved, opposite, pointers_compare};
+ghost use Rattle.block_memory.specs.RunWorlds.Scalars.{as_value};
+ghost use Rattle.block_memory.specs.declared.run_worlds.value.Value.TheVariants.{Pointer};
 ghost use Rattle.c_typed.specs.Conversions.{number_of};
 ghost use Rattle.c_types.specs.Limits.{greatest_size};
 ghost use Rattle.source_values.specs.Elements.{ahead, back, whole, words_between};
 
 use crate::numbers::{bytes_of, flag};
-use block_memory::{Ptr, Store};
+use block_memory::{Ptr, Store, Value};
 use c_typed::{CompareOp, PointerOp, holds};
 use c_types::IntKind;
 use lay_base::UndefinedKind;
-use runs::Value;
 
 /// So many elements on or back, in bytes.
 fn bytes_by(op: PointerOp, kind: IntKind, word: u32, size: u32) -> i64

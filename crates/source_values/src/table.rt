@@ -14,9 +14,8 @@ use crate::offsets::offset;
 use crate::pointed::points_to;
 use crate::row::TypeRow;
 use crate::rows::{row_at, row_of_void, rows};
-use c_typed::Typed;
+use c_typed::{TalliedFunction, Tally, Typed, function_at, tally_functions};
 use lay_base::NoMemory;
-use loop_tallies::{TalliedFunction, Tally, function_at, tally_functions};
 use std::alloc::Global;
 use std::marker::Model;
 
@@ -40,7 +39,7 @@ impl<'a> Model for Types<'a> {
 
     ghost use Rattle.std.specs.Prelude.{map, vec_items};
     ghost use Rattle.c_typed.specs.Programs.{data_of, program_data};
-    ghost use Rattle.loop_tallies.specs.Tallies.{AreTallied};
+    ghost use Rattle.c_typed.specs.LoopTallies.Tallies.{AreTallied};
     ghost use Rattle.source_values.specs.Rows.{AreRows};
 
     ghost view = { λ it. it.typed.now };

@@ -2,10 +2,10 @@
 
 ghost use Rattle.std.specs.Prelude.{◌≡◌, ◌≤◌};
 ghost use Rattle.block_memory.specs.View.{memory_of};
-ghost use Rattle.c_meaning.specs.Operators.{common_kind, next, pointer_op, step_op, updated};
 ghost use Rattle.c_meaning.specs.Program.{element_size, type_at};
 ghost use Rattle.c_typed.specs.Programs.{program_data};
 ghost use Rattle.c_types.specs.Limits.{greatest_size};
+ghost use Rattle.block_memory.specs.RunWorlds.Operators.{common_kind, next, pointer_op, step_op, updated};
 ghost use Rattle.source_values.specs.Sorts.{next_by, updated_by};
 
 use crate::converting::convert;
@@ -13,11 +13,10 @@ use crate::numbers::binary;
 use crate::pointers::moved;
 use crate::row::Sort;
 use crate::table::Types;
-use block_memory::Store;
+use block_memory::{Store, Value};
 use c_typed::{BinaryOp, PointerOp, StepOp, TypeId, is_shift, promoted_kind};
 use c_types::IntKind;
 use lay_base::UndefinedKind;
-use runs::Value;
 
 fn common_kind(op: BinaryOp, left: IntKind, right: IntKind) -> IntKind
     ensures { result ≡ common_kind op left right }

@@ -1,6 +1,6 @@
 //! The tags of a file as text, by each look-up.
 
-use c_tags::Tags;
+use c_scopes::Tags;
 use c_tokens::{Token, TokenKind};
 use row_lines::Writer;
 

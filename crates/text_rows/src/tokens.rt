@@ -7,16 +7,28 @@ use crate::lines::put_lines;
 use crate::literals::put_literals;
 use crate::row::OfTokens;
 use c_lexer::{lex, tokens_have_places, tokens_have_texts};
-use c_tokens::{Token, Tokens};
+use c_tokens::{Token, TokenKind, Tokens};
+use lay_base::{Keyword, keyword_text};
 use row_lines::Writer;
 use std::alloc::Global;
 
 /// The number of the file that the text of a row is.
 pub const FILE: u16 = 7;
 
+/// What a token is. A keyword that the language leaves out is told by its spelling.
+fn put_kind(out: &mut Writer, kind: TokenKind) {
+    match kind {
+        TokenKind::Keyword(Keyword::LeftOut(number)) => {
+            out.word("LeftOut");
+            out.bytes(keyword_text(Keyword::LeftOut(number)));
+        }
+        _ => out.value(&kind),
+    }
+}
+
 fn put_kinds(out: &mut Writer, tokens: &[Token]) {
     for token in tokens {
-        out.value(&token.kind);
+        put_kind(out, token.kind);
     }
 }
 
@@ -25,7 +37,7 @@ fn put_ranges(out: &mut Writer, tokens: &Tokens) {
     out.number(u64::from(tokens.file));
     out.value(&tokens.bytes.as_slice());
     for token in tokens.list.as_slice() {
-        out.value(&token.kind);
+        put_kind(out, token.kind);
         out.number(u64::from(token.from));
         out.number(u64::from(token.to));
     }

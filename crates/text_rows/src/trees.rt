@@ -16,7 +16,7 @@ use c_lexer::lex;
 use c_parser::{ParseFault, parse, trees_are_small};
 use c_tokens::Tokens;
 use c_tree_sizes::{depth, nodes, nodes_of_item};
-use lay_base::{File, Place};
+use lay_base::{File, Place, keyword_text};
 use row_lines::Writer;
 use std::alloc::Global;
 
@@ -42,7 +42,7 @@ fn put_fault(out: &mut Writer, asked: OfTree, fault: ParseFault) {
         ParseFault::NoParse(place) => put_no_tree(out, asked, place),
         ParseFault::Unsupported(keyword, place) => {
             out.word("Unsupported");
-            out.value(&keyword);
+            out.bytes(keyword_text(keyword));
             put_place(out, place);
         }
         ParseFault::Memory => out.word("out of memory"),

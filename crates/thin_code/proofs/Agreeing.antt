@@ -3,9 +3,9 @@ use Rattle.std.proofs.Common.{◌≡◌, ℕ, zero, suc, ◌≤◌, List, [], �
 use Rattle.std.specs.List.{AllByRecursion}
 use Rattle.std.specs.Option.{option_to_list}
 use Rattle.std.proofs.lemmas.List.Elements.{recursion_from_All}
-use Rattle.thin_parser.specs.ThinTree.{Term, Program}
-use Rattle.thin_parser.specs.ThinText.{punctuators, whole_sums, spelled_program}
-use Rattle.source_end.specs.SourceEnd.{Ends, GoesOn}
+use Rattle.thin_code.specs.ThinParser.ThinTree.{Term, Program}
+use Rattle.thin_code.specs.ThinParser.ThinText.{punctuators, whole_sums, spelled_program}
+use Rattle.block_memory.specs.SourceEnd.{Ends, GoesOn}
 use Rattle.rv_isa.specs.declared.instruction.Inst.{Inst}
 use Rattle.rv_isa.specs.declared.instruction.Inst.TheVariants.{Jal}
 use Rattle.rv_isa.specs.Step.{State, Running, Exits}

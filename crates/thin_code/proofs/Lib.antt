@@ -10,3 +10,4 @@ pub mod Loading
 pub mod Runs
 pub mod Agreeing
 pub mod Lists
+pub mod ThinParser

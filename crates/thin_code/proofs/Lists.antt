@@ -1,7 +1,7 @@
 -- Code of lists, part by part.
 use Rattle.std.proofs.Common.{◌≡◌, List, [], ◌∷◌, ◌++◌, ap, sym, refl, ◌∙◌, append_assoc, ℕ}
 use Rattle.std.specs.Int.{w32, to_le_bytes}
-use Rattle.thin_parser.specs.ThinTree.{Term}
+use Rattle.thin_code.specs.ThinParser.ThinTree.{Term}
 use Rattle.rv_isa.specs.declared.instruction.Inst.{Inst}
 use Rattle.rv_isa.specs.Encoding.{encoding}
 use Rattle.thin_code.specs.Code.{sum_code, write_code, puts_code, code_bytes}

@@ -3,8 +3,8 @@ use Rattle.std.proofs.Common.{◌≡◌, ℕ, ◌+◌, ◌-◌, ◌*◌, ◌/◌
 use Rattle.std.proofs.Common.{sym, ap, ◌∙◌, subst, arith, length-append, append_assoc, append-nil}
 use Rattle.std.specs.List.{AllByRecursion}
 use Rattle.std.specs.Option.{option_to_list}
-use Rattle.thin_parser.specs.ThinTree.{Term, Program}
-use Rattle.thin_parser.specs.ThinText.{punctuators}
+use Rattle.thin_code.specs.ThinParser.ThinTree.{Term, Program}
+use Rattle.thin_code.specs.ThinParser.ThinText.{punctuators}
 use Rattle.rv_isa.specs.declared.instruction.Inst.{Inst}
 use Rattle.rv_isa.specs.declared.instruction.Inst.TheVariants.{Lui, Addi}
 use Rattle.rv_isa.specs.Arithmetic.{plus}

@@ -3,10 +3,11 @@ use Rattle.std.proofs.Common.{◌≡◌, ℕ, ◌+◌, ◌*◌, ◌%◌, ◌^◌
 use Rattle.std.proofs.Common.{arith, length-append}
 use Rattle.std.specs.List.{AllByRecursion}
 use Rattle.std.proofs.lemmas.Int.{ints}
-use Rattle.thin_parser.specs.ThinTree.{Term, number, paren, add, sub, mul, Program}
-use Rattle.thin_parser.specs.ThinText.{spelled_sum, spelled_puts, spelled_last, spelled_declaration, spelled_program}
-use Rattle.thin_parser.specs.declared.thin_token.ThinToken.{ThinToken}
-use Rattle.thin_parser.specs.declared.thin_token.ThinToken.TheVariants.{Int, Main, Void, Open, Close, OpenBrace, CloseBrace, Semicolon, Plus, Minus, Star}
+use Rattle.thin_code.specs.ThinParser.ThinTree.{Term, number, paren, add, sub, mul, Program}
+use Rattle.thin_code.specs.ThinParser.ThinText.{spelled_sum, spelled_puts, spelled_last, spelled_declaration, spelled_program}
+use Rattle.thin_code.specs.declared.thin_parser.thin_token.ThinToken.{ThinToken}
+use Rattle.thin_code.specs.declared.thin_parser.thin_token.ThinToken.TheVariants.{Int, Main, Void, Open, Close, OpenBrace, CloseBrace, Semicolon, Plus, Minus}
+use Rattle.thin_code.specs.declared.thin_parser.thin_token.ThinToken.TheVariants.{Star}
 use Rattle.rv_isa.specs.declared.instruction.Inst.{Inst}
 use Rattle.rv_isa.specs.declared.instruction.Inst.TheVariants.{Jal, Addi, Add, Sub, Mul}
 use Rattle.rv_isa.specs.Encoding.{IsInRange, IsShort}

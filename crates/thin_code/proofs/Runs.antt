@@ -1,7 +1,7 @@
 -- A run that has ended stays as it is, so what it shows at any moment follows from its end.
 use Rattle.std.proofs.Common.{◌≡◌, ℕ, ◌+◌, ◌-◌, inl, inr, List, sym, ap, ◌∙◌, subst, arith}
 use Rattle.std.proofs.lemmas.Bool.{cases_lt}
-use Rattle.source_end.specs.SourceEnd.{Ends}
+use Rattle.block_memory.specs.SourceEnd.{Ends}
 use Rattle.rv_isa.specs.declared.image.Segment.{Segment}
 use Rattle.rv_isa.specs.Step.{State, Standing, Running, Exits}
 use Rattle.rv_isa.specs.Run.{Shown, run}

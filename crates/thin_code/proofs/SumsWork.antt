@@ -1,8 +1,8 @@
 -- The code of each sum leaves its value in a0.
 use Rattle.std.proofs.Common.{◌≡◌, ℕ, suc, ◌+◌, ◌-◌, ◌*◌, ◌^◌, ◌<◌, List, ◌++◌, length, sym, ap, ◌∙◌, subst, inl, inr, arith, length-append}
 use Rattle.std.proofs.lemmas.Bool.{cases_eq}
-use Rattle.thin_parser.specs.ThinTree.{Term, number, paren, add, sub, mul}
-use Rattle.thin_parser.specs.ThinText.{punctuators}
+use Rattle.thin_code.specs.ThinParser.ThinTree.{Term, number, paren, add, sub, mul}
+use Rattle.thin_code.specs.ThinParser.ThinText.{punctuators}
 use Rattle.rv_isa.specs.declared.instruction.Inst.{Inst}
 use Rattle.rv_isa.specs.declared.instruction.Inst.TheVariants.{Add, Sub, Mul}
 use Rattle.rv_isa.specs.Memory.{word_at}

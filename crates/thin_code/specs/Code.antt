@@ -1,7 +1,7 @@
 -- The code of a thin program. Each sum leaves its value in a0 and keeps what it still needs on the stack.
 use Rattle.std.specs.Prelude.{ℕ, ◌+◌, ◌-◌, ◌*◌, ◌/◌, ◌%◌, ◌^◌, List, [], ◌∷◌, ◌++◌, length, Option, Some, None, pos, negsuc}
 use Rattle.std.specs.Int.{w32, to_le_bytes}
-use Rattle.thin_parser.specs.ThinTree.{Term, number, paren, add, sub, mul, Program}
+use Rattle.thin_code.specs.ThinParser.ThinTree.{Term, number, paren, add, sub, mul, Program}
 use Rattle.rv_isa.specs.declared.image.Image.{Image}
 use Rattle.rv_isa.specs.declared.image.Segment.{Segment}
 use Rattle.rv_isa.specs.declared.instruction.Inst.{Inst}

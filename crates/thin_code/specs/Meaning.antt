@@ -1,7 +1,7 @@
 -- What a thin program does (C99 5.1.2.2.3, 6.5.5, 6.5.6, 6.8.6.4, 7.19.7.9, narrowed to constants).
 use Rattle.std.specs.Prelude.{ℕ, zero, suc, ◌+◌, ◌-◌, ◌*◌, ◌%◌, ◌^◌, List, [], map, Option, Some, None}
-use Rattle.source_end.specs.SourceEnd.{SourceEnd, Ends, GoesOn}
-use Rattle.thin_parser.specs.ThinTree.{Term, number, paren, add, sub, mul, Program}
+use Rattle.block_memory.specs.SourceEnd.{SourceEnd, Ends, GoesOn}
+use Rattle.thin_code.specs.ThinParser.ThinTree.{Term, number, paren, add, sub, mul, Program}
 
 -- the value of a sum, modulo 2^32
 abbrev pub value : Term → ℕ

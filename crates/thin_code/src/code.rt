@@ -2,14 +2,14 @@
 
 ghost use Rattle.std.specs.Prelude.{◌≡◌, ◌++◌, ◌∷◌, [], ◌≤◌, map, OnOk, IfOk};
 ghost use Rattle.std.specs.Option.{option_map};
-ghost use Rattle.thin_parser.specs.ThinTree.{term_of, program_of};
+ghost use Rattle.thin_code.specs.ThinParser.ThinTree.{term_of, program_of};
 ghost use Rattle.thin_code.specs.Code.{write_code, puts_code, status_code, exit_code, program_code};
 
 use crate::memory_map::{DATA, MIB, STACK};
 use crate::sums::{A0, A1, A2, A7, SP, sum};
+use crate::thin_parser::{Sum, Thin};
 use rv_isa::Inst;
 use std::alloc::{AllocError, Global};
-use thin_parser::{Sum, Thin};
 
 /// What `Lui` counts in.
 const PAGE: u32 = 0x1000;

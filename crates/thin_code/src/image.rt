@@ -1,8 +1,8 @@
 //! The image of a thin program.
 
 ghost use Rattle.std.specs.Prelude.{◌≡◌, ℕ, List as Sequence, ◌++◌, ◌∷◌, [], ◌<◌, ◌≤◌, ◌^◌, length, vec_len, All, Ok, OnOk, IfOk};
-ghost use Rattle.thin_parser.specs.ThinTree.{program_of};
-ghost use Rattle.thin_parser.specs.ThinText.{punctuators, whole_sums, spelled_program};
+ghost use Rattle.thin_code.specs.ThinParser.ThinTree.{program_of};
+ghost use Rattle.thin_code.specs.ThinParser.ThinText.{punctuators, whole_sums, spelled_program};
 ghost use Rattle.rv_isa.specs.Encoding.{IsInRange};
 ghost use Rattle.elf32.specs.Loaded.{loaded};
 ghost use Rattle.elf32.specs.Written.{IsWritable, zeros};
@@ -12,10 +12,10 @@ ghost use Rattle.thin_code.specs.Code.{program_code, code_bytes, text_bytes, ful
 
 use crate::code::instructions;
 use crate::memory_map::{DATA, HEAP, MIB, STACK, TEXT};
+use crate::thin_parser::Thin;
 use lay_base::{Bytes, List, NoMemory};
 use rv_isa::{Image, Inst, Segment, encode};
 use std::alloc::{AllocError, Global};
-use thin_parser::Thin;
 
 /// The flags of a segment that holds code, as in ELF's program header.
 const READ_EXECUTE: u8 = 5;

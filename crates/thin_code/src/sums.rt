@@ -2,12 +2,12 @@
 
 ghost use Rattle.std.specs.Prelude.{◌≡◌, ◌++◌, ◌∷◌, [], ◌%◌, ◌^◌, OnOk};
 ghost use Rattle.rv_isa.specs.TwosComplement.{signed};
-ghost use Rattle.thin_parser.specs.ThinTree.{term_of};
+ghost use Rattle.thin_code.specs.ThinParser.ThinTree.{term_of};
 ghost use Rattle.thin_code.specs.Code.{number_code, push_code, join_code, sum_code};
 
+use crate::thin_parser::Sum;
 use rv_isa::Inst;
 use std::alloc::AllocError;
-use thin_parser::Sum;
 
 /// The stack pointer.
 pub const SP: u8 = 2;

@@ -3,7 +3,7 @@ use Rattle.c_types.specs.Views.{field_of, type_of, types_of}
 use Rattle.c_ast.specs.Views.{argument_of, arguments_of, enumerator_of, enumerators_of, member_declaration_of, member_declarations_of}
 use Rattle.c_ast.specs.Views.{member_declarator_of, member_declarators_of, parameter_of, parameters_of, specifier_of, specifiers_of}
 use Rattle.c_annotated.specs.Views.{expression_of}
-use Rattle.c_checking.specs.Finding.{arguments, enumerators, member_declarators, members, one_of, parameters}
+use Rattle.c_erasure.specs.Checking.Finding.{arguments, enumerators, member_declarators, members, one_of, parameters}
 use Rattle.c_erasure.specs.Scopes.{inside}
 use Rattle.c_scopes.specs.Scoping.{scope_of}
 use Rattle.c_scopes.specs.Views.{blocks_of}

@@ -8,13 +8,13 @@ use Rattle.c_ast.specs.Views.{declaration_of, block_item_of, block_items_of, swi
 use Rattle.c_erasure.specs.BrokenStatements.{no_labels}
 use Rattle.c_annotated.specs.Nodes.{arm_of}
 use Rattle.c_annotated.specs.Views.{arms_of}
-use Rattle.c_checking.specs.Answers.{◌>>=◌}
-use Rattle.c_checking.specs.Statements.{items_in, switch_item, switch_items}
-use Rattle.c_check_initializers.proofs.Turns.{fails_along, fails_on}
-use Rattle.c_check_locals.specs.Performing.{body_of, standing, statements_after}
-use Rattle.c_check_statement_parts.specs.Arms.{arms_after, item_added, last_arm_of}
-use Rattle.c_check_statement_parts.specs.Parts.{switch_labels_of}
-use Rattle.c_check_statement_parts.proofs.ArmsInTurn.{arms_begin, local_item, switch_end, switch_next}
+use Rattle.c_erasure.specs.Checking.Answers.{◌>>=◌}
+use Rattle.c_erasure.specs.Checking.Statements.{items_in, switch_item, switch_items}
+use Rattle.c_check_parts.proofs.InitializerParts.Turns.{fails_along, fails_on}
+use Rattle.c_check_parts.specs.BlockLocals.Performing.{body_of, standing, statements_after}
+use Rattle.c_check_statements.specs.StatementParts.Arms.{arms_after, item_added, last_arm_of}
+use Rattle.c_check_statements.specs.StatementParts.Parts.{switch_labels_of}
+use Rattle.c_check_statements.proofs.StatementParts.ArmsInTurn.{arms_begin, local_item, switch_end, switch_next}
 use Rattle.c_check_statements.proofs.InTurn.{items_next, no_items}
 use Rattle.c_check_statements.proofs.recursion.+performed.Goals as goal
 

@@ -3,10 +3,10 @@ use Rattle.c_types.specs.Views.{type_of}
 use Rattle.c_ast.specs.Views.{block_item_of, block_items_of, switch_item_of, switch_items_of}
 use Rattle.c_erasure.specs.BrokenStatements.{no_labels}
 use Rattle.c_annotated.specs.Nodes.{arm_of}
-use Rattle.c_checking.specs.Statements.{items_in, switch_items}
-use Rattle.c_check_locals.specs.Performing.{body_of, standing, statements_after}
-use Rattle.c_check_statement_parts.specs.Arms.{arms_after, last_arm_of}
-use Rattle.c_check_statement_parts.specs.Parts.{switch_labels_of, with_first_arm}
+use Rattle.c_erasure.specs.Checking.Statements.{items_in, switch_items}
+use Rattle.c_check_parts.specs.BlockLocals.Performing.{body_of, standing, statements_after}
+use Rattle.c_check_statements.specs.StatementParts.Arms.{arms_after, last_arm_of}
+use Rattle.c_check_statements.specs.StatementParts.Parts.{switch_labels_of, with_first_arm}
 use Rattle.c_check_statements.proofs.recursion.+performed.Given as goal
 
 abbrev pub invariant-items_in-loop-item : goal.invariant-items_in-loop-item

@@ -1,5 +1,5 @@
 use Rattle.std.proofs.Common.{◌≡◌, [], drop}
-use Rattle.c_checking.specs.Declaring.{repeated}
+use Rattle.c_erasure.specs.Checking.Declaring.{repeated}
 use Rattle.c_declaring.specs.Adding.{lent}
 use Rattle.c_declaring.proofs.repeated.repeated_among.Given as goal
 

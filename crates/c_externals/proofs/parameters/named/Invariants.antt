@@ -1,7 +1,7 @@
 use Rattle.std.proofs.Common.{◌≡◌, map, drop}
 use Rattle.c_types.specs.Views.{types_of}
 use Rattle.c_ast.specs.Views.{parameter_of, parameters_of}
-use Rattle.c_checking.specs.Files.{named_parameters}
+use Rattle.c_erasure.specs.Checking.Files.{named_parameters}
 use Rattle.c_externals.specs.Receiving.{after_received, received_of}
 use Rattle.c_externals.proofs.parameters.named.Given as goal
 

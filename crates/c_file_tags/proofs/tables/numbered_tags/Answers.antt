@@ -2,7 +2,7 @@ use Rattle.std.proofs.Common.{rules, ◌≡◌, ◌∙◌, map, subst, arith}
 use Rattle.std.specs.Prelude.{fold}
 use Rattle.c_erasure.specs.Marks.{defined_in}
 use Rattle.c_file_tags.specs.Marks.{mark_of, marks_in}
-use Rattle.c_tags.specs.Tables.{after_structure}
+use Rattle.c_scopes.specs.SyntaxTags.Tables.{after_structure}
 use Rattle.c_file_tags.proofs.Folds.{other_structures, none_left}
 use Rattle.c_file_tags.proofs.tables.numbered_tags.Goals as goal
 

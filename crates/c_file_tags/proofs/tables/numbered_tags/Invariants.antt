@@ -2,7 +2,7 @@ use Rattle.std.proofs.Common.{◌≡◌, drop, map}
 use Rattle.std.specs.Prelude.{fold}
 use Rattle.c_erasure.specs.Marks.{defined_in}
 use Rattle.c_file_tags.specs.Marks.{mark_of}
-use Rattle.c_tags.specs.Tables.{after_structure}
+use Rattle.c_scopes.specs.SyntaxTags.Tables.{after_structure}
 use Rattle.c_file_tags.proofs.tables.numbered_tags.Given as goal
 
 abbrev pub invariant-loop-mark : goal.invariant-loop-mark

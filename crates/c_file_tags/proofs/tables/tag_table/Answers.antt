@@ -1,7 +1,7 @@
 use Rattle.std.proofs.Common.{◌≡◌, [], ◌∙◌, map, subst, arith}
 use Rattle.std.specs.Prelude.{fold}
 use Rattle.c_file_tags.specs.Marks.{mark_of, marks_in}
-use Rattle.c_tags.specs.Tables.{after_tag}
+use Rattle.c_scopes.specs.SyntaxTags.Tables.{after_tag}
 use Rattle.c_file_tags.proofs.Folds.{first_tags, none_left}
 use Rattle.c_file_tags.proofs.tables.tag_table.Goals as goal
 

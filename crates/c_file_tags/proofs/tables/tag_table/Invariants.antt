@@ -1,7 +1,7 @@
 use Rattle.std.proofs.Common.{◌≡◌, [], drop, map}
 use Rattle.std.specs.Prelude.{fold}
 use Rattle.c_file_tags.specs.Marks.{mark_of}
-use Rattle.c_tags.specs.Tables.{after_tag}
+use Rattle.c_scopes.specs.SyntaxTags.Tables.{after_tag}
 use Rattle.c_file_tags.proofs.tables.tag_table.Given as goal
 
 abbrev pub invariant-loop-mark : goal.invariant-loop-mark

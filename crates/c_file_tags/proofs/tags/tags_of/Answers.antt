@@ -1,9 +1,9 @@
 use Rattle.std.proofs.Common.{sym, subst}
 use Rattle.c_ast.specs.Views.{items_of}
 use Rattle.c_erasure.specs.Files.{AreAscending}
-use Rattle.c_order.proofs.Ordered.{marks_are_in_order}
-use Rattle.c_tags.specs.TagLists.{AreTagsOf}
-use Rattle.c_tags.specs.Untagged.{untagged_by}
+use Rattle.c_erasure.proofs.MarkPlaces.Ordered.{marks_are_in_order}
+use Rattle.c_scopes.specs.SyntaxTags.TagLists.{AreTagsOf}
+use Rattle.c_scopes.specs.SyntaxTags.Untagged.{untagged_by}
 use Rattle.c_file_tags.proofs.tags.tags_of.Goals as goal
 
 pub of-requires-clause-order : goal.of-requires-clause-order

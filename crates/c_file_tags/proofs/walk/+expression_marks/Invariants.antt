@@ -3,7 +3,7 @@ use Rattle.std.specs.Prelude.{map}
 use Rattle.c_erasure.specs.Marks.{marks_of_all, marks_of_specifiers, marks_of_members, marks_of_member_declarators}
 use Rattle.c_ast.specs.Views.{argument_of, arguments_of, specifier_of, specifiers_of, member_declaration_of, member_declarations_of}
 use Rattle.c_ast.specs.Views.{member_declarator_of, member_declarators_of, enumerator_of, enumerators_of}
-use Rattle.c_tags.specs.Untagged.{untagged_by}
+use Rattle.c_scopes.specs.SyntaxTags.Untagged.{untagged_by}
 use Rattle.c_file_tags.specs.Marks.{marks_in}
 use Rattle.c_file_tags.proofs.NextScopes.{marks_after}
 use Rattle.c_file_tags.proofs.walk.+expression_marks.Given as goal

@@ -1,7 +1,7 @@
 use Rattle.std.proofs.Common.{◌≡◌, ◌++◌, drop, false}
 use Rattle.std.specs.Prelude.{map}
 use Rattle.c_ast.specs.Views.{init_declarator_of}
-use Rattle.c_tags.specs.Untagged.{untagged_by}
+use Rattle.c_scopes.specs.SyntaxTags.Untagged.{untagged_by}
 use Rattle.c_file_tags.specs.Marks.{marks_in}
 use Rattle.c_file_tags.proofs.NextScopes.{marks_of_more}
 use Rattle.c_file_tags.proofs.walk.declarators_marks.Given as goal

@@ -2,7 +2,7 @@ use Rattle.std.proofs.Common.{◌≡◌, ◌++◌, drop}
 use Rattle.std.specs.Prelude.{map}
 use Rattle.c_ast.specs.Views.{item_of}
 use Rattle.c_erasure.specs.Marks.{marks_of_file}
-use Rattle.c_tags.specs.Untagged.{untagged_by}
+use Rattle.c_scopes.specs.SyntaxTags.Untagged.{untagged_by}
 use Rattle.c_file_tags.specs.Marks.{marks_in}
 use Rattle.c_file_tags.proofs.walk.file_marks.Given as goal
 

@@ -1,5 +1,5 @@
 use Rattle.std.proofs.Common.{◌≡◌, drop, fold, map}
-use Rattle.numbering.specs.Keys.{with_key}
+use Rattle.c_numbers.specs.KeyNumbers.Keys.{with_key}
 use Rattle.c_typed.specs.Programs.{data_of}
 use Rattle.c_joining.specs.Joining.{function_identities}
 use Rattle.c_joining.proofs.identities.add_functions.Given as goal

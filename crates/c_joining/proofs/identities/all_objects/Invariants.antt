@@ -1,6 +1,6 @@
 use Rattle.std.proofs.Common.{◌≡◌, [], drop, fold, map}
 use Rattle.std.specs.Prelude.{flat_map}
-use Rattle.numbering.specs.Keys.{with_key}
+use Rattle.c_numbers.specs.KeyNumbers.Keys.{with_key}
 use Rattle.c_typed.specs.Programs.{unit_data}
 use Rattle.c_joining.specs.Joining.{object_identities, numbered_from}
 use Rattle.c_joining.proofs.identities.all_objects.Given as goal

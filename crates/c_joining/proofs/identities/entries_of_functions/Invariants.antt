@@ -1,5 +1,5 @@
 use Rattle.std.proofs.Common.{◌≡◌, ◌++◌, drop, map}
-use Rattle.numbering.specs.Keys.{position}
+use Rattle.c_numbers.specs.KeyNumbers.Keys.{position}
 use Rattle.c_typed.specs.Programs.{data_of}
 use Rattle.c_joining.specs.Joining.{function_identities}
 use Rattle.c_joining.proofs.identities.entries_of_functions.Given as goal

@@ -1,6 +1,6 @@
 use Rattle.std.proofs.Common.{[], map}
 use Rattle.c_typed.specs.Programs.{data_of}
-use Rattle.numbering.specs.Keys.{position}
+use Rattle.c_numbers.specs.KeyNumbers.Keys.{position}
 use Rattle.c_joining.specs.Joining.{function_identities}
 use Rattle.c_joining.proofs.NumberLists.{numbers_are}
 use Rattle.c_joining.proofs.identities.numbers_of_functions.Goals as goal

@@ -1,5 +1,5 @@
 use Rattle.std.proofs.Common.{[]}
-use Rattle.numbering.specs.Keys.{position}
+use Rattle.c_numbers.specs.KeyNumbers.Keys.{position}
 use Rattle.c_joining.specs.Joining.{object_identities}
 use Rattle.c_joining.proofs.NumberLists.{numbers_are}
 use Rattle.c_joining.proofs.identities.numbers_of_objects.Goals as goal

@@ -1,9 +1,9 @@
 use Rattle.std.proofs.Common.{◌≡◌, ℕ, ◌+◌, ◌∙◌, [], ◌∷◌, length, map, ap, sym, arith, rules}
 use Rattle.std.proofs.lemmas.List.{length_push, length-map, map-append}
-use Rattle.c_renumbering.specs.Numbers.{renaming_of}
-use Rattle.c_renumbering.specs.Parts.{function_in}
+use Rattle.c_numbers.specs.NewNumbers.Numbers.{renaming_of}
+use Rattle.c_numbers.specs.NewNumbers.Parts.{function_in}
 use Rattle.c_typed.specs.Programs.{data_of}
-use Rattle.numbering.specs.Keys.{position}
+use Rattle.c_numbers.specs.KeyNumbers.Keys.{position}
 use Rattle.c_joining.specs.Joining.{function_identities, identity, is_function_defined, paired}
 use Rattle.c_joining.specs.Placing.{place, placed}
 use Rattle.c_joining.proofs.Pairs.{one_more_function}

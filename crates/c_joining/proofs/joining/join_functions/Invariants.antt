@@ -1,6 +1,6 @@
 use Rattle.std.proofs.Common.{◌≡◌, length, map}
-use Rattle.c_renumbering.specs.Numbers.{renaming_of}
-use Rattle.c_renumbering.specs.Parts.{function_in}
+use Rattle.c_numbers.specs.NewNumbers.Numbers.{renaming_of}
+use Rattle.c_numbers.specs.NewNumbers.Parts.{function_in}
 use Rattle.c_typed.specs.Programs.{data_of}
 use Rattle.c_joining.specs.Joining.{is_function_defined, function_identities, paired}
 use Rattle.c_joining.specs.Placing.{placed}

@@ -1,6 +1,6 @@
 use Rattle.std.proofs.Common.{◌≡◌, ◌++◌, map}
-use Rattle.c_renumbering.specs.Numbers.{renaming_of}
-use Rattle.c_renumbering.specs.Parts.{mention_in}
+use Rattle.c_numbers.specs.NewNumbers.Numbers.{renaming_of}
+use Rattle.c_numbers.specs.NewNumbers.Parts.{mention_in}
 use Rattle.c_joining.proofs.joining.join_mentions.Given as goal
 
 abbrev pub invariant-loop-it : goal.invariant-loop-it

@@ -1,8 +1,8 @@
 use Rattle.std.proofs.Common.{◌≡◌, ℕ, ◌+◌, ◌∙◌, length, ap, sym, arith, rules}
 use Rattle.std.proofs.lemmas.List.{length_push}
-use Rattle.c_renumbering.specs.Numbers.{renaming_of}
-use Rattle.c_renumbering.specs.Parts.{object_in}
-use Rattle.numbering.specs.Keys.{position}
+use Rattle.c_numbers.specs.NewNumbers.Numbers.{renaming_of}
+use Rattle.c_numbers.specs.NewNumbers.Parts.{object_in}
+use Rattle.c_numbers.specs.KeyNumbers.Keys.{position}
 use Rattle.c_joining.specs.Joining.{identity, is_object_defined}
 use Rattle.c_joining.specs.Placing.{place}
 use Rattle.c_joining.proofs.Pairs.{one_more_object}

@@ -1,6 +1,6 @@
 use Rattle.std.proofs.Common.{◌≡◌, length, map}
-use Rattle.c_renumbering.specs.Numbers.{renaming_of}
-use Rattle.c_renumbering.specs.Parts.{object_in}
+use Rattle.c_numbers.specs.NewNumbers.Numbers.{renaming_of}
+use Rattle.c_numbers.specs.NewNumbers.Parts.{object_in}
 use Rattle.c_joining.specs.Joining.{is_object_defined, object_identities, paired}
 use Rattle.c_joining.specs.Placing.{placed}
 use Rattle.c_joining.proofs.joining.join_objects.Given as goal

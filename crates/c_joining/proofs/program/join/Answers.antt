@@ -1,7 +1,7 @@
 use Rattle.std.proofs.Common.{◌≡◌, ◌∙◌, [], true, ap, fold, map}
 use Rattle.std.specs.Prelude.{codes, flat_map}
 use Rattle.c_typed.specs.Programs.{ProgramData, unit_data}
-use Rattle.numbering.specs.Keys.{position}
+use Rattle.c_numbers.specs.KeyNumbers.Keys.{position}
 use Rattle.c_joining.specs.Joining.{Tables, named, numbered_from, records_in, tables}
 use Rattle.c_joining.specs.Placing.{placed}
 use Rattle.c_joining.specs.Views.{assembled, joined_of, nothing, tables_of, tagged, with_unit}

@@ -1,5 +1,5 @@
 use Rattle.std.proofs.Common.{◌≡◌, false, rules}
-use Rattle.numbering.specs.Keys.{position}
+use Rattle.c_numbers.specs.KeyNumbers.Keys.{position}
 use Rattle.c_joining.specs.Placing.{put}
 use Rattle.c_joining.proofs.RecordLists.{one_more_record}
 use Rattle.c_joining.proofs.program.joined_records.Goals as goal

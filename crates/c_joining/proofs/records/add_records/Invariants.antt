@@ -1,6 +1,6 @@
 use Rattle.std.proofs.Common.{◌≡◌, ◌++◌, drop, map}
-use Rattle.c_renumbering.specs.Numbers.{number_at}
-use Rattle.c_type_table.specs.Renumbered.{record_in}
+use Rattle.c_numbers.specs.NewNumbers.Numbers.{number_at}
+use Rattle.c_numbers.specs.TypeNumbers.Renumbered.{record_in}
 use Rattle.c_types.specs.Views.{records_of}
 use Rattle.c_joining.proofs.records.add_records.Given as goal
 

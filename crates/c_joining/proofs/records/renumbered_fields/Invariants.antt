@@ -1,6 +1,6 @@
 use Rattle.std.proofs.Common.{◌≡◌, ◌++◌, drop, map}
-use Rattle.c_renumbering.specs.Numbers.{number_at}
-use Rattle.c_type_table.specs.Renumbered.{field_in}
+use Rattle.c_numbers.specs.NewNumbers.Numbers.{number_at}
+use Rattle.c_numbers.specs.TypeNumbers.Renumbered.{field_in}
 use Rattle.c_types.specs.Views.{field_of}
 use Rattle.c_joining.proofs.records.renumbered_fields.Given as goal
 

@@ -1,8 +1,8 @@
 use Rattle.std.proofs.Common.{◌∙◌, ap, ℕ, List, [], map}
 use Rattle.std.specs.Prelude.{get_or}
 use Rattle.c_erasure.specs.Units.{number_in}
-use Rattle.numbering.specs.Keys.{position}
-use Rattle.c_type_table.specs.Renumbered.{renumbered}
+use Rattle.c_numbers.specs.KeyNumbers.Keys.{position}
+use Rattle.c_numbers.specs.TypeNumbers.Renumbered.{renumbered}
 use Rattle.c_typed.specs.Programs.{data_of, unit_data}
 use Rattle.c_typed.specs.declared.program.Function.{Function}
 use Rattle.c_typed.specs.declared.program.Object.{Object}

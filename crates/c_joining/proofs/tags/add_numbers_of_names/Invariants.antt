@@ -1,5 +1,5 @@
 use Rattle.std.proofs.Common.{◌≡◌, ◌++◌, drop, map}
-use Rattle.numbering.specs.Keys.{position}
+use Rattle.c_numbers.specs.KeyNumbers.Keys.{position}
 use Rattle.c_joining.proofs.tags.add_numbers_of_names.Given as goal
 
 abbrev pub invariant-loop-name : goal.invariant-loop-name

@@ -1,6 +1,6 @@
 use Rattle.std.proofs.Common.{◌≡◌, ◌++◌, drop, map}
 use Rattle.c_types.specs.Views.{records_of}
-use Rattle.numbering.specs.Keys.{position}
+use Rattle.c_numbers.specs.KeyNumbers.Keys.{position}
 use Rattle.c_joining.proofs.tags.add_numbers_of_tags.Given as goal
 
 abbrev pub invariant-loop-r : goal.invariant-loop-r

@@ -2,8 +2,8 @@ use Rattle.std.proofs.Common.{◌∙◌, ap, fold, map, sym}
 use Rattle.std.specs.Prelude.{flat_map}
 use Rattle.std.proofs.lemmas.List.{drop_all}
 use Rattle.c_typed.specs.Programs.{unit_data}
-use Rattle.numbering.specs.Keys.{with_key}
-use Rattle.numbering.proofs.Laws.{all_after}
+use Rattle.c_numbers.specs.KeyNumbers.Keys.{with_key}
+use Rattle.c_numbers.proofs.KeyNumbers.Laws.{all_after}
 use Rattle.c_joining.proofs.tags.all_tags.Goals as goal
 
 pub returns : goal.returns

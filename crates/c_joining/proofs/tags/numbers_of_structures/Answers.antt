@@ -1,7 +1,7 @@
 use Rattle.std.proofs.Common.{◌≡◌, ◌++◌, ◌∙◌, [], ap, map, rules, sym}
 use Rattle.std.proofs.lemmas.List.{map-append}
 use Rattle.c_typed.specs.Programs.{unit_data}
-use Rattle.numbering.specs.Keys.{position}
+use Rattle.c_numbers.specs.KeyNumbers.Keys.{position}
 use Rattle.c_joining.specs.Joining.{complete_in, tags_of_unit}
 use Rattle.c_joining.proofs.NumberLists.{numbers_are}
 use Rattle.c_joining.proofs.tags.numbers_of_structures.Goals as goal

@@ -1,7 +1,7 @@
 use Rattle.std.proofs.Common.{◌≡◌, ◌++◌, drop, map}
 use Rattle.c_erasure.specs.Units.{number_in}
-use Rattle.c_renumbering.specs.Numbers.{number_at}
-use Rattle.c_type_table.specs.Renumbered.{renumbered}
+use Rattle.c_numbers.specs.NewNumbers.Numbers.{number_at}
+use Rattle.c_numbers.specs.TypeNumbers.Renumbered.{renumbered}
 use Rattle.c_types.specs.Views.{type_of}
 use Rattle.c_joining.proofs.types.add_numbers.Given as goal
 

@@ -1,7 +1,7 @@
 use Rattle.std.proofs.Common.{◌≡◌, drop, fold, map}
-use Rattle.c_renumbering.specs.Numbers.{number_at}
-use Rattle.c_type_table.specs.Adding.{with_type}
-use Rattle.c_type_table.specs.Renumbered.{renumbered}
+use Rattle.c_numbers.specs.NewNumbers.Numbers.{number_at}
+use Rattle.c_numbers.specs.TypeNumbers.Adding.{with_type}
+use Rattle.c_numbers.specs.TypeNumbers.Renumbered.{renumbered}
 use Rattle.c_types.specs.Views.{type_of}
 use Rattle.c_joining.proofs.types.add_types.Given as goal
 

@@ -1,8 +1,8 @@
 use Rattle.std.proofs.Common.{◌∙◌, ap, fold, map, sym}
 use Rattle.std.specs.Prelude.{flat_map}
 use Rattle.std.proofs.lemmas.List.{drop_all}
-use Rattle.c_type_table.proofs.Laws.{all_new}
-use Rattle.c_type_table.specs.Adding.{with_type}
+use Rattle.c_numbers.proofs.TypeNumbers.Laws.{all_new}
+use Rattle.c_numbers.specs.TypeNumbers.Adding.{with_type}
 use Rattle.c_typed.specs.Programs.{unit_data}
 use Rattle.c_types.specs.Views.{type_of}
 use Rattle.c_joining.specs.Joining.{types_in}

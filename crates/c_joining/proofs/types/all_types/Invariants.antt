@@ -1,6 +1,6 @@
 use Rattle.std.proofs.Common.{◌≡◌, [], drop, fold, map}
 use Rattle.std.specs.Prelude.{flat_map}
-use Rattle.c_type_table.specs.Adding.{with_type}
+use Rattle.c_numbers.specs.TypeNumbers.Adding.{with_type}
 use Rattle.c_typed.specs.Programs.{unit_data}
 use Rattle.c_types.specs.Views.{type_of}
 use Rattle.c_joining.specs.Joining.{types_in}

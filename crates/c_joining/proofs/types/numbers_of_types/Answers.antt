@@ -1,7 +1,7 @@
 use Rattle.std.proofs.Common.{◌≡◌, ◌∙◌, ap, map, rules}
 use Rattle.c_erasure.specs.Units.{number_in}
-use Rattle.c_renumbering.specs.Numbers.{number_at}
-use Rattle.c_type_table.specs.Renumbered.{renumbered}
+use Rattle.c_numbers.specs.NewNumbers.Numbers.{number_at}
+use Rattle.c_numbers.specs.TypeNumbers.Renumbered.{renumbered}
 use Rattle.c_typed.specs.Programs.{unit_data}
 use Rattle.c_types.specs.declared.ty.Ty.TheVariants as T
 use Rattle.c_types.specs.Types.{CType, void}

@@ -5,7 +5,7 @@ use Rattle.std.proofs.lemmas.List.{at_drop_more}
 use Rattle.c_types.specs.declared.record.Record.{Record}
 use Rattle.c_types.specs.Types as Types
 use Rattle.c_types.specs.Views.{record_of, records_of}
-use Rattle.numbering.specs.Keys.{position}
+use Rattle.c_numbers.specs.KeyNumbers.Keys.{position}
 use Rattle.c_joining.specs.Placing.{replaces_one}
 use Rattle.c_link.specs.Clashes.{clashes, differing, trouble_of}
 use Rattle.c_link.proofs.LookUps.{found_is, looked_up}

@@ -1,6 +1,6 @@
 use Rattle.std.proofs.Common.{◌≡◌, ◌++◌, drop, map}
 use Rattle.std.specs.Prelude.{flat_map}
-use Rattle.c_renumbering.specs.Numbers.{number_at}
+use Rattle.c_numbers.specs.NewNumbers.Numbers.{number_at}
 use Rattle.c_types.specs.Views.{type_of}
 use Rattle.c_link.specs.Gaps.{linked_object_in}
 use Rattle.c_link.specs.Names.{linked_of}

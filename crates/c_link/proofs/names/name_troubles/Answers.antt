@@ -2,7 +2,7 @@ use Rattle.std.proofs.Common.{◌≡◌, Bor, ◌+◌, ◌++◌, ◌∷◌, ◌�
 use Rattle.std.specs.Prelude.{slice_get}
 use Rattle.std.specs.Option.{option_copied, option_map}
 use Rattle.std.proofs.lemmas.List.{at_drop_more}
-use Rattle.numbering.specs.Keys.{position}
+use Rattle.c_numbers.specs.KeyNumbers.Keys.{position}
 use Rattle.c_link.specs.declared.linked.Linked.{Linked}
 use Rattle.c_link.specs.Clashes.{trouble_of}
 use Rattle.c_link.specs.Gaps as Gaps

@@ -1,5 +1,5 @@
 use Rattle.std.proofs.Common.{◌≡◌, [], drop, fold, map}
-use Rattle.numbering.specs.Keys.{with_key}
+use Rattle.c_numbers.specs.KeyNumbers.Keys.{with_key}
 use Rattle.c_link.specs.Names.{linked_of}
 use Rattle.c_link.proofs.names.names_of.Given as goal
 

@@ -1,7 +1,7 @@
 use Rattle.std.proofs.Common.{◌≡◌, ◌++◌, drop, map}
 use Rattle.std.specs.Prelude.{flat_map}
 use Rattle.c_typed.specs.Programs.{data_of}
-use Rattle.c_uses.specs.Uses.{reference_of}
+use Rattle.c_link.specs.TreeUses.Uses.{reference_of}
 use Rattle.c_typed.specs.References.{references_by_statement}
 use Rattle.c_joining.specs.Joining.{if_any}
 use Rattle.c_link.proofs.references.add_functions.Given as goal

@@ -1,7 +1,7 @@
 use Rattle.std.proofs.Common.{◌≡◌, drop, fold, map}
 use Rattle.std.specs.Prelude.{flat_map}
 use Rattle.c_typed.specs.Programs.{unit_data}
-use Rattle.numbering.specs.Keys.{with_key}
+use Rattle.c_numbers.specs.KeyNumbers.Keys.{with_key}
 use Rattle.c_joining.specs.Joining.{complete_in}
 use Rattle.c_link.proofs.tag_names.add_complete.Given as goal
 

@@ -1,5 +1,5 @@
 use Rattle.std.proofs.Common.{◌≡◌, drop, fold}
-use Rattle.numbering.specs.Keys.{with_key}
+use Rattle.c_numbers.specs.KeyNumbers.Keys.{with_key}
 use Rattle.c_link.proofs.tag_names.add_names.Given as goal
 
 abbrev pub invariant-loop-name : goal.invariant-loop-name

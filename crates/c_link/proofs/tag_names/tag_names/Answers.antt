@@ -2,8 +2,8 @@ use Rattle.std.proofs.Common.{◌≡◌, ◌∙◌, ap, flat_map, fold, map, sym
 use Rattle.std.proofs.lemmas.List.{drop_all}
 use Rattle.c_joining.specs.Joining.{complete_in, complete_tags}
 use Rattle.c_typed.specs.Programs.{unit_data}
-use Rattle.numbering.specs.Keys.{with_key}
-use Rattle.numbering.proofs.Laws.{all_after, all_new}
+use Rattle.c_numbers.specs.KeyNumbers.Keys.{with_key}
+use Rattle.c_numbers.proofs.KeyNumbers.Laws.{all_after, all_new}
 use Rattle.c_link.proofs.tag_names.tag_names.Goals as goal
 
 pub loop-u-init : goal.loop-u-init

@@ -1,5 +1,5 @@
 use Rattle.std.proofs.Common.{◌≡◌, map, drop}
-use Rattle.c_checking.specs.Declaring.{declared_among}
+use Rattle.c_erasure.specs.Checking.Declaring.{declared_among}
 use Rattle.c_annotated.specs.FileViews.{bound_of}
 use Rattle.c_scopes.proofs.bound_names.first_among.Given as goal
 

@@ -4,4 +4,4 @@ use Rattle.c_units.specs.SizeOperands.{holds, kept}
 use Rattle.c_units.proofs.mentions.kept.Given as goal
 
 abbrev pub invariant-loop-m : goal.invariant-loop-m
-invariant-loop-m l = map mention_of l.found ≡ kept (holds l.before) (holds l.after) (map mention_of l.yielded)
+invariant-loop-m l = map mention_of l.found ≡ kept (holds l.sizes) (map mention_of l.yielded)

@@ -3,7 +3,7 @@ use Rattle.std.proofs.lemmas.Iterator.Adapters.{YieldsList-from_vec}
 use Rattle.std.proofs.lemmas.Iterator.Consumers.{YieldsList-end}
 use Rattle.std.proofs.lemmas.List.{map-append, map-id}
 use Rattle.c_annotated.specs.FileViews.{function_of}
-use Rattle.c_type_table.specs.Adding.{with_type}
+use Rattle.c_numbers.specs.TypeNumbers.Adding.{with_type}
 use Rattle.c_typed.specs.Programs.{data_of}
 use Rattle.c_types.specs.Views.{type_of}
 use Rattle.c_units.specs.CollectedTypes.{function_types}

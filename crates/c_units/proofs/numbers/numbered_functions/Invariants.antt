@@ -1,6 +1,6 @@
 use Rattle.std.proofs.Common.{◌≡◌, List, flat_map, fold, map}
 use Rattle.c_annotated.specs.FileViews.{function_of}
-use Rattle.c_type_table.specs.Adding.{with_type}
+use Rattle.c_numbers.specs.TypeNumbers.Adding.{with_type}
 use Rattle.c_typed.specs.Programs.{data_of}
 use Rattle.c_types.specs.Types.{CType}
 use Rattle.c_types.specs.Views.{type_of}

@@ -1,6 +1,6 @@
 use Rattle.std.proofs.Common.{[], ◌∷◌, ◌∙◌, ap, fold, map, sym}
 use Rattle.std.proofs.lemmas.List.{drop_all}
-use Rattle.numbering.specs.Keys.{with_key}
+use Rattle.c_numbers.specs.KeyNumbers.Keys.{with_key}
 use Rattle.c_units.proofs.Tables.{tabled}
 use Rattle.c_units.proofs.places.table_of.Goals as goal
 

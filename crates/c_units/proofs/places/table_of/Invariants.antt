@@ -1,5 +1,5 @@
 use Rattle.std.proofs.Common.{◌≡◌, [], ◌∷◌, drop, fold, map}
-use Rattle.numbering.specs.Keys.{with_key}
+use Rattle.c_numbers.specs.KeyNumbers.Keys.{with_key}
 use Rattle.c_units.proofs.places.table_of.Given as goal
 
 abbrev pub invariant-loop-number : goal.invariant-loop-number

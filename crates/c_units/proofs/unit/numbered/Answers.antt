@@ -1,6 +1,6 @@
 use Rattle.std.proofs.Common.{◌≡◌, ◌∙◌, IfOk, ap, flat_map, fold, map, subst}
 use Rattle.c_annotated.specs.FileViews.{function_of, mention_of}
-use Rattle.c_type_table.specs.Adding.{with_type}
+use Rattle.c_numbers.specs.TypeNumbers.Adding.{with_type}
 use Rattle.c_typed.specs.Programs.{data_of}
 use Rattle.c_types.specs.Views.{type_of}
 use Rattle.c_units.specs.CollectedTypes.{object_types}

@@ -1,10 +1,10 @@
 use Rattle.std.proofs.Common.{List, ℕ, Err, refl, subst, ◌∙◌}
 use Rattle.std.proofs.lemmas.Result.{err_from_is_err_and}
-use Rattle.thin_parser.specs.ThinTree.{program_of}
+use Rattle.thin_code.specs.ThinParser.ThinTree.{program_of}
 use Rattle.command_words.specs.Words.{compilation_of}
-use Rattle.program_files.specs.Outside.{stream}
-use Rattle.program_files.proofs.FilesRead.{few_read, short_read}
-use Rattle.program_files.proofs.Sources.{are_files, places_in}
+use Rattle.lay_compile.specs.ProgramFiles.Outside.{stream}
+use Rattle.lay_compile.proofs.ProgramFiles.FilesRead.{few_read, short_read}
+use Rattle.lay_compile.proofs.ProgramFiles.Sources.{are_files, places_in}
 use Rattle.lay_commands.specs.Stages.{WriteGives}
 use Rattle.lay_commands.proofs.Compiled.{program_refused, write_refused, report_gives}
 use Rattle.lay_commands.proofs.compiling.compile.Goals as goal

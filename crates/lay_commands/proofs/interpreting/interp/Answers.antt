@@ -1,9 +1,9 @@
 use Rattle.std.proofs.Common.{inl}
 use Rattle.std.proofs.lemmas.Result.{err_from_is_err_and}
 use Rattle.c_typed.specs.Programs.{program_data}
-use Rattle.program_files.specs.Outside.{stream}
-use Rattle.program_files.proofs.FilesRead.{short_read}
-use Rattle.program_files.proofs.Sources.{places_in_any}
+use Rattle.lay_compile.specs.ProgramFiles.Outside.{stream}
+use Rattle.lay_compile.proofs.ProgramFiles.FilesRead.{short_read}
+use Rattle.lay_compile.proofs.ProgramFiles.Sources.{places_in_any}
 use Rattle.lay_commands.proofs.Interpreted.{interp_gives}
 use Rattle.lay_commands.proofs.interpreting.interp.Goals as goal
 

@@ -2,9 +2,9 @@ use Rattle.std.proofs.Common.{ℕ, List, Err, subst}
 use Rattle.std.proofs.lemmas.Result.{err_from_is_err_and}
 use Rattle.c_typed.specs.Programs.{program_data}
 use Rattle.command_words.specs.Words.{profiling_of}
-use Rattle.program_files.specs.Outside.{stream}
-use Rattle.program_files.proofs.FilesRead.{short_read}
-use Rattle.program_files.proofs.Sources.{places_in}
+use Rattle.lay_compile.specs.ProgramFiles.Outside.{stream}
+use Rattle.lay_compile.proofs.ProgramFiles.FilesRead.{short_read}
+use Rattle.lay_compile.proofs.ProgramFiles.Sources.{places_in}
 use Rattle.lay_commands.specs.Stages.{WriteGives}
 use Rattle.lay_commands.proofs.Interpreted.{files_refused_too, profile_refused, profile_written, profile_unwritten}
 use Rattle.lay_commands.proofs.profiling.profile.Goals as goal

@@ -1,5 +1,5 @@
 use Rattle.rv_machine.specs.Runs.{observed}
-use Rattle.program_files.specs.Outside.{stream}
+use Rattle.lay_compile.specs.ProgramFiles.Outside.{stream}
 use Rattle.lay_commands.proofs.Ran.{run_gives}
 use Rattle.lay_commands.proofs.running.run.Goals as goal
 

@@ -1,6 +1,6 @@
 use Rattle.std.proofs.Common.{inl, refl}
-use Rattle.program_files.specs.FrontEnd.{or_empty}
-use Rattle.program_files.specs.Outside.{outside, stream}
+use Rattle.lay_compile.specs.ProgramFiles.FrontEnd.{or_empty}
+use Rattle.lay_compile.specs.ProgramFiles.Outside.{outside, stream}
 use Rattle.lay_commands.proofs.Requested.{compile_done, compile_refused, compile_texts, profile_gives, profile_texts, profile_reads}
 use Rattle.lay_commands.proofs.Requested.{interp_gives, interp_texts, interp_reads, run_gives, run_has, run_reads}
 use Rattle.lay_commands.proofs.top.outcome_for.Goals as goal

@@ -1,10 +1,10 @@
 use Rattle.std.proofs.Common.{rules, ◌≡◌, Some, true, length, ap, arith}
 use Rattle.std.specs.Prelude.{◌==◌}
 use Rattle.std.proofs.lemmas.Bool.Decides.{nat_tests}
-use Rattle.c_counts.specs.Loops.{loops_at}
-use Rattle.c_counts.specs.Order.{first_of, profile_order, rest_after}
-use Rattle.c_counts.specs.Stale.{loops_among, loops_differ, loops_in_each, loops_stale}
-use Rattle.c_counts.proofs.Orders.{rest_at_first}
+use Rattle.c_typed.specs.RunCounts.Loops.{loops_at}
+use Rattle.c_typed.specs.RunCounts.Order.{first_of, profile_order, rest_after}
+use Rattle.c_typed.specs.RunCounts.Stale.{loops_among, loops_differ, loops_in_each, loops_stale}
+use Rattle.c_typed.proofs.RunCounts.Orders.{rest_at_first}
 use Rattle.c_typed.specs.Programs.{program_data}
 use Rattle.profile_file.proofs.Differences.{loops_at_end, loops_next}
 use Rattle.profile_file.proofs.fitting.loops_fit.Goals as goal

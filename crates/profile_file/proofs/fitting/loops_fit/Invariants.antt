@@ -1,7 +1,7 @@
 use Rattle.std.proofs.Common.{◌≡◌, drop, length}
 use Rattle.std.specs.Prelude.{map}
-use Rattle.c_counts.specs.Order.{profile_order, rest_after}
-use Rattle.c_counts.specs.Stale.{loops_among, loops_differ, loops_stale}
+use Rattle.c_typed.specs.RunCounts.Order.{profile_order, rest_after}
+use Rattle.c_typed.specs.RunCounts.Stale.{loops_among, loops_differ, loops_stale}
 use Rattle.c_typed.specs.Programs.{program_data}
 use Rattle.profile_file.proofs.fitting.loops_fit.Given as goal
 

@@ -1,9 +1,9 @@
 use Rattle.std.proofs.Common.{rules, ◌≡◌, Some, true, ap}
 use Rattle.std.specs.Str.{bytes_eq}
-use Rattle.c_counts.specs.Counting.{name_at}
-use Rattle.c_counts.specs.Order.{first_of, profile_order, rest_after}
-use Rattle.c_counts.specs.Stale.{names_among, names_in, order_differs, order_stale}
-use Rattle.c_counts.proofs.Orders.{rest_at_first}
+use Rattle.c_typed.specs.RunCounts.Counting.{name_at}
+use Rattle.c_typed.specs.RunCounts.Order.{first_of, profile_order, rest_after}
+use Rattle.c_typed.specs.RunCounts.Stale.{names_among, names_in, order_differs, order_stale}
+use Rattle.c_typed.proofs.RunCounts.Orders.{rest_at_first}
 use Rattle.c_typed.specs.Programs.{program_data}
 use Rattle.profile_file.proofs.Differences.{names_at_end, names_next}
 use Rattle.profile_file.proofs.fitting.names_fit.Goals as goal

@@ -1,7 +1,7 @@
 use Rattle.std.proofs.Common.{◌≡◌, drop}
 use Rattle.std.specs.Prelude.{map}
-use Rattle.c_counts.specs.Order.{profile_order, rest_after}
-use Rattle.c_counts.specs.Stale.{names_among, names_in, order_differs, order_stale}
+use Rattle.c_typed.specs.RunCounts.Order.{profile_order, rest_after}
+use Rattle.c_typed.specs.RunCounts.Stale.{names_among, names_in, order_differs, order_stale}
 use Rattle.c_typed.specs.Programs.{program_data}
 use Rattle.profile_file.proofs.fitting.names_fit.Given as goal
 

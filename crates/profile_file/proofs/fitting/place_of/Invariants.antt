@@ -1,6 +1,6 @@
 use Rattle.std.proofs.Common.{◌≡◌, ◌+◌, drop}
 use Rattle.std.specs.Prelude.{map}
-use Rattle.c_counts.specs.Stale.{place_of}
+use Rattle.c_typed.specs.RunCounts.Stale.{place_of}
 use Rattle.profile_file.proofs.fitting.place_of.Given as goal
 
 abbrev pub invariant-loop-f : goal.invariant-loop-f

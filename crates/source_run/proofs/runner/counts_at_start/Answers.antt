@@ -1,6 +1,6 @@
 use Rattle.std.proofs.Common.{◌≡◌, subst}
 use Rattle.std.specs.Prelude.{IfOk}
-use Rattle.c_counts.specs.declared.counts.Counts.{Counts}
+use Rattle.c_typed.specs.declared.run_counts.counts.Counts.{Counts}
 use Rattle.c_typed.specs.Programs.{program_data}
 use Rattle.source_run.proofs.Zeros.{zeros_are}
 use Rattle.source_run.proofs.runner.counts_at_start.Goals as goal

@@ -1,5 +1,5 @@
 use Rattle.std.proofs.Common.{◌≡◌, ◌++◌, drop, map, replicate}
-use Rattle.c_counts.specs.Loops.{loops_of}
+use Rattle.c_typed.specs.RunCounts.Loops.{loops_of}
 use Rattle.c_typed.specs.Programs.{data_of, program_data}
 use Rattle.source_start.specs.Zeros.{no_counts, rows_of}
 use Rattle.source_start.proofs.counters.rows.Given as goal

@@ -2,7 +2,7 @@ use Rattle.std.proofs.Common.{◌≡◌, ◌+◌, ◌++◌, drop, map}
 use Rattle.block_memory.specs.View.{memory_of}
 use Rattle.c_meaning.specs.Program.{initial_memory, object_block}
 use Rattle.c_typed.specs.Programs.{program_data}
-use Rattle.runs.specs.Worlds.{live_bytes}
+use Rattle.block_memory.specs.RunWorlds.Worlds.{live_bytes}
 use Rattle.source_start.proofs.objects.add_objects.Given as goal
 
 abbrev pub invariant-loop-o : goal.invariant-loop-o

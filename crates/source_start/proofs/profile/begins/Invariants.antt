@@ -1,5 +1,5 @@
 use Rattle.std.proofs.Common.{◌≡◌, map}
-use Rattle.c_counts.specs.Counting.{numbers_below}
+use Rattle.c_typed.specs.RunCounts.Counting.{numbers_below}
 use Rattle.source_state.specs.CountsView.{counting_of}
 use Rattle.source_start.specs.Counted.{begin_in}
 use Rattle.source_start.proofs.profile.begins.Given as goal

@@ -1,8 +1,8 @@
 use Rattle.std.proofs.Common.{rules, ◌≡◌, ◌∙◌, ap, [], ◌∷◌, ◌++◌, map, Some}
-use Rattle.c_counts.specs.declared.counts.FunCount.{FunCount}
-use Rattle.c_counts.specs.declared.order.Defined.{Defined}
-use Rattle.c_counts.specs.Counting.{count_at}
-use Rattle.c_counts.specs.Order.{first_of, profile_order, rest_after}
+use Rattle.c_typed.specs.declared.run_counts.counts.FunCount.{FunCount}
+use Rattle.c_typed.specs.declared.run_counts.order.Defined.{Defined}
+use Rattle.c_typed.specs.RunCounts.Counting.{count_at}
+use Rattle.c_typed.specs.RunCounts.Order.{first_of, profile_order, rest_after}
 use Rattle.c_typed.specs.Programs.{program_data}
 use Rattle.source_state.specs.CountsView.{counting_of}
 use Rattle.source_start.specs.Counted.{begin_in, entry_in}

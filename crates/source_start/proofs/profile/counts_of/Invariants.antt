@@ -1,6 +1,6 @@
 use Rattle.std.proofs.Common.{◌≡◌, ◌++◌, length, map}
-use Rattle.c_counts.specs.Counting.{count_at, counts_by}
-use Rattle.c_counts.specs.Order.{profile_order, rest_after}
+use Rattle.c_typed.specs.RunCounts.Counting.{count_at, counts_by}
+use Rattle.c_typed.specs.RunCounts.Order.{profile_order, rest_after}
 use Rattle.c_typed.specs.Programs.{program_data}
 use Rattle.source_state.specs.CountsView.{counting_of}
 use Rattle.source_start.specs.Counted.{begin_in, entry_in}

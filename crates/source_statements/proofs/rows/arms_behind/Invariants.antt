@@ -1,5 +1,5 @@
 use Rattle.std.proofs.Common.{◌≡◌}
-use Rattle.loop_tallies.specs.Forms.{arms_in}
+use Rattle.c_typed.specs.LoopTallies.Forms.{arms_in}
 use Rattle.source_steps.specs.Ahead.{arms_behind}
 use Rattle.source_statements.proofs.rows.arms_behind.Given as goal
 

@@ -1,6 +1,6 @@
 use Rattle.std.proofs.Common.{◌≡◌, length}
 use Rattle.c_typed.specs.Programs.{program_data}
-use Rattle.loop_tallies.specs.Forms.{statements_in}
+use Rattle.c_typed.specs.LoopTallies.Forms.{statements_in}
 use Rattle.source_state.specs.RoomView.{core_of}
 use Rattle.source_steps.specs.Ahead.{past}
 use Rattle.source_statements.proofs.rows.past.Given as goal

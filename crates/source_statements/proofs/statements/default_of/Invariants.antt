@@ -1,5 +1,5 @@
 use Rattle.std.proofs.Common.{◌≡◌, drop, map}
-use Rattle.c_counts.specs.Loops.{arm_of as one_arm}
+use Rattle.c_typed.specs.RunCounts.Loops.{arm_of as one_arm}
 use Rattle.c_meaning.specs.Statements.{default_arm}
 use Rattle.c_typed.specs.Views.{arms_of}
 use Rattle.source_statements.proofs.statements.default_of.Given as goal

@@ -1,5 +1,5 @@
 use Rattle.std.proofs.Common.{◌≡◌, ◌++◌, map, take}
-use Rattle.thin_parser.specs.ThinTree.{term_of}
+use Rattle.thin_code.specs.ThinParser.ThinTree.{term_of}
 use Rattle.thin_code.specs.Code.{puts_code}
 use Rattle.thin_code.proofs.code.puts.Given as goal
 

@@ -1,6 +1,6 @@
 use Rattle.std.proofs.Common.{All, length, sym, ap, ◌∙◌, subst, arith}
 use Rattle.std.proofs.lemmas.List.Elements.{All-from_recursion}
-use Rattle.thin_parser.specs.ThinTree.{program_of}
+use Rattle.thin_code.specs.ThinParser.ThinTree.{program_of}
 use Rattle.rv_isa.specs.Encoding.{IsInRange}
 use Rattle.thin_code.specs.Code.{program_code, text_bytes}
 use Rattle.thin_code.proofs.Ranges.{program_in_range, program_length}

@@ -1,5 +1,5 @@
 use Rattle.std.proofs.Common.{Ok, sym, ap, ◌∙◌, subst}
-use Rattle.thin_parser.specs.ThinTree.{program_of}
+use Rattle.thin_code.specs.ThinParser.ThinTree.{program_of}
 use Rattle.elf32.specs.Written.{IsWritable}
 use Rattle.thin_code.proofs.Agreeing.{program_agrees, image_writable}
 use Rattle.thin_code.proofs.image.image_of_thin.Goals as goal

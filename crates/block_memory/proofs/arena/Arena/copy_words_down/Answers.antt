@@ -1,6 +1,6 @@
 use Rattle.std.proofs.Common.{◌≡◌, ◌+◌, ◌*◌, ◌<◌, length, take, arith, refl, ap, sym, ◌∙◌}
 use Rattle.std.proofs.lemmas.List.{length-set}
-use Rattle.memory_cells.specs.Words.{four_at}
+use Rattle.memory_words.specs.CellWords.Words.{four_at}
 use Rattle.block_memory.specs.Cells.{flat, over, range}
 use Rattle.block_memory.proofs.Copying.{Copies, down_all}
 use Rattle.block_memory.proofs.CopyingWords.{down_chunk, word_copied}

@@ -1,6 +1,6 @@
 use Rattle.std.proofs.Common.{◌≡◌, ◌+◌, ◌-◌, ◌*◌, ◌<◌, length, drop, arith, refl, ap, sym, ◌∙◌}
 use Rattle.std.proofs.lemmas.List.{length-set}
-use Rattle.memory_cells.specs.Words.{four_at}
+use Rattle.memory_words.specs.CellWords.Words.{four_at}
 use Rattle.block_memory.specs.Cells.{flat, over, range}
 use Rattle.block_memory.proofs.Copying.{Copies, up_all, up_none}
 use Rattle.block_memory.proofs.CopyingWords.{up_chunk, word_copied}

@@ -1,5 +1,5 @@
 use Rattle.std.proofs.Common.{map, take}
-use Rattle.memory_cells.specs.declared.cell.Cell.TheVariants.{Byte}
+use Rattle.memory_words.specs.declared.cell_words.cell.Cell.TheVariants.{Byte}
 use Rattle.block_memory.proofs.Writing.{Writes}
 use Rattle.block_memory.proofs.arena.Arena.put_bytes.Given as goal
 

@@ -1,5 +1,5 @@
 use Rattle.std.proofs.Common.{arith, ap}
-use Rattle.memory_cells.specs.Words.{cell_of, cells_of}
+use Rattle.memory_words.specs.CellWords.Words.{cell_of, cells_of}
 use Rattle.block_memory.proofs.Writing.{words_more, writes_none}
 use Rattle.block_memory.proofs.arena.Arena.put_words.Goals as goal
 

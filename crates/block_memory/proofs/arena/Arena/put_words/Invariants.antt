@@ -1,5 +1,5 @@
 use Rattle.std.proofs.Common.{◌*◌, replicate}
-use Rattle.memory_cells.specs.Words.{cell_of}
+use Rattle.memory_words.specs.CellWords.Words.{cell_of}
 use Rattle.block_memory.proofs.Writing.{Writes}
 use Rattle.block_memory.proofs.arena.Arena.put_words.Given as goal
 

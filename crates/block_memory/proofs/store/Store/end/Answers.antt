@@ -1,6 +1,6 @@
 use Rattle.std.proofs.Common.{◌≡◌, ◌+◌, ◌*◌, length, replicate, true, false, arith, refl, sym, ap, ◌∙◌}
 use Rattle.std.proofs.lemmas.List.{length-replicate}
-use Rattle.memory_cells.specs.declared.cell.Cell.TheVariants.{Empty}
+use Rattle.memory_words.specs.declared.cell_words.cell.Cell.TheVariants.{Empty}
 use Rattle.block_memory.specs.declared.slot.Slot.{Slot}
 use Rattle.block_memory.specs.Cells.{over}
 use Rattle.block_memory.specs.Lifetimes.{with_end}

@@ -1,5 +1,5 @@
 use Rattle.std.proofs.Common.{◌-◌, ◌*◌, ◌+◌, replicate}
-use Rattle.memory_cells.specs.declared.cell.Cell.TheVariants.{Empty}
+use Rattle.memory_words.specs.declared.cell_words.cell.Cell.TheVariants.{Empty}
 use Rattle.block_memory.proofs.Beginning.{kept_longer, sound_grown}
 use Rattle.block_memory.proofs.store.Store.extend.Goals as goal
 

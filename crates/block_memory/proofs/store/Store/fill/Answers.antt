@@ -1,5 +1,5 @@
 use Rattle.std.proofs.Common.{replicate, refl}
-use Rattle.memory_cells.specs.declared.cell.Cell.TheVariants.{Byte}
+use Rattle.memory_words.specs.declared.cell_words.cell.Cell.TheVariants.{Byte}
 use Rattle.block_memory.proofs.Reached.{fill_ok, fill_err}
 use Rattle.block_memory.proofs.Sound.{sound_changed}
 use Rattle.block_memory.proofs.store.Store.fill.Goals as goal

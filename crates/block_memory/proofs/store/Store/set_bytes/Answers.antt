@@ -1,6 +1,6 @@
 use Rattle.std.proofs.Common.{◌+◌, ◌*◌, length, map, arith, refl}
 use Rattle.std.proofs.lemmas.List.{length-map}
-use Rattle.memory_cells.specs.declared.cell.Cell.TheVariants.{Byte}
+use Rattle.memory_words.specs.declared.cell_words.cell.Cell.TheVariants.{Byte}
 use Rattle.block_memory.proofs.Beginning.{set_ended, set_live, set_within}
 use Rattle.block_memory.proofs.Sound.{sound_changed}
 use Rattle.block_memory.proofs.store.Store.set_bytes.Goals as goal

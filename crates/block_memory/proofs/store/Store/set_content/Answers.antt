@@ -1,6 +1,6 @@
 use Rattle.std.proofs.Common.{◌*◌, replicate, arith}
 use Rattle.std.proofs.lemmas.List.{length-replicate}
-use Rattle.memory_cells.specs.Words.{cell_of}
+use Rattle.memory_words.specs.CellWords.Words.{cell_of}
 use Rattle.block_memory.proofs.Beginning.{set_ended, set_live, set_within}
 use Rattle.block_memory.proofs.Sound.{sound_changed}
 use Rattle.block_memory.proofs.store.Store.set_content.Goals as goal

@@ -1,5 +1,5 @@
 use Rattle.std.proofs.Common.{◌+◌, ◌*◌, ◌∷◌, [], arith, refl}
-use Rattle.memory_cells.specs.declared.cell.Cell.TheVariants.{Byte}
+use Rattle.memory_words.specs.declared.cell_words.cell.Cell.TheVariants.{Byte}
 use Rattle.block_memory.proofs.Beginning.{set_ended, set_live, set_within}
 use Rattle.block_memory.proofs.Sound.{sound_changed}
 use Rattle.block_memory.proofs.store.Store.set_text.Goals as goal

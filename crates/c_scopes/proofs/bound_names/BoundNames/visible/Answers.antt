@@ -1,6 +1,6 @@
 use Rattle.std.proofs.Common.{◌≡◌, map, Some, ap, sym, ◌∙◌}
 use Rattle.std.specs.Option.{option_copied, option_map}
-use Rattle.c_checking.specs.Declaring.{declared_among}
+use Rattle.c_erasure.specs.Checking.Declaring.{declared_among}
 use Rattle.c_annotated.specs.FileViews.{bound_of}
 use Rattle.c_scopes.proofs.FirstBounds.{seen}
 use Rattle.c_scopes.proofs.bound_names.BoundNames.visible.Goals as goal

@@ -1,0 +1,4 @@
+pub mod Objects
+pub mod InTurn
+pub mod Tags
+pub mod NoTypedef

@@ -1,4 +1,0 @@
-mod Objects
-mod InTurn
-mod Tags
-mod NoTypedef

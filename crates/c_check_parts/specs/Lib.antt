@@ -1,0 +1,2 @@
+pub mod InitializerParts
+pub mod BlockLocals

@@ -1,0 +1,10 @@
+pub mod Rising
+pub mod Literals
+pub mod Places
+pub mod Names
+pub mod TagWalks
+pub mod TagsOfParts
+pub mod TagsOfFiles
+pub mod Tokens
+pub mod Texts
+pub mod UntaggedNames

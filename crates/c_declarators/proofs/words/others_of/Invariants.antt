@@ -1,8 +1,0 @@
-use Rattle.std.proofs.Common.{◌≡◌, map, drop}
-use Rattle.c_ast.specs.Views.{specifier_of, specifiers_of}
-use Rattle.c_erasure.specs.Specifiers.{types_among}
-use Rattle.c_declarators.specs.WordViews.{others_in}
-use Rattle.c_declarators.proofs.words.others_of.Given as goal
-
-abbrev pub invariant-loop-i : goal.invariant-loop-i
-invariant-loop-i l = l.others ≡ others_in (types_among (specifiers_of (map specifier_of (drop l.i l.all))))

@@ -1,0 +1,124 @@
+//! The tags of structures that have none.
+
+ghost use Rattle.std.specs.Prelude.{◌≡◌, ◌≤◌, ◌+◌, ℕ, List, nat_eq, ◌∷◌, All, IfOk, OnOk, length, if◌then◌else◌};
+ghost use Rattle.c_tokens.specs.TokenPlaces.{IsPlaceIn};
+ghost use Rattle.c_ast.specs.Spelling.{spell};
+ghost use Rattle.c_ast.specs.TreesOfFiles.{IsTreeOf};
+ghost use Rattle.c_ast.specs.Views.{items_of};
+ghost use Rattle.c_erasure.specs.Files.{AreAscending};
+ghost use Rattle.c_erasure.specs.Untagged.{AreTags, Line, name_in, structs_in, tag_text};
+ghost use Rattle.indexmap.specs.IndexMap.{insert_entry};
+ghost use Rattle.c_scopes.specs.SyntaxTags.Untagged.{untagged_by};
+ghost use Rattle.c_file_tags.specs.UntaggedStructs.Untagged.{counted_at, is_line};
+
+use crate::struct_places::places_of_structs;
+use c_ast::Tree;
+use c_lexer::{PresumedLines, tokens_have_places, tokens_have_texts};
+use c_scopes::Untagged;
+use c_tokens::Presumed;
+use indexmap::IndexMap;
+use itoa::Buffer;
+use lay_base::{File, Name, NoMemory};
+use std::alloc::{AllocError, Global};
+
+/// The name that is presumed of a place: the file's own where no marker gives one.
+#[tactic(auto, using(std::proofs::lemmas::List::take_min, std::proofs::lemmas::List::drop_min))]
+fn presumed_name<'a>(file: &'a File, presumed: Presumed) -> &'a [u8]
+    ensures { result.now ≡ name_in file.now.name file.now.bytes presumed }
+{
+    if presumed.to <= presumed.from {
+        return file.name.as_slice();
+    }
+    let bytes = file.bytes.as_slice();
+    let from = (presumed.from as usize).min(bytes.len());
+    let (_, after) = bytes.split_at(from);
+    let size = ((presumed.to - presumed.from) as usize).min(after.len());
+    let (name, _) = after.split_at(size);
+    name
+}
+
+fn tag_bytes(alloc: Global, name: &[u8], line: u32, number: u32) -> Result<Vec<u8>, AllocError>
+    ensures { IfOk result (λ tag. tag.items ≡ tag_text (name.now, line) number) }
+{
+    let mut buffer = Buffer::new();
+    let mut tag = Vec::from_slice(alloc, b"@")?;
+    tag.extend_from_slice(name)?;
+    tag.extend_from_slice(b":")?;
+    tag.extend_from_slice(buffer.format(line).as_bytes())?;
+    tag.extend_from_slice(b":")?;
+    tag.extend_from_slice(buffer.format(number).as_bytes())?;
+    Ok(tag)
+}
+
+/// How many places are on each line: of that line there is one more.
+fn count_one(
+    counts: &mut IndexMap<(Vec<u8>, u32), u32>,
+    alloc: Global,
+    name: &[u8],
+    line: u32,
+) -> Result<u32, NoMemory>
+    ensures number { IfOk result (λ n. n ≡ counted_at counts.old.entries (name.now, line) + 1) }
+    ensures counted { OnOk result ((q : Line) →
+        counted_at counts.new.entries q ≡ counted_at counts.old.entries q + (if is_line q (name.now, line) then 1 else 0)) }
+{
+    let key = (Vec::from_slice(alloc, name).map_err(|_| NoMemory)?, line);
+    let known = counts.get(&key).copied().unwrap_or(0);
+    let Some(number) = known.checked_add(1) else {
+        return Err(NoMemory);
+    };
+    match counts.insert(key, number) {
+        Ok(_) => Ok(number),
+        Err(_) => Err(NoMemory),
+    }
+}
+
+fn add_tag(
+    tags: &mut IndexMap<u32, Name>,
+    alloc: Global,
+    at: u32,
+    name: &[u8],
+    line: u32,
+    number: u32,
+) -> Result<(), NoMemory>
+    ensures { OnOk result (tags.new.entries ≡ insert_entry nat_eq tags.old.entries at (tag_text (name.now, line) number)) }
+{
+    let tag = tag_bytes(alloc, name, line, number).map_err(|_| NoMemory)?;
+    match tags.insert(at, Name::of(tag)) {
+        Ok(_) => Ok(()),
+        Err(_) => Err(NoMemory),
+    }
+}
+
+/// The tags of the structures that begin at these bytes.
+fn untagged_at(alloc: Global, file: &File, places: &[u32]) -> Result<Untagged, NoMemory>
+    requires short { length file.now.bytes ≤ 4194304 }
+    requires order { AreAscending places.now }
+    requires tokens { All (IsPlaceIn file.now.bytes) places.now }
+    ensures are { IfOk result (λ untagged. AreTags file.now.name file.now.bytes places.now (untagged_by untagged)) }
+    ensures begin { IfOk result (λ untagged. (at : ℕ) → (rest : List ℕ) × (untagged_by untagged at ≡ 64 ∷ rest)) }
+{
+    let mut tags = IndexMap::new(alloc);
+    let mut counts = IndexMap::new(alloc);
+    let mut lines = PresumedLines::new(file.bytes.as_slice());
+    for at in places {
+        let presumed = lines.presumed_at(*at);
+        let name = presumed_name(file, presumed);
+        let number = count_one(&mut counts, alloc, name, presumed.line)?;
+        add_tag(&mut tags, alloc, *at, name, presumed.line, number)?;
+    }
+    let untagged = Untagged::of(tags);
+    Ok(untagged)
+}
+
+/// The tags of the structures of a file, whose tree is known.
+pub fn untagged_of(alloc: Global, tree: &Tree, file: &File) -> Result<Untagged, NoMemory>
+    requires short { length file.now.bytes ≤ 4194304 }
+    requires tree { IsTreeOf file.now.bytes (items_of tree.now) }
+    ensures are { IfOk result (λ untagged. AreTags file.now.name file.now.bytes (structs_in (spell (items_of tree.now))) (untagged_by untagged)) }
+    ensures begin { IfOk result (λ untagged. (at : ℕ) → (rest : List ℕ) × (untagged_by untagged at ≡ 64 ∷ rest)) }
+{
+    tokens_have_texts();
+    tokens_have_places();
+    let places = places_of_structs(alloc, tree.items.as_slice())?;
+    untagged_at(alloc, file, &places)
+}

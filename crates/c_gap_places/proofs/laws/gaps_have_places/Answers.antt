@@ -1,6 +1,0 @@
-use Rattle.c_grammar.proofs.FirstPlaces.{trees_begin_first}
-use Rattle.c_gap_places.proofs.PlacesOfGaps.{gaps_have_places}
-use Rattle.c_gap_places.proofs.laws.gaps_have_places.Goals as goal
-
-pub returns : goal.returns
-returns c = gaps_have_places c.tokens_have_places.ensures trees_begin_first c.texts_are_in_order.ensures

@@ -1,0 +1,143 @@
+//! Subscripts (C99 6.5.2.1).
+
+ghost use Rattle.std.specs.Prelude.{◌≡◌, IfOk};
+ghost use Rattle.c_types.specs.Views.{type_of};
+ghost use Rattle.c_erasure.specs.Noted.{type_of as expression_type};
+ghost use Rattle.c_erasure.specs.Checking.Nodes.{element_in, index_in, index_to, promoted_value, turned_to};
+ghost use Rattle.c_annotated.specs.Views.{expression_of, path_of, thing_of};
+ghost use Rattle.c_nodes.specs.Gives.{Gives};
+ghost use Rattle.c_nodes.specs.OperatorNodes.Parts.{ArrayGives};
+
+use crate::fault::Fault;
+use crate::making::{convert_to_kind, way};
+use c_annotated::{Expression, ExpressionNode, Path, PathNode, Thing};
+use c_typed::{PointerOp, is_integer, points_to_object, promoting};
+use c_types::{Ty, copy};
+use lay_base::{Boxed, NoMemory, Place, Rule, boxed};
+use std::alloc::Global;
+
+/// What is subscripted.
+#[derive(Drop)]
+pub enum Subscripted {
+    /// An array object, with the type of its elements.
+    Array(Boxed<Path>, Ty),
+    Other(Thing),
+}
+
+/// Whether an array object is subscripted.
+#[tactic(auto, unfolding(c_erasure::specs::Checking::Nodes::array_of))]
+pub fn array_of(thing: Thing) -> Result<Subscripted, NoMemory>
+    ensures { ArrayGives (thing_of thing) result }
+{
+    match thing {
+        Thing::Object(p) => match &p.get().ty {
+            Ty::Array(element, _) => {
+                let element = copy(element.get())?;
+                Ok(Subscripted::Array(p, element))
+            }
+            _ => Ok(Subscripted::Other(Thing::Object(p))),
+        },
+        other => Ok(Subscripted::Other(other)),
+    }
+}
+
+/// A value converted by the integer promotions (C99 6.3.1.1), where it is a number.
+#[tactic(auto, using(crate::proofs::OperatorNodes::Promoted::promoted_number))]
+pub fn promote(alloc: Global, x: Boxed<Expression>) -> Result<Boxed<Expression>, NoMemory>
+    ensures { IfOk result (λ e. expression_of e ≡ promoted_value (expression_of x)) }
+{
+    match promoting(&x.get().ty) {
+        Some(kind) => convert_to_kind(alloc, kind, x),
+        None => Ok(x),
+    }
+}
+
+/// An element of an array object. The bracket stands at `left`.
+#[tactic(auto, unfolding(c_erasure::specs::Checking::Nodes::element_in))]
+pub fn element(
+    alloc: Global,
+    left: u32,
+    at: Place,
+    p: Boxed<Path>,
+    t: Ty,
+    i: Boxed<Expression>,
+) -> Result<Thing, Fault>
+    ensures { Gives thing_of result (element_in left at (path_of p, type_of t) (expression_of i)) }
+{
+    if is_integer(&i.get().ty) {
+        let i = promote(alloc, i)?;
+        way(alloc, t, at, PathNode::Element(p, i))
+    } else {
+        Err(Fault::IllTyped(Rule::Operands, left))
+    }
+}
+
+/// A pointer, and a number in brackets.
+fn pointer_first(
+    alloc: Global,
+    at: Place,
+    e: Boxed<Expression>,
+    i: Boxed<Expression>,
+) -> Result<Thing, Fault>
+    ensures { Gives thing_of result (index_to at (expression_of e) (expression_of i) (expression_type (expression_of e))) }
+{
+    match &e.get().ty {
+        Ty::Pointer(t) => {
+            let t = copy(t.get())?;
+            let i = promote(alloc, i)?;
+            way(alloc, t, at, PathNode::Index(e, i))
+        }
+        _ => Err(Fault::IllTyped(Rule::Operands, at.at)),
+    }
+}
+
+/// A number, and a pointer in brackets.
+fn number_first(
+    alloc: Global,
+    at: Place,
+    i: Boxed<Expression>,
+    e: Boxed<Expression>,
+) -> Result<Thing, Fault>
+    ensures { Gives thing_of result (turned_to at (expression_of i) (expression_of e) (expression_type (expression_of e))) }
+{
+    match &e.get().ty {
+        Ty::Pointer(t) => {
+            let t = copy(t.get())?;
+            let ty = copy(&e.get().ty)?;
+            let i = promote(alloc, i)?;
+            let node = ExpressionNode::PointerAdd(PointerOp::Add, i, e);
+            let sum = boxed(
+                alloc,
+                Expression {
+                    ty,
+                    note: None,
+                    place: at,
+                    node,
+                },
+            )?;
+            way(alloc, t, at, PathNode::Deref(sum))
+        }
+        _ => Err(Fault::IllTyped(Rule::Operands, at.at)),
+    }
+}
+
+/// A subscript on a pointer, in either order. The bracket stands at `left`.
+#[tactic(auto, unfolding(c_erasure::specs::Checking::Nodes::index_in))]
+pub fn index(
+    alloc: Global,
+    count: u32,
+    left: u32,
+    at: Place,
+    x: Boxed<Expression>,
+    y: Boxed<Expression>,
+) -> Result<Thing, Fault>
+    ensures { Gives thing_of result (index_in count left at (expression_of x) (expression_of y)) }
+{
+    if points_to_object(count, &x.get().ty) && is_integer(&y.get().ty) {
+        pointer_first(alloc, at, x, y)
+    } else if is_integer(&x.get().ty) && points_to_object(count, &y.get().ty) {
+        number_first(alloc, at, x, y)
+    } else {
+        Err(Fault::IllTyped(Rule::Operands, left))
+    }
+}

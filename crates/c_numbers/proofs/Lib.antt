@@ -1,0 +1,3 @@
+pub mod KeyNumbers
+pub mod NewNumbers
+pub mod TypeNumbers

@@ -1,0 +1,90 @@
+//! Types as keys.
+
+ghost use Rattle.std.specs.Prelude.{◌≡◌, ◌++◌, ◌∷◌, [], IfOk, OnOk};
+ghost use Rattle.c_numbers.specs.TypeNumbers.TypeKeys.{kind_number, type_key};
+ghost use Rattle.c_types.specs.Views.{type_of};
+
+use c_types::{IntKind, Ty};
+use lay_base::NoMemory;
+use std::alloc::Global;
+
+fn kind_number(kind: IntKind) -> u32
+    ensures { result ≡ kind_number kind }
+{
+    match kind {
+        IntKind::Char => 0,
+        IntKind::SChar => 1,
+        IntKind::UChar => 2,
+        IntKind::Short => 3,
+        IntKind::UShort => 4,
+        IntKind::Int => 5,
+        IntKind::UInt => 6,
+        IntKind::Long => 7,
+        IntKind::ULong => 8,
+    }
+}
+
+fn append(key: &mut Vec<u32>, number: u32) -> Result<(), NoMemory>
+    ensures { OnOk result (key.new.items ≡ key.old.items ++ number ∷ []) }
+{
+    match key.push(number) {
+        Ok(()) => Ok(()),
+        Err(_) => Err(NoMemory),
+    }
+}
+
+fn append_two(key: &mut Vec<u32>, first: u32, second: u32) -> Result<(), NoMemory>
+    ensures { OnOk result (key.new.items ≡ key.old.items ++ first ∷ second ∷ []) }
+{
+    append(key, first)?;
+    append(key, second)
+}
+
+#[tactic(auto, using(crate::proofs::TypeNumbers::Keys::two_appended, crate::proofs::TypeNumbers::Keys::one_appended, crate::proofs::TypeNumbers::Keys::pair_appended))]
+fn append_type(key: &mut Vec<u32>, t: &Ty) -> Result<(), NoMemory>
+    ensures { OnOk result (key.new.items ≡ key.old.items ++ type_key (type_of t.now)) }
+{
+    match t {
+        Ty::Void => append(key, 0),
+        Ty::Int(kind) => append_two(key, 1, kind_number(*kind)),
+        Ty::Pointer(to) => {
+            append(key, 2)?;
+            append_type(key, to.get())
+        }
+        Ty::Array(element, length) => {
+            append_two(key, 3, *length)?;
+            append_type(key, element.get())
+        }
+        Ty::Function(result, parameters) => {
+            append(key, 4)?;
+            append_type(key, result.get())?;
+            for parameter in parameters.get().as_slice() {
+                append(key, 1)?;
+                append_type(key, parameter)?;
+            }
+            append(key, 0)
+        }
+        Ty::Record(number) => append_two(key, 5, *number),
+    }
+}
+
+/// The key of a type.
+pub fn type_key(alloc: Global, t: &Ty) -> Result<Vec<u32>, NoMemory>
+    ensures { IfOk result (λ key. key.items ≡ type_key (type_of t.now)) }
+{
+    let mut key = Vec::new(alloc);
+    append_type(&mut key, t)?;
+    Ok(key)
+}
+
+/// A number by which a type is looked for before its key is made.
+pub fn hint(t: &Ty) -> u32 {
+    match t {
+        Ty::Void => 0,
+        Ty::Int(kind) => kind_number(*kind).wrapping_add(1),
+        Ty::Pointer(to) => hint(to.get()).wrapping_mul(11).wrapping_add(16),
+        Ty::Array(element, length) => hint(element.get()).wrapping_mul(37).wrapping_add(*length),
+        Ty::Function(result, _) => hint(result.get()).wrapping_add(512),
+        Ty::Record(number) => number.wrapping_add(256),
+    }
+}

@@ -1,0 +1,3 @@
+pub mod PrintableFunctions
+pub mod PrintableObjects
+pub mod PrintablePrograms

@@ -1,0 +1,10 @@
+pub mod Conversions
+pub mod Tokens
+pub mod Expressions
+pub mod Initializers
+pub mod Declarations
+pub mod Statements
+pub mod Addressed
+pub mod Offsets
+pub mod Units
+pub mod Programs

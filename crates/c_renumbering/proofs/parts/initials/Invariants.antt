@@ -1,7 +1,0 @@
-use Rattle.std.proofs.Common.{◌≡◌, ◌++◌, drop, map, take}
-use Rattle.c_renumbering.specs.Numbers.{renaming_of}
-use Rattle.c_renumbering.specs.Parts.{initial_in}
-use Rattle.c_renumbering.proofs.parts.initials.Given as goal
-
-abbrev pub invariant-loop-it : goal.invariant-loop-it
-invariant-loop-it l = l.it-items ≡ map (initial_in (renaming_of l.to)) (take l.it-index l.initial.it-items) ++ drop l.it-index l.initial.it-items

@@ -1,0 +1,11 @@
+pub mod Loose
+pub mod Moved
+pub mod Recognised
+pub mod ErasedExpressions
+pub mod ErasedStatements
+pub mod Standing
+pub mod StandingExpressions
+pub mod StandingStatements
+pub mod StandingCalls
+pub mod PlacesOfUnits
+pub mod PlacesOfPrograms

@@ -1,0 +1,5 @@
+use Rattle.c_undefined_places.proofs.PlacesOfPrograms.{programs_stand}
+use Rattle.c_undefined_places.proofs.laws.programs_stand_in_files.Goals as goal
+
+pub returns : goal.returns
+returns c = programs_stand c.tokens_have_places.ensures

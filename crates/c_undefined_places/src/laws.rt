@@ -1,0 +1,19 @@
+//! Laws about the places of a program and of its undefined steps.
+
+ghost use Rattle.c_undefined_places.specs.Laws.{ProgramsStandInFiles, UndefinedStepsStandInFiles};
+
+use c_lexer::tokens_have_places;
+
+/// Each place in the bodies of the program of some files is one of the file of its number, and there are tokens before it. So lines are presumed of it.
+pub fn programs_stand_in_files()
+    ensures { ProgramsStandInFiles }
+{
+    tokens_have_places();
+}
+
+/// Where a run of the program of some files is undefined, the place of that step is one of the file of its number, and there are tokens before it.
+pub fn undefined_steps_stand_in_files()
+    ensures { UndefinedStepsStandInFiles }
+{
+    tokens_have_places();
+}

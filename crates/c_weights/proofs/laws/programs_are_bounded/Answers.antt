@@ -1,5 +1,0 @@
-use Rattle.c_weights.proofs.Programs.{programs_are_bounded}
-use Rattle.c_weights.proofs.laws.programs_are_bounded.Goals as goal
-
-pub returns : goal.returns
-returns c = programs_are_bounded c.units_are_bounded.ensures c.joined_are_bounded.ensures

@@ -1,0 +1,9 @@
+use Rattle.std.proofs.Common.{◌∙◌}
+use Rattle.lay_compile.proofs.LineTexts.Texts.{is_text}
+use Rattle.lay_compile.proofs.line_texts.text_at.Goals as goal
+
+pub returns-in-Ok : goal.returns-in-Ok
+returns-in-Ok c =
+    let is = rw c.in-Some.is at c.in_ok-presumed.ensures in
+    is_text c.args.file.now c.args.at c.of-in-Ok.result c.in-Some.presumed (rw c.as_slice.ensures at is)
+    (c.of-in-Ok.ensures ∙ rw (← c.presumed_name.ensures) c.in-Ok.ensures)

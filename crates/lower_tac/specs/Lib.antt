@@ -1,0 +1,5 @@
+pub mod Parts
+pub mod Expressions
+pub mod Statements
+pub mod Same
+mod Examples

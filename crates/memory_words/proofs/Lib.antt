@@ -1,0 +1,2 @@
+pub mod ListPages
+pub mod CellWords

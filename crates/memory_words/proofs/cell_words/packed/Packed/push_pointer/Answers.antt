@@ -1,0 +1,22 @@
+use Rattle.std.proofs.Common.{◌<◌, length, refl, arith}
+use Rattle.memory_words.specs.CellWords.Words.{four_of_pointer}
+use Rattle.memory_words.proofs.CellWords.ChosenTables.{pointers}
+use Rattle.memory_words.proofs.CellWords.Steps.{place_fits, put_new, replaced, space}
+use Rattle.memory_words.proofs.cell_words.packed.Packed.push_pointer.Goals as goal
+
+pub push-e-requires : goal.push-e-requires
+push-e-requires c =
+    let p = c.release.new.self in
+    let known : c.args.i < length p.words.items = omega (arith, c.requires.known, c.release.ensures.long) in
+    space pointers p c.args.i c.release.ensures.packed known c.release.ensures.plain
+
+pub overflow_cast-e : goal.overflow_cast-e
+overflow_cast-e c = let fits = place_fits pointers c.release.new.self c.release.ensures.packed in omega (arith, fits, c.push-e.ensures.place)
+
+pub returns : goal.returns
+returns c =
+    let p = c.release.new.self in
+    let known : c.args.i < length p.words.items = omega (arith, c.requires.known, c.release.ensures.long) in
+    replaced c.args.i (four_of_pointer c.args.pointer) c.args.self.now p _ c.release.ensures
+    (put_new pointers p _ c.args.i c.push-e.result c.args.pointer c.release.ensures.packed known c.release.ensures.plain c.push-e.ensures.place c.set.ensures.items
+    c.push-e.ensures.values c.push-e.ensures.owners c.push-e.ensures.keeps refl)

@@ -1,9 +1,0 @@
-use Rattle.std.proofs.Common.{◌∙◌, ap}
-use Rattle.numbering.proofs.Places.{index_is_place}
-use Rattle.numbering.specs.Keys.{position}
-use Rattle.numbering.proofs.key_table.KeyTable.number.Goals as goal
-
-pub returns : goal.returns
-returns c =
-    let key = c.args.key.now in
-    c.unwrap_or.ensures ∙ (rw c.get_index_of.ensures.index (rw c.len.ensures.len (index_is_place c.self.inside.keys.keys key))) ∙ ap (λ keys. position keys key) c.self.view_is

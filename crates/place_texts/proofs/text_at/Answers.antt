@@ -1,9 +1,0 @@
-use Rattle.std.proofs.Common.{◌∙◌}
-use Rattle.place_texts.proofs.Texts.{is_text}
-use Rattle.place_texts.proofs.text_at.Goals as goal
-
-pub returns-in-Ok : goal.returns-in-Ok
-returns-in-Ok c =
-    let is = rw c.in-Some.is at c.in_ok-presumed.ensures in
-    is_text c.args.file.now c.args.at c.of-in-Ok.result c.in-Some.presumed (rw c.as_slice.ensures at is)
-    (c.of-in-Ok.ensures ∙ rw (← c.presumed_name.ensures) c.in-Ok.ensures)

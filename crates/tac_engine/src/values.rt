@@ -1,0 +1,233 @@
+//! Steps that compute values.
+
+ghost use Rattle.std.specs.Prelude.{◌≡◌, ◌≤◌, IfOk};
+ghost use Rattle.block_memory.specs.RunWorlds.Operators.{common_kind, pointer_op, updated};
+ghost use Rattle.block_memory.specs.View.{memory_of};
+ghost use Rattle.c_types.specs.Limits.{greatest_size};
+ghost use Rattle.c_types.specs.Types.{integer};
+ghost use Rattle.tac_ir.specs.Running.{type_of_sort};
+ghost use Rattle.tac_ir.specs.declared.step.Step.TheVariants as S;
+ghost use Rattle.tac_engine.specs.States.{found, putting, putting_any};
+ghost use Rattle.tac_engine.specs.Steps.{enacted};
+ghost use Rattle.tac_engine.specs.View.{state_of};
+
+use crate::engine::{Comes, Engine};
+use crate::temporaries::{put_slot, read, read_both};
+use block_memory::{Store, Value};
+use c_meaning::Slot;
+use c_typed::{BinaryOp, PointerOp, is_shift, promoted_kind};
+use c_types::IntKind;
+use lay_base::{NoMemory, Place, UndefinedKind};
+use source_state::undefined;
+use source_steps::Moved;
+use source_values::{
+    Sort as Conversion, binary, compared, convert, distance, flag, is_true, moved, pointer_of,
+    unary,
+};
+use std::alloc::Global;
+use tac_ir::{Operand, Sort, Step};
+
+/// The greatest size of a type, in bytes.
+pub(crate) const GREATEST_SIZE: u32 = 16_777_216;
+
+/// The kind in which a number of a kind is updated.
+fn common_kind(op: BinaryOp, left: IntKind, right: IntKind) -> IntKind
+    ensures { result ≡ common_kind op left right }
+{
+    if is_shift(op) {
+        promoted_kind(left)
+    } else {
+        right
+    }
+}
+
+/// What a compound assignment does to a pointer.
+fn pointer_op(op: BinaryOp) -> PointerOp
+    ensures { result ≡ pointer_op op }
+{
+    match op {
+        BinaryOp::Subtract => PointerOp::Subtract,
+        _ => PointerOp::Add,
+    }
+}
+
+/// What a compound assignment stores (C99 6.5.16.2).
+fn updated(
+    store: &Store,
+    op: BinaryOp,
+    size: u32,
+    sort: Sort,
+    old: Value,
+    right: IntKind,
+    v: Value,
+) -> Result<Value, UndefinedKind>
+    requires { size ≤ greatest_size }
+    ensures { result ≡ updated (memory_of store.now) op size (type_of_sort sort) old (integer right) v }
+{
+    match sort {
+        Sort::Number(kind) => {
+            let common = common_kind(op, kind, right);
+            match binary(
+                op,
+                common,
+                convert(Conversion::Number(common), old),
+                right,
+                v,
+            ) {
+                Ok(new) => Ok(convert(Conversion::Number(kind), new)),
+                Err(kind) => Err(kind),
+            }
+        }
+        Sort::Pointer => moved(store, pointer_op(op), size, IntKind::Int, old, right, v),
+    }
+}
+
+impl<'a> Engine<'a> {
+    /// A temporary takes a value or holds none.
+    #[inline(always)]
+    pub(crate) fn put_any(&mut self, t: u32, v: Option<Value>) -> Comes
+        ensures { IfOk result (λ m. (m, state_of self.new) ≡ putting_any t v (state_of self.old)) }
+    {
+        put_slot(&mut self.room, t, Slot::ByName(v))?;
+        Ok(Moved::Goes)
+    }
+
+    /// A temporary takes a value.
+    #[inline(always)]
+    pub(crate) fn put(&mut self, t: u32, v: Value) -> Comes
+        ensures { IfOk result (λ m. (m, state_of self.new) ≡ putting t v (state_of self.old)) }
+    {
+        self.put_any(t, Some(v))
+    }
+
+    /// A temporary takes a value that is found.
+    #[inline(always)]
+    pub(crate) fn found(&mut self, t: u32, place: Place, v: Result<Value, UndefinedKind>) -> Comes
+        ensures { IfOk result (λ m. (m, state_of self.new) ≡ found t place v (state_of self.old)) }
+    {
+        match v {
+            Ok(v) => self.put(t, v),
+            Err(kind) => Ok(undefined(kind, place)),
+        }
+    }
+
+    // ---- the steps
+
+    /// A step that computes a value of two operands, or one that does anything else.
+    #[inline(never)]
+    pub(crate) fn enact_two(&mut self, alloc: Global, step: &Step) -> Comes
+        ensures { IfOk result (λ m. (m, state_of self.new) ≡ enacted step.now (state_of self.old)) }
+    {
+        match *step {
+            Step::Binary(t, at, op, kind, right, a, b) => match read_both(&self.room, a, b) {
+                Ok((v, w)) => self.found(t, at, binary(op, kind, v, right, w)),
+                Err(end) => Ok(Moved::Over(end)),
+            },
+            Step::Compare(t, at, op, kind, a, b) => match read_both(&self.room, a, b) {
+                Ok((v, w)) => {
+                    let value = compared(&self.room.store, op, kind, v, w);
+                    self.found(t, at, value)
+                }
+                Err(end) => Ok(Moved::Over(end)),
+            },
+            Step::Distance(t, at, size, a, b) => match read_both(&self.room, a, b) {
+                Ok((v, w)) => self.found(t, at, distance(size, v, w)),
+                Err(end) => Ok(Moved::Over(end)),
+            },
+            Step::Move(t, at, op, size, left, right, a, b) => {
+                self.shift(t, at, op, size, left, right, a, b)
+            }
+            Step::Update(t, at, op, size, sort, right, a, b) => {
+                self.update(t, at, op, size, sort, right, a, b)
+            }
+            _ => self.enact_one(alloc, step),
+        }
+    }
+
+    /// A step that computes a value of one operand, or one that does anything else.
+    #[inline(never)]
+    fn enact_one(&mut self, alloc: Global, step: &Step) -> Comes
+        ensures { IfOk result (λ m. (m, state_of self.new) ≡ enacted step.now (state_of self.old)) }
+    {
+        match *step {
+            Step::Set(t, a) => match read(&self.room, a) {
+                Ok(v) => self.put(t, v),
+                Err(end) => Ok(Moved::Over(end)),
+            },
+            Step::Clear(t) => self.put_any(t, None),
+            Step::Unary(t, op, a) => match read(&self.room, a) {
+                Ok(v) => self.put(t, unary(op, v)),
+                Err(end) => Ok(Moved::Over(end)),
+            },
+            Step::Truth(t, a) => match read(&self.room, a) {
+                Ok(v) => self.put(t, flag(is_true(v))),
+                Err(end) => Ok(Moved::Over(end)),
+            },
+            Step::Not(t, a) => match read(&self.room, a) {
+                Ok(v) => self.put(t, flag(!is_true(v))),
+                Err(end) => Ok(Moved::Over(end)),
+            },
+            Step::Convert(t, kind, a) => match read(&self.room, a) {
+                Ok(v) => self.put(t, convert(Conversion::Number(kind), v)),
+                Err(end) => Ok(Moved::Over(end)),
+            },
+            Step::AsPointer(t, a) => match read(&self.room, a) {
+                Ok(v) => self.put(t, Value::Pointer(pointer_of(v))),
+                Err(end) => Ok(Moved::Over(end)),
+            },
+            _ => self.enact_call(alloc, step),
+        }
+    }
+
+    /// A pointer and a number of elements.
+    fn shift(
+        &mut self,
+        t: u32,
+        place: Place,
+        op: PointerOp,
+        size: u32,
+        left: IntKind,
+        right: IntKind,
+        a: Operand,
+        b: Operand,
+    ) -> Comes
+        ensures { IfOk result (λ m. (m, state_of self.new) ≡ enacted (S.Move t place op size left right a b) (state_of self.old)) }
+    {
+        if size > GREATEST_SIZE {
+            return Err(NoMemory);
+        }
+        match read_both(&self.room, a, b) {
+            Ok((v, w)) => {
+                let value = moved(&self.room.store, op, size, left, v, right, w);
+                self.found(t, place, value)
+            }
+            Err(end) => Ok(Moved::Over(end)),
+        }
+    }
+
+    fn update(
+        &mut self,
+        t: u32,
+        place: Place,
+        op: BinaryOp,
+        size: u32,
+        sort: Sort,
+        right: IntKind,
+        a: Operand,
+        b: Operand,
+    ) -> Comes
+        ensures { IfOk result (λ m. (m, state_of self.new) ≡ enacted (S.Update t place op size sort right a b) (state_of self.old)) }
+    {
+        if size > GREATEST_SIZE {
+            return Err(NoMemory);
+        }
+        // The operand on the right comes first.
+        match read_both(&self.room, b, a) {
+            Ok((w, v)) => {
+                let value = updated(&self.room.store, op, size, sort, v, right, w);
+                self.found(t, place, value)
+            }
+            Err(end) => Ok(Moved::Over(end)),
+        }
+    }
+}

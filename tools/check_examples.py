@@ -1,0 +1,101 @@
+#!/usr/bin/env python3
+"""Tries the examples that are preprocessed: `examples/firmware` by its Makefile, and the headers of `include/`.
+
+- `make interp`, `make profile` and `make run` of the firmware write what stands in `firmware.expected`. So does what GCC makes of the same files for the
+  machine at hand, with its own headers.
+- The program in `headers/`, which includes every header twice, writes under `layc interp` what it writes by GCC with its own headers.
+- Each header serves alone, in two files of one program.
+
+What needs a tool that is missing is skipped, and the tool is named."""
+
+import os
+import sys
+import tempfile
+
+import checking
+from check_interp import makes_programs, read
+from checking import LAYC, check
+from csmith_programs import GCC, write_files
+
+HERE = os.path.dirname(os.path.abspath(__file__))
+FIRMWARE, HEADERS = os.path.join(checking.HERE, "examples", "firmware"), os.path.join(HERE, "headers")
+INCLUDE = os.path.join(checking.HERE, "include")
+FIRMWARE_FILES, HEADER_FILES = ["main.c", "ring.c", "channels.c"], ["every.1.c", "every.2.c"]
+
+
+def by_gcc(folder, names, out, text=b""):
+    """What the program writes by GCC with its own headers."""
+    program = os.path.join(out, "program")
+    made = checking.run([*GCC, "-w", "-o", program, *names], cwd=folder)
+    return checking.run([program], input=text) if made.returncode == 0 else made
+
+
+def preprocessed(folder, names, out):
+    """The files as layc takes them, with the headers of `include/`."""
+    paths = [os.path.join(out, name[:-2] + ".i") for name in names]
+    for name, path in zip(names, paths):
+        done = checking.run(["gcc", "-E", "-nostdinc", "-I", INCLUDE, "-o", path, name], cwd=folder)
+        check(done.returncode == 0, f"{name} is not preprocessed: {done.stderr.decode()}")
+    return paths
+
+
+def check_same(what, done, wanted):
+    got = done.stdout, done.returncode, done.stderr
+    check(got == (wanted, 0, b""), f"{what}: status {done.returncode}, {len(done.stdout)} bytes, errors {done.stderr[-300:]!r}; wanted {len(wanted)} bytes")
+
+
+def make(target, out):
+    return checking.run(["make", "-s", f"LAYC={LAYC}", f"OUT={out}", target], cwd=FIRMWARE)
+
+
+def check_firmware(out, has_gcc):
+    wanted = read(os.path.join(FIRMWARE, "firmware.expected"))
+    if has_gcc:
+        check_same("the firmware by GCC", by_gcc(FIRMWARE, FIRMWARE_FILES, out, read(os.path.join(FIRMWARE, "firmware.in"))), wanted)
+    if not checking.have("make"):
+        return
+    check_same("make interp", make("interp", out), wanted)
+    check_same("make profile", make("profile", out), wanted)
+    profile = os.path.join(out, "firmware.profile")
+    check(os.path.exists(profile) and read(profile).startswith(b"layc-profile 1\n"), "make profile leaves no profile")
+    if checking.compiler():
+        done = make("run", out)
+        said, _, done.stderr = done.stderr.partition(b"\n")
+        check(b"run by layc" in said, f"make run says {said!r}")
+        check_same("make run", done, wanted)
+
+
+def check_headers(out):
+    wanted = by_gcc(HEADERS, HEADER_FILES, out)
+    check(wanted.returncode == 0, f"the program of headers by GCC: {wanted.stderr.decode()}")
+    check_same("the program of headers", checking.run([LAYC, "interp", *preprocessed(HEADERS, HEADER_FILES, out)]), wanted.stdout)
+
+
+def check_alone(out, header):
+    """That two files which include no other header are a program."""
+    line = f"#include <{header}>\n"
+    write_files(out, {"once.c": line + "int main(void) { return 0; }\n", "twice.c": line * 2})
+    check_same(header, checking.run([LAYC, "interp", *preprocessed(out, ["once.c", "twice.c"], out)]), b"")
+
+
+def main():
+    if checking.built("layc") is None:
+        print("skipped: the examples that are preprocessed, for the compiler is not built")
+        return 0
+    if not checking.have("gcc"):
+        return 0
+    has_gcc = makes_programs()
+    if not has_gcc:
+        print("skipped: the comparison with GCC, which makes no program for its 32-bit target here (package gcc-multilib)")
+    with tempfile.TemporaryDirectory() as out:
+        check_firmware(out, has_gcc)
+        for header in sorted(os.listdir(INCLUDE)):
+            check_alone(out, header)
+        if has_gcc:
+            check_headers(out)
+    print(f"check_examples: {checking.made - checking.failed} checks hold, {checking.failed} do not")
+    return 1 if checking.failed else 0
+
+
+if __name__ == "__main__":
+    sys.exit(main())
