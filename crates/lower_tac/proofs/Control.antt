@@ -14,12 +14,13 @@ use Rattle.c_meaning.specs.Frames.{Frame}
 use Rattle.c_meaning.specs.Statements.{execute, execute_all}
 use Rattle.tac_ir.specs.Code.{Code, RoutineData}
 use Rattle.tac_ir.specs.Running.{Caller}
-use Rattle.lower_tac.specs.Statements.{Out, Exits, with_loops, statement_code, statements_code}
+use Rattle.lower_tac.specs.declared.ways.Exits.{Exits}
+use Rattle.lower_tac.specs.Statements.{Out, with_loops, statement_code, statements_code}
 use Rattle.lower_tac.proofs.Making.{ends_same}
 use Rattle.lower_tac.proofs.Calls as Calls
-use Rattle.lower_tac.proofs.Statements as Statements
-use Rattle.lower_tac.proofs.Statements.{Extends, extends_then}
-use Rattle.lower_tac.proofs.Loops as Loops
+use Rattle.lower_tac.proofs.StatementsCover as Statements
+use Rattle.lower_tac.proofs.StatementsCover.{Extends, extends_then}
+use Rattle.lower_tac.proofs.LoopsCover as Loops
 use Rattle.lower_tac.proofs.Declarations as Declarations
 use Rattle.lower_tac.proofs.Switch as Switch
 use Rattle.lower_tac.proofs.Switch.{AllDo, none_do, more_do}

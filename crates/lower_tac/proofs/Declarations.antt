@@ -34,7 +34,8 @@ use Rattle.tac_ir.specs.Running.{Caller, with_temp, read, inside, written, empti
 use Rattle.tac_ir.specs.declared.step.Step.TheVariants as S
 use Rattle.lower_tac.specs.Parts.{Steps, Part, temp, operand, code_of}
 use Rattle.lower_tac.specs.Expressions.{value_code, path_code, part_of, place_of, named_root, assign_named}
-use Rattle.lower_tac.specs.Statements.{Out, before, Exits, record_code, put_code, parts_code, initial_code, declare_code}
+use Rattle.lower_tac.specs.declared.ways.Exits.{Exits}
+use Rattle.lower_tac.specs.Statements.{Out, before, record_code, put_code, parts_code, initial_code, declare_code}
 use Rattle.lower_tac.proofs.Blind.{blind_covers, stores, stays, back, same_run}
 use Rattle.lower_tac.proofs.Base.{Standing, Joined, IsBlock, IsNamed, reads_temp, temp_same, temp_stays, scratch, standing_named, standing_later, deeper, within as there_below}
 use Rattle.lower_tac.proofs.Library.{assigns_record}
@@ -42,10 +43,10 @@ use Rattle.lower_tac.proofs.Making as Making
 use Rattle.lower_tac.proofs.Making.{Ends, ends_same, ends_more, ends_behind, ends_then}
 use Rattle.lower_tac.proofs.Assignments as Assignments
 use Rattle.lower_tac.proofs.Calls as Calls
-use Rattle.lower_tac.proofs.Nodes as Nodes
+use Rattle.lower_tac.proofs.NodesCover as Nodes
 use Rattle.lower_tac.proofs.Places.{named_slot, block_slot}
-use Rattle.lower_tac.proofs.Statements as Statements
-use Rattle.lower_tac.proofs.Statements.{Extends, same_out, extends_then, by_extends}
+use Rattle.lower_tac.proofs.StatementsCover as Statements
+use Rattle.lower_tac.proofs.StatementsCover.{Extends, same_out, extends_then, by_extends}
 
 text_there : (texts : List (List ℕ)) (bytes : List ℕ) → slice_get (texts ++ bytes ∷ []) (length texts) ≡ Some bytes
 text_there [] bytes = refl

@@ -1,19 +1,25 @@
+pub mod TwoLists
+pub mod Counts
+pub mod Numbers
+pub mod BySort
+pub mod FromBack
+pub mod Shown
 mod Blind
 mod Base
 mod Making
 mod Values
 mod Choices
 mod Places
-mod Ways
+mod WaysCover
 mod Assignments
 mod Library
 mod Calls
-mod Nodes
-mod Scopes
-mod Statements
-mod Loops
+mod NodesCover
+mod ScopesCover
+mod StatementsCover
+mod LoopsCover
 mod Declarations
 mod Switch
 mod Control
-mod Functions
+mod FunctionsCover
 mod Same

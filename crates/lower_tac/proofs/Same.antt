@@ -8,7 +8,7 @@ use Rattle.tac_ir.specs.Running.{go, returns}
 use Rattle.lower_tac.specs.Same.{RunsAreSame}
 use Rattle.lower_tac.specs.Statements.{lowered}
 use Rattle.lower_tac.proofs.Blind.{stays}
-use Rattle.lower_tac.proofs.Functions.{callees}
+use Rattle.lower_tac.proofs.FunctionsCover.{callees}
 
 pub same : RunsAreSame
 same p input turns limited =

@@ -29,16 +29,17 @@ use Rattle.tac_ir.specs.declared.step.Step.TheVariants as S
 use Rattle.tac_ir.specs.declared.step.Target.{Target}
 use Rattle.lower_tac.specs.Parts.{Steps, temp, held}
 use Rattle.lower_tac.specs.Expressions.{value_code, part_of}
-use Rattle.lower_tac.specs.Statements.{Out, by, here, Exits, in_switch, scope_code, scoped_code, have_blocks, begins_code, cases_code, dispatch_code, chosen_code, default_start, ArmsOut, statements_code, arms_code}
+use Rattle.lower_tac.specs.declared.ways.Exits.{Exits}
+use Rattle.lower_tac.specs.Statements.{Out, by, here, in_switch, scope_code, scoped_code, have_blocks, begins_code, cases_code, dispatch_code, chosen_code, default_start, ArmsOut, statements_code, arms_code}
 use Rattle.lower_tac.proofs.Blind.{back}
 use Rattle.lower_tac.proofs.Base.{Standing, Reads, reads_temp}
 use Rattle.lower_tac.proofs.Making as Making
 use Rattle.lower_tac.proofs.Making.{Ends, ends_same, ends_more, ends_behind, ends_then, left_there}
 use Rattle.lower_tac.proofs.Calls as Calls
-use Rattle.lower_tac.proofs.Nodes as Nodes
-use Rattle.lower_tac.proofs.Scopes as Scopes
-use Rattle.lower_tac.proofs.Statements as Statements
-use Rattle.lower_tac.proofs.Statements.{Extends, same_out, extends_then, by_extends}
+use Rattle.lower_tac.proofs.NodesCover as Nodes
+use Rattle.lower_tac.proofs.ScopesCover as Scopes
+use Rattle.lower_tac.proofs.StatementsCover as Statements
+use Rattle.lower_tac.proofs.StatementsCover.{Extends, same_out, extends_then, by_extends}
 
 module _ (p : ProgramData) (c : Code) (n : ℕ) (locals : List Local) (cs : List Caller) (g : RoutineData) (h : ℕ) (call : Place → (f : ℕ) → List Value → Doing Frame (Option Value))
     (callees : Calls.Calls p c n call) (routines : Calls.Routines p c) where

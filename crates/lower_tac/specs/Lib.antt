@@ -1,5 +1,8 @@
 pub mod Parts
 pub mod Expressions
 pub mod Statements
+pub mod Writing
+pub mod Grounds
+pub mod Drafts
 pub mod Same
 mod Examples

@@ -18,6 +18,11 @@ use Rattle.tac_ir.specs.declared.step.Step.{Step}
 use Rattle.tac_ir.specs.declared.step.Step.TheVariants as S
 use Rattle.tac_ir.specs.declared.step.Target.{Target}
 use Rattle.tac_ir.specs.declared.step.Target.TheVariants as To
+use Rattle.lower_tac.specs.declared.ways.Exit.{Exit}
+use Rattle.lower_tac.specs.declared.ways.Exit.TheVariants.{Leads as leads, Leaves as leaves}
+use Rattle.lower_tac.specs.declared.ways.Exits.{Exits}
+use Rattle.lower_tac.specs.declared.ways.ReturnWay.{ReturnWay}
+use Rattle.lower_tac.specs.declared.ways.ReturnWay.TheVariants.{AtOnce as at_once, BehindEnds as behind_ends}
 use Rattle.lower_tac.specs.Parts.{Steps, Part, temp, operand, code_of, held}
 use Rattle.lower_tac.specs.Expressions.{value_code, effect_code, branch_code, path_code, part_of, place_of, named_root, assign_named}
 
@@ -54,21 +59,6 @@ abbrev pub marked : (label : ℕ) → Out → Out
 marked l out = record out { labels = slice_set out.labels l (length out.code) }
 
 -- ---- ways out of a statement
-
--- a break and a continue lead somewhere, or where no loop and no `switch` stands around them out of the function
-pub data Exit : Type 0 where
-  leads : (to : Target) → Exit
-  leaves : Exit
-
--- a return leaves the function where it stands, or leads to where blocks of locals end, with its value in the first temporary behind the locals
-pub data ReturnWay : Type 0 where
-  at_once : ReturnWay
-  behind_ends : (to : Target) → ReturnWay
-
-pub record Exits : Type 0 where
-  pub on_break : Exit
-  pub on_continue : Exit
-  pub on_return : ReturnWay
 
 abbrev pub in_loop : (on_break on_continue : Target) → Exits → Exits
 in_loop b c x = record { on_break = leads b; on_continue = leads c; on_return = x.on_return }
@@ -170,15 +160,34 @@ module _ (p : ProgramData) (g : ℕ) (locals : List Local) where
   abbrev pub return_end : List ℕ → Exits → Out → Out
   return_end own x = ending own (back_code x.on_return)
 
-  -- what a scope's statements are made of, with their ways out
+  -- from the back: the ends on the way through, and those of a return, a continue and a break
+  abbrev pub through : List ℕ → Out → Out
+  through own out = by (ends_code own) out
+
+  abbrev pub returned : List ℕ → Exits → Out → Out
+  returned own x out = return_end own x (through own out)
+
+  abbrev pub continued : List ℕ → Exits → Out → Out
+  continued own x out = continue_end own x (returned own x out)
+
+  abbrev pub broken : List ℕ → Exits → Out → Out
+  broken own x out = break_end own x (continued own x out)
+
+  -- what stands behind a scope's statements, and their ways out
+  abbrev pub scope_end : (blocks : Bool) → List ℕ → Exits → Out → Out
+  scope_end false own x out = out
+  scope_end true own x out = before (S.Jump (here (through own out))) (broken own x out)
+
+  abbrev pub scope_exits : (blocks : Bool) → List ℕ → Exits → Out → Exits
+  scope_exits false own x out = x
+  scope_exits true own x out = record {
+    on_break = leads (here (broken own x out));
+    on_continue = leads (here (continued own x out));
+    on_return = behind_ends (here (returned own x out));
+  }
+
   abbrev pub scope_code : (blocks : Bool) → List ℕ → (Exits → Out → Out) → Exits → Out → Out
-  scope_code false own make x out = make x out
-  scope_code true own make x out =
-      let last = by (ends_code own) out in
-      let returned = return_end own x last in
-      let continued = continue_end own x returned in
-      let broken = break_end own x continued in
-      make (record { on_break = leads (here broken); on_continue = leads (here continued); on_return = behind_ends (here returned) }) (before (S.Jump (here last)) broken)
+  scope_code blocks own make x out = make (scope_exits blocks own x out) (scope_end blocks own x out)
 
   abbrev pub scoped_code : List ℕ → (Exits → Out → Out) → Exits → Out → Out
   scoped_code own make x out = by (begins_code own) (scope_code (have_blocks own) own make x out)

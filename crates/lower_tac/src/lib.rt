@@ -5,6 +5,24 @@
 //! the room of the interpreter or not, that from some number of steps on the code comes to the end of the source in the same world (`RunsAreSame`).
 #![tactic(auto)]
 
+mod dispatch;
+mod draft;
+mod drafting;
+mod expressions;
+mod functions;
+mod ground;
+mod initializers;
 mod laws;
+mod locals;
+mod loops;
+mod nodes;
+mod operands;
+mod scopes;
+mod statements;
+mod steps;
+mod ways;
+mod writer;
+mod writing;
 
+pub use functions::lower;
 pub use laws::runs_are_same;

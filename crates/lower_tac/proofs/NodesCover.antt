@@ -42,7 +42,7 @@ use Rattle.lower_tac.proofs.Values as Values
 use Rattle.lower_tac.proofs.Choices as Choices
 use Rattle.lower_tac.proofs.Places as Places
 use Rattle.lower_tac.proofs.Places.{NamedAs, named_is}
-use Rattle.lower_tac.proofs.Ways as Ways
+use Rattle.lower_tac.proofs.WaysCover as Ways
 use Rattle.lower_tac.proofs.Assignments as Assignments
 use Rattle.lower_tac.proofs.Calls as Calls
 

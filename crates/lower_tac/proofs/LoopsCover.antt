@@ -22,15 +22,16 @@ use Rattle.tac_ir.specs.declared.step.Step.TheVariants as S
 use Rattle.tac_ir.specs.declared.step.Target.{Target}
 use Rattle.tac_ir.specs.declared.step.Target.TheVariants as To
 use Rattle.lower_tac.specs.Parts.{Steps}
-use Rattle.lower_tac.specs.Statements.{Out, before, by, here, with_label, label_of, marked, Exits, in_loop, test_code, effect_if_any, round, enters_by_test, enters_at_once}
+use Rattle.lower_tac.specs.declared.ways.Exits.{Exits}
+use Rattle.lower_tac.specs.Statements.{Out, before, by, here, with_label, label_of, marked, in_loop, test_code, effect_if_any, round, enters_by_test, enters_at_once}
 use Rattle.lower_tac.proofs.Blind.{stays, back}
 use Rattle.lower_tac.proofs.Base.{Standing, equal_or_not}
 use Rattle.lower_tac.proofs.Making as Making
 use Rattle.lower_tac.proofs.Making.{Ends, ends_same, ends_more, ends_behind, ends_then, left_there}
 use Rattle.lower_tac.proofs.Calls as Calls
-use Rattle.lower_tac.proofs.Nodes as Nodes
-use Rattle.lower_tac.proofs.Statements as Statements
-use Rattle.lower_tac.proofs.Statements.{Extends, same_out, extends_then, by_extends}
+use Rattle.lower_tac.proofs.NodesCover as Nodes
+use Rattle.lower_tac.proofs.StatementsCover as Statements
+use Rattle.lower_tac.proofs.StatementsCover.{Extends, same_out, extends_then, by_extends}
 
 -- ---- a turn begins on both sides
 

@@ -19,15 +19,20 @@ use Rattle.tac_ir.specs.declared.step.Operand.{Operand}
 use Rattle.tac_ir.specs.declared.step.Step.TheVariants as S
 use Rattle.lower_tac.specs.Parts.{Steps, operand}
 use Rattle.lower_tac.specs.Expressions.{value_code, effect_code, branch_code, part_of}
-use Rattle.lower_tac.specs.Statements.{Out, before, by, here, Exit, Exits, leads, leaves, ReturnWay, at_once, behind_ends, begins_code, ends_code, ending, return_end, continue_end, break_end, have_blocks, is_block, scope_code, scoped_code, exit_code, back_code, return_code}
+use Rattle.lower_tac.specs.declared.ways.Exit.TheVariants.{Leads as leads, Leaves as leaves}
+use Rattle.lower_tac.specs.declared.ways.Exit.{Exit}
+use Rattle.lower_tac.specs.declared.ways.Exits.{Exits}
+use Rattle.lower_tac.specs.declared.ways.ReturnWay.TheVariants.{AtOnce as at_once, BehindEnds as behind_ends}
+use Rattle.lower_tac.specs.declared.ways.ReturnWay.{ReturnWay}
+use Rattle.lower_tac.specs.Statements.{Out, before, by, here, begins_code, ends_code, ending, return_end, continue_end, break_end, have_blocks, is_block, scope_code, scoped_code, exit_code, back_code, return_code}
 use Rattle.lower_tac.proofs.Blind.{ahead, back}
 use Rattle.lower_tac.proofs.Base.{Standing, Joined, temp_same, standing_scratch, none_there}
 use Rattle.lower_tac.proofs.Making as Making
 use Rattle.lower_tac.proofs.Making.{Ends, ends_same, ends_more, ends_behind, ends_then, left_there, Settled}
 use Rattle.lower_tac.proofs.Calls as Calls
-use Rattle.lower_tac.proofs.Nodes as Nodes
-use Rattle.lower_tac.proofs.Scopes as Scopes
-use Rattle.lower_tac.proofs.Scopes.{Behind}
+use Rattle.lower_tac.proofs.NodesCover as Nodes
+use Rattle.lower_tac.proofs.ScopesCover as Scopes
+use Rattle.lower_tac.proofs.ScopesCover.{Behind}
 use Rattle.std.specs.Prelude.{◌||◌}
 use Rattle.std.proofs.lemmas.Bool.{true≢false}
 use Rattle.lower_tac.proofs.Places.{named_slot}

@@ -29,7 +29,8 @@ use Rattle.tac_ir.specs.declared.step.Operand.{Operand}
 use Rattle.tac_ir.specs.declared.step.Operand.TheVariants as O
 use Rattle.tac_ir.specs.declared.step.Step.TheVariants as S
 use Rattle.lower_tac.specs.Parts.{Steps}
-use Rattle.lower_tac.specs.Statements.{Out, Exits, fallen, have_blocks, statement_code, parameter_of, parameters_of, function_exits, last_code, routine_of, code_if_any, routines_from, lowered}
+use Rattle.lower_tac.specs.declared.ways.Exits.{Exits}
+use Rattle.lower_tac.specs.Statements.{Out, fallen, have_blocks, statement_code, parameter_of, parameters_of, function_exits, last_code, routine_of, code_if_any, routines_from, lowered}
 use Rattle.lower_tac.proofs.Blind.{blind_covers, then_blind, makes, stores, notes, deepens, stays, back, same_run}
 use Rattle.lower_tac.proofs.Base.{Standing, IsBlock, IsNamed, IsKind, with_temp_is_set, set_here, standing_later, standing_named}
 use Rattle.lower_tac.proofs.Making as Making
@@ -37,9 +38,9 @@ use Rattle.lower_tac.proofs.Making.{Ends, ends_same, ends_more, ends_then}
 use Rattle.lower_tac.proofs.Calls as Calls
 use Rattle.lower_tac.proofs.Calls.{Routines}
 use Rattle.lower_tac.proofs.Places.{named_slot, block_slot}
-use Rattle.lower_tac.proofs.Scopes.{standing_block}
-use Rattle.lower_tac.proofs.Statements as Statements
-use Rattle.lower_tac.proofs.Statements.{Extends}
+use Rattle.lower_tac.proofs.ScopesCover.{standing_block}
+use Rattle.lower_tac.proofs.StatementsCover as Statements
+use Rattle.lower_tac.proofs.StatementsCover.{Extends}
 use Rattle.lower_tac.proofs.Control as Control
 
 -- ---- a function is entered on both sides: a turn less is left

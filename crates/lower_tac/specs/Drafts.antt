@@ -1,0 +1,46 @@
+-- What is written of a function.
+use Rattle.std.specs.Prelude.{◌≡◌, ◌++◌, ◌∷◌, ◌-◌, ℕ, false, List}
+use Rattle.c_typed.specs.Programs.{ProgramData}
+use Rattle.c_typed.specs.Trees
+use Rattle.c_typed.specs.Typed.{at_of}
+use Rattle.c_typed.specs.Views.{AnExpression, AStatement}
+use Rattle.c_typed.specs.declared.program.Local.{Local}
+use Rattle.tac_ir.specs.declared.step.Step.TheVariants as Step
+use Rattle.tac_ir.specs.declared.step.Target.{Target}
+use Rattle.lower_tac.specs.declared.draft.Draft.{Draft}
+use Rattle.lower_tac.specs.declared.ground.Ground.{Ground}
+use Rattle.lower_tac.specs.declared.ways.Exits.{Exits}
+use Rattle.lower_tac.specs.Expressions.{part_of, value_code}
+use Rattle.lower_tac.specs.Grounds.{locals_in, program_in}
+use Rattle.lower_tac.specs.Parts.{Steps, held, temp}
+use Rattle.lower_tac.specs.Statements.{ArmsOut, Out, before, begins_code, default_start, dispatch_code, in_loop, marked, statement_code}
+use Rattle.lower_tac.specs.Writing.{code_in}
+
+abbrev pub out_in : Draft → Out
+out_in d = record { code = code_in d.code; labels = d.labels.items; texts = d.texts; loops = d.loops }
+
+-- where no fault is kept there was none before, and what is made is made of what was there
+abbrev pub Drafted : (old new : Draft) → (Out → Out) → Type 0
+Drafted old new made = new.code.fault ≡ false → (old.code.fault ≡ false) × (out_in new ≡ made (out_in old))
+
+abbrev pub DraftedTo : {A : Type 0} → (old new : Draft) → A → (Out → A) → (Out → Out) → Type 0
+DraftedTo old new answer known made = new.code.fault ≡ false → (old.code.fault ≡ false) × (answer ≡ known (out_in old)) × (out_in new ≡ made (out_in old))
+
+-- the body of a loop, which begins at a label
+abbrev pub begun : (function label : ℕ) → Out → Out
+begun function label out = marked label (before (Step.Began function (out.loops - 1)) (record out { loops = out.loops - 1 }))
+
+abbrev pub body_in : Ground → AStatement → (end next : Target) → (label : ℕ) → Exits → Out → Out
+body_in g body end next label x out =
+    begun g.number label (statement_code (program_in g) g.number (locals_in g) body (in_loop end next x) out)
+
+-- arms, and where they begin, before those that are there
+abbrev pub ArmsDrafted : (old new : Draft) → (was starts : List Target) → (Out → ArmsOut) → Type 0
+ArmsDrafted old new was starts made =
+    new.code.fault ≡ false → (old.code.fault ≡ false) × (starts ≡ (made (out_in old)).starts ++ was) × (out_in new ≡ (made (out_in old)).out)
+
+-- what stands before the arms of a `switch`
+abbrev pub before_arms : ProgramData → (g : ℕ) → List Local → (room : ℕ) → AnExpression → List ℕ → Trees.Arms ℕ → List Target → (behind : Target) → Steps → Steps
+before_arms p g locals room e own arms starts behind code =
+    held (part_of p locals e (value_code p locals e)) room (begins_code p g locals own
+    (dispatch_code (temp (at_of e) room) arms starts (Step.Jump (default_start behind arms starts) ∷ code)))

@@ -1,0 +1,185 @@
+//! The code of functions, and of a program.
+
+ghost use Rattle.std.specs.Prelude.{◌≡◌, ◌++◌, [], IfOk, OnOk, false, map};
+ghost use Rattle.c_typed.specs.Programs.{data_of, program_data};
+ghost use Rattle.c_meaning.specs.Run.{numbers};
+ghost use Rattle.tac_ir.specs.Code.{code_of};
+ghost use Rattle.tac_ir.specs.Code as Code;
+ghost use Rattle.lower_tac.specs.Drafts.{out_in};
+ghost use Rattle.lower_tac.specs.Statements.{code_if_any, lowered, parameter_of, routine_of, routines_from};
+
+use crate::draft::Draft;
+use crate::ground::Ground;
+use crate::ways::{Exit, Exits, ReturnWay};
+use crate::writer::Writer;
+use c_typed::{Function, Local, Typed, loops_within};
+use lay_base::{List, NoMemory, add};
+use source_values::Types;
+use std::alloc::Global;
+use tac_ir::{Parameter, Routine, Step, Tac};
+
+/// Nothing is there, and so many loops stand before it.
+#[tactic(auto, unfolding(crate::specs::Writing::code_in))]
+fn empty(alloc: Global, loops: u32) -> Draft
+    ensures code { out_in result ≡ record { code = []; labels = []; texts = []; loops = loops } }
+    ensures fault { result.code.fault ≡ false }
+{
+    Draft {
+        code: Writer {
+            steps: Vec::new(alloc),
+            fault: false,
+        },
+        labels: Vec::new(alloc),
+        texts: List::new(alloc),
+        loops,
+    }
+}
+
+/// The numbers of so many parameters, which come first among the locals.
+#[tactic(auto, using(crate::proofs::Numbers::one_further))]
+fn numbers(alloc: Global, count: u32) -> Result<Vec<u32>, NoMemory>
+    ensures { IfOk result (λ all. all.items ≡ numbers count) }
+{
+    let mut all = Vec::new(alloc);
+    let mut next = 0;
+    while next < count {
+        if all.push(next).is_err() {
+            return Err(NoMemory);
+        }
+        next += 1;
+    }
+    Ok(all)
+}
+
+fn draft(
+    alloc: Global,
+    types: &Types<'_>,
+    number: u32,
+    function: &Function,
+) -> Result<Draft, NoMemory>
+    ensures { IfOk result (λ draft. out_in draft ≡ code_if_any (program_data types.now) number (data_of function.now) (data_of function.now).body) }
+{
+    let Some(body) = &function.body else {
+        return Ok(empty(alloc, 0));
+    };
+    let loops = loops_within(function);
+    let parameters = function.parameters.len();
+    let locals = function.locals.len();
+    if loops == 0xFFFF_FFFF || parameters > 0x7FFF_FFFF || locals > 0x7FFF_FFFF {
+        return Err(NoMemory);
+    }
+    let ground = Ground {
+        alloc,
+        types,
+        function,
+        number,
+        room: (parameters + locals) as u32,
+    };
+    let own = numbers(alloc, parameters as u32)?;
+    let mut draft = empty(alloc, loops);
+    draft.put(Step::Return(ground.fallen()));
+    let x = Exits {
+        on_break: Exit::Leaves,
+        on_continue: Exit::Leaves,
+        on_return: ReturnWay::AtOnce,
+    };
+    let within = ground.end_scope(&mut draft, &own, x);
+    ground.statement(&mut draft, body, within);
+    if draft.code.fault {
+        return Err(NoMemory);
+    }
+    Ok(draft)
+}
+
+fn parameters(alloc: Global, types: &Types<'_>, all: &[Local]) -> Result<List<Parameter>, NoMemory>
+    ensures { IfOk result (λ made. made ≡ map (parameter_of (program_data types.now)) all.now) }
+{
+    let mut made = List::new(alloc);
+    for local in all {
+        let row = types.row(local.ty);
+        add(
+            &mut made,
+            Parameter {
+                block: local.block,
+                size: row.size,
+                access: row.access,
+            },
+        )?;
+    }
+    Ok(made)
+}
+
+fn add_blocks(made: &mut List<bool>, all: &[Local]) -> Result<(), NoMemory>
+    ensures { OnOk result (made.new ≡ made.old ++ map (λ l. l.block) all.now) }
+{
+    for local in all {
+        add(made, local.block)?;
+    }
+    Ok(())
+}
+
+/// Of each local, parameters first, whether it lies in a block.
+fn blocks(alloc: Global, function: &Function) -> Result<List<bool>, NoMemory>
+    ensures { IfOk result (λ made. made ≡ map (λ l. l.block) (function.now.parameters ++ function.now.locals)) }
+{
+    let mut made = List::new(alloc);
+    add_blocks(&mut made, function.parameters.as_slice())?;
+    add_blocks(&mut made, function.locals.as_slice())?;
+    Ok(made)
+}
+
+#[tactic(auto, unfolding(crate::specs::Writing::code_in))]
+fn routine(
+    alloc: Global,
+    types: &Types<'_>,
+    number: u32,
+    function: &Function,
+) -> Result<Routine, NoMemory>
+    ensures { IfOk result (λ made. Code.data_of made ≡ routine_of (program_data types.now) (data_of function.now) (code_if_any (program_data types.now) number (data_of function.now) (data_of function.now).body)) }
+{
+    let locals = blocks(alloc, function)?;
+    let parameters = parameters(alloc, types, function.parameters.as_slice())?;
+    let draft = draft(alloc, types, number, function)?;
+    let Draft {
+        code,
+        labels,
+        texts,
+        ..
+    } = draft;
+    let Writer { steps, .. } = code;
+    Ok(Routine {
+        ty: function.ty,
+        locals,
+        parameters,
+        code: List::of(steps),
+        labels: List::of(labels),
+        texts,
+    })
+}
+
+fn routines(alloc: Global, types: &Types<'_>, all: &[Function]) -> Result<List<Routine>, NoMemory>
+    ensures { IfOk result (λ made. map Code.data_of made ≡ routines_from (program_data types.now) 0 (map data_of all.now)) }
+{
+    let mut made = List::new(alloc);
+    for (number, function) in all.iter().enumerate() {
+        if number > 0xFFFF_FFFF {
+            return Err(NoMemory);
+        }
+        let one = routine(alloc, types, number as u32, function)?;
+        add(&mut made, one)?;
+    }
+    Ok(made)
+}
+
+/// Three-address code of a program. `NoMemory` comes for want of memory; where the size of a type passes what `Types::of` takes; and
+/// where a function has 2^31 parameters or locals, or something in it has no number of 32 bits.
+pub fn lower(alloc: Global, p: &Typed) -> Result<Tac, NoMemory>
+    ensures { IfOk result (λ t. code_of t ≡ lowered (program_data p.now)) }
+{
+    let types = Types::of(alloc, p)?;
+    let routines = routines(alloc, &types, p.functions.as_slice())?;
+    Ok(Tac {
+        routines,
+        main: p.main,
+    })
+}

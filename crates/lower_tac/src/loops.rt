@@ -1,0 +1,52 @@
+//! How many loops statements have.
+
+ghost use Rattle.std.specs.Prelude.{◌≡◌, ◌-◌, ◌^◌, map, min};
+ghost use Rattle.c_typed.specs.RunCounts.Loops.{arm_of, loops_in, loops_in_all, loops_in_arms};
+ghost use Rattle.c_typed.specs.Views.{arms_of, statement_of, statements_of};
+
+use c_typed::{Arm, Statement};
+
+/// How many loops a statement has; it stops at the greatest number.
+#[cycle(loop_walk)]
+fn loops_in_statement(s: &Statement) -> u32
+    ensures { result ≡ min (loops_in (statement_of s.now)) (2 ^ 32 - 1) }
+{
+    match s {
+        Statement::Do(_) | Statement::Declare(..) => 0,
+        Statement::Block(_, all) => loops_in_statements(all.as_slice()),
+        Statement::If(_, one, other) => match other {
+            None => loops_in_statement(one.get()),
+            Some(other) => {
+                loops_in_statement(one.get()).saturating_add(loops_in_statement(other.get()))
+            }
+        },
+        Statement::While(_, body) => loops_in_statement(body.get()).saturating_add(1),
+        Statement::DoWhile(body, _) => loops_in_statement(body.get()).saturating_add(1),
+        Statement::For(_, _, _, _, body) => loops_in_statement(body.get()).saturating_add(1),
+        Statement::Switch(_, _, arms) => loops_in_arms(arms.as_slice()),
+        Statement::Break | Statement::Continue | Statement::Return(_) => 0,
+    }
+}
+
+/// How many loops statements have; it stops at the greatest number.
+#[cycle(loop_walk)]
+pub fn loops_in_statements(all: &[Statement]) -> u32
+    ensures { result ≡ min (loops_in_all (statements_of (map statement_of all.now))) (2 ^ 32 - 1) }
+{
+    let mut count: u32 = 0;
+    for s in all {
+        count = count.saturating_add(loops_in_statement(s));
+    }
+    count
+}
+
+#[cycle(loop_walk)]
+fn loops_in_arms(arms: &[Arm]) -> u32
+    ensures { result ≡ min (loops_in_arms (arms_of (map arm_of arms.now))) (2 ^ 32 - 1) }
+{
+    let mut count: u32 = 0;
+    for arm in arms {
+        count = count.saturating_add(loops_in_statements(arm.statements.as_slice()));
+    }
+    count
+}

@@ -1,0 +1,170 @@
+//! Steps of expressions, whose operands are made afterwards.
+
+ghost use Rattle.std.specs.Prelude.{◌≡◌, ◌+◌, ◌∷◌, ◌<◌, ◌^◌, OnSome, Some, false, length, map, suc};
+ghost use Rattle.lay_base.specs.declared.faults.UndefinedKind.TheVariants as K;
+ghost use Rattle.c_typed.specs.Constants.{kind_of};
+ghost use Rattle.c_typed.specs.Views.{expression_of, expressions_of, path_of};
+ghost use Rattle.block_memory.specs.RunWorlds.Operators.{step_op};
+ghost use Rattle.c_meaning.specs.Program.{access_at, element_size, length_of, size_at, type_at};
+ghost use Rattle.tac_ir.specs.declared.step.Operand.TheVariants as O;
+ghost use Rattle.tac_ir.specs.declared.step.Step.TheVariants as S;
+ghost use Rattle.tac_ir.specs.declared.step.Target.TheVariants as To;
+ghost use Rattle.lower_tac.specs.Expressions.{convert_step, count_of, is_void, local_code, no_result, place_lacks, place_value_at, result_code};
+ghost use Rattle.lower_tac.specs.Expressions.{sort_of, step_named, unit_kind, update, lacks};
+ghost use Rattle.lower_tac.specs.Grounds.{locals_in, part_in, place_in, program_in};
+ghost use Rattle.lower_tac.specs.Parts.{Steps, left_operand, operand, settled_operand, temp, tested_if};
+ghost use Rattle.lower_tac.specs.Writing.{Wrote, code_in, WroteTo};
+
+use crate::ground::Ground;
+use crate::operands::temp;
+use crate::writer::Writer;
+use c_typed::{BinaryOp, Expression, Path, StepOp, promoted_kind};
+use c_types::IntKind;
+use lay_base::{List, Place, UndefinedKind};
+use source_values::Sort;
+use tac_ir::{Operand, Row, Sort as Updated, Step, Target};
+
+/// An operand whose right neighbour needs no code, or which has none.
+pub const ALONE: Option<Operand> = Some(Operand::Null);
+
+pub fn step_op(op: StepOp) -> BinaryOp
+    ensures { result ≡ step_op op }
+{
+    match op {
+        StepOp::Increment => BinaryOp::Add,
+        StepOp::Decrement => BinaryOp::Subtract,
+    }
+}
+
+/// Arguments in a row, from the temporary d on; none where their numbers pass 32 bits.
+#[tactic(auto, using(crate::proofs::Counts::count_is))]
+pub fn row(all: &List<Expression>, d: u32) -> Option<Row>
+    ensures { OnSome result ((result ≡ Some (record { first = d; count = count_of (expressions_of (map expression_of all.now)) }))) }
+{
+    let count = all.len();
+    if count > (0xFFFF_FFFF - d) as usize {
+        return None;
+    }
+    Some(Row {
+        first: d,
+        count: count as u32,
+    })
+}
+
+/// What has no use as a result is dropped.
+pub fn put_result(w: &mut Writer, to: Option<u32>, a: Operand)
+    ensures { Wrote w.old w.new (result_code to a) }
+{
+    if let Some(to) = to {
+        w.put(Step::Set(to, a));
+    }
+}
+
+pub fn put_no_result(w: &mut Writer, to: Option<u32>)
+    ensures { Wrote w.old w.new (no_result to) }
+{
+    if let Some(to) = to {
+        w.put(Step::Clear(to));
+    }
+}
+
+fn test_if(w: &mut Writer, lacks: bool, at: Place, t: u32)
+    ensures { Wrote w.old w.new (tested_if lacks at t) }
+{
+    if lacks {
+        w.put(Step::Set(t, temp(at, t)));
+    }
+}
+
+/// The two ways on which a truth value comes: the code begins with the one that is not decided, and the answer leads to the other.
+pub fn put_truth(w: &mut Writer, to: u32, decided: u32, other: u32) -> Target
+    ensures { WroteTo w.old w.new result (λ code. To.Left (length (S.Set to (O.Word decided) ∷ code))) (λ code. S.Set to (O.Word other) ∷ S.Jump (To.Left (length code)) ∷ S.Set to (O.Word decided) ∷ code) }
+{
+    let end = w.here();
+    w.put(Step::Set(to, Operand::Word(decided)));
+    let way = w.here();
+    w.put(Step::Jump(end));
+    w.put(Step::Set(to, Operand::Word(other)));
+    way
+}
+
+impl Ground<'_> {
+    pub fn kind(&self, t: u32) -> IntKind
+        ensures { result ≡ kind_of (type_at (program_in self.now) t) }
+    {
+        self.types.row(t).kind
+    }
+
+    pub fn is_void(&self, t: u32) -> bool
+        ensures { result ≡ is_void (type_at (program_in self.now) t) }
+    {
+        match self.types.row(t).sort {
+            Sort::Void => true,
+            Sort::Number(_) | Sort::Pointer | Sort::Other => false,
+        }
+    }
+
+    fn updated(&self, t: u32) -> Updated
+        ensures { result ≡ sort_of (type_at (program_in self.now) t) }
+    {
+        match self.types.row(t).sort {
+            Sort::Number(kind) => Updated::Number(kind),
+            Sort::Void | Sort::Pointer | Sort::Other => Updated::Pointer,
+        }
+    }
+
+    pub fn unit_kind(&self, t: u32) -> IntKind
+        ensures { result ≡ unit_kind (type_at (program_in self.now) t) }
+    {
+        match self.types.row(t).sort {
+            Sort::Number(kind) => promoted_kind(kind),
+            Sort::Void | Sort::Pointer | Sort::Other => IntKind::Int,
+        }
+    }
+
+    fn conversion(&self, t: u32, to: u32, a: Operand) -> Step
+        ensures { (code : Steps) → convert_step (type_at (program_in self.now) t) to a code ≡ result ∷ code }
+    {
+        match self.types.row(t).sort {
+            Sort::Number(kind) => Step::Convert(to, kind, a),
+            Sort::Pointer => Step::AsPointer(to, a),
+            Sort::Void | Sort::Other => Step::Set(to, a),
+        }
+    }
+
+    pub fn put_conversion(&self, w: &mut Writer, t: u32, to: u32, a: Operand)
+        ensures { Wrote w.old w.new (convert_step (type_at (program_in self.now) t) to a) }
+    {
+        w.put(self.conversion(t, to, a));
+    }
+
+    /// That the value in the temporary is one, where it may lack.
+    pub fn put_test(&self, w: &mut Writer, e: &Expression, t: u32)
+        ensures { Wrote w.old w.new (tested_if (part_in self.now e.now).lacks (part_in self.now e.now).at t) }
+    {
+        test_if(w, self.lacks(e), e.place, t);
+    }
+
+    pub fn put_place_test(&self, w: &mut Writer, q: &Path, t: u32)
+        ensures { Wrote w.old w.new (tested_if (place_in self.now q.now).lacks (place_in self.now q.now).at t) }
+    {
+        test_if(w, self.place_lacks(q), self.place_value_at(q), t);
+    }
+
+    pub fn put_update(
+        &self,
+        w: &mut Writer,
+        t: u32,
+        at: Place,
+        op: BinaryOp,
+        right: IntKind,
+        new: u32,
+        old: Operand,
+        b: Operand,
+    )
+        ensures { Wrote w.old w.new (update (program_in self.now) t at op right new old b) }
+    {
+        let element = self.types.row(t).element;
+        w.put(Step::Update(new, at, op, element, self.updated(t), right, old, b));
+    }
+}
