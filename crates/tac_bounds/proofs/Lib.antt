@@ -1,0 +1,2 @@
+mod Grows
+mod Expressions

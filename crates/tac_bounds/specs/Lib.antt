@@ -1,0 +1,5 @@
+pub mod Jumps
+pub mod Prices
+pub mod Temporaries
+pub mod Scopes
+pub mod Laws
