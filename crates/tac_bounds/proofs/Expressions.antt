@@ -182,13 +182,13 @@ module _ (c : Prices) (most labels : ℕ) (p : ProgramData) (locals : List Local
       pay (omega arith) (next (one s code to (below (Grows.operand_below c most labels q d k)))
       (Grows.code_grows c most labels q d (s ∷ code) (omega arith) k h))
 
-  read_both : {x y : Part} {w f v g : ℕ} → Paid x w f → Paid y v g → (d : ℕ) (s : Operand → Operand → Step) (price : ℕ) (code : Steps)
+  pub read_both : {x y : Part} {w f v g : ℕ} → Paid x w f → Paid y v g → (d : ℕ) (s : Operand → Operand → Step) (price : ℕ) (code : Steps)
       → ((a b : Operand) → top a ≤ most → top b ≤ most → Made 0 price code (s a b ∷ code))
       → suc d < most → d + f ≤ most → suc d + g ≤ most → 0 < length code → Made c.step (price + w + v) code (both_code x y d (λ a b. s a b ∷ code))
   read_both q r d s price code last k h i l = pay (omega arith) (Grows.both_grows c most labels q r d (λ a b. s a b ∷ code) last l k h i)
 
   -- a part costs a step at least
-  least : {x : Part} {w f : ℕ} → Paid x w f → (d : ℕ) (code : Steps) → 0 < length code → d < most → d + f ≤ most → c.step ≤ w
+  pub least : {x : Part} {w f : ℕ} → Paid x w f → (d : ℕ) (code : Steps) → 0 < length code → d < most → d + f ≤ most → c.step ≤ w
   least q d code k h g = let m = q.made d code k h g in let x = m.dearer in let y = m.cost in omega (arith, x, y)
 
   -- ---- results
@@ -226,7 +226,7 @@ module _ (c : Prices) (most labels : ℕ) (p : ProgramData) (locals : List Local
       let z = t.longer in
       pay (omega arith) (next (next r t) (makes x d (tested_if y.lacks y.at x (result_code to (O.Temp K.Empty x at) code)) k l i (omega (arith, n, e, z))))
 
-  assign_grows : (o : Option ℕ) → Below o → (t : ℕ) (at : Place) {q y : Part} {value : (to d : ℕ) → Steps → Steps} {w f v g : ℕ} → Paid q w f → Makes c.step v g value → Paid y v g
+  pub assign_grows : (o : Option ℕ) → Below o → (t : ℕ) (at : Place) {q y : Part} {value : (to d : ℕ) → Steps → Steps} {w f v g : ℕ} → Paid q w f → Makes c.step v g value → Paid y v g
       → (d : ℕ) (to : Option ℕ) (code : Steps) → Below to → suc d < most → d + f ≤ most → suc d + g ≤ most → 0 < length code
       → Made 0 (2 * c.step + w + v) code (assign_code p o t at q value y d to code)
   assign_grows (Some x) b t at {y = y} {g = g} one_paid makes other d to code h k i l n =
@@ -239,7 +239,7 @@ module _ (c : Prices) (most labels : ℕ) (p : ProgramData) (locals : List Local
   abbrev update_step : (t : ℕ) → Place → BinaryOp → (right : IntKind) → (new : ℕ) → (old b : Operand) → Step
   update_step t at op right new old b = S.Update new at op (element_size p (type_at p t)) (sort_of (type_at p t)) right old b
 
-  assign_op_grows : (o : Option ℕ) → Below o → (t : ℕ) (at : Place) (op : BinaryOp) (right : IntKind) {q y : Part} {w f v g : ℕ} → Paid q w f → Paid y v g
+  pub assign_op_grows : (o : Option ℕ) → Below o → (t : ℕ) (at : Place) (op : BinaryOp) (right : IntKind) {q y : Part} {w f v g : ℕ} → Paid q w f → Paid y v g
       → (d : ℕ) (to : Option ℕ) (code : Steps) → Below to → d + 2 < most → d + f ≤ most → suc d + g ≤ most → 0 < length code
       → Made 0 (3 * c.step + c.wide + w + v) code (assign_op_code p o t at op right q y d to code)
   assign_op_grows (Some x) b t at op right {y = y} one_paid other d to code h k i l n =
@@ -267,7 +267,7 @@ module _ (c : Prices) (most labels : ℕ) (p : ProgramData) (locals : List Local
       pay (omega arith) (next (next (next (next (next r s) u) m) e)
       (Grows.settled_grows c most labels one_paid d (settled y (suc d) first) (omega (arith, longer)) (omega (arith, k)) i))
 
-  step_grows : (o : Option ℕ) → Below o → (t : ℕ) (at : Place) (op : StepOp) (before : Bool) {q : Part} {w f : ℕ} → Paid q w f
+  pub step_grows : (o : Option ℕ) → Below o → (t : ℕ) (at : Place) (op : StepOp) (before : Bool) {q : Part} {w f : ℕ} → Paid q w f
       → (d : ℕ) (to : Option ℕ) (code : Steps) → Below to → d + 2 < most → d + f ≤ most → 0 < length code
       → Made 0 (3 * c.step + c.wide + w) code (step_code p o t at op before q d to code)
   step_grows (Some x) b t at op before one_paid d None code h k i n =
@@ -306,7 +306,7 @@ module _ (c : Prices) (most labels : ℕ) (p : ProgramData) (locals : List Local
       pay (omega arith) (next (next (one (S.Fail K.Dead at) code tt (omega arith)) e)
       (Grows.held_grows c most labels one_paid d (held r (suc d) (S.Fail K.Dead at ∷ code)) (omega (arith, longer)) (omega (arith, k)) i))
 
-  copy_grows : (o u : Option ℕ) (at : Place) (size : ℕ) {q r : Part} {w f v g : ℕ} → Paid q w f → Paid r v g
+  pub copy_grows : (o u : Option ℕ) (at : Place) (size : ℕ) {q r : Part} {w f v g : ℕ} → Paid q w f → Paid r v g
       → (d : ℕ) (to : Option ℕ) (code : Steps) → Below to → suc d < most → d + f ≤ most → suc d + g ≤ most → 0 < length code
       → Made 0 (2 * c.step + w + v) code (copy_code p o u at size q r d to code)
   copy_grows None None at size one_paid other d to code h k i l n =
