@@ -1,3 +1,4 @@
 mod Grows
 mod Expressions
 mod Nodes
+mod Outs
