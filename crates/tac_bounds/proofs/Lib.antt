@@ -2,3 +2,4 @@ mod Grows
 mod Expressions
 mod Nodes
 mod Outs
+mod Statements

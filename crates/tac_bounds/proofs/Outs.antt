@@ -60,6 +60,12 @@ same_length : (a b : List ℕ) (v u : ℕ) → length (a ++ v ∷ b) ≡ length 
 same_length [] b v u = refl
 same_length (x ∷ a) b v u = ap suc (same_length a b v u)
 
+label_set : (a more wide : List ℕ) (v : ℕ) → wide ≡ (a ++ 0 ∷ []) ++ more → slice_set wide (length a) v ≡ a ++ v ∷ more
+label_set a more wide v e = ap (λ (all : List ℕ). slice_set all (length a) v) e ∙ label_is_set a more v
+
+as_many_labels : (a more wide : List ℕ) (v : ℕ) → wide ≡ (a ++ 0 ∷ []) ++ more → length (slice_set wide (length a) v) ≡ length wide
+as_many_labels a more wide v e = ap length (label_set a more wide v e) ∙ same_length a more v 0 ∙ sym (ap length e)
+
 -- ---- ways out
 
 abbrev pub ExitLeads : (n l : ℕ) → Exit → Type 0
@@ -75,11 +81,11 @@ pub record ExitsLead (n l : ℕ) (x : Exits) : Type 0 where
   pub on_continue : ExitLeads n l x.on_continue
   pub on_return : ReturnLeads n l x.on_return
 
-exit_later : {n m l k : ℕ} (e : Exit) → n ≤ m → l ≤ k → ExitLeads n l e → ExitLeads m k e
+pub exit_later : {n m l k : ℕ} (e : Exit) → n ≤ m → l ≤ k → ExitLeads n l e → ExitLeads m k e
 exit_later (leads to) h g x = leads_later to h g x
 exit_later leaves h g x = tt
 
-return_later : {n m l k : ℕ} (e : ReturnWay) → n ≤ m → l ≤ k → ReturnLeads n l e → ReturnLeads m k e
+pub return_later : {n m l k : ℕ} (e : ReturnWay) → n ≤ m → l ≤ k → ReturnLeads n l e → ReturnLeads m k e
 return_later at_once h g x = tt
 return_later (behind_ends to) h g x = leads_later to h g x
 
@@ -248,11 +254,12 @@ module _ (c : Prices) (most : ℕ) where
         → ((labels : ℕ) (to : Target) (code : Steps) → Leads (length code) labels to → 0 < length code → Adds labels v code (test to code))
         → ((labels : ℕ) (code : Steps) → 0 < length code → Adds labels w code (step code))
         → ((labels : ℕ) (to : Target) (code : Steps) → Leads (length code) labels to → Adds labels c.step code (enters to code))
-        → ((b k : Target) (out : Out) → 0 < length out.code → Leads (length out.code) (length out.labels) b → Leads (length out.code) (length out.labels) k
-        → Made u out.code out.labels (body b k out).code (body b k out).labels)
         → (out : Out) → 0 < length out.code
+        → ((b k : Target) (inner : Out) → length out.code ≤ length inner.code → length out.labels ≤ length inner.labels
+        → Leads (length inner.code) (length inner.labels) b → Leads (length inner.code) (length inner.labels) k
+        → Made u inner.code inner.labels (body b k inner).code (body b k inner).labels)
         → Made (2 * c.step + v + w + u) out.code out.labels (round p g locals test step enters body out).code (round p g locals test step enters body out).labels
-    round_grows test step enters body v w u tests steps enter bodies out n =
+    round_grows test step enters body v w u tests steps enter out n bodies =
         let l = length out.labels in
         let tested = by (test (To.Label l)) (with_label out) in
         let stepped = by step tested in
@@ -263,21 +270,19 @@ module _ (c : Prices) (most : ℕ) where
         let al = a.longer in
         let b = steps k tested.code (omega (arith, n, al)) in
         let bl = b.longer in
-        let d = bodies (here out) (here stepped) stepped (omega (arith, n, al, bl)) (n, omega (arith, al, bl)) (omega (arith, n, al, bl), omega arith) in
+        let d = bodies (here out) (here stepped) stepped (omega (arith, al, bl)) (omega (arith, one_more)) (n, omega (arith, al, bl)) (omega (arith, n, al, bl), omega arith) in
         let dl = d.longer in
         let m = length inner.labels in
         let f = Grows.one c most m (S.Began g (inner.loops - 1)) inner.code tt (omega arith) in
         let begun = S.Began g (inner.loops - 1) ∷ inner.code in
         let h = enter m (here tested) begun (omega (arith, n, al), omega (arith, bl, dl)) in
         let hl = h.longer in
-        let now = label_is_set out.labels d.more (length begun) in
-        let set : slice_set inner.labels l (length begun) ≡ out.labels ++ length begun ∷ d.more = ap (λ (e : List ℕ). slice_set e l (length begun)) d.is ∙ now in
-        let as_many : length (slice_set inner.labels l (length begun)) ≡ m = ap length set ∙ same_length out.labels d.more (length begun) 0 ∙ sym (ap length d.is) in
+        let as_many = as_many_labels out.labels d.more inner.labels (length begun) d.is in
         record {
           longer = omega (arith, al, bl, dl, hl);
           cost = (let x = a.cost in let y = b.cost in let z = d.cost in let i = h.cost in omega (arith, x, y, z, i));
           more = length begun ∷ d.more;
-          is = set;
+          is = label_set out.labels d.more inner.labels (length begun) d.is;
           set = ((omega arith, hl), inside_later (omega (arith, hl)) d.more d.set);
           sound = λ z. fit_later c most (enters (here tested) begun) (omega arith) (omega (arith, as_many))
               (h.sound (f.sound (d.sound (b.sound (a.sound (fit_later c most out.code (omega arith) (omega (arith, one_more)) z))))));
