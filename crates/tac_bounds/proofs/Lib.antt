@@ -3,3 +3,7 @@ mod Expressions
 mod Nodes
 mod Outs
 mod Statements
+mod Scoped
+mod Weights
+mod Functions
+mod Typed

@@ -2,6 +2,7 @@
 use Rattle.std.specs.Prelude.{ℕ, ◌+◌, ◌*◌, List, [], ◌∷◌}
 use Rattle.c_well_typed.specs.ProgramWeights.Counted.{Kind}
 use Rattle.c_well_typed.specs.ProgramWeights.Counted as Kinds
+use Rattle.tac_ir.specs.Code.{RoutineData}
 use Rattle.tac_ir.specs.declared.step.Step.{Step}
 use Rattle.tac_ir.specs.declared.step.Step.TheVariants as S
 
@@ -37,6 +38,10 @@ module _ (c : Prices) where
   abbrev pub price_of_code : List Step → ℕ
   price_of_code [] = 0
   price_of_code (s ∷ more) = c.step + price_of_all (s ∷ more)
+
+  abbrev pub price_of_routines : List RoutineData → ℕ
+  price_of_routines [] = 0
+  price_of_routines (r ∷ more) = price_of_code r.code + price_of_routines more
 
   -- what each kind of thing pays for
   abbrev pub paid : Kind → ℕ
