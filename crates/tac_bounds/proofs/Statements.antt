@@ -326,16 +326,16 @@ module _ (c : Prices) (most : ℕ) (p : ProgramData) (g : ℕ) (locals : List Lo
         (enters_by_test p g locals) (λ b k out. statement_code p g locals body (in_loop b k x) out) out)))
         (λ x out n leads.
         let a = loop_grows test (c.step + weight_if_any (paid c) test) step (enters_by_test p g locals) body (statement_grows body) (omega (arith, h)) (omega (arith, h))
-            (test_grows test (omega (arith, h))) enter_by_test x out n leads in
+        (test_grows test (omega (arith, h))) enter_by_test x out n leads in
         let l = a.longer in
         pay (omega arith) (next a (statements_grow start (omega (arith, h)) x (with_loops (loops_in_all start) (round p g locals (test_code p g locals test) (effect_if_any p g locals step)
         (enters_by_test p g locals) (λ b k out. statement_code p g locals body (in_loop b k x) out) out)) (omega (arith, n, l)) (after x a leads))))
         x out n leads)
     statement_grows (T.switch e own arms) h x out n leads =
         let a = Outs.scoped_grows c most p g locals roomy own (c.step + price_of_arms c arms)
-            (λ x out. chosen_code (temp (at_of e) room) arms (here out) (arms_code p g locals arms (in_switch (here out) x) out))
-            (chosen_grows (temp (at_of e) room) (omega (arith, roomy)) arms (arms_grow arms) (omega (arith, h))) (in_switch (here out) x) out n
-            (record { on_break = (n, omega arith); on_continue = leads.on_continue; on_return = leads.on_return }) in
+        (λ x out. chosen_code (temp (at_of e) room) arms (here out) (arms_code p g locals arms (in_switch (here out) x) out))
+        (chosen_grows (temp (at_of e) room) (omega (arith, roomy)) arms (arms_grow arms) (omega (arith, h))) (in_switch (here out) x) out n
+        (record { on_break = (n, omega arith); on_continue = leads.on_continue; on_return = leads.on_return }) in
         let l = a.longer in
         let inner = scoped_code p g locals own (λ x out. chosen_code (temp (at_of e) room) arms (here out) (arms_code p g locals arms (in_switch (here out) x) out)) (in_switch (here out) x) out in
         pay (omega arith) (next a (made inner.labels (Grows.held_grows c most (length inner.labels) (value_paid (length inner.labels) e) room inner.code (omega (arith, n, l)) roomy (omega (arith, h)))))
