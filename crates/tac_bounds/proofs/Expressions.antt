@@ -1,33 +1,27 @@
 -- What the code of expressions and paths adds.
-use Rattle.std.proofs.Common.{◌≡◌, ℕ, zero, suc, ◌+◌, ◌*◌, ◌<◌, ◌≤◌, Bool, true, false, not, List, [], ◌∷◌, length, Option, Some, None, refl, subst, arith, slice_get, if◌then◌else◌}
+use Rattle.std.proofs.Common.{◌≡◌, ℕ, zero, suc, ◌+◌, ◌*◌, ◌<◌, ◌≤◌, Bool, true, false, List, [], ◌∷◌, length, Option, Some, None, refl, subst, arith, slice_get, if◌then◌else◌}
 use Rattle.lay_base.specs.declared.faults.UndefinedKind.TheVariants as K
 use Rattle.lay_base.specs.declared.place.Place.{Place}
 use Rattle.c_types.specs.declared.ty.IntKind.{IntKind}
-use Rattle.c_types.specs.Layouts.{offset_of}
-use Rattle.c_types.specs.Types.{CType, void, integer, pointer as pointer_to, array, function, structure}
-use Rattle.c_typed.specs.Constants.{ty, kind_of}
 use Rattle.c_typed.specs.declared.operators.BinaryOp.{BinaryOp}
 use Rattle.c_typed.specs.declared.operators.StepOp.{StepOp}
-use Rattle.c_typed.specs.declared.operators.PointerOp.TheVariants.{Add}
 use Rattle.c_typed.specs.declared.program.Local.{Local}
 use Rattle.c_typed.specs.Programs.{ProgramData}
 use Rattle.c_typed.specs.Trees as T
 use Rattle.c_typed.specs.Trees.{Expression, expression, Node, Path, path, PathNode, Expressions, OptionalExpression}
-use Rattle.c_typed.specs.Typed.{at_of, path_at, path_ty}
-use Rattle.c_meaning.specs.Program.{type_at, size_at, access_at, element_size, length_of}
+use Rattle.c_meaning.specs.Program.{type_at, access_at, element_size}
 use Rattle.block_memory.specs.RunWorlds.Operators.{step_op}
 use Rattle.tac_ir.specs.declared.step.Operand.{Operand}
 use Rattle.tac_ir.specs.declared.step.Operand.TheVariants as O
 use Rattle.tac_ir.specs.declared.step.Step.{Step}
 use Rattle.tac_ir.specs.declared.step.Step.TheVariants as S
 use Rattle.tac_ir.specs.declared.step.Target.{Target}
-use Rattle.tac_ir.specs.declared.step.Target.TheVariants as To
 use Rattle.lower_tac.specs.Parts.{Steps, Part, temp, operand, code_of, held, settled, settled_operand, tested_if, both_code}
-use Rattle.lower_tac.specs.Expressions.{named, value_of_name, address_of_local, local_code, convert_step, count_of, result_code, no_result, unit_kind, sort_of}
-use Rattle.lower_tac.specs.Expressions.{assign_named, assign_code, assign_op_code, step_named, step_code, copy_code, named_root, atom, place_atom, part_of, place_of}
-use Rattle.lower_tac.specs.Expressions.{single, address_code, load_code, convert_code, part_code, element_code, branch_on, value_code, node_code, count_part}
-use Rattle.lower_tac.specs.Expressions.{arguments_code, effect_code, branch_code, path_code, way_code, member_code}
-use Rattle.c_well_typed.specs.ProgramWeights.Weights.{weight, weight_of_node, weight_of_path, weight_of_step, weight_of_all, weight_of_count}
+use Rattle.lower_tac.specs.Expressions.{named, value_of_name, address_of_local, result_code, no_result, unit_kind, sort_of}
+use Rattle.lower_tac.specs.Expressions.{assign_named, assign_code, assign_op_code, step_code, copy_code, named_root, atom, place_atom, part_of, place_of}
+use Rattle.lower_tac.specs.Expressions.{value_code, node_code}
+use Rattle.lower_tac.specs.Expressions.{effect_code, branch_code, path_code}
+use Rattle.c_well_typed.specs.ProgramWeights.Weights.{weight, weight_of_node, weight_of_path}
 use Rattle.tac_bounds.specs.Jumps.{target_of}
 use Rattle.tac_bounds.specs.Prices.{Prices, price_of, paid}
 use Rattle.tac_bounds.specs.Temporaries.{top, top_of, temporaries}

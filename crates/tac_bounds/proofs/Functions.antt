@@ -1,28 +1,26 @@
 -- The laws, function by function.
 use Rattle.std.proofs.Common.{◌≡◌, ◌≢◌, ℕ, zero, suc, ◌+◌, ◌*◌, ◌<◌, ◌≤◌, Bool, true, false, List, [], ◌∷◌, ◌++◌, map, length, All, Option, Some, None, refl, sym, ap, ◌∙◌, subst, arith, slice_get}
-use Rattle.std.specs.Prelude.{max}
 use Rattle.c_typed.specs.declared.program.Local.{Local}
 use Rattle.c_typed.specs.Programs.{FunctionData, ProgramData}
 use Rattle.c_typed.specs.Trees.{Statement}
 use Rattle.c_typed.specs.TypedStatements.{all_declared}
 use Rattle.c_meaning.specs.Program.{all_locals}
-use Rattle.c_meaning.specs.Run.{numbers, numbers_from}
+use Rattle.c_meaning.specs.Run.{numbers_from}
 use Rattle.tac_ir.specs.Code.{RoutineData}
 use Rattle.tac_ir.specs.declared.step.Step.{Step}
 use Rattle.tac_ir.specs.declared.step.Step.TheVariants as S
 use Rattle.tac_ir.specs.declared.step.Target.{Target}
 use Rattle.tac_ir.specs.declared.step.Target.TheVariants as To
 use Rattle.lower_tac.specs.Parts.{Steps}
-use Rattle.lower_tac.specs.Statements.{Out, statement_code, have_blocks, function_exits, last_code, parameters_of, body_code, routine_of, code_if_any, routines_from, lowered, fallen}
+use Rattle.lower_tac.specs.Statements.{Out, statement_code, have_blocks, function_exits, last_code, parameters_of, body_code, routine_of, code_if_any, routines_from}
 use Rattle.c_well_typed.specs.ProgramWeights.Counted.{Kind, statement, code, frame, definition}
 use Rattle.c_well_typed.specs.ProgramWeights.Counted as Kinds
-use Rattle.c_well_typed.specs.ProgramWeights.Weights.{weight_of_statement, weight_of_parameters, weight_of_locals, weight_of_body, weight_of_function, weight_of_functions}
-use Rattle.tac_bounds.specs.Jumps.{IsInside, target_of, LeadsInside, LeadsInsideIfAny, JumpsWithin}
-use Rattle.tac_bounds.specs.Laws.{IsRoutineOf, JumpsStand, CodeIsPaid, BytesAreWithin, ProgramsAreWithin, TemporariesAreFew, FramesAreWithin}
-use Rattle.tac_bounds.specs.Prices.{Prices, in_bytes, in_steps, paid, price_of_all, price_of_code, price_of_routines}
+use Rattle.c_well_typed.specs.ProgramWeights.Weights.{weight_of_parameters, weight_of_body, weight_of_function, weight_of_functions}
+use Rattle.tac_bounds.specs.Jumps.{IsInside, target_of, LeadsInsideIfAny, JumpsWithin}
+use Rattle.tac_bounds.specs.Laws.{IsRoutineOf, JumpsStand, CodeIsPaid, StepsAreFew, BytesAreWithin, ProgramsAreWithin, TemporariesAreFew, FramesAreWithin}
+use Rattle.tac_bounds.specs.Prices.{Prices, in_bytes, in_steps, AreBytes, paid, price_of, price_of_all, price_of_code, price_of_routines}
 use Rattle.tac_bounds.specs.Scopes.{HasScopes, IsScopedBody}
 use Rattle.tac_bounds.specs.Temporaries.{top_of_all, temporaries}
-use Rattle.tac_bounds.proofs.Grows as Grows
 use Rattle.tac_bounds.proofs.Grows.{Each, each_all, LeadsIfAny, AllFit}
 use Rattle.tac_bounds.proofs.Outs as Outs
 use Rattle.tac_bounds.proofs.Outs.{each, scope_price}
@@ -156,50 +154,104 @@ code_is_paid p r f i scopes c =
     let z = is_of p r f i in
     subst (λ (r : RoutineData). price_of_code c r.code ≤ weight_of_function (paid c) f) z.is (price_of_function c p z.at f f.body scopes)
 
+-- ---- steps
+
+one_at_least : (s : Step) → 1 ≤ price_of in_steps s
+one_at_least (S.Set t a) = omega arith
+one_at_least (S.Clear t) = omega arith
+one_at_least (S.Unary t op a) = omega arith
+one_at_least (S.Truth t a) = omega arith
+one_at_least (S.Not t a) = omega arith
+one_at_least (S.Convert t kind a) = omega arith
+one_at_least (S.AsPointer t a) = omega arith
+one_at_least (S.Binary t at op kind right a b) = omega arith
+one_at_least (S.Compare t at op kind a b) = omega arith
+one_at_least (S.Move t at op size left right a b) = omega arith
+one_at_least (S.Distance t at size a b) = omega arith
+one_at_least (S.Update t at op size sort right a b) = omega arith
+one_at_least (S.Field t at by a) = omega arith
+one_at_least (S.ElementField t at size kind by a b) = omega arith
+one_at_least (S.Element t at n size addressed kind a b) = omega arith
+one_at_least (S.Part t at by a) = omega arith
+one_at_least (S.Inside t at x by) = omega arith
+one_at_least (S.Load t at access a) = omega arith
+one_at_least (S.Store at access a b) = omega arith
+one_at_least (S.CopyRecord at size a b) = omega arith
+one_at_least (S.Jump to) = omega arith
+one_at_least (S.Branch when a to) = omega arith
+one_at_least (S.Test at op kind when a b to) = omega arith
+one_at_least (S.Case n a to) = omega arith
+one_at_least (S.Call t at f all) = omega arith
+one_at_least (S.CallThrough t at ty a all) = omega arith
+one_at_least (S.Library t at which all) = omega arith
+one_at_least (S.Allocate t at r size zeroed a) = omega arith
+one_at_least (S.Begin x size) = omega arith
+one_at_least (S.End x) = omega arith
+one_at_least (S.Forget x size) = omega arith
+one_at_least (S.Zeros x size) = omega arith
+one_at_least (S.Text x by n) = omega arith
+one_at_least (S.Began f l) = omega arith
+one_at_least (S.Return a) = omega arith
+one_at_least (S.ReturnHeld t) = omega arith
+one_at_least (S.Fail kind at) = omega arith
+
+steps_of : (code : Steps) → length code ≤ price_of_all in_steps code
+steps_of [] = omega arith
+steps_of (s ∷ code) = let a = one_at_least s in let b = steps_of code in omega (arith, a, b)
+
+steps_of_code : (code : Steps) → length code ≤ price_of_code in_steps code
+steps_of_code [] = omega arith
+steps_of_code (s ∷ code) = let a = steps_of (s ∷ code) in omega (arith, a)
+
+pub steps_are_few : StepsAreFew
+steps_are_few p r f i scopes = let a = code_is_paid p r f i scopes in_steps in let b = steps_of_code r.code in omega (arith, a, b)
+
 -- ---- in bytes
 
-within_code : (k : Kind) → 1 * paid in_bytes k ≤ code k
-within_code Kinds.begins = omega arith
-within_code Kinds.through = omega arith
-within_code Kinds.to_field = omega arith
-within_code Kinds.to_element = omega arith
-within_code Kinds.constant = omega arith
-within_code Kinds.load = omega arith
-within_code Kinds.conversion = omega arith
-within_code Kinds.pointer_sum = omega arith
-within_code Kinds.operator = omega arith
-within_code Kinds.assignment = omega arith
-within_code Kinds.call = omega arith
-within_code Kinds.argument = omega arith
-within_code Kinds.part = omega arith
-within_code Kinds.statement = omega arith
-within_code Kinds.arm = omega arith
-within_code Kinds.label = omega arith
-within_code Kinds.definition = omega arith
-within_code Kinds.parameter = omega arith
-within_code Kinds.named_local = omega arith
-within_code Kinds.block_local = omega arith
-within_code Kinds.structure = omega arith
-within_code Kinds.field = omega arith
+module _ (c : Prices) (are : AreBytes c) where
+  within_code : (k : Kind) → 1 * paid c k ≤ code k
+  within_code Kinds.begins = let a = are.step in let b = are.wide in let d = are.argument in omega (arith, a, b, d)
+  within_code Kinds.through = let a = are.step in let b = are.wide in let d = are.argument in omega (arith, a, b, d)
+  within_code Kinds.to_field = let a = are.step in let b = are.wide in let d = are.argument in omega (arith, a, b, d)
+  within_code Kinds.to_element = let a = are.step in let b = are.wide in let d = are.argument in omega (arith, a, b, d)
+  within_code Kinds.constant = let a = are.step in let b = are.wide in let d = are.argument in omega (arith, a, b, d)
+  within_code Kinds.load = let a = are.step in let b = are.wide in let d = are.argument in omega (arith, a, b, d)
+  within_code Kinds.conversion = let a = are.step in let b = are.wide in let d = are.argument in omega (arith, a, b, d)
+  within_code Kinds.pointer_sum = let a = are.step in let b = are.wide in let d = are.argument in omega (arith, a, b, d)
+  within_code Kinds.operator = let a = are.step in let b = are.wide in let d = are.argument in omega (arith, a, b, d)
+  within_code Kinds.assignment = let a = are.step in let b = are.wide in let d = are.argument in omega (arith, a, b, d)
+  within_code Kinds.call = let a = are.step in let b = are.wide in let d = are.argument in omega (arith, a, b, d)
+  within_code Kinds.argument = let a = are.step in let b = are.wide in let d = are.argument in omega (arith, a, b, d)
+  within_code Kinds.part = let a = are.step in let b = are.wide in let d = are.argument in omega (arith, a, b, d)
+  within_code Kinds.statement = let a = are.step in let b = are.wide in let d = are.argument in omega (arith, a, b, d)
+  within_code Kinds.arm = let a = are.step in let b = are.wide in let d = are.argument in omega (arith, a, b, d)
+  within_code Kinds.label = let a = are.step in let b = are.wide in let d = are.argument in omega (arith, a, b, d)
+  within_code Kinds.definition = let a = are.step in let b = are.wide in let d = are.argument in omega (arith, a, b, d)
+  within_code Kinds.parameter = let a = are.step in let b = are.wide in let d = are.argument in omega (arith, a, b, d)
+  within_code Kinds.named_local = let a = are.step in let b = are.wide in let d = are.argument in omega (arith, a, b, d)
+  within_code Kinds.block_local = let a = are.step in let b = are.wide in let d = are.argument in omega (arith, a, b, d)
+  within_code Kinds.structure = let a = are.step in let b = are.wide in let d = are.argument in omega (arith, a, b, d)
+  within_code Kinds.field = let a = are.step in let b = are.wide in let d = are.argument in omega (arith, a, b, d)
 
-body_within : (f : FunctionData) (b : Option (Statement ℕ)) → weight_of_body (paid in_bytes) f b ≤ weight_of_body code f b
-body_within f None = omega arith
-body_within f (Some body) =
-    let a = Weights.less_parameters 1 (paid in_bytes) code within_code f.parameters in
-    let b = Weights.less_locals 1 (paid in_bytes) code within_code f.locals in
-    let d = Weights.less_statement 1 (paid in_bytes) code within_code 0 (omega arith) body in omega (arith, a, b, d)
+  body_within : (f : FunctionData) (b : Option (Statement ℕ)) → weight_of_body (paid c) f b ≤ weight_of_body code f b
+  body_within f None = omega arith
+  body_within f (Some body) =
+      let a = Weights.less_parameters 1 (paid c) code within_code f.parameters in
+      let b = Weights.less_locals 1 (paid c) code within_code f.locals in
+      let d = Weights.less_statement 1 (paid c) code within_code 0 (let h = are.step in omega (arith, h)) body in
+      let e = are.step in omega (arith, a, b, d, e)
 
 pub bytes_are_within : BytesAreWithin
-bytes_are_within p r f i scopes = let a = code_is_paid p r f i scopes in_bytes in let b = body_within f f.body in omega (arith, a, b)
+bytes_are_within p r f i scopes c are = let a = code_is_paid p r f i scopes c in let b = body_within c are f f.body in omega (arith, a, b)
 
 pub programs_are_within : ProgramsAreWithin
-programs_are_within p scopes = let a = from 0 p.functions scopes in omega (arith, a)
+programs_are_within p scopes c are = let a = from 0 p.functions scopes in omega (arith, a)
   where
-    from : (g : ℕ) (all : List FunctionData) → All HasScopes all → price_of_routines in_bytes (routines_from p g all) ≤ weight_of_functions code all
+    from : (g : ℕ) (all : List FunctionData) → All HasScopes all → price_of_routines c (routines_from p g all) ≤ weight_of_functions code all
     from g [] e = omega arith
     from g (f ∷ more) e =
-        let a = price_of_function in_bytes p g f f.body (e 0 f (omega arith)) in
-        let b = body_within f f.body in
+        let a = price_of_function c p g f f.body (e 0 f (omega arith)) in
+        let b = body_within c are f f.body in
         let d = from (suc g) more (λ k one h. e (suc k) one (omega (arith, h))) in omega (arith, a, b, d)
 
 -- ---- temporaries

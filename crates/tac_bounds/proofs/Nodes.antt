@@ -1,5 +1,5 @@
 -- Each expression and each path pays for its code.
-use Rattle.std.proofs.Common.{◌≡◌, ℕ, zero, suc, ◌+◌, ◌*◌, ◌<◌, ◌≤◌, Bool, true, false, not, List, [], ◌∷◌, length, Option, Some, None, refl, subst, arith, slice_get, if◌then◌else◌}
+use Rattle.std.proofs.Common.{◌≡◌, ℕ, suc, ◌+◌, ◌*◌, ◌<◌, ◌≤◌, Bool, true, false, not, List, ◌∷◌, length, Option, Some, None, refl, arith, slice_get, if◌then◌else◌}
 use Rattle.lay_base.specs.declared.faults.UndefinedKind.TheVariants as K
 use Rattle.lay_base.specs.declared.place.Place.{Place}
 use Rattle.c_types.specs.declared.ty.IntKind.{IntKind}
@@ -19,11 +19,11 @@ use Rattle.tac_ir.specs.declared.step.Step.{Step}
 use Rattle.tac_ir.specs.declared.step.Step.TheVariants as S
 use Rattle.tac_ir.specs.declared.step.Target.{Target}
 use Rattle.tac_ir.specs.declared.step.Target.TheVariants as To
-use Rattle.lower_tac.specs.Parts.{Steps, Part, temp, operand, code_of, held, both_code}
-use Rattle.lower_tac.specs.Expressions.{local_code, convert_step, count_of, named_root, part_of, place_of}
-use Rattle.lower_tac.specs.Expressions.{address_code, load_code, convert_code, part_code, element_code, branch_on, value_code, node_code, count_part}
-use Rattle.lower_tac.specs.Expressions.{arguments_code, effect_code, branch_code, path_code, way_code, member_code}
-use Rattle.c_well_typed.specs.ProgramWeights.Weights.{weight, weight_of_node, weight_of_path, weight_of_step, weight_of_all, weight_of_count}
+use Rattle.lower_tac.specs.Parts.{Steps, Part, temp, operand, code_of, both_code}
+use Rattle.lower_tac.specs.Expressions.{local_code, count_of, named_root, part_of, place_of}
+use Rattle.lower_tac.specs.Expressions.{address_code, load_code, convert_code, part_code, element_code, branch_on, value_code}
+use Rattle.lower_tac.specs.Expressions.{arguments_code, effect_code, branch_code, path_code, member_code}
+use Rattle.c_well_typed.specs.ProgramWeights.Weights.{weight, weight_of_path, weight_of_all}
 use Rattle.tac_bounds.specs.Jumps.{target_of}
 use Rattle.tac_bounds.specs.Prices.{Prices, price_of, paid}
 use Rattle.tac_bounds.specs.Temporaries.{top, top_of, temporaries}

@@ -1,24 +1,21 @@
 -- What the code of a statement adds to what is there, with its labels.
-use Rattle.std.proofs.Common.{◌≡◌, ℕ, zero, suc, ◌+◌, ◌*◌, ◌<◌, ◌≤◌, Bool, true, false, List, [], ◌∷◌, ◌++◌, length, Option, Some, None, refl, sym, ap, ◌∙◌, subst, arith, slice_get, slice_set, if◌then◌else◌}
+use Rattle.std.proofs.Common.{◌≡◌, ℕ, suc, ◌+◌, ◌*◌, ◌<◌, ◌≤◌, Bool, true, false, List, [], ◌∷◌, ◌++◌, length, Option, Some, None, refl, sym, ap, ◌∙◌, arith, slice_get, slice_set, if◌then◌else◌}
 use Rattle.std.specs.Prelude.{◌-◌, ◌==◌}
 use Rattle.c_typed.specs.declared.program.Local.{Local}
 use Rattle.c_typed.specs.Programs.{ProgramData}
 use Rattle.c_meaning.specs.Program.{size_at}
-use Rattle.tac_ir.specs.declared.step.Operand.{Operand}
 use Rattle.tac_ir.specs.declared.step.Operand.TheVariants as O
-use Rattle.tac_ir.specs.declared.step.Step.{Step}
 use Rattle.tac_ir.specs.declared.step.Step.TheVariants as S
 use Rattle.tac_ir.specs.declared.step.Target.{Target}
 use Rattle.tac_ir.specs.declared.step.Target.TheVariants as To
 use Rattle.lower_tac.specs.Parts.{Steps}
-use Rattle.lower_tac.specs.Statements.{Out, before, by, here, with_label, label_of, marked, Exit, Exits, leads, leaves, ReturnWay, at_once, behind_ends}
+use Rattle.lower_tac.specs.Statements.{Out, before, by, here, with_label, Exit, Exits, leads, leaves, ReturnWay, at_once, behind_ends}
 use Rattle.lower_tac.specs.Statements.{fallen, exit_code, back_code, begin_code, begins_code, end_code, ends_code, return_end, continue_end, break_end, have_blocks, scope_code, scoped_code, round}
-use Rattle.tac_bounds.specs.Jumps.{IsInside, target_of}
-use Rattle.tac_bounds.specs.Prices.{Prices, price_of, price_of_all}
-use Rattle.tac_bounds.specs.Temporaries.{top_of, top_if_any}
+use Rattle.tac_bounds.specs.Jumps.{IsInside}
+use Rattle.tac_bounds.specs.Prices.{Prices, price_of_all}
+use Rattle.tac_bounds.specs.Temporaries.{top_if_any}
 use Rattle.tac_bounds.proofs.Grows as Grows
 use Rattle.tac_bounds.proofs.Grows.{Each, Leads, LeadsIfAny, leads_later, AllFit, fit_later}
-use Rattle.tac_bounds.proofs.Nodes as Nodes
 use Rattle.tac_bounds.proofs.Expressions as Parts
 
 -- ---- lists

@@ -1,10 +1,10 @@
 -- Where each scope makes the locals that it declares, each kind of thing pays its share.
-use Rattle.std.proofs.Common.{◌≡◌, ℕ, ◌+◌, ◌*◌, ◌≤◌, List, [], ◌∷◌, ◌++◌, length, Option, Some, None, refl, sym, ap, ◌∙◌, arith, if◌then◌else◌, Bool, true, false}
+use Rattle.std.proofs.Common.{◌≡◌, ℕ, ◌+◌, ◌*◌, ◌≤◌, List, [], ◌∷◌, ◌++◌, length, refl, ap, arith, if◌then◌else◌, Bool, true, false}
 use Rattle.c_typed.specs.declared.program.Local.{Local}
 use Rattle.c_typed.specs.Trees as T
 use Rattle.c_typed.specs.Trees.{Statement, Statements, Arms}
 use Rattle.c_typed.specs.TypedStatements.{declared_by, declared_by_arms, all_declared, all_declared_by, all_declared_by_arms}
-use Rattle.c_well_typed.specs.ProgramWeights.Weights.{weight_of_labels, weight_of_statement, weight_of_statements, weight_of_arms, weight_of_parameters, weight_of_locals}
+use Rattle.c_well_typed.specs.ProgramWeights.Weights.{weight_of_statement, weight_of_statements, weight_of_arms, weight_of_parameters, weight_of_locals}
 use Rattle.tac_bounds.specs.Prices.{Prices, paid}
 use Rattle.tac_bounds.specs.Scopes.{IsScoped, AreScoped, AreScopedArms}
 use Rattle.tac_bounds.proofs.Outs.{each}

@@ -1,5 +1,5 @@
 -- What the code of each statement adds.
-use Rattle.std.proofs.Common.{◌≡◌, ℕ, zero, suc, ◌+◌, ◌*◌, ◌<◌, ◌≤◌, Bool, true, false, List, [], ◌∷◌, ◌++◌, length, Option, Some, None, refl, arith, slice_get, if◌then◌else◌}
+use Rattle.std.proofs.Common.{◌≡◌, ℕ, suc, ◌+◌, ◌*◌, ◌<◌, ◌≤◌, Bool, true, false, List, [], ◌∷◌, length, Option, Some, None, refl, arith, slice_get, if◌then◌else◌}
 use Rattle.lay_base.specs.declared.faults.UndefinedKind.TheVariants as K
 use Rattle.c_typed.specs.Constants.{ty}
 use Rattle.c_typed.specs.declared.program.Local.{Local}
@@ -12,10 +12,10 @@ use Rattle.c_meaning.specs.Program.{size_at, access_at}
 use Rattle.tac_ir.specs.declared.step.Operand.{Operand}
 use Rattle.tac_ir.specs.declared.step.Step.TheVariants as S
 use Rattle.tac_ir.specs.declared.step.Target.{Target}
-use Rattle.lower_tac.specs.Parts.{Steps, temp, operand, code_of, held}
+use Rattle.lower_tac.specs.Parts.{Steps, temp, operand, code_of}
 use Rattle.lower_tac.specs.Expressions.{value_code, effect_code, branch_code, path_code, part_of, place_of, named_root}
-use Rattle.lower_tac.specs.Statements.{Out, before, by, here, with_loops, Exits, in_loop, in_switch, ReturnWay, at_once, behind_ends, ArmsOut}
-use Rattle.lower_tac.specs.Statements.{default_start, cases_code, dispatch_code, chosen_code, exit_code, return_code, test_code, effect_if_any, record_code, put_code, parts_code}
+use Rattle.lower_tac.specs.Statements.{Out, before, here, with_loops, Exits, in_loop, in_switch, ReturnWay, at_once, behind_ends, ArmsOut}
+use Rattle.lower_tac.specs.Statements.{default_start, cases_code, dispatch_code, chosen_code, return_code, test_code, effect_if_any, record_code, put_code, parts_code}
 use Rattle.lower_tac.specs.Statements.{initial_code, declare_code, round, enters_by_test, enters_at_once, scoped_code, statement_code, statements_code, arms_code}
 use Rattle.c_well_typed.specs.ProgramWeights.Weights.{weight, weight_of_path, weight_of_value, weight_of_parts, weight_of_initializer, weight_of_initial, weight_if_any}
 use Rattle.c_well_typed.specs.ProgramWeights.Weights.{weight_of_labels, weight_of_statement, weight_of_statements, weight_of_arms}

@@ -1,15 +1,14 @@
 -- In a well typed function the locals stand in the scopes that declare them.
-use Rattle.std.proofs.Common.{◌≡◌, ℕ, zero, suc, ◌+◌, List, [], ◌∷◌, ◌++◌, length, Bool, true, false, Option, Some, None, refl, sym, ap, ◌∙◌, arith}
+use Rattle.std.proofs.Common.{◌≡◌, ℕ, zero, suc, ◌+◌, List, ◌∷◌, ◌++◌, length, Bool, true, false, Option, Some, None, refl, ap, ◌∙◌, arith}
 use Rattle.c_types.specs.Types.{CType}
 use Rattle.c_typed.specs.Mapped.{of_types, mapped_statement, mapped_statements, mapped_arms}
-use Rattle.c_typed.specs.Programs.{FunctionData}
 use Rattle.c_typed.specs.Trees as T
 use Rattle.c_typed.specs.Trees.{Statement, Statements, Arms}
 use Rattle.c_typed.specs.Typed.{Declared}
-use Rattle.c_typed.specs.TypedStatements.{declared_by, declared_by_arms, all_declared, IsTypedStatement, AreTyped, AreTypedArms}
-use Rattle.c_well_typed.specs.WellTyped.{Lists, ty, count_up, declared_in, HasBody, IsTypedFunction}
+use Rattle.c_typed.specs.TypedStatements.{declared_by, declared_by_arms, IsTypedStatement, AreTyped, AreTypedArms}
+use Rattle.c_well_typed.specs.WellTyped.{ty, count_up, declared_in, HasBody}
 use Rattle.tac_bounds.specs.Laws.{TypedHaveScopes}
-use Rattle.tac_bounds.specs.Scopes.{IsScoped, AreScoped, AreScopedArms, IsScopedBody, HasScopes}
+use Rattle.tac_bounds.specs.Scopes.{IsScoped, AreScoped, AreScopedArms, IsScopedBody}
 
 module _ (f : ℕ → CType) where
   -- ---- types stand for numbers, and what is declared is the same

@@ -1,5 +1,5 @@
 -- Weights by lesser numbers are less.
-use Rattle.std.proofs.Common.{◌≡◌, ℕ, ◌+◌, ◌*◌, ◌≤◌, List, [], ◌∷◌, ◌++◌, Option, Some, None, arith, if◌then◌else◌, Bool, true, false}
+use Rattle.std.proofs.Common.{ℕ, ◌+◌, ◌*◌, ◌≤◌, List, [], ◌∷◌, Option, Some, None, arith, if◌then◌else◌, Bool, true, false}
 use Rattle.c_typed.specs.declared.program.Local.{Local}
 use Rattle.c_typed.specs.Trees as T
 use Rattle.c_typed.specs.Trees.{Expression, expression, Node, Path, path, PathNode, Expressions, OptionalExpression, PartValue, Initializer, Statement, Statements, Arms}
@@ -7,7 +7,7 @@ use Rattle.c_typed.specs.TypedStatements.{all_declared, all_declared_by, all_dec
 use Rattle.c_well_typed.specs.ProgramWeights.Counted.{Kind, begins, through, to_field, to_element, constant, load, conversion, pointer_sum, operator}
 use Rattle.c_well_typed.specs.ProgramWeights.Counted.{assignment, call, argument, part, statement, arm, label, parameter, named_local, block_local}
 use Rattle.c_well_typed.specs.ProgramWeights.Weights.{weight, weight_of_node, weight_of_path, weight_of_step, weight_of_all, weight_of_count, weight_of_value}
-use Rattle.c_well_typed.specs.ProgramWeights.Weights.{weight_of_parts, weight_of_initializer, weight_of_initial, weight_if_any, weight_of_labels, weight_of_statement}
+use Rattle.c_well_typed.specs.ProgramWeights.Weights.{weight_of_parts, weight_of_initial, weight_if_any, weight_of_labels, weight_of_statement}
 use Rattle.c_well_typed.specs.ProgramWeights.Weights.{weight_of_statements, weight_of_arms, weight_of_parameters, weight_of_locals}
 use Rattle.tac_bounds.proofs.Outs.{each}
 use Rattle.tac_bounds.proofs.Scoped.{each_append}

@@ -1,5 +1,5 @@
 -- The laws of lowered code.
-use Rattle.std.specs.Prelude.{◌≡◌, ◌≢◌, ℕ, ◌+◌, ◌*◌, ◌≤◌, length, All, Option, Some, None, slice_get}
+use Rattle.std.specs.Prelude.{◌≡◌, ◌≢◌, ℕ, ◌+◌, ◌*◌, ◌≤◌, length, All, Some, None, slice_get}
 use Rattle.c_typed.specs.Programs.{FunctionData, ProgramData}
 use Rattle.tac_ir.specs.Code.{RoutineData}
 use Rattle.lower_tac.specs.Statements.{lowered}
@@ -7,7 +7,7 @@ use Rattle.c_well_typed.specs.ProgramWeights.Counted.{code, frame}
 use Rattle.c_well_typed.specs.ProgramWeights.Weights.{weight_of_function, code_weight_of_program}
 use Rattle.c_well_typed.specs.WellTyped.{Lists, IsTypedFunction}
 use Rattle.tac_bounds.specs.Jumps.{JumpsWithin}
-use Rattle.tac_bounds.specs.Prices.{Prices, in_bytes, in_steps, paid, price_of_code, price_of_routines}
+use Rattle.tac_bounds.specs.Prices.{Prices, in_steps, AreBytes, paid, price_of_code, price_of_routines}
 use Rattle.tac_bounds.specs.Scopes.{HasScopes}
 use Rattle.tac_bounds.specs.Temporaries.{top_of_all, temporaries}
 
@@ -26,13 +26,19 @@ abbrev pub CodeIsPaid : Type 0
 CodeIsPaid = (p : ProgramData) (r : RoutineData) (f : FunctionData) → IsRoutineOf p r f → HasScopes f
     → (c : Prices) → price_of_code c r.code ≤ weight_of_function (paid c) f
 
--- in bytes, that is within the weight of the function, and of the program
+-- so there are no more steps than it weighs where each costs one
+abbrev pub StepsAreFew : Type 0
+StepsAreFew = (p : ProgramData) (r : RoutineData) (f : FunctionData) → IsRoutineOf p r f → HasScopes f
+    → length r.code ≤ weight_of_function (paid in_steps) f
+
+-- and in bytes the code is within the weight of the function, and of the program
 abbrev pub BytesAreWithin : Type 0
 BytesAreWithin = (p : ProgramData) (r : RoutineData) (f : FunctionData) → IsRoutineOf p r f → HasScopes f
-    → price_of_code in_bytes r.code ≤ weight_of_function code f
+    → (c : Prices) → AreBytes c → price_of_code c r.code ≤ weight_of_function code f
 
 abbrev pub ProgramsAreWithin : Type 0
-ProgramsAreWithin = (p : ProgramData) → All HasScopes p.functions → price_of_routines in_bytes (lowered p).routines ≤ code_weight_of_program p
+ProgramsAreWithin = (p : ProgramData) → All HasScopes p.functions
+    → (c : Prices) → AreBytes c → price_of_routines c (lowered p).routines ≤ code_weight_of_program p
 
 -- a function pays for its temporaries beside its locals
 abbrev pub TemporariesAreFew : Type 0

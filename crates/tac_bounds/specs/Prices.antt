@@ -1,5 +1,5 @@
 -- What code costs, step by step, and what pays for it, by the kinds of things in a function.
-use Rattle.std.specs.Prelude.{ℕ, ◌+◌, ◌*◌, List, [], ◌∷◌}
+use Rattle.std.specs.Prelude.{ℕ, ◌+◌, ◌*◌, ◌≤◌, List, [], ◌∷◌}
 use Rattle.c_well_typed.specs.ProgramWeights.Counted.{Kind}
 use Rattle.c_well_typed.specs.ProgramWeights.Counted as Kinds
 use Rattle.tac_ir.specs.Code.{RoutineData}
@@ -18,6 +18,12 @@ in_bytes = record { step = 40; wide = 56; argument = 24 }
 
 abbrev pub in_steps : Prices
 in_steps = record { step = 1; wide = 1; argument = 0 }
+
+-- prices in bytes that the weights of code pay for
+pub record AreBytes (c : Prices) : Type 0 where
+  pub step : c.step ≤ 48
+  pub wide : c.wide ≤ 96
+  pub argument : c.argument ≤ 128
 
 module _ (c : Prices) where
   abbrev pub price_of : Step → ℕ

@@ -1,6 +1,7 @@
 //! What holds of lowered code.
 
-ghost use Rattle.tac_bounds.specs.Laws.{BytesAreWithin, CodeIsPaid, FramesAreWithin, JumpsStand, ProgramsAreWithin, TemporariesAreFew, TypedHaveScopes};
+ghost use Rattle.tac_bounds.specs.Laws.{BytesAreWithin, CodeIsPaid, FramesAreWithin, JumpsStand, ProgramsAreWithin, StepsAreFew, TemporariesAreFew};
+ghost use Rattle.tac_bounds.specs.Laws.{TypedHaveScopes};
 
 /// Each jump leads to a step of its function. The last step of a function with a body is a return, so something is left at each place to which a jump
 /// leads, and each label that is used is set.
@@ -13,7 +14,12 @@ pub fn code_is_paid()
     ensures { CodeIsPaid }
 {}
 
-/// At 40 bytes for a step, 56 for a wide one and 24 for an argument, the code of a function is within its weight.
+/// So the code of a function has no more steps than the function weighs where each costs one.
+pub fn steps_are_few()
+    ensures { StepsAreFew }
+{}
+
+/// At up to 48 bytes for a step, 96 for a wide one and 128 for an argument, the code of a function is within its weight in bytes.
 pub fn bytes_are_within()
     ensures { BytesAreWithin }
 {}
