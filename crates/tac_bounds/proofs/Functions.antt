@@ -17,8 +17,8 @@ use Rattle.c_well_typed.specs.ProgramWeights.Counted.{Kind, statement, code, fra
 use Rattle.c_well_typed.specs.ProgramWeights.Counted as Kinds
 use Rattle.c_well_typed.specs.ProgramWeights.Weights.{weight_of_parameters, weight_of_body, weight_of_function, weight_of_functions}
 use Rattle.tac_bounds.specs.Jumps.{IsInside, target_of, LeadsInsideIfAny, JumpsWithin}
-use Rattle.tac_bounds.specs.Laws.{IsRoutineOf, JumpsStand, CodeIsPaid, StepsAreFew, BytesAreWithin, ProgramsAreWithin, TemporariesAreFew, FramesAreWithin}
-use Rattle.tac_bounds.specs.Prices.{Prices, in_bytes, in_steps, AreBytes, paid, price_of, price_of_all, price_of_code, price_of_routines}
+use Rattle.tac_bounds.specs.Laws.{IsRoutineOf, HasFewLabels, JumpsStand, LabelsAreFew, CodeIsPaid, StepsAreFew, BytesAreWithin, ProgramsAreWithin, TemporariesAreFew, FramesAreWithin}
+use Rattle.tac_bounds.specs.Prices.{Prices, in_steps, AreBytes, paid, price_of, price_of_all, price_of_code, price_of_routines}
 use Rattle.tac_bounds.specs.Scopes.{HasScopes, IsScopedBody}
 use Rattle.tac_bounds.specs.Temporaries.{top_of_all, temporaries}
 use Rattle.tac_bounds.proofs.Grows.{Each, each_all, LeadsIfAny, AllFit}
@@ -109,9 +109,9 @@ jumps_of_function : (p : ProgramData) (g : ℕ) (f : FunctionData) (b : Option (
 jumps_of_function p g f None = each_all (λ s. LeadsInsideIfAny (routine_of p f (code_if_any p g f None)) (target_of s)) [] tt
 jumps_of_function p g f (Some body) =
     let r = routine_of p f (body_code p g f body) in
-    let m = body_made in_bytes p g f body in
+    let m = body_made in_steps p g f body in
     each_all (λ s. LeadsInsideIfAny r (target_of s)) r.code
-    (jumps_of_steps in_bytes (most in_bytes p g f body) r (subst (λ (all : List ℕ). Each (IsInside (length r.code)) all) (sym m.is) m.set) r.code (body_fits in_bytes p g f body))
+    (jumps_of_steps in_steps (most in_steps p g f body) r (subst (λ (all : List ℕ). Each (IsInside (length r.code)) all) (sym m.is) m.set) r.code (body_fits in_steps p g f body))
 
 pub jumps : JumpsStand
 jumps p = each_all JumpsWithin (routines_from p 0 p.functions) (from 0 p.functions)
@@ -119,6 +119,20 @@ jumps p = each_all JumpsWithin (routines_from p 0 p.functions) (from 0 p.functio
     from : (g : ℕ) (all : List FunctionData) → Each JumpsWithin (routines_from p g all)
     from g [] = tt
     from g (f ∷ more) = (jumps_of_function p g f f.body, from (suc g) more)
+
+labels_of_function : (p : ProgramData) (g : ℕ) (f : FunctionData) (b : Option (Statement ℕ)) → HasFewLabels (routine_of p f (code_if_any p g f b))
+labels_of_function p g f None = omega arith
+labels_of_function p g f (Some body) =
+    let m = body_made in_steps p g f body in
+    let a = m.few in
+    let b : length (body_code p g f body).labels ≡ length m.more = ap length m.is in omega (arith, a, b)
+
+pub labels_are_few : LabelsAreFew
+labels_are_few p = each_all HasFewLabels (routines_from p 0 p.functions) (from 0 p.functions)
+  where
+    from : (g : ℕ) (all : List FunctionData) → Each HasFewLabels (routines_from p g all)
+    from g [] = tt
+    from g (f ∷ more) = (labels_of_function p g f f.body, from (suc g) more)
 
 -- ---- the routine of a function
 
@@ -265,7 +279,7 @@ temporaries_of_function : (p : ProgramData) (g : ℕ) (f : FunctionData) (b : Op
 temporaries_of_function p g f None = omega arith
 temporaries_of_function p g f (Some body) =
     let out = body_code p g f body in
-    let a = greatest in_bytes (most in_bytes p g f body) (length out.code) (length out.labels) out.code (body_fits in_bytes p g f body) in
+    let a = greatest in_steps (most in_steps p g f body) (length out.code) (length out.labels) out.code (body_fits in_steps p g f body) in
     let b = one_more (λ (l : Local). l.block) (all_locals f) in omega (arith, a, b)
 
 pub temporaries_are_few : TemporariesAreFew

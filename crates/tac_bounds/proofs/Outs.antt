@@ -41,6 +41,10 @@ and_more : (a b d : List ℕ) → (a ++ b) ++ d ≡ a ++ (b ++ d)
 and_more [] b d = refl
 and_more (x ∷ a) b d = ap (λ (e : List ℕ). x ∷ e) (and_more a b d)
 
+both_lengths : (a b : List ℕ) → length (a ++ b) ≡ length a + length b
+both_lengths [] b = omega arith
+both_lengths (x ∷ a) b = let h = both_lengths a b in omega (arith, h)
+
 longer_list : (a b : List ℕ) → length a ≤ length (a ++ b)
 longer_list [] b = omega arith
 longer_list (x ∷ a) b = let h = longer_list a b in omega (arith, h)
@@ -100,6 +104,8 @@ module _ (c : Prices) (most : ℕ) where
     pub cost : price_of_all c whole ≤ paid + price_of_all c code
     pub more : List ℕ
     pub is : wide ≡ labels ++ more
+    -- each stands before a step of its own
+    pub few : length more + length code ≤ length whole
     pub set : Each (IsInside (length whole)) more
     pub sound : AllFit c most (length code) (length labels) code → AllFit c most (length whole) (length wide) whole
 
@@ -109,10 +115,10 @@ module _ (c : Prices) (most : ℕ) where
       let e : length wide ≡ length (labels ++ a.more) = ap length a.is in omega (arith, h, e)
 
   pub unmade : {code : Steps} {labels : List ℕ} → Made 0 code labels code labels
-  unmade {labels = labels} = record { longer = omega arith; cost = omega arith; more = []; is = no_more labels; set = tt; sound = λ a. a }
+  unmade {labels = labels} = record { longer = omega arith; cost = omega arith; more = []; is = no_more labels; few = omega arith; set = tt; sound = λ a. a }
 
   pub made : {r w : ℕ} {code whole : Steps} (labels : List ℕ) → Grows.Grows c most (length labels) r w code whole → Made w code labels whole labels
-  made labels a = record { longer = a.longer; cost = (let x = a.cost in omega (arith, x)); more = []; is = no_more labels; set = tt; sound = a.sound }
+  made labels a = record { longer = a.longer; cost = (let x = a.cost in omega (arith, x)); more = []; is = no_more labels; few = (let x = a.longer in omega (arith, x)); set = tt; sound = a.sound }
 
   pub next : {v w : ℕ} {code middle whole : Steps} {labels between wide : List ℕ} → Made v code labels middle between → Made w middle between whole wide → Made (v + w) code labels whole wide
   next {middle = middle} {whole = whole} {labels = labels} a b = record {
@@ -120,12 +126,13 @@ module _ (c : Prices) (most : ℕ) where
     cost = (let x = a.cost in let y = b.cost in omega (arith, x, y));
     more = a.more ++ b.more;
     is = b.is ∙ ap (λ (e : List ℕ). e ++ b.more) a.is ∙ and_more labels a.more b.more;
+    few = (let x = a.few in let y = b.few in let z = both_lengths a.more b.more in omega (arith, x, y, z));
     set = each_append (IsInside (length whole)) a.more b.more (inside_later b.longer a.more a.set) b.set;
     sound = λ z. b.sound (a.sound z);
   }
 
   pub pay : {v w : ℕ} {code whole : Steps} {labels wide : List ℕ} → v ≤ w → Made v code labels whole wide → Made w code labels whole wide
-  pay h a = record { longer = a.longer; cost = (let x = a.cost in omega (arith, x, h)); more = a.more; is = a.is; set = a.set; sound = a.sound }
+  pay h a = record { longer = a.longer; cost = (let x = a.cost in omega (arith, x, h)); more = a.more; is = a.is; few = a.few; set = a.set; sound = a.sound }
 
   -- what is made of any code, with its ways out
   abbrev pub Makes : (paid : ℕ) → (Exits → Out → Out) → Type 0
@@ -280,6 +287,7 @@ module _ (c : Prices) (most : ℕ) where
           cost = (let x = a.cost in let y = b.cost in let z = d.cost in let i = h.cost in omega (arith, x, y, z, i));
           more = length begun ∷ d.more;
           is = label_set out.labels d.more inner.labels (length begun) d.is;
+          few = (let x = d.few in omega (arith, al, bl, hl, x));
           set = ((omega arith, hl), inside_later (omega (arith, hl)) d.more d.set);
           sound = λ z. fit_later c most (enters (here tested) begun) (omega arith) (omega (arith, as_many))
               (h.sound (f.sound (d.sound (b.sound (a.sound (fit_later c most out.code (omega arith) (omega (arith, one_more)) z))))));

@@ -1,14 +1,15 @@
 -- In a well typed function the locals stand in the scopes that declare them.
-use Rattle.std.proofs.Common.{◌≡◌, ℕ, zero, suc, ◌+◌, List, ◌∷◌, ◌++◌, length, Bool, true, false, Option, Some, None, refl, ap, ◌∙◌, arith}
+use Rattle.std.proofs.Common.{◌≡◌, ℕ, zero, suc, ◌+◌, List, ◌∷◌, ◌++◌, length, get_or, Bool, true, false, Option, Some, None, refl, ap, ◌∙◌, arith}
 use Rattle.c_types.specs.Types.{CType}
 use Rattle.c_typed.specs.Mapped.{of_types, mapped_statement, mapped_statements, mapped_arms}
+use Rattle.c_typed.specs.Programs.{FunctionData}
 use Rattle.c_typed.specs.Trees as T
 use Rattle.c_typed.specs.Trees.{Statement, Statements, Arms}
 use Rattle.c_typed.specs.Typed.{Declared}
 use Rattle.c_typed.specs.TypedStatements.{declared_by, declared_by_arms, IsTypedStatement, AreTyped, AreTypedArms}
-use Rattle.c_well_typed.specs.WellTyped.{ty, count_up, declared_in, HasBody}
+use Rattle.c_well_typed.specs.WellTyped.{Lists, ty, of_program, count_up, declared_in, HasBody, IsTypedFunction}
 use Rattle.tac_bounds.specs.Laws.{TypedHaveScopes}
-use Rattle.tac_bounds.specs.Scopes.{IsScoped, AreScoped, AreScopedArms, IsScopedBody}
+use Rattle.tac_bounds.specs.Scopes.{HasScopes, IsScoped, AreScoped, AreScopedArms, IsScopedBody}
 
 module _ (f : ℕ → CType) where
   -- ---- types stand for numbers, and what is declared is the same
@@ -61,10 +62,13 @@ so_many : (k n : ℕ) → length (count_up k n) ≡ n
 so_many k zero = refl
 so_many k (suc n) = let h = so_many (k + 1) n in omega (arith, h)
 
-pub typed_have_scopes : TypedHaveScopes
-typed_have_scopes l f h = by_body f.body h.5
+has_scopes : (l : Lists) (f : FunctionData) → IsTypedFunction l f → HasScopes f
+has_scopes l f h = by_body f.body h.5
   where
     by_body : (b : Option (Statement ℕ)) → HasBody l f h.0 h.1 b → IsScopedBody f b
     by_body None h = tt
     by_body (Some body) i =
         (scoped (ty l) (declared_in l f) h.0 false false body i.3.1, ap (λ (all : List ℕ). length all) i.3.2 ∙ so_many (length f.parameters) (length f.locals))
+
+pub typed_have_scopes : TypedHaveScopes
+typed_have_scopes p typed k d h = has_scopes (of_program p) (get_or p.functions k d) (typed.functions k d h)

@@ -5,7 +5,7 @@ use Rattle.tac_ir.specs.Code.{RoutineData}
 use Rattle.lower_tac.specs.Statements.{lowered}
 use Rattle.c_well_typed.specs.ProgramWeights.Counted.{code, frame}
 use Rattle.c_well_typed.specs.ProgramWeights.Weights.{weight_of_function, code_weight_of_program}
-use Rattle.c_well_typed.specs.WellTyped.{Lists, IsTypedFunction}
+use Rattle.c_well_typed.specs.WellTyped.{of_program, HaveTypedFunctions}
 use Rattle.tac_bounds.specs.Jumps.{JumpsWithin}
 use Rattle.tac_bounds.specs.Prices.{Prices, in_steps, AreBytes, paid, price_of_code, price_of_routines}
 use Rattle.tac_bounds.specs.Scopes.{HasScopes}
@@ -20,6 +20,13 @@ pub record IsRoutineOf (p : ProgramData) (r : RoutineData) (f : FunctionData) : 
 -- each jump leads to a step of its function
 abbrev pub JumpsStand : Type 0
 JumpsStand = (p : ProgramData) → All JumpsWithin (lowered p).routines
+
+-- a function has no more labels than steps
+abbrev pub HasFewLabels : RoutineData → Type 0
+HasFewLabels r = length r.labels ≤ length r.code
+
+abbrev pub LabelsAreFew : Type 0
+LabelsAreFew = (p : ProgramData) → All HasFewLabels (lowered p).routines
 
 -- what is in a function pays for its code, whatever the prices
 abbrev pub CodeIsPaid : Type 0
@@ -52,4 +59,4 @@ FramesAreWithin = (p : ProgramData) (r : RoutineData) (f : FunctionData) → IsR
 
 -- the locals of well typed functions stand in the scopes that declare them
 abbrev pub TypedHaveScopes : Type 0
-TypedHaveScopes = (l : Lists) (f : FunctionData) → IsTypedFunction l f → HasScopes f
+TypedHaveScopes = (p : ProgramData) → HaveTypedFunctions (of_program p) → All HasScopes p.functions

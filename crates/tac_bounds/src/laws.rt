@@ -1,12 +1,17 @@
 //! What holds of lowered code.
 
-ghost use Rattle.tac_bounds.specs.Laws.{BytesAreWithin, CodeIsPaid, FramesAreWithin, JumpsStand, ProgramsAreWithin, StepsAreFew, TemporariesAreFew};
-ghost use Rattle.tac_bounds.specs.Laws.{TypedHaveScopes};
+ghost use Rattle.tac_bounds.specs.Laws.{BytesAreWithin, CodeIsPaid, FramesAreWithin, JumpsStand, LabelsAreFew, ProgramsAreWithin, StepsAreFew};
+ghost use Rattle.tac_bounds.specs.Laws.{TemporariesAreFew, TypedHaveScopes};
 
 /// Each jump leads to a step of its function. The last step of a function with a body is a return, so something is left at each place to which a jump
 /// leads, and each label that is used is set.
 pub fn jumps_stand()
     ensures { JumpsStand }
+{}
+
+/// A function has no more labels than steps.
+pub fn labels_are_few()
+    ensures { LabelsAreFew }
 {}
 
 /// What is in a function pays for its code: whatever the prices of steps are, the code costs no more than the function weighs by the numbers of `paid`.
@@ -39,7 +44,7 @@ pub fn frames_are_within()
     ensures { FramesAreWithin }
 {}
 
-/// In a well typed function the locals stand in the scopes that declare them.
+/// In the functions of a well typed program the locals stand in the scopes that declare them.
 pub fn typed_functions_have_scopes()
     ensures { TypedHaveScopes }
 {}

@@ -8,6 +8,6 @@
 mod laws;
 
 pub use laws::{
-    bytes_are_within, code_is_paid, frames_are_within, jumps_stand, programs_are_within,
-    temporaries_are_few, typed_functions_have_scopes,
+    bytes_are_within, code_is_paid, frames_are_within, jumps_stand, labels_are_few,
+    programs_are_within, steps_are_few, temporaries_are_few, typed_functions_have_scopes,
 };
