@@ -1,5 +1,6 @@
 -- What the code of expressions and paths adds.
-use Rattle.std.proofs.Common.{◌≡◌, ℕ, zero, suc, ◌+◌, ◌*◌, ◌<◌, ◌≤◌, Bool, true, false, List, [], ◌∷◌, length, Option, Some, None, refl, subst, arith, slice_get, if◌then◌else◌}
+use Rattle.std.proofs.Common.{◌≡◌, ℕ, zero, suc, ◌+◌, ◌*◌, ◌<◌, ◌≤◌, Bool, true, false, List, [], ◌∷◌, length, Option, Some, None, refl, subst, arith}
+use Rattle.std.proofs.Common.{slice_get, if◌then◌else◌}
 use Rattle.lay_base.specs.declared.faults.UndefinedKind.TheVariants as K
 use Rattle.lay_base.specs.declared.place.Place.{Place}
 use Rattle.c_types.specs.declared.ty.IntKind.{IntKind}
@@ -209,9 +210,13 @@ module _ (c : Prices) (most labels : ℕ) (p : ProgramData) (locals : List Local
   -- ---- assignments
 
   abbrev pub Makes : (rest paid temporaries : ℕ) → ((to d : ℕ) → Steps → Steps) → Type 0
-  Makes rest paid temporaries make = (to d : ℕ) (code : Steps) → to < most → d < most → d + temporaries ≤ most → 0 < length code → Made rest paid code (make to d code)
+  Makes rest paid temporaries make =
+      (to d : ℕ) (code : Steps) → to < most → d < most → d + temporaries ≤ most → 0 < length code → Made rest paid code
+      (make to d code)
 
-  pub named_grows : {value : (to d : ℕ) → Steps → Steps} {v : ℕ} (g : ℕ) → Makes c.step v g value → (at : Place) (x : ℕ) (y : Part) (d : ℕ) (to : Option ℕ) (code : Steps)
+  pub named_grows : {value : (to d : ℕ) → Steps → Steps} {v : ℕ} (g : ℕ) → Makes c.step v g value
+      → (at : Place) (x : ℕ) (y : Part) (d : ℕ) (to : Option ℕ)
+      (code : Steps)
       → x < most → Below to → d < most → d + g ≤ most → 0 < length code → Made 0 (c.step + v) code (assign_named p at x value y d to code)
   named_grows {value} g makes at x y d to code k h l i n =
       let r = result_grows to (O.Temp K.Empty x at) code h (omega (arith, k)) in
@@ -220,7 +225,9 @@ module _ (c : Prices) (most labels : ℕ) (p : ProgramData) (locals : List Local
       let z = t.longer in
       pay (omega arith) (next (next r t) (makes x d (tested_if y.lacks y.at x (result_code to (O.Temp K.Empty x at) code)) k l i (omega (arith, n, e, z))))
 
-  pub assign_grows : (o : Option ℕ) → Below o → (t : ℕ) (at : Place) {q y : Part} {value : (to d : ℕ) → Steps → Steps} {w f v g : ℕ} → Paid q w f → Makes c.step v g value → Paid y v g
+  pub assign_grows : (o : Option ℕ) → Below o → (t : ℕ) (at : Place) {q y : Part} {value : (to d : ℕ) → Steps → Steps} {w f v g : ℕ} → Paid q w f
+      → Makes c.step v g value
+      → Paid y v g
       → (d : ℕ) (to : Option ℕ) (code : Steps) → Below to → suc d < most → d + f ≤ most → suc d + g ≤ most → 0 < length code
       → Made 0 (2 * c.step + w + v) code (assign_code p o t at q value y d to code)
   assign_grows (Some x) b t at {y = y} {g = g} one_paid makes other d to code h k i l n =
@@ -242,7 +249,8 @@ module _ (c : Prices) (most labels : ℕ) (p : ProgramData) (locals : List Local
       let below = Grows.operand_below c most labels other d (omega (arith, k)) in
       let s = one (update_step t at op right x (O.Temp K.Empty x at) (operand y d)) after tt (omega (arith, b, below)) in
       pay (omega arith) (next (next r s)
-      (Grows.code_grows c most labels other d (update_step t at op right x (O.Temp K.Empty x at) (operand y d) ∷ after) (omega arith) (omega (arith, k)) (omega (arith, l))))
+      (Grows.code_grows c most labels other d (update_step t at op right x (O.Temp K.Empty x at) (operand y d) ∷ after) (omega arith) (omega (arith, k))
+      (omega (arith, l))))
   assign_op_grows None b t at op right {q} {y} one_paid other d to code h k i l n =
       let a = settled_operand q d in
       let z = settled_operand y (suc d) in
@@ -268,7 +276,8 @@ module _ (c : Prices) (most labels : ℕ) (p : ProgramData) (locals : List Local
       pay (omega arith) (one (update_step t at (step_op op) (unit_kind (type_at p t)) x (O.Temp K.Empty x at) (O.Word 1)) code tt (omega (arith, b)))
   step_grows (Some x) b t at op true one_paid d (Some to) code h k i n =
       pay (omega arith) (next (one (S.Set to (O.Temp K.Empty x at)) code tt (omega (arith, b, h)))
-      (one (update_step t at (step_op op) (unit_kind (type_at p t)) x (O.Temp K.Empty x at) (O.Word 1)) (S.Set to (O.Temp K.Empty x at) ∷ code) tt (omega (arith, b))))
+      (one (update_step t at (step_op op) (unit_kind (type_at p t)) x (O.Temp K.Empty x at) (O.Word 1)) (S.Set to (O.Temp K.Empty x at) ∷ code) tt
+      (omega (arith, b))))
   step_grows (Some x) b t at op false one_paid d (Some to) code h k i n =
       let last = S.Set to (temp at d) ∷ code in
       let u = update_step t at (step_op op) (unit_kind (type_at p t)) x (temp at d) (O.Word 1) in
@@ -292,7 +301,8 @@ module _ (c : Prices) (most labels : ℕ) (p : ProgramData) (locals : List Local
       by_before true = omega (arith, k)
       by_before false = omega (arith, k)
 
-  copy_held : {q r : Part} {w f v g : ℕ} → Paid q w f → Paid r v g → (at : Place) (d : ℕ) (code : Steps) → suc d < most → d + f ≤ most → suc d + g ≤ most → 0 < length code
+  copy_held : {q r : Part} {w f v g : ℕ} → Paid q w f → Paid r v g → (at : Place) (d : ℕ) (code : Steps) → suc d < most → d + f ≤ most → suc d + g ≤ most
+      → 0 < length code
       → Made 0 (2 * c.step + w + v) code (held q d (held r (suc d) (S.Fail K.Dead at ∷ code)))
   copy_held {q} {r} one_paid other at d code k i l n =
       let e = Grows.held_grows c most labels other (suc d) (S.Fail K.Dead at ∷ code) (omega arith) k l in

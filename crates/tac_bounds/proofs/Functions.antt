@@ -1,5 +1,6 @@
 -- The laws, function by function.
-use Rattle.std.proofs.Common.{◌≡◌, ◌≢◌, ℕ, zero, suc, ◌+◌, ◌*◌, ◌<◌, ◌≤◌, Bool, true, false, List, [], ◌∷◌, ◌++◌, map, length, All, Option, Some, None, refl, sym, ap, ◌∙◌, subst, arith, slice_get}
+use Rattle.std.proofs.Common.{◌≡◌, ◌≢◌, ℕ, zero, suc, ◌+◌, ◌*◌, ◌<◌, ◌≤◌, Bool, true, false, List, [], ◌∷◌, ◌++◌, map, length, All, Option, Some, None, refl}
+use Rattle.std.proofs.Common.{sym, ap, ◌∙◌, subst, arith, slice_get}
 use Rattle.c_typed.specs.declared.program.Local.{Local}
 use Rattle.c_typed.specs.Programs.{FunctionData, ProgramData}
 use Rattle.c_typed.specs.Trees.{Statement}
@@ -12,12 +13,14 @@ use Rattle.tac_ir.specs.declared.step.Step.TheVariants as S
 use Rattle.tac_ir.specs.declared.step.Target.{Target}
 use Rattle.tac_ir.specs.declared.step.Target.TheVariants as To
 use Rattle.lower_tac.specs.Parts.{Steps}
-use Rattle.lower_tac.specs.Statements.{Out, statement_code, have_blocks, function_exits, last_code, parameters_of, body_code, routine_of, code_if_any, routines_from}
+use Rattle.lower_tac.specs.Statements.{Out, statement_code, have_blocks, function_exits, last_code, parameters_of, body_code, routine_of, code_if_any}
+use Rattle.lower_tac.specs.Statements.{routines_from}
 use Rattle.c_well_typed.specs.ProgramWeights.Counted.{Kind, statement, code, frame, definition}
 use Rattle.c_well_typed.specs.ProgramWeights.Counted as Kinds
 use Rattle.c_well_typed.specs.ProgramWeights.Weights.{weight_of_parameters, weight_of_body, weight_of_function, weight_of_functions}
 use Rattle.tac_bounds.specs.Jumps.{IsInside, target_of, LeadsInsideIfAny, JumpsWithin}
-use Rattle.tac_bounds.specs.Laws.{IsRoutineOf, HasFewLabels, JumpsStand, LabelsAreFew, CodeIsPaid, StepsAreFew, BytesAreWithin, ProgramsAreWithin, TemporariesAreFew, FramesAreWithin}
+use Rattle.tac_bounds.specs.Laws.{IsRoutineOf, HasFewLabels, JumpsStand, LabelsAreFew, CodeIsPaid, StepsAreFew, BytesAreWithin, ProgramsAreWithin}
+use Rattle.tac_bounds.specs.Laws.{TemporariesAreFew, FramesAreWithin}
 use Rattle.tac_bounds.specs.Prices.{Prices, in_steps, AreBytes, paid, price_of, price_of_all, price_of_code, price_of_routines}
 use Rattle.tac_bounds.specs.Scopes.{HasScopes, IsScopedBody}
 use Rattle.tac_bounds.specs.Temporaries.{top_of_all, temporaries}
@@ -111,7 +114,8 @@ jumps_of_function p g f (Some body) =
     let r = routine_of p f (body_code p g f body) in
     let m = body_made in_steps p g f body in
     each_all (λ s. LeadsInsideIfAny r (target_of s)) r.code
-    (jumps_of_steps in_steps (most in_steps p g f body) r (subst (λ (all : List ℕ). Each (IsInside (length r.code)) all) (sym m.is) m.set) r.code (body_fits in_steps p g f body))
+    (jumps_of_steps in_steps (most in_steps p g f body) r (subst (λ (all : List ℕ). Each (IsInside (length r.code)) all) (sym m.is) m.set) r.code
+    (body_fits in_steps p g f body))
 
 pub jumps : JumpsStand
 jumps p = each_all JumpsWithin (routines_from p 0 p.functions) (from 0 p.functions)

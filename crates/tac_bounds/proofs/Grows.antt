@@ -7,7 +7,8 @@ use Rattle.tac_ir.specs.declared.step.Step.{Step}
 use Rattle.tac_ir.specs.declared.step.Step.TheVariants as S
 use Rattle.tac_ir.specs.declared.step.Target.{Target}
 use Rattle.tac_ir.specs.declared.step.Target.TheVariants as To
-use Rattle.lower_tac.specs.Parts.{Steps, Part, temp, or_temp, operand, unless_any, code_of, tested_if, held, fixed, settled, settled_operand, left_code, left_operand, both_code}
+use Rattle.lower_tac.specs.Parts.{Steps, Part, temp, or_temp, operand, unless_any, code_of, tested_if, held, fixed, settled, settled_operand, left_code}
+use Rattle.lower_tac.specs.Parts.{left_operand, both_code}
 use Rattle.tac_bounds.specs.Jumps.{IsInside, target_of}
 use Rattle.tac_bounds.specs.Prices.{Prices, price_of, price_of_all}
 use Rattle.tac_bounds.specs.Temporaries.{top, top_of}
@@ -66,7 +67,11 @@ module _ (c : Prices) (most : ℕ) where
       longer = omega arith;
       dearer = omega arith;
       cost = omega arith;
-      sound = λ a. ((leads_any_later {n = length code} {m = suc (length code)} (target_of s) (omega arith) (omega arith) to, h), fit_later code (omega arith) (omega arith) a);
+      sound = λ a. (
+        (leads_any_later {n = length code} {m = suc (length code)} (target_of s) (omega arith) (omega arith) to, h),
+        fit_later code (omega arith)
+            (omega arith) a,
+      );
     }
 
     pub next : {r q v w : ℕ} {code middle whole : Steps} → Grows r v code middle → Grows q w middle whole → Grows (r + q) (v + w) code whole
@@ -114,7 +119,9 @@ module _ (c : Prices) (most : ℕ) where
     pub settled_below : {x : Part} {w f : ℕ} → Paid x w f → (d : ℕ) → d < most → top (settled_operand x d) ≤ most
     settled_below {x} p d h = or_temp_below (fixed x.atom) x.at d h (fixed_below x.atom p.atom)
 
-    pub code_grows : {x : Part} {w f : ℕ} → Paid x w f → (d : ℕ) (code : Steps) → 0 < length code → d < most → d + f ≤ most → Grows c.step w code (code_of x d code)
+    pub code_grows : {x : Part} {w f : ℕ} → Paid x w f → (d : ℕ) (code : Steps) → 0 < length code → d < most → d + f ≤ most
+        → Grows c.step w code
+        (code_of x d code)
     code_grows {x} p d code k h g = unless_grows x.atom (x.made d) (p.made d code k h g)
 
     pub tested_grows : (b : Bool) (at : Place) (t : ℕ) (code : Steps) → t < most → Grows 0 c.step code (tested_if b at t code)
@@ -126,10 +133,14 @@ module _ (c : Prices) (most : ℕ) where
         let t = tested_grows x.lacks x.at d code h in
         let l = t.longer in pay (omega arith) (next t (p.made d (tested_if x.lacks x.at d code) (omega (arith, k, l)) h g))
 
-    pub settled_grows : {x : Part} {w f : ℕ} → Paid x w f → (d : ℕ) (code : Steps) → 0 < length code → d < most → d + f ≤ most → Grows 0 w code (settled x d code)
+    pub settled_grows : {x : Part} {w f : ℕ} → Paid x w f → (d : ℕ) (code : Steps) → 0 < length code → d < most → d + f ≤ most
+        → Grows 0 w code
+        (settled x d code)
     settled_grows {x} p d code k h g = unless_grows (fixed x.atom) (held x d) (held_grows p d code k h g)
 
-    left_grows : {x : Part} {w f : ℕ} → Paid x w f → (o : Option Operand) (d : ℕ) (code : Steps) → 0 < length code → d < most → d + f ≤ most → Grows 0 w code (left_code o x d code)
+    left_grows : {x : Part} {w f : ℕ} → Paid x w f → (o : Option Operand) (d : ℕ) (code : Steps) → 0 < length code → d < most → d + f ≤ most
+        → Grows 0 w code
+        (left_code o x d code)
     left_grows p None d code k h g = settled_grows p d code k h g
     left_grows p (Some b) d code k h g = pay (omega arith) (code_grows p d code k h g)
 

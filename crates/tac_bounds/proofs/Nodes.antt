@@ -1,5 +1,6 @@
 -- Each expression and each path pays for its code.
-use Rattle.std.proofs.Common.{◌≡◌, ℕ, suc, ◌+◌, ◌*◌, ◌<◌, ◌≤◌, Bool, true, false, not, List, ◌∷◌, length, Option, Some, None, refl, arith, slice_get, if◌then◌else◌}
+use Rattle.std.proofs.Common.{◌≡◌, ℕ, suc, ◌+◌, ◌*◌, ◌<◌, ◌≤◌, Bool, true, false, not, List, ◌∷◌, length, Option, Some, None, refl, arith, slice_get}
+use Rattle.std.proofs.Common.{if◌then◌else◌}
 use Rattle.lay_base.specs.declared.faults.UndefinedKind.TheVariants as K
 use Rattle.lay_base.specs.declared.place.Place.{Place}
 use Rattle.c_types.specs.declared.ty.IntKind.{IntKind}
@@ -79,7 +80,9 @@ module _ (c : Prices) (most labels : ℕ) (p : ProgramData) (locals : List Local
   abbrev value_paid : (e : Expression ℕ) → ValueGrows e → Paid (part_of p locals e (value_code p locals e)) (W e) (F e)
   value_paid = Parts.part_paid c most labels p locals roomy
 
-  abbrev place_paid : (addressed : Bool) (q : Path ℕ) → PathGrows addressed q → Paid (place_of p locals q (path_code p locals addressed q)) (W_path q) (F_path q)
+  abbrev place_paid : (addressed : Bool) (q : Path ℕ) → PathGrows addressed q
+      → Paid (place_of p locals q (path_code p locals addressed q)) (W_path q)
+      (F_path q)
   place_paid = Parts.place_paid c most labels p locals roomy
 
   abbrev least : {x : Part} {w f : ℕ} → Paid x w f → (d : ℕ) (code : Steps) → 0 < length code → d < most → d + f ≤ most → c.step ≤ w
@@ -99,20 +102,27 @@ module _ (c : Prices) (most labels : ℕ) (p : ProgramData) (locals : List Local
 
   -- ---- loads, addresses and conversions
 
-  address_grows : (o : Option ℕ) (at : Place) {q : Part} {w f : ℕ} → Paid q w f → (to d : ℕ) (code : Steps) → to < most → d < most → d + f ≤ most → 0 < length code
+  address_grows : (o : Option ℕ) (at : Place) {q : Part} {w f : ℕ} → Paid q w f → (to d : ℕ) (code : Steps) → to < most → d < most → d + f ≤ most
+      → 0 < length code
       → Made c.step (c.step + w) code (address_code p locals o at q to d code)
   address_grows (Some x) at one_paid to d code h k i n =
       let l = least one_paid d code n k i in pay (omega (arith, l)) (one (S.Fail K.Dead at) code tt (omega arith))
   address_grows None at {q} one_paid to d code h k i n = read_one one_paid d (S.AsPointer to (operand q d)) code tt (λ b. omega (arith, h, b)) k i n
 
   load_grows : (o : Option ℕ) → Parts.Below c most labels p locals roomy o → (t : ℕ) (at : Place) {q : Part} {w f : ℕ} → Paid q w f
-      → (to d : ℕ) (code : Steps) → to < most → d < most → d + f ≤ most → 0 < length code → Made c.step (c.step + w) code (load_code p locals o t at q to d code)
+      → (to d : ℕ) (code : Steps) → to < most → d < most → d + f ≤ most → 0 < length code
+      → Made c.step (c.step + w) code
+      (load_code p locals o t at q to d code)
   load_grows (Some x) b t at one_paid to d code h k i n =
       let l = least one_paid d code n k i in pay (omega (arith, l)) (one (S.Set to (O.Temp K.Empty x at)) code tt (omega (arith, h, b)))
-  load_grows None b t at {q} one_paid to d code h k i n = read_one one_paid d (S.Load to at (access_at p t) (operand q d)) code tt (λ b. omega (arith, h, b)) k i n
+  load_grows None b t at {q} one_paid to d code h k i n =
+      read_one one_paid d (S.Load to at (access_at p t) (operand q d)) code tt
+      (λ b. omega (arith, h, b)) k i n
 
   convert_grows : (t : CType) {x : Part} {w f : ℕ} → Paid x w f → (effect : Steps → Steps) → ((code : Steps) → 0 < length code → Made 0 w code (effect code))
-      → (to d : ℕ) (code : Steps) → to < most → d < most → d + f ≤ most → 0 < length code → Made c.step (2 * c.step + w) code (convert_code p locals t x effect to d code)
+      → (to d : ℕ) (code : Steps) → to < most → d < most → d + f ≤ most → 0 < length code
+      → Made c.step (2 * c.step + w) code
+      (convert_code p locals t x effect to d code)
   convert_grows void one_paid effect made to d code h k i n =
       pay (omega arith) (next (one (S.Clear to) code tt (omega (arith, h))) (made (S.Clear to ∷ code) (omega arith)))
   convert_grows (integer kind) {x} one_paid effect made to d code h k i n =
@@ -128,7 +138,9 @@ module _ (c : Prices) (most labels : ℕ) (p : ProgramData) (locals : List Local
 
   -- ---- parts of places
 
-  local_grows : (at : Place) (x : ℕ) (o : Option Local) → slice_get locals x ≡ o → (to : ℕ) (code : Steps) → to < most → Made c.step (2 * c.step) code (local_code at x o to code)
+  local_grows : (at : Place) (x : ℕ) (o : Option Local) → slice_get locals x ≡ o → (to : ℕ) (code : Steps) → to < most
+      → Made c.step (2 * c.step) code
+      (local_code at x o to code)
   local_grows at x None is to code h = pay (omega arith) (one (S.Fail K.Dead at) code tt (omega arith))
   local_grows at x (Some l) is to code h = by_block l.block
     where
@@ -137,7 +149,8 @@ module _ (c : Prices) (most labels : ℕ) (p : ProgramData) (locals : List Local
           let b = Parts.local_below c most labels p locals roomy x l is in pay (omega arith) (one (S.Set to (O.Temp K.Dead x at)) code tt (omega (arith, h, b)))
       by_block false = pay (omega arith) (Grows.same c most labels)
 
-  part_grows : (o : Option ℕ) (at : Place) (by : ℕ) {q : Part} {w f : ℕ} → Paid q w f → (to d : ℕ) (code : Steps) → to < most → d < most → d + f ≤ most → 0 < length code
+  part_grows : (o : Option ℕ) (at : Place) (by : ℕ) {q : Part} {w f : ℕ} → Paid q w f → (to d : ℕ) (code : Steps) → to < most → d < most → d + f ≤ most
+      → 0 < length code
       → Made c.step (c.step + w) code (part_code p locals o at by q to d code)
   part_grows (Some x) at by one_paid to d code h k i n =
       let l = least one_paid d code n k i in pay (omega (arith, l)) (one (S.Fail K.Dead at) code tt (omega arith))
@@ -149,28 +162,36 @@ module _ (c : Prices) (most labels : ℕ) (p : ProgramData) (locals : List Local
   element_grows (Some x) at z size addressed kind {y = y} one_paid other to d code h k i j n =
       let l = least one_paid d code n (omega (arith, k)) i in
       pay (omega (arith, l)) (next (one (S.Fail K.Dead at) code tt (omega arith))
-      (read_one other d (S.Element to at z 0 addressed kind (O.Object 0) (operand y d)) (S.Fail K.Dead at ∷ code) tt (λ b. omega (arith, h, b)) (omega (arith, k)) (omega (arith, j)) (omega arith)))
+      (read_one other d (S.Element to at z 0 addressed kind (O.Object 0) (operand y d)) (S.Fail K.Dead at ∷ code) tt (λ b. omega (arith, h, b))
+      (omega (arith, k)) (omega (arith, j)) (omega arith)))
   element_grows None at z size addressed kind one_paid other to d code h k i j n =
       read_both one_paid other d (λ a b. S.Element to at z size addressed kind a b) c.step code
       (λ a b ha hb. one (S.Element to at z size addressed kind a b) code tt (omega (arith, h, ha, hb))) k i j n
 
   -- ---- branches on a value
 
-  on_grows : {x : Part} {w f : ℕ} → Paid x w f → (when : Bool) (to : Target) (d : ℕ) (code : Steps) → Leads (length code) labels to → d < most → d + f ≤ most → 0 < length code
+  on_grows : {x : Part} {w f : ℕ} → Paid x w f → (when : Bool) (to : Target) (d : ℕ) (code : Steps) → Leads (length code) labels to → d < most → d + f ≤ most
+      → 0 < length code
       → Made 0 w code (branch_on p locals x when to d code)
   on_grows {x} one_paid when to d code leads k i n = pay (omega arith) (read_one one_paid d (S.Branch when (operand x d) to) code leads (λ b. b) k i n)
 
   -- ---- `&&` and `||` as values, and `?:`
 
   abbrev Branching : (paid temporaries : ℕ) → (Bool → Target → (d : ℕ) → Steps → Steps) → Type 0
-  Branching paid temporaries make = (when : Bool) (to : Target) (d : ℕ) (code : Steps) → Leads (length code) labels to → d < most → d + temporaries ≤ most → 0 < length code
+  Branching paid temporaries make =
+      (when : Bool) (to : Target) (d : ℕ) (code : Steps) → Leads
+      (length code) labels to → d < most → d + temporaries ≤ most → 0 < length code
       → Made 0 paid code (make when to d code)
 
   -- both lead to where one result is set, and the other result stands before it
-  two_grow : {one_code other_code : Bool → Target → (d : ℕ) → Steps → Steps} (w f v g : ℕ) → Branching w f one_code → Branching v g other_code → (when : Bool) (right wrong : ℕ)
+  two_grow : {one_code other_code : Bool → Target → (d : ℕ) → Steps → Steps} (w f v g : ℕ) → Branching w f one_code → Branching v g other_code
+      → (when : Bool)
+      (right wrong : ℕ)
       → (to d : ℕ) (code : Steps) → to < most → d < most → d + f ≤ most → d + g ≤ most → 0 < length code
       → Made 0 (3 * c.step + w + v) code (one_code when (To.Left (length (S.Set to (O.Word wrong) ∷ code))) d
-      (other_code when (To.Left (length (S.Set to (O.Word wrong) ∷ code))) d (S.Set to (O.Word right) ∷ S.Jump (To.Left (length code)) ∷ S.Set to (O.Word wrong) ∷ code)))
+      (other_code when (To.Left (length (S.Set to (O.Word wrong) ∷ code))) d
+      (S.Set to (O.Word right) ∷ S.Jump (To.Left (length code)) ∷ S.Set to
+      (O.Word wrong) ∷ code)))
   two_grow {one_code} {other_code} w f v g first second when right wrong to d code h k i j n =
       let last = S.Set to (O.Word wrong) ∷ code in
       let jumps = S.Jump (To.Left (length code)) ∷ last in
@@ -180,12 +201,15 @@ module _ (c : Prices) (most labels : ℕ) (p : ProgramData) (locals : List Local
       let s = second when (To.Left (length last)) d (S.Set to (O.Word right) ∷ jumps) (omega arith, omega arith) k j (omega arith) in
       let l = s.longer in
       pay (omega arith) (next (next (next (next a b) e) s)
-      (first when (To.Left (length last)) d (other_code when (To.Left (length last)) d (S.Set to (O.Word right) ∷ jumps)) (omega arith, omega (arith, l)) k i (omega (arith, l))))
+      (first when (To.Left (length last)) d (other_code when (To.Left (length last)) d (S.Set to (O.Word right) ∷ jumps)) (omega arith, omega (arith, l)) k i
+      (omega (arith, l))))
 
   choice_grows : {test : Bool → Target → (d : ℕ) → Steps → Steps} {one_code other_code : (to d : ℕ) → Steps → Steps} (w f v g u e : ℕ) → Branching w f test
       → Parts.Makes c most labels p locals roomy c.step v g one_code → Parts.Makes c most labels p locals roomy c.step u e other_code
       → (to d : ℕ) (code : Steps) → to < most → d < most → d + f ≤ most → d + g ≤ most → d + e ≤ most → 0 < length code
-      → Made c.step (w + v + u) code (test false (To.Left (length (other_code to d code))) d (one_code to d (S.Jump (To.Left (length code)) ∷ other_code to d code)))
+      → Made c.step (w + v + u) code
+      (test false (To.Left (length (other_code to d code))) d
+      (one_code to d (S.Jump (To.Left (length code)) ∷ other_code to d code)))
   choice_grows {test} {one_code} {other_code} w f v g u e tests first second to d code h k i j l n =
       let other = second to d code h k l n in
       let x = other.longer in
@@ -217,9 +241,12 @@ module _ (c : Prices) (most labels : ℕ) (p : ProgramData) (locals : List Local
     node_grows t at (T.decay q) to d code h k i n =
         address_grows (named_root p locals q) at (place_paid false q (path_grows false q)) to d code h k (omega (arith, i)) n
     node_grows t at (T.convert e written) to d code h k i n =
-        convert_grows (type_at p t) (value_paid e (value_grows e)) (effect_code p locals e d) (λ code n. effect_grows e d code k (omega (arith, i)) n) to d code h k (omega (arith, i)) n
+        convert_grows (type_at p t) (value_paid e (value_grows e)) (effect_code p locals e d)
+        (λ code n. effect_grows e d code k (omega (arith, i)) n) to d code h k
+        (omega (arith, i)) n
     node_grows t at (T.unary op x) to d code h k i n =
-        pay (omega arith) (read_one (value_paid x (value_grows x)) d (S.Unary to op (operand (part_of p locals x (value_code p locals x)) d)) code tt (λ b. omega (arith, h, b)) k (omega (arith, i)) n)
+        pay (omega arith) (read_one (value_paid x (value_grows x)) d (S.Unary to op (operand (part_of p locals x (value_code p locals x)) d)) code tt
+        (λ b. omega (arith, h, b)) k (omega (arith, i)) n)
     node_grows t at (T.binary op x y) to d code h k i n =
         pay (omega arith) (read_both (value_paid x (value_grows x)) (value_paid y (value_grows y)) d
         (λ a b. S.Binary to at op (kind_of (type_at p t)) (kind_of (type_at p (ty y))) a b) c.step code
@@ -233,7 +260,8 @@ module _ (c : Prices) (most labels : ℕ) (p : ProgramData) (locals : List Local
     node_grows t at (T.pointer_add op x y) to d code h k i n =
         pay (omega arith) (read_both (value_paid x (value_grows x)) (value_paid y (value_grows y)) d
         (λ a b. S.Move to at op (element_size p (type_at p t)) (kind_of (type_at p (ty x))) (kind_of (type_at p (ty y))) a b) c.step code
-        (λ a b ha hb. one (S.Move to at op (element_size p (type_at p t)) (kind_of (type_at p (ty x))) (kind_of (type_at p (ty y))) a b) code tt (omega (arith, h, ha, hb)))
+        (λ a b ha hb. one (S.Move to at op (element_size p (type_at p t)) (kind_of (type_at p (ty x))) (kind_of (type_at p (ty y))) a b) code tt
+        (omega (arith, h, ha, hb)))
         (omega (arith, i)) (omega (arith, i)) (omega (arith, i)) n)
     node_grows t at (T.pointer_difference x y) to d code h k i n =
         pay (omega arith) (read_both (value_paid x (value_grows x)) (value_paid y (value_grows y)) d
@@ -241,31 +269,46 @@ module _ (c : Prices) (most labels : ℕ) (p : ProgramData) (locals : List Local
         (λ a b ha hb. one (S.Distance to at (element_size p (type_at p (ty x))) a b) code tt (omega (arith, h, ha, hb)))
         (omega (arith, i)) (omega (arith, i)) (omega (arith, i)) n)
     node_grows t at (T.both x y) to d code h k i n =
-        pay (omega arith) (two_grow {one_code = branch_code p locals x} {other_code = branch_code p locals y} (W x) (F x) (W y) (F y) (branch_grows x) (branch_grows y) false 1 0 to d code
+        pay (omega arith) (two_grow {one_code =
+        branch_code p locals x} {other_code =
+        branch_code p locals y} (W x) (F x) (W y) (F y) (branch_grows x)
+        (branch_grows y) false 1 0 to d code
         h k (omega (arith, i)) (omega (arith, i)) n)
     node_grows t at (T.either x y) to d code h k i n =
-        pay (omega arith) (two_grow {one_code = branch_code p locals x} {other_code = branch_code p locals y} (W x) (F x) (W y) (F y) (branch_grows x) (branch_grows y) true 0 1 to d code
+        pay (omega arith) (two_grow {one_code =
+        branch_code p locals x} {other_code =
+        branch_code p locals y} (W x) (F x) (W y) (F y) (branch_grows x)
+        (branch_grows y) true 0 1 to d code
         h k (omega (arith, i)) (omega (arith, i)) n)
     node_grows t at (T.not x) to d code h k i n =
-        pay (omega arith) (read_one (value_paid x (value_grows x)) d (S.Not to (operand (part_of p locals x (value_code p locals x)) d)) code tt (λ b. omega (arith, h, b)) k (omega (arith, i)) n)
+        pay (omega arith) (read_one (value_paid x (value_grows x)) d (S.Not to (operand (part_of p locals x (value_code p locals x)) d)) code tt
+        (λ b. omega (arith, h, b)) k (omega (arith, i)) n)
     node_grows t at (T.choose x y z) to d code h k i n =
-        pay (omega arith) (choice_grows {test = branch_code p locals x} {one_code = value_code p locals y} {other_code = value_code p locals z} (W x) (F x) (W y) (F y) (W z) (F z)
+        pay (omega arith) (choice_grows {test =
+        branch_code p locals x} {one_code =
+        value_code p locals y} {other_code =
+        value_code p locals z} (W x) (F x) (W y) (F y) (W z)
+        (F z)
         (branch_grows x) (value_grows y) (value_grows z) to d code h k (omega (arith, i)) (omega (arith, i)) (omega (arith, i)) n)
     node_grows t at (T.comma x y) to d code h k i n =
         let a = value_grows y to d code h k (omega (arith, i)) n in
         let l = a.longer in
         pay (omega arith) (next a (effect_grows x d (value_code p locals y to d code) k (omega (arith, i)) (omega (arith, n, l))))
     node_grows t at (T.assign q x) to d code h k i n =
-        pay (omega arith) (Parts.assign_grows c most labels p locals roomy (named_root p locals q) (root q) t at (place_paid false q (path_grows false q)) (value_grows x) (value_paid x (value_grows x))
+        pay (omega arith) (Parts.assign_grows c most labels p locals roomy (named_root p locals q) (root q) t at (place_paid false q (path_grows false q))
+        (value_grows x) (value_paid x (value_grows x))
         d (Some to) code h (omega (arith, i)) (omega (arith, i)) (omega (arith, i)) n)
     node_grows t at (T.assign_op op q x) to d code h k i n =
-        pay (omega arith) (Parts.assign_op_grows c most labels p locals roomy (named_root p locals q) (root q) t at op (kind_of (type_at p (ty x))) (place_paid false q (path_grows false q))
+        pay (omega arith) (Parts.assign_op_grows c most labels p locals roomy (named_root p locals q) (root q) t at op (kind_of (type_at p (ty x)))
+        (place_paid false q (path_grows false q))
         (value_paid x (value_grows x)) d (Some to) code h (omega (arith, i)) (omega (arith, i)) (omega (arith, i)) n)
     node_grows t at (T.step op before q) to d code h k i n =
-        pay (omega arith) (Parts.step_grows c most labels p locals roomy (named_root p locals q) (root q) t at op before (place_paid false q (path_grows false q))
+        pay (omega arith) (Parts.step_grows c most labels p locals roomy (named_root p locals q) (root q) t at op before
+        (place_paid false q (path_grows false q))
         d (Some to) code h (omega (arith, i)) (omega (arith, i)) n)
     node_grows t at (T.copy_record q r) to d code h k i n =
-        pay (omega arith) (Parts.copy_grows c most labels p locals roomy (named_root p locals q) (named_root p locals r) at (size_at p (path_ty q)) (place_paid false q (path_grows false q))
+        pay (omega arith) (Parts.copy_grows c most labels p locals roomy (named_root p locals q) (named_root p locals r) at (size_at p (path_ty q))
+        (place_paid false q (path_grows false q))
         (place_paid false r (path_grows false r)) d (Some to) code h (omega (arith, i)) (omega (arith, i)) (omega (arith, i)) n)
     node_grows t at (T.call f all) to d code h k i n =
         let b = count_below all in
@@ -277,7 +320,8 @@ module _ (c : Prices) (most labels : ℕ) (p : ProgramData) (locals : List Local
         let a = arguments_grow all (suc d) (s ∷ code) (omega (arith, i)) (omega arith) in
         let l = a.longer in
         pay (omega arith) (next (next (one s code tt (omega (arith, h, k, i, b))) a)
-        (Grows.held_grows c most labels (value_paid e (value_grows e)) d (arguments_code p locals all (suc d) (s ∷ code)) (omega (arith, l)) k (omega (arith, i))))
+        (Grows.held_grows c most labels (value_paid e (value_grows e)) d (arguments_code p locals all (suc d) (s ∷ code)) (omega (arith, l)) k
+        (omega (arith, i))))
     node_grows t at (T.library which all) to d code h k i n =
         let b = count_below all in
         pay (omega arith) (next (one (S.Library to at which (record { first = d; count = count_of all })) code tt (omega (arith, h, i, b)))
@@ -285,7 +329,9 @@ module _ (c : Prices) (most labels : ℕ) (p : ProgramData) (locals : List Local
     node_grows t at (T.allocate r T.no_expression zeroed) to d code h k i n =
         pay (omega arith) (one (S.Allocate to at r (element_size p (type_at p t)) zeroed (O.Word 1)) code tt (omega (arith, h)))
     node_grows t at (T.allocate r (T.some_expression e) zeroed) to d code h k i n =
-        pay (omega arith) (read_one (value_paid e (value_grows e)) d (S.Allocate to at r (element_size p (type_at p t)) zeroed (operand (part_of p locals e (value_code p locals e)) d))
+        pay (omega arith) (read_one (value_paid e (value_grows e)) d
+        (S.Allocate to at r (element_size p (type_at p t)) zeroed
+        (operand (part_of p locals e (value_code p locals e)) d))
         code tt (λ b. omega (arith, h, b)) k (omega (arith, i)) n)
 
     -- the price of the arguments in the call itself is left
@@ -297,7 +343,8 @@ module _ (c : Prices) (most labels : ℕ) (p : ProgramData) (locals : List Local
         let l = a.longer in
         let m = one_argument (count_of more) c.argument in
         pay (omega (arith, m)) (next a
-        (Grows.held_grows c most labels (value_paid e (value_grows e)) d (arguments_code p locals more (suc d) code) (omega (arith, n, l)) (omega (arith, i)) (omega (arith, i))))
+        (Grows.held_grows c most labels (value_paid e (value_grows e)) d (arguments_code p locals more (suc d) code) (omega (arith, n, l)) (omega (arith, i))
+        (omega (arith, i))))
 
     pub effect_grows : (e : Expression ℕ) → EffectGrows e
     effect_grows (expression t at (T.comma x y)) d code k i n =
@@ -305,16 +352,20 @@ module _ (c : Prices) (most labels : ℕ) (p : ProgramData) (locals : List Local
         let l = a.longer in
         pay (omega arith) (next a (effect_grows x d (effect_code p locals y d code) k (omega (arith, i)) (omega (arith, n, l))))
     effect_grows (expression t at (T.assign q x)) d code k i n =
-        pay (omega arith) (Parts.assign_grows c most labels p locals roomy (named_root p locals q) (root q) t at (place_paid false q (path_grows false q)) (value_grows x) (value_paid x (value_grows x))
+        pay (omega arith) (Parts.assign_grows c most labels p locals roomy (named_root p locals q) (root q) t at (place_paid false q (path_grows false q))
+        (value_grows x) (value_paid x (value_grows x))
         d None code tt (omega (arith, i)) (omega (arith, i)) (omega (arith, i)) n)
     effect_grows (expression t at (T.assign_op op q x)) d code k i n =
-        pay (omega arith) (Parts.assign_op_grows c most labels p locals roomy (named_root p locals q) (root q) t at op (kind_of (type_at p (ty x))) (place_paid false q (path_grows false q))
+        pay (omega arith) (Parts.assign_op_grows c most labels p locals roomy (named_root p locals q) (root q) t at op (kind_of (type_at p (ty x)))
+        (place_paid false q (path_grows false q))
         (value_paid x (value_grows x)) d None code tt (omega (arith, i)) (omega (arith, i)) (omega (arith, i)) n)
     effect_grows (expression t at (T.step op before q)) d code k i n =
-        pay (omega arith) (Parts.step_grows c most labels p locals roomy (named_root p locals q) (root q) t at op before (place_paid false q (path_grows false q))
+        pay (omega arith) (Parts.step_grows c most labels p locals roomy (named_root p locals q) (root q) t at op before
+        (place_paid false q (path_grows false q))
         d None code tt (omega (arith, i)) (omega (arith, i)) n)
     effect_grows (expression t at (T.copy_record q r)) d code k i n =
-        pay (omega arith) (Parts.copy_grows c most labels p locals roomy (named_root p locals q) (named_root p locals r) at (size_at p (path_ty q)) (place_paid false q (path_grows false q))
+        pay (omega arith) (Parts.copy_grows c most labels p locals roomy (named_root p locals q) (named_root p locals r) at (size_at p (path_ty q))
+        (place_paid false q (path_grows false q))
         (place_paid false r (path_grows false r)) d None code tt (omega (arith, i)) (omega (arith, i)) (omega (arith, i)) n)
     effect_grows (expression t at (T.constant v)) d code k i n = pay (omega arith) (node_grows t at (T.constant v) d d code k k i n)
     effect_grows (expression t at T.null) d code k i n = pay (omega arith) (node_grows t at T.null d d code k k i n)
@@ -347,19 +398,23 @@ module _ (c : Prices) (most labels : ℕ) (p : ProgramData) (locals : List Local
     branch_grows (expression t at (T.both x y)) false to d code leads k i n =
         let b = branch_grows y false to d code leads k (omega (arith, i)) n in
         let l = b.longer in
-        pay (omega arith) (next b (branch_grows x false to d (branch_code p locals y false to d code) (leads_later to l (omega arith) leads) k (omega (arith, i)) (omega (arith, n, l))))
+        pay (omega arith) (next b (branch_grows x false to d (branch_code p locals y false to d code) (leads_later to l (omega arith) leads) k
+        (omega (arith, i)) (omega (arith, n, l))))
     branch_grows (expression t at (T.both x y)) true to d code leads k i n =
         let b = branch_grows y true to d code leads k (omega (arith, i)) n in
         let l = b.longer in
-        pay (omega arith) (next b (branch_grows x false (To.Left (length code)) d (branch_code p locals y true to d code) (n, l) k (omega (arith, i)) (omega (arith, n, l))))
+        pay (omega arith) (next b (branch_grows x false (To.Left (length code)) d (branch_code p locals y true to d code) (n, l) k (omega (arith, i))
+        (omega (arith, n, l))))
     branch_grows (expression t at (T.either x y)) true to d code leads k i n =
         let b = branch_grows y true to d code leads k (omega (arith, i)) n in
         let l = b.longer in
-        pay (omega arith) (next b (branch_grows x true to d (branch_code p locals y true to d code) (leads_later to l (omega arith) leads) k (omega (arith, i)) (omega (arith, n, l))))
+        pay (omega arith) (next b (branch_grows x true to d (branch_code p locals y true to d code) (leads_later to l (omega arith) leads) k (omega (arith, i))
+        (omega (arith, n, l))))
     branch_grows (expression t at (T.either x y)) false to d code leads k i n =
         let b = branch_grows y false to d code leads k (omega (arith, i)) n in
         let l = b.longer in
-        pay (omega arith) (next b (branch_grows x true (To.Left (length code)) d (branch_code p locals y false to d code) (n, l) k (omega (arith, i)) (omega (arith, n, l))))
+        pay (omega arith) (next b (branch_grows x true (To.Left (length code)) d (branch_code p locals y false to d code) (n, l) k (omega (arith, i))
+        (omega (arith, n, l))))
     branch_grows (expression t at (T.constant v)) when to d code leads k i n =
         on_grows (value_paid (expression t at (T.constant v)) (node_grows t at (T.constant v))) when to d code leads k i n
     branch_grows (expression t at T.null) when to d code leads k i n =
@@ -418,12 +473,14 @@ module _ (c : Prices) (most labels : ℕ) (p : ProgramData) (locals : List Local
     way_grows addressed t at (T.member q r field) to d code h k i n =
         member_grows q at (offset_of p.records r field) to d code h (omega (arith, i)) (omega (arith, i)) n
     way_grows addressed t at (T.element q x) to d code h k i n =
-        element_grows (named_root p locals q) at (length_of (type_at p (path_ty q))) (size_at p t) addressed (kind_of (type_at p (ty x))) (place_paid false q (path_grows false q))
+        element_grows (named_root p locals q) at (length_of (type_at p (path_ty q))) (size_at p t) addressed (kind_of (type_at p (ty x)))
+        (place_paid false q (path_grows false q))
         (value_paid x (value_grows x)) to d code h (omega (arith, i)) (omega (arith, i)) (omega (arith, i)) n
 
     pub member_grows : (q : Path ℕ) → MemberGrows q
     member_grows (path u b (T.deref e)) at by to d code h k i n =
-        pay (omega arith) (read_one (value_paid e (value_grows e)) d (S.Field to at by (operand (part_of p locals e (value_code p locals e)) d)) code tt (λ b. omega (arith, h, b))
+        pay (omega arith) (read_one (value_paid e (value_grows e)) d (S.Field to at by (operand (part_of p locals e (value_code p locals e)) d)) code tt
+        (λ b. omega (arith, h, b))
         (omega (arith, k)) (omega (arith, i)) n)
     member_grows (path u b (T.index e x)) at by to d code h k i n =
         pay (omega arith) (read_both (value_paid e (value_grows e)) (value_paid x (value_grows x)) d
@@ -431,10 +488,17 @@ module _ (c : Prices) (most labels : ℕ) (p : ProgramData) (locals : List Local
         (λ a z ha hb. one (S.ElementField to at (size_at p u) (kind_of (type_at p (ty x))) by a z) code tt (omega (arith, h, ha, hb)))
         k (omega (arith, i)) (omega (arith, i)) n)
     member_grows (path u b (T.local x)) at by to d code h k i n =
-        part_grows (named_root p locals (path u b (T.local x))) at by (place_paid false (path u b (T.local x)) (way_grows false u b (T.local x))) to d code h (omega (arith, k)) i n
+        part_grows (named_root p locals (path u b (T.local x))) at by (place_paid false (path u b (T.local x)) (way_grows false u b (T.local x))) to d code h
+        (omega (arith, k)) i n
     member_grows (path u b (T.object z)) at by to d code h k i n =
-        part_grows (named_root p locals (path u b (T.object z))) at by (place_paid false (path u b (T.object z)) (way_grows false u b (T.object z))) to d code h (omega (arith, k)) i n
+        part_grows (named_root p locals (path u b (T.object z))) at by
+        (place_paid false (path u b (T.object z)) (way_grows false u b (T.object z))) to d code h
+        (omega (arith, k)) i n
     member_grows (path u b (T.member q r field)) at by to d code h k i n =
-        part_grows (named_root p locals (path u b (T.member q r field))) at by (place_paid false (path u b (T.member q r field)) (way_grows false u b (T.member q r field))) to d code h (omega (arith, k)) i n
+        part_grows (named_root p locals (path u b (T.member q r field))) at by
+        (place_paid false (path u b (T.member q r field)) (way_grows false u b (T.member q r field))) to d code h
+        (omega (arith, k)) i n
     member_grows (path u b (T.element q x)) at by to d code h k i n =
-        part_grows (named_root p locals (path u b (T.element q x))) at by (place_paid false (path u b (T.element q x)) (way_grows false u b (T.element q x))) to d code h (omega (arith, k)) i n
+        part_grows (named_root p locals (path u b (T.element q x))) at by
+        (place_paid false (path u b (T.element q x)) (way_grows false u b (T.element q x))) to d code h
+        (omega (arith, k)) i n

@@ -1,5 +1,6 @@
 -- What the code of a statement adds to what is there, with its labels.
-use Rattle.std.proofs.Common.{◌≡◌, ℕ, suc, ◌+◌, ◌*◌, ◌<◌, ◌≤◌, Bool, true, false, List, [], ◌∷◌, ◌++◌, length, Option, Some, None, refl, sym, ap, ◌∙◌, arith, slice_get, slice_set, if◌then◌else◌}
+use Rattle.std.proofs.Common.{◌≡◌, ℕ, suc, ◌+◌, ◌*◌, ◌<◌, ◌≤◌, Bool, true, false, List, [], ◌∷◌, ◌++◌, length, Option, Some, None, refl, sym, ap, ◌∙◌, arith}
+use Rattle.std.proofs.Common.{slice_get, slice_set, if◌then◌else◌}
 use Rattle.std.specs.Prelude.{◌-◌, ◌==◌}
 use Rattle.c_typed.specs.declared.program.Local.{Local}
 use Rattle.c_typed.specs.Programs.{ProgramData}
@@ -10,7 +11,8 @@ use Rattle.tac_ir.specs.declared.step.Target.{Target}
 use Rattle.tac_ir.specs.declared.step.Target.TheVariants as To
 use Rattle.lower_tac.specs.Parts.{Steps}
 use Rattle.lower_tac.specs.Statements.{Out, before, by, here, with_label, Exit, Exits, leads, leaves, ReturnWay, at_once, behind_ends}
-use Rattle.lower_tac.specs.Statements.{fallen, exit_code, back_code, begin_code, begins_code, end_code, ends_code, return_end, continue_end, break_end, have_blocks, scope_code, scoped_code, round}
+use Rattle.lower_tac.specs.Statements.{fallen, exit_code, back_code, begin_code, begins_code, end_code, ends_code, return_end, continue_end, break_end}
+use Rattle.lower_tac.specs.Statements.{have_blocks, scope_code, scoped_code, round}
 use Rattle.tac_bounds.specs.Jumps.{IsInside}
 use Rattle.tac_bounds.specs.Prices.{Prices, price_of_all}
 use Rattle.tac_bounds.specs.Temporaries.{top_if_any}
@@ -118,9 +120,22 @@ module _ (c : Prices) (most : ℕ) where
   unmade {labels = labels} = record { longer = omega arith; cost = omega arith; more = []; is = no_more labels; few = omega arith; set = tt; sound = λ a. a }
 
   pub made : {r w : ℕ} {code whole : Steps} (labels : List ℕ) → Grows.Grows c most (length labels) r w code whole → Made w code labels whole labels
-  made labels a = record { longer = a.longer; cost = (let x = a.cost in omega (arith, x)); more = []; is = no_more labels; few = (let x = a.longer in omega (arith, x)); set = tt; sound = a.sound }
+  made labels a =
+      record {
+        longer =
+            a.longer;
+        cost = (let x = a.cost in omega (arith, x));
+        more = [];
+        is = no_more labels;
+        few =
+            (let x = a.longer in omega (arith, x));
+        set = tt;
+        sound = a.sound;
+      }
 
-  pub next : {v w : ℕ} {code middle whole : Steps} {labels between wide : List ℕ} → Made v code labels middle between → Made w middle between whole wide → Made (v + w) code labels whole wide
+  pub next : {v w : ℕ} {code middle whole : Steps} {labels between wide : List ℕ} → Made v code labels middle between → Made w middle between whole wide
+      → Made
+      (v + w) code labels whole wide
   next {middle = middle} {whole = whole} {labels = labels} a b = record {
     longer = (let x = a.longer in let y = b.longer in omega (arith, x, y));
     cost = (let x = a.cost in let y = b.cost in omega (arith, x, y));
@@ -165,7 +180,8 @@ module _ (c : Prices) (most : ℕ) where
     begins_grow : (labels : ℕ) (own : List ℕ) (code : Steps) → Adds labels (each c.step own) code (begins_code p g locals own code)
     begins_grow labels [] code = Grows.same c most labels
     begins_grow labels (x ∷ more) code =
-        Grows.pay c most labels (omega arith) (Grows.next c most labels (begins_grow labels more code) (begin_grows labels x (slice_get locals x) refl (begins_code p g locals more code)))
+        Grows.pay c most labels (omega arith) (Grows.next c most labels (begins_grow labels more code)
+        (begin_grows labels x (slice_get locals x) refl (begins_code p g locals more code)))
 
     end_grows : (labels x : ℕ) (o : Option Local) → slice_get locals x ≡ o → (code : Steps) → Adds labels c.step code (end_code p g locals o x code)
     end_grows labels x None e code = Grows.pay c most labels (omega arith) (Grows.same c most labels)
@@ -178,7 +194,8 @@ module _ (c : Prices) (most : ℕ) where
     ends_grow : (labels : ℕ) (own : List ℕ) (code : Steps) → Adds labels (each c.step own) code (ends_code p g locals own code)
     ends_grow labels [] code = Grows.same c most labels
     ends_grow labels (x ∷ more) code =
-        Grows.pay c most labels (omega arith) (Grows.next c most labels (ends_grow labels more code) (end_grows labels x (slice_get locals x) refl (ends_code p g locals more code)))
+        Grows.pay c most labels (omega arith) (Grows.next c most labels (ends_grow labels more code)
+        (end_grows labels x (slice_get locals x) refl (ends_code p g locals more code)))
 
     pub fallen_below : top_if_any (fallen p g locals) ≤ most
     fallen_below = by_main (g == p.main)
@@ -200,7 +217,9 @@ module _ (c : Prices) (most : ℕ) where
     scope_price true own = 4 * c.step + 4 * each c.step own
     scope_price false own = 0
 
-    pub scope_grows : (own : List ℕ) (paid : ℕ) (make : Exits → Out → Out) → Makes paid make → (blocks : Bool) → Makes (scope_price blocks own + paid) (scope_code p g locals blocks own make)
+    pub scope_grows : (own : List ℕ) (paid : ℕ) (make : Exits → Out → Out) → Makes paid make → (blocks : Bool)
+        → Makes (scope_price blocks own + paid)
+        (scope_code p g locals blocks own make)
     scope_grows own paid make makes false x out n e = pay (omega arith) (makes x out n e)
     scope_grows own paid make makes true x out n e =
         let l = length out.labels in
@@ -224,7 +243,9 @@ module _ (c : Prices) (most : ℕ) where
         let broken = break_end p g locals own x continued in
         let m = Grows.one c most l (S.Jump (here last)) broken.code (omega (arith, n, al), omega (arith, bl, dl, fl, hl, il, jl)) (omega arith) in
         let whole = before (S.Jump (here last)) broken in
-        let grown = Grows.next c most l (Grows.next c most l (Grows.next c most l (Grows.next c most l (Grows.next c most l (Grows.next c most l (Grows.next c most l a b) d) f) h) i) j) m in
+        let grown = Grows.next c most l (Grows.next c most l (Grows.next c most l
+        (Grows.next c most l (Grows.next c most l (Grows.next c most l
+        (Grows.next c most l a b) d) f) h) i) j) m in
         pay (omega arith) (next (made out.labels grown)
         (makes (record { on_break = leads (here broken); on_continue = leads (here continued); on_return = behind_ends (here returned) }) whole (omega arith)
         (record {
@@ -254,7 +275,8 @@ module _ (c : Prices) (most : ℕ) where
 
     -- ---- loops
 
-    pub round_grows : (test : Target → Steps → Steps) (step : Steps → Steps) (enters : Target → Steps → Steps) (body : (on_break on_continue : Target) → Out → Out) (v w u : ℕ)
+    pub round_grows : (test : Target → Steps → Steps) (step : Steps → Steps) (enters : Target → Steps → Steps)
+        (body : (on_break on_continue : Target) → Out → Out) (v w u : ℕ)
         → ((labels : ℕ) (to : Target) (code : Steps) → Leads (length code) labels to → 0 < length code → Adds labels v code (test to code))
         → ((labels : ℕ) (code : Steps) → 0 < length code → Adds labels w code (step code))
         → ((labels : ℕ) (to : Target) (code : Steps) → Leads (length code) labels to → Adds labels c.step code (enters to code))
@@ -262,7 +284,8 @@ module _ (c : Prices) (most : ℕ) where
         → ((b k : Target) (inner : Out) → length out.code ≤ length inner.code → length out.labels ≤ length inner.labels
         → Leads (length inner.code) (length inner.labels) b → Leads (length inner.code) (length inner.labels) k
         → Made u inner.code inner.labels (body b k inner).code (body b k inner).labels)
-        → Made (2 * c.step + v + w + u) out.code out.labels (round p g locals test step enters body out).code (round p g locals test step enters body out).labels
+        → Made (2 * c.step + v + w + u) out.code out.labels (round p g locals test step enters body out).code
+        (round p g locals test step enters body out).labels
     round_grows test step enters body v w u tests steps enter out n bodies =
         let l = length out.labels in
         let tested = by (test (To.Label l)) (with_label out) in
@@ -274,7 +297,8 @@ module _ (c : Prices) (most : ℕ) where
         let al = a.longer in
         let b = steps k tested.code (omega (arith, n, al)) in
         let bl = b.longer in
-        let d = bodies (here out) (here stepped) stepped (omega (arith, al, bl)) (omega (arith, one_more)) (n, omega (arith, al, bl)) (omega (arith, n, al, bl), omega arith) in
+        let d = bodies (here out) (here stepped) stepped (omega (arith, al, bl)) (omega (arith, one_more)) (n, omega (arith, al, bl))
+        (omega (arith, n, al, bl), omega arith) in
         let dl = d.longer in
         let m = length inner.labels in
         let f = Grows.one c most m (S.Began g (inner.loops - 1)) inner.code tt (omega arith) in

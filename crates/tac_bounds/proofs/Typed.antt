@@ -32,7 +32,8 @@ module _ (f : ℕ → CType) where
   same_in_arms : (arms : Arms ℕ) → declared_by_arms (mapped_arms (of_types f) arms) ≡ declared_by_arms arms
   same_in_arms T.no_arms = refl
   same_in_arms (T.and_arm cases is_default all more) =
-      ap (λ (a : List ℕ). a ++ declared_by_arms (mapped_arms (of_types f) more)) (same_declared all) ∙ ap (λ (a : List ℕ). declared_by all ++ a) (same_in_arms more)
+      ap (λ (a : List ℕ). a ++ declared_by_arms (mapped_arms (of_types f) more)) (same_declared all) ∙ ap (λ (a : List ℕ). declared_by all ++ a)
+      (same_in_arms more)
 
   module _ (d : Declared) (result : CType) where
     mutual

@@ -2,7 +2,8 @@
 use Rattle.std.proofs.Common.{ℕ, ◌+◌, ◌*◌, ◌≤◌, List, [], ◌∷◌, Option, Some, None, arith, if◌then◌else◌, Bool, true, false}
 use Rattle.c_typed.specs.declared.program.Local.{Local}
 use Rattle.c_typed.specs.Trees as T
-use Rattle.c_typed.specs.Trees.{Expression, expression, Node, Path, path, PathNode, Expressions, OptionalExpression, PartValue, Initializer, Statement, Statements, Arms}
+use Rattle.c_typed.specs.Trees.{Expression, expression, Node, Path, path, PathNode, Expressions, OptionalExpression, PartValue, Initializer, Statement}
+use Rattle.c_typed.specs.Trees.{Statements, Arms}
 use Rattle.c_typed.specs.TypedStatements.{all_declared, all_declared_by, all_declared_by_arms}
 use Rattle.c_well_typed.specs.ProgramWeights.Counted.{Kind, begins, through, to_field, to_element, constant, load, conversion, pointer_sum, operator}
 use Rattle.c_well_typed.specs.ProgramWeights.Counted.{assignment, call, argument, part, statement, arm, label, parameter, named_local, block_local}
@@ -91,7 +92,9 @@ module _ (s : ℕ) (n m : Kind → ℕ) (less : (k : Kind) → s * n k ≤ m k) 
   less_parameters [] = omega arith
   less_parameters (l ∷ more) = let a = less parameter in let b = less_parameters more in omega (arith, a, b)
 
-  less_local : (block : Bool) (a b : ℕ) → s * a ≤ b → s * ((if block then n block_local else n named_local) + a) ≤ (if block then m block_local else m named_local) + b
+  less_local : (block : Bool) (a b : ℕ) → s * a ≤ b
+      → s * ((if block then n block_local else n named_local) + a) ≤
+      (if block then m block_local else m named_local) + b
   less_local true a b h = let k = less block_local in omega (arith, h, k)
   less_local false a b h = let k = less named_local in omega (arith, h, k)
 
@@ -123,7 +126,8 @@ module _ (s : ℕ) (n m : Kind → ℕ) (less : (k : Kind) → s * n k ≤ m k) 
       pub less_statements : (all : Statements ℕ) → s * weight_of_statements n all + each left (all_declared_by all) ≤ weight_of_statements m all
       less_statements T.no_statements = omega arith
       less_statements (T.and_statement st more) =
-          let a = less_statement st in let b = less_statements more in let d = each_append left (all_declared st) (all_declared_by more) in omega (arith, a, b, d)
+          let a = less_statement st in let b = less_statements more in let d = each_append left (all_declared st) (all_declared_by more) in omega
+          (arith, a, b, d)
 
       pub less_arms : (arms : Arms ℕ) → s * weight_of_arms n arms + each left (all_declared_by_arms arms) ≤ weight_of_arms m arms
       less_arms T.no_arms = omega arith
