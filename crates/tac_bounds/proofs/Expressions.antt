@@ -215,8 +215,7 @@ module _ (c : Prices) (most labels : ℕ) (p : ProgramData) (locals : List Local
       (make to d code)
 
   pub named_grows : {value : (to d : ℕ) → Steps → Steps} {v : ℕ} (g : ℕ) → Makes c.step v g value
-      → (at : Place) (x : ℕ) (y : Part) (d : ℕ) (to : Option ℕ)
-      (code : Steps)
+      → (at : Place) (x : ℕ) (y : Part) (d : ℕ) (to : Option ℕ) (code : Steps)
       → x < most → Below to → d < most → d + g ≤ most → 0 < length code → Made 0 (c.step + v) code (assign_named p at x value y d to code)
   named_grows {value} g makes at x y d to code k h l i n =
       let r = result_grows to (O.Temp K.Empty x at) code h (omega (arith, k)) in
@@ -226,8 +225,7 @@ module _ (c : Prices) (most labels : ℕ) (p : ProgramData) (locals : List Local
       pay (omega arith) (next (next r t) (makes x d (tested_if y.lacks y.at x (result_code to (O.Temp K.Empty x at) code)) k l i (omega (arith, n, e, z))))
 
   pub assign_grows : (o : Option ℕ) → Below o → (t : ℕ) (at : Place) {q y : Part} {value : (to d : ℕ) → Steps → Steps} {w f v g : ℕ} → Paid q w f
-      → Makes c.step v g value
-      → Paid y v g
+      → Makes c.step v g value → Paid y v g
       → (d : ℕ) (to : Option ℕ) (code : Steps) → Below to → suc d < most → d + f ≤ most → suc d + g ≤ most → 0 < length code
       → Made 0 (2 * c.step + w + v) code (assign_code p o t at q value y d to code)
   assign_grows (Some x) b t at {y = y} {g = g} one_paid makes other d to code h k i l n =

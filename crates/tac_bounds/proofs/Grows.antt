@@ -69,8 +69,7 @@ module _ (c : Prices) (most : ℕ) where
       cost = omega arith;
       sound = λ a. (
         (leads_any_later {n = length code} {m = suc (length code)} (target_of s) (omega arith) (omega arith) to, h),
-        fit_later code (omega arith)
-            (omega arith) a,
+        fit_later code (omega arith) (omega arith) a,
       );
     }
 
@@ -120,8 +119,7 @@ module _ (c : Prices) (most : ℕ) where
     settled_below {x} p d h = or_temp_below (fixed x.atom) x.at d h (fixed_below x.atom p.atom)
 
     pub code_grows : {x : Part} {w f : ℕ} → Paid x w f → (d : ℕ) (code : Steps) → 0 < length code → d < most → d + f ≤ most
-        → Grows c.step w code
-        (code_of x d code)
+        → Grows c.step w code (code_of x d code)
     code_grows {x} p d code k h g = unless_grows x.atom (x.made d) (p.made d code k h g)
 
     pub tested_grows : (b : Bool) (at : Place) (t : ℕ) (code : Steps) → t < most → Grows 0 c.step code (tested_if b at t code)
@@ -134,13 +132,11 @@ module _ (c : Prices) (most : ℕ) where
         let l = t.longer in pay (omega arith) (next t (p.made d (tested_if x.lacks x.at d code) (omega (arith, k, l)) h g))
 
     pub settled_grows : {x : Part} {w f : ℕ} → Paid x w f → (d : ℕ) (code : Steps) → 0 < length code → d < most → d + f ≤ most
-        → Grows 0 w code
-        (settled x d code)
+        → Grows 0 w code (settled x d code)
     settled_grows {x} p d code k h g = unless_grows (fixed x.atom) (held x d) (held_grows p d code k h g)
 
     left_grows : {x : Part} {w f : ℕ} → Paid x w f → (o : Option Operand) (d : ℕ) (code : Steps) → 0 < length code → d < most → d + f ≤ most
-        → Grows 0 w code
-        (left_code o x d code)
+        → Grows 0 w code (left_code o x d code)
     left_grows p None d code k h g = settled_grows p d code k h g
     left_grows p (Some b) d code k h g = pay (omega arith) (code_grows p d code k h g)
 

@@ -81,8 +81,7 @@ module _ (c : Prices) (most labels : ℕ) (p : ProgramData) (locals : List Local
   value_paid = Parts.part_paid c most labels p locals roomy
 
   abbrev place_paid : (addressed : Bool) (q : Path ℕ) → PathGrows addressed q
-      → Paid (place_of p locals q (path_code p locals addressed q)) (W_path q)
-      (F_path q)
+      → Paid (place_of p locals q (path_code p locals addressed q)) (W_path q) (F_path q)
   place_paid = Parts.place_paid c most labels p locals roomy
 
   abbrev least : {x : Part} {w f : ℕ} → Paid x w f → (d : ℕ) (code : Steps) → 0 < length code → d < most → d + f ≤ most → c.step ≤ w
@@ -111,8 +110,7 @@ module _ (c : Prices) (most labels : ℕ) (p : ProgramData) (locals : List Local
 
   load_grows : (o : Option ℕ) → Parts.Below c most labels p locals roomy o → (t : ℕ) (at : Place) {q : Part} {w f : ℕ} → Paid q w f
       → (to d : ℕ) (code : Steps) → to < most → d < most → d + f ≤ most → 0 < length code
-      → Made c.step (c.step + w) code
-      (load_code p locals o t at q to d code)
+      → Made c.step (c.step + w) code (load_code p locals o t at q to d code)
   load_grows (Some x) b t at one_paid to d code h k i n =
       let l = least one_paid d code n k i in pay (omega (arith, l)) (one (S.Set to (O.Temp K.Empty x at)) code tt (omega (arith, h, b)))
   load_grows None b t at {q} one_paid to d code h k i n =
@@ -121,8 +119,7 @@ module _ (c : Prices) (most labels : ℕ) (p : ProgramData) (locals : List Local
 
   convert_grows : (t : CType) {x : Part} {w f : ℕ} → Paid x w f → (effect : Steps → Steps) → ((code : Steps) → 0 < length code → Made 0 w code (effect code))
       → (to d : ℕ) (code : Steps) → to < most → d < most → d + f ≤ most → 0 < length code
-      → Made c.step (2 * c.step + w) code
-      (convert_code p locals t x effect to d code)
+      → Made c.step (2 * c.step + w) code (convert_code p locals t x effect to d code)
   convert_grows void one_paid effect made to d code h k i n =
       pay (omega arith) (next (one (S.Clear to) code tt (omega (arith, h))) (made (S.Clear to ∷ code) (omega arith)))
   convert_grows (integer kind) {x} one_paid effect made to d code h k i n =
@@ -139,8 +136,7 @@ module _ (c : Prices) (most labels : ℕ) (p : ProgramData) (locals : List Local
   -- ---- parts of places
 
   local_grows : (at : Place) (x : ℕ) (o : Option Local) → slice_get locals x ≡ o → (to : ℕ) (code : Steps) → to < most
-      → Made c.step (2 * c.step) code
-      (local_code at x o to code)
+      → Made c.step (2 * c.step) code (local_code at x o to code)
   local_grows at x None is to code h = pay (omega arith) (one (S.Fail K.Dead at) code tt (omega arith))
   local_grows at x (Some l) is to code h = by_block l.block
     where
@@ -185,8 +181,7 @@ module _ (c : Prices) (most labels : ℕ) (p : ProgramData) (locals : List Local
 
   -- both lead to where one result is set, and the other result stands before it
   two_grow : {one_code other_code : Bool → Target → (d : ℕ) → Steps → Steps} (w f v g : ℕ) → Branching w f one_code → Branching v g other_code
-      → (when : Bool)
-      (right wrong : ℕ)
+      → (when : Bool) (right wrong : ℕ)
       → (to d : ℕ) (code : Steps) → to < most → d < most → d + f ≤ most → d + g ≤ most → 0 < length code
       → Made 0 (3 * c.step + w + v) code (one_code when (To.Left (length (S.Set to (O.Word wrong) ∷ code))) d
       (other_code when (To.Left (length (S.Set to (O.Word wrong) ∷ code))) d
@@ -207,8 +202,7 @@ module _ (c : Prices) (most labels : ℕ) (p : ProgramData) (locals : List Local
   choice_grows : {test : Bool → Target → (d : ℕ) → Steps → Steps} {one_code other_code : (to d : ℕ) → Steps → Steps} (w f v g u e : ℕ) → Branching w f test
       → Parts.Makes c most labels p locals roomy c.step v g one_code → Parts.Makes c most labels p locals roomy c.step u e other_code
       → (to d : ℕ) (code : Steps) → to < most → d < most → d + f ≤ most → d + g ≤ most → d + e ≤ most → 0 < length code
-      → Made c.step (w + v + u) code
-      (test false (To.Left (length (other_code to d code))) d
+      → Made c.step (w + v + u) code (test false (To.Left (length (other_code to d code))) d
       (one_code to d (S.Jump (To.Left (length code)) ∷ other_code to d code)))
   choice_grows {test} {one_code} {other_code} w f v g u e tests first second to d code h k i j l n =
       let other = second to d code h k l n in

@@ -134,8 +134,7 @@ module _ (c : Prices) (most : ℕ) where
       }
 
   pub next : {v w : ℕ} {code middle whole : Steps} {labels between wide : List ℕ} → Made v code labels middle between → Made w middle between whole wide
-      → Made
-      (v + w) code labels whole wide
+      → Made (v + w) code labels whole wide
   next {middle = middle} {whole = whole} {labels = labels} a b = record {
     longer = (let x = a.longer in let y = b.longer in omega (arith, x, y));
     cost = (let x = a.cost in let y = b.cost in omega (arith, x, y));
@@ -218,8 +217,7 @@ module _ (c : Prices) (most : ℕ) where
     scope_price false own = 0
 
     pub scope_grows : (own : List ℕ) (paid : ℕ) (make : Exits → Out → Out) → Makes paid make → (blocks : Bool)
-        → Makes (scope_price blocks own + paid)
-        (scope_code p g locals blocks own make)
+        → Makes (scope_price blocks own + paid) (scope_code p g locals blocks own make)
     scope_grows own paid make makes false x out n e = pay (omega arith) (makes x out n e)
     scope_grows own paid make makes true x out n e =
         let l = length out.labels in

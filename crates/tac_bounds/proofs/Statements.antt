@@ -83,8 +83,7 @@ module _ (c : Prices) (most : ℕ) (p : ProgramData) (g : ℕ) (locals : List Lo
   pay = Outs.pay c most
 
   abbrev next : {v w : ℕ} {code middle whole : Steps} {labels between wide : List ℕ} → Made v code labels middle between → Made w middle between whole wide
-      → Made
-      (v + w) code labels whole wide
+      → Made (v + w) code labels whole wide
   next = Outs.next c most
 
   abbrev made : {r w : ℕ} {code whole : Steps} (labels : List ℕ) → Grows.Grows c most (length labels) r w code whole → Made w code labels whole labels
@@ -94,29 +93,24 @@ module _ (c : Prices) (most : ℕ) (p : ProgramData) (g : ℕ) (locals : List Lo
   low = omega (arith, roomy)
 
   value_paid : (labels : ℕ) (e : Expression ℕ)
-      → Grows.Paid c most labels (part_of p locals e (value_code p locals e)) (weight (paid c) e)
-      (weight temporaries e)
+      → Grows.Paid c most labels (part_of p locals e (value_code p locals e)) (weight (paid c) e) (weight temporaries e)
   value_paid labels e = Parts.part_paid c most labels p locals low e (Nodes.value_grows c most labels p locals low e)
 
   place_paid : (labels : ℕ) (q : T.Path ℕ)
-      → Grows.Paid c most labels (place_of p locals q (path_code p locals false q)) (weight_of_path (paid c) q)
-      (weight_of_path temporaries q)
+      → Grows.Paid c most labels (place_of p locals q (path_code p locals false q)) (weight_of_path (paid c) q) (weight_of_path temporaries q)
   place_paid labels q = Parts.place_paid c most labels p locals low false q (Nodes.path_grows c most labels p locals low false q)
 
   effect_grows : (labels : ℕ) (e : Expression ℕ) (code : Steps) → room + weight temporaries e ≤ most → 0 < length code
-      → Adds labels (W c e) code
-      (effect_code p locals e room code)
+      → Adds labels (W c e) code (effect_code p locals e room code)
   effect_grows labels e code h n = Nodes.effect_grows c most labels p locals low e room code roomy h n
 
   branch_grows : (labels : ℕ) (e : Expression ℕ) (when : Bool) (to : Target) (code : Steps) → Leads (length code) labels to
-      → room + weight temporaries e ≤ most
-      → 0 < length code
+      → room + weight temporaries e ≤ most → 0 < length code
       → Adds labels (W c e) code (branch_code p locals e when to room code)
   branch_grows labels e when to code leads h n = Nodes.branch_grows c most labels p locals low e when to room code leads roomy h n
 
   test_grows : (e : Option (Expression ℕ)) → room + weight_if_any temporaries e ≤ most → (labels : ℕ) (to : Target) (code : Steps)
-      → Leads (length code) labels to
-      → 0 < length code
+      → Leads (length code) labels to → 0 < length code
       → Adds labels (c.step + weight_if_any (paid c) e) code (test_code p g locals e to code)
   test_grows None h labels to code leads n = Grows.pay c most labels (omega arith) (Grows.one c most labels (S.Jump to) code leads (omega arith))
   test_grows (Some e) h labels to code leads n = Grows.pay c most labels (omega arith) (branch_grows labels e true to code leads h n)
@@ -132,8 +126,7 @@ module _ (c : Prices) (most : ℕ) (p : ProgramData) (g : ℕ) (locals : List Lo
   step_grows (Some e) h labels code n = effect_grows labels e code h n
 
   return_grows : (labels : ℕ) (e : Option (Expression ℕ)) (way : ReturnWay) (code : Steps) → ReturnLeads (length code) labels way
-      → room + weight_if_any temporaries e ≤ most
-      → 0 < length code
+      → room + weight_if_any temporaries e ≤ most → 0 < length code
       → Adds labels (2 * c.step + weight_if_any (paid c) e) code (return_code p g locals e way code)
   return_grows labels None at_once code leads h n = Grows.pay c most labels (omega arith) (Grows.one c most labels (S.Return None) code tt (omega arith))
   return_grows labels None (behind_ends to) code leads h n =
@@ -150,8 +143,7 @@ module _ (c : Prices) (most : ℕ) (p : ProgramData) (g : ℕ) (locals : List Lo
   -- ---- initializers
 
   record_grows : (labels : ℕ) (o : Option ℕ) (x offset : ℕ) (q : T.Path ℕ) (code : Steps) → x < most → suc room < most
-      → suc room + weight_of_path temporaries q ≤ most
-      → 0 < length code
+      → suc room + weight_of_path temporaries q ≤ most → 0 < length code
       → Adds labels (c.step + weight_of_path (paid c) q) code (record_code p g locals o x offset q code)
   record_grows labels (Some y) x offset q code b h i n =
       let l = Parts.least c most labels p locals low (place_paid labels q) (suc room) code n h i in
@@ -210,8 +202,7 @@ module _ (c : Prices) (most : ℕ) (p : ProgramData) (g : ℕ) (locals : List Lo
   initial_grows x size false (T.parts all) out b h n = pay (omega arith) (Outs.unmade c most)
 
   declare_grows : (x : ℕ) (o : Option Local) → slice_get locals x ≡ o → (i : Option (Initializer ℕ)) (out : Out)
-      → room + 2 + weight_of_initial temporaries i ≤ most
-      → 0 < length out.code
+      → room + 2 + weight_of_initial temporaries i ≤ most → 0 < length out.code
       → Made (c.step + weight_of_initial (paid c) i) out.code out.labels (declare_code p g locals o x i out).code (declare_code p g locals o x i out).labels
   declare_grows x None is i out h n = pay (omega arith) (Outs.unmade c most)
   declare_grows x (Some l) is None out h n = made out.labels (by_block l.block)
@@ -234,8 +225,7 @@ module _ (c : Prices) (most : ℕ) (p : ProgramData) (g : ℕ) (locals : List Lo
   all_later h i (to ∷ all) e = (leads_later to h i e.0, all_later h i all e.1)
 
   default_leads : (n l : ℕ) (behind : Target) (arms : Arms ℕ) (starts : List Target) → Leads n l behind → AllLead n l starts
-      → Leads n l
-      (default_start behind arms starts)
+      → Leads n l (default_start behind arms starts)
   default_leads n l behind T.no_arms starts b e = b
   default_leads n l behind (T.and_arm cases is_default all more) [] b e = b
   default_leads n l behind (T.and_arm cases is_default all more) (start ∷ starts) b e = by_default is_default (default_leads n l behind more starts b e.1)
@@ -332,8 +322,7 @@ module _ (c : Prices) (most : ℕ) (p : ProgramData) (g : ℕ) (locals : List Lo
   enter_at_once labels to code leads = Grows.pay c most labels (omega arith) (Grows.same c most labels)
 
   after : (x : Exits) {paid : ℕ} {code whole : Steps} {labels wide : List ℕ} → Made paid code labels whole wide → ExitsLead (length code) (length labels) x
-      → ExitsLead (length whole)
-      (length wide) x
+      → ExitsLead (length whole) (length wide) x
   after x a e = exits_later x a.longer (Outs.wider c most a) e
 
   mutual

@@ -93,8 +93,7 @@ module _ (s : ℕ) (n m : Kind → ℕ) (less : (k : Kind) → s * n k ≤ m k) 
   less_parameters (l ∷ more) = let a = less parameter in let b = less_parameters more in omega (arith, a, b)
 
   less_local : (block : Bool) (a b : ℕ) → s * a ≤ b
-      → s * ((if block then n block_local else n named_local) + a) ≤
-      (if block then m block_local else m named_local) + b
+      → s * ((if block then n block_local else n named_local) + a) ≤ (if block then m block_local else m named_local) + b
   less_local true a b h = let k = less block_local in omega (arith, h, k)
   less_local false a b h = let k = less named_local in omega (arith, h, k)
 
