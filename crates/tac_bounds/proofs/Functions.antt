@@ -1,0 +1,343 @@
+-- The laws, function by function.
+use Rattle.std.proofs.Common.{◌≡◌, ◌≢◌, ℕ, zero, suc, ◌+◌, ◌*◌, ◌<◌, ◌≤◌, Bool, true, false, List, [], ◌∷◌, ◌++◌, map, length, All, Option, Some, None, refl}
+use Rattle.std.proofs.Common.{sym, ap, ◌∙◌, subst, arith, slice_get}
+use Rattle.c_typed.specs.declared.program.Local.{Local}
+use Rattle.c_typed.specs.Programs.{FunctionData, ProgramData}
+use Rattle.c_typed.specs.Trees.{Statement}
+use Rattle.c_typed.specs.TypedStatements.{all_declared}
+use Rattle.c_meaning.specs.Program.{all_locals}
+use Rattle.c_meaning.specs.Run.{numbers_from}
+use Rattle.tac_ir.specs.Code.{RoutineData}
+use Rattle.tac_ir.specs.declared.step.Step.{Step}
+use Rattle.tac_ir.specs.declared.step.Step.TheVariants as S
+use Rattle.tac_ir.specs.declared.step.Target.{Target}
+use Rattle.tac_ir.specs.declared.step.Target.TheVariants as To
+use Rattle.lower_tac.specs.Parts.{Steps}
+use Rattle.lower_tac.specs.Statements.{Out, statement_code, have_blocks, function_exits, last_code, parameters_of, body_code, routine_of, code_if_any}
+use Rattle.lower_tac.specs.Statements.{routines_from}
+use Rattle.c_well_typed.specs.ProgramWeights.Counted.{Kind, statement, code, frame, definition}
+use Rattle.c_well_typed.specs.ProgramWeights.Counted as Kinds
+use Rattle.c_well_typed.specs.ProgramWeights.Weights.{weight_of_parameters, weight_of_body, weight_of_function, weight_of_functions}
+use Rattle.tac_bounds.specs.Jumps.{IsInside, target_of, LeadsInsideIfAny, JumpsWithin}
+use Rattle.tac_bounds.specs.Laws.{IsRoutineOf, HasFewLabels, JumpsStand, LabelsAreFew, CodeIsPaid, StepsAreFew, BytesAreWithin, ProgramsAreWithin}
+use Rattle.tac_bounds.specs.Laws.{TemporariesAreFew, FramesAreWithin}
+use Rattle.tac_bounds.specs.Prices.{Prices, in_steps, AreBytes, paid, price_of, price_of_all, price_of_code, price_of_routines}
+use Rattle.tac_bounds.specs.Scopes.{HasScopes, IsScopedBody}
+use Rattle.tac_bounds.specs.Temporaries.{top_of_all, temporaries}
+use Rattle.tac_bounds.proofs.Grows.{Each, each_all, LeadsIfAny, AllFit}
+use Rattle.tac_bounds.proofs.Outs as Outs
+use Rattle.tac_bounds.proofs.Outs.{each, scope_price}
+use Rattle.tac_bounds.proofs.Statements as Statements
+use Rattle.tac_bounds.proofs.Statements.{price}
+use Rattle.tac_bounds.proofs.Scoped.{each_alike, statement_pays, locals_pay, parameters_pay}
+use Rattle.tac_bounds.proofs.Weights as Weights
+
+-- ---- lists
+
+one_more : {A B : Type 0} (f : A → B) (all : List A) → length (map f all) ≡ length all
+one_more f [] = refl
+one_more f (x ∷ all) = let h = one_more f all in omega (arith, h)
+
+so_many : (k n : ℕ) → length (numbers_from k n) ≡ n
+so_many k zero = refl
+so_many k (suc n) = let h = so_many (k + 1) n in omega (arith, h)
+
+both_lengths : {A : Type 0} (a b : List A) → length (a ++ b) ≡ length a + length b
+both_lengths [] b = omega arith
+both_lengths (x ∷ a) b = let h = both_lengths a b in omega (arith, h)
+
+some_same : {A : Type 0} {a b : A} → Some a ≡ Some b → a ≡ b
+some_same e = cc
+
+-- an entry that is there
+entry : (P : ℕ → Type 0) (all : List ℕ) (l : ℕ) → l < length all → Each P all → (k : ℕ) × (slice_get all l ≡ Some k) × P k
+entry P [] l h e = absurd (let r : l < 0 = h in omega (arith, r))
+entry P (k ∷ all) zero h e = (k, refl, e.0)
+entry P (k ∷ all) (suc l) h e = entry P all l (omega (arith, h)) e.1
+
+-- ---- the body of a function
+
+module _ (c : Prices) (p : ProgramData) (g : ℕ) (f : FunctionData) (body : Statement ℕ) where
+  abbrev most : ℕ
+  most = length (all_locals f) + weight_of_body temporaries f (Some body)
+
+  roomy : length (all_locals f) < most
+  roomy = omega arith
+
+  abbrev out : Out
+  out = body_code p g f body
+
+  abbrev parameters : List ℕ
+  parameters = parameters_of p f
+
+  abbrev blocks : Bool
+  blocks = have_blocks p g (all_locals f) parameters
+
+  body_made : Outs.Made c most (Outs.scope_price c most p g (all_locals f) roomy blocks parameters + price c body) (last_code p g f).code [] out.code out.labels
+  body_made = Outs.scope_grows c most p g (all_locals f) roomy parameters (price c body) (λ x out. statement_code p g (all_locals f) body x out)
+      (Statements.statement_grows c most p g (all_locals f) roomy body (omega arith)) blocks
+      (function_exits p) (last_code p g f) (omega arith) (record { on_break = tt; on_continue = tt; on_return = tt })
+
+  body_fits : AllFit c most (length out.code) (length out.labels) out.code
+  body_fits = body_made.sound ((tt, Outs.fallen_below c most p g (all_locals f) roomy), tt)
+
+  scope_within : (b : Bool) → Outs.scope_price c most p g (all_locals f) roomy b parameters ≤ 4 * c.step + 4 * each c.step parameters
+  scope_within true = omega arith
+  scope_within false = omega arith
+
+  -- the price of the whole, with that of the function
+  body_price : c.step + price_of_all c out.code ≤ 6 * c.step + 4 * each c.step f.parameters + price c body
+  body_price =
+      let a = body_made.cost in
+      let b = scope_within blocks in
+      let d = each_alike c.step parameters f.parameters (so_many 0 (length f.parameters)) in omega (arith, a, b, d)
+
+price_within : (c : Prices) (code : Steps) → price_of_code c code ≤ c.step + price_of_all c code
+price_within c [] = omega arith
+price_within c (s ∷ more) = omega arith
+
+-- ---- jumps
+
+jumps_of_steps : (c : Prices) (top : ℕ) (r : RoutineData) → Each (IsInside (length r.code)) r.labels → (code : Steps)
+    → AllFit c top (length r.code) (length r.labels) code → Each (λ s. LeadsInsideIfAny r (target_of s)) code
+jumps_of_steps c top r set [] e = tt
+jumps_of_steps c top r set (s ∷ code) e = (by_target (target_of s) e.0.0, jumps_of_steps c top r set code e.1)
+  where
+    by_target : (o : Option Target) → LeadsIfAny (length r.code) (length r.labels) o → LeadsInsideIfAny r o
+    by_target None h = tt
+    by_target (Some (To.Left k)) h = h
+    by_target (Some (To.Label l)) h = entry (IsInside (length r.code)) r.labels l h set
+
+jumps_of_function : (p : ProgramData) (g : ℕ) (f : FunctionData) (b : Option (Statement ℕ)) → JumpsWithin (routine_of p f (code_if_any p g f b))
+jumps_of_function p g f None = each_all (λ s. LeadsInsideIfAny (routine_of p f (code_if_any p g f None)) (target_of s)) [] tt
+jumps_of_function p g f (Some body) =
+    let r = routine_of p f (body_code p g f body) in
+    let m = body_made in_steps p g f body in
+    each_all (λ s. LeadsInsideIfAny r (target_of s)) r.code
+    (jumps_of_steps in_steps (most in_steps p g f body) r (subst (λ (all : List ℕ). Each (IsInside (length r.code)) all) (sym m.is) m.set) r.code
+    (body_fits in_steps p g f body))
+
+pub jumps : JumpsStand
+jumps p = each_all JumpsWithin (routines_from p 0 p.functions) (from 0 p.functions)
+  where
+    from : (g : ℕ) (all : List FunctionData) → Each JumpsWithin (routines_from p g all)
+    from g [] = tt
+    from g (f ∷ more) = (jumps_of_function p g f f.body, from (suc g) more)
+
+labels_of_function : (p : ProgramData) (g : ℕ) (f : FunctionData) (b : Option (Statement ℕ)) → HasFewLabels (routine_of p f (code_if_any p g f b))
+labels_of_function p g f None = omega arith
+labels_of_function p g f (Some body) =
+    let m = body_made in_steps p g f body in
+    let a = m.few in
+    let b : length (body_code p g f body).labels ≡ length m.more = ap length m.is in omega (arith, a, b)
+
+pub labels_are_few : LabelsAreFew
+labels_are_few p = each_all HasFewLabels (routines_from p 0 p.functions) (from 0 p.functions)
+  where
+    from : (g : ℕ) (all : List FunctionData) → Each HasFewLabels (routines_from p g all)
+    from g [] = tt
+    from g (f ∷ more) = (labels_of_function p g f f.body, from (suc g) more)
+
+-- ---- the routine of a function
+
+record Is (p : ProgramData) (r : RoutineData) (f : FunctionData) : Type 0 where
+  at : ℕ
+  is : routine_of p f (code_if_any p at f f.body) ≡ r
+
+routine_is : (p : ProgramData) (r : RoutineData) (f : FunctionData) (k g : ℕ) (all : List FunctionData)
+    → slice_get (routines_from p k all) g ≡ Some r → slice_get all g ≡ Some f → Is p r f
+routine_is p r f k g [] e h = cc
+routine_is p r f k zero (one ∷ more) e h =
+    record { at = k; is = ap (λ (f : FunctionData). routine_of p f (code_if_any p k f f.body)) (sym (some_same h)) ∙ some_same e }
+routine_is p r f k (suc g) (one ∷ more) e h = routine_is p r f (suc k) g more e h
+
+is_of : (p : ProgramData) (r : RoutineData) (f : FunctionData) → IsRoutineOf p r f → Is p r f
+is_of p r f i = routine_is p r f 0 i.number p.functions i.routine i.function
+
+-- ---- prices
+
+price_of_function : (c : Prices) (p : ProgramData) (g : ℕ) (f : FunctionData) (b : Option (Statement ℕ)) → IsScopedBody f b
+    → price_of_code c (code_if_any p g f b).code ≤ weight_of_body (paid c) f b
+price_of_function c p g f None i = omega arith
+price_of_function c p g f (Some body) i =
+    let a = price_within c (body_code p g f body).code in
+    let b = body_price c p g f body in
+    let d = statement_pays c body i.0 in
+    let e = parameters_pay c f.parameters in
+    let h = locals_pay c f.locals in
+    let j = each_alike c.step (all_declared body) f.locals i.1 in omega (arith, a, b, d, e, h, j)
+
+pub code_is_paid : CodeIsPaid
+code_is_paid p r f i scopes c =
+    let z = is_of p r f i in
+    subst (λ (r : RoutineData). price_of_code c r.code ≤ weight_of_function (paid c) f) z.is (price_of_function c p z.at f f.body scopes)
+
+-- ---- steps
+
+one_at_least : (s : Step) → 1 ≤ price_of in_steps s
+one_at_least (S.Set t a) = omega arith
+one_at_least (S.Clear t) = omega arith
+one_at_least (S.Unary t op a) = omega arith
+one_at_least (S.Truth t a) = omega arith
+one_at_least (S.Not t a) = omega arith
+one_at_least (S.Convert t kind a) = omega arith
+one_at_least (S.AsPointer t a) = omega arith
+one_at_least (S.Binary t at op kind right a b) = omega arith
+one_at_least (S.Compare t at op kind a b) = omega arith
+one_at_least (S.Move t at op size left right a b) = omega arith
+one_at_least (S.Distance t at size a b) = omega arith
+one_at_least (S.Update t at op size sort right a b) = omega arith
+one_at_least (S.Field t at by a) = omega arith
+one_at_least (S.ElementField t at size kind by a b) = omega arith
+one_at_least (S.Element t at n size addressed kind a b) = omega arith
+one_at_least (S.Part t at by a) = omega arith
+one_at_least (S.Inside t at x by) = omega arith
+one_at_least (S.Load t at access a) = omega arith
+one_at_least (S.Store at access a b) = omega arith
+one_at_least (S.CopyRecord at size a b) = omega arith
+one_at_least (S.Jump to) = omega arith
+one_at_least (S.Branch when a to) = omega arith
+one_at_least (S.Test at op kind when a b to) = omega arith
+one_at_least (S.Case n a to) = omega arith
+one_at_least (S.Call t at f all) = omega arith
+one_at_least (S.CallThrough t at ty a all) = omega arith
+one_at_least (S.Library t at which all) = omega arith
+one_at_least (S.Allocate t at r size zeroed a) = omega arith
+one_at_least (S.Begin x size) = omega arith
+one_at_least (S.End x) = omega arith
+one_at_least (S.Forget x size) = omega arith
+one_at_least (S.Zeros x size) = omega arith
+one_at_least (S.Text x by n) = omega arith
+one_at_least (S.Began f l) = omega arith
+one_at_least (S.Return a) = omega arith
+one_at_least (S.ReturnHeld t) = omega arith
+one_at_least (S.Fail kind at) = omega arith
+
+steps_of : (code : Steps) → length code ≤ price_of_all in_steps code
+steps_of [] = omega arith
+steps_of (s ∷ code) = let a = one_at_least s in let b = steps_of code in omega (arith, a, b)
+
+steps_of_code : (code : Steps) → length code ≤ price_of_code in_steps code
+steps_of_code [] = omega arith
+steps_of_code (s ∷ code) = let a = steps_of (s ∷ code) in omega (arith, a)
+
+pub steps_are_few : StepsAreFew
+steps_are_few p r f i scopes = let a = code_is_paid p r f i scopes in_steps in let b = steps_of_code r.code in omega (arith, a, b)
+
+-- ---- in bytes
+
+module _ (c : Prices) (are : AreBytes c) where
+  within_code : (k : Kind) → 1 * paid c k ≤ code k
+  within_code Kinds.begins = let a = are.step in let b = are.wide in let d = are.argument in omega (arith, a, b, d)
+  within_code Kinds.through = let a = are.step in let b = are.wide in let d = are.argument in omega (arith, a, b, d)
+  within_code Kinds.to_field = let a = are.step in let b = are.wide in let d = are.argument in omega (arith, a, b, d)
+  within_code Kinds.to_element = let a = are.step in let b = are.wide in let d = are.argument in omega (arith, a, b, d)
+  within_code Kinds.constant = let a = are.step in let b = are.wide in let d = are.argument in omega (arith, a, b, d)
+  within_code Kinds.load = let a = are.step in let b = are.wide in let d = are.argument in omega (arith, a, b, d)
+  within_code Kinds.conversion = let a = are.step in let b = are.wide in let d = are.argument in omega (arith, a, b, d)
+  within_code Kinds.pointer_sum = let a = are.step in let b = are.wide in let d = are.argument in omega (arith, a, b, d)
+  within_code Kinds.operator = let a = are.step in let b = are.wide in let d = are.argument in omega (arith, a, b, d)
+  within_code Kinds.assignment = let a = are.step in let b = are.wide in let d = are.argument in omega (arith, a, b, d)
+  within_code Kinds.call = let a = are.step in let b = are.wide in let d = are.argument in omega (arith, a, b, d)
+  within_code Kinds.argument = let a = are.step in let b = are.wide in let d = are.argument in omega (arith, a, b, d)
+  within_code Kinds.part = let a = are.step in let b = are.wide in let d = are.argument in omega (arith, a, b, d)
+  within_code Kinds.statement = let a = are.step in let b = are.wide in let d = are.argument in omega (arith, a, b, d)
+  within_code Kinds.arm = let a = are.step in let b = are.wide in let d = are.argument in omega (arith, a, b, d)
+  within_code Kinds.label = let a = are.step in let b = are.wide in let d = are.argument in omega (arith, a, b, d)
+  within_code Kinds.definition = let a = are.step in let b = are.wide in let d = are.argument in omega (arith, a, b, d)
+  within_code Kinds.parameter = let a = are.step in let b = are.wide in let d = are.argument in omega (arith, a, b, d)
+  within_code Kinds.named_local = let a = are.step in let b = are.wide in let d = are.argument in omega (arith, a, b, d)
+  within_code Kinds.block_local = let a = are.step in let b = are.wide in let d = are.argument in omega (arith, a, b, d)
+  within_code Kinds.structure = let a = are.step in let b = are.wide in let d = are.argument in omega (arith, a, b, d)
+  within_code Kinds.field = let a = are.step in let b = are.wide in let d = are.argument in omega (arith, a, b, d)
+
+  body_within : (f : FunctionData) (b : Option (Statement ℕ)) → weight_of_body (paid c) f b ≤ weight_of_body code f b
+  body_within f None = omega arith
+  body_within f (Some body) =
+      let a = Weights.less_parameters 1 (paid c) code within_code f.parameters in
+      let b = Weights.less_locals 1 (paid c) code within_code f.locals in
+      let d = Weights.less_statement 1 (paid c) code within_code 0 (let h = are.step in omega (arith, h)) body in
+      let e = are.step in omega (arith, a, b, d, e)
+
+pub bytes_are_within : BytesAreWithin
+bytes_are_within p r f i scopes c are = let a = code_is_paid p r f i scopes c in let b = body_within c are f f.body in omega (arith, a, b)
+
+pub programs_are_within : ProgramsAreWithin
+programs_are_within p scopes c are = let a = from 0 p.functions scopes in omega (arith, a)
+  where
+    from : (g : ℕ) (all : List FunctionData) → All HasScopes all → price_of_routines c (routines_from p g all) ≤ weight_of_functions code all
+    from g [] e = omega arith
+    from g (f ∷ more) e =
+        let a = price_of_function c p g f f.body (e 0 f (omega arith)) in
+        let b = body_within c are f f.body in
+        let d = from (suc g) more (λ k one h. e (suc k) one (omega (arith, h))) in omega (arith, a, b, d)
+
+-- ---- temporaries
+
+greatest : (c : Prices) (top n l : ℕ) (code : Steps) → AllFit c top n l code → top_of_all code ≤ top
+greatest c top n l [] e = omega arith
+greatest c top n l (s ∷ code) e = let a = greatest c top n l code e.1 in let b = e.0.1 in omega (arith, a, b)
+
+temporaries_of_function : (p : ProgramData) (g : ℕ) (f : FunctionData) (b : Option (Statement ℕ))
+    → top_of_all (code_if_any p g f b).code ≤ length (routine_of p f (code_if_any p g f b)).locals + weight_of_body temporaries f b
+temporaries_of_function p g f None = omega arith
+temporaries_of_function p g f (Some body) =
+    let out = body_code p g f body in
+    let a = greatest in_steps (most in_steps p g f body) (length out.code) (length out.labels) out.code (body_fits in_steps p g f body) in
+    let b = one_more (λ (l : Local). l.block) (all_locals f) in omega (arith, a, b)
+
+pub temporaries_are_few : TemporariesAreFew
+temporaries_are_few p r f i =
+    let z = is_of p r f i in
+    subst (λ (r : RoutineData). top_of_all r.code ≤ length r.locals + weight_of_function temporaries f) z.is (temporaries_of_function p z.at f f.body)
+
+within_frame : (k : Kind) → 4 * temporaries k ≤ frame k
+within_frame Kinds.begins = omega arith
+within_frame Kinds.through = omega arith
+within_frame Kinds.to_field = omega arith
+within_frame Kinds.to_element = omega arith
+within_frame Kinds.constant = omega arith
+within_frame Kinds.load = omega arith
+within_frame Kinds.conversion = omega arith
+within_frame Kinds.pointer_sum = omega arith
+within_frame Kinds.operator = omega arith
+within_frame Kinds.assignment = omega arith
+within_frame Kinds.call = omega arith
+within_frame Kinds.argument = omega arith
+within_frame Kinds.part = omega arith
+within_frame Kinds.statement = omega arith
+within_frame Kinds.arm = omega arith
+within_frame Kinds.label = omega arith
+within_frame Kinds.definition = omega arith
+within_frame Kinds.parameter = omega arith
+within_frame Kinds.named_local = omega arith
+within_frame Kinds.block_local = omega arith
+within_frame Kinds.structure = omega arith
+within_frame Kinds.field = omega arith
+
+four_for_each : {A : Type 0} (all : List A) → each 4 all ≡ 4 * length all
+four_for_each [] = omega arith
+four_for_each (x ∷ all) = let h = four_for_each all in omega (arith, h)
+
+frame_of_parameters : (all : List Local) → 4 * weight_of_parameters temporaries all + 4 * length all ≤ weight_of_parameters frame all
+frame_of_parameters [] = omega arith
+frame_of_parameters (l ∷ more) = let h = frame_of_parameters more in omega (arith, h)
+
+-- the statement that declares a local pays for it
+frame_of_function : (f : FunctionData) (b : Option (Statement ℕ)) → IsScopedBody f b → b ≢ None
+    → 4 * (length (all_locals f) + weight_of_body temporaries f b) + 100 ≤ weight_of_body frame f b
+frame_of_function f None i some = absurd (some refl)
+frame_of_function f (Some body) i some =
+    let a = frame_of_parameters f.parameters in
+    let b = Weights.less_locals 4 temporaries frame within_frame f.locals in
+    let d = Weights.less_statement 4 temporaries frame within_frame 4 (omega arith) body in
+    let e = four_for_each (all_declared body) in
+    let h = both_lengths f.parameters f.locals in
+    let q : length (all_declared body) ≡ length f.locals = i.1 in omega (arith, a, b, d, e, h, q)
+
+pub frames_are_within : FramesAreWithin
+frames_are_within p r f i scopes some =
+    let z = is_of p r f i in
+    let a = frame_of_function f f.body scopes some in
+    let b = one_more (λ (l : Local). l.block) (all_locals f) in
+    subst (λ (r : RoutineData). 4 * (length r.locals + weight_of_function temporaries f) + 100 ≤ weight_of_function frame f) z.is (omega (arith, a, b))

@@ -1,0 +1,9 @@
+mod Grows
+mod Expressions
+mod Nodes
+mod Outs
+mod Statements
+mod Scoped
+mod Weights
+mod Functions
+mod Typed

@@ -1,0 +1,6 @@
+pub mod Jumps
+pub mod Prices
+pub mod Temporaries
+pub mod Scopes
+pub mod Laws
+mod Examples
