@@ -2,7 +2,7 @@
 use Rattle.std.proofs.Common.{◌≡◌, refl, sym, ap, ◌∙◌, ℕ, List, [], ◌∷◌, ◌++◌, Option, Some, None}
 use Rattle.std.proofs.lemmas.List.{append-nil, append_assoc}
 use Rattle.lay_base.specs.Known.{Appends}
-use Rattle.block_memory.specs.RunWorlds.Events.{Call, putting, getting}
+use Rattle.block_memory.specs.RunWorlds.Events.{Event, Call, put, got, putting, getting, calls_of, output_of}
 use Rattle.source_run.specs.RunGives.{bytes_put, rest_behind}
 use Rattle.source_steps.specs.Agreeing.{behind_next}
 
@@ -39,3 +39,11 @@ rest_got [] (first ∷ input) = refl
 rest_got (putting other ∷ more) input = rest_got more input
 rest_got (getting ∷ more) [] = rest_got more []
 rest_got (getting ∷ more) (first ∷ input) = rest_got more input
+
+-- ---- what is written is what is put
+
+pub output_put : (trace : List Event) → output_of trace ≡ bytes_put (calls_of trace)
+output_put [] = refl
+output_put (put byte ∷ before) = ap (λ all. all ++ byte ∷ []) (output_put before) ∙ sym (put_one (calls_of before) byte)
+output_put (got byte ∷ before) = output_put before ∙ sym (put_got (calls_of before))
+output_put (event ∷ before) = output_put before

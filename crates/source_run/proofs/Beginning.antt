@@ -1,31 +1,66 @@
--- An empty machine becomes that at the start of a run, where the objects are put into its room and `main` is called.
-use Rattle.std.proofs.Common.{◌≡◌, ℕ, [], ap, sym, ◌∙◌, subst, refl, Ok, Err}
-use Rattle.std.specs.Prelude.{Result, OnOk}
+-- The call of `main` begins the run.
+use Rattle.std.proofs.Common.{◌≡◌, refl, sym, ap, ◌∙◌, subst, ℕ, ◌^◌, ◌<◌, true, List, [], Ok, Err, arith}
+use Rattle.std.specs.Prelude.{IfOk, Result}
 use Rattle.c_typed.specs.Programs.{ProgramData, program_data}
 use Rattle.c_typed.specs.declared.program.Typed.{Typed}
+use Rattle.c_meaning.specs.Run.{run_of}
 use Rattle.lay_base.specs.declared.no_memory.NoMemory.{NoMemory}
-use Rattle.c_typed.specs.Trees.{no_expressions}
-use Rattle.source_steps.specs.MachineMoves.Items.{gathering}
-use Rattle.source_steps.specs.declared.machine_moves.Callee.TheVariants as OfCallee
-use Rattle.source_run.specs.Starting.{IsAtStart, IsEmpty}
-use Rattle.source_start.proofs.NoCounts.{are_zero, has_all}
-use Rattle.source_start.specs.Zeros.{no_counts}
-use Rattle.source_steps.specs.Came.{core_at_start, state_at_start}
+use Rattle.lower_tac.specs.Same.{RunsAreSame}
+use Rattle.lower_tac.specs.Statements.{lowered}
+use Rattle.source_run.specs.Starting.{IsAtStart, first_core}
+use Rattle.source_run.specs.Streams.{Streams}
+use Rattle.source_run.proofs.Appending.{appends_none}
+use Rattle.source_run.proofs.Reaching.{Comes, FarWith, comes_by}
+use Rattle.source_start.proofs.NoCounts.{are_zero}
+use Rattle.source_steps.specs.Agreeing.{world, Agrees}
 use Rattle.source_steps.specs.Cores.{Core}
-use Rattle.source_steps.specs.States.{State, doing}
+use Rattle.source_steps.specs.declared.ends.Moved.{Moved}
+use Rattle.tac_engine.specs.States.{State, Moves}
+use Rattle.tac_engine.specs.Steps.{main_called}
+use Rattle.tac_engine.specs.View.{ready, state_of}
+use Rattle.tac_engine.specs.declared.engine.Engine.{Engine}
+use Rattle.tac_engine.proofs.Remains.{Within, start_keeps}
+use Rattle.tac_ir.specs.Code.{Code, code_of}
+use Rattle.tac_ir.specs.Running.{code_run}
+use Rattle.tac_ir.specs.declared.step.Tac.{Tac}
 
-abbrev pub with_main : (main : ℕ) → State → State
-with_main main s = doing (gathering (OfCallee.Function (record { file = 0; at = 0 }) main) [] no_expressions) s
+agrees_at_start : (p : ProgramData) (turns : ℕ) → turns < 2 ^ 64 → Agrees (first_core p turns) (first_core p turns) []
+agrees_at_start p turns few = record {
+  few = few;
+  live = refl;
+  shape = record { entries = refl; begins = refl };
+  entries = (are_zero p).entries;
+  begins = (are_zero p).begins;
+  all_entries = λ f. omega arith;
+  all_begins = λ f l. omega arith;
+}
 
-pub begins : (p : ProgramData) (turns : ℕ) (old new : State) (core : Core) → IsEmpty p turns old → core ≡ core_at_start p turns (no_counts p)
-    → new ≡ with_main p.main (record old { core = core }) → IsAtStart p turns new
-begins p turns old new core empty e f =
-    let at : new ≡ state_at_start p turns (no_counts p)
-    = f ∙ ap (λ (c : Core). with_main p.main (record old { core = c })) e ∙ ap (λ (s : State). with_main p.main (record s { core = core_at_start p turns (no_counts p) })) empty in
-    subst (λ (s : State). IsAtStart p turns s) (sym at) (record { state = refl; zero = are_zero p; all = has_all p })
+module _ (typed : Typed) (turns : ℕ) (few : turns < 2 ^ 64) (same : RunsAreSame) (s : State) (start : IsAtStart typed turns s) where
+  abbrev p : ProgramData
+  p = program_data typed
 
-pub begins_on : (p typed : Typed) (turns : ℕ) (old new : State) (core : Core) (r : Result (Unit {0}) NoMemory) → IsEmpty (program_data p) turns old
-    → core ≡ core_at_start (program_data p) turns (no_counts (program_data p)) → typed ≡ p
-    → OnOk r (new ≡ with_main typed.main (record old { core = core })) → OnOk r (IsAtStart (program_data p) turns new)
-begins_on p typed turns old new core (Ok u) empty e same f = begins (program_data p) turns old new core empty e (f ∙ ap (λ (t : Typed). with_main t.main (record old { core = core })) same)
-begins_on p typed turns old new core (Err fault) empty e same f = tt
+  abbrev called : Moves
+  called = main_called (ready typed start.code (first_core p turns) start.routine)
+
+  begins : (input : List ℕ) → Comes p turns input called.0 called.1 []
+  begins input =
+      let covers = same p input turns true in
+      comes_by p turns input called.0 called.1 [] [] covers.steps refl
+      (start_keeps (run_of p input turns true) typed start.code (first_core p turns) start.routine refl (first_core p turns) covers.steps input []
+      (agrees_at_start p turns few)
+      (subst (λ (c : Code). Within (run_of p input turns true) covers.steps (code_run p.types c (world (first_core p turns) input []))) (sym start.lowers) covers.is))
+
+  -- the theorem
+  pub far_begun : (before : Streams) (moved : Moved) (new : State) → (moved, new) ≡ main_called s → FarWith p turns before before moved new
+  far_begun before moved new e = subst (λ (step : Moves). FarWith p turns before before step.0 step.1) (sym (e ∙ ap (λ (s : State). main_called s) start.state)) (record {
+    steady = record { reads = refl; writes = refl };
+    reached = λ input known. record { calls = []; at = begins input; written = appends_none before.written; left = known };
+  })
+
+-- an engine in the room of the start
+pub at_start : (typed : Typed) (code : Tac) (turns : ℕ) (core : Core) (r : Result Engine NoMemory) → core ≡ first_core (program_data typed) turns
+    → code_of code ≡ lowered (program_data typed) → IfOk r (λ engine. state_of engine ≡ ready typed code core engine.routine.now)
+    → IfOk r (λ engine. IsAtStart typed turns (state_of engine))
+at_start typed code turns core (Ok engine) first lowers is =
+    record { code = code; routine = engine.routine.now; lowers = lowers; state = is ∙ ap (λ (c : Core). ready typed code c engine.routine.now) first }
+at_start typed code turns core (Err fault) first lowers is = tt

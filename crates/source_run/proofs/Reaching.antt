@@ -1,134 +1,146 @@
 -- How far a run has come, and that each step leads further.
-use Rattle.std.proofs.Common.{◌≡◌, refl, sym, ap, ◌∙◌, subst, ◌⊎◌, inl, inr, ℕ, ◌^◌, ◌<◌, List, [], ◌∷◌, ◌++◌, Some}
+use Rattle.std.proofs.Common.{◌≡◌, refl, sym, ap, ◌∙◌, subst, ◌⊎◌, inl, inr, ℕ, suc, ◌+◌, true, List, [], ◌∷◌, ◌++◌, Some, arith}
 use Rattle.c_typed.specs.Programs.{ProgramData}
 use Rattle.lay_base.specs.Known.{Appends}
-use Rattle.block_memory.specs.RunWorlds.Events.{Call, putting, getting}
+use Rattle.block_memory.specs.RunWorlds.Events.{Event, Call, putting, getting, calls_of}
+use Rattle.block_memory.specs.RunWorlds.Worlds.{End}
+use Rattle.c_meaning.specs.Run.{run_of}
 use Rattle.source_run.specs.Advances.{AdvanceGives, Wrote, Read}
 use Rattle.source_run.specs.RunGives.{bytes_put, rest_behind}
-use Rattle.source_run.specs.Starting.{IsAtStart}
+use Rattle.source_run.specs.Starting.{first_core}
 use Rattle.source_run.specs.Streams.{Streams, AreSteady}
 use Rattle.source_run.specs.declared.stepping.Advance.{Advance}
 use Rattle.source_run.specs.declared.stepping.Advance.TheVariants as A
-use Rattle.source_run.proofs.Appending.{appends_none, appends_more, put_one, put_got, rest_put, rest_got}
-use Rattle.source_run.proofs.CountsKept.{counts_kept}
-use Rattle.source_start.proofs.Shapes.{keeps_entry, keeps_begin, has_all_still}
-use Rattle.source_start.specs.Shape.{HasAll}
-use Rattle.source_steps.specs.Agreeing.{next_in}
-use Rattle.source_steps.specs.Came.{Came, Comes, Ended}
-use Rattle.source_steps.proofs.Arriving.{starts, comes, comes_where}
-use Rattle.source_steps.specs.Counting.{with_entry, with_begin}
-use Rattle.source_steps.specs.States.{State, Step, given}
-use Rattle.source_steps.specs.Ahead.{advanced}
+use Rattle.source_run.proofs.Appending.{appends_more, put_one, put_got, rest_put, rest_got}
+use Rattle.source_steps.specs.Agreeing.{world, end_of, Agrees, calls_with, next_in}
+use Rattle.source_steps.specs.Cores.{Core}
 use Rattle.source_steps.specs.declared.ends.Final.{Final}
 use Rattle.source_steps.specs.declared.ends.Moved.{Moved}
 use Rattle.source_steps.specs.declared.ends.Moved.TheVariants.{Goes, Puts, Gets, Over}
-
--- the calls so far tell of the output and of the rest of the input
-abbrev pub CameBy : (p : ProgramData) → (turns : ℕ) → (input : List ℕ) → State → List Call → Type 0
-CameBy p turns input s calls = Came p input turns s (bytes_put calls) (rest_behind calls input) calls
-
-pub record Reached (p : ProgramData) (turns : ℕ) (before now : Streams) (s : State) (input : List ℕ) : Type 0 where
-  pub calls : List Call
-  pub came : CameBy p turns input s calls
-  pub written : Appends before.written now.written (bytes_put calls)
-  pub left : now.left ≡ Some (rest_behind calls input)
-  -- there is a count of each function and loop
-  pub all : HasAll p s.core.counts
-
-pub record Far (p : ProgramData) (turns : ℕ) (before now : Streams) (s : State) : Type 0 where
-  pub steady : AreSteady before now
-  pub reached : (input : List ℕ) → before.left ≡ Some input → Reached p turns before now s input
+use Rattle.tac_engine.specs.States.{State, Moves}
+use Rattle.tac_engine.specs.Steps.{read_given, stepped}
+use Rattle.tac_engine.proofs.Remains.{Keeps, Within, given_agrees, left_of, step_keeps}
+use Rattle.tac_engine.proofs.Same.{state_behind}
 
 pub steady_then : (before now here : Streams) → AreSteady before now → AreSteady now here → AreSteady before here
 steady_then before now here d e = record { reads = e.reads ∙ d.reads; writes = e.writes ∙ d.writes }
 
-keeps_all : (p : ProgramData) (s : State) → HasAll p s.core.counts → HasAll p (advanced p s).1.core.counts
-keeps_all p = counts_kept (HasAll p)
-    (λ c f h. has_all_still p c (with_entry c f) h (keeps_entry c f))
-    (λ c f l h. has_all_still p c (with_begin c f l) h (keeps_begin c f l)) p
-
-pub keeps_all_where : (p : ProgramData) (s new : State) (moved : Moved) → advanced p s ≡ (moved, new) → HasAll p s.core.counts → HasAll p new.core.counts
-keeps_all_where p s new moved e h = subst (λ (step : Step). HasAll p step.1.core.counts) e (keeps_all p s h)
-
 module _ (p : ProgramData) (turns : ℕ) where
-  -- ---- the start
+  -- ---- the calls tell of the output and of the rest of the input
 
-  pub far_at_start : (before : Streams) (s : State) → turns < 2 ^ 64 → IsAtStart p turns s → Far p turns before before s
-  far_at_start before s few h = record {
-    steady = record { reads = refl; writes = refl };
-    reached = λ input known. record {
-      calls = [];
-      came = subst (λ (u : State). CameBy p turns input u []) (sym h.state) (starts p input turns s.core.counts few h.zero);
-      written = appends_none before.written;
-      left = known;
-      all = h.all;
-    };
-  }
+  module _ (input : List ℕ) where
+    abbrev pub whole : End
+    whole = run_of p input turns true
 
-  -- ---- what a step comes to, by the calls
+    -- from where the engine is, the code comes to the end of the run
+    pub record Came (s : State) (calls : List Call) : Type 0 where
+      pub trace : List Event
+      pub agrees : Agrees (first_core p turns) s.core trace
+      pub calls_are : calls_of trace ≡ calls
+      pub steps : ℕ
+      pub leads : Within whole steps (left_of s (rest_behind calls input) trace)
 
-  same_place : (input output rest : List ℕ) (s : State) (calls : List Call) → output ≡ bytes_put calls → rest ≡ rest_behind calls input
-      → Came p input turns s output rest calls → CameBy p turns input s calls
-  same_place input output rest s calls d e h =
-      subst (λ (o : List ℕ). Came p input turns s o (rest_behind calls input) calls) d
-      (subst (λ (r : List ℕ). Came p input turns s output r calls) e h)
+    -- the run has come to its end, and that core is left
+    pub record Ended (end : Final) (c : Core) (calls : List Call) : Type 0 where
+      pub trace : List Event
+      pub agrees : Agrees (first_core p turns) c trace
+      pub calls_are : calls_of trace ≡ calls
+      pub is : whole ≡ end_of end (world c (rest_behind calls input) trace)
 
-  module _ (input : List ℕ) (s new : State) (calls : List Call) (came : CameBy p turns input s calls) where
-    pub by_step : advanced p s ≡ (Goes, new) → CameBy p turns input new calls
-    by_step e = comes_where p input turns came Goes new e
+    -- where a step comes to that, and leaves that state
+    abbrev pub Comes : Moved → State → List Call → Type 0
+    Comes (Over end) s calls = Ended end s.core calls
+    Comes moved s calls = Came (state_behind moved (rest_behind calls input) s) (calls_with moved calls)
 
-    pub by_put : (byte : ℕ) → advanced p s ≡ (Puts byte, new) → CameBy p turns input new (calls ++ putting byte ∷ [])
-    by_put byte e =
-        same_place input _ _ new (calls ++ putting byte ∷ []) (sym (put_one calls byte)) (sym (rest_put calls byte input)) (comes_where p input turns came (Puts byte) new e)
+    came_on : (s : State) (rest : List ℕ) (all : List Call) (trace : List Event) (n : ℕ) → Agrees (first_core p turns) s.core trace → calls_of trace ≡ all
+        → rest ≡ rest_behind all input → Within whole n (left_of s rest trace) → Came s all
+    came_on s rest all trace n agrees are same leads = record {
+      trace = trace;
+      agrees = agrees;
+      calls_are = are;
+      steps = n;
+      leads = subst (λ (r : List ℕ). Within whole n (left_of s r trace)) same leads;
+    }
 
-    pub by_get : (advanced p s).0 ≡ Gets → CameBy p turns input (given (next_in (rest_behind calls input)) (advanced p s).1) (calls ++ getting ∷ [])
-    by_get e =
-        same_place input _ _ _ (calls ++ getting ∷ []) (sym (put_got calls)) (sym (rest_got calls input))
-        (subst (λ (m : Moved). Comes p input turns m (advanced p s).1 (bytes_put calls) (rest_behind calls input) calls) e (comes p input turns came))
+    pub comes_by : (moved : Moved) (new : State) (calls : List Call) (trace : List Event) (n : ℕ) → calls_of trace ≡ calls
+        → Keeps whole (first_core p turns) n (rest_behind calls input) trace moved new → Comes moved new calls
+    comes_by (Over end) new calls trace n are keeps =
+        record { trace = keeps.later; agrees = keeps.agrees; calls_are = keeps.calls ∙ are; is = keeps.leads }
+    comes_by Goes new calls trace n are keeps =
+        came_on new (rest_behind calls input) calls keeps.later n keeps.agrees (keeps.calls ∙ are) refl keeps.leads
+    comes_by (Puts byte) new calls trace n are keeps =
+        came_on new (rest_behind calls input) (calls ++ putting byte ∷ []) keeps.later n keeps.agrees
+        (keeps.calls ∙ ap (λ all. all ++ putting byte ∷ []) are) (sym (rest_put calls byte input)) keeps.leads
+    comes_by Gets new calls trace n are keeps =
+        came_on (state_behind Gets (rest_behind calls input) new) _ (calls ++ getting ∷ []) keeps.later n
+        (given_agrees (first_core p turns) (next_in (rest_behind calls input)) new keeps.later keeps.agrees)
+        (keeps.calls ∙ ap (λ all. all ++ getting ∷ []) are) (sym (rest_got calls input)) keeps.leads
 
-    pub by_end : (end : Final) → advanced p s ≡ (Over end, new) → Ended p input turns end new.core (bytes_put calls) (rest_behind calls input) calls
-    by_end end e = comes_where p input turns came (Over end) new e
+    one_more : (n : ℕ) (run : ℕ → End) → Within whole n run → Within whole (suc n) run
+    one_more n run h = λ more. ap run (let one : suc n + more ≡ n + suc more = omega arith in one) ∙ h (suc more)
 
-  -- ---- a step
+    comes : (s : State) (calls : List Call) → Came s calls → Comes (stepped s).0 (stepped s).1 calls
+    comes s calls came = comes_by (stepped s).0 (stepped s).1 calls came.trace came.steps came.calls_are
+        (step_keeps whole s (first_core p turns) came.steps (rest_behind calls input) came.trace came.agrees
+        (one_more came.steps (left_of s (rest_behind calls input) came.trace) came.leads))
 
-  module _ (before now here : Streams) (s new : State) (far : Far p turns before now s) where
-    pub far_by_step : advanced p s ≡ (Goes, new) → here ≡ now → Far p turns before here new
-    far_by_step e same = subst (λ (u : Streams). Far p turns before u new) (sym same) (record {
+  -- ---- with the streams
+
+  pub record Reached (before now : Streams) (At : List Call → Type 0) (input : List ℕ) : Type 0 where
+    pub calls : List Call
+    pub at : At calls
+    pub written : Appends before.written now.written (bytes_put calls)
+    pub left : now.left ≡ Some (rest_behind calls input)
+
+  pub record Far (before now : Streams) (At : (input : List ℕ) → List Call → Type 0) : Type 0 where
+    pub steady : AreSteady before now
+    pub reached : (input : List ℕ) → before.left ≡ Some input → Reached before now (At input) input
+
+  -- the run has come to there, and a step comes to that
+  abbrev pub FarAt : (before now : Streams) → State → Type 0
+  FarAt before now s = Far before now (λ input. Came input s)
+
+  abbrev pub FarWith : (before now : Streams) → Moved → State → Type 0
+  FarWith before now moved new = Far before now (λ input. Comes input moved new)
+
+  module _ (before now : Streams) (s : State) (far : FarAt before now s) where
+    far_then : FarWith before now (stepped s).0 (stepped s).1
+    far_then = record {
       steady = far.steady;
-      reached = λ input known. let r = far.reached input known in record {
-        calls = r.calls;
-        came = by_step input s new r.calls r.came e;
-        written = r.written;
-        left = r.left;
-        all = keeps_all_where p s new Goes e r.all;
-      };
-    })
-
-    pub far_by_put : (byte : ℕ) → Wrote p s new now here byte → Far p turns before here new
-    far_by_put byte w = record {
-      steady = steady_then before now here far.steady w.steady;
-      reached = λ input known. let r = far.reached input known in record {
-        calls = r.calls ++ putting byte ∷ [];
-        came = by_put input s new r.calls r.came byte w.steps;
-        written = rw (put_one r.calls byte) (appends_more _ _ _ (bytes_put r.calls) (byte ∷ []) r.written w.written);
-        left = w.left ∙ r.left ∙ ap Some (sym (rest_put r.calls byte input));
-        all = keeps_all_where p s new (Puts byte) w.steps r.all;
-      };
+      reached = λ input known. let r = far.reached input known in
+          record { calls = r.calls; at = comes input s r.calls r.at; written = r.written; left = r.left };
     }
 
-    pub far_by_get : Read p s new now here → Far p turns before here new
-    far_by_get w = record {
-      steady = steady_then before now here far.steady w.steady;
-      reached = λ input known. let r = far.reached input known in let read = w.reads (rest_behind r.calls input) r.left in record {
-        calls = r.calls ++ getting ∷ [];
-        came = subst (λ (u : State). CameBy p turns input u (r.calls ++ getting ∷ [])) (sym read.1) (by_get input s new r.calls r.came w.steps);
-        written = rw (put_got r.calls) (w.written ∙ r.written);
-        left = read.0 ∙ ap Some (sym (rest_got r.calls input));
-        all = subst (λ (u : State). HasAll p u.core.counts) (sym read.1) (keeps_all p s r.all);
-      };
-    }
+    pub far_where : (moved : Moved) (new : State) → stepped s ≡ (moved, new) → FarWith before now moved new
+    far_where moved new e = subst (λ (step : Moves). FarWith before now step.0 step.1) e far_then
 
-    pub goes_further : (a : Advance) → (a ≡ A.Goes) ⊎ (((byte : ℕ) × (a ≡ A.Wrote byte)) ⊎ (a ≡ A.Read)) → AdvanceGives p s new now here a → Far p turns before here new
-    goes_further a (inl e) h = let step = rw e at h in far_by_step step.0 step.1
-    goes_further a (inr (inl e)) h = far_by_put e.0 (rw e.1 at h)
-    goes_further a (inr (inr e)) h = far_by_get (rw e at h)
+    pub far_get : (stepped s).0 ≡ Gets → FarWith before now Gets (stepped s).1
+    far_get e = subst (λ (m : Moved). FarWith before now m (stepped s).1) e far_then
+
+    module _ (here : Streams) (new : State) where
+      far_by_put : (byte : ℕ) → Wrote s new now here byte → FarAt before here new
+      far_by_put byte w = let far = far_where (Puts byte) new w.steps in record {
+        steady = steady_then before now here far.steady w.steady;
+        reached = λ input known. let r = far.reached input known in record {
+          calls = r.calls ++ putting byte ∷ [];
+          at = r.at;
+          written = rw (put_one r.calls byte) (appends_more _ _ _ (bytes_put r.calls) (byte ∷ []) r.written w.written);
+          left = w.left ∙ r.left ∙ ap Some (sym (rest_put r.calls byte input));
+        };
+      }
+
+      far_by_get : Read s new now here → FarAt before here new
+      far_by_get w = let far = far_get w.steps in record {
+        steady = steady_then before now here far.steady w.steady;
+        reached = λ input known. let r = far.reached input known in let read = w.reads (rest_behind r.calls input) r.left in record {
+          calls = r.calls ++ getting ∷ [];
+          at = subst (λ (u : State). Came input u (r.calls ++ getting ∷ [])) (sym read.1) r.at;
+          written = rw (put_got r.calls) (w.written ∙ r.written);
+          left = read.0 ∙ ap Some (sym (rest_got r.calls input));
+        };
+      }
+
+      pub goes_further : (a : Advance) → (a ≡ A.Goes) ⊎ (((byte : ℕ) × (a ≡ A.Wrote byte)) ⊎ (a ≡ A.Read)) → AdvanceGives s new now here a → FarAt before here new
+      goes_further a (inl e) h = let step = rw e at h in subst (λ (u : Streams). FarAt before u new) (sym step.1) (far_where Goes new step.0)
+      goes_further a (inr (inl e)) h = far_by_put e.0 (rw e.1 at h)
+      goes_further a (inr (inr e)) h = far_by_get (rw e at h)

@@ -1,16 +1,15 @@
 -- What the code of one step gives, with the byte that it writes or reads.
 use Rattle.std.specs.Prelude.{◌≡◌, ◌⊎◌, ℕ, List, [], ◌∷◌, Option, Some}
-use Rattle.c_typed.specs.Programs.{ProgramData}
 use Rattle.lay_base.specs.Known.{Rose, Appends}
 use Rattle.block_memory.specs.declared.run_worlds.value.Value.{Value}
 use Rattle.source_run.specs.Streams.{Streams, AreSteady}
 use Rattle.source_run.specs.declared.stepping.Advance.{Advance}
 use Rattle.source_run.specs.declared.stepping.Advance.TheVariants as A
 use Rattle.source_steps.specs.Agreeing.{next_in, behind_next}
-use Rattle.source_steps.specs.States.{State, given}
-use Rattle.source_steps.specs.Ahead.{advanced}
 use Rattle.source_steps.specs.declared.ends.Moved.{Moved}
 use Rattle.source_steps.specs.declared.ends.Moved.TheVariants.{Goes, Puts, Gets, Over}
+use Rattle.tac_engine.specs.States.{State}
+use Rattle.tac_engine.specs.Steps.{read_given, stepped}
 
 -- the next byte of an input is taken, where the input is known
 abbrev pub Takes : (old new : Option (List ℕ)) → Type 0
@@ -24,10 +23,10 @@ Reads old new v = (input : List ℕ) → old ≡ Some input → (new ≡ Some (b
 abbrev pub WritesNone : (byte : ℕ) → (old new : Option (List ℕ)) → Type 0
 WritesNone byte old new = Appends old new [] ⊎ Appends old new (byte ∷ [])
 
-module _ (p : ProgramData) (old new : State) (before now : Streams) where
+module _ (old new : State) (before now : Streams) where
   -- the step is that, and leads there
   abbrev pub Steps : Moved → Type 0
-  Steps moved = advanced p old ≡ (moved, new)
+  Steps moved = stepped old ≡ (moved, new)
 
   pub record Wrote (byte : ℕ) : Type 0 where
     pub steps : Steps (Puts byte)
@@ -36,13 +35,13 @@ module _ (p : ProgramData) (old new : State) (before now : Streams) where
     pub left : now.left ≡ before.left
 
   pub record Read : Type 0 where
-    pub steps : (advanced p old).0 ≡ Gets
+    pub steps : (stepped old).0 ≡ Gets
     pub steady : AreSteady before now
     pub written : now.written ≡ before.written
-    pub reads : (input : List ℕ) → before.left ≡ Some input → (now.left ≡ Some (behind_next input)) × (new ≡ given (next_in input) (advanced p old).1)
+    pub reads : (input : List ℕ) → before.left ≡ Some input → (now.left ≡ Some (behind_next input)) × (new ≡ read_given (next_in input) (stepped old).1)
 
   pub record ReadFails : Type 0 where
-    pub steps : (advanced p old).0 ≡ Gets
+    pub steps : (stepped old).0 ≡ Gets
     pub rose : Rose before.read_faults now.read_faults
     pub written : now.written ≡ before.written
     pub left : now.left ≡ before.left
@@ -57,7 +56,7 @@ module _ (p : ProgramData) (old new : State) (before now : Streams) where
   pub record Lacks : Type 0 where
     pub steady : AreSteady before now
     pub written : now.written ≡ before.written
-    pub left : (now.left ≡ before.left) ⊎ (((advanced p old).0 ≡ Gets) × Takes before.left now.left)
+    pub left : (now.left ≡ before.left) ⊎ (((stepped old).0 ≡ Gets) × Takes before.left now.left)
 
   abbrev pub AdvanceGives : Advance → Type 0
   AdvanceGives A.Goes = Steps Goes × (now ≡ before)

@@ -3,4 +3,3 @@ pub mod RunGives
 pub mod Fresh
 pub mod Advances
 pub mod Starting
-pub mod EachStep

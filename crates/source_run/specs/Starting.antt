@@ -2,27 +2,34 @@
 use Rattle.std.specs.Prelude.{◌≡◌, ◌⊎◌, ℕ}
 use Rattle.c_typed.specs.RunCounts.Counting.{counts_by}
 use Rattle.c_typed.specs.declared.run_counts.counts.Counts.{Counts}
-use Rattle.c_typed.specs.Programs.{ProgramData}
+use Rattle.c_typed.specs.Programs.{ProgramData, program_data}
+use Rattle.c_typed.specs.declared.program.Typed.{Typed}
+use Rattle.lower_tac.specs.Statements.{lowered}
 use Rattle.source_run.specs.declared.end.RunEnd.{RunEnd as Answer}
 use Rattle.source_run.specs.declared.end.RunEnd.TheVariants as E
 use Rattle.source_start.specs.Counted.{entry_in, begin_in}
-use Rattle.source_start.specs.Shape.{HasAll}
 use Rattle.source_start.specs.Zeros.{no_counts}
-use Rattle.source_state.specs.View.{empty_state}
-use Rattle.source_steps.specs.Came.{AreZero, state_at_start}
+use Rattle.source_steps.specs.AtStart.{core_at_start}
+use Rattle.source_steps.specs.Cores.{Core}
 use Rattle.source_steps.specs.Counting.{Counting}
-use Rattle.source_steps.specs.States.{State}
 use Rattle.source_steps.specs.declared.ends.Final.{Final}
 use Rattle.source_steps.specs.declared.ends.Final.TheVariants.{Ends, TurnLimit, Undefined, Room}
+use Rattle.tac_engine.specs.States.{State}
+use Rattle.tac_engine.specs.View.{ready}
+use Rattle.tac_ir.specs.Code.{code_of}
+use Rattle.tac_ir.specs.declared.step.Routine.{Routine}
+use Rattle.tac_ir.specs.declared.step.Tac.{Tac}
 
--- a machine of which nothing was done: it has nothing to do, an empty room, and counts that are all 0
-abbrev pub IsEmpty : ProgramData → (turns : ℕ) → State → Type 0
-IsEmpty p turns s = s ≡ empty_state turns (no_counts p)
+-- the program's objects are in memory, and its counts are all 0
+abbrev pub first_core : ProgramData → (turns : ℕ) → Core
+first_core p turns = core_at_start p turns (no_counts p)
 
-pub record IsAtStart (p : ProgramData) (turns : ℕ) (s : State) : Type 0 where
-  pub state : s ≡ state_at_start p turns s.core.counts
-  pub zero : AreZero s.core.counts
-  pub all : HasAll p s.core.counts
+-- an engine for the code of a program, before `main` is called
+pub record IsAtStart (typed : Typed) (turns : ℕ) (s : State) : Type 0 where
+  pub code : Tac
+  pub routine : Routine
+  pub lowers : code_of code ≡ lowered (program_data typed)
+  pub state : s ≡ ready typed code (first_core (program_data typed) turns) routine
 
 abbrev pub answer_of : Final → (turns : ℕ) → Answer
 answer_of (Ends status) turns = E.Ends status

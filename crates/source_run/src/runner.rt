@@ -1,22 +1,27 @@
 //! The runner of a program.
 
-ghost use Rattle.std.specs.Prelude.{◌≡◌, ℕ, IfOk, OnOk};
+ghost use Rattle.std.specs.Prelude.{◌≡◌, IfOk};
 ghost use Rattle.c_typed.specs.Programs.{program_data};
-ghost use Rattle.source_run.specs.RunGives.{RunGives};
+ghost use Rattle.lower_tac.specs.Statements.{lowered};
 ghost use Rattle.source_run.specs.Fresh.{no_counts as counts_of_none};
-ghost use Rattle.source_run.specs.Starting.{HasFinished, IsAtStart, IsEmpty, answer_of};
+ghost use Rattle.source_run.specs.RunGives.{RunGives};
+ghost use Rattle.source_run.specs.Starting.{HasFinished, IsAtStart, answer_of};
 ghost use Rattle.source_run.specs.Streams.{streams};
-ghost use Rattle.source_state.specs.View.{state_of};
+ghost use Rattle.tac_engine.specs.View.{state_of};
+ghost use Rattle.tac_ir.specs.Code.{code_of};
 
 use crate::end::RunEnd;
 use crate::stepping::{Advance, make_step};
 use c_typed::{Counts, Typed};
 use lay_base::{NoMemory, Sink, Source};
+use lower_tac::{lower, runs_are_same};
 use source_start::{counts, no_counts, start};
-use source_state::Machine;
-use source_steps::Final;
+use source_state::Room;
+use source_steps::{Final, Moved};
 use source_values::Types;
 use std::alloc::Global;
+use tac_engine::Engine;
+use tac_ir::Tac;
 
 /// What a run answers that is over so.
 fn answer(end: Final, turns: u64) -> RunEnd
@@ -40,17 +45,20 @@ fn counts_at_start(alloc: Global, p: &Typed) -> Result<Counts, NoMemory>
     }
 }
 
-/// An empty machine becomes that at the start of a run.
-fn set_up<'a>(
+/// An engine for the code of a program, in the room with which a run starts.
+fn engine_at_start<'a>(
     alloc: Global,
     types: &'a Types<'a>,
-    machine: &mut Machine<'a>,
-) -> Result<(), NoMemory>
-    ensures { (turns : ℕ) → IsEmpty (program_data types.now) turns (state_of machine.old)
-        → OnOk result (IsAtStart (program_data types.now) turns (state_of machine.new)) }
+    code: &'a Tac,
+    turns: u64,
+) -> Result<Engine<'a>, NoMemory>
+    requires { code_of code.now ≡ lowered (program_data types.now) }
+    ensures { IfOk result (λ engine. IsAtStart types.entry.now turns (state_of engine)) }
 {
-    start(alloc, types, &mut machine.room)?;
-    machine.call(alloc, types.typed().main)
+    let none = no_counts(alloc, types.typed())?;
+    let mut room = Room::new(alloc, turns, none);
+    start(alloc, types, &mut room)?;
+    Engine::new(alloc, types, code, room)
 }
 
 /// The answer of a run that is over, with its counts.
@@ -58,13 +66,13 @@ fn finish(
     alloc: Global,
     types: &Types<'_>,
     kept: &mut Counts,
-    machine: &Machine<'_>,
+    engine: &Engine<'_>,
     end: Final,
     turns: u64,
 ) -> RunEnd
-    ensures { HasFinished (program_data types.now) (state_of machine.now).core.counts kept.new end turns result }
+    ensures { HasFinished (program_data types.now) (state_of engine.now).core.counts kept.new end turns result }
 {
-    match counts(alloc, types.typed(), &machine.room().counts) {
+    match counts(alloc, types.typed(), &engine.room.counts) {
         Ok(counts) => {
             *kept = counts;
             answer(end, turns)
@@ -73,25 +81,32 @@ fn finish(
     }
 }
 
-/// Makes steps until the run is over.
-fn make_steps<'a, I: Source, O: Sink>(
+/// Calls `main`, and makes steps until the run is over.
+fn run_engine<I: Source, O: Sink>(
     alloc: Global,
-    types: &'a Types<'a>,
+    types: &Types<'_>,
     kept: &mut Counts,
-    machine: &mut Machine<'a>,
+    engine: &mut Engine<'_>,
     input: &mut I,
     out: &mut O,
     turns: u64,
 ) -> RunEnd
-    requires { IsAtStart (program_data types.now) turns (state_of machine.old) }
+    requires { IsAtStart types.now turns (state_of engine.old) }
     ensures { RunGives (program_data types.now) turns
         (streams (I.left input.old) (I.faults input.old) (O.written out.old) (O.faults out.old))
         (streams (I.left input.new) (I.faults input.new) (O.written out.new) (O.faults out.new)) kept.new result }
 {
+    runs_are_same();
+    match engine.start(alloc) {
+        Ok(Moved::Goes) => {}
+        Ok(Moved::Over(end)) => return finish(alloc, types, kept, engine, end, turns),
+        // A call neither writes nor reads.
+        Ok(Moved::Puts(_)) | Ok(Moved::Gets) | Err(_) => return RunEnd::Memory,
+    }
     for _ in 0..u64::MAX {
-        match make_step(alloc, types, machine, input, out) {
+        match make_step(alloc, engine, input, out) {
             Advance::Goes | Advance::Wrote(_) | Advance::Read => {}
-            Advance::Over(end) => return finish(alloc, types, kept, machine, end, turns),
+            Advance::Over(end) => return finish(alloc, types, kept, engine, end, turns),
             Advance::ReadFails => return RunEnd::ReadFault,
             Advance::WriteFails(_) => return RunEnd::WriteFault,
             Advance::Memory => return RunEnd::Memory,
@@ -101,23 +116,23 @@ fn make_steps<'a, I: Source, O: Sink>(
     RunEnd::Memory
 }
 
-/// Runs a program on an empty machine.
-fn run_on<'a, I: Source, O: Sink>(
+/// Runs the code of a program.
+fn run_code<'a, I: Source, O: Sink>(
     alloc: Global,
     types: &'a Types<'a>,
+    code: &'a Tac,
     kept: &mut Counts,
-    machine: &mut Machine<'a>,
     input: &mut I,
     out: &mut O,
     turns: u64,
 ) -> RunEnd
-    requires { IsEmpty (program_data types.now) turns (state_of machine.old) }
+    requires { code_of code.now ≡ lowered (program_data types.now) }
     ensures { RunGives (program_data types.now) turns
         (streams (I.left input.old) (I.faults input.old) (O.written out.old) (O.faults out.old))
         (streams (I.left input.new) (I.faults input.new) (O.written out.new) (O.faults out.new)) kept.new result }
 {
-    match set_up(alloc, types, machine) {
-        Ok(()) => make_steps(alloc, types, kept, machine, input, out, turns),
+    match engine_at_start(alloc, types, code, turns) {
+        Ok(mut engine) => run_engine(alloc, types, kept, &mut engine, input, out, turns),
         Err(_) => RunEnd::Memory,
     }
 }
@@ -166,19 +181,16 @@ impl<'a> Runner<'a> {
             (streams (I.left input.old) (I.faults input.old) (O.written out.old) (O.faults out.old))
             (streams (I.left input.new) (I.faults input.new) (O.written out.new) (O.faults out.new)) self.new.counts result }
     {
-        match no_counts(alloc, self.types.typed()) {
-            Ok(counts) => {
-                let mut machine = Machine::new(alloc, turns, counts);
-                run_on(
-                    alloc,
-                    &self.types,
-                    &mut self.counts,
-                    &mut machine,
-                    input,
-                    out,
-                    turns,
-                )
-            }
+        match lower(alloc, self.types.typed()) {
+            Ok(code) => run_code(
+                alloc,
+                &self.types,
+                &code,
+                &mut self.counts,
+                input,
+                out,
+                turns,
+            ),
             Err(_) => RunEnd::Memory,
         }
     }

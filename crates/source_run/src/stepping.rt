@@ -1,19 +1,16 @@
 //! One step of a run, with the byte that it writes or reads.
 
 ghost use Rattle.std.specs.Prelude.{◌≡◌, [], ◌∷◌, MatchResult};
-ghost use Rattle.c_typed.specs.Programs.{program_data};
 ghost use Rattle.lay_base.specs.Known.{Appends, Rose};
 ghost use Rattle.source_run.specs.Advances.{AdvanceGives, Reads, WritesNone};
 ghost use Rattle.source_run.specs.Streams.{streams};
-ghost use Rattle.source_state.specs.View.{state_of};
+ghost use Rattle.tac_engine.specs.View.{state_of};
 
-use crate::each_step::step;
 use block_memory::Value;
-use lay_base::{NoMemory, Sink, SinkFault, Source, SourceFault};
-use source_state::Machine;
+use lay_base::{Sink, SinkFault, Source, SourceFault};
 use source_steps::{Final, Moved};
-use source_values::Types;
 use std::alloc::Global;
+use tac_engine::Engine;
 
 /// What a step came to, with the byte that it wrote or read.
 #[derive(Clone, Copy)]
@@ -56,25 +53,24 @@ fn put_byte<O: Sink>(byte: u8, out: &mut O) -> Result<(), SinkFault>
 
 /// One step.
 #[inline(always)]
-pub(crate) fn make_step<'a, I: Source, O: Sink>(
+pub(crate) fn make_step<I: Source, O: Sink>(
     alloc: Global,
-    types: &'a Types<'a>,
-    machine: &mut Machine<'a>,
+    engine: &mut Engine<'_>,
     input: &mut I,
     out: &mut O,
 ) -> Advance
-    ensures { AdvanceGives (program_data types.now) (state_of machine.old) (state_of machine.new)
+    ensures { AdvanceGives (state_of engine.old) (state_of engine.new)
         (streams (I.left input.old) (I.faults input.old) (O.written out.old) (O.faults out.old))
         (streams (I.left input.new) (I.faults input.new) (O.written out.new) (O.faults out.new)) result }
 {
-    match step(machine, alloc, types) {
+    match engine.step(alloc) {
         Ok(Moved::Goes) => Advance::Goes,
         Ok(Moved::Puts(byte)) => match put_byte(byte, out) {
             Ok(()) => Advance::Wrote(byte),
             Err(_) => Advance::WriteFails(byte),
         },
         Ok(Moved::Gets) => match next_value(input) {
-            Ok(v) => match machine.give(v) {
+            Ok(v) => match engine.give(v) {
                 Ok(_) => Advance::Read,
                 Err(_) => Advance::Memory,
             },

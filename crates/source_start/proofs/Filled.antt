@@ -5,7 +5,7 @@ use Rattle.c_meaning.specs.Program.{initial_memory}
 use Rattle.c_typed.specs.Programs.{ProgramData}
 use Rattle.block_memory.specs.RunWorlds.Worlds.{live_bytes}
 use Rattle.source_state.specs.RoomView.{empty_core}
-use Rattle.source_steps.specs.Came.{core_at_start}
+use Rattle.source_steps.specs.AtStart.{core_at_start}
 use Rattle.source_steps.specs.Cores.{Core}
 use Rattle.source_steps.specs.Counting.{Counting}
 

@@ -3,5 +3,4 @@ pub mod LastBlock
 pub mod NoCounts
 pub mod Filled
 pub mod Walks
-pub mod Shapes
 pub mod Telling

@@ -89,6 +89,7 @@ counts_are p c entries begins all tells_entries tells_begins =
         (same_below (begin_in c f) (begins f) (loops_at p f) (loops f))
 
 -- of a run
-pub counts_of_run : (p : ProgramData) (turns : ℕ) (c : Core) (trace : List Event) → HasAll p c.counts → Agrees turns c trace
+pub counts_of_run : (p : ProgramData) (start c : Core) (trace : List Event) → HasAll p start.counts → Agrees start c trace
     → counts_by (entry_in c.counts) (begin_in c.counts) p ≡ counts_by (λ f. entries_of f trace) (λ f l. begins_of f l trace) p
-counts_of_run p turns c trace all agrees = counts_are p c.counts (λ f. entries_of f trace) (λ f l. begins_of f l trace) all agrees.entries agrees.begins
+counts_of_run p start c trace all agrees = counts_are p c.counts (λ f. entries_of f trace) (λ f l. begins_of f l trace)
+    (record { entries = agrees.shape.entries ∙ all.entries; begins = agrees.shape.begins ∙ all.begins }) agrees.entries agrees.begins

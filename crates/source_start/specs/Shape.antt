@@ -8,8 +8,3 @@ use Rattle.source_steps.specs.Counting.{Counting}
 pub record HasAll (p : ProgramData) (c : Counting) : Type 0 where
   pub entries : length c.entries ≡ length p.functions
   pub begins : map length c.begins ≡ map loops_of p.functions
-
--- as many as before
-pub record KeepsShape (old new : Counting) : Type 0 where
-  pub entries : length new.entries ≡ length old.entries
-  pub begins : map length new.begins ≡ map length old.begins

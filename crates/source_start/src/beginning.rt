@@ -3,7 +3,7 @@
 ghost use Rattle.std.specs.Prelude.{◌≡◌, ℕ, OnOk};
 ghost use Rattle.c_typed.specs.Programs.{program_data};
 ghost use Rattle.source_state.specs.RoomView.{core_of, empty_core};
-ghost use Rattle.source_steps.specs.Came.{core_at_start};
+ghost use Rattle.source_steps.specs.AtStart.{core_at_start};
 ghost use Rattle.source_steps.specs.Counting.{Counting};
 
 use crate::objects::add_objects;

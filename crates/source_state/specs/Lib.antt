@@ -1,4 +1,2 @@
-pub mod WorkView
-pub mod View
 pub mod RoomView
 pub mod CountsView

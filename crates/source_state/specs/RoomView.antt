@@ -1,4 +1,4 @@
--- What a run keeps beside its work and its operands, as plain data.
+-- What a run keeps, as plain data.
 use Rattle.std.specs.Prelude.{ℕ, []}
 use Rattle.block_memory.specs.View.{memory_of}
 use Rattle.source_state.specs.CountsView.{counting_of}

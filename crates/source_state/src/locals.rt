@@ -4,44 +4,19 @@ ghost use Rattle.std.specs.Prelude.{◌≡◌, IfOk};
 ghost use Rattle.block_memory.specs.RunWorlds.Scalars.{load_in, store_in};
 ghost use Rattle.source_state.specs.RoomView.{core_of};
 ghost use Rattle.source_steps.specs.Cores.{Changes};
-ghost use Rattle.source_steps.specs.Locals.{begin_as, end_slot, fetch, finish, finish_all, known, local_spot, put, spot_of};
+ghost use Rattle.source_steps.specs.Locals.{begin_as, end_slot, finish};
 ghost use Rattle.source_steps.specs.Memories.{changed};
 
 use crate::room::Room;
 use block_memory::{Access, BlockKind, Ptr, Value};
-use c_meaning::{Slot, Spot};
+use c_meaning::Slot;
 use lay_base::{NoMemory, UndefinedKind};
 use source_steps::Final;
 use std::alloc::Global;
 
-fn spot_of(local: u32, slot: Option<Slot>) -> Result<Spot, UndefinedKind>
-    ensures { result ≡ spot_of local slot }
-{
-    match slot {
-        Some(Slot::ByName(_)) => Ok(Spot::Kept(local)),
-        Some(Slot::InBlock(Some(block))) => Ok(Spot::Placed(Ptr::Block(block, 0))),
-        Some(Slot::InBlock(None)) | None => Err(UndefinedKind::Dead),
-    }
-}
-
-fn known(slot: Option<Slot>) -> Result<Value, UndefinedKind>
-    ensures { result ≡ known slot }
-{
-    match slot {
-        Some(Slot::ByName(Some(v))) => Ok(v),
-        Some(Slot::ByName(None)) | Some(Slot::InBlock(_)) | None => Err(UndefinedKind::Empty),
-    }
-}
-
 impl Room {
-    /// Where a local lies.
-    pub fn local_spot(&self, local: u32) -> Result<Spot, UndefinedKind>
-        ensures { result ≡ local_spot local (core_of self.now) }
-    {
-        spot_of(local, self.slot(local))
-    }
-
-    fn load(&self, p: Ptr, access: Access) -> Result<Value, UndefinedKind>
+    /// Loads a value from memory.
+    pub fn load(&self, p: Ptr, access: Access) -> Result<Value, UndefinedKind>
         ensures { result ≡ load_in (core_of self.now).memory p access }
     {
         match access {
@@ -53,16 +28,6 @@ impl Room {
                 Ok(q) => Ok(Value::Pointer(q)),
                 Err(kind) => Err(kind),
             },
-        }
-    }
-
-    /// What lies at a spot.
-    pub fn fetch(&self, spot: Spot, access: Access) -> Result<Value, UndefinedKind>
-        ensures { result ≡ fetch spot access (core_of self.now) }
-    {
-        match spot {
-            Spot::Kept(local) => known(self.slot(local)),
-            Spot::Placed(p) => self.load(p, access),
         }
     }
 
@@ -86,19 +51,6 @@ impl Room {
                 };
                 self.store.store_pointer(p, type_number, q)
             }
-        }
-    }
-
-    /// Stores a value at a spot.
-    pub fn put(&mut self, spot: Spot, access: Access, v: Value) -> Result<(), UndefinedKind>
-        ensures { Changes result (core_of self.old) (core_of self.new) (put spot access v (core_of self.old)) }
-    {
-        match spot {
-            Spot::Kept(local) => {
-                self.set_slot(local, Slot::ByName(Some(v)));
-                Ok(())
-            }
-            Spot::Placed(p) => self.store(p, access, v),
         }
     }
 
@@ -132,15 +84,6 @@ impl Room {
         if let Some(Slot::InBlock(Some(block))) = self.slot(local) {
             self.end(block);
             self.set_slot(local, Slot::InBlock(None));
-        }
-    }
-
-    /// Locals end, in their order.
-    pub fn finish_all(&mut self, locals: &[u32])
-        ensures { core_of self.new ≡ finish_all locals.now (core_of self.old) }
-    {
-        for local in locals {
-            self.finish(*local);
         }
     }
 }

@@ -5,7 +5,7 @@ use block_memory::Store;
 use c_meaning::Slot;
 use std::alloc::Global;
 
-/// What a run keeps beside its work and its operands.
+/// What a run keeps.
 #[derive(Drop)]
 pub struct Room {
     /// The locals of the function that runs.

@@ -1,9 +1,10 @@
 -- Counts are those of the trace.
 use Rattle.std.proofs.Common.{◌≡◌, ◌≢◌, refl, sym, ap, ◌∙◌, ◌⊎◌, inl, inr, ℕ, zero, suc, ◌+◌, ◌^◌, ◌<◌, ◌==◌, true, false, ◌&&◌, List, [], ◌∷◌, slice_get}
-use Rattle.std.proofs.Common.{slice_set, Option, Some, None, arith}
+use Rattle.std.proofs.Common.{slice_set, length, map, Option, Some, None, arith}
+use Rattle.std.proofs.Math.ListN.{length-set}
 use Rattle.std.proofs.lemmas.Bool.Decides.{eqb_tells}
 use Rattle.block_memory.specs.RunWorlds.Events.{one_if}
-use Rattle.source_steps.specs.Counting.{one_more, risen, raised, raised_in}
+use Rattle.source_steps.specs.Counting.{Counting, KeepsShape, one_more, risen, raised, raised_in, with_begin, with_entry}
 
 -- ---- one element of a list becomes another
 
@@ -80,3 +81,28 @@ raised_in_counts all g k (Some row) count e h few f l n loops d i = by_test (eqb
 pub all_raised_counts : (all : List (List ℕ)) (g k : ℕ) (count : ℕ → ℕ → ℕ) → AllCounts all count → count g k + 1 < 2 ^ 64
     → AllCounts (raised_in all g k (slice_get all g)) (λ f l. count f l + one_if (g == f && k == l))
 all_raised_counts all g k count h few = raised_in_counts all g k (slice_get all g) count refl h few
+
+-- ---- counts that rise stay as many
+
+length_risen : (all : List ℕ) (k : ℕ) (o : Option ℕ) → length (risen all k o) ≡ length all
+length_risen all k None = refl
+length_risen all k (Some n) = simp length-set
+
+length_raised : (all : List ℕ) (k : ℕ) → length (raised all k) ≡ length all
+length_raised all k = length_risen all k (slice_get all k)
+
+lengths_raised : (all : List (List ℕ)) (g l : ℕ) → map length (raised_in all g l (slice_get all g)) ≡ map length all
+lengths_raised [] g l = refl
+lengths_raised (row ∷ all) zero l = ap (λ n. n ∷ map length all) (length_raised row l)
+lengths_raised (row ∷ all) (suc g) l = later (slice_get all g) (lengths_raised all g l)
+  where
+    later : (o : Option (List ℕ)) → map length (raised_in all g l o) ≡ map length all
+        → map length (raised_in (row ∷ all) (suc g) l o) ≡ map length (row ∷ all)
+    later None h = refl
+    later (Some loops) h = ap (λ ns. length row ∷ ns) h
+
+pub keeps_entry : (old c : Counting) (f : ℕ) → KeepsShape old c → KeepsShape old (with_entry c f)
+keeps_entry old c f h = record { entries = length_raised c.entries f ∙ h.entries; begins = h.begins }
+
+pub keeps_begin : (old c : Counting) (f l : ℕ) → KeepsShape old c → KeepsShape old (with_begin c f l)
+keeps_begin old c f l h = record { entries = h.entries; begins = lengths_raised c.begins f l ∙ h.begins }

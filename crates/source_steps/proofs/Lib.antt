@@ -4,16 +4,3 @@ pub mod Memories
 pub mod Locals
 pub mod Counting
 pub mod Calls
-pub mod Actions
-pub mod Library
-pub mod Expressions
-pub mod Statements
-pub mod Steps
-pub mod Lessening
-pub mod Found
-pub mod Leading
-pub mod Idle
-pub mod Ahead
-pub mod Arriving
-pub mod Onwards
-pub mod MachineMoves

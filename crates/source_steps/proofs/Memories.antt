@@ -1,6 +1,6 @@
 -- What is done to the world.
 use Rattle.std.proofs.Common.{◌≡◌, refl, sym, ◌∙◌, subst, ℕ, zero, suc, ◌+◌, ◌-◌, ◌/◌, ◌%◌, ◌^◌, ◌≤◌, Bool, true, false, ◌&&◌, ◌||◌, not, nat_lt, nat_le}
-use Rattle.std.proofs.Common.{if◌then◌else◌, List, ◌∷◌, length, replicate, drop, Option, Result, Ok, Err, arith}
+use Rattle.std.proofs.Common.{if◌then◌else◌, List, ◌∷◌, length, replicate, drop, Option, Result, Ok, Err, ℤ, arith}
 use Rattle.std.proofs.lemmas.List.{length-take, length-replicate}
 use Rattle.std.proofs.lemmas.Bool.Decides.{leb_tells}
 use Rattle.lay_base.specs.declared.faults.RoomKind.TheVariants.{Live}
@@ -26,12 +26,13 @@ use Rattle.block_memory.specs.Tested as Tests
 use Rattle.block_memory.specs.Tested.{Tested}
 use Rattle.block_memory.specs.RunWorlds.Doing as Doing
 use Rattle.block_memory.specs.RunWorlds.Doing.{Rest, Doing, ◌>>=◌, ◌>>◌, pure, is_undefined, tested, memory_now, with_memory, note}
-use Rattle.block_memory.specs.RunWorlds.Events.{Event, output_of, calls_of, entries_of, begins_of, loaded, stored, allocated, freed}
+use Rattle.block_memory.specs.RunWorlds.Events.{Event, calls_of, entries_of, begins_of, loaded, stored, allocated, freed, reached}
 use Rattle.block_memory.specs.RunWorlds.Library as Library
 use Rattle.block_memory.specs.RunWorlds.Scalars.{width_of, load_in, store_in, note_if, note_in, load, store}
 use Rattle.block_memory.specs.declared.run_worlds.value.Value.{Value}
 use Rattle.block_memory.specs.declared.run_worlds.value.Value.TheVariants.{Pointer as Address}
 use Rattle.block_memory.specs.RunWorlds.Worlds.{World, End, out_of_room, greatest_live, live_bytes}
+use Rattle.c_meaning.specs.Expressions.{field_in}
 use Rattle.c_meaning.specs.Frames.{Frame}
 use Rattle.source_steps.specs.Cores as Cores
 use Rattle.source_steps.specs.Cores.{Core, Does, done, and_then}
@@ -46,15 +47,15 @@ use Rattle.source_steps.proofs.Parts.{Gives, Part, pure_part, undefined_part, re
 -- ---- an event that is neither written, nor read, nor counted
 
 pub record IsQuiet (event : Event) : Type 0 where
-  pub writes : (trace : List Event) → output_of (event ∷ trace) ≡ output_of trace
   pub calls : (trace : List Event) → calls_of (event ∷ trace) ≡ calls_of trace
   pub entries : (f : ℕ) (trace : List Event) → entries_of f (event ∷ trace) ≡ entries_of f trace
   pub begins : (f l : ℕ) (trace : List Event) → begins_of f l (event ∷ trace) ≡ begins_of f l trace
 
-pub agrees_behind : (turns : ℕ) (c : Core) (event : Event) (trace : List Event) → IsQuiet event → Agrees turns c trace → Agrees turns c (event ∷ trace)
-agrees_behind turns c event trace q h = record {
+pub agrees_behind : (start : Core) (c : Core) (event : Event) (trace : List Event) → IsQuiet event → Agrees start c trace → Agrees start c (event ∷ trace)
+agrees_behind start c event trace q h = record {
   few = h.few;
   live = h.live;
+  shape = h.shape;
   entries = λ f n e. h.entries f n e ∙ sym (q.entries f trace);
   begins = λ f l n loops d e. h.begins f l n loops d e ∙ sym (q.begins f l trace);
   all_entries = λ f. let e = q.entries f trace in let b = h.all_entries f in omega (arith, e, b);
@@ -63,26 +64,25 @@ agrees_behind turns c event trace q h = record {
 
 pub note_part : (event : Event) (c : Core) → IsQuiet event → Part c (note event) (done tt c)
 note_part event c q = record {
-  gives = λ turns input trace h. record {
+  gives = λ start input trace h. record {
     later = event ∷ trace;
     does = λ rest. refl;
-    agrees = agrees_behind turns c event trace q h;
-    writes = q.writes trace;
+    agrees = agrees_behind start c event trace q h;
     calls = q.calls trace;
   };
 }
 
 quiet_loaded : (b at width : ℕ) → IsQuiet (loaded b at width)
-quiet_loaded b at width = record { writes = λ t. refl; calls = λ t. refl; entries = λ f t. refl; begins = λ f l t. refl }
+quiet_loaded b at width = record { calls = λ t. refl; entries = λ f t. refl; begins = λ f l t. refl }
 
 quiet_stored : (b at width : ℕ) → IsQuiet (stored b at width)
-quiet_stored b at width = record { writes = λ t. refl; calls = λ t. refl; entries = λ f t. refl; begins = λ f l t. refl }
+quiet_stored b at width = record { calls = λ t. refl; entries = λ f t. refl; begins = λ f l t. refl }
 
 quiet_allocated : (b : ℕ) (elements : Option (ℕ × ℕ)) (n : ℕ) → IsQuiet (allocated b elements n)
-quiet_allocated b elements n = record { writes = λ t. refl; calls = λ t. refl; entries = λ f t. refl; begins = λ f l t. refl }
+quiet_allocated b elements n = record { calls = λ t. refl; entries = λ f t. refl; begins = λ f l t. refl }
 
 quiet_freed : (b : ℕ) → IsQuiet (freed b)
-quiet_freed b = record { writes = λ t. refl; calls = λ t. refl; entries = λ f t. refl; begins = λ f l t. refl }
+quiet_freed b = record { calls = λ t. refl; entries = λ f t. refl; begins = λ f l t. refl }
 
 note_if_part : (test : Bool) (event : Event) (c : Core) → IsQuiet event → Part c (note_if test event) (done tt c)
 note_if_part true event c q = note_part event c q
@@ -99,10 +99,11 @@ note_in_part m (P.Function f) event c h = pure_part tt c
 abbrev pub remembering : Memory → (live : ℕ) → Core → Core
 remembering m n c = record c { memory = m; live = n }
 
-agrees_remembering : (turns : ℕ) (c : Core) (m : Memory) (n : ℕ) (trace : List Event) → n ≡ live_bytes m → Agrees turns c trace → Agrees turns (remembering m n c) trace
-agrees_remembering turns c m n trace e h = record {
+agrees_remembering : (start : Core) (c : Core) (m : Memory) (n : ℕ) (trace : List Event) → n ≡ live_bytes m → Agrees start c trace → Agrees start (remembering m n c) trace
+agrees_remembering start c m n trace e h = record {
   few = h.few;
   live = e;
+  shape = h.shape;
   entries = h.entries;
   begins = h.begins;
   all_entries = h.all_entries;
@@ -111,11 +112,10 @@ agrees_remembering turns c m n trace e h = record {
 
 pub with_memory_part : (m : Memory) (n : ℕ) (c : Core) → (c.live ≡ live_bytes c.memory → n ≡ live_bytes m) → Part c (with_memory m) (done tt (remembering m n c))
 with_memory_part m n c e = record {
-  gives = λ turns input trace h. record {
+  gives = λ start input trace h. record {
     later = trace;
     does = λ rest. refl;
-    agrees = agrees_remembering turns c m n trace (e h.live) h;
-    writes = refl;
+    agrees = agrees_remembering start c m n trace (e h.live) h;
     calls = refl;
   };
 }
@@ -130,30 +130,29 @@ now_put_part b at new c = record { gives = (put_cells_part b at new c).gives }
 
 -- ---- blocks begin and end
 
-pub either_gives : {A : Type 0} {turns : ℕ} {input : List ℕ} {trace : List Event} (test : Bool) (one other : Rest Frame A → End) (d e : Does A)
-    → Gives turns one input trace d.0 d.1 → Gives turns other input trace e.0 e.1
-    → Gives turns (λ rest. if test then one rest else other rest) input trace (if◌then◌else◌ {A = Does A} test d e).0 (if◌then◌else◌ {A = Does A} test d e).1
+pub either_gives : {A : Type 0} {start : Core} {input : List ℕ} {trace : List Event} (test : Bool) (one other : Rest Frame A → End) (d e : Does A)
+    → Gives start one input trace d.0 d.1 → Gives start other input trace e.0 e.1
+    → Gives start (λ rest. if test then one rest else other rest) input trace (if◌then◌else◌ {A = Does A} test d e).0 (if◌then◌else◌ {A = Does A} test d e).1
 either_gives true one other d e h k = h
 either_gives false one other d e h k = k
 
 pub make_part : (n : ℕ) (kind : BlockKind) (c : Core) → Part c (Doing.make n kind) (Memories.make n kind c)
 make_part n kind c = record {
-  gives = λ turns input trace h.
+  gives = λ start input trace h.
       let w : World = world c input trace in
       let behind : Core = remembering (with_block c.memory n kind) (c.live + n) c in
       let grown = live_new c.memory n kind in
       let is : c.live ≡ live_bytes c.memory = h.live in
-      subst (λ (k : ℕ). Gives turns (λ (rest : Rest Frame ℕ). if true && nat_lt greatest_live (k + n) then out_of_room Live (k + n) w
+      subst (λ (k : ℕ). Gives start (λ (rest : Rest Frame ℕ). if true && nat_lt greatest_live (k + n) then out_of_room Live (k + n) w
       else rest (length c.memory) c.frame (record w { memory = with_block c.memory n kind }))
       input trace (Memories.make n kind c).0 (Memories.make n kind c).1)
       is
       (either_gives (nat_lt greatest_live (c.live + n)) _ _ (Err (Room Live (c.live + n)), c) (Ok (length c.memory), behind)
-      (record { later = trace; does = λ rest. refl; agrees = h; writes = refl; calls = refl })
+      (record { later = trace; does = λ rest. refl; agrees = h; calls = refl })
       (record {
         later = trace;
         does = λ rest. refl;
-        agrees = agrees_remembering turns c (with_block c.memory n kind) (c.live + n) trace (omega (arith, grown, is)) h;
-        writes = refl;
+        agrees = agrees_remembering start c (with_block c.memory n kind) (c.live + n) trace (omega (arith, grown, is)) h;
         calls = refl;
       }));
 }
@@ -174,29 +173,27 @@ written_part at (Ok m) n c h = record { gives = (with_memory_part m n c h).gives
 written_part at (Err kind) n c h = record { gives = (undefined_part {A = Unit {0}} kind at c).gives }
 
 -- and then nothing that shows
-quiet_gives : {A : Type 0} {turns : ℕ} {input : List ℕ} {trace : List Event} (c : Core) (m : Doing Frame A) (next : A → Doing Frame A)
-    (r : Result A Final) (c' : Core) → Gives turns (λ rest. m rest c.frame (world c input trace)) input trace r c' → ((x : A) (c' : Core) → Part c' (next x) (done x c'))
-    → Gives turns (λ rest. (m >>= next) rest c.frame (world c input trace)) input trace r c'
-quiet_gives {turns = turns} {input = input} c m next (Ok x) c' first other =
-    let second = (other x c').gives turns input first.later first.agrees in
+quiet_gives : {A : Type 0} {start : Core} {input : List ℕ} {trace : List Event} (c : Core) (m : Doing Frame A) (next : A → Doing Frame A)
+    (r : Result A Final) (c' : Core) → Gives start (λ rest. m rest c.frame (world c input trace)) input trace r c' → ((x : A) (c' : Core) → Part c' (next x) (done x c'))
+    → Gives start (λ rest. (m >>= next) rest c.frame (world c input trace)) input trace r c'
+quiet_gives {start = start} {input = input} c m next (Ok x) c' first other =
+    let second = (other x c').gives start input first.later first.agrees in
     record {
       later = second.later;
       does = λ rest. first.does (λ y. next y rest) ∙ second.does rest;
       agrees = second.agrees;
-      writes = second.writes ∙ first.writes;
       calls = second.calls ∙ first.calls;
     }
 quiet_gives c m next (Err end) c' first other = record {
   later = first.later;
   does = λ rest. first.does (λ y. next y rest);
   agrees = first.agrees;
-  writes = first.writes;
   calls = first.calls;
 }
 
 pub quiet_part : {A : Type 0} {c : Core} {m : Doing Frame A} {next : A → Doing Frame A} {d : Does A} → Part c m d → ((x : A) (c' : Core) → Part c' (next x) (done x c'))
     → Part c (m >>= next) d
-quiet_part {c = c} {m = m} {next = next} {d = d} one other = record { gives = λ turns input trace h. quiet_gives c m next d.0 d.1 (one.gives turns input trace h) other }
+quiet_part {c = c} {m = m} {next = next} {d = d} one other = record { gives = λ start input trace h. quiet_gives c m next d.0 d.1 (one.gives start input trace h) other }
 
 -- ---- places in blocks
 
@@ -332,3 +329,15 @@ told_part elements b n all c =
 
 pub allocate_part : (elements : Option (ℕ × ℕ)) (n : ℕ) (all : Bool) (c : Core) → Part c (Library.allocate elements n all) (Memories.allocate n all c)
 allocate_part elements n all c = bind_part (make_part n Heap c) (λ b d. told_part elements b n all d)
+
+-- ---- the way to a field is told
+
+quiet_reached : (b at : ℕ) → IsQuiet (reached b at)
+quiet_reached b at = record { calls = λ t. refl; entries = λ f t. refl; begins = λ f l t. refl }
+
+pub reached_part : (at : Place) (q : Ptr) (by : ℤ) (c : Core)
+    → Part c (memory_now >>= λ m. tested at (field_in m q by) >>= λ r. note_in m r (λ b at. reached b at) >>= λ a. pure r) (reading at (field_in c.memory q by) c)
+reached_part at q by c =
+    let one : Part c (tested at (field_in c.memory q by) >>= λ r. note_in c.memory r (λ b at. reached b at) >>= λ a. pure r) (reading at (field_in c.memory q by) c)
+    = quiet_part (tested_part at (field_in c.memory q by) c) (λ r d. bind_part (note_in_part c.memory r _ d quiet_reached) (λ u e. pure_part r e)) in
+    record { gives = one.gives }

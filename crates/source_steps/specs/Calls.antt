@@ -1,9 +1,7 @@
 -- Turns, and how functions are entered and left.
-use Rattle.std.specs.Prelude.{ℕ, zero, suc, ◌+◌, nat_lt, if◌then◌else◌, List, ◌∷◌, Option, Some, Err}
+use Rattle.std.specs.Prelude.{ℕ, zero, suc, ◌+◌, nat_lt, if◌then◌else◌, Option, Some, Err}
 use Rattle.lay_base.specs.declared.faults.RoomKind.TheVariants.{Depth}
 use Rattle.lay_base.specs.declared.place.Place.{Place}
-use Rattle.c_typed.specs.declared.program.Local.{Local}
-use Rattle.c_typed.specs.Programs.{ProgramData}
 use Rattle.block_memory.specs.declared.kinds.Access.{Access}
 use Rattle.memory_words.specs.declared.cell_words.pointer.Ptr.TheVariants as P
 use Rattle.block_memory.specs.declared.run_worlds.value.Value.{Value}
@@ -13,10 +11,9 @@ use Rattle.block_memory.specs.RunWorlds.Worlds.{greatest_depth}
 use Rattle.c_meaning.specs.declared.frame.Slot.{Slot}
 use Rattle.c_meaning.specs.declared.frame.Slot.TheVariants.{ByName, InBlock}
 use Rattle.c_meaning.specs.Frames.{Frame}
-use Rattle.c_meaning.specs.Program.{access_at}
-use Rattle.source_steps.specs.Cores.{Core, Does, and_then, done, tested}
+use Rattle.source_steps.specs.Cores.{Core, Does, done, tested}
 use Rattle.source_steps.specs.Counting.{with_entry, with_begin}
-use Rattle.source_steps.specs.Locals.{begin, slot, with_slot}
+use Rattle.source_steps.specs.Locals.{with_slot}
 use Rattle.source_steps.specs.Memories.{changed}
 use Rattle.source_steps.specs.declared.ends.Final.TheVariants.{TurnLimit, Room}
 
@@ -47,12 +44,3 @@ leave caller c = record c { frame = caller; depth = less_deep c.depth }
 abbrev pub received : Place → (x : ℕ) → Access → Value → Option Slot → Core → Does (Unit {0})
 received at x access v (Some (InBlock (Some b))) c = tested at (changed (store_in c.memory (P.Block b 0) access v) c) c
 received at x access v s c = done tt (with_slot x (ByName (Some v)) c)
-
-module _ (p : ProgramData) where
-  -- a parameter begins as the local that it is, with its argument
-  abbrev pub receive_one : Place → (x : ℕ) → Local → Value → Core → Does (Unit {0})
-  receive_one at x l v c = and_then (begin p x (Some l) c) (λ u c. received at x (access_at p l.ty) v (slot c x) c)
-
-  abbrev pub receive : Place → (x : ℕ) → List Local → List Value → Core → Does (Unit {0})
-  receive at x (l ∷ more) (v ∷ rest) c = and_then (receive_one at x l v c) (λ u c. receive at (x + 1) more rest c)
-  receive at x locals values c = done tt c

@@ -1,11 +1,16 @@
 -- How often functions were entered and the bodies of loops began, by their numbers.
-use Rattle.std.specs.Prelude.{ℕ, ◌+◌, ◌-◌, ◌^◌, min, List, Option, Some, None, slice_get, slice_set}
+use Rattle.std.specs.Prelude.{◌≡◌, ℕ, ◌+◌, ◌-◌, ◌^◌, min, List, length, map, Option, Some, None, slice_get, slice_set}
 
 pub record Counting : Type 0 where
   -- of each function
   pub entries : List ℕ
   -- of each loop of each function
   pub begins : List (List ℕ)
+
+-- as many as before
+pub record KeepsShape (old new : Counting) : Type 0 where
+  pub entries : length new.entries ≡ length old.entries
+  pub begins : map length new.begins ≡ map length old.begins
 
 -- a count stops at its last value
 abbrev pub one_more : ℕ → ℕ

@@ -3,13 +3,5 @@ pub mod Counting
 pub mod Locals
 pub mod Memories
 pub mod Calls
-pub mod States
-pub mod Actions
-pub mod Expressions
-pub mod Statements
-pub mod Steps
-pub mod Direct
-pub mod Ahead
 pub mod Agreeing
-pub mod Came
-pub mod MachineMoves
+pub mod AtStart

@@ -21,7 +21,7 @@ pub enum Moved {
     Goes,
     /// A byte is to be written.
     Puts(u8),
-    /// A byte is to be read, and its value put on the stack.
+    /// A byte is to be read, and its value given to the step.
     Gets,
     Over(Final),
 }

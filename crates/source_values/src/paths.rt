@@ -4,12 +4,10 @@ ghost use Rattle.std.specs.Prelude.{◌≡◌, ◌≤◌};
 ghost use Rattle.block_memory.specs.View.{memory_of};
 ghost use Rattle.c_meaning.specs.Expressions.{field_in, inside, is_subscript, part_in};
 ghost use Rattle.c_types.specs.Limits.{greatest_size};
-ghost use Rattle.source_steps.specs.Actions.{address_of};
 ghost use Rattle.source_values.specs.Ways.{way_to};
 
 use crate::numbers::{bytes_of, word_of};
 use block_memory::{Ptr, Store, Value};
-use c_meaning::Spot;
 use c_types::IntKind;
 use lay_base::UndefinedKind;
 
@@ -21,16 +19,6 @@ pub fn part_in(store: &Store, p: Ptr, by: i64) -> Result<Ptr, UndefinedKind>
     match p {
         Ptr::Null => Err(UndefinedKind::Null),
         Ptr::Block(_, _) | Ptr::Function(_) => store.step(p, by),
-    }
-}
-
-/// The address of what lies in memory, as a pointer; of a local that is kept beside it there is none.
-pub fn address_of(spot: Spot) -> Result<Value, UndefinedKind>
-    ensures { result ≡ address_of spot }
-{
-    match spot {
-        Spot::Placed(p) => Ok(Value::Pointer(p)),
-        Spot::Kept(_) => Err(UndefinedKind::Dead),
     }
 }
 

@@ -28,10 +28,9 @@ use Rattle.c_meaning.specs.declared.frame.Spot.TheVariants.{Placed as placed}
 use Rattle.source_steps.specs.Cores.{Core, done}
 use Rattle.source_steps.specs.Locals.{slot, end_slot, emptied, with_slot as with_slot_in}
 use Rattle.source_steps.specs.Memories.{changed, copy_record, with_text, zeroed}
-use Rattle.source_steps.proofs.Actions.{reached_part}
 use Rattle.source_steps.proofs.Calls.{begun_part}
 use Rattle.source_steps.proofs.Locals.{with_slot_part}
-use Rattle.source_steps.proofs.Memories.{allocate_part, copy_part, end_part, load_part, make_part, now_put_part, store_part}
+use Rattle.source_steps.proofs.Memories.{allocate_part, copy_part, end_part, load_part, make_part, now_put_part, reached_part, store_part}
 use Rattle.source_steps.proofs.Parts.{Part, pure_part, bind_part}
 use Rattle.tac_ir.specs.Code.{led}
 use Rattle.tac_ir.specs.Running as Run

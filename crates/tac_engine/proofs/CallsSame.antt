@@ -13,18 +13,18 @@ use Rattle.memory_words.specs.declared.cell_words.pointer.Ptr.{Ptr}
 use Rattle.memory_words.specs.declared.cell_words.pointer.Ptr.TheVariants as P
 use Rattle.block_memory.specs.declared.kinds.BlockKind.TheVariants as Kind
 use Rattle.block_memory.specs.RunWorlds.Doing.{◌>>=◌, ◌>>◌, enter, less_deep}
-use Rattle.block_memory.specs.RunWorlds.Events.{Event, left}
+use Rattle.block_memory.specs.RunWorlds.Events.{left}
 use Rattle.block_memory.specs.RunWorlds.Worlds.{undefined as ends_undefined}
 use Rattle.block_memory.specs.declared.run_worlds.value.Value.{Value}
 use Rattle.c_meaning.specs.Frames.{Frame, slot_now}
 use Rattle.c_meaning.specs.Program.{type_at}
 use Rattle.c_meaning.specs.declared.frame.Slot.{Slot}
 use Rattle.c_meaning.specs.declared.frame.Slot.TheVariants.{ByName as by_name, InBlock as in_block}
-use Rattle.source_steps.specs.Agreeing.{world, Agrees}
-use Rattle.source_steps.specs.Calls.{received, leave}
+use Rattle.source_steps.specs.Agreeing.{world}
+use Rattle.source_steps.specs.Calls.{received}
 use Rattle.source_steps.specs.Cores.{Core}
 use Rattle.source_steps.specs.Locals.{slot, begin_as}
-use Rattle.source_steps.proofs.Calls.{enter_part}
+use Rattle.source_steps.proofs.Calls.{agrees_left, enter_part}
 use Rattle.source_steps.proofs.Locals.{agrees_framed, with_slot_part}
 use Rattle.source_steps.proofs.Memories.{make_part, store_part}
 use Rattle.source_steps.proofs.Parts.{Part, pure_part, bind_part}
@@ -82,11 +82,11 @@ module _ (at : Place) (callers : List Caller) (g : Routine) (all : List Value) (
   inside_same : (whole : List Step) → reverse g.code ≡ whole
       → Same s (λ next f w. Run.receive at 0 g.parameters all (λ u f. next callers (data_of g) whole f) (map empty_slot g.locals) w) begun
   inside_same whole e = record {
-    shows = λ turns input trace h.
-        subst (λ (m : List Step). Shows s.typed s.code turns
+    shows = λ start input trace h.
+        subst (λ (m : List Step). Shows s.typed s.code start
         (λ next. Run.receive at 0 g.parameters all (λ u f. next callers (data_of g) m f) (map empty_slot g.locals) (world s.core input trace)) input trace
         begun.0 begun.1) e
-        (begun_same.shows turns input trace (agrees_framed turns s.core (map empty_slot g.locals) trace h));
+        (begun_same.shows start input trace (agrees_framed start s.core (map empty_slot g.locals) trace h));
   }
 
   started_same : (code whole : List Step) → g.code ≡ code → reverse g.code ≡ whole
@@ -158,29 +158,23 @@ module _ (t : ℕ) (at : Place) (all : List Value) (s : State) where
 
 -- ---- returns
 
-agrees_left : (turns : ℕ) (caller : Frame) (c : Core) (trace : List Event) → Agrees turns c trace → Agrees turns (leave caller c) (left ∷ trace)
-agrees_left turns caller c trace h =
-    record { few = h.few; live = h.live; entries = h.entries; begins = h.begins; all_entries = h.all_entries; all_begins = h.all_begins }
-
 pub returned_same : (v : Option Value) (callers : List Caller) (s : State)
     → Same s (λ next own w. Run.returns (types_of s) (code_in s) next callers v (record w { depth = less_deep w.depth; trace = left ∷ w.trace }))
     (returned v callers s)
 returned_same v [] s = record {
-  shows = λ turns input trace h. record {
+  shows = λ start input trace h. record {
     later = left ∷ trace;
     does = λ next. refl;
-    agrees = agrees_left turns s.core.frame s.core trace h;
-    writes = refl;
+    agrees = agrees_left start s.core.frame s.core trace h;
     calls = refl;
     stays = (refl, refl);
   };
 }
 returned_same v (one ∷ callers) s = record {
-  shows = λ turns input trace h. record {
+  shows = λ start input trace h. record {
     later = left ∷ trace;
     does = λ next. refl;
-    agrees = agrees_left turns (with_temp one.to (by_name v) one.frame) s.core trace h;
-    writes = refl;
+    agrees = agrees_left start (with_temp one.to (by_name v) one.frame) s.core trace h;
     calls = refl;
     stays = (refl, refl);
   };

@@ -6,3 +6,4 @@ pub mod LibrarySame
 pub mod CallsSame
 pub mod Alike
 pub mod Remains
+pub mod Onwards

@@ -74,58 +74,54 @@ module _ (t : ℕ) (s : State) where
 
   -- ---- input and output
 
-  agrees_put : (turns byte : ℕ) (c : Core) (trace : List Event) → Agrees turns c trace → Agrees turns c (put byte ∷ trace)
-  agrees_put turns byte c trace h =
-      record { few = h.few; live = h.live; entries = h.entries; begins = h.begins; all_entries = h.all_entries; all_begins = h.all_begins }
+  agrees_put : (start : Core) (byte : ℕ) (c : Core) (trace : List Event) → Agrees start c trace → Agrees start c (put byte ∷ trace)
+  agrees_put start byte c trace h =
+      record { few = h.few; live = h.live; shape = h.shape; entries = h.entries; begins = h.begins; all_entries = h.all_entries; all_begins = h.all_begins }
 
-  agrees_got : (turns : ℕ) (byte : Option ℕ) (c : Core) (trace : List Event) → Agrees turns c trace → Agrees turns c (got byte ∷ trace)
-  agrees_got turns byte c trace h =
-      record { few = h.few; live = h.live; entries = h.entries; begins = h.begins; all_entries = h.all_entries; all_begins = h.all_begins }
+  agrees_got : (start : Core) (byte : Option ℕ) (c : Core) (trace : List Event) → Agrees start c trace → Agrees start c (got byte ∷ trace)
+  agrees_got start byte c trace h =
+      record { few = h.few; live = h.live; shape = h.shape; entries = h.entries; begins = h.begins; all_entries = h.all_entries; all_begins = h.all_begins }
 
   put_same : (at : Place) (v : Value) → Same s (λ next. LibraryCalls.library at L.Putchar (v ∷ []) (λ v. gave v next)) (library t at L.Putchar (v ∷ []) s)
   put_same at v = record {
-    shows = λ turns input trace h. record {
+    shows = λ start input trace h. record {
       later = put (word_of v % 2 ^ 8) ∷ trace;
       does = λ next. refl;
-      agrees = agrees_framed turns s.core (with_temp t (by_name (Some (Word (word_of v % 2 ^ 8)))) s.core.frame) (put (word_of v % 2 ^ 8) ∷ trace)
-          (agrees_put turns (word_of v % 2 ^ 8) s.core trace h);
-      writes = refl;
+      agrees = agrees_framed start s.core (with_temp t (by_name (Some (Word (word_of v % 2 ^ 8)))) s.core.frame) (put (word_of v % 2 ^ 8) ∷ trace)
+          (agrees_put start (word_of v % 2 ^ 8) s.core trace h);
       calls = refl;
       stays = (refl, refl);
     };
   }
 
-  got_shows : (turns : ℕ) (input : List ℕ) (trace : List Event) → Agrees turns s.core trace
-      → Shows s.typed s.code turns (λ next. LibraryCalls.given (Library.next_of input) (λ v. gave v next) s.core.frame (world s.core input trace)) input trace
+  got_shows : (start : Core) (input : List ℕ) (trace : List Event) → Agrees start s.core trace
+      → Shows s.typed s.code start (λ next. LibraryCalls.given (Library.next_of input) (λ v. gave v next) s.core.frame (world s.core input trace)) input trace
       Gets (record s { to = t })
-  got_shows turns [] trace h = record {
+  got_shows start [] trace h = record {
     later = got None ∷ trace;
     does = λ next. refl;
-    agrees = agrees_got turns None s.core trace h;
-    writes = refl;
+    agrees = agrees_got start None s.core trace h;
     calls = refl;
     stays = (refl, refl);
   }
-  got_shows turns (byte ∷ more) trace h = record {
+  got_shows start (byte ∷ more) trace h = record {
     later = got (Some byte) ∷ trace;
     does = λ next. refl;
-    agrees = agrees_got turns (Some byte) s.core trace h;
-    writes = refl;
+    agrees = agrees_got start (Some byte) s.core trace h;
     calls = refl;
     stays =
         (refl, refl);
   }
 
   got_same : (at : Place) → Same s (λ next. LibraryCalls.library at L.Getchar [] (λ v. gave v next)) (library t at L.Getchar [] s)
-  got_same at = record { shows = λ turns input trace h. got_shows turns input trace h }
+  got_same at = record { shows = λ start input trace h. got_shows start input trace h }
 
   exit_same : (at : Place) (v : Value) → Same s (λ next. LibraryCalls.library at L.Exit (v ∷ []) (λ v. gave v next)) (library t at L.Exit (v ∷ []) s)
   exit_same at v = record {
-    shows = λ turns input trace h. record {
+    shows = λ start input trace h. record {
       later = trace;
       does = λ next. refl;
       agrees = h;
-      writes = refl;
       calls = refl;
       stays = (refl, refl);
     };

@@ -10,14 +10,14 @@ use Rattle.c_typed.specs.declared.program.Typed.{Typed}
 use Rattle.memory_words.specs.declared.cell_words.pointer.Ptr.TheVariants as P
 use Rattle.block_memory.specs.Tested.{Tested}
 use Rattle.block_memory.specs.RunWorlds.Doing.{Doing, tested}
-use Rattle.block_memory.specs.RunWorlds.Events.{Event, output_of, calls_of}
+use Rattle.block_memory.specs.RunWorlds.Events.{Event, calls_of}
 use Rattle.block_memory.specs.RunWorlds.Worlds.{World, End, undefined as ends_undefined}
 use Rattle.block_memory.specs.declared.run_worlds.value.Value.{Value}
 use Rattle.block_memory.specs.declared.run_worlds.value.Value.TheVariants.{Word as word, Pointer as pointer}
 use Rattle.c_meaning.specs.Frames.{Frame}
 use Rattle.c_meaning.specs.declared.frame.Slot.{Slot}
 use Rattle.c_meaning.specs.declared.frame.Slot.TheVariants.{ByName as by_name, InBlock as in_block}
-use Rattle.source_steps.specs.Agreeing.{world, end_of, Agrees, output_with, calls_with, input_behind, next_in}
+use Rattle.source_steps.specs.Agreeing.{world, end_of, Agrees, calls_with, input_behind, next_in}
 use Rattle.source_steps.specs.Cores as Cores
 use Rattle.source_steps.specs.Cores.{Core, Does}
 use Rattle.source_steps.specs.declared.ends.Final.{Final}
@@ -64,27 +64,25 @@ follows next moved s input later =
 abbrev pub Course : Type 0
 Course = Next → Frame → World → End
 
-pub record Shows (typed : Typed) (code : Tac) (turns : ℕ) (run : Next → End) (input : List ℕ) (trace : List Event) (moved : Moved) (new : State) : Type 0 where
+pub record Shows (typed : Typed) (code : Tac) (start : Core) (run : Next → End) (input : List ℕ) (trace : List Event) (moved : Moved) (new : State) : Type 0 where
   pub later : List Event
   pub does : (next : Next) → run next ≡ follows next moved new input later
-  pub agrees : Agrees turns new.core later
-  pub writes : output_of later ≡ output_with moved (output_of trace)
+  pub agrees : Agrees start new.core later
   pub calls : calls_of later ≡ calls_with moved (calls_of trace)
   -- it runs the same program
   pub stays : (new.typed ≡ typed) × (new.code ≡ code)
 
 -- the run and the step of the engine are the same from there
 pub record Same (s : State) (run : Course) (step : Moves) : Type 0 where
-  pub shows : (turns : ℕ) (input : List ℕ) (trace : List Event) → Agrees turns s.core trace
-      → Shows s.typed s.code turns (λ next. run next s.core.frame (world s.core input trace)) input trace step.0 step.1
+  pub shows : (start : Core) (input : List ℕ) (trace : List Event) → Agrees start s.core trace
+      → Shows s.typed s.code start (λ next. run next s.core.frame (world s.core input trace)) input trace step.0 step.1
 
 pub same_goes : (s : State) → Same s (going s) (goes s)
 same_goes s = record {
-  shows = λ turns input trace h. record {
+  shows = λ start input trace h. record {
     later = trace;
     does = λ next. refl;
     agrees = h;
-    writes = refl;
     calls = refl;
     stays =
         (refl, refl);
@@ -93,17 +91,16 @@ same_goes s = record {
 
 pub same_undefined : (kind : UndefinedKind) (at : Place) (s : State) → Same s (λ next f w. ends_undefined kind at w) (undefined kind at s)
 same_undefined kind at s = record {
-  shows = λ turns input trace h. record
-      { later = trace; does = λ next. refl; agrees = h; writes = refl; calls = refl; stays = (refl, refl) };
+  shows = λ start input trace h. record
+      { later = trace; does = λ next. refl; agrees = h; calls = refl; stays = (refl, refl) };
 }
 
 pub same_any : (t : ℕ) (v : Option Value) (s : State) → Same s (λ next. Run.put_any t v (λ u. going s next)) (putting_any t v s)
 same_any t v s = record {
-  shows = λ turns input trace h. record {
+  shows = λ start input trace h. record {
     later = trace;
     does = λ next. refl;
-    agrees = agrees_framed turns s.core (with_temp t (by_name v) s.core.frame) trace h;
-    writes = refl;
+    agrees = agrees_framed start s.core (with_temp t (by_name v) s.core.frame) trace h;
     calls = refl;
     stays = (refl, refl);
   };
@@ -176,57 +173,55 @@ module _ (at : Place) (s : State) where
 
 -- ---- behind a part of the run
 
-onwards : {A : Type 0} {turns : ℕ} {input : List ℕ} {trace : List Event} {x : A} (s : State) (c : Core) (m : Doing Frame A) (k : A → Course) (step : Moves)
-    (first : Gives turns (λ rest. m rest s.core.frame (world s.core input trace)) input trace (Ok x) c)
-    → Shows s.typed s.code turns (λ next. k x next c.frame (world c input first.later)) input first.later step.0 step.1
-    → Shows s.typed s.code turns (λ next. m (λ y. k y next) s.core.frame (world s.core input trace)) input trace step.0 step.1
+onwards : {A : Type 0} {start : Core} {input : List ℕ} {trace : List Event} {x : A} (s : State) (c : Core) (m : Doing Frame A) (k : A → Course) (step : Moves)
+    (first : Gives start (λ rest. m rest s.core.frame (world s.core input trace)) input trace (Ok x) c)
+    → Shows s.typed s.code start (λ next. k x next c.frame (world c input first.later)) input first.later step.0 step.1
+    → Shows s.typed s.code start (λ next. m (λ y. k y next) s.core.frame (world s.core input trace)) input trace step.0 step.1
 onwards s c m k step first second = record {
   later = second.later;
   does = λ next. first.does (λ y. k y next) ∙ second.does next;
   agrees = second.agrees;
-  writes = second.writes ∙ ap (output_with step.0) first.writes;
   calls = second.calls ∙ ap (calls_with step.0) first.calls;
   stays = second.stays;
 }
 
-stopped : {A : Type 0} {turns : ℕ} {input : List ℕ} {trace : List Event} {end : Final} (s : State) (c : Core) (m : Doing Frame A) (k : A → Course)
-    → Gives turns (λ rest. m rest s.core.frame (world s.core input trace)) input trace (Err end) c
-    → Shows s.typed s.code turns (λ next. m (λ y. k y next) s.core.frame (world s.core input trace)) input trace (Over end) (with_core c s)
+stopped : {A : Type 0} {start : Core} {input : List ℕ} {trace : List Event} {end : Final} (s : State) (c : Core) (m : Doing Frame A) (k : A → Course)
+    → Gives start (λ rest. m rest s.core.frame (world s.core input trace)) input trace (Err end) c
+    → Shows s.typed s.code start (λ next. m (λ y. k y next) s.core.frame (world s.core input trace)) input trace (Over end) (with_core c s)
 stopped s c m k first = record {
   later = first.later;
   does = λ next. first.does (λ y. k y next);
   agrees = first.agrees;
-  writes = first.writes;
   calls = first.calls;
   stays = (refl, refl);
 }
 
-in_core_shows : {A : Type 0} {turns : ℕ} {input : List ℕ} {trace : List Event} (s : State) (m : Doing Frame A) (k : A → Course) (k' : A → State → Moves)
-    (r : Result A Final) (c : Core) → Gives turns (λ rest. m rest s.core.frame (world s.core input trace)) input trace r c
+in_core_shows : {A : Type 0} {start : Core} {input : List ℕ} {trace : List Event} (s : State) (m : Doing Frame A) (k : A → Course) (k' : A → State → Moves)
+    (r : Result A Final) (c : Core) → Gives start (λ rest. m rest s.core.frame (world s.core input trace)) input trace r c
     → ((x : A) (c : Core) → Same (with_core c s) (k x) (k' x (with_core c s)))
-    → Shows s.typed s.code turns (λ next. m (λ y. k y next) s.core.frame (world s.core input trace)) input trace (in_core r c s k').0 (in_core r c s k').1
-in_core_shows {turns = turns} {input = input} s m k k' (Ok x) c first other =
-    onwards s c m k (k' x (with_core c s)) first ((other x c).shows turns input first.later first.agrees)
+    → Shows s.typed s.code start (λ next. m (λ y. k y next) s.core.frame (world s.core input trace)) input trace (in_core r c s k').0 (in_core r c s k').1
+in_core_shows {start = start} {input = input} s m k k' (Ok x) c first other =
+    onwards s c m k (k' x (with_core c s)) first ((other x c).shows start input first.later first.agrees)
 in_core_shows s m k k' (Err end) c first other = stopped s c m k first
 
 pub same_doing : {A : Type 0} {s : State} {m : Doing Frame A} {d : Does A} (k : A → Course) (k' : A → State → Moves)
     → Part s.core m d → ((x : A) (c : Core) → Same (with_core c s) (k x) (k' x (with_core c s))) → Same s (λ next. m (λ x. k x next)) (doing d s k')
 same_doing {s = s} {m = m} {d = d} k k' one other =
-    record { shows = λ turns input trace h. in_core_shows s m k k' d.0 d.1 (one.gives turns input trace h) other }
+    record { shows = λ start input trace h. in_core_shows s m k k' d.0 d.1 (one.gives start input trace h) other }
 
-finding_shows : {A : Type 0} {turns : ℕ} {input : List ℕ} {trace : List Event} (s : State) (at : Place) (m : Doing Frame A) (k : A → Course) (k' : A → Moves)
-    (r : Tested A) → Gives turns (λ rest. m rest s.core.frame (world s.core input trace)) input trace (looking at r s.core).0 (looking at r s.core).1
+finding_shows : {A : Type 0} {start : Core} {input : List ℕ} {trace : List Event} (s : State) (at : Place) (m : Doing Frame A) (k : A → Course) (k' : A → Moves)
+    (r : Tested A) → Gives start (λ rest. m rest s.core.frame (world s.core input trace)) input trace (looking at r s.core).0 (looking at r s.core).1
     → ((x : A) → Same s (k x) (k' x))
-    → Shows s.typed s.code turns (λ next. m (λ y. k y next) s.core.frame (world s.core input trace)) input trace (finding at r s k').0 (finding at r s k').1
-finding_shows {turns = turns} {input = input} s at m k k' (Ok x) first other =
-    onwards s s.core m k (k' x) first ((other x).shows turns input first.later first.agrees)
+    → Shows s.typed s.code start (λ next. m (λ y. k y next) s.core.frame (world s.core input trace)) input trace (finding at r s k').0 (finding at r s k').1
+finding_shows {start = start} {input = input} s at m k k' (Ok x) first other =
+    onwards s s.core m k (k' x) first ((other x).shows start input first.later first.agrees)
 finding_shows s at m k k' (Err kind) first other = stopped s s.core m k first
 
 -- found, where nothing but the trace changes
 pub same_looking : {A : Type 0} {s : State} {m : Doing Frame A} (at : Place) (r : Tested A) (k : A → Course) (k' : A → Moves)
     → Part s.core m (looking at r s.core) → ((x : A) → Same s (k x) (k' x)) → Same s (λ next. m (λ x. k x next)) (finding at r s k')
 same_looking {s = s} {m = m} at r k k' one other =
-    record { shows = λ turns input trace h. finding_shows s at m k k' r (one.gives turns input trace h) other }
+    record { shows = λ start input trace h. finding_shows s at m k k' r (one.gives start input trace h) other }
 
 pub same_finding : {A : Type 0} (at : Place) (r : Tested A) (s : State) (k : A → Course) (k' : A → Moves)
     → ((x : A) → Same s (k x) (k' x)) → Same s (λ next. tested at r (λ x. k x next)) (finding at r s k')
@@ -236,17 +231,17 @@ same_finding at (Err kind) s k k' other = record { shows = (same_undefined kind 
 pub same_found : (t : ℕ) (at : Place) (r : Tested Value) (s : State) → Same s (λ next. tested at r (λ v. Run.put t v (λ u. going s next))) (found t at r s)
 same_found t at r s = same_finding at r s (λ v next. Run.put t v (λ u. going s next)) (λ v. putting t v s) (λ v. same_put t v s)
 
-changing_shows : {turns : ℕ} {input : List ℕ} {trace : List Event} (s : State) (at : Place) (m : Doing Frame (Unit {0})) (k : Course) (k' : State → Moves)
-    (r : Tested Core) → Gives turns (λ rest. m rest s.core.frame (world s.core input trace)) input trace (Cores.tested at r s.core).0
+changing_shows : {start : Core} {input : List ℕ} {trace : List Event} (s : State) (at : Place) (m : Doing Frame (Unit {0})) (k : Course) (k' : State → Moves)
+    (r : Tested Core) → Gives start (λ rest. m rest s.core.frame (world s.core input trace)) input trace (Cores.tested at r s.core).0
     (Cores.tested at r s.core).1
     → ((c : Core) → Same (with_core c s) k (k' (with_core c s)))
-    → Shows s.typed s.code turns (λ next. m (λ u. k next) s.core.frame (world s.core input trace)) input trace (changing at r s k').0 (changing at r s k').1
-changing_shows {turns = turns} {input = input} s at m k k' (Ok c) first other =
-    onwards s c m (λ u. k) (k' (with_core c s)) first ((other c).shows turns input first.later first.agrees)
+    → Shows s.typed s.code start (λ next. m (λ u. k next) s.core.frame (world s.core input trace)) input trace (changing at r s k').0 (changing at r s k').1
+changing_shows {start = start} {input = input} s at m k k' (Ok c) first other =
+    onwards s c m (λ u. k) (k' (with_core c s)) first ((other c).shows start input first.later first.agrees)
 changing_shows s at m k k' (Err kind) first other = stopped s s.core m (λ u. k) first
 
 pub same_changing : {s : State} {m : Doing Frame (Unit {0})} (at : Place) (r : Tested Core) (k : Course) (k' : State → Moves)
     → Part s.core m (Cores.tested at r s.core) → ((c : Core) → Same (with_core c s) k (k' (with_core c s))) → Same s (λ next. m (λ u. k next))
     (changing at r s k')
 same_changing {s = s} {m = m} at r k k' one other =
-    record { shows = λ turns input trace h. changing_shows s at m k k' r (one.gives turns input trace h) other }
+    record { shows = λ start input trace h. changing_shows s at m k k' r (one.gives start input trace h) other }

@@ -147,7 +147,7 @@ impl<'a> Engine<'a> {
     {
         match read(&self.room, a) {
             Ok(q) => {
-                let value = self.room.fetch(Spot::Placed(pointer_of(q)), access);
+                let value = self.room.load(pointer_of(q), access);
                 self.found(t, place, value)
             }
             Err(end) => Ok(Moved::Over(end)),

@@ -1,3 +1,0 @@
-pub mod Sorts
-pub mod Members
-pub mod Finding

@@ -1,9 +1,0 @@
-pub mod PreservedPaths
-pub mod PreservedCalls
-pub mod PreservedExpressions
-pub mod PreservedStatements
-pub mod Preserved
-pub mod Sizes
-pub mod DirectActions
-pub mod DirectSteps
-pub mod Sound
