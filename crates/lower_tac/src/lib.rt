@@ -1,8 +1,11 @@
-//! The lowering of typed programs to three-address code: as a definition (`lowered`), made from the back, and the law that the run of the code is the
-//! source's run.
+//! The three-address code of typed programs: as a definition (`lowered`), made from the back, and as it is made (`lower`).
 //!
-//! It stands on `c_meaning`, whose runs these are, and on `tac_ir`, whose code it makes. It promises for every program, input and number of turns, within
-//! the room of the interpreter or not, that from some number of steps on the code comes to the end of the source in the same world (`RunsAreSame`).
+//! It stands on `c_meaning`, whose runs are meant, on `tac_ir`, whose code it makes, and on `source_values`, whose table of types it reads. It promises that
+//! `lower` makes the code of the definition, and for every program, input and number of turns, within the room of the interpreter or not, that from some
+//! number of steps on that code comes to the end of the source in the same world (`RunsAreSame`).
+//!
+//! Not said: that `NoMemory` comes only for want of memory. It comes as well where the size of a type passes what `Types::of` takes, and where a function has
+//! 2^31 parameters or locals, 2^32 - 1 steps or loops, or temporaries of numbers above 0xFFFF_FF00.
 #![tactic(auto)]
 
 mod dispatch;
