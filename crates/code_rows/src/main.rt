@@ -9,6 +9,8 @@ mod operator_text;
 mod routine_text;
 mod step_text;
 
+ghost use Rattle.std.specs.Prelude.{◌≤◌, All, IsTrue, length};
+
 use lay_base::{File, Files};
 use lay_compile::front;
 use lower_tac::lower;
@@ -16,8 +18,6 @@ use routine_text::put_code;
 use row_lines::{RowFault, Writer, files_in, head_of, is_comment, put_no_row};
 use std::alloc::Global;
 use std::io::{self, BufWriter, Write};
-
-ghost use Rattle.std.specs.Prelude.{◌≤◌, All, IsTrue, length};
 
 /// Whether there are at most 64 files, of at most 4 MiB each.
 fn are_within_bounds(files: &[File]) -> bool

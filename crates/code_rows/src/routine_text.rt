@@ -26,7 +26,12 @@ fn put_routine(out: &mut Writer, routine: &Routine) {
 
 /// The functions that have a body, in the order of the program.
 pub fn put_code(out: &mut Writer, program: &Typed, code: &Tac) {
-    for (function, routine) in program.functions.as_slice().iter().zip(code.routines.as_slice()) {
+    for (function, routine) in program
+        .functions
+        .as_slice()
+        .iter()
+        .zip(code.routines.as_slice())
+    {
         if !routine.code.as_slice().is_empty() {
             out.open_line("");
             out.add(function.name.as_slice());

@@ -1,7 +1,11 @@
 //! Steps as text.
 
-use crate::operand_text::{put_access, put_numbered, put_operand, put_row, put_target, put_temporary};
-use crate::operator_text::{binary_text, compare_text, kind_text, library_text, pointer_text, unary_text};
+use crate::operand_text::{
+    put_access, put_numbered, put_operand, put_row, put_target, put_temporary,
+};
+use crate::operator_text::{
+    binary_text, compare_text, kind_text, library_text, pointer_text, unary_text,
+};
 use row_lines::Writer;
 use tac_ir::{Operand, Row, Step};
 
@@ -156,7 +160,12 @@ fn put_way(out: &mut Writer, step: Step) {
         }
         Step::Library(t, _, which, all) => put_called(out, t, library_text(which), all),
         Step::Allocate(t, _, record, size, zeroed, a) => {
-            put_one(out, t, if zeroed { "allocate-zeros" } else { "allocate" }, a);
+            put_one(
+                out,
+                t,
+                if zeroed { "allocate-zeros" } else { "allocate" },
+                a,
+            );
             put_numbers(out, "records", &[record, size]);
         }
         _ => put_local(out, step),
