@@ -5,7 +5,7 @@
 //! every outcome when it comes and what it leaves; the definitions that it cites are in `specs/`.
 //!
 //! Not proved: how long a run takes, and how much memory: of the machine it is meant to be the sizes of the segments and a table of decoded words, without a
-//! copy of the file beside them; of the interpreter the files, their typed program and what lives.
+//! copy of the file beside them; of the interpreter the files, their typed program with its code, and what lives.
 #![tactic(auto)]
 
 mod compiling;

@@ -96,6 +96,7 @@ fn run_engine<I: Source, O: Sink>(
         (streams (I.left input.old) (I.faults input.old) (O.written out.old) (O.faults out.old))
         (streams (I.left input.new) (I.faults input.new) (O.written out.new) (O.faults out.new)) kept.new result }
 {
+    // The run of the code is the run of the program.
     runs_are_same();
     match engine.start(alloc) {
         Ok(Moved::Goes) => {}
