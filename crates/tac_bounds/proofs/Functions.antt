@@ -289,14 +289,17 @@ many (s ∷ code) = let h = many code in omega (arith, h)
 
 pub programs_have_few_steps : ProgramsHaveFewSteps
 programs_have_few_steps p scopes bounded =
-    let a = programs_are_within p scopes (record { step = 48; wide = 48; argument = 0 }) (record { step = omega arith; wide = omega arith; argument = omega arith }) in
+    let a = programs_are_within p scopes at_48 (record { step = omega arith; wide = omega arith; argument = omega arith }) in
     let b = all (lowered p).routines in
     let d = bounded.code in omega (arith, a, b, d)
   where
-    all : (routines : List RoutineData) → 48 * steps_in routines ≤ price_of_routines (record { step = 48; wide = 48; argument = 0 }) routines
+    at_48 : Prices
+    at_48 = record { step = 48; wide = 48; argument = 0 }
+
+    all : (routines : List RoutineData) → 48 * steps_in routines ≤ price_of_routines at_48 routines
     all [] = omega arith
     all (r ∷ more) =
-        let a = code_at_least (record { step = 48; wide = 48; argument = 0 }) (omega arith) r.code in
+        let a = code_at_least at_48 (omega arith) r.code in
         let b = many r.code in
         let d = all more in omega (arith, a, b, d)
 
