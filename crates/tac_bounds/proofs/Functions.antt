@@ -14,13 +14,13 @@ use Rattle.tac_ir.specs.declared.step.Target.{Target}
 use Rattle.tac_ir.specs.declared.step.Target.TheVariants as To
 use Rattle.lower_tac.specs.Parts.{Steps}
 use Rattle.lower_tac.specs.Statements.{Out, statement_code, have_blocks, function_exits, last_code, parameters_of, body_code, routine_of, code_if_any}
-use Rattle.lower_tac.specs.Statements.{routines_from}
+use Rattle.lower_tac.specs.Statements.{routines_from, lowered}
 use Rattle.c_well_typed.specs.ProgramWeights.Counted.{Kind, statement, code, frame, definition}
 use Rattle.c_well_typed.specs.ProgramWeights.Counted as Kinds
 use Rattle.c_well_typed.specs.ProgramWeights.Weights.{weight_of_parameters, weight_of_body, weight_of_function, weight_of_functions}
 use Rattle.tac_bounds.specs.Jumps.{IsInside, target_of, LeadsInsideIfAny, JumpsWithin}
 use Rattle.tac_bounds.specs.Laws.{IsRoutineOf, HasFewLabels, JumpsStand, LabelsAreFew, CodeIsPaid, StepsAreFew, BytesAreWithin, ProgramsAreWithin}
-use Rattle.tac_bounds.specs.Laws.{TemporariesAreFew, FramesAreWithin}
+use Rattle.tac_bounds.specs.Laws.{ProgramsHaveFewSteps, steps_in, TemporariesAreFew, FramesAreWithin}
 use Rattle.tac_bounds.specs.Prices.{Prices, in_steps, AreBytes, paid, price_of, price_of_all, price_of_code, price_of_routines}
 use Rattle.tac_bounds.specs.Scopes.{HasScopes, IsScopedBody}
 use Rattle.tac_bounds.specs.Temporaries.{top_of_all, temporaries}
@@ -174,55 +174,64 @@ code_is_paid p r f i scopes c =
 
 -- ---- steps
 
-one_at_least : (s : Step) → 1 ≤ price_of in_steps s
-one_at_least (S.Set t a) = omega arith
-one_at_least (S.Clear t) = omega arith
-one_at_least (S.Unary t op a) = omega arith
-one_at_least (S.Truth t a) = omega arith
-one_at_least (S.Not t a) = omega arith
-one_at_least (S.Convert t kind a) = omega arith
-one_at_least (S.AsPointer t a) = omega arith
-one_at_least (S.Binary t at op kind right a b) = omega arith
-one_at_least (S.Compare t at op kind a b) = omega arith
-one_at_least (S.Move t at op size left right a b) = omega arith
-one_at_least (S.Distance t at size a b) = omega arith
-one_at_least (S.Update t at op size sort right a b) = omega arith
-one_at_least (S.Field t at by a) = omega arith
-one_at_least (S.ElementField t at size kind by a b) = omega arith
-one_at_least (S.Element t at n size addressed kind a b) = omega arith
-one_at_least (S.Part t at by a) = omega arith
-one_at_least (S.Inside t at x by) = omega arith
-one_at_least (S.Load t at access a) = omega arith
-one_at_least (S.Store at access a b) = omega arith
-one_at_least (S.CopyRecord at size a b) = omega arith
-one_at_least (S.Jump to) = omega arith
-one_at_least (S.Branch when a to) = omega arith
-one_at_least (S.Test at op kind when a b to) = omega arith
-one_at_least (S.Case n a to) = omega arith
-one_at_least (S.Call t at f all) = omega arith
-one_at_least (S.CallThrough t at ty a all) = omega arith
-one_at_least (S.Library t at which all) = omega arith
-one_at_least (S.Allocate t at r size zeroed a) = omega arith
-one_at_least (S.Begin x size) = omega arith
-one_at_least (S.End x) = omega arith
-one_at_least (S.Forget x size) = omega arith
-one_at_least (S.Zeros x size) = omega arith
-one_at_least (S.Text x by n) = omega arith
-one_at_least (S.Began f l) = omega arith
-one_at_least (S.Return a) = omega arith
-one_at_least (S.ReturnHeld t) = omega arith
-one_at_least (S.Fail kind at) = omega arith
+-- where a wide step costs no less than another
+module _ (c : Prices) (wider : c.step ≤ c.wide) where
+  one_at_least : (s : Step) → c.step ≤ price_of c s
+  one_at_least (S.Set t a) = omega (arith, wider)
+  one_at_least (S.Clear t) = omega (arith, wider)
+  one_at_least (S.Unary t op a) = omega (arith, wider)
+  one_at_least (S.Truth t a) = omega (arith, wider)
+  one_at_least (S.Not t a) = omega (arith, wider)
+  one_at_least (S.Convert t kind a) = omega (arith, wider)
+  one_at_least (S.AsPointer t a) = omega (arith, wider)
+  one_at_least (S.Binary t at op kind right a b) = omega (arith, wider)
+  one_at_least (S.Compare t at op kind a b) = omega (arith, wider)
+  one_at_least (S.Move t at op size left right a b) = omega (arith, wider)
+  one_at_least (S.Distance t at size a b) = omega (arith, wider)
+  one_at_least (S.Update t at op size sort right a b) = omega (arith, wider)
+  one_at_least (S.Field t at by a) = omega (arith, wider)
+  one_at_least (S.ElementField t at size kind by a b) = omega (arith, wider)
+  one_at_least (S.Element t at n size addressed kind a b) = omega (arith, wider)
+  one_at_least (S.Part t at by a) = omega (arith, wider)
+  one_at_least (S.Inside t at x by) = omega (arith, wider)
+  one_at_least (S.Load t at access a) = omega (arith, wider)
+  one_at_least (S.Store at access a b) = omega (arith, wider)
+  one_at_least (S.CopyRecord at size a b) = omega (arith, wider)
+  one_at_least (S.Jump to) = omega (arith, wider)
+  one_at_least (S.Branch when a to) = omega (arith, wider)
+  one_at_least (S.Test at op kind when a b to) = omega (arith, wider)
+  one_at_least (S.Case n a to) = omega (arith, wider)
+  one_at_least (S.Call t at f all) = omega (arith, wider)
+  one_at_least (S.CallThrough t at ty a all) = omega (arith, wider)
+  one_at_least (S.Library t at which all) = omega (arith, wider)
+  one_at_least (S.Allocate t at r size zeroed a) = omega (arith, wider)
+  one_at_least (S.Begin x size) = omega (arith, wider)
+  one_at_least (S.End x) = omega (arith, wider)
+  one_at_least (S.Forget x size) = omega (arith, wider)
+  one_at_least (S.Zeros x size) = omega (arith, wider)
+  one_at_least (S.Text x by n) = omega (arith, wider)
+  one_at_least (S.Began f l) = omega (arith, wider)
+  one_at_least (S.Return a) = omega (arith, wider)
+  one_at_least (S.ReturnHeld t) = omega (arith, wider)
+  one_at_least (S.Fail kind at) = omega (arith, wider)
 
-steps_of : (code : Steps) → length code ≤ price_of_all in_steps code
-steps_of [] = omega arith
-steps_of (s ∷ code) = let a = one_at_least s in let b = steps_of code in omega (arith, a, b)
+  each_at_least : (code : Steps) → each c.step code ≤ price_of_all c code
+  each_at_least [] = omega arith
+  each_at_least (s ∷ code) = let a = one_at_least s in let b = each_at_least code in omega (arith, a, b)
 
-steps_of_code : (code : Steps) → length code ≤ price_of_code in_steps code
-steps_of_code [] = omega arith
-steps_of_code (s ∷ code) = let a = steps_of (s ∷ code) in omega (arith, a)
+  code_at_least : (code : Steps) → each c.step code ≤ price_of_code c code
+  code_at_least [] = omega arith
+  code_at_least (s ∷ code) = let a = each_at_least (s ∷ code) in omega (arith, a)
+
+one_for_each : (code : Steps) → each 1 code ≡ length code
+one_for_each [] = omega arith
+one_for_each (s ∷ code) = let h = one_for_each code in omega (arith, h)
 
 pub steps_are_few : StepsAreFew
-steps_are_few p r f i scopes = let a = code_is_paid p r f i scopes in_steps in let b = steps_of_code r.code in omega (arith, a, b)
+steps_are_few p r f i scopes =
+    let a = code_is_paid p r f i scopes in_steps in
+    let b = code_at_least in_steps (omega arith) r.code in
+    let d = one_for_each r.code in omega (arith, a, b, d)
 
 -- ---- in bytes
 
@@ -271,6 +280,28 @@ programs_are_within p scopes c are = let a = from 0 p.functions scopes in omega 
         let a = price_of_function c p g f f.body (e 0 f (omega arith)) in
         let b = body_within c are f f.body in
         let d = from (suc g) more (λ k one h. e (suc k) one (omega (arith, h))) in omega (arith, a, b, d)
+
+-- ---- steps by nodes
+
+many : (code : Steps) → each 48 code ≡ 48 * length code
+many [] = omega arith
+many (s ∷ code) = let h = many code in omega (arith, h)
+
+pub programs_have_few_steps : ProgramsHaveFewSteps
+programs_have_few_steps p scopes bounded =
+    let a = programs_are_within p scopes at_48 (record { step = omega arith; wide = omega arith; argument = omega arith }) in
+    let b = all (lowered p).routines in
+    let d = bounded.code in omega (arith, a, b, d)
+  where
+    at_48 : Prices
+    at_48 = record { step = 48; wide = 48; argument = 0 }
+
+    all : (routines : List RoutineData) → 48 * steps_in routines ≤ price_of_routines at_48 routines
+    all [] = omega arith
+    all (r ∷ more) =
+        let a = code_at_least at_48 (omega arith) r.code in
+        let b = many r.code in
+        let d = all more in omega (arith, a, b, d)
 
 -- ---- temporaries
 

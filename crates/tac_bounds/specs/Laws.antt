@@ -1,8 +1,9 @@
 -- The laws of lowered code.
-use Rattle.std.specs.Prelude.{◌≡◌, ◌≢◌, ℕ, ◌+◌, ◌*◌, ◌≤◌, length, All, Some, None, slice_get}
+use Rattle.std.specs.Prelude.{◌≡◌, ◌≢◌, ℕ, ◌+◌, ◌*◌, ◌≤◌, List, [], ◌∷◌, length, All, Some, None, slice_get}
 use Rattle.c_typed.specs.Programs.{FunctionData, ProgramData}
 use Rattle.tac_ir.specs.Code.{RoutineData}
 use Rattle.lower_tac.specs.Statements.{lowered}
+use Rattle.c_well_typed.specs.ProgramWeights.Bounds.{IsProgramBounded}
 use Rattle.c_well_typed.specs.ProgramWeights.Counted.{code, frame}
 use Rattle.c_well_typed.specs.ProgramWeights.Weights.{weight_of_function, code_weight_of_program}
 use Rattle.c_well_typed.specs.WellTyped.{of_program, HaveTypedFunctions}
@@ -46,6 +47,15 @@ BytesAreWithin = (p : ProgramData) (r : RoutineData) (f : FunctionData) → IsRo
 abbrev pub ProgramsAreWithin : Type 0
 ProgramsAreWithin = (p : ProgramData) → All HasScopes p.functions
     → (c : Prices) → AreBytes c → price_of_routines c (lowered p).routines ≤ code_weight_of_program p
+
+-- how many steps there are in all
+abbrev pub steps_in : List RoutineData → ℕ
+steps_in [] = 0
+steps_in (r ∷ more) = length r.code + steps_in more
+
+-- a program within the bounds on nodes has at most 32 steps for three nodes
+abbrev pub ProgramsHaveFewSteps : Type 0
+ProgramsHaveFewSteps = (p : ProgramData) → All HasScopes p.functions → IsProgramBounded p → 3 * steps_in (lowered p).routines ≤ 32 * p.nodes
 
 -- a function pays for its temporaries beside its locals
 abbrev pub TemporariesAreFew : Type 0

@@ -1,7 +1,7 @@
 //! What holds of lowered code.
 
 ghost use Rattle.tac_bounds.specs.Laws.{BytesAreWithin, CodeIsPaid, FramesAreWithin, JumpsStand, LabelsAreFew, ProgramsAreWithin, StepsAreFew};
-ghost use Rattle.tac_bounds.specs.Laws.{TemporariesAreFew, TypedHaveScopes};
+ghost use Rattle.tac_bounds.specs.Laws.{ProgramsHaveFewSteps, TemporariesAreFew, TypedHaveScopes};
 
 /// Each jump leads to a step of its function. The last step of a function with a body is a return, so something is left at each place to which a jump
 /// leads, and each label that is used is set.
@@ -32,6 +32,11 @@ pub fn bytes_are_within()
 /// So is the code of a program.
 pub fn programs_are_within()
     ensures { ProgramsAreWithin }
+{}
+
+/// A program within the bounds on nodes, as each program of files is, has at most 32 steps for three nodes.
+pub fn programs_have_few_steps()
+    ensures { ProgramsHaveFewSteps }
 {}
 
 /// The temporaries that code writes or reads are the locals, and no more than the function weighs by the numbers of `temporaries`.
