@@ -18,7 +18,7 @@ use Rattle.source_steps.specs.declared.ends.Final.{Final}
 use Rattle.source_steps.specs.declared.ends.Moved.{Moved}
 use Rattle.source_steps.specs.declared.ends.Moved.TheVariants.{Goes, Puts, Gets, Over}
 use Rattle.tac_engine.specs.States.{State, Moves}
-use Rattle.tac_engine.specs.Steps.{read_given, stepped}
+use Rattle.tac_engine.specs.Steps.{stepped}
 use Rattle.tac_engine.proofs.Remains.{Keeps, Within, given_agrees, left_of, step_keeps}
 use Rattle.tac_engine.proofs.Same.{state_behind}
 

@@ -15,7 +15,7 @@ use Rattle.source_run.specs.Streams.{Streams}
 use Rattle.source_run.specs.declared.end.RunEnd.{RunEnd as Answer}
 use Rattle.source_run.specs.declared.end.RunEnd.TheVariants as E
 use Rattle.source_run.proofs.Appending.{appends_none, appends_more, output_put, put_got, rest_got}
-use Rattle.source_run.proofs.Reaching.{Came, Ended, FarAt, FarWith, Reached, far_get, far_where, steady_then}
+use Rattle.source_run.proofs.Reaching.{Came, Ended, FarAt, FarWith, far_get, far_where, steady_then}
 use Rattle.source_start.proofs.NoCounts.{has_all}
 use Rattle.source_start.proofs.Telling.{counts_of_run}
 use Rattle.source_steps.specs.Agreeing.{behind_next, end_of, world}
