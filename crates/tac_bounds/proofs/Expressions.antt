@@ -1,6 +1,7 @@
 -- What the code of expressions and paths adds.
 use Rattle.std.specs.Option.{option_map}
-use Rattle.std.proofs.Common.{map, ap, ◌∙◌, ◌≢◌, ◌≡◌, ℕ, zero, suc, ◌+◌, ◌*◌, ◌<◌, ◌≤◌, Bool, true, false, List, [], ◌∷◌, length, Option, Some, None, refl, subst, arith}
+use Rattle.std.proofs.Common.{map, ap, ◌∙◌, ◌≢◌, ◌≡◌, ℕ, zero, suc, ◌+◌, ◌*◌, ◌<◌, ◌≤◌, Bool, true, false, List, [], ◌∷◌, length, Option, Some, None, refl}
+use Rattle.std.proofs.Common.{subst, arith}
 use Rattle.std.proofs.Common.{slice_get, if◌then◌else◌}
 use Rattle.lay_base.specs.declared.faults.UndefinedKind.TheVariants as K
 use Rattle.lay_base.specs.declared.place.Place.{Place}
@@ -48,6 +49,9 @@ module _ (c : Prices) (most labels : ℕ) (p : ProgramData) (locals : List Local
 
   abbrev pub Open : ℕ → Type 0
   Open = Grows.Open c most kinds
+
+  free : (d : ℕ) → length kinds ≤ d → Open d
+  free = Grows.free_open c most kinds
 
   abbrev pub Made : (rest paid : ℕ) → (code whole : Steps) → Type 0
   Made = Grows.Grows c most kinds labels
@@ -166,17 +170,20 @@ module _ (c : Prices) (most labels : ℕ) (p : ProgramData) (locals : List Local
   -- ---- what is said of each part
 
   abbrev pub ValueGrows : Expression ℕ → Type 0
-  ValueGrows e = (to d : ℕ) (code : Steps) → to < most → Open to → length kinds ≤ d → d < most → d + F e ≤ most → 0 < length code → Made c.step (W e) code (value_code p locals e to d code)
+  ValueGrows e = (to d : ℕ) (code : Steps) → to < most → Open to → length kinds ≤ d → d < most → d + F e ≤ most → 0 < length code
+      → Made c.step (W e) code (value_code p locals e to d code)
 
   abbrev pub NodeGrows : (t : ℕ) → Place → Node ℕ → Type 0
-  NodeGrows t at node = (to d : ℕ) (code : Steps) → to < most → Open to → length kinds ≤ d → d < most → d + weight_of_node temporaries node ≤ most → 0 < length code
+  NodeGrows t at node = (to d : ℕ) (code : Steps) → to < most → Open to → length kinds ≤ d → d < most → d + weight_of_node temporaries node ≤ most
+      → 0 < length code
       → Made c.step (weight_of_node (paid c) node) code (node_code p locals t at node to d code)
 
   abbrev pub EffectGrows : Expression ℕ → Type 0
   EffectGrows e = (d : ℕ) (code : Steps) → length kinds ≤ d → d < most → d + F e ≤ most → 0 < length code → Made 0 (W e) code (effect_code p locals e d code)
 
   abbrev pub BranchGrows : Expression ℕ → Type 0
-  BranchGrows e = (when : Bool) (to : Target) (d : ℕ) (code : Steps) → Leads (length code) labels to → length kinds ≤ d → d < most → d + F e ≤ most → 0 < length code
+  BranchGrows e = (when : Bool) (to : Target) (d : ℕ) (code : Steps) → Leads (length code) labels to → length kinds ≤ d → d < most → d + F e ≤ most
+      → 0 < length code
       → Made 0 (W e) code (branch_code p locals e when to d code)
 
   abbrev pub PathGrows : (addressed : Bool) → Path ℕ → Type 0
@@ -195,20 +202,23 @@ module _ (c : Prices) (most labels : ℕ) (p : ProgramData) (locals : List Local
   abbrev pub pay : {r v q w : ℕ} {code whole : Steps} → q + v ≤ r + w → Made r v code whole → Made q w code whole
   pay = Grows.pay c most kinds labels
 
-  abbrev pub one : (s : Step) (code : Steps) → Grows.LeadsIfAny (length code) labels (target_of s) → top_of s ≤ most → KeepsKinds kinds s → Made 0 (price_of c s) code (s ∷ code)
+  abbrev pub one : (s : Step) (code : Steps) → Grows.LeadsIfAny (length code) labels (target_of s) → top_of s ≤ most → KeepsKinds kinds s
+      → Made 0 (price_of c s) code (s ∷ code)
   one = Grows.one c most kinds labels
 
   -- ---- operands and the step that reads them
 
   pub read_one : {x : Part} {w f : ℕ} → Paid x w f → (d : ℕ) (s : Step) (code : Steps) → Grows.LeadsIfAny (length code) labels (target_of s)
-      → (top (operand x d) ≤ most → top_of s ≤ most) → KeepsKinds kinds s → length kinds ≤ d → d < most → d + f ≤ most → 0 < length code → Made c.step (price_of c s + w) code (code_of x d (s ∷ code))
+      → (top (operand x d) ≤ most → top_of s ≤ most) → KeepsKinds kinds s → length kinds ≤ d → d < most → d + f ≤ most → 0 < length code
+      → Made c.step (price_of c s + w) code (code_of x d (s ∷ code))
   read_one {x} q d s code to below keeps u k h l =
       pay (omega arith) (next (one s code to (below (Grows.operand_below c most kinds labels q d k)) keeps)
       (Grows.code_grows c most kinds labels q d (s ∷ code) (omega arith) u k h))
 
   pub read_both : {x y : Part} {w f v g : ℕ} → Paid x w f → Paid y v g → (d : ℕ) (s : Operand → Operand → Step) (price : ℕ) (code : Steps)
       → ((a b : Operand) → top a ≤ most → top b ≤ most → Made 0 price code (s a b ∷ code))
-      → length kinds ≤ d → suc d < most → d + f ≤ most → suc d + g ≤ most → 0 < length code → Made c.step (price + w + v) code (both_code x y d (λ a b. s a b ∷ code))
+      → length kinds ≤ d → suc d < most → d + f ≤ most → suc d + g ≤ most → 0 < length code
+      → Made c.step (price + w + v) code (both_code x y d (λ a b. s a b ∷ code))
   read_both q r d s price code last u k h i l = pay (omega arith) (Grows.both_grows c most kinds labels q r d (λ a b. s a b ∷ code) last l u k h i)
 
   -- a part costs a step at least
@@ -251,7 +261,8 @@ module _ (c : Prices) (most labels : ℕ) (p : ProgramData) (locals : List Local
       let e = r.longer in
       let t = Grows.tested_grows c most kinds labels y.lacks y.at x (result_code to (O.Temp K.Empty x at) code) k.0 k.1 in
       let z = t.longer in
-      pay (omega arith) (next (next r t) (makes x d (tested_if y.lacks y.at x (result_code to (O.Temp K.Empty x at) code)) k.0 k.1 u l i (omega (arith, n, e, z))))
+      pay (omega arith) (next (next r t) (makes x d (tested_if y.lacks y.at x (result_code to (O.Temp K.Empty x at) code)) k.0 k.1 u l i
+      (omega (arith, n, e, z))))
 
   pub assign_grows : (o : Option ℕ) → Below o → (t : ℕ) (at : Place) {q y : Part} {value : (to d : ℕ) → Steps → Steps} {w f v g : ℕ} → Paid q w f
       → Makes c.step v g value → Paid y v g
@@ -287,9 +298,9 @@ module _ (c : Prices) (most labels : ℕ) (p : ProgramData) (locals : List Local
       let stored = result_code to (temp at (d + 2)) code in
       let s = one (S.Store at (access_at p t) a (temp at (d + 2))) stored tt (omega (arith, k, below)) (tt, tt) in
       let updated = S.Store at (access_at p t) a (temp at (d + 2)) ∷ stored in
-      let v = one (update_step t at op right (d + 2) (temp at (d + 2)) z) updated tt (omega (arith, k, right_below)) (Grows.free_open c most kinds (d + 2) (omega (arith, u)), tt) in
+      let v = one (update_step t at op right (d + 2) (temp at (d + 2)) z) updated tt (omega (arith, k, right_below)) (free (d + 2) (omega (arith, u)), tt) in
       let loaded = update_step t at op right (d + 2) (temp at (d + 2)) z ∷ updated in
-      let m = one (S.Load (d + 2) at (access_at p t) a) loaded tt (omega (arith, k, below)) (Grows.free_open c most kinds (d + 2) (omega (arith, u)), tt) in
+      let m = one (S.Load (d + 2) at (access_at p t) a) loaded tt (omega (arith, k, below)) (free (d + 2) (omega (arith, u)), tt) in
       let first = S.Load (d + 2) at (access_at p t) a ∷ loaded in
       let e = Grows.settled_grows c most kinds labels other (suc d) first (omega arith) (omega (arith, u)) (omega (arith, k)) l in
       let longer = e.longer in
@@ -300,7 +311,8 @@ module _ (c : Prices) (most labels : ℕ) (p : ProgramData) (locals : List Local
       → (d : ℕ) (to : Option ℕ) (code : Steps) → Below to → length kinds ≤ d → d + 2 < most → d + f ≤ most → 0 < length code
       → Made 0 (3 * c.step + c.wide + w) code (step_code p o t at op before q d to code)
   step_grows (Some x) b t at op before one_paid d None code h u k i n =
-      pay (omega arith) (one (update_step t at (step_op op) (unit_kind (type_at p t)) x (O.Temp K.Empty x at) (O.Word 1)) code tt (let z = b.0 in omega (arith, z)) (b.1, tt))
+      pay (omega arith) (one (update_step t at (step_op op) (unit_kind (type_at p t)) x (O.Temp K.Empty x at) (O.Word 1)) code tt
+      (let z = b.0 in omega (arith, z)) (b.1, tt))
   step_grows (Some x) b t at op true one_paid d (Some to) code h u k i n =
       pay (omega arith) (next (one (S.Set to (O.Temp K.Empty x at)) code tt (let z = b.0 in let y = h.0 in omega (arith, z, y)) (h.1, tt))
       (one (update_step t at (step_op op) (unit_kind (type_at p t)) x (O.Temp K.Empty x at) (O.Word 1)) (S.Set to (O.Temp K.Empty x at) ∷ code) tt
@@ -308,8 +320,9 @@ module _ (c : Prices) (most labels : ℕ) (p : ProgramData) (locals : List Local
   step_grows (Some x) b t at op false one_paid d (Some to) code h u k i n =
       let last = S.Set to (temp at d) ∷ code in
       let v = update_step t at (step_op op) (unit_kind (type_at p t)) x (temp at d) (O.Word 1) in
-      pay (omega arith) (next (next (one (S.Set to (temp at d)) code tt (let y = h.0 in omega (arith, k, y)) (h.1, tt)) (one v last tt (let z = b.0 in omega (arith, z, k)) (b.1, tt)))
-      (one (S.Set d (O.Temp K.Empty x at)) (v ∷ last) tt (let z = b.0 in omega (arith, z, k)) (Grows.free_open c most kinds d u, tt)))
+      pay (omega arith) (next (next (one (S.Set to (temp at d)) code tt (let y = h.0 in omega (arith, k, y)) (h.1, tt))
+      (one v last tt (let z = b.0 in omega (arith, z, k)) (b.1, tt)))
+      (one (S.Set d (O.Temp K.Empty x at)) (v ∷ last) tt (let z = b.0 in omega (arith, z, k)) (free d u, tt)))
   step_grows None b t at op before {q} one_paid d to code h u k i n =
       let a = settled_operand q d in
       let below = Grows.settled_below c most kinds labels one_paid d (omega (arith, k)) in
@@ -319,9 +332,9 @@ module _ (c : Prices) (most labels : ℕ) (p : ProgramData) (locals : List Local
       let s = one (S.Store at (access_at p t) a (temp at (d + 2))) stored tt (omega (arith, k, below)) (tt, tt) in
       let updated = S.Store at (access_at p t) a (temp at (d + 2)) ∷ stored in
       let v = one (update_step t at (step_op op) (unit_kind (type_at p t)) (d + 2) (temp at (suc d)) (O.Word 1)) updated tt (omega (arith, k))
-          (Grows.free_open c most kinds (d + 2) (omega (arith, u)), tt) in
+      (free (d + 2) (omega (arith, u)), tt) in
       let loaded = update_step t at (step_op op) (unit_kind (type_at p t)) (d + 2) (temp at (suc d)) (O.Word 1) ∷ updated in
-      let m = one (S.Load (suc d) at (access_at p t) a) loaded tt (omega (arith, k, below)) (Grows.free_open c most kinds (suc d) (omega (arith, u)), tt) in
+      let m = one (S.Load (suc d) at (access_at p t) a) loaded tt (omega (arith, k, below)) (free (suc d) (omega (arith, u)), tt) in
       pay (omega arith) (next (next (next (next r s) v) m)
       (Grows.settled_grows c most kinds labels one_paid d (S.Load (suc d) at (access_at p t) a ∷ loaded) (omega arith) u (omega (arith, k)) i))
     where
@@ -329,7 +342,8 @@ module _ (c : Prices) (most labels : ℕ) (p : ProgramData) (locals : List Local
       by_before true = omega (arith, k)
       by_before false = omega (arith, k)
 
-  copy_held : {q r : Part} {w f v g : ℕ} → Paid q w f → Paid r v g → (at : Place) (d : ℕ) (code : Steps) → length kinds ≤ d → suc d < most → d + f ≤ most → suc d + g ≤ most
+  copy_held : {q r : Part} {w f v g : ℕ} → Paid q w f → Paid r v g → (at : Place) (d : ℕ) (code : Steps) → length kinds ≤ d → suc d < most → d + f ≤ most
+      → suc d + g ≤ most
       → 0 < length code
       → Made 0 (2 * c.step + w + v) code (held q d (held r (suc d) (S.Fail K.Dead at ∷ code)))
   copy_held {q} {r} one_paid other at d code u k i l n =

@@ -77,7 +77,8 @@ module _ (c : Prices) (p : ProgramData) (g : ℕ) (f : FunctionData) (body : Sta
   abbrev blocks : Bool
   blocks = have_blocks p g (all_locals f) parameters
 
-  body_made : Outs.Made c most kinds (Outs.scope_price c most kinds p g (all_locals f) roomy refl blocks parameters + price c body) (last_code p g f).code [] out.code out.labels
+  body_made : Outs.Made c most kinds (Outs.scope_price c most kinds p g (all_locals f) roomy refl blocks parameters + price c body)
+      (last_code p g f).code [] out.code out.labels
   body_made = Outs.scope_grows c most kinds p g (all_locals f) roomy refl parameters (price c body) (λ x out. statement_code p g (all_locals f) body x out)
       (Statements.statement_grows c most p g (all_locals f) roomy body (omega arith)) blocks
       (function_exits p) (last_code p g f) (omega arith) (record { on_break = tt; on_continue = tt; on_return = tt })
@@ -118,7 +119,8 @@ jumps_of_function p g f (Some body) =
     let r = routine_of p f (body_code p g f body) in
     let m = body_made in_steps p g f body in
     each_all (λ s. LeadsInsideIfAny r (target_of s)) r.code
-    (jumps_of_steps in_steps (most in_steps p g f body) (kinds in_steps p g f body) r (subst (λ (all : List ℕ). Each (IsInside (length r.code)) all) (sym m.is) m.set) r.code
+    (jumps_of_steps in_steps (most in_steps p g f body) (kinds in_steps p g f body) r
+    (subst (λ (all : List ℕ). Each (IsInside (length r.code)) all) (sym m.is) m.set) r.code
     (body_fits in_steps p g f body))
 
 pub jumps : JumpsStand
@@ -139,7 +141,8 @@ kinds_of_function p g f None = each_all (KeepsKinds (map (λ l. l.block) (all_lo
 kinds_of_function p g f (Some body) =
     let out = body_code p g f body in
     let all = kinds in_steps p g f body in
-    each_all (KeepsKinds all) out.code (kinds_of_steps in_steps (most in_steps p g f body) all (length out.code) (length out.labels) out.code (body_fits in_steps p g f body))
+    each_all (KeepsKinds all) out.code (kinds_of_steps in_steps (most in_steps p g f body) all (length out.code) (length out.labels) out.code
+    (body_fits in_steps p g f body))
 
 pub kinds_stand : KindsStand
 kinds_stand p = each_all KindsWithin (routines_from p 0 p.functions) (from 0 p.functions)
@@ -340,7 +343,8 @@ temporaries_of_function : (p : ProgramData) (g : ℕ) (f : FunctionData) (b : Op
 temporaries_of_function p g f None = omega arith
 temporaries_of_function p g f (Some body) =
     let out = body_code p g f body in
-    let a = greatest in_steps (most in_steps p g f body) (kinds in_steps p g f body) (length out.code) (length out.labels) out.code (body_fits in_steps p g f body) in
+    let a = greatest in_steps (most in_steps p g f body) (kinds in_steps p g f body) (length out.code) (length out.labels) out.code
+    (body_fits in_steps p g f body) in
     let b = one_more (λ (l : Local). l.block) (all_locals f) in omega (arith, a, b)
 
 pub temporaries_are_few : TemporariesAreFew

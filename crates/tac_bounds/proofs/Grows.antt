@@ -79,7 +79,8 @@ module _ (c : Prices) (most : ℕ) (kinds : List Bool) where
     pub same : {code : Steps} → Grows 0 0 code code
     same = record { longer = omega arith; dearer = omega arith; cost = omega arith; sound = λ a. a }
 
-    pub one : (s : Step) (code : Steps) → LeadsIfAny (length code) labels (target_of s) → top_of s ≤ most → KeepsKinds kinds s → Grows 0 (price_of c s) code (s ∷ code)
+    pub one : (s : Step) (code : Steps) → LeadsIfAny (length code) labels (target_of s) → top_of s ≤ most → KeepsKinds kinds s
+        → Grows 0 (price_of c s) code (s ∷ code)
     one s code to h keeps = record {
       longer = omega arith;
       dearer = omega arith;
@@ -143,7 +144,8 @@ module _ (c : Prices) (most : ℕ) (kinds : List Bool) where
     tested_grows true at t code h o = one (S.Set t (temp at t)) code tt (omega (arith, h)) (o, tt)
     tested_grows false at t code h o = pay (omega arith) same
 
-    pub held_grows : {x : Part} {w f : ℕ} → Paid x w f → (d : ℕ) (code : Steps) → 0 < length code → length kinds ≤ d → d < most → d + f ≤ most → Grows 0 w code (held x d code)
+    pub held_grows : {x : Part} {w f : ℕ} → Paid x w f → (d : ℕ) (code : Steps) → 0 < length code → length kinds ≤ d → d < most → d + f ≤ most
+        → Grows 0 w code (held x d code)
     held_grows {x} p d code k u h g =
         let t = tested_grows x.lacks x.at d code h (free_open d u) in
         let l = t.longer in pay (omega arith) (next t (p.made d (tested_if x.lacks x.at d code) (omega (arith, k, l)) u h g))

@@ -81,8 +81,12 @@ module _ (c : Prices) (most labels : ℕ) (p : ProgramData) (locals : List Local
   abbrev pay : {r v q w : ℕ} {code whole : Steps} → q + v ≤ r + w → Made r v code whole → Made q w code whole
   pay = Grows.pay c most kinds labels
 
-  abbrev one : (s : Step) (code : Steps) → Grows.LeadsIfAny (length code) labels (target_of s) → top_of s ≤ most → KeepsKinds kinds s → Made 0 (price_of c s) code (s ∷ code)
+  abbrev one : (s : Step) (code : Steps) → Grows.LeadsIfAny (length code) labels (target_of s) → top_of s ≤ most → KeepsKinds kinds s
+      → Made 0 (price_of c s) code (s ∷ code)
   one = Grows.one c most kinds labels
+
+  free : (d : ℕ) → length kinds ≤ d → Open d
+  free = Grows.free_open c most kinds
 
   abbrev value_paid : (e : Expression ℕ) → ValueGrows e → Paid (part_of p locals e (value_code p locals e)) (W e) (F e)
   value_paid = Parts.part_paid c most labels p locals roomy
@@ -95,12 +99,14 @@ module _ (c : Prices) (most labels : ℕ) (p : ProgramData) (locals : List Local
   least = Parts.least c most labels p locals roomy
 
   abbrev read_one : {x : Part} {w f : ℕ} → Paid x w f → (d : ℕ) (s : Step) (code : Steps) → Grows.LeadsIfAny (length code) labels (target_of s)
-      → (top (operand x d) ≤ most → top_of s ≤ most) → KeepsKinds kinds s → length kinds ≤ d → d < most → d + f ≤ most → 0 < length code → Made c.step (price_of c s + w) code (code_of x d (s ∷ code))
+      → (top (operand x d) ≤ most → top_of s ≤ most) → KeepsKinds kinds s → length kinds ≤ d → d < most → d + f ≤ most → 0 < length code
+      → Made c.step (price_of c s + w) code (code_of x d (s ∷ code))
   read_one = Parts.read_one c most labels p locals roomy
 
   abbrev read_both : {x y : Part} {w f v g : ℕ} → Paid x w f → Paid y v g → (d : ℕ) (s : Operand → Operand → Step) (price : ℕ) (code : Steps)
       → ((a b : Operand) → top a ≤ most → top b ≤ most → Made 0 price code (s a b ∷ code))
-      → length kinds ≤ d → suc d < most → d + f ≤ most → suc d + g ≤ most → 0 < length code → Made c.step (price + w + v) code (both_code x y d (λ a b. s a b ∷ code))
+      → length kinds ≤ d → suc d < most → d + f ≤ most → suc d + g ≤ most → 0 < length code
+      → Made c.step (price + w + v) code (both_code x y d (λ a b. s a b ∷ code))
   read_both = Parts.read_both c most labels p locals roomy
 
   abbrev root : (q : Path ℕ) → Parts.Below c most labels p locals roomy (named_root p locals q)
@@ -108,18 +114,21 @@ module _ (c : Prices) (most labels : ℕ) (p : ProgramData) (locals : List Local
 
   -- ---- loads, addresses and conversions
 
-  address_grows : (o : Option ℕ) (at : Place) {q : Part} {w f : ℕ} → Paid q w f → (to d : ℕ) (code : Steps) → to < most → Open to → length kinds ≤ d → d < most → d + f ≤ most
+  address_grows : (o : Option ℕ) (at : Place) {q : Part} {w f : ℕ} → Paid q w f → (to d : ℕ) (code : Steps) → to < most → Open to → length kinds ≤ d → d < most
+      → d + f ≤ most
       → 0 < length code
       → Made c.step (c.step + w) code (address_code p locals o at q to d code)
   address_grows (Some x) at one_paid to d code h o u k i n =
       let l = least one_paid d code n u k i in pay (omega (arith, l)) (one (S.Fail K.Dead at) code tt (omega arith) (tt, tt))
-  address_grows None at {q} one_paid to d code h o u k i n = read_one one_paid d (S.AsPointer to (operand q d)) code tt (λ b. omega (arith, h, b)) (o, tt) u k i n
+  address_grows None at {q} one_paid to d code h o u k i n =
+      read_one one_paid d (S.AsPointer to (operand q d)) code tt (λ b. omega (arith, h, b)) (o, tt) u k i n
 
   load_grows : (o : Option ℕ) → Parts.Below c most labels p locals roomy o → (t : ℕ) (at : Place) {q : Part} {w f : ℕ} → Paid q w f
       → (to d : ℕ) (code : Steps) → to < most → Open to → length kinds ≤ d → d < most → d + f ≤ most → 0 < length code
       → Made c.step (c.step + w) code (load_code p locals o t at q to d code)
   load_grows (Some x) b t at one_paid to d code h o u k i n =
-      let l = least one_paid d code n u k i in pay (omega (arith, l)) (one (S.Set to (O.Temp K.Empty x at)) code tt (let z = b.0 in omega (arith, h, z)) (o, tt))
+      let l = least one_paid d code n u k i in pay (omega (arith, l))
+      (one (S.Set to (O.Temp K.Empty x at)) code tt (let z = b.0 in omega (arith, h, z)) (o, tt))
   load_grows None b t at {q} one_paid to d code h o u k i n =
       read_one one_paid d (S.Load to at (access_at p t) (operand q d)) code tt (λ b. omega (arith, h, b)) (o, tt) u k i n
 
@@ -148,15 +157,18 @@ module _ (c : Prices) (most labels : ℕ) (p : ProgramData) (locals : List Local
     where
       by_block : (b : Bool) → Made c.step (2 * c.step) code (if b then S.Set to (O.Temp K.Dead x at) ∷ code else code)
       by_block true =
-          let b = Parts.local_below c most labels p locals roomy x l is in pay (omega arith) (one (S.Set to (O.Temp K.Dead x at)) code tt (omega (arith, h, b)) (o, tt))
+          let b = Parts.local_below c most labels p locals roomy x l is in pay (omega arith)
+          (one (S.Set to (O.Temp K.Dead x at)) code tt (omega (arith, h, b)) (o, tt))
       by_block false = pay (omega arith) (Grows.same c most kinds labels)
 
-  part_grows : (o : Option ℕ) (at : Place) (by : ℕ) {q : Part} {w f : ℕ} → Paid q w f → (to d : ℕ) (code : Steps) → to < most → Open to → length kinds ≤ d → d < most → d + f ≤ most
+  part_grows : (o : Option ℕ) (at : Place) (by : ℕ) {q : Part} {w f : ℕ} → Paid q w f → (to d : ℕ) (code : Steps) → to < most → Open to → length kinds ≤ d
+      → d < most → d + f ≤ most
       → 0 < length code
       → Made c.step (c.step + w) code (part_code p locals o at by q to d code)
   part_grows (Some x) at by one_paid to d code h o u k i n =
       let l = least one_paid d code n u k i in pay (omega (arith, l)) (one (S.Fail K.Dead at) code tt (omega arith) (tt, tt))
-  part_grows None at by {q} one_paid to d code h o u k i n = read_one one_paid d (S.Part to at by (operand q d)) code tt (λ b. omega (arith, h, b)) (o, tt) u k i n
+  part_grows None at by {q} one_paid to d code h o u k i n =
+      read_one one_paid d (S.Part to at by (operand q d)) code tt (λ b. omega (arith, h, b)) (o, tt) u k i n
 
   element_grows : (o : Option ℕ) (at : Place) (z size : ℕ) (addressed : Bool) (kind : IntKind) {q y : Part} {w f v g : ℕ} → Paid q w f → Paid y v g
       → (to d : ℕ) (code : Steps) → to < most → Open to → length kinds ≤ d → suc d < most → d + f ≤ most → suc d + g ≤ most → 0 < length code
@@ -172,10 +184,12 @@ module _ (c : Prices) (most labels : ℕ) (p : ProgramData) (locals : List Local
 
   -- ---- branches on a value
 
-  on_grows : {x : Part} {w f : ℕ} → Paid x w f → (when : Bool) (to : Target) (d : ℕ) (code : Steps) → Leads (length code) labels to → length kinds ≤ d → d < most → d + f ≤ most
+  on_grows : {x : Part} {w f : ℕ} → Paid x w f → (when : Bool) (to : Target) (d : ℕ) (code : Steps) → Leads (length code) labels to → length kinds ≤ d
+      → d < most → d + f ≤ most
       → 0 < length code
       → Made 0 w code (branch_on p locals x when to d code)
-  on_grows {x} one_paid when to d code leads u k i n = pay (omega arith) (read_one one_paid d (S.Branch when (operand x d) to) code leads (λ b. b) (tt, tt) u k i n)
+  on_grows {x} one_paid when to d code leads u k i n =
+      pay (omega arith) (read_one one_paid d (S.Branch when (operand x d) to) code leads (λ b. b) (tt, tt) u k i n)
 
   -- ---- `&&` and `||` as values, and `?:`
 
@@ -223,7 +237,8 @@ module _ (c : Prices) (most labels : ℕ) (p : ProgramData) (locals : List Local
   -- ---- all of them
 
   abbrev MemberGrows : Path ℕ → Type 0
-  MemberGrows q = (at : Place) (by : ℕ) (to d : ℕ) (code : Steps) → to < most → Open to → length kinds ≤ d → suc d < most → d + F_path q ≤ most → 0 < length code
+  MemberGrows q = (at : Place) (by : ℕ) (to d : ℕ) (code : Steps) → to < most → Open to → length kinds ≤ d → suc d < most → d + F_path q ≤ most
+      → 0 < length code
       → Made c.step (c.step + W_path q) code (member_code p locals q at by to d code)
 
   mutual
@@ -279,7 +294,8 @@ module _ (c : Prices) (most labels : ℕ) (p : ProgramData) (locals : List Local
         (λ b. omega (arith, h, b)) (o, tt) u k (omega (arith, i)) n)
     node_grows t at (T.choose x y z) to d code h o u k i n =
         pay (omega arith) (choice_grows {test = branch_code p locals x} {one_code = value_code p locals y} {other_code = value_code p locals z}
-        (W x) (F x) (W y) (F y) (W z) (F z) (branch_grows x) (value_grows y) (value_grows z) to d code h o u k (omega (arith, i)) (omega (arith, i)) (omega (arith, i)) n)
+        (W x) (F x) (W y) (F y) (W z) (F z) (branch_grows x) (value_grows y) (value_grows z) to d code h o u k (omega (arith, i)) (omega (arith, i))
+        (omega (arith, i)) n)
     node_grows t at (T.comma x y) to d code h o u k i n =
         let a = value_grows y to d code h o u k (omega (arith, i)) n in
         let l = a.longer in
@@ -357,26 +373,32 @@ module _ (c : Prices) (most labels : ℕ) (p : ProgramData) (locals : List Local
         pay (omega arith) (Parts.copy_grows c most labels p locals roomy (named_root p locals q) (named_root p locals r) at (size_at p (path_ty q))
         (place_paid false q (path_grows false q))
         (place_paid false r (path_grows false r)) d None code tt u (omega (arith, i)) (omega (arith, i)) (omega (arith, i)) n)
-    effect_grows (expression t at (T.constant v)) d code u k i n = pay (omega arith) (node_grows t at (T.constant v) d d code k (Grows.free_open c most kinds d u) u k i n)
-    effect_grows (expression t at T.null) d code u k i n = pay (omega arith) (node_grows t at T.null d d code k (Grows.free_open c most kinds d u) u k i n)
-    effect_grows (expression t at (T.function_name f)) d code u k i n = pay (omega arith) (node_grows t at (T.function_name f) d d code k (Grows.free_open c most kinds d u) u k i n)
-    effect_grows (expression t at (T.load q)) d code u k i n = pay (omega arith) (node_grows t at (T.load q) d d code k (Grows.free_open c most kinds d u) u k i n)
-    effect_grows (expression t at (T.address_of q)) d code u k i n = pay (omega arith) (node_grows t at (T.address_of q) d d code k (Grows.free_open c most kinds d u) u k i n)
-    effect_grows (expression t at (T.decay q)) d code u k i n = pay (omega arith) (node_grows t at (T.decay q) d d code k (Grows.free_open c most kinds d u) u k i n)
-    effect_grows (expression t at (T.convert e written)) d code u k i n = pay (omega arith) (node_grows t at (T.convert e written) d d code k (Grows.free_open c most kinds d u) u k i n)
-    effect_grows (expression t at (T.unary op x)) d code u k i n = pay (omega arith) (node_grows t at (T.unary op x) d d code k (Grows.free_open c most kinds d u) u k i n)
-    effect_grows (expression t at (T.binary op x y)) d code u k i n = pay (omega arith) (node_grows t at (T.binary op x y) d d code k (Grows.free_open c most kinds d u) u k i n)
-    effect_grows (expression t at (T.compare op x y)) d code u k i n = pay (omega arith) (node_grows t at (T.compare op x y) d d code k (Grows.free_open c most kinds d u) u k i n)
-    effect_grows (expression t at (T.pointer_add op x y)) d code u k i n = pay (omega arith) (node_grows t at (T.pointer_add op x y) d d code k (Grows.free_open c most kinds d u) u k i n)
-    effect_grows (expression t at (T.pointer_difference x y)) d code u k i n = pay (omega arith) (node_grows t at (T.pointer_difference x y) d d code k (Grows.free_open c most kinds d u) u k i n)
-    effect_grows (expression t at (T.both x y)) d code u k i n = pay (omega arith) (node_grows t at (T.both x y) d d code k (Grows.free_open c most kinds d u) u k i n)
-    effect_grows (expression t at (T.either x y)) d code u k i n = pay (omega arith) (node_grows t at (T.either x y) d d code k (Grows.free_open c most kinds d u) u k i n)
-    effect_grows (expression t at (T.not x)) d code u k i n = pay (omega arith) (node_grows t at (T.not x) d d code k (Grows.free_open c most kinds d u) u k i n)
-    effect_grows (expression t at (T.choose x y z)) d code u k i n = pay (omega arith) (node_grows t at (T.choose x y z) d d code k (Grows.free_open c most kinds d u) u k i n)
-    effect_grows (expression t at (T.call f all)) d code u k i n = pay (omega arith) (node_grows t at (T.call f all) d d code k (Grows.free_open c most kinds d u) u k i n)
-    effect_grows (expression t at (T.call_through e all)) d code u k i n = pay (omega arith) (node_grows t at (T.call_through e all) d d code k (Grows.free_open c most kinds d u) u k i n)
-    effect_grows (expression t at (T.library which all)) d code u k i n = pay (omega arith) (node_grows t at (T.library which all) d d code k (Grows.free_open c most kinds d u) u k i n)
-    effect_grows (expression t at (T.allocate r count zeroed)) d code u k i n = pay (omega arith) (node_grows t at (T.allocate r count zeroed) d d code k (Grows.free_open c most kinds d u) u k i n)
+    effect_grows (expression t at (T.constant v)) d code u k i n = pay (omega arith) (node_grows t at (T.constant v) d d code k (free d u) u k i n)
+    effect_grows (expression t at T.null) d code u k i n = pay (omega arith) (node_grows t at T.null d d code k (free d u) u k i n)
+    effect_grows (expression t at (T.function_name f)) d code u k i n = pay (omega arith) (node_grows t at (T.function_name f) d d code k (free d u) u k i n)
+    effect_grows (expression t at (T.load q)) d code u k i n = pay (omega arith) (node_grows t at (T.load q) d d code k (free d u) u k i n)
+    effect_grows (expression t at (T.address_of q)) d code u k i n = pay (omega arith) (node_grows t at (T.address_of q) d d code k (free d u) u k i n)
+    effect_grows (expression t at (T.decay q)) d code u k i n = pay (omega arith) (node_grows t at (T.decay q) d d code k (free d u) u k i n)
+    effect_grows (expression t at (T.convert e written)) d code u k i n =
+        pay (omega arith) (node_grows t at (T.convert e written) d d code k (free d u) u k i n)
+    effect_grows (expression t at (T.unary op x)) d code u k i n = pay (omega arith) (node_grows t at (T.unary op x) d d code k (free d u) u k i n)
+    effect_grows (expression t at (T.binary op x y)) d code u k i n = pay (omega arith) (node_grows t at (T.binary op x y) d d code k (free d u) u k i n)
+    effect_grows (expression t at (T.compare op x y)) d code u k i n = pay (omega arith) (node_grows t at (T.compare op x y) d d code k (free d u) u k i n)
+    effect_grows (expression t at (T.pointer_add op x y)) d code u k i n =
+        pay (omega arith) (node_grows t at (T.pointer_add op x y) d d code k (free d u) u k i n)
+    effect_grows (expression t at (T.pointer_difference x y)) d code u k i n =
+        pay (omega arith) (node_grows t at (T.pointer_difference x y) d d code k (free d u) u k i n)
+    effect_grows (expression t at (T.both x y)) d code u k i n = pay (omega arith) (node_grows t at (T.both x y) d d code k (free d u) u k i n)
+    effect_grows (expression t at (T.either x y)) d code u k i n = pay (omega arith) (node_grows t at (T.either x y) d d code k (free d u) u k i n)
+    effect_grows (expression t at (T.not x)) d code u k i n = pay (omega arith) (node_grows t at (T.not x) d d code k (free d u) u k i n)
+    effect_grows (expression t at (T.choose x y z)) d code u k i n = pay (omega arith) (node_grows t at (T.choose x y z) d d code k (free d u) u k i n)
+    effect_grows (expression t at (T.call f all)) d code u k i n = pay (omega arith) (node_grows t at (T.call f all) d d code k (free d u) u k i n)
+    effect_grows (expression t at (T.call_through e all)) d code u k i n =
+        pay (omega arith) (node_grows t at (T.call_through e all) d d code k (free d u) u k i n)
+    effect_grows (expression t at (T.library which all)) d code u k i n =
+        pay (omega arith) (node_grows t at (T.library which all) d d code k (free d u) u k i n)
+    effect_grows (expression t at (T.allocate r count zeroed)) d code u k i n =
+        pay (omega arith) (node_grows t at (T.allocate r count zeroed) d d code k (free d u) u k i n)
 
     pub branch_grows : (e : Expression ℕ) → BranchGrows e
     branch_grows (expression t at (T.compare op x y)) when to d code leads u k i n =
@@ -384,7 +406,8 @@ module _ (c : Prices) (most labels : ℕ) (p : ProgramData) (locals : List Local
         (λ a b. S.Test at op (kind_of (type_at p (ty x))) when a b to) c.wide code
         (λ a b ha hb. one (S.Test at op (kind_of (type_at p (ty x))) when a b to) code leads (omega (arith, ha, hb)) (tt, tt))
         u (omega (arith, i)) (omega (arith, i)) (omega (arith, i)) n)
-    branch_grows (expression t at (T.not x)) when to d code leads u k i n = pay (omega arith) (branch_grows x (not when) to d code leads u k (omega (arith, i)) n)
+    branch_grows (expression t at (T.not x)) when to d code leads u k i n =
+        pay (omega arith) (branch_grows x (not when) to d code leads u k (omega (arith, i)) n)
     branch_grows (expression t at (T.both x y)) false to d code leads u k i n =
         let b = branch_grows y false to d code leads u k (omega (arith, i)) n in
         let l = b.longer in
@@ -398,7 +421,8 @@ module _ (c : Prices) (most labels : ℕ) (p : ProgramData) (locals : List Local
     branch_grows (expression t at (T.either x y)) true to d code leads u k i n =
         let b = branch_grows y true to d code leads u k (omega (arith, i)) n in
         let l = b.longer in
-        pay (omega arith) (next b (branch_grows x true to d (branch_code p locals y true to d code) (leads_later to l (omega arith) leads) u k (omega (arith, i))
+        pay (omega arith) (next b (branch_grows x true to d (branch_code p locals y true to d code) (leads_later to l (omega arith) leads) u k
+        (omega (arith, i))
         (omega (arith, n, l))))
     branch_grows (expression t at (T.either x y)) false to d code leads u k i n =
         let b = branch_grows y false to d code leads u k (omega (arith, i)) n in
@@ -458,7 +482,8 @@ module _ (c : Prices) (most labels : ℕ) (p : ProgramData) (locals : List Local
     way_grows addressed t at (T.index e x) to d code h o u k i n =
         read_both (value_paid e (value_grows e)) (value_paid x (value_grows x)) d
         (λ a b. S.Move to at Add (size_at p t) (kind_of (type_at p (ty e))) (kind_of (type_at p (ty x))) a b) c.step code
-        (λ a b ha hb. one (S.Move to at Add (size_at p t) (kind_of (type_at p (ty e))) (kind_of (type_at p (ty x))) a b) code tt (omega (arith, h, ha, hb)) (o, tt))
+        (λ a b ha hb. one (S.Move to at Add (size_at p t) (kind_of (type_at p (ty e))) (kind_of (type_at p (ty x))) a b) code tt (omega (arith, h, ha, hb))
+        (o, tt))
         u (omega (arith, i)) (omega (arith, i)) (omega (arith, i)) n
     way_grows addressed t at (T.member q r field) to d code h o u k i n =
         member_grows q at (offset_of p.records r field) to d code h o u (omega (arith, i)) (omega (arith, i)) n

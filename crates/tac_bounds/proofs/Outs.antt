@@ -1,5 +1,6 @@
 -- What the code of a statement adds to what is there, with its labels.
-use Rattle.std.proofs.Common.{map, subst, ◌≢◌, ◌≡◌, ℕ, suc, ◌+◌, ◌*◌, ◌<◌, ◌≤◌, Bool, true, false, List, [], ◌∷◌, ◌++◌, length, Option, Some, None, refl, sym, ap, ◌∙◌, arith}
+use Rattle.std.proofs.Common.{map, subst, ◌≢◌, ◌≡◌, ℕ, suc, ◌+◌, ◌*◌, ◌<◌, ◌≤◌, Bool, true, false, List, [], ◌∷◌, ◌++◌, length, Option, Some, None, refl, sym}
+use Rattle.std.proofs.Common.{ap, ◌∙◌, arith}
 use Rattle.std.proofs.Common.{slice_get, slice_set, if◌then◌else◌}
 use Rattle.std.specs.Prelude.{◌-◌, ◌==◌}
 use Rattle.c_typed.specs.declared.program.Local.{Local}
@@ -242,7 +243,8 @@ module _ (c : Prices) (most : ℕ) (kinds : List Bool) where
         let j = ends_grow l own (exit_code p g locals x.on_break continued.code) in
         let jl = j.longer in
         let broken = break_end p g locals own x continued in
-        let m = Grows.one c most kinds l (S.Jump (here last)) broken.code (omega (arith, n, al), omega (arith, bl, dl, fl, hl, il, jl)) (omega arith) (tt, tt) in
+        let m = Grows.one c most kinds l (S.Jump (here last)) broken.code (omega (arith, n, al), omega (arith, bl, dl, fl, hl, il, jl)) (omega arith)
+        (tt, tt) in
         let whole = before (S.Jump (here last)) broken in
         let grown = Grows.next c most kinds l (Grows.next c most kinds l (Grows.next c most kinds l
         (Grows.next c most kinds l (Grows.next c most kinds l (Grows.next c most kinds l

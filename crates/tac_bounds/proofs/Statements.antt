@@ -125,7 +125,8 @@ module _ (c : Prices) (most : ℕ) (p : ProgramData) (g : ℕ) (locals : List Lo
   test_grows : (e : Option (Expression ℕ)) → room + weight_if_any temporaries e ≤ most → (labels : ℕ) (to : Target) (code : Steps)
       → Leads (length code) labels to → 0 < length code
       → Adds labels (c.step + weight_if_any (paid c) e) code (test_code p g locals e to code)
-  test_grows None h labels to code leads n = Grows.pay c most kinds labels (omega arith) (Grows.one c most kinds labels (S.Jump to) code leads (omega arith) (tt, tt))
+  test_grows None h labels to code leads n =
+      Grows.pay c most kinds labels (omega arith) (Grows.one c most kinds labels (S.Jump to) code leads (omega arith) (tt, tt))
   test_grows (Some e) h labels to code leads n = Grows.pay c most kinds labels (omega arith) (branch_grows labels e true to code leads h n)
 
   tests_grow : (e : Expression ℕ) → room + weight temporaries e ≤ most → (labels : ℕ) (to : Target) (code : Steps) → Leads (length code) labels to
@@ -141,7 +142,8 @@ module _ (c : Prices) (most : ℕ) (p : ProgramData) (g : ℕ) (locals : List Lo
   return_grows : (labels : ℕ) (e : Option (Expression ℕ)) (way : ReturnWay) (code : Steps) → ReturnLeads (length code) labels way
       → room + weight_if_any temporaries e ≤ most → 0 < length code
       → Adds labels (2 * c.step + weight_if_any (paid c) e) code (return_code p g locals e way code)
-  return_grows labels None at_once code leads h n = Grows.pay c most kinds labels (omega arith) (Grows.one c most kinds labels (S.Return None) code tt (omega arith) (tt, tt))
+  return_grows labels None at_once code leads h n =
+      Grows.pay c most kinds labels (omega arith) (Grows.one c most kinds labels (S.Return None) code tt (omega arith) (tt, tt))
   return_grows labels None (behind_ends to) code leads h n =
       Grows.pay c most kinds labels (omega arith) (Grows.next c most kinds labels (Grows.one c most kinds labels (S.Jump to) code leads (omega arith) (tt, tt))
       (Grows.one c most kinds labels (S.Clear room) (S.Jump to ∷ code) tt (omega (arith, roomy)) (open_room, tt)))
@@ -160,36 +162,43 @@ module _ (c : Prices) (most : ℕ) (p : ProgramData) (g : ℕ) (locals : List Lo
       → Adds labels (c.step + weight_of_path (paid c) q) code (record_code p g locals o x offset q code)
   record_grows labels (Some y) x offset q code b is h i n =
       let l = Parts.least c most labels p locals low (place_paid labels q) (suc room) code n (let z = free in omega (arith, z)) h i in
-      Grows.pay c most kinds labels (omega (arith, l)) (Grows.next c most kinds labels (Grows.one c most kinds labels (S.Fail K.Dead (path_at q)) code tt (omega arith) (tt, tt))
+      Grows.pay c most kinds labels (omega (arith, l)) (Grows.next c most kinds labels
+      (Grows.one c most kinds labels (S.Fail K.Dead (path_at q)) code tt (omega arith) (tt, tt))
       (Grows.one c most kinds labels (S.Inside room (path_at q) x offset) (S.Fail K.Dead (path_at q) ∷ code) tt (omega (arith, b, roomy)) (open_room, is)))
   record_grows labels None x offset q code b is h i n =
       let s = S.CopyRecord (path_at q) (size_at p (path_ty q)) (temp (path_at q) room)
       (operand (place_of p locals q (path_code p locals false q))
       (suc room)) in
-      let a = Parts.read_one c most labels p locals low (place_paid labels q) (suc room) s code tt (λ t. omega (arith, roomy, t)) (tt, tt) (let z = free in omega (arith, z)) h i n in
+      let a = Parts.read_one c most labels p locals low (place_paid labels q) (suc room) s code tt (λ t. omega (arith, roomy, t)) (tt, tt)
+      (let z = free in omega (arith, z)) h i n in
       Grows.pay c most kinds labels (omega arith) (Grows.next c most kinds labels a
       (Grows.one c most kinds labels (S.Inside room (path_at q) x offset) (code_of (place_of p locals q (path_code p locals false q)) (suc room) (s ∷ code)) tt
       (omega (arith, b, roomy)) (open_room, is)))
 
-  store_grows : (labels : ℕ) (x offset : ℕ) (e : Expression ℕ) (code : Steps) → x < most → slice_get kinds x ≡ Some true → suc room < most → suc room + weight temporaries e ≤ most
+  store_grows : (labels : ℕ) (x offset : ℕ) (e : Expression ℕ) (code : Steps) → x < most → slice_get kinds x ≡ Some true → suc room < most
+      → suc room + weight temporaries e ≤ most
       → 0 < length code
       → Adds labels (c.step + W c e) code (S.Inside room (at_of e) x offset ∷ code_of (part_of p locals e (value_code p locals e)) (suc room)
       (S.Store (at_of e) (access_at p (ty e)) (temp (at_of e) room) (operand (part_of p locals e (value_code p locals e)) (suc room)) ∷ code))
   store_grows labels x offset e code b is h i n =
       let s = S.Store (at_of e) (access_at p (ty e)) (temp (at_of e) room) (operand (part_of p locals e (value_code p locals e)) (suc room)) in
-      let a = Parts.read_one c most labels p locals low (value_paid labels e) (suc room) s code tt (λ t. omega (arith, roomy, t)) (tt, tt) (let z = free in omega (arith, z)) h i n in
+      let a = Parts.read_one c most labels p locals low (value_paid labels e) (suc room) s code tt (λ t. omega (arith, roomy, t)) (tt, tt)
+      (let z = free in omega (arith, z)) h i n in
       Grows.pay c most kinds labels (omega arith) (Grows.next c most kinds labels a
       (Grows.one c most kinds labels (S.Inside room (at_of e) x offset) (code_of (part_of p locals e (value_code p locals e)) (suc room) (s ∷ code)) tt
       (omega (arith, b, roomy)) (open_room, is)))
 
-  put_grows : (x offset : ℕ) (v : PartValue ℕ) (out : Out) → x < most → slice_get kinds x ≡ Some true → suc room < most → suc room + weight_of_value temporaries v ≤ most → 0 < length out.code
+  put_grows : (x offset : ℕ) (v : PartValue ℕ) (out : Out) → x < most → slice_get kinds x ≡ Some true → suc room < most
+      → suc room + weight_of_value temporaries v ≤ most → 0 < length out.code
       → Made (c.step + weight_of_value (paid c) v) out.code out.labels (put_code p g locals x offset v out).code (put_code p g locals x offset v out).labels
   put_grows x offset (T.value e) out b is h i n = made out.labels (store_grows (length out.labels) x offset e out.code b is h i n)
   put_grows x offset (T.record_of q) out b is h i n = made out.labels (record_grows (length out.labels) (named_root p locals q) x offset q out.code b is h i n)
   put_grows x offset (T.text bytes) out b is h i n =
-      pay (omega arith) (made out.labels (Grows.one c most kinds (length out.labels) (S.Text x offset (length out.texts)) out.code tt (omega (arith, b)) (tt, is)))
+      pay (omega arith) (made out.labels (Grows.one c most kinds (length out.labels) (S.Text x offset (length out.texts)) out.code tt (omega (arith, b))
+      (tt, is)))
 
-  parts_grow : (x : ℕ) (all : List (T.Part ℕ)) (out : Out) → x < most → slice_get kinds x ≡ Some true → suc room < most → room + weight_of_parts temporaries all ≤ most → 0 < length out.code
+  parts_grow : (x : ℕ) (all : List (T.Part ℕ)) (out : Out) → x < most → slice_get kinds x ≡ Some true → suc room < most
+      → room + weight_of_parts temporaries all ≤ most → 0 < length out.code
       → Made (weight_of_parts (paid c) all) out.code out.labels (parts_code p g locals x all out).code (parts_code p g locals x all out).labels
   parts_grow x [] out b is h i n = Outs.unmade c most kinds
   parts_grow x (one ∷ more) out b is h i n =
@@ -323,7 +332,8 @@ module _ (c : Prices) (most : ℕ) (p : ProgramData) (g : ℕ) (locals : List Lo
       let l = r.longer in
       let k = length all.out.labels in
       let to = default_start (here out) arms all.starts in
-      let j = Grows.one c most kinds k (S.Jump to) all.out.code (default_leads (length all.out.code) k (here out) arms all.starts (n, l) m.starts) (omega arith) (tt, tt) in
+      let j = Grows.one c most kinds k (S.Jump to) all.out.code (default_leads (length all.out.code) k (here out) arms all.starts (n, l) m.starts)
+      (omega arith) (tt, tt) in
       let d = dispatch_grows k a arms all.starts (S.Jump to ∷ all.out.code) (all_later (omega arith) (omega arith) all.starts m.starts) t in
       let i = in_all arms in
       pay (omega (arith, i)) (next r (made all.out.labels (Grows.next c most kinds k j d)))
@@ -411,7 +421,8 @@ module _ (c : Prices) (most : ℕ) (p : ProgramData) (g : ℕ) (locals : List Lo
         (in_switch (here out) x) out in
         pay (omega arith) (next a (made inner.labels (Grows.held_grows c most kinds (length inner.labels) (value_paid (length inner.labels) e) room inner.code
         (omega (arith, n, l)) free roomy (omega (arith, h)))))
-    statement_grows T.break h x out n leads = made out.labels (Outs.exit_grows c most kinds p g locals roomy refl (length out.labels) x.on_break out.code leads.on_break)
+    statement_grows T.break h x out n leads =
+        made out.labels (Outs.exit_grows c most kinds p g locals roomy refl (length out.labels) x.on_break out.code leads.on_break)
     statement_grows T.continue h x out n leads =
         made out.labels (Outs.exit_grows c most kinds p g locals roomy refl
         (length out.labels) x.on_continue out.code leads.on_continue)
