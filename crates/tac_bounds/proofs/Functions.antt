@@ -19,7 +19,8 @@ use Rattle.c_well_typed.specs.ProgramWeights.Counted.{Kind, statement, code, fra
 use Rattle.c_well_typed.specs.ProgramWeights.Counted as Kinds
 use Rattle.c_well_typed.specs.ProgramWeights.Weights.{weight_of_parameters, weight_of_body, weight_of_function, weight_of_functions}
 use Rattle.tac_bounds.specs.Jumps.{IsInside, target_of, LeadsInsideIfAny, JumpsWithin}
-use Rattle.tac_bounds.specs.Laws.{IsRoutineOf, HasFewLabels, JumpsStand, LabelsAreFew, CodeIsPaid, StepsAreFew, BytesAreWithin, ProgramsAreWithin}
+use Rattle.tac_bounds.specs.Kinds.{KeepsKinds, KindsWithin}
+use Rattle.tac_bounds.specs.Laws.{IsRoutineOf, HasFewLabels, JumpsStand, KindsStand, LabelsAreFew, CodeIsPaid, StepsAreFew, BytesAreWithin, ProgramsAreWithin}
 use Rattle.tac_bounds.specs.Laws.{ProgramsHaveFewSteps, steps_in, TemporariesAreFew, FramesAreWithin}
 use Rattle.tac_bounds.specs.Prices.{Prices, in_steps, AreBytes, paid, price_of, price_of_all, price_of_code, price_of_routines}
 use Rattle.tac_bounds.specs.Scopes.{HasScopes, IsScopedBody}
@@ -61,6 +62,9 @@ module _ (c : Prices) (p : ProgramData) (g : ℕ) (f : FunctionData) (body : Sta
   abbrev most : ℕ
   most = length (all_locals f) + weight_of_body temporaries f (Some body)
 
+  abbrev kinds : List Bool
+  kinds = map (λ l. l.block) (all_locals f)
+
   roomy : length (all_locals f) < most
   roomy = omega arith
 
@@ -73,15 +77,16 @@ module _ (c : Prices) (p : ProgramData) (g : ℕ) (f : FunctionData) (body : Sta
   abbrev blocks : Bool
   blocks = have_blocks p g (all_locals f) parameters
 
-  body_made : Outs.Made c most (Outs.scope_price c most p g (all_locals f) roomy blocks parameters + price c body) (last_code p g f).code [] out.code out.labels
-  body_made = Outs.scope_grows c most p g (all_locals f) roomy parameters (price c body) (λ x out. statement_code p g (all_locals f) body x out)
+  body_made : Outs.Made c most kinds (Outs.scope_price c most kinds p g (all_locals f) roomy refl blocks parameters + price c body)
+      (last_code p g f).code [] out.code out.labels
+  body_made = Outs.scope_grows c most kinds p g (all_locals f) roomy refl parameters (price c body) (λ x out. statement_code p g (all_locals f) body x out)
       (Statements.statement_grows c most p g (all_locals f) roomy body (omega arith)) blocks
       (function_exits p) (last_code p g f) (omega arith) (record { on_break = tt; on_continue = tt; on_return = tt })
 
-  body_fits : AllFit c most (length out.code) (length out.labels) out.code
-  body_fits = body_made.sound ((tt, Outs.fallen_below c most p g (all_locals f) roomy), tt)
+  body_fits : AllFit c most kinds (length out.code) (length out.labels) out.code
+  body_fits = body_made.sound ((tt, Outs.fallen_below c most kinds p g (all_locals f) roomy refl, (tt, tt)), tt)
 
-  scope_within : (b : Bool) → Outs.scope_price c most p g (all_locals f) roomy b parameters ≤ 4 * c.step + 4 * each c.step parameters
+  scope_within : (b : Bool) → Outs.scope_price c most kinds p g (all_locals f) roomy refl b parameters ≤ 4 * c.step + 4 * each c.step parameters
   scope_within true = omega arith
   scope_within false = omega arith
 
@@ -98,10 +103,10 @@ price_within c (s ∷ more) = omega arith
 
 -- ---- jumps
 
-jumps_of_steps : (c : Prices) (top : ℕ) (r : RoutineData) → Each (IsInside (length r.code)) r.labels → (code : Steps)
-    → AllFit c top (length r.code) (length r.labels) code → Each (λ s. LeadsInsideIfAny r (target_of s)) code
-jumps_of_steps c top r set [] e = tt
-jumps_of_steps c top r set (s ∷ code) e = (by_target (target_of s) e.0.0, jumps_of_steps c top r set code e.1)
+jumps_of_steps : (c : Prices) (top : ℕ) (own : List Bool) (r : RoutineData) → Each (IsInside (length r.code)) r.labels → (code : Steps)
+    → AllFit c top own (length r.code) (length r.labels) code → Each (λ s. LeadsInsideIfAny r (target_of s)) code
+jumps_of_steps c top own r set [] e = tt
+jumps_of_steps c top own r set (s ∷ code) e = (by_target (target_of s) e.0.0, jumps_of_steps c top own r set code e.1)
   where
     by_target : (o : Option Target) → LeadsIfAny (length r.code) (length r.labels) o → LeadsInsideIfAny r o
     by_target None h = tt
@@ -114,7 +119,8 @@ jumps_of_function p g f (Some body) =
     let r = routine_of p f (body_code p g f body) in
     let m = body_made in_steps p g f body in
     each_all (λ s. LeadsInsideIfAny r (target_of s)) r.code
-    (jumps_of_steps in_steps (most in_steps p g f body) r (subst (λ (all : List ℕ). Each (IsInside (length r.code)) all) (sym m.is) m.set) r.code
+    (jumps_of_steps in_steps (most in_steps p g f body) (kinds in_steps p g f body) r
+    (subst (λ (all : List ℕ). Each (IsInside (length r.code)) all) (sym m.is) m.set) r.code
     (body_fits in_steps p g f body))
 
 pub jumps : JumpsStand
@@ -123,6 +129,29 @@ jumps p = each_all JumpsWithin (routines_from p 0 p.functions) (from 0 p.functio
     from : (g : ℕ) (all : List FunctionData) → Each JumpsWithin (routines_from p g all)
     from g [] = tt
     from g (f ∷ more) = (jumps_of_function p g f f.body, from (suc g) more)
+
+-- ---- kinds of locals
+
+kinds_of_steps : (c : Prices) (top : ℕ) (own : List Bool) (n l : ℕ) (code : Steps) → AllFit c top own n l code → Each (KeepsKinds own) code
+kinds_of_steps c top own n l [] e = tt
+kinds_of_steps c top own n l (s ∷ code) e = (e.0.2, kinds_of_steps c top own n l code e.1)
+
+kinds_of_function : (p : ProgramData) (g : ℕ) (f : FunctionData) (b : Option (Statement ℕ)) → KindsWithin (routine_of p f (code_if_any p g f b))
+kinds_of_function p g f None = each_all (KeepsKinds (map (λ l. l.block) (all_locals f))) [] tt
+kinds_of_function p g f (Some body) =
+    let out = body_code p g f body in
+    let all = kinds in_steps p g f body in
+    each_all (KeepsKinds all) out.code (kinds_of_steps in_steps (most in_steps p g f body) all (length out.code) (length out.labels) out.code
+    (body_fits in_steps p g f body))
+
+pub kinds_stand : KindsStand
+kinds_stand p = each_all KindsWithin (routines_from p 0 p.functions) (from 0 p.functions)
+  where
+    from : (g : ℕ) (all : List FunctionData) → Each KindsWithin (routines_from p g all)
+    from g [] = tt
+    from g (f ∷ more) = (kinds_of_function p g f f.body, from (suc g) more)
+
+-- ---- labels
 
 labels_of_function : (p : ProgramData) (g : ℕ) (f : FunctionData) (b : Option (Statement ℕ)) → HasFewLabels (routine_of p f (code_if_any p g f b))
 labels_of_function p g f None = omega arith
@@ -305,16 +334,17 @@ programs_have_few_steps p scopes bounded =
 
 -- ---- temporaries
 
-greatest : (c : Prices) (top n l : ℕ) (code : Steps) → AllFit c top n l code → top_of_all code ≤ top
-greatest c top n l [] e = omega arith
-greatest c top n l (s ∷ code) e = let a = greatest c top n l code e.1 in let b = e.0.1 in omega (arith, a, b)
+greatest : (c : Prices) (top : ℕ) (own : List Bool) (n l : ℕ) (code : Steps) → AllFit c top own n l code → top_of_all code ≤ top
+greatest c top own n l [] e = omega arith
+greatest c top own n l (s ∷ code) e = let a = greatest c top own n l code e.1 in let b = e.0.1 in omega (arith, a, b)
 
 temporaries_of_function : (p : ProgramData) (g : ℕ) (f : FunctionData) (b : Option (Statement ℕ))
     → top_of_all (code_if_any p g f b).code ≤ length (routine_of p f (code_if_any p g f b)).locals + weight_of_body temporaries f b
 temporaries_of_function p g f None = omega arith
 temporaries_of_function p g f (Some body) =
     let out = body_code p g f body in
-    let a = greatest in_steps (most in_steps p g f body) (length out.code) (length out.labels) out.code (body_fits in_steps p g f body) in
+    let a = greatest in_steps (most in_steps p g f body) (kinds in_steps p g f body) (length out.code) (length out.labels) out.code
+    (body_fits in_steps p g f body) in
     let b = one_more (λ (l : Local). l.block) (all_locals f) in omega (arith, a, b)
 
 pub temporaries_are_few : TemporariesAreFew

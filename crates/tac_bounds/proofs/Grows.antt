@@ -1,5 +1,5 @@
 -- What code that is made before other code adds to it.
-use Rattle.std.proofs.Common.{◌≡◌, ℕ, zero, suc, ◌+◌, ◌<◌, ◌≤◌, Bool, true, false, List, [], ◌∷◌, length, All, Option, Some, None, refl, arith}
+use Rattle.std.proofs.Common.{◌≡◌, ◌≢◌, slice_get, ℕ, zero, suc, ◌+◌, ◌<◌, ◌≤◌, Bool, true, false, List, [], ◌∷◌, length, All, Option, Some, None, refl, arith}
 use Rattle.lay_base.specs.declared.place.Place.{Place}
 use Rattle.tac_ir.specs.declared.step.Operand.{Operand}
 use Rattle.tac_ir.specs.declared.step.Operand.TheVariants as O
@@ -10,6 +10,7 @@ use Rattle.tac_ir.specs.declared.step.Target.TheVariants as To
 use Rattle.lower_tac.specs.Parts.{Steps, Part, temp, or_temp, operand, unless_any, code_of, tested_if, held, fixed, settled, settled_operand, left_code}
 use Rattle.lower_tac.specs.Parts.{left_operand, both_code}
 use Rattle.tac_bounds.specs.Jumps.{IsInside, target_of}
+use Rattle.tac_bounds.specs.Kinds.{KeepsKinds}
 use Rattle.tac_bounds.specs.Prices.{Prices, price_of, price_of_all}
 use Rattle.tac_bounds.specs.Temporaries.{top, top_of}
 
@@ -21,6 +22,11 @@ pub each_all : {A : Type 0} (P : A → Type 0) (all : List A) → Each P all →
 each_all P [] e k d h = absurd (let r : k < 0 = h in omega (arith, r))
 each_all P (x ∷ all) e zero d h = e.0
 each_all P (x ∷ all) e (suc k) d h = each_all P all e.1 k d (omega (arith, h))
+
+past : {A : Type 0} (all : List A) (d : ℕ) → length all ≤ d → slice_get all d ≡ None
+past [] d h = refl
+past (x ∷ all) zero h = absurd (let r : suc (length all) ≤ 0 = h in omega (arith, r))
+past (x ∷ all) (suc d) h = past all d (omega (arith, h))
 
 -- ---- a step among so many with so many labels
 
@@ -40,16 +46,27 @@ leads_any_later : {n m l k : ℕ} (to : Option Target) → n ≤ m → l ≤ k �
 leads_any_later None h g x = tt
 leads_any_later (Some to) h g x = leads_later to h g x
 
-module _ (c : Prices) (most : ℕ) where
+module _ (c : Prices) (most : ℕ) (kinds : List Bool) where
+  -- a temporary that may be written
+  abbrev pub Open : ℕ → Type 0
+  Open t = slice_get kinds t ≢ Some true
+
+  pub free_open : (d : ℕ) → length kinds ≤ d → Open d
+  free_open d h = by_none (slice_get kinds d) (past kinds d h)
+    where
+      by_none : (o : Option Bool) → o ≡ None → o ≢ Some true
+      by_none None e = λ (q : None ≡ Some true). cc
+      by_none (Some b) e = cc
+
   abbrev pub Fits : (n l : ℕ) → Step → Type 0
-  Fits n l s = LeadsIfAny n l (target_of s) × (top_of s ≤ most)
+  Fits n l s = LeadsIfAny n l (target_of s) × (top_of s ≤ most) × KeepsKinds kinds s
 
   abbrev pub AllFit : (n l : ℕ) → Steps → Type 0
   AllFit n l code = Each (Fits n l) code
 
   pub fit_later : {n m l k : ℕ} (code : Steps) → n ≤ m → l ≤ k → AllFit n l code → AllFit m k code
   fit_later [] h g x = tt
-  fit_later (s ∷ code) h g x = ((leads_any_later (target_of s) h g x.0.0, x.0.1), fit_later code h g x.1)
+  fit_later (s ∷ code) h g x = ((leads_any_later (target_of s) h g x.0.0, x.0.1, x.0.2), fit_later code h g x.1)
 
   module _ (labels : ℕ) where
     -- so much is paid for it, and so much is left
@@ -62,13 +79,14 @@ module _ (c : Prices) (most : ℕ) where
     pub same : {code : Steps} → Grows 0 0 code code
     same = record { longer = omega arith; dearer = omega arith; cost = omega arith; sound = λ a. a }
 
-    pub one : (s : Step) (code : Steps) → LeadsIfAny (length code) labels (target_of s) → top_of s ≤ most → Grows 0 (price_of c s) code (s ∷ code)
-    one s code to h = record {
+    pub one : (s : Step) (code : Steps) → LeadsIfAny (length code) labels (target_of s) → top_of s ≤ most → KeepsKinds kinds s
+        → Grows 0 (price_of c s) code (s ∷ code)
+    one s code to h keeps = record {
       longer = omega arith;
       dearer = omega arith;
       cost = omega arith;
       sound = λ a. (
-        (leads_any_later {n = length code} {m = suc (length code)} (target_of s) (omega arith) (omega arith) to, h),
+        (leads_any_later {n = length code} {m = suc (length code)} (target_of s) (omega arith) (omega arith) to, h, keeps),
         fit_later code (omega arith) (omega arith) a,
       );
     }
@@ -88,7 +106,7 @@ module _ (c : Prices) (most : ℕ) where
 
     -- a part for which so much is paid, and which takes so many temporaries
     pub record Paid (x : Part) (paid temporaries : ℕ) : Type 0 where
-      pub made : (d : ℕ) (code : Steps) → 0 < length code → d < most → d + temporaries ≤ most → Grows c.step paid code (x.made d code)
+      pub made : (d : ℕ) (code : Steps) → 0 < length code → length kinds ≤ d → d < most → d + temporaries ≤ most → Grows c.step paid code (x.made d code)
       pub atom : (a : Operand) → x.atom ≡ Some a → top a ≤ most
 
     unless_grows : {r w : ℕ} {code : Steps} (o : Option Operand) (make : Steps → Steps) → Grows r w code (make code) → Grows r w code (unless_any o make code)
@@ -118,27 +136,28 @@ module _ (c : Prices) (most : ℕ) where
     pub settled_below : {x : Part} {w f : ℕ} → Paid x w f → (d : ℕ) → d < most → top (settled_operand x d) ≤ most
     settled_below {x} p d h = or_temp_below (fixed x.atom) x.at d h (fixed_below x.atom p.atom)
 
-    pub code_grows : {x : Part} {w f : ℕ} → Paid x w f → (d : ℕ) (code : Steps) → 0 < length code → d < most → d + f ≤ most
+    pub code_grows : {x : Part} {w f : ℕ} → Paid x w f → (d : ℕ) (code : Steps) → 0 < length code → length kinds ≤ d → d < most → d + f ≤ most
         → Grows c.step w code (code_of x d code)
-    code_grows {x} p d code k h g = unless_grows x.atom (x.made d) (p.made d code k h g)
+    code_grows {x} p d code k u h g = unless_grows x.atom (x.made d) (p.made d code k u h g)
 
-    pub tested_grows : (b : Bool) (at : Place) (t : ℕ) (code : Steps) → t < most → Grows 0 c.step code (tested_if b at t code)
-    tested_grows true at t code h = one (S.Set t (temp at t)) code tt (omega (arith, h))
-    tested_grows false at t code h = pay (omega arith) same
+    pub tested_grows : (b : Bool) (at : Place) (t : ℕ) (code : Steps) → t < most → Open t → Grows 0 c.step code (tested_if b at t code)
+    tested_grows true at t code h o = one (S.Set t (temp at t)) code tt (omega (arith, h)) (o, tt)
+    tested_grows false at t code h o = pay (omega arith) same
 
-    pub held_grows : {x : Part} {w f : ℕ} → Paid x w f → (d : ℕ) (code : Steps) → 0 < length code → d < most → d + f ≤ most → Grows 0 w code (held x d code)
-    held_grows {x} p d code k h g =
-        let t = tested_grows x.lacks x.at d code h in
-        let l = t.longer in pay (omega arith) (next t (p.made d (tested_if x.lacks x.at d code) (omega (arith, k, l)) h g))
+    pub held_grows : {x : Part} {w f : ℕ} → Paid x w f → (d : ℕ) (code : Steps) → 0 < length code → length kinds ≤ d → d < most → d + f ≤ most
+        → Grows 0 w code (held x d code)
+    held_grows {x} p d code k u h g =
+        let t = tested_grows x.lacks x.at d code h (free_open d u) in
+        let l = t.longer in pay (omega arith) (next t (p.made d (tested_if x.lacks x.at d code) (omega (arith, k, l)) u h g))
 
-    pub settled_grows : {x : Part} {w f : ℕ} → Paid x w f → (d : ℕ) (code : Steps) → 0 < length code → d < most → d + f ≤ most
+    pub settled_grows : {x : Part} {w f : ℕ} → Paid x w f → (d : ℕ) (code : Steps) → 0 < length code → length kinds ≤ d → d < most → d + f ≤ most
         → Grows 0 w code (settled x d code)
-    settled_grows {x} p d code k h g = unless_grows (fixed x.atom) (held x d) (held_grows p d code k h g)
+    settled_grows {x} p d code k u h g = unless_grows (fixed x.atom) (held x d) (held_grows p d code k u h g)
 
-    left_grows : {x : Part} {w f : ℕ} → Paid x w f → (o : Option Operand) (d : ℕ) (code : Steps) → 0 < length code → d < most → d + f ≤ most
+    left_grows : {x : Part} {w f : ℕ} → Paid x w f → (o : Option Operand) (d : ℕ) (code : Steps) → 0 < length code → length kinds ≤ d → d < most → d + f ≤ most
         → Grows 0 w code (left_code o x d code)
-    left_grows p None d code k h g = settled_grows p d code k h g
-    left_grows p (Some b) d code k h g = pay (omega arith) (code_grows p d code k h g)
+    left_grows p None d code k u h g = settled_grows p d code k u h g
+    left_grows p (Some b) d code k u h g = pay (omega arith) (code_grows p d code k u h g)
 
     left_below : {x : Part} {w f : ℕ} → Paid x w f → (o : Option Operand) (d : ℕ) → d < most → top (left_operand o x d) ≤ most
     left_below p None d h = settled_below p d h
@@ -147,13 +166,13 @@ module _ (c : Prices) (most : ℕ) where
     -- two operands and the step that reads them
     pub both_grows : {x y : Part} {w f v g r u : ℕ} {code : Steps} → Paid x w f → Paid y v g → (d : ℕ) (steps : Operand → Operand → Steps)
         → ((a b : Operand) → top a ≤ most → top b ≤ most → Grows r u code (steps a b))
-        → 0 < length code → suc d < most → d + f ≤ most → suc d + g ≤ most → Grows (r + c.step) (u + w + v) code (both_code x y d steps)
-    both_grows {x} {y} {w} {f} {v} {g} {r} {u} {code} p q d steps last k h l i =
+        → 0 < length code → length kinds ≤ d → suc d < most → d + f ≤ most → suc d + g ≤ most → Grows (r + c.step) (u + w + v) code (both_code x y d steps)
+    both_grows {x} {y} {w} {f} {v} {g} {r} {u} {code} p q d steps last k low_kinds h l i =
         let a = left_operand y.atom x d in
         let b = operand y (suc d) in
         let low : d < most = omega (arith, h) in
         let s = last a b (left_below p y.atom d low) (operand_below q (suc d) h) in
         let e = s.longer in
-        let right = code_grows q (suc d) (steps a b) (omega (arith, k, e)) h i in
+        let right = code_grows q (suc d) (steps a b) (omega (arith, k, e)) (omega (arith, low_kinds)) h i in
         let z = right.longer in
-        pay (omega arith) (next (next s right) (left_grows p y.atom d (code_of y (suc d) (steps a b)) (omega (arith, k, e, z)) low l))
+        pay (omega arith) (next (next s right) (left_grows p y.atom d (code_of y (suc d) (steps a b)) (omega (arith, k, e, z)) low_kinds low l))

@@ -8,6 +8,7 @@ use Rattle.c_well_typed.specs.ProgramWeights.Counted.{code, frame}
 use Rattle.c_well_typed.specs.ProgramWeights.Weights.{weight_of_function, code_weight_of_program}
 use Rattle.c_well_typed.specs.WellTyped.{of_program, HaveTypedFunctions}
 use Rattle.tac_bounds.specs.Jumps.{JumpsWithin}
+use Rattle.tac_bounds.specs.Kinds.{KindsWithin}
 use Rattle.tac_bounds.specs.Prices.{Prices, in_steps, AreBytes, paid, price_of_code, price_of_routines}
 use Rattle.tac_bounds.specs.Scopes.{HasScopes}
 use Rattle.tac_bounds.specs.Temporaries.{top_of_all, temporaries}
@@ -21,6 +22,10 @@ pub record IsRoutineOf (p : ProgramData) (r : RoutineData) (f : FunctionData) : 
 -- each jump leads to a step of its function
 abbrev pub JumpsStand : Type 0
 JumpsStand = (p : ProgramData) → All JumpsWithin (lowered p).routines
+
+-- no step writes a local that lies in a block, and each block of which one speaks is a local's
+abbrev pub KindsStand : Type 0
+KindsStand = (p : ProgramData) → All KindsWithin (lowered p).routines
 
 -- a function has no more labels than steps
 abbrev pub HasFewLabels : RoutineData → Type 0

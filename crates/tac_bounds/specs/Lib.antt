@@ -1,4 +1,5 @@
 pub mod Jumps
+pub mod Kinds
 pub mod Prices
 pub mod Temporaries
 pub mod Scopes

@@ -1,12 +1,17 @@
 //! What holds of lowered code.
 
-ghost use Rattle.tac_bounds.specs.Laws.{BytesAreWithin, CodeIsPaid, FramesAreWithin, JumpsStand, LabelsAreFew, ProgramsAreWithin, StepsAreFew};
-ghost use Rattle.tac_bounds.specs.Laws.{ProgramsHaveFewSteps, TemporariesAreFew, TypedHaveScopes};
+ghost use Rattle.tac_bounds.specs.Laws.{BytesAreWithin, CodeIsPaid, FramesAreWithin, JumpsStand, KindsStand, LabelsAreFew, ProgramsAreWithin};
+ghost use Rattle.tac_bounds.specs.Laws.{ProgramsHaveFewSteps, StepsAreFew, TemporariesAreFew, TypedHaveScopes};
 
 /// Each jump leads to a step of its function. The last step of a function with a body is a return, so something is left at each place to which a jump
 /// leads, and each label that is used is set.
 pub fn jumps_stand()
     ensures { JumpsStand }
+{}
+
+/// A step writes temporaries and locals that are kept by name, and no local that lies in a block; each block of which a step speaks is that of a local.
+pub fn kinds_stand()
+    ensures { KindsStand }
 {}
 
 /// A function has no more labels than steps.
