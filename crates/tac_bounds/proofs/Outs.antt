@@ -11,7 +11,12 @@ use Rattle.tac_ir.specs.declared.step.Step.TheVariants as S
 use Rattle.tac_ir.specs.declared.step.Target.{Target}
 use Rattle.tac_ir.specs.declared.step.Target.TheVariants as To
 use Rattle.lower_tac.specs.Parts.{Steps}
-use Rattle.lower_tac.specs.Statements.{Out, before, by, here, with_label, Exit, Exits, leads, leaves, ReturnWay, at_once, behind_ends}
+use Rattle.lower_tac.specs.declared.ways.Exit.TheVariants.{Leads as leads, Leaves as leaves}
+use Rattle.lower_tac.specs.declared.ways.Exit.{Exit}
+use Rattle.lower_tac.specs.declared.ways.Exits.{Exits}
+use Rattle.lower_tac.specs.declared.ways.ReturnWay.TheVariants.{AtOnce as at_once, BehindEnds as behind_ends}
+use Rattle.lower_tac.specs.declared.ways.ReturnWay.{ReturnWay}
+use Rattle.lower_tac.specs.Statements.{Out, before, by, here, with_label}
 use Rattle.lower_tac.specs.Statements.{fallen, exit_code, back_code, begin_code, begins_code, end_code, ends_code, return_end, continue_end, break_end}
 use Rattle.lower_tac.specs.Statements.{have_blocks, scope_code, scoped_code, round}
 use Rattle.tac_bounds.specs.Jumps.{IsInside}

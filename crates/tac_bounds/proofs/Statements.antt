@@ -15,7 +15,10 @@ use Rattle.tac_ir.specs.declared.step.Step.TheVariants as S
 use Rattle.tac_ir.specs.declared.step.Target.{Target}
 use Rattle.lower_tac.specs.Parts.{Steps, temp, operand, code_of}
 use Rattle.lower_tac.specs.Expressions.{value_code, effect_code, branch_code, path_code, part_of, place_of, named_root}
-use Rattle.lower_tac.specs.Statements.{Out, before, here, with_loops, Exits, in_loop, in_switch, ReturnWay, at_once, behind_ends, ArmsOut}
+use Rattle.lower_tac.specs.declared.ways.Exits.{Exits}
+use Rattle.lower_tac.specs.declared.ways.ReturnWay.TheVariants.{AtOnce as at_once, BehindEnds as behind_ends}
+use Rattle.lower_tac.specs.declared.ways.ReturnWay.{ReturnWay}
+use Rattle.lower_tac.specs.Statements.{Out, before, here, with_loops, in_loop, in_switch, ArmsOut}
 use Rattle.lower_tac.specs.Statements.{default_start, cases_code, dispatch_code, chosen_code, return_code, test_code, effect_if_any, record_code, put_code}
 use Rattle.lower_tac.specs.Statements.{parts_code}
 use Rattle.lower_tac.specs.Statements.{initial_code, declare_code, round, enters_by_test, enters_at_once, scoped_code, statement_code, statements_code}
