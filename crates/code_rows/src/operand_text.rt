@@ -8,11 +8,11 @@ use tac_ir::{Operand, Row, Target};
 
 /// A temporary, as `t3`; the locals of a function are its first.
 pub fn put_temporary(out: &mut Writer, t: u32) {
-    put_numbered(out, "t", t);
+    put_numbered(out, "t", u64::from(t));
 }
 
 /// A letter with a number behind it.
-pub fn put_numbered(out: &mut Writer, letter: &str, number: u32) {
+pub fn put_numbered(out: &mut Writer, letter: &str, number: u64) {
     out.word(letter);
     out.add(Buffer::new().format(number).as_bytes());
 }
@@ -22,8 +22,8 @@ pub fn put_operand(out: &mut Writer, a: Operand) {
     match a {
         Operand::Word(n) => out.number(u64::from(n)),
         Operand::Null => out.word("null"),
-        Operand::Function(f) => put_numbered(out, "f", f),
-        Operand::Object(n) => put_numbered(out, "o", n),
+        Operand::Function(f) => put_numbered(out, "f", u64::from(f)),
+        Operand::Object(n) => put_numbered(out, "o", u64::from(n)),
         Operand::Temp(_, t, _) => put_temporary(out, t),
     }
 }
@@ -42,7 +42,7 @@ pub fn put_target(out: &mut Writer, to: Target) {
     out.word("->");
     match to {
         Target::Left(n) => out.number(u64::from(n)),
-        Target::Label(l) => put_numbered(out, "l", l),
+        Target::Label(l) => put_numbered(out, "l", u64::from(l)),
     }
 }
 

@@ -18,7 +18,7 @@ fn put_routine(out: &mut Writer, routine: &Routine) {
     }
     for (label, at) in routine.labels.as_slice().iter().enumerate() {
         out.add(b"\n");
-        put_numbered(out, "l", label as u32);
+        put_numbered(out, "l", label as u64);
         out.word("->");
         out.number(u64::from(*at));
     }

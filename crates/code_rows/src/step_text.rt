@@ -151,7 +151,7 @@ fn put_way(out: &mut Writer, step: Step) {
         }
         Step::Call(t, _, f, all) => {
             begin(out, t, "call");
-            put_numbered(out, "f", f);
+            put_numbered(out, "f", u64::from(f));
             put_row(out, all);
         }
         Step::CallThrough(t, _, _, a, all) => {
