@@ -24,7 +24,8 @@ use Rattle.c_undefined_places.proofs.Moved.{statement_again}
 use Rattle.c_undefined_places.proofs.PlacesOfUnits.{HasPlacedBody, AreFunctionsPlaced, each_unit_placed}
 use Rattle.c_undefined_places.proofs.StandingCalls.{each_at, undefined_at}
 
-module _ (Is : Place → Type 0) (units : List UnitData) (standing : AllByRecursion (ArePlaced Is) units) (placed : AllByRecursion (AreFunctionsPlaced Is) units) where
+module _ (Is : Place → Type 0) (units : List UnitData) (standing : AllByRecursion (ArePlaced Is) units)
+    (placed : AllByRecursion (AreFunctionsPlaced Is) units) where
   again : (m : Renaming ℕ ℕ) (body : Option (Typed.Statement ℕ)) → IfSome body (IsPlacedStatement Is)
       → IfSome (option_map (mapped_statement m) body) (IsPlacedStatement Is)
   again m None h = tt

@@ -19,7 +19,8 @@ use Rattle.c_meaning.specs.Frames.{Frame, frame_of}
 use Rattle.c_meaning.specs.declared.frame.Slot.{Slot}
 use Rattle.c_meaning.specs.declared.frame.Slot.TheVariants.{ByName as by_name, InBlock as in_block}
 use Rattle.c_meaning.specs.Program.{access_at, all_locals}
-use Rattle.c_meaning.specs.Run.{result_of, received, receive, numbers, body_of, ending, function_of, called, end_by, place_of, main_place, start, no_place, run_of, was_undefined, seen}
+use Rattle.c_meaning.specs.Run.{result_of, received, receive, numbers, body_of, ending, function_of, called, end_by, place_of, main_place, start, no_place}
+use Rattle.c_meaning.specs.Run.{run_of, was_undefined, seen}
 use Rattle.c_undefined_places.specs.Placed.{IsPlacedStatement, IsPlacedFunction, FunctionsArePlaced}
 use Rattle.c_undefined_places.proofs.Standing as Runs
 use Rattle.c_undefined_places.proofs.StandingExpressions as Expressions
@@ -80,7 +81,8 @@ module _ (Is : Place → Type 0) (p : ProgramData) (placed : FunctionsArePlaced 
   by_body_if_any call calls n place f values g (Some body) i h = by_body call calls n place f values g body h (by_receive place 0 g.parameters values i)
 
   by_ending : {m : Doing Frame (Option Value)} → Expressions.Stands Is m → Expressions.Stands Is (ending p m)
-  by_ending one = Runs.bind Is one (λ v. Runs.bind Is (Runs.bind Is (Runs.by_own Is (λ f. f) (λ f. f)) (λ f. Statements.by_end_all Is f)) (λ a. Runs.by_pure Is v))
+  by_ending one =
+      Runs.bind Is one (λ v. Runs.bind Is (Runs.bind Is (Runs.by_own Is (λ f. f) (λ f. f)) (λ f. Statements.by_end_all Is f)) (λ a. Runs.by_pure Is v))
 
   by_entered : (call : Calls) (n : ℕ) (place : Place) (f : ℕ) (values : List Value) (g : FunctionData)
       → Expressions.Stands Is (body_of p call n place f values g g.body) → Expressions.Stands Is (function_of p call n place f values (Some g))

@@ -99,7 +99,8 @@ module _ (Is : Place → Type 0) where
     by_begin x (Some l) = by_kind l.block refl
       where
         by_kind : (block : Bool) → l.block ≡ block → Stands (begin p x (Some l))
-        by_kind true e = rw e (bind (by_finish x) (λ a. bind (Runs.by_make Is (size_at p l.ty) Kind.Local) (λ b. Expressions.by_with_slot Is x (in_block (Some b)))))
+        by_kind true e =
+            rw e (bind (by_finish x) (λ a. bind (Runs.by_make Is (size_at p l.ty) Kind.Local) (λ b. Expressions.by_with_slot Is x (in_block (Some b)))))
         by_kind false e = rw e (Expressions.by_with_slot Is x (by_name None))
 
     by_begin_all : (locals : List Local) (numbers : List ℕ) → Stands (begin_all p locals numbers)
@@ -223,7 +224,8 @@ module _ (Is : Place → Type 0) where
             (by_loop (began g l) n _ _ _ (by_tests_if_any test h.1) (by_done_if_any step h.2) (by_execute (l + 1) body h.3))))
         by_execute l (T.switch e own arms) h =
             bind (by_used e h.0) (λ v. bind (Runs.by_tested Is (at_of e) (as_word v) (Expressions.own_place Is e h.0)) (λ k.
-            bind (by_scoped p locals own (by_enter l (or_default (arm_of k 0 arms) (default_arm 0 arms)) arms h.1)) (λ way. Runs.by_pure Is (behind_switch way))))
+            bind (by_scoped p locals own (by_enter l (or_default (arm_of k 0 arms) (default_arm 0 arms)) arms h.1))
+            (λ way. Runs.by_pure Is (behind_switch way))))
         by_execute l T.break h = Runs.by_pure Is by_break
         by_execute l T.continue h = Runs.by_pure Is by_continue
         by_execute l (T.return e) h = by_returned e h
