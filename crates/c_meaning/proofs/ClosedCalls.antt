@@ -6,13 +6,14 @@ use Rattle.c_typed.specs.declared.program.Local.{Local}
 use Rattle.c_typed.specs.Trees.{Statement}
 use Rattle.c_typed.specs.Programs.{ProgramData, FunctionData}
 use Rattle.memory_words.specs.declared.cell_words.pointer.Ptr.TheVariants as P
+use Rattle.block_memory.specs.RunWorlds.Doing.{Doing}
 use Rattle.block_memory.specs.RunWorlds.Events.{entered}
 use Rattle.block_memory.specs.declared.run_worlds.value.Value.{Value}
 use Rattle.c_meaning.specs.Frames.{Frame, frame_of}
 use Rattle.c_meaning.specs.declared.frame.Slot.{Slot}
 use Rattle.c_meaning.specs.declared.frame.Slot.TheVariants.{ByName as by_name, InBlock as in_block}
 use Rattle.c_meaning.specs.Program.{access_at, all_locals}
-use Rattle.c_meaning.specs.Run.{result_of, received, receive, numbers, body_of, function_of, called}
+use Rattle.c_meaning.specs.Run.{result_of, received, receive, numbers, body_of, ending, function_of, called}
 use Rattle.c_meaning.proofs.Closed.{Relation}
 use Rattle.c_meaning.proofs.ClosedRuns as Runs
 use Rattle.c_meaning.proofs.ClosedExpressions as Expressions
@@ -47,12 +48,15 @@ module _ (r : Relation) (p : ProgramData) where
       Runs.bind r (by_receive place 0 g.parameters values b) (λ a. Runs.bind r (Statements.execute_alike r p call call' n m calls f (all_locals g) 0 body b h) (λ way.
       Runs.bind r (Statements.by_finish_all r p (numbers (length g.parameters)) b) (λ c. r.on_pure b _ _ (result_of p f way))))
 
+  ending_alike : (b : ℕ) {m m' : Doing Frame (Option Value)} → r.Related b Frame (Option Value) m m' → r.Related b Frame (Option Value) (ending p m) (ending p m')
+  ending_alike b one = Runs.bind r one (λ v. Runs.bind r (Runs.bind r (Runs.by_own r (λ f. f) (λ f. f) b) (λ f. Statements.by_end_all r f b)) (λ a. r.on_pure b _ _ v))
+
   function_alike : (call call' : Calls) (n m : ℕ) → Calling n m call call' → (place : Place) (f : ℕ) (values : List Value) (g : Option FunctionData)
       (b : ℕ) → r.Fuels b (suc n) (suc m) → r.Related b Frame (Option Value) (function_of p call n place f values g) (function_of p call' m place f values g)
   function_alike call call' n m calls place f values None b h = Runs.by_undefined r K.Call place b
   function_alike call call' n m calls place f values (Some g) b h =
       r.on_turn b n m _ _ _ _ h (λ c k. Runs.bind r (r.on_deeper c _) (λ a. Runs.bind r (Runs.by_note r (entered f) c) (λ a.
-      Runs.bind r (r.on_apart c _ _ (frame_of p g) _ _ (body_alike call call' n m calls place f values g g.body c k)) (λ v.
+      Runs.bind r (r.on_apart c _ _ (frame_of p g) _ _ (ending_alike c (body_alike call call' n m calls place f values g g.body c k))) (λ v.
       Runs.bind r (r.on_leave c _) (λ a. r.on_pure c _ _ v)))))
 
   -- the theorem

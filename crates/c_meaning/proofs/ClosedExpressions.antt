@@ -20,10 +20,10 @@ use Rattle.memory_words.specs.declared.cell_words.pointer.Ptr.{Ptr}
 use Rattle.memory_words.specs.declared.cell_words.pointer.Ptr.TheVariants as P
 use Rattle.block_memory.specs.RunWorlds.Doing.{Doing, ◌>>=◌, pure}
 use Rattle.block_memory.specs.RunWorlds.Events.{reached}
-use Rattle.block_memory.specs.RunWorlds.Scalars.{word_of, pointer_of}
+use Rattle.block_memory.specs.RunWorlds.Scalars.{as_word, as_pointer, pointer_of}
 use Rattle.block_memory.specs.declared.run_worlds.value.Value.{Value}
 use Rattle.block_memory.specs.declared.run_worlds.value.Value.TheVariants.{Word as word, Pointer as pointer}
-use Rattle.block_memory.specs.RunWorlds.LibraryCalls.{allocated, the, given, library, is_same_place}
+use Rattle.block_memory.specs.RunWorlds.LibraryCalls.{allocated, the, given, number, address, library, is_same_place}
 use Rattle.block_memory.specs.RunWorlds.Operators.{converted, is_true, flag, unary, moved, updated, next}
 use Rattle.c_meaning.specs.Expressions.{or_no_value, part_in, part_of, is_subscript, element_of, field_in, field_through, address_of, copy_record}
 use Rattle.c_meaning.specs.Expressions.{through, as_type, value, used, value_of, how_many, arguments, spot, spot_of}
@@ -87,8 +87,10 @@ module _ (r : Relation) where
   by_address_of place (placed q) = Runs.by_pure r q
   by_address_of place (kept x) = Runs.by_undefined r K.Dead place
 
-  pub by_allocated : (place : Place) (record_number size count : ℕ) (zeroed : Bool) → Itself Value (allocated place record_number size count zeroed)
-  by_allocated place record_number size count zeroed = by_choice (nat_lt (count * size) (2 ^ 28)) (Runs.by_allocate r _ _ zeroed) (Runs.by_undefined r K.Huge place)
+  pub by_allocated : (place : Place) (record_number size : ℕ) (count : Value) (zeroed : Bool) → Itself Value (allocated place record_number size count zeroed)
+  by_allocated place record_number size count zeroed =
+      by_bind (Runs.by_tested r place (as_word count))
+      (λ n. by_choice (nat_lt (n * size) (2 ^ 28)) (Runs.by_allocate r _ _ zeroed) (Runs.by_undefined r K.Huge place))
 
   by_the : {A : Type 0} {m : Doing Frame A} → Itself A m → (f : A → Value) → Itself (Option Value) (the m f)
   by_the one f = by_bind one (λ x. Runs.by_pure r (Some (f x)))
@@ -96,17 +98,27 @@ module _ (r : Relation) where
   by_given : {m : Doing Frame Value} → Itself Value m → Itself (Option Value) (given m)
   by_given one = by_bind one (λ v. Runs.by_pure r (Some v))
 
+  by_number : (place : Place) (v : Value) → Itself ℕ (number place v)
+  by_number place v = Runs.by_tested r place (as_word v)
+
+  by_address : (place : Place) (v : Value) → Itself Ptr (address place v)
+  by_address place v = Runs.by_tested r place (as_pointer v)
+
   pub by_library : (place : Place) (which : LibraryFunction) (all : List Value) → Itself (Option Value) (library place which all)
-  by_library place L.Malloc (v ∷ []) = by_given (Runs.by_allocate r None _ false)
-  by_library place L.Calloc (v ∷ w ∷ []) = by_given (Runs.by_allocate r None _ true)
-  by_library place L.Free (v ∷ []) = by_bind (Runs.by_free r place _) (λ a. Runs.by_pure r None)
-  by_library place L.Memcpy (v ∷ w ∷ n ∷ []) = by_given (Runs.by_copy r place _ _ _ _)
-  by_library place L.Memmove (v ∷ w ∷ n ∷ []) = by_given (Runs.by_copy r place _ _ _ _)
-  by_library place L.Memset (v ∷ c ∷ n ∷ []) = by_given (Runs.by_fill r place _ _ _)
-  by_library place L.Memcmp (v ∷ w ∷ n ∷ []) = by_given (Runs.by_compare r place _ _ _)
-  by_library place L.Putchar (v ∷ []) = by_given (Runs.by_putchar r _)
+  by_library place L.Malloc (v ∷ []) = by_bind (by_number place v) (λ n. by_given (Runs.by_allocate r None n false))
+  by_library place L.Calloc (v ∷ w ∷ []) = by_bind (by_number place v) (λ n. by_bind (by_number place w) (λ k. by_given (Runs.by_allocate r None _ true)))
+  by_library place L.Free (v ∷ []) = by_bind (by_address place v) (λ p. by_bind (Runs.by_free r place p) (λ a. Runs.by_pure r None))
+  by_library place L.Memcpy (v ∷ w ∷ x ∷ []) =
+      by_bind (by_address place v) (λ p. by_bind (by_address place w) (λ q. by_bind (by_number place x) (λ n. by_given (Runs.by_copy r place p q n false))))
+  by_library place L.Memmove (v ∷ w ∷ x ∷ []) =
+      by_bind (by_address place v) (λ p. by_bind (by_address place w) (λ q. by_bind (by_number place x) (λ n. by_given (Runs.by_copy r place p q n true))))
+  by_library place L.Memset (v ∷ w ∷ x ∷ []) =
+      by_bind (by_address place v) (λ p. by_bind (by_number place w) (λ byte. by_bind (by_number place x) (λ n. by_given (Runs.by_fill r place p byte n))))
+  by_library place L.Memcmp (v ∷ w ∷ x ∷ []) =
+      by_bind (by_address place v) (λ p. by_bind (by_address place w) (λ q. by_bind (by_number place x) (λ n. by_given (Runs.by_compare r place p q n))))
+  by_library place L.Putchar (v ∷ []) = by_bind (by_number place v) (λ n. by_given (Runs.by_putchar r n))
   by_library place L.Getchar [] = by_given (Runs.by_getchar r)
-  by_library place L.Exit (v ∷ []) = Runs.by_exit r _
+  by_library place L.Exit (v ∷ []) = by_bind (by_number place v) (λ n. Runs.by_exit r n)
   by_library place which all = Runs.by_undefined r K.Call place
 
   pub by_copy_record : (place : Place) (size : ℕ) (to from : Spot) → Itself (Unit {0}) (copy_record place size to from)
@@ -151,7 +163,7 @@ module _ (r : Relation) where
 
       as_type_alike : (t : CType) (place : Place) (v : Option Value) → Alike (Option Value) (as_type p call t place v) (as_type p call' t place v)
       as_type_alike void place v = pure_alike None
-      as_type_alike t place v = bind (by_or_no_value place v b) (λ v. pure_alike (Some (converted t v)))
+      as_type_alike t place v = bind (by_or_no_value place v b) (λ v. by_given (Runs.by_tested r place (converted t v)) b)
 
       through_alike : (place : Place) (t : CType) (q : Ptr) (all : List Value) → Alike (Option Value) (through p call place t q all) (through p call' place t q all)
       through_alike place t (P.Function f) all = by_function (slice_get p.functions f) refl
@@ -175,10 +187,12 @@ module _ (r : Relation) where
         node_alike t at T.null = pure_alike (Some (pointer P.Null))
         node_alike t at (T.function_name f) = pure_alike (Some (pointer (P.Function f)))
         node_alike t at (T.load q) = bind (spot_alike false q) (λ s. bind (by_fetch at s t b) (λ v. pure_alike (Some v)))
+        node_alike t at (T.address_of (path u c (T.deref e))) = value_alike e
+        node_alike t at (T.decay (path u c (T.deref e))) = value_alike e
         node_alike t at (T.address_of q) = bind (spot_alike true q) (λ s. the_alike (by_address_of at s b) pointer)
         node_alike t at (T.decay q) = bind (spot_alike false q) (λ s. the_alike (by_address_of at s b) pointer)
         node_alike t at (T.convert e written) = bind (value_alike e) (as_type_alike (type_at p t) (at_of e))
-        node_alike t at (T.unary op x) = the_alike (used_alike x) (unary op)
+        node_alike t at (T.unary op x) = bind (used_alike x) (λ v. by_given (Runs.by_tested r at (unary op v)) b)
         node_alike t at (T.binary op x y) = bind (used_alike x) (λ v. bind (used_alike y) (λ w. by_given (Runs.by_tested r at _) b))
         node_alike t at (T.compare op x y) =
             bind (used_alike x) (λ v. bind (used_alike y) (λ w. bind (Runs.by_memory r b) (λ m. by_given (Runs.by_tested r at _) b)))
@@ -211,9 +225,9 @@ module _ (r : Relation) where
         node_alike t at (T.allocate record_number count zeroed) =
             bind (count_alike count) (λ n. by_given (by_allocated at record_number (element_size p (type_at p t)) n zeroed) b)
 
-        count_alike : (count : OptionalExpression ℕ) → Alike ℕ (how_many p call count) (how_many p call' count)
-        count_alike T.no_expression = pure_alike 1
-        count_alike (T.some_expression e) = bind (used_alike e) (λ v. pure_alike (word_of v))
+        count_alike : (count : OptionalExpression ℕ) → Alike Value (how_many p call count) (how_many p call' count)
+        count_alike T.no_expression = pure_alike (word 1)
+        count_alike (T.some_expression e) = used_alike e
 
         arguments_alike : (all : Expressions ℕ) → Alike (List Value) (arguments p call all) (arguments p call' all)
         arguments_alike T.no_expressions = pure_alike []
@@ -229,12 +243,13 @@ module _ (r : Relation) where
         step_alike t addressed at (T.deref e) = bind (used_alike e) (λ v. pure_alike (placed (pointer_of v)))
         step_alike t addressed at (T.index e i) =
             bind (used_alike e) (λ v. bind (used_alike i) (λ w. bind (Runs.by_memory r b) (λ m.
-            bind (Runs.by_tested r at (moved m Add (size_at p t) (kind_of (type_at p (ty e))) v (kind_of (type_at p (ty i))) w) b) (λ q. pure_alike (placed (pointer_of q))))))
+            bind (Runs.by_tested r at (moved m Add (size_at p t) (kind_of (type_at p (ty i))) v w) b) (λ q. pure_alike (placed (pointer_of q))))))
         step_alike t addressed at (T.member (path u c (T.deref e)) n field) =
             bind (used_alike e) (λ v. by_field_through at (pointer_of v) (pos (offset_of p.records n field)) b)
         step_alike t addressed at (T.member (path u c (T.index e i)) n field) =
-            bind (used_alike e) (λ v. bind (used_alike i) (λ w. by_field_through at (pointer_of v)
-            (number_of (kind_of (type_at p (ty i))) (word_of w) *ℤ pos (size_at p u) +ℤ pos (offset_of p.records n field)) b))
+            bind (used_alike e) (λ v. bind (used_alike i) (λ w. bind (Runs.by_tested r at (as_word w) b) (λ k. by_field_through at (pointer_of v)
+            (number_of (kind_of (type_at p (ty i))) k *ℤ pos (size_at p u) +ℤ pos (offset_of p.records n field)) b)))
         step_alike t addressed at (T.member q n field) = bind (spot_alike false q) (λ s. by_part_of at (pos (offset_of p.records n field)) s b)
         step_alike t addressed at (T.element q i) =
-            bind (spot_alike false q) (λ s. bind (used_alike i) (λ v. by_element_of at (length_of (type_at p (path_ty q))) (size_at p t) addressed s (number_of (kind_of (type_at p (ty i))) (word_of v)) b))
+            bind (spot_alike false q) (λ s. bind (used_alike i) (λ v. bind (Runs.by_tested r at (as_word v) b) (λ n.
+            by_element_of at (length_of (type_at p (path_ty q))) (size_at p t) addressed s (number_of (kind_of (type_at p (ty i))) n) b)))

@@ -12,7 +12,7 @@ use Rattle.block_memory.specs.declared.kinds.BlockKind.TheVariants as Kind
 use Rattle.memory_words.specs.declared.cell_words.pointer.Ptr.TheVariants as P
 use Rattle.block_memory.specs.RunWorlds.Doing.{Doing, ◌>>=◌, ◌>>◌, pure, turn, note}
 use Rattle.block_memory.specs.RunWorlds.Events.{Event, began}
-use Rattle.block_memory.specs.RunWorlds.Scalars.{word_of}
+use Rattle.block_memory.specs.RunWorlds.Scalars.{as_word}
 use Rattle.block_memory.specs.declared.run_worlds.value.Value.{Value}
 use Rattle.block_memory.specs.RunWorlds.Operators.{is_true}
 use Rattle.block_memory.specs.RunWorlds.Ways.{and_then, and_again, loop, loop_behind}
@@ -20,7 +20,7 @@ use Rattle.block_memory.specs.declared.run_worlds.way.Way.{Way}
 use Rattle.block_memory.specs.declared.run_worlds.way.Way.TheVariants.{Normally as normally, ByBreak as by_break, ByContinue as by_continue}
 use Rattle.block_memory.specs.declared.run_worlds.way.Way.TheVariants.{ByReturn as by_return}
 use Rattle.c_meaning.specs.Expressions.{used}
-use Rattle.c_meaning.specs.Frames.{Frame, begin, end_slot, begin_all, finish_all, scoped, emptied}
+use Rattle.c_meaning.specs.Frames.{Frame, begin, end_slot, finish, begin_all, finish_all, end_of, end_all, scoped, emptied}
 use Rattle.c_meaning.specs.declared.frame.Spot.TheVariants.{Placed as placed}
 use Rattle.c_meaning.specs.declared.frame.Slot.{Slot}
 use Rattle.c_meaning.specs.declared.frame.Slot.TheVariants.{ByName as by_name, InBlock as in_block}
@@ -48,20 +48,32 @@ module _ (r : Relation) where
 
   -- ---- scopes
 
-  module _ (p : ProgramData) where
-    pub by_begin : (x : ℕ) (l : Option Local) → Itself (Unit {0}) (begin p x l)
-    by_begin x None = Runs.by_pure r tt
-    by_begin x (Some l) = by_kind l.block refl
-      where
-        by_kind : (block : Bool) → l.block ≡ block → Itself (Unit {0}) (begin p x (Some l))
-        by_kind true e = rw e (by_bind (Runs.by_make r (size_at p l.ty) Kind.Local) (λ b. Expressions.by_with_slot r x (in_block (Some b))))
-        by_kind false e = rw e (Expressions.by_with_slot r x (by_name None))
+  by_end_of : (s : Slot) → Itself (Unit {0}) (end_of s)
+  by_end_of (in_block (Some b)) = Runs.by_end r b
+  by_end_of (in_block None) = Runs.by_pure r tt
+  by_end_of (by_name v) = Runs.by_pure r tt
 
+  pub by_end_all : (f : Frame) → Itself (Unit {0}) (end_all f)
+  by_end_all [] = Runs.by_pure r tt
+  by_end_all (s ∷ more) = by_bind (by_end_of s) (λ a. by_end_all more)
+
+  module _ (p : ProgramData) where
     by_end_slot : (x : ℕ) (s : Option Slot) → Itself (Unit {0}) (end_slot p x s)
     by_end_slot x (Some (in_block (Some b))) = by_bind (Runs.by_end r b) (λ a. Expressions.by_with_slot r x (in_block None))
     by_end_slot x (Some (in_block None)) = Runs.by_pure r tt
     by_end_slot x (Some (by_name v)) = Runs.by_pure r tt
     by_end_slot x None = Runs.by_pure r tt
+
+    by_finish : (x : ℕ) → Itself (Unit {0}) (finish p x)
+    by_finish x = by_bind (Expressions.by_slot_now r x) (by_end_slot x)
+
+    pub by_begin : (x : ℕ) (l : Option Local) → Itself (Unit {0}) (begin p x l)
+    by_begin x None = Runs.by_pure r tt
+    by_begin x (Some l) = by_kind l.block refl
+      where
+        by_kind : (block : Bool) → l.block ≡ block → Itself (Unit {0}) (begin p x (Some l))
+        by_kind true e = rw e (by_bind (by_finish x) (λ a. by_bind (Runs.by_make r (size_at p l.ty) Kind.Local) (λ b. Expressions.by_with_slot r x (in_block (Some b)))))
+        by_kind false e = rw e (Expressions.by_with_slot r x (by_name None))
 
     pub by_begin_all : (locals : List Local) (numbers : List ℕ) → Itself (Unit {0}) (begin_all p locals numbers)
     by_begin_all locals [] = Runs.by_pure r tt
@@ -69,7 +81,7 @@ module _ (r : Relation) where
 
     pub by_finish_all : (numbers : List ℕ) → Itself (Unit {0}) (finish_all p numbers)
     by_finish_all [] = Runs.by_pure r tt
-    by_finish_all (x ∷ more) = by_bind (by_bind (Expressions.by_slot_now r x) (by_end_slot x)) (λ a. by_finish_all more)
+    by_finish_all (x ∷ more) = by_bind (by_finish x) (λ a. by_finish_all more)
 
     scoped_alike : {b : ℕ} {A : Type 0} (locals : List Local) (numbers : List ℕ) {m m' : Doing Frame A} → r.Related b Frame A m m'
         → r.Related b Frame A (scoped p locals numbers m) (scoped p locals numbers m')
@@ -220,8 +232,8 @@ module _ (r : Relation) where
             scoped_alike p locals own (bind (execute_all_alike l start b h) (and_then_alike (loop_alike (began g l) n m _ _ _ _ _ _
             (λ b h. tests_if_any_alike b (calls b h) test) (λ b h. done_if_any_alike b (calls b h) step) (execute_alike (l + 1) body) b h)))
         execute_alike l (T.switch e own arms) b h =
-            bind (used_alike b (calls b h) e) (λ v. bind (scoped_alike p locals own
-            (enter_alike l (or_default (arm_of (word_of v) 0 arms) (default_arm 0 arms)) arms b h)) (λ way. r.on_pure b _ _ (behind_switch way)))
+            bind (used_alike b (calls b h) e) (λ v. bind (Runs.by_tested r (at_of e) (as_word v) b) (λ n. bind (scoped_alike p locals own
+            (enter_alike l (or_default (arm_of n 0 arms) (default_arm 0 arms)) arms b h)) (λ way. r.on_pure b _ _ (behind_switch way))))
         execute_alike l T.break b h = r.on_pure b _ _ by_break
         execute_alike l T.continue b h = r.on_pure b _ _ by_continue
         execute_alike l (T.return e) b h = returned_alike b (calls b h) e

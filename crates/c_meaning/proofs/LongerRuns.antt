@@ -1,26 +1,42 @@
 -- Runs for one input: more turns go on from fewer, an end is the only one, and the room of the interpreter changes nothing but where it is short.
-use Rattle.std.proofs.Common.{◌≡◌, refl, sym, ap, ◌∙◌, subst, ℕ, ◌+◌, ◌-◌, ◌≤◌, Bool, true, false, List, [], ◌∷◌, ◌++◌}
+use Rattle.std.proofs.Common.{◌≡◌, refl, sym, ap, ◌∙◌, subst, ℕ, ◌+◌, ◌-◌, ◌%◌, ◌^◌, ◌≤◌, Bool, true, false, List, [], ◌∷◌, ◌++◌, Option, Some, None}
 use Rattle.std.proofs.Common.{append_assoc, append-nil, arith}
 use native.Mathlib.Decide.{dec_le}
+use Rattle.lay_base.specs.declared.faults.UndefinedKind.TheVariants as K
+use Rattle.lay_base.specs.declared.place.Place.{Place}
 use Rattle.c_typed.specs.Programs.{ProgramData}
 use Rattle.block_memory.specs.RunWorlds.Events.{Event, put, output_of}
+use Rattle.block_memory.specs.declared.run_worlds.value.Value.{Value}
+use Rattle.block_memory.specs.declared.run_worlds.value.Value.TheVariants.{Word as word, Pointer as pointer}
 use Rattle.block_memory.specs.RunWorlds.Worlds.{World, End, ends, goes_on, undefined, out_of_room, world_of}
-use Rattle.c_meaning.specs.Run.{status_of, start, no_place, run_of, RunEnd, ended, went_on, was_undefined, no_room, seen, run, kept}
-use Rattle.c_meaning.specs.Longer.{Continues, still, later, Follows, output_in, rest_in, GoesOnFrom, Extends, Frees, IsOver, HadRoom}
+use Rattle.c_meaning.specs.Run.{end_by, main_place, start, no_place, run_of, RunEnd, ended, went_on, was_undefined, no_room, seen, run, kept}
+use Rattle.c_meaning.specs.Longer.{Onward, Continues, still, later, Follows, output_in, rest_in, GoesOnFrom, Extends, Frees, IsOver, HadRoom}
 use Rattle.c_meaning.proofs.ClosedCalls as Calls
 use Rattle.c_meaning.proofs.Fuel.{fuel}
 use Rattle.c_meaning.proofs.Longer.{by_more}
 
 -- ---- worlds
 
+continues_end : (place : Place) (w : World) (v : Option Value) (u : World) → Onward w u → Continues w (end_by place v u)
+continues_end place w None u o = o
+continues_end place w (Some (word n)) u o = o
+continues_end place w (Some (pointer q)) u o = o
+
+end_follows : (d : ℕ) (lifts : Bool) (place : Place) (v : Option Value) (w : World) (t : ℕ) → t ≡ w.turns + d
+    → Follows d lifts (end_by place v w) (end_by place v (later lifts w t))
+end_follows d lifts place None w t h = ap (λ n. ends 0 (later lifts w n)) h
+end_follows d lifts place (Some (word v)) w t h = ap (λ n. ends (v % 2 ^ 8) (later lifts w n)) h
+end_follows d lifts place (Some (pointer q)) w t h = ap (λ n. undefined K.Pointer place (later lifts w n)) h
+
 -- the end with d more turns, and the limit lifted or not: its world is the same but for turns and limit, or it goes on
 pub run_follows : (p : ProgramData) (input : List ℕ) (n d : ℕ) (lifts limited : Bool)
     → Follows d lifts (run_of p input n limited) (run_of p input (n + d) (still lifts limited))
 run_follows p input n d lifts limited =
     subst (λ e. Follows d lifts e (run_of p input (n + d) (still lifts limited)))
-    (fuel p (n + d + 1) (n + 1) (no_place p) p.main [] (λ v f w. ends (status_of p v) w) [] (start p input n limited) (omega arith) (omega arith))
-    ((Calls.called_alike (by_more d lifts) p (n + d + 1) (n + d + 1) 0 refl (no_place p) p.main []).follows (λ v f w. ends (status_of p v) w)
-    (λ v f w. ends (status_of p v) w) [] (start p input n limited) (n + d) refl (λ w v f u o. o) (λ v f w t h. ap (λ n. ends (status_of p v) (later lifts w n)) h))
+    (fuel p (n + d + 1) (n + 1) (no_place p) p.main [] (λ v f w. end_by (main_place p) v w) [] (start p input n limited) (omega arith) (omega arith))
+    ((Calls.called_alike (by_more d lifts) p (n + d + 1) (n + d + 1) 0 refl (no_place p) p.main []).follows (λ v f w. end_by (main_place p) v w)
+    (λ v f w. end_by (main_place p) v w) [] (start p input n limited) (n + d) refl (λ w v f u o. continues_end (main_place p) w v u o)
+    (λ v f w t h. end_follows d lifts (main_place p) v w t h))
 
 -- ---- what is seen
 

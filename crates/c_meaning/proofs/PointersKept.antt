@@ -28,7 +28,7 @@ use Rattle.block_memory.specs.Ranges.{copy, do_overlap}
 use Rattle.block_memory.specs.Tested as Tests
 use Rattle.block_memory.specs.Tested.{Tested}
 use Rattle.block_memory.specs.RunWorlds.Events.{Event, allocated}
-use Rattle.block_memory.specs.RunWorlds.Scalars.{as_value, load_in, store_in, pointer_of, width_of, word_of}
+use Rattle.block_memory.specs.RunWorlds.Scalars.{as_value, load_in, store_in, pointer_of, width_of}
 use Rattle.block_memory.specs.declared.run_worlds.value.Value.{Value}
 use Rattle.block_memory.specs.declared.run_worlds.value.Value.TheVariants.{Word as word, Pointer as pointer}
 use Rattle.c_meaning.specs.Allocations.{HasElements, IsAsTold, LiesInField, Made, allocated_for, byte_of_record, made_for, record_size}
@@ -240,9 +240,11 @@ module _ (p : ProgramData) (among : Records) where
 
     stored_by : (b at : ℕ) (access : Access) (v : Value) → IsTypedValue p among made m access v → LiesInFields p among made b at (width_of access)
         → IfOk (store_in m (P.Block b at) access v) (λ n. StaysTyped p among made m made n)
-    stored_by b at (Number kind) v h fields =
-        put_by b at (width kind) _ _ (placed b at (width kind) (width kind) true) (length_bytes (width kind) (word_of v)) (bytes_typed (width kind) (word_of v)) fields
-    stored_by b at (Pointer type) v h fields = put_by b at 4 _ _ (placed b at 4 4 true) refl (fragments_typed type (pointer_of v) h) fields
+    stored_by b at (Number kind) (word n) h fields =
+        put_by b at (width kind) _ _ (placed b at (width kind) (width kind) true) (length_bytes (width kind) n) (bytes_typed (width kind) n) fields
+    stored_by b at (Number kind) (pointer q) h fields = tt
+    stored_by b at (Pointer type) (word n) h fields = tt
+    stored_by b at (Pointer type) (pointer q) h fields = put_by b at 4 _ _ (placed b at 4 4 true) refl (fragments_typed type q h) fields
 
     -- ---- loads
 

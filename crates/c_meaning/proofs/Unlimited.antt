@@ -1,14 +1,16 @@
 -- A run that is not kept within the room of the interpreter is never out of room.
-use Rattle.std.proofs.Common.{◌≡◌, refl, ℕ, zero, suc, ◌+◌, Bool, true, false, ◌&&◌, nat_lt, if◌then◌else◌, List, [], ◌∷◌, length, Some, None, arith}
+use Rattle.std.proofs.Common.{◌≡◌, refl, ℕ, zero, suc, ◌+◌, Bool, true, false, ◌&&◌, nat_lt, if◌then◌else◌, List, [], ◌∷◌, length, Option, Some, None, arith}
+use Rattle.lay_base.specs.declared.place.Place.{Place}
 use Rattle.c_typed.specs.Programs.{ProgramData}
 use Rattle.block_memory.specs.Lifetimes.{with_block}
 use Rattle.block_memory.specs.RunWorlds.Doing.{Rest, Doing, turn_of, less_deep}
 use Rattle.block_memory.specs.RunWorlds.Events.{got, left}
 use Rattle.block_memory.specs.RunWorlds.Library.{next_of}
 use Rattle.block_memory.specs.declared.run_worlds.value.Value.{Value}
-use Rattle.block_memory.specs.RunWorlds.Worlds.{World, End, ends, greatest_live, greatest_depth, live_bytes}
+use Rattle.block_memory.specs.declared.run_worlds.value.Value.TheVariants.{Word as word, Pointer as pointer}
+use Rattle.block_memory.specs.RunWorlds.Worlds.{World, End, greatest_live, greatest_depth, live_bytes}
 use Rattle.c_meaning.specs.Longer.{HadRoom}
-use Rattle.c_meaning.specs.Run.{run, seen, start, status_of, no_place}
+use Rattle.c_meaning.specs.Run.{run, seen, start, end_by, main_place, no_place}
 use Rattle.c_meaning.proofs.Closed.{Relation}
 use Rattle.c_meaning.proofs.ClosedCalls as Calls
 use Rattle.c_meaning.proofs.Direct.{AreOne, not_left, not_right, one_more}
@@ -65,7 +67,12 @@ by_room = record {
   on_apart = λ b F A own m m' one. record { keeps = λ rest room f w h. one.keeps (λ x g u. rest x f u) (λ x g u i. room x f u i) own w h };
 }
 
+has_room : (place : Place) (v : Option Value) (w : World) → HadRoom (seen (end_by place v w))
+has_room place None w = tt
+has_room place (Some (word n)) w = tt
+has_room place (Some (pointer q)) w = tt
+
 pub run_has_room : (p : ProgramData) (input : List ℕ) (turns : ℕ) → HadRoom (run p input turns)
 run_has_room p input turns =
-    (Calls.called_alike by_room p (turns + 1) (turns + 1) 0 refl (no_place p) p.main []).keeps (λ v f w. ends (status_of p v) w) (λ v f w h. tt) []
+    (Calls.called_alike by_room p (turns + 1) (turns + 1) 0 refl (no_place p) p.main []).keeps (λ v f w. end_by (main_place p) v w) (λ v f w h. has_room (main_place p) v w) []
     (start p input turns false) refl

@@ -1,8 +1,9 @@
 -- What an expression does, and its value (C99 6.5). Evaluation goes from left to right (own).
-use Rattle.std.specs.Prelude.{ℕ, ◌*◌, ◌^◌, ◌==◌, not, Bool, true, false, ◌&&◌, nat_lt, if◌then◌else◌, ℤ, pos, negsuc, ◌+ℤ◌, ◌*ℤ◌, List, [], ◌∷◌, Option}
+use Rattle.std.specs.Prelude.{ℕ, not, Bool, true, false, nat_lt, if◌then◌else◌, ℤ, pos, negsuc, ◌+ℤ◌, ◌*ℤ◌, List, [], ◌∷◌, Option}
 use Rattle.std.specs.Prelude.{Some, None, Ok, Err, slice_get}
 use Rattle.lay_base.specs.declared.faults.UndefinedKind.TheVariants as K
 use Rattle.lay_base.specs.declared.place.Place.{Place}
+use Rattle.c_types.specs.declared.ty.IntKind.{IntKind}
 use Rattle.c_types.specs.Layouts.{offset_of}
 use Rattle.c_types.specs.Sameness.{same_type}
 use Rattle.c_types.specs.Types.{CType, void, pointer as pointer_to}
@@ -10,23 +11,22 @@ use Rattle.c_typed.specs.declared.operators.PointerOp.TheVariants.{Add}
 use Rattle.c_typed.specs.Trees as T
 use Rattle.c_typed.specs.Trees.{Expression, expression, Node, Path, path, PathNode, Expressions, OptionalExpression}
 use Rattle.c_typed.specs.Constants.{ty, kind_of}
-use Rattle.c_typed.specs.Conversions.{number_of}
+use Rattle.c_typed.specs.Conversions.{is_pointer, number_of}
 use Rattle.c_typed.specs.Programs.{ProgramData, FunctionData}
 pub use Rattle.c_typed.specs.Subscripts.{is_subscript}
-use Rattle.c_typed.specs.Typed.{at_of, path_ty, path_at}
+use Rattle.c_typed.specs.Typed.{at_of, path_ty}
 use Rattle.memory_words.specs.declared.cell_words.pointer.Ptr.{Ptr}
 use Rattle.memory_words.specs.declared.cell_words.pointer.Ptr.TheVariants as P
-use Rattle.block_memory.specs.Blocks.{Memory, is_live, size, kind}
-use Rattle.block_memory.specs.Lifetimes.{is_heap}
+use Rattle.block_memory.specs.Blocks.{Memory, is_live, size}
 use Rattle.block_memory.specs.Pointers.{stepped}
 use Rattle.block_memory.specs.Tested.{Tested}
-use Rattle.block_memory.specs.RunWorlds.Doing.{Doing, ◌>>=◌, ◌>>◌, pure, is_undefined, tested, memory_now, note}
+use Rattle.block_memory.specs.RunWorlds.Doing.{Doing, ◌>>=◌, ◌>>◌, pure, is_undefined, tested, memory_now}
 use Rattle.block_memory.specs.RunWorlds.Events.{reached}
-use Rattle.block_memory.specs.RunWorlds.Scalars.{word_of, pointer_of, note_in}
+use Rattle.block_memory.specs.RunWorlds.Scalars.{as_word, pointer_of, note_in}
 use Rattle.block_memory.specs.declared.run_worlds.value.Value.{Value}
 use Rattle.block_memory.specs.declared.run_worlds.value.Value.TheVariants.{Word as word, Pointer as pointer}
 use Rattle.block_memory.specs.RunWorlds.LibraryCalls.{the, given, library, allocated, assign_record}
-use Rattle.block_memory.specs.RunWorlds.Operators.{converted, is_true, flag, unary, binary, moved, distance, compared, updated, next}
+use Rattle.block_memory.specs.RunWorlds.Operators.{converted, is_true, flag, unary, binary, moved, moved_from, distance, compared, updated, next}
 use Rattle.c_meaning.specs.Frames.{Frame, local_spot, fetch, put}
 use Rattle.c_meaning.specs.declared.frame.Spot.{Spot}
 use Rattle.c_meaning.specs.declared.frame.Spot.TheVariants.{Kept as kept, Placed as placed}
@@ -82,6 +82,10 @@ abbrev pub copy_record : Place → (size : ℕ) → (to from : Spot) → Doing F
 copy_record place size (placed q) (placed r) = assign_record place size q r
 copy_record place size to from = is_undefined K.Dead place
 
+-- the kind of the number that is added to a pointer: it stands on the right of a pointer, or else on the left
+abbrev pub count_kind : (left right : CType) → IntKind
+count_kind left right = kind_of (if is_pointer left then right else left)
+
 -- ---- with the program, and what a call of a function does
 
 module _ (p : ProgramData) (call : Place → (f : ℕ) → List Value → Doing Frame (Option Value)) where
@@ -97,7 +101,7 @@ module _ (p : ProgramData) (call : Place → (f : ℕ) → List Value → Doing 
   -- converted to a type; to `void` it has no value
   abbrev pub as_type : CType → Place → Option Value → Doing Frame (Option Value)
   as_type void place v = pure None
-  as_type t place v = or_no_value place v >>= λ v. pure (Some (converted t v))
+  as_type t place v = or_no_value place v >>= λ v. given (tested place (converted t v))
 
   abbrev mutual
     pub value : Expression ℕ → Doing Frame (Option Value)
@@ -115,10 +119,13 @@ module _ (p : ProgramData) (call : Place → (f : ℕ) → List Value → Doing 
       s ← spot false q
       v ← fetch p at s t
       pure (Some v)
+    -- `&*e` is e (6.5.3.2), and so is an array `*e` that becomes a pointer
+    value_of t at (T.address_of (path u b (T.deref e))) = value e
+    value_of t at (T.decay (path u b (T.deref e))) = value e
     value_of t at (T.address_of q) = spot true q >>= λ s. the (address_of at s) pointer
     value_of t at (T.decay q) = spot false q >>= λ s. the (address_of at s) pointer
     value_of t at (T.convert e written) = value e >>= as_type (type_at p t) (at_of e)
-    value_of t at (T.unary op x) = the (used x) (unary op)
+    value_of t at (T.unary op x) = used x >>= λ v. given (tested at (unary op v))
     value_of t at (T.binary op x y) = do
       v ← used x
       w ← used y
@@ -132,7 +139,7 @@ module _ (p : ProgramData) (call : Place → (f : ℕ) → List Value → Doing 
       v ← used x
       w ← used y
       m ← memory_now
-      given (tested at (moved m op (element_size p (type_at p t)) (kind_of (type_at p (ty x))) v (kind_of (type_at p (ty y))) w))
+      given (tested at (moved_from (is_pointer (type_at p (ty x))) m op (element_size p (type_at p t)) (count_kind (type_at p (ty x)) (type_at p (ty y))) v w))
     value_of t at (T.pointer_difference x y) = do
       v ← used x
       w ← used y
@@ -175,12 +182,12 @@ module _ (p : ProgramData) (call : Place → (f : ℕ) → List Value → Doing 
       through at (type_at p (ty e)) (pointer_of v) vs
     value_of t at (T.library which all) = arguments all >>= λ vs. library at which vs
     value_of t at (T.allocate r count zeroed) = do
-      n ← how_many count
-      given (allocated at r (element_size p (type_at p t)) n zeroed)
+      v ← how_many count
+      given (allocated at r (element_size p (type_at p t)) v zeroed)
 
-    pub how_many : OptionalExpression ℕ → Doing Frame ℕ
-    how_many T.no_expression = pure 1
-    how_many (T.some_expression e) = used e >>= λ v. pure (word_of v)
+    pub how_many : OptionalExpression ℕ → Doing Frame Value
+    how_many T.no_expression = pure (word 1)
+    how_many (T.some_expression e) = used e
 
     pub arguments : Expressions ℕ → Doing Frame (List Value)
     arguments T.no_expressions = pure []
@@ -202,17 +209,17 @@ module _ (p : ProgramData) (call : Place → (f : ℕ) → List Value → Doing 
       v ← used e
       w ← used i
       m ← memory_now
-      q ← tested at (moved m Add (size_at p t) (kind_of (type_at p (ty e))) v
-          (kind_of (type_at p (ty i))) w)
+      q ← tested at (moved m Add (size_at p t) (kind_of (type_at p (ty i))) v w)
       pure (placed (pointer_of q))
     spot_of t addressed at (T.member (path u b (T.deref e)) r field) = used e >>= λ v. field_through at (pointer_of v) (pos (offset_of p.records r field))
     spot_of t addressed at (T.member (path u b (T.index e i)) r field) = do
       v ← used e
       w ← used i
-      field_through at (pointer_of v)
-          (number_of (kind_of (type_at p (ty i))) (word_of w) *ℤ pos (size_at p u) +ℤ pos (offset_of p.records r field))
+      n ← tested at (as_word w)
+      field_through at (pointer_of v) (number_of (kind_of (type_at p (ty i))) n *ℤ pos (size_at p u) +ℤ pos (offset_of p.records r field))
     spot_of t addressed at (T.member q r field) = spot false q >>= part_of at (pos (offset_of p.records r field))
     spot_of t addressed at (T.element q i) = do
       s ← spot false q
       v ← used i
-      element_of at (length_of (type_at p (path_ty q))) (size_at p t) addressed s (number_of (kind_of (type_at p (ty i))) (word_of v))
+      n ← tested at (as_word v)
+      element_of at (length_of (type_at p (path_ty q))) (size_at p t) addressed s (number_of (kind_of (type_at p (ty i))) n)

@@ -6,7 +6,6 @@ use Rattle.c_typed.specs.declared.program.Local.{Local}
 use Rattle.c_typed.specs.Programs.{ProgramData, FunctionData}
 use Rattle.memory_words.specs.declared.cell_words.cell.Cell.TheVariants.{Empty}
 use Rattle.block_memory.specs.declared.kinds.BlockKind.TheVariants as Kind
-use Rattle.memory_words.specs.declared.cell_words.pointer.Ptr.{Ptr}
 use Rattle.memory_words.specs.declared.cell_words.pointer.Ptr.TheVariants as P
 use Rattle.block_memory.specs.Blocks.{with_cells}
 use Rattle.block_memory.specs.RunWorlds.Doing.{Doing, ◌>>=◌, ◌>>◌, pure, is_undefined, memory_now, with_memory, make, end}
@@ -38,6 +37,18 @@ spot_of place x s = is_undefined K.Dead place
 abbrev pub local_spot : Place → (local : ℕ) → Doing Frame Spot
 local_spot place x = slot_now x >>= spot_of place x
 
+abbrev pub frame_now : Doing Frame Frame
+frame_now = λ rest f w. rest f f w
+
+-- what of its locals has begun ends with a function, the first one first
+abbrev pub end_of : Slot → Doing Frame (Unit {0})
+end_of (in_block (Some b)) = end b
+end_of s = pure tt
+
+abbrev pub end_all : Frame → Doing Frame (Unit {0})
+end_all [] = pure tt
+end_all (s ∷ more) = end_of s >> end_all more
+
 -- ---- values of a type by its number
 
 module _ (p : ProgramData) where
@@ -63,20 +74,22 @@ module _ (p : ProgramData) where
   abbrev pub empty_slot : Local → Slot
   empty_slot x = empty_by x.block
 
-  abbrev pub begin_by : (local size : ℕ) → (block : Bool) → Doing Frame (Unit {0})
-  begin_by x size true = make size Kind.Local >>= λ b. with_slot x (in_block (Some b))
-  begin_by x size false = with_slot x (by_name None)
-
-  abbrev pub begin : (local : ℕ) → Option Local → Doing Frame (Unit {0})
-  begin x None = pure tt
-  begin x (Some l) = begin_by x (size_at p l.ty) l.block
-
+  -- the object ends, where it has begun
   abbrev pub end_slot : (local : ℕ) → Option Slot → Doing Frame (Unit {0})
   end_slot x (Some (in_block (Some b))) = end b >> with_slot x (in_block None)
   end_slot x s = pure tt
 
   abbrev pub finish : (local : ℕ) → Doing Frame (Unit {0})
   finish x = slot_now x >>= end_slot x
+
+  -- one that has begun ends before it begins anew
+  abbrev pub begin_by : (local size : ℕ) → (block : Bool) → Doing Frame (Unit {0})
+  begin_by x size true = finish x >> make size Kind.Local >>= λ b. with_slot x (in_block (Some b))
+  begin_by x size false = with_slot x (by_name None)
+
+  abbrev pub begin : (local : ℕ) → Option Local → Doing Frame (Unit {0})
+  begin x None = pure tt
+  begin x (Some l) = begin_by x (size_at p l.ty) l.block
 
   abbrev pub begin_all : List Local → (numbers : List ℕ) → Doing Frame (Unit {0})
   begin_all locals [] = pure tt

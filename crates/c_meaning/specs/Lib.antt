@@ -2,6 +2,7 @@ pub mod ExampleParts
 pub mod Examples
 pub mod ExamplesOfMemory
 pub mod ExamplesOfOperators
+pub mod ExamplesOfSorts
 pub mod ExamplesOfStatements
 pub mod Expressions
 pub mod Frames

@@ -10,14 +10,14 @@ use Rattle.c_typed.specs.Programs.{ProgramData, FunctionData}
 use Rattle.memory_words.specs.declared.cell_words.pointer.Ptr.TheVariants as P
 use Rattle.block_memory.specs.RunWorlds.Doing.{Doing, ◌>>=◌, ◌>>◌, pure, is_undefined, enter, leave, apart}
 use Rattle.block_memory.specs.RunWorlds.Events.{Event, output_of}
-use Rattle.block_memory.specs.RunWorlds.Scalars.{word_of, store}
+use Rattle.block_memory.specs.RunWorlds.Scalars.{store}
 use Rattle.block_memory.specs.declared.run_worlds.value.Value.{Value}
-use Rattle.block_memory.specs.declared.run_worlds.value.Value.TheVariants.{Word as word}
+use Rattle.block_memory.specs.declared.run_worlds.value.Value.TheVariants.{Word as word, Pointer as pointer}
 use Rattle.block_memory.specs.RunWorlds.Worlds.{World, End, ends, goes_on, undefined, out_of_room, world_of}
 use Rattle.block_memory.specs.RunWorlds.Ways.{no_more}
 use Rattle.block_memory.specs.declared.run_worlds.way.Way.{Way}
 use Rattle.block_memory.specs.declared.run_worlds.way.Way.TheVariants.{ByReturn as by_return}
-use Rattle.c_meaning.specs.Frames.{Frame, frame_of, begin, finish_all, with_slot, slot_now}
+use Rattle.c_meaning.specs.Frames.{Frame, frame_of, begin, finish_all, with_slot, slot_now, frame_now, end_all}
 use Rattle.c_meaning.specs.declared.frame.Slot.{Slot}
 use Rattle.c_meaning.specs.declared.frame.Slot.TheVariants.{ByName as by_name, InBlock as in_block}
 use Rattle.c_meaning.specs.Program.{access_at, all_locals, initial_memory}
@@ -32,6 +32,12 @@ numbers_from k (suc n) = k ∷ numbers_from (k + 1) n
 
 abbrev pub numbers : (count : ℕ) → List ℕ
 numbers count = numbers_from 0 count
+
+-- of what `main` gives, the low byte (own); no `main` that is well typed gives no value, or a pointer
+abbrev pub end_by : Place → Option Value → World → End
+end_by place None w = ends 0 w
+end_by place (Some (word v)) w = ends (v % 2 ^ 8) w
+end_by place (Some (pointer q)) w = undefined K.Pointer place w
 
 module _ (p : ProgramData) where
   -- a parameter begins as the local that it is, with its argument (6.9.1)
@@ -59,12 +65,16 @@ module _ (p : ProgramData) where
     b ← finish_all p (numbers (length g.parameters))
     pure (result_of f way)
 
+  -- an object lives no longer than its function (6.2.4)
+  abbrev pub ending : {A : Type 0} → Doing Frame A → Doing Frame A
+  ending body = body >>= λ v. frame_now >>= end_all >> pure v
+
   abbrev pub function_of : (call : Place → (f : ℕ) → List Value → Doing Frame (Option Value)) → (n : ℕ) → Place → (f : ℕ) → List Value
       → Option FunctionData → Doing Frame (Option Value)
   function_of call n place f values None = is_undefined K.Call place
   function_of call n place f values (Some g) = do
     a ← enter f
-    v ← apart (frame_of p g) (body_of call n place f values g g.body)
+    v ← apart (frame_of p g) (ending (body_of call n place f values g g.body))
     b ← leave
     pure v
 
@@ -75,19 +85,22 @@ module _ (p : ProgramData) where
 
   -- ---- the run
 
-  -- of what `main` gives, the low byte (own); no `main` that is well typed gives no value
-  abbrev pub status_of : Option Value → ℕ
-  status_of None = 0
-  status_of (Some v) = word_of v % 2 ^ 8
-
   abbrev pub start : (input : List ℕ) → (turns : ℕ) → (limited : Bool) → World
   start input n limited = record { turns = n; memory = initial_memory p; input = input; trace = []; depth = 0; is_limited = limited }
 
   abbrev pub no_place : Place
   no_place = record { file = 0; at = 0 }
 
+  -- where `main` is; without one the run has ended before
+  abbrev pub place_of : Option FunctionData → Place
+  place_of None = no_place
+  place_of (Some g) = g.place
+
+  abbrev pub main_place : Place
+  main_place = place_of (slice_get p.functions p.main)
+
   abbrev pub run_of : (input : List ℕ) → (turns : ℕ) → (limited : Bool) → End
-  run_of input n limited = called (n + 1) no_place p.main [] (λ v f w. ends (status_of v) w) [] (start input n limited)
+  run_of input n limited = called (n + 1) no_place p.main [] (λ v f w. end_by main_place v w) [] (start input n limited)
 
 -- ---- what is seen of it: each with the output so far and the rest of the input
 

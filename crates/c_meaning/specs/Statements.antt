@@ -7,16 +7,15 @@ use Rattle.c_typed.specs.declared.program.Local.{Local}
 use Rattle.c_typed.specs.Trees as T
 use Rattle.c_typed.specs.Trees.{Expression, Path, PartValue, Part, Initializer, Statement, Statements, Arms}
 use Rattle.c_typed.specs.Constants.{ty}
-use Rattle.c_typed.specs.Programs.{ProgramData, FunctionData}
+use Rattle.c_typed.specs.Programs.{ProgramData}
 use Rattle.c_typed.specs.Typed.{at_of, path_ty, path_at}
 use Rattle.memory_words.specs.declared.cell_words.cell.Cell.TheVariants.{Byte}
 use Rattle.memory_words.specs.declared.cell_words.pointer.Ptr.TheVariants as P
 use Rattle.block_memory.specs.Blocks.{with_cells}
-use Rattle.block_memory.specs.RunWorlds.Doing.{Doing, Rest, ◌>>=◌, ◌>>◌, pure, is_undefined, memory_now, with_memory, turn, note}
+use Rattle.block_memory.specs.RunWorlds.Doing.{Doing, ◌>>=◌, ◌>>◌, pure, is_undefined, tested, memory_now, with_memory, turn, note}
 use Rattle.block_memory.specs.RunWorlds.Events.{began}
-use Rattle.block_memory.specs.RunWorlds.Scalars.{word_of, store}
+use Rattle.block_memory.specs.RunWorlds.Scalars.{as_word, store}
 use Rattle.block_memory.specs.declared.run_worlds.value.Value.{Value}
-use Rattle.block_memory.specs.declared.run_worlds.value.Value.TheVariants.{Word as word}
 use Rattle.block_memory.specs.RunWorlds.Ways.{and_then, loop, loop_behind}
 use Rattle.block_memory.specs.declared.run_worlds.way.Way.{Way}
 use Rattle.block_memory.specs.declared.run_worlds.way.Way.TheVariants.{Normally as normally, ByBreak as by_break, ByContinue as by_continue}
@@ -28,7 +27,7 @@ use Rattle.c_meaning.specs.declared.frame.Spot.TheVariants.{Placed as placed}
 use Rattle.c_meaning.specs.declared.frame.Slot.{Slot}
 use Rattle.c_meaning.specs.declared.frame.Slot.TheVariants.{ByName as by_name, InBlock as in_block}
 use Rattle.c_typed.specs.RunCounts.Loops.{loops_in, loops_in_all}
-use Rattle.c_meaning.specs.Program.{access_at, size_at, all_locals}
+use Rattle.c_meaning.specs.Program.{access_at, size_at}
 
 -- ---- `switch` (6.8.4.2)
 
@@ -148,7 +147,8 @@ module _ (p : ProgramData) (call : Place → (f : ℕ) → List Value → Doing 
           >>= and_then (loop (begins l) n (tests_if_any test) (done_if_any step) (execute (l + 1) body)))
       execute l (T.switch e own arms) = do
         v ← used p call e
-        way ← scoped p locals own (enter l (or_default (arm_of (word_of v) 0 arms) (default_arm 0 arms)) arms)
+        n ← tested (at_of e) (as_word v)
+        way ← scoped p locals own (enter l (or_default (arm_of n 0 arms) (default_arm 0 arms)) arms)
         pure (behind_switch way)
       execute l T.break = pure by_break
       execute l T.continue = pure by_continue

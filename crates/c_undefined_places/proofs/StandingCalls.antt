@@ -10,15 +10,18 @@ use Rattle.c_typed.specs.declared.program.Local.{Local}
 use Rattle.c_typed.specs.Trees.{Statement}
 use Rattle.c_typed.specs.Programs.{ProgramData, FunctionData}
 use Rattle.memory_words.specs.declared.cell_words.pointer.Ptr.TheVariants as P
+use Rattle.block_memory.specs.RunWorlds.Doing.{Doing}
 use Rattle.block_memory.specs.RunWorlds.Events.{entered}
 use Rattle.block_memory.specs.RunWorlds.Worlds.{World, End, ends, goes_on, undefined, out_of_room}
 use Rattle.block_memory.specs.declared.run_worlds.value.Value.{Value}
+use Rattle.block_memory.specs.declared.run_worlds.value.Value.TheVariants.{Word as word, Pointer as pointer}
 use Rattle.c_meaning.specs.Frames.{Frame, frame_of}
 use Rattle.c_meaning.specs.declared.frame.Slot.{Slot}
 use Rattle.c_meaning.specs.declared.frame.Slot.TheVariants.{ByName as by_name, InBlock as in_block}
 use Rattle.c_meaning.specs.Program.{access_at, all_locals}
-use Rattle.c_meaning.specs.Run.{result_of, received, receive, numbers, body_of, function_of, called, status_of, start, no_place, run_of, was_undefined, seen}
-use Rattle.c_undefined_places.specs.Placed.{IsPlacedStatement, BodiesArePlaced}
+use Rattle.c_meaning.specs.Run.{result_of, received, receive, numbers, body_of, ending, function_of, called, end_by, place_of, main_place, start, no_place}
+use Rattle.c_meaning.specs.Run.{run_of, was_undefined, seen}
+use Rattle.c_undefined_places.specs.Placed.{IsPlacedStatement, IsPlacedFunction, FunctionsArePlaced}
 use Rattle.c_undefined_places.proofs.Standing as Runs
 use Rattle.c_undefined_places.proofs.StandingExpressions as Expressions
 use Rattle.c_undefined_places.proofs.StandingExpressions.{Calls}
@@ -29,12 +32,15 @@ each_at Q [] h k x e = cc
 each_at Q (y ∷ all) h zero x e = let is : y ≡ x = cc in subst Q is h.0
 each_at Q (y ∷ all) h (suc k) x e = each_at Q all h.1 k x e
 
-module _ (Is : Place → Type 0) (p : ProgramData) (placed : BodiesArePlaced Is p) where
+module _ (Is : Place → Type 0) (p : ProgramData) (placed : FunctionsArePlaced Is p) where
   abbrev HasPlacedBody : FunctionData → Type 0
   HasPlacedBody g = IfSome g.body (IsPlacedStatement Is)
 
+  function_placed : (f : ℕ) (g : FunctionData) → slice_get p.functions f ≡ Some g → IsPlacedFunction Is g
+  function_placed f g e = each_at (IsPlacedFunction Is) p.functions (recursion_from_All (IsPlacedFunction Is) p.functions placed) f g e
+
   body_placed : (f : ℕ) (g : FunctionData) → slice_get p.functions f ≡ Some g → HasPlacedBody g
-  body_placed f g e = each_at HasPlacedBody p.functions (recursion_from_All HasPlacedBody p.functions placed) f g e
+  body_placed f g e = (function_placed f g e).1
 
   -- ---- parameters
 
@@ -74,11 +80,15 @@ module _ (Is : Place → Type 0) (p : ProgramData) (placed : BodiesArePlaced Is 
   by_body_if_any call calls n place f values g None i h = Runs.by_undefined Is K.Call place i
   by_body_if_any call calls n place f values g (Some body) i h = by_body call calls n place f values g body h (by_receive place 0 g.parameters values i)
 
+  by_ending : {m : Doing Frame (Option Value)} → Expressions.Stands Is m → Expressions.Stands Is (ending p m)
+  by_ending one =
+      Runs.bind Is one (λ v. Runs.bind Is (Runs.bind Is (Runs.by_own Is (λ f. f) (λ f. f)) (λ f. Statements.by_end_all Is f)) (λ a. Runs.by_pure Is v))
+
   by_entered : (call : Calls) (n : ℕ) (place : Place) (f : ℕ) (values : List Value) (g : FunctionData)
       → Expressions.Stands Is (body_of p call n place f values g g.body) → Expressions.Stands Is (function_of p call n place f values (Some g))
   by_entered call n place f values g one =
       Runs.bind Is (Runs.bind Is (Runs.by_turn Is) (λ a. Runs.bind Is (Runs.by_deeper Is) (λ a. Runs.by_note Is (entered f))))
-      (λ a. Runs.bind Is (Runs.by_apart Is (frame_of p g) one) (λ v. Runs.bind Is (Runs.by_leave Is) (λ a. Runs.by_pure Is v)))
+      (λ a. Runs.bind Is (Runs.by_apart Is (frame_of p g) (by_ending one)) (λ v. Runs.bind Is (Runs.by_leave Is) (λ a. Runs.by_pure Is v)))
 
   by_function : (call : Calls) → AreStanding call → (n : ℕ) (place : Place) (f : ℕ) (values : List Value) (g : Option FunctionData)
       → Is place → IfSome g HasPlacedBody → Expressions.Stands Is (function_of p call n place f values g)
@@ -107,9 +117,17 @@ module _ (Is : Place → Type 0) (p : ProgramData) (placed : BodiesArePlaced Is 
         (subst (λ o. Expressions.Stands Is (body_of p call n (no_place p) p.main [] g o)) (sym has) one) in
         subst (λ o. Expressions.Stands Is (function_of p call n (no_place p) p.main [] o)) (sym there) whole
 
+    main_stands : Is (main_place p)
+    main_stands = subst (λ o. Is (place_of p o)) (sym there) (function_placed p.main g there).0
+
+    by_end : (v : Option Value) (w : World) → Runs.EndsAt Is (end_by (main_place p) v w)
+    by_end None w = tt
+    by_end (Some (word v)) w = tt
+    by_end (Some (pointer q)) w = main_stands
+
     run_ends : (input : List ℕ) (turns : ℕ) (limited : Bool) → Runs.EndsAt Is (run_of p input turns limited)
     run_ends input turns limited =
-        (by_main (turns + 1)).stands (λ v f w. ends (status_of p v) w) [] (start p input turns limited) (λ v f w. tt)
+        (by_main (turns + 1)).stands (λ v f w. end_by (main_place p) v w) [] (start p input turns limited) (λ v f w. by_end v w)
 
     of_end : (e : End) (kind : UndefinedKind) (place : Place) (output rest : List ℕ) → Runs.EndsAt Is e
         → seen e ≡ was_undefined kind place output rest → Is place

@@ -17,12 +17,12 @@ use Rattle.c_typed.specs.Programs.{ProgramData, FunctionData}
 use Rattle.c_typed.specs.Typed.{at_of, path_ty}
 use Rattle.memory_words.specs.declared.cell_words.pointer.Ptr.{Ptr}
 use Rattle.memory_words.specs.declared.cell_words.pointer.Ptr.TheVariants as P
-use Rattle.block_memory.specs.RunWorlds.Doing.{Doing, ◌>>=◌, pure}
+use Rattle.block_memory.specs.RunWorlds.Doing.{Doing, ◌>>=◌}
 use Rattle.block_memory.specs.RunWorlds.Events.{reached}
-use Rattle.block_memory.specs.RunWorlds.Scalars.{word_of, pointer_of}
+use Rattle.block_memory.specs.RunWorlds.Scalars.{as_word, as_pointer, pointer_of}
 use Rattle.block_memory.specs.declared.run_worlds.value.Value.{Value}
 use Rattle.block_memory.specs.declared.run_worlds.value.Value.TheVariants.{Word as word, Pointer as pointer}
-use Rattle.block_memory.specs.RunWorlds.LibraryCalls.{allocated, the, given, library, is_same_place}
+use Rattle.block_memory.specs.RunWorlds.LibraryCalls.{allocated, the, given, number, address, library, is_same_place}
 use Rattle.block_memory.specs.RunWorlds.Operators.{converted, is_true, flag, unary}
 use Rattle.c_meaning.specs.Expressions.{or_no_value, part_in, part_of, is_subscript, element_of, field_in, field_through, address_of}
 use Rattle.c_meaning.specs.Expressions.{copy_record, through, as_type, value, used, value_of, how_many, arguments, spot, spot_of}
@@ -88,9 +88,10 @@ module _ (Is : Place → Type 0) where
   by_address_of place (placed q) i = Runs.by_pure Is q
   by_address_of place (kept x) i = Runs.by_undefined Is K.Dead place i
 
-  by_allocated : (place : Place) (record_number size count : ℕ) (zeroed : Bool) → Is place → Stands (allocated place record_number size count zeroed)
+  by_allocated : (place : Place) (record_number size : ℕ) (count : Value) (zeroed : Bool) → Is place → Stands (allocated place record_number size count zeroed)
   by_allocated place record_number size count zeroed i =
-      Runs.by_choice Is (nat_lt (count * size) (2 ^ 28)) (Runs.by_allocate Is _ _ zeroed) (Runs.by_undefined Is K.Huge place i)
+      bind (Runs.by_tested Is place (as_word count) i)
+      (λ n. Runs.by_choice Is (nat_lt (n * size) (2 ^ 28)) (Runs.by_allocate Is _ _ zeroed) (Runs.by_undefined Is K.Huge place i))
 
   by_the : {A : Type 0} {m : Doing Frame A} → Stands m → (f : A → Value) → Stands (the m f)
   by_the one f = bind one (λ x. Runs.by_pure Is (Some (f x)))
@@ -98,17 +99,27 @@ module _ (Is : Place → Type 0) where
   by_given : {m : Doing Frame Value} → Stands m → Stands (given m)
   by_given one = bind one (λ v. Runs.by_pure Is (Some v))
 
+  by_number : (place : Place) (v : Value) → Is place → Stands (number place v)
+  by_number place v i = Runs.by_tested Is place (as_word v) i
+
+  by_address : (place : Place) (v : Value) → Is place → Stands (address place v)
+  by_address place v i = Runs.by_tested Is place (as_pointer v) i
+
   by_library : (place : Place) (which : LibraryFunction) (all : List Value) → Is place → Stands (library place which all)
-  by_library place L.Malloc (v ∷ []) i = by_given (Runs.by_allocate Is None _ false)
-  by_library place L.Calloc (v ∷ w ∷ []) i = by_given (Runs.by_allocate Is None _ true)
-  by_library place L.Free (v ∷ []) i = bind (Runs.by_free Is place _ i) (λ a. Runs.by_pure Is None)
-  by_library place L.Memcpy (v ∷ w ∷ n ∷ []) i = by_given (Runs.by_copy Is place _ _ _ _ i)
-  by_library place L.Memmove (v ∷ w ∷ n ∷ []) i = by_given (Runs.by_copy Is place _ _ _ _ i)
-  by_library place L.Memset (v ∷ c ∷ n ∷ []) i = by_given (Runs.by_fill Is place _ _ _ i)
-  by_library place L.Memcmp (v ∷ w ∷ n ∷ []) i = by_given (Runs.by_compare Is place _ _ _ i)
-  by_library place L.Putchar (v ∷ []) i = by_given (Runs.by_putchar Is _)
+  by_library place L.Malloc (v ∷ []) i = bind (by_number place v i) (λ n. by_given (Runs.by_allocate Is None n false))
+  by_library place L.Calloc (v ∷ w ∷ []) i = bind (by_number place v i) (λ n. bind (by_number place w i) (λ k. by_given (Runs.by_allocate Is None _ true)))
+  by_library place L.Free (v ∷ []) i = bind (by_address place v i) (λ p. bind (Runs.by_free Is place p i) (λ a. Runs.by_pure Is None))
+  by_library place L.Memcpy (v ∷ w ∷ x ∷ []) i =
+      bind (by_address place v i) (λ p. bind (by_address place w i) (λ q. bind (by_number place x i) (λ n. by_given (Runs.by_copy Is place p q n false i))))
+  by_library place L.Memmove (v ∷ w ∷ x ∷ []) i =
+      bind (by_address place v i) (λ p. bind (by_address place w i) (λ q. bind (by_number place x i) (λ n. by_given (Runs.by_copy Is place p q n true i))))
+  by_library place L.Memset (v ∷ w ∷ x ∷ []) i =
+      bind (by_address place v i) (λ p. bind (by_number place w i) (λ byte. bind (by_number place x i) (λ n. by_given (Runs.by_fill Is place p byte n i))))
+  by_library place L.Memcmp (v ∷ w ∷ x ∷ []) i =
+      bind (by_address place v i) (λ p. bind (by_address place w i) (λ q. bind (by_number place x i) (λ n. by_given (Runs.by_compare Is place p q n i))))
+  by_library place L.Putchar (v ∷ []) i = bind (by_number place v i) (λ n. by_given (Runs.by_putchar Is n))
   by_library place L.Getchar [] i = by_given (Runs.by_getchar Is)
-  by_library place L.Exit (v ∷ []) i = Runs.by_exit Is _
+  by_library place L.Exit (v ∷ []) i = bind (by_number place v i) (λ n. Runs.by_exit Is n)
   by_library place which all i = Runs.by_undefined Is K.Call place i
 
   pub by_copy_record : (place : Place) (size : ℕ) (to from : Spot) → Is place → Stands (copy_record place size to from)
@@ -136,7 +147,7 @@ module _ (Is : Place → Type 0) where
     module _ (call : Calls) (calls : (place : Place) → Is place → (f : ℕ) (values : List Value) → Stands (call place f values)) where
       by_as_type : (t : CType) (place : Place) (v : Option Value) → Is place → Stands (as_type p call t place v)
       by_as_type void place v i = Runs.by_pure Is None
-      by_as_type t place v i = bind (by_or_no_value place v i) (λ v. Runs.by_pure Is (Some (converted t v)))
+      by_as_type t place v i = bind (by_or_no_value place v i) (λ v. by_given (Runs.by_tested Is place (converted t v) i))
 
       by_through : (place : Place) (t : CType) (q : Ptr) (all : List Value) → Is place → Stands (through p call place t q all)
       by_through place t (P.Function f) all i = by_function (slice_get p.functions f) refl
@@ -160,10 +171,12 @@ module _ (Is : Place → Type 0) where
         by_node t at T.null i h = Runs.by_pure Is (Some (pointer P.Null))
         by_node t at (T.function_name f) i h = Runs.by_pure Is (Some (pointer (P.Function f)))
         by_node t at (T.load q) i h = bind (by_spot false q h) (λ s. bind (by_fetch at s t i) (λ v. Runs.by_pure Is (Some v)))
+        by_node t at (T.address_of (path u c (T.deref e))) i h = by_value e h.1
+        by_node t at (T.decay (path u c (T.deref e))) i h = by_value e h.1
         by_node t at (T.address_of q) i h = bind (by_spot true q h) (λ s. by_the (by_address_of at s i) pointer)
         by_node t at (T.decay q) i h = bind (by_spot false q h) (λ s. by_the (by_address_of at s i) pointer)
         by_node t at (T.convert e written) i h = bind (by_value e h) (λ v. by_as_type (type_at p t) (at_of e) v (own_place e h))
-        by_node t at (T.unary op x) i h = by_the (by_used x h) (unary op)
+        by_node t at (T.unary op x) i h = bind (by_used x h) (λ v. by_given (Runs.by_tested Is at (unary op v) i))
         by_node t at (T.binary op x y) i h = bind (by_used x h.0) (λ v. bind (by_used y h.1) (λ w. by_given (Runs.by_tested Is at _ i)))
         by_node t at (T.compare op x y) i h =
             bind (by_used x h.0) (λ v. bind (by_used y h.1) (λ w. bind (Runs.by_memory Is) (λ m. by_given (Runs.by_tested Is at _ i))))
@@ -196,8 +209,8 @@ module _ (Is : Place → Type 0) where
             bind (by_count count h) (λ n. by_given (by_allocated at record_number (element_size p (type_at p t)) n zeroed i))
 
         by_count : (count : OptionalExpression ℕ) → IsPlacedCount Is count → Stands (how_many p call count)
-        by_count T.no_expression h = Runs.by_pure Is 1
-        by_count (T.some_expression e) h = bind (by_used e h) (λ v. Runs.by_pure Is (word_of v))
+        by_count T.no_expression h = Runs.by_pure Is (word 1)
+        by_count (T.some_expression e) h = by_used e h
 
         by_arguments : (all : Expressions ℕ) → ArePlaced Is all → Stands (arguments p call all)
         by_arguments T.no_expressions h = Runs.by_pure Is []
@@ -218,10 +231,10 @@ module _ (Is : Place → Type 0) where
         by_step t addressed at (T.member (path u c (T.deref e)) n field) i h =
             bind (by_used e h.1) (λ v. by_field_through at (pointer_of v) (pos (offset_of p.records n field)) i)
         by_step t addressed at (T.member (path u c (T.index e x)) n field) i h =
-            bind (by_used e h.1.0) (λ v. bind (by_used x h.1.1) (λ w. by_field_through at (pointer_of v)
-            (number_of (kind_of (type_at p (ty x))) (word_of w) *ℤ pos (size_at p u) +ℤ pos (offset_of p.records n field)) i))
+            bind (by_used e h.1.0) (λ v. bind (by_used x h.1.1) (λ w. bind (Runs.by_tested Is at (as_word w) i) (λ k. by_field_through at (pointer_of v)
+            (number_of (kind_of (type_at p (ty x))) k *ℤ pos (size_at p u) +ℤ pos (offset_of p.records n field)) i)))
         by_step t addressed at (T.member q n field) i h =
             bind (by_spot false q h) (λ s. by_part_of at (pos (offset_of p.records n field)) s i)
         by_step t addressed at (T.element q x) i h =
-            bind (by_spot false q h.0) (λ s. bind (by_used x h.1) (λ v. by_element_of at (length_of (type_at p (path_ty q))) (size_at p t) addressed s
-            (number_of (kind_of (type_at p (ty x))) (word_of v)) i))
+            bind (by_spot false q h.0) (λ s. bind (by_used x h.1) (λ v. bind (Runs.by_tested Is at (as_word v) i) (λ k.
+            by_element_of at (length_of (type_at p (path_ty q))) (size_at p t) addressed s (number_of (kind_of (type_at p (ty x))) k) i)))

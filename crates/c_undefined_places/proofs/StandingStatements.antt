@@ -1,5 +1,5 @@
 -- An undefined step of a statement stands at a place in it, where that holds of what its calls do.
-use Rattle.std.proofs.Common.{◌≡◌, refl, ℕ, zero, suc, ◌+◌, Bool, true, false, List, [], ◌∷◌, Option, Some, None, slice_get, if◌then◌else◌}
+use Rattle.std.proofs.Common.{◌≡◌, refl, ℕ, zero, suc, ◌+◌, Bool, true, false, List, [], ◌∷◌, Option, Some, None, slice_get}
 use Rattle.lay_base.specs.declared.faults.UndefinedKind.TheVariants as K
 use Rattle.lay_base.specs.declared.place.Place.{Place}
 use Rattle.block_memory.specs.declared.kinds.BlockKind.TheVariants as Kind
@@ -11,11 +11,11 @@ use Rattle.c_typed.specs.Constants.{ty}
 use Rattle.c_typed.specs.Programs.{ProgramData}
 use Rattle.c_typed.specs.Typed.{at_of, path_ty, path_at}
 use Rattle.memory_words.specs.declared.cell_words.pointer.Ptr.TheVariants as P
-use Rattle.block_memory.specs.RunWorlds.Doing.{Doing, ◌>>=◌, ◌>>◌, pure, turn, note}
+use Rattle.block_memory.specs.RunWorlds.Doing.{Doing, ◌>>=◌, ◌>>◌, turn, note}
 use Rattle.block_memory.specs.RunWorlds.Events.{Event, began}
-use Rattle.block_memory.specs.RunWorlds.Scalars.{word_of}
+use Rattle.block_memory.specs.RunWorlds.Scalars.{as_word}
 use Rattle.block_memory.specs.declared.run_worlds.value.Value.{Value}
-use Rattle.c_meaning.specs.Frames.{Frame, begin, end_slot, begin_all, finish_all, scoped, emptied}
+use Rattle.c_meaning.specs.Frames.{Frame, begin, end_slot, finish, end_of, end_all, begin_all, finish_all, scoped, emptied}
 use Rattle.c_meaning.specs.declared.frame.Spot.TheVariants.{Placed as placed}
 use Rattle.c_meaning.specs.declared.frame.Slot.{Slot}
 use Rattle.c_meaning.specs.declared.frame.Slot.TheVariants.{ByName as by_name, InBlock as in_block}
@@ -75,20 +75,33 @@ module _ (Is : Place → Type 0) where
 
   -- ---- scopes
 
-  module _ (p : ProgramData) where
-    pub by_begin : (x : ℕ) (l : Option Local) → Stands (begin p x l)
-    by_begin x None = Runs.by_pure Is tt
-    by_begin x (Some l) = by_kind l.block refl
-      where
-        by_kind : (block : Bool) → l.block ≡ block → Stands (begin p x (Some l))
-        by_kind true e = rw e (bind (Runs.by_make Is (size_at p l.ty) Kind.Local) (λ b. Expressions.by_with_slot Is x (in_block (Some b))))
-        by_kind false e = rw e (Expressions.by_with_slot Is x (by_name None))
+  by_end_of : (s : Slot) → Stands (end_of s)
+  by_end_of (in_block (Some b)) = Runs.by_end Is b
+  by_end_of (in_block None) = Runs.by_pure Is tt
+  by_end_of (by_name v) = Runs.by_pure Is tt
 
+  pub by_end_all : (f : Frame) → Stands (end_all f)
+  by_end_all [] = Runs.by_pure Is tt
+  by_end_all (s ∷ more) = bind (by_end_of s) (λ a. by_end_all more)
+
+  module _ (p : ProgramData) where
     by_end_slot : (x : ℕ) (s : Option Slot) → Stands (end_slot p x s)
     by_end_slot x (Some (in_block (Some b))) = bind (Runs.by_end Is b) (λ a. Expressions.by_with_slot Is x (in_block None))
     by_end_slot x (Some (in_block None)) = Runs.by_pure Is tt
     by_end_slot x (Some (by_name v)) = Runs.by_pure Is tt
     by_end_slot x None = Runs.by_pure Is tt
+
+    by_finish : (x : ℕ) → Stands (finish p x)
+    by_finish x = bind (Expressions.by_slot_now Is x) (by_end_slot x)
+
+    pub by_begin : (x : ℕ) (l : Option Local) → Stands (begin p x l)
+    by_begin x None = Runs.by_pure Is tt
+    by_begin x (Some l) = by_kind l.block refl
+      where
+        by_kind : (block : Bool) → l.block ≡ block → Stands (begin p x (Some l))
+        by_kind true e =
+            rw e (bind (by_finish x) (λ a. bind (Runs.by_make Is (size_at p l.ty) Kind.Local) (λ b. Expressions.by_with_slot Is x (in_block (Some b)))))
+        by_kind false e = rw e (Expressions.by_with_slot Is x (by_name None))
 
     by_begin_all : (locals : List Local) (numbers : List ℕ) → Stands (begin_all p locals numbers)
     by_begin_all locals [] = Runs.by_pure Is tt
@@ -96,7 +109,7 @@ module _ (Is : Place → Type 0) where
 
     pub by_finish_all : (numbers : List ℕ) → Stands (finish_all p numbers)
     by_finish_all [] = Runs.by_pure Is tt
-    by_finish_all (x ∷ more) = bind (bind (Expressions.by_slot_now Is x) (by_end_slot x)) (λ a. by_finish_all more)
+    by_finish_all (x ∷ more) = bind (by_finish x) (λ a. by_finish_all more)
 
     by_scoped : {A : Type 0} (locals : List Local) (numbers : List ℕ) {m : Doing Frame A} → Stands m → Stands (scoped p locals numbers m)
     by_scoped locals numbers one =
@@ -210,8 +223,9 @@ module _ (Is : Place → Type 0) where
             by_scoped p locals own (bind (by_execute_all l start h.0) (by_and_then
             (by_loop (began g l) n _ _ _ (by_tests_if_any test h.1) (by_done_if_any step h.2) (by_execute (l + 1) body h.3))))
         by_execute l (T.switch e own arms) h =
-            bind (by_used e h.0) (λ v. bind (by_scoped p locals own (by_enter l (or_default (arm_of (word_of v) 0 arms) (default_arm 0 arms)) arms h.1))
-            (λ way. Runs.by_pure Is (behind_switch way)))
+            bind (by_used e h.0) (λ v. bind (Runs.by_tested Is (at_of e) (as_word v) (Expressions.own_place Is e h.0)) (λ k.
+            bind (by_scoped p locals own (by_enter l (or_default (arm_of k 0 arms) (default_arm 0 arms)) arms h.1))
+            (λ way. Runs.by_pure Is (behind_switch way))))
         by_execute l T.break h = Runs.by_pure Is by_break
         by_execute l T.continue h = Runs.by_pure Is by_continue
         by_execute l (T.return e) h = by_returned e h

@@ -7,11 +7,11 @@ use Rattle.c_tokens.specs.TokenPlaces.{IsPlaceOf}
 use Rattle.c_link.specs.Programs.{IsProgramOf}
 use Rattle.c_meaning.specs.Run.{run_of, was_undefined, seen}
 use Rattle.c_typed.specs.Programs.{ProgramData}
-use Rattle.c_undefined_places.specs.Placed.{BodiesArePlaced}
+use Rattle.c_undefined_places.specs.Placed.{FunctionsArePlaced}
 
--- each place in the bodies of the program of some files is one of the file of its number, with tokens before it
+-- the place of each function of the program of some files, and each place in its body, is one of the file of its number, with tokens before it
 abbrev pub ProgramsStandInFiles : Type 0
-ProgramsStandInFiles = (files : List File) (p : ProgramData) → IsProgramOf files p → BodiesArePlaced (IsPlaceOf files) p
+ProgramsStandInFiles = (files : List File) (p : ProgramData) → IsProgramOf files p → FunctionsArePlaced (IsPlaceOf files) p
 
 -- where a run of it is undefined, within the room of the interpreter or not, that step stands at such a place
 abbrev pub UndefinedStepsStandInFiles : Type 0

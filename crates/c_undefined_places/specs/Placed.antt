@@ -2,7 +2,7 @@
 use Rattle.std.specs.Prelude.{List, [], ◌∷◌, All, IfSome, Option, Some, None}
 use Rattle.lay_base.specs.declared.place.Place.{Place}
 use Rattle.c_typed.specs.Trees
-use Rattle.c_typed.specs.Programs.{ProgramData}
+use Rattle.c_typed.specs.Programs.{ProgramData, FunctionData}
 
 module _ {T : Type 0} (Is : Place → Type 0) where
   abbrev mutual
@@ -104,6 +104,10 @@ module _ {T : Type 0} (Is : Place → Type 0) where
     ArePlacedArms Trees.no_arms = Unit {0}
     ArePlacedArms (Trees.and_arm cases is_default all more) = ArePlacedStatements all × ArePlacedArms more
 
--- each place in the bodies of a program's functions is so
-abbrev pub BodiesArePlaced : (Place → Type 0) → ProgramData → Type 0
-BodiesArePlaced Is p = All (λ g. IfSome g.body (IsPlacedStatement Is)) p.functions
+-- the place of a function is so, and each one in its body
+abbrev pub IsPlacedFunction : (Place → Type 0) → FunctionData → Type 0
+IsPlacedFunction Is g = Is g.place × IfSome g.body (IsPlacedStatement Is)
+
+-- of each function of a program
+abbrev pub FunctionsArePlaced : (Place → Type 0) → ProgramData → Type 0
+FunctionsArePlaced Is p = All (IsPlacedFunction Is) p.functions

@@ -2,13 +2,16 @@
 
 ghost use Rattle.c_undefined_places.specs.Laws.{ProgramsStandInFiles, UndefinedStepsStandInFiles};
 
+use c_checking_laws::texts_are_in_order;
 use c_lexer::tokens_have_places;
 
-/// Each place in the bodies of the program of some files is one of the file of its number, and there are tokens before it. So lines are presumed of it.
+/// The place of each function of the program of some files, and each place in its body, is one of the file of its number, and there are tokens before it. So
+/// lines are presumed of it.
 pub fn programs_stand_in_files()
     ensures { ProgramsStandInFiles }
 {
     tokens_have_places();
+    texts_are_in_order();
 }
 
 /// Where a run of the program of some files is undefined, the place of that step is one of the file of its number, and there are tokens before it.
@@ -16,4 +19,5 @@ pub fn undefined_steps_stand_in_files()
     ensures { UndefinedStepsStandInFiles }
 {
     tokens_have_places();
+    texts_are_in_order();
 }

@@ -305,7 +305,7 @@ module _ (p : ProgramData) (c : Code) (n : ℕ) (locals : List Local) (cs : List
         (λ k u own w. at then_code (with_temp d (by_name (Some u)) own) w k)
         (λ u r.
         let held_there = with_temp d (by_name (Some u)) own in
-        let z = scratch locals d (by_name (Some u)) j (omega arith) in
+        let z = scratch locals d (Some u) j (omega arith) in
         let reads : Reads held_there (temp place d) u = reads_temp d K.NoValue place u (temp_same d (by_name (Some u)) own) in
         back (λ k. reads.is (λ u. (memory_now >>= λ z. tested place (updated z (step_op op) (element_size p (type_at p t)) (type_of_sort (sort_of (type_at p t))) u (integer kind) (word 1)))
         (λ new own w. at last (with_temp x (by_name (Some new)) own) w k)) w)
@@ -321,7 +321,7 @@ module _ (p : ProgramData) (c : Code) (n : ℕ) (locals : List Local) (cs : List
           (λ new own w. at (S.Set to (temp place d) ∷ code) (with_temp x (by_name (Some new)) own) w k) (with_temp d (by_name (Some u)) own) w)
       kept_step to d code rest b old f own w j e next u =
           let there = with_temp d (by_name (Some u)) own in
-          let z : Joined locals b d old f there w = scratch locals d (by_name (Some u)) j (omega arith) in
+          let z : Joined locals b d old f there w = scratch locals d (Some u) j (omega arith) in
           let above : length locals ≤ d = j.above in
           let below = named_below locals x one.named in
           named_updated t place (step_op op) (unit_kind (type_at p t)) x one.named d (Some to) code rest b old
@@ -378,7 +378,7 @@ module _ (p : ProgramData) (c : Code) (n : ℕ) (locals : List Local) (cs : List
       let reads : ℕ → Rest Frame Value = (λ (k : ℕ) v. load place (pointer_of v) (access_at p t) (λ u own w. at code (with_temp to (by_name (Some u)) own) w k)) in
       back (λ k. r.is (reads k) w)
       (blind_covers (loads place (pointer_of q) (access_at p t) w) rest f own (λ k u own w. at code (with_temp to (by_name (Some u)) own) w k)
-      (λ u z h. next u z (scratch locals to (by_name (Some u)) (later locals z h j) le) (later locals z h j)))
+      (λ u z h. next u z (scratch locals to (Some u) (later locals z h j) le) (later locals z h j)))
 
   -- the new value is made in a temporary
   renewed : {b d : ℕ} {old f own : Frame} {w : World} (t : ℕ) (place : Place) (op : BinaryOp) (right : IntKind) (to : ℕ) (a e : Operand) (u v : Value) (code : Steps)
@@ -393,7 +393,7 @@ module _ (p : ProgramData) (c : Code) (n : ℕ) (locals : List Local) (cs : List
       (subst (λ (z : Tested Value). Covers (tested place z rest f w) (λ k. tested place (new_of w.memory u v) (λ new own w. at code (with_temp to (by_name (Some new)) own) w k) own w))
       (sym (same w.memory))
       (blind_covers (tests place (new_of w.memory u v) w) rest f own (λ k new own w. at code (with_temp to (by_name (Some new)) own) w k)
-      (λ new z h. next new z (scratch locals to (by_name (Some new)) (later locals z h j) le))))
+      (λ new z h. next new z (scratch locals to (Some new) (later locals z h j) le))))
 
   pub assign_op_to_place : {x y : Part} {m : Doing Frame Spot} {o : Doing Frame Value} (t : ℕ) (place : Place) (op : BinaryOp) (right : CType)
       → Uses Spot x m Place_of → Uses Value y o Value_is

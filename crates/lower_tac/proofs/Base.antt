@@ -5,11 +5,12 @@ use Rattle.lay_base.specs.declared.faults.UndefinedKind.{UndefinedKind}
 use Rattle.lay_base.specs.declared.place.Place.{Place}
 use Rattle.c_typed.specs.declared.program.Local.{Local}
 use Rattle.memory_words.specs.declared.cell_words.pointer.Ptr.TheVariants as P
+use Rattle.block_memory.specs.Lifetimes.{with_end}
 use Rattle.block_memory.specs.RunWorlds.Doing.{Rest}
 use Rattle.block_memory.specs.RunWorlds.Worlds.{World}
 use Rattle.block_memory.specs.declared.run_worlds.value.Value.{Value}
 use Rattle.block_memory.specs.declared.run_worlds.value.Value.TheVariants.{Pointer as pointer}
-use Rattle.c_meaning.specs.Frames.{Frame}
+use Rattle.c_meaning.specs.Frames.{Frame, end_of, end_all}
 use Rattle.c_meaning.specs.declared.frame.Slot.{Slot}
 use Rattle.c_meaning.specs.declared.frame.Slot.TheVariants.{ByName as by_name, InBlock as in_block}
 use Rattle.tac_ir.specs.declared.step.Operand.{Operand}
@@ -30,6 +31,17 @@ temp_stays zero zero s o (x ∷ f) n e = absurd (n refl)
 temp_stays zero (suc u) s o (x ∷ f) n e = e
 temp_stays (suc t) zero s o (x ∷ f) n e = e
 temp_stays (suc t) (suc u) s o (x ∷ f) n e = temp_stays t u s o f (λ q. n (ap suc q)) e
+
+-- no temporary is a block
+pub temp_block : (t : ℕ) (v : Option Value) (x b : ℕ) (f : Frame) → slice_get (with_temp t (by_name v) f) x ≡ Some (in_block (Some b)) → slice_get f x ≡ Some (in_block (Some b))
+temp_block zero v zero b [] e = cc
+temp_block zero v (suc x) b [] e = cc
+temp_block (suc t) v zero b [] e = cc
+temp_block (suc t) v (suc x) b [] e = temp_block t v x b [] e
+temp_block zero v zero b (o ∷ f) e = cc
+temp_block zero v (suc x) b (o ∷ f) e = e
+temp_block (suc t) v zero b (o ∷ f) e = e
+temp_block (suc t) v (suc x) b (o ∷ f) e = temp_block t v x b f e
 
 pub equal_or_not : (a b : ℕ) → (a ≡ b) ⊎ (a ≢ b)
 equal_or_not zero zero = inl refl
@@ -91,6 +103,8 @@ module _ (locals : List Local) where
     pub size : length f ≡ length locals
     pub kinds : (x : ℕ) (l : Local) → slice_get locals x ≡ Some l → IsKind l.block (slice_get f x)
     pub turns : w.turns ≤ b
+    -- a block is that of a local
+    pub blocks : (x z : ℕ) → slice_get own x ≡ Some (in_block (Some z)) → x < length locals
 
   -- what no expression changes: the temporaries below d, and the blocks of locals
   pub record IsBlock (x : ℕ) : Type 0 where
@@ -123,19 +137,22 @@ module _ (locals : List Local) where
 
   -- ---- a temporary from d on is written
 
-  pub standing_scratch : {b : ℕ} {f own : Frame} {w : World} (t : ℕ) (v : Slot) → Standing b f own w → length locals ≤ t → Standing b f (with_temp t v own) w
+  pub standing_scratch : {b : ℕ} {f own : Frame} {w : World} (t : ℕ) (v : Option Value) → Standing b f own w → length locals ≤ t
+      → Standing b f (with_temp t (by_name v) own) w
   standing_scratch {own = own} t v j h = record {
-    slots = λ x s e. let l = slot_below j x s e in temp_stays t x v s own (λ (q : x ≡ t). omega (arith, q, l, h)) (j.slots x s e);
+    slots = λ x s e. let l = slot_below j x s e in temp_stays t x (by_name v) s own (λ (q : x ≡ t). omega (arith, q, l, h)) (j.slots x s e);
     size = j.size;
     kinds = j.kinds;
     turns = j.turns;
+    blocks = λ x z e. j.blocks x z (temp_block t v x z own e);
   }
 
-  pub scratch : {b d : ℕ} {old f own : Frame} {w : World} (t : ℕ) (v : Slot) → Joined b d old f own w → d ≤ t → Joined b d old f (with_temp t v own) w
+  pub scratch : {b d : ℕ} {old f own : Frame} {w : World} (t : ℕ) (v : Option Value) → Joined b d old f own w → d ≤ t
+      → Joined b d old f (with_temp t (by_name v) own) w
   scratch {d = d} {old = old} {own = own} t v j h = record {
     now = standing_scratch t v j.now (let a : length locals ≤ d = j.above in omega (arith, a, h));
     above = j.above;
-    kept = λ u i s e. temp_stays t u v s own (apart u i) (j.kept u i s e);
+    kept = λ u i s e. temp_stays t u (by_name v) s own (apart u i) (j.kept u i s e);
   }
     where
       apart : (u : ℕ) → Stays d u → u ≢ t
@@ -170,6 +187,7 @@ module _ (locals : List Local) where
     size = set_length f x (by_name v) ∙ j.size;
     kinds = λ y l e. named_kind f x v y l i j.kinds e;
     turns = j.turns;
+    blocks = λ y z e. j.blocks y z (temp_block x v y z own e);
   }
     where
       by_equal : (y : ℕ) (s : Slot) → slice_get (slice_set f x (by_name v)) y ≡ Some s → ((y ≡ x) ⊎ (y ≢ x)) → slice_get (with_temp x (by_name v) own) y ≡ Some s
@@ -196,7 +214,8 @@ module _ (locals : List Local) where
   -- ---- later
 
   pub standing_later : {b : ℕ} {f own : Frame} {w : World} (u : World) → u.turns ≤ w.turns → Standing b f own w → Standing b f own u
-  standing_later {b = b} {w = w} u h j = record { slots = j.slots; size = j.size; kinds = j.kinds; turns = (let t : w.turns ≤ b = j.turns in omega (arith, t, h)) }
+  standing_later {b = b} {w = w} u h j =
+      record { slots = j.slots; size = j.size; kinds = j.kinds; turns = (let t : w.turns ≤ b = j.turns in omega (arith, t, h)); blocks = j.blocks }
 
   pub later : {b d : ℕ} {old f own : Frame} {w : World} (u : World) → u.turns ≤ w.turns → Joined b d old f own w → Joined b d old f own u
   later u h j = record { now = standing_later u h j.now; above = j.above; kept = j.kept }
@@ -230,3 +249,24 @@ pub with_temp_is_set : (x : ℕ) (s o : Slot) (f : Frame) → slice_get f x ≡ 
 with_temp_is_set x s o [] e = cc
 with_temp_is_set zero s o (y ∷ f) e = refl
 with_temp_is_set (suc x) s o (y ∷ f) e = ap (λ (r : Frame). y ∷ r) (with_temp_is_set x s o f e)
+
+-- ---- what has begun ends on both sides
+
+pub frames_end : (f own : Frame) → ((x : ℕ) (s : Slot) → slice_get f x ≡ Some s → slice_get own x ≡ Some s)
+    → ((x z : ℕ) → slice_get own x ≡ Some (in_block (Some z)) → x < length f)
+    → (rest : Rest Frame (Unit {0})) (frame : Frame) (w : World) → end_all own rest frame w ≡ end_all f rest frame w
+frames_end [] [] slots blocks rest frame w = refl
+frames_end [] (by_name v ∷ own) slots blocks rest frame w = frames_end [] own (λ x s e. cc) (λ x z e. absurd (let h : suc x < 0 = blocks (suc x) z e in omega (arith, h))) rest frame w
+frames_end [] (in_block None ∷ own) slots blocks rest frame w = frames_end [] own (λ x s e. cc) (λ x z e. absurd (let h : suc x < 0 = blocks (suc x) z e in omega (arith, h))) rest frame w
+frames_end [] (in_block (Some z) ∷ own) slots blocks rest frame w = absurd (let h : 0 < 0 = blocks 0 z refl in omega (arith, h))
+frames_end (s ∷ f) [] slots blocks rest frame w = let never : slice_get [] 0 ≡ Some s = slots 0 s refl in cc
+frames_end (s ∷ f) (o ∷ own) slots blocks rest frame w =
+    let is : o ≡ s = (let e : Some o ≡ Some s = slots 0 s refl in cc) in
+    ap (λ (o : Slot). end_of o (λ u. end_all own rest) frame w) is
+    ∙ by_slot s (λ frame w. frames_end f own (λ x s e. slots (suc x) s e) (λ x z e. let h : suc x < suc (length f) = blocks (suc x) z e in omega (arith, h)) rest frame w)
+  where
+    by_slot : (s : Slot) → ((frame : Frame) (w : World) → end_all own rest frame w ≡ end_all f rest frame w)
+        → end_of s (λ u. end_all own rest) frame w ≡ end_of s (λ u. end_all f rest) frame w
+    by_slot (by_name v) same = same frame w
+    by_slot (in_block None) same = same frame w
+    by_slot (in_block (Some z)) same = same frame (record w { memory = with_end w.memory z })

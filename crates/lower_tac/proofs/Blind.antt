@@ -9,16 +9,18 @@ use Rattle.memory_words.specs.declared.cell_words.pointer.Ptr.TheVariants as P
 use Rattle.block_memory.specs.Blocks.{Memory, kind}
 use Rattle.block_memory.specs.declared.kinds.Access.{Access}
 use Rattle.block_memory.specs.declared.kinds.BlockKind.{BlockKind}
-use Rattle.block_memory.specs.Lifetimes.{is_heap, with_block}
+use Rattle.block_memory.specs.Lifetimes.{is_heap, with_block, with_end}
 use Rattle.block_memory.specs.Tested.{Tested}
-use Rattle.block_memory.specs.RunWorlds.Doing.{Rest, Doing, ◌>>=◌, pure, tested, is_undefined, memory_now, with_memory, note, turn, turn_of, make, deeper, enter}
+use Rattle.block_memory.specs.RunWorlds.Doing.{Rest, Doing, ◌>>=◌, pure, tested, is_undefined, memory_now, with_memory, note, turn, turn_of, make, end, deeper, enter}
 use Rattle.block_memory.specs.RunWorlds.Events.{Event, entered}
 use Rattle.block_memory.specs.RunWorlds.Scalars.{load, store, note_if, note_in, load_in, store_in, width_of}
 use Rattle.block_memory.specs.RunWorlds.Events as Ev
 use Rattle.block_memory.specs.declared.run_worlds.value.Value.{Value}
 use Rattle.block_memory.specs.RunWorlds.Worlds.{World, End, ends, goes_on, undefined, out_of_room, greatest_depth, greatest_live, live_bytes}
 use Rattle.c_meaning.specs.Expressions.{field_in, field_through}
-use Rattle.c_meaning.specs.Frames.{Frame}
+use Rattle.c_meaning.specs.Frames.{Frame, end_of, end_all}
+use Rattle.c_meaning.specs.declared.frame.Slot.{Slot}
+use Rattle.c_meaning.specs.declared.frame.Slot.TheVariants.{ByName as by_name, InBlock as in_block}
 use Rattle.block_memory.specs.RunWorlds.Library as Library
 use Rattle.block_memory.specs.Blocks.{with_cells}
 use Rattle.block_memory.specs.Ranges as Ranges
@@ -171,6 +173,18 @@ reads w = let t = by w.input in record { outcome = t.outcome; is = t.is; within 
 
 pub exits : {A : Type 0} (v : ℕ) (w : World) → Blind A (Library.exit v) w
 exits v w = record { outcome = inr (ends (v % 2 ^ 8) w); is = λ rest f. refl; within = tt }
+
+ends_block : (z : ℕ) (w : World) → Blind (Unit {0}) (end z) w
+ends_block z w = record { outcome = inl (tt, record w { memory = with_end w.memory z }); is = λ rest f. refl; within = omega arith }
+
+ends_slot : (s : Slot) (w : World) → Blind (Unit {0}) (end_of s) w
+ends_slot (by_name v) w = gives tt w
+ends_slot (in_block None) w = gives tt w
+ends_slot (in_block (Some z)) w = ends_block z w
+
+pub ends_frame : (f : Frame) (w : World) → Blind (Unit {0}) (end_all f) w
+ends_frame [] w = gives tt w
+ends_frame (s ∷ f) w = then_blind {next = λ u. end_all f} (ends_slot s w) (λ u w. ends_frame f w)
 
 -- ---- both sides do it
 

@@ -1,5 +1,6 @@
 -- What is asked of a type, by the sort that is kept of it.
 use Rattle.std.proofs.Common.{◌≡◌, ◌∷◌, ◌⊎◌, inl, inr, ℕ, refl, sym, ap, ◌∙◌}
+use Rattle.lay_base.specs.declared.place.Place.{Place}
 use Rattle.c_types.specs.declared.ty.IntKind.{IntKind}
 use Rattle.c_types.specs.Types.{CType, void, integer, pointer as pointer_to}
 use Rattle.c_typed.specs.Conversions.{promoted_kind}
@@ -21,22 +22,22 @@ number_is (integer k) kind e = cc
 number_is (pointer_to t) kind e = cc
 number_is t kind e = cc
 
-pointer_step_of : (t : CType) → Kept.sort_of t ≡ K.Pointer → (to : ℕ) (a : Operand) (code : Steps) → convert_step t to a code ≡ S.AsPointer to a ∷ code
-pointer_step_of (pointer_to t) e to a code = refl
-pointer_step_of (integer k) e to a code = cc
-pointer_step_of t e to a code = cc
+pointer_step_of : (t : CType) → Kept.sort_of t ≡ K.Pointer → (at : Place) (to : ℕ) (a : Operand) (code : Steps) → convert_step t at to a code ≡ S.AsPointer to at a ∷ code
+pointer_step_of (pointer_to t) e at to a code = refl
+pointer_step_of (integer k) e at to a code = cc
+pointer_step_of t e at to a code = cc
 
-void_step_of : (t : CType) → Kept.sort_of t ≡ K.Void → (to : ℕ) (a : Operand) (code : Steps) → convert_step t to a code ≡ S.Set to a ∷ code
-void_step_of void e to a code = refl
-void_step_of (integer k) e to a code = cc
-void_step_of (pointer_to t) e to a code = cc
-void_step_of t e to a code = cc
+void_step_of : (t : CType) → Kept.sort_of t ≡ K.Void → (at : Place) (to : ℕ) (a : Operand) (code : Steps) → convert_step t at to a code ≡ S.Set to a ∷ code
+void_step_of void e at to a code = refl
+void_step_of (integer k) e at to a code = cc
+void_step_of (pointer_to t) e at to a code = cc
+void_step_of t e at to a code = cc
 
-other_step_of : (t : CType) → Kept.sort_of t ≡ K.Other → (to : ℕ) (a : Operand) (code : Steps) → convert_step t to a code ≡ S.Set to a ∷ code
-other_step_of void e to a code = refl
-other_step_of (integer k) e to a code = cc
-other_step_of (pointer_to t) e to a code = cc
-other_step_of t e to a code = refl
+other_step_of : (t : CType) → Kept.sort_of t ≡ K.Other → (at : Place) (to : ℕ) (a : Operand) (code : Steps) → convert_step t at to a code ≡ S.Set to a ∷ code
+other_step_of void e at to a code = refl
+other_step_of (integer k) e at to a code = cc
+other_step_of (pointer_to t) e at to a code = cc
+other_step_of t e at to a code = refl
 
 module _ (p : ProgramData) (n : ℕ) (r : TypeRow) (kept : r ≡ row_of p n) where
   sort_is : Kept.sort_of (type_at p n) ≡ r.sort
@@ -51,13 +52,13 @@ module _ (p : ProgramData) (n : ℕ) (r : TypeRow) (kept : r ≡ row_of p n) whe
   pub unit_is : (kind : IntKind) → r.sort ≡ K.Number kind → unit_kind (type_at p n) ≡ promoted_kind kind
   unit_is kind e = rw (number_at kind e) refl
 
-  pub number_step : (kind : IntKind) → r.sort ≡ K.Number kind → (to : ℕ) (a : Operand) (code : Steps)
-      → convert_step (type_at p n) to a code ≡ S.Convert to kind a ∷ code
-  number_step kind e to a code = rw (number_at kind e) refl
+  pub number_step : (kind : IntKind) → r.sort ≡ K.Number kind → (at : Place) (to : ℕ) (a : Operand) (code : Steps)
+      → convert_step (type_at p n) at to a code ≡ S.Convert to at kind a ∷ code
+  number_step kind e at to a code = rw (number_at kind e) refl
 
-  pub pointer_step : r.sort ≡ K.Pointer → (to : ℕ) (a : Operand) (code : Steps) → convert_step (type_at p n) to a code ≡ S.AsPointer to a ∷ code
+  pub pointer_step : r.sort ≡ K.Pointer → (at : Place) (to : ℕ) (a : Operand) (code : Steps) → convert_step (type_at p n) at to a code ≡ S.AsPointer to at a ∷ code
   pointer_step e = pointer_step_of (type_at p n) (sort_is ∙ e)
 
-  pub set_step : (r.sort ≡ K.Void) ⊎ (r.sort ≡ K.Other) → (to : ℕ) (a : Operand) (code : Steps) → convert_step (type_at p n) to a code ≡ S.Set to a ∷ code
+  pub set_step : (r.sort ≡ K.Void) ⊎ (r.sort ≡ K.Other) → (at : Place) (to : ℕ) (a : Operand) (code : Steps) → convert_step (type_at p n) at to a code ≡ S.Set to a ∷ code
   set_step (inl e) = void_step_of (type_at p n) (sort_is ∙ e)
   set_step (inr e) = other_step_of (type_at p n) (sort_is ∙ e)

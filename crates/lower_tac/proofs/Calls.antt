@@ -10,13 +10,13 @@ use Rattle.c_typed.specs.declared.program.Local.{Local}
 use Rattle.c_typed.specs.Programs.{ProgramData, FunctionData}
 use Rattle.memory_words.specs.declared.cell_words.pointer.Ptr.{Ptr}
 use Rattle.memory_words.specs.declared.cell_words.pointer.Ptr.TheVariants as P
-use Rattle.block_memory.specs.RunWorlds.Doing.{Rest, Doing, ◌>>=◌, pure, is_undefined}
+use Rattle.block_memory.specs.RunWorlds.Doing.{Rest, Doing, ◌>>=◌, pure, is_undefined, tested}
 use Rattle.block_memory.specs.RunWorlds.LibraryCalls.{library, allocated, assign_record, given, the}
-use Rattle.block_memory.specs.RunWorlds.Operators.{converted}
-use Rattle.block_memory.specs.RunWorlds.Scalars.{pointer_of, word_of}
+use Rattle.block_memory.specs.RunWorlds.Operators.{converted, null_or_pointer}
+use Rattle.block_memory.specs.RunWorlds.Scalars.{pointer_of}
 use Rattle.block_memory.specs.RunWorlds.Worlds.{World, End, undefined}
 use Rattle.block_memory.specs.declared.run_worlds.value.Value.{Value}
-use Rattle.block_memory.specs.declared.run_worlds.value.Value.TheVariants.{Word as word, Pointer as pointer}
+use Rattle.block_memory.specs.declared.run_worlds.value.Value.TheVariants.{Pointer as pointer}
 use Rattle.c_meaning.specs.Expressions.{copy_record, address_of, through, by_type}
 use Rattle.c_meaning.specs.Frames.{Frame}
 use Rattle.c_meaning.specs.Program.{type_at}
@@ -30,7 +30,7 @@ use Rattle.tac_ir.specs.declared.step.Step.{Step}
 use Rattle.tac_ir.specs.declared.step.Step.TheVariants as S
 use Rattle.lower_tac.specs.Parts.{Steps, Part, temp, operand, code_of, held}
 use Rattle.lower_tac.specs.Expressions.{no_result, convert_step, copy_code}
-use Rattle.lower_tac.proofs.Blind.{blind_covers, gives, stays, back}
+use Rattle.lower_tac.proofs.Blind.{blind_covers, gives, tests, stays, back}
 use Rattle.lower_tac.proofs.Base.{Joined, Reads, reads_temp, later, deeper, done}
 use Rattle.lower_tac.proofs.Library.{libraries, allocates_records, assigns_record}
 use Rattle.lower_tac.proofs.Making as Making
@@ -123,7 +123,7 @@ module _ (p : ProgramData) (c : Code) (n : ℕ) (locals : List Local) (cs : List
     does = λ to d code rest b old f own w lt j e next.
         row.does d (S.Call to place h (record { first = d; count = k }) ∷ code) (λ vs. call place h vs rest) b old f own w lt j e (λ vs f own w j r.
         back (λ s. row_read place own d k vs (λ vs own. calls p.types c (go p.types c s) place h (record { to = to; routine = g; more = code; frame = own } ∷ cs) (slice_get c.routines h) vs own) w r)
-        (callees.covered place h vs rest b f own w (record { to = to; routine = g; more = code; frame = own } ∷ cs) lt j.now.turns (λ v u t. next v f own u (record { now = record { slots = j.now.slots; size = j.now.size; kinds = j.now.kinds; turns = t }; above = j.above; kept = j.kept }) (λ q. absurd (true≢false q)))));
+        (callees.covered place h vs rest b f own w (record { to = to; routine = g; more = code; frame = own } ∷ cs) lt j.now.turns (λ v u t. next v f own u (record { now = record { slots = j.now.slots; size = j.now.size; kinds = j.now.kinds; turns = t; blocks = j.now.blocks }; above = j.above; kept = j.kept }) (λ q. absurd (true≢false q)))));
   }
 
   pub call_through_valued : {call : Place → (f : ℕ) → List Value → Doing Frame (Option Value)} {x : Part} {o : Doing Frame Value} {m : Doing Frame (List Value)} {k : ℕ}
@@ -145,7 +145,7 @@ module _ (p : ProgramData) (c : Code) (n : ℕ) (locals : List Local) (cs : List
         (record { to = to; routine = g; more = code; frame = own } ∷ cs) vs own) w r)
         (by_pointer to code rest b f new w lt vs (pointer_of v) (let q = z.now.turns in q)
         (λ o u q. next o f new u (record {
-          now = record { slots = z.now.slots; size = z.now.size; kinds = z.now.kinds; turns = q };
+          now = record { slots = z.now.slots; size = z.now.size; kinds = z.now.kinds; turns = q; blocks = z.now.blocks };
           above = j.above;
           kept = (done locals (omega arith) j z).kept;
         }) (λ q. absurd (true≢false q))))));
@@ -202,11 +202,11 @@ module _ (p : ProgramData) (c : Code) (n : ℕ) (locals : List Local) (cs : List
   }
 
   pub allocate_valued : {x : Part} {m : Doing Frame Value} (place : Place) (r size : ℕ) (zeroed : Bool) → Uses Value x m Value_is
-      → Valued (m >>= λ v. given (allocated place r size (word_of v) zeroed)) false (λ to d code. code_of x d (S.Allocate to place r size zeroed (operand x d) ∷ code))
+      → Valued (m >>= λ v. given (allocated place r size v zeroed)) false (λ to d code. code_of x d (S.Allocate to place r size zeroed (operand x d) ∷ code))
   allocate_valued {x} {m} place r size zeroed one =
       Values.one_made p c n locals cs g one pure (λ to a. S.Allocate to place r size zeroed a)
-      (λ v. allocated place r size (word_of v) zeroed) (λ v. given (allocated place r size (word_of v) zeroed))
-      (λ v rest f w. refl) (λ v w. allocates_records place r size (word_of v) zeroed w) (λ to a code own w k. refl)
+      (λ v. allocated place r size v zeroed) (λ v. given (allocated place r size v zeroed))
+      (λ v rest f w. refl) (λ v w. allocates_records place r size v zeroed w) (λ to a code own w k. refl)
 
   -- ---- conversions
 
@@ -218,40 +218,27 @@ module _ (p : ProgramData) (c : Code) (n : ℕ) (locals : List Local) (cs : List
         (λ o f own w j. back (λ k. refl) (next None f own w j (λ q. absurd (true≢false q))));
   }
 
-  as_pointer : (t : CType) (v : Value) → converted (pointer_to t) v ≡ pointer (pointer_of v)
-  as_pointer t (word v) = refl
-  as_pointer t (pointer q) = refl
-
   abbrev Converted : (t : CType) → Part → Doing Frame Value → Type 0
-  Converted t x m = Valued (m >>= λ v. pure (Some (converted t v))) false (λ to d code. code_of x d (convert_step t to (operand x d) code))
+  Converted t x m = Valued (m >>= λ v. given (tested x.at (converted t v))) false (λ to d code. code_of x d (convert_step t x.at to (operand x d) code))
 
   pub convert_valued : {x : Part} {m : Doing Frame Value} (t : CType) → Uses Value x m Value_is → Converted t x m
   convert_valued {x} {m} (integer kind) one =
-      Values.one_made p c n locals cs g one pure (λ to a. S.Convert to kind a) (λ v. pure (converted (integer kind) v)) (λ v. pure (Some (converted (integer kind) v)))
-      (λ v rest f w. refl) (λ v w. gives (converted (integer kind) v) w) (λ to a code own w k. refl)
+      Values.one_made p c n locals cs g one pure (λ to a. S.Convert to x.at kind a) (λ v. tested x.at (converted (integer kind) v))
+      (λ v. given (tested x.at (converted (integer kind) v))) (λ v rest f w. refl) (λ v w. tests x.at (converted (integer kind) v) w) (λ to a code own w k. refl)
   convert_valued {x} {m} (pointer_to t) one =
-      Values.one_made p c n locals cs g one pure (λ to a. S.AsPointer to a) (λ v. pure (pointer (pointer_of v))) (λ v. pure (Some (converted (pointer_to t) v)))
-      (λ v rest f w. ap (λ (z : Value). rest (Some z) f w) (as_pointer t v)) (λ v w. gives (pointer (pointer_of v)) w) (λ to a code own w k. refl)
-  convert_valued {x} {m} void one =
-      Values.one_made p c n locals cs g one pure (λ to a. S.Set to a) (λ v. pure v) (λ v. pure (Some (converted void v)))
+      Values.one_made p c n locals cs g one pure (λ to a. S.AsPointer to x.at a) (λ v. tested x.at (null_or_pointer v))
+      (λ v. given (tested x.at (converted (pointer_to t) v))) (λ v rest f w. refl) (λ v w. tests x.at (null_or_pointer v) w) (λ to a code own w k. refl)
+  convert_valued {x} {m} void one = Values.one_made p c n locals cs g one pure (λ to a. S.Set to a) (λ v. pure v) (λ v. given (tested x.at (converted void v)))
       (λ v rest f w. refl) (λ v w. gives v w) (λ to a code own w k. refl)
-  convert_valued {x} {m} (array t k) one =
-      Values.one_made p c n locals cs g one pure (λ to a. S.Set to a) (λ v. pure v) (λ v. pure (Some (converted (array t k) v)))
+  convert_valued {x} {m} (array t k) one = Values.one_made p c n locals cs g one pure (λ to a. S.Set to a) (λ v. pure v) (λ v. given (tested x.at (converted (array t k) v)))
       (λ v rest f w. refl) (λ v w. gives v w) (λ to a code own w k. refl)
   convert_valued {x} {m} (function t all) one =
-      Values.one_made p c n locals cs g one pure (λ to a. S.Set to a) (λ v. pure v) (λ v. pure (Some (converted (function t all) v)))
+      Values.one_made p c n locals cs g one pure (λ to a. S.Set to a) (λ v. pure v) (λ v. given (tested x.at (converted (function t all) v)))
       (λ v rest f w. refl) (λ v w. gives v w) (λ to a code own w k. refl)
-  convert_valued {x} {m} (structure r) one =
-      Values.one_made p c n locals cs g one pure (λ to a. S.Set to a) (λ v. pure v) (λ v. pure (Some (converted (structure r) v)))
+  convert_valued {x} {m} (structure r) one = Values.one_made p c n locals cs g one pure (λ to a. S.Set to a) (λ v. pure v) (λ v. given (tested x.at (converted (structure r) v)))
       (λ v rest f w. refl) (λ v w. gives v w) (λ to a code own w k. refl)
 
   -- ---- addresses
-
-  pub address_valued : {x : Part} {m : Doing Frame Spot} (place : Place) → Uses Spot x m Place_of
-      → Valued (m >>= λ s. the (address_of place s) pointer) false (λ to d code. code_of x d (S.AsPointer to (operand x d) ∷ code))
-  address_valued {x} {m} place one =
-      Values.one_made p c n locals cs g one pure (λ to a. S.AsPointer to a) (λ v. pure (pointer (pointer_of v))) (λ s. the (address_of place s) pointer)
-      (λ v rest f w. refl) (λ v w. gives (pointer (pointer_of v)) w) (λ to a code own w k. refl)
 
   pub no_address : {m : Doing Frame Spot} (place : Place) (x : ℕ) → Assignments.Named p c n locals cs g x m
       → Valued (m >>= λ s. the (address_of place s) pointer) false (λ to d code. S.Fail K.Dead place ∷ code)

@@ -150,7 +150,7 @@ module _ (p : ProgramData) (c : Code) (n : ℕ) (locals : List Local) (cs : List
         by_block (Some k) there next = inside_covers (Some k) (at_of e) offset _ own w _ there (λ q. cc) (λ z q.
             let address = pointer (P.Block z offset) in
             let new = with_temp room (by_name (Some address)) own in
-            let j2 : Joined locals b room own f new w = scratch locals room (by_name (Some address)) (joined j) (omega arith) in
+            let j2 : Joined locals b room own f new w = scratch locals room (Some address) (joined j) (omega arith) in
             Making.code_does p c n locals cs g (value_uses e) (suc room) (S.Store (at_of e) (access_at p (ty e)) (temp (at_of e) room) (operand (part_of p locals e (value_code p locals e)) (suc room)) ∷ code)
             (λ v. store (at_of e) (P.Block k offset) (access_at p (ty e)) v rest)
             (λ s v. store (at_of e) (P.Block z offset) (access_at p (ty e)) v (λ u own w. at code own w s))
@@ -180,7 +180,7 @@ module _ (p : ProgramData) (c : Code) (n : ℕ) (locals : List Local) (cs : List
         let size = size_at p (path_ty q) in
         let address = pointer (P.Block z offset) in
         let new = with_temp room (by_name (Some address)) own in
-        let j2 : Joined locals b room own f new w = scratch locals room (by_name (Some address)) (joined j) (omega arith) in
+        let j2 : Joined locals b room own f new w = scratch locals room (Some address) (joined j) (omega arith) in
         Making.code_does p c n locals cs g (place_uses q is) (suc room) (S.CopyRecord (path_at q) size (temp (path_at q) room) (operand part (suc room)) ∷ code)
         (λ s. copy_record (path_at q) size (placed (P.Block k offset)) s rest)
         (λ s v. assign_record (path_at q) size (P.Block z offset) (pointer_of v) (λ u own w. at code own w s))

@@ -8,15 +8,16 @@ use Rattle.c_typed.specs.RunCounts.Loops.{loops_in, loops_in_body}
 use Rattle.c_typed.specs.Trees.{Statement}
 use Rattle.memory_words.specs.declared.cell_words.pointer.Ptr.TheVariants as P
 use Rattle.block_memory.specs.declared.kinds.BlockKind.TheVariants as Kind
-use Rattle.block_memory.specs.RunWorlds.Doing.{Rest, ◌>>=◌, ◌>>◌, pure, turn_of, descend, enter, leave, less_deep, note}
+use Rattle.block_memory.specs.RunWorlds.Doing.{Rest, ◌>>=◌, ◌>>◌, pure, make, turn_of, descend, enter, leave, less_deep, note}
 use Rattle.block_memory.specs.RunWorlds.Events.{entered, left as left_event}
 use Rattle.block_memory.specs.RunWorlds.Worlds.{World, End, undefined}
 use Rattle.block_memory.specs.declared.run_worlds.value.Value.{Value}
 use Rattle.block_memory.specs.declared.run_worlds.value.Value.TheVariants.{Word as word}
 use Rattle.block_memory.specs.declared.run_worlds.way.Way.{Way}
 use Rattle.c_meaning.specs.Frames as Frames
-use Rattle.c_meaning.specs.Frames.{Frame, begin_by, empty_slot, frame_of, finish_all, slot_now, with_slot}
+use Rattle.c_meaning.specs.Frames.{Frame, begin_by, empty_slot, end_all, frame_now, frame_of, finish_all, slot_now, with_slot}
 use Rattle.c_meaning.specs.Program.{access_at, size_at, all_locals}
+use Rattle.c_meaning.specs.Run as Source
 use Rattle.c_meaning.specs.Run.{received, receive, result_of, body_of, function_of, called}
 use Rattle.c_meaning.specs.Statements.{execute}
 use Rattle.c_meaning.specs.declared.frame.Slot.{Slot}
@@ -31,14 +32,15 @@ use Rattle.tac_ir.specs.declared.step.Step.TheVariants as S
 use Rattle.lower_tac.specs.Parts.{Steps}
 use Rattle.lower_tac.specs.declared.ways.Exits.{Exits}
 use Rattle.lower_tac.specs.Statements.{Out, fallen, have_blocks, statement_code, parameter_of, parameters_of, function_exits, last_code, routine_of, code_if_any, routines_from, lowered}
-use Rattle.lower_tac.proofs.Blind.{blind_covers, then_blind, makes, stores, notes, deepens, stays, back, same_run}
-use Rattle.lower_tac.proofs.Base.{Standing, IsBlock, IsNamed, IsKind, with_temp_is_set, set_here, standing_later, standing_named}
+use Rattle.lower_tac.proofs.Blind.{blind_covers, then_blind, makes, stores, notes, deepens, ends_frame, stays, back, same_run}
+use Rattle.lower_tac.proofs.Base.{Standing, IsBlock, IsNamed, IsKind, with_temp_is_set, set_here, standing_later, standing_named, within, frames_end}
 use Rattle.lower_tac.proofs.Making as Making
 use Rattle.lower_tac.proofs.Making.{Ends, ends_same, ends_more, ends_then}
 use Rattle.lower_tac.proofs.Calls as Calls
 use Rattle.lower_tac.proofs.Calls.{Routines}
 use Rattle.lower_tac.proofs.Places.{named_slot, block_slot}
-use Rattle.lower_tac.proofs.ScopesCover.{standing_block}
+use Rattle.lower_tac.proofs.ScopesCover.{standing_block, Behind}
+use Rattle.lower_tac.proofs.ScopesCover as Scopes
 use Rattle.lower_tac.proofs.StatementsCover as Statements
 use Rattle.lower_tac.proofs.StatementsCover.{Extends}
 use Rattle.lower_tac.proofs.Control as Control
@@ -101,16 +103,32 @@ module _ (p : ProgramData) where
         → Covers ((begin_by p x (size_at p l.ty) block >> (slot_now x >>= received p place x l.ty v)) rest f w)
         (λ k. (Run.begin x block (size_at p l.ty) >> (slot_now x >>= Run.received place x (parameter_of p l) v)) (other k) f w)
     one_received place x l v is true e rest other b f w j next =
-        blind_covers (makes (size_at p l.ty) Kind.Local w) (λ z. (with_slot x (in_block (Some z)) >> (slot_now x >>= received p place x l.ty v)) rest) f f
-        (λ k z. (with_slot x (in_block (Some z)) >> (slot_now x >>= Run.received place x (parameter_of p l) v)) (other k)) (λ z u h.
         let i : IsBlock locals x = record { local = l; is = is; block = e } in
-        let j2 = standing_block locals x (Some z) i (standing_later locals u h j) in
-        let s = block_slot locals x i j in
-        let now : slice_get (slice_set f x (in_block (Some z))) x ≡ Some (in_block (Some z)) = set_here f x (in_block (Some z)) (in_block s.0) s.1 in
-        subst (λ (o : Option Slot). Covers (received p place x l.ty v o rest (slice_set f x (in_block (Some z))) u)
-        (λ k. Run.received place x (parameter_of p l) v o (other k) (slice_set f x (in_block (Some z))) u)) (sym now)
-        (blind_covers (stores place (P.Block z 0) (access_at p l.ty) v u) rest (slice_set f x (in_block (Some z))) (slice_set f x (in_block (Some z))) other
-        (λ q y h. next (slice_set f x (in_block (Some z))) y (standing_later locals y h j2))))
+        finish i (λ change u less j behind. blind_covers (makes (size_at p l.ty) Kind.Local u) (λ z. (with_slot x (in_block (Some z)) >> (slot_now x >>= received p place x l.ty v)) rest) (change f) (change f)
+        (λ k z. (with_slot x (in_block (Some z)) >> (slot_now x >>= Run.received place x (parameter_of p l) v)) (other k)) (λ z t h. made i (change f) u j z t h))
+      where
+        made : IsBlock locals x → (f : Frame) (w : World) → Standing locals b f f w → (z : ℕ) (u : World) → u.turns ≤ w.turns
+            → Covers ((with_slot x (in_block (Some z)) >> (slot_now x >>= received p place x l.ty v)) rest f u)
+            (λ k. (with_slot x (in_block (Some z)) >> (slot_now x >>= Run.received place x (parameter_of p l) v)) (other k) f u)
+        made i f w j z u h =
+            let j2 = standing_block locals x (Some z) i (standing_later locals u h j) in
+            let s = block_slot locals x i j in
+            let now : slice_get (slice_set f x (in_block (Some z))) x ≡ Some (in_block (Some z)) = set_here f x (in_block (Some z)) (in_block s.0) s.1 in
+            subst (λ (o : Option Slot). Covers (received p place x l.ty v o rest (slice_set f x (in_block (Some z))) u)
+            (λ k. Run.received place x (parameter_of p l) v o (other k) (slice_set f x (in_block (Some z))) u)) (sym now)
+            (blind_covers (stores place (P.Block z 0) (access_at p l.ty) v u) rest (slice_set f x (in_block (Some z))) (slice_set f x (in_block (Some z))) other
+            (λ q y h. next (slice_set f x (in_block (Some z))) y (standing_later locals y h j2)))
+
+        -- it ends first, where it has begun
+        finish : (i : IsBlock locals x)
+            → ((change : Frame → Frame) (u : World) → u.turns ≤ w.turns → Standing locals b (change f) (change f) u → Behind locals f (change f)
+            → Covers ((make (size_at p l.ty) Kind.Local >>= λ z. with_slot x (in_block (Some z)) >> (slot_now x >>= received p place x l.ty v)) rest (change f) u)
+            (λ k. (make (size_at p l.ty) Kind.Local >>= λ z. with_slot x (in_block (Some z)) >> (slot_now x >>= Run.received place x (parameter_of p l) v)) (other k) (change f) u))
+            → Covers ((begin_by p x (size_at p l.ty) true >> (slot_now x >>= received p place x l.ty v)) rest f w)
+            (λ k. (Run.begin x true (size_at p l.ty) >> (slot_now x >>= Run.received place x (parameter_of p l) v)) (other k) f w)
+        finish i next = Scopes.finish_covers p (lowered p) 0 locals [] (record { ty = 0; locals = []; parameters = []; code = []; labels = []; texts = [] }) 0 x i
+            (λ u. (make (size_at p l.ty) Kind.Local >>= λ z. with_slot x (in_block (Some z)) >> (slot_now x >>= received p place x l.ty v)) rest)
+            (λ k u. (make (size_at p l.ty) Kind.Local >>= λ z. with_slot x (in_block (Some z)) >> (slot_now x >>= Run.received place x (parameter_of p l) v)) (other k)) j next
     one_received place x l v is false e rest other b f w j next =
         let i : IsNamed locals x = record { local = l; is = is; named = e } in
         let s = named_slot locals x i j in
@@ -167,7 +185,13 @@ module _ (p : ProgramData) where
       by_block false e = ap (λ (r : Frame). by_name None ∷ r) e
 
   frame_stands : (all : List Local) (b : ℕ) (w : World) → w.turns ≤ b → Standing all b (map (empty_slot p) all) (map (empty_slot p) all) w
-  frame_stands all b w h = record { slots = λ x s e. e; size = length_same all; kinds = λ x l e. kind_of_slot all x l e; turns = h }
+  frame_stands all b w h = record {
+    slots = λ x s e. e;
+    size = length_same all;
+    kinds = λ x l e. kind_of_slot all x l e;
+    turns = h;
+    blocks = λ x z e. (let below = within (map (empty_slot p) all) x (in_block (Some z)) e in let many = length_same all in omega (arith, below, many));
+  }
     where
       length_same : (all : List Local) → length (map (empty_slot p) all) ≡ length all
       length_same [] = refl
@@ -199,15 +223,28 @@ module _ (p : ProgramData) where
 
     -- behind the function: it is left, and its caller goes on
     abbrev behind : Rest Frame (Option Value) → Frame → Rest Frame (Option Value)
-    behind rest caller = λ v own w. (leave >> pure v) (λ v g w. rest v caller w) own w
+    behind rest caller = λ v own w. (frame_now >>= end_all) (λ u own w. (leave >> pure v) (λ v g w. rest v caller w) own w) own w
+
+    -- what the code does then
+    abbrev code_behind : (k : ℕ) → Rest Frame (Option Value)
+    code_behind k = λ v own w. (Run.leaves >> pure v) (λ v own w. returns p.types (lowered p) (go p.types (lowered p) k) cs v w) own w
+
+    behind_covers : (rest : Rest Frame (Option Value)) (caller : Frame) (b : ℕ) (v : Option Value) (fr own : Frame) (w : World)
+        → ((v : Option Value) (u : World) → u.turns ≤ b → Covers (rest v caller u) (λ k. returns p.types (lowered p) (go p.types (lowered p) k) cs v u))
+        → Standing locals b fr own w → Covers (behind rest caller v fr w) (λ k. code_behind k v own w)
+    behind_covers rest caller b v fr own w next j =
+        same_run (λ k. frames_end fr own j.slots (λ x z e. (let below = j.blocks x z e in let many = j.size in omega (arith, below, many))) (later k) own w)
+        (blind_covers (ends_frame fr w) (λ u own w. (leave >> pure v) (λ v g w. rest v caller w) own w) fr own later
+        (λ u t less. next v (record t { depth = less_deep t.depth; trace = left_event ∷ t.trace }) (let turns = j.turns in omega (arith, less, turns))))
+      where
+        later : ℕ → Rest Frame (Unit {0})
+        later k u own w = (leave >> pure v) (λ v own w. returns p.types (lowered p) (go p.types (lowered p) k) cs v w) own w
 
     left_covers : (rest : Rest Frame (Option Value)) (caller : Frame) (b : ℕ) (a : Option Operand) (v : Option Value) (code : Steps) (fr own : Frame) (w : World)
         → ((v : Option Value) (u : World) → u.turns ≤ b → Covers (rest v caller u) (λ k. returns p.types (lowered p) (go p.types (lowered p) k) cs v u))
-        → w.turns ≤ b → ((later : ℕ → Rest Frame (Option Value)) (k : ℕ) → Run.read_any a (later k) own w ≡ later k v own w)
+        → Standing locals b fr own w → ((later : ℕ → Rest Frame (Option Value)) (k : ℕ) → Run.read_any a (later k) own w ≡ later k v own w)
         → Covers (behind rest caller v fr w) (at (S.Return a ∷ code) own w)
-    left_covers rest caller b a v code fr own w next turns reads =
-        back (λ k. reads (λ k v own w. (leave >> pure v) (λ v own w. returns p.types (lowered p) (go p.types (lowered p) k) cs v w) own w) k)
-        (next v (record w { depth = less_deep w.depth; trace = left_event ∷ w.trace }) turns)
+    left_covers rest caller b a v code fr own w next j reads = back (λ k. reads code_behind k) (behind_covers rest caller b v fr own w next j)
 
     -- what is left to do behind its body, and behind the ends of its parameters
     abbrev Way_on : Rest Frame (Option Value) → Frame → Rest Frame Way
@@ -224,7 +261,7 @@ module _ (p : ProgramData) where
         → (code : Steps) (fr own : Frame) (w : World) → Standing locals b fr own w
         → Covers (behind rest caller (if h == p.main then Some (word 0) else None) fr w) (at (S.Return (fallen p h locals) ∷ code) own w)
     end_covers rest caller b next code fr own w j =
-        left_covers rest caller b (fallen p h locals) (if h == p.main then Some (word 0) else None) code fr own w next j.turns (fallen_reads own w (h == p.main))
+        left_covers rest caller b (fallen p h locals) (if h == p.main then Some (word 0) else None) code fr own w next j (fallen_reads own w (h == p.main))
 
     ways_out : (rest : Rest Frame (Option Value)) (caller : Frame) (b : ℕ)
         → ((v : Option Value) (u : World) → u.turns ≤ b → Covers (rest v caller u) (λ k. returns p.types (lowered p) (go p.types (lowered p) k) cs v u))
@@ -233,9 +270,8 @@ module _ (p : ProgramData) where
       breaks = λ code fr own w j. end_covers rest caller b next code fr own w j;
       continues = λ code fr own w j. end_covers rest caller b next code fr own w j;
       gives = λ code o fr own w j s.
-          back (λ k. ap (λ (o : Option Slot). (leave >> pure (value_in o)) (λ v own w. returns p.types (lowered p) (go p.types (lowered p) k) cs v w) own w) s)
-          (next o (record w { depth = less_deep w.depth; trace = left_event ∷ w.trace }) j.turns);
-      direct = λ is code a o fr own w j r. left_covers rest caller b a o code fr own w next j.turns (λ later k. r.is (later k) w);
+          back (λ k. ap (λ (o : Option Slot). code_behind k (value_in o) own w) s) (behind_covers rest caller b o fr own w next j);
+      direct = λ is code a o fr own w j r. left_covers rest caller b a o code fr own w next j (λ later k. r.is (later k) w);
     }
 
   -- ---- calls
@@ -258,7 +294,7 @@ module _ (p : ProgramData) where
     runs : (place : Place) (h : ℕ) (values : List Value) (rest : Rest Frame (Option Value)) (f : FunctionData) (caller : Frame) (callers : List Caller) (w : World) → w.turns < n
         → ((v : Option Value) (u : World) → u.turns ≤ w.turns → Covers (rest v caller u) (λ k. returns p.types (lowered p) (go p.types (lowered p) k) callers v u))
         → (o : Option (Statement ℕ)) → f.body ≡ o
-        → Covers (body_of p (called p n) n place h values f o (λ v g after. (leave >> pure v) rest caller after) (frame_of p f) w)
+        → Covers (Source.ending p (body_of p (called p n) n place h values f o) (λ v g after. (leave >> pure v) rest caller after) (frame_of p f) w)
         (λ k. body p.types (lowered p) (go p.types (lowered p) k) place callers (routine_of p f (code_if_any p h f o)) (code_if_any p h f o).code values w)
     runs place h values rest f caller callers w lt next None is = stays
     runs place h values rest f caller callers w lt next (Some one) is =
@@ -308,6 +344,6 @@ module _ (p : ProgramData) where
       by_function below place h values rest b f own w callers lt turns next (Some g) is =
           subst (λ (r : Option RoutineData). Covers (function_of p (called p n) n place h values (Some g) rest f w)
           (λ k. calls p.types (lowered p) (go p.types (lowered p) k) place h callers r values own w)) (sym (routine_there h g is))
-          (enter_covers h (λ u caller w. body_of p (called p n) n place h values g g.body (λ v g after. (leave >> pure v) rest caller after) (frame_of p g) w) f own w
+          (enter_covers h (λ u caller w. Source.ending p (body_of p (called p n) n place h values g g.body) (λ v g after. (leave >> pure v) rest caller after) (frame_of p g) w) f own w
           (λ k u own w. body p.types (lowered p) (go p.types (lowered p) k) place callers (routine_of p g (code_if_any p h g g.body)) (code_if_any p h g g.body).code values w)
           (λ u less. runs n below place h values rest g f callers u (omega (arith, less, turns, lt)) (λ v t q. next v t (omega (arith, q, less, turns))) g.body refl))

@@ -12,8 +12,8 @@ use Rattle.block_memory.specs.Ranges as Ranges
 use Rattle.block_memory.specs.RunWorlds.Doing.{Doing, ◌>>=◌, pure, tested, with_memory, is_undefined}
 use Rattle.block_memory.specs.RunWorlds.Events as Ev
 use Rattle.block_memory.specs.RunWorlds.Library as Library
-use Rattle.block_memory.specs.RunWorlds.LibraryCalls.{library, allocated, assign_record, given, is_same_place}
-use Rattle.block_memory.specs.RunWorlds.Scalars.{word_of, pointer_of}
+use Rattle.block_memory.specs.RunWorlds.LibraryCalls.{library, number, address, allocated, allocated_count, assign_record, given, is_same_place}
+use Rattle.block_memory.specs.RunWorlds.Scalars.{as_word, as_pointer}
 use Rattle.block_memory.specs.RunWorlds.Worlds.{World}
 use Rattle.block_memory.specs.declared.run_worlds.value.Value.{Value}
 use Rattle.block_memory.specs.declared.run_worlds.value.Value.TheVariants.{Word as word}
@@ -39,52 +39,78 @@ compares at q r n w =
     then_blind {next = λ m. tested at (Ranges.compare m q r n) >>= λ z. pure (word (cast_unsigned w32 z))} (sees w) (λ m w.
     then_blind {next = λ z. pure (word (cast_unsigned w32 z))} (tests at (Ranges.compare m q r n) w) (λ z w. gives (word (cast_unsigned w32 z)) w))
 
+-- an argument is tested first
+with_number : {A : Type 0} {next : ℕ → Doing Frame A} (at : Place) (v : Value) (w : World) → ((n : ℕ) (w : World) → Blind A (next n) w) → Blind A (number at v >>= next) w
+with_number {A} {next} at v w other = then_blind {next = next} (tests at (as_word v) w) other
+
+with_address : {A : Type 0} {next : Ptr → Doing Frame A} (at : Place) (v : Value) (w : World) → ((q : Ptr) (w : World) → Blind A (next q) w) → Blind A (address at v >>= next) w
+with_address {A} {next} at v w other = then_blind {next = next} (tests at (as_pointer v) w) other
+
 pub libraries : (at : Place) (which : LibraryFunction) (all : List Value) (w : World) → Blind (Option Value) (library at which all) w
 libraries at L.Malloc [] w = fails K.Call at w
-libraries at L.Malloc (v ∷ []) w = some (allocates None (word_of v) false w)
+libraries at L.Malloc (v ∷ []) w = with_number {next = λ n. given (Library.allocate None n false)} at v w (λ n w. some (allocates None n false w))
 libraries at L.Malloc (v ∷ u ∷ all) w = fails K.Call at w
 libraries at L.Calloc [] w = fails K.Call at w
 libraries at L.Calloc (v ∷ []) w = fails K.Call at w
-libraries at L.Calloc (v ∷ u ∷ []) w = some (allocates None (word_of v * word_of u) true w)
+libraries at L.Calloc (v ∷ u ∷ []) w =
+    with_number {next = λ n. number at u >>= λ k. given (Library.allocate None (n * k) true)} at v w (λ n w.
+    with_number {next = λ k. given (Library.allocate None (n * k) true)} at u w (λ k w. some (allocates None (n * k) true w)))
 libraries at L.Calloc (v ∷ u ∷ x ∷ all) w = fails K.Call at w
 libraries at L.Free [] w = fails K.Call at w
-libraries at L.Free (v ∷ []) w = then_blind {next = λ a. pure None} (frees at (pointer_of v) w) (λ a w. gives None w)
+libraries at L.Free (v ∷ []) w =
+    with_address {next = λ q. Library.free at q >>= λ a. pure None} at v w (λ q w. then_blind {next = λ a. pure None} (frees at q w) (λ a w. gives None w))
 libraries at L.Free (v ∷ u ∷ all) w = fails K.Call at w
 libraries at L.Memcpy [] w = fails K.Call at w
 libraries at L.Memcpy (v ∷ []) w = fails K.Call at w
 libraries at L.Memcpy (v ∷ u ∷ []) w = fails K.Call at w
-libraries at L.Memcpy (v ∷ u ∷ n ∷ []) w = some (copies at (pointer_of v) (pointer_of u) (word_of n) false w)
+libraries at L.Memcpy (v ∷ u ∷ x ∷ []) w =
+    with_address {next = λ q. address at u >>= λ r. number at x >>= λ n. given (Library.copy at q r n false)} at v w (λ q w.
+    with_address {next = λ r. number at x >>= λ n. given (Library.copy at q r n false)} at u w (λ r w.
+    with_number {next = λ n. given (Library.copy at q r n false)} at x w (λ n w. some (copies at q r n false w))))
 libraries at L.Memcpy (v ∷ u ∷ n ∷ x ∷ all) w = fails K.Call at w
 libraries at L.Memmove [] w = fails K.Call at w
 libraries at L.Memmove (v ∷ []) w = fails K.Call at w
 libraries at L.Memmove (v ∷ u ∷ []) w = fails K.Call at w
-libraries at L.Memmove (v ∷ u ∷ n ∷ []) w = some (copies at (pointer_of v) (pointer_of u) (word_of n) true w)
+libraries at L.Memmove (v ∷ u ∷ x ∷ []) w =
+    with_address {next = λ q. address at u >>= λ r. number at x >>= λ n. given (Library.copy at q r n true)} at v w (λ q w.
+    with_address {next = λ r. number at x >>= λ n. given (Library.copy at q r n true)} at u w (λ r w.
+    with_number {next = λ n. given (Library.copy at q r n true)} at x w (λ n w. some (copies at q r n true w))))
 libraries at L.Memmove (v ∷ u ∷ n ∷ x ∷ all) w = fails K.Call at w
 libraries at L.Memset [] w = fails K.Call at w
 libraries at L.Memset (v ∷ []) w = fails K.Call at w
 libraries at L.Memset (v ∷ u ∷ []) w = fails K.Call at w
-libraries at L.Memset (v ∷ u ∷ n ∷ []) w = some (fills at (pointer_of v) (word_of u) (word_of n) w)
+libraries at L.Memset (v ∷ u ∷ x ∷ []) w =
+    with_address {next = λ q. number at u >>= λ byte. number at x >>= λ n. given (Library.fill at q byte n)} at v w (λ q w.
+    with_number {next = λ byte. number at x >>= λ n. given (Library.fill at q byte n)} at u w (λ byte w.
+    with_number {next = λ n. given (Library.fill at q byte n)} at x w (λ n w. some (fills at q byte n w))))
 libraries at L.Memset (v ∷ u ∷ n ∷ x ∷ all) w = fails K.Call at w
 libraries at L.Memcmp [] w = fails K.Call at w
 libraries at L.Memcmp (v ∷ []) w = fails K.Call at w
 libraries at L.Memcmp (v ∷ u ∷ []) w = fails K.Call at w
-libraries at L.Memcmp (v ∷ u ∷ n ∷ []) w = some (compares at (pointer_of v) (pointer_of u) (word_of n) w)
+libraries at L.Memcmp (v ∷ u ∷ x ∷ []) w =
+    with_address {next = λ q. address at u >>= λ r. number at x >>= λ n. given (Library.compare at q r n)} at v w (λ q w.
+    with_address {next = λ r. number at x >>= λ n. given (Library.compare at q r n)} at u w (λ r w.
+    with_number {next = λ n. given (Library.compare at q r n)} at x w (λ n w. some (compares at q r n w))))
 libraries at L.Memcmp (v ∷ u ∷ n ∷ x ∷ all) w = fails K.Call at w
 libraries at L.Putchar [] w = fails K.Call at w
-libraries at L.Putchar (v ∷ []) w = some (puts (word_of v) w)
+libraries at L.Putchar (v ∷ []) w = with_number {next = λ n. given (Library.putchar n)} at v w (λ n w. some (puts n w))
 libraries at L.Putchar (v ∷ u ∷ all) w = fails K.Call at w
 libraries at L.Getchar [] w = some (reads w)
 libraries at L.Getchar (v ∷ all) w = fails K.Call at w
 libraries at L.Exit [] w = fails K.Call at w
-libraries at L.Exit (v ∷ []) w = exits (word_of v) w
+libraries at L.Exit (v ∷ []) w = with_number {next = λ n. Library.exit n} at v w (λ n w. exits n w)
 libraries at L.Exit (v ∷ u ∷ all) w = fails K.Call at w
 
-pub allocates_records : (at : Place) (r size count : ℕ) (zeroed : Bool) (w : World) → Blind Value (allocated at r size count zeroed) w
-allocates_records at r size count zeroed w = by_test (nat_lt (count * size) (2 ^ 28))
+counted : (at : Place) (r size count : ℕ) (zeroed : Bool) (w : World) → Blind Value (allocated_count at r size count zeroed) w
+counted at r size count zeroed w = by_test (nat_lt (count * size) (2 ^ 28))
   where
     by_test : (t : Bool) → Blind Value (if t then Library.allocate (Some (r, count)) (count * size) zeroed else is_undefined K.Huge at) w
     by_test true = allocates (Some (r, count)) (count * size) zeroed w
     by_test false = fails K.Huge at w
+
+pub allocates_records : (at : Place) (r size : ℕ) (count : Value) (zeroed : Bool) (w : World) → Blind Value (allocated at r size count zeroed) w
+allocates_records at r size count zeroed w =
+    with_number {next = λ n. allocated_count at r size n zeroed} at count w (λ n w. counted at r size n zeroed w)
 
 pub assigns_record : (at : Place) (size : ℕ) (q r : Ptr) (w : World) → Blind (Unit {0}) (assign_record at size q r) w
 assigns_record at size q r w = then_blind {next = λ v. pure tt} (copies at q r size (is_same_place q r) w) (λ v w. gives tt w)

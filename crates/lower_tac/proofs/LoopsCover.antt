@@ -94,7 +94,7 @@ module _ (p : ProgramData) (c : Code) (n : ℕ) (locals : List Local) (cs : List
 
   -- fewer turns are left
   fewer : {b d : ℕ} {f own : Frame} {w : World} → d ≤ b → Standing locals d f own w → Standing locals b f own w
-  fewer {b = b} {d = d} {w = w} le j = record { slots = j.slots; size = j.size; kinds = j.kinds; turns = (let t : w.turns ≤ d = j.turns in omega (arith, t, le)) }
+  fewer {b = b} {d = d} {w = w} le j = record { slots = j.slots; size = j.size; kinds = j.kinds; turns = (let t : w.turns ≤ d = j.turns in omega (arith, t, le)); blocks = j.blocks }
 
   -- ---- the test, which leads to the body
 
@@ -254,7 +254,7 @@ module _ (p : ProgramData) (c : Code) (n : ℕ) (locals : List Local) (cs : List
             let left_turns : w.turns ≤ b = j.turns in
             let below : d < k = omega (arith, e, left_turns, small) in
             let fewer_turns : d ≤ b = omega (arith, e, left_turns) in
-            let now : Standing locals d f own u = record { slots = j.slots; size = j.size; kinds = j.kinds; turns = (let r : u.turns ≤ d = omega arith in r) } in
+            let now : Standing locals d f own u = record { slots = j.slots; size = j.size; kinds = j.kinds; turns = (let r : u.turns ≤ d = omega arith in r); blocks = j.blocks } in
             the_body.does (in_loop (here out) (here (stepped_out out)) x) (stepped_out out) (λ way. and_again again way rest) d f own u
             (omega (arith, fewer_turns, lt)) (omega (arith, q)) now inner
             (record {

@@ -77,15 +77,19 @@ module _ (p : ProgramData) (c : Code) (n : ℕ) (locals : List Local) (cs : List
   abbrev pub at : (code : Steps) → Frame → World → (steps : ℕ) → End
   at code own w k = go p.types c k cs g code own w
 
-  -- ---- a value, or none, in a temporary: `of` is what the source makes of it
+  -- ---- a value, or none, in a temporary: `Is` is what is known of it, and `of` what the source makes of it
 
-  pub record Made (A : Type 0) (m : Doing Frame A) (of : Option Value → Doing Frame A) (lacks : Bool) (make : (to d : ℕ) → Steps → Steps) : Type 0 where
+  pub record Gives (A : Type 0) (m : Doing Frame A) (of : Option Value → Doing Frame A) (Is : Option Value → Type 0) (make : (to d : ℕ) → Steps → Steps) : Type 0 where
     pub ends : (to d : ℕ) (code : Steps) → Ends code (make to d code)
     pub does : (to d : ℕ) (code : Steps) (rest : Rest Frame A) (b : ℕ) (old f own : Frame) (w : World) → b < n → Joined locals b d old f own w
         → Ends (make to d code) g.code
-        → ((o : Option Value) (f own : Frame) (w : World) → Joined locals b d old f own w → (lacks ≡ false → IsSome o)
+        → ((o : Option Value) (f own : Frame) (w : World) → Joined locals b d old f own w → Is o
         → Covers (of o rest f w) (at code (with_temp to (by_name o) own) w))
         → Covers (m rest f w) (at (make to d code) own w)
+
+  -- it may lack, or not
+  abbrev pub Made : (A : Type 0) → Doing Frame A → (Option Value → Doing Frame A) → (lacks : Bool) → ((to d : ℕ) → Steps → Steps) → Type 0
+  Made A m of lacks make = Gives A m of (λ o. lacks ≡ false → IsSome o) make
 
   abbrev pub Valued : (m : Doing Frame (Option Value)) → (lacks : Bool) → (make : (to d : ℕ) → Steps → Steps) → Type 0
   Valued m lacks make = Made (Option Value) m pure lacks make
@@ -170,12 +174,12 @@ module _ (p : ProgramData) (c : Code) (n : ℕ) (locals : List Local) (cs : List
           → Covers (or_no_value x.at o (λ v. rest (of v)) f w) (at code (with_temp d (by_name o) own) w)
       with_value None f own w j =
           let new = with_temp d (by_name None) own in
-          back (λ k. first f new w (scratch locals d (by_name None) j (omega arith)) k
+          back (λ k. first f new w (scratch locals d None j (omega arith)) k
           ∙ ap (λ s. slot_held K.NoValue x.at s (later k) new w) (temp_same d (by_name None) own)) stays
       with_value (Some v) f own w j =
           let new = with_temp d (by_name (Some v)) own in
           let r : Reads new (temp x.at d) v = reads_temp d K.NoValue x.at v (temp_same d (by_name (Some v)) own) in
-          let z = scratch locals d (by_name (Some v)) j (omega arith) in
+          let z = scratch locals d (Some v) j (omega arith) in
           back (λ k. first f new w z k ∙ r.is (later k) w) (next v f new w z r)
 
   pub code_does : {A : Type 0} {x : Part} {m : Doing Frame A} {of : Value → A} → Uses A x m of → (d : ℕ) (code : Steps) (rest : Rest Frame A) (later : ℕ → Rest Frame Value)
@@ -195,7 +199,7 @@ module _ (p : ProgramData) (c : Code) (n : ℕ) (locals : List Local) (cs : List
       one.made d (tested_if x.lacks x.at d code) rest b old f own w lt j e (λ o f own w j some. by_value x.lacks o some f own w j)
     where
       there : (v : Value) (f own : Frame) (w : World) → Joined locals b d old f own w → Covers (rest (of v) f w) (at code (with_temp d (by_name (Some v)) own) w)
-      there v f own w j = next v f (with_temp d (by_name (Some v)) own) w (scratch locals d (by_name (Some v)) j (omega arith)) (temp_same d (by_name (Some v)) own)
+      there v f own w j = next v f (with_temp d (by_name (Some v)) own) w (scratch locals d (Some v) j (omega arith)) (temp_same d (by_name (Some v)) own)
 
       kept : (k : ℕ) → Rest Frame Value
       kept k = λ v own w. at code (with_temp d (by_name (Some v)) own) w k
@@ -207,7 +211,7 @@ module _ (p : ProgramData) (c : Code) (n : ℕ) (locals : List Local) (cs : List
       by_value true (Some v) some f own w j =
           let new = with_temp d (by_name (Some v)) own in
           let r : Reads new (temp x.at d) v = reads_temp d K.NoValue x.at v (temp_same d (by_name (Some v)) own) in
-          back (λ k. r.is (kept k) w) (there v f new w (scratch locals d (by_name (Some v)) j (omega arith)))
+          back (λ k. r.is (kept k) w) (there v f new w (scratch locals d (Some v) j (omega arith)))
       by_value false None some f own w j = let z = some refl in cc
       by_value false (Some v) some f own w j = there v f own w j
 

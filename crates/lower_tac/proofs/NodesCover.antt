@@ -6,7 +6,7 @@ use Rattle.lay_base.specs.declared.place.Place.{Place}
 use Rattle.c_types.specs.Layouts.{offset_of}
 use Rattle.c_types.specs.Types.{CType, void, integer, pointer as pointer_to, array, function, structure}
 use Rattle.c_typed.specs.Constants.{ty, kind_of}
-use Rattle.c_typed.specs.Conversions.{number_of}
+use Rattle.c_typed.specs.Conversions.{is_pointer, number_of}
 use Rattle.c_typed.specs.declared.program.Local.{Local}
 use Rattle.c_typed.specs.Programs.{ProgramData}
 use Rattle.c_typed.specs.Trees as T
@@ -15,12 +15,12 @@ use Rattle.c_typed.specs.Typed.{at_of, path_ty}
 use Rattle.memory_words.specs.declared.cell_words.pointer.Ptr.TheVariants as P
 use Rattle.block_memory.specs.RunWorlds.Doing.{Rest, Doing, ◌>>=◌, pure, tested, memory_now}
 use Rattle.block_memory.specs.RunWorlds.LibraryCalls.{given, the}
-use Rattle.block_memory.specs.RunWorlds.Operators.{unary, binary, compared, moved, distance, is_true, flag, updated}
-use Rattle.block_memory.specs.RunWorlds.Scalars.{pointer_of, word_of}
+use Rattle.block_memory.specs.RunWorlds.Operators.{unary, binary, compared, moved_from, distance, is_true, flag, updated}
+use Rattle.block_memory.specs.RunWorlds.Scalars.{as_word, pointer_of}
 use Rattle.block_memory.specs.RunWorlds.Worlds.{World, End}
 use Rattle.block_memory.specs.declared.run_worlds.value.Value.{Value}
 use Rattle.block_memory.specs.declared.run_worlds.value.Value.TheVariants.{Word as word, Pointer as pointer}
-use Rattle.c_meaning.specs.Expressions.{value, used, value_of, spot, spot_of, arguments, or_no_value, as_type, address_of, copy_record, part_of as part_of_place, element_of}
+use Rattle.c_meaning.specs.Expressions.{count_kind, value, used, value_of, spot, spot_of, arguments, or_no_value, as_type, address_of, copy_record, part_of as part_of_place, element_of}
 use Rattle.c_meaning.specs.Frames.{Frame, fetch, put as put_value, local_spot}
 use Rattle.c_meaning.specs.Program.{type_at, size_at, element_size, length_of}
 use Rattle.c_meaning.specs.declared.frame.Spot.{Spot}
@@ -61,6 +61,12 @@ module _ (p : ProgramData) (c : Code) (n : ℕ) (locals : List Local) (cs : List
 
   abbrev Leads : Doing Frame Spot → Place → Bool → ((to d : ℕ) → Steps → Steps) → Type 0
   Leads = Places.Leads p c n locals cs g
+
+  abbrev Points : Doing Frame Spot → Place → ((to d : ℕ) → Steps → Steps) → Type 0
+  Points = Places.Points p c n locals cs g
+
+  as_leads : {m : Doing Frame Spot} {place : Place} {make : (to d : ℕ) → Steps → Steps} → Points m place make → Leads m place false make
+  as_leads one = Places.as_leads p c n locals cs g one
 
   abbrev Named : ℕ → Doing Frame Spot → Type 0
   Named = Assignments.Named p c n locals cs g
@@ -173,7 +179,7 @@ module _ (p : ProgramData) (c : Code) (n : ℕ) (locals : List Local) (cs : List
       by_block l false t is e = cc
       by_block l true t is e =
           subst (λ (o : Operand). ((v : Value) → Reads own o v → Covers (rest (placed (pointer_of v)) f w) (λ k. later k v own w)) → Covers (local_spot b x rest f w) (λ k. read o (later k) own w))
-          (some_same e) (λ next. Places.block_read p c n locals cs g b x (record { local = l; is = is; block = t }) j rest later next) next
+          (some_same e) (λ next. Places.block_read p c n locals cs g b x (record { local = l; is = is; block = t }) j rest later (λ q r. next (pointer q) r)) next
 
       by_local : (o : Option Local) → slice_get locals x ≡ o → address_of_local b x o ≡ Some a → named o x ≡ None → Covers (local_spot b x rest f w) (λ k. read a (later k) own w)
       by_local None is e none = cc
@@ -227,10 +233,10 @@ module _ (p : ProgramData) (c : Code) (n : ℕ) (locals : List Local) (cs : List
   load_by t b q None is one = Assignments.load_placed p c n locals cs g t b (one is)
   load_by t b q (Some x) is one = Assignments.load_named p c n locals cs g t b x (named_leads false q x is)
 
-  address_by : (addressed : Bool) (b : Place) (q : Path ℕ) (o : Option ℕ) → named_root p locals q ≡ o → PathDoes addressed q
-      → Valued (spot p call addressed q >>= λ s. the (address_of b s) pointer) false (address_code p locals o b (place_of p locals q (path_code p locals addressed q)))
-  address_by addressed b q None is one = Calls.address_valued p c n locals cs g b (one is)
-  address_by addressed b q (Some x) is one = Calls.no_address p c n locals cs g b x (named_leads addressed q x is)
+  address_by : (addressed : Bool) (b a : Place) (u x : ℕ) (o : Option ℕ) → named_root p locals (path u a (T.local x)) ≡ o
+      → Valued (spot p call addressed (path u a (T.local x)) >>= λ s. the (address_of b s) pointer) false (address_code p locals o b (path_code p locals addressed (path u a (T.local x))))
+  address_by addressed b a u x None is = Places.address_valued p c n locals cs g b a (Places.local_points p c n locals cs g a x is)
+  address_by addressed b a u x (Some y) is = Calls.no_address p c n locals cs g b y (named_leads addressed (path u a (T.local x)) y is)
 
   abbrev Assigns : Doing Frame (Option Value) → ((d : ℕ) → Option ℕ → Steps → Steps) → Type 0
   Assigns = Assignments.Assigns p c n locals cs g
@@ -285,14 +291,14 @@ module _ (p : ProgramData) (c : Code) (n : ℕ) (locals : List Local) (cs : List
   convert_by (structure r) (expression u at node) one effect = Calls.convert_valued p c n locals cs g (structure r) (uses (expression u at node) one)
 
   part_by : (b : Place) (by : ℕ) (q : Path ℕ) (o : Option ℕ) → named_root p locals q ≡ o → PathDoes false q
-      → Leads (spot p call false q >>= part_of_place b (pos by)) b false (part_code p locals o b by (place_of p locals q (path_code p locals false q)))
-  part_by b by q None is one = Ways.part_leads p c n locals cs g b by (one is)
+      → Points (spot p call false q >>= part_of_place b (pos by)) b (part_code p locals o b by (place_of p locals q (path_code p locals false q)))
+  part_by b by q None is one = Ways.part_points p c n locals cs g b by (one is)
   part_by b by q (Some x) is one = let z = named_leads false q x is in Ways.no_part p c n locals cs g b (pos by) x z.is
 
   element_by : (b : Place) (k size : ℕ) (addressed : Bool) (kind : _) (q : Path ℕ) (i : Expression ℕ) (o : Option ℕ) → named_root p locals q ≡ o → PathDoes false q → ValueDoes i
-      → Leads (spot p call false q >>= λ s. used p call i >>= λ v. element_of b k size addressed s (number_of kind (word_of v))) b false
+      → Points (spot p call false q >>= λ s. used p call i >>= λ v. tested b (as_word v) >>= λ j. element_of b k size addressed s (number_of kind j)) b
       (element_code p locals o b k size addressed kind (place_of p locals q (path_code p locals false q)) (part_of p locals i (value_code p locals i)))
-  element_by b k size addressed kind q i None is one other = Ways.element_leads p c n locals cs g b k size addressed kind (one is) (uses i other)
+  element_by b k size addressed kind q i None is one other = Ways.element_points p c n locals cs g b k size addressed kind (one is) (uses i other)
   element_by b k size addressed kind q i (Some x) is one other =
       let z = named_leads false q x is in Ways.no_element p c n locals cs g b k size addressed kind x z.is (uses i other)
 
@@ -302,6 +308,11 @@ module _ (p : ProgramData) (c : Code) (n : ℕ) (locals : List Local) (cs : List
     by_atom = λ a e rest later z d old f own w j next. fixed_does (O.Word 1) (word 1) (λ own. record { is = λ rest w. refl }) a (some_same e) rest later f own w next;
     made = λ d code rest z old f own w lt j e next. back (λ k. refl) (next (Some (word 1)) f own w j (λ q. (word 1, refl)));
   }
+
+  -- what leads to a place itself, and not to what the value of an expression points to
+  abbrev IsItself : PathNode ℕ → Type 0
+  IsItself (T.deref e) = ⊥
+  IsItself step = Unit {0}
 
   -- ---- the induction
 
@@ -315,12 +326,22 @@ module _ (p : ProgramData) (c : Code) (n : ℕ) (locals : List Local) (cs : List
       node_does t b T.null = Values.set_valued p c n locals cs g (pointer P.Null) O.Null (λ own. record { is = λ rest w. refl })
       node_does t b (T.function_name h) = Values.set_valued p c n locals cs g (pointer (P.Function h)) (O.Function h) (λ own. record { is = λ rest w. refl })
       node_does t b (T.load q) = load_by t b q (named_root p locals q) refl (λ none. place_uses false q none (path_does false q none))
-      node_does t b (T.address_of q) = address_by true b q (named_root p locals q) refl (λ none. place_uses true q none (path_does true q none))
-      node_does t b (T.decay q) = address_by false b q (named_root p locals q) refl (λ none. place_uses false q none (path_does false q none))
+      node_does t b (T.address_of (path u a (T.deref e))) = value_does e
+      node_does t b (T.address_of (path u a (T.local x))) = address_by true b a u x (named_root p locals (path u a (T.local x))) refl
+      node_does t b (T.address_of (path u a (T.object k))) = Places.address_valued p c n locals cs g b a (Places.object_points p c n locals cs g a k)
+      node_does t b (T.address_of (path u a (T.index e i))) = Places.address_valued p c n locals cs g b a (points_does true u a (T.index e i) tt refl)
+      node_does t b (T.address_of (path u a (T.member q r field))) = Places.address_valued p c n locals cs g b a (member_does true u a q r field)
+      node_does t b (T.address_of (path u a (T.element q i))) = Places.address_valued p c n locals cs g b a (points_does true u a (T.element q i) tt refl)
+      node_does t b (T.decay (path u a (T.deref e))) = value_does e
+      node_does t b (T.decay (path u a (T.local x))) = address_by false b a u x (named_root p locals (path u a (T.local x))) refl
+      node_does t b (T.decay (path u a (T.object k))) = Places.address_valued p c n locals cs g b a (Places.object_points p c n locals cs g a k)
+      node_does t b (T.decay (path u a (T.index e i))) = Places.address_valued p c n locals cs g b a (points_does false u a (T.index e i) tt refl)
+      node_does t b (T.decay (path u a (T.member q r field))) = Places.address_valued p c n locals cs g b a (member_does false u a q r field)
+      node_does t b (T.decay (path u a (T.element q i))) = Places.address_valued p c n locals cs g b a (points_does false u a (T.element q i) tt refl)
       node_does t b (T.convert e written) = convert_by (type_at p t) e (value_does e) (effect_does e)
       node_does t b (T.unary op x) =
-          Values.one_made p c n locals cs g (uses x (value_does x)) pure (λ to a. S.Unary to op a) (λ v. pure (unary op v)) (λ v. pure (Some (unary op v)))
-          (λ v rest f w. refl) (λ v w. gives (unary op v) w) (λ to a code own w k. refl)
+          Values.one_made p c n locals cs g (uses x (value_does x)) pure (λ to a. S.Unary to b op a) (λ v. tested b (unary op v)) (λ v. given (tested b (unary op v)))
+          (λ v rest f w. refl) (λ v w. tests b (unary op v) w) (λ to a code own w k. refl)
       node_does t b (T.binary op x y) =
           let kind = kind_of (type_at p t) in
           let right = kind_of (type_at p (ty y)) in
@@ -335,11 +356,11 @@ module _ (p : ProgramData) (c : Code) (n : ℕ) (locals : List Local) (cs : List
           (λ to a e code own w k. refl)
       node_does t b (T.pointer_add op x y) =
           let size = element_size p (type_at p t) in
-          let kind = kind_of (type_at p (ty x)) in
-          let right = kind_of (type_at p (ty y)) in
-          Values.two_made p c n locals cs g (uses x (value_does x)) (uses y (value_does y)) pure (λ to a e. S.Move to b op size kind right a e)
-          (λ v u. memory_now >>= λ z. tested b (moved z op size kind v right u)) (λ v u. memory_now >>= λ z. given (tested b (moved z op size kind v right u)))
-          (λ v u rest f w. refl) (λ v u w. then_blind {next = λ z. tested b (moved z op size kind v right u)} (sees w) (λ z w. tests b (moved z op size kind v right u) w))
+          let left = is_pointer (type_at p (ty x)) in
+          let kind = count_kind (type_at p (ty x)) (type_at p (ty y)) in
+          Values.two_made p c n locals cs g (uses x (value_does x)) (uses y (value_does y)) pure (λ to a e. S.Move to b op size left kind a e)
+          (λ v u. memory_now >>= λ z. tested b (moved_from left z op size kind v u)) (λ v u. memory_now >>= λ z. given (tested b (moved_from left z op size kind v u)))
+          (λ v u rest f w. refl) (λ v u w. then_blind {next = λ z. tested b (moved_from left z op size kind v u)} (sees w) (λ z w. tests b (moved_from left z op size kind v u) w))
           (λ to a e code own w k. refl)
       node_does t b (T.pointer_difference x y) =
           let size = element_size p (type_at p (ty x)) in
@@ -397,31 +418,38 @@ module _ (p : ProgramData) (c : Code) (n : ℕ) (locals : List Local) (cs : List
 
       pub path_does : (addressed : Bool) (q : Path ℕ) → named_root p locals q ≡ None
           → Leads (spot p call addressed q) (place_value_at p locals q) (place_lacks p locals q) (path_code p locals addressed q)
-      path_does addressed (path t b (T.local x)) none = Places.local_leads p c n locals cs g b x none
-      path_does addressed (path t b (T.object k)) none = Places.object_leads p c n locals cs g b k
+      path_does addressed (path t b (T.local x)) none = as_leads (points_does addressed t b (T.local x) tt none)
+      path_does addressed (path t b (T.object k)) none = as_leads (points_does addressed t b (T.object k) tt none)
       path_does addressed (path t b (T.deref e)) none = deref_leads e (value_does e)
-      path_does addressed (path t b (T.index e i)) none =
-          Ways.index_leads p c n locals cs g b (size_at p t) (kind_of (type_at p (ty e))) (kind_of (type_at p (ty i))) (uses e (value_does e)) (uses i (value_does i))
-      path_does addressed (path t b (T.member q r field)) none = member_does addressed t b q r field
-      path_does addressed (path t b (T.element q i)) none =
+      path_does addressed (path t b (T.index e i)) none = as_leads (points_does addressed t b (T.index e i) tt none)
+      path_does addressed (path t b (T.member q r field)) none = as_leads (member_does addressed t b q r field)
+      path_does addressed (path t b (T.element q i)) none = as_leads (points_does addressed t b (T.element q i) tt none)
+
+      points_does : (addressed : Bool) (t : ℕ) (b : Place) (step : PathNode ℕ) → IsItself step → named_root p locals (path t b step) ≡ None
+          → Points (spot_of p call t addressed b step) b (path_code p locals addressed (path t b step))
+      points_does addressed t b (T.local x) h none = Places.local_points p c n locals cs g b x none
+      points_does addressed t b (T.object k) h none = Places.object_points p c n locals cs g b k
+      points_does addressed t b (T.deref e) h none = absurd h
+      points_does addressed t b (T.index e i) h none =
+          Ways.index_points p c n locals cs g b (size_at p t) (kind_of (type_at p (ty i))) (uses e (value_does e)) (uses i (value_does i))
+      points_does addressed t b (T.member q r field) h none = member_does addressed t b q r field
+      points_does addressed t b (T.element q i) h none =
           element_by b (length_of (type_at p (path_ty q))) (size_at p t) addressed (kind_of (type_at p (ty i))) q i (named_root p locals q) refl
           (λ none. place_uses false q none (path_does false q none)) (value_does i)
 
       member_does : (addressed : Bool) (t : ℕ) (b : Place) (q : Path ℕ) (r field : ℕ)
-          → Leads (spot_of p call t addressed b (T.member q r field)) b false (λ to d code. member_code p locals q b (offset_of p.records r field) to d code)
-      member_does addressed t b (path u a (T.deref e)) r field = Ways.field_leads p c n locals cs g b (offset_of p.records r field) (uses e (value_does e))
+          → Points (spot_of p call t addressed b (T.member q r field)) b (λ to d code. member_code p locals q b (offset_of p.records r field) to d code)
+      member_does addressed t b (path u a (T.deref e)) r field = Ways.field_points p c n locals cs g b (offset_of p.records r field) (uses e (value_does e))
       member_does addressed t b (path u a (T.index e i)) r field =
-          Ways.element_field_leads p c n locals cs g b (size_at p u) (kind_of (type_at p (ty i))) (offset_of p.records r field) (uses e (value_does e)) (uses i (value_does i))
+          Ways.element_field_points p c n locals cs g b (size_at p u) (kind_of (type_at p (ty i))) (offset_of p.records r field) (uses e (value_does e)) (uses i (value_does i))
       member_does addressed t b (path u a (T.local x)) r field =
           part_by b (offset_of p.records r field) (path u a (T.local x)) (named_root p locals (path u a (T.local x))) refl
-          (λ none. place_uses false (path u a (T.local x)) none (Places.local_leads p c n locals cs g a x none))
+          (λ none. place_uses false (path u a (T.local x)) none (as_leads (Places.local_points p c n locals cs g a x none)))
       member_does addressed t b (path u a (T.object k)) r field =
-          part_by b (offset_of p.records r field) (path u a (T.object k)) None refl (λ none. place_uses false (path u a (T.object k)) none (Places.object_leads p c n locals cs g a k))
+          part_by b (offset_of p.records r field) (path u a (T.object k)) None refl (λ none. place_uses false (path u a (T.object k)) none (as_leads (Places.object_points p c n locals cs g a k)))
       member_does addressed t b (path u a (T.member q s part)) r field =
           part_by b (offset_of p.records r field) (path u a (T.member q s part)) None refl
-          (λ none. place_uses false (path u a (T.member q s part)) none (member_does false u a q s part))
+          (λ none. place_uses false (path u a (T.member q s part)) none (as_leads (member_does false u a q s part)))
       member_does addressed t b (path u a (T.element q i)) r field =
           part_by b (offset_of p.records r field) (path u a (T.element q i)) None refl
-          (λ none. place_uses false (path u a (T.element q i)) none
-          (element_by a (length_of (type_at p (path_ty q))) (size_at p u) false (kind_of (type_at p (ty i))) q i (named_root p locals q) refl
-          (λ none. place_uses false q none (path_does false q none)) (value_does i)))
+          (λ none. place_uses false (path u a (T.element q i)) none (as_leads (points_does false u a (T.element q i) tt none)))

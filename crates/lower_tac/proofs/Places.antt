@@ -4,13 +4,15 @@ use Rattle.lay_base.specs.declared.faults.UndefinedKind.TheVariants as K
 use Rattle.lay_base.specs.declared.place.Place.{Place}
 use Rattle.c_typed.specs.declared.program.Local.{Local}
 use Rattle.c_typed.specs.Programs.{ProgramData}
+use Rattle.memory_words.specs.declared.cell_words.pointer.Ptr.{Ptr}
 use Rattle.memory_words.specs.declared.cell_words.pointer.Ptr.TheVariants as P
 use Rattle.block_memory.specs.RunWorlds.Doing.{Rest, Doing, ◌>>=◌, pure, is_undefined}
+use Rattle.block_memory.specs.RunWorlds.LibraryCalls.{the}
 use Rattle.block_memory.specs.RunWorlds.Scalars.{pointer_of}
 use Rattle.block_memory.specs.RunWorlds.Worlds.{World, End}
 use Rattle.block_memory.specs.declared.run_worlds.value.Value.{Value}
-use Rattle.block_memory.specs.declared.run_worlds.value.Value.TheVariants.{Pointer as pointer}
-use Rattle.c_meaning.specs.Expressions.{or_no_value}
+use Rattle.block_memory.specs.declared.run_worlds.value.Value.TheVariants.{Word as word, Pointer as pointer}
+use Rattle.c_meaning.specs.Expressions.{or_no_value, address_of}
 use Rattle.c_meaning.specs.Frames.{Frame, local_spot, spot_of as slot_spot, known}
 use Rattle.c_meaning.specs.declared.frame.Slot.{Slot}
 use Rattle.c_meaning.specs.declared.frame.Slot.TheVariants.{ByName as by_name, InBlock as in_block}
@@ -103,7 +105,7 @@ module _ (p : ProgramData) (c : Code) (n : ℕ) (locals : List Local) (cs : List
 
   pub block_read : {b d : ℕ} {old f own : Frame} {w : World} (place : Place) (x : ℕ) → IsBlock locals x → Joined locals b d old f own w
       → (rest : Rest Frame Spot) (later : ℕ → Rest Frame Value)
-      → ((v : Value) → Reads own (O.Temp K.Dead x place) v → Covers (rest (placed (pointer_of v)) f w) (λ k. later k v own w))
+      → ((q : Ptr) → Reads own (O.Temp K.Dead x place) (pointer q) → Covers (rest (placed q) f w) (λ k. later k (pointer q) own w))
       → Covers (local_spot place x rest f w) (λ k. read (O.Temp K.Dead x place) (later k) own w)
   block_read {f = f} {own = own} {w = w} place x i j rest later next = let s = block_slot locals x i j.now in by_block s.0 s.1
     where
@@ -114,7 +116,7 @@ module _ (p : ProgramData) (c : Code) (n : ℕ) (locals : List Local) (cs : List
       by_block (Some b) e =
           let r : Reads own (O.Temp K.Dead x place) (pointer (P.Block b 0)) = reads_block x K.Dead place b (j.now.slots x (in_block (Some b)) e) in
           subst (λ (s : Option Slot). Covers (slot_spot place x s rest f w) (λ k. read (O.Temp K.Dead x place) (later k) own w)) (sym e)
-          (same_run (λ k. r.is (later k) w) (next (pointer (P.Block b 0)) r))
+          (same_run (λ k. r.is (later k) w) (next (P.Block b 0) r))
 
   missing_spot : {b d : ℕ} {old f own : Frame} {w : World} (place : Place) (x : ℕ) → slice_get locals x ≡ None → Joined locals b d old f own w → (rest : Rest Frame Spot)
       → local_spot place x rest f w ≡ is_undefined K.Dead place rest f w
@@ -128,26 +130,55 @@ module _ (p : ProgramData) (c : Code) (n : ℕ) (locals : List Local) (cs : List
   abbrev pub Leads : Doing Frame Spot → Place → Bool → ((to d : ℕ) → Steps → Steps) → Type 0
   Leads m place lacks make = Made Spot m (placed_of place) lacks make
 
-  pub object_leads : (place : Place) (k : ℕ) → Leads (pure (placed (P.Block k 0))) place false (λ to d code. S.Set to (O.Object k) ∷ code)
-  object_leads place k = record {
-    ends = λ to d code. ends_more _ ends_same;
-    does = λ to d code rest b old f own w lt j e next. back (λ k. refl) (next (Some (pointer (P.Block k 0))) f own w j (λ q. (pointer (P.Block k 0), refl)));
+  -- to a place that is a pointer
+  abbrev pub IsPointer : Option Value → Type 0
+  IsPointer o = (q : Ptr) × (o ≡ Some (pointer q))
+
+  abbrev pub Points : Doing Frame Spot → Place → ((to d : ℕ) → Steps → Steps) → Type 0
+  Points m place make = Making.Gives p c n locals cs g Spot m (placed_of place) IsPointer make
+
+  pub as_leads : {m : Doing Frame Spot} {place : Place} {make : (to d : ℕ) → Steps → Steps} → Points m place make → Leads m place false make
+  as_leads one = record {
+    ends = one.ends;
+    does = λ to d code rest b old f own w lt j e next. one.does to d code rest b old f own w lt j e (λ o f own w j is. next o f own w j (λ q. (pointer is.0, is.1)));
   }
 
-  pub local_leads : (place : Place) (x : ℕ) → named (slice_get locals x) x ≡ None → Leads (local_spot place x) place false (λ to d code. local_code place x (slice_get locals x) to code)
-  local_leads place x none = by_local (slice_get locals x) refl none
+  -- its address is the value
+  pub address_valued : {m : Doing Frame Spot} {make : (to d : ℕ) → Steps → Steps} (at_address place : Place) → Points m place make
+      → Making.Valued p c n locals cs g (m >>= λ s. the (address_of at_address s) pointer) false make
+  address_valued {m} {make} at_address place one = record {
+    ends = one.ends;
+    does = λ to d code rest b old f own w lt j e next.
+        one.does to d code (λ s. the (address_of at_address s) pointer rest) b old f own w lt j e (λ o f own w j is. by_pointer to code rest f own w o is (next o f own w j (λ q. (pointer is.0, is.1))));
+  }
+    where
+      by_pointer : (to : ℕ) (code : Steps) (rest : Rest Frame (Option Value)) (f own : Frame) (w : World) (o : Option Value) → IsPointer o
+          → Covers (rest o f w) (at code (with_temp to (by_name o) own) w)
+          → Covers (placed_of place o (λ s. the (address_of at_address s) pointer rest) f w) (at code (with_temp to (by_name o) own) w)
+      by_pointer to code rest f own w None is next = let never : None ≡ Some (pointer is.0) = is.1 in cc
+      by_pointer to code rest f own w (Some (word v)) is next = let never : Some (word v) ≡ Some (pointer is.0) = is.1 in cc
+      by_pointer to code rest f own w (Some (pointer q)) is next = next
+
+  pub object_points : (place : Place) (k : ℕ) → Points (pure (placed (P.Block k 0))) place (λ to d code. S.Set to (O.Object k) ∷ code)
+  object_points place k = record {
+    ends = λ to d code. ends_more _ ends_same;
+    does = λ to d code rest b old f own w lt j e next. back (λ k. refl) (next (Some (pointer (P.Block k 0))) f own w j (P.Block k 0, refl));
+  }
+
+  pub local_points : (place : Place) (x : ℕ) → named (slice_get locals x) x ≡ None → Points (local_spot place x) place (λ to d code. local_code place x (slice_get locals x) to code)
+  local_points place x none = by_local (slice_get locals x) refl none
     where
       by_block : (l : Local) (t : Bool) → l.block ≡ t → slice_get locals x ≡ Some l → (if t then None else Some x) ≡ None
-          → Leads (local_spot place x) place false (λ to d code. if t then S.Set to (O.Temp K.Dead x place) ∷ code else code)
+          → Points (local_spot place x) place (λ to d code. if t then S.Set to (O.Temp K.Dead x place) ∷ code else code)
       by_block l false t is none = cc
       by_block l true t is none = record {
         ends = λ to d code. ends_more _ ends_same;
         does = λ to d code rest b old f own w lt j e next.
             back (λ k. refl) (block_read place x (record { local = l; is = is; block = t }) j rest (λ k v own w. at code (with_temp to (by_name (Some v)) own) w k)
-            (λ v r. next (Some v) f own w j (λ q. (v, refl))));
+            (λ q r. next (Some (pointer q)) f own w j (q, refl)));
       }
 
-      by_local : (o : Option Local) → slice_get locals x ≡ o → named o x ≡ None → Leads (local_spot place x) place false (λ to d code. local_code place x o to code)
+      by_local : (o : Option Local) → slice_get locals x ≡ o → named o x ≡ None → Points (local_spot place x) place (λ to d code. local_code place x o to code)
       by_local None is none = record {
         ends = λ to d code. ends_more _ ends_same;
         does = λ to d code rest b old f own w lt j e next.

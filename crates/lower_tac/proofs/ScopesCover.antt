@@ -1,13 +1,13 @@
 -- Statements: at the same moment, scopes, and ways out (C99 6.2.4, 6.8.6).
-use Rattle.std.proofs.Common.{◌≡◌, ℕ, zero, suc, ◌≤◌, ◌≢◌, Bool, true, false, List, [], ◌∷◌, Option, Some, None, ◌⊎◌, inl, inr, refl, sym, ap, ◌∙◌, subst, arith, length, if◌then◌else◌, slice_get, slice_set}
+use Rattle.std.proofs.Common.{◌≡◌, ℕ, zero, suc, ◌<◌, ◌≤◌, ◌≢◌, Bool, true, false, List, [], ◌∷◌, Option, Some, None, ◌⊎◌, inl, inr, refl, sym, ap, ◌∙◌, subst, arith, length, if◌then◌else◌, slice_get, slice_set}
 use Rattle.std.proofs.lemmas.Bool.{true≢false}
 use Rattle.c_typed.specs.declared.program.Local.{Local}
 use Rattle.c_typed.specs.Programs.{ProgramData}
 use Rattle.block_memory.specs.Lifetimes.{with_end}
 use Rattle.block_memory.specs.declared.kinds.BlockKind.TheVariants as Kind
-use Rattle.block_memory.specs.RunWorlds.Doing.{Rest, Doing, ◌>>◌, pure}
+use Rattle.block_memory.specs.RunWorlds.Doing.{Rest, Doing, ◌>>=◌, ◌>>◌, pure, make}
 use Rattle.block_memory.specs.RunWorlds.Worlds.{World, End}
-use Rattle.c_meaning.specs.Frames.{Frame, with_slot, begin, begin_by, begin_all, end_slot, finish, finish_all}
+use Rattle.c_meaning.specs.Frames.{Frame, with_slot, slot_now, begin, begin_by, begin_all, end_slot, finish, finish_all}
 use Rattle.c_meaning.specs.Program.{size_at}
 use Rattle.c_meaning.specs.declared.frame.Slot.{Slot}
 use Rattle.c_meaning.specs.declared.frame.Slot.TheVariants.{ByName as by_name, InBlock as in_block}
@@ -17,7 +17,7 @@ use Rattle.tac_ir.specs.Running.{Caller, with_temp, end_slot as code_end_slot}
 use Rattle.tac_ir.specs.declared.step.Step.TheVariants as S
 use Rattle.lower_tac.specs.Parts.{Steps}
 use Rattle.lower_tac.specs.Statements.{begin_code, begins_code, end_code, ends_code}
-use Rattle.lower_tac.proofs.Blind.{blind_covers, makes, back}
+use Rattle.lower_tac.proofs.Blind.{blind_covers, makes, same_run, back}
 use Rattle.lower_tac.proofs.Base.{Standing, IsBlock, IsNamed, IsKind, temp_stays, set_is, set_other, set_here, set_length, none_there, within as there_below, equal_or_not, standing_named, standing_later, named_below}
 use Rattle.lower_tac.proofs.Making as Making
 use Rattle.lower_tac.proofs.Making.{Ends, ends_same, ends_more, ends_behind, ends_then, left_there}
@@ -44,8 +44,13 @@ module _ (locals : List Local) where
     size = set_length f x (in_block v) ∙ j.size;
     kinds = λ y l e. block_kind f x v y l.block (λ (q : x ≡ y). ap (λ (l : Local). l.block) (some_same (sym e ∙ sym (ap (slice_get locals) q) ∙ i.is)) ∙ i.block) (j.kinds y l e);
     turns = j.turns;
+    blocks = λ y z e. below y z e (equal_or_not y x);
   }
     where
+      below : (y z : ℕ) → slice_get (slice_set own x (in_block v)) y ≡ Some (in_block (Some z)) → ((y ≡ x) ⊎ (y ≢ x)) → y < length locals
+      below y z e (inl q) = let h = there_below locals x i.local i.is in omega (arith, q, h)
+      below y z e (inr m) = j.blocks y z (sym (set_other own x y (in_block v) m) ∙ e)
+
       here : (o : Option ℕ) → slice_get f x ≡ Some (in_block o) → slice_get (slice_set own x (in_block v)) x ≡ Some (in_block v)
       here o e = set_here own x (in_block v) (in_block o) (j.slots x (in_block o) e)
 
@@ -94,15 +99,37 @@ module _ (p : ProgramData) (c : Code) (n : ℕ) (locals : List Local) (cs : List
 
   -- ---- one local begins, or ends
 
+  -- both sides end the block of a local, where it has begun, and change their frames alike
+  pub finish_covers : {b : ℕ} {f own : Frame} {w : World} (x : ℕ) → IsBlock locals x → (rest : Rest Frame (Unit {0})) (other : ℕ → Rest Frame (Unit {0})) → Standing locals b f own w
+      → ((change : Frame → Frame) (u : World) → u.turns ≤ w.turns → Standing locals b (change f) (change own) u → Behind locals own (change own)
+      → Covers (rest tt (change f) u) (λ k. other k tt (change own) u))
+      → Covers (finish p x rest f w) (λ k. (slot_now x >>= code_end_slot x) (other k) own w)
+  finish_covers {f = f} {own = own} {w = w} x i rest other j next = let s = block_slot locals x i j in by_slot s.0 s.1
+    where
+      by_slot : (o : Option ℕ) → slice_get f x ≡ Some (in_block o) → Covers (finish p x rest f w) (λ k. (slot_now x >>= code_end_slot x) (other k) own w)
+      by_slot None e =
+          subst (λ (o : Option Slot). Covers (end_slot p x o rest f w) (λ k. (slot_now x >>= code_end_slot x) (other k) own w)) (sym e)
+          (same_run (λ k. ap (λ s. code_end_slot x s (other k) own w) (j.slots x (in_block None) e)) (next (λ f. f) w (omega arith) j (λ t q s e. e)))
+      by_slot (Some z) e =
+          let u = record w { memory = with_end w.memory z } in
+          subst (λ (o : Option Slot). Covers (end_slot p x o rest f w) (λ k. (slot_now x >>= code_end_slot x) (other k) own w)) (sym e)
+          (same_run (λ k. ap (λ s. code_end_slot x s (other k) own w) (j.slots x (in_block (Some z)) e))
+          (next (λ f. slice_set f x (in_block None)) u (omega arith) (standing_block locals x None i (standing_later locals u (omega arith) j))
+          (block_behind locals x i own (in_block None))))
+
   by_kind : (x : ℕ) (l : Local) → slice_get locals x ≡ Some l → (block : Bool) → l.block ≡ block
       → Acts (begin_by p x (size_at p l.ty) block) (λ code. if block then S.Begin x (size_at p l.ty) ∷ code else S.Clear x ∷ code)
   by_kind x l is true e = record {
     ends = λ code. ends_more _ ends_same;
-    does = λ code rest b f own w j next. back (λ k. refl)
-        (blind_covers (makes (size_at p l.ty) Kind.Local w) (λ z. with_slot x (in_block (Some z)) rest) f own (λ k z. with_slot x (in_block (Some z)) (λ u own w. at code own w k))
-        (λ z u q. next (slice_set f x (in_block (Some z))) (slice_set own x (in_block (Some z))) u
-        (standing_block locals x (Some z) (record { local = l; is = is; block = e }) (standing_later locals u q j))
-        (block_behind locals x (record { local = l; is = is; block = e }) own (in_block (Some z)))));
+    does = λ code rest b f own w j next.
+        let i : IsBlock locals x = record { local = l; is = is; block = e } in
+        let made : Rest Frame (Unit {0}) → Rest Frame (Unit {0}) = (λ (rest : Rest Frame (Unit {0})) u. (make (size_at p l.ty) Kind.Local >>= λ z. with_slot x (in_block (Some z))) rest) in
+        back (λ k. refl) (finish_covers x i (made rest) (λ k. made (λ u own w. at code own w k)) j (λ change u less j behind.
+        blind_covers (makes (size_at p l.ty) Kind.Local u) (λ z. with_slot x (in_block (Some z)) rest) (change f) (change own)
+        (λ k z. with_slot x (in_block (Some z)) (λ u own w. at code own w k))
+        (λ z v q. next (slice_set (change f) x (in_block (Some z))) (slice_set (change own) x (in_block (Some z))) v
+        (standing_block locals x (Some z) i (standing_later locals v q j))
+        (λ t q s e. block_behind locals x i (change own) (in_block (Some z)) t q s (behind t q s e)))));
   }
   by_kind x l is false e = record {
     ends = λ code. ends_more _ ends_same;
@@ -132,22 +159,8 @@ module _ (p : ProgramData) (c : Code) (n : ℕ) (locals : List Local) (cs : List
     ends = λ code. ends_more _ ends_same;
     does = λ code rest b f own w j next.
         let i : IsBlock locals x = record { local = l; is = is; block = e } in
-        let s = block_slot locals x i j in
-        by_slot code rest b f own w j next i s.0 s.1;
+        back (λ k. refl) (finish_covers x i rest (λ k u own w. at code own w k) j (λ change u less j behind. next (change f) (change own) u j behind));
   }
-    where
-      by_slot : (code : Steps) (rest : Rest Frame (Unit {0})) (b : ℕ) (f own : Frame) (w : World) → Standing locals b f own w
-          → ((f new : Frame) (w : World) → Standing locals b f new w → Behind locals own new → Covers (rest tt f w) (at code new w)) → IsBlock locals x
-          → (o : Option ℕ) → slice_get f x ≡ Some (in_block o) → Covers (finish p x rest f w) (at (S.End x ∷ code) own w)
-      by_slot code rest b f own w j next i None e =
-          subst (λ (o : Option Slot). Covers (end_slot p x o rest f w) (at (S.End x ∷ code) own w)) (sym e)
-          (back (λ k. ap (λ s. code_end_slot x s (λ u own w. at code own w k) own w) (j.slots x (in_block None) e)) (next f own w j (λ t q s e. e)))
-      by_slot code rest b f own w j next i (Some z) e =
-          let u = record w { memory = with_end w.memory z } in
-          subst (λ (o : Option Slot). Covers (end_slot p x o rest f w) (at (S.End x ∷ code) own w)) (sym e)
-          (back (λ k. ap (λ s. code_end_slot x s (λ u own w. at code own w k) own w) (j.slots x (in_block (Some z)) e))
-          (next (slice_set f x (in_block None)) (slice_set own x (in_block None)) u
-          (standing_block locals x None i (standing_later locals u (omega arith) j)) (block_behind locals x i own (in_block None))))
 
   finishes : (x : ℕ) (o : Option Local) → slice_get locals x ≡ o → Acts (finish p x) (λ code. end_code p h locals o x code)
   finishes x None is = record {

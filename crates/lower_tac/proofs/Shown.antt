@@ -7,6 +7,7 @@ use Rattle.lay_base.specs.declared.place.Place.{Place}
 use Rattle.c_types.specs.Types.{CType, void, integer, pointer as pointer_to, array, function, structure}
 use Rattle.c_typed.specs.declared.program.Local.{Local}
 use Rattle.c_typed.specs.Programs.{ProgramData}
+use Rattle.c_typed.specs.Typed.{at_of}
 use Rattle.c_typed.specs.Views.{expression_of, expressions_of}
 use Rattle.c_typed.specs.declared.expression.Expression.{Expression as Made}
 use Rattle.c_typed.specs.Trees as T
@@ -98,7 +99,7 @@ module _ (p : ProgramData) (l : List Local) where
   decay_is e t at q to d code is = rw is refl
 
   converts : (t : CType) (x : Part) (effect : Steps → Steps) (to d : ℕ) (code : Steps) → is_void t ≡ false
-      → convert_code p l t x effect to d code ≡ code_of x d (convert_step t to (operand x d) code)
+      → convert_code p l t x effect to d code ≡ code_of x d (convert_step t x.at to (operand x d) code)
   converts void x effect to d code e = cc
   converts (integer k) x effect to d code e = refl
   converts (pointer_to t) x effect to d code e = refl
@@ -108,14 +109,14 @@ module _ (p : ProgramData) (l : List Local) where
 
   convert_is : (e : Expression ℕ) (t : ℕ) (at : Place) (x : Expression ℕ) (w : Bool) (to d : ℕ) (code : Steps) → e ≡ expression t at (T.convert x w)
       → is_void (type_at p t) ≡ false
-      → value_code p l e to d code ≡ code_of (to_value p l x) d (convert_step (type_at p t) to (operand (to_value p l x) d) code)
+      → value_code p l e to d code ≡ code_of (to_value p l x) d (convert_step (type_at p t) (to_value p l x).at to (operand (to_value p l x) d) code)
   convert_is e t at x w to d code is scalar = rw is (converts (type_at p t) (to_value p l x) (effect_code p l x d) to d code scalar)
 
   pub converted : (e : Expression ℕ) (t : ℕ) (at : Place) (x : Expression ℕ) (w : Bool) (to d : ℕ) (o : Operand) (c0 c1 c2 : Steps)
       → e ≡ expression t at (T.convert x w) → is_void (type_at p t) ≡ false → o ≡ operand (to_value p l x) d
-      → c1 ≡ convert_step (type_at p t) to o c0 → c2 ≡ code_of (to_value p l x) d c1 → c2 ≡ value_code p l e to d c0
+      → c1 ≡ convert_step (type_at p t) (at_of x) to o c0 → c2 ≡ code_of (to_value p l x) d c1 → c2 ≡ value_code p l e to d c0
   converted e t at x w to d o c0 c1 c2 is scalar a b c =
-      c ∙ ap (code_of (to_value p l x) d) (b ∙ ap (λ (o : Operand). convert_step (type_at p t) to o c0) a) ∙ sym (convert_is e t at x w to d c0 is scalar)
+      c ∙ ap (code_of (to_value p l x) d) (b ∙ ap (λ (o : Operand). convert_step (type_at p t) (at_of x) to o c0) a) ∙ sym (convert_is e t at x w to d c0 is scalar)
 
   choose_is : (e : Expression ℕ) (t : ℕ) (at : Place) (x y z : Expression ℕ) (to d : ℕ) (code : Steps) → e ≡ expression t at (T.choose x y z)
       → value_code p l e to d code ≡ branch_code p l x false (To.Left (length (value_code p l z to d code))) d

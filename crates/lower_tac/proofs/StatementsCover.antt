@@ -4,7 +4,7 @@ use Rattle.lay_base.specs.declared.place.Place.{Place}
 use Rattle.c_typed.specs.declared.program.Local.{Local}
 use Rattle.c_typed.specs.Programs.{ProgramData}
 use Rattle.c_typed.specs.Trees.{Expression}
-use Rattle.block_memory.specs.RunWorlds.Doing.{Rest, Doing, ◌>>=◌, ◌>>◌, pure, leave}
+use Rattle.block_memory.specs.RunWorlds.Doing.{Rest, Doing, ◌>>=◌, ◌>>◌, pure}
 use Rattle.block_memory.specs.RunWorlds.Ways.{and_then}
 use Rattle.block_memory.specs.RunWorlds.Worlds.{World, End}
 use Rattle.block_memory.specs.declared.run_worlds.value.Value.{Value}
@@ -14,7 +14,7 @@ use Rattle.c_meaning.specs.Frames.{Frame, finish_all, scoped, end_slot}
 use Rattle.c_meaning.specs.Statements.{done, tests, returned}
 use Rattle.tac_ir.specs.Code.{Code, RoutineData, left}
 use Rattle.tac_ir.specs.Covering.{Covers}
-use Rattle.tac_ir.specs.Running.{Caller, with_temp, read_any, returns, go}
+use Rattle.tac_ir.specs.Running.{Caller, with_temp, read_any, leaves as leaves_function, returns, go}
 use Rattle.tac_ir.specs.declared.step.Operand.{Operand}
 use Rattle.tac_ir.specs.declared.step.Step.TheVariants as S
 use Rattle.lower_tac.specs.Parts.{Steps, operand}
@@ -179,11 +179,11 @@ module _ (p : ProgramData) (c : Code) (n : ℕ) (locals : List Local) (cs : List
   return_covers None x code rest b f own w lt j ways (behind_ends to) is e =
       let new = with_temp room (by_name None) own in
       back (λ k. refl) (subst (λ (y : ReturnWay). Covers (rest (by_return None) f w) (at (back_code p h locals y code) new w)) is
-      (ways.gives code None f new w (standing_scratch locals room (by_name None) j (omega arith)) (temp_same room (by_name None) own)))
+      (ways.gives code None f new w (standing_scratch locals room None j (omega arith)) (temp_same room (by_name None) own)))
   return_covers (Some e) x code rest b f own w lt j ways at_once is ends =
       let one = Nodes.uses p c n locals cs g call e (Nodes.value_does p c n locals cs g call callees routines e) in
       let a = operand (part_of p locals e (value_code p locals e)) room in
-      let last : ℕ → Rest Frame Value = (λ (k : ℕ) v own w. (leave >> pure (Some v)) (λ o own w. returns p.types c (go p.types c k) cs o w) own w) in
+      let last : ℕ → Rest Frame Value = (λ (k : ℕ) v own w. (leaves_function >> pure (Some v)) (λ o own w. returns p.types c (go p.types c k) cs o w) own w) in
       Making.code_does p c n locals cs g one room (S.Return (Some a) ∷ code) (λ v. rest (by_return (Some v))) last b own f own w lt (joined j) ends (λ f own w j k. refl)
       (λ v f own w r reads. ahead {run = at (S.Return (Some a) ∷ code) own w} (λ k. reads.is (last k) w)
       (ways.direct is code (Some a) (Some v) f own w r.now (record { is = λ later w. reads.is (λ v. later (Some v)) w })))

@@ -9,11 +9,12 @@ use Rattle.c_typed.specs.RunCounts.Loops.{loops_in_all, loops_in_arms}
 use Rattle.c_typed.specs.Trees as T
 use Rattle.c_typed.specs.Trees.{Expression, Statements, Arms}
 use Rattle.c_typed.specs.Typed.{at_of}
-use Rattle.block_memory.specs.RunWorlds.Doing.{Rest, Doing, ◌>>=◌, pure}
-use Rattle.block_memory.specs.RunWorlds.Scalars.{word_of}
+use Rattle.block_memory.specs.RunWorlds.Doing.{Rest, Doing, ◌>>=◌, pure, tested}
+use Rattle.block_memory.specs.RunWorlds.Scalars.{as_word}
 use Rattle.block_memory.specs.RunWorlds.Ways.{and_then}
 use Rattle.block_memory.specs.RunWorlds.Worlds.{World, End}
 use Rattle.block_memory.specs.declared.run_worlds.value.Value.{Value}
+use Rattle.block_memory.specs.declared.run_worlds.value.Value.TheVariants.{Word as word, Pointer as pointer}
 use Rattle.block_memory.specs.declared.run_worlds.way.Way.{Way}
 use Rattle.block_memory.specs.declared.run_worlds.way.Way.TheVariants.{ByBreak as by_break}
 use Rattle.block_memory.specs.declared.run_worlds.way.Way.TheVariants.{Normally as normally}
@@ -23,16 +24,16 @@ use Rattle.c_meaning.specs.Statements.{execute_all, enter, arm_of, default_arm, 
 use Rattle.c_meaning.specs.declared.frame.Slot.TheVariants.{ByName as by_name}
 use Rattle.tac_ir.specs.Code.{Code, RoutineData, left, led}
 use Rattle.tac_ir.specs.Covering.{Covers}
-use Rattle.tac_ir.specs.Running.{Caller}
+use Rattle.tac_ir.specs.Running.{Caller, with_temp, as_number, no_place}
 use Rattle.tac_ir.specs.declared.step.Operand.{Operand}
 use Rattle.tac_ir.specs.declared.step.Step.TheVariants as S
 use Rattle.tac_ir.specs.declared.step.Target.{Target}
-use Rattle.lower_tac.specs.Parts.{Steps, temp, held}
+use Rattle.lower_tac.specs.Parts.{Steps, temp, operand}
 use Rattle.lower_tac.specs.Expressions.{value_code, part_of}
 use Rattle.lower_tac.specs.declared.ways.Exits.{Exits}
-use Rattle.lower_tac.specs.Statements.{Out, by, here, in_switch, scope_code, scoped_code, have_blocks, begins_code, cases_code, dispatch_code, chosen_code, default_start, ArmsOut, statements_code, arms_code}
-use Rattle.lower_tac.proofs.Blind.{back}
-use Rattle.lower_tac.proofs.Base.{Standing, Reads, reads_temp}
+use Rattle.lower_tac.specs.Statements.{Out, by, here, in_switch, number_code, scope_code, scoped_code, have_blocks, begins_code, cases_code, dispatch_code, chosen_code, default_start, ArmsOut, statements_code, arms_code}
+use Rattle.lower_tac.proofs.Blind.{back, stays}
+use Rattle.lower_tac.proofs.Base.{Standing, Reads, reads_temp, standing_scratch, temp_same}
 use Rattle.lower_tac.proofs.Making as Making
 use Rattle.lower_tac.proofs.Making.{Ends, ends_same, ends_more, ends_behind, ends_then, left_there}
 use Rattle.lower_tac.proofs.Calls as Calls
@@ -110,36 +111,36 @@ module _ (p : ProgramData) (c : Code) (n : ℕ) (locals : List Local) (cs : List
 
   -- ---- which arm is entered
 
-  cases_cover : {e : End} (a : Operand) (v : Value) (start : Target) (cases : List ℕ) (code : Steps) (own : Frame) (w : World) → Reads own a v
-      → (list_any (λ c. c == word_of v) cases ≡ true → Covers e (at (led g start) own w))
-      → (list_any (λ c. c == word_of v) cases ≡ false → Covers e (at code own w))
+  cases_cover : {e : End} (a : Operand) (v : ℕ) (start : Target) (cases : List ℕ) (code : Steps) (own : Frame) (w : World) → Reads own a (word v)
+      → (list_any (λ c. c == v) cases ≡ true → Covers e (at (led g start) own w))
+      → (list_any (λ c. c == v) cases ≡ false → Covers e (at code own w))
       → Covers e (at (cases_code a start cases code) own w)
   cases_cover a v start [] code own w r hit miss = miss refl
   cases_cover {e} a v start (z ∷ cases) code own w r hit miss =
-      back (λ k. r.is (λ v own w. at (if z == word_of v then led g start else cases_code a start cases code) own w k) w) (by_test (z == word_of v) refl (λ hit miss. cases_cover a v start cases code own w r hit miss))
+      back (λ k. r.is (λ u own w. tested no_place (as_word u) (λ v own w. at (if z == v then led g start else cases_code a start cases code) own w k) own w) w) (by_test (z == v) refl (λ hit miss. cases_cover a v start cases code own w r hit miss))
     where
-      by_test : (t : Bool) → (z == word_of v) ≡ t
-          → ((list_any (λ c. c == word_of v) cases ≡ true → Covers e (at (led g start) own w)) → (list_any (λ c. c == word_of v) cases ≡ false → Covers e (at code own w))
+      by_test : (t : Bool) → (z == v) ≡ t
+          → ((list_any (λ c. c == v) cases ≡ true → Covers e (at (led g start) own w)) → (list_any (λ c. c == v) cases ≡ false → Covers e (at code own w))
           → Covers e (at (cases_code a start cases code) own w))
           → Covers e (at (if t then led g start else cases_code a start cases code) own w)
-      by_test true is again = hit (ap (λ (t : Bool). t || list_any (λ c. c == word_of v) cases) is)
-      by_test false is again = again (λ q. hit (ap (λ (t : Bool). t || list_any (λ c. c == word_of v) cases) is ∙ q))
-          (λ q. miss (ap (λ (t : Bool). t || list_any (λ c. c == word_of v) cases) is ∙ q))
+      by_test true is again = hit (ap (λ (t : Bool). t || list_any (λ c. c == v) cases) is)
+      by_test false is again = again (λ q. hit (ap (λ (t : Bool). t || list_any (λ c. c == v) cases) is ∙ q))
+          (λ q. miss (ap (λ (t : Bool). t || list_any (λ c. c == v) cases) is ∙ q))
 
-  dispatches : {e : End} (a : Operand) (v : Value) (l : ℕ) (arms : Arms ℕ) → AllDo l arms → (k : ℕ) (x : Exits) (out : Out) (code : Steps) (own : Frame) (w : World) → Reads own a v
+  dispatches : {e : End} (a : Operand) (v : ℕ) (l : ℕ) (arms : Arms ℕ) → AllDo l arms → (k : ℕ) (x : Exits) (out : Out) (code : Steps) (own : Frame) (w : World) → Reads own a (word v)
       → Final (arms_code p h locals arms x out).out
-      → ((i : ℕ) → arm_of (word_of v) k arms ≡ Some (k + i) → Covers e (at (start_code arms i x out) own w))
-      → (arm_of (word_of v) k arms ≡ None → Covers e (at code own w))
+      → ((i : ℕ) → arm_of v k arms ≡ Some (k + i) → Covers e (at (start_code arms i x out) own w))
+      → (arm_of v k arms ≡ None → Covers e (at code own w))
       → Covers e (at (dispatch_code a arms (arms_code p h locals arms x out).starts code) own w)
   dispatches a v l T.no_arms none_do k x out code own w r z hit miss = miss refl
   dispatches {e} a v l (T.and_arm cases is_default all more) (more_do one other) k x out code own w r z hit miss =
       let inner = (arms_code p h locals more x out).out in
       let made = statements_code p h locals all x inner in
       cases_cover a v (here made) cases (dispatch_code a more (arms_code p h locals more x out).starts code) own w r
-      (λ q. there made.code own w z.code (hit 0 (ap (λ (t : Bool). if t then Some k else arm_of (word_of v) (k + 1) more) q ∙ ap Some (let s : k ≡ k + 0 = omega arith in s))))
+      (λ q. there made.code own w z.code (hit 0 (ap (λ (t : Bool). if t then Some k else arm_of v (k + 1) more) q ∙ ap Some (let s : k ≡ k + 0 = omega arith in s))))
       (λ q. dispatches a v (l + loops_in_all all) more other (k + 1) x out code own w r (final (one.extends x inner) z)
-      (λ i s. hit (suc i) (ap (λ (t : Bool). if t then Some k else arm_of (word_of v) (k + 1) more) q ∙ s ∙ ap Some (let s : k + 1 + i ≡ k + suc i = omega arith in s)))
-      (λ s. miss (ap (λ (t : Bool). if t then Some k else arm_of (word_of v) (k + 1) more) q ∙ s)))
+      (λ i s. hit (suc i) (ap (λ (t : Bool). if t then Some k else arm_of v (k + 1) more) q ∙ s ∙ ap Some (let s : k + 1 + i ≡ k + suc i = omega arith in s)))
+      (λ s. miss (ap (λ (t : Bool). if t then Some k else arm_of v (k + 1) more) q ∙ s)))
 
   defaults : {e : End} (l : ℕ) (arms : Arms ℕ) → AllDo l arms → (k : ℕ) (x : Exits) (out : Out) (own : Frame) (w : World) → Final (arms_code p h locals arms x out).out
       → (last : Out) → Ends last.code g.code
@@ -155,8 +156,8 @@ module _ (p : ProgramData) (c : Code) (n : ℕ) (locals : List Local) (cs : List
 
   -- ---- the whole
 
-  abbrev chosen : Value → Arms ℕ → Option ℕ
-  chosen v arms = or_default (arm_of (word_of v) 0 arms) (default_arm 0 arms)
+  abbrev chosen : ℕ → Arms ℕ → Option ℕ
+  chosen v arms = or_default (arm_of v 0 arms) (default_arm 0 arms)
 
   abbrev a_operand : Expression ℕ → Operand
   a_operand e = temp (at_of e) room
@@ -192,15 +193,15 @@ module _ (p : ProgramData) (c : Code) (n : ℕ) (locals : List Local) (cs : List
   by_value : (l : ℕ) (e : Expression ℕ) (arms : Arms ℕ) → AllDo l arms → (x : Exits) (out : Out) (rest : Rest Frame Way) (b : ℕ) → b < n → out.loops ≡ l + loops_in_arms arms
       → Final (inner e arms x out) → Leaves x b rest → (rest by_break ≡ rest normally)
       → ((f own : Frame) (w : World) → Standing locals b f own w → Covers (rest normally f w) (at out.code own w))
-      → (v : Value) (f new : Frame) (w : World) → Standing locals b f new w → slice_get new room ≡ Some (by_name (Some v))
+      → (v : ℕ) (f new : Frame) (w : World) → Standing locals b f new w → slice_get new room ≡ Some (by_name (Some (word v)))
       → Covers (enter p call h locals n l (chosen v arms) arms rest f w) (at (inner e arms x out).code new w)
   by_value l e arms all x out rest b lt q z ways same next v f new w j s =
       dispatches (a_operand e) v l arms all 0 (in_switch (here out) x) out (S.Jump (default_start (here out) arms (made arms x out).starts) ∷ (made arms x out).out.code)
       new w reads made_final (λ i is. by_arm i is) (λ none. back (λ k. refl)
       (defaults l arms all 0 (in_switch (here out) x) out new w made_final out last.code (λ i is. by_default i none is) (λ no_default. by_none none no_default)))
     where
-      reads : Reads new (a_operand e) v
-      reads = reads_temp room K.NoValue (at_of e) v s
+      reads : Reads new (a_operand e) (word v)
+      reads = reads_temp room K.NoValue (at_of e) (word v) s
 
       made_final : Final (made arms x out).out
       made_final = final (chosen_extends e arms x out) z
@@ -226,32 +227,61 @@ module _ (p : ProgramData) (c : Code) (n : ℕ) (locals : List Local) (cs : List
       zero_more : (i : ℕ) → 0 + i ≡ i
       zero_more i = omega arith
 
-      by_arm : (i : ℕ) → arm_of (word_of v) 0 arms ≡ Some (0 + i)
+      by_arm : (i : ℕ) → arm_of v 0 arms ≡ Some (0 + i)
           → Covers (enter p call h locals n l (chosen v arms) arms rest f w) (at (start_code arms i (in_switch (here out) x) out) new w)
       by_arm i is = at_arm (chosen v arms) i (ap (λ (o : Option ℕ). or_default o (default_arm 0 arms)) (is ∙ ap Some (zero_more i)))
 
-      by_default : (i : ℕ) → arm_of (word_of v) 0 arms ≡ None → default_arm 0 arms ≡ Some (0 + i)
+      by_default : (i : ℕ) → arm_of v 0 arms ≡ None → default_arm 0 arms ≡ Some (0 + i)
           → Covers (enter p call h locals n l (chosen v arms) arms rest f w) (at (start_code arms i (in_switch (here out) x) out) new w)
       by_default i none is = at_arm (chosen v arms) i (ap (λ (o : Option ℕ). or_default o (default_arm 0 arms)) none ∙ is ∙ ap Some (zero_more i))
 
-      by_none : arm_of (word_of v) 0 arms ≡ None → default_arm 0 arms ≡ None
+      by_none : arm_of v 0 arms ≡ None → default_arm 0 arms ≡ None
           → Covers (enter p call h locals n l (chosen v arms) arms rest f w) (at out.code new w)
       by_none none no_default =
           subst (λ (o : Option ℕ). Covers (enter p call h locals n l o arms rest f w) (at out.code new w))
           (sym (ap (λ (o : Option ℕ). or_default o (default_arm 0 arms)) none ∙ no_default)) (next f new w j)
 
+  -- ---- the value, which is a number
+
+  uses : (e : Expression ℕ) → Making.Uses p c n locals cs g Value (part_of p locals e (value_code p locals e)) (used p call e) (λ v. v)
+  uses e = Nodes.uses p c n locals cs g call e (Nodes.value_does p c n locals cs g call callees routines e)
+
+  abbrev tested_operand : Expression ℕ → Operand
+  tested_operand e = operand (part_of p locals e (value_code p locals e)) room
+
+  number_ends : (e : Expression ℕ) (code : Steps) → Ends code (number_code p h locals e code)
+  number_ends e code =
+      ends_then (ends_more _ ends_same) (Making.code_ends p c n locals cs g (uses e) room (S.Number room (at_of e) (tested_operand e) ∷ code))
+
+  number_does : (e : Expression ℕ) (code : Steps) (rest : Rest Frame ℕ) (b : ℕ) (f own : Frame) (w : World) → b < n → Standing locals b f own w
+      → Ends (number_code p h locals e code) g.code
+      → ((v : ℕ) (f own : Frame) (w : World) → Standing locals b f own w → slice_get own room ≡ Some (by_name (Some (word v))) → Covers (rest v f w) (at code own w))
+      → Covers ((used p call e >>= λ v. tested (at_of e) (as_word v)) rest f w) (at (number_code p h locals e code) own w)
+  number_does e code rest b f own w lt j ends next =
+      Making.code_does p c n locals cs g (uses e) room (S.Number room (at_of e) (tested_operand e) ∷ code) (λ v. tested (at_of e) (as_word v) rest) (later (at_of e))
+      b own f own w lt (Statements.joined p c n locals cs g h call callees routines j) ends (λ f own w j k. refl)
+      (λ v f own w j r. by_sort v f own w j.now)
+    where
+      later : Place → ℕ → Rest Frame Value
+      later place k v = tested place (as_number v) (λ z own w. at code (with_temp room (by_name (Some z)) own) w k)
+
+      by_sort : (v : Value) (f own : Frame) (w : World) → Standing locals b f own w → Covers (tested (at_of e) (as_word v) rest f w) (λ k. later (at_of e) k v own w)
+      by_sort (pointer q) f own w j = stays
+      by_sort (word v) f own w j =
+          next v f (with_temp room (by_name (Some (word v))) own) w (standing_scratch locals room (Some (word v)) j (omega arith)) (temp_same room (by_name (Some (word v))) own)
+
   -- ---- the whole: the value is found, the scope begins, and one of the arms is entered
 
   pub switch_does : (l : ℕ) (e : Expression ℕ) (own : List ℕ) (arms : Arms ℕ) → AllDo l arms
       → Does l (loops_in_arms arms)
-      (used p call e >>= λ v. scoped p locals own (enter p call h locals n l (or_default (arm_of (word_of v) 0 arms) (default_arm 0 arms)) arms) >>= λ way. pure (behind_switch way))
-      (λ x out. by (held (part_of p locals e (value_code p locals e)) room) (scoped_code p h locals own (λ x out. inner e arms x out) (in_switch (here out) x) out))
+      (used p call e >>= λ v. tested (at_of e) (as_word v) >>= λ k. scoped p locals own (enter p call h locals n l (or_default (arm_of k 0 arms) (default_arm 0 arms)) arms) >>= λ way. pure (behind_switch way))
+      (λ x out. by (number_code p h locals e) (scoped_code p h locals own (λ x out. inner e arms x out) (in_switch (here out) x) out))
   switch_does l e own arms all = record {
-    extends = λ x out. extends_then (scope_extends x out) (extends_then (begins_extends x out) (held_extends x out));
+    extends = λ x out. extends_then (scope_extends x out) (extends_then (begins_extends x out) (number_extends x out));
     counts = λ x out q. Statements.scope_counts p c n locals cs g h call callees routines own l (loops_in_arms arms) blocks make
         (λ x out q. arms_count l arms all (in_switch (here out) x) out q) (in_switch (here out) x) out q;
     does = λ x out rest b f now w lt q j z ways next.
-        let ended = final (begins_extends x out) (final (held_extends x out) z) in
+        let ended = final (begins_extends x out) (final (number_extends x out) z) in
         let last = final (scope_extends x out) ended in
         let ways_out : Leaves (in_switch (here out) x) b (λ way. rest (behind_switch way)) = record {
           breaks = λ code f own w j. back (λ k. refl) (there out.code own w last.code (next f own w j));
@@ -259,19 +289,16 @@ module _ (p : ProgramData) (c : Code) (n : ℕ) (locals : List Local) (cs : List
           gives = λ code o f own w j s. ways.gives code o f own w j s;
           direct = λ is code a o f own w j s. ways.direct is code a o f own w j s;
         } in
-        Making.held_does p c n locals cs g one room (scoped_code p h locals own make (in_switch (here out) x) out).code
+        number_does e (scoped_code p h locals own make (in_switch (here out) x) out).code
         (λ v. scoped p locals own (enter p call h locals n l (chosen v arms) arms) (λ way. rest (behind_switch way)))
-        b now f now w lt (Statements.joined p c n locals cs g h call callees routines j) z.code
-        (λ v f now w r s. begins.does (scope x out).code (λ u. enter p call h locals n l (chosen v arms) arms (λ way. finish_all p own (λ u. rest (behind_switch way)))) b f now w r.now
+        b f now w lt j z.code
+        (λ v f now w j s. begins.does (scope x out).code (λ u. enter p call h locals n l (chosen v arms) arms (λ way. finish_all p own (λ u. rest (behind_switch way)))) b f now w j
         (λ f new w j behind. Statements.scope_covers p c n locals cs g h call callees routines own blocks refl make (inner_extends l e arms all)
         (enter p call h locals n l (chosen v arms) arms) (in_switch (here out) x) out (λ way. rest (behind_switch way)) b f new w ended ways_out next
         (λ x out loops z ways next. by_value l e arms all x out (λ way. finish_all p own (λ u. rest (behind_switch way))) b lt (loops ∙ q) z ways refl next v f new w j
-        (behind room (omega arith) (by_name (Some v)) s))));
+        (behind room (omega arith) (by_name (Some (word v))) s))));
   }
     where
-      one : Making.Uses p c n locals cs g Value (part_of p locals e (value_code p locals e)) (used p call e) (λ v. v)
-      one = Nodes.uses p c n locals cs g call e (Nodes.value_does p c n locals cs g call callees routines e)
-
       begins : Scopes.Acts p c n locals cs g h (begin_all p locals own) (begins_code p h locals own)
       begins = Scopes.begin_acts p c n locals cs g h own
 
@@ -290,6 +317,6 @@ module _ (p : ProgramData) (c : Code) (n : ℕ) (locals : List Local) (cs : List
       begins_extends : (x : Exits) (out : Out) → Extends (scope x out) (scoped_code p h locals own make (in_switch (here out) x) out)
       begins_extends x out = by_extends (begins_code p h locals own) (begins.ends (scope x out).code)
 
-      held_extends : (x : Exits) (out : Out) → Extends (scoped_code p h locals own make (in_switch (here out) x) out)
-          (by (held (part_of p locals e (value_code p locals e)) room) (scoped_code p h locals own make (in_switch (here out) x) out))
-      held_extends x out = by_extends (held (part_of p locals e (value_code p locals e)) room) (Making.held_ends p c n locals cs g one room (scoped_code p h locals own make (in_switch (here out) x) out).code)
+      number_extends : (x : Exits) (out : Out) → Extends (scoped_code p h locals own make (in_switch (here out) x) out)
+          (by (number_code p h locals e) (scoped_code p h locals own make (in_switch (here out) x) out))
+      number_extends x out = by_extends (number_code p h locals e) (number_ends e (scoped_code p h locals own make (in_switch (here out) x) out).code)

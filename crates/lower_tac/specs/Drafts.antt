@@ -10,10 +10,9 @@ use Rattle.tac_ir.specs.declared.step.Target.{Target}
 use Rattle.lower_tac.specs.declared.draft.Draft.{Draft}
 use Rattle.lower_tac.specs.declared.ground.Ground.{Ground}
 use Rattle.lower_tac.specs.declared.ways.Exits.{Exits}
-use Rattle.lower_tac.specs.Expressions.{part_of, value_code}
 use Rattle.lower_tac.specs.Grounds.{locals_in, program_in}
-use Rattle.lower_tac.specs.Parts.{Steps, held, temp}
-use Rattle.lower_tac.specs.Statements.{ArmsOut, Out, before, begins_code, default_start, dispatch_code, in_loop, marked, statement_code}
+use Rattle.lower_tac.specs.Parts.{Steps, temp}
+use Rattle.lower_tac.specs.Statements.{ArmsOut, Out, before, begins_code, default_start, dispatch_code, in_loop, marked, number_code, room, statement_code}
 use Rattle.lower_tac.specs.Writing.{code_in}
 
 abbrev pub out_in : Draft → Out
@@ -40,7 +39,7 @@ ArmsDrafted old new was starts made =
     new.code.fault ≡ false → (old.code.fault ≡ false) × (starts ≡ (made (out_in old)).starts ++ was) × (out_in new ≡ (made (out_in old)).out)
 
 -- what stands before the arms of a `switch`
-abbrev pub before_arms : ProgramData → (g : ℕ) → List Local → (room : ℕ) → AnExpression → List ℕ → Trees.Arms ℕ → List Target → (behind : Target) → Steps → Steps
-before_arms p g locals room e own arms starts behind code =
-    held (part_of p locals e (value_code p locals e)) room (begins_code p g locals own
-    (dispatch_code (temp (at_of e) room) arms starts (Step.Jump (default_start behind arms starts) ∷ code)))
+abbrev pub before_arms : ProgramData → (g : ℕ) → List Local → AnExpression → List ℕ → Trees.Arms ℕ → List Target → (behind : Target) → Steps → Steps
+before_arms p g locals e own arms starts behind code =
+    number_code p g locals e (begins_code p g locals own
+    (dispatch_code (temp (at_of e) (room p g locals)) arms starts (Step.Jump (default_start behind arms starts) ∷ code)))

@@ -8,7 +8,7 @@ use Rattle.c_typed.specs.declared.operators.LibraryFunction.TheVariants as L
 use Rattle.c_typed.specs.declared.operators.StepOp.TheVariants as StepOp
 use Rattle.c_typed.specs.Programs.{ProgramData, FunctionData}
 use Rattle.c_typed.specs.Trees as T
-use Rattle.c_meaning.specs.ExampleParts.{int, of_nothing, of_int, here, there, of, of_at, number, local, get, set, binary, compare, library, call, putchar}
+use Rattle.c_meaning.specs.ExampleParts.{int, to_int, of_nothing, of_int, here, there, of, of_at, number, local, get, deref, set, binary, compare, library, call, putchar}
 use Rattle.c_meaning.specs.ExampleParts.{does, gives, declares_as, named, in_memory, a_function, program, main, all}
 use Rattle.c_meaning.specs.Run.{RunEnd, ended, went_on, was_undefined, seen, start}
 use Rattle.tac_ir.specs.Running.{code_run}
@@ -159,3 +159,31 @@ default_falls_through = refl
 
 three : code_ends (switching 3) [] 1 100 ≡ ended (99 ∷ []) 0 []
 three = refl
+
+-- ---- the value of a `switch` is a number, with a case or without: switch (p) { } with int *p = 0
+
+abbrev switching_pointer : ProgramData
+switching_pointer = main (named to_int ∷ []) (0 ∷ []) (declares_as 0 (of to_int T.null) ∷ T.switch (of_at 7 to_int (T.load (local to_int 0))) [] T.no_arms ∷ [])
+
+pointer_code : code_of switching_pointer 0 ≡ S.Clear 0 ∷ S.Set 0 O.Null ∷ S.Number 1 (there 7) (O.Temp K.Empty 0 (there 7)) ∷ S.Jump (Left 1) ∷ S.Return (Some (O.Word 0)) ∷ []
+pointer_code = refl
+
+pointer_ends : code_ends switching_pointer [] 1 100 ≡ was_undefined K.Pointer (there 7) [] []
+pointer_ends = refl
+
+-- ---- `&*e` is e: return &*p == p
+
+abbrev back_and_forth : ProgramData
+back_and_forth = main (named to_int ∷ []) (0 ∷ []) (declares_as 0 (of to_int T.null) ∷
+    gives (compare C.Equal (of to_int (T.address_of (deref int (get to_int 0)))) (get to_int 0)) ∷ [])
+
+back_code : code_of back_and_forth 0 ≡ S.Clear 0 ∷ S.Set 0 O.Null ∷ S.Set 1 x ∷ S.Compare 1 here C.Equal Int (held 1) x ∷ S.Return (Some (held 1)) ∷ S.Return (Some (O.Word 0)) ∷ []
+back_code = refl
+
+back_ends : code_ends back_and_forth [] 1 100 ≡ ended [] 1 []
+back_ends = refl
+
+-- ---- a pointer is no status: that is undefined where `main` is
+
+pointer_status : code_ends (main [] [] (gives (of_at 7 to_int T.null) ∷ [])) [] 1 100 ≡ was_undefined K.Pointer here [] []
+pointer_status = refl

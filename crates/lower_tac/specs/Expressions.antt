@@ -13,10 +13,11 @@ use Rattle.c_typed.specs.declared.program.Local.{Local}
 use Rattle.c_typed.specs.Trees as T
 use Rattle.c_typed.specs.Trees.{Expression, expression, Node, Path, path, PathNode, Expressions, OptionalExpression}
 use Rattle.c_typed.specs.Constants.{ty, kind_of}
-use Rattle.c_typed.specs.Conversions.{promoted_kind}
+use Rattle.c_typed.specs.Conversions.{is_pointer, promoted_kind}
 use Rattle.c_typed.specs.Programs.{ProgramData}
 use Rattle.c_typed.specs.Typed.{at_of, path_at, path_ty}
 use Rattle.block_memory.specs.RunWorlds.Operators.{step_op}
+use Rattle.c_meaning.specs.Expressions.{count_kind}
 use Rattle.c_meaning.specs.Program.{type_at, size_at, access_at, element_size, length_of}
 use Rattle.tac_ir.specs.declared.step.Operand.{Operand}
 use Rattle.tac_ir.specs.declared.step.Operand.TheVariants as O
@@ -63,10 +64,10 @@ abbrev pub unit_kind : CType → IntKind
 unit_kind (integer kind) = promoted_kind kind
 unit_kind t = Int
 
-abbrev pub convert_step : CType → (to : ℕ) → Operand → Steps → Steps
-convert_step (integer kind) to a code = S.Convert to kind a ∷ code
-convert_step (pointer_to t) to a code = S.AsPointer to a ∷ code
-convert_step t to a code = S.Set to a ∷ code
+abbrev pub convert_step : CType → Place → (to : ℕ) → Operand → Steps → Steps
+convert_step (integer kind) at to a code = S.Convert to at kind a ∷ code
+convert_step (pointer_to t) at to a code = S.AsPointer to at a ∷ code
+convert_step t at to a code = S.Set to a ∷ code
 
 abbrev pub count_of : {X : Type 0} → Expressions X → ℕ
 count_of T.no_expressions = 0
@@ -152,6 +153,8 @@ module _ (p : ProgramData) (locals : List Local) where
     lacks (expression t at node) = lacks_node t node
 
     pub lacks_node : (t : ℕ) → Node ℕ → Bool
+    lacks_node t (T.address_of q) = place_lacks q
+    lacks_node t (T.decay q) = place_lacks q
     lacks_node t (T.convert e written) = is_void (type_at p t)
     lacks_node t (T.choose x y z) = lacks y || lacks z
     lacks_node t (T.comma x y) = lacks y
@@ -161,10 +164,10 @@ module _ (p : ProgramData) (locals : List Local) where
     lacks_node t (T.library which all) = true
     lacks_node t node = false
 
-  -- what a path leads to may be a value that lacks
-  abbrev pub place_lacks : Path ℕ → Bool
-  place_lacks (path t at (T.deref e)) = lacks e
-  place_lacks q = false
+    -- what a path leads to may be a value that lacks
+    pub place_lacks : Path ℕ → Bool
+    place_lacks (path t at (T.deref e)) = lacks e
+    place_lacks q = false
 
   abbrev pub place_value_at : Path ℕ → Place
   place_value_at (path t at (T.deref e)) = at_of e
@@ -180,10 +183,10 @@ module _ (p : ProgramData) (locals : List Local) where
   abbrev pub single : Part
   single = record { atom = Some (O.Word 1); made = λ d code. S.Set d (O.Word 1) ∷ code; at = record { file = 0; at = 0 }; lacks = false }
 
-  -- an address as a value
-  abbrev pub address_code : Option ℕ → Place → Part → (to d : ℕ) → Steps → Steps
-  address_code (Some x) at q to d code = S.Fail K.Dead at ∷ code
-  address_code None at q to d code = code_of q d (S.AsPointer to (operand q d) ∷ code)
+  -- an address as a value: a named local has none
+  abbrev pub address_code : Option ℕ → Place → (address : (to d : ℕ) → Steps → Steps) → (to d : ℕ) → Steps → Steps
+  address_code (Some x) at address to d code = S.Fail K.Dead at ∷ code
+  address_code None at address to d code = address to d code
 
   abbrev pub load_code : Option ℕ → (t : ℕ) → Place → Part → (to d : ℕ) → Steps → Steps
   load_code (Some x) t at q to d code = S.Set to (O.Temp K.Empty x at) ∷ code
@@ -191,7 +194,7 @@ module _ (p : ProgramData) (locals : List Local) where
 
   abbrev pub convert_code : CType → Part → (effect : Steps → Steps) → (to d : ℕ) → Steps → Steps
   convert_code void x effect to d code = effect (S.Clear to ∷ code)
-  convert_code t x effect to d code = code_of x d (convert_step t to (operand x d) code)
+  convert_code t x effect to d code = code_of x d (convert_step t x.at to (operand x d) code)
 
   -- a member or an element of a named local is no place, and an element's subscript is tested before
   abbrev pub part_code : Option ℕ → Place → (by : ℕ) → Part → (to d : ℕ) → Steps → Steps
@@ -217,10 +220,10 @@ module _ (p : ProgramData) (locals : List Local) where
     node_code t at T.null to d code = S.Set to O.Null ∷ code
     node_code t at (T.function_name f) to d code = S.Set to (O.Function f) ∷ code
     node_code t at (T.load q) to d code = load_code (named_root q) t at (place_of q (path_code false q)) to d code
-    node_code t at (T.address_of q) to d code = address_code (named_root q) at (place_of q (path_code true q)) to d code
-    node_code t at (T.decay q) to d code = address_code (named_root q) at (place_of q (path_code false q)) to d code
+    node_code t at (T.address_of q) to d code = address_code (named_root q) at (path_code true q) to d code
+    node_code t at (T.decay q) to d code = address_code (named_root q) at (path_code false q) to d code
     node_code t at (T.convert e written) to d code = convert_code (type_at p t) (part_of e (value_code e)) (effect_code e d) to d code
-    node_code t at (T.unary op x) to d code = let a = part_of x (value_code x) in code_of a d (S.Unary to op (operand a d) ∷ code)
+    node_code t at (T.unary op x) to d code = let a = part_of x (value_code x) in code_of a d (S.Unary to at op (operand a d) ∷ code)
     node_code t at (T.binary op x y) to d code =
         both_code (part_of x (value_code x)) (part_of y (value_code y)) d
         (λ a b. S.Binary to at op (kind_of (type_at p t)) (kind_of (type_at p (ty y))) a b ∷ code)
@@ -228,7 +231,7 @@ module _ (p : ProgramData) (locals : List Local) where
         both_code (part_of x (value_code x)) (part_of y (value_code y)) d (λ a b. S.Compare to at op (kind_of (type_at p (ty x))) a b ∷ code)
     node_code t at (T.pointer_add op x y) to d code =
         both_code (part_of x (value_code x)) (part_of y (value_code y)) d
-        (λ a b. S.Move to at op (element_size p (type_at p t)) (kind_of (type_at p (ty x))) (kind_of (type_at p (ty y))) a b ∷ code)
+        (λ a b. S.Move to at op (element_size p (type_at p t)) (is_pointer (type_at p (ty x))) (count_kind (type_at p (ty x)) (type_at p (ty y))) a b ∷ code)
     node_code t at (T.pointer_difference x y) to d code =
         both_code (part_of x (value_code x)) (part_of y (value_code y)) d (λ a b. S.Distance to at (element_size p (type_at p (ty x))) a b ∷ code)
     node_code t at (T.both x y) to d code =
@@ -299,7 +302,7 @@ module _ (p : ProgramData) (locals : List Local) where
     way_code addressed t at (T.deref e) to d code = value_code e to d code
     way_code addressed t at (T.index e i) to d code =
         both_code (part_of e (value_code e)) (part_of i (value_code i)) d
-        (λ a b. S.Move to at Add (size_at p t) (kind_of (type_at p (ty e))) (kind_of (type_at p (ty i))) a b ∷ code)
+        (λ a b. S.Move to at Add (size_at p t) true (kind_of (type_at p (ty i))) a b ∷ code)
     way_code addressed t at (T.member q r field) to d code = member_code q at (offset_of p.records r field) to d code
     way_code addressed t at (T.element q i) to d code =
         element_code (named_root q) at (length_of (type_at p (path_ty q))) (size_at p t) addressed (kind_of (type_at p (ty i)))

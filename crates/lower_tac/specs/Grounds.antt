@@ -54,7 +54,7 @@ module _ (p : ProgramData) (locals : List Local) where
   -- an address as a value
   abbrev pub addressed_code : (addressed : Bool) → T.Path ℕ → Place → (to d : ℕ) → Steps → Steps
   addressed_code addressed q at to d code =
-      address_code p locals (named_root p locals q) at (place_of p locals q (path_code p locals addressed q)) to d code
+      address_code p locals (named_root p locals q) at (path_code p locals addressed q) to d code
 
 -- ---- sorts of nodes
 

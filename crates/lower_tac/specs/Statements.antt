@@ -9,7 +9,7 @@ use Rattle.c_typed.specs.Programs.{ProgramData, FunctionData}
 use Rattle.c_typed.specs.RunCounts.Loops.{loops_in_all, loops_of}
 use Rattle.c_typed.specs.Typed.{at_of, path_at, path_ty}
 use Rattle.c_meaning.specs.Program.{size_at, access_at, all_locals}
-use Rattle.c_meaning.specs.Run.{numbers}
+use Rattle.c_meaning.specs.Run.{main_place, numbers}
 use Rattle.tac_ir.specs.Code.{Code, RoutineData}
 use Rattle.tac_ir.specs.declared.step.Operand.{Operand}
 use Rattle.tac_ir.specs.declared.step.Operand.TheVariants as O
@@ -125,6 +125,10 @@ module _ (p : ProgramData) (g : ℕ) (locals : List Local) where
 
   abbrev pub place : T.Path ℕ → Part
   place q = place_of p locals q (path_code p locals false q)
+
+  -- a value that is a number, in the first temporary
+  abbrev pub number_code : Expression ℕ → Steps → Steps
+  number_code e code = code_of (part e) room (S.Number room (at_of e) (operand (part e) room) ∷ code)
 
   -- a value that stands in the first temporary is returned
   abbrev pub back_code : ReturnWay → Steps → Steps
@@ -266,7 +270,7 @@ module _ (p : ProgramData) (g : ℕ) (locals : List Local) where
         scoped_code own (λ x out. statements_code start x (with_loops (loops_in_all start)
         (round (test_code test) (effect_if_any step) enters_by_test (λ b c out. statement_code body (in_loop b c x) out) out))) x out
     statement_code (T.switch e own arms) x out =
-        by (held (part e) room) (scoped_code own (λ x out. chosen_code (temp (at_of e) room) arms (here out) (arms_code arms (in_switch (here out) x) out)) (in_switch (here out) x) out)
+        by (number_code e) (scoped_code own (λ x out. chosen_code (temp (at_of e) room) arms (here out) (arms_code arms (in_switch (here out) x) out)) (in_switch (here out) x) out)
     statement_code T.break x out = by (exit_code x.on_break) out
     statement_code T.continue x out = by (exit_code x.on_continue) out
     statement_code (T.return e) x out = by (return_code e x.on_return) out
@@ -324,4 +328,4 @@ module _ (p : ProgramData) where
   routines_from g (f ∷ more) = routine_of f (code_if_any g f f.body) ∷ routines_from (suc g) more
 
   abbrev pub lowered : Code
-  lowered = record { routines = routines_from 0 p.functions; main = p.main }
+  lowered = record { routines = routines_from 0 p.functions; main = p.main; place = main_place p }

@@ -46,12 +46,12 @@ impl Ground<'_> {
                     w.put(Step::Clear(to));
                     self.effect(w, x.get(), d);
                 } else {
-                    self.put_conversion(w, e.ty, to, self.operand(x.get(), d));
+                    self.put_conversion(w, e.ty, x.get(), to, self.operand(x.get(), d));
                     self.part(w, ALONE, x.get(), d);
                 }
             }
             ExpressionNode::Unary(op, x) => {
-                w.put(Step::Unary(to, *op, self.operand(x.get(), d)));
+                w.put(Step::Unary(to, at, *op, self.operand(x.get(), d)));
                 self.part(w, ALONE, x.get(), d);
             }
             ExpressionNode::Not(x) => {
@@ -313,10 +313,7 @@ impl Ground<'_> {
         if self.named_root(q).is_some() {
             w.put(Step::Fail(UndefinedKind::Dead, at));
         } else {
-            w.put(Step::AsPointer(to, self.left_place(ALONE, q, d)));
-            if self.place_atom(q).is_none() {
-                self.path(w, addressed, q, d, d);
-            }
+            self.path(w, addressed, q, to, d);
         }
     }
 

@@ -2,7 +2,7 @@
 
 ghost use Rattle.std.specs.Prelude.{◌≡◌, ◌++◌, [], IfOk, OnOk, false, map};
 ghost use Rattle.c_typed.specs.Programs.{data_of, program_data};
-ghost use Rattle.c_meaning.specs.Run.{numbers};
+ghost use Rattle.c_meaning.specs.Run.{main_place, numbers};
 ghost use Rattle.tac_ir.specs.Code.{code_of};
 ghost use Rattle.tac_ir.specs.Code as Code;
 ghost use Rattle.lower_tac.specs.Drafts.{out_in};
@@ -13,7 +13,7 @@ use crate::ground::Ground;
 use crate::ways::{Exit, Exits, ReturnWay};
 use crate::writer::Writer;
 use c_typed::{Function, Local, Typed, loops_within};
-use lay_base::{List, NoMemory, add};
+use lay_base::{List, NoMemory, Place, add};
 use source_values::Types;
 use std::alloc::Global;
 use tac_ir::{Parameter, Routine, Step, Tac};
@@ -171,6 +171,16 @@ fn routines(alloc: Global, types: &Types<'_>, all: &[Function]) -> Result<List<R
     Ok(made)
 }
 
+/// Where `main` is.
+fn main_place(p: &Typed) -> Place
+    ensures { result ≡ main_place (program_data p.now) }
+{
+    match p.functions.as_slice().get(p.main as usize) {
+        None => Place { file: 0, at: 0 },
+        Some(function) => function.place,
+    }
+}
+
 /// Three-address code of a program. `NoMemory` comes for want of memory; where the size of a type passes what `Types::of` takes; and
 /// where a function has 2^31 parameters or locals, or something in it has no number of 32 bits.
 pub fn lower(alloc: Global, p: &Typed) -> Result<Tac, NoMemory>
@@ -181,5 +191,6 @@ pub fn lower(alloc: Global, p: &Typed) -> Result<Tac, NoMemory>
     Ok(Tac {
         routines,
         main: p.main,
+        place: main_place(p),
     })
 }

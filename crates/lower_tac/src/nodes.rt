@@ -1,12 +1,14 @@
 //! The steps of nodes, whose operands are made afterwards. Where there are two, the right one stands in a temporary of its own.
 
-ghost use Rattle.std.specs.Prelude.{◌≡◌, ◌∷◌, OnSome, Some, false, if◌then◌else◌, map, slice_get};
+ghost use Rattle.std.specs.Prelude.{◌≡◌, ◌∷◌, OnSome, Some, false, if◌then◌else◌, map, slice_get, true};
 ghost use Rattle.lay_base.specs.declared.faults.UndefinedKind.TheVariants as K;
 ghost use Rattle.c_typed.specs.Constants.{kind_of, ty};
+ghost use Rattle.c_typed.specs.Conversions.{is_pointer};
 ghost use Rattle.c_typed.specs.Typed.{at_of, path_ty};
 ghost use Rattle.c_typed.specs.Views.{expression_of, expressions_of, path_of};
 ghost use Rattle.c_typed.specs.declared.operators.PointerOp.TheVariants as PO;
 ghost use Rattle.block_memory.specs.RunWorlds.Operators.{step_op};
+ghost use Rattle.c_meaning.specs.Expressions.{count_kind};
 ghost use Rattle.c_meaning.specs.Program.{access_at, element_size, length_of, size_at, type_at};
 ghost use Rattle.tac_ir.specs.declared.step.Operand.TheVariants as O;
 ghost use Rattle.tac_ir.specs.declared.step.Step.TheVariants as S;
@@ -73,12 +75,14 @@ impl Ground<'_> {
         d: u32,
         right: u32,
     )
-        ensures { Wrote w.old w.new (λ code. S.Move to at op (element_size (program_in self.now) (type_at (program_in self.now) t)) (kind_of (type_at (program_in self.now) (ty (expression_of x.now)))) (kind_of (type_at (program_in self.now) (ty (expression_of y.now)))) (left_operand (part_in self.now y.now).atom (part_in self.now x.now) d) (operand (part_in self.now y.now) right) ∷ code) }
+        ensures { Wrote w.old w.new (λ code. S.Move to at op (element_size (program_in self.now) (type_at (program_in self.now) t)) (is_pointer (type_at (program_in self.now) (ty (expression_of x.now)))) (count_kind (type_at (program_in self.now) (ty (expression_of x.now))) (type_at (program_in self.now) (ty (expression_of y.now)))) (left_operand (part_in self.now y.now).atom (part_in self.now x.now) d) (operand (part_in self.now y.now) right) ∷ code) }
     {
         let a = self.left(self.atom(y), x, d);
         let b = self.operand(y, right);
         let element = self.types.row(t).element;
-        w.put(Step::Move(to, at, op, element, self.kind(x.ty), self.kind(y.ty), a, b));
+        let left = self.is_pointer(x.ty);
+        let kind = self.count_kind(x.ty, y.ty);
+        w.put(Step::Move(to, at, op, element, left, kind, a, b));
     }
 
     pub fn put_difference(
@@ -128,21 +132,12 @@ impl Ground<'_> {
         d: u32,
         right: u32,
     )
-        ensures { Wrote w.old w.new (λ code. S.Move to at PO.Add (size_at (program_in self.now) t) (kind_of (type_at (program_in self.now) (ty (expression_of x.now)))) (kind_of (type_at (program_in self.now) (ty (expression_of y.now)))) (left_operand (part_in self.now y.now).atom (part_in self.now x.now) d) (operand (part_in self.now y.now) right) ∷ code) }
+        ensures { Wrote w.old w.new (λ code. S.Move to at PO.Add (size_at (program_in self.now) t) true (kind_of (type_at (program_in self.now) (ty (expression_of y.now)))) (left_operand (part_in self.now y.now).atom (part_in self.now x.now) d) (operand (part_in self.now y.now) right) ∷ code) }
     {
         let a = self.left(self.atom(y), x, d);
         let b = self.operand(y, right);
         let size = self.types.row(t).size;
-        w.put(Step::Move(
-            to,
-            at,
-            PointerOp::Add,
-            size,
-            self.kind(x.ty),
-            self.kind(y.ty),
-            a,
-            b,
-        ));
+        w.put(Step::Move(to, at, PointerOp::Add, size, true, self.kind(y.ty), a, b));
     }
 
     pub fn put_element_field(

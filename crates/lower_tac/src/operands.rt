@@ -183,6 +183,7 @@ impl Ground<'_> {
     }
 
     /// Whether an expression may end without a value.
+    #[cycle(lacking)]
     pub fn lacks(&self, e: &Expression) -> bool
         ensures { result ≡ lacks (program_in self.now) (locals_in self.now) (expression_of e.now) }
     {
@@ -191,6 +192,7 @@ impl Ground<'_> {
                 Sort::Void => true,
                 Sort::Number(_) | Sort::Pointer | Sort::Other => false,
             },
+            ExpressionNode::AddressOf(q) | ExpressionNode::Decay(q) => self.place_lacks(q),
             ExpressionNode::Cond(_, y, z) => self.lacks(y.get()) || self.lacks(z.get()),
             ExpressionNode::Comma(_, y) => self.lacks(y.get()),
             ExpressionNode::CopyRecord(_, _)
@@ -201,8 +203,6 @@ impl Ground<'_> {
             | ExpressionNode::Null
             | ExpressionNode::FunctionName(_)
             | ExpressionNode::Load(_)
-            | ExpressionNode::AddressOf(_)
-            | ExpressionNode::Decay(_)
             | ExpressionNode::Unary(_, _)
             | ExpressionNode::Binary(_, _, _)
             | ExpressionNode::Compare(_, _, _)
@@ -219,6 +219,7 @@ impl Ground<'_> {
     }
 
     /// Whether what a path leads to may be a value that lacks.
+    #[cycle(lacking)]
     pub fn place_lacks(&self, q: &Path) -> bool
         ensures { result ≡ place_lacks (program_in self.now) (locals_in self.now) (path_of q.now) }
     {

@@ -81,13 +81,14 @@ impl Ground<'_> {
         starts: &[Target],
         end: Target,
     )
-        ensures { Wrote w.old w.new (before_arms (program_in self.now) self.now.number (locals_in self.now) self.now.room (expression_of e.now) own.now (arms_of (map arm_of arms.now)) starts.now end) }
+        ensures { Wrote w.old w.new (before_arms (program_in self.now) self.now.number (locals_in self.now) (expression_of e.now) own.now (arms_of (map arm_of arms.now)) starts.now end) }
     {
         w.put(Step::Jump(default_start(end, arms, starts)));
         put_dispatch(w, temp(e.place, self.room), arms, starts);
         self.begins(w, own);
-        self.put_test(w, e, self.room);
-        self.value(w, e, self.room, self.room);
+        let value = self.operand(e, self.room);
+        w.put(Step::Number(self.room, e.place, value));
+        self.part(w, ALONE, e, self.room);
     }
 
     /// A statement, and what ways out of it lead to.

@@ -3,8 +3,11 @@
 ghost use Rattle.std.specs.Prelude.{◌≡◌, ◌+◌, ◌∷◌, ◌<◌, ◌^◌, OnSome, Some, false, length, map, suc};
 ghost use Rattle.lay_base.specs.declared.faults.UndefinedKind.TheVariants as K;
 ghost use Rattle.c_typed.specs.Constants.{kind_of};
+ghost use Rattle.c_typed.specs.Conversions.{is_pointer};
+ghost use Rattle.c_typed.specs.Typed.{at_of};
 ghost use Rattle.c_typed.specs.Views.{expression_of, expressions_of, path_of};
 ghost use Rattle.block_memory.specs.RunWorlds.Operators.{step_op};
+ghost use Rattle.c_meaning.specs.Expressions.{count_kind};
 ghost use Rattle.c_meaning.specs.Program.{access_at, element_size, length_of, size_at, type_at};
 ghost use Rattle.tac_ir.specs.declared.step.Operand.TheVariants as O;
 ghost use Rattle.tac_ir.specs.declared.step.Step.TheVariants as S;
@@ -104,6 +107,26 @@ impl Ground<'_> {
         }
     }
 
+    pub fn is_pointer(&self, t: u32) -> bool
+        ensures { result ≡ is_pointer (type_at (program_in self.now) t) }
+    {
+        match self.types.row(t).sort {
+            Sort::Pointer => true,
+            Sort::Void | Sort::Number(_) | Sort::Other => false,
+        }
+    }
+
+    /// The kind of the number of elements by which a pointer moves.
+    pub fn count_kind(&self, x: u32, y: u32) -> IntKind
+        ensures { result ≡ count_kind (type_at (program_in self.now) x) (type_at (program_in self.now) y) }
+    {
+        if self.is_pointer(x) {
+            self.kind(y)
+        } else {
+            self.kind(x)
+        }
+    }
+
     fn updated(&self, t: u32) -> Updated
         ensures { result ≡ sort_of (type_at (program_in self.now) t) }
     {
@@ -122,20 +145,20 @@ impl Ground<'_> {
         }
     }
 
-    fn conversion(&self, t: u32, to: u32, a: Operand) -> Step
-        ensures { (code : Steps) → convert_step (type_at (program_in self.now) t) to a code ≡ result ∷ code }
+    fn conversion(&self, t: u32, at: Place, to: u32, a: Operand) -> Step
+        ensures { (code : Steps) → convert_step (type_at (program_in self.now) t) at to a code ≡ result ∷ code }
     {
         match self.types.row(t).sort {
-            Sort::Number(kind) => Step::Convert(to, kind, a),
-            Sort::Pointer => Step::AsPointer(to, a),
+            Sort::Number(kind) => Step::Convert(to, at, kind, a),
+            Sort::Pointer => Step::AsPointer(to, at, a),
             Sort::Void | Sort::Other => Step::Set(to, a),
         }
     }
 
-    pub fn put_conversion(&self, w: &mut Writer, t: u32, to: u32, a: Operand)
-        ensures { Wrote w.old w.new (convert_step (type_at (program_in self.now) t) to a) }
+    pub fn put_conversion(&self, w: &mut Writer, t: u32, x: &Expression, to: u32, a: Operand)
+        ensures { Wrote w.old w.new (convert_step (type_at (program_in self.now) t) (at_of (expression_of x.now)) to a) }
     {
-        w.put(self.conversion(t, to, a));
+        w.put(self.conversion(t, x.place, to, a));
     }
 
     /// That the value in the temporary is one, where it may lack.

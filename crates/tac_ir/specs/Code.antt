@@ -1,5 +1,6 @@
 -- Code as it is read: the steps of a function in their order.
 use Rattle.std.specs.Prelude.{ℕ, ◌-◌, Bool, List, length, drop, map, reverse, get_or}
+use Rattle.lay_base.specs.declared.place.Place.{Place}
 use Rattle.tac_ir.specs.declared.step.Parameter.{Parameter}
 use Rattle.tac_ir.specs.declared.step.Routine.{Routine}
 use Rattle.tac_ir.specs.declared.step.Step.{Step}
@@ -19,12 +20,14 @@ pub record RoutineData : Type 0 where
 pub record Code : Type 0 where
   pub routines : List RoutineData
   pub main : ℕ
+  -- where `main` is in the source
+  pub place : Place
 
 abbrev pub data_of : Routine → RoutineData
 data_of g = record { ty = g.ty; locals = g.locals; parameters = g.parameters; code = reverse g.code; labels = g.labels; texts = g.texts }
 
 abbrev pub code_of : Tac → Code
-code_of t = record { routines = map data_of t.routines; main = t.main }
+code_of t = record { routines = map data_of t.routines; main = t.main; place = t.place }
 
 -- the code from where so many steps are left
 abbrev pub left : ℕ → List Step → List Step

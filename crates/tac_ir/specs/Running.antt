@@ -1,6 +1,6 @@
 -- What three-address code does to the world: its run for a number of steps that is large enough. The world, frames, calls and the library are the source's.
-use Rattle.std.specs.Prelude.{ℕ, zero, suc, ◌+◌, ◌==◌, ◌*ℤ◌, ◌+ℤ◌, pos, Bool, true, false, not, if◌then◌else◌, List, [], ◌∷◌, map, replicate, Option, Some}
-use Rattle.std.specs.Prelude.{None, get_or, slice_get, unwrap_or, ◌%◌, ◌^◌}
+use Rattle.std.specs.Prelude.{ℕ, zero, suc, ◌+◌, ◌==◌, ◌*ℤ◌, ◌+ℤ◌, pos, Bool, true, false, not, if◌then◌else◌, List, [], ◌∷◌, map, replicate, Option, Some, Ok}
+use Rattle.std.specs.Prelude.{None, get_or, slice_get, unwrap_or}
 use Rattle.lay_base.specs.declared.faults.UndefinedKind.{UndefinedKind}
 use Rattle.lay_base.specs.declared.faults.UndefinedKind.TheVariants as K
 use Rattle.lay_base.specs.declared.place.Place.{Place}
@@ -13,16 +13,19 @@ use Rattle.memory_words.specs.declared.cell_words.pointer.Ptr.{Ptr}
 use Rattle.memory_words.specs.declared.cell_words.pointer.Ptr.TheVariants as P
 use Rattle.block_memory.specs.Blocks.{with_cells}
 use Rattle.block_memory.specs.declared.kinds.BlockKind.TheVariants as Kind
+use Rattle.block_memory.specs.Tested.{Tested}
+use Rattle.block_memory.specs.Tested as Tests
 use Rattle.block_memory.specs.RunWorlds.Doing.{Doing, ◌>>=◌, ◌>>◌, pure, is_undefined, tested, memory_now, with_memory, make, end, turn, note, enter, leave}
 use Rattle.block_memory.specs.RunWorlds.Events.{began}
 use Rattle.block_memory.specs.RunWorlds.LibraryCalls.{library, allocated, assign_record}
-use Rattle.block_memory.specs.RunWorlds.Operators.{converted, is_true, flag, unary, binary, moved, distance, compared, updated}
-use Rattle.block_memory.specs.RunWorlds.Scalars.{word_of, pointer_of, load, store}
-use Rattle.block_memory.specs.RunWorlds.Worlds.{World, End, ends, undefined}
+use Rattle.block_memory.specs.RunWorlds.Operators.{converted, null_or_pointer, is_true, flag, unary, binary, moved_from, distance, compared, updated}
+use Rattle.block_memory.specs.RunWorlds.Scalars.{as_word, pointer_of, load, store}
+use Rattle.block_memory.specs.RunWorlds.Worlds.{World, End, undefined}
 use Rattle.block_memory.specs.declared.run_worlds.value.Value.{Value}
 use Rattle.block_memory.specs.declared.run_worlds.value.Value.TheVariants.{Word as word, Pointer as pointer}
 use Rattle.c_meaning.specs.Expressions.{element_of, field_through, part_of}
-use Rattle.c_meaning.specs.Frames.{Frame, with_slot, slot_now}
+use Rattle.c_meaning.specs.Frames.{Frame, with_slot, slot_now, frame_now, end_all}
+use Rattle.c_meaning.specs.Run.{end_by}
 use Rattle.c_meaning.specs.declared.frame.Slot.{Slot}
 use Rattle.c_meaning.specs.declared.frame.Slot.TheVariants.{ByName as by_name, InBlock as in_block}
 use Rattle.c_meaning.specs.declared.frame.Spot.{Spot}
@@ -89,13 +92,14 @@ abbrev pub written : (offset : ℕ) → List Cell → Option Slot → Doing Fram
 written by cells (Some (in_block (Some b))) = memory_now >>= λ m. with_memory (with_cells m b by cells)
 written by cells s = pure tt
 
-abbrev pub begin : (local : ℕ) → (block : Bool) → (size : ℕ) → Doing Frame (Unit {0})
-begin x true size = make size Kind.Local >>= λ b. with_slot x (in_block (Some b))
-begin x false size = with_slot x (by_name None)
-
 abbrev pub end_slot : (local : ℕ) → Option Slot → Doing Frame (Unit {0})
 end_slot x (Some (in_block (Some b))) = end b >> with_slot x (in_block None)
 end_slot x s = pure tt
+
+-- a block that has begun ends before it begins anew
+abbrev pub begin : (local : ℕ) → (block : Bool) → (size : ℕ) → Doing Frame (Unit {0})
+begin x true size = (slot_now x >>= end_slot x) >> make size Kind.Local >>= λ b. with_slot x (in_block (Some b))
+begin x false size = with_slot x (by_name None)
 
 -- it holds again what a block or a name holds at first
 abbrev pub emptied : (local size : ℕ) → Option Slot → Doing Frame (Unit {0})
@@ -134,10 +138,12 @@ abbrev pub type_of_sort : Sort → CType
 type_of_sort (Sorts.Number kind) = integer kind
 type_of_sort Sorts.Pointer = pointer_to void
 
--- of what `main` gives, the low byte (own)
-abbrev pub status_of : Option Value → ℕ
-status_of None = 0
-status_of (Some v) = word_of v % 2 ^ 8
+abbrev pub as_number : Value → Tested Value
+as_number v = Tests.◌>>=◌ (as_word v) (λ n. Ok (word n))
+
+-- a function is left, with its locals
+abbrev pub leaves : Doing Frame (Unit {0})
+leaves = frame_now >>= end_all >> leave
 
 -- a type of the program by its number
 abbrev pub type_in : List CType → (type : ℕ) → CType
@@ -151,7 +157,7 @@ Next = List Caller → RoutineData → (more : List Step) → Frame → World �
 -- a pointer type keeps its number, so code speaks of a program's types
 module _ (types : List CType) (c : Code) (next : Next) where
   abbrev pub returns : List Caller → Option Value → World → End
-  returns [] v w = ends (status_of v) w
+  returns [] v w = end_by c.place v w
   returns (one ∷ callers) v w = next callers one.routine one.more (with_temp one.to (by_name v) one.frame) w
 
   abbrev pub body : Place → List Caller → RoutineData → List Step → List Value → World → End
@@ -175,17 +181,17 @@ module _ (types : List CType) (c : Code) (next : Next) where
   abbrev pub does : List Caller → RoutineData → Step → (more : List Step) → Frame → World → End
   does cs g (S.Set t a) more = (read a >>= put t) (λ u. next cs g more)
   does cs g (S.Clear t) more = put_any t None (λ u. next cs g more)
-  does cs g (S.Unary t op a) more = (read a >>= λ v. put t (unary op v)) (λ u. next cs g more)
-  does cs g (S.Truth t a) more = (read a >>= λ v. put t (flag (is_true v))) (λ u. next cs g more)
+  does cs g (S.Unary t at op a) more = (read a >>= λ v. tested at (unary op v) >>= put t) (λ u. next cs g more)
   does cs g (S.Not t a) more = (read a >>= λ v. put t (flag (not (is_true v)))) (λ u. next cs g more)
-  does cs g (S.Convert t kind a) more = (read a >>= λ v. put t (converted (integer kind) v)) (λ u. next cs g more)
-  does cs g (S.AsPointer t a) more = (read a >>= λ v. put t (pointer (pointer_of v))) (λ u. next cs g more)
+  does cs g (S.Convert t at kind a) more = (read a >>= λ v. tested at (converted (integer kind) v) >>= put t) (λ u. next cs g more)
+  does cs g (S.AsPointer t at a) more = (read a >>= λ v. tested at (null_or_pointer v) >>= put t) (λ u. next cs g more)
+  does cs g (S.Number t at a) more = (read a >>= λ v. tested at (as_number v) >>= put t) (λ u. next cs g more)
   does cs g (S.Binary t at op kind right a b) more =
       (read a >>= λ v. read b >>= λ w. tested at (binary op kind v right w) >>= put t) (λ u. next cs g more)
   does cs g (S.Compare t at op kind a b) more =
       (read a >>= λ v. read b >>= λ w. memory_now >>= λ m. tested at (compared op m kind v w) >>= put t) (λ u. next cs g more)
-  does cs g (S.Move t at op size left right a b) more =
-      (read a >>= λ v. read b >>= λ w. memory_now >>= λ m. tested at (moved m op size left v right w) >>= put t) (λ u. next cs g more)
+  does cs g (S.Move t at op size left kind a b) more =
+      (read a >>= λ v. read b >>= λ w. memory_now >>= λ m. tested at (moved_from left m op size kind v w) >>= put t) (λ u. next cs g more)
   does cs g (S.Distance t at size a b) more =
       (read a >>= λ v. read b >>= λ w. tested at (distance size v w) >>= put t) (λ u. next cs g more)
   does cs g (S.Update t at op size sort right a b) more =
@@ -193,10 +199,12 @@ module _ (types : List CType) (c : Code) (next : Next) where
       (λ u. next cs g more)
   does cs g (S.Field t at by a) more = (read a >>= λ v. field_through at (pointer_of v) (pos by) >>= λ s. put t (address s)) (λ u. next cs g more)
   does cs g (S.ElementField t at size kind by a b) more =
-      (read a >>= λ v. read b >>= λ w. field_through at (pointer_of v) (number_of kind (word_of w) *ℤ pos size +ℤ pos by) >>= λ s. put t (address s))
+      (read a >>= λ v. read b >>= λ w. tested at (as_word w) >>= λ n. field_through at (pointer_of v) (number_of kind n *ℤ pos size +ℤ pos by)
+      >>= λ s. put t (address s))
       (λ u. next cs g more)
   does cs g (S.Element t at n size addressed kind a b) more =
-      (read a >>= λ v. read b >>= λ w. element_of at n size addressed (placed (pointer_of v)) (number_of kind (word_of w)) >>= λ s. put t (address s))
+      (read a >>= λ v. read b >>= λ w. tested at (as_word w) >>= λ i. element_of at n size addressed (placed (pointer_of v)) (number_of kind i)
+      >>= λ s. put t (address s))
       (λ u. next cs g more)
   does cs g (S.Part t at by a) more = (read a >>= λ v. part_of at (pos by) (placed (pointer_of v)) >>= λ s. put t (address s)) (λ u. next cs g more)
   does cs g (S.Inside t at x by) more = (slot_now x >>= inside at by >>= put t) (λ u. next cs g more)
@@ -208,22 +216,22 @@ module _ (types : List CType) (c : Code) (next : Next) where
   does cs g (S.Branch when a to) more = read a (λ v. next cs g (if (if is_true v then when else not when) then led g to else more))
   does cs g (S.Test at op kind when a b to) more = (read a >>= λ v. read b >>= λ w. memory_now >>= λ m. tested at (compared op m kind v w))
       (λ v. next cs g (if (if is_true v then when else not when) then led g to else more))
-  does cs g (S.Case n a to) more = read a (λ v. next cs g (if n == word_of v then led g to else more))
+  does cs g (S.Case n a to) more = (read a >>= λ v. tested no_place (as_word v)) (λ v. next cs g (if n == v then led g to else more))
   does cs g (S.Call t at f all) more = read_row at all.first all.count
       (λ vs own. calls at f (record { to = t; routine = g; more = more; frame = own } ∷ cs) (slice_get c.routines f) vs own)
   does cs g (S.CallThrough t at ty a all) more = read a (λ v. read_row at all.first all.count
       (λ vs own. calls_through at (type_in types ty) (pointer_of v) (record { to = t; routine = g; more = more; frame = own } ∷ cs) vs own))
   does cs g (S.Library t at which all) more = (read_row at all.first all.count >>= λ vs. library at which vs >>= put_any t) (λ u. next cs g more)
   does cs g (S.Allocate t at r size zeroed a) more =
-      (read a >>= λ n. allocated at r size (word_of n) zeroed >>= put t) (λ u. next cs g more)
+      (read a >>= λ v. allocated at r size v zeroed >>= put t) (λ u. next cs g more)
   does cs g (S.Begin x size) more = begin x true size (λ u. next cs g more)
   does cs g (S.End x) more = (slot_now x >>= end_slot x) (λ u. next cs g more)
   does cs g (S.Forget x size) more = (slot_now x >>= emptied x size) (λ u. next cs g more)
   does cs g (S.Zeros x size) more = (slot_now x >>= written 0 (replicate size (Byte 0))) (λ u. next cs g more)
   does cs g (S.Text x by n) more = (slot_now x >>= written by (map Byte (get_or g.texts n []))) (λ u. next cs g more)
   does cs g (S.Began f l) more = (turn >> note (began f l)) (λ u. next cs g more)
-  does cs g (S.Return a) more = (read_any a >>= λ v. leave >> pure v) (λ v own w. returns cs v w)
-  does cs g (S.ReturnHeld t) more = (slot_now t >>= λ s. leave >> pure (value_in s)) (λ v own w. returns cs v w)
+  does cs g (S.Return a) more = (read_any a >>= λ v. leaves >> pure v) (λ v own w. returns cs v w)
+  does cs g (S.ReturnHeld t) more = (slot_now t >>= λ s. leaves >> pure (value_in s)) (λ v own w. returns cs v w)
   does cs g (S.Fail kind at) more = is_undefined kind at (λ (u : Unit {0}). next cs g more)
 
 -- ---- so many steps. Where they are too few it is as if the run were undefined, so no other end is ever mistaken for a want of steps

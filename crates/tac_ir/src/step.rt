@@ -46,18 +46,19 @@ pub enum Step {
     Set(u32, Operand),
     /// The temporary holds nothing.
     Clear(u32),
-    Unary(u32, UnaryOp, Operand),
-    /// 1 where the operand is neither 0 nor null, else 0.
-    Truth(u32, Operand),
+    Unary(u32, Place, UnaryOp, Operand),
+    /// 1 where the operand is 0 or null, else 0.
     Not(u32, Operand),
-    Convert(u32, IntKind, Operand),
-    /// A number becomes null.
-    AsPointer(u32, Operand),
+    Convert(u32, Place, IntKind, Operand),
+    /// A pointer as it is, and 0 as null.
+    AsPointer(u32, Place, Operand),
+    /// A number as it is, for a `switch`.
+    Number(u32, Place, Operand),
     /// Of numbers of a kind; the right operand has its own.
     Binary(u32, Place, BinaryOp, IntKind, IntKind, Operand, Operand),
     Compare(u32, Place, CompareOp, IntKind, Operand, Operand),
-    /// A pointer and a number of elements of a size, on or back; the operands have kinds where they are numbers.
-    Move(u32, Place, PointerOp, u32, IntKind, IntKind, Operand, Operand),
+    /// By elements of a size, on or back: whether the pointer is the left operand, and the kind of the number of elements.
+    Move(u32, Place, PointerOp, u32, bool, IntKind, Operand, Operand),
     /// How many elements of a size lie between two pointers.
     Distance(u32, Place, u32, Operand, Operand),
     /// What `op=` makes of an old value and a number of a kind; a pointer moves by elements of a size.
@@ -128,9 +129,10 @@ pub struct Routine {
     pub texts: List<Bytes>,
 }
 
-/// The functions of a program, and the number of `main`.
+/// The functions of a program, and the number of `main` with its place.
 #[derive(Drop)]
 pub struct Tac {
     pub routines: List<Routine>,
     pub main: u32,
+    pub place: Place,
 }

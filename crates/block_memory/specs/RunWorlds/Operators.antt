@@ -24,16 +24,20 @@ use Rattle.memory_words.specs.declared.cell_words.pointer.Ptr.TheVariants as P
 use Rattle.block_memory.specs.Blocks.{Memory}
 use Rattle.block_memory.specs.Pointers.{stepped, difference, is_less, are_equal}
 use Rattle.block_memory.specs.Tested.{Tested, ◌>>=◌}
-use Rattle.block_memory.specs.RunWorlds.Scalars.{as_value}
+use Rattle.block_memory.specs.RunWorlds.Scalars.{as_value, as_word, as_pointer}
 use Rattle.block_memory.specs.declared.run_worlds.value.Value.{Value}
 use Rattle.block_memory.specs.declared.run_worlds.value.Value.TheVariants.{Word as word, Pointer as pointer}
 
 -- ---- conversions (6.3): of the integer constant 0 to a null pointer, of numbers, and of pointers, which stay
 
-abbrev pub converted : CType → Value → Value
-converted (integer kind) (word v) = word (as_kind kind v)
-converted (pointer_to t) (word v) = pointer P.Null
-converted t v = v
+abbrev pub null_or_pointer : Value → Tested Value
+null_or_pointer (word v) = if v == 0 then Ok (pointer P.Null) else Err K.Pointer
+null_or_pointer (pointer p) = Ok (pointer p)
+
+abbrev pub converted : CType → Value → Tested Value
+converted (integer kind) v = as_word v >>= λ n. Ok (word (as_kind kind n))
+converted (pointer_to t) v = null_or_pointer v
+converted t v = Ok v
 
 -- compared with zero (6.5.3.3, 6.8.4.1)
 abbrev pub is_true : Value → Bool
@@ -56,9 +60,8 @@ abbrev pub or_undefined : UndefinedKind → Option ℕ → Tested Value
 or_undefined kind (Some v) = Ok (word v)
 or_undefined kind None = Err kind
 
-abbrev pub unary : UnaryOp → Value → Value
-unary op (word v) = word (unary_value op v)
-unary op v = v
+abbrev pub unary : UnaryOp → Value → Tested Value
+unary op v = as_word v >>= λ n. Ok (word (unary_value op n))
 
 -- of numbers of a kind; the right operand of a shift has a kind of its own
 abbrev pub binary : BinaryOp → (kind : IntKind) → Value → (right : IntKind) → Value → Tested Value
@@ -72,15 +75,18 @@ abbrev pub bytes_by : PointerOp → (elements : ℤ) → (size : ℕ) → ℤ
 bytes_by O.Add elements size = elements *ℤ pos size
 bytes_by O.Subtract elements size = pos 0 -ℤ elements *ℤ pos size
 
--- the number stands on either side; each operand has its type's kind
-abbrev pub moved : Memory → PointerOp → (size : ℕ) → IntKind → Value → IntKind → Value → Tested Value
-moved m op size k (pointer p) l (word w) = as_value pointer (stepped m p (bytes_by op (number_of l w) size))
-moved m op size k (word v) l (pointer q) = as_value pointer (stepped m q (bytes_by op (number_of k v) size))
-moved m op size k v l w = Err K.Range
+-- a pointer by a number of a kind
+abbrev pub moved : Memory → PointerOp → (size : ℕ) → IntKind → Value → Value → Tested Value
+moved m op size kind v w = as_pointer v >>= λ p. as_word w >>= λ n. as_value pointer (stepped m p (bytes_by op (number_of kind n) size))
+
+-- whose pointer stands on the left, or on the right
+abbrev pub moved_from : (left : Bool) → Memory → PointerOp → (size : ℕ) → IntKind → Value → Value → Tested Value
+moved_from true m op size kind v w = moved m op size kind v w
+moved_from false m op size kind v w = moved m op size kind w v
 
 abbrev pub distance : (size : ℕ) → Value → Value → Tested Value
 distance size (pointer p) (pointer q) = as_value (λ z. word (cast_unsigned w32 z)) (difference p q size)
-distance size v w = Err K.Range
+distance size v w = Err K.Pointer
 
 -- ---- comparisons (6.5.8, 6.5.9)
 
@@ -113,9 +119,10 @@ pointer_op op = O.Add
 -- the old value of that type, and the operand of the type to which it is converted
 abbrev pub updated : Memory → BinaryOp → (size : ℕ) → CType → Value → (right : CType) → Value → Tested Value
 updated m op size (integer kind) old right v =
-    binary op (common_kind op kind (kind_of right)) (converted (integer (common_kind op kind (kind_of right))) old) (kind_of right) v
-    >>= λ new. Ok (converted (integer kind) new)
-updated m op size t old right v = moved m (pointer_op op) size Int old (kind_of right) v
+    converted (integer (common_kind op kind (kind_of right))) old
+    >>= λ old. binary op (common_kind op kind (kind_of right)) old (kind_of right) v
+    >>= λ new. converted (integer kind) new
+updated m op size t old right v = moved m (pointer_op op) size (kind_of right) old v
 
 abbrev pub step_op : StepOp → BinaryOp
 step_op S.Increment = B.Add

@@ -1,6 +1,6 @@
 -- Numbers and pointers as values, and their accesses by expressions (C99 6.5).
 use Rattle.std.specs.Prelude.{ℕ, Bool, true, false, Ok, Err}
-use Rattle.lay_base.specs.declared.faults.UndefinedKind.TheVariants.{Empty}
+use Rattle.lay_base.specs.declared.faults.UndefinedKind.TheVariants as K
 use Rattle.lay_base.specs.declared.place.Place.{Place}
 use Rattle.c_types.specs.IntKinds.{width}
 use Rattle.block_memory.specs.declared.kinds.Access.{Access}
@@ -11,15 +11,22 @@ use Rattle.block_memory.specs.Accesses.{load_number, load_pointer, store_number,
 use Rattle.block_memory.specs.Blocks.{Memory, kind}
 use Rattle.block_memory.specs.Lifetimes.{is_heap}
 use Rattle.block_memory.specs.Tested.{Tested}
+use Rattle.block_memory.specs.Tested as Tests
 use Rattle.block_memory.specs.RunWorlds.Doing.{Doing, ◌>>=◌, ◌>>◌, pure, note, tested, memory_now, with_memory}
 use Rattle.block_memory.specs.RunWorlds.Events.{Event, loaded, stored}
 use Rattle.block_memory.specs.declared.run_worlds.value.Value.{Value}
 use Rattle.block_memory.specs.declared.run_worlds.value.Value.TheVariants.{Word as word, Pointer as pointer}
 
-abbrev pub word_of : Value → ℕ
-word_of (word v) = v
-word_of (pointer p) = 0
+-- a value is used as what it is: of the other sort it is undefined
+abbrev pub as_word : Value → Tested ℕ
+as_word (word v) = Ok v
+as_word (pointer p) = Err K.Pointer
 
+abbrev pub as_pointer : Value → Tested Ptr
+as_pointer (word v) = Err K.Pointer
+as_pointer (pointer p) = Ok p
+
+-- where null is undefined anyway: a number is read as null, which is no place
 abbrev pub pointer_of : Value → Ptr
 pointer_of (word v) = P.Null
 pointer_of (pointer p) = p
@@ -39,8 +46,8 @@ load_in m p (Number kind) = as_value word (load_number m p kind)
 load_in m p (Pointer type) = as_value pointer (load_pointer m p type)
 
 abbrev pub store_in : Memory → Ptr → Access → Value → Tested Memory
-store_in m p (Number kind) v = store_number m p kind (word_of v)
-store_in m p (Pointer type) v = store_pointer m p type (pointer_of v)
+store_in m p (Number kind) v = Tests.◌>>=◌ (as_word v) (λ n. store_number m p kind n)
+store_in m p (Pointer type) v = Tests.◌>>=◌ (as_pointer v) (λ q. store_pointer m p type q)
 
 -- ---- accesses of allocations are told
 

@@ -2,10 +2,13 @@ use Rattle.std.proofs.Common.{◌≡◌, ◌∷◌, rules, sym, ap, ◌∙◌}
 use Rattle.std.proofs.lemmas.Iterator.Adapters.{YieldsList-from_rev_slice}
 use Rattle.std.proofs.lemmas.Iterator.Consumers.{YieldsList-end}
 use Rattle.c_typed.specs.Trees as T
+use Rattle.c_typed.specs.Typed.{at_of}
 use Rattle.c_typed.specs.Views.{expression_of, path_of}
-use Rattle.c_typed.specs.declared.expression.Expression.{the_lemmas}
+use Rattle.c_typed.specs.declared.expression.Expression.{Expression, the_lemmas}
+use Rattle.c_meaning.specs.Program.{type_at}
 use Rattle.tac_ir.specs.declared.step.Operand.{Operand}
 use Rattle.tac_ir.specs.declared.step.Step.TheVariants as S
+use Rattle.lower_tac.specs.Expressions.{convert_step}
 use Rattle.lower_tac.specs.Grounds.{locals_in, part_in, place_in, program_in}
 use Rattle.lower_tac.specs.Parts.{code_of}
 use Rattle.lower_tac.specs.Writing.{code_in}
@@ -78,11 +81,13 @@ pub value-returns-else-is_void : goal.value-returns-else-is_void
 value-returns-else-is_void t c = λ h.
     let part = c.part.ensures h in
     let step = c.put_conversion.ensures part.0 in
-    let s : (expression_of c.args.e.now) ≡ T.expression c.args.e.now.ty c.args.e.now.place (T.convert (expression_of c.in-Convert.x) c.in-Convert.field-1) = search (rules, the_lemmas) in (
+    let s : (expression_of c.args.e.now) ≡ T.expression c.args.e.now.ty c.args.e.now.place (T.convert (expression_of c.in-Convert.x) c.in-Convert.field-1) = search (rules, the_lemmas) in
+    let same : c.get-else-is_void.result.now ≡ c.in-Convert.x = search rules in (
       step.0,
       converted (program_in c.args.self.now) (locals_in c.args.self.now) (expression_of c.args.e.now) c.args.e.now.ty c.args.e.now.place (expression_of c.in-Convert.x) c.in-Convert.field-1 c.args.to c.args.d
           c.operand.result (code_in c.args.w.now) (code_in c.put_conversion.new.w) (code_in c.part.new.w) s (sym c.is_void.ensures ∙ c.if-is_void.false)
-          (search rules) step.1 (search rules),
+          (search rules) (step.1 ∙ ap (λ (x : Expression). convert_step (type_at (program_in c.args.self.now) c.args.e.now.ty) (at_of (expression_of x)) c.args.to c.operand.result (code_in c.args.w.now)) same)
+          (search rules),
     )
 
 pub arguments-returns : goal.arguments-returns
