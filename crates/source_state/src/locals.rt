@@ -4,7 +4,7 @@ ghost use Rattle.std.specs.Prelude.{◌≡◌, IfOk};
 ghost use Rattle.block_memory.specs.RunWorlds.Scalars.{load_in, store_in};
 ghost use Rattle.source_state.specs.RoomView.{core_of};
 ghost use Rattle.source_steps.specs.Cores.{Changes};
-ghost use Rattle.source_steps.specs.Locals.{begin_as, end_slot, finish};
+ghost use Rattle.source_steps.specs.Locals.{begin_as, end_all, end_slot, finish};
 ghost use Rattle.source_steps.specs.Memories.{changed};
 
 use crate::room::Room;
@@ -36,25 +36,18 @@ impl Room {
         ensures { Changes result (core_of self.old) (core_of self.new)
             (changed (store_in (core_of self.old).memory p access v) (core_of self.old)) }
     {
-        match access {
-            Access::Number(kind) => {
-                let word = match v {
-                    Value::Word(word) => word,
-                    Value::Pointer(_) => 0,
-                };
-                self.store.store_int(p, kind, word)
-            }
-            Access::Pointer(type_number) => {
-                let q = match v {
-                    Value::Word(_) => Ptr::Null,
-                    Value::Pointer(q) => q,
-                };
+        match (access, v) {
+            (Access::Number(kind), Value::Word(word)) => self.store.store_int(p, kind, word),
+            (Access::Pointer(type_number), Value::Pointer(q)) => {
                 self.store.store_pointer(p, type_number, q)
+            }
+            (Access::Number(_), Value::Pointer(_)) | (Access::Pointer(_), Value::Word(_)) => {
+                Err(UndefinedKind::Pointer)
             }
         }
     }
 
-    /// A local of so many bytes is made, in a block or not.
+    /// A local of so many bytes is made, in a block or not. A block that has begun ends first.
     pub fn begin(
         &mut self,
         alloc: Global,
@@ -68,6 +61,7 @@ impl Room {
             self.set_slot(local, Slot::ByName(None));
             return Ok(Ok(()));
         }
+        self.finish(local);
         match self.make(alloc, u64::from(size), BlockKind::Local)? {
             Ok(number) => {
                 self.set_slot(local, Slot::InBlock(Some(number)));
@@ -84,6 +78,17 @@ impl Room {
         if let Some(Slot::InBlock(Some(block))) = self.slot(local) {
             self.end(block);
             self.set_slot(local, Slot::InBlock(None));
+        }
+    }
+
+    /// What of the locals has begun ends.
+    pub fn end_all(&mut self)
+        ensures { core_of self.new ≡ end_all (core_of self.old).frame (core_of self.old) }
+    {
+        for local in 0..self.frame.len() {
+            if let Slot::InBlock(Some(block)) = self.frame[local] {
+                self.end(block);
+            }
         }
     }
 }

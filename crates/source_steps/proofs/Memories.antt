@@ -30,7 +30,7 @@ use Rattle.block_memory.specs.RunWorlds.Events.{Event, calls_of, entries_of, beg
 use Rattle.block_memory.specs.RunWorlds.Library as Library
 use Rattle.block_memory.specs.RunWorlds.Scalars.{width_of, load_in, store_in, note_if, note_in, load, store}
 use Rattle.block_memory.specs.declared.run_worlds.value.Value.{Value}
-use Rattle.block_memory.specs.declared.run_worlds.value.Value.TheVariants.{Pointer as Address}
+use Rattle.block_memory.specs.declared.run_worlds.value.Value.TheVariants.{Word, Pointer as Address}
 use Rattle.block_memory.specs.RunWorlds.Worlds.{World, End, out_of_room, greatest_live, live_bytes}
 use Rattle.c_meaning.specs.Expressions.{field_in}
 use Rattle.c_meaning.specs.Frames.{Frame}
@@ -229,8 +229,11 @@ so_many zero v = omega arith
 so_many (suc count) v = let h = so_many count (v / 256) in omega (arith, h)
 
 store_lives : (m : Memory) (q : Ptr) (access : Access) (v : Value) → LivesIn (live_bytes m) (store_in m q access v)
-store_lives m q (Number kind) v = put_lives m (width kind) _ (place m q (width kind) (width kind) true) (so_many (width kind) _) (place_fits m q (width kind) (width kind) true)
-store_lives m q (Pointer type) v = put_lives m 4 _ (place m q 4 4 true) (omega arith) (place_fits m q 4 4 true)
+store_lives m q (Number kind) (Word n) =
+    put_lives m (width kind) _ (place m q (width kind) (width kind) true) (so_many (width kind) _) (place_fits m q (width kind) (width kind) true)
+store_lives m q (Number kind) (Address r) = tt
+store_lives m q (Pointer type) (Word n) = tt
+store_lives m q (Pointer type) (Address r) = put_lives m 4 _ (place m q 4 4 true) (omega arith) (place_fits m q 4 4 true)
 
 -- the count stays
 at_now : (m : Memory) (n : ℕ) (r : Tested Memory) → LivesIn (live_bytes m) r → n ≡ live_bytes m → LivesIn n r

@@ -1,4 +1,3 @@
 pub mod Outside
 pub mod ByNumber
-pub mod BySort
 pub mod Past

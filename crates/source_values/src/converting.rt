@@ -1,22 +1,36 @@
-//! Conversions of values.
+//! Conversions of values (C99 6.3).
 
 ghost use Rattle.std.specs.Prelude.{◌≡◌};
-ghost use Rattle.c_types.specs.Types.{CType};
-ghost use Rattle.block_memory.specs.RunWorlds.Operators.{converted};
-ghost use Rattle.source_values.specs.Sorts.{converted_by, sort_of};
+ghost use Rattle.c_types.specs.Types.{integer};
+ghost use Rattle.block_memory.specs.RunWorlds.Operators.{converted, null_or_pointer};
 
-use crate::row::Sort;
 use block_memory::{Ptr, Value};
 use c_typed::as_kind;
+use c_types::IntKind;
+use lay_base::UndefinedKind;
 
-/// A value converted to a type of that sort (C99 6.3).
-pub fn convert(sort: Sort, v: Value) -> Value
-    ensures value { result ≡ converted_by sort v }
-    ensures converted { (t : CType) → sort_of t ≡ sort → result ≡ converted t v }
+/// A number as one of a kind; a pointer is none.
+pub fn convert(kind: IntKind, v: Value) -> Result<Value, UndefinedKind>
+    ensures { result ≡ converted (integer kind) v }
 {
-    match (sort, v) {
-        (Sort::Number(kind), Value::Word(v)) => Value::Word(as_kind(kind, v)),
-        (Sort::Pointer, Value::Word(_)) => Value::Pointer(Ptr::Null),
-        (_, v) => v,
+    match v {
+        Value::Word(word) => Ok(Value::Word(as_kind(kind, word))),
+        Value::Pointer(_) => Err(UndefinedKind::Pointer),
+    }
+}
+
+/// A pointer as it is, and 0 as a null pointer; no other number is one.
+pub fn null_or_pointer(v: Value) -> Result<Value, UndefinedKind>
+    ensures { result ≡ null_or_pointer v }
+{
+    match v {
+        Value::Word(word) => {
+            if word == 0 {
+                Ok(Value::Pointer(Ptr::Null))
+            } else {
+                Err(UndefinedKind::Pointer)
+            }
+        }
+        Value::Pointer(_) => Ok(v),
     }
 }

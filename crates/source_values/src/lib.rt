@@ -19,9 +19,9 @@ mod rows;
 mod sizes;
 mod table;
 
-pub use converting::convert;
-pub use numbers::{binary, bytes_of, flag, is_true, number_of, pointer_of, unary, word_of};
+pub use converting::{convert, null_or_pointer};
+pub use numbers::{binary, bytes_of, flag, is_true, number_of, pointer_of, unary};
 pub use paths::{field_in, is_subscript, part_in, way_to};
-pub use pointers::{compared, distance, moved};
+pub use pointers::{compared, distance, moved, moved_from};
 pub use row::{Sort, TypeRow};
 pub use table::Types;

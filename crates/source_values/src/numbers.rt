@@ -4,22 +4,12 @@ ghost use Rattle.std.specs.Prelude.{◌≡◌, ◌≤◌, ◌^◌, ◌*ℤ◌, p
 ghost use Rattle.c_typed.specs.Conversions.{number_of};
 ghost use Rattle.c_types.specs.Limits.{greatest_size};
 ghost use Rattle.block_memory.specs.RunWorlds.Operators.{binary, flag, is_true, unary, undefined_by};
-ghost use Rattle.block_memory.specs.RunWorlds.Scalars.{pointer_of, word_of};
+ghost use Rattle.block_memory.specs.RunWorlds.Scalars.{pointer_of};
 
 use block_memory::{Ptr, Value};
 use c_typed::{BinaryOp, UnaryOp, binary_value, is_signed, unary_value};
 use c_types::IntKind;
 use lay_base::UndefinedKind;
-
-/// The bits of a number, and 0 of a pointer.
-pub fn word_of(v: Value) -> u32
-    ensures { result ≡ word_of v }
-{
-    match v {
-        Value::Word(word) => word,
-        Value::Pointer(_) => 0,
-    }
-}
 
 /// A pointer, and a null pointer where it is a number.
 pub fn pointer_of(v: Value) -> Ptr
@@ -71,12 +61,12 @@ pub fn flag(test: bool) -> Value
 }
 
 /// The value of a unary operator (C99 6.5.3.3).
-pub fn unary(op: UnaryOp, v: Value) -> Value
+pub fn unary(op: UnaryOp, v: Value) -> Result<Value, UndefinedKind>
     ensures { result ≡ unary op v }
 {
     match v {
-        Value::Word(word) => Value::Word(unary_value(op, word)),
-        Value::Pointer(_) => v,
+        Value::Word(word) => Ok(Value::Word(unary_value(op, word))),
+        Value::Pointer(_) => Err(UndefinedKind::Pointer),
     }
 }
 

@@ -6,8 +6,8 @@ ghost use Rattle.c_meaning.specs.Expressions.{field_in, inside, is_subscript, pa
 ghost use Rattle.c_types.specs.Limits.{greatest_size};
 ghost use Rattle.source_values.specs.Ways.{way_to};
 
-use crate::numbers::{bytes_of, word_of};
-use block_memory::{Ptr, Store, Value};
+use crate::numbers::bytes_of;
+use block_memory::{Ptr, Store};
 use c_types::IntKind;
 use lay_base::UndefinedKind;
 
@@ -31,11 +31,11 @@ pub fn is_subscript(length: u32, addressed: bool, number: i64) -> bool
 }
 
 /// How far the field of an element lies from where a pointer points.
-pub fn way_to(kind: IntKind, w: Value, size: u32, offset: u32) -> i64
+pub fn way_to(kind: IntKind, word: u32, size: u32, offset: u32) -> i64
     requires { size ≤ greatest_size }
-    ensures { result ≡ way_to kind w size offset }
+    ensures { result ≡ way_to kind word size offset }
 {
-    bytes_of(kind, word_of(w), size) + i64::from(offset)
+    bytes_of(kind, word, size) + i64::from(offset)
 }
 
 fn inside(store: &Store, block: u64, at: i64) -> Result<Ptr, UndefinedKind>

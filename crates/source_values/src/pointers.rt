@@ -3,7 +3,7 @@
 ghost use Rattle.std.specs.Prelude.{◌≡◌, ◌≤◌};
 ghost use Rattle.block_memory.specs.Pointers.{stepped};
 ghost use Rattle.block_memory.specs.View.{memory_of};
-ghost use Rattle.block_memory.specs.RunWorlds.Operators.{bytes_by, compared, distance, moved, opposite, pointers_compare};
+ghost use Rattle.block_memory.specs.RunWorlds.Operators.{bytes_by, compared, distance, moved, moved_from, opposite, pointers_compare};
 ghost use Rattle.block_memory.specs.RunWorlds.Scalars.{as_value};
 ghost use Rattle.block_memory.specs.declared.run_worlds.value.Value.TheVariants.{Pointer};
 ghost use Rattle.c_typed.specs.Conversions.{number_of};
@@ -37,25 +37,41 @@ fn stepped(store: &Store, p: Ptr, by: i64) -> Result<Value, UndefinedKind>
     }
 }
 
-/// A pointer and a number of elements of a size (C99 6.5.6). The number stands on either side; each operand has its type's kind.
+/// A pointer and a number of elements of a size (C99 6.5.6).
 pub fn moved(
     store: &Store,
     op: PointerOp,
     size: u32,
-    left: IntKind,
+    kind: IntKind,
     v: Value,
-    right: IntKind,
     w: Value,
 ) -> Result<Value, UndefinedKind>
     requires { size ≤ greatest_size }
-    ensures { result ≡ moved (memory_of store.now) op size left v right w }
+    ensures { result ≡ moved (memory_of store.now) op size kind v w }
 {
     match (v, w) {
-        (Value::Pointer(p), Value::Word(w)) => stepped(store, p, bytes_by(op, right, w, size)),
-        (Value::Word(v), Value::Pointer(q)) => stepped(store, q, bytes_by(op, left, v, size)),
-        (Value::Pointer(_), Value::Pointer(_)) | (Value::Word(_), Value::Word(_)) => {
-            Err(UndefinedKind::Range)
-        }
+        (Value::Pointer(p), Value::Word(word)) => stepped(store, p, bytes_by(op, kind, word, size)),
+        _ => Err(UndefinedKind::Pointer),
+    }
+}
+
+/// The same, where the pointer is the left operand or the right one.
+pub fn moved_from(
+    store: &Store,
+    left: bool,
+    op: PointerOp,
+    size: u32,
+    kind: IntKind,
+    v: Value,
+    w: Value,
+) -> Result<Value, UndefinedKind>
+    requires { size ≤ greatest_size }
+    ensures { result ≡ moved_from left (memory_of store.now) op size kind v w }
+{
+    if left {
+        moved(store, op, size, kind, v, w)
+    } else {
+        moved(store, op, size, kind, w, v)
     }
 }
 
@@ -112,7 +128,8 @@ pub fn distance(size: u32, v: Value, w: Value) -> Result<Value, UndefinedKind>
                 Err(UndefinedKind::TwoBlocks)
             }
         }
-        _ => Err(UndefinedKind::Range),
+        (Value::Pointer(_), Value::Pointer(_)) => Err(UndefinedKind::Range),
+        _ => Err(UndefinedKind::Pointer),
     }
 }
 

@@ -10,37 +10,34 @@ use Rattle.memory_words.specs.declared.cell_words.cell.Cell.{Cell}
 use Rattle.memory_words.specs.declared.cell_words.cell.Cell.TheVariants.{Byte, Empty}
 use Rattle.memory_words.specs.declared.cell_words.pointer.Ptr.TheVariants as P
 use Rattle.block_memory.specs.Blocks.{with_cells}
-use Rattle.block_memory.specs.declared.kinds.BlockKind.TheVariants as Kind
-use Rattle.block_memory.specs.RunWorlds.Doing.{◌>>=◌, is_undefined, less_deep, memory_now, tested, with_memory}
-use Rattle.block_memory.specs.RunWorlds.Events.{left}
+use Rattle.block_memory.specs.RunWorlds.Doing.{◌>>=◌, is_undefined, memory_now, tested, with_memory}
 use Rattle.block_memory.specs.RunWorlds.Library as Library
 use Rattle.block_memory.specs.RunWorlds.LibraryCalls as LibraryCalls
 use Rattle.block_memory.specs.RunWorlds.LibraryCalls.{is_same_place}
-use Rattle.block_memory.specs.RunWorlds.Operators.{converted, is_true, flag, unary, binary, moved, distance, compared, updated}
-use Rattle.block_memory.specs.RunWorlds.Scalars.{word_of, pointer_of, load, store, load_in, store_in}
+use Rattle.block_memory.specs.RunWorlds.Operators.{converted, null_or_pointer, is_true, flag, unary, binary, moved_from, distance, compared, updated}
+use Rattle.block_memory.specs.RunWorlds.Scalars.{as_word, pointer_of, load, store, load_in, store_in}
 use Rattle.block_memory.specs.declared.run_worlds.value.Value.{Value}
 use Rattle.block_memory.specs.declared.run_worlds.value.Value.TheVariants.{Pointer as pointer}
 use Rattle.c_meaning.specs.Expressions.{element_of, field_in, field_through, is_subscript, part_in, part_of}
-use Rattle.c_meaning.specs.Frames.{with_slot}
 use Rattle.c_meaning.specs.declared.frame.Slot.{Slot}
 use Rattle.c_meaning.specs.declared.frame.Slot.TheVariants.{ByName as by_name, InBlock as in_block}
 use Rattle.c_meaning.specs.declared.frame.Spot.TheVariants.{Placed as placed}
 use Rattle.source_steps.specs.Cores.{Core, done}
-use Rattle.source_steps.specs.Locals.{slot, end_slot, emptied, with_slot as with_slot_in}
+use Rattle.source_steps.specs.Locals.{slot, emptied}
 use Rattle.source_steps.specs.Memories.{changed, copy_record, with_text, zeroed}
 use Rattle.source_steps.proofs.Calls.{begun_part}
 use Rattle.source_steps.proofs.Locals.{with_slot_part}
-use Rattle.source_steps.proofs.Memories.{allocate_part, copy_part, end_part, load_part, make_part, now_put_part, reached_part, store_part}
-use Rattle.source_steps.proofs.Parts.{Part, pure_part, bind_part}
+use Rattle.source_steps.proofs.Memories.{allocate_part, copy_part, load_part, now_put_part, reached_part, store_part}
+use Rattle.source_steps.proofs.Parts.{Part, pure_part}
 use Rattle.tac_ir.specs.Code.{led}
 use Rattle.tac_ir.specs.Running as Run
-use Rattle.tac_ir.specs.Running.{address, does, type_in, type_of_sort, value_in}
+use Rattle.tac_ir.specs.Running.{address, as_number, does, no_place, type_in, type_of_sort, value_in}
 use Rattle.tac_ir.specs.declared.step.Step.{Step}
 use Rattle.tac_ir.specs.declared.step.Step.TheVariants as S
 use Rattle.tac_ir.specs.declared.step.Target.{Target}
 use Rattle.tac_engine.specs.States.{State, goes, with_core, putting, found, finding, jumped, jumps_if, through, part, element, read_row, with_found}
-use Rattle.tac_engine.specs.Steps.{allocated, calls, calls_through, enacted, inside, library, returned, written}
-use Rattle.tac_engine.proofs.CallsSame.{calls_same, calls_through_same, returned_same}
+use Rattle.tac_engine.specs.Steps.{allocated, calls, calls_through, enacted, inside, library, number, returned, written}
+use Rattle.tac_engine.proofs.CallsSame.{begin_part, calls_same, calls_through_same, finish_part, returned_same}
 use Rattle.tac_engine.proofs.LibrarySame.{library_same}
 use Rattle.tac_engine.proofs.Same.{Course, types_of, code_in, Same, going, same_any, same_both, same_changing, same_doing, same_finding, same_found, same_goes}
 use Rattle.tac_engine.proofs.Same.{same_if, same_looking}
@@ -102,38 +99,45 @@ module _ (s : State) where
   written_same by cells change (Some (by_name v)) h = record { shows = (same_goes s).shows }
   written_same by cells change None h = record { shows = (same_goes s).shows }
 
-  end_slot_part : (x : ℕ) (o : Option Slot) (c : Core) → Part c (Run.end_slot x o) (done tt (end_slot x o c))
-  end_slot_part x (Some (in_block (Some b))) c = bind_part (end_part b c) (λ u d. with_slot_part x (in_block None) d)
-  end_slot_part x (Some (in_block None)) c = pure_part tt c
-  end_slot_part x (Some (by_name v)) c = pure_part tt c
-  end_slot_part x None c = pure_part tt c
-
   emptied_part : (x size : ℕ) (o : Option Slot) (c : Core) → Part c (Run.emptied x size o) (done tt (emptied x size o c))
   emptied_part x size (Some (in_block (Some b))) c = now_put_part b 0 (replicate size Empty) c
   emptied_part x size (Some (in_block None)) c = pure_part tt c
   emptied_part x size (Some (by_name v)) c = with_slot_part x (by_name None) c
   emptied_part x size None c = pure_part tt c
 
+  -- ---- allocations
+
+  allocated_same : (t : ℕ) (at : Place) (r size : ℕ) (all : Bool) (n : ℕ)
+      → Same s (λ next. LibraryCalls.allocated_count at r size n all (λ v. puts t v next)) (allocated t at size n all s)
+  allocated_same t at r size all n =
+      same_if (nat_lt (n * size) (2 ^ 28)) (Library.allocate (Some (r, n)) (n * size) all) (is_undefined K.Huge at) (puts t)
+      (same_doing (puts t) (λ v s. putting t v s) (allocate_part (Some (r, n)) (n * size) all s.core)
+      (λ v c. record { shows = (same_put t v (with_core c s)).shows }))
+      (record { shows = (same_undefined K.Huge at s).shows })
+
   -- ---- each step
 
   pub alike : (i : Step) → Same s (λ next. does (types_of s) (code_in s) next s.callers s.routine i s.more) (enacted i s)
   alike (S.Set t a) = same_read a s (puts t) (λ v. putting t v s) (puts_same t)
   alike (S.Clear t) = record { shows = (same_any t None s).shows }
-  alike (S.Unary t op a) = same_read a s (λ v. puts t (unary op v)) (λ v. putting t (unary op v) s) (λ v. puts_same t (unary op v))
-  alike (S.Truth t a) = same_read a s (λ v. puts t (flag (is_true v))) (λ v. putting t (flag (is_true v)) s) (λ v. puts_same t (flag (is_true v)))
+  alike (S.Unary t at op a) = same_read a s (λ v next. tested at (unary op v) (λ x. puts t x next)) (λ v. found t at (unary op v) s)
+      (λ v. same_found t at (unary op v) s)
   alike (S.Not t a) = same_read a s (λ v. puts t (flag (not (is_true v)))) (λ v. putting t (flag (not (is_true v))) s)
       (λ v. puts_same t (flag (not (is_true v))))
-  alike (S.Convert t kind a) = same_read a s (λ v. puts t (converted (integer kind) v)) (λ v. putting t (converted (integer kind) v) s)
-      (λ v. puts_same t (converted (integer kind) v))
-  alike (S.AsPointer t a) = same_read a s (λ v. puts t (pointer (pointer_of v))) (λ v. putting t (pointer (pointer_of v)) s)
-      (λ v. puts_same t (pointer (pointer_of v)))
+  alike (S.Convert t at kind a) = same_read a s (λ v next. tested at (converted (integer kind) v) (λ x. puts t x next))
+      (λ v. found t at (converted (integer kind) v) s) (λ v. same_found t at (converted (integer kind) v) s)
+  alike (S.AsPointer t at a) = same_read a s (λ v next. tested at (null_or_pointer v) (λ x. puts t x next)) (λ v. found t at (null_or_pointer v) s)
+      (λ v. same_found t at (null_or_pointer v) s)
+  alike (S.Number t at a) = same_read a s (λ v next. tested at (as_number v) (λ x. puts t x next)) (λ v. found t at (as_number v) s)
+      (λ v. same_found t at (as_number v) s)
   alike (S.Binary t at op kind right a b) = same_both a b s (λ v w next. tested at (binary op kind v right w) (λ x. puts t x next))
       (λ v w. found t at (binary op kind v right w) s) (λ v w. same_found t at (binary op kind v right w) s)
   alike (S.Compare t at op kind a b) = same_both a b s (λ v w next. memory_now (λ m. tested at (compared op m kind v w) (λ x. puts t x next)))
       (λ v w. found t at (compared op s.core.memory kind v w) s) (λ v w. record { shows = (same_found t at (compared op s.core.memory kind v w) s).shows })
-  alike (S.Move t at op size l r a b) = same_both a b s (λ v w next. memory_now (λ m. tested at (moved m op size l v r w) (λ x. puts t x next)))
-      (λ v w. found t at (moved s.core.memory op size l v r w) s)
-      (λ v w. record { shows = (same_found t at (moved s.core.memory op size l v r w) s).shows })
+  alike (S.Move t at op size left kind a b) =
+      same_both a b s (λ v w next. memory_now (λ m. tested at (moved_from left m op size kind v w) (λ x. puts t x next)))
+      (λ v w. found t at (moved_from left s.core.memory op size kind v w) s)
+      (λ v w. record { shows = (same_found t at (moved_from left s.core.memory op size kind v w) s).shows })
   alike (S.Distance t at size a b) = same_both a b s (λ v w next. tested at (distance size v w) (λ x. puts t x next))
       (λ v w. found t at (distance size v w) s) (λ v w. same_found t at (distance size v w) s)
   alike (S.Update t at op size sort right a b) =
@@ -143,13 +147,19 @@ module _ (s : State) where
   alike (S.Field t at by a) = same_read a s (λ v next. field_through at (pointer_of v) (pos by) (λ q. puts t (address q) next)) (λ v. through t at v (pos by) s)
       (λ v. through_same t at v (pos by))
   alike (S.ElementField t at size kind by a b) =
-      same_both a b s (λ v w next. field_through at (pointer_of v) (number_of kind (word_of w) *ℤ pos size +ℤ pos by) (λ q. puts t (address q) next))
-      (λ v w. through t at v (number_of kind (word_of w) *ℤ pos size +ℤ pos by) s)
-      (λ v w. through_same t at v (number_of kind (word_of w) *ℤ pos size +ℤ pos by))
+      same_both a b s
+      (λ v w next. tested at (as_word w) (λ n. field_through at (pointer_of v) (number_of kind n *ℤ pos size +ℤ pos by) (λ q. puts t (address q) next)))
+      (λ v w. number at w s (λ n. through t at v (number_of kind n *ℤ pos size +ℤ pos by) s))
+      (λ v w. same_finding at (as_word w) s
+      (λ n next. field_through at (pointer_of v) (number_of kind n *ℤ pos size +ℤ pos by) (λ q. puts t (address q) next))
+      (λ n. through t at v (number_of kind n *ℤ pos size +ℤ pos by) s) (λ n. through_same t at v (number_of kind n *ℤ pos size +ℤ pos by)))
   alike (S.Element t at n size addressed kind a b) =
-      same_both a b s (λ v w next. element_of at n size addressed (placed (pointer_of v)) (number_of kind (word_of w)) (λ q. puts t (address q) next))
-      (λ v w. element t at n addressed size (number_of kind (word_of w)) v s)
-      (λ v w. element_same t at n addressed size (number_of kind (word_of w)) v)
+      same_both a b s
+      (λ v w next. tested at (as_word w) (λ i. element_of at n size addressed (placed (pointer_of v)) (number_of kind i) (λ q. puts t (address q) next)))
+      (λ v w. number at w s (λ i. element t at n addressed size (number_of kind i) v s))
+      (λ v w. same_finding at (as_word w) s
+      (λ i next. element_of at n size addressed (placed (pointer_of v)) (number_of kind i) (λ q. puts t (address q) next))
+      (λ i. element t at n addressed size (number_of kind i) v s) (λ i. element_same t at n addressed size (number_of kind i) v))
   alike (S.Part t at by a) = same_read a s (λ v next. part_of at (pos by) (placed (pointer_of v)) (λ q. puts t (address q) next)) (λ v. part t at (pos by) v s)
       (λ v. part_same t at (pos by) v)
   alike (S.Inside t at x by) = record { shows = (inside_same t at by (slot s.core x)).shows }
@@ -179,8 +189,11 @@ module _ (s : State) where
             (λ z next. next s.callers s.routine (if (if is_true z then when else not when) then led s.routine to else s.more)) (λ z. jumps_if when to z s)
             (λ z. jump_same to (if is_true z then when else not when))).shows;
       })
-  alike (S.Case n a to) = same_read a s (λ v next. next s.callers s.routine (if n == word_of v then led s.routine to else s.more))
-      (λ v. if n == word_of v then goes (jumped to s) else goes s) (λ v. jump_same to (n == word_of v))
+  alike (S.Case n a to) = same_read a s
+      (λ v next. tested no_place (as_word v) (λ k. next s.callers s.routine (if n == k then led s.routine to else s.more)))
+      (λ v. number no_place v s (λ k. if n == k then goes (jumped to s) else goes s))
+      (λ v. same_finding no_place (as_word v) s (λ k next. next s.callers s.routine (if n == k then led s.routine to else s.more))
+      (λ k. if n == k then goes (jumped to s) else goes s) (λ k. jump_same to (n == k)))
   alike (S.Call t at f all) = same_row at s all.first all.count
       (λ vs next own. Run.calls (types_of s) (code_in s) next at f
       (record { to = t; routine = s.routine; more = s.more; frame = own } ∷ s.callers) (slice_get (code_in s).routines f) vs own)
@@ -196,21 +209,13 @@ module _ (s : State) where
   alike (S.Library t at which all) = same_row at s all.first all.count
       (λ vs next. LibraryCalls.library at which vs (λ v. Run.put_any t v (λ u. going s next)))
       (λ vs. library t at which vs s) (λ vs. library_same t s at which vs)
-  alike (S.Allocate t at r size all a) = same_read a s (λ n next. LibraryCalls.allocated at r size (word_of n) all (λ v. puts t v next))
-      (λ n. allocated t at size (word_of n) all s)
-      (λ n. same_if (nat_lt (word_of n * size) (2 ^ 28)) (Library.allocate (Some (r, word_of n)) (word_of n * size) all) (is_undefined K.Huge at) (puts t)
-      (same_doing (puts t) (λ v s. putting t v s) (allocate_part (Some (r, word_of n)) (word_of n * size) all s.core)
-      (λ v c. record { shows = (same_put t v (with_core c s)).shows }))
-      (record { shows = (same_undefined K.Huge at s).shows }))
-  alike (S.Begin x size) = same_doing (λ u. going s) (λ u s. goes s)
-      (bind_part {next = λ b. with_slot x (in_block (Some b))} {next' = λ b c. done tt (with_slot_in x (in_block (Some b)) c)}
-      (make_part size Kind.Local s.core)
-      (λ b c. with_slot_part x (in_block (Some b)) c))
+  alike (S.Allocate t at r size all a) = same_read a s (λ v next. LibraryCalls.allocated at r size v all (λ x. puts t x next))
+      (λ v. number at v s (λ n. allocated t at size n all s))
+      (λ v. same_finding at (as_word v) s (λ n next. LibraryCalls.allocated_count at r size n all (λ x. puts t x next)) (λ n. allocated t at size n all s)
+      (allocated_same t at r size all))
+  alike (S.Begin x size) = same_doing (λ u. going s) (λ u s. goes s) (begin_part x true size s.core)
       (λ u c. record { shows = (same_goes (with_core c s)).shows })
-  alike (S.End x) = record {
-    shows = (same_doing {s = s} (λ u. going s) (λ u s. goes s) (end_slot_part x (slot s.core x) s.core)
-        (λ u c. record { shows = (same_goes (with_core c s)).shows })).shows;
-  }
+  alike (S.End x) = same_doing (λ u. going s) (λ u s. goes s) (finish_part x s.core) (λ u c. record { shows = (same_goes (with_core c s)).shows })
   alike (S.Forget x size) = record {
     shows = (same_doing {s = s} (λ u. going s) (λ u s. goes s) (emptied_part x size (slot s.core x) s.core)
         (λ u c. record { shows = (same_goes (with_core c s)).shows })).shows;
@@ -226,7 +231,7 @@ module _ (s : State) where
   alike (S.Began f l) = same_doing (λ u. going s) (λ u s. goes s) (begun_part f l s.core) (λ u c. record { shows = (same_goes (with_core c s)).shows })
   alike (S.Return None) = record { shows = (returned_same None s.callers s).shows }
   alike (S.Return (Some a)) = same_read a s
-      (λ v next own w. Run.returns (types_of s) (code_in s) next s.callers (Some v) (record w { depth = less_deep w.depth; trace = left ∷ w.trace }))
+      (λ v next. Run.leaves (λ u own w. Run.returns (types_of s) (code_in s) next s.callers (Some v) w))
       (λ v. returned (Some v) s.callers s) (λ v. returned_same (Some v) s.callers s)
   alike (S.ReturnHeld t) = record { shows = (returned_same (value_in (slot s.core t)) s.callers s).shows }
   alike (S.Fail kind at) = record { shows = (same_undefined kind at s).shows }

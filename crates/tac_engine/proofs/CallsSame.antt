@@ -14,19 +14,21 @@ use Rattle.memory_words.specs.declared.cell_words.pointer.Ptr.TheVariants as P
 use Rattle.block_memory.specs.declared.kinds.BlockKind.TheVariants as Kind
 use Rattle.block_memory.specs.RunWorlds.Doing.{◌>>=◌, ◌>>◌, enter, less_deep}
 use Rattle.block_memory.specs.RunWorlds.Events.{left}
-use Rattle.block_memory.specs.RunWorlds.Worlds.{undefined as ends_undefined}
+use Rattle.block_memory.specs.RunWorlds.Worlds.{World, undefined as ends_undefined}
 use Rattle.block_memory.specs.declared.run_worlds.value.Value.{Value}
+use Rattle.block_memory.specs.declared.run_worlds.value.Value.TheVariants.{Word as word, Pointer as pointer}
 use Rattle.c_meaning.specs.Frames.{Frame, slot_now}
 use Rattle.c_meaning.specs.Program.{type_at}
+use Rattle.c_meaning.specs.Run.{end_by}
 use Rattle.c_meaning.specs.declared.frame.Slot.{Slot}
 use Rattle.c_meaning.specs.declared.frame.Slot.TheVariants.{ByName as by_name, InBlock as in_block}
-use Rattle.source_steps.specs.Agreeing.{world}
+use Rattle.source_steps.specs.Agreeing.{world, end_of}
 use Rattle.source_steps.specs.Calls.{received}
-use Rattle.source_steps.specs.Cores.{Core}
-use Rattle.source_steps.specs.Locals.{slot, begin_as}
+use Rattle.source_steps.specs.Cores.{Core, done}
+use Rattle.source_steps.specs.Locals.{slot, end_slot, finish, begin_as}
 use Rattle.source_steps.proofs.Calls.{agrees_left, enter_part}
-use Rattle.source_steps.proofs.Locals.{agrees_framed, with_slot_part}
-use Rattle.source_steps.proofs.Memories.{make_part, store_part}
+use Rattle.source_steps.proofs.Locals.{agrees_framed, with_slot_part, end_all_part}
+use Rattle.source_steps.proofs.Memories.{end_part, make_part, store_part}
 use Rattle.source_steps.proofs.Parts.{Part, pure_part, bind_part}
 use Rattle.tac_ir.specs.Code.{RoutineData, data_of}
 use Rattle.tac_ir.specs.Running as Run
@@ -35,13 +37,22 @@ use Rattle.tac_ir.specs.declared.step.Parameter.{Parameter}
 use Rattle.tac_ir.specs.declared.step.Routine.{Routine}
 use Rattle.tac_ir.specs.declared.step.Step.{Step}
 use Rattle.tac_engine.specs.States.{State, Moves, doing, goes, with_core}
-use Rattle.tac_engine.specs.Steps.{called, calls, calls_through, calls_typed, framed, receive, receive_one, returned, started, waiting}
+use Rattle.tac_engine.specs.Steps.{called, calls, calls_through, calls_typed, final_by, framed, gave_back, receive, receive_one, returned, started, waiting}
 use Rattle.tac_engine.proofs.Same.{Course, types_of, code_in, Same, Shows, going, same_doing, same_goes, same_undefined}
 
 -- ---- arguments
 
-begin_part : (x : ℕ) (block : Bool) (size : ℕ) (c : Core) → Part c (Run.begin x block size) (begin_as x block size c)
-begin_part x true size c = bind_part (make_part size Kind.Local c) (λ b d. with_slot_part x (in_block (Some b)) d)
+end_slot_part : (x : ℕ) (o : Option Slot) (c : Core) → Part c (Run.end_slot x o) (done tt (end_slot x o c))
+end_slot_part x (Some (in_block (Some b))) c = bind_part (end_part b c) (λ u d. with_slot_part x (in_block None) d)
+end_slot_part x (Some (in_block None)) c = pure_part tt c
+end_slot_part x (Some (by_name v)) c = pure_part tt c
+end_slot_part x None c = pure_part tt c
+
+pub finish_part : (x : ℕ) (c : Core) → Part c (slot_now x >>= Run.end_slot x) (done tt (finish x c))
+finish_part x c = record { gives = (end_slot_part x (slot c x) c).gives }
+
+pub begin_part : (x : ℕ) (block : Bool) (size : ℕ) (c : Core) → Part c (Run.begin x block size) (begin_as x block size c)
+begin_part x true size c = bind_part (bind_part (finish_part x c) (λ u d. make_part size Kind.Local d)) (λ b d. with_slot_part x (in_block (Some b)) d)
 begin_part x false size c = with_slot_part x (by_name None) c
 
 received_part : (at : Place) (x : ℕ) (r : Parameter) (v : Value) (o : Option Slot) (c : Core) → Part c (Run.received at x r v o) (received at x r.access v o c)
@@ -158,19 +169,26 @@ module _ (t : ℕ) (at : Place) (all : List Value) (s : State) where
 
 -- ---- returns
 
-pub returned_same : (v : Option Value) (callers : List Caller) (s : State)
-    → Same s (λ next own w. Run.returns (types_of s) (code_in s) next callers v (record w { depth = less_deep w.depth; trace = left ∷ w.trace }))
-    (returned v callers s)
-returned_same v [] s = record {
+final_is : (at : Place) (v : Option Value) (w : World) → end_by at v w ≡ end_of (final_by at v) w
+final_is at None w = refl
+final_is at (Some (word n)) w = refl
+final_is at (Some (pointer q)) w = refl
+
+abbrev out_of : World → World
+out_of w = record w { depth = less_deep w.depth; trace = left ∷ w.trace }
+
+gave_back_same : (v : Option Value) (callers : List Caller) (s : State)
+    → Same s (λ next own w. Run.returns (types_of s) (code_in s) next callers v (out_of w)) (gave_back v callers s)
+gave_back_same v [] s = record {
   shows = λ start input trace h. record {
     later = left ∷ trace;
-    does = λ next. refl;
+    does = λ next. final_is s.code.place v (out_of (world s.core input trace));
     agrees = agrees_left start s.core.frame s.core trace h;
     calls = refl;
     stays = (refl, refl);
   };
 }
-returned_same v (one ∷ callers) s = record {
+gave_back_same v (one ∷ callers) s = record {
   shows = λ start input trace h. record {
     later = left ∷ trace;
     does = λ next. refl;
@@ -178,4 +196,12 @@ returned_same v (one ∷ callers) s = record {
     calls = refl;
     stays = (refl, refl);
   };
+}
+
+-- behind the ends of its locals
+pub returned_same : (v : Option Value) (callers : List Caller) (s : State)
+    → Same s (λ next. Run.leaves (λ u own w. Run.returns (types_of s) (code_in s) next callers v w)) (returned v callers s)
+returned_same v callers s = record {
+  shows = (same_doing {s = s} (λ u next own w. Run.returns (types_of s) (code_in s) next callers v (out_of w)) (λ u s. gave_back v callers s)
+      (end_all_part s.core) (λ u c. record { shows = (gave_back_same v callers (with_core c s)).shows })).shows;
 }

@@ -5,6 +5,7 @@ use Rattle.lay_base.specs.declared.faults.UndefinedKind.TheVariants as K
 use Rattle.lay_base.specs.declared.place.Place.{Place}
 use Rattle.c_typed.specs.declared.operators.LibraryFunction.{LibraryFunction}
 use Rattle.c_typed.specs.declared.operators.LibraryFunction.TheVariants as L
+use Rattle.memory_words.specs.declared.cell_words.pointer.Ptr.{Ptr}
 use Rattle.block_memory.specs.Ranges as Ranges
 use Rattle.block_memory.specs.Tested as Tests
 use Rattle.block_memory.specs.Tested.{Tested}
@@ -12,21 +13,22 @@ use Rattle.block_memory.specs.RunWorlds.Doing.{tested}
 use Rattle.block_memory.specs.RunWorlds.Events.{Event, put, got}
 use Rattle.block_memory.specs.RunWorlds.Library as Library
 use Rattle.block_memory.specs.RunWorlds.LibraryCalls as LibraryCalls
-use Rattle.block_memory.specs.RunWorlds.Scalars.{word_of, pointer_of}
+use Rattle.block_memory.specs.RunWorlds.Scalars.{as_word, as_pointer}
 use Rattle.block_memory.specs.declared.run_worlds.value.Value.{Value}
 use Rattle.block_memory.specs.declared.run_worlds.value.Value.TheVariants.{Word, Pointer}
 use Rattle.c_meaning.specs.declared.frame.Slot.TheVariants.{ByName as by_name}
 use Rattle.source_steps.specs.Agreeing.{world, Agrees}
 use Rattle.source_steps.specs.Cores.{Core}
 use Rattle.source_steps.specs.Memories as Memories
-use Rattle.source_steps.specs.declared.ends.Moved.TheVariants.{Gets}
+use Rattle.source_steps.specs.declared.ends.Final.TheVariants.{Ends}
+use Rattle.source_steps.specs.declared.ends.Moved.TheVariants.{Gets, Over, Puts}
 use Rattle.source_steps.proofs.Locals.{agrees_framed}
 use Rattle.source_steps.proofs.Memories.{allocate_part, free_part, copy_part, fill_part}
 use Rattle.tac_ir.specs.Running as Run
 use Rattle.tac_ir.specs.Running.{with_temp}
-use Rattle.tac_engine.specs.States.{State, with_core, putting, putting_any, found, doing}
-use Rattle.tac_engine.specs.Steps.{copied, library}
-use Rattle.tac_engine.proofs.Same.{Course, Same, Shows, going, same_any, same_changing, same_doing, same_undefined}
+use Rattle.tac_engine.specs.States.{State, Moves, with_core, given, putting, putting_any, found, changing}
+use Rattle.tac_engine.specs.Steps.{address, copied, library, made, number}
+use Rattle.tac_engine.proofs.Same.{Course, Same, Shows, going, same_any, same_changing, same_doing, same_finding, same_undefined}
 
 module _ (t : ℕ) (s : State) where
   -- the temporary takes the value, if there is one, and the run goes on
@@ -35,36 +37,34 @@ module _ (t : ℕ) (s : State) where
 
   -- ---- allocations
 
-  allocated_same : (n : ℕ) (all : Bool)
-      → Same s (λ next. LibraryCalls.given (Library.allocate None n all) (λ v. gave v next)) (doing (Memories.allocate n all s.core) s (λ v s. putting t v s))
-  allocated_same n all = record {
+  made_same : (n : ℕ) (all : Bool) → Same s (λ next. LibraryCalls.given (Library.allocate None n all) (λ v. gave v next)) (made t n all s)
+  made_same n all = record {
     shows = (same_doing (λ v. gave (Some v)) (λ v s. putting t v s) (allocate_part None n all s.core)
         (λ v c. record { shows = (same_any t (Some v) (with_core c s)).shows })).shows;
   }
 
-  freed_same : (at : Place) (v : Value) → Same s (λ next. LibraryCalls.library at L.Free (v ∷ []) (λ v. gave v next)) (library t at L.Free (v ∷ []) s)
-  freed_same at v = record {
-    shows = (same_changing at (Memories.free (pointer_of v) s.core) (gave None) (λ s. putting_any t None s)
-        (free_part at (pointer_of v) s.core)
+  freed_same : (at : Place) (p : Ptr) → Same s (λ next. Library.free at p (λ u. gave None next))
+      (changing at (Memories.free p s.core) s (λ s. putting_any t None s))
+  freed_same at p = record {
+    shows = (same_changing at (Memories.free p s.core) (gave None) (λ s. putting_any t None s) (free_part at p s.core)
         (λ c. record { shows = (same_any t None (with_core c s)).shows })).shows;
   }
 
   -- ---- ranges
 
-  copied_same : (at : Place) (to from : Value) (n : ℕ) (overlap : Bool)
-      → Same s (λ next. LibraryCalls.given (Library.copy at (pointer_of to) (pointer_of from) n overlap) (λ v. gave v next)) (copied t at to from n overlap s)
-  copied_same at to from n overlap = record {
-    shows = (same_changing at (Memories.copy (pointer_of to) (pointer_of from) n overlap s.core)
-        (gave (Some (Pointer (pointer_of to)))) (λ s. putting t (Pointer (pointer_of to)) s) (copy_part at (pointer_of to) (pointer_of from) n overlap s.core)
-        (λ c. record { shows = (same_any t (Some (Pointer (pointer_of to))) (with_core c s)).shows })).shows;
+  copied_same : (at : Place) (p q : Ptr) (n : ℕ) (overlap : Bool) → Same s (λ next. LibraryCalls.given (Library.copy at p q n overlap) (λ v. gave v next))
+      (changing at (Memories.copy p q n overlap s.core) s (λ s. putting t (Pointer p) s))
+  copied_same at p q n overlap = record {
+    shows = (same_changing at (Memories.copy p q n overlap s.core) (gave (Some (Pointer p))) (λ s. putting t (Pointer p) s)
+        (copy_part at p q n overlap s.core)
+        (λ c. record { shows = (same_any t (Some (Pointer p)) (with_core c s)).shows })).shows;
   }
 
-  filled_same : (at : Place) (v c n : Value)
-      → Same s (λ next. LibraryCalls.library at L.Memset (v ∷ c ∷ n ∷ []) (λ v. gave v next)) (library t at L.Memset (v ∷ c ∷ n ∷ []) s)
-  filled_same at v c n = record {
-    shows = (same_changing at (Memories.fill (pointer_of v) (word_of c) (word_of n) s.core)
-        (gave (Some (Pointer (pointer_of v)))) (λ s. putting t (Pointer (pointer_of v)) s) (fill_part at (pointer_of v) (word_of c) (word_of n) s.core)
-        (λ d. record { shows = (same_any t (Some (Pointer (pointer_of v))) (with_core d s)).shows })).shows;
+  filled_same : (at : Place) (p : Ptr) (byte n : ℕ) → Same s (λ next. LibraryCalls.given (Library.fill at p byte n) (λ v. gave v next))
+      (changing at (Memories.fill p byte n s.core) s (λ s. putting t (Pointer p) s))
+  filled_same at p byte n = record {
+    shows = (same_changing at (Memories.fill p byte n s.core) (gave (Some (Pointer p))) (λ s. putting t (Pointer p) s) (fill_part at p byte n s.core)
+        (λ d. record { shows = (same_any t (Some (Pointer p)) (with_core d s)).shows })).shows;
   }
 
   order_same : (at : Place) (r : Tested ℤ) → Same s (λ next. tested at r (λ z. gave (Some (Word (cast_unsigned w32 z))) next))
@@ -82,13 +82,13 @@ module _ (t : ℕ) (s : State) where
   agrees_got start byte c trace h =
       record { few = h.few; live = h.live; shape = h.shape; entries = h.entries; begins = h.begins; all_entries = h.all_entries; all_begins = h.all_begins }
 
-  put_same : (at : Place) (v : Value) → Same s (λ next. LibraryCalls.library at L.Putchar (v ∷ []) (λ v. gave v next)) (library t at L.Putchar (v ∷ []) s)
-  put_same at v = record {
+  put_same : (n : ℕ) → Same s (λ next. LibraryCalls.given (Library.putchar n) (λ v. gave v next)) (Puts (n % 2 ^ 8), given t (Some (Word (n % 2 ^ 8))) s)
+  put_same n = record {
     shows = λ start input trace h. record {
-      later = put (word_of v % 2 ^ 8) ∷ trace;
+      later = put (n % 2 ^ 8) ∷ trace;
       does = λ next. refl;
-      agrees = agrees_framed start s.core (with_temp t (by_name (Some (Word (word_of v % 2 ^ 8)))) s.core.frame) (put (word_of v % 2 ^ 8) ∷ trace)
-          (agrees_put start (word_of v % 2 ^ 8) s.core trace h);
+      agrees = agrees_framed start s.core (with_temp t (by_name (Some (Word (n % 2 ^ 8)))) s.core.frame) (put (n % 2 ^ 8) ∷ trace)
+          (agrees_put start (n % 2 ^ 8) s.core trace h);
       calls = refl;
       stays = (refl, refl);
     };
@@ -116,8 +116,8 @@ module _ (t : ℕ) (s : State) where
   got_same : (at : Place) → Same s (λ next. LibraryCalls.library at L.Getchar [] (λ v. gave v next)) (library t at L.Getchar [] s)
   got_same at = record { shows = λ start input trace h. got_shows start input trace h }
 
-  exit_same : (at : Place) (v : Value) → Same s (λ next. LibraryCalls.library at L.Exit (v ∷ []) (λ v. gave v next)) (library t at L.Exit (v ∷ []) s)
-  exit_same at v = record {
+  exit_same : (n : ℕ) → Same s (λ next. Library.exit n (λ v. gave v next)) (Over (Ends (n % 2 ^ 8)), s)
+  exit_same n = record {
     shows = λ start input trace h. record {
       later = trace;
       does = λ next. refl;
@@ -127,19 +127,62 @@ module _ (t : ℕ) (s : State) where
     };
   }
 
+  -- ---- arguments are tested
+
+  number_same : (at : Place) (v : Value) (k : ℕ → Course) (k' : ℕ → Moves) → ((n : ℕ) → Same s (k n) (k' n))
+      → Same s (λ next. LibraryCalls.number at v (λ n. k n next)) (number at v s k')
+  number_same at v k k' h = same_finding at (as_word v) s k k' h
+
+  address_same : (at : Place) (v : Value) (k : Ptr → Course) (k' : Ptr → Moves) → ((p : Ptr) → Same s (k p) (k' p))
+      → Same s (λ next. LibraryCalls.address at v (λ p. k p next)) (address at v s k')
+  address_same at v k k' h = same_finding at (as_pointer v) s k k' h
+
+  -- of a range: two pointers and a number, or a pointer and two numbers
+  module _ (at : Place) (v w x : Value) where
+    pointers_same : (k : Ptr → Ptr → ℕ → Course) (k' : Ptr → Ptr → ℕ → Moves) → ((p q : Ptr) (n : ℕ) → Same s (k p q n) (k' p q n))
+        → Same s (λ next. LibraryCalls.address at v (λ p. LibraryCalls.address at w (λ q. LibraryCalls.number at x (λ n. k p q n next))))
+        (address at v s (λ p. address at w s (λ q. number at x s (λ n. k' p q n))))
+    pointers_same k k' h = address_same at v (λ p next. LibraryCalls.address at w (λ q. LibraryCalls.number at x (λ n. k p q n next)))
+        (λ p. address at w s (λ q. number at x s (λ n. k' p q n)))
+        (λ p. address_same at w (λ q next. LibraryCalls.number at x (λ n. k p q n next)) (λ q. number at x s (λ n. k' p q n))
+        (λ q. number_same at x (k p q) (k' p q) (h p q)))
+
+    numbers_same : (k : Ptr → ℕ → ℕ → Course) (k' : Ptr → ℕ → ℕ → Moves) → ((p : Ptr) (byte n : ℕ) → Same s (k p byte n) (k' p byte n))
+        → Same s (λ next. LibraryCalls.address at v (λ p. LibraryCalls.number at w (λ byte. LibraryCalls.number at x (λ n. k p byte n next))))
+        (address at v s (λ p. number at w s (λ byte. number at x s (λ n. k' p byte n))))
+    numbers_same k k' h = address_same at v (λ p next. LibraryCalls.number at w (λ byte. LibraryCalls.number at x (λ n. k p byte n next)))
+        (λ p. number at w s (λ byte. number at x s (λ n. k' p byte n)))
+        (λ p. number_same at w (λ byte next. LibraryCalls.number at x (λ n. k p byte n next)) (λ byte. number at x s (λ n. k' p byte n))
+        (λ byte. number_same at x (k p byte) (k' p byte) (h p byte)))
+
+    range_same : (overlap : Bool)
+        → Same s (λ next. LibraryCalls.address at v (λ p. LibraryCalls.address at w (λ q. LibraryCalls.number at x
+        (λ n. LibraryCalls.given (Library.copy at p q n overlap) (λ v. gave v next))))) (copied t at v w x overlap s)
+    range_same overlap = pointers_same (λ p q n next. LibraryCalls.given (Library.copy at p q n overlap) (λ v. gave v next))
+        (λ p q n. changing at (Memories.copy p q n overlap s.core) s (λ s. putting t (Pointer p) s)) (λ p q n. copied_same at p q n overlap)
+
   -- ---- all of it
 
   pub library_same : (at : Place) (which : LibraryFunction) (values : List Value)
       → Same s (λ next. LibraryCalls.library at which values (λ v. gave v next)) (library t at which values s)
-  library_same at L.Malloc (v ∷ []) = allocated_same (word_of v) false
-  library_same at L.Calloc (v ∷ w ∷ []) = allocated_same (word_of v * word_of w) true
-  library_same at L.Free (v ∷ []) = freed_same at v
-  library_same at L.Memcpy (v ∷ w ∷ n ∷ []) = copied_same at v w (word_of n) false
-  library_same at L.Memmove (v ∷ w ∷ n ∷ []) = copied_same at v w (word_of n) true
-  library_same at L.Memset (v ∷ c ∷ n ∷ []) = filled_same at v c n
-  library_same at L.Memcmp (v ∷ w ∷ n ∷ []) =
-      record { shows = (order_same at (Ranges.compare s.core.memory (pointer_of v) (pointer_of w) (word_of n))).shows }
-  library_same at L.Putchar (v ∷ []) = put_same at v
+  library_same at L.Malloc (v ∷ []) = number_same at v (λ n next. LibraryCalls.given (Library.allocate None n false) (λ v. gave v next))
+      (λ n. made t n false s) (λ n. made_same n false)
+  library_same at L.Calloc (v ∷ w ∷ []) = number_same at v
+      (λ n next. LibraryCalls.number at w (λ k. LibraryCalls.given (Library.allocate None (n * k) true) (λ v. gave v next)))
+      (λ n. number at w s (λ k. made t (n * k) true s))
+      (λ n. number_same at w (λ k next. LibraryCalls.given (Library.allocate None (n * k) true) (λ v. gave v next)) (λ k. made t (n * k) true s)
+      (λ k. made_same (n * k) true))
+  library_same at L.Free (v ∷ []) = address_same at v (λ p next. Library.free at p (λ u. gave None next))
+      (λ p. changing at (Memories.free p s.core) s (λ s. putting_any t None s)) (freed_same at)
+  library_same at L.Memcpy (v ∷ w ∷ x ∷ []) = range_same at v w x false
+  library_same at L.Memmove (v ∷ w ∷ x ∷ []) = range_same at v w x true
+  library_same at L.Memset (v ∷ w ∷ x ∷ []) = numbers_same at v w x (λ p byte n next. LibraryCalls.given (Library.fill at p byte n) (λ v. gave v next))
+      (λ p byte n. changing at (Memories.fill p byte n s.core) s (λ s. putting t (Pointer p) s)) (filled_same at)
+  library_same at L.Memcmp (v ∷ w ∷ x ∷ []) = pointers_same at v w x (λ p q n next. LibraryCalls.given (Library.compare at p q n) (λ v. gave v next))
+      (λ p q n. found t at (Memories.compare p q n s.core) s)
+      (λ p q n. record { shows = (order_same at (Ranges.compare s.core.memory p q n)).shows })
+  library_same at L.Putchar (v ∷ []) = number_same at v (λ n next. LibraryCalls.given (Library.putchar n) (λ v. gave v next))
+      (λ n. (Puts (n % 2 ^ 8), given t (Some (Word (n % 2 ^ 8))) s)) put_same
   library_same at L.Getchar [] = got_same at
-  library_same at L.Exit (v ∷ []) = exit_same at v
+  library_same at L.Exit (v ∷ []) = number_same at v (λ n next. Library.exit n (λ v. gave v next)) (λ n. (Over (Ends (n % 2 ^ 8)), s)) exit_same
   library_same at which values = record { shows = (same_undefined K.Call at s).shows }

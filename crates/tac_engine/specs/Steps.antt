@@ -12,8 +12,8 @@ use Rattle.c_typed.specs.declared.operators.LibraryFunction.{LibraryFunction}
 use Rattle.c_typed.specs.declared.operators.LibraryFunction.TheVariants as L
 use Rattle.memory_words.specs.declared.cell_words.pointer.Ptr.{Ptr}
 use Rattle.memory_words.specs.declared.cell_words.pointer.Ptr.TheVariants as P
-use Rattle.block_memory.specs.RunWorlds.Operators.{converted, is_true, flag, unary, binary, moved, distance, compared, updated}
-use Rattle.block_memory.specs.RunWorlds.Scalars.{word_of, pointer_of, load_in, store_in}
+use Rattle.block_memory.specs.RunWorlds.Operators.{converted, null_or_pointer, is_true, flag, unary, binary, moved_from, distance, compared, updated}
+use Rattle.block_memory.specs.RunWorlds.Scalars.{as_word, as_pointer, pointer_of, load_in, store_in}
 use Rattle.block_memory.specs.declared.run_worlds.value.Value.{Value}
 use Rattle.block_memory.specs.declared.run_worlds.value.Value.TheVariants.{Word as word, Pointer as pointer}
 use Rattle.c_meaning.specs.Program.{type_at}
@@ -22,12 +22,13 @@ use Rattle.c_meaning.specs.declared.frame.Slot.TheVariants.{ByName as by_name, I
 use Rattle.c_meaning.specs.declared.frame.Spot.TheVariants.{Placed as placed}
 use Rattle.source_steps.specs.Calls.{begun, enter, leave, received}
 use Rattle.source_steps.specs.Cores.{Core, Does, and_then, done}
-use Rattle.source_steps.specs.Locals.{slot, begin_as, finish, emptied}
+use Rattle.source_steps.specs.Locals.{slot, begin_as, finish, emptied, end_all}
 use Rattle.source_steps.specs.Memories.{allocate, changed, compare, copy, copy_record, fill, free, with_text, zeroed}
-use Rattle.source_steps.specs.declared.ends.Final.TheVariants.{Ends}
+use Rattle.source_steps.specs.declared.ends.Final.{Final}
+use Rattle.source_steps.specs.declared.ends.Final.TheVariants.{Ends, Undefined}
 use Rattle.source_steps.specs.declared.ends.Moved.TheVariants.{Puts, Gets, Over}
 use Rattle.tac_ir.specs.Code.{data_of}
-use Rattle.tac_ir.specs.Running.{Caller, empty_slot, no_place, status_of, type_of_sort, value_in}
+use Rattle.tac_ir.specs.Running.{Caller, as_number, empty_slot, no_place, type_of_sort, value_in}
 use Rattle.tac_ir.specs.declared.step.Parameter.{Parameter}
 use Rattle.tac_ir.specs.declared.step.Routine.{Routine}
 use Rattle.tac_ir.specs.declared.step.Step.{Step}
@@ -92,61 +93,82 @@ abbrev pub calls_through : (t : ℕ) → Place → (type : ℕ) → Ptr → List
 calls_through t at type (P.Function f) all s = calls_typed t at (type_at (program_data s.typed) type) f (slice_get s.code.routines f) all s
 calls_through t at type q all s = undefined K.Call at s
 
-abbrev pub returned : Option Value → List Caller → State → Moves
-returned v [] s = (Over (Ends (status_of v)), with_core (leave s.core.frame s.core) s)
-returned v (one ∷ callers) s = goes (record s {
+-- how the run ends where `main`, at that place, gives that: of a number, the low byte (own)
+abbrev pub final_by : Place → Option Value → Final
+final_by at None = Ends 0
+final_by at (Some (word v)) = Ends (v % 2 ^ 8)
+final_by at (Some (pointer q)) = Undefined K.Pointer at
+
+-- back in the frame of its caller
+abbrev pub gave_back : Option Value → List Caller → State → Moves
+gave_back v [] s = (Over (final_by s.code.place v), with_core (leave s.core.frame s.core) s)
+gave_back v (one ∷ callers) s = goes (record s {
   callers = callers;
   routine = one.routine;
   more = one.more;
   core = put_slot one.to (by_name v) (leave one.frame s.core);
 })
 
+-- what of its locals has begun ends first
+abbrev pub returned : Option Value → List Caller → State → Moves
+returned v callers s = gave_back v callers (with_core (end_all s.core.frame s.core) s)
+
 -- ---- the library. What is written or read outside is left to the run
 
-abbrev pub copied : (t : ℕ) → Place → (to from : Value) → (count : ℕ) → (overlap : Bool) → State → Moves
-copied t at to from n overlap s =
-    changing at (copy (pointer_of to) (pointer_of from) n overlap s.core) s (λ s. putting t (pointer (pointer_of to)) s)
+-- an argument is a number, or a pointer; they are tested in their order
+abbrev pub number : Place → Value → State → (ℕ → Moves) → Moves
+number at v s next = finding at (as_word v) s next
+
+abbrev pub address : Place → Value → State → (Ptr → Moves) → Moves
+address at v s next = finding at (as_pointer v) s next
+
+abbrev pub made : (t : ℕ) → (size : ℕ) → (zero : Bool) → State → Moves
+made t size zero s = doing (allocate size zero s.core) s (λ v s. putting t v s)
+
+abbrev pub copied : (t : ℕ) → Place → (to from count : Value) → (overlap : Bool) → State → Moves
+copied t at v w x overlap s = address at v s (λ p. address at w s (λ q. number at x s (λ n.
+    changing at (copy p q n overlap s.core) s (λ s. putting t (pointer p) s))))
 
 abbrev pub library : (t : ℕ) → Place → LibraryFunction → List Value → State → Moves
-library t at L.Malloc (v ∷ []) s = doing (allocate (word_of v) false s.core) s (λ v s. putting t v s)
-library t at L.Calloc (v ∷ w ∷ []) s = doing (allocate (word_of v * word_of w) true s.core) s (λ v s. putting t v s)
-library t at L.Free (v ∷ []) s = changing at (free (pointer_of v) s.core) s (λ s. putting_any t None s)
-library t at L.Memcpy (v ∷ w ∷ n ∷ []) s = copied t at v w (word_of n) false s
-library t at L.Memmove (v ∷ w ∷ n ∷ []) s = copied t at v w (word_of n) true s
-library t at L.Memset (v ∷ c ∷ n ∷ []) s =
-    changing at (fill (pointer_of v) (word_of c) (word_of n) s.core) s (λ s. putting t (pointer (pointer_of v)) s)
-library t at L.Memcmp (v ∷ w ∷ n ∷ []) s = found t at (compare (pointer_of v) (pointer_of w) (word_of n) s.core) s
-library t at L.Putchar (v ∷ []) s = (Puts (word_of v % 2 ^ 8), given t (Some (word (word_of v % 2 ^ 8))) s)
+library t at L.Malloc (v ∷ []) s = number at v s (λ n. made t n false s)
+library t at L.Calloc (v ∷ w ∷ []) s = number at v s (λ n. number at w s (λ k. made t (n * k) true s))
+library t at L.Free (v ∷ []) s = address at v s (λ p. changing at (free p s.core) s (λ s. putting_any t None s))
+library t at L.Memcpy (v ∷ w ∷ x ∷ []) s = copied t at v w x false s
+library t at L.Memmove (v ∷ w ∷ x ∷ []) s = copied t at v w x true s
+library t at L.Memset (v ∷ w ∷ x ∷ []) s = address at v s (λ p. number at w s (λ byte. number at x s (λ n.
+    changing at (fill p byte n s.core) s (λ s. putting t (pointer p) s))))
+library t at L.Memcmp (v ∷ w ∷ x ∷ []) s = address at v s (λ p. address at w s (λ q. number at x s (λ n. found t at (compare p q n s.core) s)))
+library t at L.Putchar (v ∷ []) s = number at v s (λ n. (Puts (n % 2 ^ 8), given t (Some (word (n % 2 ^ 8))) s))
 library t at L.Getchar [] s = (Gets, record s { to = t })
-library t at L.Exit (v ∷ []) s = (Over (Ends (word_of v % 2 ^ 8)), s)
+library t at L.Exit (v ∷ []) s = number at v s (λ n. (Over (Ends (n % 2 ^ 8)), s))
 library t at which all s = undefined K.Call at s
 
 -- so many records
 abbrev pub allocated : (t : ℕ) → Place → (size count : ℕ) → (zero : Bool) → State → Moves
 allocated t at size count zero s =
-    if nat_lt (count * size) (2 ^ 28) then doing (allocate (count * size) zero s.core) s (λ v s. putting t v s) else undefined K.Huge at s
+    if nat_lt (count * size) (2 ^ 28) then made t (count * size) zero s else undefined K.Huge at s
 
 -- ---- the steps
 
 abbrev pub enacted : Step → State → Moves
 enacted (S.Set t a) s = reading a s (λ v. putting t v s)
 enacted (S.Clear t) s = putting_any t None s
-enacted (S.Unary t op a) s = reading a s (λ v. putting t (unary op v) s)
-enacted (S.Truth t a) s = reading a s (λ v. putting t (flag (is_true v)) s)
+enacted (S.Unary t at op a) s = reading a s (λ v. found t at (unary op v) s)
 enacted (S.Not t a) s = reading a s (λ v. putting t (flag (not (is_true v))) s)
-enacted (S.Convert t kind a) s = reading a s (λ v. putting t (converted (integer kind) v) s)
-enacted (S.AsPointer t a) s = reading a s (λ v. putting t (pointer (pointer_of v)) s)
+enacted (S.Convert t at kind a) s = reading a s (λ v. found t at (converted (integer kind) v) s)
+enacted (S.AsPointer t at a) s = reading a s (λ v. found t at (null_or_pointer v) s)
+enacted (S.Number t at a) s = reading a s (λ v. found t at (as_number v) s)
 enacted (S.Binary t at op kind right a b) s = reading_both a b s (λ v w. found t at (binary op kind v right w) s)
 enacted (S.Compare t at op kind a b) s = reading_both a b s (λ v w. found t at (compared op s.core.memory kind v w) s)
-enacted (S.Move t at op size k l a b) s = reading_both a b s (λ v w. found t at (moved s.core.memory op size k v l w) s)
+enacted (S.Move t at op size left kind a b) s = reading_both a b s (λ v w. found t at (moved_from left s.core.memory op size kind v w) s)
 enacted (S.Distance t at size a b) s = reading_both a b s (λ v w. found t at (distance size v w) s)
 enacted (S.Update t at op size sort right a b) s =
     reading_both b a s (λ w v. found t at (updated s.core.memory op size (type_of_sort sort) v (integer right) w) s)
 enacted (S.Field t at by a) s = reading a s (λ v. through t at v (pos by) s)
 enacted (S.ElementField t at size kind by a b) s =
-    reading_both a b s (λ v w. through t at v (number_of kind (word_of w) *ℤ pos size +ℤ pos by) s)
+    reading_both a b s (λ v w. number at w s (λ n. through t at v (number_of kind n *ℤ pos size +ℤ pos by) s))
 enacted (S.Element t at n size addressed kind a b) s =
-    reading_both a b s (λ v w. element t at n addressed size (number_of kind (word_of w)) v s)
+    reading_both a b s (λ v w. number at w s (λ i. element t at n addressed size (number_of kind i) v s))
 enacted (S.Part t at by a) s = reading a s (λ v. part t at (pos by) v s)
 enacted (S.Inside t at x by) s = inside t at by (slot s.core x) s
 enacted (S.Load t at access a) s = reading a s (λ q. found t at (load_in s.core.memory (pointer_of q) access) s)
@@ -158,12 +180,12 @@ enacted (S.Jump to) s = goes (jumped to s)
 enacted (S.Branch when a to) s = reading a s (λ v. jumps_if when to v s)
 enacted (S.Test at op kind when a b to) s =
     reading_both a b s (λ v w. finding at (compared op s.core.memory kind v w) s (λ z. jumps_if when to z s))
-enacted (S.Case n a to) s = reading a s (λ v. if n == word_of v then goes (jumped to s) else goes s)
+enacted (S.Case n a to) s = reading a s (λ v. number no_place v s (λ k. if n == k then goes (jumped to s) else goes s))
 enacted (S.Call t at f all) s = with_found (read_row at all.first all.count s.core) s (λ vs. calls (Some t) at f vs s)
 enacted (S.CallThrough t at type a all) s =
     reading a s (λ v. with_found (read_row at all.first all.count s.core) s (λ vs. calls_through t at type (pointer_of v) vs s))
 enacted (S.Library t at which all) s = with_found (read_row at all.first all.count s.core) s (λ vs. library t at which vs s)
-enacted (S.Allocate t at r size zero a) s = reading a s (λ n. allocated t at size (word_of n) zero s)
+enacted (S.Allocate t at r size zero a) s = reading a s (λ v. number at v s (λ n. allocated t at size n zero s))
 enacted (S.Begin x size) s = doing (begin_as x true size s.core) s (λ u s. goes s)
 enacted (S.End x) s = goes (with_core (finish x s.core) s)
 enacted (S.Forget x size) s = goes (with_core (emptied x size (slot s.core x) s.core) s)

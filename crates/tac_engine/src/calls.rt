@@ -4,7 +4,7 @@ ghost use Rattle.std.specs.Prelude.{◌≡◌, IfOk, map};
 ghost use Rattle.source_state.specs.RoomView.{core_of};
 ghost use Rattle.tac_ir.specs.Running.{empty_slot};
 ghost use Rattle.tac_ir.specs.declared.step.Step.TheVariants as S;
-ghost use Rattle.tac_engine.specs.Steps.{calls, calls_through, enacted, main_called, receive, receive_one, returned, started, waiting};
+ghost use Rattle.tac_engine.specs.Steps.{calls, calls_through, enacted, final_by, main_called, receive, receive_one, returned, started, waiting};
 ghost use Rattle.tac_engine.specs.View.{state_of};
 
 use crate::engine::{Caller, Comes, Engine, NO_PLACE};
@@ -14,7 +14,7 @@ use c_meaning::Slot;
 use lay_base::{NoMemory, Place, UndefinedKind};
 use source_state::{Room, undefined};
 use source_steps::{Final, Moved};
-use source_values::{pointer_of, word_of};
+use source_values::pointer_of;
 use std::alloc::Global;
 use tac_ir::{Operand, Parameter, Routine, Row, Step};
 
@@ -76,6 +76,17 @@ fn receive(
         }
     }
     Ok(Ok(()))
+}
+
+/// How the run ends where `main`, at that place, gives a value or none.
+fn final_by(place: Place, v: Option<Value>) -> Final
+    ensures { result ≡ final_by place v }
+{
+    match v {
+        None => Final::Ends(0),
+        Some(Value::Word(word)) => Final::Ends((word % 0x100) as u8),
+        Some(Value::Pointer(_)) => Final::Undefined(UndefinedKind::Pointer, place),
+    }
 }
 
 impl<'a> Engine<'a> {
@@ -201,10 +212,11 @@ impl<'a> Engine<'a> {
         }
     }
 
-    /// The function that runs is left with a value, or none.
+    /// The function that runs is left with a value, or none, and with it what of its locals has begun.
     fn leave(&mut self, v: Option<Value>) -> Comes
         ensures { IfOk result (λ m. (m, state_of self.new) ≡ returned v (state_of self.old).callers (state_of self.old)) }
     {
+        self.room.end_all();
         match self.callers.pop() {
             Some(caller) => {
                 let Caller {
@@ -220,10 +232,7 @@ impl<'a> Engine<'a> {
             }
             None => {
                 self.room.depth = self.room.depth.saturating_sub(1);
-                Ok(Moved::Over(Final::Ends(match v {
-                    Some(v) => (word_of(v) % 0x100) as u8,
-                    None => 0,
-                })))
+                Ok(Moved::Over(final_by(self.code.place, v)))
             }
         }
     }

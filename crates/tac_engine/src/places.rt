@@ -15,9 +15,7 @@ use c_types::IntKind;
 use lay_base::{NoMemory, Place, UndefinedKind};
 use source_state::undefined;
 use source_steps::Moved;
-use source_values::{
-    bytes_of, field_in, is_subscript, number_of, part_in, pointer_of, way_to, word_of,
-};
+use source_values::{bytes_of, field_in, is_subscript, number_of, part_in, pointer_of, way_to};
 use std::alloc::Global;
 use tac_ir::{Operand, Step};
 
@@ -58,7 +56,8 @@ impl<'a> Engine<'a> {
             return Err(NoMemory);
         }
         match read_both(&self.room, a, b) {
-            Ok((v, w)) => self.through(t, place, v, way_to(kind, w, size, by)),
+            Ok((v, Value::Word(w))) => self.through(t, place, v, way_to(kind, w, size, by)),
+            Ok((_, Value::Pointer(_))) => Ok(undefined(UndefinedKind::Pointer, place)),
             Err(end) => Ok(Moved::Over(end)),
         }
     }
@@ -100,14 +99,14 @@ impl<'a> Engine<'a> {
             return Err(NoMemory);
         }
         match read_both(&self.room, a, b) {
-            Ok((v, w)) => {
-                let word = word_of(w);
+            Ok((v, Value::Word(word))) => {
                 if is_subscript(length, addressed, number_of(kind, word)) {
                     self.part_at(t, place, bytes_of(kind, word, size), v)
                 } else {
                     Ok(undefined(UndefinedKind::Subscript, place))
                 }
             }
+            Ok((_, Value::Pointer(_))) => Ok(undefined(UndefinedKind::Pointer, place)),
             Err(end) => Ok(Moved::Over(end)),
         }
     }

@@ -15,7 +15,7 @@ use c_types::IntKind;
 use lay_base::{NoMemory, Place, UndefinedKind};
 use source_state::{Room, Stack, undefined};
 use source_steps::Moved;
-use source_values::{Types, compared, flag, is_true, word_of};
+use source_values::{Types, compared, flag, is_true};
 use std::alloc::Global;
 use tac_ir::{Step, Tac, Target};
 
@@ -75,7 +75,8 @@ impl<'a> Engine<'a> {
                 Err(end) => Ok(Moved::Over(end)),
             },
             Step::Case(n, a, to) => match read(&self.room, a) {
-                Ok(v) => Ok(self.jump_if(true, to, flag(n == word_of(v)))),
+                Ok(Value::Word(v)) => Ok(self.jump_if(true, to, flag(n == v))),
+                Ok(Value::Pointer(_)) => Ok(undefined(UndefinedKind::Pointer, NO_PLACE)),
                 Err(end) => Ok(Moved::Over(end)),
             },
             Step::Fail(kind, at) => Ok(undefined(kind, at)),

@@ -5,7 +5,7 @@ ghost use Rattle.block_memory.specs.RunWorlds.Operators.{common_kind, pointer_op
 ghost use Rattle.block_memory.specs.View.{memory_of};
 ghost use Rattle.c_types.specs.Limits.{greatest_size};
 ghost use Rattle.c_types.specs.Types.{integer};
-ghost use Rattle.tac_ir.specs.Running.{type_of_sort};
+ghost use Rattle.tac_ir.specs.Running.{as_number, type_of_sort};
 ghost use Rattle.tac_ir.specs.declared.step.Step.TheVariants as S;
 ghost use Rattle.tac_engine.specs.States.{found, putting, putting_any};
 ghost use Rattle.tac_engine.specs.Steps.{enacted};
@@ -21,8 +21,7 @@ use lay_base::{NoMemory, Place, UndefinedKind};
 use source_state::undefined;
 use source_steps::Moved;
 use source_values::{
-    Sort as Conversion, binary, compared, convert, distance, flag, is_true, moved, pointer_of,
-    unary,
+    binary, compared, convert, distance, flag, is_true, moved, moved_from, null_or_pointer, unary,
 };
 use std::alloc::Global;
 use tac_ir::{Operand, Sort, Step};
@@ -67,18 +66,25 @@ fn updated(
     match sort {
         Sort::Number(kind) => {
             let common = common_kind(op, kind, right);
-            match binary(
-                op,
-                common,
-                convert(Conversion::Number(common), old),
-                right,
-                v,
-            ) {
-                Ok(new) => Ok(convert(Conversion::Number(kind), new)),
+            match convert(common, old) {
+                Ok(old) => match binary(op, common, old, right, v) {
+                    Ok(new) => convert(kind, new),
+                    Err(kind) => Err(kind),
+                },
                 Err(kind) => Err(kind),
             }
         }
-        Sort::Pointer => moved(store, pointer_op(op), size, IntKind::Int, old, right, v),
+        Sort::Pointer => moved(store, pointer_op(op), size, right, old, v),
+    }
+}
+
+/// A number as it is.
+fn number(v: Value) -> Result<Value, UndefinedKind>
+    ensures { result ≡ as_number v }
+{
+    match v {
+        Value::Word(_) => Ok(v),
+        Value::Pointer(_) => Err(UndefinedKind::Pointer),
     }
 }
 
@@ -134,8 +140,8 @@ impl<'a> Engine<'a> {
                 Ok((v, w)) => self.found(t, at, distance(size, v, w)),
                 Err(end) => Ok(Moved::Over(end)),
             },
-            Step::Move(t, at, op, size, left, right, a, b) => {
-                self.shift(t, at, op, size, left, right, a, b)
+            Step::Move(t, at, op, size, left, kind, a, b) => {
+                self.shift(t, at, op, size, left, kind, a, b)
             }
             Step::Update(t, at, op, size, sort, right, a, b) => {
                 self.update(t, at, op, size, sort, right, a, b)
@@ -155,24 +161,24 @@ impl<'a> Engine<'a> {
                 Err(end) => Ok(Moved::Over(end)),
             },
             Step::Clear(t) => self.put_any(t, None),
-            Step::Unary(t, op, a) => match read(&self.room, a) {
-                Ok(v) => self.put(t, unary(op, v)),
-                Err(end) => Ok(Moved::Over(end)),
-            },
-            Step::Truth(t, a) => match read(&self.room, a) {
-                Ok(v) => self.put(t, flag(is_true(v))),
+            Step::Unary(t, at, op, a) => match read(&self.room, a) {
+                Ok(v) => self.found(t, at, unary(op, v)),
                 Err(end) => Ok(Moved::Over(end)),
             },
             Step::Not(t, a) => match read(&self.room, a) {
                 Ok(v) => self.put(t, flag(!is_true(v))),
                 Err(end) => Ok(Moved::Over(end)),
             },
-            Step::Convert(t, kind, a) => match read(&self.room, a) {
-                Ok(v) => self.put(t, convert(Conversion::Number(kind), v)),
+            Step::Convert(t, at, kind, a) => match read(&self.room, a) {
+                Ok(v) => self.found(t, at, convert(kind, v)),
                 Err(end) => Ok(Moved::Over(end)),
             },
-            Step::AsPointer(t, a) => match read(&self.room, a) {
-                Ok(v) => self.put(t, Value::Pointer(pointer_of(v))),
+            Step::AsPointer(t, at, a) => match read(&self.room, a) {
+                Ok(v) => self.found(t, at, null_or_pointer(v)),
+                Err(end) => Ok(Moved::Over(end)),
+            },
+            Step::Number(t, at, a) => match read(&self.room, a) {
+                Ok(v) => self.found(t, at, number(v)),
                 Err(end) => Ok(Moved::Over(end)),
             },
             _ => self.enact_call(alloc, step),
@@ -186,19 +192,19 @@ impl<'a> Engine<'a> {
         place: Place,
         op: PointerOp,
         size: u32,
-        left: IntKind,
-        right: IntKind,
+        left: bool,
+        kind: IntKind,
         a: Operand,
         b: Operand,
     ) -> Comes
-        ensures { IfOk result (λ m. (m, state_of self.new) ≡ enacted (S.Move t place op size left right a b) (state_of self.old)) }
+        ensures { IfOk result (λ m. (m, state_of self.new) ≡ enacted (S.Move t place op size left kind a b) (state_of self.old)) }
     {
         if size > GREATEST_SIZE {
             return Err(NoMemory);
         }
         match read_both(&self.room, a, b) {
             Ok((v, w)) => {
-                let value = moved(&self.room.store, op, size, left, v, right, w);
+                let value = moved_from(&self.room.store, left, op, size, kind, v, w);
                 self.found(t, place, value)
             }
             Err(end) => Ok(Moved::Over(end)),
