@@ -54,11 +54,11 @@ fn put_value(out: &mut Writer, step: Step) {
             put_operand(out, a);
         }
         Step::Clear(t) => begin(out, t, "nothing"),
-        Step::Unary(t, op, a) => put_one(out, t, unary_text(op), a),
-        Step::Truth(t, a) => put_one(out, t, "truth", a),
+        Step::Unary(t, _, op, a) => put_one(out, t, unary_text(op), a),
         Step::Not(t, a) => put_one(out, t, "!", a),
-        Step::Convert(t, kind, a) => put_one(out, t, kind_text(kind), a),
-        Step::AsPointer(t, a) => put_one(out, t, "pointer", a),
+        Step::Convert(t, _, kind, a) => put_one(out, t, kind_text(kind), a),
+        Step::AsPointer(t, _, a) => put_one(out, t, "pointer", a),
+        Step::Number(t, _, a) => put_one(out, t, "number", a),
         Step::Binary(t, _, op, kind, _, a, b) => {
             put_two(out, t, binary_text(op), a, b);
             out.word(kind_text(kind));
