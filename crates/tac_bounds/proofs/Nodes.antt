@@ -7,12 +7,14 @@ use Rattle.c_types.specs.declared.ty.IntKind.{IntKind}
 use Rattle.c_types.specs.Layouts.{offset_of}
 use Rattle.c_types.specs.Types.{CType, void, integer, pointer as pointer_to, array, function, structure}
 use Rattle.c_typed.specs.Constants.{ty, kind_of}
+use Rattle.c_typed.specs.Conversions.{is_pointer}
 use Rattle.c_typed.specs.declared.operators.PointerOp.TheVariants.{Add}
 use Rattle.c_typed.specs.declared.program.Local.{Local}
 use Rattle.c_typed.specs.Programs.{ProgramData}
 use Rattle.c_typed.specs.Trees as T
 use Rattle.c_typed.specs.Trees.{Expression, expression, Node, Path, path, PathNode, Expressions, OptionalExpression}
 use Rattle.c_typed.specs.Typed.{at_of, path_ty}
+use Rattle.c_meaning.specs.Expressions.{count_kind}
 use Rattle.c_meaning.specs.Program.{type_at, size_at, access_at, element_size, length_of}
 use Rattle.tac_ir.specs.declared.step.Operand.{Operand}
 use Rattle.tac_ir.specs.declared.step.Operand.TheVariants as O
@@ -114,14 +116,12 @@ module _ (c : Prices) (most labels : ℕ) (p : ProgramData) (locals : List Local
 
   -- ---- loads, addresses and conversions
 
-  address_grows : (o : Option ℕ) (at : Place) {q : Part} {w f : ℕ} → Paid q w f → (to d : ℕ) (code : Steps) → to < most → Open to → length kinds ≤ d → d < most
-      → d + f ≤ most
-      → 0 < length code
-      → Made c.step (c.step + w) code (address_code p locals o at q to d code)
-  address_grows (Some x) at one_paid to d code h o u k i n =
-      let l = least one_paid d code n u k i in pay (omega (arith, l)) (one (S.Fail K.Dead at) code tt (omega arith) (tt, tt))
-  address_grows None at {q} one_paid to d code h o u k i n =
-      read_one one_paid d (S.AsPointer to (operand q d)) code tt (λ b. omega (arith, h, b)) (o, tt) u k i n
+  address_grows : (o : Option ℕ) (at : Place) (addressed : Bool) (q : Path ℕ) → PathGrows addressed q → (to d : ℕ) (code : Steps) → to < most → Open to
+      → length kinds ≤ d → d < most → d + F_path q ≤ most → 0 < length code
+      → Made c.step (c.step + W_path q) code (address_code p locals o at (path_code p locals addressed q) to d code)
+  address_grows (Some x) at addressed q grows to d code h o u k i n =
+      let l = least (place_paid addressed q grows) d code n u k i in pay (omega (arith, l)) (one (S.Fail K.Dead at) code tt (omega arith) (tt, tt))
+  address_grows None at addressed q grows to d code h o u k i n = pay (omega arith) (grows to d code h o u k i n)
 
   load_grows : (o : Option ℕ) → Parts.Below c most labels p locals roomy o → (t : ℕ) (at : Place) {q : Part} {w f : ℕ} → Paid q w f
       → (to d : ℕ) (code : Steps) → to < most → Open to → length kinds ≤ d → d < most → d + f ≤ most → 0 < length code
@@ -138,9 +138,9 @@ module _ (c : Prices) (most labels : ℕ) (p : ProgramData) (locals : List Local
   convert_grows void one_paid effect made to d code h o u k i n =
       pay (omega arith) (next (one (S.Clear to) code tt (omega (arith, h)) (o, tt)) (made (S.Clear to ∷ code) (omega arith)))
   convert_grows (integer kind) {x} one_paid effect made to d code h o u k i n =
-      pay (omega arith) (read_one one_paid d (S.Convert to kind (operand x d)) code tt (λ b. omega (arith, h, b)) (o, tt) u k i n)
+      pay (omega arith) (read_one one_paid d (S.Convert to x.at kind (operand x d)) code tt (λ b. omega (arith, h, b)) (o, tt) u k i n)
   convert_grows (pointer_to t) {x} one_paid effect made to d code h o u k i n =
-      pay (omega arith) (read_one one_paid d (S.AsPointer to (operand x d)) code tt (λ b. omega (arith, h, b)) (o, tt) u k i n)
+      pay (omega arith) (read_one one_paid d (S.AsPointer to x.at (operand x d)) code tt (λ b. omega (arith, h, b)) (o, tt) u k i n)
   convert_grows (array t z) {x} one_paid effect made to d code h o u k i n =
       pay (omega arith) (read_one one_paid d (S.Set to (operand x d)) code tt (λ b. omega (arith, h, b)) (o, tt) u k i n)
   convert_grows (function t all) {x} one_paid effect made to d code h o u k i n =
@@ -252,15 +252,15 @@ module _ (c : Prices) (most labels : ℕ) (p : ProgramData) (locals : List Local
     node_grows t at (T.load q) to d code h o u k i n =
         load_grows (named_root p locals q) (root q) t at (place_paid false q (path_grows false q)) to d code h o u k (omega (arith, i)) n
     node_grows t at (T.address_of q) to d code h o u k i n =
-        pay (omega arith) (address_grows (named_root p locals q) at (place_paid true q (path_grows true q)) to d code h o u k (omega (arith, i)) n)
+        pay (omega arith) (address_grows (named_root p locals q) at true q (path_grows true q) to d code h o u k (omega (arith, i)) n)
     node_grows t at (T.decay q) to d code h o u k i n =
-        address_grows (named_root p locals q) at (place_paid false q (path_grows false q)) to d code h o u k (omega (arith, i)) n
+        address_grows (named_root p locals q) at false q (path_grows false q) to d code h o u k (omega (arith, i)) n
     node_grows t at (T.convert e written) to d code h o u k i n =
         convert_grows (type_at p t) (value_paid e (value_grows e)) (effect_code p locals e d)
         (λ code n. effect_grows e d code u k (omega (arith, i)) n) to d code h o u k
         (omega (arith, i)) n
     node_grows t at (T.unary op x) to d code h o u k i n =
-        pay (omega arith) (read_one (value_paid x (value_grows x)) d (S.Unary to op (operand (part_of p locals x (value_code p locals x)) d)) code tt
+        pay (omega arith) (read_one (value_paid x (value_grows x)) d (S.Unary to at op (operand (part_of p locals x (value_code p locals x)) d)) code tt
         (λ b. omega (arith, h, b)) (o, tt) u k (omega (arith, i)) n)
     node_grows t at (T.binary op x y) to d code h o u k i n =
         pay (omega arith) (read_both (value_paid x (value_grows x)) (value_paid y (value_grows y)) d
@@ -274,9 +274,10 @@ module _ (c : Prices) (most labels : ℕ) (p : ProgramData) (locals : List Local
         u (omega (arith, i)) (omega (arith, i)) (omega (arith, i)) n)
     node_grows t at (T.pointer_add op x y) to d code h o u k i n =
         pay (omega arith) (read_both (value_paid x (value_grows x)) (value_paid y (value_grows y)) d
-        (λ a b. S.Move to at op (element_size p (type_at p t)) (kind_of (type_at p (ty x))) (kind_of (type_at p (ty y))) a b) c.step code
-        (λ a b ha hb. one (S.Move to at op (element_size p (type_at p t)) (kind_of (type_at p (ty x))) (kind_of (type_at p (ty y))) a b) code tt
-        (omega (arith, h, ha, hb)) (o, tt))
+        (λ a b. S.Move to at op (element_size p (type_at p t)) (is_pointer (type_at p (ty x)))
+        (count_kind (type_at p (ty x)) (type_at p (ty y))) a b) c.step code
+        (λ a b ha hb. one (S.Move to at op (element_size p (type_at p t)) (is_pointer (type_at p (ty x)))
+        (count_kind (type_at p (ty x)) (type_at p (ty y))) a b) code tt (omega (arith, h, ha, hb)) (o, tt))
         u (omega (arith, i)) (omega (arith, i)) (omega (arith, i)) n)
     node_grows t at (T.pointer_difference x y) to d code h o u k i n =
         pay (omega arith) (read_both (value_paid x (value_grows x)) (value_paid y (value_grows y)) d
@@ -481,8 +482,8 @@ module _ (c : Prices) (most labels : ℕ) (p : ProgramData) (locals : List Local
     way_grows addressed t at (T.deref e) to d code h o u k i n = pay (omega arith) (value_grows e to d code h o u k (omega (arith, i)) n)
     way_grows addressed t at (T.index e x) to d code h o u k i n =
         read_both (value_paid e (value_grows e)) (value_paid x (value_grows x)) d
-        (λ a b. S.Move to at Add (size_at p t) (kind_of (type_at p (ty e))) (kind_of (type_at p (ty x))) a b) c.step code
-        (λ a b ha hb. one (S.Move to at Add (size_at p t) (kind_of (type_at p (ty e))) (kind_of (type_at p (ty x))) a b) code tt (omega (arith, h, ha, hb))
+        (λ a b. S.Move to at Add (size_at p t) true (kind_of (type_at p (ty x))) a b) c.step code
+        (λ a b ha hb. one (S.Move to at Add (size_at p t) true (kind_of (type_at p (ty x))) a b) code tt (omega (arith, h, ha, hb))
         (o, tt))
         u (omega (arith, i)) (omega (arith, i)) (omega (arith, i)) n
     way_grows addressed t at (T.member q r field) to d code h o u k i n =

@@ -22,7 +22,7 @@ use Rattle.lower_tac.specs.Statements.{Out, before, here, with_loops, in_loop, i
 use Rattle.lower_tac.specs.Statements.{default_start, cases_code, dispatch_code, chosen_code, return_code, test_code, effect_if_any, record_code, put_code}
 use Rattle.lower_tac.specs.Statements.{parts_code}
 use Rattle.lower_tac.specs.Statements.{initial_code, declare_code, round, enters_by_test, enters_at_once, scoped_code, statement_code, statements_code}
-use Rattle.lower_tac.specs.Statements.{arms_code}
+use Rattle.lower_tac.specs.Statements.{arms_code, number_code}
 use Rattle.c_well_typed.specs.ProgramWeights.Weights.{weight, weight_of_path, weight_of_value, weight_of_parts, weight_of_initializer, weight_of_initial}
 use Rattle.c_well_typed.specs.ProgramWeights.Weights.{weight_if_any}
 use Rattle.c_well_typed.specs.ProgramWeights.Weights.{weight_of_labels, weight_of_statement, weight_of_statements, weight_of_arms}
@@ -141,6 +141,14 @@ module _ (c : Prices) (most : ℕ) (p : ProgramData) (g : ℕ) (locals : List Lo
       → Adds labels (weight_if_any (paid c) e) code (effect_if_any p g locals e code)
   step_grows None h labels code n = Grows.same c most kinds labels
   step_grows (Some e) h labels code n = effect_grows labels e code h n
+
+  -- the number of a `switch`
+  number_grows : (labels : ℕ) (e : Expression ℕ) (code : Steps) → room + weight temporaries e ≤ most → 0 < length code
+      → Adds labels (W c e) code (number_code p g locals e code)
+  number_grows labels e code h n =
+      Grows.pay c most kinds labels (omega arith) (Parts.read_one c most labels p locals low (value_paid labels e) room
+      (S.Number room (at_of e) (operand (part_of p locals e (value_code p locals e)) room))
+      code tt (λ b. omega (arith, roomy, b)) (open_room, tt) free roomy h n)
 
   return_grows : (labels : ℕ) (e : Option (Expression ℕ)) (way : ReturnWay) (code : Steps) → ReturnLeads (length code) labels way
       → room + weight_if_any temporaries e ≤ most → 0 < length code
@@ -422,8 +430,7 @@ module _ (c : Prices) (most : ℕ) (p : ProgramData) (g : ℕ) (locals : List Lo
         let inner = scoped_code p g locals own (λ x out. chosen_code (temp (at_of e) room) arms (here out)
         (arms_code p g locals arms (in_switch (here out) x) out))
         (in_switch (here out) x) out in
-        pay (omega arith) (next a (made inner.labels (Grows.held_grows c most kinds (length inner.labels) (value_paid (length inner.labels) e) room inner.code
-        (omega (arith, n, l)) free roomy (omega (arith, h)))))
+        pay (omega arith) (next a (made inner.labels (number_grows (length inner.labels) e inner.code (omega (arith, h)) (omega (arith, n, l)))))
     statement_grows T.break h x out n leads =
         made out.labels (Outs.exit_grows c most kinds p g locals roomy refl (length out.labels) x.on_break out.code leads.on_break)
     statement_grows T.continue h x out n leads =

@@ -8,14 +8,14 @@ use Rattle.tac_ir.specs.declared.step.Step.TheVariants as S
 abbrev pub taken_by : Step → Option ℕ
 taken_by (S.Set t a) = Some t
 taken_by (S.Clear t) = Some t
-taken_by (S.Unary t op a) = Some t
-taken_by (S.Truth t a) = Some t
+taken_by (S.Unary t at op a) = Some t
 taken_by (S.Not t a) = Some t
-taken_by (S.Convert t kind a) = Some t
-taken_by (S.AsPointer t a) = Some t
+taken_by (S.Convert t at kind a) = Some t
+taken_by (S.AsPointer t at a) = Some t
+taken_by (S.Number t at a) = Some t
 taken_by (S.Binary t at op kind right a b) = Some t
 taken_by (S.Compare t at op kind a b) = Some t
-taken_by (S.Move t at op size left right a b) = Some t
+taken_by (S.Move t at op size left kind a b) = Some t
 taken_by (S.Distance t at size a b) = Some t
 taken_by (S.Update t at op size sort right a b) = Some t
 taken_by (S.Field t at by a) = Some t
