@@ -8,7 +8,7 @@ use c_nodes::Fault;
 use lay_base::{Name, NoMemory, Place, Rule};
 
 /// A fault of the types of a file.
-#[derive(Debug, Drop)]
+#[derive(Drop)]
 pub enum CheckFault {
     /// A type passes a limit there.
     TooBig(Place),

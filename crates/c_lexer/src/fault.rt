@@ -1,7 +1,7 @@
 //! Lexical faults.
 
 /// The first lexical fault of a text, with the byte at which it stands.
-#[derive(Clone, Copy, Debug, PartialEq, Eq)]
+#[derive(Clone, Copy, Debug)]
 pub enum LexFault {
     BadByte(u32),
     BadLiteral(u32),

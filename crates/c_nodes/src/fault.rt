@@ -6,7 +6,7 @@ ghost use Rattle.c_nodes.specs.declared.fault.Fault.TheVariants.{Memory};
 use lay_base::{Name, NoMemory, Rule};
 
 /// A fault of a file. Places are bytes of the file.
-#[derive(Debug, Drop)]
+#[derive(Drop)]
 pub enum Fault {
     /// A type passes a limit there.
     TooBig(u32),

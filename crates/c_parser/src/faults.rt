@@ -3,7 +3,7 @@
 use lay_base::{Keyword, Place};
 
 /// Why a file has no tree.
-#[derive(Clone, Copy, Debug, PartialEq, Eq)]
+#[derive(Clone, Copy)]
 pub enum ParseFault {
     /// The tokens are no file's. The place is that of the token at which reading stopped, or the end
     /// of the file.

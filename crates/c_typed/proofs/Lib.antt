@@ -4,4 +4,3 @@ mod ExamplesOfTyped
 pub mod TypeLists
 pub mod Nulls
 pub mod RunCounts
-pub mod LoopTallies

@@ -18,4 +18,3 @@ pub mod TypeNumbers
 pub mod Programs
 pub mod AnswerViews
 pub mod RunCounts
-pub mod LoopTallies

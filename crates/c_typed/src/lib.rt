@@ -1,18 +1,16 @@
 //! Typed programs: what a C program is once its names are resolved, its types found and its conversions written. Which of their functions and loops
-//! are counted (`run_counts`), and their statements with the number of loops in each (`loop_tallies`).
+//! are counted (`run_counts`).
 //!
 //! It stands on `c_types`. Its definitions say which rule each node of a typed program keeps (C99 6.5 to 6.9); everything after the
-//! checker is said of these programs. It promises that counts have the order of their definition, and that a statement taken apart is that statement.
+//! checker is said of these programs. It promises that counts have the order of their definition.
 //!
-//! That every node of a program's functions keeps its rule is proved by `c_well_typed`. That a part of a statement with tallies is passed in a time that does
-//! not depend on its size is measured (`tools/bench_interp.py`), not proved.
+//! That every node of a program's functions keeps its rule is proved by `c_well_typed`.
 #![tactic(auto)]
 
 pub mod constants;
 mod conversions;
 mod expression;
 mod fits;
-mod loop_tallies;
 mod operators;
 mod program;
 mod rules;
@@ -27,10 +25,6 @@ pub use conversions::{
 };
 pub use expression::{Expression, ExpressionNode, Path, PathNode, TypeId};
 pub use fits::{Met, assigns, casts, compared, is_void, meeting, ordered};
-pub use loop_tallies::{
-    FirstArm, Form, TalliedArms, TalliedFunction, TalliedStatement, TalliedStatements, Tally,
-    function_at, tally_functions,
-};
 pub use operators::{BinaryOp, CompareOp, LibraryFunction, PointerOp, StepOp, UnaryOp};
 pub use program::{
     Function, Initial, InitialValue, Local, Mention, MentionKind, Object, Typed, Unit,
@@ -40,8 +34,8 @@ pub use rules::{
     is_stepped, moving, on_numbers, points_to_object, promoting, updating,
 };
 pub use run_counts::{
-    Counts, Defined, FunCount, function_count, loop_count, loops_of, loops_within, next_defined,
-    order_is_one, record_count,
+    Counts, Defined, FunCount, function_count, loop_count, loops_in_statements, loops_of,
+    loops_within, next_defined, order_is_one, record_count,
 };
 pub use statement::{Arm, Initializer, InitializerPart, PartValue, Statement};
 pub use values::{binary_value, holds, unary_value};

@@ -1,7 +1,7 @@
 //! Why a record is refused.
 
 /// Why a record is not added.
-#[derive(Clone, Copy, Debug, PartialEq, Eq)]
+#[derive(Clone, Copy)]
 pub enum RecordFault {
     /// Its size passes 16,777,216 bytes: the size, or `u64::MAX` where it passes that too.
     TooBig(u64),

@@ -4,7 +4,7 @@ use row_lines::{RowFault, head_of, is_comment};
 use std::alloc::Global;
 
 /// What is asked of files.
-#[derive(Clone, Copy, Debug, PartialEq, Eq)]
+#[derive(Clone, Copy, PartialEq, Eq)]
 pub enum Question {
     /// Whether each has a unit.
     Check,

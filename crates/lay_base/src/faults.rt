@@ -36,7 +36,7 @@ pub enum Keyword {
 }
 
 /// Why a step of a source run is undefined.
-#[derive(Clone, Copy, Debug, PartialEq, Eq)]
+#[derive(Clone, Copy)]
 pub enum UndefinedKind {
     Division,
     Shift,
@@ -59,7 +59,7 @@ pub enum UndefinedKind {
 }
 
 /// A typing rule that a program broke.
-#[derive(Clone, Copy, Debug, PartialEq, Eq)]
+#[derive(Clone, Copy, Debug)]
 pub enum Rule {
     Specifiers,
     Constant,
@@ -84,14 +84,14 @@ pub enum Rule {
 }
 
 /// What the interpreter ran out of: bytes of live blocks, or depth of calls.
-#[derive(Clone, Copy, Debug, PartialEq, Eq)]
+#[derive(Clone, Copy)]
 pub enum RoomKind {
     Live,
     Depth,
 }
 
 /// A limit on what is compiled or printed.
-#[derive(Clone, Copy, Debug, PartialEq, Eq)]
+#[derive(Clone, Copy, Debug)]
 pub enum LimitKind {
     Files,
     Nodes,
@@ -104,7 +104,7 @@ pub enum LimitKind {
 }
 
 /// In what a profile differs from the program.
-#[derive(Clone, Copy, Debug, PartialEq, Eq)]
+#[derive(Clone, Copy, Debug)]
 pub enum StaleKind {
     Functions,
     Order,
@@ -114,7 +114,7 @@ pub enum StaleKind {
 
 /// The first difference of a profile from the program: its kind, the number of the function at
 /// which it stands, the program's number and the profile's.
-#[derive(Clone, Copy, Debug, PartialEq, Eq)]
+#[derive(Clone, Copy)]
 pub struct Stale {
     pub kind: StaleKind,
     pub function: u32,
@@ -123,7 +123,7 @@ pub struct Stale {
 }
 
 /// Why the machine stopped at an instruction.
-#[derive(Clone, Copy, Debug, PartialEq, Eq)]
+#[derive(Clone, Copy)]
 pub enum TrapKind {
     Unmapped,
     Illegal,
@@ -133,7 +133,7 @@ pub enum TrapKind {
 }
 
 /// What the reader of ELF files tests, in its order.
-#[derive(Clone, Copy, Debug, PartialEq, Eq)]
+#[derive(Clone, Copy, Debug)]
 pub enum ElfField {
     Length,
     Magic,

@@ -1,5 +1,5 @@
 //! Want of memory.
 
 /// No memory was left. It is the one free answer: no contract says when it comes.
-#[derive(Clone, Copy, Debug, PartialEq, Eq)]
+#[derive(Clone, Copy)]
 pub struct NoMemory;

@@ -8,15 +8,15 @@ ghost use Rattle.lay_base.specs.Calls.{NextGives, PutGives, ReadGives, WriteGive
 ghost use Rattle.lay_base.specs.Known.{Contents, FilesKeep, FilesKeepBut, Raises};
 
 /// A source failed to give a byte.
-#[derive(Clone, Copy, Debug, PartialEq, Eq)]
+#[derive(Clone, Copy, PartialEq, Eq)]
 pub struct SourceFault;
 
 /// A sink failed to take a piece.
-#[derive(Clone, Copy, Debug, PartialEq, Eq)]
+#[derive(Clone, Copy)]
 pub struct SinkFault;
 
 /// Why a host gave no bytes.
-#[derive(Clone, Copy, Debug, PartialEq, Eq)]
+#[derive(Clone, Copy, PartialEq, Eq)]
 pub enum HostRead {
     /// The file has more bytes than the limit of the call.
     TooLong,
@@ -27,7 +27,7 @@ pub enum HostRead {
 }
 
 /// Why a host did not write a file.
-#[derive(Clone, Copy, Debug, PartialEq, Eq)]
+#[derive(Clone, Copy, PartialEq, Eq)]
 pub enum HostWrite {
     /// The file could not be written, or only a first part of it.
     Failed,

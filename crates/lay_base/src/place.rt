@@ -4,7 +4,7 @@ use crate::bytes::{Bytes, Name};
 use crate::list::List;
 
 /// Byte `at` of the file with that number, both counted from 0.
-#[derive(Clone, Copy, Debug, PartialEq, Eq)]
+#[derive(Clone, Copy)]
 pub struct Place {
     pub file: u16,
     pub at: u32,

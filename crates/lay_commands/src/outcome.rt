@@ -6,7 +6,7 @@ ghost use Rattle.lay_commands.specs.Status.{exit_status};
 use refusals::{Refusal, status_of_refusal};
 
 /// How a command ends: a program that it ran ended with a status, its work is done, or it is refused.
-#[derive(Debug, Drop)]
+#[derive(Drop)]
 pub enum Outcome {
     Program(u8),
     Done,

@@ -8,8 +8,7 @@ ghost use Rattle.lower_tac.specs.Drafts.{Drafted, DraftedTo, begun, out_in};
 ghost use Rattle.lower_tac.specs.Statements.{before, here, label_of, marked, with_label, with_loops};
 
 use crate::draft::Draft;
-use crate::loops::loops_in_statements;
-use c_typed::Statement;
+use c_typed::{Statement, loops_in_statements};
 use lay_base::{Bytes, add};
 use std::alloc::Global;
 use tac_ir::{Step, Target};

@@ -17,7 +17,6 @@ mod ground;
 mod initializers;
 mod laws;
 mod locals;
-mod loops;
 mod nodes;
 mod operands;
 mod scopes;

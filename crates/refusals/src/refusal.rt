@@ -6,7 +6,7 @@ use lay_base::{
 };
 
 /// Why a command ended without its result. A second place is the one of the first definition.
-#[derive(Debug, Drop)]
+#[derive(Drop)]
 pub enum Refusal {
     /// A byte that begins no token.
     BadByte(Place),

@@ -10,7 +10,7 @@ use std::alloc::Global;
 use std::io::{self, BufRead, Write};
 
 /// Why the answers end before the input does.
-#[derive(Debug, Drop)]
+#[derive(Drop)]
 pub enum Stopped {
     /// The line with this number, from 1 on, is no word.
     NoWord(u64),

@@ -3,7 +3,7 @@
 use lay_base::{Place, RoomKind, UndefinedKind};
 
 /// How a run ends.
-#[derive(Clone, Copy, Debug, PartialEq, Eq)]
+#[derive(Clone, Copy)]
 pub enum RunEnd {
     /// The program ended, with a status.
     Ends(u8),

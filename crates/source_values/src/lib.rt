@@ -1,8 +1,8 @@
 //! What operators make of values (C99 6.5), with the tests of pointers on a store, and what they ask of types: a table by their numbers, which is made once
 //! for a program.
 //!
-//! It stands on `c_types` and `c_typed` for sizes and arithmetic, on `memory_words`, `block_memory`, whose values these are, on `c_meaning`,
-//! whose definitions each of its calls computes, and on `c_typed`, whose tallies stand beside the table.
+//! It stands on `c_types` and `c_typed` for sizes and arithmetic, on `memory_words` and `block_memory`, whose values these are, and on `c_meaning`,
+//! whose definitions each of its calls computes.
 //!
 //! `Types::of` answers `NoMemory` too where the size of a type, or of what it points to or its elements are, passes 16,777,216 bytes; that the checker accepts
 //! no program with such a type is not proved here.

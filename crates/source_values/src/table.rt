@@ -1,7 +1,6 @@
-//! `Types`: a program, with all that is asked of its types, and with the loops in its statements.
+//! `Types`: a program, with all that is asked of its types.
 
-ghost use Rattle.std.specs.Prelude.{◌≡◌, ◌≤◌, IfOk, slice_get};
-ghost use Rattle.std.specs.Option.{option_map};
+ghost use Rattle.std.specs.Prelude.{◌≡◌, ◌≤◌, IfOk};
 ghost use Rattle.c_types.specs.Layouts.{offset_of};
 ghost use Rattle.c_types.specs.Limits.{greatest_size};
 ghost use Rattle.c_types.specs.Sameness.{same_type};
@@ -14,19 +13,17 @@ use crate::offsets::offset;
 use crate::pointed::points_to;
 use crate::row::TypeRow;
 use crate::rows::{row_at, row_of_void, rows};
-use c_typed::{TalliedFunction, Tally, Typed, function_at, tally_functions};
+use c_typed::Typed;
 use lay_base::NoMemory;
 use std::alloc::Global;
 use std::marker::Model;
 
-/// A program, with all that is asked of its types, and with the loops in its statements. Contracts see the program alone.
+/// A program, with all that is asked of its types. Contracts see the program alone.
 #[derive(Drop)]
 pub struct Types<'a> {
     typed: &'a Typed,
     // One for each type, so that no size is computed again.
     rows: Vec<TypeRow>,
-    // Those of each function, so that no loops are counted again.
-    tallies: Vec<Vec<Tally>>,
 }
 
 impl<'a> Model for Types<'a> {
@@ -37,33 +34,22 @@ impl<'a> Model for Types<'a> {
 
     ghost coded = { program.the_row.coded };
 
-    ghost use Rattle.std.specs.Prelude.{map, vec_items};
-    ghost use Rattle.c_typed.specs.Programs.{data_of, program_data};
-    ghost use Rattle.c_typed.specs.LoopTallies.Tallies.{AreTallied};
+    ghost use Rattle.c_typed.specs.Programs.{program_data};
     ghost use Rattle.source_values.specs.Rows.{AreRows};
 
     ghost view = { λ it. it.typed.now };
 
-    ghost invariant = { λ it. record {
-      rows : AreRows (program_data it.typed.now) it.rows.items;
-      tallies : AreTallied (map data_of it.typed.now.functions) (map vec_items it.tallies.items);
-    } };
+    ghost invariant = { λ it. AreRows (program_data it.typed.now) it.rows.items };
 }
 
 impl<'a> Types<'a> {
     /// The types of a program. `NoMemory` comes for want of memory; where the size of a type, or of what it points to or its elements
-    /// are, passes 16,777,216 bytes, or a type has no number of 32 bits: the checker accepts no program with such a type; and where a
-    /// function has 2^32 loops or statements.
+    /// are, passes 16,777,216 bytes, or a type has no number of 32 bits: the checker accepts no program with such a type.
     pub fn of(alloc: Global, typed: &'a Typed) -> Result<Types<'a>, NoMemory>
         ensures { IfOk result (λ types. types ≡ typed.entry.now) }
     {
         let rows = rows(alloc, typed)?;
-        let tallies = tally_functions(alloc, typed.functions.as_slice())?;
-        Ok(Types {
-            typed,
-            rows,
-            tallies,
-        })
+        Ok(Types { typed, rows })
     }
 
     /// The program.
@@ -71,13 +57,6 @@ impl<'a> Types<'a> {
         ensures { result.now ≡ self.now }
     {
         self.typed
-    }
-
-    /// The function of that number, with the loops in its statements.
-    pub fn function(&'a self, number: u32) -> Option<TalliedFunction<'a>>
-        ensures { option_map (λ g. g.function.now) result ≡ slice_get self.entry.now.functions number }
-    {
-        function_at(&self.typed.functions, &self.tallies, number)
     }
 
     /// What is kept of the type with that number, which is `void` past the end.

@@ -35,8 +35,8 @@ use Rattle.tac_ir.specs.Running.{address, as_number, does, no_place, type_in, ty
 use Rattle.tac_ir.specs.declared.step.Step.{Step}
 use Rattle.tac_ir.specs.declared.step.Step.TheVariants as S
 use Rattle.tac_ir.specs.declared.step.Target.{Target}
-use Rattle.tac_engine.specs.States.{State, goes, with_core, putting, found, finding, jumped, jumps_if, through, part, element, read_row, with_found}
-use Rattle.tac_engine.specs.Steps.{allocated, calls, calls_through, enacted, inside, library, number, returned, written}
+use Rattle.tac_engine.specs.States.{State, goes, with_core, putting, found, finding, number, jumped, jumps_if, through, part, element, read_row, with_found}
+use Rattle.tac_engine.specs.Steps.{allocated, calls, calls_through, enacted, inside, library, returned, written}
 use Rattle.tac_engine.proofs.CallsSame.{begin_part, calls_same, calls_through_same, finish_part, returned_same}
 use Rattle.tac_engine.proofs.LibrarySame.{library_same}
 use Rattle.tac_engine.proofs.Same.{Course, types_of, code_in, Same, going, same_any, same_both, same_changing, same_doing, same_finding, same_found, same_goes}

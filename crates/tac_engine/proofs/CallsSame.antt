@@ -40,7 +40,7 @@ use Rattle.tac_engine.specs.States.{State, Moves, doing, goes, with_core}
 use Rattle.tac_engine.specs.Steps.{called, calls, calls_through, calls_typed, final_by, framed, gave_back, receive, receive_one, returned, started, waiting}
 use Rattle.tac_engine.proofs.Same.{Course, types_of, code_in, Same, Shows, going, same_doing, same_goes, same_undefined}
 
--- ---- arguments
+-- ---- blocks of locals
 
 end_slot_part : (x : ℕ) (o : Option Slot) (c : Core) → Part c (Run.end_slot x o) (done tt (end_slot x o c))
 end_slot_part x (Some (in_block (Some b))) c = bind_part (end_part b c) (λ u d. with_slot_part x (in_block None) d)
@@ -54,6 +54,8 @@ finish_part x c = record { gives = (end_slot_part x (slot c x) c).gives }
 pub begin_part : (x : ℕ) (block : Bool) (size : ℕ) (c : Core) → Part c (Run.begin x block size) (begin_as x block size c)
 begin_part x true size c = bind_part (bind_part (finish_part x c) (λ u d. make_part size Kind.Local d)) (λ b d. with_slot_part x (in_block (Some b)) d)
 begin_part x false size c = with_slot_part x (by_name None) c
+
+-- ---- arguments
 
 received_part : (at : Place) (x : ℕ) (r : Parameter) (v : Value) (o : Option Slot) (c : Core) → Part c (Run.received at x r v o) (received at x r.access v o c)
 received_part at x r v (Some (in_block (Some b))) c = store_part at (P.Block b 0) r.access v c

@@ -26,8 +26,8 @@ use Rattle.source_steps.proofs.Locals.{agrees_framed}
 use Rattle.source_steps.proofs.Memories.{allocate_part, free_part, copy_part, fill_part}
 use Rattle.tac_ir.specs.Running as Run
 use Rattle.tac_ir.specs.Running.{with_temp}
-use Rattle.tac_engine.specs.States.{State, Moves, with_core, given, putting, putting_any, found, changing}
-use Rattle.tac_engine.specs.Steps.{address, copied, library, made, number}
+use Rattle.tac_engine.specs.States.{State, Moves, with_core, given, putting, putting_any, found, number, address, changing}
+use Rattle.tac_engine.specs.Steps.{copied, library, made}
 use Rattle.tac_engine.proofs.Same.{Course, Same, Shows, going, same_any, same_changing, same_doing, same_finding, same_undefined}
 
 module _ (t : ℕ) (s : State) where

@@ -4,10 +4,11 @@ use Rattle.lay_base.specs.declared.faults.UndefinedKind.{UndefinedKind}
 use Rattle.lay_base.specs.declared.faults.UndefinedKind.TheVariants as K
 use Rattle.lay_base.specs.declared.place.Place.{Place}
 use Rattle.c_typed.specs.declared.program.Typed.{Typed}
+use Rattle.memory_words.specs.declared.cell_words.pointer.Ptr.{Ptr}
 use Rattle.memory_words.specs.declared.cell_words.pointer.Ptr.TheVariants as P
 use Rattle.block_memory.specs.Tested.{Tested}
 use Rattle.block_memory.specs.RunWorlds.Operators.{is_true}
-use Rattle.block_memory.specs.RunWorlds.Scalars.{pointer_of}
+use Rattle.block_memory.specs.RunWorlds.Scalars.{as_word, as_pointer, pointer_of}
 use Rattle.block_memory.specs.declared.run_worlds.value.Value.{Value}
 use Rattle.block_memory.specs.declared.run_worlds.value.Value.TheVariants.{Word as word, Pointer as pointer}
 use Rattle.c_meaning.specs.Expressions.{field_in, is_subscript, part_in}
@@ -117,6 +118,13 @@ finding at (Err kind) s next = undefined kind at s
 
 abbrev pub found : (t : ℕ) → Place → Tested Value → State → Moves
 found t at r s = finding at r s (λ v. putting t v s)
+
+-- a value that has to be a number, or a pointer
+abbrev pub number : Place → Value → State → (ℕ → Moves) → Moves
+number at v s next = finding at (as_word v) s next
+
+abbrev pub address : Place → Value → State → (Ptr → Moves) → Moves
+address at v s next = finding at (as_pointer v) s next
 
 abbrev pub in_core : {A : Type 0} → Result A Final → Core → State → (A → State → Moves) → Moves
 in_core (Ok x) c s next = next x (with_core c s)

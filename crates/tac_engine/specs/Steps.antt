@@ -13,7 +13,7 @@ use Rattle.c_typed.specs.declared.operators.LibraryFunction.TheVariants as L
 use Rattle.memory_words.specs.declared.cell_words.pointer.Ptr.{Ptr}
 use Rattle.memory_words.specs.declared.cell_words.pointer.Ptr.TheVariants as P
 use Rattle.block_memory.specs.RunWorlds.Operators.{converted, null_or_pointer, is_true, flag, unary, binary, moved_from, distance, compared, updated}
-use Rattle.block_memory.specs.RunWorlds.Scalars.{as_word, as_pointer, pointer_of, load_in, store_in}
+use Rattle.block_memory.specs.RunWorlds.Scalars.{pointer_of, load_in, store_in}
 use Rattle.block_memory.specs.declared.run_worlds.value.Value.{Value}
 use Rattle.block_memory.specs.declared.run_worlds.value.Value.TheVariants.{Word as word, Pointer as pointer}
 use Rattle.c_meaning.specs.Program.{type_at}
@@ -34,7 +34,7 @@ use Rattle.tac_ir.specs.declared.step.Routine.{Routine}
 use Rattle.tac_ir.specs.declared.step.Step.{Step}
 use Rattle.tac_ir.specs.declared.step.Step.TheVariants as S
 use Rattle.tac_engine.specs.States.{State, Moves, goes, undefined, with_core, putting, putting_any, given, put_slot, read_row, with_found, reading}
-use Rattle.tac_engine.specs.States.{reading_both, finding, found}
+use Rattle.tac_engine.specs.States.{reading_both, finding, found, number, address}
 use Rattle.tac_engine.specs.States.{doing, changing, jumped, jumps_if, through, part, element}
 
 -- ---- blocks of locals
@@ -113,14 +113,7 @@ gave_back v (one ∷ callers) s = goes (record s {
 abbrev pub returned : Option Value → List Caller → State → Moves
 returned v callers s = gave_back v callers (with_core (end_all s.core.frame s.core) s)
 
--- ---- the library. What is written or read outside is left to the run
-
--- an argument is a number, or a pointer; they are tested in their order
-abbrev pub number : Place → Value → State → (ℕ → Moves) → Moves
-number at v s next = finding at (as_word v) s next
-
-abbrev pub address : Place → Value → State → (Ptr → Moves) → Moves
-address at v s next = finding at (as_pointer v) s next
+-- ---- the library. Its arguments are tested in their order; what is written or read outside is left to the run
 
 abbrev pub made : (t : ℕ) → (size : ℕ) → (zero : Bool) → State → Moves
 made t size zero s = doing (allocate size zero s.core) s (λ v s. putting t v s)

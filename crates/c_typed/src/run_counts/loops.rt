@@ -32,7 +32,7 @@ fn loops_in_statement(s: &Statement) -> u32
 
 /// How many loops statements have; it stops at the greatest number.
 #[cycle(loop_walk)]
-fn loops_in_statements(all: &[Statement]) -> u32
+pub fn loops_in_statements(all: &[Statement]) -> u32
     ensures { result ≡ min (loops_in_all (statements_of (map statement_of all.now))) (2 ^ 32 - 1) }
 {
     let mut count: u32 = 0;

@@ -1,7 +1,7 @@
 //! Pointers.
 
 /// A pointer (C99 6.2.5).
-#[derive(Clone, Copy, Debug, PartialEq, Eq)]
+#[derive(Clone, Copy)]
 pub enum Ptr {
     Null,
     /// A block's number, and an offset in it, in bytes from 0 to the block's size.

@@ -1,3 +1,0 @@
-pub mod Starts
-pub mod Firsts
-pub mod ByNumber
