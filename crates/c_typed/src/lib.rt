@@ -35,7 +35,7 @@ pub use rules::{
 };
 pub use run_counts::{
     Counts, Defined, FunCount, function_count, loop_count, loops_in_statements, loops_of,
-    loops_within, next_defined, order_is_one, record_count,
+    loops_within, order_is_one, profile_order, record_count,
 };
 pub use statement::{Arm, Initializer, InitializerPart, PartValue, Statement};
 pub use values::{binary_value, holds, unary_value};

@@ -13,4 +13,4 @@ pub use counts::{Counts, FunCount};
 pub use laws::order_is_one;
 pub use loops::{loops_in_statements, loops_of, loops_within};
 pub use numbers::{function_count, loop_count, record_count};
-pub use order::{Defined, next_defined};
+pub use order::{Defined, profile_order};

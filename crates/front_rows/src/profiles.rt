@@ -6,8 +6,8 @@ ghost use Rattle.c_typed.specs.Programs.{data_of};
 
 use crate::answers::are_within_bounds;
 use crate::faults::{Spots, put_fault};
-use c_typed::{Counts, Function, Typed, loops_within};
-use lay_base::{Files, Stale};
+use c_typed::{Counts, Function, Typed, loops_within, profile_order};
+use lay_base::{Files, NoMemory, Stale};
 use lay_compile::front;
 use profile_file::{ProfileFault, fits, read, write};
 use row_lines::{Writer, head_of, is_comment};
@@ -119,13 +119,16 @@ fn are_few(functions: &[Function]) -> bool
     functions.len() <= MOST_FUNCTIONS && functions.iter().all(|f| loops_within(f) < u32::MAX)
 }
 
-fn put_fit(out: &mut Writer, counts: &Counts, program: &Typed) {
+fn put_fit(out: &mut Writer, alloc: Global, counts: &Counts, program: &Typed) {
     if !are_few(program.functions.as_slice()) {
         return out.word("too many functions or loops");
     }
-    match fits(counts, program) {
-        Ok(()) => out.word("fits"),
-        Err(difference) => put_difference(out, &difference),
+    match profile_order(alloc, program) {
+        Ok(order) => match fits(counts, program, order.as_slice()) {
+            Ok(()) => out.word("fits"),
+            Err(difference) => put_difference(out, &difference),
+        },
+        Err(NoMemory) => out.word("no memory"),
     }
 }
 
@@ -133,7 +136,7 @@ fn put_fit_of(out: &mut Writer, alloc: Global, text: &[u8], program: &Typed)
     requires { length text.now ≤ 67108864 }
 {
     match read(alloc, text) {
-        Ok(counts) => put_fit(out, &counts, program),
+        Ok(counts) => put_fit(out, alloc, &counts, program),
         Err(fault) => put_refusal(out, &fault),
     }
 }

@@ -4,11 +4,11 @@ ghost use Rattle.std.specs.Prelude.{◌≡◌, ◌<◌, ◌^◌, ◌≤◌, OnOk
 ghost use Rattle.std.specs.List.{All};
 ghost use Rattle.c_typed.specs.RunCounts.Counting.{name_at};
 ghost use Rattle.c_typed.specs.RunCounts.Loops.{loops_at, loops_of as loops_in_function};
-ghost use Rattle.c_typed.specs.RunCounts.Order.{defined_in};
+ghost use Rattle.c_typed.specs.RunCounts.Order.{defined_in, profile_order};
 ghost use Rattle.c_typed.specs.RunCounts.Stale.{functions_differ, loops_stale, names_in, order_stale, place_of, stale, unless_stale};
 ghost use Rattle.c_typed.specs.Programs.{data_of, program_data};
 
-use c_typed::{Counts, FunCount, Typed, function_count, loops_of, next_defined};
+use c_typed::{Counts, Defined, FunCount, Typed, function_count, loops_of};
 use lay_base::{Stale, StaleKind};
 
 /// The name of the function of that number.
@@ -66,14 +66,13 @@ fn functions_fit(c: &Counts, p: &Typed) -> Result<(), Stale>
 }
 
 /// Whether the names are the same at each place.
-fn names_fit(c: &Counts, p: &Typed) -> Result<(), Stale>
-    requires program { length p.now.functions < 2 ^ 32 }
+fn names_fit(c: &Counts, p: &Typed, order: &[Defined]) -> Result<(), Stale>
+    requires order { order.now ≡ profile_order (program_data p.now) }
     requires profile { length c.now.functions < 2 ^ 32 }
     ensures { result ≡ unless_stale (order_stale c.now (program_data p.now)) }
 {
-    let mut last = None;
     for (i, f) in c.functions.as_slice().iter().enumerate() {
-        let Some(next) = next_defined(p, last) else {
+        let Some(next) = order.get(i) else {
             return Ok(());
         };
         let name = name_at(p, next.number);
@@ -85,21 +84,19 @@ fn names_fit(c: &Counts, p: &Typed) -> Result<(), Stale>
                 found: place_of(c.functions.as_slice(), name) as u64,
             });
         }
-        last = Some(next);
     }
     Ok(())
 }
 
 /// Whether the numbers of loops are the same at each place.
-fn loops_fit(c: &Counts, p: &Typed) -> Result<(), Stale>
-    requires program { length p.now.functions < 2 ^ 32 }
+fn loops_fit(c: &Counts, p: &Typed, order: &[Defined]) -> Result<(), Stale>
+    requires order { order.now ≡ profile_order (program_data p.now) }
     requires profile { length c.now.functions < 2 ^ 32 }
     requires loops { (number : ℕ) → loops_at (program_data p.now) number < 2 ^ 32 }
     ensures { result ≡ unless_stale (loops_stale c.now (program_data p.now)) }
 {
-    let mut last = None;
     for (i, f) in c.functions.as_slice().iter().enumerate() {
-        let Some(next) = next_defined(p, last) else {
+        let Some(next) = order.get(i) else {
             return Ok(());
         };
         let expected = u64::from(loops_at(p, next.number));
@@ -112,19 +109,19 @@ fn loops_fit(c: &Counts, p: &Typed) -> Result<(), Stale>
                 found,
             });
         }
-        last = Some(next);
     }
     Ok(())
 }
 
-/// Whether counts are those of a program's functions and loops: in number, by name and in order, else the first difference. It takes no
-/// memory.
-pub fn fits(c: &Counts, p: &Typed) -> Result<(), Stale>
+/// Whether counts are those of a program's functions and loops: in number, by name and in order, else the first difference. The order of
+/// the program's functions is made by `profile_order`. It takes no memory.
+pub fn fits(c: &Counts, p: &Typed, order: &[Defined]) -> Result<(), Stale>
+    requires order { order.now ≡ profile_order (program_data p.now) }
     requires functions { length p.now.functions < 2 ^ 32 }
     requires loops { All (λ f. loops_in_function (data_of f) < 2 ^ 32) p.now.functions }
     ensures { result ≡ unless_stale (stale c.now (program_data p.now)) }
 {
     functions_fit(c, p)?;
-    names_fit(c, p)?;
-    loops_fit(c, p)
+    names_fit(c, p, order)?;
+    loops_fit(c, p, order)
 }

@@ -7,7 +7,7 @@ ghost use Rattle.source_state.specs.CountsView.{counting_of};
 ghost use Rattle.source_start.specs.Counted.{begin_in, entry_in};
 
 use crate::counters::{begin, entry, loops_at};
-use c_typed::{Counts, FunCount, Typed, next_defined};
+use c_typed::{Counts, FunCount, Typed, profile_order};
 use lay_base::{List, Name, NoMemory, add};
 use source_state::Counters;
 use std::alloc::Global;
@@ -61,12 +61,11 @@ fn counts_of(alloc: Global, p: &Typed, counters: &Counters) -> Result<Counts, No
     ensures { IfOk result (λ counts. counts ≡
         counts_by (entry_in (counting_of counters.now)) (begin_in (counting_of counters.now)) (program_data p.now)) }
 {
+    let order = profile_order(alloc, p)?;
     let mut functions = List::new(alloc);
-    let mut last = None;
-    while let Some(next) = next_defined(p, last) {
-        let count = count_at(alloc, p, counters, next.number)?;
+    for f in order.as_slice() {
+        let count = count_at(alloc, p, counters, f.number)?;
         add(&mut functions, count)?;
-        last = Some(next);
     }
     Ok(Counts { functions })
 }

@@ -25,10 +25,11 @@ use Rattle.lower_tac.specs.Expressions.{assign_named, assign_code, assign_op_cod
 use Rattle.lower_tac.specs.Expressions.{value_code, node_code}
 use Rattle.lower_tac.specs.Expressions.{effect_code, branch_code, path_code}
 use Rattle.c_well_typed.specs.ProgramWeights.Weights.{weight, weight_of_node, weight_of_path}
-use Rattle.tac_bounds.specs.Jumps.{target_of}
-use Rattle.tac_bounds.specs.Kinds.{KeepsKinds}
+use Rattle.tac_ir.specs.Jumps.{target_of}
+use Rattle.tac_ir.specs.Kinds.{KeepsKinds}
 use Rattle.tac_bounds.specs.Prices.{Prices, price_of, paid}
-use Rattle.tac_bounds.specs.Temporaries.{top, top_of, temporaries}
+use Rattle.tac_ir.specs.Temporaries.{top, top_of}
+use Rattle.tac_bounds.specs.Temporaries.{temporaries}
 use Rattle.tac_bounds.proofs.Grows as Grows
 use Rattle.tac_bounds.proofs.Grows.{Leads, leads_later}
 

@@ -18,13 +18,14 @@ use Rattle.lower_tac.specs.Statements.{routines_from, lowered}
 use Rattle.c_well_typed.specs.ProgramWeights.Counted.{Kind, statement, code, frame, definition}
 use Rattle.c_well_typed.specs.ProgramWeights.Counted as Kinds
 use Rattle.c_well_typed.specs.ProgramWeights.Weights.{weight_of_parameters, weight_of_body, weight_of_function, weight_of_functions}
-use Rattle.tac_bounds.specs.Jumps.{IsInside, target_of, LeadsInsideIfAny, JumpsWithin}
-use Rattle.tac_bounds.specs.Kinds.{KeepsKinds, KindsWithin}
+use Rattle.tac_ir.specs.Jumps.{IsInside, target_of, LeadsInsideIfAny, JumpsWithin}
+use Rattle.tac_ir.specs.Kinds.{KeepsKinds, KindsWithin}
 use Rattle.tac_bounds.specs.Laws.{IsRoutineOf, HasFewLabels, JumpsStand, KindsStand, LabelsAreFew, CodeIsPaid, StepsAreFew, BytesAreWithin, ProgramsAreWithin}
 use Rattle.tac_bounds.specs.Laws.{ProgramsHaveFewSteps, steps_in, TemporariesAreFew, FramesAreWithin}
 use Rattle.tac_bounds.specs.Prices.{Prices, in_steps, AreBytes, paid, price_of, price_of_all, price_of_code, price_of_routines}
 use Rattle.tac_bounds.specs.Scopes.{HasScopes, IsScopedBody}
-use Rattle.tac_bounds.specs.Temporaries.{top_of_all, temporaries}
+use Rattle.tac_ir.specs.Temporaries.{top_of_all}
+use Rattle.tac_bounds.specs.Temporaries.{temporaries}
 use Rattle.tac_bounds.proofs.Grows.{Each, each_all, LeadsIfAny, AllFit}
 use Rattle.tac_bounds.proofs.Outs as Outs
 use Rattle.tac_bounds.proofs.Outs.{each, scope_price}

@@ -9,10 +9,10 @@ use Rattle.tac_ir.specs.declared.step.Target.{Target}
 use Rattle.tac_ir.specs.declared.step.Target.TheVariants as To
 use Rattle.lower_tac.specs.Parts.{Steps, Part, temp, or_temp, operand, unless_any, code_of, tested_if, held, fixed, settled, settled_operand, left_code}
 use Rattle.lower_tac.specs.Parts.{left_operand, both_code}
-use Rattle.tac_bounds.specs.Jumps.{IsInside, target_of}
-use Rattle.tac_bounds.specs.Kinds.{KeepsKinds}
+use Rattle.tac_ir.specs.Jumps.{IsInside, target_of}
+use Rattle.tac_ir.specs.Kinds.{KeepsKinds}
 use Rattle.tac_bounds.specs.Prices.{Prices, price_of, price_of_all}
-use Rattle.tac_bounds.specs.Temporaries.{top, top_of}
+use Rattle.tac_ir.specs.Temporaries.{top, top_of}
 
 abbrev pub Each : {A : Type 0} → (A → Type 0) → List A → Type 0
 Each P [] = Unit {0}

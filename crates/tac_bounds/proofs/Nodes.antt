@@ -27,10 +27,11 @@ use Rattle.lower_tac.specs.Expressions.{local_code, count_of, named_root, part_o
 use Rattle.lower_tac.specs.Expressions.{address_code, load_code, convert_code, part_code, element_code, branch_on, value_code}
 use Rattle.lower_tac.specs.Expressions.{arguments_code, effect_code, branch_code, path_code, member_code}
 use Rattle.c_well_typed.specs.ProgramWeights.Weights.{weight, weight_of_path, weight_of_all}
-use Rattle.tac_bounds.specs.Jumps.{target_of}
-use Rattle.tac_bounds.specs.Kinds.{KeepsKinds}
+use Rattle.tac_ir.specs.Jumps.{target_of}
+use Rattle.tac_ir.specs.Kinds.{KeepsKinds}
 use Rattle.tac_bounds.specs.Prices.{Prices, price_of, paid}
-use Rattle.tac_bounds.specs.Temporaries.{top, top_of, temporaries}
+use Rattle.tac_ir.specs.Temporaries.{top, top_of}
+use Rattle.tac_bounds.specs.Temporaries.{temporaries}
 use Rattle.tac_bounds.proofs.Grows as Grows
 use Rattle.tac_bounds.proofs.Grows.{Leads, leads_later}
 use Rattle.tac_bounds.proofs.Expressions as Parts

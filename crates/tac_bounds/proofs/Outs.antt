@@ -19,9 +19,9 @@ use Rattle.lower_tac.specs.declared.ways.ReturnWay.{ReturnWay}
 use Rattle.lower_tac.specs.Statements.{Out, before, by, here, with_label}
 use Rattle.lower_tac.specs.Statements.{fallen, exit_code, back_code, begin_code, begins_code, end_code, ends_code, return_end, continue_end, break_end}
 use Rattle.lower_tac.specs.Statements.{have_blocks, scope_code, scoped_code, round}
-use Rattle.tac_bounds.specs.Jumps.{IsInside}
+use Rattle.tac_ir.specs.Jumps.{IsInside}
 use Rattle.tac_bounds.specs.Prices.{Prices, price_of_all}
-use Rattle.tac_bounds.specs.Temporaries.{top_if_any}
+use Rattle.tac_ir.specs.Temporaries.{top_if_any}
 use Rattle.tac_bounds.proofs.Grows as Grows
 use Rattle.tac_bounds.proofs.Grows.{Each, Leads, LeadsIfAny, leads_later, AllFit, fit_later}
 use Rattle.tac_bounds.proofs.Expressions as Parts

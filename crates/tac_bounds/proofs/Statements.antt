@@ -27,7 +27,8 @@ use Rattle.c_well_typed.specs.ProgramWeights.Weights.{weight, weight_of_path, we
 use Rattle.c_well_typed.specs.ProgramWeights.Weights.{weight_if_any}
 use Rattle.c_well_typed.specs.ProgramWeights.Weights.{weight_of_labels, weight_of_statement, weight_of_statements, weight_of_arms}
 use Rattle.tac_bounds.specs.Prices.{Prices, paid}
-use Rattle.tac_bounds.specs.Temporaries.{top, temporaries}
+use Rattle.tac_ir.specs.Temporaries.{top}
+use Rattle.tac_bounds.specs.Temporaries.{temporaries}
 use Rattle.tac_bounds.proofs.Grows as Grows
 use Rattle.tac_bounds.proofs.Grows.{Each, Leads, leads_later}
 use Rattle.tac_bounds.proofs.Expressions as Parts

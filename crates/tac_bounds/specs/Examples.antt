@@ -9,7 +9,7 @@ use Rattle.c_well_typed.specs.ProgramWeights.Counted.{Kind}
 use Rattle.c_well_typed.specs.ProgramWeights.Weights.{weight_of_function}
 use Rattle.lower_tac.specs.Statements.{lowered}
 use Rattle.tac_bounds.specs.Prices.{in_bytes, in_steps, paid, price_of_code}
-use Rattle.tac_bounds.specs.Temporaries.{top_of_all}
+use Rattle.tac_ir.specs.Temporaries.{top_of_all}
 
 abbrev bytes : ProgramData → List ℕ
 bytes p = map (λ r. price_of_code in_bytes r.code) (lowered p).routines

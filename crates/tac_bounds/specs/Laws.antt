@@ -7,11 +7,12 @@ use Rattle.c_well_typed.specs.ProgramWeights.Bounds.{IsProgramBounded}
 use Rattle.c_well_typed.specs.ProgramWeights.Counted.{code, frame}
 use Rattle.c_well_typed.specs.ProgramWeights.Weights.{weight_of_function, code_weight_of_program}
 use Rattle.c_well_typed.specs.WellTyped.{of_program, HaveTypedFunctions}
-use Rattle.tac_bounds.specs.Jumps.{JumpsWithin}
-use Rattle.tac_bounds.specs.Kinds.{KindsWithin}
+use Rattle.tac_ir.specs.Jumps.{JumpsWithin}
+use Rattle.tac_ir.specs.Kinds.{KindsWithin}
 use Rattle.tac_bounds.specs.Prices.{Prices, in_steps, AreBytes, paid, price_of_code, price_of_routines}
 use Rattle.tac_bounds.specs.Scopes.{HasScopes}
-use Rattle.tac_bounds.specs.Temporaries.{top_of_all, temporaries}
+use Rattle.tac_ir.specs.Temporaries.{top_of_all}
+use Rattle.tac_bounds.specs.Temporaries.{temporaries}
 
 -- the routine of that number, and the function whose code it has
 pub record IsRoutineOf (p : ProgramData) (r : RoutineData) (f : FunctionData) : Type 0 where

@@ -1,5 +1,3 @@
-pub mod Jumps
-pub mod Kinds
 pub mod Prices
 pub mod Temporaries
 pub mod Scopes

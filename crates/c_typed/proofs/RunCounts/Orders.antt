@@ -1,13 +1,18 @@
--- The order of functions: it is strict, and the next one is the first that is left of it.
-use Rattle.std.proofs.Common.{◌≡◌, ℕ, ◌<◌, ◌≤◌, ◌+◌, Bool, true, false, List, [], ◌∷◌, Option, Some, None, refl, sym, ap, ◌∙◌, subst, arith, nat_lt}
+-- The order of functions: it is strict, and what a sort by file, place and number gives.
+use Rattle.std.proofs.Common.{Ordering, length, suc, ◌≡◌, ℕ, ◌<◌, ◌≤◌, ◌+◌, Bool, true, false, List, [], ◌∷◌, refl, sym, ap, ◌∙◌, arith, nat_lt}
 use Rattle.std.specs.Prelude.{if◌then◌else◌, is_some}
 use Rattle.std.specs.List.{AllByRecursion}
-use Rattle.std.specs.List.Sorted.{IsPermutation}
+use Rattle.std.specs.List.Sorted.{IsPermutation, IsSortedBy}
+use Rattle.std.specs.Prelude.{slice_index_or, cond, ◌==◌, ◌&&◌, ◌||◌}
+use Rattle.std.specs.List.{sum_by}
+use Rattle.std.specs.Cmp.{IsStrictWeakOrder}
+use Rattle.std.specs.Ordering.{is_lt, nat_cmp, ordering_then}
+use Rattle.std.specs.declared.cmp.Ordering.TheVariants.{Less, Equal, Greater}
 use Rattle.std.proofs.lemmas.Bool.Decides.{nat_tests}
-use Rattle.std.proofs.lemmas.List.Sorted.{IsPermutation-refl, IsPermutation-cons, IsPermutation-trans}
+use Rattle.std.proofs.lemmas.List.Sums.{sum_by-cons}
+use Rattle.std.proofs.lemmas.List.Sorted.{IsPermutation-refl, IsPermutation-cons, IsPermutation-trans, sorted_far, sum_by-IsPermutation}
 use Rattle.c_typed.specs.declared.run_counts.order.Defined.{Defined}
 use Rattle.c_typed.specs.RunCounts.Order.{is_less_or, stands_before, put_in_order, in_order, defined_from, defined_in, profile_order, Ascends, IsProfileOrder}
-use Rattle.c_typed.specs.RunCounts.Order.{comes_after, former, next_of, next_among, rest_after, first_of}
 use Rattle.c_typed.specs.Programs.{FunctionData, ProgramData}
 
 false_is_true : false ≡ true → ⊥
@@ -145,131 +150,121 @@ permutation_in_order (x ∷ more) = IsPermutation-trans (x ∷ more) (x ∷ in_o
 pub is_profile_order : (p : ProgramData) → IsProfileOrder p (profile_order p)
 is_profile_order p = record { permutation = permutation_in_order (defined_in p); ascends = order_ascends p }
 
--- ---- the first that is left
+-- ---- what a sort by the three numbers gives
 
-first_left : (P : Defined → Type 0) (last : Option Defined) (ys : List Defined) (z : Defined) → AllByRecursion P ys → first_of (rest_after last ys) ≡ Some z → P z
-first_left P last [] z all e = absurd (none_some e)
+-- each is not before one that stands earlier
+abbrev pub Rises : List Defined → Type 0
+Rises [] = Unit {0}
+Rises (x ∷ more) = AllByRecursion (λ y. stands_before y x ≡ false) more × Rises more
+
+weak : IsStrictWeakOrder stands_before
+weak = record { one_way = one_way; chain = not_chain }
+
+by_numbers : (a b c d : ℕ) (o : Ordering) → is_lt (ordering_then (ordering_then (nat_cmp a b) (nat_cmp c d)) o) ≡ is_less_or a b (is_less_or c d (is_lt o))
+by_numbers a b c d o = go (nat_lt a b) (a == b) (nat_lt c d) (c == d)
   where
-    none_some : None ≡ Some z → ⊥
-    none_some f = cc
-first_left P last (y ∷ more) z all e = go (comes_after last y) e (first_left P last more z all.1)
+    go : (l e m f : Bool) → is_lt (ordering_then (ordering_then (cond l Less (cond e Equal Greater)) (cond m Less (cond f Equal Greater))) o)
+        ≡ (l || (e && (m || (f && is_lt o))))
+    go true e m f = refl
+    go false true true f = refl
+    go false true false true = refl
+    go false true false false = refl
+    go false false m f = refl
+
+by_number : (a b : ℕ) → is_lt (nat_cmp a b) ≡ nat_lt a b
+by_number a b = go (nat_lt a b) (a == b)
   where
-    go : (b : Bool) → first_of (if b then y ∷ more else rest_after last more) ≡ Some z → (first_of (rest_after last more) ≡ Some z → P z) → P z
-    go true f later = subst P (same f) all.0
+    go : (l e : Bool) → is_lt (cond l Less (cond e Equal Greater)) ≡ l
+    go true e = refl
+    go false true = refl
+    go false false = refl
+
+pub key_order : (x y : Defined)
+    → is_lt (ordering_then (ordering_then (nat_cmp x.place.file y.place.file) (nat_cmp x.place.at y.place.at)) (nat_cmp x.number y.number)) ≡ stands_before x y
+key_order x y =
+    by_numbers x.place.file y.place.file x.place.at y.place.at (nat_cmp x.number y.number)
+    ∙ ap (λ q. is_less_or x.place.file y.place.file (is_less_or x.place.at y.place.at q)) (by_number x.number y.number)
+
+all_at : (P : Defined → Type 0) (ys : List Defined) → ((j : ℕ) (d : Defined) → j < length ys → P (slice_index_or ys j d)) → AllByRecursion P ys
+all_at P [] h = tt
+all_at P (y ∷ more) h = (h 0 y (omega arith), all_at P more (λ j d lt. h (suc j) d (omega arith)))
+
+rises_far : (ys : List Defined) → ((i j : ℕ) (d : Defined) → i ≤ j → j < length ys → stands_before (slice_index_or ys j d) (slice_index_or ys i d) ≡ false) → Rises ys
+rises_far [] h = tt
+rises_far (y ∷ more) h = (
+  all_at (λ z. stands_before z y ≡ false) more (λ j d lt. h 0 (suc j) d (omega arith) (omega arith)),
+  rises_far more (λ i j d le lt. h (suc i) (suc j) d (omega arith) (omega arith)),
+)
+
+pub rises : (ys : List Defined) → IsSortedBy stands_before ys → Rises ys
+rises ys up = rises_far ys (λ i j d le lt. sorted_far stands_before weak ys up i j d le lt)
+
+-- 1 where neither stands before the other
+abbrev one_at : Defined → Defined → ℕ
+one_at c x = if stands_before c x then 0 else (if stands_before x c then 0 else 1)
+
+-- how many of a list stand neither before c nor behind it
+abbrev at : Defined → List Defined → ℕ
+at c [] = 0
+at c (x ∷ more) = one_at c x + at c more
+
+at_is_sum : (c : Defined) (xs : List Defined) → at c xs ≡ sum_by (one_at c) xs
+at_is_sum c [] = refl
+at_is_sum c (x ∷ more) = ap (λ n. one_at c x + n) (at_is_sum c more) ∙ sym (sum_by-cons (one_at c) x more)
+
+one_itself : (x : Defined) → one_at x x ≡ 1
+one_itself x = rw (not_itself x) refl
+
+none_at : (c : Defined) (xs : List Defined) → AllByRecursion (λ x. stands_before c x ≡ true) xs → at c xs ≡ 0
+none_at c [] all = refl
+none_at c (x ∷ more) all = rw (all.0, none_at c more all.1) refl
+
+-- in a list that rises, none is at a function that stands before the first one
+none_rising : (x y : Defined) (ys : List Defined) → stands_before x y ≡ true → Rises (y ∷ ys) → at x (y ∷ ys) ≡ 0
+none_rising x y ys e up = none_at x (y ∷ ys) (e, all_mapped (λ z. stands_before z y ≡ false) (λ z. stands_before x z ≡ true) behind ys up.0)
+  where
+    behind : (z : Defined) → stands_before z y ≡ false → stands_before x z ≡ true
+    behind z f = go (stands_before x z) refl
       where
-        same : Some y ≡ Some z → y ≡ z
-        same g = cc
-    go false f later = later f
+        go : (b : Bool) → stands_before x z ≡ b → b ≡ true
+        go true g = refl
+        go false g = absurd (false_is_true (sym (not_chain x z y g f) ∙ e))
 
-abbrev sooner : Option Defined → Option Defined → Option Defined
-sooner best None = best
-sooner best (Some y) = Some (former best y)
+none_ascending : (x y : Defined) (ys : List Defined) → stands_before x y ≡ true → Ascends (y ∷ ys) → at x (y ∷ ys) ≡ 0
+none_ascending x y ys e up = none_at x (y ∷ ys) (e, all_mapped (λ z. stands_before y z ≡ true) (λ z. stands_before x z ≡ true) (λ z. chain x y z e) ys up.0)
 
-sooner_all : (x : Defined) (o : Option Defined) → ((z : Defined) → o ≡ Some z → stands_before x z ≡ true) → sooner (Some x) o ≡ Some x
-sooner_all x None h = refl
-sooner_all x (Some z) h = rw (h z refl) refl
+some_at : (x : Defined) (xs : List Defined) → at x (x ∷ xs) ≡ 0 → ⊥
+some_at x xs e = let one = one_itself x in omega arith
 
-put_before : (last : Option Defined) (x y : Defined) (more : List Defined) → AllByRecursion (λ z. stands_before x z ≡ true) (y ∷ more)
-    → first_of (rest_after last (x ∷ y ∷ more)) ≡ (if comes_after last x then sooner (Some x) (first_of (rest_after last (y ∷ more))) else first_of (rest_after last (y ∷ more)))
-put_before last x y more all = go (comes_after last x)
+same_number : (x y : Defined) → stands_before x y ≡ false → stands_before y x ≡ false → x ≡ y
+same_number x y e f =
+    let file : x.place.file ≡ y.place.file = grind (arith, nat_tests) in
+    let at_byte : x.place.at ≡ y.place.at = grind (arith, nat_tests) in
+    let number : x.number ≡ y.number = grind (arith, nat_tests) in
+    made number file at_byte
   where
-    go : (b : Bool) → first_of (if b then x ∷ y ∷ more else rest_after last (y ∷ more))
-        ≡ (if b then sooner (Some x) (first_of (rest_after last (y ∷ more))) else first_of (rest_after last (y ∷ more)))
-    go true = sym (sooner_all x (first_of (rest_after last (y ∷ more))) (λ z e. first_left (λ w. stands_before x w ≡ true) last (y ∷ more) z all e))
-    go false = refl
+    built : ℕ → ℕ → ℕ → Defined
+    built n f a = record { number = n; place = record { file = f; at = a } }
 
-put_behind : (last : Option Defined) (x y : Defined) (more : List Defined) → stands_before x y ≡ false
-    → first_of (rest_after last (put_in_order x more)) ≡ (if comes_after last x then sooner (Some x) (first_of (rest_after last more)) else first_of (rest_after last more))
-    → first_of (rest_after last (y ∷ put_in_order x more)) ≡ (if comes_after last x then sooner (Some x) (first_of (rest_after last (y ∷ more))) else first_of (rest_after last (y ∷ more)))
-put_behind last x y more e later = go (comes_after last y)
+    made : x.number ≡ y.number → x.place.file ≡ y.place.file → x.place.at ≡ y.place.at
+        → built x.number x.place.file x.place.at ≡ built y.number y.place.file y.place.at
+    made n f a = rw (n, f, a) refl
+
+pub only_order : (xs ys : List Defined) → Ascends xs → Rises ys → ((c : Defined) → at c ys ≡ at c xs) → ys ≡ xs
+only_order [] [] up rise same = refl
+only_order [] (y ∷ ys) up rise same = absurd (some_at y ys (same y))
+only_order (x ∷ xs) [] up rise same = absurd (some_at x xs (sym (same x)))
+only_order (x ∷ xs) (y ∷ ys) up rise same = go (stands_before x y) (stands_before y x) refl refl (only_order xs ys up.1 rise.1)
   where
-    is_y : (b : Bool) → Some y ≡ (if b then sooner (Some x) (Some y) else Some y)
-    is_y true = ap (λ q. Some (if q then x else y)) (sym e)
-    is_y false = refl
+    go : (b c : Bool) → stands_before x y ≡ b → stands_before y x ≡ c → (((c : Defined) → at c ys ≡ at c xs) → ys ≡ xs) → y ∷ ys ≡ x ∷ xs
+    go true c e f later = absurd (some_at x xs (sym (same x) ∙ none_rising x y ys e rise))
+    go false true e f later = absurd (some_at y ys (same y ∙ none_ascending y x xs f up))
+    go false false e f later =
+        let is : x ≡ y = same_number x y e f in
+        let rest : (c : Defined) → at c ys ≡ at c xs = λ c. let all = same c in let one = ap (one_at c) is in omega arith in
+        rw (is, later rest) refl
 
-    go : (c : Bool) → first_of (if c then y ∷ put_in_order x more else rest_after last (put_in_order x more))
-        ≡ (if comes_after last x then sooner (Some x) (first_of (if c then y ∷ more else rest_after last more)) else first_of (if c then y ∷ more else rest_after last more))
-    go true = is_y (comes_after last x)
-    go false = later
-
-first_put : (last : Option Defined) (x : Defined) (ys : List Defined) → Ascends ys
-    → first_of (rest_after last (put_in_order x ys)) ≡ (if comes_after last x then sooner (Some x) (first_of (rest_after last ys)) else first_of (rest_after last ys))
-first_put last x [] up = go (comes_after last x)
-  where
-    go : (b : Bool) → first_of (if b then x ∷ [] else []) ≡ (if b then Some x else None)
-    go true = refl
-    go false = refl
-first_put last x (y ∷ more) up = go (stands_before x y) refl (first_put last x more up.1)
-  where
-    go : (b : Bool) → stands_before x y ≡ b
-        → first_of (rest_after last (put_in_order x more)) ≡ (if comes_after last x then sooner (Some x) (first_of (rest_after last more)) else first_of (rest_after last more))
-        → first_of (rest_after last (if b then x ∷ y ∷ more else y ∷ put_in_order x more))
-        ≡ (if comes_after last x then sooner (Some x) (first_of (rest_after last (y ∷ more))) else first_of (rest_after last (y ∷ more)))
-    go true e later = put_before last x y more
-        (e, all_mapped (λ z. stands_before y z ≡ true) (λ z. stands_before x z ≡ true) (λ z. chain x y z e) more up.0)
-    go false e later = put_behind last x y more e later
-
-former_former : (a x y : Defined) → former (Some (former (Some a) x)) y ≡ former (Some a) (former (Some x) y)
-former_former a x y = go (stands_before a x) (stands_before x y) refl refl
-  where
-    go : (b c : Bool) → stands_before a x ≡ b → stands_before x y ≡ c
-        → (if stands_before (if b then a else x) y then (if b then a else x) else y) ≡ (if stands_before a (if c then x else y) then a else (if c then x else y))
-    go true true e f = rw (chain a x y e f, e) refl
-    go true false e f = refl
-    go false true e f = rw (e, f) refl
-    go false false e f = rw (f, not_chain a x y e f) refl
-
-sooner_sooner : (best : Option Defined) (x : Defined) (o : Option Defined) → sooner (Some (former best x)) o ≡ sooner best (sooner (Some x) o)
-sooner_sooner None x None = refl
-sooner_sooner None x (Some y) = refl
-sooner_sooner (Some a) x None = refl
-sooner_sooner (Some a) x (Some y) = ap Some (former_former a x y)
-
-next_is : (last best : Option Defined) (xs : List Defined) → Numbered xs → next_among last best xs ≡ sooner best (first_of (rest_after last (in_order xs)))
-next_is last best [] h = refl
-next_is last best (x ∷ more) h =
-    next_is last (next_of last best x) more h.1 ∙ go (comes_after last x)
-    ∙ ap (sooner best) (sym (first_put last x (in_order more) (ascends_in_order more h.1)))
-  where
-    go : (b : Bool) → sooner (if b then Some (former best x) else best) (first_of (rest_after last (in_order more)))
-        ≡ sooner best (if b then sooner (Some x) (first_of (rest_after last (in_order more))) else first_of (rest_after last (in_order more)))
-    go true = sooner_sooner best x (first_of (rest_after last (in_order more)))
-    go false = refl
-
-none_sooner : (o : Option Defined) → sooner None o ≡ o
-none_sooner None = refl
-none_sooner (Some y) = refl
-
-pub next_is_first : (p : ProgramData) (last : Option Defined) → next_among last None (defined_in p) ≡ first_of (rest_after last (profile_order p))
-next_is_first p last = next_is last None (defined_in p) (numbered_from_k 0 p.functions) ∙ none_sooner (first_of (rest_after last (profile_order p)))
-
--- ---- what is left behind the next one
-
-pub rest_at_first : (order : List Defined) → rest_after None order ≡ order
-rest_at_first [] = refl
-rest_at_first (x ∷ more) = refl
-
-all_left : (z : Defined) (more : List Defined) → AllByRecursion (λ y. stands_before z y ≡ true) more → rest_after (Some z) more ≡ more
-all_left z [] all = refl
-all_left z (y ∷ more) all = rw all.0 refl
-
-none_left : (x : Defined) (ys : List Defined) → [] ≡ x ∷ ys → ⊥
-none_left x ys e = cc
-
-pub rest_behind : (last : Option Defined) (x : Defined) (order ys : List Defined) → Ascends order → rest_after last order ≡ x ∷ ys → rest_after (Some x) order ≡ ys
-rest_behind last x [] ys up e = absurd (none_left x ys e)
-rest_behind last x (z ∷ more) ys up e = go (comes_after last z) e (rest_behind last x more ys up.1)
-  where
-    same : z ∷ more ≡ x ∷ ys → z ≡ x
-    same f = cc
-
-    rest : z ∷ more ≡ x ∷ ys → more ≡ ys
-    rest f = cc
-
-    at_first : (if stands_before z z then z ∷ more else rest_after (Some z) more) ≡ more
-    at_first = rw (not_itself z) (all_left z more up.0)
-
-    go : (b : Bool) → (if b then z ∷ more else rest_after last more) ≡ x ∷ ys → (rest_after last more ≡ x ∷ ys → rest_after (Some x) more ≡ ys)
-        → (if stands_before x z then z ∷ more else rest_after (Some x) more) ≡ ys
-    go true f later = subst (λ w. (if stands_before w z then z ∷ more else rest_after (Some w) more) ≡ ys) (same f) (at_first ∙ rest f)
-    go false f later = rw (one_way z x (first_left (λ w. stands_before z w ≡ true) last more x up.0 (ap first_of f))) (later f)
+pub sorted_is_order : (p : ProgramData) (ys : List Defined) → IsPermutation (defined_in p) ys → IsSortedBy stands_before ys → ys ≡ profile_order p
+sorted_is_order p ys moved up = only_order (profile_order p) ys (order_ascends p) (rises ys up)
+    (λ c. at_is_sum c ys ∙ sum_by-IsPermutation (one_at c) (defined_in p) ys moved
+    ∙ sym (at_is_sum c (profile_order p) ∙ sum_by-IsPermutation (one_at c) (defined_in p) (profile_order p) (permutation_in_order (defined_in p))))

@@ -1,5 +1,5 @@
 -- The functions that a program defines, in the order of the files and places of their definitions.
-use Rattle.std.specs.Prelude.{ℕ, ◌+◌, ◌==◌, nat_lt, ◌≡◌, Bool, true, ◌&&◌, ◌||◌, if◌then◌else◌, List, [], ◌∷◌, Option, Some, None, is_some}
+use Rattle.std.specs.Prelude.{ℕ, ◌+◌, ◌==◌, nat_lt, ◌≡◌, Bool, true, ◌&&◌, ◌||◌, if◌then◌else◌, List, [], ◌∷◌, is_some}
 use Rattle.std.specs.List.{AllByRecursion}
 use Rattle.std.specs.List.Sorted.{IsPermutation}
 use Rattle.c_typed.specs.declared.run_counts.order.Defined.{Defined}
@@ -43,30 +43,3 @@ Ascends (x ∷ more) = AllByRecursion (λ y. stands_before x y ≡ true) more ×
 pub record IsProfileOrder (p : ProgramData) (order : List Defined) : Type 0 where
   pub permutation : IsPermutation (defined_in p) order
   pub ascends : Ascends order
-
--- ---- the next one
-
-abbrev pub comes_after : Option Defined → Defined → Bool
-comes_after None x = true
-comes_after (Some last) x = stands_before last x
-
-abbrev pub former : Option Defined → Defined → Defined
-former None y = y
-former (Some x) y = if stands_before x y then x else y
-
-abbrev pub next_of : (last best : Option Defined) → Defined → Option Defined
-next_of last best x = if comes_after last x then Some (former best x) else best
-
--- of what was found before and a list, the first of those that come after the last one
-abbrev pub next_among : (last best : Option Defined) → List Defined → Option Defined
-next_among last best [] = best
-next_among last best (x ∷ more) = next_among last (next_of last best x) more
-
--- what is left of an order after the last one
-abbrev pub rest_after : Option Defined → List Defined → List Defined
-rest_after last [] = []
-rest_after last (x ∷ more) = if comes_after last x then x ∷ more else rest_after last more
-
-abbrev pub first_of : List Defined → Option Defined
-first_of [] = None
-first_of (x ∷ more) = Some x

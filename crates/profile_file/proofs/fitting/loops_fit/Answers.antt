@@ -1,10 +1,8 @@
 use Rattle.std.proofs.Common.{rules, ◌≡◌, Some, true, length, ap, arith}
-use Rattle.std.specs.Prelude.{◌==◌}
+use Rattle.std.specs.Prelude.{◌==◌, slice_get}
 use Rattle.std.proofs.lemmas.Bool.Decides.{nat_tests}
 use Rattle.c_typed.specs.RunCounts.Loops.{loops_at}
-use Rattle.c_typed.specs.RunCounts.Order.{first_of, profile_order, rest_after}
 use Rattle.c_typed.specs.RunCounts.Stale.{loops_among, loops_differ, loops_in_each, loops_stale}
-use Rattle.c_typed.proofs.RunCounts.Orders.{rest_at_first}
 use Rattle.c_typed.specs.Programs.{program_data}
 use Rattle.profile_file.proofs.Differences.{loops_at_end, loops_next}
 use Rattle.profile_file.proofs.fitting.loops_fit.Goals as goal
@@ -12,17 +10,17 @@ use Rattle.profile_file.proofs.fitting.loops_fit.Goals as goal
 pub loop-i-init : goal.loop-i-init
 loop-i-init c =
     let p = program_data c.args.p.now in
-    ap (λ order. loops_differ 0 (loops_among p order) (loops_in_each c.args.c.now)) (rest_at_first (profile_order p))
+    ap (λ order. loops_differ 0 (loops_among p order) (loops_in_each c.args.c.now)) c.requires.order
 
 pub loop-i-preserved : goal.loop-i-preserved
 loop-i-preserved c =
     let p = program_data c.args.p.now in
-    let next : first_of (rest_after c.loop-i.last (profile_order p)) ≡ Some c.in-Some.next = search rules in
-    let same : (loops_at p c.in-Some.next.number == length c.f-item.result.loops) ≡ true = grind (arith, nat_tests) in
-    loops_next p c.args.c.now.functions c.loop-i.i c.f-item.result c.loop-i.last c.in-Some.next (loops_stale c.args.c.now p)
+    let next : slice_get c.args.order.now c.loop-i.i ≡ Some c.in-Some.next.now = search rules in
+    let same : (loops_at p c.in-Some.next.now.number == length c.f-item.result.loops) ≡ true = grind (arith, nat_tests) in
+    loops_next p c.args.order.now c.args.c.now.functions c.loop-i.i c.f-item.result c.in-Some.next.now (loops_stale c.args.c.now p)
     (search rules) (search rules) next same c.loop-i.invariant
 
 pub returns : goal.returns
 returns c =
     let p = program_data c.args.p.now in
-    loops_at_end p c.args.c.now.functions c.loop-i.i c.loop-i.last (loops_stale c.args.c.now p) (search rules) c.loop-i.invariant
+    loops_at_end p c.args.order.now c.args.c.now.functions c.loop-i.i (loops_stale c.args.c.now p) (search rules) c.loop-i.invariant
