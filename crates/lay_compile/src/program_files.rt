@@ -1,6 +1,6 @@
 //! The files of a program, as a command reads them from its host, and the program that they are: or the refusal, with the texts of its places.
 //!
-//! It stands on `lay_base` for the host, on `lay_compile` for the program, on `lay_compile` and `refusals`. Whatever is refused, no file has changed.
+//! It stands on `lay_base` for the host, on the front end for the program, and on `refusals`. Whatever is refused, no file has changed.
 
 mod front_end;
 mod reading;
