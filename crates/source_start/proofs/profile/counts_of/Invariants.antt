@@ -7,4 +7,4 @@ use Rattle.source_start.proofs.profile.counts_of.Given as goal
 
 abbrev pub invariant-loop-f : goal.invariant-loop-f
 invariant-loop-f l = l.functions
-    ≡ map (λ f. count_at (entry_in (counting_of l.counters)) (begin_in (counting_of l.counters)) (program_data l.p) f.number) (take l.f-index l.order.items)
+    ≡ map (λ f. count_at (entry_in (counting_of l.counters)) (begin_in (counting_of l.counters)) (program_data l.p) f.number) (take l.f-index l.f-items)
