@@ -32,7 +32,8 @@ none_left (y ∷ ys) (suc i) e = none_left ys i e
 pub one_more : (order : List Defined) (i : ℕ) (x : Defined) → slice_get order i ≡ Some x → drop i order ≡ x ∷ drop (i + 1) order
 one_more [] i x e = absurd (none_some x e)
 one_more (y ∷ ys) zero x e = ap (λ z. z ∷ ys) (some_same y x e)
-one_more (y ∷ ys) (suc i) x e = one_more ys i x e ∙ ap (λ n. x ∷ drop n (y ∷ ys)) (sym (add-one (suc i)))
+one_more (y ∷ ys) (suc i) x e =
+    one_more ys i x e ∙ ap (λ n. x ∷ drop n ys) (add-one i) ∙ ap (λ n. x ∷ drop n (y ∷ ys)) (sym (add-one (suc i)))
 
 -- ---- names
 

@@ -15,7 +15,7 @@ loop-i-init c =
 pub loop-i-preserved : goal.loop-i-preserved
 loop-i-preserved c =
     let p = program_data c.args.p.now in
-    let next : slice_get c.args.order.now c.loop-i.i ≡ Some c.in-Some.next.now = search rules in
+    let next : slice_get c.args.order.now c.loop-i.i ≡ Some c.in-Some.next.now = search (rules, c.in-Some.in-Some-ensures) in
     let same : bytes_eq (name_at p c.in-Some.next.now.number) c.f-item.result.name ≡ true = search rules in
     names_next p (names_in c.args.c.now) c.args.order.now c.args.c.now.functions c.loop-i.i c.f-item.result c.in-Some.next.now
     (order_stale c.args.c.now p) (search rules) (search rules) next same c.loop-i.invariant
