@@ -6,6 +6,7 @@ use crate::operand_text::{
 use crate::operator_text::{
     binary_text, compare_text, kind_text, library_text, pointer_text, unary_text,
 };
+use refusals::undefined_name;
 use row_lines::Writer;
 use tac_ir::{Operand, Row, Step};
 
@@ -192,7 +193,7 @@ fn put_local(out: &mut Writer, step: Step) {
         }
         Step::Fail(kind, _) => {
             out.word("undefined");
-            out.value(&kind);
+            out.bytes(undefined_name(kind));
         }
         _ => {}
     }

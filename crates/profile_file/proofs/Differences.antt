@@ -24,6 +24,11 @@ none_some x e = cc
 some_same : {A : Type 0} (x y : A) → Some x ≡ Some y → x ≡ y
 some_same x y e = cc
 
+pub found_at : (order : List Defined) (i : ℕ) (x : Defined) → i < length order → x ≡ get_or order i x → slice_get order i ≡ Some x
+found_at [] i x lt is = absurd (omega (arith, lt))
+found_at (y ∷ ys) zero x lt is = ap Some (sym is)
+found_at (y ∷ ys) (suc i) x lt is = found_at ys i x (omega (arith, lt)) is
+
 pub none_left : (order : List Defined) (i : ℕ) → slice_get order i ≡ None → drop i order ≡ []
 none_left [] i e = drop_all i [] (omega arith)
 none_left (y ∷ ys) zero e = absurd (none_some y (sym e))
