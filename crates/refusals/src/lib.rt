@@ -13,6 +13,7 @@ mod put;
 mod refusal;
 mod table;
 
+pub use names::undefined_name;
 pub use put::put_refusal;
 pub use refusal::Refusal;
 pub use table::{code_of, places_of, status_of_refusal};
