@@ -19,6 +19,7 @@ use Rattle.c_typed.specs.Walk.{types_in_statement}
 use Rattle.c_typed.specs.Programs.{FunctionData, UnitData, ProgramData}
 use Rattle.c_numbers.specs.TypeNumbers.Renumbered.{renumbered}
 use Rattle.c_joining.specs.Joining.{joined, structure_in, all_records_in, all_tags, with_tag, if_any}
+use Rattle.c_link.specs.Texts.{texts_in_functions}
 
 -- ---- places, in the order of the files and then of their bytes
 
@@ -194,8 +195,9 @@ local_bytes p f = fold (λ n l. n + size_of p.records (type_at p l.ty)) 0 (f.par
 abbrev pub object_bytes : ProgramData → Object → ℕ
 object_bytes p o = if is_some o.initial then next_multiple_of (size_of p.records (type_at p o.ty)) 4 else 0
 
+-- of all objects, and of the strings that initialize arrays of locals
 abbrev pub global_bytes : ProgramData → ℕ
-global_bytes p = fold (λ n o. n + object_bytes p o) 0 p.objects
+global_bytes p = fold (λ n o. n + object_bytes p o) 0 p.objects + texts_in_functions p.functions
 
 abbrev pub past_alone : ℕ → ℕ → Option ℕ
 past_alone most n = if nat_lt most n then Some n else None

@@ -7,4 +7,5 @@ pub mod Missing
 pub mod Names
 pub mod Programs
 pub mod Repeats
+pub mod Texts
 pub mod TreeUses

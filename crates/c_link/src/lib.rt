@@ -4,11 +4,12 @@
 //! It stands on `c_joining`, which joins units, and on `c_typed` and `c_erasure`. It promises that what it answers is the program of the units, or
 //! the first gap in the order in which gaps are looked for; and that each walk collects the list of its definition.
 //!
-//! A sum of bytes that passes 64 bits is answered with want of memory; no memory holds as many objects. What a walk found before `NoMemory` is not said.
+//! A sum of bytes that does not stay below 2^64 - 1 is answered with want of memory; no memory holds as many. What a walk found before `NoMemory` is not said.
 #![tactic(auto)]
 
 mod clashes;
 mod gap;
+mod initial_texts;
 mod limits;
 mod linked;
 mod linking;

@@ -1,15 +1,17 @@
-//! The limits of a program: its nodes, the fields of its structures, and the bytes of its objects.
+//! The limits of a program: its nodes, the fields of its structures, and the bytes of its objects and of the strings that initialize its locals.
 
 ghost use Rattle.std.specs.Prelude.{◌≡◌, ◌+◌, ◌++◌, All, IfOk, fold, length, map, get_or};
 ghost use Rattle.std.specs.Int.{next_multiple_of};
 ghost use Rattle.std.specs.Option.{option_map};
 ghost use Rattle.c_link.specs.Counting.{AreLocalsMeasured, AreMeasured, IsMeasured, passed_of};
-ghost use Rattle.c_link.specs.Gaps.{first_limit, first_past, global_bytes, limits, local_bytes, object_bytes, past_alone};
+ghost use Rattle.c_link.specs.Gaps.{first_limit, first_past, limits, local_bytes, object_bytes, past_alone};
+ghost use Rattle.c_link.specs.Texts.{texts_in_functions};
 ghost use Rattle.c_typed.specs.Programs.{data_of, program_data};
 ghost use Rattle.c_types.specs.Layouts.{size_of};
 ghost use Rattle.c_types.specs.Types.{void};
 ghost use Rattle.c_types.specs.Views.{records_of, type_of};
 
+use crate::initial_texts::texts_in_functions;
 use c_typed::{Function, Local, Object, Typed};
 use c_types::{Record, Records, Ty, size_of};
 use lay_base::{LimitKind, NoMemory};
@@ -105,16 +107,21 @@ fn object_bytes(p: &Typed, o: &Object) -> u32
     }
 }
 
-/// The bytes of all objects.
-fn global_bytes(p: &Typed, objects: &[Object]) -> Result<u64, NoMemory>
+/// The bytes of all objects, and of the strings that initialize the locals of functions.
+fn global_bytes(p: &Typed, objects: &[Object], functions: &[Function]) -> Result<u64, NoMemory>
     requires { All (λ o. IsMeasured (records_of p.now.records) (get_or (map type_of p.now.types) o.ty void)) objects.now }
-    ensures { IfOk result (λ n. n ≡ fold (λ n o. n + object_bytes (program_data p.now) o) 0 objects.now) }
+    ensures { IfOk result (λ n. n ≡ fold (λ n o. n + object_bytes (program_data p.now) o) 0 objects.now + texts_in_functions (map data_of functions.now)) }
 {
     let mut bytes: u64 = 0;
     for o in objects {
         bytes = sum(bytes, object_bytes(p, o))?;
     }
-    Ok(bytes)
+    let bytes = texts_in_functions(bytes, functions);
+    if bytes == u64::MAX {
+        Err(NoMemory)
+    } else {
+        Ok(bytes)
+    }
 }
 
 /// The first limit that a program passes.
@@ -140,7 +147,10 @@ pub fn limit_past(p: &Typed) -> Result<Option<Passed>, NoMemory>
             counted,
         }));
     }
-    match past_alone(16_777_216, global_bytes(p, p.objects.as_slice())?) {
+    match past_alone(
+        16_777_216,
+        global_bytes(p, p.objects.as_slice(), p.functions.as_slice())?,
+    ) {
         Some(counted) => Ok(Some(Passed {
             which: LimitKind::Globals,
             counted,

@@ -59,7 +59,7 @@ ProgramHasTexts p = (files : List File) → IsProgramOf files p → All (IsTextO
 
 -- ---- limits
 
--- how many nodes it has, and how many bytes the locals of a function and all objects take
+-- how many nodes it has, and how many bytes the locals of a function take, and all objects with the strings that initialize locals
 pub record IsWithinLimits (p : ProgramData) : Type 0 where
   pub nodes : p.nodes ≤ 131072
   pub frames : All (λ f. local_bytes p f ≤ 2 ^ 24) p.functions

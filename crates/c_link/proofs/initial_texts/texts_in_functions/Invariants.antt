@@ -1,0 +1,11 @@
+use Rattle.std.proofs.Common.{◌≡◌, ◌+◌, ◌-◌, ◌^◌, ◌<◌, drop, min}
+use Rattle.std.specs.Prelude.{map}
+use Rattle.c_typed.specs.Programs.{data_of}
+use Rattle.c_link.specs.Texts.{texts_in_functions}
+use Rattle.c_link.proofs.initial_texts.texts_in_functions.Given as goal
+
+abbrev pub invariant-loop-f : goal.invariant-loop-f
+invariant-loop-f l =
+    (l.bytes < 2 ^ 64)
+    × (min (l.bytes + texts_in_functions (map data_of (drop l.f-index l.functions))) (2 ^ 64 - 1)
+    ≡ min (l.before + texts_in_functions (map data_of l.functions)) (2 ^ 64 - 1))
