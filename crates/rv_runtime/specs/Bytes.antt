@@ -1,0 +1,61 @@
+-- The words and bytes of the runtime, from the start's address on: each routine at its place, and zeros elsewhere.
+use Rattle.std.specs.Prelude.{◌≡◌, ℕ, ◌+◌, ◌-◌, List, [], ◌∷◌, ◌++◌, length, map, replicate}
+use Rattle.rv_isa.specs.declared.image.Segment.{Segment}
+use Rattle.rv_isa.specs.declared.instruction.Inst.{Inst}
+use Rattle.rv_isa.specs.Encoding.{encoding}
+use Rattle.rv_isa.specs.Events.{malloc_entry, malloc_return, calloc_entry, calloc_return, free_entry}
+use Rattle.rv_isa.specs.Memory.{Memory, word_at}
+use Rattle.rv_steps.specs.States.{Code, Stands}
+use Rattle.rv_runtime.specs.Routines.{start_entry, exit_entry, free_return, copy_entry, copy_return, fill_entry, fill_return, compare_entry, compare_return}
+use Rattle.rv_runtime.specs.Routines.{return_code, start_code, exit_code, malloc_code, calloc_code, free_code, copy_code, fill_code, compare_code}
+
+-- ---- in the file
+
+unfoldable pub zeros : ℕ → List ℕ
+zeros n = replicate n 0
+
+-- 512 bytes: words, and zeros behind them
+abbrev pub open_page : List ℕ → List ℕ
+open_page words = words ++ zeros (128 - length words)
+
+-- 512 bytes: words, zeros, and the word that returns
+abbrev pub page : List ℕ → List ℕ
+page words = words ++ (zeros (127 - length words) ++ (encoding return_code ∷ []))
+
+abbrev pub words_of : List Inst → List ℕ
+words_of code = map encoding code
+
+abbrev pub runtime_words : List ℕ
+runtime_words =
+    open_page (words_of start_code)
+    ++ (open_page (words_of exit_code)
+    ++ (page (words_of malloc_code)
+    ++ (page (words_of calloc_code)
+    ++ (page (words_of free_code)
+    ++ (page (words_of copy_code)
+    ++ (page (words_of fill_code)
+    ++ page (words_of compare_code)))))))
+
+-- ---- in memory
+
+-- the words stand in memory from an address on
+abbrev pub Hold : Memory → (at : ℕ) → List ℕ → Type 0
+Hold memory at [] = Unit {0}
+Hold memory at (w ∷ words) = (word_at memory at ≡ w) × Hold memory (at + 4) words
+
+-- the routines stand in the text
+pub record Runtime (segments : List Segment) (text : Memory) : Type 0 where
+  pub start : Code segments text start_entry start_code
+  pub exit : Code segments text exit_entry exit_code
+  pub malloc : Code segments text malloc_entry malloc_code
+  pub malloc_last : Stands segments text malloc_return return_code
+  pub calloc : Code segments text calloc_entry calloc_code
+  pub calloc_last : Stands segments text calloc_return return_code
+  pub free : Code segments text free_entry free_code
+  pub free_last : Stands segments text free_return return_code
+  pub copy : Code segments text copy_entry copy_code
+  pub copy_last : Stands segments text copy_return return_code
+  pub fill : Code segments text fill_entry fill_code
+  pub fill_last : Stands segments text fill_return return_code
+  pub compare : Code segments text compare_entry compare_code
+  pub compare_last : Stands segments text compare_return return_code
