@@ -15,7 +15,7 @@ use Rattle.rv_steps.proofs.Registers.{put_other}
 use Rattle.rv_steps.proofs.Routines.{by_routine, puts_inside, loads_inside, stores_inside, jumps_inside}
 use Rattle.rv_steps.proofs.Words.{keeps_word}
 use Rattle.rv_runtime.specs.Bytes.{Runtime}
-use Rattle.rv_runtime.specs.Contracts.{Leaves, Returns, Heap}
+use Rattle.rv_runtime.specs.Effects.{Leaves, Returns, Heap}
 use Rattle.rv_runtime.specs.Routines.{rounded, taken, data_place, allocate_entry, allocate_code}
 use Rattle.rv_runtime.proofs.Returning.{wider, still_returns, target_is, replies}
 use Rattle.rv_runtime.proofs.Rounded.{powers, taken_is, taken_stopped}

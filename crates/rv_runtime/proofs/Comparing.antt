@@ -14,7 +14,7 @@ use Rattle.rv_steps.proofs.Ranges.{mapped_part}
 use Rattle.rv_steps.proofs.Registers.{put_other}
 use Rattle.rv_steps.proofs.Routines.{by_routine, puts_inside, loads_inside}
 use Rattle.rv_runtime.specs.Bytes.{Runtime}
-use Rattle.rv_runtime.specs.Contracts.{Leaves, Returns, compared}
+use Rattle.rv_runtime.specs.Effects.{Leaves, Returns, compared}
 use Rattle.rv_runtime.specs.Routines.{compare_entry}
 use Rattle.rv_runtime.proofs.Returning.{wider, still_returns, comes_back}
 

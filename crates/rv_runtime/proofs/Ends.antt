@@ -10,7 +10,7 @@ use Rattle.rv_steps.specs.States.{put, at, IsBackward, Keeps}
 use Rattle.rv_steps.proofs.Routines.{by_routine, puts_inside}
 use Rattle.rv_steps.proofs.Steps.{exit_ends}
 use Rattle.rv_runtime.specs.Bytes.{Runtime}
-use Rattle.rv_runtime.specs.Contracts.{Returns}
+use Rattle.rv_runtime.specs.Effects.{Returns}
 use Rattle.rv_runtime.specs.Routines.{start_entry, exit_entry}
 use Rattle.rv_runtime.proofs.Returning.{comes_back}
 

@@ -15,7 +15,7 @@ use Rattle.rv_steps.proofs.Registers.{put_other}
 use Rattle.rv_steps.proofs.Routines.{by_routine, puts_inside, stores_inside}
 use Rattle.rv_steps.proofs.Words.{keeps_byte, with_byte_same, with_byte_other}
 use Rattle.rv_runtime.specs.Bytes.{Runtime}
-use Rattle.rv_runtime.specs.Contracts.{Leaves, Returns, Filled}
+use Rattle.rv_runtime.specs.Effects.{Leaves, Returns, Filled}
 use Rattle.rv_runtime.specs.Routines.{fill_entry}
 use Rattle.rv_runtime.proofs.Returning.{still_returns, comes_back}
 

@@ -1,3 +1,5 @@
+pub mod Lists
+pub mod Standing
 pub mod Returning
 pub mod Rounded
 pub mod Allocation

@@ -12,7 +12,7 @@ use Rattle.rv_steps.specs.States.{at, IsBackward, Stands, Keeps}
 use Rattle.rv_steps.proofs.Steps.{step_is}
 use Rattle.rv_steps.proofs.Routines.{is_inside, jumps_inside}
 use Rattle.rv_runtime.specs.Routines.{return_code}
-use Rattle.rv_runtime.specs.Contracts.{Leaves, Returns}
+use Rattle.rv_runtime.specs.Effects.{Leaves, Returns}
 
 -- a register outside of a range is outside of a smaller one
 pub wider : (r low high low' high' : ℕ) → (r < low) ⊎ (high ≤ r) → low ≤ low' → high' ≤ high → (r < low') ⊎ (high' ≤ r)

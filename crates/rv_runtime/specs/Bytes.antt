@@ -1,10 +1,11 @@
--- The words and bytes of the runtime, from the start's address on: each routine at its place, and zeros elsewhere.
-use Rattle.std.specs.Prelude.{◌≡◌, ℕ, ◌+◌, ◌-◌, List, [], ◌∷◌, ◌++◌, length, map, replicate}
+-- The bytes of the runtime, from the start's address on: each routine at its place, and zeros elsewhere.
+use Rattle.std.specs.Prelude.{◌≡◌, ℕ, ◌+◌, ◌-◌, ◌*◌, ◌<◌, List, [], ◌∷◌, ◌++◌, length, map, replicate, slice_index}
+use Rattle.std.specs.Int.{w32, to_le_bytes}
 use Rattle.rv_isa.specs.declared.image.Segment.{Segment}
 use Rattle.rv_isa.specs.declared.instruction.Inst.{Inst}
 use Rattle.rv_isa.specs.Encoding.{encoding}
 use Rattle.rv_isa.specs.Events.{malloc_entry, malloc_return, calloc_entry, calloc_return, free_entry}
-use Rattle.rv_isa.specs.Memory.{Memory, word_at}
+use Rattle.rv_isa.specs.Memory.{Memory}
 use Rattle.rv_steps.specs.States.{Code, Stands}
 use Rattle.rv_runtime.specs.Routines.{start_entry, exit_entry, free_return, copy_entry, copy_return, fill_entry, fill_return, compare_entry, compare_return}
 use Rattle.rv_runtime.specs.Routines.{return_code, start_code, exit_code, malloc_code, calloc_code, free_code, copy_code, fill_code, compare_code}
@@ -14,34 +15,35 @@ use Rattle.rv_runtime.specs.Routines.{return_code, start_code, exit_code, malloc
 unfoldable pub zeros : ℕ → List ℕ
 zeros n = replicate n 0
 
+-- the bytes of words, the lowest of each first
+abbrev pub bytes_of : List ℕ → List ℕ
+bytes_of [] = []
+bytes_of (w ∷ words) = to_le_bytes w32 w ++ bytes_of words
+
 -- 512 bytes: words, and zeros behind them
-abbrev pub open_page : List ℕ → List ℕ
-open_page words = words ++ zeros (128 - length words)
+unfoldable pub open_page : List ℕ → List ℕ
+open_page words = bytes_of words ++ zeros (512 - 4 * length words)
 
 -- 512 bytes: words, zeros, and the word that returns
-abbrev pub page : List ℕ → List ℕ
-page words = words ++ (zeros (127 - length words) ++ (encoding return_code ∷ []))
+unfoldable pub page : List ℕ → List ℕ
+page words = bytes_of words ++ (zeros (508 - 4 * length words) ++ bytes_of (encoding return_code ∷ []))
 
 abbrev pub words_of : List Inst → List ℕ
-words_of code = map encoding code
+words_of = map encoding
 
-abbrev pub runtime_words : List ℕ
-runtime_words =
+abbrev pub runtime_bytes : List ℕ
+runtime_bytes =
     open_page (words_of start_code)
     ++ (open_page (words_of exit_code)
     ++ (page (words_of malloc_code)
     ++ (page (words_of calloc_code)
-    ++ (page (words_of free_code)
-    ++ (page (words_of copy_code)
-    ++ (page (words_of fill_code)
-    ++ page (words_of compare_code)))))))
+    ++ (page (words_of free_code) ++ (page (words_of copy_code) ++ (page (words_of fill_code) ++ page (words_of compare_code)))))))
 
 -- ---- in memory
 
--- the words stand in memory from an address on
-abbrev pub Hold : Memory → (at : ℕ) → List ℕ → Type 0
-Hold memory at [] = Unit {0}
-Hold memory at (w ∷ words) = (word_at memory at ≡ w) × Hold memory (at + 4) words
+-- the bytes stand in memory from an address on
+pub record Holds (memory : Memory) (at : ℕ) (bytes : List ℕ) : Type 0 where
+  pub by : (k : ℕ) → k < length bytes → memory (at + k) ≡ slice_index bytes k
 
 -- the routines stand in the text
 pub record Runtime (segments : List Segment) (text : Memory) : Type 0 where

@@ -1,3 +1,3 @@
 pub mod Routines
 pub mod Bytes
-pub mod Contracts
+pub mod Effects

@@ -1,4 +1,4 @@
--- What contracts of routines speak of.
+-- What routines find and leave: registers, the heap, bytes that are copied, filled and compared.
 use Rattle.std.specs.Prelude.{◌≡◌, ℕ, zero, suc, ◌+◌, ◌-◌, ◌%◌, ◌^◌, ◌<◌, ◌≤◌, ◌⊎◌, true, nat_lt, if◌then◌else◌, List}
 use Rattle.rv_isa.specs.declared.image.Segment.{Segment}
 use Rattle.rv_isa.specs.Events.{code_address}
