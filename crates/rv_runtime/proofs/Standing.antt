@@ -12,8 +12,8 @@ use Rattle.rv_isa.specs.Memory.{Memory, executable, are_mapped, word_at}
 use Rattle.rv_isa.proofs.Laws.{encoding_fits}
 use Rattle.rv_steps.specs.States.{Code, Stands}
 use Rattle.rv_steps.proofs.Ranges.{mapped_part}
-use Rattle.rv_runtime.specs.Bytes.{zeros, bytes_of, open_page, page, words_of, Holds}
-use Rattle.rv_runtime.specs.Routines.{return_code, start_entry, start_code}
+use Rattle.rv_runtime.specs.Bytes.{zeros, bytes_of, open_page, page, words_of, runtime_bytes, Holds, Runtime}
+use Rattle.rv_runtime.specs.Routines.{return_code, start_entry, start_code, exit_code, malloc_code, calloc_code, free_code, copy_code, fill_code, compare_code}
 
 -- ---- parts of what stands
 
@@ -116,3 +116,95 @@ module _ (segments : List Segment) (text : Memory) (mapped : are_mapped segments
 
 start_in_range : AllByRecursion IsInRange start_code
 start_in_range = omega (arith, ints)
+
+exit_in_range : AllByRecursion IsInRange exit_code
+exit_in_range = omega (arith, ints)
+
+malloc_in_range : AllByRecursion IsInRange malloc_code
+malloc_in_range = omega (arith, ints)
+
+calloc_in_range : AllByRecursion IsInRange calloc_code
+calloc_in_range = omega (arith, ints)
+
+free_in_range : AllByRecursion IsInRange free_code
+free_in_range = omega (arith, ints)
+
+copy_in_range : AllByRecursion IsInRange copy_code
+copy_in_range = omega (arith, ints)
+
+fill_in_range : AllByRecursion IsInRange fill_code
+fill_in_range = omega (arith, ints)
+
+compare_in_range : AllByRecursion IsInRange compare_code
+compare_in_range = omega (arith, ints)
+
+-- ---- all routines
+
+-- each is behind the bytes of those before it
+open_back : (memory : Memory) (at : ℕ) (words rest : List ℕ) → length words ≤ 128 → Holds memory at (open_page words ++ rest) → Holds memory (at + 512) rest
+open_back memory at words rest le h = holds_back memory at 512 (open_page words) rest (open_page_length words le) h
+
+page_back : (memory : Memory) (at : ℕ) (words rest : List ℕ) → length words ≤ 127 → Holds memory at (page words ++ rest) → Holds memory (at + 512) rest
+page_back memory at words rest le h = holds_back memory at 512 (page words) rest (page_length words le) h
+
+abbrev from_compare : List ℕ
+from_compare = page (words_of compare_code)
+
+abbrev from_fill : List ℕ
+from_fill = page (words_of fill_code) ++ from_compare
+
+abbrev from_copy : List ℕ
+from_copy = page (words_of copy_code) ++ from_fill
+
+abbrev from_free : List ℕ
+from_free = page (words_of free_code) ++ from_copy
+
+abbrev from_calloc : List ℕ
+from_calloc = page (words_of calloc_code) ++ from_free
+
+abbrev from_malloc : List ℕ
+from_malloc = page (words_of malloc_code) ++ from_calloc
+
+abbrev from_exit : List ℕ
+from_exit = open_page (words_of exit_code) ++ from_malloc
+
+-- where the runtime's bytes stand in a text that is executable, its routines stand
+pub runtime_stands : (segments : List Segment) (text : Memory) → are_mapped segments executable start_entry 0x1000 ≡ true
+    → Holds text start_entry runtime_bytes → Runtime segments text
+runtime_stands segments text mapped h =
+    let h1 : Holds text 0x10200 from_exit = open_back text start_entry (words_of start_code) from_exit (omega arith) h in
+    let h2 : Holds text 0x10400 from_malloc = open_back text 0x10200 (words_of exit_code) from_malloc (omega arith) h1 in
+    let h3 : Holds text 0x10600 from_calloc = page_back text 0x10400 (words_of malloc_code) from_calloc (omega arith) h2 in
+    let h4 : Holds text 0x10800 from_free = page_back text 0x10600 (words_of calloc_code) from_free (omega arith) h3 in
+    let h5 : Holds text 0x10A00 from_copy = page_back text 0x10800 (words_of free_code) from_copy (omega arith) h4 in
+    let h6 : Holds text 0x10C00 from_fill = page_back text 0x10A00 (words_of copy_code) from_fill (omega arith) h5 in
+    let h7 : Holds text 0x10E00 from_compare = page_back text 0x10C00 (words_of fill_code) from_compare (omega arith) h6 in
+    let start = holds_front text start_entry (open_page (words_of start_code)) from_exit h in
+    let exit = holds_front text 0x10200 (open_page (words_of exit_code)) from_malloc h1 in
+    let malloc = holds_front text 0x10400 (page (words_of malloc_code)) from_calloc h2 in
+    let calloc = holds_front text 0x10600 (page (words_of calloc_code)) from_free h3 in
+    let free = holds_front text 0x10800 (page (words_of free_code)) from_copy h4 in
+    let copy = holds_front text 0x10A00 (page (words_of copy_code)) from_fill h5 in
+    let fill = holds_front text 0x10C00 (page (words_of fill_code)) from_compare h6 in
+    let both1 = page_stands segments text mapped 0x10400 malloc_code (omega arith) (omega arith) (omega arith) malloc_in_range malloc in
+    let both2 = page_stands segments text mapped 0x10600 calloc_code (omega arith) (omega arith) (omega arith) calloc_in_range calloc in
+    let both3 = page_stands segments text mapped 0x10800 free_code (omega arith) (omega arith) (omega arith) free_in_range free in
+    let both4 = page_stands segments text mapped 0x10A00 copy_code (omega arith) (omega arith) (omega arith) copy_in_range copy in
+    let both5 = page_stands segments text mapped 0x10C00 fill_code (omega arith) (omega arith) (omega arith) fill_in_range fill in
+    let both6 = page_stands segments text mapped 0x10E00 compare_code (omega arith) (omega arith) (omega arith) compare_in_range h7 in
+    record {
+      start = open_stands segments text mapped start_entry start_code (omega arith) (omega arith) (omega arith) start_in_range start;
+      exit = open_stands segments text mapped 0x10200 exit_code (omega arith) (omega arith) (omega arith) exit_in_range exit;
+      malloc = both1.0;
+      malloc_last = both1.1;
+      calloc = both2.0;
+      calloc_last = both2.1;
+      free = both3.0;
+      free_last = both3.1;
+      copy = both4.0;
+      copy_last = both4.1;
+      fill = both5.0;
+      fill_last = both5.1;
+      compare = both6.0;
+      compare_last = both6.1;
+    }
