@@ -40,18 +40,18 @@ module _ (segments : List Segment) (text : Memory) (Claim : ℕ → State → Li
       cond_both (ltb q m) _ _
       (λ (v : ℕ). ((g : ℕ → ℕ) → g 13 ≡ v → ((r : ℕ) → r ≢ 13 → g r ≡ h r) → Claim n (S g 0x10424) before) → Claim n (S h 0x10418) before)
       (λ e c.
-        let lt = ltb-true _ _ e in
-        let g = put h 13 ((h 13 + h 13) % 2 ^ 32) in
-        let twice : (h 13 + h 13) % 2 ^ 32 ≡ q + q = omega arith in
-        by_routine segments text Claim claim n (S h 0x10418) (S h 0x1041C) before (Bgeu 13 10 (pos 12)) keeps code.1.1.1.1.0 refl
-        (let t : ltb (h 13) (h 10) ≡ true = lt-ltb (h 13) (h 10) (omega arith) in rw t refl)
-        (by_routine segments text Claim claim n (S h 0x1041C) (S g 0x10420) before (Add 13 13 13) keeps code.1.1.1.1.1.0 refl refl
-        (by_routine segments text Claim claim n (S g 0x10420) (S g 0x10418) before (Jal 0 (negsuc 7)) keeps code.1.1.1.1.1.1.0 refl refl
-        (doubling m k (q + q) g twice arg (omega arith) fits (omega (arith, powers q k))
-        (λ i is' others. c i is' (λ r ne. others r ne ∙ put_other h 13 _ r ne))))))
+      let lt = ltb-true _ _ e in
+      let g = put h 13 ((h 13 + h 13) % 2 ^ 32) in
+      let twice : (h 13 + h 13) % 2 ^ 32 ≡ q + q = omega arith in
+      by_routine segments text Claim claim n (S h 0x10418) (S h 0x1041C) before (Bgeu 13 10 (pos 12)) keeps code.1.1.1.1.0 refl
+      (let t : ltb (h 13) (h 10) ≡ true = lt-ltb (h 13) (h 10) (omega arith) in rw t refl)
+      (by_routine segments text Claim claim n (S h 0x1041C) (S g 0x10420) before (Add 13 13 13) keeps code.1.1.1.1.1.0 refl refl
+      (by_routine segments text Claim claim n (S g 0x10420) (S g 0x10418) before (Jal 0 (negsuc 7)) keeps code.1.1.1.1.1.1.0 refl refl
+      (doubling m k (q + q) g twice arg (omega arith) fits (omega (arith, powers q k))
+      (λ i is' others. c i is' (λ r ne. others r ne ∙ put_other h 13 _ r ne))))))
       (λ e c.
-        by_routine segments text Claim claim n (S h 0x10418) (S h 0x10424) before (Bgeu 13 10 (pos 12)) keeps code.1.1.1.1.0 refl
-        (let t : ltb (h 13) (h 10) ≡ false = le-ltb (h 13) (h 10) (omega (arith, ltb-false _ _ e)) in rw t refl) (c h is (λ r ne. refl)))
+      by_routine segments text Claim claim n (S h 0x10418) (S h 0x10424) before (Bgeu 13 10 (pos 12)) keeps code.1.1.1.1.0 refl
+      (let t : ltb (h 13) (h 10) ≡ false = le-ltb (h 13) (h 10) (omega (arith, ltb-false _ _ e)) in rw t refl) (c h is (λ r ne. refl)))
       c
 
   -- memory behind an allocation
@@ -116,16 +116,16 @@ module _ (segments : List Segment) (text : Memory) (Claim : ℕ → State → Li
       13 16 (plus (f 0) (pos 16)) (omega arith) refl (ap (λ (z : ℕ). plus z (pos 16)) nil)
       (doubling m 28 16 h3 refl is10 (omega arith) (omega (arith, heap.small)) (omega (arith, heap.small))
       (λ g is others.
-        takes f g (taken m) link (is ∙ taken_is m) (others 11 (λ d. omega arith)) (others 12 (λ d. omega arith)) (others 16 (λ d. omega arith) ∙ is16) whole small
-        room
-        (λ r away. others r (λ d. omega arith) ∙ other h2 r 13 _ away (omega arith) (omega arith) ∙ other h1 r 12 _ away (omega arith) (omega arith)
-        ∙ other f r 11 _ away (omega arith) (omega arith))
-        c)))))
+      takes f g (taken m) link (is ∙ taken_is m) (others 11 (λ d. omega arith)) (others 12 (λ d. omega arith)) (others 16 (λ d. omega arith) ∙ is16) whole small
+      room
+      (λ r away. others r (λ d. omega arith) ∙ other h2 r 13 _ away (omega arith) (omega arith) ∙ other h1 r 12 _ away (omega arith) (omega arith)
+      ∙ other f r 11 _ away (omega arith) (omega arith))
+      c)))))
 
   -- MALLOC: x10 bytes are given behind a head, and the unused heap begins behind them
   pub malloc_works : (f : ℕ → ℕ) (place : ℕ) → Returns f place → unused + 16 + taken (f 10) ≤ end
       → ((g : ℕ → ℕ) → g 10 ≡ unused + 16 → Leaves f g
-          → Claim n (at g place (with_word memory data_place (unused + 16 + taken (f 10))) input output) (Reply (unused + 16) ∷ before))
+      → Claim n (at g place (with_word memory data_place (unused + 16 + taken (f 10))) input output) (Reply (unused + 16) ∷ before))
       → Claim n (at f malloc_entry memory input output) before
   malloc_works f place back room c =
       let h = put f 16 0x10404 in
@@ -134,15 +134,15 @@ module _ (segments : List Segment) (text : Memory) (Claim : ℕ → State → Li
       by_routine segments text Claim claim n (S f 0x10400) (S h 0x10408) before (Jal 16 (pos 8)) keeps runtime.malloc.0 refl refl
       (allocates (f 10) 0x10404 h back.nil refl refl refl (omega arith) room
       (λ g is same.
-        let leaves : Leaves f g = λ r away. same r (wider r 10 17 10 16 away (omega arith) (omega arith)) ∙ put_other f 16 _ r (λ d. omega arith) in
-        by_routine segments text Claim claim n (N top g 0x10404) (N top g 0x105FC) before (Jal 0 (pos 504)) kept runtime.malloc.1.0 refl refl
-        (replies segments text Claim claim n before g 0x105FC (with_word memory data_place top) input output kept runtime.malloc_last place
-        (still_returns f g place back leaves) (unused + 16) refl refl is (c g is leaves))))
+      let leaves : Leaves f g = λ r away. same r (wider r 10 17 10 16 away (omega arith) (omega arith)) ∙ put_other f 16 _ r (λ d. omega arith) in
+      by_routine segments text Claim claim n (N top g 0x10404) (N top g 0x105FC) before (Jal 0 (pos 504)) kept runtime.malloc.1.0 refl refl
+      (replies segments text Claim claim n before g 0x105FC (with_word memory data_place top) input output kept runtime.malloc_last place
+      (still_returns f g place back leaves) (unused + 16) refl refl is (c g is leaves))))
 
   -- CALLOC: as many bytes as the product of x10 and x11
   pub calloc_works : (f : ℕ → ℕ) (place : ℕ) → Returns f place → f 10 * f 11 < 2 ^ 32 → unused + 16 + taken (f 10 * f 11) ≤ end
       → ((g : ℕ → ℕ) → g 10 ≡ unused + 16 → Leaves f g
-          → Claim n (at g place (with_word memory data_place (unused + 16 + taken (f 10 * f 11))) input output) (Reply (unused + 16) ∷ before))
+      → Claim n (at g place (with_word memory data_place (unused + 16 + taken (f 10 * f 11))) input output) (Reply (unused + 16) ∷ before))
       → Claim n (at f calloc_entry memory input output) before
   calloc_works f place back word room c =
       let m = f 10 * f 11 in
@@ -160,11 +160,11 @@ module _ (segments : List Segment) (text : Memory) (Claim : ℕ → State → Li
       (by_routine segments text Claim claim n (S h2 0x1060C) (S h3 0x10408) before (Jal 16 (negsuc 515)) keeps runtime.calloc.1.1.1.0 refl refl
       (allocates m 0x10610 h3 back.nil refl refl refl (omega arith) room
       (λ g is same.
-        let leaves : Leaves f g = λ r away. same r (wider r 10 17 10 16 away (omega arith) (omega arith)) ∙ put_other h2 16 _ r (λ d. omega arith) ∙ put_other h1 10 _ r (λ d. omega arith)
-        ∙ put_other f 12 _ r (λ d. omega arith) in
-        by_routine segments text Claim claim n (N top g 0x10610) (N top g 0x107FC) before (Jal 0 (pos 492)) kept runtime.calloc.1.1.1.1.0 refl refl
-        (replies segments text Claim claim n before g 0x107FC (with_word memory data_place top) input output kept runtime.calloc_last place
-        (still_returns f g place back leaves) (unused + 16) refl refl is (c g is leaves)))))))
+      let leaves : Leaves f g = λ r away. same r (wider r 10 17 10 16 away (omega arith) (omega arith)) ∙ put_other h2 16 _ r (λ d. omega arith) ∙ put_other h1 10 _ r (λ d. omega arith)
+      ∙ put_other f 12 _ r (λ d. omega arith) in
+      by_routine segments text Claim claim n (N top g 0x10610) (N top g 0x107FC) before (Jal 0 (pos 492)) kept runtime.calloc.1.1.1.1.0 refl refl
+      (replies segments text Claim claim n before g 0x107FC (with_word memory data_place top) input output kept runtime.calloc_last place
+      (still_returns f g place back leaves) (unused + 16) refl refl is (c g is leaves)))))))
     where
       high_none : (m : ℕ) → m < 2 ^ 32 → m / 2 ^ 32 ≡ 0
       high_none m lt = omega arith

@@ -122,28 +122,28 @@ module _ (segments : List Segment) (text : Memory) (Claim : ℕ → State → Li
       (mapped_part segments readable q (suc k) q 1 mapped' (omega arith) (omega arith)) refl
       (elim (cases_eq x y) [
         | inl e ↦
-          by_routine segments text Claim claim n (S h2 0x10E0C) (S h2 0x10E10) before (Bne 13 14 (pos 20)) keeps runtime.compare.1.1.1.0 refl
-          (let t : eqb x y ≡ true = eq-eqb x y e in rw t refl)
-          (puts_inside segments text Claim claim n before h2 0x10E10 memory input output keeps refl (Addi 10 10 (pos 1)) runtime.compare.1.1.1.1.0
-          10 (p + 1) (plus (h 10) (pos 1)) (omega arith) refl (omega (arith, ints))
-          (puts_inside segments text Claim claim n before h3 0x10E14 memory input output keeps refl (Addi 11 11 (pos 1)) runtime.compare.1.1.1.1.1.0
-          11 (q + 1) (plus (h 11) (pos 1)) (omega arith) refl (omega (arith, ints))
-          (puts_inside segments text Claim claim n before h4 0x10E18 memory input output keeps refl (Addi 12 12 (negsuc 0)) runtime.compare.1.1.1.1.1.1.0
-          12 k (plus (h 12) (negsuc 0)) (omega arith) refl (omega (arith, ints))
-          (by_routine segments text Claim claim n (S h5 0x10E1C) (S h5 0x10E00) before (Jal 0 (negsuc 27)) keeps runtime.compare.1.1.1.1.1.1.1.0 refl refl
-          (comparing k (p + 1) (q + 1) h5 nil refl refl refl (omega arith) (omega arith)
-          (mapped_part segments readable p (suc k) (p + 1) k mapped (omega arith) (omega arith))
-          (mapped_part segments readable q (suc k) (q + 1) k mapped' (omega arith) (omega arith))
-          (λ g is same. c g (is ∙ sym (compared_same memory p q k e))
-          (λ r away. same r away ∙ other h4 r 12 _ away (omega arith) (omega arith) ∙ other h3 r 11 _ away (omega arith) (omega arith)
-          ∙ other h2 r 10 _ away (omega arith) (omega arith) ∙ other h1 r 14 _ away (omega arith) (omega arith)
-          ∙ other h r 13 _ away (omega arith) (omega arith))))))))
+            by_routine segments text Claim claim n (S h2 0x10E0C) (S h2 0x10E10) before (Bne 13 14 (pos 20)) keeps runtime.compare.1.1.1.0 refl
+            (let t : eqb x y ≡ true = eq-eqb x y e in rw t refl)
+            (puts_inside segments text Claim claim n before h2 0x10E10 memory input output keeps refl (Addi 10 10 (pos 1)) runtime.compare.1.1.1.1.0
+            10 (p + 1) (plus (h 10) (pos 1)) (omega arith) refl (omega (arith, ints))
+            (puts_inside segments text Claim claim n before h3 0x10E14 memory input output keeps refl (Addi 11 11 (pos 1)) runtime.compare.1.1.1.1.1.0
+            11 (q + 1) (plus (h 11) (pos 1)) (omega arith) refl (omega (arith, ints))
+            (puts_inside segments text Claim claim n before h4 0x10E18 memory input output keeps refl (Addi 12 12 (negsuc 0)) runtime.compare.1.1.1.1.1.1.0
+            12 k (plus (h 12) (negsuc 0)) (omega arith) refl (omega (arith, ints))
+            (by_routine segments text Claim claim n (S h5 0x10E1C) (S h5 0x10E00) before (Jal 0 (negsuc 27)) keeps runtime.compare.1.1.1.1.1.1.1.0 refl refl
+            (comparing k (p + 1) (q + 1) h5 nil refl refl refl (omega arith) (omega arith)
+            (mapped_part segments readable p (suc k) (p + 1) k mapped (omega arith) (omega arith))
+            (mapped_part segments readable q (suc k) (q + 1) k mapped' (omega arith) (omega arith))
+            (λ g is same. c g (is ∙ sym (compared_same memory p q k e))
+            (λ r away. same r away ∙ other h4 r 12 _ away (omega arith) (omega arith) ∙ other h3 r 11 _ away (omega arith) (omega arith)
+            ∙ other h2 r 10 _ away (omega arith) (omega arith) ∙ other h1 r 14 _ away (omega arith) (omega arith)
+            ∙ other h r 13 _ away (omega arith) (omega arith))))))))
         | inr ne ↦
-          by_routine segments text Claim claim n (S h2 0x10E0C) (S h2 0x10E20) before (Bne 13 14 (pos 20)) keeps runtime.compare.1.1.1.0 refl
-          (let t : eqb x y ≡ false = ne_eqb x y ne in rw t refl)
-          (differing h2 x y refl refl
-          (λ g is same. c g (is ∙ differ memory p q k ne)
-          (λ r away. same r away ∙ other h1 r 14 _ away (omega arith) (omega arith) ∙ other h r 13 _ away (omega arith) (omega arith))))
+            by_routine segments text Claim claim n (S h2 0x10E0C) (S h2 0x10E20) before (Bne 13 14 (pos 20)) keeps runtime.compare.1.1.1.0 refl
+            (let t : eqb x y ≡ false = ne_eqb x y ne in rw t refl)
+            (differing h2 x y refl refl
+            (λ g is same. c g (is ∙ differ memory p q k ne)
+            (λ r away. same r away ∙ other h1 r 14 _ away (omega arith) (omega arith) ∙ other h r 13 _ away (omega arith) (omega arith))))
       ])))
 
   -- minus one, 0 or 1, by the first of x12 bytes from x10 and from x11 on that differ; memory is as it was
@@ -154,6 +154,6 @@ module _ (segments : List Segment) (text : Memory) (Claim : ℕ → State → Li
   compare_works f place p q k back is10 is11 is12 fit fit' mapped mapped' c =
       comparing k p q f back.nil is10 is11 is12 fit fit' mapped mapped'
       (λ g is same.
-        let leaves : Leaves f g = λ r away. same r (wider r 10 17 10 15 away (omega arith) (omega arith)) in
-        comes_back segments text Claim claim n before g 0x10FFC memory input output keeps runtime.compare_last place (still_returns f g place back leaves) refl
-        (c g is leaves))
+      let leaves : Leaves f g = λ r away. same r (wider r 10 17 10 15 away (omega arith) (omega arith)) in
+      comes_back segments text Claim claim n before g 0x10FFC memory input output keeps runtime.compare_last place (still_returns f g place back leaves) refl
+      (c g is leaves))

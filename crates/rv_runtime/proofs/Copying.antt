@@ -155,22 +155,22 @@ module _ (segments : List Segment) (text : Memory) (Claim : ℕ → State → Li
   pub copy_works : (f : ℕ → ℕ) (place to from k : ℕ) (memory : Memory) → Keeps text memory → Returns f place → f 10 ≡ to → f 11 ≡ from → f 12 ≡ k
       → to + k < 2 ^ 32 → from + k < 2 ^ 32 → (0 < k → code_end ≤ to) → are_mapped segments readable from k ≡ true → are_mapped segments writable to k ≡ true
       → ((g : ℕ → ℕ) (after : Memory) → Copied memory after to from k → Keeps text after → g 10 ≡ to → Leaves f g
-          → Claim n (at g place after input output) before)
+      → Claim n (at g place after input output) before)
       → Claim n (at f copy_entry memory input output) before
   copy_works f place to from k memory keeps back is10 is11 is12 fits fits' low reads writes c = elim (cases_lt from to) [
     | inl lt ↦
-      by_routine segments text Claim claim n (at f 0x10A00 memory input output) (at f 0x10A24 memory input output) before (Bltu 11 10 (pos 36)) keeps
-      runtime.copy.0 refl (let t : ltb (f 11) (f 10) ≡ true = lt-ltb (f 11) (f 10) (omega arith) in rw t refl)
-      (copying_down k to from f memory keeps back.nil is10 is11 is12 (omega arith) fits low reads writes
-      (λ g after copied keeps' same. returns g after copied keeps' (λ r away. same r (wider r 10 17 11 15 away (omega arith) (omega arith))) (same 10 (inl (omega arith)) ∙ is10)))
+        by_routine segments text Claim claim n (at f 0x10A00 memory input output) (at f 0x10A24 memory input output) before (Bltu 11 10 (pos 36)) keeps
+        runtime.copy.0 refl (let t : ltb (f 11) (f 10) ≡ true = lt-ltb (f 11) (f 10) (omega arith) in rw t refl)
+        (copying_down k to from f memory keeps back.nil is10 is11 is12 (omega arith) fits low reads writes
+        (λ g after copied keeps' same. returns g after copied keeps' (λ r away. same r (wider r 10 17 11 15 away (omega arith) (omega arith))) (same 10 (inl (omega arith)) ∙ is10)))
     | inr le ↦
-      by_routine segments text Claim claim n (at f 0x10A00 memory input output) (at f 0x10A04 memory input output) before (Bltu 11 10 (pos 36)) keeps
-      runtime.copy.0 refl (let t : ltb (f 11) (f 10) ≡ false = le-ltb (f 11) (f 10) (omega arith) in rw t refl)
-      (puts_inside segments text Claim claim n before f 0x10A04 memory input output keeps refl (Addi 13 10 (pos 0)) runtime.copy.1.0
-      13 to (plus (f 10) (pos 0)) (omega arith) refl (omega (arith, ints))
-      (copying_up k to from (put f 13 to) memory keeps back.nil is11 is12 refl le fits' low reads writes
-      (λ g after copied keeps' same. returns g after copied keeps' (λ r away. same r (wider r 10 17 11 15 away (omega arith) (omega arith)) ∙ put_other f 13 _ r (λ e. omega arith))
-      (same 10 (inl (omega arith)) ∙ is10))))
+        by_routine segments text Claim claim n (at f 0x10A00 memory input output) (at f 0x10A04 memory input output) before (Bltu 11 10 (pos 36)) keeps
+        runtime.copy.0 refl (let t : ltb (f 11) (f 10) ≡ false = le-ltb (f 11) (f 10) (omega arith) in rw t refl)
+        (puts_inside segments text Claim claim n before f 0x10A04 memory input output keeps refl (Addi 13 10 (pos 0)) runtime.copy.1.0
+        13 to (plus (f 10) (pos 0)) (omega arith) refl (omega (arith, ints))
+        (copying_up k to from (put f 13 to) memory keeps back.nil is11 is12 refl le fits' low reads writes
+        (λ g after copied keeps' same. returns g after copied keeps' (λ r away. same r (wider r 10 17 11 15 away (omega arith) (omega arith)) ∙ put_other f 13 _ r (λ e. omega arith))
+        (same 10 (inl (omega arith)) ∙ is10))))
   ]
     where
       returns : (g : ℕ → ℕ) (after : Memory) → Copied memory after to from k → Keeps text after → Leaves f g → g 10 ≡ to → Claim n (at g 0x10BFC after input output) before

@@ -44,7 +44,7 @@ module _ (segments : List Segment) (text : Memory) (Claim : ℕ → State → Li
   filling : (k to v : ℕ) (h : ℕ → ℕ) (memory : Memory) → Keeps text memory → h 0 ≡ 0 → h 11 ≡ v → h 12 ≡ k → h 13 ≡ to → to + k < 2 ^ 32 → (0 < k → code_end ≤ to)
       → are_mapped segments writable to k ≡ true
       → ((g : ℕ → ℕ) (after : Memory) → Filled memory after to v k → Keeps text after → ((r : ℕ) → r ≢ 12 → r ≢ 13 → g r ≡ h r)
-          → Claim n (at g 0x10DFC after input output) before)
+      → Claim n (at g 0x10DFC after input output) before)
       → Claim n (at h 0x10C04 memory input output) before
   filling zero to v h memory keeps nil is11 is12 is13 fits low mapped c =
       by_routine segments text Claim claim n (at h 0x10C04 memory input output) (at h 0x10DFC memory input output) before (Beq 12 0 (pos 504)) keeps
@@ -82,6 +82,6 @@ module _ (segments : List Segment) (text : Memory) (Claim : ℕ → State → Li
       13 (f 10) (plus (f 10) (pos 0)) (omega arith) refl (omega (arith, ints))
       (filling k to v (put f 13 (f 10)) memory keeps back.nil is11 is12 is10 fits low mapped
       (λ g after filled keeps' same.
-        let leaves : Leaves f g = λ r away. same r (λ e. omega arith) (λ e. omega arith) ∙ put_other f 13 _ r (λ e. omega arith) in
-        comes_back segments text Claim claim n before g 0x10DFC after input output keeps' runtime.fill_last place (still_returns f g place back leaves) refl
-        (c g after filled keeps' (same 10 (λ e. omega arith) (λ e. omega arith) ∙ is10) leaves)))
+      let leaves : Leaves f g = λ r away. same r (λ e. omega arith) (λ e. omega arith) ∙ put_other f 13 _ r (λ e. omega arith) in
+      comes_back segments text Claim claim n before g 0x10DFC after input output keeps' runtime.fill_last place (still_returns f g place back leaves) refl
+      (c g after filled keeps' (same 10 (λ e. omega arith) (λ e. omega arith) ∙ is10) leaves)))

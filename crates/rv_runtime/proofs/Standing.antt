@@ -104,10 +104,10 @@ module _ (segments : List Segment) (text : Memory) (mapped : are_mapped segments
       let last = bytes_of (encoding return_code ∷ []) in
       let gap = zeros (508 - 4 * length words) in
       let behind : Holds text (pc + 4 * length words) (gap ++ last) =
-          holds_back text pc (4 * length words) (bytes_of words) (gap ++ last) (bytes_length words) h in
+      holds_back text pc (4 * length words) (bytes_of words) (gap ++ last) (bytes_length words) h in
       let at : pc + 4 * length words + (508 - 4 * length words) ≡ pc + 508 = omega (arith, words_length code) in
       let end : Holds text (pc + 4 * length words + (508 - 4 * length words)) last =
-          holds_back text (pc + 4 * length words) (508 - 4 * length words) gap last (zeros_length (508 - 4 * length words)) behind in (
+      holds_back text (pc + 4 * length words) (508 - 4 * length words) gap last (zeros_length (508 - 4 * length words)) behind in (
         code_stands pc code low (omega arith) range (holds_front text pc (bytes_of words) (gap ++ last) h),
         one_stands (pc + 508) return_code (omega arith) (omega arith) (omega (arith, ints)) (rw at at end),
       )

@@ -67,9 +67,24 @@ fn put_malloc(alloc: Global, bytes: &mut Vec<u8>) -> Result<(), AllocError>
         alloc,
         bytes,
         &[
-            0x0080_086F, 0x1F80_006F, 0x0800_05B7, 0x0045_A603, 0x02A6_6A63, 0x0100_0693, 0x00A6_F663,
-            0x00D6_86B3, 0xFF9F_F06F, 0x0005_A703, 0x40E6_07B3, 0x0106_8693, 0x00D7_EA63, 0x00D7_07B3,
-            0x00F5_A023, 0x0107_0513, 0x0008_0067, 0x0010_0073,
+            0x0080_086F,
+            0x1F80_006F,
+            0x0800_05B7,
+            0x0045_A603,
+            0x02A6_6A63,
+            0x0100_0693,
+            0x00A6_F663,
+            0x00D6_86B3,
+            0xFF9F_F06F,
+            0x0005_A703,
+            0x40E6_07B3,
+            0x0106_8693,
+            0x00D7_EA63,
+            0x00D7_07B3,
+            0x00F5_A023,
+            0x0107_0513,
+            0x0008_0067,
+            0x0010_0073,
         ],
     )
 }
@@ -82,7 +97,12 @@ fn put_calloc(alloc: Global, bytes: &mut Vec<u8>) -> Result<(), AllocError>
         alloc,
         bytes,
         &[
-            0x02B5_3633, 0x0006_1863, 0x02B5_0533, 0xDFDF_F86F, 0x1EC0_006F, 0x0010_0073,
+            0x02B5_3633,
+            0x0006_1863,
+            0x02B5_0533,
+            0xDFDF_F86F,
+            0x1EC0_006F,
+            0x0010_0073,
         ],
     )
 }
@@ -91,11 +111,7 @@ fn put_calloc(alloc: Global, bytes: &mut Vec<u8>) -> Result<(), AllocError>
 fn put_free(alloc: Global, bytes: &mut Vec<u8>) -> Result<(), AllocError>
     ensures { OnOk result (bytes.new.items ≡ bytes.old.items ++ page (words_of free_code)) }
 {
-    put_page(
-        alloc,
-        bytes,
-        &[0x1FC0_006F],
-    )
+    put_page(alloc, bytes, &[0x1FC0_006F])
 }
 
 /// COPY.
@@ -106,9 +122,22 @@ fn put_copy(alloc: Global, bytes: &mut Vec<u8>) -> Result<(), AllocError>
         alloc,
         bytes,
         &[
-            0x02A5_E263, 0x0005_0693, 0x1E06_0A63, 0x0005_C703, 0x00E6_8023, 0x0015_8593, 0x0016_8693,
-            0xFFF6_0613, 0xFE9F_F06F, 0x1C06_0C63, 0xFFF6_0613, 0x00C5_86B3, 0x0006_C703, 0x00C5_06B3,
-            0x00E6_8023, 0xFE9F_F06F,
+            0x02A5_E263,
+            0x0005_0693,
+            0x1E06_0A63,
+            0x0005_C703,
+            0x00E6_8023,
+            0x0015_8593,
+            0x0016_8693,
+            0xFFF6_0613,
+            0xFE9F_F06F,
+            0x1C06_0C63,
+            0xFFF6_0613,
+            0x00C5_86B3,
+            0x0006_C703,
+            0x00C5_06B3,
+            0x00E6_8023,
+            0xFE9F_F06F,
         ],
     )
 }
@@ -121,7 +150,12 @@ fn put_fill(alloc: Global, bytes: &mut Vec<u8>) -> Result<(), AllocError>
         alloc,
         bytes,
         &[
-            0x0005_0693, 0x1E06_0C63, 0x00B6_8023, 0x0016_8693, 0xFFF6_0613, 0xFF1F_F06F,
+            0x0005_0693,
+            0x1E06_0C63,
+            0x00B6_8023,
+            0x0016_8693,
+            0xFFF6_0613,
+            0xFF1F_F06F,
         ],
     )
 }
@@ -134,8 +168,19 @@ fn put_compare(alloc: Global, bytes: &mut Vec<u8>) -> Result<(), AllocError>
         alloc,
         bytes,
         &[
-            0x0206_0663, 0x0005_4683, 0x0005_C703, 0x00E6_9A63, 0x0015_0513, 0x0015_8593, 0xFFF6_0613,
-            0xFE5F_F06F, 0x00D7_3533, 0x00E6_B633, 0x40C5_0633, 0x0006_0513, 0x1CC0_006F,
+            0x0206_0663,
+            0x0005_4683,
+            0x0005_C703,
+            0x00E6_9A63,
+            0x0015_0513,
+            0x0015_8593,
+            0xFFF6_0613,
+            0xFE5F_F06F,
+            0x00D7_3533,
+            0x00E6_B633,
+            0x40C5_0633,
+            0x0006_0513,
+            0x1CC0_006F,
         ],
     )
 }

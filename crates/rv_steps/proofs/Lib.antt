@@ -4,3 +4,4 @@ pub mod Registers
 pub mod Steps
 pub mod Operators
 pub mod Routines
+pub mod Reaching

@@ -1,4 +1,4 @@
--- What each instruction is, by the numbers of its registers: an operator on one or two values, a load, a store or a branch; and the step of each kind backwards.
+-- What each instruction is, by the numbers of its registers: an operator, a load, a store or a branch; and the step of each kind backwards.
 use Rattle.std.proofs.Common.{◌≡◌, ℕ, ◌+◌, ◌%◌, ◌<◌, ◌≤◌, Bool, true, false, not, eqb, ltb, List, [], Some, ℤ, bit_and, bit_or, bit_xor, refl, ap, sym, ◌∙◌, subst}
 use Rattle.std.specs.Int.{w8, w16, cast_signed}
 use Rattle.rv_isa.specs.declared.image.Segment.{Segment}

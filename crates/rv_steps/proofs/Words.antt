@@ -1,7 +1,7 @@
 -- Words, halves and bytes in memory.
-use Rattle.std.proofs.Common.{◌≡◌, ℕ, ◌+◌, ◌*◌, ◌/◌, ◌%◌, ◌^◌, ◌<◌, ◌≤◌, ◌≢◌, ◌⊎◌, inl, inr, refl, ◌∙◌, eq-eqb, ne_eqb, arith}
-use Rattle.std.proofs.lemmas.Bool.{cases_eq}
-use Rattle.rv_isa.specs.Memory.{Memory, half_at, word_at, with_byte, with_half, with_word}
+use Rattle.std.proofs.Common.{◌≡◌, ℕ, ◌+◌, ◌*◌, ◌/◌, ◌%◌, ◌^◌, ◌<◌, ◌≤◌, ◌≢◌, ◌⊎◌, inl, inr, Bool, cond, ◌&&◌, leb, ltb, List, [], ◌∷◌, length, slice_index, ◌-◌, refl, ap, ◌∙◌, eq-eqb, ne_eqb, le-leb, lt-ltb, le-ltb, arith}
+use Rattle.std.proofs.lemmas.Bool.{cases_eq, cond_both, and_right, lt-leb}
+use Rattle.rv_isa.specs.Memory.{Memory, half_at, word_at, with_byte, with_half, with_word, bytes_at, with_bytes}
 use Rattle.rv_steps.specs.States.{Keeps, code_end}
 
 pub with_byte_same : (memory : Memory) (a v : ℕ) → with_byte memory a v a ≡ v % 2 ^ 8
@@ -108,3 +108,28 @@ half_again memory a v =
 
 pub half_fits : (memory : Memory) (a : ℕ) → ((c : ℕ) → memory c < 2 ^ 8) → half_at memory a < 2 ^ 16
 half_fits memory a fits = omega (arith, fits a, fits (a + 1))
+
+-- ---- lists of bytes
+
+-- the one byte from an address on
+pub bytes_at_one : (memory : Memory) (a : ℕ) → bytes_at memory a 1 ≡ memory a ∷ []
+unfolding bytes_at
+bytes_at_one memory a = refl
+
+module _ (memory : Memory) (a : ℕ) (bytes : List ℕ) where
+  pub with_bytes_inside : (i : ℕ) → i < length bytes → with_bytes memory a bytes (a + i) ≡ slice_index bytes i
+  with_bytes_inside i lt =
+      let e : a + i - a ≡ i = omega arith in
+      rw (le-leb a (a + i) (omega arith), lt-ltb (a + i) (a + length bytes) (omega arith)) (ap (slice_index bytes) e)
+
+  pub with_bytes_outside : (b : ℕ) → (b < a) ⊎ (a + length bytes ≤ b) → with_bytes memory a bytes b ≡ memory b
+  with_bytes_outside b (inl lt) = rw (lt-leb a b lt) refl
+  with_bytes_outside b (inr ge) = ap (λ (x : Bool). cond x (slice_index bytes (b - a)) (memory b)) (and_right (leb a b) _ (le-ltb b (a + length bytes) ge))
+
+  -- bytes that are read into memory above the text keep it
+  pub keeps_bytes : (text : Memory) → Keeps text memory → code_end ≤ a → ((i : ℕ) → slice_index bytes i < 2 ^ 8) → Keeps text (with_bytes memory a bytes)
+  keeps_bytes text keeps le small = record {
+    same = λ b lt. with_bytes_outside b (inl (omega arith)) ∙ keeps.same b lt;
+    bytes = λ b.
+        cond_both (leb a b && ltb b (a + length bytes)) (slice_index bytes (b - a)) (memory b) (λ (z : ℕ). z < 2 ^ 8) (λ e. small (b - a)) (λ e. keeps.bytes b);
+  }
