@@ -7,3 +7,4 @@ pub mod Ends
 pub mod Copying
 pub mod Filling
 pub mod Comparing
+pub mod Working

@@ -8,12 +8,15 @@ use Rattle.std.specs.List.{AllByRecursion}
 use Rattle.rv_isa.specs.declared.image.Segment.{Segment}
 use Rattle.rv_isa.specs.declared.instruction.Inst.{Inst}
 use Rattle.rv_isa.specs.Encoding.{encoding, IsInRange}
-use Rattle.rv_isa.specs.Memory.{Memory, executable, are_mapped, word_at}
+use Rattle.rv_isa.specs.Memory.{Memory, executable, readable, writable, are_mapped, word_at}
+use Rattle.rv_isa.specs.Events.{heap_start}
 use Rattle.rv_isa.proofs.Laws.{encoding_fits}
 use Rattle.rv_steps.specs.States.{Code, Stands}
 use Rattle.rv_steps.proofs.Ranges.{mapped_part}
-use Rattle.rv_runtime.specs.Bytes.{zeros, bytes_of, open_page, page, words_of, runtime_bytes, Holds, Runtime}
+use Rattle.rv_runtime.specs.Bytes.{zeros, bytes_of, open_page, page, words_of, runtime_bytes, data_bytes, Holds, Runtime}
+use Rattle.rv_runtime.specs.Effects.{Heap}
 use Rattle.rv_runtime.specs.Routines.{return_code, start_entry, start_code, exit_code, malloc_code, calloc_code, free_code, copy_code, fill_code, compare_code}
+use Rattle.rv_runtime.specs.Routines.{data_place}
 
 -- ---- parts of what stands
 
@@ -207,4 +210,21 @@ runtime_stands segments text mapped h =
       fill_last = both5.1;
       compare = both6.0;
       compare_last = both6.1;
+    }
+
+-- ---- the runtime's own data
+
+pub heap_begins : (segments : List Segment) (memory : Memory) (end : ℕ) → end ≤ 2 ^ 31 → are_mapped segments readable data_place 8 ≡ true
+    → are_mapped segments writable data_place 4 ≡ true → Holds memory data_place (data_bytes end) → Heap segments memory 0x20000000 end
+unfolding data_bytes
+heap_begins segments memory end small reads writes h =
+    let first = to_le_bytes w32 heap_start in
+    let second = to_le_bytes w32 end in
+    let rest : Holds memory (data_place + 4) (second ++ zeros 248) = holds_back memory data_place 4 first (second ++ zeros 248) refl h in
+    record {
+      begins = holds_word memory data_place heap_start (omega arith) (holds_front memory data_place first (second ++ zeros 248) h);
+      limit = holds_word memory (data_place + 4) end (omega arith) (holds_front memory (data_place + 4) second (zeros 248) rest);
+      small = small;
+      reads = reads;
+      writes = writes;
     }

@@ -4,7 +4,7 @@ use Rattle.std.specs.Int.{w32, to_le_bytes}
 use Rattle.rv_isa.specs.declared.image.Segment.{Segment}
 use Rattle.rv_isa.specs.declared.instruction.Inst.{Inst}
 use Rattle.rv_isa.specs.Encoding.{encoding}
-use Rattle.rv_isa.specs.Events.{malloc_entry, malloc_return, calloc_entry, calloc_return, free_entry}
+use Rattle.rv_isa.specs.Events.{malloc_entry, malloc_return, calloc_entry, calloc_return, free_entry, heap_start}
 use Rattle.rv_isa.specs.Memory.{Memory}
 use Rattle.rv_steps.specs.States.{Code, Stands}
 use Rattle.rv_runtime.specs.Routines.{start_entry, exit_entry, free_return, copy_entry, copy_return, fill_entry, fill_return, compare_entry, compare_return}
@@ -38,6 +38,10 @@ runtime_bytes =
     ++ (page (words_of malloc_code)
     ++ (page (words_of calloc_code)
     ++ (page (words_of free_code) ++ (page (words_of copy_code) ++ (page (words_of fill_code) ++ page (words_of compare_code)))))))
+
+-- the runtime's own data, 256 bytes: where the unused heap begins, where the heap ends, and zeros
+unfoldable pub data_bytes : (end : ℕ) → List ℕ
+data_bytes end = to_le_bytes w32 heap_start ++ (to_le_bytes w32 end ++ zeros 248)
 
 -- ---- in memory
 

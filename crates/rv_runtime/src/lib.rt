@@ -6,6 +6,8 @@
 //! `exit_is_end`, `start_works`). MALLOC and CALLOC have no claim where there is no room: they meet EBREAK there.
 #![tactic(auto)]
 
+mod laws;
 mod words;
 
-pub use words::runtime;
+pub use laws::{exit_ends, heap_begins, routines_stand, routines_work, start_leads};
+pub use words::{runtime, runtime_data};

@@ -2,12 +2,15 @@
 
 ghost use Rattle.std.specs.Prelude.{◌≡◌, ◌++◌, ◌≤◌, length, OnOk, IfOk};
 ghost use Rattle.rv_runtime.specs.Routines.{start_code, exit_code, malloc_code, calloc_code, free_code, copy_code, fill_code, compare_code};
-ghost use Rattle.rv_runtime.specs.Bytes.{zeros, bytes_of, open_page, page, words_of, runtime_bytes};
+ghost use Rattle.rv_runtime.specs.Bytes.{zeros, bytes_of, open_page, page, words_of, runtime_bytes, data_bytes};
 
 use std::alloc::{AllocError, Global};
 
 /// The bytes of a routine.
 const ROUTINE: usize = 512;
+
+/// Where the heap begins.
+const HEAP: u32 = 0x2000_0000;
 
 /// The word that returns.
 const RETURN: u32 = 0x0000_8067;
@@ -197,5 +200,17 @@ pub fn runtime(alloc: Global) -> Result<Vec<u8>, AllocError>
     put_copy(alloc, &mut bytes)?;
     put_fill(alloc, &mut bytes)?;
     put_compare(alloc, &mut bytes)?;
+    Ok(bytes)
+}
+
+/// The 256 bytes that stand at the front of a program's data, where the heap ends at that address.
+#[tactic(auto, unfolding(crate::specs::Bytes::data_bytes))]
+pub fn runtime_data(alloc: Global, end: u32) -> Result<Vec<u8>, AllocError>
+    ensures { IfOk result (λ bytes. bytes.items ≡ data_bytes end) }
+{
+    let mut bytes = Vec::new(alloc);
+    bytes.extend_from_slice(&HEAP.to_le_bytes())?;
+    bytes.extend_from_slice(&end.to_le_bytes())?;
+    bytes.extend_from_slice(&zero_bytes(alloc, 248)?)?;
     Ok(bytes)
 }

@@ -1,0 +1,28 @@
+//! What the routines do.
+
+ghost use Rattle.rv_runtime.specs.Laws.{RoutinesStand, HeapBegins, RoutinesWork, StartLeads, ExitEnds};
+
+/// Where the bytes of `runtime` stand in a text that is executable, so do the routines.
+pub fn routines_stand()
+    ensures { RoutinesStand }
+{}
+
+/// Where the bytes of `runtime_data` stand, the whole heap is unused.
+pub fn heap_begins()
+    ensures { HeapBegins }
+{}
+
+/// Entered at its first word, each of the routines from MALLOC to COMPARE comes back to x1 and leaves what it is to leave; MALLOC and CALLOC where there is room.
+pub fn routines_work()
+    ensures { RoutinesWork }
+{}
+
+/// The start leads to compiled code.
+pub fn start_leads()
+    ensures { StartLeads }
+{}
+
+/// EXIT ends the run with the low byte of a0.
+pub fn exit_ends()
+    ensures { ExitEnds }
+{}
