@@ -1,5 +1,5 @@
 -- MALLOC and CALLOC where there is room.
-use Rattle.std.proofs.Common.{◌≡◌, ℕ, zero, suc, ◌+◌, ◌-◌, ◌*◌, ◌/◌, ◌%◌, ◌^◌, ◌<◌, ◌≤◌, ◌≢◌, ◌⊎◌, true, false, ltb, eqb, List, ◌∷◌, pos, negsuc}
+use Rattle.std.proofs.Common.{◌≡◌, ℕ, zero, suc, ◌+◌, ◌-◌, ◌*◌, ◌/◌, ◌%◌, ◌^◌, ◌<◌, ◌≤◌, ◌≢◌, ◌⊎◌, inr, true, false, ltb, eqb, List, ◌∷◌, pos, negsuc}
 use Rattle.std.proofs.Common.{refl, ap, sym, ◌∙◌, arith, le-ltb, lt-ltb, ltb-true, ltb-false, eq-eqb}
 use Rattle.std.proofs.lemmas.Bool.{cond_both}
 use Rattle.std.proofs.lemmas.Int.{ints}
@@ -13,12 +13,37 @@ use Rattle.rv_steps.specs.States.{put, at, IsBackward, Code, Keeps}
 use Rattle.rv_steps.proofs.Ranges.{mapped_part}
 use Rattle.rv_steps.proofs.Registers.{put_other}
 use Rattle.rv_steps.proofs.Routines.{by_routine, puts_inside, loads_inside, stores_inside, jumps_inside}
-use Rattle.rv_steps.proofs.Words.{keeps_word}
+use Rattle.rv_steps.proofs.Words.{keeps_word, word_again, word_apart, word_same}
 use Rattle.rv_runtime.specs.Bytes.{Runtime}
 use Rattle.rv_runtime.specs.Effects.{Leaves, Returns, Heap}
 use Rattle.rv_runtime.specs.Routines.{rounded, taken, data_place, allocate_entry, allocate_code}
 use Rattle.rv_runtime.proofs.Returning.{wider, still_returns, target_is, replies}
 use Rattle.rv_runtime.proofs.Rounded.{powers, taken_is, taken_stopped}
+
+-- ---- the heap behind an allocation, and behind what leaves the runtime's own data as they were
+
+pub heap_moves : (segments : List Segment) (memory : Memory) (unused end top : ℕ) → Heap segments memory unused end → top < 2 ^ 32
+    → Heap segments (with_word memory data_place top) top end
+heap_moves segments memory unused end top heap small = record {
+  begins = word_again memory data_place top small;
+  limit = word_apart memory data_place top (data_place + 4) (inr (omega arith)) ∙ heap.limit;
+  small = heap.small;
+  reads = heap.reads;
+  writes = heap.writes;
+}
+
+pub heap_stays : (segments : List Segment) (memory after : Memory) (unused end : ℕ) → Heap segments memory unused end
+    → ((k : ℕ) → k < 8 → after (data_place + k) ≡ memory (data_place + k)) → Heap segments after unused end
+heap_stays segments memory after unused end heap same = record {
+  begins = word_same memory after data_place (λ k lt. same k (omega arith)) ∙ heap.begins;
+  limit = word_same memory after (data_place + 4) (λ k lt.
+  let e : data_place + 4 + k ≡ data_place + (4 + k) = omega arith in ap after e ∙ same (4 + k) (omega arith) ∙ ap memory (sym e)) ∙ heap.limit;
+  small = heap.small;
+  reads = heap.reads;
+  writes = heap.writes;
+}
+
+-- ---- the routines
 
 module _ (segments : List Segment) (text : Memory) (Claim : ℕ → State → List MachineEvent → Type 0) (claim : IsBackward segments Claim)
     (runtime : Runtime segments text) (n : ℕ) (before : List MachineEvent) (memory : Memory) (input output : List ℕ) (keeps : Keeps text memory)

@@ -1,9 +1,9 @@
--- What each instruction is, by the numbers of its registers: an operator, a load, a store or a branch; and the step of each kind backwards.
-use Rattle.std.proofs.Common.{◌≡◌, ℕ, ◌+◌, ◌%◌, ◌<◌, ◌≤◌, Bool, true, false, not, eqb, ltb, List, [], Some, ℤ, bit_and, bit_or, bit_xor, refl, ap, sym, ◌∙◌, subst}
+-- What each instruction is, by the numbers of its registers: an operator, a load, a store, a branch or a jump; and the step of each kind backwards.
+use Rattle.std.proofs.Common.{◌≡◌, ℕ, ◌+◌, ◌*◌, ◌/◌, ◌%◌, ◌<◌, ◌≤◌, Bool, true, false, not, eqb, ltb, List, [], Some, ℤ, bit_and, bit_or, bit_xor, refl, ap, sym, ◌∙◌, subst}
 use Rattle.std.specs.Int.{w8, w16, cast_signed}
 use Rattle.rv_isa.specs.declared.image.Segment.{Segment}
 use Rattle.rv_isa.specs.declared.instruction.Inst.{Inst}
-use Rattle.rv_isa.specs.declared.instruction.Inst.TheVariants.{Beq, Bne, Blt, Bge, Bltu, Bgeu, Lb, Lh, Lw, Lbu, Lhu, Sb, Sh, Sw, Addi, Slti, Sltiu, Xori, Ori, Andi}
+use Rattle.rv_isa.specs.declared.instruction.Inst.TheVariants.{Jal, Jalr, Beq, Bne, Blt, Bge, Bltu, Bgeu, Lb, Lh, Lw, Lbu, Lhu, Sb, Sh, Sw, Addi, Slti, Sltiu, Xori, Ori, Andi}
 use Rattle.rv_isa.specs.declared.instruction.Inst.TheVariants.{Slli, Srli, Srai, Add, Sub, Sll, Slt, Sltu, Xor, Srl, Sra, Or, And, Mul, Mulh, Mulhsu, Mulhu, Div}
 use Rattle.rv_isa.specs.declared.instruction.Inst.TheVariants.{Divu, Rem, Remu}
 use Rattle.rv_isa.specs.Arithmetic.{one_if, plus, extended, is_less, sum, difference, product, high_signed, high_mixed, high_unsigned, shifted_left}
@@ -13,7 +13,7 @@ use Rattle.rv_isa.specs.Step.{State, register, executed, accesses, writes, store
 use Rattle.rv_isa.specs.Events.{MachineEvent, accessed, loads_at, stores_at, code_address}
 use Rattle.rv_steps.specs.States.{put, at, later, IsBackward, Stands, Keeps}
 use Rattle.rv_steps.proofs.Registers.{register_is}
-use Rattle.rv_steps.proofs.Steps.{by_put, by_load, by_store, by_taken, by_passed}
+use Rattle.rv_steps.proofs.Steps.{by_put, by_load, by_store, by_taken, by_passed, by_jump, linked}
 
 -- ---- operators on two registers
 
@@ -230,3 +230,37 @@ module _ (segments : List Segment) (text : Memory) (Claim : ℕ → State → Li
   by_branch_passed a b test d is la lb no' c =
       by_passed segments text Claim claim f pc memory input output keeps le n before i (test (register s a) (register s b)) d h (is.does segments s)
       (is.quiet segments s) (test_is a b test la lb ∙ no') c
+
+-- ---- jumps, with the place behind them in a register or nowhere
+
+module _ (segments : List Segment) (text : Memory) (Claim : ℕ → State → List MachineEvent → Type 0) (claim : IsBackward segments Claim) (f : ℕ → ℕ) (pc : ℕ)
+    (memory : Memory) (input output : List ℕ) (keeps : Keeps text memory) (le : code_address ≤ pc) (n : ℕ) (before : List MachineEvent) (to : ℕ) (whole : to % 4 ≡ 0)
+    (code : code_address ≤ to) where
+  abbrev from : State
+  from = at f pc memory input output
+
+  pub by_jal : (d : ℤ) → Stands segments text pc (Jal 0 d) → plus pc d ≡ to → Claim n (at f to memory input output) before → Claim (n + 1) from before
+  by_jal d h place c =
+      by_jump segments text Claim claim f pc memory input output keeps le n before (Jal 0 d) f (plus pc d) to h refl refl place whole code c
+
+  pub by_jal_linked : (r : ℕ) (d : ℤ) → Stands segments text pc (Jal r d) → 0 < r → plus pc d ≡ to
+      → Claim n (at (put f r (pc + 4)) to memory input output) before → Claim (n + 1) from before
+  by_jal_linked r d h low place c =
+      by_jump segments text Claim claim f pc memory input output keeps le n before (Jal r d) (put f r (pc + 4)) (plus pc d) to h
+      (linked segments text Claim claim f pc memory input output keeps le (Jal r d) h r (plus pc d) low) refl place whole code c
+
+  target : (a : ℕ) (imm : ℤ) → a < 32 → plus (f a) imm / 2 * 2 ≡ to → plus (register from a) imm / 2 * 2 ≡ to
+  target a imm la place = ap (λ (x : ℕ). plus x imm / 2 * 2) (register_is f a la) ∙ place
+
+  pub by_jalr : (a : ℕ) (imm : ℤ) → Stands segments text pc (Jalr 0 a imm) → a < 32 → plus (f a) imm / 2 * 2 ≡ to
+      → Claim n (at f to memory input output) before → Claim (n + 1) from before
+  by_jalr a imm h la place c =
+      by_jump segments text Claim claim f pc memory input output keeps le n before (Jalr 0 a imm) f (plus (register from a) imm / 2 * 2) to h refl refl
+      (target a imm la place) whole code c
+
+  pub by_jalr_linked : (r a : ℕ) (imm : ℤ) → Stands segments text pc (Jalr r a imm) → 0 < r → a < 32 → plus (f a) imm / 2 * 2 ≡ to
+      → Claim n (at (put f r (pc + 4)) to memory input output) before → Claim (n + 1) from before
+  by_jalr_linked r a imm h low la place c =
+      by_jump segments text Claim claim f pc memory input output keeps le n before (Jalr r a imm) (put f r (pc + 4)) (plus (register from a) imm / 2 * 2) to h
+      (linked segments text Claim claim f pc memory input output keeps le (Jalr r a imm) h r (plus (register from a) imm / 2 * 2) low) refl
+      (target a imm la place) whole code c

@@ -42,10 +42,12 @@ module _ (segments : List Segment) (Goal : State → List MachineEvent → Type 
   earlier s t before made e tells h =
       let k = h.0 in
       let told : later (events segments (suc k) s) before ≡ later (events segments k t) (later made before) =
-          ap (λ (x : List MachineEvent). later x before) (events_behind k s t e ∙ ap (λ (x : List MachineEvent). x ++ events segments k t) tells)
-          ∙ later_both made (events segments k t) before in
-      (suc k, subst (λ (u : State). Goal u (later (events segments (suc k) s) before)) (sym (state_behind k s t e))
-      (subst (Goal (state_after segments k t)) (sym told) h.1))
+      ap (λ (x : List MachineEvent). later x before) (events_behind k s t e ∙ ap (λ (x : List MachineEvent). x ++ events segments k t) tells)
+      ∙ later_both made (events segments k t) before in (
+        suc k,
+        subst (λ (u : State). Goal u (later (events segments (suc k) s) before)) (sym (state_behind k s t e))
+            (subst (Goal (state_after segments k t)) (sym told) h.1),
+      )
 
   pub reaching : IsBackward segments (λ n s before. Reaches segments Goal s before)
   reaching = record { back = λ n s t before made e tells h. earlier s t before made e tells h; fewer = λ n s before h. h }
