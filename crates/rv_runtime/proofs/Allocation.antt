@@ -37,7 +37,7 @@ pub heap_stays : (segments : List Segment) (memory after : Memory) (unused end :
 heap_stays segments memory after unused end heap same = record {
   begins = word_same memory after data_place (λ k lt. same k (omega arith)) ∙ heap.begins;
   limit = word_same memory after (data_place + 4) (λ k lt.
-  let e : data_place + 4 + k ≡ data_place + (4 + k) = omega arith in ap after e ∙ same (4 + k) (omega arith) ∙ ap memory (sym e)) ∙ heap.limit;
+      let e : data_place + 4 + k ≡ data_place + (4 + k) = omega arith in ap after e ∙ same (4 + k) (omega arith) ∙ ap memory (sym e)) ∙ heap.limit;
   small = heap.small;
   reads = heap.reads;
   writes = heap.writes;

@@ -144,7 +144,7 @@ pub exit_ends : ExitEnds
 exit_ends segments text memory input output f runtime keeps nil =
     let t = at (put f 17 93) (exit_entry + 4) memory input output in (
       leads_of segments (at f exit_entry memory input output) t []
-      (exit_works segments text (λ n s before. Reaches segments (Is t []) s before) (reaching segments (Is t [])) runtime 0 [] f memory input output keeps nil
-      (reached segments (Is t []) t [] (refl, refl))),
+          (exit_works segments text (λ n s before. Reaches segments (Is t []) s before) (reaching segments (Is t [])) runtime 0 [] f memory input output keeps nil
+          (reached segments (Is t []) t [] (refl, refl))),
       exit_is_end segments text runtime f memory input output keeps,
     )
