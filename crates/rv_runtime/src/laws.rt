@@ -12,7 +12,8 @@ pub fn heap_begins()
     ensures { HeapBegins }
 {}
 
-/// Entered at its first word, each of the routines from MALLOC to COMPARE comes back to x1 and leaves what it is to leave; MALLOC and CALLOC where there is room.
+/// Entered at its first word, each of the routines from MALLOC to COMPARE comes back to x1 and leaves what it is to leave; MALLOC and CALLOC do where there
+/// is room.
 pub fn routines_work()
     ensures { RoutinesWork }
 {}

@@ -1,8 +1,7 @@
 //! The words of the routines.
 
 ghost use Rattle.std.specs.Prelude.{◌≡◌, ◌++◌, ◌≤◌, length, OnOk, IfOk};
-ghost use Rattle.rv_runtime.specs.Routines.{start_code, exit_code, malloc_code, calloc_code, free_code, copy_code, fill_code, compare_code};
-ghost use Rattle.rv_runtime.specs.Bytes.{zeros, bytes_of, open_page, page, words_of, runtime_bytes, data_bytes};
+ghost use Rattle.rv_runtime.specs.Bytes.{zeros, bytes_of, open_page, page, runtime_bytes, data_bytes};
 
 use std::alloc::{AllocError, Global};
 
@@ -10,10 +9,42 @@ use std::alloc::{AllocError, Global};
 const ROUTINE: usize = 512;
 
 /// Where the heap begins.
-const HEAP: u32 = 0x2000_0000;
+const HEAP: u32 = 0x20000000;
 
 /// The word that returns.
-const RETURN: u32 = 0x0000_8067;
+const RETURN: u32 = 0x00008067;
+
+// The words of each routine, but for the one that returns.
+
+static START: [u32; 1] = [0x0000106F];
+
+static EXIT: [u32; 2] = [0x05D00893, 0x00000073];
+
+static MALLOC: [u32; 18] = [
+    0x0080086F, 0x1F80006F, 0x080005B7, 0x0045A603, 0x02A66A63, 0x01000693, 0x00A6F663, 0x00D686B3,
+    0xFF9FF06F, 0x0005A703, 0x40E607B3, 0x01068693, 0x00D7EA63, 0x00D707B3, 0x00F5A023, 0x01070513,
+    0x00080067, 0x00100073,
+];
+
+static CALLOC: [u32; 6] = [
+    0x02B53633, 0x00061863, 0x02B50533, 0xDFDFF86F, 0x1EC0006F, 0x00100073,
+];
+
+static FREE: [u32; 1] = [0x1FC0006F];
+
+static COPY: [u32; 16] = [
+    0x02A5E263, 0x00050693, 0x1E060A63, 0x0005C703, 0x00E68023, 0x00158593, 0x00168693, 0xFFF60613,
+    0xFE9FF06F, 0x1C060C63, 0xFFF60613, 0x00C586B3, 0x0006C703, 0x00C506B3, 0x00E68023, 0xFE9FF06F,
+];
+
+static FILL: [u32; 6] = [
+    0x00050693, 0x1E060C63, 0x00B68023, 0x00168693, 0xFFF60613, 0xFF1FF06F,
+];
+
+static COMPARE: [u32; 13] = [
+    0x02060663, 0x00054683, 0x0005C703, 0x00E69A63, 0x00150513, 0x00158593, 0xFFF60613, 0xFE5FF06F,
+    0x00D73533, 0x00E6B633, 0x40C50633, 0x00060513, 0x1CC0006F,
+];
 
 #[tactic(auto, unfolding(crate::specs::Bytes::zeros))]
 fn zero_bytes(alloc: Global, n: usize) -> Result<Vec<u8>, AllocError>
@@ -54,152 +85,19 @@ fn put_page(alloc: Global, bytes: &mut Vec<u8>, words: &[u32]) -> Result<(), All
     put_words(bytes, &[RETURN])
 }
 
-/// The start and EXIT.
-fn put_ends(alloc: Global, bytes: &mut Vec<u8>) -> Result<(), AllocError>
-    ensures { OnOk result (bytes.new.items ≡ bytes.old.items ++ (open_page (words_of start_code) ++ open_page (words_of exit_code))) }
-{
-    put_open(alloc, bytes, &[0x0000_106F])?;
-    put_open(alloc, bytes, &[0x05D0_0893, 0x0000_0073])
-}
-
-/// MALLOC.
-fn put_malloc(alloc: Global, bytes: &mut Vec<u8>) -> Result<(), AllocError>
-    ensures { OnOk result (bytes.new.items ≡ bytes.old.items ++ page (words_of malloc_code)) }
-{
-    put_page(
-        alloc,
-        bytes,
-        &[
-            0x0080_086F,
-            0x1F80_006F,
-            0x0800_05B7,
-            0x0045_A603,
-            0x02A6_6A63,
-            0x0100_0693,
-            0x00A6_F663,
-            0x00D6_86B3,
-            0xFF9F_F06F,
-            0x0005_A703,
-            0x40E6_07B3,
-            0x0106_8693,
-            0x00D7_EA63,
-            0x00D7_07B3,
-            0x00F5_A023,
-            0x0107_0513,
-            0x0008_0067,
-            0x0010_0073,
-        ],
-    )
-}
-
-/// CALLOC.
-fn put_calloc(alloc: Global, bytes: &mut Vec<u8>) -> Result<(), AllocError>
-    ensures { OnOk result (bytes.new.items ≡ bytes.old.items ++ page (words_of calloc_code)) }
-{
-    put_page(
-        alloc,
-        bytes,
-        &[
-            0x02B5_3633,
-            0x0006_1863,
-            0x02B5_0533,
-            0xDFDF_F86F,
-            0x1EC0_006F,
-            0x0010_0073,
-        ],
-    )
-}
-
-/// FREE.
-fn put_free(alloc: Global, bytes: &mut Vec<u8>) -> Result<(), AllocError>
-    ensures { OnOk result (bytes.new.items ≡ bytes.old.items ++ page (words_of free_code)) }
-{
-    put_page(alloc, bytes, &[0x1FC0_006F])
-}
-
-/// COPY.
-fn put_copy(alloc: Global, bytes: &mut Vec<u8>) -> Result<(), AllocError>
-    ensures { OnOk result (bytes.new.items ≡ bytes.old.items ++ page (words_of copy_code)) }
-{
-    put_page(
-        alloc,
-        bytes,
-        &[
-            0x02A5_E263,
-            0x0005_0693,
-            0x1E06_0A63,
-            0x0005_C703,
-            0x00E6_8023,
-            0x0015_8593,
-            0x0016_8693,
-            0xFFF6_0613,
-            0xFE9F_F06F,
-            0x1C06_0C63,
-            0xFFF6_0613,
-            0x00C5_86B3,
-            0x0006_C703,
-            0x00C5_06B3,
-            0x00E6_8023,
-            0xFE9F_F06F,
-        ],
-    )
-}
-
-/// FILL.
-fn put_fill(alloc: Global, bytes: &mut Vec<u8>) -> Result<(), AllocError>
-    ensures { OnOk result (bytes.new.items ≡ bytes.old.items ++ page (words_of fill_code)) }
-{
-    put_page(
-        alloc,
-        bytes,
-        &[
-            0x0005_0693,
-            0x1E06_0C63,
-            0x00B6_8023,
-            0x0016_8693,
-            0xFFF6_0613,
-            0xFF1F_F06F,
-        ],
-    )
-}
-
-/// COMPARE.
-fn put_compare(alloc: Global, bytes: &mut Vec<u8>) -> Result<(), AllocError>
-    ensures { OnOk result (bytes.new.items ≡ bytes.old.items ++ page (words_of compare_code)) }
-{
-    put_page(
-        alloc,
-        bytes,
-        &[
-            0x0206_0663,
-            0x0005_4683,
-            0x0005_C703,
-            0x00E6_9A63,
-            0x0015_0513,
-            0x0015_8593,
-            0xFFF6_0613,
-            0xFE5F_F06F,
-            0x00D7_3533,
-            0x00E6_B633,
-            0x40C5_0633,
-            0x0006_0513,
-            0x1CC0_006F,
-        ],
-    )
-}
-
 /// The first 4,096 bytes of a program's text.
 pub fn runtime(alloc: Global) -> Result<Vec<u8>, AllocError>
     ensures { IfOk result (λ bytes. bytes.items ≡ runtime_bytes) }
 {
     let mut bytes = Vec::new(alloc);
-    put_ends(alloc, &mut bytes)?;
-    put_malloc(alloc, &mut bytes)?;
-    put_calloc(alloc, &mut bytes)?;
-    put_free(alloc, &mut bytes)?;
-    put_copy(alloc, &mut bytes)?;
-    put_fill(alloc, &mut bytes)?;
-    put_compare(alloc, &mut bytes)?;
+    put_open(alloc, &mut bytes, &START)?;
+    put_open(alloc, &mut bytes, &EXIT)?;
+    put_page(alloc, &mut bytes, &MALLOC)?;
+    put_page(alloc, &mut bytes, &CALLOC)?;
+    put_page(alloc, &mut bytes, &FREE)?;
+    put_page(alloc, &mut bytes, &COPY)?;
+    put_page(alloc, &mut bytes, &FILL)?;
+    put_page(alloc, &mut bytes, &COMPARE)?;
     Ok(bytes)
 }
 
