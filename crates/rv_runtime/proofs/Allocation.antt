@@ -8,7 +8,7 @@ use Rattle.rv_isa.specs.declared.instruction.Inst.TheVariants.{Lui, Jal, Jalr, B
 use Rattle.rv_isa.specs.Arithmetic.{plus}
 use Rattle.rv_isa.specs.Memory.{Memory, readable, word_at, with_word}
 use Rattle.rv_isa.specs.Step.{State}
-use Rattle.rv_isa.specs.Events.{MachineEvent, Reply, malloc_entry, calloc_entry}
+use Rattle.rv_isa.specs.Events.{heap_start, MachineEvent, Reply, malloc_entry, calloc_entry}
 use Rattle.rv_steps.specs.States.{put, at, IsBackward, Code, Keeps}
 use Rattle.rv_steps.proofs.Ranges.{mapped_part}
 use Rattle.rv_steps.proofs.Registers.{put_other}
@@ -16,17 +16,20 @@ use Rattle.rv_steps.proofs.Routines.{by_routine, puts_inside, loads_inside, stor
 use Rattle.rv_steps.proofs.Words.{keeps_word, word_again, word_apart, word_same}
 use Rattle.rv_runtime.specs.Bytes.{Runtime}
 use Rattle.rv_runtime.specs.Effects.{Leaves, Returns, Heap}
+use Rattle.rv_runtime.specs.Laws.{BlocksFit}
 use Rattle.rv_runtime.specs.Routines.{rounded, taken, data_place, allocate_entry, allocate_code}
 use Rattle.rv_runtime.proofs.Returning.{wider, still_returns, target_is, replies}
-use Rattle.rv_runtime.proofs.Rounded.{powers, taken_is, taken_stopped}
+use Rattle.rv_runtime.proofs.Rounded.{powers, taken_is, taken_stopped, taken_whole}
 
 -- ---- the heap behind an allocation, and behind what leaves the runtime's own data as they were
 
-pub heap_moves : (segments : List Segment) (memory : Memory) (unused end top : ℕ) → Heap segments memory unused end → top < 2 ^ 32
-    → Heap segments (with_word memory data_place top) top end
-heap_moves segments memory unused end top heap small = record {
+pub heap_moves : (segments : List Segment) (memory : Memory) (unused end top : ℕ) → Heap segments memory unused end → top < 2 ^ 32 → top % 16 ≡ 0
+    → heap_start ≤ top → Heap segments (with_word memory data_place top) top end
+heap_moves segments memory unused end top heap small whole low = record {
   begins = word_again memory data_place top small;
   limit = word_apart memory data_place top (data_place + 4) (inr (omega arith)) ∙ heap.limit;
+  whole = whole;
+  low = low;
   small = heap.small;
   reads = heap.reads;
   writes = heap.writes;
@@ -38,9 +41,21 @@ heap_stays segments memory after unused end heap same = record {
   begins = word_same memory after data_place (λ k lt. same k (omega arith)) ∙ heap.begins;
   limit = word_same memory after (data_place + 4) (λ k lt.
       let e : data_place + 4 + k ≡ data_place + (4 + k) = omega arith in ap after e ∙ same (4 + k) (omega arith) ∙ ap memory (sym e)) ∙ heap.limit;
+  whole = heap.whole;
+  low = heap.low;
   small = heap.small;
   reads = heap.reads;
   writes = heap.writes;
+}
+
+pub blocks_fit : BlocksFit
+blocks_fit segments memory unused end n heap room = record {
+  whole = omega (arith, heap.whole);
+  low = omega (arith, heap.low);
+  enough = taken_stopped n (omega (arith, heap.small));
+  rest =
+      heap_moves segments memory unused end (unused + 16 + taken n) heap (omega (arith, heap.small)) (omega (arith, heap.whole, taken_whole n))
+      (omega (arith, heap.low));
 }
 
 -- ---- the routines

@@ -215,7 +215,7 @@ runtime_stands segments text mapped h =
 -- ---- the runtime's own data
 
 pub heap_begins : (segments : List Segment) (memory : Memory) (end : ℕ) → end ≤ 2 ^ 31 → are_mapped segments readable data_place 8 ≡ true
-    → are_mapped segments writable data_place 4 ≡ true → Holds memory data_place (data_bytes end) → Heap segments memory 0x20000000 end
+    → are_mapped segments writable data_place 4 ≡ true → Holds memory data_place (data_bytes end) → Heap segments memory heap_start end
 unfolding data_bytes
 heap_begins segments memory end small reads writes h =
     let first = to_le_bytes w32 heap_start in
@@ -224,6 +224,8 @@ heap_begins segments memory end small reads writes h =
     record {
       begins = holds_word memory data_place heap_start (omega arith) (holds_front memory data_place first (second ++ zeros 248) h);
       limit = holds_word memory (data_place + 4) end (omega arith) (holds_front memory (data_place + 4) second (zeros 248) rest);
+      whole = refl;
+      low = omega arith;
       small = small;
       reads = reads;
       writes = writes;

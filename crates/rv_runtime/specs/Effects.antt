@@ -1,7 +1,7 @@
 -- What routines find and leave: registers, the heap, bytes that are copied, filled and compared.
 use Rattle.std.specs.Prelude.{◌≡◌, ℕ, zero, suc, ◌+◌, ◌-◌, ◌%◌, ◌^◌, ◌<◌, ◌≤◌, ◌⊎◌, true, nat_lt, if◌then◌else◌, List}
 use Rattle.rv_isa.specs.declared.image.Segment.{Segment}
-use Rattle.rv_isa.specs.Events.{code_address}
+use Rattle.rv_isa.specs.Events.{code_address, heap_start}
 use Rattle.rv_isa.specs.Memory.{Memory, readable, writable, are_mapped, word_at}
 use Rattle.rv_runtime.specs.Routines.{data_place}
 
@@ -25,6 +25,8 @@ pub record Returns (f : ℕ → ℕ) (place : ℕ) : Type 0 where
 pub record Heap (segments : List Segment) (memory : Memory) (unused end : ℕ) : Type 0 where
   pub begins : word_at memory data_place ≡ unused
   pub limit : word_at memory (data_place + 4) ≡ end
+  pub whole : unused % 16 ≡ 0
+  pub low : heap_start ≤ unused
   pub small : end ≤ 2 ^ 31
   pub reads : are_mapped segments readable data_place 8 ≡ true
   pub writes : are_mapped segments writable data_place 4 ≡ true

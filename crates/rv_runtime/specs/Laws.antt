@@ -1,7 +1,7 @@
 -- What each routine does, from its first word back to the caller.
 use Rattle.std.specs.Prelude.{◌≡◌, ℕ, ◌+◌, ◌*◌, ◌%◌, ◌^◌, ◌<◌, ◌≤◌, true, List, [], ◌∷◌}
 use Rattle.rv_isa.specs.declared.image.Segment.{Segment}
-use Rattle.rv_isa.specs.Events.{MachineEvent, Reply, code_address, malloc_entry, calloc_entry, free_entry}
+use Rattle.rv_isa.specs.Events.{MachineEvent, Reply, code_address, malloc_entry, calloc_entry, free_entry, heap_start}
 use Rattle.rv_isa.specs.Memory.{Memory, executable, readable, writable, are_mapped, with_word}
 use Rattle.rv_isa.specs.Step.{Ends, Exits, step}
 use Rattle.rv_steps.specs.States.{put, at, code_end, Keeps, Leads}
@@ -19,7 +19,19 @@ RoutinesStand = (segments : List Segment) (text : Memory) → are_mapped segment
 -- the whole heap is unused where the runtime's data stand
 abbrev pub HeapBegins : Type 0
 HeapBegins = (segments : List Segment) (memory : Memory) (end : ℕ) → end ≤ 2 ^ 31 → are_mapped segments readable data_place 8 ≡ true
-    → are_mapped segments writable data_place 4 ≡ true → Holds memory data_place (data_bytes end) → Heap segments memory 0x20000000 end
+    → are_mapped segments writable data_place 4 ≡ true → Holds memory data_place (data_bytes end) → Heap segments memory heap_start end
+
+-- what a request for n bytes is given: a multiple of 16 in the heap, with room for them, and the heap is unused from behind them on
+pub record BlockFits (segments : List Segment) (memory : Memory) (unused end n : ℕ) : Type 0 where
+  pub whole : (unused + head) % 16 ≡ 0
+  pub low : heap_start ≤ unused + head
+  pub enough : n ≤ taken n
+  pub rest : Heap segments (with_word memory data_place (unused + head + taken n)) (unused + head + taken n) end
+
+-- where there is room
+abbrev pub BlocksFit : Type 0
+BlocksFit = (segments : List Segment) (memory : Memory) (unused end n : ℕ) → Heap segments memory unused end → unused + head + taken n ≤ end
+    → BlockFits segments memory unused end n
 
 -- ---- what they do
 

@@ -1,6 +1,6 @@
 //! What the routines do.
 
-ghost use Rattle.rv_runtime.specs.Laws.{RoutinesStand, HeapBegins, RoutinesWork, StartLeads, ExitEnds};
+ghost use Rattle.rv_runtime.specs.Laws.{RoutinesStand, HeapBegins, BlocksFit, RoutinesWork, StartLeads, ExitEnds};
 
 /// Where the bytes of `runtime` stand in a text that is executable, so do the routines.
 pub fn routines_stand()
@@ -10,6 +10,12 @@ pub fn routines_stand()
 /// Where the bytes of `runtime_data` stand, the whole heap is unused.
 pub fn heap_begins()
     ensures { HeapBegins }
+{}
+
+/// What MALLOC and CALLOC give is a multiple of 16 in the heap, has room for what was asked for, and begins where the heap was unused; from behind it on the
+/// heap is unused still.
+pub fn blocks_fit()
+    ensures { BlocksFit }
 {}
 
 /// Entered at its first word, each of the routines from MALLOC to COMPARE comes back to x1 and leaves what it is to leave; MALLOC and CALLOC do where there

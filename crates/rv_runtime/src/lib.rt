@@ -9,5 +9,5 @@
 mod laws;
 mod words;
 
-pub use laws::{exit_ends, heap_begins, routines_stand, routines_work, start_leads};
+pub use laws::{blocks_fit, exit_ends, heap_begins, routines_stand, routines_work, start_leads};
 pub use words::{runtime, runtime_data};
