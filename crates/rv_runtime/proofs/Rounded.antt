@@ -1,7 +1,7 @@
 -- What a request takes.
 use Rattle.std.proofs.Common.{◌≡◌, ℕ, zero, suc, ◌+◌, ◌*◌, ◌%◌, ◌^◌, ◌<◌, ◌≤◌, ltb, max, refl, ap, ◌∙◌, arith, ltb-true, ltb-false}
 use Rattle.std.proofs.lemmas.Bool.{cond_both}
-use Rattle.rv_runtime.specs.Routines.{rounded, taken}
+use Rattle.rv_runtime.specs.Routines.{rounded, taken, head}
 
 pub powers : (q k : ℕ) → q * 2 ^ suc k ≡ (q + q) * 2 ^ k
 powers q k = (let e : 2 ^ suc k ≡ 2 * 2 ^ k = omega arith in ap (λ (z : ℕ). q * z) e ∙ omega arith)
@@ -51,3 +51,7 @@ taken_stopped n h = rounded_stopped 28 16 n h
 pub taken_whole : (n : ℕ) → taken n % 16 ≡ 0
 unfolding taken
 taken_whole n = rounded_whole 28 16 n refl
+
+-- a request with its head is within what a source allocation weighs
+pub taken_weighs : (n : ℕ) → taken n + head ≤ 16 * n + 256
+taken_weighs n = omega (arith, taken_bounded n)
