@@ -1,9 +1,11 @@
 //! The runtime of compiled programs: the routines that they call, as words at fixed addresses.
 //!
-//! It stands on `rv_isa`, whose instructions the routines are, and on `rv_steps`. `runtime` answers the bytes that stand at the front of a program's text. Laws
-//! in `proofs/` say that they stand there as the routines (`Standing.antt`), and what each routine leaves, over the machine: a claim of the state behind it
-//! gives the claim of the state that enters it (`malloc_works`, `calloc_works`, `free_works`, `copy_works`, `fill_works`, `compare_works`, `exit_works` with
-//! `exit_is_end`, `start_works`). MALLOC and CALLOC have no claim where there is no room: they meet EBREAK there.
+//! It stands on `rv_isa`, whose instructions the routines are, and on `rv_steps`. It promises that `runtime` answers the bytes of the routines, each at its
+//! place, which stand at the front of a program's text, and `runtime_data` those at the front of its data; that the routines stand where these bytes do; and
+//! what each of them leaves (`specs/Laws.antt`). For proofs about code that calls them, `proofs/` says the same backwards, for any claim: `malloc_works`,
+//! `calloc_works`, `free_works`, `copy_works`, `fill_works`, `compare_works`, `start_works`, `exit_works`.
+//!
+//! Not proved: that MALLOC and CALLOC meet an EBREAK where there is no room.
 #![tactic(auto)]
 
 mod laws;
