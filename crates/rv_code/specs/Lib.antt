@@ -1,0 +1,5 @@
+pub mod Frames
+pub mod Words
+pub mod Operators
+pub mod Code
+pub mod Programs
