@@ -105,9 +105,9 @@ fn needs(g: &Routine, sizes: &mut Vec<u32>) -> u64
     slots
 }
 
-/// Where blocks of those sizes begin, the first of them at `at`, and the place behind the last.
+/// Where blocks of those sizes begin, each at a multiple of 4 behind the one before it and the first at `at`, which is one itself; and the place behind the last.
 #[tactic(auto, using(crate::proofs::Lists::end_is_behind))]
-pub(crate) fn places(alloc: Global, sizes: &[u32], at: u64) -> Result<(Vec<u32>, u64), NoMemory>
+pub fn places(alloc: Global, sizes: &[u32], at: u64) -> Result<(Vec<u32>, u64), NoMemory>
     requires { end_from at sizes.now < 2 ^ 32 }
     ensures places { IfOk result (λ made. made.0.items ≡ places_from at sizes.now) }
     ensures end { IfOk result (λ made. made.1 ≡ end_from at sizes.now) }

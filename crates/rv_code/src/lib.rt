@@ -9,5 +9,6 @@ mod programs;
 mod steps;
 mod words;
 
+pub use frames::places;
 pub use layout::{Layout, Places};
 pub use programs::program;

@@ -1,7 +1,7 @@
 //! The code of a program.
 
 ghost use Rattle.std.specs.Prelude.{◌≡◌, ◌+◌, ◌<◌, ◌^◌, ◌++◌, All, IfOk, OnOk, length, map};
-ghost use Rattle.rv_code.specs.Programs.{AreSmall, IsSmall, all_texts_end, entries_end, entries_from, first_entry, functions_code, layouts_from, program_code, start_code};
+ghost use Rattle.rv_code.specs.Programs.{AreSmall, IsSmall, all_texts_end, entries_end, entries_from, first_entry, functions_code, layouts_from, places_of, program_code, start_code};
 ghost use Rattle.tac_ir.specs.Code.{code_of, data_of};
 
 use crate::functions::{function, layout};
@@ -84,8 +84,8 @@ fn functions(
     Ok(())
 }
 
-/// The code of a program whose stack ends at a place, whose objects lie at those places, and whose texts lie from a place on. The stack's end is a multiple of
-/// 4,096.
+/// The code of a program whose stack ends at a place, whose objects lie at those places, and whose texts lie from a place on; and where its objects and
+/// functions lie. The stack's end is a multiple of 4,096.
 #[tactic(auto, using(crate::proofs::Lists::layout_for_each))]
 pub fn program(
     alloc: Global,
@@ -93,22 +93,23 @@ pub fn program(
     stack_end: u32,
     objects: List<u32>,
     texts: u32,
-) -> Result<Vec<Inst>, NoMemory>
+) -> Result<(Vec<Inst>, Places), NoMemory>
     requires { AreSmall t.now texts }
-    ensures { IfOk result (λ code. code.items ≡ program_code (code_of t.now) stack_end objects texts) }
+    ensures code { IfOk result (λ made. made.0.items ≡ program_code (code_of t.now) stack_end objects texts) }
+    ensures places { IfOk result (λ made. made.1 ≡ places_of (code_of t.now) objects) }
 {
     let routines = t.routines.as_slice();
     let (layouts, entries) = layouts(alloc, routines, texts)?;
-    let p = Places {
+    let places = Places {
         objects,
         entries: List::of(entries),
     };
     let mut code = Vec::new(alloc);
-    let main = entry_at(p.entries.as_slice(), t.main);
+    let main = entry_at(places.entries.as_slice(), t.main);
     if start(&mut code, stack_end, main).is_err()
-        || functions(&mut code, &p, routines, layouts.as_slice()).is_err()
+        || functions(&mut code, &places, routines, layouts.as_slice()).is_err()
     {
         return Err(NoMemory);
     }
-    Ok(code)
+    Ok((code, places))
 }
