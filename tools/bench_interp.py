@@ -3,6 +3,7 @@
 
 - An empty loop: turns in a second.
 - A loop of simple operations on locals and elements of an array: operations in a second.
+- Calls of a function: calls in a second. Conditions with `&&` and `||`: turns in a second.
 - A walk along a ring of records: steps in a second.
 - Small blocks that are allocated and freed, few of them at a time: blocks in a second, and whether time and peak memory grow with their number.
 - A block that is made again and again, each time a little greater: blocks in a second, and the peak memory, which is that of few of them.
@@ -54,6 +55,29 @@ SIMPLE = Case("simple operations", "operations", 15, """int main(void)
         k++;
     }
     return sum == 1;
+}
+""")
+
+CALLS = Case("calls of a function of one argument", "calls", 1, """int next(int n)
+{
+    return n + 1;
+}
+int main(void)
+{
+    int i, s = 0;
+    for (i = 0; i < COUNT; i++)
+        s = next(s);
+    return s == COUNT ? 0 : 1;
+}
+""")
+
+CONDITIONS = Case("conditions of three comparisons", "turns", 1, """int main(void)
+{
+    int i, s = 0;
+    for (i = 0; i < COUNT; i++)
+        if (i > 5 && i < 100000 || i == 3)
+            s++;
+    return s < 0;
 }
 """)
 
@@ -136,7 +160,7 @@ ARMS        }
 }
 """.replace("ARMS", "".join(ARM.replace("NUMBER", str(number)) for number in range(100))))
 
-CASES = [EMPTY, SIMPLE, CHASE, BLOCKS, GROWING, SWITCH]
+CASES = [EMPTY, SIMPLE, CALLS, CONDITIONS, CHASE, BLOCKS, GROWING, SWITCH]
 
 
 # ---- ways to run a program

@@ -1,0 +1,137 @@
+//! The bytes of the data.
+
+ghost use Rattle.std.specs.Prelude.{◌≡◌, ◌+◌, ◌<◌, ◌≤◌, ◌^◌, IfOk, length, map, slice_index, slice_set};
+ghost use Rattle.c_meaning.specs.Program.{object_size};
+ghost use Rattle.c_typed.specs.Programs.{program_data};
+ghost use Rattle.rv_code.specs.Frames.{end_from};
+ghost use Rattle.rv_code.specs.Programs.{all_texts_end};
+ghost use Rattle.rv_image.specs.Data.{put_all_texts, put_bytes, put_initial, put_objects, put_texts, put_values, value_bytes};
+ghost use Rattle.rv_runtime.specs.Routines.{data_place};
+ghost use Rattle.tac_ir.specs.Code.{data_of};
+
+use c_typed::{Initial, InitialValue, Object};
+use c_types::width;
+use lay_base::{Bytes, NoMemory};
+use rv_code::Places;
+use source_values::Types;
+use std::alloc::Global;
+use tac_ir::Routine;
+
+const DATA: u32 = 0x0800_0000;
+
+/// How many bytes each object takes.
+pub(crate) fn object_sizes(alloc: Global, types: &Types<'_>, objects: &[Object]) -> Result<Vec<u32>, NoMemory>
+    ensures { IfOk result (λ sizes. sizes.items ≡ map (object_size (program_data types.now)) objects.now) }
+{
+    let mut sizes = Vec::new(alloc);
+    for o in objects {
+        let size = match o.initial {
+            None => 0,
+            Some(_) => types.row(o.ty).size,
+        };
+        if sizes.push(size).is_err() {
+            return Err(NoMemory);
+        }
+    }
+    Ok(sizes)
+}
+
+/// A byte stands in the data, where there is one with that index.
+fn put_byte(data: &mut Vec<u8>, at: usize, byte: u8)
+    ensures { data.new.items ≡ slice_set data.old.items at byte }
+{
+    if let Some(cell) = data.get_mut(at) {
+        *cell = byte;
+    }
+}
+
+/// Bytes stand in the data from an index on.
+#[tactic(auto, using(crate::proofs::Walks::bytes_more))]
+fn put(data: &mut Vec<u8>, at: usize, bytes: &[u8])
+    requires { at < 2 ^ 40 }
+    ensures { data.new.items ≡ put_bytes at bytes.now data.old.items }
+{
+    for (k, byte) in bytes.iter().enumerate() {
+        put_byte(data, at + k, *byte);
+    }
+}
+
+/// The place with that number, or 0.
+fn place_at(places: &[u32], n: u32) -> u32
+    ensures { result ≡ slice_index places.now n }
+{
+    match places.get(n as usize) {
+        Some(place) => *place,
+        None => 0,
+    }
+}
+
+fn put_value(data: &mut Vec<u8>, q: &Places, at: usize, value: &InitialValue)
+    requires { at < 2 ^ 40 }
+    ensures { data.new.items ≡ put_bytes at (value_bytes q.now value.now) data.old.items }
+{
+    match value {
+        InitialValue::Number(kind, n) => put(data, at, &n.to_le_bytes()[..width(*kind) as usize]),
+        InitialValue::Address(_, object, offset) => {
+            put(data, at, &place_at(q.objects.as_slice(), *object).wrapping_add(*offset).to_le_bytes())
+        }
+        InitialValue::Function(_, f) => put(data, at, &place_at(q.entries.as_slice(), *f).to_le_bytes()),
+    }
+}
+
+/// What an object holds at first.
+fn put_values(data: &mut Vec<u8>, q: &Places, at: u32, values: &[Initial])
+    ensures { data.new.items ≡ put_values q.now at values.now data.old.items }
+{
+    for i in values {
+        put_value(data, q, at as usize + i.offset as usize, &i.value);
+    }
+}
+
+/// What an object holds at first.
+fn put_initial(data: &mut Vec<u8>, q: &Places, at: u32, o: &Object)
+    ensures { data.new.items ≡ put_initial q.now at o.now.initial data.old.items }
+{
+    if let Some(values) = &o.initial {
+        put_values(data, q, at, values.as_slice());
+    }
+}
+
+/// What objects hold at first, each at its place.
+#[tactic(auto, using(crate::proofs::Walks::objects_more))]
+pub(crate) fn put_objects(data: &mut Vec<u8>, q: &Places, objects: &[Object])
+    requires { length q.now.objects ≡ length objects.now }
+    ensures { data.new.items ≡ put_objects q.now objects.now q.now.objects data.old.items }
+{
+    let places = q.objects.as_slice();
+    for (i, o) in objects.iter().enumerate() {
+        put_initial(data, q, places[i].saturating_sub(DATA), o);
+    }
+}
+
+/// The texts of a function, and the place behind them.
+#[tactic(auto, using(crate::proofs::Walks::place_fits, crate::proofs::Walks::text_fits))]
+fn put_texts(data: &mut Vec<u8>, at: u64, texts: &[Bytes]) -> u64
+    requires { end_from at (map length texts.now) < 2 ^ 32 }
+    ensures bytes { data.new.items ≡ put_texts at texts.now data.old.items }
+    ensures end { result ≡ end_from at (map length texts.now) }
+{
+    let mut at = at;
+    for text in texts {
+        put(data, at.saturating_sub(u64::from(DATA)) as usize, text.as_slice());
+        at += (text.len() as u64 + 3) / 4 * 4;
+    }
+    at
+}
+
+/// The texts of all functions.
+#[tactic(auto, using(crate::proofs::Walks::texts_fit))]
+pub(crate) fn put_all_texts(data: &mut Vec<u8>, at: u64, routines: &[Routine])
+    requires { all_texts_end at (map data_of routines.now) < 2 ^ 32 }
+    ensures { data.new.items ≡ put_all_texts at (map data_of routines.now) data.old.items }
+{
+    let mut at = at;
+    for g in routines {
+        at = put_texts(data, at, g.texts.as_slice());
+    }
+}
